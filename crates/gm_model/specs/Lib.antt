@@ -1,0 +1,6 @@
+pub mod Tokens
+pub mod Symbols
+pub mod GMap
+pub mod MapText
+pub mod Reading
+pub mod Answer

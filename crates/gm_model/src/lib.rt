@@ -6,12 +6,14 @@
 
 mod dim;
 mod items;
+mod limit;
 mod memory;
 mod steps;
 mod token;
 
 pub use dim::Dim;
 pub use items::Items;
+pub use limit::LimitKind;
 pub use memory::OutOfMemory;
 pub use steps::Steps;
 pub use token::{Token, TokenKind};

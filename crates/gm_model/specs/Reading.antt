@@ -1,0 +1,57 @@
+-- What it is for a text to be read by a grammar with limits, and which fault is the first from left to right where it can't be.
+use Rattle.std.specs.Prelude.{◌≡◌, ℕ, List, [], ◌∷◌, ◌++◌, map, Option, Some, None}
+use Rattle.std.specs.List.{AllByRecursion}
+use Rattle.gm_model.specs.declared.limit.LimitKind.{LimitKind}
+use Rattle.gm_model.specs.Symbols.{Symbol, Mark, symbols}
+
+-- A grammar is its set of sentences. A sentence is a list of parts, the end of the text included: a part is a symbol
+-- in the role that it has there, and the role decides which limit the symbol can pass.
+pub record Part (Role : Type 0) : Type 0 where
+  pub symbol : Symbol
+  pub role : Role
+
+abbrev pub symbols_in : {Role : Type 0} → List (Part Role) → List Symbol
+symbols_in parts = map (λ part. part.symbol) parts
+
+module _ {Role : Type 0} (IsSentence : List (Part Role) → Type 0) (limit_of : Role → Symbol → Option LimitKind) where
+  -- some sentence begins with these parts
+  abbrev pub Begins : List (Part Role) → Type 0
+  Begins parts = (rest : List (Part Role)) × IsSentence (parts ++ rest)
+
+  -- no part passes a limit
+  abbrev pub IsWithin : List (Part Role) → Type 0
+  IsWithin parts = AllByRecursion (λ part. limit_of part.role part.symbol ≡ None) parts
+
+  -- the whole text is this sentence, and passes no limit
+  pub record IsReadAs (marks : List Mark) (parts : List (Part Role)) : Type 0 where
+    pub spelled : symbols marks ≡ symbols_in parts
+    pub sentence : IsSentence parts
+    pub within : IsWithin parts
+
+  -- Up to this place the text goes on as some sentence does, and passes no limit. With what stands there, no sentence begins so.
+  pub record TextEndsAt (marks : List Mark) (place : ℕ) : Type 0 where
+    pub before : List Mark
+    pub mark : Mark
+    pub after : List Mark
+    pub split : marks ≡ before ++ mark ∷ after
+    pub here : mark.place ≡ place
+    pub parts : List (Part Role)
+    pub spelled : symbols before ≡ symbols_in parts
+    pub begins : Begins parts
+    pub within : IsWithin parts
+    pub ends : (more : List (Part Role)) → symbols (before ++ mark ∷ []) ≡ symbols_in more → Begins more → ⊥
+
+  -- Up to and with what stands at this place the text goes on as some sentence does. There it passes the limit, and none before.
+  pub record LimitPassedAt (marks : List Mark) (what : LimitKind) (place : ℕ) : Type 0 where
+    pub before : List Mark
+    pub mark : Mark
+    pub after : List Mark
+    pub split : marks ≡ before ++ mark ∷ after
+    pub here : mark.place ≡ place
+    pub parts : List (Part Role)
+    pub part : Part Role
+    pub spelled : symbols before ≡ symbols_in parts
+    pub read : mark.symbol ≡ part.symbol
+    pub begins : Begins (parts ++ part ∷ [])
+    pub within : IsWithin parts
+    pub passes : limit_of part.role part.symbol ≡ Some what

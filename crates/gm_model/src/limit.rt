@@ -1,0 +1,34 @@
+/// Which limit an input passes. Each has one word in the printed lines.
+#[derive(Clone, Copy, Debug, PartialEq, Eq)]
+pub enum LimitKind {
+    /// A dimension is 1 to 7.
+    Dimension,
+    /// A label is at most the dimension.
+    Label,
+    /// A schema has at most 8 embeddings.
+    Embeddings,
+    /// A map has at most 1,048,576 darts.
+    Darts,
+    /// A dart's name is below 16,777,216.
+    DartName,
+    /// A number of a value or an expression fits 64 bits with a sign.
+    Integer,
+    /// A component of a colour is 0 to 255.
+    Channel,
+    /// A name has at most 32 bytes.
+    Name,
+    /// A book has at most 256 rules.
+    Rules,
+    /// A rule has at most 32 nodes.
+    Nodes,
+    /// A side of a rule has at most 256 links.
+    Links,
+    /// A rule has at most 8 parameters.
+    Parameters,
+    /// A word has at most 8 letters.
+    Word,
+    /// An expression has at most 256 tokens.
+    Expression,
+    /// A script has at most 100,000 lines.
+    Lines,
+}
