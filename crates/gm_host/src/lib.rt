@@ -1,0 +1,17 @@
+//! What the program reads its files from and writes its output to.
+//!
+//! A [`Store`] holds files by name and a [`Sink`] takes bytes. Contracts see what a store holds and
+//! what was written to a sink, where the object tells, and the counts of what went wrong, always.
+//! The forms in memory tell all, and fail where a test says; the real forms tell nothing.
+#![tactic(auto)]
+
+mod bytes;
+mod fault;
+mod file_table;
+mod sink;
+mod store;
+
+pub use bytes::Bytes;
+pub use fault::{LoadFault, PutFault};
+pub use sink::Sink;
+pub use store::Store;
