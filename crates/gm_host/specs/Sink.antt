@@ -13,6 +13,11 @@ abbrev pub ExtendsInPart : Option (List ℕ) → List ℕ → Option (List ℕ) 
 ExtendsInPart before bytes after = (kept : ℕ) × (after ≡ extended before (take kept bytes))
 
 module _ {T : Type 0} where
+  -- the answer is that the sink failed
+  abbrev pub IsFailed : Result T PutFault → Type 0
+  IsFailed (Err Failed) = Unit {0}
+  IsFailed _ = ⊥
+
   -- the fact, where the answer is that the sink failed
   abbrev pub OnFailed : Result T PutFault → Type 0 → Type 0
   OnFailed (Err Failed) P = P

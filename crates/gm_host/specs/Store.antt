@@ -38,6 +38,11 @@ HoldsLongerFile None name limit = ⊥
 HoldsLongerFile (Some files) name limit = IsLongerThan limit (files name)
 
 module _ {T : Type 0} where
+  -- the answer is that the store failed
+  abbrev pub IsFailed : Result T LoadFault → Type 0
+  IsFailed (Err Failed) = Unit {0}
+  IsFailed _ = ⊥
+
   -- the fact, where the answer is that the file is absent
   abbrev pub OnAbsent : Result T LoadFault → Type 0 → Type 0
   OnAbsent (Err Absent) P = P

@@ -1,6 +1,7 @@
 ghost use Rattle.std.specs.Prelude.{◌≡◌, ◌+◌, ◌≤◌, OnOk, OnErr, IfOk, Some, option_copied, length};
 ghost use Rattle.std.specs.FinMap as map;
-ghost use Rattle.gm_host.specs.Store.{Lacks, IsHeld, IsCutFromHeld, HoldsLongerFile, OnAbsent, OnFailed, IfTooLong, IsAbsentUnlessFailing, IsTooLongUnlessFailing};
+ghost use Rattle.gm_host.specs.Files.{told};
+ghost use Rattle.gm_host.specs.Store.{Lacks, IsHeld, IsCutFromHeld, HoldsLongerFile, IsFailed, OnAbsent, IfTooLong, IsAbsentUnlessFailing, IsTooLongUnlessFailing};
 
 use std::alloc::Global;
 use std::collections::BTreeMap;
@@ -19,13 +20,11 @@ pub(crate) struct FileTable {
 }
 
 impl Model for FileTable {
-    ghost use Rattle.std.specs.Coded.{coded_ℕ, coded_list};
-    ghost use Rattle.std.specs.FinMap as map;
-    ghost use Rattle.gm_host.specs.Files.{Files, files_of};
+    ghost use Rattle.gm_host.specs.Files.{Files, files_code, files_of};
 
     ghost Value = { Files };
 
-    ghost coded = { map.code (coded_list coded_ℕ) (coded_list coded_ℕ) };
+    ghost coded = { files_code };
 
     ghost view = { λ table. files_of table.files.entries };
 }
@@ -68,13 +67,13 @@ impl FileTable {
         limit: usize,
     ) -> Result<Vec<u8>, LoadFault>
         ensures within_limit { IfOk result (λ bytes. length bytes.items ≤ limit) }
-        ensures bytes_held { IfOk result (λ bytes. IsHeld (Some (map.get self.now)) name.now bytes.items) }
-        ensures absent { OnAbsent result (Lacks (Some (map.get self.now)) name.now) }
-        ensures lacking { Lacks (Some (map.get self.now)) name.now → IsAbsentUnlessFailing result }
-        ensures failed { OnFailed result ⊥ }
+        ensures bytes_held { IfOk result (λ bytes. IsHeld (told self.now) name.now bytes.items) }
+        ensures absent { OnAbsent result (Lacks (told self.now) name.now) }
+        ensures lacking { Lacks (told self.now) name.now → IsAbsentUnlessFailing result }
+        ensures failed { ¬ IsFailed result }
         ensures seen_length { IfTooLong result (λ seen. length seen ≡ limit + 1) }
-        ensures seen_held { IfTooLong result (λ seen. IsCutFromHeld (Some (map.get self.now)) name.now limit seen) }
-        ensures longer { HoldsLongerFile (Some (map.get self.now)) name.now limit → IsTooLongUnlessFailing result }
+        ensures seen_held { IfTooLong result (λ seen. IsCutFromHeld (told self.now) name.now limit seen) }
+        ensures longer { HoldsLongerFile (told self.now) name.now limit → IsTooLongUnlessFailing result }
     {
         let Some(held) = self.get(name) else {
             return Err(LoadFault::Absent);

@@ -8,10 +8,18 @@
 mod bytes;
 mod fault;
 mod file_table;
+mod mem_sink;
+mod mem_store;
 mod sink;
 mod store;
+mod sure_sink;
+mod sure_store;
 
 pub use bytes::Bytes;
 pub use fault::{LoadFault, PutFault};
+pub use mem_sink::MemSink;
+pub use mem_store::MemStore;
 pub use sink::Sink;
 pub use store::Store;
+pub use sure_sink::SureSink;
+pub use sure_store::SureStore;
