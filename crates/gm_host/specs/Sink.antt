@@ -3,6 +3,10 @@ use Rattle.std.specs.Prelude.{ℕ, ◌≡◌, List, ◌++◌, Option, Some, None
 use Rattle.gm_host.specs.declared.fault.PutFault.{PutFault}
 use Rattle.gm_host.specs.declared.fault.PutFault.TheVariants.{Failed, OutOfMemory}
 
+-- what a sink that does not tell means
+abbrev pub untold : Option (List ℕ)
+untold = None
+
 -- what is written once the bytes are appended; a sink that does not tell goes on so
 abbrev pub extended : Option (List ℕ) → List ℕ → Option (List ℕ)
 extended None bytes = None
@@ -17,6 +21,11 @@ module _ {T : Type 0} where
   abbrev pub IsFailed : Result T PutFault → Type 0
   IsFailed (Err Failed) = Unit {0}
   IsFailed _ = ⊥
+
+  -- the answer is want of memory
+  abbrev pub IsOutOfMemory : Result T PutFault → Type 0
+  IsOutOfMemory (Err OutOfMemory) = Unit {0}
+  IsOutOfMemory _ = ⊥
 
   -- the fact, where the answer is that the sink failed
   abbrev pub OnFailed : Result T PutFault → Type 0 → Type 0

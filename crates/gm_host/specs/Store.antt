@@ -7,6 +7,10 @@ use Rattle.gm_host.specs.declared.fault.LoadFault.TheVariants.{Absent, Failed, T
 abbrev pub Contents : Type 0
 Contents = Option (List ℕ → Option (List ℕ))
 
+-- what a store that does not tell means
+abbrev pub untold : Contents
+untold = None
+
 -- the store tells, and holds nothing under the name
 abbrev pub Lacks : Contents → List ℕ → Type 0
 Lacks None name = ⊥
@@ -38,6 +42,11 @@ HoldsLongerFile None name limit = ⊥
 HoldsLongerFile (Some files) name limit = IsLongerThan limit (files name)
 
 module _ {T : Type 0} where
+  -- the answer is that the file is absent
+  abbrev pub IsAbsent : Result T LoadFault → Type 0
+  IsAbsent (Err Absent) = Unit {0}
+  IsAbsent _ = ⊥
+
   -- the answer is that the store failed
   abbrev pub IsFailed : Result T LoadFault → Type 0
   IsFailed (Err Failed) = Unit {0}

@@ -7,19 +7,23 @@
 
 mod bytes;
 mod fault;
+mod file_store;
 mod file_table;
 mod mem_sink;
 mod mem_store;
 mod sink;
+mod std_sink;
 mod store;
 mod sure_sink;
 mod sure_store;
 
 pub use bytes::Bytes;
 pub use fault::{LoadFault, PutFault};
+pub use file_store::FileStore;
 pub use mem_sink::MemSink;
 pub use mem_store::MemStore;
 pub use sink::Sink;
+pub use std_sink::StdSink;
 pub use store::Store;
 pub use sure_sink::SureSink;
 pub use sure_store::SureStore;

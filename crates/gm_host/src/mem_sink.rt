@@ -1,4 +1,4 @@
-ghost use Rattle.std.specs.Prelude.{◌≡◌, ◌<◌, ◌≤◌, [], OnOk, OnErr, Some};
+ghost use Rattle.std.specs.Prelude.{◌≡◌, ◌<◌, ◌≤◌, [], OnOk, OnErr, Some, take};
 ghost use Rattle.std.specs.FinMap as map;
 ghost use Rattle.gm_host.specs.Count.{Rises};
 ghost use Rattle.gm_host.specs.Sink.{extended, ExtendsInPart, OnFailed, OnOutOfMemory};
@@ -94,8 +94,7 @@ impl Sink for MemSink {
         self.puts = self.puts.saturating_add(1);
         match self.planned.get(&call).copied() {
             Some(kept) => {
-                let kept = kept.min(bytes.len());
-                self.written.extend_from_slice(&bytes[..kept])?;
+                self.written.extend_from_slice(first(bytes, kept))?;
                 self.faults = self.faults.saturating_add(1);
                 Err(PutFault::Failed)
             }
@@ -105,4 +104,11 @@ impl Sink for MemSink {
             }
         }
     }
+}
+
+/// The first `count` bytes, at most all.
+fn first(bytes: &[u8], count: usize) -> &[u8]
+    ensures { result.now ≡ take count bytes.now }
+{
+    &bytes[..count.min(bytes.len())]
 }

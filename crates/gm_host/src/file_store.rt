@@ -1,0 +1,99 @@
+ghost use Rattle.std.specs.Prelude.{◌≡◌, ◌+◌, ◌≤◌, IfOk, is_err, length, if◌then◌else◌};
+ghost use Rattle.gm_host.specs.Count.{counted, Rises};
+ghost use Rattle.gm_host.specs.Store.{untold, Lacks, IsHeld, IsCutFromHeld, HoldsLongerFile, IsAbsent, OnAbsent, OnFailed, IfTooLong, IsAbsentUnlessFailing, IsTooLongUnlessFailing};
+
+use std::alloc::Global;
+use std::fs;
+use std::fs::Files;
+use std::io::Read;
+
+use crate::bytes::Bytes;
+use crate::fault::LoadFault;
+use crate::store::Store;
+
+/// How many bytes one read asks for.
+const PIECE: usize = 65_536;
+
+/// The files of the system, by name. It does not tell what it holds, and a file that is not there
+/// is `Failed`.
+#[derive(Drop)]
+pub struct FileStore<'r, R> {
+    rt: &'r R,
+    loads: u64,
+    load_faults: u64,
+}
+
+impl<'r, R: Files> FileStore<'r, R> {
+    /// The files that this runtime reaches.
+    pub fn new(rt: &'r R) -> FileStore<'r, R>
+        ensures loads { result.loads ≡ 0 }
+        ensures load_faults { result.load_faults ≡ 0 }
+    {
+        FileStore {
+            rt,
+            loads: 0,
+            load_faults: 0,
+        }
+    }
+}
+
+impl<'r, R: Files> Store for FileStore<'r, R> {
+    ghost holds = { λ _. untold };
+
+    ghost loads = { λ store. store.loads };
+
+    ghost load_faults = { λ store. store.load_faults };
+
+    fn load(&mut self, alloc: Global, name: &str, limit: usize) -> Result<Vec<u8>, LoadFault>
+        ensures held { untold ≡ untold }
+        ensures each_load_counts { self.new.loads ≡ counted self.old.loads }
+        ensures faults_never_fall { self.old.load_faults ≤ self.new.load_faults }
+        ensures within_limit { IfOk result (λ bytes. length bytes.items ≤ limit) }
+        ensures bytes_held { IfOk result (λ bytes. IsHeld untold name.now bytes.items) }
+        ensures absent { OnAbsent result (Lacks untold name.now) }
+        ensures lacking { Lacks untold name.now → IsAbsentUnlessFailing result }
+        ensures failed { OnFailed result (Rises self.old.load_faults self.new.load_faults) }
+        ensures seen_length { IfTooLong result (λ seen. length seen ≡ limit + 1) }
+        ensures seen_held { IfTooLong result (λ seen. IsCutFromHeld untold name.now limit seen) }
+        ensures longer { HoldsLongerFile untold name.now limit → IsTooLongUnlessFailing result }
+        ensures each_fault_counts { self.new.load_faults ≡ (if is_err result then counted self.old.load_faults else self.old.load_faults) }
+    {
+        self.loads = self.loads.saturating_add(1);
+        let answer = read_file(self.rt, alloc, name, limit);
+        if answer.is_err() {
+            self.load_faults = self.load_faults.saturating_add(1);
+        }
+        answer
+    }
+}
+
+/// The bytes of a file, read no further than one byte past the limit.
+fn read_file<R: Files>(
+    rt: &R,
+    alloc: Global,
+    name: &str,
+    limit: usize,
+) -> Result<Vec<u8>, LoadFault>
+    ensures within_limit { IfOk result (λ bytes. length bytes.items ≤ limit) }
+    ensures seen_length { IfTooLong result (λ seen. length seen ≡ limit + 1) }
+    ensures never_absent { ¬ IsAbsent result }
+{
+    let Ok(mut file) = fs::open(rt, name) else {
+        return Err(LoadFault::Failed);
+    };
+    let mut piece = vec![in alloc; 0u8; PIECE]?;
+    let mut bytes = Vec::new(alloc);
+    while bytes.len() <= limit {
+        let wanted = (limit - bytes.len()).saturating_add(1).min(PIECE);
+        let Ok(count) = file.read(&mut piece[..wanted]) else {
+            return Err(LoadFault::Failed);
+        };
+        if count == 0 {
+            return Ok(bytes);
+        }
+        bytes.extend_from_slice(&piece[..count])?;
+    }
+    Err(LoadFault::TooLong {
+        seen: Bytes::new(bytes),
+    })
+}
