@@ -1,9 +1,8 @@
 -- What a sink in memory is, and what a put leaves of it.
-use Rattle.std.specs.Prelude.{ℕ, ◌≡◌, List, ◌++◌, Option, Some, None, Result, Ok, Err, take}
+use Rattle.std.specs.Prelude.{ℕ, refl, ◌≡◌, List, ◌++◌, Option, Some, None, Result, Ok, Err, take}
 use Rattle.std.specs.Coded.{Coded, code_by, coded×, coded_ℕ, coded_list}
 use Rattle.std.specs.Ordering.{nat_cmp}
 use Rattle.std.specs.FinMap.{FinMap, code, get}
-use Rattle.std.proofs.Common.{refl}
 use Rattle.gm_host.specs.Count.{counted}
 use Rattle.gm_host.specs.declared.fault.PutFault.{PutFault}
 use Rattle.gm_host.specs.declared.fault.PutFault.TheVariants.{Failed, OutOfMemory}

@@ -1,9 +1,8 @@
 -- What a store in memory is, and what a load leaves of it.
-use Rattle.std.specs.Prelude.{ℕ, ◌==◌, Bool, List, if◌then◌else◌, Result, Ok, Err}
+use Rattle.std.specs.Prelude.{ℕ, refl, ◌==◌, Bool, List, if◌then◌else◌, Result, Ok, Err}
 use Rattle.std.specs.Coded.{Coded, code_by, coded×, coded_ℕ, coded_list}
 use Rattle.std.specs.FinMap.{code}
 use Rattle.std.specs.List.{list_any}
-use Rattle.std.proofs.Common.{refl}
 use Rattle.gm_host.specs.Count.{counted}
 use Rattle.gm_host.specs.Files.{Files, files_code}
 

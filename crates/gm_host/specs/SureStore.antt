@@ -1,7 +1,6 @@
 -- What a store in memory that never fails is.
-use Rattle.std.specs.Prelude.{ℕ}
+use Rattle.std.specs.Prelude.{ℕ, refl}
 use Rattle.std.specs.Coded.{Coded, code_by, coded×, coded_ℕ}
-use Rattle.std.proofs.Common.{refl}
 use Rattle.gm_host.specs.Files.{Files, files_code}
 
 -- its files, and how many loads there were

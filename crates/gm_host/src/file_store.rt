@@ -1,4 +1,5 @@
-ghost use Rattle.std.specs.Prelude.{◌≡◌, ◌+◌, ◌≤◌, IfOk, is_err, length, if◌then◌else◌};
+ghost use Rattle.std.specs.Prelude.{◌≡◌, ◌+◌, ◌<◌, ◌≤◌, IfOk, OnOk, is_err, length, if◌then◌else◌};
+ghost use Rattle.std.specs.Io.KnownBytes.{Consumes, IsAtEnd};
 ghost use Rattle.gm_host.specs.Count.{counted, Rises};
 ghost use Rattle.gm_host.specs.Store.{untold, Lacks, IsHeld, IsCutFromHeld, HoldsLongerFile, IsAbsent, OnAbsent, OnFailed, IfTooLong, IsAbsentUnlessFailing, IsTooLongUnlessFailing};
 
@@ -75,23 +76,42 @@ fn read_file<R: Files>(
     limit: usize,
 ) -> Result<Vec<u8>, LoadFault>
     ensures within_limit { IfOk result (λ bytes. length bytes.items ≤ limit) }
-    ensures seen_length { IfTooLong result (λ seen. length seen ≡ limit + 1) }
     ensures never_absent { ¬ IsAbsent result }
+    ensures seen_length { IfTooLong result (λ seen. length seen ≡ limit + 1) }
 {
     let Ok(mut file) = fs::open(rt, name) else {
         return Err(LoadFault::Failed);
     };
     let mut piece = vec![in alloc; 0u8; PIECE]?;
+    read_within(&mut file, alloc, &mut piece, limit)
+}
+
+/// What is left to read, read through the lent piece no further than one byte past the limit.
+fn read_within<F: Read>(
+    file: &mut F,
+    alloc: Global,
+    piece: &mut [u8],
+    limit: usize,
+) -> Result<Vec<u8>, LoadFault>
+    requires { 0 < length piece.old }
+    ensures within_limit { IfOk result (λ bytes. length bytes.items ≤ limit) }
+    ensures all_bytes { IfOk result (λ bytes. Consumes (F.remaining file.old) (F.remaining file.new) bytes.items) }
+    ensures to_the_end { OnOk result (IsAtEnd (F.remaining file.new)) }
+    ensures never_absent { ¬ IsAbsent result }
+    ensures seen_length { IfTooLong result (λ seen. length seen ≡ limit + 1) }
+    ensures first_bytes { IfTooLong result (λ seen. Consumes (F.remaining file.old) (F.remaining file.new) seen) }
+{
     let mut bytes = Vec::new(alloc);
     while bytes.len() <= limit {
-        let wanted = (limit - bytes.len()).saturating_add(1).min(PIECE);
-        let Ok(count) = file.read(&mut piece[..wanted]) else {
+        let wanted = (limit - bytes.len()).saturating_add(1).min(piece.len());
+        let part = &mut piece[..wanted];
+        let Ok(count) = file.read(part) else {
             return Err(LoadFault::Failed);
         };
         if count == 0 {
             return Ok(bytes);
         }
-        bytes.extend_from_slice(&piece[..count])?;
+        bytes.extend_from_slice(&part[..count])?;
     }
     Err(LoadFault::TooLong {
         seen: Bytes::new(bytes),

@@ -37,22 +37,24 @@ impl<'r, R: Print> Sink for StdSink<'r, R> {
         ensures enough_memory { ¬ IsOutOfMemory result }
         ensures each_fault_counts { self.new.faults ≡ (if is_err result then counted self.old.faults else self.old.faults) }
     {
-        if write_whole(self.rt, bytes) {
-            return Ok(());
+        let answer = write_whole(self.rt, bytes);
+        if answer.is_err() {
+            self.faults = self.faults.saturating_add(1);
         }
-        self.faults = self.faults.saturating_add(1);
-        Err(PutFault::Failed)
+        answer
     }
 }
 
-/// Whether all bytes were written. A write that takes none of them ends the attempt.
-fn write_whole<R: Print>(rt: &R, bytes: &[u8]) -> bool {
+/// Writes all of the bytes. A write that takes none of them is a fault.
+fn write_whole<R: Print>(rt: &R, bytes: &[u8]) -> Result<(), PutFault>
+    ensures { ¬ IsOutOfMemory result }
+{
     let mut rest = bytes;
     while !rest.is_empty() {
         match rt.write_some(rest) {
             Ok(count) if count > 0 => rest = &rest[count..],
-            _ => return false,
+            _ => return Err(PutFault::Failed),
         }
     }
-    true
+    Ok(())
 }
