@@ -27,3 +27,6 @@ pub use std_sink::StdSink;
 pub use store::Store;
 pub use sure_sink::SureSink;
 pub use sure_store::SureStore;
+
+#[cfg(test)]
+mod tests;
