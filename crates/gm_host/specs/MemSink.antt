@@ -38,7 +38,7 @@ abbrev pub after_failed_put : SinkState → List ℕ → SinkState
 after_failed_put before kept = record before {
   written = before.written ++ kept;
   puts = counted before.puts;
-  faults = counted before.faults
+  faults = counted before.faults;
 }
 
 -- what a put may answer, and what it leaves: given how many bytes it is to keep where it is to fail

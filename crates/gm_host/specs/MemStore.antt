@@ -1,7 +1,6 @@
 -- What a store in memory is, and what a load leaves of it.
-use Rattle.std.specs.Prelude.{ℕ, refl, ◌==◌, Bool, List, if◌then◌else◌, Result, Ok, Err}
+use Rattle.std.specs.Prelude.{ℕ, refl, ◌==◌, Bool, List, if◌then◌else◌}
 use Rattle.std.specs.Coded.{Coded, code_by, coded×, coded_ℕ, coded_list}
-use Rattle.std.specs.FinMap.{code}
 use Rattle.std.specs.List.{list_any}
 use Rattle.gm_host.specs.Count.{counted}
 use Rattle.gm_host.specs.Files.{Files, files_code}
@@ -28,5 +27,5 @@ fails_next state = list_any (λ call. call == state.loads) state.failing
 abbrev pub after_load : StoreState → StoreState
 after_load state = record state {
   loads = counted state.loads;
-  load_faults = if fails_next state then counted state.load_faults else state.load_faults
+  load_faults = if fails_next state then counted state.load_faults else state.load_faults;
 }

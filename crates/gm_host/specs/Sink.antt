@@ -1,5 +1,5 @@
 -- What a put leaves written.
-use Rattle.std.specs.Prelude.{ℕ, ◌≡◌, List, ◌++◌, Option, Some, None, Result, Ok, Err, take}
+use Rattle.std.specs.Prelude.{ℕ, ◌≡◌, List, ◌++◌, Option, Some, None, Result, Err, take}
 use Rattle.gm_host.specs.declared.fault.PutFault.{PutFault}
 use Rattle.gm_host.specs.declared.fault.PutFault.TheVariants.{Failed, OutOfMemory}
 

@@ -1,8 +1,7 @@
 ghost use Rattle.std.specs.Prelude.{◌≡◌};
 
-use std::alloc::AllocError;
-
 use crate::bytes::Bytes;
+use std::alloc::AllocError;
 
 /// Why a load gave no file.
 #[derive(Debug, Drop)]

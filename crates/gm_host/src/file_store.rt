@@ -3,14 +3,13 @@ ghost use Rattle.std.specs.Io.KnownBytes.{Consumes, IsAtEnd};
 ghost use Rattle.gm_host.specs.Count.{counted, Rises};
 ghost use Rattle.gm_host.specs.Store.{untold, Lacks, IsHeld, IsCutFromHeld, HoldsLongerFile, IsAbsent, OnAbsent, OnFailed, IfTooLong, IsAbsentUnlessFailing, IsTooLongUnlessFailing};
 
+use crate::bytes::Bytes;
+use crate::fault::LoadFault;
+use crate::store::Store;
 use std::alloc::Global;
 use std::fs;
 use std::fs::Files;
 use std::io::Read;
-
-use crate::bytes::Bytes;
-use crate::fault::LoadFault;
-use crate::store::Store;
 
 /// How many bytes one read asks for.
 const PIECE: usize = 65_536;

@@ -3,14 +3,12 @@ ghost use Rattle.std.specs.FinMap as map;
 ghost use Rattle.gm_host.specs.Files.{told};
 ghost use Rattle.gm_host.specs.Store.{Lacks, IsHeld, IsCutFromHeld, HoldsLongerFile, IsFailed, OnAbsent, IfTooLong, IsAbsentUnlessFailing, IsTooLongUnlessFailing};
 
+use crate::bytes::Bytes;
+use crate::fault::LoadFault;
+use gm_model::OutOfMemory;
 use std::alloc::Global;
 use std::collections::BTreeMap;
 use std::marker::Model;
-
-use gm_model::OutOfMemory;
-
-use crate::bytes::Bytes;
-use crate::fault::LoadFault;
 
 /// The files of a store in memory. Contracts see the finite map from names to bytes.
 #[derive(Drop)]
@@ -60,12 +58,7 @@ impl FileTable {
     }
 
     /// What a store that holds these files, and does not fail, answers to a load.
-    pub(crate) fn load(
-        &self,
-        alloc: Global,
-        name: &str,
-        limit: usize,
-    ) -> Result<Vec<u8>, LoadFault>
+    pub(crate) fn load(&self, alloc: Global, name: &str, limit: usize) -> Result<Vec<u8>, LoadFault>
         ensures within_limit { IfOk result (λ bytes. length bytes.items ≤ limit) }
         ensures bytes_held { IfOk result (λ bytes. IsHeld (told self.now) name.now bytes.items) }
         ensures absent { OnAbsent result (Lacks (told self.now) name.now) }

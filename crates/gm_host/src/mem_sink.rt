@@ -4,14 +4,12 @@ ghost use Rattle.gm_host.specs.Count.{Rises};
 ghost use Rattle.gm_host.specs.Sink.{extended, ExtendsInPart, OnFailed, OnOutOfMemory};
 ghost use Rattle.gm_host.specs.MemSink.{IsPutAsPlanned};
 
+use crate::fault::PutFault;
+use crate::sink::Sink;
+use gm_model::OutOfMemory;
 use std::alloc::Global;
 use std::collections::BTreeMap;
 use std::marker::Model;
-
-use gm_model::OutOfMemory;
-
-use crate::fault::PutFault;
-use crate::sink::Sink;
 
 /// A sink in memory, whose puts fail where a test names them.
 ///
@@ -35,10 +33,10 @@ impl Model for MemSink {
     ghost coded = { state_code };
 
     ghost view = { λ sink. record {
-        written = sink.written.items;
-        planned = from_entries sink.planned.entries;
-        puts = sink.puts;
-        faults = sink.faults
+      written = sink.written.items;
+      planned = from_entries sink.planned.entries;
+      puts = sink.puts;
+      faults = sink.faults;
     } };
 }
 

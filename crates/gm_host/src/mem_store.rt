@@ -5,14 +5,12 @@ ghost use Rattle.gm_host.specs.Count.{counted, Rises};
 ghost use Rattle.gm_host.specs.Store.{Lacks, IsHeld, IsCutFromHeld, HoldsLongerFile, IsFailed, OnAbsent, OnFailed, IfTooLong, IsAbsentUnlessFailing, IsTooLongUnlessFailing};
 ghost use Rattle.gm_host.specs.MemStore.{fails_next, after_load};
 
-use std::alloc::Global;
-use std::marker::Model;
-
-use gm_model::OutOfMemory;
-
 use crate::fault::LoadFault;
 use crate::file_table::FileTable;
 use crate::store::Store;
+use gm_model::OutOfMemory;
+use std::alloc::Global;
+use std::marker::Model;
 
 /// A store in memory, whose loads fail where a test names them.
 ///
@@ -34,10 +32,10 @@ impl Model for MemStore {
     ghost coded = { state_code };
 
     ghost view = { λ store. record {
-        files = store.files;
-        failing = store.failing.items;
-        loads = store.loads;
-        load_faults = store.load_faults
+      files = store.files;
+      failing = store.failing.items;
+      loads = store.loads;
+      load_faults = store.load_faults;
     } };
 }
 

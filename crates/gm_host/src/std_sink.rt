@@ -2,10 +2,9 @@ ghost use Rattle.std.specs.Prelude.{◌≡◌, ◌≤◌, OnOk, is_err, if◌the
 ghost use Rattle.gm_host.specs.Count.{counted, Rises};
 ghost use Rattle.gm_host.specs.Sink.{untold, extended, ExtendsInPart, OnFailed, IsOutOfMemory, OnOutOfMemory};
 
-use std::io::Print;
-
 use crate::fault::PutFault;
 use crate::sink::Sink;
+use std::io::Print;
 
 /// The standard output. It does not tell what was written.
 #[derive(Drop)]

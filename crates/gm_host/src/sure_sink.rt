@@ -2,11 +2,10 @@ ghost use Rattle.std.specs.Prelude.{◌≡◌, ◌≤◌, [], OnOk, Some};
 ghost use Rattle.gm_host.specs.Count.{Rises};
 ghost use Rattle.gm_host.specs.Sink.{extended, ExtendsInPart, IsFailed, OnFailed, OnOutOfMemory};
 
-use std::alloc::Global;
-use std::marker::Model;
-
 use crate::fault::PutFault;
 use crate::sink::Sink;
+use std::alloc::Global;
+use std::marker::Model;
 
 /// A sink in memory that never fails. Contracts see the bytes that were written.
 #[derive(Drop)]

@@ -4,14 +4,12 @@ ghost use Rattle.gm_host.specs.Files.{told};
 ghost use Rattle.gm_host.specs.Count.{counted, Rises};
 ghost use Rattle.gm_host.specs.Store.{Lacks, IsHeld, IsCutFromHeld, HoldsLongerFile, IsFailed, OnAbsent, OnFailed, IfTooLong, IsAbsentUnlessFailing, IsTooLongUnlessFailing};
 
-use std::alloc::Global;
-use std::marker::Model;
-
-use gm_model::OutOfMemory;
-
 use crate::fault::LoadFault;
 use crate::file_table::FileTable;
 use crate::store::Store;
+use gm_model::OutOfMemory;
+use std::alloc::Global;
+use std::marker::Model;
 
 /// A store in memory that never fails.
 #[derive(Drop)]

@@ -1,11 +1,3 @@
-use std::alloc::Global;
-use std::fmt::Display;
-use std::fs;
-use std::io;
-use std::io::Print;
-use std::process::Abort;
-use std::test::Fail;
-
 use crate::fault::{LoadFault, PutFault};
 use crate::file_store::FileStore;
 use crate::mem_sink::MemSink;
@@ -15,6 +7,12 @@ use crate::std_sink::StdSink;
 use crate::store::Store;
 use crate::sure_sink::SureSink;
 use crate::sure_store::SureStore;
+use std::alloc::Global;
+use std::fmt::Display;
+use std::io::Print;
+use std::process::Abort;
+use std::test::Fail;
+use std::{fs, io};
 
 /// A load of a name with a limit, and its answer: a word, and the bytes that it carries.
 type Load<'a> = (&'a str, usize, &'a str, &'a [u8]);
@@ -89,7 +87,12 @@ fn file_store(rt: HostRuntime) -> Result<(), Fail> {
         ("held.txt", 5, "ok", b"abcde".as_slice()),
         ("held.txt", 3, "too long", b"abcd".as_slice()),
         ("missing.txt", 5, "failed", b"".as_slice()),
-        ("held.txt", 18_446_744_073_709_551_615, "ok", b"abcde".as_slice()),
+        (
+            "held.txt",
+            18_446_744_073_709_551_615,
+            "ok",
+            b"abcde".as_slice(),
+        ),
     ];
     let mut store = FileStore::new(&rt);
     assert_loads(&rt, alloc, &mut store, &loads);

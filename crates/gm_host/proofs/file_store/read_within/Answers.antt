@@ -10,5 +10,5 @@ pub loop-bytes-preserved : goal.loop-bytes-preserved
 loop-bytes-preserved g c = record {
   within = omega (arith, length-take c.min-wanted.result c.loop-bytes.piece, c.in-Ok.ensures.bound.0, c.in-Ok.ensures.bound.1, c.in_ok-extend_from_slice.ensures.len);
   read = rw c.in_ok-extend_from_slice.ensures.items
-      (Consumes-append _ _ _ _ _ c.loop-bytes.invariant.read c.in-Ok.ensures.bytes.0)
+      (Consumes-append _ _ _ _ _ c.loop-bytes.invariant.read c.in-Ok.ensures.bytes.0);
 }

@@ -1,5 +1,4 @@
-use Rattle.std.proofs.Common.{rules, arith}
-use Rattle.std.proofs.lemmas.Grind.{common_steps}
+use Rattle.std.proofs.Common.{arith}
 use Rattle.gm_host.proofs.mem_store.MemStoreStore.load.Goals as goal
 
 pub returns-clause-fails_exactly : goal.returns-clause-fails_exactly
