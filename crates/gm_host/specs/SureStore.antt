@@ -1,0 +1,14 @@
+-- What a store in memory that never fails is.
+use Rattle.std.specs.Prelude.{ℕ, refl}
+use Rattle.std.specs.Coded.{Coded, code_by, coded×, coded_ℕ}
+use Rattle.gm_host.specs.Files.{Files, files_code}
+
+-- its files, and how many loads there were
+pub record StoreState : Type 0 where
+  pub files : Files
+  pub loads : ℕ
+
+-- a state is stored as the pair of its fields
+abbrev pub state_code : Coded StoreState
+state_code =
+    code_by (Files × ℕ) (coded× files_code coded_ℕ) (λ s. (s.files, s.loads)) (λ p. record { files = p.0; loads = p.1 }) (λ _. refl)

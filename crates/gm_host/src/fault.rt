@@ -1,0 +1,50 @@
+ghost use Rattle.std.specs.Prelude.{◌≡◌};
+
+use crate::bytes::Bytes;
+use std::alloc::AllocError;
+
+/// Why a load gave no file.
+#[derive(Debug, Drop)]
+pub enum LoadFault {
+    /// The store holds no file of that name. Only a store that tells what it holds answers so.
+    Absent,
+    /// The store failed, which its count of failed loads shows.
+    Failed,
+    /// The file is longer than the caller's limit.
+    TooLong {
+        /// The first bytes of the file, one more than the limit.
+        seen: Bytes,
+    },
+    /// Memory was wanting.
+    OutOfMemory,
+}
+
+impl From<AllocError> for LoadFault {
+    ghost use Rattle.gm_host.specs.declared.fault.LoadFault.TheVariants.{OutOfMemory};
+
+    ghost from_gives = { λ _ fault. fault ≡ OutOfMemory };
+
+    fn from(_error: AllocError) -> LoadFault {
+        LoadFault::OutOfMemory
+    }
+}
+
+/// Why a put did not append all bytes.
+#[derive(Clone, Copy, Debug, PartialEq, Eq)]
+pub enum PutFault {
+    /// The sink failed, which its count of faults shows. Some of the first bytes may have been
+    /// appended.
+    Failed,
+    /// Memory was wanting, and nothing was appended.
+    OutOfMemory,
+}
+
+impl From<AllocError> for PutFault {
+    ghost use Rattle.gm_host.specs.declared.fault.PutFault.TheVariants.{OutOfMemory};
+
+    ghost from_gives = { λ _ fault. fault ≡ OutOfMemory };
+
+    fn from(_error: AllocError) -> PutFault {
+        PutFault::OutOfMemory
+    }
+}

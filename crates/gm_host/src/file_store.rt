@@ -1,0 +1,118 @@
+ghost use Rattle.std.specs.Prelude.{◌≡◌, ◌+◌, ◌<◌, ◌≤◌, IfOk, OnOk, is_err, length, if◌then◌else◌};
+ghost use Rattle.std.specs.Io.KnownBytes.{Consumes, IsAtEnd};
+ghost use Rattle.gm_host.specs.Count.{counted, Rises};
+ghost use Rattle.gm_host.specs.Store.{untold, Lacks, IsHeld, IsCutFromHeld, HoldsLongerFile, IsAbsent, OnAbsent, OnFailed, IfTooLong, IsAbsentUnlessFailing, IsTooLongUnlessFailing};
+
+use crate::bytes::Bytes;
+use crate::fault::LoadFault;
+use crate::store::Store;
+use std::alloc::Global;
+use std::fs;
+use std::fs::Files;
+use std::io::Read;
+
+/// How many bytes one read asks for.
+const PIECE: usize = 65_536;
+
+/// The files of the system, by name. It does not tell what it holds, and a file that is not there
+/// is `Failed`.
+#[derive(Drop)]
+pub struct FileStore<'r, R> {
+    rt: &'r R,
+    loads: u64,
+    load_faults: u64,
+}
+
+impl<'r, R: Files> FileStore<'r, R> {
+    /// The files that this runtime reaches.
+    pub fn new(rt: &'r R) -> FileStore<'r, R>
+        ensures loads { result.loads ≡ 0 }
+        ensures load_faults { result.load_faults ≡ 0 }
+    {
+        FileStore {
+            rt,
+            loads: 0,
+            load_faults: 0,
+        }
+    }
+}
+
+impl<'r, R: Files> Store for FileStore<'r, R> {
+    ghost holds = { λ _. untold };
+
+    ghost loads = { λ store. store.loads };
+
+    ghost load_faults = { λ store. store.load_faults };
+
+    fn load(&mut self, alloc: Global, name: &str, limit: usize) -> Result<Vec<u8>, LoadFault>
+        ensures held { untold ≡ untold }
+        ensures each_load_counts { self.new.loads ≡ counted self.old.loads }
+        ensures faults_never_fall { self.old.load_faults ≤ self.new.load_faults }
+        ensures within_limit { IfOk result (λ bytes. length bytes.items ≤ limit) }
+        ensures bytes_held { IfOk result (λ bytes. IsHeld untold name.now bytes.items) }
+        ensures absent { OnAbsent result (Lacks untold name.now) }
+        ensures lacking { Lacks untold name.now → IsAbsentUnlessFailing result }
+        ensures failed { OnFailed result (Rises self.old.load_faults self.new.load_faults) }
+        ensures seen_length { IfTooLong result (λ seen. length seen ≡ limit + 1) }
+        ensures seen_held { IfTooLong result (λ seen. IsCutFromHeld untold name.now limit seen) }
+        ensures longer { HoldsLongerFile untold name.now limit → IsTooLongUnlessFailing result }
+        ensures each_fault_counts { self.new.load_faults ≡ (if is_err result then counted self.old.load_faults else self.old.load_faults) }
+    {
+        self.loads = self.loads.saturating_add(1);
+        let answer = read_file(self.rt, alloc, name, limit);
+        if answer.is_err() {
+            self.load_faults = self.load_faults.saturating_add(1);
+        }
+        answer
+    }
+}
+
+/// The bytes of a file, read no further than one byte past the limit.
+fn read_file<R: Files>(
+    rt: &R,
+    alloc: Global,
+    name: &str,
+    limit: usize,
+) -> Result<Vec<u8>, LoadFault>
+    ensures within_limit { IfOk result (λ bytes. length bytes.items ≤ limit) }
+    ensures never_absent { ¬ IsAbsent result }
+    ensures seen_length { IfTooLong result (λ seen. length seen ≡ limit + 1) }
+{
+    let Ok(mut file) = fs::open(rt, name) else {
+        return Err(LoadFault::Failed);
+    };
+    let mut piece = vec![in alloc; 0u8; PIECE]?;
+    read_within(&mut file, alloc, &mut piece, limit)
+}
+
+/// What is left to read, read through the lent piece no further than one byte past the limit.
+fn read_within<F: Read>(
+    file: &mut F,
+    alloc: Global,
+    piece: &mut [u8],
+    limit: usize,
+) -> Result<Vec<u8>, LoadFault>
+    requires { 0 < length piece.old }
+    ensures within_limit { IfOk result (λ bytes. length bytes.items ≤ limit) }
+    ensures all_bytes { IfOk result (λ bytes. Consumes (F.remaining file.old) (F.remaining file.new) bytes.items) }
+    ensures to_the_end { OnOk result (IsAtEnd (F.remaining file.new)) }
+    ensures never_absent { ¬ IsAbsent result }
+    ensures seen_length { IfTooLong result (λ seen. length seen ≡ limit + 1) }
+    ensures first_bytes { IfTooLong result (λ seen. Consumes (F.remaining file.old) (F.remaining file.new) seen) }
+{
+    let mut bytes = Vec::new(alloc);
+    while bytes.len() <= limit {
+        let wanted = (limit - bytes.len()).saturating_add(1).min(piece.len());
+        let part = &mut piece[..wanted];
+        let Ok(count) = file.read(part) else {
+            return Err(LoadFault::Failed);
+        };
+        if count == 0 {
+            return Ok(bytes);
+        }
+        bytes.extend_from_slice(&part[..count])?;
+    }
+    Err(LoadFault::TooLong {
+        seen: Bytes::new(bytes),
+    })
+}

@@ -1,0 +1,112 @@
+ghost use Rattle.std.specs.Prelude.{◌≡◌, ◌<◌, ◌≤◌, [], OnOk, OnErr, Some, take};
+ghost use Rattle.std.specs.FinMap as map;
+ghost use Rattle.gm_host.specs.Count.{Rises};
+ghost use Rattle.gm_host.specs.Sink.{extended, ExtendsInPart, OnFailed, OnOutOfMemory};
+ghost use Rattle.gm_host.specs.MemSink.{IsPutAsPlanned};
+
+use crate::fault::PutFault;
+use crate::sink::Sink;
+use gm_model::OutOfMemory;
+use std::alloc::Global;
+use std::collections::BTreeMap;
+use std::marker::Model;
+
+/// A sink in memory, whose puts fail where a test names them.
+///
+/// Puts are numbered from 0 in the order in which they come, whatever they answer. A put fails
+/// exactly where its number was named by [`MemSink::fail_put`], unless memory is wanting for the
+/// bytes that it keeps.
+#[derive(Drop)]
+pub struct MemSink {
+    written: Vec<u8>,
+    planned: BTreeMap<u64, usize>,
+    puts: u64,
+    faults: u64,
+}
+
+impl Model for MemSink {
+    ghost use Rattle.std.specs.FinMap.{from_entries};
+    ghost use Rattle.gm_host.specs.MemSink.{SinkState, state_code};
+
+    ghost Value = { SinkState };
+
+    ghost coded = { state_code };
+
+    ghost view = { λ sink. record {
+      written = sink.written.items;
+      planned = from_entries sink.planned.entries;
+      puts = sink.puts;
+      faults = sink.faults;
+    } };
+}
+
+impl MemSink {
+    /// A sink to which nothing was written, and of which no put is to fail.
+    pub fn new(alloc: Global) -> MemSink
+        ensures { result ≡ record { written = []; planned = map.empty; puts = 0; faults = 0 } }
+    {
+        MemSink {
+            written: Vec::new(alloc),
+            planned: BTreeMap::new(alloc),
+            puts: 0,
+            faults: 0,
+        }
+    }
+
+    /// Makes the put of this number fail and append the first `kept` of its bytes, at most all. The
+    /// later naming of a number counts. A number that has passed has no effect.
+    pub fn fail_put(&mut self, call: u32, kept: usize) -> Result<(), OutOfMemory>
+        ensures passed { call < self.old.puts → self.new ≡ self.old }
+        ensures ok { self.old.puts ≤ call → OnOk result (self.new ≡ record self.old { planned = map.insert self.old.planned call kept }) }
+        ensures err { OnErr result (self.new ≡ self.old) }
+    {
+        let call = u64::from(call);
+        if call >= self.puts {
+            self.planned.insert(call, kept)?;
+        }
+        Ok(())
+    }
+
+    /// The bytes that were written, in order.
+    pub fn bytes(&self) -> &[u8]
+        ensures { result.now ≡ self.now.written }
+    {
+        self.written.as_slice()
+    }
+}
+
+impl Sink for MemSink {
+    ghost written = { λ sink. Some sink.written };
+
+    ghost faults = { λ sink. sink.faults };
+
+    fn put(&mut self, bytes: &[u8]) -> Result<(), PutFault>
+        ensures faults_never_fall { self.old.faults ≤ self.new.faults }
+        ensures ok { OnOk result (Some self.new.written ≡ extended (Some self.old.written) bytes.now) }
+        ensures failed { OnFailed result (Rises self.old.faults self.new.faults) }
+        ensures kept { OnFailed result (ExtendsInPart (Some self.old.written) bytes.now (Some self.new.written)) }
+        ensures out_of_memory { OnOutOfMemory result (Some self.new.written ≡ Some self.old.written) }
+        ensures as_planned { IsPutAsPlanned self.old bytes.now result self.new }
+    {
+        let call = self.puts;
+        self.puts = self.puts.saturating_add(1);
+        match self.planned.get(&call).copied() {
+            Some(kept) => {
+                self.written.extend_from_slice(first(bytes, kept))?;
+                self.faults = self.faults.saturating_add(1);
+                Err(PutFault::Failed)
+            }
+            None => {
+                self.written.extend_from_slice(bytes)?;
+                Ok(())
+            }
+        }
+    }
+}
+
+/// The first `count` bytes, at most all.
+fn first(bytes: &[u8], count: usize) -> &[u8]
+    ensures { result.now ≡ take count bytes.now }
+{
+    &bytes[..count.min(bytes.len())]
+}

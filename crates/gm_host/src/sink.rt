@@ -1,0 +1,24 @@
+ghost use Rattle.std.specs.Prelude.{◌≡◌, ◌≤◌, ℕ, List, Option, OnOk};
+ghost use Rattle.gm_host.specs.Count.{Rises};
+ghost use Rattle.gm_host.specs.Sink.{extended, ExtendsInPart, OnFailed, OnOutOfMemory};
+
+use crate::fault::PutFault;
+
+/// Where bytes are written to, one after the other.
+///
+/// Contracts see the bytes written so far, or that the sink does not tell, and the number of puts
+/// that failed, which stays at 18,446,744,073,709,551,615 once it has reached it, and counts as risen
+/// from then on.
+pub trait Sink {
+    ghost written: { Self → Option (List ℕ) };
+
+    ghost faults: { Self → ℕ };
+
+    /// Appends the bytes.
+    fn put(&mut self, bytes: &[u8]) -> Result<(), PutFault>
+        ensures faults_never_fall { faults self.old ≤ faults self.new }
+        ensures ok { OnOk result (written self.new ≡ extended (written self.old) bytes.now) }
+        ensures failed { OnFailed result (Rises (faults self.old) (faults self.new)) }
+        ensures kept { OnFailed result (ExtendsInPart (written self.old) bytes.now (written self.new)) }
+        ensures out_of_memory { OnOutOfMemory result (written self.new ≡ written self.old) };
+}

@@ -1,0 +1,59 @@
+ghost use Rattle.std.specs.Prelude.{◌≡◌, ◌≤◌, OnOk, is_err, if◌then◌else◌};
+ghost use Rattle.gm_host.specs.Count.{counted, Rises};
+ghost use Rattle.gm_host.specs.Sink.{untold, extended, ExtendsInPart, OnFailed, IsOutOfMemory, OnOutOfMemory};
+
+use crate::fault::PutFault;
+use crate::sink::Sink;
+use std::io::Print;
+
+/// The standard output. It does not tell what was written.
+#[derive(Drop)]
+pub struct StdSink<'r, R> {
+    rt: &'r R,
+    faults: u64,
+}
+
+impl<'r, R: Print> StdSink<'r, R> {
+    /// The standard output of this runtime.
+    pub fn new(rt: &'r R) -> StdSink<'r, R>
+        ensures { result.faults ≡ 0 }
+    {
+        StdSink { rt, faults: 0 }
+    }
+}
+
+impl<'r, R: Print> Sink for StdSink<'r, R> {
+    ghost written = { λ _. untold };
+
+    ghost faults = { λ sink. sink.faults };
+
+    fn put(&mut self, bytes: &[u8]) -> Result<(), PutFault>
+        ensures faults_never_fall { self.old.faults ≤ self.new.faults }
+        ensures ok { OnOk result (untold ≡ extended untold bytes.now) }
+        ensures failed { OnFailed result (Rises self.old.faults self.new.faults) }
+        ensures kept { OnFailed result (ExtendsInPart untold bytes.now untold) }
+        ensures out_of_memory { OnOutOfMemory result (untold ≡ untold) }
+        ensures enough_memory { ¬ IsOutOfMemory result }
+        ensures each_fault_counts { self.new.faults ≡ (if is_err result then counted self.old.faults else self.old.faults) }
+    {
+        let answer = write_whole(self.rt, bytes);
+        if answer.is_err() {
+            self.faults = self.faults.saturating_add(1);
+        }
+        answer
+    }
+}
+
+/// Writes all of the bytes. A write that takes none of them is a fault.
+fn write_whole<R: Print>(rt: &R, bytes: &[u8]) -> Result<(), PutFault>
+    ensures { ¬ IsOutOfMemory result }
+{
+    let mut rest = bytes;
+    while !rest.is_empty() {
+        match rt.write_some(rest) {
+            Ok(count) if count > 0 => rest = &rest[count..],
+            _ => return Err(PutFault::Failed),
+        }
+    }
+    Ok(())
+}

@@ -1,0 +1,36 @@
+ghost use Rattle.std.specs.Prelude.{◌≡◌, ◌+◌, ◌≤◌, ℕ, List, Option, length, Some, IfOk};
+ghost use Rattle.gm_host.specs.Count.{counted, Rises};
+ghost use Rattle.gm_host.specs.Store.{Lacks, IsHeld, IsCutFromHeld, HoldsLongerFile, OnAbsent, OnFailed, IfTooLong, IsAbsentUnlessFailing, IsTooLongUnlessFailing};
+
+use crate::fault::LoadFault;
+use std::alloc::Global;
+
+/// Files by name.
+///
+/// Contracts see what the store holds, as a function from names to bytes, or that it does not tell;
+/// how many loads there were; and how many of them failed. A count that has reached
+/// 18,446,744,073,709,551,615 stays there, and counts as risen from then on.
+pub trait Store {
+    ghost holds: { Self → Option (List ℕ → Option (List ℕ)) };
+
+    ghost loads: { Self → ℕ };
+
+    ghost load_faults: { Self → ℕ };
+
+    /// The bytes of the file `name`, which are at most `limit`.
+    ///
+    /// A longer file is `TooLong`, and no more than `limit` and one bytes of it are read. A file that
+    /// is not there is `Absent` where the store tells what it holds, and `Failed` where it does not.
+    fn load(&mut self, alloc: Global, name: &str, limit: usize) -> Result<Vec<u8>, LoadFault>
+        ensures held { holds self.new ≡ holds self.old }
+        ensures each_load_counts { loads self.new ≡ counted (loads self.old) }
+        ensures faults_never_fall { load_faults self.old ≤ load_faults self.new }
+        ensures within_limit { IfOk result (λ bytes. length bytes.items ≤ limit) }
+        ensures bytes_held { IfOk result (λ bytes. IsHeld (holds self.old) name.now bytes.items) }
+        ensures absent { OnAbsent result (Lacks (holds self.old) name.now) }
+        ensures lacking { Lacks (holds self.old) name.now → IsAbsentUnlessFailing result }
+        ensures failed { OnFailed result (Rises (load_faults self.old) (load_faults self.new)) }
+        ensures seen_length { IfTooLong result (λ seen. length seen ≡ limit + 1) }
+        ensures seen_held { IfTooLong result (λ seen. IsCutFromHeld (holds self.old) name.now limit seen) }
+        ensures longer { HoldsLongerFile (holds self.old) name.now limit → IsTooLongUnlessFailing result };
+}

@@ -1,0 +1,83 @@
+ghost use Rattle.std.specs.Prelude.{◌≡◌, ◌+◌, ◌≤◌, OnOk, OnErr, IfOk, option_copied, length};
+ghost use Rattle.std.specs.FinMap as map;
+ghost use Rattle.gm_host.specs.Files.{told};
+ghost use Rattle.gm_host.specs.Count.{counted, Rises};
+ghost use Rattle.gm_host.specs.Store.{Lacks, IsHeld, IsCutFromHeld, HoldsLongerFile, IsFailed, OnAbsent, OnFailed, IfTooLong, IsAbsentUnlessFailing, IsTooLongUnlessFailing};
+
+use crate::fault::LoadFault;
+use crate::file_table::FileTable;
+use crate::store::Store;
+use gm_model::OutOfMemory;
+use std::alloc::Global;
+use std::marker::Model;
+
+/// A store in memory that never fails.
+#[derive(Drop)]
+pub struct SureStore {
+    files: FileTable,
+    loads: u64,
+}
+
+impl Model for SureStore {
+    ghost use Rattle.gm_host.specs.SureStore.{StoreState, state_code};
+
+    ghost Value = { StoreState };
+
+    ghost coded = { state_code };
+
+    ghost view = { λ store. record { files = store.files; loads = store.loads } };
+}
+
+impl SureStore {
+    /// A store that holds nothing.
+    pub fn new(alloc: Global) -> SureStore
+        ensures { result ≡ record { files = map.empty; loads = 0 } }
+    {
+        SureStore {
+            files: FileTable::new(alloc),
+            loads: 0,
+        }
+    }
+
+    /// Holds the bytes under the name, in place of what was held there.
+    pub fn hold(&mut self, name: &str, bytes: &[u8]) -> Result<(), OutOfMemory>
+        ensures ok { OnOk result (self.new ≡ record self.old { files = map.insert self.old.files name.now bytes.now }) }
+        ensures err { OnErr result (self.new ≡ self.old) }
+    {
+        self.files.hold(name, bytes)
+    }
+
+    /// The bytes that are held under the name.
+    pub fn bytes(&self, name: &str) -> Option<&[u8]>
+        ensures { option_copied result ≡ map.get self.now.files name.now }
+    {
+        self.files.get(name)
+    }
+}
+
+impl Store for SureStore {
+    ghost holds = { λ store. told store.files };
+
+    ghost loads = { λ store. store.loads };
+
+    ghost load_faults = { λ _. 0 };
+
+    fn load(&mut self, alloc: Global, name: &str, limit: usize) -> Result<Vec<u8>, LoadFault>
+        ensures held { told self.new.files ≡ told self.old.files }
+        ensures each_load_counts { self.new.loads ≡ counted self.old.loads }
+        ensures faults_never_fall { 0 ≤ 0 }
+        ensures within_limit { IfOk result (λ bytes. length bytes.items ≤ limit) }
+        ensures bytes_held { IfOk result (λ bytes. IsHeld (told self.old.files) name.now bytes.items) }
+        ensures absent { OnAbsent result (Lacks (told self.old.files) name.now) }
+        ensures lacking { Lacks (told self.old.files) name.now → IsAbsentUnlessFailing result }
+        ensures failed { OnFailed result (Rises 0 0) }
+        ensures seen_length { IfTooLong result (λ seen. length seen ≡ limit + 1) }
+        ensures seen_held { IfTooLong result (λ seen. IsCutFromHeld (told self.old.files) name.now limit seen) }
+        ensures longer { HoldsLongerFile (told self.old.files) name.now limit → IsTooLongUnlessFailing result }
+        ensures never_fails { ¬ IsFailed result }
+        ensures after { self.new ≡ record self.old { loads = counted self.old.loads } }
+    {
+        self.loads = self.loads.saturating_add(1);
+        self.files.load(alloc, name, limit)
+    }
+}

@@ -1,0 +1,182 @@
+use crate::fault::{LoadFault, PutFault};
+use crate::file_store::FileStore;
+use crate::mem_sink::MemSink;
+use crate::mem_store::MemStore;
+use crate::sink::Sink;
+use crate::std_sink::StdSink;
+use crate::store::Store;
+use crate::sure_sink::SureSink;
+use crate::sure_store::SureStore;
+use std::alloc::Global;
+use std::fmt::Display;
+use std::io::Print;
+use std::process::Abort;
+use std::test::Fail;
+use std::{fs, io};
+
+/// A load of a name with a limit, and its answer: a word, and the bytes that it carries.
+type Load<'a> = (&'a str, usize, &'a str, &'a [u8]);
+
+fn assert_loads<S: Store>(rt: &impl Abort, alloc: Global, store: &mut S, loads: &[Load<'_>]) {
+    for (name, limit, word, bytes) in loads {
+        match store.load(alloc, name, *limit) {
+            Ok(loaded) => assert_answer(rt, *word, *bytes, "ok", loaded.as_slice()),
+            Err(LoadFault::TooLong { seen }) => {
+                assert_answer(rt, *word, *bytes, "too long", seen.as_slice());
+            }
+            Err(LoadFault::Absent) => assert_answer(rt, *word, *bytes, "absent", b""),
+            Err(LoadFault::Failed) => assert_answer(rt, *word, *bytes, "failed", b""),
+            Err(LoadFault::OutOfMemory) => assert_answer(rt, *word, *bytes, "out of memory", b""),
+        }
+    }
+}
+
+fn assert_answer(rt: &impl Abort, word: &str, bytes: &[u8], answer: &str, carried: &[u8]) {
+    assert_eq!(rt; answer, word);
+    assert_eq!(rt; carried, bytes);
+}
+
+#[test]
+fn mem_store(rt: HostRuntime) -> Result<(), Fail> {
+    let alloc = rt.alloc();
+    let mut store = MemStore::new(alloc);
+    store.hold("m", b"xy")?;
+    store.hold("m", b"abcde")?;
+    store.hold("e", b"")?;
+    store.fail_load(2)?;
+    let loads = [
+        ("m", 5, "ok", b"abcde".as_slice()),
+        ("m", 3, "too long", b"abcd".as_slice()),
+        ("m", 5, "failed", b"".as_slice()),
+        ("n", 5, "absent", b"".as_slice()),
+        ("e", 0, "ok", b"".as_slice()),
+    ];
+    assert_loads(&rt, alloc, &mut store, &loads);
+    store.fail_load(1)?;
+    store.fail_load(6)?;
+    let later = [
+        ("m", 5, "ok", b"abcde".as_slice()),
+        ("n", 5, "failed", b"".as_slice()),
+    ];
+    assert_loads(&rt, alloc, &mut store, &later);
+    assert_eq!(rt; store.bytes("m"), Some(b"abcde".as_slice()));
+    assert_eq!(rt; store.bytes("n"), None);
+    Ok(())
+}
+
+#[test]
+fn sure_store(rt: HostRuntime) -> Result<(), Fail> {
+    let alloc = rt.alloc();
+    let mut store = SureStore::new(alloc);
+    store.hold("m", b"abcde")?;
+    let loads = [
+        ("m", 5, "ok", b"abcde".as_slice()),
+        ("m", 4, "too long", b"abcde".as_slice()),
+        ("n", 5, "absent", b"".as_slice()),
+    ];
+    assert_loads(&rt, alloc, &mut store, &loads);
+    assert_eq!(rt; store.bytes("m"), Some(b"abcde".as_slice()));
+    Ok(())
+}
+
+#[test]
+fn file_store(rt: HostRuntime) -> Result<(), Fail> {
+    let alloc = rt.alloc();
+    fs::write(&rt, "held.txt", "abcde")?;
+    let loads = [
+        ("held.txt", 5, "ok", b"abcde".as_slice()),
+        ("held.txt", 3, "too long", b"abcd".as_slice()),
+        ("missing.txt", 5, "failed", b"".as_slice()),
+        (
+            "held.txt",
+            18_446_744_073_709_551_615,
+            "ok",
+            b"abcde".as_slice(),
+        ),
+    ];
+    let mut store = FileStore::new(&rt);
+    assert_loads(&rt, alloc, &mut store, &loads);
+    fs::remove_file(&rt, "held.txt")?;
+    Ok(())
+}
+
+/// A put of bytes, its answer as a word, and all bytes that are written then.
+type Put<'a> = (&'a [u8], &'a str, &'a [u8]);
+
+fn put_word<O: Sink>(sink: &mut O, bytes: &[u8]) -> &'static str {
+    match sink.put(bytes) {
+        Ok(()) => "ok",
+        Err(PutFault::Failed) => "failed",
+        Err(PutFault::OutOfMemory) => "out of memory",
+    }
+}
+
+#[test]
+fn mem_sink(rt: HostRuntime) -> Result<(), Fail> {
+    let mut sink = MemSink::new(rt.alloc());
+    sink.fail_put(1, 9)?;
+    sink.fail_put(1, 2)?;
+    sink.fail_put(3, 9)?;
+    let puts: [Put<'_>; 5] = [
+        (b"abc", "ok", b"abc"),
+        (b"def", "failed", b"abcde"),
+        (b"g", "ok", b"abcdeg"),
+        (b"hi", "failed", b"abcdeghi"),
+        (b"", "ok", b"abcdeghi"),
+    ];
+    for (bytes, word, written) in puts {
+        assert_eq!(rt; put_word(&mut sink, bytes), word);
+        assert_eq!(rt; sink.bytes(), written);
+    }
+    Ok(())
+}
+
+#[test]
+fn sure_sink(rt: HostRuntime) -> Result<(), Fail> {
+    let mut sink = SureSink::new(rt.alloc());
+    let puts: [Put<'_>; 2] = [(b"abc", "ok", b"abc"), (b"de", "ok", b"abcde")];
+    for (bytes, word, written) in puts {
+        assert_eq!(rt; put_word(&mut sink, bytes), word);
+        assert_eq!(rt; sink.bytes(), written);
+    }
+    Ok(())
+}
+
+#[test]
+fn std_sink(rt: HostRuntime) {
+    let mut sink = StdSink::new(&rt);
+    assert_eq!(rt; put_word(&mut sink, b"abc\n"), "ok");
+}
+
+/// An output that takes at most so many bytes at once.
+#[derive(Drop)]
+struct Narrow {
+    width: usize,
+}
+
+impl Print for Narrow {
+    fn print<D: Display + Drop>(&self, _value: D) -> io::Result<()> {
+        Ok(())
+    }
+
+    fn println<D: Display + Drop>(&self, _value: D) -> io::Result<()> {
+        Ok(())
+    }
+
+    fn write_all(&self, _bytes: &[u8]) -> io::Result<()> {
+        Ok(())
+    }
+
+    fn write_some(&self, bytes: &[u8]) -> io::Result<usize> {
+        Ok(self.width.min(bytes.len()))
+    }
+}
+
+#[test]
+fn narrow_output(rt: HostRuntime) {
+    let narrow = Narrow { width: 2 };
+    assert_eq!(rt; put_word(&mut StdSink::new(&narrow), b"abcde"), "ok");
+    let closed = Narrow { width: 0 };
+    assert_eq!(rt; put_word(&mut StdSink::new(&closed), b"abcde"), "failed");
+    assert_eq!(rt; put_word(&mut StdSink::new(&closed), b""), "ok");
+}
