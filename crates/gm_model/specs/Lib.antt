@@ -4,3 +4,7 @@ pub mod GMap
 pub mod MapText
 pub mod Reading
 pub mod Answer
+pub mod Labels
+pub mod Padded
+pub mod Names
+pub mod Values
