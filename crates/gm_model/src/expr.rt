@@ -1,6 +1,5 @@
-use std::marker::Model;
-
 use crate::word::Mask;
+use std::marker::Model;
 
 /// Labels along which a dart term leads, the first of them first. It is made from a vector without
 /// taking memory. Contracts see the list of labels.

@@ -1,4 +1,5 @@
 ghost use Rattle.std.specs.Prelude.{◌≡◌, ◌↔◌, ◌≤◌, ◌<◌, length, IsTrue, SomeIff};
+ghost use Rattle.std.specs.List.{list_all};
 ghost use Rattle.gm_model.specs.Names.{IsName, IsNameToken};
 ghost use Rattle.gm_model.specs.Tokens.{is_letter, is_name_byte};
 
@@ -19,7 +20,7 @@ impl Model for Name {
 
     ghost Value = { List ℕ };
 
-    ghost use Rattle.gm_model.specs.Padded.{IsPadded, padded, padded-take};
+    ghost use Rattle.gm_model.specs.Padded.{IsPadded, padded, padded-take, length-take-padded};
     ghost use Rattle.gm_model.specs.Names.{IsName};
 
     ghost view = { λ n. take n.used n.held };
@@ -62,10 +63,16 @@ impl Name {
 fn is_name_token(bytes: &[u8]) -> bool
     ensures { IsTrue result ↔ IsNameToken bytes.now }
 {
-    match bytes {
-        [] => false,
-        [first, rest @ ..] => begins_name(*first) && rest.iter().all(|b| continues_name(*b)),
+    match bytes.split_first() {
+        None => false,
+        Some((first, rest)) => begins_name(*first) && all_continue(rest),
     }
+}
+
+fn all_continue(bytes: &[u8]) -> bool
+    ensures { result ≡ list_all is_name_byte bytes.now }
+{
+    bytes.iter().all(|b| continues_name(*b))
 }
 
 fn begins_name(b: u8) -> bool
