@@ -5,15 +5,31 @@
 #![tactic(auto)]
 
 mod dim;
+mod expr;
 mod items;
 mod limit;
 mod memory;
+mod name;
+mod rule;
+mod schema;
+mod script;
+mod step;
 mod steps;
 mod token;
+mod value;
+mod word;
 
 pub use dim::Dim;
+pub use expr::{BinOp, DartTerm, Expr, Path, UnOp};
 pub use items::Items;
 pub use limit::LimitKind;
 pub use memory::OutOfMemory;
+pub use name::Name;
+pub use rule::{Book, Link, Node, Param, RuleFault, RuleTable, Set, Side};
+pub use schema::{Embed, Schema};
+pub use script::{Line, Script};
+pub use step::Step;
 pub use steps::Steps;
 pub use token::{Token, TokenKind};
+pub use value::{Kind, Value};
+pub use word::{Letter, Mask, Word};
