@@ -1,0 +1,5 @@
+pub mod Fronts
+pub mod Longest
+pub mod Items
+pub mod Gaps
+pub mod Values
