@@ -3,3 +3,5 @@ pub mod Longest
 pub mod Items
 pub mod Gaps
 pub mod Values
+pub mod Marks
+pub mod Printed
