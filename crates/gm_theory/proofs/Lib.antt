@@ -1,3 +1,5 @@
 pub mod Tests
 pub mod Scenes
 pub mod Arcs
+pub mod ValuesJoined
+pub mod Values
