@@ -3,3 +3,5 @@ pub mod Scenes
 pub mod Arcs
 pub mod ValuesJoined
 pub mod Values
+pub mod ValuesLists
+pub mod ValuesUnique
