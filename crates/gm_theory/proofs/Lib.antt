@@ -1,3 +1,6 @@
 pub mod Tests
 pub mod Scenes
 pub mod Arcs
+pub mod Corners
+pub mod Commuting
+pub mod Results
