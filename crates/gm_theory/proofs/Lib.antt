@@ -1,7 +1,13 @@
 pub mod Tests
+pub mod Lists
 pub mod Scenes
 pub mod Arcs
+pub mod Corners
+pub mod Commuting
+pub mod Results
+pub mod RuleSteps
 pub mod ValuesJoined
+pub mod ValuesReadOff
 pub mod Values
 pub mod ValuesLists
 pub mod ValuesUnique

@@ -1,5 +1,6 @@
 -- Tests and their answers, and a search below a bound.
 use Rattle.std.proofs.Common.{◌≡◌, ℕ, zero, suc, ◌<◌, ◌≤◌, Bool, true, false, not, ◌&&◌, ◌⊎◌, IsTrue, refl, sym, ◌∙◌, inl, inr, arith, below_more}
+use Rattle.std.proofs.lemmas.Bool.Decides.{eqb_tells}
 
 pub both_true : (a b : Bool) → IsTrue (a && b) → IsTrue a × IsTrue b
 both_true true true h = (refl, refl)
@@ -25,6 +26,9 @@ true_or_false false = inr refl
 
 pub not_both : {A : Type 0} (b : Bool) → b ≡ true → b ≡ false → A
 not_both b h k = absurd (let e : true ≡ false = sym h ∙ k in (cc))
+
+pub same_or_not : (a b : ℕ) → (a ≡ b) ⊎ (a ≡ b → ⊥)
+same_or_not a b = elim (eqb_tells a b) [ inl h ↦ inl h.1 | inr h ↦ inr h.1 ]
 
 -- some number below the bound has P, or none does
 pub search_below : (P : ℕ → Type 0) → ((x : ℕ) → P x ⊎ (P x → ⊥)) → (n : ℕ) → ((x : ℕ) × (x < n) × P x) ⊎ ((x : ℕ) → x < n → P x → ⊥)

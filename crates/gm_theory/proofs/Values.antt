@@ -17,15 +17,8 @@ use Rattle.gm_model.specs.Unfolding.{IsUnfolding, IsArcAfter, IsKeptArc, IsMadeA
 use Rattle.gm_theory.proofs.Arcs.{kept_name, same_instance, link_arc, arc_to, arc_back}
 use Rattle.gm_theory.proofs.Scenes.{IsLeftAt, IsRightAt, IsLawful}
 use Rattle.gm_theory.proofs.Tests.{both_true, not_true, and_true, true_or_false, not_both}
+use Rattle.gm_theory.proofs.ValuesReadOff.{IsReadOff}
 use Rattle.gm_theory.proofs.ValuesJoined.{joined_here, joined_by_link, joined_through, pair_order}
-
--- the steps of a rule's nodes say what its links and words are
-pub record IsReadOff (n : ℕ) (rule : Rule) : Type 0 where
-  pub link : (side : Side) (x i y : ℕ) → IsTrue (has_word rule side x) → i ≤ n → IsLinked (links_on rule side) x i y → step rule side x i ≡ Exp y
-  pub letter : (side : Side) (x i m : ℕ) → IsTrue (has_word rule side x) → i ≤ n → slice_get (letters rule side x) m ≡ Some (At i) → step rule side x i ≡ Imp m
-  pub linked : (side : Side) (x i y : ℕ) → step rule side x i ≡ Exp y → IsLinked (links_on rule side) x i y
-  pub lettered : (side : Side) (x i m : ℕ) → step rule side x i ≡ Imp m → slice_get (letters rule side x) m ≡ Some (At i)
-  pub end : (side : Side) (x i y : ℕ) → IsLinked (links_on rule side) x i y → IsTrue (has_word rule side y)
 
 module _ (map : Map) (rule : Rule) (place : Placement) (count width : ℕ) (label : ℕ → ℕ) (law : IsLawful (scene_of map rule place) count width label) (read_off : IsReadOff (dimension map) rule)
     (IsLive : ℕ → Type 0) (alpha : ℕ → ℕ → ℕ) (next : ℕ) (unfolded : IsUnfolding (scene_of map rule place) IsLive alpha next)
