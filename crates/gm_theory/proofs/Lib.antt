@@ -6,3 +6,7 @@ pub mod Corners
 pub mod Commuting
 pub mod Results
 pub mod RuleSteps
+pub mod Walks
+pub mod Turns
+pub mod NewNames
+pub mod Keeps
