@@ -1,9 +1,9 @@
 -- The arcs of an unfolding: kept and made arcs never meet, arcs lead both ways, and they lead to darts of the result.
-use Rattle.std.proofs.Common.{◌≡◌, ℕ, ◌<◌, ◌≤◌, ◌⊎◌, Bool, not, ◌&&◌, IsTrue, true, false, refl, sym, ◌∙◌, ap, subst, inl, inr}
+use Rattle.std.proofs.Common.{◌≡◌, ℕ, ◌<◌, ◌≤◌, ◌⊎◌, not, IsTrue, false, refl, sym, ◌∙◌, ap, subst, inl, inr}
 use Rattle.gm_model.specs.declared.step.Step.{Step}
 use Rattle.gm_model.specs.declared.step.Step.TheVariants.{Absent, Exp, Imp}
-use Rattle.gm_model.specs.Unfolding.{Scene, IsStep, IsGone, IsAdded, IsDartAfter, IsCutAt, IsKeptArc, LeadsBy, IsMadeArc, IsArcAfter}
-use Rattle.gm_theory.proofs.Scenes.{IsLeftAt, IsRightAt, IsLawful}
+use Rattle.gm_model.specs.Unfolding.{Scene, IsStep, IsGone, IsDartAfter, IsCutAt, IsKeptArc, LeadsBy, IsMadeArc, IsArcAfter}
+use Rattle.gm_theory.proofs.Scenes.{IsRightAt, IsLawful}
 use Rattle.gm_theory.proofs.Tests.{both_true, and_true, not_true, true_not, true_or_false, not_both}
 
 -- a step that is one, by what it is
@@ -26,6 +26,7 @@ module _ (scene : Scene) (count width : ℕ) (label : ℕ → ℕ) (law : IsLawf
     where
       live_name : (z t : ℕ) → IsTrue (scene.is_left z) → t < scene.positions → IsTrue (scene.live (scene.name_of z t))
       live_name z t l h = rw (law.names.kept z t l) (law.darts.live z t (l, h))
+
       go : IsTrue (scene.is_left x) ⊎ (scene.is_left x ≡ false) → IsTrue (scene.is_left y) ⊎ (scene.is_left y ≡ false) → (x ≡ y) × (p ≡ q)
       go (inl l) (inl l') = law.darts.injective x p y q (l, r.1) (l', r'.1) (sym (law.names.kept x p l) ∙ e ∙ law.names.kept y q l')
       go (inl l) (inr a') = not_both (scene.live (scene.name_of y q)) (subst (λ d. IsTrue (scene.live d)) e (live_name x p l r.1)) (law.names.fresh y q a' r')
@@ -40,6 +41,7 @@ module _ (scene : Scene) (count width : ℕ) (label : ℕ → ℕ) (law : IsLawf
     where
       back : d ≡ scene.alpha i (scene.dart_of y q)
       back = sym (law.old.back d i live h) ∙ ap (scene.alpha i) e
+
       go : (step : Step) → scene.left y i ≡ step → IsCutAt scene d i
       go Absent f = absurd (rw f at s)
       go (Exp z) f =
@@ -66,6 +68,7 @@ module _ (scene : Scene) (count width : ℕ) (label : ℕ → ℕ) (law : IsLawf
       there : IsStep (scene.right made.node i) → IsTrue (scene.is_left made.node) ⊎ (scene.is_left made.node ≡ false) → ⊥
       there s (inl l) = kept.uncut (made.node, made.position, l, made.within, law.steps.right_then_left made.node i l made.right made.label s, made.from ∙ law.names.kept made.node made.position l)
       there s (inr a) = not_both (scene.live d) kept.live (ap scene.live made.from ∙ law.names.fresh made.node made.position a (made.right, made.within))
+
       go : IsTrue (scene.is_left made.node) ⊎ (scene.is_left made.node ≡ false) → (step : Step) → scene.right made.node i ≡ step → ⊥
       go side Absent f = rw f at made.leads
       go side (Exp y) f = there (exp_is_step _ y f) side
@@ -85,8 +88,10 @@ module _ (scene : Scene) (count width : ℕ) (label : ℕ → ℕ) (law : IsLawf
     where
       r : IsRightAt scene made.node made.position
       r = (made.right, made.within)
+
       to : (c : ℕ) → IsArcAfter scene c i (scene.name_of made.node made.position) → e ≡ c → IsArcAfter scene e i d
       to c arc f = subst (λ u. IsArcAfter scene u i d) (sym f) (subst (λ u. IsArcAfter scene c i u) (sym made.from) arc)
+
       go : (step : Step) → scene.right made.node i ≡ step → IsArcAfter scene e i d
       go Absent f = absurd (rw f at made.leads)
       go (Exp y) f =
@@ -106,6 +111,7 @@ module _ (scene : Scene) (count width : ℕ) (label : ℕ → ℕ) (law : IsLawf
           let sides : IsTrue (scene.is_left y) × IsTrue (not (scene.is_right y)) = both_true (scene.is_left y) (not (scene.is_right y)) g in
           let same : (x ≡ y) × (p ≡ q) = law.darts.injective x p y q (l, r.1) (sides.0, b) (sym (law.names.kept x p l) ∙ e) in
           not_both (scene.is_right x) r.0 (ap scene.is_right same.0 ∙ not_true (scene.is_right y) sides.1)
+
       go : IsTrue (scene.is_left x) ⊎ (scene.is_left x ≡ false) → IsDartAfter scene (scene.name_of x p)
       go (inl l) = inl (rw (law.names.kept x p l) (law.darts.live x p (l, r.1)), stays l)
       go (inr a) = inr (x, p, and_true (not (scene.is_left x)) (scene.is_right x) (true_not (scene.is_left x) a) r.0, r.1, refl)
@@ -133,8 +139,10 @@ module _ (scene : Scene) (count width : ℕ) (label : ℕ → ℕ) (law : IsLawf
     where
       same : (a.node ≡ b.node) × (a.position ≡ b.position)
       same = same_instance a.node a.position b.node b.position (a.right, a.within) (b.right, b.within) (sym a.from ∙ b.from)
+
       there : LeadsBy scene a.node a.position (scene.right a.node i) e'
       there = subst (λ x. LeadsBy scene x a.position (scene.right x i) e') (sym same.0) (subst (λ p. LeadsBy scene b.node p (scene.right b.node i) e') (sym same.1) b.leads)
+
       go : (step : Step) → scene.right a.node i ≡ step → e ≡ e'
       go Absent f = absurd (rw f at a.leads)
       go (Exp y) f = let h : e ≡ scene.name_of y a.position = rw f at a.leads in let k : e' ≡ scene.name_of y a.position = rw f at there in h ∙ sym k

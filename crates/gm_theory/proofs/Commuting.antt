@@ -1,13 +1,13 @@
 -- Distant labels commute in the result: where a square closes by its steps, and elsewhere as they did before.
-use Rattle.std.proofs.Common.{◌≡◌, ℕ, ◌+◌, ◌<◌, ◌≤◌, ◌⊎◌, Bool, not, ◌&&◌, IsTrue, true, false, refl, sym, ◌∙◌, ap, subst, inl, inr, arith}
+use Rattle.std.proofs.Common.{◌≡◌, ℕ, ◌<◌, ◌≤◌, ◌⊎◌, Bool, not, IsTrue, false, refl, sym, ◌∙◌, ap, subst, inl, inr}
 use Rattle.gm_model.specs.declared.step.Step.{Step}
 use Rattle.gm_model.specs.declared.step.Step.TheVariants.{Absent, Exp, Imp}
 use Rattle.gm_model.specs.Squares.{IsApart, ClosesBy, Closes}
-use Rattle.gm_model.specs.Unfolding.{Scene, IsStep, IsGone, IsAdded, IsDartAfter, IsCutAt, IsArcAfter, IsUnfolding}
-use Rattle.gm_theory.proofs.Arcs.{exp_is_step, imp_is_step, kept_name, same_instance, cut_back, kept_arc, link_arc, letter_arc, arc_to, gone_cut}
+use Rattle.gm_model.specs.Unfolding.{Scene, IsStep, IsDartAfter, IsCutAt, IsArcAfter, IsUnfolding}
+use Rattle.gm_theory.proofs.Arcs.{exp_is_step, imp_is_step, kept_name, cut_back, kept_arc, link_arc, letter_arc}
 use Rattle.gm_theory.proofs.Corners.{apart_swap, closes_swap, closes_absent, corner}
 use Rattle.gm_theory.proofs.Scenes.{IsLeftAt, IsRightAt, IsSteadyNode, IsLawful}
-use Rattle.gm_theory.proofs.Tests.{both_true, and_true, not_true, true_not, true_or_false, not_both, same_or_not, search_below}
+use Rattle.gm_theory.proofs.Tests.{both_true, and_true, true_not, true_or_false, not_both, same_or_not, search_below}
 
 module _ (scene : Scene) (count width : ℕ) (label : ℕ → ℕ) (law : IsLawful scene count width label) where
   -- ---- which instance a dart is
@@ -26,6 +26,7 @@ module _ (scene : Scene) (count width : ℕ) (label : ℕ → ℕ) (law : IsLawf
     where
       IsAt : ℕ → Type 0
       IsAt x = (p : ℕ) × IsTrue (test x) × (p < scene.positions) × (d ≡ name x p)
+
       at_or_not : (x : ℕ) → IsAt x ⊎ (IsAt x → ⊥)
       at_or_not x = tell (true_or_false (test x)) (search_below (λ p. d ≡ name x p) (λ p. same_or_not d (name x p)) scene.positions)
         where
@@ -33,6 +34,7 @@ module _ (scene : Scene) (count width : ℕ) (label : ℕ → ℕ) (law : IsLawf
           tell (inr f) found = inr (λ a. not_both (test x) a.1 f)
           tell (inl t) (inl (p, h, e)) = inl (p, t, h, e)
           tell (inl t) (inr none) = inr (λ a. none a.0 a.2 a.3)
+
       end : ((x : ℕ) × (x < count) × IsAt x) ⊎ ((x : ℕ) → x < count → IsAt x → ⊥) → ((x : ℕ) × (p : ℕ) × IsTrue (test x) × (p < scene.positions) × (d ≡ name x p)) ⊎ ((x p : ℕ) → IsTrue (test x) → p < scene.positions → d ≡ name x p → ⊥)
       end (inl (x, b, (p, t, h, e))) = inl (x, p, t, h, e)
       end (inr none) = inr (λ x p t h e. none x (bound x t) (p, t, h, e))
@@ -60,9 +62,11 @@ module _ (scene : Scene) (count width : ℕ) (label : ℕ → ℕ) (law : IsLawf
     where
       cut : IsStep (scene.left x i) → IsSteadyNode scene x j
       cut s = absurd (uncut (x, p, at.0, at.1, s, e))
+
       preserved : scene.left x i ≡ Absent → IsTrue (scene.is_right x) ⊎ (scene.is_right x ≡ false) → IsTrue (scene.is_right x)
       preserved f (inl r) = r
       preserved f (inr g) = absurd (rw f at (law.steps.removed_whole x i at.0 g hi))
+
       no_right : scene.left x i ≡ Absent → IsTrue (scene.is_right x) → scene.right x i ≡ Absent
       no_right f r = right_step (scene.right x i) refl
         where
@@ -70,6 +74,7 @@ module _ (scene : Scene) (count width : ℕ) (label : ℕ → ℕ) (law : IsLawf
           right_step Absent g = g
           right_step (Exp y) g = absurd (rw f at (law.steps.right_then_left x i at.0 r hi (exp_is_step _ y g)))
           right_step (Imp m) g = absurd (rw f at (law.steps.right_then_left x i at.0 r hi (imp_is_step _ m g)))
+
       square : IsTrue (scene.is_right x) → scene.right x i ≡ Absent → IsApart i j → IsSteadyNode scene x j
       square r g (inl h) = pick (law.steps.squares x i j r h hj)
         where
@@ -81,6 +86,7 @@ module _ (scene : Scene) (count width : ℕ) (label : ℕ → ℕ) (law : IsLawf
           pick : (IsSteadyNode scene x j × IsSteadyNode scene x i) ⊎ Closes scene.right label x j i → IsSteadyNode scene x j
           pick (inl (a, b)) = a
           pick (inr c) = absurd (closes_absent scene.right label x i j g (closes_swap scene.right label x j i c))
+
       go : (s : Step) → scene.left x i ≡ s → IsSteadyNode scene x j
       go Absent f = let r : IsTrue (scene.is_right x) = preserved f (true_or_false (scene.is_right x)) in square r (no_right f r) apart
       go (Exp y) f = cut (exp_is_step _ y f)
@@ -103,8 +109,10 @@ module _ (scene : Scene) (count width : ℕ) (label : ℕ → ℕ) (law : IsLawf
     where
       at : IsLeftAt scene x p
       at = (si.left, b)
+
       live : IsTrue (scene.live (scene.dart_of x p))
       live = law.darts.live x p at
+
       go : (s : Step) → scene.left x i ≡ s → Closes scene.right label x i j ⊎ IsSteady (scene.alpha i (scene.dart_of x p)) j
       go Absent f = inr (uncut_steady (scene.alpha i (scene.dart_of x p)) i j hi hj apart (λ c. uncut_instance x p i at f (cut_back scene count width label law (scene.dart_of x p) i live hi c)))
       go (Imp m) f = inr (rw (law.darts.letters x p i m at hi f) (steady_instance x (scene.turn p m) j (si.left, law.turns.within p m b (law.steps.left_place x i m si.left f)) sj))
@@ -112,10 +120,13 @@ module _ (scene : Scene) (count width : ℕ) (label : ℕ → ℕ) (law : IsLawf
         where
           g : scene.right x i ≡ Exp y
           g = sym si.same ∙ f
+
           other : IsTrue (scene.is_right y) × (scene.right y i ≡ Exp x)
           other = law.steps.right_back x i y si.right hi g
+
           left_y : IsTrue (scene.is_left y)
           left_y = (law.steps.left_back x i y si.left hi f).0
+
           pick : (IsSteadyNode scene y i × IsSteadyNode scene y j) ⊎ Closes scene.right label y i j → Closes scene.right label x i j ⊎ IsSteady (scene.alpha i (scene.dart_of x p)) j
           pick (inl (a, c)) = inr (rw (law.darts.links x p i y at hi f) (steady_instance y p j (left_y, b) c))
           pick (inr c) = inl (corner scene.right label (λ z. IsTrue (scene.is_right z)) x y i j (λ z k r e. (law.steps.right_back z i k r hi e).1) (λ z k r e. (law.steps.right_back z j k r hj e).0) other.0 g other.1 c)
@@ -138,14 +149,17 @@ module _ (scene : Scene) (count width : ℕ) (label : ℕ → ℕ) (law : IsLawf
       where
         keep : (IsCutAt scene d i → ⊥) → alpha i d ≡ scene.alpha i d
         keep uncut = arc_of d i (scene.alpha i d) h (kept_arc scene count width label law d i live h uncut)
+
         pick : ((x : ℕ) × (p : ℕ) × IsTrue (scene.is_left x) × (p < scene.positions) × (d ≡ scene.dart_of x p)) ⊎ ((x p : ℕ) → IsTrue (scene.is_left x) → p < scene.positions → d ≡ scene.dart_of x p → ⊥) → alpha i d ≡ scene.alpha i d
         pick (inr none) = keep (λ c. none c.0 c.1 c.2 c.3 c.5)
         pick (inl (x, p, l, b, e)) = go (scene.left x i) refl
           where
             node : IsSteadyNode scene x i
             node = steady x p ((l, b), e)
+
             name : scene.name_of x p ≡ d
             name = kept_name scene count width label law x p l ∙ sym e
+
             go : (s : Step) → scene.left x i ≡ s → alpha i d ≡ scene.alpha i d
             go Absent f = keep (λ c. uncut_instance x p i (l, b) f (subst (λ u. IsCutAt scene u i) e c))
             go (Exp y) f =
@@ -201,8 +215,10 @@ module _ (scene : Scene) (count width : ℕ) (label : ℕ → ℕ) (law : IsLawf
             both (inl c) other = inl c
             both (inr s) (inl c) = inl (closes_swap scene.right label x j i c)
             both (inr s) (inr s') = inr (rw e (kept_commutes (scene.dart_of x p) i j (law.darts.live x p (si.left, b)) hi hj apart (steady_instance x p i (si.left, b) si) (steady_instance x p j (si.left, b) sj) s s'))
+
         closed : (x p : ℕ) → IsRightAt scene x p → d ≡ scene.name_of x p → Closes scene.right label x i j → alpha i (alpha j d) ≡ alpha j (alpha i d)
         closed x p r e c = rw e (closed_commutes x p i j r hi hj c)
+
         -- at no instance of the right side, and so of the left
         outside : ((x p : ℕ) → IsTrue (scene.is_right x) → p < scene.positions → d ≡ scene.name_of x p → ⊥) → IsDartAfter scene d → alpha i (alpha j d) ≡ alpha j (alpha i d)
         outside none (inr (x, p, a, b, e)) = absurd (none x p (both_true (not (scene.is_left x)) (scene.is_right x) a).1 b e)
@@ -214,11 +230,13 @@ module _ (scene : Scene) (count width : ℕ) (label : ℕ → ℕ) (law : IsLawf
                 side : IsTrue (scene.is_right x) ⊎ (scene.is_right x ≡ false) → ⊥
                 side (inl r) = none x p r b (e ∙ sym (kept_name scene count width label law x p l))
                 side (inr g) = stays (x, p, and_true (scene.is_left x) (not (scene.is_right x)) l (true_not (scene.is_right x) g), b, e)
+
             next_to : (k l : ℕ) → k ≤ scene.dimension → l ≤ scene.dimension → IsApart k l → IsSteady (scene.alpha k d) l
             next_to k l hk hl far = uncut_steady (scene.alpha k d) k l hk hl far (λ c. cut_alone (cut_back scene count width label law d k live hk c))
               where
                 cut_alone : IsCutAt scene d k → ⊥
                 cut_alone (x, p, left, b, s, e) = alone x p ((left, b), e)
+
         pick : ((x : ℕ) × (p : ℕ) × IsTrue (scene.is_right x) × (p < scene.positions) × (d ≡ scene.name_of x p)) ⊎ ((x p : ℕ) → IsTrue (scene.is_right x) → p < scene.positions → d ≡ scene.name_of x p → ⊥) → alpha i (alpha j d) ≡ alpha j (alpha i d)
         pick (inr none) = outside none after
         pick (inl (x, p, r, b, e)) = square (square_at x i j r hi hj apart)

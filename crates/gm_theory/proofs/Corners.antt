@@ -1,5 +1,5 @@
 -- A square that closes at one node closes at its other corners, and a closed square commutes in the result.
-use Rattle.std.proofs.Common.{◌≡◌, ℕ, ◌+◌, ◌<◌, ◌≤◌, ◌⊎◌, IsTrue, refl, sym, ◌∙◌, ap, subst, inl, inr}
+use Rattle.std.proofs.Common.{◌≡◌, ℕ, refl, subst, inl, inr}
 use Rattle.gm_model.specs.declared.step.Step.{Step}
 use Rattle.gm_model.specs.declared.step.Step.TheVariants.{Absent, Exp, Imp}
 use Rattle.gm_model.specs.Squares.{IsApart, ClosesBy, Closes}
@@ -36,6 +36,7 @@ module _ (steps : ℕ → ℕ → Step) (label : ℕ → ℕ) where
     where
       at_x : (t : Step) → steps x j ≡ t → ClosesBy steps label i j (Exp y) t → Closes steps label x i j
       at_x t g c = rw (e, g) c
+
       go : (t : Step) → steps y j ≡ t → ClosesBy steps label i j (Exp x) t → Closes steps label x i j
       go (Exp w) g (v, a, b) = at_x (Exp v) a (w, g, back w v (on y w node g) b)
       go (Imp m) g a = at_x (Imp m) a g

@@ -6,8 +6,14 @@ pub mod Corners
 pub mod Commuting
 pub mod Results
 pub mod RuleSteps
+pub mod Walks
+pub mod Turns
+pub mod NewNames
+pub mod Keeps
 pub mod ValuesJoined
 pub mod ValuesReadOff
-pub mod Values
+pub mod ValuesAcross
 pub mod ValuesLists
 pub mod ValuesUnique
+pub mod ValuesDetermined
+pub mod ValuesKept

@@ -1,12 +1,12 @@
 -- The unfolding of a lawful scene exists, is determined, and is a generalised map.
-use Rattle.std.proofs.Common.{◌≡◌, ℕ, ◌+◌, ◌*◌, ◌<◌, ◌≤◌, ◌⊎◌, Bool, not, ◌&&◌, IsTrue, true, false, cond, refl, sym, ◌∙◌, ap, subst, inl, inr, arith}
+use Rattle.std.proofs.Common.{◌≡◌, ℕ, ◌<◌, ◌≤◌, ◌⊎◌, Bool, not, ◌&&◌, IsTrue, true, false, refl, sym, ◌∙◌, subst, inl, inr, arith}
 use Rattle.gm_model.specs.declared.step.Step.{Step}
 use Rattle.gm_model.specs.declared.step.Step.TheVariants.{Absent, Exp, Imp}
 use Rattle.gm_model.specs.GMap.{IsGMap}
-use Rattle.gm_model.specs.Unfolding.{Scene, IsStep, IsGone, IsAdded, IsDartAfter, IsCutAt, IsArcAfter, IsUnfolding, next_after}
-use Rattle.gm_theory.proofs.Arcs.{exp_is_step, imp_is_step, kept_name, same_instance, kept_arc, link_arc, letter_arc, right_dart, arc_from, arc_to, arc_back, one_arc}
+use Rattle.gm_model.specs.Unfolding.{Scene, IsDartAfter, IsCutAt, IsArcAfter, IsUnfolding, next_after}
+use Rattle.gm_theory.proofs.Arcs.{exp_is_step, imp_is_step, kept_name, kept_arc, link_arc, letter_arc, right_dart, arc_from, arc_to, arc_back, one_arc}
 use Rattle.gm_theory.proofs.Commuting.{find_instance, uncut_instance, commutes_after}
-use Rattle.gm_theory.proofs.Scenes.{IsLeftAt, IsRightAt, IsLawful}
+use Rattle.gm_theory.proofs.Scenes.{IsLawful}
 use Rattle.gm_theory.proofs.Tests.{both_true, and_true, not_true, true_not, true_or_false, not_both}
 
 module _ (scene : Scene) (count width : ℕ) (label : ℕ → ℕ) (law : IsLawful scene count width label) where
@@ -86,10 +86,12 @@ module _ (scene : Scene) (count width : ℕ) (label : ℕ → ℕ) (law : IsLawf
       node : scene.right x i ≡ Absent → IsTrue (scene.is_left x) ⊎ (scene.is_left x ≡ false) → IsTrue (scene.is_left x)
       node f (inl l) = l
       node f (inr a) = absurd (rw f at (law.steps.added_whole x i a r h))
+
       no_left : scene.right x i ≡ Absent → IsTrue (scene.is_left x) → (t : Step) → scene.left x i ≡ t → scene.left x i ≡ Absent
       no_left f l Absent g = g
       no_left f l (Exp y) g = absurd (rw f at (law.steps.left_then_right x i l r h (exp_is_step _ y g)))
       no_left f l (Imp m) g = absurd (rw f at (law.steps.left_then_right x i l r h (imp_is_step _ m g)))
+
       go : (t : Step) → scene.right x i ≡ t → IsArcAfter scene d i (along d i x p (scene.right x i))
       go Absent f =
           let l : IsTrue (scene.is_left x) = node f (true_or_false (scene.is_left x)) in
@@ -112,7 +114,9 @@ module _ (scene : Scene) (count width : ℕ) (label : ℕ → ℕ) (law : IsLawf
   unfolding live_after alpha_after
   unfolding_exists = record {
     darts = λ d. (live_then d (found_right d) (found_gone d), then_live d (found_right d) (found_gone d));
-    arcs = λ d i e h. (λ there. subst (λ u. IsArcAfter scene d i u) there.1 (arc_there d i (found_right d) (live_then d (found_right d) (found_gone d) there.0) h),
-        λ arc. (then_live d (found_right d) (found_gone d) (arc_from scene count width label law d i e arc), one_arc scene count width label law d i (alpha_by i d (found_right d)) e (arc_there d i (found_right d) (arc_from scene count width label law d i e arc) h) arc));
+    arcs = λ d i e h. (
+      λ there. subst (λ u. IsArcAfter scene d i u) there.1 (arc_there d i (found_right d) (live_then d (found_right d) (found_gone d) there.0) h),
+      λ arc. (then_live d (found_right d) (found_gone d) (arc_from scene count width label law d i e arc), one_arc scene count width label law d i (alpha_by i d (found_right d)) e (arc_there d i (found_right d) (arc_from scene count width label law d i e arc) h) arc),
+    );
     next_is = refl;
   }

@@ -1,10 +1,8 @@
 -- The steps of an accepted rule: links are steps of both their ends, places are places of the word, and a step stands where a label is.
-use Rattle.std.proofs.Common.{◌≡◌, ℕ, suc, ◌+◌, ◌<◌, ◌≤◌, ◌⊎◌, Bool, true, false, cond, not, ◌&&◌, ◌||◌, eqb, IsTrue, List, [], ◌∷◌, length, Option, Some, None, slice_get, is_some, refl, sym, ◌∙◌, ap, subst, inl, inr, arith}
+use Rattle.std.proofs.Common.{◌≡◌, ℕ, ◌<◌, ◌≤◌, ◌⊎◌, Bool, true, false, cond, ◌||◌, eqb, IsTrue, length, Option, Some, None, slice_get, refl, sym, ◌∙◌, ap, subst, inl, inr, arith}
 use Rattle.std.proofs.lemmas.Bool.{eqb-true, eq-eqb}
 use Rattle.std.proofs.lemmas.Option.{slice_get_within}
-use Rattle.std.specs.List.{find, position, count_by, AllByRecursion}
-use Rattle.std.specs.Option.{option_and_then, unwrap_or}
-use Rattle.gm_model.specs.declared.word.Letter.{Letter}
+use Rattle.std.specs.List.{find, position}
 use Rattle.gm_model.specs.declared.rule.Link.{Link}
 use Rattle.gm_model.specs.declared.rule.Side.{Side}
 use Rattle.gm_model.specs.declared.rule.Side.TheVariants.{Left, Right}
@@ -12,11 +10,11 @@ use Rattle.gm_model.specs.declared.schema.Schema.{Schema}
 use Rattle.gm_model.specs.declared.step.Step.{Step}
 use Rattle.gm_model.specs.declared.step.Step.TheVariants.{Absent, Exp, Imp}
 use Rattle.gm_model.specs.Acceptance.{IsAccepted}
-use Rattle.gm_model.specs.Rules.{Rule, RuleNode, has_word, word_at, word_on, letters, links_on, is_end, is_label, other_end, step, step_by, width}
-use Rattle.gm_model.specs.Structure.{IsInRange, IsLinkInRange, HasIncidence, HasOnce, HasLabel, arcs_at}
+use Rattle.gm_model.specs.Rules.{Rule, RuleNode, has_word, letters, links_on, is_end, is_label, other_end, step, step_by, width}
+use Rattle.gm_model.specs.Structure.{IsLinkInRange, HasOnce, HasLabel}
 use Rattle.gm_model.specs.Unfolding.{IsStep}
-use Rattle.gm_theory.proofs.Lists.{some_same, none_some, find_passes, find_has, find_counts, find_alone, find_none, position_within, position_none, position_counts}
-use Rattle.gm_theory.proofs.Tests.{both_true, and_true, true_or_false, not_both}
+use Rattle.gm_theory.proofs.Lists.{find_passes, find_has, find_counts, find_alone, find_none, position_within, position_none, position_counts}
+use Rattle.gm_theory.proofs.Tests.{both_true, and_true, not_both}
 
 -- a node with a word is a node
 pub word_below : (rule : Rule) (side : Side) (x : ℕ) → IsTrue (has_word rule side x) → x < length rule.nodes
@@ -42,12 +40,15 @@ other_is_end x i link h = go (end_parts x i link h)
     or_second : (a b : Bool) → IsTrue b → IsTrue (a || b)
     or_second true b k = refl
     or_second false b k = k
+
     or_first : (a b : Bool) → IsTrue a → IsTrue (a || b)
     or_first true b k = refl
     or_first false b k = not_both false k refl
+
     at_to : link.from ≡ x → (b : Bool) → eqb link.from link.to ≡ b → cond b link.to link.from ≡ x
     at_to e true f = sym (eqb-true link.from link.to f) ∙ e
     at_to e false f = e
+
     go : (link.label ≡ i) × ((link.from ≡ x) ⊎ ((link.to ≡ x) × (eqb link.from x ≡ false))) → IsTrue (is_end (other_end x link) i link) × (other_end (other_end x link) link ≡ x)
     go (l, inl e) = rw (eq-eqb link.from x e) (and_true (eqb link.label i) (eqb link.from link.to || eqb link.to link.to) (eq-eqb link.label i l) (or_second (eqb link.from link.to) (eqb link.to link.to) (eq-eqb link.to link.to refl)), at_to e (eqb link.from link.to) refl)
     go (l, inr (e, f)) = rw f (and_true (eqb link.label i) (eqb link.from link.from || eqb link.to link.from) (eq-eqb link.label i l) (or_first (eqb link.from link.from) (eqb link.to link.from) (eq-eqb link.from link.from refl)), rw (eq-eqb link.from link.from refl) e)
@@ -91,12 +92,16 @@ module _ (schema : Schema) (rule : Rule) (accepted : IsAccepted schema rule) whe
         where
           passes : IsTrue (is_end x i l)
           passes = find_passes (is_end x i) (links_on rule side) l found
+
           word : IsTrue (has_word rule side y)
           word = subst (λ z. IsTrue (has_word rule side z)) o (other_has_word schema.dim rule side x l (find_has (IsLinkInRange schema.dim rule side) (is_end x i) (links_on rule side) l (accepted.in_range.links side) found))
+
           there : IsTrue (is_end y i l)
           there = subst (λ z. IsTrue (is_end z i l)) o (other_is_end x i l passes).0
+
           back : other_end y l ≡ x
           back = subst (λ z. other_end z l ≡ x) o (other_is_end x i l passes).1
+
           again : find (is_end y i) (links_on rule side) ≡ Some l
           again = find_alone (is_end x i) (is_end y i) (links_on rule side) l found there (let o : HasOnce rule side y i = once side y i word b in omega arith)
 

@@ -1,7 +1,6 @@
 -- What the laws use of a rule, its match and the names of new darts, over a scene.
 use Rattle.std.proofs.Common.{◌≡◌, ℕ, ◌+◌, ◌<◌, ◌≤◌, ◌⊎◌, IsTrue, false}
-use Rattle.gm_model.specs.declared.step.Step.{Step}
-use Rattle.gm_model.specs.declared.step.Step.TheVariants.{Absent, Exp, Imp}
+use Rattle.gm_model.specs.declared.step.Step.TheVariants.{Exp, Imp}
 use Rattle.gm_model.specs.GMap.{IsGMap}
 use Rattle.gm_model.specs.Squares.{IsApart, Closes}
 use Rattle.gm_model.specs.Unfolding.{Scene, IsStep, next_after}

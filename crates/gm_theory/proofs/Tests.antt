@@ -1,5 +1,5 @@
 -- Tests and their answers, and a search below a bound.
-use Rattle.std.proofs.Common.{◌≡◌, ℕ, zero, suc, ◌<◌, ◌≤◌, Bool, true, false, not, ◌&&◌, ◌⊎◌, IsTrue, refl, sym, ◌∙◌, inl, inr, arith, below_more}
+use Rattle.std.proofs.Common.{◌≡◌, ℕ, zero, suc, ◌<◌, Bool, true, false, not, ◌&&◌, ◌⊎◌, IsTrue, refl, sym, ◌∙◌, inl, inr, arith, below_more}
 use Rattle.std.proofs.lemmas.Bool.Decides.{eqb_tells}
 
 pub both_true : (a b : Bool) → IsTrue (a && b) → IsTrue a × IsTrue b
