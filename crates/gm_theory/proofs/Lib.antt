@@ -17,3 +17,6 @@ pub mod ValuesLists
 pub mod ValuesUnique
 pub mod ValuesDetermined
 pub mod ValuesKept
+pub mod ExamplesChecks
+pub mod ExamplesRules
+pub mod ExamplesTriangulation

@@ -18,7 +18,7 @@ use Rattle.gm_theory.proofs.Arcs.{kept_name, same_instance, link_arc, arc_to, ar
 use Rattle.gm_theory.proofs.Scenes.{IsLeftAt, IsRightAt, IsLawful}
 use Rattle.gm_theory.proofs.Tests.{both_true, not_true, and_true, true_or_false, not_both}
 use Rattle.gm_theory.proofs.ValuesReadOff.{IsReadOff}
-use Rattle.gm_theory.proofs.ValuesJoined.{joined_here, joined_by_link, joined_through, pair_order}
+use Rattle.gm_theory.proofs.ValuesJoined.{joined_here, joined_by_link, joined_through, pair_same}
 
 module _ (map : Map) (rule : Rule) (place : Placement) (count width : ℕ) (label : ℕ → ℕ) (law : IsLawful (scene_of map rule place) count width label) (read_off : IsReadOff (dimension map) rule)
     (IsLive : ℕ → Type 0) (alpha : ℕ → ℕ → ℕ) (next : ℕ) (unfolded : IsUnfolding (scene_of map rule place) IsLive alpha next)
@@ -102,7 +102,7 @@ module _ (map : Map) (rule : Rule) (place : Placement) (count width : ℕ) (labe
   -- ---- one step between decided darts
 
   same_decider : (d i x p y q : ℕ) → IsLive d → IsTrue (o i) → IsDecidedBy map rule place alpha e o d x p → IsDecidedBy map rule place alpha e o (alpha i d) y q → (x ≡ y) × (p ≡ q)
-  same_decider d i x p y q live t a b = pair_order x p y q
+  same_decider d i x p y q live t a b = pair_same x p y q
       (λ h. b.least x p h a.assigned (lies_behind d i x p live t a.lies))
       (λ h. a.least y q h b.assigned (lies_before d i y q t b.lies))
 

@@ -13,7 +13,7 @@ use Rattle.gm_model.specs.Unfolding.{scene_of, name_in}
 use Rattle.gm_theory.proofs.Arcs.{same_instance}
 use Rattle.gm_theory.proofs.Scenes.{IsLawful}
 use Rattle.gm_theory.proofs.Tests.{both_true, not_true, not_both}
-use Rattle.gm_theory.proofs.ValuesJoined.{pair_order}
+use Rattle.gm_theory.proofs.ValuesJoined.{pair_same}
 
 keeper_same : (rule : Rule) (o : Labels) (x k k' : ℕ) → IsKeeper rule o x k → IsKeeper rule o x k' → k ≡ k'
 keeper_same rule o x k k' a b = go (cases_order k k')
@@ -42,7 +42,7 @@ module _ (map : Map) (rule : Rule) (place : Placement) (count width : ℕ) (labe
   value_same d v w live (Decided x p a g) (Decided y q b h) = subst (λ u. u ≡ w) refl (one_given y q v w (subst (λ z. IsGiven z q v) same.0 (subst (λ s. IsGiven x s v) same.1 g)) h)
     where
       same : (x ≡ y) × (p ≡ q)
-      same = pair_order x p y q (λ k. b.least x p k a.assigned (lies_there d x p live a.lies)) (λ k. a.least y q k b.assigned (lies_here d y q live b.lies))
+      same = pair_same x p y q (λ k. b.least x p k a.assigned (lies_there d x p live a.lies)) (λ k. a.least y q k b.assigned (lies_here d y q live b.lies))
   value_same d v w live (Decided x p a g) (Kept u old f) = absurd (u x p a.assigned (lies_there d x p live a.lies))
   value_same d v w live (Decided x p a g) (Added y q k u n b f kept h) = absurd (u x p a.assigned (lies_there d x p live a.lies))
   value_same d v w live (Kept u old f) (Decided y q b h) = absurd (u y q b.assigned (lies_here d y q live b.lies))
