@@ -20,3 +20,6 @@ pub mod ValuesKept
 pub mod ExamplesChecks
 pub mod ExamplesRules
 pub mod ExamplesTriangulation
+pub mod ExamplesMaps
+pub mod ExamplesMatches
+pub mod ExamplesUnfoldings
