@@ -23,3 +23,4 @@ pub mod ExamplesTriangulation
 pub mod ExamplesMaps
 pub mod ExamplesMatches
 pub mod ExamplesUnfoldings
+pub mod ExamplesCentre
