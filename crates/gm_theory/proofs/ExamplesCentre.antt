@@ -1,5 +1,5 @@
 -- The values of the triangulated square: the new vertex lies in the centre, and all else keeps its points.
-use Rattle.std.proofs.Common.{◌≡◌, ◌≢◌, ℕ, zero, suc, ◌+◌, ◌-◌, ◌&&◌, ◌<◌, ◌≤◌, Bool, false, true, ◌⊎◌, ◌↔◌, ℤ, pos, IsTrue, List, [], ◌∷◌, length, codes, eqb, ltb, leb, Contains, slice_index, slice_index_or, refl, sym, ◌∙◌, ap, subst, inl, inr, arith, w64}
+use Rattle.std.proofs.Common.{◌≡◌, ◌≢◌, ℕ, zero, suc, ◌+◌, ◌-◌, ◌&&◌, ◌<◌, ◌≤◌, Bool, false, true, ◌⊎◌, pos, IsTrue, List, [], ◌∷◌, length, codes, eqb, ltb, leb, Contains, slice_index, slice_index_or, refl, sym, ◌∙◌, ap, subst, inl, inr, arith}
 use Rattle.std.proofs.lemmas.Bool.{eqb-true, eq-eqb, ltb-true, lt-ltb, le-leb, cases_lt, or_parts, and_from}
 use Rattle.std.proofs.lemmas.List.{get_or_default}
 use Rattle.std.specs.List.{list_all, list_any}
@@ -9,14 +9,13 @@ use Rattle.gm_model.specs.declared.value.Value.{Value}
 use Rattle.gm_model.specs.declared.value.Value.TheVariants as values
 use Rattle.gm_model.specs.declared.word.Letter.TheVariants.{At}
 use Rattle.gm_model.specs.Applications.{GivesValue, reading_at}
-use Rattle.gm_model.specs.Components.{IsAssigned, IsKeeper}
-use Rattle.gm_model.specs.Expressions.{HasValue, IsMade, IsCollected, IsSum, IsQuotient}
+use Rattle.gm_model.specs.Components.{IsKeeper}
+use Rattle.gm_model.specs.Expressions.{IsCollected, IsSum, IsQuotient}
 use Rattle.gm_model.specs.Labels.{has}
-use Rattle.gm_model.specs.Maps.{Map, IsDart, IsMap, IsSchema, IsGeneralised, IsWellEmbedded, IsConstantOnOrbits, IsEmbedAt, IsInValueRange, type_of}
+use Rattle.gm_model.specs.Maps.{Map, IsDart, IsMap, IsSchema, IsWellEmbedded, IsConstantOnOrbits, IsEmbedAt, IsInValueRange, type_of}
 use Rattle.gm_model.specs.Names.{reserved, IsReserved}
-use Rattle.gm_model.specs.NewValues.{IsAssignedAt, IsDecidedBy, IsUndecided, LiesIn, IsValueAfter, Decided, Kept, Added}
+use Rattle.gm_model.specs.NewValues.{IsDecidedBy, IsUndecided, IsValueAfter, Decided, Kept, Added}
 use Rattle.gm_model.specs.Orbits.{Labels, IsPathIn, IsInOrbit, IsListOf, HasCount, IsPairBefore, follow}
-use Rattle.gm_model.specs.Rules.{is_preserved}
 use Rattle.gm_model.specs.Unfolding.{name_in}
 use Rattle.gm_model.specs.Values.{kind_of}
 use Rattle.gm_theory.proofs.ExamplesChecks.{each_below, each, ◌implies◌, implied, has_number, number_contained}
@@ -24,8 +23,8 @@ use Rattle.gm_theory.proofs.ExamplesMaps.{mask_labels, table_test, table_shown, 
 use Rattle.gm_theory.proofs.ExamplesMatches.{walk_shown}
 use Rattle.gm_theory.proofs.ExamplesTriangulation.{only_points, assigned_new, assigns_centre, unfolded}
 use Rattle.gm_theory.proofs.Tests.{both_true, not_both}
-use Rattle.gm_theory.proofs.ValuesJoined.{joined_here, joined_by_link}
-use Rattle.gm_theory.specs.Examples.{Table, neighbour, planar, labels_01, labels_12, points_of_vertices, centre, triangulation, square, square_table, square_walk, on_square, corners, four_triangles, triangles_table, triangles_points, triangulating, point, origin, map_of, IsLawfulExample}
+use Rattle.gm_theory.proofs.ValuesJoined.{joined_by_link}
+use Rattle.gm_theory.specs.Examples.{neighbour, planar, labels_01, labels_12, centre, triangulation, square, square_table, square_walk, on_square, corners, four_triangles, triangles_table, triangles_points, triangulating, point, origin, map_of, IsLawfulExample}
 use Rattle.gm_theory.specs.Values.{HasNewValues}
 
 -- ---- both maps
@@ -82,11 +81,11 @@ module _ (table : List (List ℕ)) (points : List Value) where
       along : (d i : ℕ) → IsDart planar_map d → IsTrue (has labels_12 i) → IsDart planar_map (neighbour table i d) × (planar_map.value 0 d ≡ planar_map.value 0 (neighbour table i d))
       along d i live h =
           let both : IsTrue (ltb (neighbour table i d) (length table)) × IsTrue (same_point (slice_index_or points d origin) (slice_index_or points (neighbour table i d) origin)) =
-                both_true (ltb (neighbour table i d) (length table)) (same_point (slice_index_or points d origin) (slice_index_or points (neighbour table i d) origin))
-                  (implied (has labels_12 i) (ltb (neighbour table i d) (length table) && same_point (slice_index_or points d origin) (slice_index_or points (neighbour table i d) origin))
-                    (each 3 (λ i. has labels_12 i implies (ltb (neighbour table i d) (length table) && same_point (slice_index_or points d origin) (slice_index_or points (neighbour table i d) origin)))
-                      (each (length table) (λ d. each_below 3 (λ i. has labels_12 i implies (ltb (neighbour table i d) (length table) && same_point (slice_index_or points d origin) (slice_index_or points (neighbour table i d) origin)))) t d (ltb-true d (length table) live))
-                      i (let few : i ≤ 2 = mask_labels 2 labels_12 i (omega arith) h in omega arith)) h) in
+          both_true (ltb (neighbour table i d) (length table)) (same_point (slice_index_or points d origin) (slice_index_or points (neighbour table i d) origin))
+          (implied (has labels_12 i) (ltb (neighbour table i d) (length table) && same_point (slice_index_or points d origin) (slice_index_or points (neighbour table i d) origin))
+          (each 3 (λ i. has labels_12 i implies (ltb (neighbour table i d) (length table) && same_point (slice_index_or points d origin) (slice_index_or points (neighbour table i d) origin)))
+          (each (length table) (λ d. each_below 3 (λ i. has labels_12 i implies (ltb (neighbour table i d) (length table) && same_point (slice_index_or points d origin) (slice_index_or points (neighbour table i d) origin)))) t d (ltb-true d (length table) live))
+          i (let few : i ≤ 2 = mask_labels 2 labels_12 i (omega arith) h in omega arith)) h) in
           (both.0, point_shown _ _ both.1)
 
   shown_lawful : IsTrue (table_test planar table points) → IsTrue points_test → IsTrue constant_test → IsLawfulExample planar_map
@@ -122,6 +121,7 @@ walk_is_face = record {
   where
     there : (d : ℕ) → Contains square_walk d → IsInOrbit square.alpha (has labels_01) 0 d
     there d (k, b, e) = subst (λ c. IsInOrbit square.alpha (has labels_01) 0 c) e (subst (λ c. IsInOrbit square.alpha (has labels_01) 0 c) (get_or_default square_walk k 0 d b) (path_shown (has labels_01) square.alpha (slice_index_or paths (slice_index square_walk k) []) 0 (slice_index square_walk k) (each 8 (λ k. path_test (has labels_01) square.alpha (slice_index_or paths (slice_index square_walk k) []) 0 (slice_index square_walk k)) refl k b)))
+
     back : (d : ℕ) → IsInOrbit square.alpha (has labels_01) 0 d → Contains square_walk d
     back d (path, all, e) = number_contained square_walk d (each 8 (has_number square_walk) refl d (subst (λ c. c < 8) e (stays path 0 (omega arith) all)))
       where
@@ -134,8 +134,10 @@ centre_value = (centre, (assigns_centre (At 1 ∷ At 2 ∷ []), omega arith), (v
   where
     sum : IsSum (reading_at triangulating on_square 0) labels_01 (record { node = 0; path = [] }) 0 (values.Vec3 (pos 16) (pos 16) (pos 0))
     sum = (square_walk, walk_is_face, kinds.Vec3, refl, record { numbers = λ f. absurd (cc); kind_is = refl; parts_are = refl; range = point_range (values.Vec3 (pos 16) (pos 16) (pos 0)) refl })
+
     count : (n : ℕ) × HasCount (IsCollected (reading_at triangulating on_square 0) labels_01 (record { node = 0; path = [] })) n × (values.Int (pos 8) ≡ values.Int (pos n))
     count = (8, (square_walk, walk_is_face, refl), refl)
+
     quotient : IsQuotient (values.Vec3 (pos 16) (pos 16) (pos 0)) (values.Int (pos 8)) (point 2 2)
     quotient = (pos 8, refl, (λ f. absurd (cc)), record { numbers = λ f. absurd (cc); kind_is = refl; parts_are = refl; range = point_range (point 2 2) refl })
 

@@ -1,5 +1,5 @@
 -- Tests of all numbers below a bound, which compute, and what they show.
-use Rattle.std.proofs.Common.{◌≡◌, ℕ, zero, suc, ◌<◌, ◌≤◌, Bool, true, false, not, ◌&&◌, ◌||◌, ◌⊎◌, IsTrue, List, [], ◌∷◌, length, eqb, Contains, refl, sym, ◌∙◌, subst, inl, inr, arith, below_more}
+use Rattle.std.proofs.Common.{◌≡◌, ℕ, zero, suc, ◌<◌, Bool, true, false, ◌&&◌, ◌||◌, ◌⊎◌, IsTrue, List, [], ◌∷◌, eqb, Contains, refl, sym, subst, inl, inr, arith, below_more}
 use Rattle.std.proofs.lemmas.Bool.{eqb-true, or_cases}
 use Rattle.gm_theory.proofs.Tests.{both_true, true_or_false, not_both}
 
@@ -40,7 +40,6 @@ true implies b = b
 false implies b = true
 
 infixr 10 ◌implies◌
-
 pub implied : (a b : Bool) → IsTrue (a implies b) → IsTrue a → IsTrue b
 implied true b h t = h
 implied false b h t = not_both false t refl

@@ -1,23 +1,21 @@
 -- Tests of a map that a table gives, and what they show of it.
-use Rattle.std.proofs.Common.{◌≡◌, ℕ, zero, suc, ◌+◌, ◌/◌, ◌%◌, ◌^◌, ◌<◌, ◌≤◌, Bool, true, false, not, ◌&&◌, ◌||◌, ◌⊎◌, IsTrue, List, [], ◌∷◌, length, eqb, ltb, leb, ℤ, pos, negsuc, slice_index_or, FitsSigned, refl, sym, ◌∙◌, ap, ap₂, subst, inl, inr, arith, w64}
+use Rattle.std.proofs.Common.{◌≡◌, ℕ, ◌+◌, ◌/◌, ◌^◌, ◌<◌, ◌≤◌, Bool, false, ◌&&◌, ◌⊎◌, IsTrue, List, [], ◌∷◌, length, eqb, ltb, leb, ℤ, pos, negsuc, FitsSigned, refl, ◌∙◌, ap, ap₂, inl, inr, arith, w64}
 use Rattle.std.proofs.lemmas.Bool.{eqb-true, ltb-true, lt-ltb, leb-true, le-leb, cases_lt}
 use Rattle.std.proofs.lemmas.Int.{fits_signed_from_abs}
 use Rattle.std.proofs.Math.Nat.{div-eq_of_lt}
 use Rattle.std.proofs.Math.Pow.{pow_mono}
-use Rattle.gm_model.specs.declared.schema.Embed.{Embed}
 use Rattle.gm_model.specs.declared.schema.Schema.{Schema}
 use Rattle.gm_model.specs.declared.value.Kind.TheVariants as kinds
 use Rattle.gm_model.specs.declared.value.Value.{Value}
 use Rattle.gm_model.specs.declared.value.Value.TheVariants as values
 use Rattle.gm_model.specs.declared.word.Mask.{Mask}
-use Rattle.gm_model.specs.GMap.{IsGMap}
 use Rattle.gm_model.specs.Labels.{has}
 use Rattle.gm_model.specs.Maps.{IsConstantOnOrbits, IsGeneralised, IsInValueRange}
 use Rattle.gm_model.specs.Orbits.{Labels, IsPathIn, follow}
 use Rattle.gm_model.specs.Values.{kind_of}
 use Rattle.gm_theory.proofs.ExamplesChecks.{each_below, each, ◌implies◌, implied}
 use Rattle.gm_theory.proofs.Tests.{both_true, not_both}
-use Rattle.gm_theory.specs.Examples.{Table, neighbour, map_of, origin}
+use Rattle.gm_theory.specs.Examples.{Table, neighbour, map_of}
 
 -- ---- masks
 

@@ -1,13 +1,13 @@
 -- Tests of a walk and of a match, and what they show.
-use Rattle.std.proofs.Common.{◌≡◌, ℕ, zero, suc, ◌+◌, ◌<◌, ◌≤◌, Bool, true, false, not, ◌&&◌, ◌||◌, ◌⊎◌, IsTrue, List, [], ◌∷◌, length, take, eqb, ltb, Some, slice_get, slice_index, Contains, refl, sym, ◌∙◌, ap, subst, inl, inr, arith}
+use Rattle.std.proofs.Common.{◌≡◌, ℕ, suc, ◌+◌, ◌<◌, Bool, true, not, ◌&&◌, ◌||◌, IsTrue, List, [], ◌∷◌, length, take, eqb, ltb, Some, slice_get, slice_index, subst, inl, inr, arith}
 use Rattle.std.proofs.lemmas.Bool.{eqb-true, eq-eqb, ltb-true, lt-ltb, or_left, or_right, and_from}
 use Rattle.gm_model.specs.declared.rule.Side.TheVariants.{Left}
 use Rattle.gm_model.specs.declared.step.Step.{Step}
 use Rattle.gm_model.specs.declared.step.Step.TheVariants.{Absent, Exp, Imp}
-use Rattle.gm_model.specs.Maps.{Map, IsDart, dimension}
-use Rattle.gm_model.specs.Matches.{Placement, ArePositions, Walked, along_hook, IsStepMet, IsMetAt, IsEmbedding, IsHooked, IsMatch}
-use Rattle.gm_model.specs.Orbits.{IsPairBefore, IsLeastStep, IsWalkTo, IsWalk}
-use Rattle.gm_model.specs.Rules.{Rule, has_word, step, width, first_hook}
+use Rattle.gm_model.specs.Maps.{Map, dimension}
+use Rattle.gm_model.specs.Matches.{Placement, Walked, along_hook, IsStepMet, IsEmbedding, IsMatch}
+use Rattle.gm_model.specs.Orbits.{IsPairBefore, IsLeastStep, IsWalk}
+use Rattle.gm_model.specs.Rules.{Rule, has_word, step, width}
 use Rattle.gm_theory.proofs.ExamplesChecks.{each_below, each, some_below, some, ◌implies◌, implied, has_number, number_contained}
 use Rattle.gm_theory.proofs.Lists.{some_same}
 use Rattle.gm_theory.proofs.RuleSteps.{word_below}
@@ -101,6 +101,7 @@ module _ (map : Map) (rule : Rule) (place : Placement) where
     where
       here : (x p : ℕ) → IsTrue (has_word rule Left x) → p < place.positions → IsTrue (instance_test x p)
       here x p l b = each place.positions (λ p. instance_test x p) (implied (has_word rule Left x) (each_below place.positions (λ p. instance_test x p)) (each (length rule.nodes) (λ x. has_word rule Left x implies each_below place.positions (λ p. instance_test x p)) t x (word_below rule Left x l)) l) p b
+
       both : (x p y q : ℕ) → IsTrue (eqb x y && eqb p q) → (x ≡ y) × (p ≡ q)
       both x p y q t = (eqb-true x y (both_true (eqb x y) (eqb p q) t).0, eqb-true p q (both_true (eqb x y) (eqb p q) t).1)
 

@@ -1,5 +1,5 @@
 -- Tests of a rule, which compute, and the conditions that they show.
-use Rattle.std.proofs.Common.{◌≡◌, ◌≢◌, ℕ, zero, suc, ◌+◌, ◌<◌, ◌≤◌, Bool, true, false, not, ◌&&◌, ◌||◌, ◌⊎◌, IsTrue, IsFalse, List, [], ◌∷◌, length, eqb, ltb, leb, Option, Some, None, slice_get, get_or, Contains, refl, sym, ◌∙◌, ap, ap₂, subst, inl, inr, arith}
+use Rattle.std.proofs.Common.{◌≡◌, ℕ, zero, suc, ◌+◌, ◌<◌, ◌≤◌, Bool, true, false, ◌&&◌, ◌||◌, ◌⊎◌, IsTrue, List, [], ◌∷◌, length, eqb, ltb, leb, Option, Some, None, slice_get, Contains, refl, sym, ◌∙◌, ap, ap₂, subst, inl, inr, arith}
 use Rattle.std.proofs.lemmas.Bool.{eqb-true, eq-eqb, ltb-true, leb-true, le-leb, or_cases, cases_lt}
 use Rattle.std.proofs.lemmas.Option.{slice_get_past, slice_get_within}
 use Rattle.std.specs.List.{AllByRecursion}
@@ -13,13 +13,13 @@ use Rattle.gm_model.specs.declared.step.Step.TheVariants.{Absent, Exp, Imp}
 use Rattle.gm_model.specs.declared.word.Letter.{Letter}
 use Rattle.gm_model.specs.declared.word.Letter.TheVariants.{At, Gone}
 use Rattle.gm_model.specs.Orbits.{Labels, IsPathIn}
-use Rattle.gm_model.specs.Rules.{Rule, RuleNode, Assignment, has_word, is_preserved, is_removed, is_added, letters, links_on, link_from, step, width, hook_label, IsLinked, word_on}
-use Rattle.gm_model.specs.Squares.{IsApart, ClosesBy, Closes, IsExcused, ClosesRight, IsSquareGood, HasSquares}
-use Rattle.gm_model.specs.Structure.{HasLabelsUpTo, IsLinkInRange, IsInRange, HasHook, IsPlainWord, HasPlainHook, HasWidth, IsJoined, Leads, any_label, IsConnected, IsStructured, arcs_at, HasOnce, HasLabel, HasArcs, HasIncidence, AreGood}
+use Rattle.gm_model.specs.Rules.{Rule, RuleNode, Assignment, has_word, is_preserved, is_removed, is_added, letters, links_on, link_from, step, width, hook_label, IsLinked}
+use Rattle.gm_model.specs.Squares.{IsApart, ClosesBy, IsExcused, ClosesRight, IsSquareGood, HasSquares}
+use Rattle.gm_model.specs.Structure.{HasLabelsUpTo, IsLinkInRange, IsInRange, IsPlainWord, HasPlainHook, HasWidth, IsJoined, Leads, any_label, IsConnected, IsStructured, arcs_at, HasArcs, HasIncidence, AreGood}
 use Rattle.gm_theory.proofs.ExamplesChecks.{each_below, each, ◌implies◌, implied}
 use Rattle.gm_theory.proofs.Lists.{some_same, none_some}
 use Rattle.gm_theory.proofs.RuleSteps.{word_below}
-use Rattle.gm_theory.proofs.Tests.{both_true, true_or_false, not_both}
+use Rattle.gm_theory.proofs.Tests.{both_true, not_both}
 
 -- ---- words
 
@@ -127,18 +127,24 @@ module _ (schema : Schema) (rule : Rule) where
     where
       links_of : IsTrue (each_below count node_test && links_test Left rule.left_links) × IsTrue (links_test Right rule.right_links)
       links_of = both_true _ _ t
+
       node : (x : ℕ) → x < count → IsTrue (node_test x)
       node x b = each count node_test (both_true _ _ links_of.0).0 x b
+
       links : (side : Side) → AllByRecursion (IsLinkInRange schema.dim rule side) (links_on rule side)
       links Left = links_shown Left rule.left_links (both_true _ _ links_of.0).1
       links Right = links_shown Right rule.right_links links_of.1
+
       sets : (x : ℕ) (n : RuleNode) → slice_get rule.nodes x ≡ Some n → IsTrue (sets_test x n.sets)
       sets x n at = subst (λ (o : Option RuleNode). IsTrue (sets_test x (option_map_or (λ (m : RuleNode). m.sets) o []))) at (both_true (words_test x) (sets_test x (sets_at x)) (node x (slice_get_within rule.nodes x n at))).1
+
       word : (x : ℕ) → x < count → IsTrue (labels_up_to schema.dim (letters rule Left x)) × IsTrue (labels_up_to schema.dim (letters rule Right x))
       word x b = both_true _ _ (both_true _ _ (both_true _ _ (both_true _ _ (node x b)).0).0).0
+
       at_side : (side : Side) (x : ℕ) → x < count → HasLabelsUpTo schema.dim (letters rule side x)
       at_side Left x b = labels_shown schema.dim (letters rule Left x) (word x b).0
       at_side Right x b = labels_shown schema.dim (letters rule Right x) (word x b).1
+
       words : (side : Side) (x : ℕ) → HasLabelsUpTo schema.dim (letters rule side x)
       words side x = go (cases_lt x count)
         where
@@ -168,10 +174,10 @@ module _ (n : ℕ) (rule : Rule) where
           (link.label, (0, omega arith, ap₂ (λ y z. link_from y link.label z) (eqb-true link.from h both.0) (eqb-true link.to x both.1)))
       go (inr u) further = let rest : (i : ℕ) × Contains links (link_from h i x) = further u in (rest.0, (suc rest.1.0, omega (arith, rest.1.1), rest.1.2))
 
-  abbrev arcs_test : ℕ → ℕ → Bool
+  abbrev pub arcs_test : ℕ → ℕ → Bool
   arcs_test x i = leb (arcs_at rule Left x i) 1 && leb (arcs_at rule Right x i) 1 && (is_removed rule x implies ltb 0 (arcs_at rule Left x i)) && (is_added rule x implies ltb 0 (arcs_at rule Right x i)) && (is_preserved rule x implies eqb (arcs_at rule Left x i) (arcs_at rule Right x i))
 
-  arcs_shown : (x : ℕ) → ((i : ℕ) → i < n + 1 → IsTrue (arcs_test x i)) → HasArcs n rule x
+  pub arcs_shown : (x : ℕ) → ((i : ℕ) → i < n + 1 → IsTrue (arcs_test x i)) → HasArcs n rule x
   arcs_shown x arc = record {
     left_once = λ i c. leb-true _ _ (both_true _ _ (both_true _ _ (both_true _ _ (both_true _ _ (arc i c)).0).0).0).0;
     right_once = λ i c. leb-true _ _ (both_true _ _ (both_true _ _ (both_true _ _ (both_true _ _ (arc i c)).0).0).0).1;
@@ -184,38 +190,41 @@ module _ (n : ℕ) (rule : Rule) where
   shape_test h x = width_test Left x && width_test Right x && (has_word rule Left x implies (eqb h x || linked_test h x rule.left_links))
 
   -- each left node is the hook, or a left link leads to it from there
-  abbrev pub incidence_test : ℕ → Bool
-  incidence_test h = plain_test (letters rule Left h) && each_below (length rule.nodes) (λ x. shape_test h x && each_below (n + 1) (arcs_test x))
+  abbrev pub structure_test : ℕ → Bool
+  structure_test h = plain_test (letters rule Left h) && each_below (length rule.nodes) (shape_test h)
 
-  pub incidence_shown : (h : ℕ) → rule.hooks ≡ h ∷ [] → IsTrue (has_word rule Left h) → IsTrue (incidence_test h) → HasIncidence n rule
-  incidence_shown h only left t = record {
-    structured = record { hook = ((λ x l. rw only refl), (λ none. not_both (has_word rule Left h) left (none h))); plain = plain; widths = widths; connected = connected };
-    arcs = arcs;
-  }
+  pub structure_shown : (h : ℕ) → rule.hooks ≡ h ∷ [] → IsTrue (has_word rule Left h) → IsTrue (structure_test h) → IsStructured rule
+  structure_shown h only left t = record { hook = ((λ x l. rw only refl), (λ none. not_both (has_word rule Left h) left (none h))); plain = plain; widths = widths; connected = connected }
     where
-      tests : IsTrue (plain_test (letters rule Left h)) × IsTrue (each_below (length rule.nodes) (λ x. shape_test h x && each_below (n + 1) (arcs_test x)))
-      tests = both_true _ _ t
-      node : (x : ℕ) → x < length rule.nodes → IsTrue (shape_test h x && each_below (n + 1) (arcs_test x))
-      node x b = each (length rule.nodes) _ tests.1 x b
+      shape : (x : ℕ) → x < length rule.nodes → IsTrue (shape_test h x)
+      shape x b = each (length rule.nodes) (shape_test h) (both_true (plain_test (letters rule Left h)) (each_below (length rule.nodes) (shape_test h)) t).1 x b
+
       plain : AreGood (HasPlainHook rule) (length rule.hooks)
       plain k b g e = go k (rw only at e)
         where
           go : (k : ℕ) → slice_get (h ∷ []) k ≡ Some g → IsPlainWord (letters rule Left g)
-          go zero f = subst (λ z. IsPlainWord (letters rule Left z)) (some_same h g f) (plain_shown (letters rule Left h) tests.0)
+          go zero f = subst (λ z. IsPlainWord (letters rule Left z)) (some_same h g f) (plain_shown (letters rule Left h) (both_true (plain_test (letters rule Left h)) (each_below (length rule.nodes) (shape_test h)) t).0)
           go (suc k) f = none_some g f
+
       widths : AreGood (HasWidth rule) (length rule.nodes)
-      widths x b Left w = eqb-true _ _ (implied (has_word rule Left x) _ (both_true _ _ (both_true _ _ (both_true _ _ (node x b)).0).0).0 w)
-      widths x b Right w = eqb-true _ _ (implied (has_word rule Right x) _ (both_true _ _ (both_true _ _ (both_true _ _ (node x b)).0).0).1 w)
+      widths x b Left w = eqb-true _ _ (implied (has_word rule Left x) _ (both_true _ _ (both_true _ _ (shape x b)).0).0 w)
+      widths x b Right w = eqb-true _ _ (implied (has_word rule Right x) _ (both_true _ _ (both_true _ _ (shape x b)).0).1 w)
+
       connected : AreGood (IsConnected rule) (length rule.nodes)
-      connected x b l = (h, subst (λ hooks. Contains hooks h) (sym only) (0, omega arith, refl), go (or_cases (eqb h x) (linked_test h x rule.left_links) (implied (has_word rule Left x) (eqb h x || linked_test h x rule.left_links) (both_true (width_test Left x && width_test Right x) (has_word rule Left x implies (eqb h x || linked_test h x rule.left_links)) (both_true (shape_test h x) (each_below (n + 1) (arcs_test x)) (node x b)).0).1 l)))
+      connected x b l = (h, subst (λ hooks. Contains hooks h) (sym only) (0, omega arith, refl), go (or_cases (eqb h x) (linked_test h x rule.left_links) (implied (has_word rule Left x) (eqb h x || linked_test h x rule.left_links) (both_true (width_test Left x && width_test Right x) (has_word rule Left x implies (eqb h x || linked_test h x rule.left_links)) (shape x b)).1 l)))
         where
           go : IsTrue (eqb h x) ⊎ IsTrue (linked_test h x rule.left_links) → IsJoined rule.left_links any_label h x
           go (inl e) = ([], tt, eqb-true h x e)
           go (inr k) = let found : (i : ℕ) × Contains rule.left_links (link_from h i x) = linked_shown h x rule.left_links k in (found.0 ∷ [], (refl, tt), (x, inl found.1, refl))
-      arc : (x i : ℕ) → x < length rule.nodes → i < n + 1 → IsTrue (arcs_test x i)
-      arc x i b c = each (n + 1) (arcs_test x) (both_true (shape_test h x) (each_below (n + 1) (arcs_test x)) (node x b)).1 i c
-      arcs : AreGood (HasArcs n rule) (length rule.nodes)
-      arcs x b = arcs_shown x (λ i c. arc x i b c)
+
+  abbrev pub incidence_test : ℕ → Bool
+  incidence_test h = structure_test h && each_below (length rule.nodes) (λ x. each_below (n + 1) (arcs_test x))
+
+  pub incidence_shown : (h : ℕ) → rule.hooks ≡ h ∷ [] → IsTrue (has_word rule Left h) → IsTrue (incidence_test h) → HasIncidence n rule
+  incidence_shown h only left t = record {
+    structured = structure_shown h only left (both_true _ _ t).0;
+    arcs = λ x b. arcs_shown x (λ i c. each (n + 1) (arcs_test x) (each (length rule.nodes) (λ x. each_below (n + 1) (arcs_test x)) (both_true _ _ t).1 x b) i c);
+  }
 
 -- ---- squares
 
@@ -323,6 +332,7 @@ same_part o part links t x y (path, all, leads) = go x path all leads
     one : (z i w : ℕ) → IsTrue (o i) → IsLinked links z i w → part z ≡ part w
     one z i w h (inl c) = parts_linked o part links (link_from z i w) t c h
     one z i w h (inr c) = sym (parts_linked o part links (link_from w i z) t c h)
+
     go : (z : ℕ) (path : List ℕ) → IsPathIn o path → Leads links z path y → part z ≡ part y
     go z [] all e = ap part e
     go z (i ∷ path) all (w, l, leads) = one z i w all.0 l ∙ go w path all.1 leads

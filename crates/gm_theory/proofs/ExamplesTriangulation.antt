@@ -1,19 +1,19 @@
 -- The triangulation of a face is accepted, matches a square of eight darts, and its unfolding there is the map of four triangles.
-use Rattle.std.proofs.Common.{◌≡◌, ℕ, zero, suc, ◌<◌, ◌≤◌, Bool, false, true, ◌⊎◌, IsTrue, List, [], ◌∷◌, length, codes, Contains, Option, Some, None, slice_get, refl, sym, ◌∙◌, ap, subst, inl, inr, arith}
+use Rattle.std.proofs.Common.{◌≡◌, ℕ, zero, suc, ◌<◌, false, IsTrue, List, [], ◌∷◌, codes, Contains, Some, None, slice_get, refl, sym, ◌∙◌, ap, subst, inl, inr, arith}
 use Rattle.std.proofs.lemmas.Bool.{ltb-true}
 use Rattle.std.specs.Option.{option_map_or}
 use Rattle.gm_model.specs.declared.rule.Side.TheVariants.{Left, Right}
 use Rattle.gm_model.specs.declared.schema.Embed.{Embed}
 use Rattle.gm_model.specs.declared.value.Kind.TheVariants as kinds
 use Rattle.gm_model.specs.declared.word.Letter.{Letter}
-use Rattle.gm_model.specs.declared.word.Letter.TheVariants.{At, Gone}
+use Rattle.gm_model.specs.declared.word.Letter.TheVariants.{At}
 use Rattle.gm_model.specs.Acceptance.{IsAccepted}
-use Rattle.gm_model.specs.Components.{IsTogether, WereTogether, HasLetterIn, IsAssigned, IsUnassigned, IsKeeper, IsInherited, ComesAlong, HasSource, HasSources}
+use Rattle.gm_model.specs.Components.{IsTogether, WereTogether, HasLetterIn, IsAssigned, IsUnassigned, ComesAlong, HasSource, HasSources}
 use Rattle.gm_model.specs.Kinds.{IsTyped, HasKind}
 use Rattle.gm_model.specs.Labels.{has}
 use Rattle.gm_model.specs.Maps.{IsDart, IsEmbedAt, type_of}
 use Rattle.gm_model.specs.Matches.{IsMatch}
-use Rattle.gm_model.specs.Rules.{Rule, RuleNode, Assignment, Assigns, has_word, is_preserved, letters, link_from, IsLinked}
+use Rattle.gm_model.specs.Rules.{Rule, RuleNode, Assignment, Assigns, has_word, is_preserved, letters}
 use Rattle.gm_model.specs.Squares.{HasSquares}
 use Rattle.gm_model.specs.Structure.{IsInRange, HasIncidence}
 use Rattle.gm_model.specs.Trees.{Tree}
@@ -48,7 +48,7 @@ module _ (word : List Letter) (sets : List Assignment) where
   abbrev rule : Rule
   rule = triangles word sets
 
-  abbrev part : ℕ → ℕ
+  abbrev pub part : ℕ → ℕ
   part zero = 0
   part (suc zero) = 0
   part (suc (suc x)) = 1
@@ -93,6 +93,7 @@ module _ (word : List Letter) (sets : List Assignment) where
     where
       unassigned : IsUnassigned rule 0 (has labels_12) x
       unassigned y u a = absurd (let f : part x ≡ part 2 = part_kept x y u ∙ ap part (assigned_new 0 y a) in omega arith)
+
       one : (y : ℕ) → IsTogether rule (has labels_12) x y → IsTrue (is_preserved rule y) → WereTogether rule (has labels_12) 0 y
       one y u p = subst (λ z. WereTogether rule (has labels_12) 0 z) (sym (preserved_first y p)) (refl, joined_here rule.left_links (has labels_12) 0)
 

@@ -1,9 +1,9 @@
 -- A test of an unfolding, arc by arc, and what it shows.
-use Rattle.std.proofs.Common.{◌≡◌, ℕ, zero, suc, ◌+◌, ◌*◌, ◌<◌, ◌≤◌, Bool, true, false, not, ◌&&◌, ◌||◌, ◌⊎◌, ◌↔◌, IsTrue, eqb, ltb, refl, sym, ◌∙◌, ap, subst, inl, inr, arith}
-use Rattle.std.proofs.lemmas.Bool.{eqb-true, eq-eqb, ltb-true, lt-ltb, or_cases, or_left, or_right, and_from}
+use Rattle.std.proofs.Common.{◌≡◌, ℕ, ◌+◌, ◌<◌, ◌≤◌, Bool, true, false, not, ◌&&◌, ◌||◌, ◌⊎◌, IsTrue, eqb, refl, sym, ◌∙◌, ap, subst, inl, inr, arith}
+use Rattle.std.proofs.lemmas.Bool.{eqb-true, eq-eqb, or_cases, and_from}
 use Rattle.gm_model.specs.declared.step.Step.{Step}
 use Rattle.gm_model.specs.declared.step.Step.TheVariants.{Absent, Exp, Imp}
-use Rattle.gm_model.specs.Unfolding.{Scene, IsStep, IsGone, IsAdded, IsDartAfter, IsCutAt, IsKeptArc, IsMadeArc, LeadsBy, IsArcAfter, IsUnfolding, next_after}
+use Rattle.gm_model.specs.Unfolding.{Scene, IsStep, IsGone, IsDartAfter, IsCutAt, IsKeptArc, IsMadeArc, LeadsBy, IsArcAfter, IsUnfolding, next_after}
 use Rattle.gm_theory.proofs.ExamplesChecks.{each_below, each, some_below, some, fails, ◌implies◌, implied}
 use Rattle.gm_theory.proofs.Tests.{both_true, not_true, true_or_false, not_both}
 
@@ -188,7 +188,7 @@ module _ (scene : Scene) (count bound : ℕ) (live : ℕ → Bool) (alpha : ℕ 
         go (inr h) = ((both_true (live d) _ h).0, eqb-true (alpha i d) (scene.alpha i d) (both_true (live d) (eqb (alpha i d) (scene.alpha i d)) h).1 ∙ kept.leads)
     arc_back d i e (inr made) =
         let there : IsTrue (live (scene.name_of made.node made.position)) × (alpha i (scene.name_of made.node made.position) ≡ e) = made_back made.node made.position i e (scene.right made.node i)
-              (each (scene.dimension + 1) _ (each scene.positions _ (implied (scene.is_right made.node) _ (node made.node (right_below made.node made.right)).0 made.right) made.position made.within) i (let h : i ≤ scene.dimension = made.label in omega arith)) made.leads in
+        (each (scene.dimension + 1) _ (each scene.positions _ (implied (scene.is_right made.node) _ (node made.node (right_below made.node made.right)).0 made.right) made.position made.within) i (let h : i ≤ scene.dimension = made.label in omega arith)) made.leads in
         subst (λ c. IsTrue (live c) × (alpha i c ≡ e)) (sym made.from) there
 
     pub unfolding_shown : IsUnfolding scene (λ d. IsTrue (live d)) alpha next

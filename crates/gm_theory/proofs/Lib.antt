@@ -24,3 +24,5 @@ pub mod ExamplesMaps
 pub mod ExamplesMatches
 pub mod ExamplesUnfoldings
 pub mod ExamplesCentre
+pub mod ExamplesSplit
+pub mod ExamplesRefused

@@ -1,15 +1,15 @@
 -- The new values of an unfolding are determined.
-use Rattle.std.proofs.Common.{◌≡◌, ℕ, ◌<◌, ◌≤◌, ◌⊎◌, List, [], ◌∷◌, not, ◌&&◌, IsTrue, refl, sym, ◌∙◌, ap, subst, inl, inr}
+use Rattle.std.proofs.Common.{◌≡◌, ℕ, ◌<◌, ◌≤◌, ◌⊎◌, List, [], ◌∷◌, not, IsTrue, refl, sym, ◌∙◌, ap, subst, inl, inr}
 use Rattle.std.proofs.lemmas.Bool.{cases_order}
 use Rattle.gm_model.specs.declared.rule.Side.TheVariants.{Left, Right}
 use Rattle.gm_model.specs.declared.value.Value.{Value}
 use Rattle.gm_model.specs.Components.{IsKeeper}
-use Rattle.gm_model.specs.Maps.{Map, IsDart, dimension}
+use Rattle.gm_model.specs.Maps.{Map, dimension}
 use Rattle.gm_model.specs.Matches.{Placement}
-use Rattle.gm_model.specs.NewValues.{IsUndecided, LiesIn, IsDecidedBy, IsValueAfter, Decided, Kept, Added}
+use Rattle.gm_model.specs.NewValues.{LiesIn, IsValueAfter, Decided, Kept, Added}
 use Rattle.gm_model.specs.Orbits.{Labels, IsPathIn, follow}
 use Rattle.gm_model.specs.Rules.{Rule, has_word, is_added}
-use Rattle.gm_model.specs.Unfolding.{scene_of, name_in}
+use Rattle.gm_model.specs.Unfolding.{scene_of}
 use Rattle.gm_theory.proofs.Arcs.{same_instance}
 use Rattle.gm_theory.proofs.Scenes.{IsLawful}
 use Rattle.gm_theory.proofs.Tests.{both_true, not_true, not_both}
@@ -58,9 +58,12 @@ module _ (map : Map) (rule : Rule) (place : Placement) (count width : ℕ) (labe
     where
       right : (z : ℕ) → IsTrue (is_added rule z) → IsTrue (has_word rule Right z)
       right z t = (both_true (not (has_word rule Left z)) (has_word rule Right z) t).1
+
       same : (x ≡ y) × (p ≡ q)
       same = same_instance (scene_of map rule place) count width label law x p y q (right x n, a) (right y m, b) (sym f ∙ f')
+
       keepers : k ≡ l
       keepers = keeper_same rule o y k l (subst (λ z. IsKeeper rule o z k) same.0 kept) kept'
+
       old : map.value e (place.dart_of k p) ≡ map.value e (place.dart_of l q)
       old = ap (λ z. map.value e (place.dart_of z p)) keepers ∙ ap (λ s. map.value e (place.dart_of l s)) same.1

@@ -1,5 +1,5 @@
 -- Joined nodes of a rule, and the order of instances.
-use Rattle.std.proofs.Common.{◌≡◌, ℕ, ◌<◌, ◌⊎◌, List, [], ◌∷◌, IsTrue, refl, sym, ◌∙◌, subst, inl, inr}
+use Rattle.std.proofs.Common.{◌≡◌, ℕ, ◌⊎◌, List, [], ◌∷◌, IsTrue, refl, sym, subst, inl, inr}
 use Rattle.gm_model.specs.declared.rule.Link.{Link}
 use Rattle.gm_model.specs.Orbits.{Labels, IsPathIn, IsPairBefore}
 use Rattle.gm_model.specs.Structure.{IsJoined, Leads}

@@ -1,14 +1,12 @@
 -- The second half of the theorem: for every generalised and well embedded map, every accepted rule and every match, the new values are determined, and the result is well embedded.
-use Rattle.std.proofs.Common.{◌≡◌, ℕ, ◌<◌, ◌≤◌, List, length, get_or, Contains, Some, slice_get, IsTrue, refl, sym, ◌∙◌, ap, subst}
+use Rattle.std.proofs.Common.{◌≡◌, ℕ, ◌≤◌, List, length, Contains, Some, slice_get, refl, sym, ◌∙◌, ap, subst}
 use Rattle.std.proofs.lemmas.Option.{slice_get-get_or}
-use Rattle.gm_model.specs.declared.schema.Embed.{Embed}
 use Rattle.gm_model.specs.declared.schema.Schema.{Schema}
 use Rattle.gm_model.specs.declared.value.Value.{Value}
 use Rattle.gm_model.specs.Acceptance.{IsAccepted}
 use Rattle.gm_model.specs.Applications.{Application, GivesValue, reading_at}
 use Rattle.gm_model.specs.Expressions.{HasValue}
-use Rattle.gm_model.specs.GMap.{IsGMap}
-use Rattle.gm_model.specs.Maps.{Map, IsDart, IsEmbedAt, IsGeneralised, IsMap, IsSchema, IsWellEmbedded, IsConstantOnOrbits, type_of}
+use Rattle.gm_model.specs.Maps.{Map, IsDart, IsEmbedAt, IsGeneralised, IsMap, IsSchema, IsWellEmbedded, type_of}
 use Rattle.gm_model.specs.Matches.{Placement, IsMatch}
 use Rattle.gm_model.specs.Rules.{Rule, RuleNode, Assignment, Assigns, width, hook_label}
 use Rattle.gm_model.specs.Structure.{IsInRange}
@@ -34,14 +32,19 @@ one_tree schema rule range x e t s (node, at, c) (node', at', c') = ap (λ (a : 
   where
     node_same : node' ≡ node
     node_same = cc
+
     d : Contains node.sets (record { embed = e; tree = s })
     d = subst (λ (n : RuleNode). Contains n.sets (record { embed = e; tree = s })) node_same c'
+
     place : c.0 ≡ d.0
     place = range.sets_differ x node c.0 d.0 (record { embed = e; tree = t }) (record { embed = e; tree = s }) at (contained_at node.sets (record { embed = e; tree = t }) c) (contained_at node.sets (record { embed = e; tree = s }) d) refl
+
     first : slice_get node.sets d.0 ≡ Some (record { embed = e; tree = t })
     first = subst (λ k. slice_get node.sets k ≡ Some (record { embed = e; tree = t })) place (contained_at node.sets (record { embed = e; tree = t }) c)
+
     second : slice_get node.sets d.0 ≡ Some (record { embed = e; tree = s })
     second = contained_at node.sets (record { embed = e; tree = s }) d
+
     same : Path Assignment (record { embed = e; tree = t }) (record { embed = e; tree = s })
     same = some_same (record { embed = e; tree = t }) (record { embed = e; tree = s }) (sym first ∙ second)
 
@@ -71,6 +74,7 @@ module _ (app : Application) (place : Placement) (of_schema : IsSchema app.map.s
     where
       at' : IsEmbedAt app.map.schema e embed
       at' = subst (λ schema. IsEmbedAt schema e embed) new.schema at
+
       agree : (a.next ≡ b.next) × ((c : ℕ) → IsDart a c → IsDart b c) × ((c i : ℕ) → IsDart a c → i ≤ app.map.schema.dim → a.alpha i c ≡ b.alpha i c)
       agree = unfoldings_agree (scene_of app.map app.rule place) (length app.rule.nodes) (width app.rule) (hook_label app.rule) law (IsDart a) (IsDart b) a.alpha b.alpha a.next b.next new.unfolded new'.unfolded
 

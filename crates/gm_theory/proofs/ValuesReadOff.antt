@@ -1,13 +1,12 @@
 -- What the steps of an accepted rule's nodes say of its links and words.
-use Rattle.std.proofs.Common.{◌≡◌, ℕ, zero, suc, ◌+◌, ◌<◌, ◌≤◌, ◌⊎◌, Bool, true, false, cond, not, ◌&&◌, ◌||◌, IsTrue, List, [], ◌∷◌, length, get_or, Contains, Option, Some, None, slice_get, eqb, refl, sym, ◌∙◌, ap, ap₂, subst, inl, inr, arith}
+use Rattle.std.proofs.Common.{◌≡◌, ℕ, zero, suc, ◌<◌, ◌≤◌, ◌⊎◌, Bool, true, false, IsTrue, List, [], ◌∷◌, length, get_or, Contains, Some, None, slice_get, eqb, refl, sym, ◌∙◌, ap, ap₂, subst, inl, inr, arith}
 use Rattle.std.proofs.lemmas.Bool.{cases_lt, eq-eqb, eqb-true, lt-ltb, le-ltb}
 use Rattle.std.proofs.lemmas.List.Elements.{All-from_recursion, All-contains, recursion_from_All, Contains-get_or}
 use Rattle.std.specs.List.{find, position, position_or_len, count_by}
 use Rattle.gm_model.specs.declared.rule.Link.{Link}
 use Rattle.gm_model.specs.declared.rule.Side.{Side}
 use Rattle.gm_model.specs.declared.schema.Schema.{Schema}
-use Rattle.gm_model.specs.declared.step.Step.{Step}
-use Rattle.gm_model.specs.declared.step.Step.TheVariants.{Absent, Exp, Imp}
+use Rattle.gm_model.specs.declared.step.Step.TheVariants.{Exp, Imp}
 use Rattle.gm_model.specs.declared.word.Letter.{Letter}
 use Rattle.gm_model.specs.declared.word.Letter.TheVariants.{At, Gone}
 use Rattle.gm_model.specs.Acceptance.{IsAccepted}
@@ -15,7 +14,7 @@ use Rattle.gm_model.specs.Rules.{Rule, has_word, letters, links_on, link_from, i
 use Rattle.gm_model.specs.Structure.{IsLinkInRange, HasOnce}
 use Rattle.gm_theory.proofs.Lists.{some_same, none_some, count_yes, count_no, find_passes, find_has}
 use Rattle.gm_theory.proofs.RuleSteps.{end_parts, step_link, step_place, once}
-use Rattle.gm_theory.proofs.Tests.{true_or_false, not_both, and_true}
+use Rattle.gm_theory.proofs.Tests.{true_or_false, not_both}
 
 -- the steps of a rule's nodes say what its links and words are
 pub record IsReadOff (n : ℕ) (rule : Rule) : Type 0 where
@@ -24,7 +23,6 @@ pub record IsReadOff (n : ℕ) (rule : Rule) : Type 0 where
   pub linked : (side : Side) (x i y : ℕ) → step rule side x i ≡ Exp y → IsLinked (links_on rule side) x i y
   pub lettered : (side : Side) (x i m : ℕ) → step rule side x i ≡ Imp m → slice_get (letters rule side x) m ≡ Some (At i)
   pub end : (side : Side) (x i y : ℕ) → IsLinked (links_on rule side) x i y → IsTrue (has_word rule side y)
-
 
 -- ---- lists
 
@@ -134,6 +132,7 @@ module _ (schema : Schema) (rule : Rule) (accepted : IsAccepted schema rule) whe
     where
       by : (l : Link) → Contains (links_on rule side) l → IsTrue (is_end x i l) → other_end x l ≡ y → step rule side x i ≡ Exp y
       by l c e o = let one : HasOnce rule side x i = once schema rule accepted side x i h b in rw (contained_found (is_end x i) (links_on rule side) l c e (omega arith)) (ap Exp o)
+
       go : IsLinked (links_on rule side) x i y → step rule side x i ≡ Exp y
       go (inl c) = by (link_from x i y) c (end_of_from x i y).0 (end_of_from x i y).1
       go (inr c) = by (link_from y i x) c (end_of_to x i y).0 (end_of_to x i y).1
@@ -159,6 +158,7 @@ module _ (schema : Schema) (rule : Rule) (accepted : IsAccepted schema rule) whe
     where
       in_range : (l : Link) → Contains (links_on rule side) l → IsLinkInRange schema.dim rule side l
       in_range l c = All-contains (IsLinkInRange schema.dim rule side) (links_on rule side) l (All-from_recursion (IsLinkInRange schema.dim rule side) (links_on rule side) (accepted.in_range.links side)) c
+
       go : IsLinked (links_on rule side) x i y → IsTrue (has_word rule side y)
       go (inl c) = (in_range (link_from x i y) c).to
       go (inr c) = (in_range (link_from y i x) c).from
