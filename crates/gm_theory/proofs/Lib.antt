@@ -16,6 +16,8 @@ pub mod ValuesAcross
 pub mod ValuesLists
 pub mod ValuesUnique
 pub mod ValuesDetermined
+pub mod ValuesReach
+pub mod ValuesFound
 pub mod ValuesKept
 pub mod ExamplesChecks
 pub mod ExamplesRules
