@@ -86,7 +86,7 @@ module _ (map : Map) (rule : Rule) (place : Placement) (count width : ℕ) (labe
   lies_behind d i x p live t (path, all, f) = (i ∷ path, (t, all), ap (follow alpha path) (back_along d i live t) ∙ f)
 
   -- the nodes of a right component lie in one orbit at each position
-  new_together : (x y p : ℕ) → p < place.positions → IsTogether rule o x y → LiesIn map rule place alpha e o (name x p) y p
+  pub new_together : (x y p : ℕ) → p < place.positions → IsTogether rule o x y → LiesIn map rule place alpha e o (name x p) y p
   new_together x y p b (r, (path, all, leads)) = (path, all, go x r path all leads)
     where
       go : (z : ℕ) → IsTrue (has_word rule Right z) → (path : List ℕ) → IsPathIn o path → Leads rule.right_links z path y → follow alpha path (name z p) ≡ name y p
