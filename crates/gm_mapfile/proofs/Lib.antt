@@ -1,1 +1,3 @@
 pub mod Plan
+pub mod Rows
+pub mod Sentence
