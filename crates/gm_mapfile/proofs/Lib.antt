@@ -1,3 +1,5 @@
 pub mod Plan
 pub mod Rows
 pub mod Sentence
+pub mod FirstFault
+pub mod OneMap

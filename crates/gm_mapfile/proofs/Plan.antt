@@ -18,10 +18,10 @@ Spells Finish parts = parts ≡ the_end ∷ []
 Spells (Need want next) [] = ⊥
 Spells (Need want next) (part ∷ parts) = (fits want part.symbol ≡ true) × (part.role ≡ role_of want) × Spells (next (value_in part.symbol)) parts
 
-abbrev with_part : Part Role → Result (List (Part Role)) Stop → Result (List (Part Role)) Stop
+abbrev pub with_part : Part Role → Result (List (Part Role)) Stop → Result (List (Part Role)) Stop
 with_part part read = read >>= λ parts. Ok (part ∷ parts)
 
-abbrev part_of : Want → Symbol → Part Role
+abbrev pub part_of : Want → Symbol → Part Role
 part_of want symbol = record { symbol = symbol; role = role_of want }
 
 abbrev pub only_the_end : Result (Unit {0}) Stop → Result (List (Part Role)) Stop
@@ -57,12 +57,12 @@ some_sentence (Need want next) =
 
 -- ---- one step
 
-data Wanted (want : Want) (mark : Mark) (marks : List Mark) : Type 0 where
+pub data Wanted (want : Want) (mark : Mark) (marks : List Mark) : Type 0 where
   Refused : fits want mark.symbol ≡ false → wanted_at want (mark ∷ marks) ≡ Err (Ends mark.place) → Wanted want mark marks
   Limited : (what : LimitKind) → fits want mark.symbol ≡ true → limit_of (role_of want) mark.symbol ≡ Some what → wanted_at want (mark ∷ marks) ≡ Err (Passes what mark.place) → Wanted want mark marks
   Taken : fits want mark.symbol ≡ true → limit_of (role_of want) mark.symbol ≡ None → wanted_at want (mark ∷ marks) ≡ Ok (value_in mark.symbol, marks) → Wanted want mark marks
 
-wanted : (want : Want) (mark : Mark) (marks : List Mark) → Wanted want mark marks
+pub wanted : (want : Want) (mark : Mark) (marks : List Mark) → Wanted want mark marks
 wanted want mark marks =
     fit (fits want mark.symbol) (limit_of (role_of want) mark.symbol) refl refl
   where
@@ -183,7 +183,7 @@ run_is_right (Need want next) (mark ∷ marks) =
 
 -- ---- and nothing else is
 
-at_taken : (want : Want) (next : ℕ → Plan) (mark : Mark) (marks : List Mark) (read : Result (List (Part Role)) Stop) → fits want mark.symbol ≡ true → limit_of (role_of want) mark.symbol ≡ None
+pub at_taken : (want : Want) (next : ℕ → Plan) (mark : Mark) (marks : List Mark) (read : Result (List (Part Role)) Stop) → fits want mark.symbol ≡ true → limit_of (role_of want) mark.symbol ≡ None
     → run (next (value_in mark.symbol)) marks ≡ read → run (Need want next) (mark ∷ marks) ≡ with_part (part_of want mark.symbol) read
 at_taken want next mark marks read is limit e =
     elim (wanted want mark marks) [

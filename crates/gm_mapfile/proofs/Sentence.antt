@@ -20,10 +20,23 @@ numbers role (suc count) plan = Need (Any role) (λ _. numbers role count plan)
 abbrev pub lines : ℕ → ℕ → Plan
 lines n count = numbers DartName (count * (n + 2)) Finish
 
+abbrev pub from_count : ℕ → Plan
+from_count n = Need (Any Count) (λ count. lines n count)
+
+abbrev pub from_darts : ℕ → Plan
+from_darts n = Need (TheWord (codes "darts")) (λ _. from_count n)
+
+abbrev pub from_top : Plan
+from_top = Need (Any Dimension) (λ n. from_darts n)
+
+abbrev pub from_dim : Plan
+from_dim = Need (TheWord (codes "dim")) (λ _. from_top)
+
+abbrev pub from_version : Plan
+from_version = Need (TheNumber 1) (λ _. from_dim)
+
 abbrev pub map_plan : Plan
-map_plan =
-    Need (TheWord (codes "gmap")) (λ _. Need (TheNumber 1) (λ _. Need (TheWord (codes "dim")) (λ _. Need (Any Dimension) (λ n.
-    Need (TheWord (codes "darts")) (λ _. Need (Any Count) (λ count. lines n count))))))
+map_plan = Need (TheWord (codes "gmap")) (λ _. from_version)
 
 same_part : (part : Part Role) (symbol : Symbol) (role : Role) → part.symbol ≡ symbol → part.role ≡ role → part ≡ record { symbol = symbol; role = role }
 same_part part symbol role one two = ap (λ (s : Symbol). let p : Part Role = record { symbol = s; role = part.role } in p) one ∙ ap (λ (r : Role). let p : Part Role = record { symbol = symbol; role = r } in p) two

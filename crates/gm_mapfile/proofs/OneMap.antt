@@ -1,0 +1,2 @@
+-- A text stands for one map at most.
+use Rattle.std.proofs.Common.{◌≡◌, ℕ}
