@@ -76,7 +76,7 @@ pub data Front : Type 0 where
   -- a byte that no token begins with
   Stray : Front
 
-abbrev begins_two_byte_sign : ℕ → List ℕ → Bool
+abbrev pub begins_two_byte_sign : ℕ → List ℕ → Bool
 begins_two_byte_sign b [] = false
 begins_two_byte_sign b (c ∷ bytes) = is_two_byte_sign b c
 

@@ -1,0 +1,40 @@
+-- The value of digits: it grows with each digit, and it is the number of a decimal text.
+use Rattle.std.proofs.Common.{◌≡◌, ℕ, zero, suc, ◌+◌, ◌-◌, ◌*◌, ◌<◌, ◌≤◌, ◌^◌, Bool, true, false, ◌&&◌, List, [], ◌∷◌, length, drop, get_or, refl, sym, ap, ◌∙◌, arith}
+use Rattle.std.specs.List.{list_all}
+use Rattle.std.proofs.lemmas.Bool.{and_parts, leb-true}
+use Rattle.std.proofs.lemmas.List.{drop_more, drop_all}
+use Rattle.gm_model.specs.Tokens.{is_digit}
+use Rattle.gm_model.specs.Symbols.{value_after, value_of}
+
+-- what was read before is within the value
+pub value_after-grows : (n : ℕ) (digits : List ℕ) → n ≤ value_after n digits
+value_after-grows n [] = omega arith
+value_after-grows n (digit ∷ digits) = omega (arith, value_after-grows (n * 10 + (digit - 48)) digits)
+
+-- the digits from a place on
+pub record IsReadTo (digits : List ℕ) (place n : ℕ) : Type 0 where
+  pub all_digits : list_all is_digit (drop place digits) ≡ true
+  pub value : value_after n (drop place digits) ≡ value_of digits
+
+pub record IsDigitThere (digits : List ℕ) (place n : ℕ) : Type 0 where
+  pub low : 48 ≤ get_or digits place 0
+  pub high : get_or digits place 0 ≤ 57
+  pub next : IsReadTo digits (place + 1) (n * 10 + (get_or digits place 0 - 48))
+  pub within : n * 10 + (get_or digits place 0 - 48) ≤ value_of digits
+
+pub IsReadTo-more : (digits : List ℕ) (place n : ℕ) → place < length digits → IsReadTo digits place n → IsDigitThere digits place n
+IsReadTo-more digits place n inside read =
+    let digit = get_or digits place 0 in
+    let split = drop_more digits place 0 inside in
+    let tests = and_parts (is_digit digit) (list_all is_digit (drop (place + 1) digits)) (ap (list_all is_digit) (sym split) ∙ read.all_digits) in
+    let bounds = and_parts _ _ tests.0 in
+    let value : value_after (n * 10 + (digit - 48)) (drop (place + 1) digits) ≡ value_of digits = ap (value_after n) (sym split) ∙ read.value in
+    record {
+      low = leb-true 48 digit bounds.0;
+      high = leb-true digit 57 bounds.1;
+      next = record { all_digits = tests.1; value = value };
+      within = omega (arith, value_after-grows (n * 10 + (digit - 48)) (drop (place + 1) digits));
+    }
+
+pub IsReadTo-all : (digits : List ℕ) (place n : ℕ) → length digits ≤ place → IsReadTo digits place n → n ≡ value_of digits
+IsReadTo-all digits place n done read = ap (value_after n) (sym (drop_all place digits done)) ∙ read.value

@@ -1,0 +1,13 @@
+use Rattle.std.proofs.Common.{◌≡◌, ◌+◌, ◌-◌, ◌≤◌, not, length, drop}
+use Rattle.std.specs.List.{prefix_len}
+use Rattle.gm_model.specs.Tokens.{is_digit}
+use Rattle.gm_text.proofs.scan.number_end.Given as goal
+
+abbrev pub invariant-loop-at : goal.invariant-loop-at
+invariant-loop-at l = record {
+  inside : l.at ≤ length l.text;
+  same : l.from + prefix_len is_digit (drop l.from l.text) ≡ l.at + prefix_len is_digit (drop l.at l.text);
+}
+
+abbrev pub decreases-loop-at : goal.decreases-loop-at
+decreases-loop-at l = length l.text - l.at

@@ -1,0 +1,120 @@
+ghost use Rattle.std.specs.Prelude.{◌≡◌, ◌<◌, ◌≤◌, ◌^◌, length, IsTrue, MatchOption};
+ghost use Rattle.std.specs.List.{list_all};
+ghost use Rattle.gm_model.specs.declared.token.TokenKind.TheVariants.{Number};
+ghost use Rattle.gm_model.specs.Tokens.{bytes_of, is_digit, IsLexeme};
+ghost use Rattle.gm_model.specs.Symbols.{value_of};
+ghost use Rattle.gm_text.specs.Lexing.{rest_of, items_read, after, stand_of, IsInText, IsLongestThere, IsGap};
+
+use crate::fault::LexFault;
+use crate::scan::{gap_end, token_at};
+use gm_model::Token;
+use std::marker::Model;
+
+/// Reads a text from left to right, one token at a time. Nothing is copied. Contracts see the
+/// text and the place that the lexer has come to.
+#[derive(Debug, Drop)]
+pub struct Lexer<'a> {
+    source: &'a [u8],
+    at: usize,
+}
+
+impl<'a> Model for Lexer<'a> {
+    ghost use Rattle.std.specs.Prelude.{◌≤◌, length};
+    ghost use Rattle.gm_text.specs.Cursor.{Cursor};
+
+    ghost Value = { Cursor };
+
+    ghost view = { λ lexer. record { text = lexer.source.now; place = lexer.at } };
+
+    ghost invariant = { λ lexer. lexer.at ≤ length lexer.source.now };
+}
+
+impl<'a> Lexer<'a> {
+    /// A lexer at the beginning of the text.
+    pub fn new(text: &'a [u8]) -> Lexer<'a>
+        ensures { result ≡ record { text = text.now; place = 0 } }
+    {
+        Lexer {
+            source: text,
+            at: 0,
+        }
+    }
+
+    /// The next token, which the lexer goes past, or `None` at the end of the text. `LexFault`
+    /// comes where, after blanks and comments, no token stands; the lexer is then as before.
+    pub fn next(&mut self) -> Result<Option<Token>, LexFault>
+        ensures answer { rest_of self.old ≡ items_read self.old.text result (rest_of self.new) }
+        ensures moved { self.new ≡ after result self.old }
+        ensures span { IsInText self.old result }
+        ensures longest { IsLongestThere self.old.text result }
+        ensures gap { IsGap self.old.text self.old.place (stand_of self.old.text result) }
+    {
+        let found = self.peek()?;
+        self.at = match found {
+            Some(token) => token.end,
+            None => self.source.len(),
+        };
+        Ok(found)
+    }
+
+    /// What `next` would answer.
+    pub fn peek(&self) -> Result<Option<Token>, LexFault>
+        ensures answer { rest_of self.now ≡ items_read self.now.text result (rest_of (after result self.now)) }
+        ensures span { IsInText self.now result }
+        ensures longest { IsLongestThere self.now.text result }
+        ensures gap { IsGap self.now.text self.now.place (stand_of self.now.text result) }
+    {
+        let start = gap_end(self.source, self.at);
+        if start == self.source.len() {
+            return Ok(None);
+        }
+        match token_at(self.source, start) {
+            Some(token) => Ok(Some(token)),
+            None => Err(LexFault { place: start }),
+        }
+    }
+
+    /// The end of the last token that `next` answered: 0 before the first, and the text's length
+    /// once `next` has answered `None`.
+    pub fn place(&self) -> usize
+        ensures value { result ≡ self.now.place }
+        ensures within { result ≤ length self.now.text }
+    {
+        self.at
+    }
+
+    /// The bytes of the source from the token's start to its end.
+    pub fn text(&self, token: &Token) -> &'a [u8]
+        requires order { token.now.start ≤ token.now.end }
+        requires within { token.now.end ≤ length self.now.text }
+        ensures { result.now ≡ bytes_of self.now.text token.now }
+    {
+        &self.source[token.start..token.end]
+    }
+
+    /// The value of a number of the source. Leading zeros count for nothing. `None` comes where
+    /// the value is above the greatest `u64`.
+    pub fn number(&self, token: &Token) -> Option<u64>
+        requires order { token.now.start ≤ token.now.end }
+        requires within { token.now.end ≤ length self.now.text }
+        requires kind { token.now.kind ≡ Number }
+        requires lexeme { IsLexeme token.now.kind (bytes_of self.now.text token.now) }
+        ensures {
+            let value = value_of (bytes_of self.now.text token.now) in
+            MatchOption result (2 ^ 64 ≤ value) (λ n. n ≡ value)
+        }
+    {
+        value_of_digits(self.text(token))
+    }
+}
+
+fn value_of_digits(digits: &[u8]) -> Option<u64>
+    requires { IsTrue (list_all is_digit digits.now) }
+    ensures { MatchOption result (2 ^ 64 ≤ value_of digits.now) (λ n. n ≡ value_of digits.now) }
+{
+    let mut value: u64 = 0;
+    for digit in digits {
+        value = value.checked_mul(10)?.checked_add(u64::from(*digit - b'0'))?;
+    }
+    Some(value)
+}

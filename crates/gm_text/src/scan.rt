@@ -1,0 +1,107 @@
+ghost use Rattle.std.specs.Prelude.{◌≡◌, ◌+◌, ◌<◌, ◌≤◌, ◌||◌, true, false, not, length, drop, slice_index, MatchOption};
+ghost use Rattle.std.specs.List.{take_while};
+ghost use Rattle.gm_model.specs.Tokens as tokens;
+ghost use Rattle.gm_text.specs.Lexing.{IsGap, IsTokenAt, front_at};
+
+use crate::bytes::{is_blank, is_digit, is_letter, is_name_byte, is_sign, is_two_byte_sign};
+use gm_model::{Token, TokenKind};
+
+/// The first place from `from` on where neither a blank nor a comment stands.
+pub fn gap_end(text: &[u8], from: usize) -> usize
+    requires { from ≤ length text.now }
+    ensures behind { from ≤ result }
+    ensures within { result ≤ length text.now }
+    ensures same { tokens.items_at text.now from ≡ tokens.items_at text.now result }
+    ensures gap { IsGap text.now from result }
+    ensures stops {
+        result < length text.now →
+            (tokens.is_blank (slice_index text.now result) ≡ false) × (tokens.is_hash (slice_index text.now result) ≡ false)
+    }
+{
+    let mut at = from;
+    while at < text.len() {
+        if is_blank(text[at]) {
+            at += 1;
+        } else if text[at] == b'#' {
+            at = line_end(text, at + 1);
+        } else {
+            return at;
+        }
+    }
+    at
+}
+
+/// The token that begins at `at`, where neither a blank nor a comment stands.
+pub fn token_at(text: &[u8], at: usize) -> Option<Token>
+    requires inside { at < length text.now }
+    requires no_blank { tokens.is_blank (slice_index text.now at) ≡ false }
+    requires no_comment { tokens.is_hash (slice_index text.now at) ≡ false }
+    ensures { MatchOption result (front_at text.now at ≡ tokens.Stray) (IsTokenAt text.now at) }
+{
+    let start = at;
+    let first = text[start];
+    if is_letter(first) {
+        let end = name_end(text, start + 1);
+        Some(Token { kind: TokenKind::Name, start, end })
+    } else if is_digit(first) {
+        let end = number_end(text, start + 1);
+        Some(Token { kind: TokenKind::Number, start, end })
+    } else if first == b'_' {
+        let end = start + 1;
+        Some(Token { kind: TokenKind::Gone, start, end })
+    } else if begins_two_byte_sign(text, start) {
+        let end = start + 2;
+        Some(Token { kind: TokenKind::Sign, start, end })
+    } else if is_sign(first) {
+        let end = start + 1;
+        Some(Token { kind: TokenKind::Sign, start, end })
+    } else {
+        None
+    }
+}
+
+fn begins_two_byte_sign(text: &[u8], at: usize) -> bool
+    requires { at < length text.now }
+    ensures value { result ≡ tokens.begins_two_byte_sign (slice_index text.now at) (drop (at + 1) text.now) }
+    ensures room { result ≡ true → at + 2 ≤ length text.now }
+{
+    at + 1 < text.len() && is_two_byte_sign(text[at], text[at + 1])
+}
+
+fn line_end(text: &[u8], from: usize) -> usize
+    requires { from ≤ length text.now }
+    ensures value {
+        result ≡ from + length (take_while (λ c. not (tokens.is_line_feed c)) (drop from text.now))
+    }
+    ensures within { result ≤ length text.now }
+{
+    let mut at = from;
+    while at < text.len() && text[at] != b'\n' {
+        at += 1;
+    }
+    at
+}
+
+fn name_end(text: &[u8], from: usize) -> usize
+    requires { from ≤ length text.now }
+    ensures value { result ≡ from + length (take_while tokens.is_name_byte (drop from text.now)) }
+    ensures within { result ≤ length text.now }
+{
+    let mut at = from;
+    while at < text.len() && is_name_byte(text[at]) {
+        at += 1;
+    }
+    at
+}
+
+fn number_end(text: &[u8], from: usize) -> usize
+    requires { from ≤ length text.now }
+    ensures value { result ≡ from + length (take_while tokens.is_digit (drop from text.now)) }
+    ensures within { result ≤ length text.now }
+{
+    let mut at = from;
+    while at < text.len() && is_digit(text[at]) {
+        at += 1;
+    }
+    at
+}
