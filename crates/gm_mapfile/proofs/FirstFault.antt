@@ -1,14 +1,18 @@
 -- What the reader of a map's text answers: the draft of the text, or its first fault.
 use Rattle.std.proofs.Common.{◌≡◌, ℕ, zero, suc, ◌+◌, ◌*◌, List, [], ◌∷◌, ◌++◌, length, get_or, drop, map, Result, Ok, Err, refl, sym, ap, subst, ◌∙◌, codes}
 use Rattle.std.proofs.lemmas.List.{append_cancel_right}
+use Rattle.std.specs.Prelude.{IfOk, IfErr}
 use Rattle.std.specs.List.{flat_map}
 use Rattle.gm_model.specs.declared.limit.LimitKind.{LimitKind}
 use Rattle.gm_model.specs.GMap.{Row}
 use Rattle.gm_model.specs.Symbols.{Mark, marks_of}
 use Rattle.gm_model.specs.Reading.{Part, IsReadAs, TextEndsAt, LimitPassedAt}
 use Rattle.gm_model.specs.MapText.{Role, Fixed, Dimension, Count, DartName, word, number, the_end, limit_of, spelling, spelling_of_row, AreShaped, IsSentence, IsListed, IsTextFault, IsLimitFault}
-use Rattle.gm_mapfile.specs.Draft.{numbers_of, IsDraft}
-use Rattle.gm_mapfile.specs.Reading.{Stop, Ends, Passes, Lost, Want, TheWord, TheNumber, Any, role_of, fits, value_in, ◌>>=◌, wanted_at, numbers_at, ended_at, draft_of}
+use Rattle.gm_mapfile.specs.Draft.{numbers_of, IsDraft, IsFirstFault}
+use Rattle.gm_mapfile.specs.declared.reading.Draft.{Draft}
+use Rattle.gm_mapfile.specs.declared.reading.TextFault.{TextFault}
+use Rattle.gm_mapfile.specs.declared.reading.TextFault.TheVariants as faults
+use Rattle.gm_mapfile.specs.Reading.{Stop, Ends, Passes, Lost, Want, TheWord, TheNumber, Any, role_of, fits, value_in, ◌>>=◌, wanted_at, numbers_at, ended_at, draft_of, Gives}
 use Rattle.gm_mapfile.proofs.Plan.{Plan, Finish, Need, Spells, run, IsRight, run_is_right, Wanted, Refused, Limited, Taken, wanted, at_taken}
 use Rattle.gm_mapfile.proofs.Rows.{spelling_of_numbers}
 use Rattle.gm_mapfile.proofs.Sentence.{numbers, lines, from_count, from_darts, from_top, from_dim, from_version, map_plan, plan_of_sentence, sentence_of_plan}
@@ -122,28 +126,28 @@ stop_end marks x stop e = go (ended_at marks) refl
 
 -- what the reader does after each step
 
-abbrev Draft : Type 0
-Draft = Result (ℕ × List ℕ) Stop
+abbrev Answered : Type 0
+Answered = Result (ℕ × List ℕ) Stop
 
-abbrev after_numbers : ℕ → List ℕ × List Mark → Draft
+abbrev after_numbers : ℕ → List ℕ × List Mark → Answered
 after_numbers n numbers = ended_at numbers.1 >>= λ _. Ok (n, numbers.0)
 
-abbrev after_count : ℕ → ℕ × List Mark → Draft
+abbrev after_count : ℕ → ℕ × List Mark → Answered
 after_count n count = numbers_at DartName (count.0 * (n + 2)) count.1 >>= after_numbers n
 
-abbrev after_darts : ℕ → ℕ × List Mark → Draft
+abbrev after_darts : ℕ → ℕ × List Mark → Answered
 after_darts n darts = wanted_at (Any Count) darts.1 >>= after_count n
 
-abbrev after_top : ℕ × List Mark → Draft
+abbrev after_top : ℕ × List Mark → Answered
 after_top top = wanted_at (TheWord (codes "darts")) top.1 >>= after_darts top.0
 
-abbrev after_dim : ℕ × List Mark → Draft
+abbrev after_dim : ℕ × List Mark → Answered
 after_dim dim = wanted_at (Any Dimension) dim.1 >>= after_top
 
-abbrev after_version : ℕ × List Mark → Draft
+abbrev after_version : ℕ × List Mark → Answered
 after_version version = wanted_at (TheWord (codes "dim")) version.1 >>= after_dim
 
-abbrev after_format : ℕ × List Mark → Draft
+abbrev after_format : ℕ × List Mark → Answered
 after_format format = wanted_at (TheNumber 1) format.1 >>= after_version
 
 pub stop_of_draft : (marks : List Mark) (stop : Stop) → draft_of marks ≡ Err stop → run map_plan marks ≡ Err stop
@@ -212,27 +216,40 @@ read_end marks x y e = go (ended_at marks) refl
     go (Err other) is = let same : Err other ≡ Ok y = rw is at e in absurd cc
 
 -- the values of parts, and what they are in a sentence
-abbrev values : List (Part Role) → List ℕ
+abbrev pub values : List (Part Role) → List ℕ
 values parts = map (λ (part : Part Role). value_in part.symbol) parts
 
 values_of_numbers : (role : Role) (ns : List ℕ) → values (map (number role) ns) ≡ ns
 values_of_numbers role [] = refl
 values_of_numbers role (n ∷ ns) = ap (λ (ms : List ℕ). n ∷ ms) (values_of_numbers role ns)
 
-values_of_rows : (rows : List Row) → values (flat_map spelling_of_row rows) ≡ numbers_of rows
+pub values_of_rows : (rows : List Row) → values (flat_map spelling_of_row rows) ≡ numbers_of rows
 values_of_rows rows = ap values (spelling_of_numbers rows) ∙ values_of_numbers DartName (numbers_of rows)
 
-of_spelling : (a b c d e f : Part Role) (parts : List (Part Role)) (n : ℕ) (rows : List Row) → a ∷ b ∷ c ∷ d ∷ e ∷ f ∷ (parts ++ the_end ∷ []) ≡ spelling n rows → (value_in d.symbol ≡ n) × (values parts ≡ numbers_of rows)
+pub of_spelling : (a b c d e f : Part Role) (parts : List (Part Role)) (n : ℕ) (rows : List Row) → a ∷ b ∷ c ∷ d ∷ e ∷ f ∷ (parts ++ the_end ∷ []) ≡ spelling n rows → (value_in d.symbol ≡ n) × (values parts ≡ numbers_of rows)
 of_spelling a b c d e f parts n rows same =
     let top : d ≡ number Dimension n = ap (λ (ps : List (Part Role)). get_or ps 3 the_end) same in
     let tail : parts ++ the_end ∷ [] ≡ flat_map spelling_of_row rows ++ the_end ∷ [] = ap (λ (ps : List (Part Role)). drop 6 ps) same in
     (ap (λ (p : Part Role). value_in p.symbol) top, ap values (append_cancel_right _ _ _ tail) ∙ values_of_rows rows)
 
+listed_as : (text : List ℕ) (n m : ℕ) (rows : List Row) (parts : List (Part Role)) → IsReadAs (Spells map_plan) limit_of (marks_of text) parts → parts ≡ spelling m rows → AreShaped m rows → m ≡ n → IsListed text n rows
+listed_as text n m rows parts read same shaped dimension =
+    let listed : IsListed text m rows = record { shaped = shaped; read = subst (IsReadAs IsSentence limit_of (marks_of text)) same (read_as_sentence (marks_of text) parts read) } in
+    subst (λ (k : ℕ). IsListed text k rows) dimension listed
+
+-- from the parts that were read
+drafted : (text : List ℕ) (n : ℕ) (ns : List ℕ) (a b c d e f : Part Role) (parts : List (Part Role)) → run map_plan (marks_of text) ≡ Ok (a ∷ b ∷ c ∷ d ∷ e ∷ f ∷ (parts ++ the_end ∷ [])) → value_in d.symbol ≡ n → values parts ≡ ns → IsDraft text n ns
+drafted text n ns a b c d e f parts goes top numbers =
+    let whole : List (Part Role) = a ∷ b ∷ c ∷ d ∷ e ∷ f ∷ (parts ++ the_end ∷ []) in
+    let read : IsReadAs (Spells map_plan) limit_of (marks_of text) whole = subst (IsRight map_plan (marks_of text)) goes (run_is_right map_plan (marks_of text)) in
+    let sentence = sentence_of_plan whole read.sentence in
+    let is = of_spelling a b c d e f parts sentence.0 sentence.1 sentence.3 in
+    (sentence.1, listed_as text n sentence.0 sentence.1 whole read sentence.3 sentence.2 (sym is.0 ∙ top), sym numbers ∙ is.1)
+
 pub draft_is : (text : List ℕ) (n : ℕ) (ns : List ℕ) → draft_of (marks_of text) ≡ Ok (n, ns) → IsDraft text n ns
 unfolding draft_of
 draft_is text n ns e =
-    let marks = marks_of text in
-    let format = read_step (TheWord (codes "gmap")) (λ _. from_version) marks after_format (n, ns) e in
+    let format = read_step (TheWord (codes "gmap")) (λ _. from_version) (marks_of text) after_format (n, ns) e in
     let version = read_step (TheNumber 1) (λ _. from_dim) format.0.1 after_version (n, ns) format.2 in
     let dim = read_step (TheWord (codes "dim")) (λ _. from_top) version.0.1 after_dim (n, ns) version.2 in
     let top = read_step (Any Dimension) from_darts dim.0.1 after_top (n, ns) dim.2 in
@@ -240,16 +257,22 @@ draft_is text n ns e =
     let count = read_step (Any Count) (lines top.0.0) darts.0.1 (after_count top.0.0) (n, ns) darts.2 in
     let found = read_numbers DartName (count.0.0 * (top.0.0 + 2)) Finish count.0.1 (after_numbers top.0.0) (n, ns) count.2 in
     let end = read_end found.0.1 (top.0.0, found.0.0) (n, ns) found.2 in
-    let rest : List (Part Role) = found.1.parts ++ the_end ∷ [] in
-    let parts : List (Part Role) = format.1.part ∷ version.1.part ∷ dim.1.part ∷ top.1.part ∷ darts.1.part ∷ count.1.part ∷ rest in
-    let goes : run map_plan marks ≡ Ok parts =
-        format.1.goes _ (version.1.goes _ (dim.1.goes _ (top.1.goes _ (darts.1.goes _ (count.1.goes _ (found.1.goes (the_end ∷ []) end.0)))))) in
-    let read : IsReadAs (Spells map_plan) limit_of marks parts = subst (IsRight map_plan marks) goes (run_is_right map_plan marks) in
-    let sentence = sentence_of_plan parts read.sentence in
-    let rows = sentence.1 in
-    let same : parts ≡ spelling sentence.0 rows = sentence.3 in
-    let is = of_spelling format.1.part version.1.part dim.1.part top.1.part darts.1.part count.1.part found.1.parts sentence.0 rows same in
-    let dimension : sentence.0 ≡ n = sym is.0 ∙ top.1.value ∙ ap (λ (x : ℕ × List ℕ). x.0) end.1 in
-    let numbers : ns ≡ numbers_of rows = ap (λ (x : ℕ × List ℕ). x.1) (sym end.1) ∙ sym found.1.values ∙ is.1 in
-    let listed : IsListed text sentence.0 rows = record { shaped = sentence.2; read = subst (IsReadAs IsSentence limit_of marks) same (read_as_sentence marks parts read) } in
-    (rows, subst (λ (m : ℕ). IsListed text m rows) dimension listed, numbers)
+    drafted text n ns format.1.part version.1.part dim.1.part top.1.part darts.1.part count.1.part found.1.parts
+        (format.1.goes _ (version.1.goes _ (dim.1.goes _ (top.1.goes _ (darts.1.goes _ (count.1.goes _ (found.1.goes (the_end ∷ []) end.0)))))))
+        (top.1.value ∙ ap (λ (x : ℕ × List ℕ). x.0) end.1)
+        (found.1.values ∙ ap (λ (x : ℕ × List ℕ). x.1) end.1)
+
+-- ---- the same of what the code answers
+
+abbrev seen : Draft → ℕ × List ℕ
+seen draft = (draft.dim, draft.numbers.items)
+
+pub is_draft : (text : List ℕ) (result : Result Draft TextFault) → Gives seen result (draft_of (marks_of text)) → IfOk result (λ draft. IsDraft text draft.dim draft.numbers.items)
+is_draft text (Ok draft) gives = draft_is text draft.dim draft.numbers.items gives
+is_draft text (Err fault) gives = tt
+
+pub is_first_fault : (text : List ℕ) (result : Result Draft TextFault) → Gives seen result (draft_of (marks_of text)) → IfErr result (IsFirstFault text)
+is_first_fault text (Ok draft) gives = tt
+is_first_fault text (Err (faults.Text place)) gives = text_fault text place gives
+is_first_fault text (Err (faults.Limit what place)) gives = limit_fault text what place gives
+is_first_fault text (Err faults.OutOfMemory) gives = tt

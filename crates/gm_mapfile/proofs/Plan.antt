@@ -6,7 +6,7 @@ use Rattle.gm_model.specs.declared.limit.LimitKind.{LimitKind}
 use Rattle.gm_model.specs.Symbols.{Symbol, Word, Numeral, Sign, Gone, Stray, End, Mark, symbols}
 use Rattle.gm_model.specs.MapText.{Role, Fixed, Dimension, Count, DartName, limit_of, the_end}
 use Rattle.gm_model.specs.Reading.{Part, symbols_in, Begins, IsWithin, IsReadAs, TextEndsAt, LimitPassedAt}
-use Rattle.gm_mapfile.specs.Reading.{Stop, Ends, Passes, Lost, Want, TheWord, TheNumber, Any, role_of, fits, value_in, is_end, ◌>>=◌, unless_passed, wanted_at, nothing, ended_at}
+use Rattle.gm_mapfile.specs.Reading.{Stop, Ends, Passes, Lost, Want, TheWord, TheNumber, Any, role_of, fits, value_in, is_end, ◌>>=◌, unless_passed, wanted_at, no_more, ended_at}
 
 pub data Plan : Type 0 where
   Finish : Plan
@@ -160,16 +160,12 @@ not_alone mark more marks is = record { before = mark ∷ []; mark = more; after
 
 finished : (marks : List Mark) → IsRight Finish marks (run Finish marks)
 finished [] = tt
-finished (mark ∷ []) = go (is_end mark.symbol) refl
+finished (mark ∷ marks) = go marks (is_end mark.symbol) refl
   where
-    go : (b : Bool) → is_end mark.symbol ≡ b → IsRight Finish (mark ∷ []) (only_the_end (cond b nothing (Err (Ends mark.place))))
-    go true is = record { spelled = ap (λ (s : Symbol). s ∷ []) (end_symbol mark.symbol is); sentence = refl; within = (refl, tt) }
-    go false is = not_ended mark [] is
-finished (mark ∷ more ∷ marks) = go (is_end mark.symbol) refl
-  where
-    go : (b : Bool) → is_end mark.symbol ≡ b → IsRight Finish (mark ∷ more ∷ marks) (only_the_end (cond b (Err (Ends more.place)) (Err (Ends mark.place))))
-    go true is = not_alone mark more marks is
-    go false is = not_ended mark (more ∷ marks) is
+    go : (marks : List Mark) (b : Bool) → is_end mark.symbol ≡ b → IsRight Finish (mark ∷ marks) (only_the_end (cond b (no_more marks) (Err (Ends mark.place))))
+    go [] true is = record { spelled = ap (λ (s : Symbol). s ∷ []) (end_symbol mark.symbol is); sentence = refl; within = (refl, tt) }
+    go (more ∷ marks) true is = not_alone mark more marks is
+    go marks false is = not_ended mark marks is
 
 pub run_is_right : (plan : Plan) (marks : List Mark) → IsRight plan marks (run plan marks)
 run_is_right Finish marks = finished marks

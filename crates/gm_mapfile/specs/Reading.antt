@@ -1,9 +1,14 @@
 -- How a map's text is read over its marks from left to right: what is wanted next, and the first fault that is met.
-use Rattle.std.specs.Prelude.{◌≡◌, ℕ, zero, suc, ◌+◌, ◌*◌, Bool, true, false, ◌==◌, if◌then◌else◌, List, [], ◌∷◌, Option, Some, None, Result, Ok, Err, codes}
+use Rattle.std.specs.Prelude.{◌≡◌, ℕ, zero, suc, ◌+◌, ◌-◌, ◌*◌, ◌^◌, min, Bool, true, false, ◌==◌, if◌then◌else◌, ◌≤◌, List, [], ◌∷◌, length, Option, Some, None, Result, Ok, Err, codes}
 use Rattle.std.specs.Str.{bytes_eq}
 use Rattle.gm_model.specs.declared.limit.LimitKind.{LimitKind}
-use Rattle.gm_model.specs.Symbols.{Symbol, Word, Numeral, Sign, Gone, Stray, End, Mark}
+use Rattle.gm_model.specs.declared.token.Token.{Token}
+use Rattle.gm_model.specs.Tokens.{bytes_of, IsLexeme}
+use Rattle.gm_model.specs.Symbols.{Symbol, Word, Numeral, Sign, Gone, Stray, End, Mark, symbol_of_kind, marks_at}
 use Rattle.gm_model.specs.MapText.{Role, Fixed, Dimension, Count, DartName, limit_of}
+use Rattle.gm_text.specs.Cursor.{Cursor}
+use Rattle.gm_mapfile.specs.declared.reading.TextFault.{TextFault}
+use Rattle.gm_mapfile.specs.declared.reading.TextFault.TheVariants as faults
 
 -- why reading stops
 pub data Stop : Type 0 where
@@ -38,6 +43,10 @@ abbrev pub value_in : Symbol → ℕ
 value_in (Numeral n) = n
 value_in _ = 0
 
+abbrev pub is_number : Symbol → Bool
+is_number (Numeral n) = true
+is_number _ = false
+
 abbrev pub is_end : Symbol → Bool
 is_end End = true
 is_end _ = false
@@ -58,6 +67,12 @@ wanted_at want [] = Err Lost
 wanted_at want (mark ∷ marks) =
     if fits want mark.symbol then unless_passed (limit_of (role_of want) mark.symbol) mark marks else Err (Ends mark.place)
 
+-- a number, its place, and the marks behind it; a number above the greatest u64 counts as that one
+abbrev pub number_at : List Mark → Result (ℕ × ℕ × List Mark) Stop
+number_at [] = Err Lost
+number_at (mark ∷ marks) =
+    if is_number mark.symbol then Ok (min (value_in mark.symbol) (2 ^ 64 - 1), mark.place, marks) else Err (Ends mark.place)
+
 -- so many numbers of a role
 unfoldable pub numbers_at : Role → ℕ → List Mark → Result (List ℕ × List Mark) Stop
 numbers_at role zero marks = Ok ([], marks)
@@ -69,11 +84,14 @@ numbers_at role (suc count) marks = do
 abbrev pub nothing : Result (Unit {0}) Stop
 nothing = Ok tt
 
+abbrev pub no_more : List Mark → Result (Unit {0}) Stop
+no_more [] = nothing
+no_more (mark ∷ marks) = Err (Ends mark.place)
+
 -- nothing but the end
 abbrev pub ended_at : List Mark → Result (Unit {0}) Stop
 ended_at [] = Err Lost
-ended_at (mark ∷ []) = if is_end mark.symbol then nothing else Err (Ends mark.place)
-ended_at (mark ∷ more ∷ marks) = if is_end mark.symbol then Err (Ends more.place) else Err (Ends mark.place)
+ended_at (mark ∷ marks) = if is_end mark.symbol then no_more marks else Err (Ends mark.place)
 
 -- all of the marks: the dimension, and the numbers of the darts' lines
 unfoldable pub draft_of : List Mark → Result (ℕ × List ℕ) Stop
@@ -87,3 +105,31 @@ draft_of marks = do
   numbers ← numbers_at DartName (count.0 * (top.0 + 2)) count.1
   end ← ended_at numbers.1
   Ok (top.0, numbers.0)
+
+-- ---- what a reader of the code answers
+
+-- the marks that a lexer has before it
+abbrev pub marks_left : Cursor → List Mark
+marks_left cursor = marks_at cursor.text cursor.place
+
+abbrev pub Fails : {Y : Type 0} → TextFault → Result Y Stop → Type 0
+Fails faults.OutOfMemory read = Unit {0}
+Fails (faults.Text place) read = read ≡ Err (Ends place)
+Fails (faults.Limit what place) read = read ≡ Err (Passes what place)
+
+-- what was returned, seen by view, is what reading gives, unless memory was wanting
+abbrev pub Gives : {X Y : Type 0} → (X → Y) → Result X TextFault → Result Y Stop → Type 0
+Gives view (Ok x) read = read ≡ Ok (view x)
+Gives view (Err fault) read = Fails fault read
+
+-- the token is the next mark, and lies in the text
+pub record IsNext (cursor : Cursor) (token : Token) (rest : List Mark) : Type 0 where
+  pub mark : marks_left cursor ≡ record { symbol = symbol_of_kind token.kind (bytes_of cursor.text token); place = token.start } ∷ rest
+  pub order : token.start ≤ token.end
+  pub within : token.end ≤ length cursor.text
+  pub lexeme : IsLexeme token.kind (bytes_of cursor.text token)
+
+-- at this place neither a word nor a number stands
+abbrev pub HasNoToken : Cursor → TextFault → Type 0
+HasNoToken cursor (faults.Text place) = ((want : Want) → wanted_at want (marks_left cursor) ≡ Err (Ends place)) × (number_at (marks_left cursor) ≡ Err (Ends place))
+HasNoToken cursor _ = ⊥
