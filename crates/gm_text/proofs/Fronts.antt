@@ -1,13 +1,12 @@
 -- What stands at the front of bytes: by the tests of the first byte, its size, and that no longer token stands there.
-use Rattle.std.proofs.Common.{◌≡◌, ℕ, zero, suc, ◌+◌, ◌-◌, ◌<◌, ◌≤◌, Bool, true, false, not, ◌&&◌, ◌||◌, cond, List, [], ◌∷◌, length, take, drop, get_or, refl, sym, ap, subst, ◌∙◌, arith}
-use Rattle.std.specs.List.{take_while, prefix_len, list_all}
-use Rattle.std.proofs.lemmas.Bool.{cond_both, or_cases, and_parts, leb-true, eqb-true, ne_eqb, cases_Bool}
+use Rattle.std.proofs.Common.{◌≡◌, ℕ, suc, ◌≤◌, Bool, true, false, not, List, [], ◌∷◌, length, refl, arith}
+use Rattle.std.specs.List.{take_while}
+use Rattle.std.proofs.lemmas.Bool.{cond_both, eqb-true}
 use Rattle.std.proofs.lemmas.Bool.Decides.{nat_tests}
 use Rattle.std.proofs.lemmas.List.Folds.{length-prefix_len}
 use Rattle.std.proofs.lemmas.List.Sums.{prefix_len-le-length}
-use Rattle.gm_model.specs.declared.token.TokenKind.{TokenKind}
 use Rattle.gm_model.specs.declared.token.TokenKind.TheVariants as kinds
-use Rattle.gm_model.specs.Tokens.{is_blank, is_digit, is_letter, is_underscore, is_name_byte, is_hash, is_line_feed, is_sign, is_two_byte_sign, begins_two_byte_sign, IsLexeme, IsLongest, HasNoLexeme, Front, Gap, Lexeme, Stray, front_of, size_of}
+use Rattle.gm_model.specs.Tokens.{is_blank, is_digit, is_letter, is_underscore, is_name_byte, is_hash, is_line_feed, is_sign, is_two_byte_sign, begins_two_byte_sign, Front, Gap, Lexeme, Stray, front_of, size_of}
 
 -- ---- the tests of a byte do not overlap
 
@@ -67,12 +66,12 @@ pub front_cases : (P : Front → Type 0) (b : ℕ) (bytes : List ℕ)
     → P (front_of b bytes)
 front_cases P b bytes blank hash letter digit underscore two sign stray =
     cond_both (is_blank b) _ _ P blank (λ _.
-        cond_both (is_hash b) _ _ P hash (λ _.
-        cond_both (is_letter b) _ _ P letter (λ _.
-        cond_both (is_digit b) _ _ P digit (λ _.
-        cond_both (is_underscore b) _ _ P underscore (λ _.
-        cond_both (begins_two_byte_sign b bytes) _ _ P two (λ _.
-        cond_both (is_sign b) _ _ P sign (λ _. stray)))))))
+    cond_both (is_hash b) _ _ P hash (λ _.
+    cond_both (is_letter b) _ _ P letter (λ _.
+    cond_both (is_digit b) _ _ P digit (λ _.
+    cond_both (is_underscore b) _ _ P underscore (λ _.
+    cond_both (begins_two_byte_sign b bytes) _ _ P two (λ _.
+    cond_both (is_sign b) _ _ P sign (λ _. stray)))))))
 
 -- ---- its size
 

@@ -1,11 +1,11 @@
 -- Blanks and comments between two places of a text: there is no item among them.
-use Rattle.std.proofs.Common.{◌≡◌, ℕ, zero, suc, ◌+◌, ◌-◌, ◌<◌, ◌≤◌, ◌≢◌, ◌⊎◌, inl, inr, Bool, true, false, not, List, length, take, drop, get_or, refl, sym, ap, subst, ◌∙◌, arith, length-drop, get_or-drop}
+use Rattle.std.proofs.Common.{◌≡◌, ℕ, suc, ◌+◌, ◌-◌, ◌<◌, ◌⊎◌, inl, inr, Bool, true, false, not, List, length, drop, get_or, refl, sym, ap, ◌∙◌, arith, length-drop, get_or-drop}
 use Rattle.std.specs.List.{take_while, prefix_len}
-use Rattle.std.proofs.lemmas.Bool.{cases_lt, eqb-true, eq-eqb, not-false}
+use Rattle.std.proofs.lemmas.Bool.{cases_lt, eqb-true, not-false}
 use Rattle.std.proofs.lemmas.List.Folds.{length-prefix_len}
 use Rattle.std.proofs.lemmas.List.Sums.{prefix_len-le-length, prefix_len_passes, prefix_len_stops}
 use Rattle.gm_model.specs.Tokens.{is_blank, is_hash, is_line_feed, items_at}
-use Rattle.gm_text.specs.Lexing.{IsGap, nothing, blank, comment, front_at}
+use Rattle.gm_text.specs.Lexing.{IsGap, blank, comment}
 use Rattle.gm_text.proofs.Fronts.{front_of-blank, front_of-hash}
 use Rattle.gm_text.proofs.Items.{items_at-gap}
 
@@ -40,19 +40,19 @@ IsPassed-comment text place to inside is_one to-is =
     let room = prefix_len-le-length goes_on behind in
     let size-is : place + suc size ≡ to = omega arith in
     let no_line_feed : (k : ℕ) → place < k → k < to → get_or text k 0 ≡ 10 → ⊥ = λ k after before e.
-        let at : place + 1 + (k - (place + 1)) ≡ k = omega arith in
-        let passes : goes_on (get_or text k 0) ≡ true = ap (λ (p : ℕ). goes_on (get_or text p 0)) (sym at) ∙ ap goes_on (sym (get_or-drop (place + 1) text (k - (place + 1)) 0)) ∙ prefix_len_passes goes_on behind (k - (place + 1)) 0 (omega arith) in
-        let fails : goes_on (get_or text k 0) ≡ false = ap goes_on e in
-        absurd cc in
+    let at : place + 1 + (k - (place + 1)) ≡ k = omega arith in
+    let passes : goes_on (get_or text k 0) ≡ true = ap (λ (p : ℕ). goes_on (get_or text p 0)) (sym at) ∙ ap goes_on (sym (get_or-drop (place + 1) text (k - (place + 1)) 0)) ∙ prefix_len_passes goes_on behind (k - (place + 1)) 0 (omega arith) in
+    let fails : goes_on (get_or text k 0) ≡ false = ap goes_on e in
+    absurd cc in
     let line_ends : (to ≡ length text) ⊎ ((to < length text) × (get_or text to 0 ≡ 10)) =
-        elim (cases_lt to (length text)) [
-          | inl more ↦
-              let at : place + 1 + size ≡ to = omega arith in
-              let stops = prefix_len_stops goes_on behind 0 (omega (arith, length-drop (place + 1) text)) in
-              let there : goes_on (get_or text to 0) ≡ false = ap (λ (p : ℕ). goes_on (get_or text p 0)) (sym at) ∙ ap goes_on (sym (get_or-drop (place + 1) text size 0)) ∙ stops in
-              inr (more, eqb-true (get_or text to 0) 10 (not-false _ there))
-          | inr done ↦ inl (omega (arith, length-drop (place + 1) text))
-        ] in
+    elim (cases_lt to (length text)) [
+      | inl more ↦
+          let at : place + 1 + size ≡ to = omega arith in
+          let stops = prefix_len_stops goes_on behind 0 (omega (arith, length-drop (place + 1) text)) in
+          let there : goes_on (get_or text to 0) ≡ false = ap (λ (p : ℕ). goes_on (get_or text p 0)) (sym at) ∙ ap goes_on (sym (get_or-drop (place + 1) text size 0)) ∙ stops in
+          inr (more, eqb-true (get_or text to 0) 10 (not-false _ there))
+      | inr done ↦ inl (omega (arith, length-drop (place + 1) text))
+    ] in
     record {
       same = items_at-gap text place (suc (length (take_while (λ c. not (is_line_feed c)) behind))) inside (front_of-hash (get_or text place 0) behind is_one) ∙ ap (items_at text) (omega arith);
       gap = λ stop gap. comment place to stop inside is_one no_line_feed line_ends gap;

@@ -1,10 +1,10 @@
 -- The items of a text, from what stands at a place to what stands behind it.
-use Rattle.std.proofs.Common.{◌≡◌, ℕ, zero, suc, ◌+◌, ◌-◌, ◌<◌, ◌≤◌, Bool, true, false, not, List, [], ◌∷◌, length, take, drop, get_or, refl, sym, ap, subst, ◌∙◌, arith, length-drop}
+use Rattle.std.proofs.Common.{◌≡◌, ℕ, zero, suc, ◌+◌, ◌-◌, ◌<◌, ◌≤◌, List, [], ◌∷◌, length, drop, get_or, sym, ap, ◌∙◌, arith}
 use Rattle.std.proofs.lemmas.List.{drop_more, drop-drop, drop_all}
 use Rattle.gm_model.specs.declared.token.Token.{Token}
-use Rattle.gm_model.specs.Tokens.{Item, Lexed, StrayAt, EndAt, Front, Gap, Lexeme, Stray, front_of, size_of, item_before, items_from, items_at}
+use Rattle.gm_model.specs.Tokens.{Item, Lexed, StrayAt, EndAt, Front, Gap, Stray, size_of, item_before, items_from, items_at}
 use Rattle.gm_text.specs.Lexing.{front_at, IsTokenAt}
-use Rattle.gm_text.proofs.Fronts.{IsSized, size_of-front_of}
+use Rattle.gm_text.proofs.Fronts.{size_of-front_of}
 
 -- bytes that belong to what stood before are passed over
 pub items_from-taken : (place taken : ℕ) (bytes : List ℕ) → taken ≤ length bytes → items_from place taken bytes ≡ items_from (place + taken) 0 (drop taken bytes)

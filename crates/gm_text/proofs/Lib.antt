@@ -5,3 +5,4 @@ pub mod Gaps
 pub mod Values
 pub mod Marks
 pub mod Printed
+pub mod Worked

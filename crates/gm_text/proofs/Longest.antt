@@ -1,5 +1,5 @@
 -- What stands at the front of bytes is the longest token that stands there.
-use Rattle.std.proofs.Common.{◌≡◌, ℕ, zero, suc, ◌+◌, ◌-◌, ◌<◌, ◌≤◌, Bool, true, false, not, ◌&&◌, cond, List, [], ◌∷◌, length, take, drop, get_or, refl, sym, ap, subst, ◌∙◌, arith, length-take-le, inl, inr}
+use Rattle.std.proofs.Common.{◌≡◌, ℕ, zero, suc, ◌+◌, ◌-◌, ◌<◌, ◌≤◌, Bool, true, cond, List, [], ◌∷◌, length, take, drop, refl, sym, ap, subst, arith, length-take-le, inl, inr}
 use Rattle.std.specs.List.{take_while, prefix_len, list_all}
 use Rattle.std.proofs.lemmas.Bool.{and_parts, and_from, cases_Bool}
 use Rattle.std.proofs.lemmas.List.{drop_more}
@@ -7,7 +7,7 @@ use Rattle.std.proofs.lemmas.List.Folds.{length-prefix_len}
 use Rattle.gm_model.specs.declared.token.Token.{Token}
 use Rattle.gm_model.specs.declared.token.TokenKind.{TokenKind}
 use Rattle.gm_model.specs.declared.token.TokenKind.TheVariants as kinds
-use Rattle.gm_model.specs.Tokens.{is_digit, is_letter, is_underscore, is_name_byte, is_sign, is_two_byte_sign, begins_two_byte_sign, IsLexeme, IsLongest, HasNoLexeme, Front, Gap, Lexeme, Stray, front_of, size_of}
+use Rattle.gm_model.specs.Tokens.{is_digit, is_name_byte, begins_two_byte_sign, IsLexeme, IsLongest, HasNoLexeme, Front, Gap, Lexeme, Stray, front_of}
 use Rattle.gm_text.specs.Lexing.{front_at, IsTokenAt}
 use Rattle.gm_text.proofs.Fronts.{IsSized, size_of-front_of, front_cases, front_of-letter, front_of-digit, front_of-underscore, front_of-two, front_of-sign}
 

@@ -1,8 +1,8 @@
 -- What a grammar sees of a text, from the answers of a lexer: the mark of each answer, and the marks behind it.
-use Rattle.std.proofs.Common.{◌≡◌, ℕ, List, [], ◌∷◌, length, Option, Some, None, Result, Ok, Err, map, ap, ◌∙◌}
+use Rattle.std.proofs.Common.{◌≡◌, ℕ, List, [], ◌∷◌, length, Option, Some, None, Result, Ok, Err, map, ap}
 use Rattle.gm_model.specs.declared.token.Token.{Token}
-use Rattle.gm_model.specs.Tokens.{Item, Lexed, StrayAt, EndAt, items_at, bytes_of}
-use Rattle.gm_model.specs.Symbols.{Symbol, Stray, End, Mark, symbol_of_kind, mark_of, marks_at}
+use Rattle.gm_model.specs.Tokens.{Lexed, StrayAt, EndAt, items_at, bytes_of}
+use Rattle.gm_model.specs.Symbols.{Stray, End, Mark, symbol_of_kind, mark_of, marks_at}
 use Rattle.gm_text.specs.declared.fault.LexFault.{LexFault}
 use Rattle.gm_text.specs.Cursor.{Cursor}
 use Rattle.gm_text.specs.Lexing.{rest_of, items_read, after}

@@ -1,5 +1,5 @@
 -- Texts that are printed are read again: the symbols of a word, a number, a sign or a blank with any bytes behind it.
-use Rattle.std.proofs.Common.{◌≡◌, ℕ, zero, suc, ◌+◌, ◌-◌, ◌*◌, ◌^◌, ◌<◌, ◌≤◌, Bool, true, false, not, cond, List, [], ◌∷◌, ◌++◌, length, take, drop, map, ℤ, pos, negsuc, refl, sym, ap, subst, ◌∙◌, arith, add-one}
+use Rattle.std.proofs.Common.{◌≡◌, ℕ, zero, suc, ◌+◌, ◌-◌, ◌^◌, ◌<◌, ◌≤◌, Bool, true, false, not, cond, List, [], ◌∷◌, ◌++◌, length, take, drop, map, ℤ, pos, negsuc, refl, sym, ap, ◌∙◌, arith, add-one}
 use Rattle.std.specs.Prelude.{IsTrue, decimal}
 use Rattle.std.specs.Fmt.{signed_decimal}
 use Rattle.std.specs.List.{take_while, prefix_len, list_all}
@@ -7,15 +7,14 @@ use Rattle.std.proofs.lemmas.Bool.{and_parts, and_from, leb-true, le-leb}
 use Rattle.std.proofs.lemmas.List.{drop-drop, take_at, drop_at}
 use Rattle.std.proofs.lemmas.List.Folds.{length-prefix_len}
 use Rattle.std.proofs.lemmas.Fmt.{digits_decimal, digits_value-decimal, decimal_nonempty}
-use Rattle.std.proofs.lemmas.Str.Parse.{IsDigitsTest, FoldsDigits, IsNumeralModel, numerals_by_fold}
+use Rattle.std.proofs.lemmas.Str.Parse.{IsDigitsTest, IsNumeralModel, numerals_by_fold}
 use lib.Signed.{mag}
-use Rattle.gm_model.specs.declared.token.Token.{Token}
 use Rattle.gm_model.specs.declared.token.TokenKind.{TokenKind}
 use Rattle.gm_model.specs.declared.token.TokenKind.TheVariants as kinds
-use Rattle.gm_model.specs.Tokens.{is_blank, is_digit, is_letter, is_name_byte, is_line_feed, is_sign, is_two_byte_sign, begins_two_byte_sign, IsLexeme, Item, Front, Gap, Lexeme, Stray, front_of, size_of, item_before, items_from}
+use Rattle.gm_model.specs.Tokens.{is_blank, is_digit, is_name_byte, is_line_feed, is_sign, is_two_byte_sign, begins_two_byte_sign, IsLexeme, Item, Front, Gap, Lexeme, Stray, front_of, size_of, item_before, items_from}
 use Rattle.gm_model.specs.Symbols.{Symbol, Word, Numeral, Sign, Gone, End, value_after, value_of, symbol_of_kind, Mark, mark_of, marks_at, symbols, symbols_of}
 use Rattle.gm_model.specs.Symbols as symbol
-use Rattle.gm_text.proofs.Fronts.{IsSized, size_of-front_of, front_of-blank, front_of-hash, front_of-letter, front_of-digit, front_of-underscore, front_of-two, front_of-sign}
+use Rattle.gm_text.proofs.Fronts.{size_of-front_of, front_of-blank, front_of-hash, front_of-letter, front_of-digit, front_of-underscore, front_of-two, front_of-sign}
 
 -- ---- the symbols of bytes, wherever the bytes stand
 

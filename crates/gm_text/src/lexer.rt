@@ -99,10 +99,8 @@ impl<'a> Lexer<'a> {
         requires within { token.now.end ≤ length self.now.text }
         requires kind { token.now.kind ≡ Number }
         requires lexeme { IsLexeme token.now.kind (bytes_of self.now.text token.now) }
-        ensures {
-            let value = value_of (bytes_of self.now.text token.now) in
-            MatchOption result (2 ^ 64 ≤ value) (λ n. n ≡ value)
-        }
+        ensures { let value = value_of (bytes_of self.now.text token.now) in
+            MatchOption result (2 ^ 64 ≤ value) (λ n. n ≡ value) }
     {
         value_of_digits(self.text(token))
     }
@@ -114,7 +112,9 @@ fn value_of_digits(digits: &[u8]) -> Option<u64>
 {
     let mut value: u64 = 0;
     for digit in digits {
-        value = value.checked_mul(10)?.checked_add(u64::from(*digit - b'0'))?;
+        value = value
+            .checked_mul(10)?
+            .checked_add(u64::from(*digit - b'0'))?;
     }
     Some(value)
 }

@@ -15,3 +15,6 @@ pub use fault::LexFault;
 pub use gm_model::{Token, TokenKind};
 pub use lexer::Lexer;
 pub use text::Text;
+
+#[cfg(test)]
+mod tests;

@@ -13,10 +13,8 @@ pub fn gap_end(text: &[u8], from: usize) -> usize
     ensures within { result ≤ length text.now }
     ensures same { tokens.items_at text.now from ≡ tokens.items_at text.now result }
     ensures gap { IsGap text.now from result }
-    ensures stops {
-        result < length text.now →
-            (tokens.is_blank (slice_index text.now result) ≡ false) × (tokens.is_hash (slice_index text.now result) ≡ false)
-    }
+    ensures stops { result < length text.now →
+        (tokens.is_blank (slice_index text.now result) ≡ false) × (tokens.is_hash (slice_index text.now result) ≡ false) }
 {
     let mut at = from;
     while at < text.len() {
@@ -42,19 +40,39 @@ pub fn token_at(text: &[u8], at: usize) -> Option<Token>
     let first = text[start];
     if is_letter(first) {
         let end = name_end(text, start + 1);
-        Some(Token { kind: TokenKind::Name, start, end })
+        Some(Token {
+            kind: TokenKind::Name,
+            start,
+            end,
+        })
     } else if is_digit(first) {
         let end = number_end(text, start + 1);
-        Some(Token { kind: TokenKind::Number, start, end })
+        Some(Token {
+            kind: TokenKind::Number,
+            start,
+            end,
+        })
     } else if first == b'_' {
         let end = start + 1;
-        Some(Token { kind: TokenKind::Gone, start, end })
+        Some(Token {
+            kind: TokenKind::Gone,
+            start,
+            end,
+        })
     } else if begins_two_byte_sign(text, start) {
         let end = start + 2;
-        Some(Token { kind: TokenKind::Sign, start, end })
+        Some(Token {
+            kind: TokenKind::Sign,
+            start,
+            end,
+        })
     } else if is_sign(first) {
         let end = start + 1;
-        Some(Token { kind: TokenKind::Sign, start, end })
+        Some(Token {
+            kind: TokenKind::Sign,
+            start,
+            end,
+        })
     } else {
         None
     }
@@ -70,9 +88,7 @@ fn begins_two_byte_sign(text: &[u8], at: usize) -> bool
 
 fn line_end(text: &[u8], from: usize) -> usize
     requires { from ≤ length text.now }
-    ensures value {
-        result ≡ from + length (take_while (λ c. not (tokens.is_line_feed c)) (drop from text.now))
-    }
+    ensures value { result ≡ from + length (take_while (λ c. not (tokens.is_line_feed c)) (drop from text.now)) }
     ensures within { result ≤ length text.now }
 {
     let mut at = from;

@@ -51,8 +51,8 @@ impl Text {
         ensures ok { OnOk result (self.new ≡ self.old ++ decimal n) }
         ensures err { OnErr result (self.new ≡ self.old) }
     {
-        let mut buffer = Buffer::new();
-        self.put(buffer.format(n).as_bytes())
+        let mut digits = Buffer::new();
+        self.put(digits.format(n).as_bytes())
     }
 
     /// Appends the number in decimal digits, behind a `-` where it is below 0.
