@@ -5,3 +5,4 @@ pub mod FirstFault
 pub mod Loop
 pub mod Ascending
 pub mod OneMap
+pub mod Again
