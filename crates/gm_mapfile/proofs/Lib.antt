@@ -1,0 +1,3 @@
+pub mod PlainOrder
+pub mod PlainLines
+pub mod PlainLaws
