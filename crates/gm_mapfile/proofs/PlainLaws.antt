@@ -1,15 +1,16 @@
 -- The laws of a map, said of the darts' names, are those said of the places where the darts stand.
-use Rattle.std.proofs.Common.{◌≡◌, ℕ, zero, suc, ◌+◌, ◌<◌, ◌≤◌, ◌⊎◌, inl, inr, List, [], ◌∷◌, length, map, get_or, eqb, cond, true, false, Option, Some, None, is_some, IsSome, Contains, IsPermutation, refl, ap, sym, ◌∙◌, subst, arith, eq-eqb, eqb-true, ne_eqb}
+use Rattle.std.proofs.Common.{◌≡◌, ℕ, zero, suc, ◌+◌, ◌<◌, ◌≤◌, ◌⊎◌, inl, inr, List, [], ◌∷◌, ◌++◌, length, map, get_or, eqb, cond, true, false, Option, Some, None, is_some, IsSome, Contains, IsPermutation, refl, ap, sym, ◌∙◌, subst, below_more, arith, eq-eqb, eqb-true, ne_eqb}
 use Rattle.std.specs.List.{find, AllByRecursion}
 use Rattle.std.specs.List.Sorted.{IsNonDecreasing, IsStrictlyIncreasing}
 use Rattle.std.proofs.lemmas.Bool.{cases_Bool}
-use Rattle.std.proofs.lemmas.List.{get_or-map, length-map, get_or_default}
+use Rattle.std.proofs.lemmas.List.{get_or-map, length-map, get_or_default, get_or_append_left, get_or_push}
 use Rattle.std.proofs.lemmas.List.Elements.{All-from_recursion}
 use Rattle.std.proofs.lemmas.List.Recursion.{found_at}
 use Rattle.std.proofs.lemmas.List.Sorted.{IsPermutation-sym, IsPermutation-trans, IsPermutation-map}
 use Rattle.gm_model.specs.GMap.{Row, IsGMap, row_of, IsLive, alpha, AreGMap}
 use Rattle.gm_model.specs.MapText.{AreShaped, names}
-use Rattle.gm_mapfile.specs.Plain.{place_along, neighbours_at, LeadsTo, IsMissing, IsMissingIn, AreLinked, AreWithin, CommutesAt, IsLawfulAt, IsMapOf}
+use Rattle.gm_mapfile.specs.declared.plain.PlainDart.{PlainDart}
+use Rattle.gm_mapfile.specs.Plain.{row_from, rows_of, place_along, neighbours_at, LeadsTo, IsMissing, IsMissingIn, AreLinked, AreWithin, CommutesAt, IsLawfulAt, IsMapOf}
 use Rattle.gm_mapfile.proofs.PlainOrder.{rising_far, rising_same, rising_from_permuted, same_from_rising}
 
 abbrev name_at : List Row → ℕ → ℕ
@@ -29,6 +30,26 @@ place_of_live (r ∷ rows) x live =
         (suc found.0, omega (arith, found.1), found.2)
     ]
 
+-- the neighbours at the place where a dart stands are its own
+pub neighbours_here : (darts : List PlainDart) (d : ℕ) (dart : PlainDart) → d < length darts → dart ≡ get_or darts d dart → neighbours_at (rows_of darts) d ≡ dart.alphas
+neighbours_here darts d dart within here =
+    get_or-map (λ (row : Row). row.alphas) (rows_of darts) d (row_from dart) [] (simp length-map within)
+    ∙ (ap (λ (row : Row). row.alphas) (get_or-map row_from darts d dart (row_from dart) within)
+    ∙ ap (λ (dart : PlainDart). dart.alphas) (sym here))
+
+-- each dart has one neighbour a label
+pub neighbours_long : (n : ℕ) (rows : List Row) → AreShaped n rows → (d : ℕ) → d < length rows → length (neighbours_at rows d) ≡ n + 1
+neighbours_long n rows shaped d within =
+    let nobody : Row = record { name = 0; alphas = [] } in
+    ap length (get_or-map (λ (row : Row). row.alphas) rows d nobody [] within) ∙ All-from_recursion (λ (row : Row). length row.alphas ≡ n + 1) rows shaped d nobody within
+
+-- one dart more is linked
+pub links_more : (ascending : List ℕ) (rows : List Row) (links : List (List ℕ)) (found : List ℕ) (k : ℕ) → length links ≡ k → ((d : ℕ) → d < k → LeadsTo ascending (neighbours_at rows d) (get_or links d [])) → LeadsTo ascending (neighbours_at rows k) found → (d : ℕ) → d < k + 1 → LeadsTo ascending (neighbours_at rows d) (get_or (links ++ found ∷ []) d [])
+links_more ascending rows links found k many before here =
+    below_more (λ d. LeadsTo ascending (neighbours_at rows d) (get_or (links ++ found ∷ []) d [])) k
+      (λ d below. let in' : d < length links = omega arith in rw (get_or_append_left links (found ∷ []) [] d) (before d below))
+      (rw (get_or_push links found [] k many) here)
+
 module _ (n : ℕ) (rows : List Row) (shaped : AreShaped n rows) (up : IsStrictlyIncreasing (names rows)) where
   row_at : (k : ℕ) → k < length rows → row_of rows (name_at rows k) ≡ Some (get_or rows k nobody)
   row_at k within =
@@ -43,10 +64,6 @@ module _ (n : ℕ) (rows : List Row) (shaped : AreShaped n rows) (up : IsStrictl
   live_at : (k : ℕ) → k < length rows → IsLive rows (name_at rows k)
   live_at k within = ap is_some (row_at k within)
 
-  neighbours_long : (k : ℕ) → k < length rows → length (neighbours_at rows k) ≡ n + 1
-  neighbours_long k within =
-      ap length (get_or-map (λ (row : Row). row.alphas) rows k nobody [] within) ∙ All-from_recursion (λ (row : Row). length row.alphas ≡ n + 1) rows shaped k nobody within
-
   alpha_at : (i k : ℕ) → i ≤ n → k < length rows → alpha rows i (name_at rows k) ≡ get_or (neighbours_at rows k) i 0
   alpha_at i k i_in within =
       let row : Row = get_or rows k nobody in
@@ -57,7 +74,7 @@ module _ (n : ℕ) (rows : List Row) (shaped : AreShaped n rows) (up : IsStrictl
   -- where some neighbour is no dart there is no map
   pub none_where_missing : IsMissingIn rows → AreGMap n rows → ⊥
   none_where_missing (d, within, (i, i_in, none)) lawful =
-      let long = neighbours_long d within in
+      let long = neighbours_long n rows shaped d within in
       let alive : IsLive rows (alpha rows i (name_at rows d)) = lawful.stays _ i (live_at d within) (omega arith) in
       let found = place_of_live rows _ alive in
       let at : alpha rows i (name_at rows d) ≡ get_or (neighbours_at rows d) i 0 = alpha_at i d (omega arith) within in
@@ -67,13 +84,13 @@ module _ (n : ℕ) (rows : List Row) (shaped : AreShaped n rows) (up : IsStrictl
     -- a step along a label is the same step from place to place
     step : (i d : ℕ) → i ≤ n → d < length rows → (place_along links i d < length rows) × (alpha rows i (name_at rows d) ≡ name_at rows (place_along links i d))
     step i d i_in within =
-        let long = neighbours_long d within in
+        let long = neighbours_long n rows shaped d within in
         let led = linked.leads d within in
         (simp length-map at (led.stays i (omega arith)), alpha_at i d i_in within ∙ sym (led.named i (omega arith)))
 
     pub linked_within : AreWithin n links
     linked_within = record {
-      long = λ d within. let long = neighbours_long d (omega (arith, linked.as_many)) in let led = (linked.leads d (omega (arith, linked.as_many))).long in omega arith;
+      long = λ d within. let long = neighbours_long n rows shaped d (omega (arith, linked.as_many)) in let led = (linked.leads d (omega (arith, linked.as_many))).long in omega arith;
       stays = λ d i within i_in. omega (arith, linked.as_many, (step i d i_in (omega (arith, linked.as_many))).0)
     }
 

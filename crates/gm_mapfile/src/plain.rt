@@ -2,9 +2,9 @@
 //!
 //! The darts are sorted by name, and each neighbour's name is turned into the place where that
 //! dart stands. The laws of a map are then tested on places alone, with one look-up a neighbour.
-ghost use Rattle.std.specs.Prelude.{◌≡◌, ℕ, [], ◌∷◌, ◌+◌, ◌^◌, ◌<◌, ◌≤◌, ◌↔◌, List, length, map, MatchOption, MatchResult, IfOk, IsOkUnless, IsTrue, IsPermutation, Contains, slice_index, slice_index_or};
+ghost use Rattle.std.specs.Prelude.{◌≡◌, ℕ, [], ◌∷◌, ◌+◌, ◌^◌, ◌<◌, ◌≤◌, ◌↔◌, List, length, map, MatchOption, MatchResult, IfOk, OnOk, IsTrue, IsPermutation, Contains, slice_index, slice_index_or};
 ghost use Rattle.std.specs.List.Sorted.{IsNonDecreasing, IsStrictlyIncreasing};
-ghost use Rattle.gm_model.specs.GMap.{Row};
+ghost use Rattle.gm_model.specs.GMap.{Row, AreGMap};
 ghost use Rattle.gm_model.specs.MapText.{AreShaped, names};
 ghost use Rattle.gm_mapfile.specs.Plain.{rows_of, AreLinesOf, IsMapOf, place_along, LeadsTo, IsMissing, IsMissingIn, AreLinked, AreWithin, IsLawfulAt, CommutesAt};
 
@@ -73,18 +73,29 @@ pub(crate) fn build(alloc: Global, dim: Dim, numbers: &[u32]) -> Result<PlainMap
     ensures not_read { (rows darts : List Row) → AreLinesOf dim rows numbers.now → result ≡ Err MapFault.NotRead → IsMapOf dim rows darts → ⊥ }
 {
     let darts = sorted_darts_in(alloc, dim, numbers)?;
-    let ascending = names_of(alloc, &darts)?;
-    if !rise(&ascending) {
-        return Err(MapFault::NotRead);
-    }
-    let links = links_of(alloc, dim, &ascending, &darts)?;
-    if !are_lawful(dim, &links) {
-        return Err(MapFault::NotRead);
-    }
+    test_laws(alloc, dim, &darts)?;
     Ok(PlainMap {
         dim,
         darts: Items::new(darts),
     })
+}
+
+/// Tests that no name stands twice or before a lower one, and that the laws of a map hold.
+fn test_laws(alloc: Global, dim: Dim, darts: &[PlainDart]) -> Result<(), MapFault>
+    requires { AreShaped dim (rows_of darts.now) }
+    ensures ascending { OnOk result (IsStrictlyIncreasing (names (rows_of darts.now))) }
+    ensures lawful { OnOk result (AreGMap dim (rows_of darts.now)) }
+    ensures not_read { result ≡ Err MapFault.NotRead → IsStrictlyIncreasing (names (rows_of darts.now)) → AreGMap dim (rows_of darts.now) → ⊥ }
+{
+    let ascending = names_of(alloc, darts)?;
+    if !rise(&ascending) {
+        return Err(MapFault::NotRead);
+    }
+    let links = links_of(alloc, dim, &ascending, darts)?;
+    if !are_lawful(dim, &links) {
+        return Err(MapFault::NotRead);
+    }
+    Ok(())
 }
 
 /// The darts of the lines, none before one of a lower name.
