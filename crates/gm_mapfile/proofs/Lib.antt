@@ -1,3 +1,4 @@
 pub mod PlainOrder
 pub mod PlainLines
 pub mod PlainLaws
+pub mod MapTest

@@ -13,21 +13,21 @@ use Rattle.gm_mapfile.specs.declared.plain.PlainDart.{PlainDart}
 use Rattle.gm_mapfile.specs.Plain.{row_from, rows_of, place_along, neighbours_at, LeadsTo, IsMissing, IsMissingIn, AreLinked, AreWithin, CommutesAt, IsLawfulAt, IsMapOf}
 use Rattle.gm_mapfile.proofs.PlainOrder.{rising_far, rising_same, rising_from_permuted, same_from_rising}
 
-abbrev name_at : List Row → ℕ → ℕ
+abbrev pub name_at : List Row → ℕ → ℕ
 name_at rows k = get_or (names rows) k 0
 
 nobody : Row
 nobody = record { name = 0; alphas = [] }
 
 -- a name that some row has is that of a place
-place_of_live : (rows : List Row) (x : ℕ) → IsLive rows x → (k : ℕ) × (k < length rows) × (name_at rows k ≡ x)
+pub place_of_live : (rows : List Row) (x : ℕ) → IsLive rows x → (k : ℕ) × (k < length rows) × (name_at rows k ≡ x)
 place_of_live [] x live = absurd (cc)
 place_of_live (r ∷ rows) x live =
     elim (cases_Bool (eqb r.name x)) [
-      inl here ↦ (zero, omega arith, eqb-true _ _ here)
-    | inr other ↦
-        let found = place_of_live rows x (rw other at live) in
-        (suc found.0, omega (arith, found.1), found.2)
+      | inl here ↦ (zero, omega arith, eqb-true _ _ here)
+      | inr other ↦
+          let found = place_of_live rows x (rw other at live) in
+          (suc found.0, omega (arith, found.1), found.2)
     ]
 
 -- the neighbours at the place where a dart stands are its own
@@ -47,19 +47,19 @@ neighbours_long n rows shaped d within =
 pub links_more : (ascending : List ℕ) (rows : List Row) (links : List (List ℕ)) (found : List ℕ) (k : ℕ) → length links ≡ k → ((d : ℕ) → d < k → LeadsTo ascending (neighbours_at rows d) (get_or links d [])) → LeadsTo ascending (neighbours_at rows k) found → (d : ℕ) → d < k + 1 → LeadsTo ascending (neighbours_at rows d) (get_or (links ++ found ∷ []) d [])
 links_more ascending rows links found k many before here =
     below_more (λ d. LeadsTo ascending (neighbours_at rows d) (get_or (links ++ found ∷ []) d [])) k
-      (λ d below. let in' : d < length links = omega arith in rw (get_or_append_left links (found ∷ []) [] d) (before d below))
-      (rw (get_or_push links found [] k many) here)
+    (λ d below. let in' : d < length links = omega arith in rw (get_or_append_left links (found ∷ []) [] d) (before d below))
+    (rw (get_or_push links found [] k many) here)
 
 module _ (n : ℕ) (rows : List Row) (shaped : AreShaped n rows) (up : IsStrictlyIncreasing (names rows)) where
   row_at : (k : ℕ) → k < length rows → row_of rows (name_at rows k) ≡ Some (get_or rows k nobody)
   row_at k within =
       let at : name_at rows k ≡ (get_or rows k nobody).name = get_or-map (λ (row : Row). row.name) rows k nobody 0 within in
       found_at (find (λ (row : Row). eqb row.name (name_at rows k))) (λ (row : Row). eqb row.name (name_at rows k)) (λ row. Some row) None refl (λ _ _. refl) rows k nobody within
-        (λ j below. ne_eqb _ _ (λ same.
-          let at_j : name_at rows j ≡ (get_or rows j nobody).name = get_or-map (λ (row : Row). row.name) rows j nobody 0 (omega arith) in
-          let lt : name_at rows j < name_at rows k = rising_far (names rows) up j k below (simp length-map within) in
-          omega (arith, at_j, same)))
-        (eq-eqb _ _ (sym at))
+      (λ j below. ne_eqb _ _ (λ same.
+      let at_j : name_at rows j ≡ (get_or rows j nobody).name = get_or-map (λ (row : Row). row.name) rows j nobody 0 (omega arith) in
+      let lt : name_at rows j < name_at rows k = rising_far (names rows) up j k below (simp length-map within) in
+      omega (arith, at_j, same)))
+      (eq-eqb _ _ (sym at))
 
   live_at : (k : ℕ) → k < length rows → IsLive rows (name_at rows k)
   live_at k within = ap is_some (row_at k within)
@@ -91,7 +91,7 @@ module _ (n : ℕ) (rows : List Row) (shaped : AreShaped n rows) (up : IsStrictl
     pub linked_within : AreWithin n links
     linked_within = record {
       long = λ d within. let long = neighbours_long n rows shaped d (omega (arith, linked.as_many)) in let led = (linked.leads d (omega (arith, linked.as_many))).long in omega arith;
-      stays = λ d i within i_in. omega (arith, linked.as_many, (step i d i_in (omega (arith, linked.as_many))).0)
+      stays = λ d i within i_in. omega (arith, linked.as_many, (step i d i_in (omega (arith, linked.as_many))).0);
     }
 
     two_steps : (i j d : ℕ) → i ≤ n → j ≤ n → d < length rows → (place_along links i (place_along links j d) < length rows) × (alpha rows i (alpha rows j (name_at rows d)) ≡ name_at rows (place_along links i (place_along links j d)))
@@ -106,32 +106,32 @@ module _ (n : ℕ) (rows : List Row) (shaped : AreShaped n rows) (up : IsStrictl
     pub map_from_places : ((d : ℕ) → d < length links → IsLawfulAt n links d) → AreGMap n rows
     map_from_places laws = record {
       stays = λ x i live i_in.
-        let here = place_of_live rows x live in
-        let next = step i here.0 i_in here.1 in
-        subst (λ y. IsLive rows (alpha rows i y)) here.2 (rw next.1 (live_at _ next.0));
+          let here = place_of_live rows x live in
+          let next = step i here.0 i_in here.1 in
+          subst (λ y. IsLive rows (alpha rows i y)) here.2 (rw next.1 (live_at _ next.0));
       back = λ x i live i_in.
-        let here = place_of_live rows x live in
-        let there = two_steps i i here.0 i_in i_in here.1 in
-        let law = (laws here.0 (omega (arith, linked.as_many, here.1))).back i i_in in
-        subst (λ y. alpha rows i (alpha rows i y) ≡ y) here.2 (there.1 ∙ ap (name_at rows) law);
+          let here = place_of_live rows x live in
+          let there = two_steps i i here.0 i_in i_in here.1 in
+          let law = (laws here.0 (omega (arith, linked.as_many, here.1))).back i i_in in
+          subst (λ y. alpha rows i (alpha rows i y) ≡ y) here.2 (there.1 ∙ ap (name_at rows) law);
       commutes = λ x i j live apart j_in.
-        let here = place_of_live rows x live in
-        let i_in : i ≤ n = omega arith in
-        let one = two_steps i j here.0 i_in j_in here.1 in
-        let other = two_steps j i here.0 j_in i_in here.1 in
-        let law = (laws here.0 (omega (arith, linked.as_many, here.1))).commutes i i_in j apart j_in in
-        subst (λ y. alpha rows i (alpha rows j y) ≡ alpha rows j (alpha rows i y)) here.2 (one.1 ∙ (ap (name_at rows) law ∙ sym other.1))
+          let here = place_of_live rows x live in
+          let i_in : i ≤ n = omega arith in
+          let one = two_steps i j here.0 i_in j_in here.1 in
+          let other = two_steps j i here.0 j_in i_in here.1 in
+          let law = (laws here.0 (omega (arith, linked.as_many, here.1))).commutes i i_in j apart j_in in
+          subst (λ y. alpha rows i (alpha rows j y) ≡ alpha rows j (alpha rows i y)) here.2 (one.1 ∙ (ap (name_at rows) law ∙ sym other.1));
     }
 
     pub places_from_map : AreGMap n rows → (d : ℕ) → d < length links → IsLawfulAt n links d
     places_from_map lawful d in_links = let within : d < length rows = omega (arith, linked.as_many) in record {
       back = λ i i_in.
-        let there = two_steps i i d i_in i_in within in
-        same_place _ d there.0 within (sym there.1 ∙ lawful.back _ i (live_at d within) i_in);
+          let there = two_steps i i d i_in i_in within in
+          same_place _ d there.0 within (sym there.1 ∙ lawful.back _ i (live_at d within) i_in);
       commutes = λ i i_in j apart j_in.
-        let one = two_steps i j d i_in j_in within in
-        let other = two_steps j i d j_in i_in within in
-        same_place _ _ one.0 other.0 (sym one.1 ∙ (lawful.commutes _ i j (live_at d within) apart j_in ∙ other.1))
+          let one = two_steps i j d i_in j_in within in
+          let other = two_steps j i d j_in i_in within in
+          same_place _ _ one.0 other.0 (sym one.1 ∙ (lawful.commutes _ i j (live_at d within) apart j_in ∙ other.1));
     }
 
 -- ---- the sorted rows against any darts that are a map of the written ones

@@ -157,7 +157,12 @@ fn rise(numbers: &[u32]) -> bool
 }
 
 /// The links of each dart; `NotRead` where a neighbour is no dart.
-fn links_of(alloc: Global, dim: Dim, ascending: &[u32], darts: &[PlainDart]) -> Result<Vec<Links>, MapFault>
+fn links_of(
+    alloc: Global,
+    dim: Dim,
+    ascending: &[u32],
+    darts: &[PlainDart],
+) -> Result<Vec<Links>, MapFault>
     requires rising { IsStrictlyIncreasing ascending.now }
     requires named { ascending.now ≡ names (rows_of darts.now) }
     requires shaped { AreShaped dim (rows_of darts.now) }
@@ -251,4 +256,72 @@ fn along(links: &[Links], label: usize, place: usize) -> usize
     ensures { result ≡ place_along links.now label place }
 {
     links[place][label] as usize
+}
+
+#[cfg(test)]
+mod tests {
+    use super::*;
+    use std::test::Fail;
+
+    const SQUARE: [u32; 32] = [
+        2, 3, 1, 2, 7, 6, 0, 7, 0, 1, 7, 0, 4, 5, 3, 4, 1, 0, 2, 1, 6, 7, 5, 6, 3, 2, 4, 3, 5, 4,
+        6, 5,
+    ];
+
+    #[test]
+    fn sorts_the_darts_of_a_square(rt: HostRuntime) -> Result<(), Fail> {
+        let dim = Dim::new(2).ok_or("no dimension")?;
+        let plain = build(rt.alloc(), dim, &SQUARE)?;
+        let wanted: [[u32; 3]; 8] = [
+            [1, 7, 0],
+            [0, 2, 1],
+            [3, 1, 2],
+            [2, 4, 3],
+            [5, 3, 4],
+            [4, 6, 5],
+            [7, 5, 6],
+            [6, 0, 7],
+        ];
+        assert_eq!(rt; plain.dim, dim);
+        assert_eq!(rt; plain.darts.as_slice().len(), wanted.len());
+        for (place, (dart, alphas)) in plain
+            .darts
+            .as_slice()
+            .iter()
+            .zip(wanted.iter())
+            .enumerate()
+        {
+            assert_eq!(rt; dart.name as usize, place);
+            assert_eq!(rt; dart.alphas.as_slice(), alphas.as_slice());
+        }
+        Ok(())
+    }
+
+    #[test]
+    fn reads_no_map(rt: HostRuntime) -> Result<(), Fail> {
+        let cases: [(&str, u8, &[u32]); 5] = [
+            ("a name twice", 1, &[0, 0, 0, 0, 0, 0]),
+            ("no such neighbour", 1, &[0, 0, 1]),
+            ("no way back", 1, &[0, 1, 0, 1, 1, 1]),
+            (
+                "labels 0 and 2 do not commute",
+                2,
+                &[0, 1, 0, 2, 1, 0, 1, 1, 2, 2, 2, 0],
+            ),
+            (
+                "labels 1 and 3 do not commute",
+                3,
+                &[0, 0, 1, 0, 2, 1, 1, 0, 1, 1, 2, 2, 2, 2, 0],
+            ),
+        ];
+        for (what, top, numbers) in cases {
+            let dim = Dim::new(top).ok_or("no dimension")?;
+            let Err(fault) = build(rt.alloc(), dim, numbers) else {
+                return Err("a map".into());
+            };
+            let said = format!(in rt.alloc(); "{fault}")?;
+            assert_eq!(rt; said.as_str(), "the text stands for no map", "{what}");
+        }
+        Ok(())
+    }
 }

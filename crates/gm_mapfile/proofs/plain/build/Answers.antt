@@ -17,5 +17,5 @@ returns-in_err-test_laws-clause-not_read c rows darts lines is built =
     let lent = sym c.deref.ensures.value in
     let p = err_from_is_err_and c.from_residual-in_err-test_laws.result c.from_residual-in_err-test_laws.ensures.1 in
     c.in_err-test_laws.ensures.not_read (cc (p.1, p.2, is))
-      (subst (λ ds. IsStrictlyIncreasing (names (rows_of ds))) lent up)
-      (subst (λ ds. AreGMap c.args.dim (rows_of ds)) lent lawful)
+    (subst (λ ds. IsStrictlyIncreasing (names (rows_of ds))) lent up)
+    (subst (λ ds. AreGMap c.args.dim (rows_of ds)) lent lawful)

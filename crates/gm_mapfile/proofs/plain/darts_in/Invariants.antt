@@ -7,7 +7,7 @@ use Rattle.gm_mapfile.proofs.plain.darts_in.Given as goal
 abbrev pub invariant-loop-rest : goal.invariant-loop-rest
 invariant-loop-rest l = record {
   shaped : AreShaped l.fn.dim (rows_of l.darts.items);
-  read : l.fn.numbers ≡ flat_map line_in (rows_of l.darts.items) ++ l.rest
+  read : l.fn.numbers ≡ flat_map line_in (rows_of l.darts.items) ++ l.rest;
 }
 
 abbrev pub decreases-loop-rest : goal.decreases-loop-rest

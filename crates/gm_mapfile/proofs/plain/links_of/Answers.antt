@@ -31,5 +31,5 @@ loop-dart-preserved c =
     let pushed = c.in_ok-push.ensures.items in
     record {
       as_many = ap length pushed ∙ (length_push c.loop-dart.links.items c.in-Some.found ∙ ap (λ n. n + 1) before.as_many);
-      leads = rw pushed (links_more c.args.ascending.now (rows_of darts) c.loop-dart.links.items c.in-Some.found at before.as_many before.leads here)
+      leads = rw pushed (links_more c.args.ascending.now (rows_of darts) c.loop-dart.links.items c.in-Some.found at before.as_many before.leads here);
     }

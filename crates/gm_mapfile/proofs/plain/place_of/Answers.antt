@@ -19,6 +19,6 @@ returns-in-Err c (k, within, at) =
     let found = searched xs c.args.name (Err c.in-Err.field-0) c.in-Err.ensures.position (rising_le xs c.requires) in
     let here = get_or_default xs k 0 c.args.name within in
     elim (cases_lt k c.in-Err.field-0) [
-      inl below ↦ omega (arith, found.1 k below, at, here)
-    | inr above ↦ omega (arith, found.2 k above within, at, here)
+      | inl below ↦ omega (arith, found.1 k below, at, here)
+      | inr above ↦ omega (arith, found.2 k above within, at, here)
     ]

@@ -15,4 +15,4 @@ returns-clause-sorted c =
 pub returns-clause-same : goal.returns-clause-same
 returns-clause-same c rows lines =
     subst (λ written. IsPermutation written (rows_of c.sort_unstable_by_key.new.self.items)) (c.in_ok-darts.ensures.lines rows lines)
-      (IsPermutation-map row_from _ _ c.sort_unstable_by_key.ensures.permutation)
+    (IsPermutation-map row_from _ _ c.sort_unstable_by_key.ensures.permutation)

@@ -14,7 +14,7 @@ pub are_lawful-requires : goal.are_lawful-requires
 are_lawful-requires c =
     let up = subst IsStrictlyIncreasing (c.deref.ensures.value ∙ c.in_ok-ascending.ensures) (c.rise.ensures.0 c.if-not-rise.false) in
     subst (AreWithin c.args.dim) (sym c.deref-3.ensures.value)
-      (linked_within c.args.dim (rows_of c.args.darts.now) c.requires up c.in_ok-links.links.items c.in_ok-links.ensures.linked)
+    (linked_within c.args.dim (rows_of c.args.darts.now) c.requires up c.in_ok-links.links.items c.in_ok-links.ensures.linked)
 
 pub returns-then-not-are_lawful-clause-not_read : goal.returns-then-not-are_lawful-clause-not_read
 returns-then-not-are_lawful-clause-not_read c is up lawful =
