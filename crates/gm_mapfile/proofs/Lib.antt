@@ -1,3 +1,7 @@
+pub mod PlainLines
+pub mod PlainOrder
+pub mod PlainLaws
+pub mod MapTest
 pub mod Plan
 pub mod Rows
 pub mod Sentence

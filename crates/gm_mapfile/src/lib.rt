@@ -1,9 +1,9 @@
-//! The text of a map: read into its darts, and printed again.
+//! Maps without embeddings: their texts, read and printed.
 #![tactic(auto)]
 
 mod plain;
 mod printing;
 mod reading;
 
-pub use plain::{PlainDart, PlainMap};
+pub use plain::{MapFault, PlainDart, PlainMap};
 pub use printing::print_map;
