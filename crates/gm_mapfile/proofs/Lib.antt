@@ -10,3 +10,5 @@ pub mod Loop
 pub mod Ascending
 pub mod OneMap
 pub mod Again
+pub mod NoMap
+pub mod Worked

@@ -3,6 +3,8 @@ use Rattle.std.specs.Prelude.{◌≡◌, ℕ, List, ◌∷◌}
 use Rattle.std.specs.List.{flat_map}
 use Rattle.gm_model.specs.GMap.{Row}
 use Rattle.gm_model.specs.MapText.{IsListed, IsTextFault, IsLimitFault}
+use Rattle.gm_mapfile.specs.declared.plain.MapFault.{MapFault}
+use Rattle.gm_mapfile.specs.declared.plain.MapFault.TheVariants as answers
 use Rattle.gm_mapfile.specs.declared.reading.TextFault.{TextFault}
 use Rattle.gm_mapfile.specs.declared.reading.TextFault.TheVariants as faults
 
@@ -19,3 +21,9 @@ abbrev pub IsFirstFault : List ℕ → TextFault → Type 0
 IsFirstFault text (faults.Text place) = IsTextFault text place
 IsFirstFault text (faults.Limit what place) = IsLimitFault text what place
 IsFirstFault text faults.OutOfMemory = Unit {0}
+
+-- the same, where it is not asked which fault it is
+abbrev pub map_fault_of : TextFault → MapFault
+map_fault_of (faults.Text place) = answers.NotRead
+map_fault_of (faults.Limit what place) = answers.NotRead
+map_fault_of faults.OutOfMemory = answers.OutOfMemory

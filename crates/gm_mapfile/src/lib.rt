@@ -7,3 +7,4 @@ mod reading;
 
 pub use plain::{MapFault, PlainDart, PlainMap};
 pub use printing::print_map;
+pub use reading::read_map;

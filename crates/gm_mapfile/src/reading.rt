@@ -1,10 +1,15 @@
 //! The text of a map, read from left to right up to its first fault.
+//!
+//! `read_text` knows the grammar and its limits alone. Whether the darts that it lists are a map
+//! is tested afterwards.
 ghost use Rattle.std.specs.Prelude.{◌≡◌, ℕ, ◌+◌, ◌*◌, ◌<◌, ◌≤◌, [], length, IfOk, IfErr, MatchResult};
-ghost use Rattle.gm_model.specs.MapText.{Dimension, Count, DartName};
+ghost use Rattle.gm_model.specs.MapText.{Dimension, Count, DartName, MapText, StandsForNoMap};
 ghost use Rattle.gm_model.specs.Symbols.{marks_of};
 ghost use Rattle.gm_mapfile.specs.Draft.{IsDraft, IsFirstFault};
+ghost use Rattle.gm_mapfile.specs.Plain.{rows_of};
 ghost use Rattle.gm_mapfile.specs.Reading.{Gives, IsNext, HasNoToken, marks_left, TheWord, TheNumber, Any, wanted_at, number_at, numbers_at, ended_at, draft_of};
 
+use crate::plain::{build, MapFault, PlainMap};
 use gm_model::{Dim, LimitKind};
 use gm_text::{Lexer, Token, TokenKind};
 use std::alloc::{AllocError, AllocFailed, Global};
@@ -44,6 +49,19 @@ impl<T: Drop> From<AllocFailed<T>> for TextFault {
 
     fn from(_error: AllocFailed<T>) -> TextFault {
         TextFault::OutOfMemory
+    }
+}
+
+impl From<TextFault> for MapFault {
+    ghost use Rattle.gm_mapfile.specs.Draft.{map_fault_of};
+
+    ghost from_gives = { λ fault given. given ≡ map_fault_of fault };
+
+    fn from(fault: TextFault) -> MapFault {
+        match fault {
+            TextFault::Text { .. } | TextFault::Limit { .. } => MapFault::NotRead,
+            TextFault::OutOfMemory => MapFault::OutOfMemory,
+        }
     }
 }
 
@@ -183,4 +201,14 @@ pub(crate) fn read_text(alloc: Global, bytes: &[u8]) -> Result<Draft, TextFault>
     ensures fault { IfErr result (IsFirstFault bytes.now) }
 {
     read_all(alloc, bytes)
+}
+
+/// The map that the text stands for. `NotRead` says that it stands for no map without embeddings
+/// within the limits.
+pub fn read_map(alloc: Global, bytes: &[u8]) -> Result<PlainMap, MapFault>
+    ensures map { IfOk result (λ map. MapText bytes.now map.dim (rows_of map.darts)) }
+    ensures not_read { result ≡ Err MapFault.NotRead → StandsForNoMap bytes.now }
+{
+    let draft = read_text(alloc, bytes)?;
+    build(alloc, draft.dim, &draft.numbers)
 }
