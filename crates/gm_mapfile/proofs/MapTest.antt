@@ -63,7 +63,7 @@ module _ (n : ℕ) (rows : List Row) (passes : IsTrue (is_gmap n rows)) where
   }
 
 -- a square by itself: eight darts, two a side, its sides free
-abbrev square : List Row
+abbrev pub square : List Row
 square =
     record { name = 0; alphas = 1 ∷ 7 ∷ 0 ∷ [] } ∷ record { name = 1; alphas = 0 ∷ 2 ∷ 1 ∷ [] }
     ∷ record { name = 2; alphas = 3 ∷ 1 ∷ 2 ∷ [] } ∷ record { name = 3; alphas = 2 ∷ 4 ∷ 3 ∷ [] }
