@@ -42,7 +42,7 @@ tail_symbols (a ∷ alphas) rest small =
 line_symbols : (row : Row) (rest : List ℕ) → IsSmall row → symbols_from (line_of row ++ rest) ≡ symbols_in (spelling_of_row row) ++ symbols_from rest
 line_symbols row rest small =
     let regrouped : line_of row ++ rest ≡ decimal row.name ++ (tail_of row.alphas ++ (10 ∷ rest)) =
-        append_assoc (decimal row.name ++ tail_of row.alphas) (10 ∷ []) rest ∙ append_assoc (decimal row.name) (tail_of row.alphas) (10 ∷ rest) in
+    append_assoc (decimal row.name ++ tail_of row.alphas) (10 ∷ []) rest ∙ append_assoc (decimal row.name) (tail_of row.alphas) (10 ∷ rest) in
     ap symbols_from regrouped
     ∙ symbols_from-decimal row.name (tail_of row.alphas ++ (10 ∷ rest)) (omega (arith, small.0)) (tail_stops row.alphas rest)
     ∙ ap (λ (s : List Symbol). Numeral row.name ∷ s) (tail_symbols row.alphas rest small.1)
@@ -84,12 +84,12 @@ canonical_symbols n rows limits =
     ap symbols_from regrouped
     ∙ header_symbols (decimal n ++ (codes "\ndarts " ++ (decimal (length rows) ++ behind)))
     ∙ ap (λ (s : List Symbol). Word (codes "gmap") ∷ Numeral 1 ∷ Word (codes "dim") ∷ s)
-        (symbols_from-decimal n (codes "\ndarts " ++ (decimal (length rows) ++ behind)) (omega (arith, limits.high)) refl
-        ∙ ap (λ (s : List Symbol). Numeral n ∷ s)
-            (darts_symbols (decimal (length rows) ++ behind)
-            ∙ ap (λ (s : List Symbol). Word (codes "darts") ∷ s)
-                (symbols_from-decimal (length rows) behind (omega (arith, limits.count)) refl
-                ∙ ap (λ (s : List Symbol). Numeral (length rows) ∷ s) (symbols_from-blank 10 (flat_map line_of rows) refl ∙ lines_symbols rows limits.small))))
+    (symbols_from-decimal n (codes "\ndarts " ++ (decimal (length rows) ++ behind)) (omega (arith, limits.high)) refl
+    ∙ ap (λ (s : List Symbol). Numeral n ∷ s)
+    (darts_symbols (decimal (length rows) ++ behind)
+    ∙ ap (λ (s : List Symbol). Word (codes "darts") ∷ s)
+    (symbols_from-decimal (length rows) behind (omega (arith, limits.count)) refl
+    ∙ ap (λ (s : List Symbol). Numeral (length rows) ∷ s) (symbols_from-blank 10 (flat_map line_of rows) refl ∙ lines_symbols rows limits.small))))
 
 -- ---- no limit is passed
 

@@ -249,8 +249,8 @@ ends_is (Need want next) (first ∷ before) mark after (part ∷ parts) rest spe
     let tail : symbols before ≡ symbols_in parts = cc in
     let front = at_front want next first part (parts ++ rest) head begins within.0 in
     at_taken want next first (before ++ mark ∷ after) (Err (Ends mark.place)) front.is front.limit
-        (ends_is (next (value_in first.symbol)) before mark after parts rest tail front.later within.1
-            (λ more same goes. ends (part_of want first.symbol ∷ more) (ap (λ (s : List Symbol). first.symbol ∷ s) same) (goes.0, (front.is, refl, goes.1))))
+    (ends_is (next (value_in first.symbol)) before mark after parts rest tail front.later within.1
+    (λ more same goes. ends (part_of want first.symbol ∷ more) (ap (λ (s : List Symbol). first.symbol ∷ s) same) (goes.0, (front.is, refl, goes.1))))
 
 passes_is : (plan : Plan) (before : List Mark) (mark : Mark) (after : List Mark) (parts : List (Part Role)) (part : Part Role) (rest : List (Part Role)) (what : LimitKind) → symbols before ≡ symbols_in parts → mark.symbol ≡ part.symbol
     → Spells plan ((parts ++ part ∷ []) ++ rest) → IsWithin (Spells plan) limit_of parts → limit_of part.role part.symbol ≡ Some what → run plan (before ++ mark ∷ after) ≡ Err (Passes what mark.place)
@@ -276,7 +276,7 @@ passes_is (Need want next) (first ∷ before) mark after (second ∷ parts) part
     let tail : symbols before ≡ symbols_in parts = cc in
     let front = at_front want next first second ((parts ++ part ∷ []) ++ rest) head begins within.0 in
     at_taken want next first (before ++ mark ∷ after) (Err (Passes what mark.place)) front.is front.limit
-        (passes_is (next (value_in first.symbol)) before mark after parts part rest what tail read front.later within.1 passes)
+    (passes_is (next (value_in first.symbol)) before mark after parts part rest what tail read front.later within.1 passes)
 
 pub run_is_only : (plan : Plan) (marks : List Mark) (read : Result (List (Part Role)) Stop) → IsRight plan marks read → (read ≡ run plan marks) ⊎ (read ≡ Err Lost)
 run_is_only plan marks (Ok parts) right = inl (sym (reading_is plan marks parts right.spelled right.sentence right.within))

@@ -52,8 +52,8 @@ same_rows n (row ∷ rows) (first ∷ others) shaped other same =
     let name : row.name ≡ first.name = cc in
     let tail : row.alphas ++ numbers_of rows ≡ first.alphas ++ numbers_of others = cc in
     let alphas : row.alphas ≡ first.alphas =
-        sym (take_at row.alphas (numbers_of rows) (n + 1) shaped.0) ∙ ap (λ (ns : List ℕ). take (n + 1) ns) tail ∙ take_at first.alphas (numbers_of others) (n + 1) other.0 in
+    sym (take_at row.alphas (numbers_of rows) (n + 1) shaped.0) ∙ ap (λ (ns : List ℕ). take (n + 1) ns) tail ∙ take_at first.alphas (numbers_of others) (n + 1) other.0 in
     let later : numbers_of rows ≡ numbers_of others =
-        sym (drop_at row.alphas (numbers_of rows) (n + 1) shaped.0) ∙ ap (λ (ns : List ℕ). drop (n + 1) ns) tail ∙ drop_at first.alphas (numbers_of others) (n + 1) other.0 in
+    sym (drop_at row.alphas (numbers_of rows) (n + 1) shaped.0) ∙ ap (λ (ns : List ℕ). drop (n + 1) ns) tail ∙ drop_at first.alphas (numbers_of others) (n + 1) other.0 in
     let here : row ≡ first = same_row row first name alphas in
     rw (here, same_rows n rows others shaped.1 other.1 later) refl

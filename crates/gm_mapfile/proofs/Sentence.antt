@@ -77,9 +77,9 @@ plan_of_sentence parts sentence =
     let rows = sentence.1 in
     let spelled = numbers_spelled DartName (numbers_of rows) Finish (the_end ∷ []) refl in
     let lines_spelled : Spells (lines n (length rows)) (map (number DartName) (numbers_of rows) ++ the_end ∷ []) =
-        subst (λ (k : ℕ). Spells (numbers DartName k Finish) (map (number DartName) (numbers_of rows) ++ the_end ∷ [])) (length-numbers_of n rows sentence.2) spelled in
+    subst (λ (k : ℕ). Spells (numbers DartName k Finish) (map (number DartName) (numbers_of rows) ++ the_end ∷ [])) (length-numbers_of n rows sentence.2) spelled in
     let tail : Spells (lines n (length rows)) (flat_map spelling_of_row rows ++ the_end ∷ []) =
-        subst (λ (ps : List (Part Role)). Spells (lines n (length rows)) (ps ++ the_end ∷ [])) (sym (spelling_of_numbers rows)) lines_spelled in
+    subst (λ (ps : List (Part Role)). Spells (lines n (length rows)) (ps ++ the_end ∷ [])) (sym (spelling_of_numbers rows)) lines_spelled in
     subst (Spells map_plan) (sym sentence.3) (refl, refl, (refl, refl, (refl, refl, (refl, refl, (refl, refl, (refl, refl, tail))))))
 
 -- ---- what the plan spells is a sentence
