@@ -237,14 +237,18 @@ listed_as text n m rows parts read same shaped dimension =
     let listed : IsListed text m rows = record { shaped = shaped; read = subst (IsReadAs IsSentence limit_of (marks_of text)) same (read_as_sentence (marks_of text) parts read) } in
     subst (λ (k : ℕ). IsListed text k rows) dimension listed
 
+abbrev pair_of : ℕ → List ℕ → ℕ × List ℕ
+pair_of n ns = (n, ns)
+
 -- from the parts that were read
-drafted : (text : List ℕ) (n : ℕ) (ns : List ℕ) (a b c d e f : Part Role) (parts : List (Part Role)) → run map_plan (marks_of text) ≡ Ok (a ∷ b ∷ c ∷ d ∷ e ∷ f ∷ (parts ++ the_end ∷ [])) → value_in d.symbol ≡ n → values parts ≡ ns → IsDraft text n ns
-drafted text n ns a b c d e f parts goes top numbers =
+drafted : (text : List ℕ) (n m : ℕ) (ns ms : List ℕ) (a b c d e f : Part Role) (parts : List (Part Role)) → run map_plan (marks_of text) ≡ Ok (a ∷ b ∷ c ∷ d ∷ e ∷ f ∷ (parts ++ the_end ∷ [])) → value_in d.symbol ≡ m → values parts ≡ ms
+    → pair_of m ms ≡ (n, ns) → IsDraft text n ns
+drafted text n m ns ms a b c d e f parts goes top numbers same =
     let whole : List (Part Role) = a ∷ b ∷ c ∷ d ∷ e ∷ f ∷ (parts ++ the_end ∷ []) in
     let read : IsReadAs (Spells map_plan) limit_of (marks_of text) whole = subst (IsRight map_plan (marks_of text)) goes (run_is_right map_plan (marks_of text)) in
     let sentence = sentence_of_plan whole read.sentence in
     let is = of_spelling a b c d e f parts sentence.0 sentence.1 sentence.3 in
-    (sentence.1, listed_as text n sentence.0 sentence.1 whole read sentence.3 sentence.2 (sym is.0 ∙ top), sym numbers ∙ is.1)
+    (sentence.1, listed_as text n sentence.0 sentence.1 whole read sentence.3 sentence.2 (sym is.0 ∙ top ∙ ap (λ (x : ℕ × List ℕ). x.0) same), ap (λ (x : ℕ × List ℕ). x.1) (sym same) ∙ sym numbers ∙ is.1)
 
 pub draft_is : (text : List ℕ) (n : ℕ) (ns : List ℕ) → draft_of (marks_of text) ≡ Ok (n, ns) → IsDraft text n ns
 unfolding draft_of
@@ -257,10 +261,9 @@ draft_is text n ns e =
     let count = read_step (Any Count) (lines top.0.0) darts.0.1 (after_count top.0.0) (n, ns) darts.2 in
     let found = read_numbers DartName (count.0.0 * (top.0.0 + 2)) Finish count.0.1 (after_numbers top.0.0) (n, ns) count.2 in
     let end = read_end found.0.1 (top.0.0, found.0.0) (n, ns) found.2 in
-    drafted text n ns format.1.part version.1.part dim.1.part top.1.part darts.1.part count.1.part found.1.parts
+    drafted text n top.0.0 ns found.0.0 format.1.part version.1.part dim.1.part top.1.part darts.1.part count.1.part found.1.parts
         (format.1.goes _ (version.1.goes _ (dim.1.goes _ (top.1.goes _ (darts.1.goes _ (count.1.goes _ (found.1.goes (the_end ∷ []) end.0)))))))
-        (top.1.value ∙ ap (λ (x : ℕ × List ℕ). x.0) end.1)
-        (found.1.values ∙ ap (λ (x : ℕ × List ℕ). x.1) end.1)
+        top.1.value found.1.values end.1
 
 -- ---- the same of what the code answers
 
