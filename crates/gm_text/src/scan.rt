@@ -36,46 +36,25 @@ pub fn token_at(text: &[u8], at: usize) -> Option<Token>
     requires no_comment { tokens.is_hash (slice_index text.now at) ≡ false }
     ensures { MatchOption result (front_at text.now at ≡ tokens.Stray) (IsTokenAt text.now at) }
 {
-    let start = at;
-    let first = text[start];
-    if is_letter(first) {
-        let end = name_end(text, start + 1);
-        Some(Token {
-            kind: TokenKind::Name,
-            start,
-            end,
-        })
+    let first = text[at];
+    let (kind, end) = if is_letter(first) {
+        (TokenKind::Name, name_end(text, at + 1))
     } else if is_digit(first) {
-        let end = number_end(text, start + 1);
-        Some(Token {
-            kind: TokenKind::Number,
-            start,
-            end,
-        })
+        (TokenKind::Number, number_end(text, at + 1))
     } else if first == b'_' {
-        let end = start + 1;
-        Some(Token {
-            kind: TokenKind::Gone,
-            start,
-            end,
-        })
-    } else if begins_two_byte_sign(text, start) {
-        let end = start + 2;
-        Some(Token {
-            kind: TokenKind::Sign,
-            start,
-            end,
-        })
+        (TokenKind::Gone, at + 1)
+    } else if begins_two_byte_sign(text, at) {
+        (TokenKind::Sign, at + 2)
     } else if is_sign(first) {
-        let end = start + 1;
-        Some(Token {
-            kind: TokenKind::Sign,
-            start,
-            end,
-        })
+        (TokenKind::Sign, at + 1)
     } else {
-        None
-    }
+        return None;
+    };
+    Some(Token {
+        kind,
+        start: at,
+        end,
+    })
 }
 
 fn begins_two_byte_sign(text: &[u8], at: usize) -> bool

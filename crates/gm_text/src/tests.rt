@@ -79,7 +79,7 @@ fn bytes_and_values(rt: HostRuntime) {
 #[test]
 fn text_grows(rt: HostRuntime) -> Result<(), Fail> {
     let mut text = Text::new(rt.alloc());
-    assert_eq!(rt; text.len(), 0);
+    assert!(rt; text.is_empty());
     let written = text.put(b"a ").is_ok()
         && text.number(0).is_ok()
         && text.put(b" ").is_ok()
@@ -90,6 +90,7 @@ fn text_grows(rt: HostRuntime) -> Result<(), Fail> {
         && text.signed(7).is_ok();
     assert!(rt; written);
     assert_eq!(rt; text.len(), 48);
+    assert!(rt; !text.is_empty());
     let bytes = text.into_bytes();
     assert_eq!(rt;
         bytes.as_slice(),
