@@ -115,7 +115,7 @@ fn darts_in(alloc: Global, dim: Dim, numbers: &[u32]) -> Result<Vec<PlainDart>, 
     ensures lines { (rows : List Row) → AreLinesOf dim rows numbers.now → IfOk result (λ darts. rows_of darts.items ≡ rows) }
 {
     let labels = dim.top() as usize + 1;
-    let mut darts = Vec::new(alloc);
+    let mut darts = Vec::with_capacity(alloc, numbers.len() / (labels + 1))?;
     let mut rest = numbers;
     while rest.len() > labels {
         let (line, after) = rest.split_at(labels + 1);
