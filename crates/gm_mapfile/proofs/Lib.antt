@@ -2,3 +2,4 @@ pub mod PlainOrder
 pub mod PlainLines
 pub mod PlainLaws
 pub mod MapTest
+pub mod PlainText
