@@ -216,17 +216,17 @@ read_end marks x y e = go (ended_at marks) refl
     go (Err other) is = let same : Err other ≡ Ok y = rw is at e in absurd cc
 
 -- the values of parts, and what they are in a sentence
-abbrev pub values : List (Part Role) → List ℕ
+abbrev values : List (Part Role) → List ℕ
 values parts = map (λ (part : Part Role). value_in part.symbol) parts
 
 values_of_numbers : (role : Role) (ns : List ℕ) → values (map (number role) ns) ≡ ns
 values_of_numbers role [] = refl
 values_of_numbers role (n ∷ ns) = ap (λ (ms : List ℕ). n ∷ ms) (values_of_numbers role ns)
 
-pub values_of_rows : (rows : List Row) → values (flat_map spelling_of_row rows) ≡ numbers_of rows
+values_of_rows : (rows : List Row) → values (flat_map spelling_of_row rows) ≡ numbers_of rows
 values_of_rows rows = ap values (spelling_of_numbers rows) ∙ values_of_numbers DartName (numbers_of rows)
 
-pub of_spelling : (a b c d e f : Part Role) (parts : List (Part Role)) (n : ℕ) (rows : List Row) → a ∷ b ∷ c ∷ d ∷ e ∷ f ∷ (parts ++ the_end ∷ []) ≡ spelling n rows → (value_in d.symbol ≡ n) × (values parts ≡ numbers_of rows)
+of_spelling : (a b c d e f : Part Role) (parts : List (Part Role)) (n : ℕ) (rows : List Row) → a ∷ b ∷ c ∷ d ∷ e ∷ f ∷ (parts ++ the_end ∷ []) ≡ spelling n rows → (value_in d.symbol ≡ n) × (values parts ≡ numbers_of rows)
 of_spelling a b c d e f parts n rows same =
     let top : d ≡ number Dimension n = ap (λ (ps : List (Part Role)). get_or ps 3 the_end) same in
     let tail : parts ++ the_end ∷ [] ≡ flat_map spelling_of_row rows ++ the_end ∷ [] = ap (λ (ps : List (Part Role)). drop 6 ps) same in
