@@ -1,5 +1,5 @@
 -- What is printed is read again: the canonical text of a map stands for it.
-use Rattle.std.proofs.Common.{◌≡◌, ℕ, ◌+◌, ◌^◌, ◌<◌, ◌≤◌, Bool, true, false, ◌||◌, List, [], ◌∷◌, ◌++◌, length, map, Option, Some, None, refl, sym, ap, subst, ◌∙◌, append_assoc, codes, cond, eqb, ltb, leb, inl, inr, arith}
+use Rattle.std.proofs.Common.{◌≡◌, ℕ, ◌<◌, ◌≤◌, Bool, true, false, ◌||◌, List, [], ◌∷◌, ◌++◌, length, map, Some, None, refl, sym, ap, subst, ◌∙◌, append_assoc, codes, cond, eqb, ltb, leb, inl, inr, arith}
 use Rattle.std.specs.Prelude.{decimal, IsPermutation}
 use Rattle.std.specs.List.{flat_map, AllByRecursion}
 use Rattle.std.specs.List.Sorted.{IsStrictlyIncreasing}
@@ -7,14 +7,12 @@ use Rattle.std.proofs.lemmas.Bool.{le-ltb, lt-leb, ltb-false, leb-false, eqb-fal
 use Rattle.std.proofs.lemmas.List.Elements.{All-from_recursion, recursion_from_All}
 use Rattle.std.proofs.lemmas.List.Sorted.{All-permutation, length_permutation, IsPermutation-refl}
 use Rattle.std.proofs.lemmas.List.{map-append}
-use Rattle.std.proofs.lemmas.List.Concat.{flat_map-cons}
 use Rattle.gm_model.specs.declared.limit.LimitKind.TheVariants as what
-use Rattle.gm_model.specs.declared.token.TokenKind.TheVariants as kinds
-use Rattle.gm_model.specs.Tokens.{is_digit, is_name_byte}
-use Rattle.gm_model.specs.Symbols.{Symbol, Word, Numeral, End, symbols_of, marks_of, symbols}
+use Rattle.gm_model.specs.Tokens.{is_digit}
+use Rattle.gm_model.specs.Symbols.{Symbol, Word, Numeral}
 use Rattle.gm_model.specs.GMap.{Row, AreGMap}
 use Rattle.gm_model.specs.Reading.{Part, symbols_in, IsWithin}
-use Rattle.gm_model.specs.MapText.{Role, Fixed, Dimension, Count, DartName, limit_of, word, number, the_end, spelling, spelling_of_row, AreShaped, IsSentence, IsListed, MapText, names, line_of, canonical}
+use Rattle.gm_model.specs.MapText.{Role, DartName, limit_of, number, the_end, spelling, spelling_of_row, AreShaped, IsSentence, IsListed, MapText, names, line_of, canonical}
 use Rattle.gm_mapfile.proofs.PlainLines.{shaped_permutation}
 use Rattle.gm_text.proofs.Printed.{Stops, symbols_from, symbols_of-from, symbols_from-end, symbols_from-blank, symbols_from-word, symbols_from-digits, symbols_from-decimal}
 
@@ -43,7 +41,7 @@ tail_symbols (a ∷ alphas) rest small =
 line_symbols : (row : Row) (rest : List ℕ) → IsSmall row → symbols_from (line_of row ++ rest) ≡ symbols_in (spelling_of_row row) ++ symbols_from rest
 line_symbols row rest small =
     let regrouped : line_of row ++ rest ≡ decimal row.name ++ (tail_of row.alphas ++ (10 ∷ rest)) =
-        append_assoc (decimal row.name ++ tail_of row.alphas) (10 ∷ []) rest ∙ append_assoc (decimal row.name) (tail_of row.alphas) (10 ∷ rest) in
+    append_assoc (decimal row.name ++ tail_of row.alphas) (10 ∷ []) rest ∙ append_assoc (decimal row.name) (tail_of row.alphas) (10 ∷ rest) in
     ap symbols_from regrouped
     ∙ symbols_from-decimal row.name (tail_of row.alphas ++ (10 ∷ rest)) (omega (arith, small.0)) (tail_stops row.alphas rest)
     ∙ ap (λ (s : List Symbol). Numeral row.name ∷ s) (tail_symbols row.alphas rest small.1)
@@ -85,12 +83,12 @@ canonical_symbols n rows limits =
     ap symbols_from regrouped
     ∙ header_symbols (decimal n ++ (codes "\ndarts " ++ (decimal (length rows) ++ behind)))
     ∙ ap (λ (s : List Symbol). Word (codes "gmap") ∷ Numeral 1 ∷ Word (codes "dim") ∷ s)
-        (symbols_from-decimal n (codes "\ndarts " ++ (decimal (length rows) ++ behind)) (omega (arith, limits.high)) refl
-        ∙ ap (λ (s : List Symbol). Numeral n ∷ s)
-            (darts_symbols (decimal (length rows) ++ behind)
-            ∙ ap (λ (s : List Symbol). Word (codes "darts") ∷ s)
-                (symbols_from-decimal (length rows) behind (omega (arith, limits.count)) refl
-                ∙ ap (λ (s : List Symbol). Numeral (length rows) ∷ s) (symbols_from-blank 10 (flat_map line_of rows) refl ∙ lines_symbols rows limits.small))))
+    (symbols_from-decimal n (codes "\ndarts " ++ (decimal (length rows) ++ behind)) (omega (arith, limits.high)) refl
+    ∙ ap (λ (s : List Symbol). Numeral n ∷ s)
+    (darts_symbols (decimal (length rows) ++ behind)
+    ∙ ap (λ (s : List Symbol). Word (codes "darts") ∷ s)
+    (symbols_from-decimal (length rows) behind (omega (arith, limits.count)) refl
+    ∙ ap (λ (s : List Symbol). Numeral (length rows) ∷ s) (symbols_from-blank 10 (flat_map line_of rows) refl ∙ lines_symbols rows limits.small))))
 
 -- ---- no limit is passed
 

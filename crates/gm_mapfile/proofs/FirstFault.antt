@@ -1,5 +1,5 @@
 -- What the reader of a map's text answers: the draft of the text, or its first fault.
-use Rattle.std.proofs.Common.{◌≡◌, ℕ, zero, suc, ◌+◌, ◌*◌, List, [], ◌∷◌, ◌++◌, length, get_or, drop, map, Result, Ok, Err, refl, sym, ap, subst, ◌∙◌, codes}
+use Rattle.std.proofs.Common.{◌≡◌, ℕ, zero, suc, ◌+◌, ◌*◌, List, [], ◌∷◌, ◌++◌, get_or, drop, map, Result, Ok, Err, refl, sym, ap, subst, ◌∙◌, codes}
 use Rattle.std.proofs.lemmas.List.{append_cancel_right}
 use Rattle.std.specs.Prelude.{IfOk, IfErr}
 use Rattle.std.specs.List.{flat_map}
@@ -7,13 +7,13 @@ use Rattle.gm_model.specs.declared.limit.LimitKind.{LimitKind}
 use Rattle.gm_model.specs.GMap.{Row}
 use Rattle.gm_model.specs.Symbols.{Mark, marks_of}
 use Rattle.gm_model.specs.Reading.{Part, IsReadAs, TextEndsAt, LimitPassedAt}
-use Rattle.gm_model.specs.MapText.{Role, Fixed, Dimension, Count, DartName, word, number, the_end, limit_of, spelling, spelling_of_row, AreShaped, IsSentence, IsListed, IsTextFault, IsLimitFault}
+use Rattle.gm_model.specs.MapText.{Role, Dimension, Count, DartName, number, the_end, limit_of, spelling, spelling_of_row, AreShaped, IsSentence, IsListed, IsTextFault, IsLimitFault}
 use Rattle.gm_mapfile.specs.Draft.{numbers_of, IsDraft, IsFirstFault}
 use Rattle.gm_mapfile.specs.declared.reading.Draft.{Draft}
 use Rattle.gm_mapfile.specs.declared.reading.TextFault.{TextFault}
 use Rattle.gm_mapfile.specs.declared.reading.TextFault.TheVariants as faults
-use Rattle.gm_mapfile.specs.Reading.{Stop, Ends, Passes, Lost, Want, TheWord, TheNumber, Any, role_of, fits, value_in, ◌>>=◌, wanted_at, numbers_at, ended_at, draft_of, Gives}
-use Rattle.gm_mapfile.proofs.Plan.{Plan, Finish, Need, Spells, run, IsRight, run_is_right, Wanted, Refused, Limited, Taken, wanted, at_taken}
+use Rattle.gm_mapfile.specs.Reading.{Stop, Ends, Passes, Want, TheWord, TheNumber, Any, role_of, value_in, ◌>>=◌, wanted_at, numbers_at, ended_at, draft_of, Gives}
+use Rattle.gm_mapfile.proofs.Plan.{Plan, Finish, Need, Spells, run, IsRight, run_is_right, Refused, Limited, Taken, wanted, at_taken}
 use Rattle.gm_mapfile.proofs.Rows.{spelling_of_numbers}
 use Rattle.gm_mapfile.proofs.Sentence.{numbers, lines, from_count, from_darts, from_top, from_dim, from_version, map_plan, plan_of_sentence, sentence_of_plan}
 
@@ -113,9 +113,9 @@ unfolding numbers_at
 stop_numbers role zero plan marks f stop e later = later ([], marks) e
 stop_numbers role (suc count) plan marks f stop e later =
     stop_step (Any role) (λ _. numbers role count plan) marks (λ first. more_numbers role count first >>= f) stop (sym (bind_assoc (wanted_at (Any role) marks) (more_numbers role count) f) ∙ e)
-        (λ first rest. stop_numbers role count plan first.1 (λ others. f (first.0 ∷ others.0, others.1)) stop
-            (sym (bind_assoc (numbers_at role count first.1) (λ (others : List ℕ × List Mark). Ok (first.0 ∷ others.0, others.1)) f) ∙ rest)
-            (λ others got. later (first.0 ∷ others.0, others.1) got))
+    (λ first rest. stop_numbers role count plan first.1 (λ others. f (first.0 ∷ others.0, others.1)) stop
+    (sym (bind_assoc (numbers_at role count first.1) (λ (others : List ℕ × List Mark). Ok (first.0 ∷ others.0, others.1)) f) ∙ rest)
+    (λ others got. later (first.0 ∷ others.0, others.1) got))
 
 stop_end : {A : Type 0} (marks : List Mark) (x : A) (stop : Stop) → (ended_at marks >>= λ _. Ok x) ≡ Err stop → run Finish marks ≡ Err stop
 stop_end marks x stop e = go (ended_at marks) refl
@@ -154,13 +154,13 @@ pub stop_of_draft : (marks : List Mark) (stop : Stop) → draft_of marks ≡ Err
 unfolding draft_of
 stop_of_draft marks stop e =
     stop_step (TheWord (codes "gmap")) (λ _. from_version) marks after_format stop e
-        (λ format e. stop_step (TheNumber 1) (λ _. from_dim) format.1 after_version stop e
-        (λ version e. stop_step (TheWord (codes "dim")) (λ _. from_top) version.1 after_dim stop e
-        (λ dim e. stop_step (Any Dimension) from_darts dim.1 after_top stop e
-        (λ top e. stop_step (TheWord (codes "darts")) (λ _. from_count top.0) top.1 (after_darts top.0) stop e
-        (λ darts e. stop_step (Any Count) (lines top.0) darts.1 (after_count top.0) stop e
-        (λ count e. stop_numbers DartName (count.0 * (top.0 + 2)) Finish count.1 (after_numbers top.0) stop e
-        (λ numbers e. stop_end numbers.1 (top.0, numbers.0) stop e)))))))
+    (λ format e. stop_step (TheNumber 1) (λ _. from_dim) format.1 after_version stop e
+    (λ version e. stop_step (TheWord (codes "dim")) (λ _. from_top) version.1 after_dim stop e
+    (λ dim e. stop_step (Any Dimension) from_darts dim.1 after_top stop e
+    (λ top e. stop_step (TheWord (codes "darts")) (λ _. from_count top.0) top.1 (after_darts top.0) stop e
+    (λ darts e. stop_step (Any Count) (lines top.0) darts.1 (after_count top.0) stop e
+    (λ count e. stop_numbers DartName (count.0 * (top.0 + 2)) Finish count.1 (after_numbers top.0) stop e
+    (λ numbers e. stop_end numbers.1 (top.0, numbers.0) stop e)))))))
 
 pub text_fault : (text : List ℕ) (place : ℕ) → draft_of (marks_of text) ≡ Err (Ends place) → IsTextFault text place
 text_fault text place e =
@@ -201,12 +201,15 @@ read_numbers role zero plan marks f y e = (([], marks), record { parts = []; val
 read_numbers role (suc count) plan marks f y e =
     let first = read_step (Any role) (λ _. numbers role count plan) marks (λ first. more_numbers role count first >>= f) y (sym (bind_assoc (wanted_at (Any role) marks) (more_numbers role count) f) ∙ e) in
     let x = first.0 in
-    let others = read_numbers role count plan x.1 (λ others. f (x.0 ∷ others.0, others.1)) y (sym (bind_assoc (numbers_at role count x.1) (λ (others : List ℕ × List Mark). Ok (x.0 ∷ others.0, others.1)) f) ∙ first.2) in
-    ((x.0 ∷ others.0.0, others.0.1), record {
-      parts = first.1.part ∷ others.1.parts;
-      values = ap (λ (n : ℕ). n ∷ map (λ (part : Part Role). value_in part.symbol) others.1.parts) first.1.value ∙ ap (λ (ns : List ℕ). x.0 ∷ ns) others.1.values;
-      goes = λ rest then. first.1.goes (others.1.parts ++ rest) (others.1.goes rest then);
-    }, others.2)
+    let others = read_numbers role count plan x.1 (λ others. f (x.0 ∷ others.0, others.1)) y (sym (bind_assoc (numbers_at role count x.1) (λ (others : List ℕ × List Mark). Ok (x.0 ∷ others.0, others.1)) f) ∙ first.2) in (
+      (x.0 ∷ others.0.0, others.0.1),
+      record {
+        parts = first.1.part ∷ others.1.parts;
+        values = ap (λ (n : ℕ). n ∷ map (λ (part : Part Role). value_in part.symbol) others.1.parts) first.1.value ∙ ap (λ (ns : List ℕ). x.0 ∷ ns) others.1.values;
+        goes = λ rest then. first.1.goes (others.1.parts ++ rest) (others.1.goes rest then);
+      },
+      others.2,
+    )
 
 read_end : {A : Type 0} (marks : List Mark) (x y : A) → (ended_at marks >>= λ _. Ok x) ≡ Ok y → (run Finish marks ≡ Ok (the_end ∷ [])) × (x ≡ y)
 read_end marks x y e = go (ended_at marks) refl
@@ -262,8 +265,8 @@ draft_is text n ns e =
     let found = read_numbers DartName (count.0.0 * (top.0.0 + 2)) Finish count.0.1 (after_numbers top.0.0) (n, ns) count.2 in
     let end = read_end found.0.1 (top.0.0, found.0.0) (n, ns) found.2 in
     drafted text n top.0.0 ns found.0.0 format.1.part version.1.part dim.1.part top.1.part darts.1.part count.1.part found.1.parts
-        (format.1.goes _ (version.1.goes _ (dim.1.goes _ (top.1.goes _ (darts.1.goes _ (count.1.goes _ (found.1.goes (the_end ∷ []) end.0)))))))
-        top.1.value found.1.values end.1
+    (format.1.goes _ (version.1.goes _ (dim.1.goes _ (top.1.goes _ (darts.1.goes _ (count.1.goes _ (found.1.goes (the_end ∷ []) end.0)))))))
+    top.1.value found.1.values end.1
 
 -- ---- the same of what the code answers
 

@@ -1,8 +1,7 @@
 -- Where reading a map answers none, its text stands for none.
-use Rattle.std.proofs.Common.{◌≡◌, ℕ, List, Result, Ok, Err, sym, subst}
-use Rattle.std.specs.Prelude.{IsPermutation}
-use Rattle.gm_model.specs.GMap.{Row, AreGMap}
-use Rattle.gm_model.specs.MapText.{MapText, StandsForNoMap}
+use Rattle.std.proofs.Common.{◌≡◌, ℕ, List}
+use Rattle.gm_model.specs.GMap.{Row}
+use Rattle.gm_model.specs.MapText.{StandsForNoMap}
 use Rattle.gm_mapfile.specs.declared.plain.MapFault.TheVariants as answers
 use Rattle.gm_mapfile.specs.declared.reading.TextFault.{TextFault}
 use Rattle.gm_mapfile.specs.declared.reading.TextFault.TheVariants as faults

@@ -1,16 +1,12 @@
 -- A text has one first fault at most, and then stands for no map; it stands for one map at most.
-use Rattle.std.proofs.Common.{◌≡◌, ℕ, zero, suc, ◌+◌, ◌<◌, ◌≤◌, List, [], ◌∷◌, ◌++◌, length, get_or, drop, map, ◌⊎◌, Result, Ok, Err, refl, sym, ap, subst, ◌∙◌, arith, ⊎_elim, codes}
+use Rattle.std.proofs.Common.{◌≡◌, ℕ, List, Result, Ok, Err, sym, subst, ◌∙◌, ⊎_elim}
 use Rattle.std.specs.Prelude.{IsPermutation}
-use Rattle.std.specs.List.{flat_map}
-use Rattle.std.specs.List.Sorted.{IsStrictlyIncreasing}
-use Rattle.std.proofs.lemmas.List.{append_cancel_right}
 use Rattle.std.proofs.lemmas.List.Sorted.{IsPermutation-sym, IsPermutation-trans}
 use Rattle.gm_model.specs.declared.limit.LimitKind.{LimitKind}
 use Rattle.gm_model.specs.GMap.{Row}
-use Rattle.gm_model.specs.Symbols.{Mark, marks_of}
+use Rattle.gm_model.specs.Symbols.{marks_of}
 use Rattle.gm_model.specs.Reading.{Part}
-use Rattle.gm_model.specs.MapText.{Role, Fixed, Dimension, Count, DartName, word, number, the_end, limit_of, spelling, spelling_of_row, AreShaped, IsListed, MapText, StandsForNoMap, IsTextFault, IsLimitFault, names}
-use Rattle.gm_mapfile.specs.Draft.{numbers_of}
+use Rattle.gm_model.specs.MapText.{Role, spelling, IsListed, MapText, StandsForNoMap, IsTextFault, IsLimitFault}
 use Rattle.gm_mapfile.specs.Reading.{Stop, Ends, Passes, Lost}
 use Rattle.gm_mapfile.proofs.Plan.{run, IsRight, run_is_only}
 use Rattle.gm_mapfile.proofs.PlainText.{one_listing}

@@ -1,5 +1,5 @@
 -- A text lists one map's rows at most, so what is built of its rows is what the text stands for.
-use Rattle.std.proofs.Common.{◌≡◌, ℕ, ◌≤◌, List, [], ◌∷◌, ◌++◌, length, map, refl, ap, ap₂, sym, subst, ◌∙◌, append-nil, arith}
+use Rattle.std.proofs.Common.{◌≡◌, ℕ, List, [], ◌∷◌, ◌++◌, map, refl, ap, ap₂, sym, subst, ◌∙◌, append-nil, arith}
 use Rattle.std.specs.List.{flat_map}
 use Rattle.gm_model.specs.GMap.{Row}
 use Rattle.gm_model.specs.Symbols.{Symbol, Numeral, End}
@@ -50,5 +50,5 @@ pub no_map_of_text : (text : List ℕ) (n : ℕ) (rows : List Row) → IsListed 
 no_map_of_text text n rows listed none m darts stood =
     let one = one_listing text m n stood.written rows stood.listed listed in
     none darts (subst (λ k. IsMapOf k rows darts) one.0
-      (subst (λ written. IsMapOf m written darts) one.1
-        (record { same = stood.same; ascending = stood.ascending; lawful = stood.lawful })))
+    (subst (λ written. IsMapOf m written darts) one.1
+    (record { same = stood.same; ascending = stood.ascending; lawful = stood.lawful })))

@@ -1,12 +1,11 @@
 -- A grammar that says at each step what is wanted next. Reading by it answers the one reading of the marks, or their one first fault.
-use Rattle.std.proofs.Common.{◌≡◌, ℕ, zero, suc, ◌+◌, Bool, true, false, cond, eqb, ◌⊎◌, inl, inr, List, [], ◌∷◌, ◌++◌, map, Option, Some, None, Result, Ok, Err, refl, sym, ap, subst, ◌∙◌, eq-eqb, arith}
-use Rattle.std.specs.Str.{bytes_eq}
+use Rattle.std.proofs.Common.{◌≡◌, ℕ, Bool, true, false, cond, ◌⊎◌, inl, inr, List, [], ◌∷◌, ◌++◌, Option, Some, None, Result, Ok, Err, refl, sym, ap, subst, ◌∙◌, eq-eqb}
 use Rattle.std.proofs.lemmas.Slice.Eq.{bytes_eq-Decides}
 use Rattle.gm_model.specs.declared.limit.LimitKind.{LimitKind}
 use Rattle.gm_model.specs.Symbols.{Symbol, Word, Numeral, Sign, Gone, Stray, End, Mark, symbols}
-use Rattle.gm_model.specs.MapText.{Role, Fixed, Dimension, Count, DartName, limit_of, the_end}
+use Rattle.gm_model.specs.MapText.{Role, limit_of, the_end}
 use Rattle.gm_model.specs.Reading.{Part, symbols_in, Begins, IsWithin, IsReadAs, TextEndsAt, LimitPassedAt}
-use Rattle.gm_mapfile.specs.Reading.{Stop, Ends, Passes, Lost, Want, TheWord, TheNumber, Any, role_of, fits, value_in, is_end, ◌>>=◌, unless_passed, wanted_at, no_more, ended_at}
+use Rattle.gm_mapfile.specs.Reading.{Stop, Ends, Passes, Lost, Want, TheWord, TheNumber, Any, role_of, fits, value_in, is_end, ◌>>=◌, wanted_at, no_more, ended_at}
 
 pub data Plan : Type 0 where
   Finish : Plan
@@ -249,8 +248,8 @@ ends_is (Need want next) (first ∷ before) mark after (part ∷ parts) rest spe
     let tail : symbols before ≡ symbols_in parts = cc in
     let front = at_front want next first part (parts ++ rest) head begins within.0 in
     at_taken want next first (before ++ mark ∷ after) (Err (Ends mark.place)) front.is front.limit
-        (ends_is (next (value_in first.symbol)) before mark after parts rest tail front.later within.1
-            (λ more same goes. ends (part_of want first.symbol ∷ more) (ap (λ (s : List Symbol). first.symbol ∷ s) same) (goes.0, (front.is, refl, goes.1))))
+    (ends_is (next (value_in first.symbol)) before mark after parts rest tail front.later within.1
+    (λ more same goes. ends (part_of want first.symbol ∷ more) (ap (λ (s : List Symbol). first.symbol ∷ s) same) (goes.0, (front.is, refl, goes.1))))
 
 passes_is : (plan : Plan) (before : List Mark) (mark : Mark) (after : List Mark) (parts : List (Part Role)) (part : Part Role) (rest : List (Part Role)) (what : LimitKind) → symbols before ≡ symbols_in parts → mark.symbol ≡ part.symbol
     → Spells plan ((parts ++ part ∷ []) ++ rest) → IsWithin (Spells plan) limit_of parts → limit_of part.role part.symbol ≡ Some what → run plan (before ++ mark ∷ after) ≡ Err (Passes what mark.place)
@@ -276,7 +275,7 @@ passes_is (Need want next) (first ∷ before) mark after (second ∷ parts) part
     let tail : symbols before ≡ symbols_in parts = cc in
     let front = at_front want next first second ((parts ++ part ∷ []) ++ rest) head begins within.0 in
     at_taken want next first (before ++ mark ∷ after) (Err (Passes what mark.place)) front.is front.limit
-        (passes_is (next (value_in first.symbol)) before mark after parts part rest what tail read front.later within.1 passes)
+    (passes_is (next (value_in first.symbol)) before mark after parts part rest what tail read front.later within.1 passes)
 
 pub run_is_only : (plan : Plan) (marks : List Mark) (read : Result (List (Part Role)) Stop) → IsRight plan marks read → (read ≡ run plan marks) ⊎ (read ≡ Err Lost)
 run_is_only plan marks (Ok parts) right = inl (sym (reading_is plan marks parts right.spelled right.sentence right.within))

@@ -1,6 +1,6 @@
 -- Rows of one length from the numbers of their lines.
-use Rattle.std.proofs.Common.{◌≡◌, ℕ, zero, suc, ◌+◌, ◌*◌, ◌-◌, List, [], ◌∷◌, ◌++◌, length, map, take, drop, refl, sym, ap, subst, ◌∙◌, append_assoc, arith}
-use Rattle.std.proofs.lemmas.List.{length-append, length-take, length-drop, take-append-drop, map-append, append_cancel_left, take_at, drop_at, nil_from_length}
+use Rattle.std.proofs.Common.{◌≡◌, ℕ, zero, suc, ◌+◌, ◌*◌, List, [], ◌∷◌, ◌++◌, length, map, take, drop, refl, sym, ap, ◌∙◌, arith}
+use Rattle.std.proofs.lemmas.List.{length-append, length-take, length-drop, take-append-drop, map-append, nil_from_length}
 use Rattle.std.specs.List.{flat_map}
 use Rattle.gm_model.specs.GMap.{Row}
 use Rattle.gm_model.specs.Reading.{Part}

@@ -1,14 +1,14 @@
 -- The texts of maps are the sentences of a plan.
-use Rattle.std.proofs.Common.{◌≡◌, ℕ, zero, suc, ◌+◌, ◌*◌, Bool, true, false, List, [], ◌∷◌, ◌++◌, length, map, refl, sym, ap, subst, ◌∙◌, codes, eqb, arith}
-use Rattle.std.proofs.lemmas.Bool.{eqb-true, eq-eqb}
+use Rattle.std.proofs.Common.{◌≡◌, ℕ, zero, suc, ◌+◌, ◌*◌, true, List, [], ◌∷◌, ◌++◌, length, map, refl, sym, ap, subst, ◌∙◌, codes}
+use Rattle.std.proofs.lemmas.Bool.{eqb-true}
 use Rattle.std.proofs.lemmas.Slice.Eq.{bytes_eq-Decides}
 use Rattle.std.specs.List.{flat_map}
 use Rattle.gm_model.specs.GMap.{Row}
 use Rattle.gm_model.specs.Symbols.{Symbol, Word, Numeral, Sign, Gone, Stray, End}
 use Rattle.gm_model.specs.Reading.{Part}
-use Rattle.gm_model.specs.MapText.{Role, Fixed, Dimension, Count, DartName, word, number, the_end, spelling, spelling_of_row, AreShaped, IsSentence}
+use Rattle.gm_model.specs.MapText.{Role, Fixed, Dimension, Count, DartName, word, number, the_end, spelling_of_row, AreShaped, IsSentence}
 use Rattle.gm_mapfile.specs.Draft.{numbers_of}
-use Rattle.gm_mapfile.specs.Reading.{Want, TheWord, TheNumber, Any, role_of, fits, value_in}
+use Rattle.gm_mapfile.specs.Reading.{TheWord, TheNumber, Any, fits, value_in}
 use Rattle.gm_mapfile.proofs.Plan.{Plan, Finish, Need, Spells}
 use Rattle.gm_mapfile.proofs.Rows.{length-numbers_of, spelling_of_numbers, rows_of}
 
@@ -77,9 +77,9 @@ plan_of_sentence parts sentence =
     let rows = sentence.1 in
     let spelled = numbers_spelled DartName (numbers_of rows) Finish (the_end ∷ []) refl in
     let lines_spelled : Spells (lines n (length rows)) (map (number DartName) (numbers_of rows) ++ the_end ∷ []) =
-        subst (λ (k : ℕ). Spells (numbers DartName k Finish) (map (number DartName) (numbers_of rows) ++ the_end ∷ [])) (length-numbers_of n rows sentence.2) spelled in
+    subst (λ (k : ℕ). Spells (numbers DartName k Finish) (map (number DartName) (numbers_of rows) ++ the_end ∷ [])) (length-numbers_of n rows sentence.2) spelled in
     let tail : Spells (lines n (length rows)) (flat_map spelling_of_row rows ++ the_end ∷ []) =
-        subst (λ (ps : List (Part Role)). Spells (lines n (length rows)) (ps ++ the_end ∷ [])) (sym (spelling_of_numbers rows)) lines_spelled in
+    subst (λ (ps : List (Part Role)). Spells (lines n (length rows)) (ps ++ the_end ∷ [])) (sym (spelling_of_numbers rows)) lines_spelled in
     subst (Spells map_plan) (sym sentence.3) (refl, refl, (refl, refl, (refl, refl, (refl, refl, (refl, refl, (refl, refl, tail))))))
 
 -- ---- what the plan spells is a sentence

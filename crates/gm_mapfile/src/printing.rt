@@ -22,9 +22,7 @@ pub fn print_map(alloc: Global, map: &PlainMap) -> Result<Vec<u8>, OutOfMemory>
 }
 
 fn print_header(text: &mut Text, dim: Dim, count: usize) -> Result<(), OutOfMemory>
-    ensures {
-        OnOk result (text.new ≡ text.old ++ (codes "gmap 1\ndim " ++ decimal dim ++ codes "\ndarts " ++ decimal count ++ codes "\n"))
-    }
+    ensures { OnOk result (text.new ≡ text.old ++ (codes "gmap 1\ndim " ++ decimal dim ++ codes "\ndarts " ++ decimal count ++ codes "\n")) }
 {
     text.put(b"gmap 1\ndim ")?;
     text.number(u64::from(dim.top()))?;

@@ -9,7 +9,7 @@ ghost use Rattle.gm_mapfile.specs.Draft.{IsDraft, IsFirstFault};
 ghost use Rattle.gm_mapfile.specs.Plain.{rows_of};
 ghost use Rattle.gm_mapfile.specs.Reading.{Gives, IsNext, HasNoToken, marks_left, TheWord, TheNumber, Any, wanted_at, number_at, numbers_at, ended_at, draft_of};
 
-use crate::plain::{build, MapFault, PlainMap};
+use crate::plain::{MapFault, PlainMap, build};
 use gm_model::{Dim, LimitKind};
 use gm_text::{Lexer, Token, TokenKind};
 use std::alloc::{AllocError, AllocFailed, Global};
@@ -73,6 +73,7 @@ struct Numeral {
 }
 
 const MOST_DARTS: u64 = 1_048_576;
+
 const DART_NAMES: u64 = 16_777_216;
 
 fn next_token(lexer: &mut Lexer<'_>) -> Result<Token, TextFault>
@@ -156,7 +157,12 @@ fn dart_name(lexer: &mut Lexer<'_>) -> Result<u32, TextFault>
     Ok(value as u32)
 }
 
-fn dart_names(alloc: Global, lexer: &mut Lexer<'_>, count: usize, room: usize) -> Result<Vec<u32>, TextFault>
+fn dart_names(
+    alloc: Global,
+    lexer: &mut Lexer<'_>,
+    count: usize,
+    room: usize,
+) -> Result<Vec<u32>, TextFault>
     ensures { Gives (λ names. (names.items, marks_left lexer.new)) result (numbers_at DartName count (marks_left lexer.old)) }
 {
     let mut names = Vec::with_capacity(alloc, room)?;

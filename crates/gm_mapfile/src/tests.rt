@@ -1,5 +1,5 @@
-use crate::reading::{read_text, TextFault};
-use crate::{print_map, read_map, MapFault};
+use crate::reading::{TextFault, read_text};
+use crate::{MapFault, print_map, read_map};
 use gm_model::LimitKind;
 use std::test::*;
 
@@ -28,7 +28,9 @@ fn a_map_is_read_and_printed(rt: HostRuntime) -> Result<(), Fail> {
         let map = read_map(rt.alloc(), text).ok().ok_or("the text is a map")?;
         assert_eq!(rt; map.dim.top(), 2);
         assert_eq!(rt; map.darts.as_slice().len(), 8);
-        let printed = print_map(rt.alloc(), &map).ok().ok_or("memory was wanting")?;
+        let printed = print_map(rt.alloc(), &map)
+            .ok()
+            .ok_or("memory was wanting")?;
         assert_eq!(rt; printed.as_slice(), SQUARE);
     }
     Ok(())
@@ -45,10 +47,18 @@ fn the_first_fault_is_found(rt: HostRuntime) -> Result<(), Fail> {
         (b"gmap 1 dim x", None, 11),
         (b"gmap 1 dim 0 ?", Some(LimitKind::Dimension), 11),
         (b"gmap 1 dim 8 ?", Some(LimitKind::Dimension), 11),
-        (b"gmap 1 dim 99999999999999999999", Some(LimitKind::Dimension), 11),
+        (
+            b"gmap 1 dim 99999999999999999999",
+            Some(LimitKind::Dimension),
+            11,
+        ),
         (b"gmap 1 dim 2 darts 1048577 x", Some(LimitKind::Darts), 19),
         (b"gmap 1 dim 2 darts 1048576", None, 26),
-        (b"gmap 1 dim 2 darts 1 0 16777216 x", Some(LimitKind::DartName), 23),
+        (
+            b"gmap 1 dim 2 darts 1 0 16777216 x",
+            Some(LimitKind::DartName),
+            23,
+        ),
         (b"gmap 1 dim 2 darts 2 0 0 0 0 # one\n", None, 35),
         (b"gmap 1 dim 1 darts 1 0 0 0 0", None, 27),
         (b"gmap 1 dim 2 darts 1 0 0 ? 0", None, 25),

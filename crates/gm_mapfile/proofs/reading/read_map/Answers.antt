@@ -1,4 +1,4 @@
-use Rattle.std.proofs.Common.{◌≡◌, sym, ◌∙◌}
+use Rattle.std.proofs.Common.{◌≡◌}
 use Rattle.std.proofs.lemmas.Result.{err_from_is_err_and}
 use Rattle.gm_mapfile.specs.declared.plain.MapFault.TheVariants as answers
 use Rattle.gm_mapfile.specs.Draft.{map_fault_of}
@@ -14,4 +14,4 @@ returns-in_err-draft-clause-not_read c = λ not_read.
 pub returns-clause-not_read : goal.returns-clause-not_read
 returns-clause-not_read c = λ not_read.
     no_map_of_lines c.args.bytes.now c.in_ok-draft.draft.dim c.in_ok-draft.draft.numbers.items c.in_ok-draft.ensures.draft
-        (λ rows darts lines map. c.build.ensures.not_read rows darts (record { shaped = lines.shaped; spelled = cc (c.deref.ensures.value, lines.spelled) }) not_read map)
+    (λ rows darts lines map. c.build.ensures.not_read rows darts (record { shaped = lines.shaped; spelled = cc (c.deref.ensures.value, lines.spelled) }) not_read map)
