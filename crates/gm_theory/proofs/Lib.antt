@@ -10,3 +10,4 @@ pub mod Walks
 pub mod Turns
 pub mod NewNames
 pub mod Keeps
+pub mod Candidates
