@@ -22,3 +22,4 @@ pub mod Expressions
 pub mod Acceptance
 pub mod NewValues
 pub mod Applications
+pub mod NodeSteps
