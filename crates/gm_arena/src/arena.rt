@@ -1,4 +1,4 @@
-ghost use Rattle.std.specs.Prelude.{◌≡◌, ℕ, ◌+◌, ◌<◌, ◌≤◌, ◌-◌, ◌++◌, [], length, replicate, max, map, Some, None, All, MatchOption, IfOk, OnOk, OnErr};
+ghost use Rattle.std.specs.Prelude.{◌≡◌, ℕ, ◌+◌, ◌*◌, ◌<◌, ◌≤◌, ◌-◌, ◌++◌, [], length, replicate, take, max, map, Some, None, All, MatchOption, IfOk, OnOk, OnErr};
 ghost use Rattle.std.specs.FinMap.{get, keys};
 ghost use Rattle.slab.specs.Slab.{HasRoomFor};
 ghost use Rattle.gm_arena.specs.Inside.{no_slot};
@@ -29,7 +29,11 @@ pub struct Arena {
     schema: Schema,
     /// The number of labels, one more than the dimension.
     labels: usize,
+    /// The number of embeddings.
+    width: usize,
     places: Slab<Place>,
+    /// The values of the slots one after another, `width` for each. Where no dart is, fillers.
+    values: Vec<Value>,
     /// The slot of each reserved name.
     table: Vec<u32>,
     next: u32,
@@ -55,25 +59,27 @@ impl Model for Arena {
 
     ghost use Rattle.gm_arena.specs.Inside.{map_of, IsSound};
 
-    ghost view = { λ a. map_of a.schema a.labels a.places a.table.items a.next a.spare a.bound };
+    ghost view = { λ a. map_of a.schema a.labels a.width a.places a.values.items a.table.items a.next a.spare a.bound };
 
-    ghost invariant = { λ a. IsSound a.schema a.labels a.places a.table.items a.next a.spare a.bound };
+    ghost invariant = { λ a. IsSound a.schema a.labels a.width a.places a.values.items a.table.items a.next a.spare a.bound };
 }
 
 impl Arena {
     ghost use Rattle.gm_arena.specs.ArenaMap.{IsAt, IsLiveSlot, IsLiveName, name_at, alpha};
-    ghost use Rattle.gm_arena.specs.Lawful.{IsLawful, HaveKinds};
+    ghost use Rattle.gm_arena.specs.Lawful.{IsSchema, IsLawful, HaveKinds};
     ghost use Rattle.gm_arena.specs.Edits.{empty_map, with_dart, with_alpha, without_dart, IsAlone};
 
     /// An arena without darts, whose next name is 0. It takes no memory.
     pub fn new(alloc: Global, schema: Schema) -> Arena
-        requires { schema.embeds ≡ [] }
+        requires { IsSchema schema }
         ensures { result ≡ empty_map schema }
     {
         Arena {
             labels: schema.dim.top() as usize + 1,
+            width: schema.embeds.as_slice().len(),
             schema,
             places: Slab::new(alloc),
+            values: Vec::new(alloc),
             table: Vec::new(alloc),
             next: 0,
             spare: 0,
@@ -165,11 +171,12 @@ impl Arena {
         ensures cost { steps.new ≡ steps.old + 1 }
     {
         steps.tick();
-        let place = &self.places[slot.at as usize];
+        let at = slot.at as usize;
+        let place = &self.places[at];
         Row {
             name: place.name,
             alphas: &place.alphas[..self.labels],
-            values: &[],
+            values: &self.values[at * self.width..at * self.width + self.width],
         }
     }
 
@@ -197,7 +204,7 @@ impl Arena {
     {
         pad_table(&mut self.table, names as usize)?;
         let room = self.spare.max(more);
-        reserve_places(&mut self.places, room as usize)?;
+        reserve_places(&mut self.places, &mut self.values, self.width, room as usize)?;
         self.spare = room;
         Ok(())
     }
@@ -219,6 +226,7 @@ impl Arena {
         });
         let own = Slot { at: key as u32 };
         self.places[key].alphas = [own; MOST_LABELS];
+        self.values[key * self.width..key * self.width + self.width].copy_from_slice(values);
         self.table[name as usize] = own.at;
         self.next = self.next.max(name + 1);
         self.spare -= 1;
@@ -272,12 +280,22 @@ fn pad_table(table: &mut Vec<u32>, names: usize) -> Result<(), OutOfMemory>
     Ok(())
 }
 
-/// Makes room for so many more places, the keys of which fit a slot.
-fn reserve_places(places: &mut Slab<Place>, more: usize) -> Result<(), OutOfMemory>
-    requires { places.old.capacity ≤ no_slot }
+/// Makes room for so many more places, the keys of which fit a slot, and for their values.
+fn reserve_places(
+    places: &mut Slab<Place>,
+    values: &mut Vec<Value>,
+    width: usize,
+    more: usize,
+) -> Result<(), OutOfMemory>
+    requires fits { places.old.capacity ≤ no_slot }
+    requires width { width ≤ 8 }
+    requires long { places.old.capacity * width ≤ length values.old.items }
     ensures room { OnOk result (HasRoomFor places.new more) }
     ensures fits { places.new.capacity ≤ no_slot }
+    ensures long { places.new.capacity * width ≤ length values.new.items }
     ensures slots { places.new.slots ≡ places.old.slots }
+    ensures within { OnOk result (length places.new.slots ≤ places.new.capacity) }
+    ensures values { take (length values.old.items) values.new.items ≡ values.old.items }
     ensures err { OnErr result (places.new ≡ places.old) }
 {
     if places.capacity() - places.len() >= more {
@@ -288,6 +306,10 @@ fn reserve_places(places: &mut Slab<Place>, more: usize) -> Result<(), OutOfMemo
     grown.reserve(more)?;
     if grown.capacity() > NO_SLOT as usize {
         return Err(OutOfMemory);
+    }
+    let long = grown.capacity() * width;
+    if values.len() < long {
+        values.resize(long, Value::Int(0))?;
     }
     *places = grown;
     Ok(())
