@@ -1,5 +1,5 @@
 -- How an arena keeps its map: places in a slab with their values beside them, and a table from names to slots. No public clause cites this module.
-use Rattle.std.specs.Prelude.{◌≡◌, ◌≢◌, ℕ, ◌+◌, ◌*◌, ◌<◌, ◌≤◌, List, map, length, take, drop, Some, IsSome, slice_index_or}
+use Rattle.std.specs.Prelude.{◌≡◌, ◌≢◌, ℕ, ◌+◌, ◌*◌, ◌<◌, ◌≤◌, List, map, length, take, drop, Some, IsSome, All, slice_index_or}
 use Rattle.std.specs.Option.{option_map, option_map_or}
 use Rattle.std.specs.Ordering.{nat_cmp}
 use Rattle.std.specs.FinMap.{FinMap, len}
@@ -48,7 +48,7 @@ map_of schema labels width places values table next spare bound = record {
 pub record IsPlaced (labels : ℕ) (places : Slab Place) (table : List ℕ) (next bound slot : ℕ) (place : Place) : Type 0 where
   pub found : slot_in table place.name ≡ slot
   pub whole : length place.alphas ≡ 8
-  pub live : (label : ℕ) (other : Slot) → label < labels → IsSome (get places (slice_index_or place.alphas label other).at)
+  pub live : All (λ (s : Slot). IsSome (get places s.at)) (take labels place.alphas)
   pub below_next : place.name < next
   pub below_bound : slot < bound
   pub below_capacity : slot < places.capacity
