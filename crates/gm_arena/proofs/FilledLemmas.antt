@@ -1,9 +1,9 @@
 -- What the finite map of a list has at a number.
-use Rattle.std.proofs.Common.{◌≡◌, ◌≢◌, ℕ, zero, suc, ◌+◌, ◌<◌, Bool, true, false, ◌&&◌, T, cond, List, [], ◌∷◌, get_or, map, length, Option, Some, None, ◌⊎◌, refl, sym, ap, ◌∙◌, inl, inr, arith, add-zero, zero-add}
+use Rattle.std.proofs.Common.{◌≡◌, ◌≢◌, ℕ, zero, suc, ◌+◌, ◌-◌, ◌<◌, Bool, true, false, ◌&&◌, T, cond, List, [], ◌∷◌, get_or, map, length, Option, Some, None, ◌⊎◌, refl, sym, ap, ◌∙◌, inl, inr, arith, add-zero, zero-add}
 use Rattle.std.specs.Option.{option_map}
 use Rattle.std.specs.Cmp.{nat_cmp_total, nat_cmp_is}
 use Rattle.std.specs.Ordering.{nat_cmp, eq_by_cmp}
-use Rattle.std.specs.FinMap.{FinMap, get, keys, find, is_sorted, insert, remove, same_map, nat_cmp-IsAntisymmetric, get-from_sorted, entries-from_sorted, get-insert, get-remove}
+use Rattle.std.specs.FinMap.{FinMap, get, keys, find, is_sorted, insert, remove, same_map, nat_cmp-IsAntisymmetric, get-from_sorted, entries-from_sorted, get-insert, get-remove, len, len-insert, len-remove}
 use Rattle.std.specs.FinMap.Entries.{below_all}
 use Rattle.std.specs.declared.cmp.Ordering.TheVariants.{Less, Equal, Greater}
 use Rattle.std.proofs.lemmas.List.{get_or-map, get_or_past, length-map}
@@ -80,3 +80,13 @@ module _ {X : Type 0} where
 
   pub get-remove_other : (m : FinMap nat_cmp X) (k q : ℕ) → q ≢ k → get (remove m k) q ≡ get m q
   get-remove_other m k q h = get-remove nat_cmp_total m k q ∙ apart q k _ _ h
+
+  -- the number of keys after a change
+  pub len-insert_again : (m : FinMap nat_cmp X) (k : ℕ) (v was : X) → get m k ≡ Some was → len (insert m k v) ≡ len m
+  len-insert_again m k v was e = len-insert nat_cmp_total m k v ∙ rw e refl
+
+  pub len-insert_new : (m : FinMap nat_cmp X) (k : ℕ) (v : X) → get m k ≡ None → len (insert m k v) ≡ len m + 1
+  len-insert_new m k v e = len-insert nat_cmp_total m k v ∙ rw e refl
+
+  pub len-remove_one : (m : FinMap nat_cmp X) (k : ℕ) (was : X) → get m k ≡ Some was → len (remove m k) ≡ len m - 1
+  len-remove_one m k was e = len-remove nat_cmp_total m k ∙ rw e refl

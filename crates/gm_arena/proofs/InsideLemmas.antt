@@ -71,6 +71,15 @@ name_at_in places slot = ap (λ o. unwrap_or o 0) (get-slots places slot) ∙ un
     unwrapped None = refl
     unwrapped (Some p) = refl
 
+-- where no key is that of no slot, a name's dart is the one that the table leads to
+pub darts_get : (labels width : ℕ) (places : Slab Place) (values : List Value) (table : List ℕ) → get places no_slot ≡ None → (name : ℕ) → map.get (darts_in labels width places values table) name ≡ option_map (dart_in labels width places values (slot_in table name)) (get places (slot_in table name))
+darts_get labels width places values table nowhere name =
+    let f = λ (slot : ℕ). option_map (dart_in labels width places values slot) (get places slot) in
+    get-filled _ name ∙ elim (cases_lt name (length table)) [
+      | inl l ↦ get_or-map f table name no_slot None l
+      | inr l ↦ get_or_past _ name None (rw length-map l) ∙ sym (ap f (get_or_past table name no_slot l) ∙ ap (option_map (dart_in labels width places values no_slot)) nowhere)
+    ]
+
 module _ (schema : Schema) (labels width : ℕ) (places : Slab Place) (values : List Value) (table : List ℕ) (next spare bound : ℕ) (sound : IsSound schema labels width places values table next spare bound) where
   pub nowhere : get places no_slot ≡ None
   nowhere = none_of _ (λ h.
@@ -79,12 +88,7 @@ module _ (schema : Schema) (labels width : ℕ) (places : Slab Place) (values : 
 
   -- a name's dart is the one that the table leads to
   pub get-darts : (name : ℕ) → map.get (darts_in labels width places values table) name ≡ option_map (dart_in labels width places values (slot_in table name)) (get places (slot_in table name))
-  get-darts name =
-      let f = λ (slot : ℕ). option_map (dart_in labels width places values slot) (get places slot) in
-      get-filled _ name ∙ elim (cases_lt name (length table)) [
-        | inl l ↦ get_or-map f table name no_slot None l
-        | inr l ↦ get_or_past _ name None (rw length-map l) ∙ sym (ap f (get_or_past table name no_slot l) ∙ ap (option_map (dart_in labels width places values no_slot)) nowhere)
-      ]
+  get-darts name = darts_get labels width places values table nowhere name
 
   -- the dart of the place at a slot
   pub dart_at : (slot : ℕ) (place : Place) → get places slot ≡ Some place → map.get (darts_in labels width places values table) place.name ≡ Some (dart_in labels width places values slot place)

@@ -1,2 +1,4 @@
 pub mod FilledLemmas
 pub mod InsideLemmas
+pub mod ChangeLemmas
+pub mod AlphaLemmas
