@@ -184,3 +184,19 @@ module _ (schema : Schema) (labels width : ℕ) (places : Slab Place) (values : 
 
   pub no_dart : (name : ℕ) → slot_in table name ≡ no_slot → map.get (darts_in labels width places values table) name ≡ None
   no_dart name e = get-darts name ∙ (ap (λ s. option_map (dart_in labels width places values s) (get places s)) e ∙ ap (option_map (dart_in labels width places values no_slot)) nowhere)
+
+  -- the table has an entry for each live name
+  pub name_within : (slot : ℕ) (place : Place) → get places slot ≡ Some place → place.name < length table
+  name_within slot place e =
+      let p = sound.placed slot place e in
+      elim (cases_lt place.name (length table)) [
+        | inl l ↦ l
+        | inr l ↦
+            let past : slot ≡ no_slot = sym p.found ∙ get_or_past table place.name no_slot l in
+            absurd (omega (arith, p.below_capacity, sound.fits))
+      ]
+
+  -- two slots have two names
+  pub apart_names : (slot other : ℕ) (place also : Place) → get places slot ≡ Some place → get places other ≡ Some also → other ≢ slot → also.name ≢ place.name
+  apart_names slot other place also e f apart same =
+      apart (sym (sound.placed other also f).found ∙ (ap (slot_in table) same ∙ (sound.placed slot place e).found))

@@ -2,3 +2,4 @@ pub mod FilledLemmas
 pub mod InsideLemmas
 pub mod ChangeLemmas
 pub mod AlphaLemmas
+pub mod RemoveLemmas
