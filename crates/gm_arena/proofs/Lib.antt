@@ -3,3 +3,4 @@ pub mod InsideLemmas
 pub mod ChangeLemmas
 pub mod AlphaLemmas
 pub mod RemoveLemmas
+pub mod ReserveLemmas

@@ -272,6 +272,7 @@ impl Arena {
 /// Makes the table at least so long.
 fn pad_table(table: &mut Vec<u32>, names: usize) -> Result<(), OutOfMemory>
     ensures ok { OnOk result (table.new.items ≡ table.old.items ++ replicate (names - length table.old.items) no_slot) }
+    ensures len { OnOk result (length table.new.items ≡ max (length table.old.items) names) }
     ensures err { OnErr result (table.new.items ≡ table.old.items) }
 {
     if table.len() < names {
