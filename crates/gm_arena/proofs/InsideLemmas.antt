@@ -200,3 +200,17 @@ module _ (schema : Schema) (labels width : ℕ) (places : Slab Place) (values : 
   pub apart_names : (slot other : ℕ) (place also : Place) → get places slot ≡ Some place → get places other ≡ Some also → other ≢ slot → also.name ≢ place.name
   apart_names slot other place also e f apart same =
       apart (sym (sound.placed other also f).found ∙ (ap (slot_in table) same ∙ (sound.placed slot place e).found))
+
+  -- with another number above every name
+  pub sound_next : (next' : ℕ) → ((name : ℕ) → IsSome (map.get (darts_in labels width places values table) name) → name < next') → next' ≤ 16777216 → IsSound schema labels width places values table next' spare bound
+  sound_next next' above limit = record {
+      placed = λ slot place e.
+          let p = sound.placed slot place e in
+          record {
+            found = p.found; whole = p.whole; live = p.live;
+            below_next = above place.name (is_some_at _ _ (dart_at slot place e));
+            below_bound = p.below_bound; below_capacity = p.below_capacity;
+          };
+      sized = sound.sized; named = sound.named; valued = sound.valued; fits = sound.fits; long = sound.long; room = sound.room;
+      counted = sound.counted; few_darts = sound.few_darts; few_names = limit; few_reserved = sound.few_reserved;
+    }

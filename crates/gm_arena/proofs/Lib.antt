@@ -4,3 +4,4 @@ pub mod ChangeLemmas
 pub mod AlphaLemmas
 pub mod RemoveLemmas
 pub mod ReserveLemmas
+pub mod NewLemmas

@@ -1,7 +1,6 @@
-use Rattle.std.proofs.Common.{◌≡◌, ℕ, ◌+◌, ◌*◌, ◌-◌, ◌<◌, ◌≤◌, List, take, drop, map, Some, None, sym, ap, ◌∙◌, arith}
-use Rattle.slab.specs.Slab.{Slab, get, with_value}
-use Rattle.gm_arena.specs.Inside.{IsSound, map_of}
+use Rattle.gm_arena.proofs.InsideLemmas.{sound_next}
 use Rattle.gm_arena.proofs.arena.Arena.set_next.Goals as goal
 
 pub invariant_of-self : goal.invariant_of-self
-invariant_of-self c = ?
+invariant_of-self c =
+    sound_next _ _ _ _ _ _ _ _ _ c.self.invariant c.args.next (rw (← c.self.view_is) at c.requires.names) c.requires.limit
