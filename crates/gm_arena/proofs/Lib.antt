@@ -5,3 +5,5 @@ pub mod AlphaLemmas
 pub mod RemoveLemmas
 pub mod ReserveLemmas
 pub mod NewLemmas
+pub mod ValueLemmas
+pub mod AddLemmas
