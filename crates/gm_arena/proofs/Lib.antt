@@ -7,3 +7,4 @@ pub mod ReserveLemmas
 pub mod NewLemmas
 pub mod ValueLemmas
 pub mod AddLemmas
+pub mod NameLemmas
