@@ -29,7 +29,7 @@ values_kept width values values' slot kept long =
     ∙ drop-take from width values)
 
 -- a table that only grew
-pub entry_padded : (table : List ℕ) (more name : ℕ) → slot_in (table ++ replicate more no_slot) name ≡ slot_in table name
+entry_padded : (table : List ℕ) (more name : ℕ) → slot_in (table ++ replicate more no_slot) name ≡ slot_in table name
 entry_padded table more name = elim (cases_lt name (length table)) [
     | inl l ↦ get_or_append_left table (replicate more no_slot) no_slot name l
     | inr l ↦ get_or-append_right table (replicate more no_slot) (length table) name no_slot refl l
@@ -41,6 +41,9 @@ entry_padded table more name = elim (cases_lt name (length table)) [
         | inl l ↦ get_or-replicate count at no_slot no_slot l
         | inr l ↦ get_or_past (replicate count no_slot) at no_slot (rw length-replicate l)
       ]
+
+pub entries_padded : (table table' : List ℕ) (more : ℕ) → table' ≡ table ++ replicate more no_slot → (name : ℕ) → slot_in table' name ≡ slot_in table name
+entries_padded table table' more e name = rw e (entry_padded table more name)
 
 module _ (schema : Schema) (labels width : ℕ) (places : Slab Place) (values : List Value) (table : List ℕ) (next spare bound : ℕ) (sound : IsSound schema labels width places values table next spare bound)
     (places' : Slab Place) (values' : List Value) (table' : List ℕ)

@@ -3,15 +3,14 @@ use Rattle.std.specs.Option.{IsSome}
 use Rattle.slab.specs.Slab.{get, slab_len}
 use Rattle.slab.proofs.SlabLemmas.{ContainsKey-within}
 use Rattle.gm_arena.specs.declared.arena.Place.{Place}
-use Rattle.gm_arena.specs.Inside.{slot_in}
 use Rattle.gm_arena.proofs.InsideLemmas.{some_of}
-use Rattle.gm_arena.proofs.ReserveLemmas.{entry_padded, sound_more, map_more}
+use Rattle.gm_arena.proofs.ReserveLemmas.{entries_padded, sound_more, map_more}
 use Rattle.gm_arena.proofs.arena.Arena.reserve.Goals as goal
 
 pub invariant_of-self-in_err-reserve_places : goal.invariant_of-self-in_err-reserve_places
 invariant_of-self-in_err-reserve_places c =
     let sound = c.self.invariant in
-    let entries : (name : ℕ) → slot_in c.pad_table.new.table.items name ≡ slot_in c.self.inside.table.items name = λ name. rw c.in_ok-pad_table.ensures.ok (entry_padded c.self.inside.table.items _ name) in
+    let entries = entries_padded c.self.inside.table.items c.pad_table.new.table.items _ c.in_ok-pad_table.ensures.ok in
     let same : c.reserve_places.new.places ≡ c.self.inside.places = c.in_err-reserve_places.ensures.err in
     let capacity : c.reserve_places.new.places.capacity ≡ c.self.inside.places.capacity = ap (λ s. s.capacity) same in
     sound_more _ _ _ _ _ _ _ _ _ sound c.reserve_places.new.places c.reserve_places.new.values.items c.pad_table.new.table.items c.in_err-reserve_places.ensures.slots c.in_err-reserve_places.ensures.values entries c.self.inside.spare
@@ -21,13 +20,13 @@ invariant_of-self-in_err-reserve_places c =
 
 pub returns-in_err-reserve_places-clause-map : goal.returns-in_err-reserve_places-clause-map
 returns-in_err-reserve_places-clause-map c =
-    let entries : (name : ℕ) → slot_in c.pad_table.new.table.items name ≡ slot_in c.self.inside.table.items name = λ name. rw c.in_ok-pad_table.ensures.ok (entry_padded c.self.inside.table.items _ name) in
+    let entries = entries_padded c.self.inside.table.items c.pad_table.new.table.items _ c.in_ok-pad_table.ensures.ok in
     rw (← c.self.view_is) (map_more _ _ _ _ _ _ _ _ _ c.self.invariant c.reserve_places.new.places c.reserve_places.new.values.items c.pad_table.new.table.items c.in_err-reserve_places.ensures.slots c.in_err-reserve_places.ensures.values entries c.self.inside.spare)
 
 pub invariant_of-self-2 : goal.invariant_of-self-2
 invariant_of-self-2 c =
     let sound = c.self.invariant in
-    let entries : (name : ℕ) → slot_in c.pad_table.new.table.items name ≡ slot_in c.self.inside.table.items name = λ name. rw c.in_ok-pad_table.ensures.ok (entry_padded c.self.inside.table.items _ name) in
+    let entries = entries_padded c.self.inside.table.items c.pad_table.new.table.items _ c.in_ok-pad_table.ensures.ok in
     let slots = c.in_ok-reserve_places.ensures.slots in
     let count : slab_len c.self.inside.places ≡ c.args.self.now.count = ap (λ m. m.count) c.self.view_is in
     sound_more _ _ _ _ _ _ _ _ _ sound c.reserve_places.new.places c.reserve_places.new.values.items c.pad_table.new.table.items slots c.in_ok-reserve_places.ensures.values entries c.max-room.result
@@ -38,5 +37,5 @@ invariant_of-self-2 c =
 
 pub returns-clause-map : goal.returns-clause-map
 returns-clause-map c =
-    let entries : (name : ℕ) → slot_in c.pad_table.new.table.items name ≡ slot_in c.self.inside.table.items name = λ name. rw c.in_ok-pad_table.ensures.ok (entry_padded c.self.inside.table.items _ name) in
+    let entries = entries_padded c.self.inside.table.items c.pad_table.new.table.items _ c.in_ok-pad_table.ensures.ok in
     rw (← c.self.view_is) (map_more _ _ _ _ _ _ _ _ _ c.self.invariant c.reserve_places.new.places c.reserve_places.new.values.items c.pad_table.new.table.items c.in_ok-reserve_places.ensures.slots c.in_ok-reserve_places.ensures.values entries c.max-room.result)
