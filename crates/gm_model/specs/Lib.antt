@@ -8,3 +8,17 @@ pub mod Labels
 pub mod Padded
 pub mod Names
 pub mod Values
+pub mod Trees
+pub mod Rules
+pub mod Orbits
+pub mod Maps
+pub mod Structure
+pub mod Squares
+pub mod Components
+pub mod Matches
+pub mod Unfolding
+pub mod Kinds
+pub mod Expressions
+pub mod Acceptance
+pub mod NewValues
+pub mod Applications

@@ -1,5 +1,6 @@
--- What bytes can be a name.
-use Rattle.std.specs.Prelude.{ℕ, ◌≤◌, List, length}
+-- What bytes can be a name, and which names are reserved.
+use Rattle.std.specs.Prelude.{ℕ, ◌≤◌, List, [], ◌∷◌, length, codes}
+use Rattle.std.specs.List.{Contains}
 use Rattle.gm_model.specs.declared.token.TokenKind.TheVariants as kinds
 use Rattle.gm_model.specs.Tokens.{IsLexeme}
 
@@ -10,3 +11,13 @@ IsNameToken bytes = IsLexeme kinds.Name bytes
 -- 1 to 32 bytes that are one
 abbrev pub IsName : List ℕ → Type 0
 IsName bytes = (length bytes ≤ 32) × IsNameToken bytes
+
+-- the words of the formats that can't be names of embeddings, rules, parameters and nodes
+abbrev pub reserved : List (List ℕ)
+reserved =
+    codes "rule" ∷ codes "left" ∷ codes "right" ∷ codes "hook" ∷ codes "with" ∷ codes "pre" ∷ codes "and" ∷ codes "or" ∷ codes "not"
+    ∷ codes "if" ∷ codes "then" ∷ codes "else" ∷ codes "true" ∷ codes "false" ∷ codes "sum" ∷ codes "count" ∷ codes "min" ∷ codes "max"
+    ∷ codes "same" ∷ []
+
+abbrev pub IsReserved : List ℕ → Type 0
+IsReserved bytes = Contains reserved bytes

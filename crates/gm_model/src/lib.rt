@@ -13,7 +13,10 @@ mod name;
 mod rule;
 mod schema;
 mod script;
+mod step;
 mod steps;
+#[cfg(test)]
+mod tests;
 mod token;
 mod value;
 mod word;
@@ -27,6 +30,7 @@ pub use name::Name;
 pub use rule::{Book, Link, Node, Param, RuleFault, RuleTable, Set, Side};
 pub use schema::{Embed, Schema};
 pub use script::{Line, Script};
+pub use step::Step;
 pub use steps::Steps;
 pub use token::{Token, TokenKind};
 pub use value::{Kind, Value};

@@ -1,0 +1,10 @@
+/// What a node has at a label on one side of a rule.
+#[derive(Clone, Copy, Debug, PartialEq, Eq)]
+pub enum Step {
+    /// Nothing.
+    Absent,
+    /// A link, to this node.
+    Exp(u8),
+    /// A letter, at this place of its word.
+    Imp(u8),
+}
