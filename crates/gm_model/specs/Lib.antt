@@ -24,3 +24,4 @@ pub mod NewValues
 pub mod Applications
 pub mod NodeSteps
 pub mod Breaches
+pub mod MapFaults
