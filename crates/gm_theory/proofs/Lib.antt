@@ -11,3 +11,5 @@ pub mod Turns
 pub mod NewNames
 pub mod Keeps
 pub mod Candidates
+pub mod NoFault
+pub mod Quotients
