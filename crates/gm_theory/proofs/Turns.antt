@@ -12,6 +12,7 @@ use Rattle.gm_model.specs.Rules.{Rule, word_at, label_of, first_hook, hook_word,
 use Rattle.gm_model.specs.Squares.{IsApart}
 use Rattle.gm_model.specs.Structure.{IsInRange, HasLabelsUpTo}
 use Rattle.gm_model.specs.Unfolding.{scene_of}
+use Rattle.gm_theory.proofs.Lists.{none_some}
 use Rattle.gm_theory.proofs.Scenes.{HasLawfulTurns}
 use Rattle.gm_theory.proofs.Walks.{same_place, walk_keeps}
 
@@ -33,6 +34,15 @@ hook_label_up_to schema rule range m = label_up_to schema.dim (hook_word rule) m
 -- a rule without hooks has no places
 pub no_places : (rule : Rule) → rule.hooks ≡ [] → width rule ≡ 0
 no_places rule e = rw e refl
+
+-- ---- positions
+
+-- where a rule has a hook, each position holds a live dart
+pub positions_live : (map : Map) (rule : Rule) (place : Placement) (hooks walk : List ℕ) → IsGeneralised map → IsInRange map.schema rule → ArePositions map rule place hooks walk →
+    (h : ℕ) → first_hook rule ≡ Some h → (p : ℕ) → p < place.positions → IsDart map (slice_index walk p)
+positions_live map rule place _ _ old range (Created none one) h first p b = none_some h (rw none at first)
+positions_live map rule place _ _ old range (Walked d others walk live walk_is size turns) h first p b =
+    walk_keeps (along_hook map rule) (width rule) (IsDart map) d walk walk_is live (λ e m hm l. old.stays e (hook_label rule m) l (hook_label_up_to map.schema rule range m)) (suc p) p (omega arith) (rw size at b)
 
 -- ---- turns
 
