@@ -1,6 +1,5 @@
 -- The new values of an unfolding are determined.
 use Rattle.std.proofs.Common.{◌≡◌, ℕ, ◌<◌, ◌≤◌, ◌⊎◌, List, [], ◌∷◌, not, IsTrue, refl, sym, ◌∙◌, ap, subst, inl, inr}
-use Rattle.std.proofs.lemmas.Bool.{cases_order}
 use Rattle.gm_model.specs.declared.rule.Side.TheVariants.{Left, Right}
 use Rattle.gm_model.specs.declared.value.Value.{Value}
 use Rattle.gm_model.specs.Components.{IsKeeper}
@@ -11,17 +10,10 @@ use Rattle.gm_model.specs.Orbits.{Labels, IsPathIn, follow}
 use Rattle.gm_model.specs.Rules.{Rule, has_word, is_added}
 use Rattle.gm_model.specs.Unfolding.{scene_of}
 use Rattle.gm_theory.proofs.Arcs.{same_instance}
+use Rattle.gm_theory.proofs.NoFault.{one_keeper}
 use Rattle.gm_theory.proofs.Scenes.{IsLawful}
 use Rattle.gm_theory.proofs.Tests.{both_true, not_true, not_both}
 use Rattle.gm_theory.proofs.ValuesJoined.{pair_same}
-
-keeper_same : (rule : Rule) (o : Labels) (x k k' : ℕ) → IsKeeper rule o x k → IsKeeper rule o x k' → k ≡ k'
-keeper_same rule o x k k' a b = go (cases_order k k')
-  where
-    go : (k ≡ k') ⊎ ((k < k') ⊎ (k' < k)) → k ≡ k'
-    go (inl e) = e
-    go (inr (inl h)) = absurd (b.least k h a.together a.preserved)
-    go (inr (inr h)) = absurd (a.least k' h b.together b.preserved)
 
 module _ (map : Map) (rule : Rule) (place : Placement) (count width : ℕ) (label : ℕ → ℕ) (law : IsLawful (scene_of map rule place) count width label)
     (e : ℕ) (o : Labels) (labels : (i : ℕ) → IsTrue (o i) → i ≤ dimension map)
@@ -63,7 +55,7 @@ module _ (map : Map) (rule : Rule) (place : Placement) (count width : ℕ) (labe
       same = same_instance (scene_of map rule place) count width label law x p y q (right x n, a) (right y m, b) (sym f ∙ f')
 
       keepers : k ≡ l
-      keepers = keeper_same rule o y k l (subst (λ z. IsKeeper rule o z k) same.0 kept) kept'
+      keepers = one_keeper rule o y k l (subst (λ z. IsKeeper rule o z k) same.0 kept) kept'
 
       old : map.value e (place.dart_of k p) ≡ map.value e (place.dart_of l q)
       old = ap (λ z. map.value e (place.dart_of z p)) keepers ∙ ap (λ s. map.value e (place.dart_of l s)) same.1
