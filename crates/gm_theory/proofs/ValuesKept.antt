@@ -9,7 +9,7 @@ use Rattle.gm_model.specs.Acceptance.{IsAccepted}
 use Rattle.gm_model.specs.Components.{IsTogether, IsAssigned, IsUnassigned, IsInherited}
 use Rattle.gm_model.specs.NewValues.{LiesIn, IsDecidedBy, IsUndecided, IsValueAfter, Decided, Kept, Added}
 use Rattle.gm_model.specs.Orbits.{IsInOrbit}
-use Rattle.gm_model.specs.Applications.{Application, GivesValue, reading_at}
+use Rattle.gm_model.specs.Applications.{Application, GivesValue, IsDone, reading_at}
 use Rattle.gm_model.specs.Expressions.{HasValue}
 use Rattle.gm_model.specs.GMap.{IsGMap}
 use Rattle.gm_model.specs.Maps.{Map, IsDart, IsEmbedAt, IsGeneralised, IsMap, IsSchema, IsWellEmbedded, type_of}
@@ -17,7 +17,8 @@ use Rattle.gm_model.specs.Matches.{Placement, IsMatch}
 use Rattle.gm_model.specs.Rules.{Rule, has_word, is_added, RuleNode, Assignment, Assigns, width, hook_label}
 use Rattle.gm_model.specs.Structure.{IsInRange}
 use Rattle.gm_model.specs.Trees.{Tree}
-use Rattle.gm_model.specs.Unfolding.{scene_of, name_in, IsDartAfter}
+use Rattle.gm_model.specs.Unfolding.{Scene, scene_of, name_in, IsDartAfter}
+use Rattle.gm_theory.proofs.Candidates.{candidate_is_match}
 use Rattle.gm_theory.proofs.Keeps.{lawful}
 use Rattle.gm_theory.proofs.Lists.{some_same, none_some}
 use Rattle.gm_theory.proofs.Results.{unfolding_generalised, unfolding_below, unfoldings_agree}
@@ -30,7 +31,7 @@ use Rattle.gm_theory.proofs.Tests.{both_true, true_or_false, not_both}
 use Rattle.gm_theory.proofs.ValuesReadOff.{read_off}
 use Rattle.gm_theory.proofs.ValuesUnique.{one_value}
 use Rattle.gm_theory.specs.Theorem.{Unfolded, Unfolds}
-use Rattle.gm_theory.specs.Values.{HasNewValues, HaveValues, HaveSameValues, with_values, KeepsWellEmbedded, RulesKeepWellEmbeddedMaps}
+use Rattle.gm_theory.specs.Values.{HasNewValues, HaveValues, HaveSameValues, with_values, KeepsWellEmbedded, RulesKeepWellEmbeddedMaps, ApplicationsKeepSoundMaps}
 
 -- ---- an instance has one expression, and it has one value
 
@@ -145,3 +146,29 @@ module _ (app : Application) (place : Placement) (of_schema : IsSchema app.map.s
 
 pub rules_keep_well_embedded_maps : RulesKeepWellEmbeddedMaps
 rules_keep_well_embedded_maps app place of_schema is_map old embedded accepted found = keeps app place of_schema is_map old embedded accepted found
+
+-- ---- applications that are done
+
+done_match : (app : Application) (result : Map) (added removed : ℕ) → IsGeneralised app.map → IsAccepted app.map.schema app.rule → (done : IsDone app result added removed) → IsMatch app.map app.rule app.hooks done.place
+done_match app result added removed old accepted done = candidate_is_match app.map app.rule done.place accepted old app.hooks done.ready.found.candidate done.ready.found.steps
+    (λ x p y q at at' before e. done.ready.found.distinct x p y q (record { first = at; second = at'; later = before; same = e }))
+
+pub applications_keep_sound_maps : ApplicationsKeepSoundMaps
+applications_keep_sound_maps app result added removed of_schema is_map old embedded accepted done = record {
+  generalised = subst (λ n. IsGMap n (IsDart result) result.alpha) (sym (ap (λ (schema : Schema). schema.dim) done.schema)) (unfolding_generalised s count w label here (IsDart result) result.alpha result.next done.unfolded);
+  embedded = well_embedded app done.place of_schema is_map old embedded accepted found result (record { schema = done.schema; unfolded = done.unfolded; values = done.values });
+  below = unfolding_below s count w label here (IsDart result) result.alpha result.next done.unfolded;
+}
+  where
+    found : IsMatch app.map app.rule app.hooks done.place
+    found = done_match app result added removed old accepted done
+    s : Scene
+    s = scene_of app.map app.rule done.place
+    count : ℕ
+    count = length app.rule.nodes
+    w : ℕ
+    w = width app.rule
+    label : ℕ → ℕ
+    label = hook_label app.rule
+    here : IsLawful (scene_of app.map app.rule done.place) (length app.rule.nodes) (width app.rule) (hook_label app.rule)
+    here = lawful app.map app.rule done.place accepted old is_map app.hooks found

@@ -1,9 +1,9 @@
 -- That conditions read off a rule alone make each of its applications keep one value on each orbit.
-use Rattle.std.specs.Prelude.{◌≡◌, ℕ}
+use Rattle.std.specs.Prelude.{◌≡◌, ℕ, ◌<◌}
 use Rattle.gm_model.specs.declared.schema.Embed.{Embed}
 use Rattle.gm_model.specs.declared.value.Value.{Value}
 use Rattle.gm_model.specs.Acceptance.{IsAccepted}
-use Rattle.gm_model.specs.Applications.{Application, GivesValue}
+use Rattle.gm_model.specs.Applications.{Application, GivesValue, IsDone}
 use Rattle.gm_model.specs.Maps.{Map, IsDart, IsEmbedAt, IsGeneralised, IsMap, IsSchema, IsWellEmbedded, type_of}
 use Rattle.gm_model.specs.Matches.{Placement, IsMatch}
 use Rattle.gm_model.specs.NewValues.{IsDeciding, IsValueAfter}
@@ -40,3 +40,15 @@ pub record KeepsWellEmbedded (app : Application) (place : Placement) : Type 0 wh
 -- For every generalised and well embedded map, every accepted rule, and every match of the rule in the map.
 abbrev pub RulesKeepWellEmbeddedMaps : Type 0
 RulesKeepWellEmbeddedMaps = (app : Application) (place : Placement) → IsSchema app.map.schema → IsMap app.map → IsGeneralised app.map → IsWellEmbedded app.map → IsAccepted app.map.schema app.rule → IsMatch app.map app.rule app.hooks place → KeepsWellEmbedded app place
+
+-- ---- applications that are done
+
+-- what is asked of a map, and what an application leaves
+pub record IsSound (map : Map) : Type 0 where
+  pub generalised : IsGeneralised map
+  pub embedded : IsWellEmbedded map
+  pub below : (d : ℕ) → IsDart map d → d < map.next
+
+-- Where the application of an accepted rule is done, its result is sound.
+abbrev pub ApplicationsKeepSoundMaps : Type 0
+ApplicationsKeepSoundMaps = (app : Application) (result : Map) (added removed : ℕ) → IsSchema app.map.schema → IsMap app.map → IsGeneralised app.map → IsWellEmbedded app.map → IsAccepted app.map.schema app.rule → IsDone app result added removed → IsSound result

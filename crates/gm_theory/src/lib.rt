@@ -8,7 +8,7 @@ mod values;
 
 ghost use Rattle.gm_theory.specs.Theorem.{RulesKeepGeneralisedMaps};
 
-pub use values::keeps_well_embedded_maps;
+pub use values::{applications_keep_sound_maps, keeps_well_embedded_maps};
 
 /// For every generalised map of dimension 1 to 7, every accepted rule and every match, the
 /// unfolding exists, is determined, and is a generalised map with the next name above its names.
