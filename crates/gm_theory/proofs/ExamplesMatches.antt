@@ -5,7 +5,7 @@ use Rattle.gm_model.specs.declared.rule.Side.TheVariants.{Left}
 use Rattle.gm_model.specs.declared.step.Step.{Step}
 use Rattle.gm_model.specs.declared.step.Step.TheVariants.{Absent, Exp, Imp}
 use Rattle.gm_model.specs.Maps.{Map, dimension}
-use Rattle.gm_model.specs.Matches.{Placement, Walked, along_hook, IsStepMet, IsEmbedding, IsMatch}
+use Rattle.gm_model.specs.Matches.{Placement, ArePositions, Walked, along_hook, IsStepMet, IsEmbedding, IsMatch}
 use Rattle.gm_model.specs.Orbits.{IsPairBefore, IsLeastStep, IsWalk}
 use Rattle.gm_model.specs.Rules.{Rule, has_word, step, width}
 use Rattle.gm_theory.proofs.ExamplesChecks.{each_below, each, some_below, some, ◌implies◌, implied, has_number, number_contained}
@@ -70,12 +70,12 @@ module _ (next : ℕ → ℕ → ℕ) (width : ℕ) (walk : List ℕ) where
 -- ---- matches
 
 module _ (map : Map) (rule : Rule) (place : Placement) where
-  abbrev met_test : ℕ → ℕ → ℕ → Step → Bool
+  abbrev pub met_test : ℕ → ℕ → ℕ → Step → Bool
   met_test x p i Absent = true
   met_test x p i (Exp y) = eqb (map.alpha i (place.dart_of x p)) (place.dart_of y p) && eqb (map.alpha i (place.dart_of y p)) (place.dart_of x p)
   met_test x p i (Imp m) = eqb (map.alpha i (place.dart_of x p)) (place.dart_of x (place.turn p m))
 
-  met_shown : (x p i : ℕ) (s : Step) → IsTrue (met_test x p i s) → IsStepMet map.alpha place x p i s
+  pub met_shown : (x p i : ℕ) (s : Step) → IsTrue (met_test x p i s) → IsStepMet map.alpha place x p i s
   met_shown x p i Absent t = tt
   met_shown x p i (Exp y) t = (eqb-true _ _ (both_true _ _ t).0, eqb-true _ _ (both_true _ _ t).1)
   met_shown x p i (Imp m) t = eqb-true _ _ t
@@ -108,15 +108,24 @@ module _ (map : Map) (rule : Rule) (place : Placement) where
   abbrev turn_test : List ℕ → ℕ → ℕ → Bool
   turn_test walk p m = ltb (place.turn p m) (length walk) && eqb (slice_index walk (place.turn p m)) (along_hook map rule (slice_index walk p) m)
 
+  abbrev pub positions_test : ℕ → List ℕ → Bool
+  positions_test d walk = map.live d && walk_test (along_hook map rule) (width rule) walk && each_below (length walk) (λ p. each_below (width rule) (turn_test walk p))
+
+  pub positions_shown : (d : ℕ) (walk : List ℕ) → slice_get walk 0 ≡ Some d → place.positions ≡ length walk → IsTrue (positions_test d walk) → ArePositions map rule place (d ∷ []) walk
+  positions_shown d walk starts many t = Walked d [] walk (both_true _ _ (both_true _ _ t).0).0 (walk_shown (along_hook map rule) (width rule) walk d starts (both_true _ _ (both_true _ _ t).0).1) many
+      (λ p m b c. turned p m (each (width rule) (turn_test walk p) (each (length walk) (λ p. each_below (width rule) (turn_test walk p)) (both_true _ _ t).1 p b) m c))
+    where
+      turned : (p m : ℕ) → IsTrue (turn_test walk p m) → (place.turn p m < length walk) × (slice_index walk (place.turn p m) ≡ along_hook map rule (slice_index walk p) m)
+      turned p m u = (ltb-true (place.turn p m) (length walk) (both_true (ltb (place.turn p m) (length walk)) (eqb (slice_index walk (place.turn p m)) (along_hook map rule (slice_index walk p) m)) u).0, eqb-true (slice_index walk (place.turn p m)) (along_hook map rule (slice_index walk p) m) (both_true (ltb (place.turn p m) (length walk)) (eqb (slice_index walk (place.turn p m)) (along_hook map rule (slice_index walk p) m)) u).1)
+
   -- for a rule whose hook is its node 0
   abbrev pub match_test : ℕ → List ℕ → Bool
-  match_test d walk = map.live d && walk_test (along_hook map rule) (width rule) walk && each_below (length walk) (λ p. eqb (place.dart_of 0 p) (slice_index walk p) && each_below (width rule) (turn_test walk p)) && embedding_test
+  match_test d walk = positions_test d walk && each_below (length walk) (λ p. eqb (place.dart_of 0 p) (slice_index walk p)) && embedding_test
 
   pub match_shown : (d : ℕ) (walk : List ℕ) → rule.hooks ≡ 0 ∷ [] → slice_get walk 0 ≡ Some d → place.positions ≡ length walk → IsTrue (match_test d walk) → IsMatch map rule (d ∷ []) place
   match_shown d walk only starts many t = record {
     walk = walk;
-    positions = Walked d [] walk (both_true _ _ (both_true _ _ (both_true _ _ t).0).0).0 (walk_shown (along_hook map rule) (width rule) walk d starts (both_true _ _ (both_true _ _ (both_true _ _ t).0).0).1) many
-        (λ p m b c. (ltb-true _ _ (both_true _ _ (each (width rule) _ (both_true _ _ (each (length walk) _ (both_true _ _ (both_true _ _ t).0).1 p b)).1 m c)).0, eqb-true _ _ (both_true _ _ (each (width rule) _ (both_true _ _ (each (length walk) _ (both_true _ _ (both_true _ _ t).0).1 p b)).1 m c)).1));
-    hooked = λ h p e b. subst (λ z. place.dart_of z p ≡ slice_index walk p) (some_same 0 h (rw only at e)) (eqb-true _ _ (both_true _ _ (each (length walk) _ (both_true _ _ (both_true _ _ t).0).1 p (subst (λ k. p < k) many b))).0);
+    positions = positions_shown d walk starts many (both_true _ _ (both_true _ _ t).0).0;
+    hooked = λ h p e b. subst (λ z. place.dart_of z p ≡ slice_index walk p) (some_same 0 h (rw only at e)) (eqb-true _ _ (each (length walk) _ (both_true _ _ (both_true _ _ t).0).1 p (subst (λ k. p < k) many b)));
     embedded = embedding_shown (both_true _ _ t).1;
   }

@@ -6,6 +6,7 @@ pub mod ExamplesCentre
 pub mod ExamplesChecks
 pub mod ExamplesMaps
 pub mod ExamplesMatches
+pub mod ExamplesOutcomes
 pub mod ExamplesRefused
 pub mod ExamplesRules
 pub mod ExamplesSplit

@@ -1,3 +1,4 @@
+pub mod Examples
+pub mod ExamplesOutcomes
 pub mod Theorem
 pub mod Values
-pub mod Examples
