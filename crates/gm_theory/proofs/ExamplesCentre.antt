@@ -45,7 +45,7 @@ not_word [] name h (k, b, e) = absurd (omega arith)
 not_word (word ∷ words) name h (zero, b, e) = not_both (same_bytes word name) (subst (λ w. IsTrue (same_bytes w name)) (sym e) (bytes_same name)) (or_parts _ _ h).0
 not_word (word ∷ words) name h (suc k, b, e) = not_word words name (or_parts _ _ h).1 (k, omega arith, e)
 
-only_first : (e : ℕ) (embed : Embed) → IsEmbedAt planar e embed → e ≡ 0
+pub only_first : (e : ℕ) (embed : Embed) → IsEmbedAt planar e embed → e ≡ 0
 only_first e embed at = only_points (λ e' embed'. e' ≡ 0) refl e embed at
 
 planar_schema : IsSchema planar
@@ -113,7 +113,7 @@ path_shown o alpha path d e t = (path, labels path (both_true _ _ t).0, eqb-true
     labels (i ∷ path) h = let both : IsTrue (o i) × IsTrue (list_all o path) = both_true (o i) (list_all o path) h in (both.0, labels path both.1)
 
 -- the darts of the square are those of its walk
-walk_is_face : IsListOf (λ d. IsInOrbit square.alpha (has labels_01) 0 d) square_walk
+pub walk_is_face : IsListOf (λ d. IsInOrbit square.alpha (has labels_01) 0 d) square_walk
 walk_is_face = record {
   distinct = (walk_shown (λ d l. square.alpha l d) 2 square_walk 0 refl refl).distinct;
   same = λ d. (there d, back d);
@@ -148,10 +148,10 @@ stays_old : (path : List ℕ) (d : ℕ) → d < 16 → IsPathIn (has labels_12) 
 stays_old [] d b all = b
 stays_old (i ∷ path) d b all = stays_old path (four_triangles.alpha i d) (ltb-true _ 16 (implied (has labels_12 i) (ltb (neighbour triangles_table i d) 16) (each 3 (λ j. has labels_12 j implies ltb (neighbour triangles_table j d) 16) (each 16 (λ c. each_below 3 (λ j. has labels_12 j implies ltb (neighbour triangles_table j c) 16)) refl d b) i (let few : i ≤ 2 = mask_labels 2 labels_12 i (omega arith) all.0 in omega arith)) all.0)) all.1
 
-abbrev name : ℕ → ℕ → ℕ
+abbrev pub name : ℕ → ℕ → ℕ
 name x p = name_in square triangulation on_square x p
 
-undecided : (d : ℕ) → d < 16 → IsUndecided square triangulation on_square four_triangles.alpha 0 (has labels_12) d
+pub undecided : (d : ℕ) → d < 16 → IsUndecided square triangulation on_square four_triangles.alpha 0 (has labels_12) d
 undecided d b x p (a, c) (path, all, e) = absurd (omega (arith, stays_old path d b all, at))
   where
     at : follow four_triangles.alpha path d ≡ 16 + p
@@ -160,7 +160,7 @@ undecided d b x p (a, c) (path, all, e) = absurd (omega (arith, stays_old path d
 abbrev centre_paths : List (List ℕ)
 centre_paths = [] ∷ (1 ∷ []) ∷ (2 ∷ []) ∷ (2 ∷ 1 ∷ []) ∷ (1 ∷ 2 ∷ []) ∷ (1 ∷ 2 ∷ 1 ∷ []) ∷ (2 ∷ 1 ∷ 2 ∷ []) ∷ (1 ∷ 2 ∷ 1 ∷ 2 ∷ []) ∷ []
 
-decided : (d : ℕ) → 16 ≤ d → d < 24 → IsDecidedBy square triangulation on_square four_triangles.alpha 0 (has labels_12) d 2 0
+pub decided : (d : ℕ) → 16 ≤ d → d < 24 → IsDecidedBy square triangulation on_square four_triangles.alpha 0 (has labels_12) d 2 0
 decided d b c = record {
   assigned = ((centre, assigns_centre (At 1 ∷ At 2 ∷ [])), omega arith);
   lies = path_shown (has labels_12) four_triangles.alpha (slice_index_or centre_paths (d - 16) []) d 16 (implied (leb 16 d) _ (each 24 (λ k. leb 16 k implies path_test (has labels_12) four_triangles.alpha (slice_index_or centre_paths (k - 16) []) k 16) refl d c) (le-leb 16 d b));

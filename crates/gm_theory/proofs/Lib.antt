@@ -4,6 +4,7 @@ pub mod Commuting
 pub mod Corners
 pub mod ExamplesCentre
 pub mod ExamplesChecks
+pub mod ExamplesDone
 pub mod ExamplesMaps
 pub mod ExamplesMatches
 pub mod ExamplesOutcomes

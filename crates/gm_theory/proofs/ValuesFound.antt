@@ -1,19 +1,16 @@
 -- Where the deciding instances have values, each dart of an unfolding has a new value.
-use Rattle.std.proofs.Common.{◌≡◌, ℕ, zero, suc, ◌+◌, ◌<◌, ◌≤◌, Bool, true, false, ◌⊎◌, List, [], ◌∷◌, length, get_or, Contains, Option, Some, None, slice_get, IsTrue, refl, sym, ◌∙◌, ap, subst, inl, inr, arith, below_more}
+use Rattle.std.proofs.Common.{◌≡◌, ℕ, zero, suc, ◌<◌, ◌⊎◌, List, [], ◌∷◌, length, Contains, Option, Some, None, slice_get, refl, sym, ◌∙◌, ap, subst, inl, inr, arith, below_more}
 use Rattle.std.proofs.lemmas.Bool.{cases_eq}
 use Rattle.std.proofs.lemmas.Option.{slice_get_within}
-use Rattle.gm_model.specs.declared.rule.Side.TheVariants.{Left, Right}
-use Rattle.gm_model.specs.declared.value.Value.{Value}
-use Rattle.gm_model.specs.Components.{IsAssigned, IsTogether, IsInherited, IsUnassigned, HasSource}
-use Rattle.gm_model.specs.Maps.{Map, IsDart, dimension}
+use Rattle.gm_model.specs.Components.{IsAssigned}
+use Rattle.gm_model.specs.Maps.{Map}
 use Rattle.gm_model.specs.Matches.{Placement}
-use Rattle.gm_model.specs.NewValues.{IsAssignedAt, LiesIn, IsDecidedBy, IsDeciding, IsUndecided, IsValueAfter, Decided, Kept, Added}
+use Rattle.gm_model.specs.NewValues.{IsAssignedAt, LiesIn, IsDecidedBy, IsDeciding, IsUndecided}
 use Rattle.gm_model.specs.Orbits.{Labels, IsInOrbit, IsPairBefore}
-use Rattle.gm_model.specs.Rules.{Rule, RuleNode, Assignment, has_word}
-use Rattle.gm_model.specs.Unfolding.{IsUnfolding, IsDartAfter, scene_of, name_in}
+use Rattle.gm_model.specs.Rules.{Rule, RuleNode, Assignment}
+use Rattle.gm_model.specs.Unfolding.{name_in}
 use Rattle.gm_theory.proofs.Lists.{some_same, none_some}
-use Rattle.gm_theory.proofs.Tests.{both_true, search_below}
-use Rattle.gm_theory.proofs.ValuesReach.{IsDecided, orbit_through, decide_orbit}
+use Rattle.gm_theory.proofs.ValuesReach.{IsDecided, orbit_through}
 
 -- ---- the least number
 

@@ -1,5 +1,5 @@
 -- The second half of the theorem: for every generalised and well embedded map, every accepted rule and every match, the new values are determined, and the result is well embedded.
-use Rattle.std.proofs.Common.{◌≡◌, ℕ, ◌<◌, ◌≤◌, ◌⊎◌, not, ◌&&◌, false, IsTrue, List, length, Contains, Option, Some, None, slice_get, refl, sym, ◌∙◌, ap, subst, inl, inr}
+use Rattle.std.proofs.Common.{◌≡◌, ℕ, ◌<◌, ◌≤◌, ◌⊎◌, not, false, IsTrue, List, length, Contains, Option, Some, None, slice_get, refl, sym, ◌∙◌, ap, subst, inl, inr}
 use Rattle.std.proofs.lemmas.Option.{slice_get-get_or}
 use Rattle.gm_model.specs.declared.rule.Side.TheVariants.{Left, Right}
 use Rattle.gm_model.specs.declared.schema.Embed.{Embed}
@@ -100,22 +100,27 @@ module _ (app : Application) (place : Placement) (of_schema : IsSchema app.map.s
       where
         lawful_result : IsGMap app.map.schema.dim (λ c. IsTrue (result.live c)) result.alpha
         lawful_result = unfolding_generalised (scene_of app.map app.rule place) (length app.rule.nodes) (width app.rule) (hook_label app.rule) law (λ c. IsTrue (result.live c)) result.alpha result.next unfolds
+
         decide : (c : ℕ) → IsDecided (IsInOrbit result.alpha (type_of embed) d c)
         decide c = decide_orbit app.map.schema.dim result.alpha (type_of embed) (λ b. IsTrue (result.live b)) result.next (λ i t. of_schema.labels e i embed at t) lawful_result.stays
             (unfolding_below (scene_of app.map app.rule place) (length app.rule.nodes) (width app.rule) (hook_label app.rule) law (λ b. IsTrue (result.live b)) result.alpha result.next unfolds) d c live
+
         together : (x y p : ℕ) → p < place.positions → IsTogether app.rule (type_of embed) x y → LiesIn app.map app.rule place result.alpha e (type_of embed) (name_in app.map app.rule place x p) y p
         together x y p b t = new_together app.map app.rule place (length app.rule.nodes) (width app.rule) (hook_label app.rule) law (read_off app.map.schema app.rule accepted)
             (λ b. IsTrue (result.live b)) result.alpha result.next unfolds e (type_of embed) (λ i t. of_schema.labels e i embed at t) (embedded e embed at) (λ x r. accepted.sources e embed at x r)
             (GivesValue app place e) (one_given app place accepted.in_range e) x y p b t
+
         added : (x p : ℕ) → IsUndecided app.map app.rule place result.alpha e (type_of embed) d → IsTrue (is_added app.rule x) → p < place.positions → d ≡ name_in app.map app.rule place x p → (v : Value) × HasNew e embed d v
         added x p u n b f = by (accepted.sources e embed at x (both_true (not (has_word app.rule Left x)) (has_word app.rule Right x) n).1).source
           where
             by : ((y : ℕ) × IsTogether app.rule (type_of embed) x y × IsAssigned app.rule e y) ⊎ (IsUnassigned app.rule e (type_of embed) x × ((keeper : ℕ) × IsInherited app.rule (type_of embed) x keeper)) → (v : Value) × HasNew e embed d v
             by (inl (y, t, a)) = absurd (u y p (a, b) (subst (λ c. LiesIn app.map app.rule place result.alpha e (type_of embed) c y p) (sym f) (together x y p b t)))
             by (inr (none, (keeper, i))) = (app.map.value e (place.dart_of keeper p), Added x p keeper u n b f i.kept refl)
+
         after : IsUndecided app.map app.rule place result.alpha e (type_of embed) d → IsDartAfter (scene_of app.map app.rule place) d → (v : Value) × HasNew e embed d v
         after u (inl (old, stays)) = (app.map.value e d, Kept u old refl)
         after u (inr (x, p, n, b, f)) = added x p u n b f
+
         go : ((x : ℕ) × (p : ℕ) × IsDecidedBy app.map app.rule place result.alpha e (type_of embed) d x p) ⊎ IsUndecided app.map app.rule place result.alpha e (type_of embed) d → (v : Value) × HasNew e embed d v
         go (inl (x, p, by)) =
             let own : (v : Value) × GivesValue app place e x p v = given e x p embed at (decides_own app.map app.rule place result.alpha e (type_of embed) d decide x p by) in
@@ -135,11 +140,14 @@ module _ (app : Application) (place : Placement) (of_schema : IsSchema app.map.s
     pick_new e d embed at live None f side = none_some embed (sym f ∙ at)
 
     exists : (value : ℕ → ℕ → Value) × HasNewValues app place (with_values app.map result value)
-    exists = ((λ e d. pick e d (slice_get app.map.schema.embeds e) refl (true_or_false (result.live d))), record {
-      schema = refl;
-      unfolded = unfolds;
-      values = λ e d embed at live. pick_new e d embed at live (slice_get app.map.schema.embeds e) refl (true_or_false (result.live d));
-    })
+    exists = (
+      (λ e d. pick e d (slice_get app.map.schema.embeds e) refl (true_or_false (result.live d))),
+      record {
+        schema = refl;
+        unfolded = unfolds;
+        values = λ e d embed at live. pick_new e d embed at live (slice_get app.map.schema.embeds e) refl (true_or_false (result.live d));
+      },
+    )
 
   keeps : KeepsWellEmbedded app place
   keeps = record { exists = exists; determined = determined; well_embedded = well_embedded }
@@ -162,13 +170,18 @@ applications_keep_sound_maps app result added removed of_schema is_map old embed
   where
     found : IsMatch app.map app.rule app.hooks done.place
     found = done_match app result added removed old accepted done
+
     s : Scene
     s = scene_of app.map app.rule done.place
+
     count : ℕ
     count = length app.rule.nodes
+
     w : ℕ
     w = width app.rule
+
     label : ℕ → ℕ
     label = hook_label app.rule
+
     here : IsLawful (scene_of app.map app.rule done.place) (length app.rule.nodes) (width app.rule) (hook_label app.rule)
     here = lawful app.map app.rule done.place accepted old is_map app.hooks found

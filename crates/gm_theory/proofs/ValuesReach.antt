@@ -1,5 +1,5 @@
 -- Whether a path of labels leads from one dart to another can be decided, where the darts lie below a bound.
-use Rattle.std.proofs.Common.{◌≡◌, ℕ, zero, suc, ◌+◌, ◌<◌, ◌≤◌, Bool, false, ◌⊎◌, List, [], ◌∷◌, ◌++◌, IsTrue, refl, sym, ◌∙◌, ap, subst, inl, inr, arith}
+use Rattle.std.proofs.Common.{◌≡◌, ℕ, zero, suc, ◌+◌, ◌<◌, ◌≤◌, false, ◌⊎◌, List, [], ◌∷◌, IsTrue, refl, sym, subst, inl, inr, arith}
 use Rattle.std.proofs.lemmas.Bool.{cases_eq, cases_order}
 use Rattle.gm_model.specs.Orbits.{Labels, IsPathIn, IsInOrbit, follow}
 use Rattle.gm_theory.proofs.Tests.{true_or_false, not_both, search_below}
@@ -30,8 +30,10 @@ module _ (n : ℕ) (alpha : ℕ → ℕ → ℕ) (o : Labels) where
       both i (inl t) (inl f) = inl (t, f)
       both i (inr t) side = inr (λ p. not_both (o i) p.0 t)
       both i (inl t) (inr f) = inr (λ p. f p.1)
+
       decide : (i : ℕ) → IsDecided (IsTrue (o i) × (alpha i d ≡ e))
       decide i = both i (true_or_false (o i)) (cases_eq (alpha i d) e)
+
       go : ((i : ℕ) × (i < n + 1) × (IsTrue (o i) × (alpha i d ≡ e))) ⊎ ((i : ℕ) → i < n + 1 → IsTrue (o i) × (alpha i d ≡ e) → ⊥) → IsDecided (IsStepTo d e)
       go (inl found) = inl found
       go (inr none) = inr (λ s. none s.0 s.1 s.2)
@@ -81,6 +83,7 @@ module _ (n : ℕ) (alpha : ℕ → ℕ → ℕ) (o : Labels) where
       last : LeadsBelow (suc k) k e → LeadsBelow k k e
       last (inl b) = b
       last (inr b) = b.1
+
       go : (c ≡ k) ⊎ ((c < k) ⊎ (k < c)) → LeadsBelow (suc k) c e → ((u : ℕ) → c < k → LeadsBelow k c u → LeadsBelow k d u) → LeadsBelow (suc k) d e
       go (inl f) b further = inr (from_first k d k (inr (subst (IsStepTo d) f s)), last (subst (λ u. LeadsBelow (suc k) u e) f b))
       go (inr (inl b)) (inl l) further = inl (further e b l)

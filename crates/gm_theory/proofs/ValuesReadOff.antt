@@ -1,7 +1,7 @@
 -- What the steps of an accepted rule's nodes say of its links and words.
-use Rattle.std.proofs.Common.{◌≡◌, ℕ, zero, suc, ◌<◌, ◌≤◌, ◌⊎◌, Bool, true, false, IsTrue, List, [], ◌∷◌, length, get_or, Contains, Some, None, slice_get, eqb, refl, sym, ◌∙◌, ap, ap₂, subst, inl, inr, arith}
+use Rattle.std.proofs.Common.{◌≡◌, ℕ, zero, suc, ◌<◌, ◌≤◌, ◌⊎◌, Bool, false, IsTrue, List, [], ◌∷◌, length, Contains, Some, None, slice_get, eqb, refl, sym, ◌∙◌, ap, ap₂, subst, inl, inr, arith}
 use Rattle.std.proofs.lemmas.Bool.{cases_lt, eq-eqb, eqb-true, lt-ltb, le-ltb}
-use Rattle.std.proofs.lemmas.List.Elements.{All-from_recursion, All-contains, recursion_from_All, Contains-get_or}
+use Rattle.std.proofs.lemmas.List.Elements.{recursion_from_All, Contains-get_or}
 use Rattle.std.specs.List.{find, position, position_or_len, count_by}
 use Rattle.gm_model.specs.declared.rule.Link.{Link}
 use Rattle.gm_model.specs.declared.rule.Side.{Side}
@@ -11,7 +11,7 @@ use Rattle.gm_model.specs.declared.word.Letter.{Letter}
 use Rattle.gm_model.specs.declared.word.Letter.TheVariants.{At, Gone}
 use Rattle.gm_model.specs.Acceptance.{IsAccepted}
 use Rattle.gm_model.specs.Rules.{Rule, has_word, letters, links_on, link_from, is_end, is_label, other_end, step, step_by, IsLinked}
-use Rattle.gm_model.specs.Structure.{IsLinkInRange, HasOnce}
+use Rattle.gm_model.specs.Structure.{HasOnce}
 use Rattle.gm_theory.proofs.Candidates.{contains_counts, linked_in_range, linked_step}
 use Rattle.gm_theory.proofs.Lists.{some_same, none_some, count_yes, count_no, find_passes, find_has}
 use Rattle.gm_theory.proofs.RuleSteps.{end_parts, step_link, step_place, once}

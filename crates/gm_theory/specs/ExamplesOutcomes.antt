@@ -2,13 +2,14 @@
 use Rattle.std.specs.Prelude.{ℕ, List, [], ◌∷◌, codes, Some, None, slice_get, slice_index, nat_lt, ◌==◌, pos}
 use Rattle.std.specs.Option.{unwrap_or}
 use Rattle.gm_model.specs.declared.expr.BinOp.TheVariants.{Div, Eq}
+use Rattle.gm_model.specs.declared.schema.Schema.{Schema}
 use Rattle.gm_model.specs.declared.word.Letter.TheVariants.{At}
 use Rattle.gm_model.specs.Applications.{Application}
 use Rattle.gm_model.specs.Maps.{Map}
 use Rattle.gm_model.specs.Matches.{Placement}
 use Rattle.gm_model.specs.Rules.{Rule, link_from}
-use Rattle.gm_model.specs.Trees.{Tree, Number, Truth, Field, Binary}
-use Rattle.gm_theory.specs.Examples.{map_of, origin, point, planar, polygonal, linear, rule_from, kept_node, new_node, square_table, square, four_triangles, merging, split, edge}
+use Rattle.gm_model.specs.Trees.{Tree, Number, Field, Binary}
+use Rattle.gm_theory.specs.Examples.{map_of, origin, point, points_of_vertices, planar, polygonal, linear, rule_from, kept_node, new_node, square_table, square, triangulation, four_triangles, merging, split, edge}
 
 -- ---- a left step that isn't met, a hook that names no dart
 
@@ -90,8 +91,20 @@ spoiling_square = record { map = square; rule = spoiling; hooks = 1 ∷ []; para
 abbrev pub on_corner : Placement
 on_corner = record { positions = 2; turn = λ p m. slice_index (unwrap_or (slice_get ((1 ∷ 0 ∷ []) ∷ (0 ∷ 1 ∷ []) ∷ []) p) []) m; dart_of = λ x p. slice_index (1 ∷ 2 ∷ []) p }
 
--- ---- what isn't well embedded
+-- ---- what lacks a property
 
 -- the square with two points for one vertex
 abbrev pub torn : Map
 torn = map_of planar square_table (point 0 0 ∷ point 3 0 ∷ point 4 0 ∷ point 4 4 ∷ point 4 4 ∷ point 0 4 ∷ point 0 4 ∷ point 0 0 ∷ [])
+
+-- the square with a next name that a dart has
+abbrev pub overdue : Map
+overdue = record square { next = 7 }
+
+-- an embedding with a reserved name
+abbrev pub misnamed : Schema
+misnamed = record { dim = 2; embeds = record points_of_vertices { name = codes "rule" } ∷ [] }
+
+-- the triangulation with a link of a label that the map hasn't
+abbrev pub astray : Rule
+astray = record triangulation { right_links = link_from 0 1 1 ∷ link_from 1 3 2 ∷ [] }

@@ -4,9 +4,18 @@
 
 ghost use Rattle.gm_model.specs.declared.rule.RuleFault.TheVariants as faults;
 ghost use Rattle.gm_model.specs.Acceptance.{IsFault};
+ghost use Rattle.gm_model.specs.Applications.{IsDone, IsRefused, IsBudget, NoDart, Arc, Same, PreNoValue, PreFalse, FullDarts, FullNames, NoValue};
 ghost use Rattle.gm_model.specs.Kinds.{IsTyped};
-ghost use Rattle.gm_theory.specs.Examples.{IsLawfulExample, IsWorkedExample, BreaksMaps, planar, polygonal, square, on_square, twisted, four_triangles, triangulating, on_edge, two_edges, splitting, relabelled, pointless, hookless, unfinished, miscounted, merging, contradicting, turning};
-ghost use Rattle.std.specs.Prelude.{[], ◌∷◌};
+ghost use Rattle.gm_model.specs.Maps.{IsMap, IsSchema, IsWellEmbedded};
+ghost use Rattle.gm_model.specs.Matches.{Placement, IsMatch};
+ghost use Rattle.gm_model.specs.Orbits.{IsWalk};
+ghost use Rattle.gm_model.specs.Structure.{IsInRange};
+ghost use Rattle.gm_model.specs.Trees.{Truth};
+ghost use Rattle.gm_theory.specs.Examples.{IsLawfulExample, IsWorkedExample, BreaksMaps, planar, polygonal, triangulation, square, on_square, twisted, four_triangles, triangulating, on_edge, two_edges, splitting, relabelled, pointless, hookless, unfinished, miscounted, merging, contradicting, turning};
+ghost use Rattle.gm_theory.specs.ExamplesOutcomes.{drop_at, merging_alone, split_if, valueless, crowded, late, pair_on, spoiling_square, torn, overdue, misnamed, astray};
+ghost use Rattle.std.specs.Prelude.{[], ◌∷◌, false};
+
+use crate::{applications_keep_sound_maps, keeps_generalised_maps, keeps_well_embedded_maps};
 
 /// The triangulation of a square face of eight darts gives four triangles, with the new vertex in
 /// the centre.
@@ -14,6 +23,8 @@ ghost use Rattle.std.specs.Prelude.{[], ◌∷◌};
 fn triangulates_a_square()
     ensures worked { IsWorkedExample triangulating on_square four_triangles }
     ensures again { IsLawfulExample four_triangles }
+    ensures done { IsDone triangulating four_triangles 16 0 }
+    ensures budget { IsBudget triangulating 3528 }
 {}
 
 /// The split of an edge gives two edges.
@@ -35,6 +46,31 @@ fn refuses_rules()
     ensures kinds { IsTyped planar miscounted → ⊥ }
 {}
 
+/// Each cause refuses an application.
+#[cfg(test)]
+fn refuses_applications()
+    ensures no_dart { IsRefused (drop_at 99) (NoDart 0) }
+    ensures arc { IsRefused (drop_at 0) (Arc 0 2 2) }
+    ensures same { IsRefused merging_alone (Same 0 0 1 0) }
+    ensures pre_no_value { IsRefused (split_if valueless) PreNoValue }
+    ensures pre_false { IsRefused (split_if (Truth false)) PreFalse }
+    ensures full_darts { IsRefused (pair_on crowded) (FullDarts 1048575 2) }
+    ensures full_names { IsRefused (pair_on late) (FullNames 16777215 2) }
+    ensures no_value { IsRefused spoiling_square (NoValue 0 0) }
+{}
+
+/// What lacks a property: a walk in another order, a vertex of two points, a next name that is
+/// taken, a reserved name, a label past the dimension, and a hook where there is no dart.
+#[cfg(test)]
+fn tells_apart()
+    ensures order { IsWalk (λ d l. square.alpha l d) 2 0 (0 ∷ 7 ∷ 1 ∷ 6 ∷ 2 ∷ 5 ∷ 3 ∷ 4 ∷ []) → ⊥ }
+    ensures points { IsWellEmbedded torn → ⊥ }
+    ensures next { IsMap overdue → ⊥ }
+    ensures name { IsSchema misnamed → ⊥ }
+    ensures label { IsInRange planar astray → ⊥ }
+    ensures hook { (place : Placement) → IsMatch square triangulation (99 ∷ []) place → ⊥ }
+{}
+
 /// A rule that the condition on squares alone refuses, and a square face that it would break.
 #[cfg(test)]
 fn needs_squares()
@@ -46,5 +82,10 @@ fn examples_stand() {
     triangulates_a_square();
     splits_an_edge();
     refuses_rules();
+    refuses_applications();
+    tells_apart();
     needs_squares();
+    keeps_generalised_maps();
+    keeps_well_embedded_maps();
+    applications_keep_sound_maps();
 }
