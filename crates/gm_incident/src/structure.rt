@@ -1,6 +1,7 @@
 ghost use Rattle.std.specs.Prelude.{◌≡◌, ◌<◌, ◌≤◌, ℕ, ◌↔◌, IsTrue, length, slice_index, MatchResult, MatchOption};
 ghost use Rattle.std.specs.List.{All};
-ghost use Rattle.gm_model.specs.Rules.{rule_of, width as width_of};
+ghost use Rattle.gm_model.specs.declared.rule.Side.TheVariants.{Left};
+ghost use Rattle.gm_model.specs.Rules.{rule_of, letters, width as width_of};
 ghost use Rattle.gm_model.specs.Structure.{AreGood, HasHook, IsPlainWord, HasPlainHook, HasWidth, IsConnected, IsStructured, IsStructureFault};
 ghost use Rattle.gm_incident.specs.Faults.{IsFirstFault};
 ghost use Rattle.gm_incident.specs.Ranges.{HasEndsBelow32, HasLeftFirst};
@@ -43,13 +44,21 @@ fn check_hook_words(rule: &RuleTable) -> Result<(), RuleFault>
             (λ t. RuleFault.HookWord (slice_index rule.now.hooks t)) fault) }
 {
     for hook in rule.hooks.as_slice() {
-        if let Some(word) = rule.word(Side::Left, *hook)
-            && !is_plain(&word)
-        {
+        if !has_plain_word(rule, *hook) {
             return Err(RuleFault::HookWord { node: *hook });
         }
     }
     Ok(())
+}
+
+/// Whether the left word of the node is plain, where it has one.
+fn has_plain_word(rule: &RuleTable, node: u8) -> bool
+    ensures { IsTrue result ↔ IsPlainWord (letters (rule_of rule.now) Left node) }
+{
+    match rule.word(Side::Left, node) {
+        Some(word) => is_plain(&word),
+        None => true,
+    }
 }
 
 /// Whether each letter is a label, and no two are the same.
