@@ -1,24 +1,22 @@
 -- With the values of its deciding instances the map of an unfolding is well embedded.
-use Rattle.std.proofs.Common.{◌≡◌, ℕ, ◌<◌, ◌≤◌, ◌⊎◌, List, [], ◌∷◌, Bool, not, ◌&&◌, IsTrue, true, false, slice_get, Some, refl, sym, ◌∙◌, ap, subst, inl, inr}
-use Rattle.gm_model.specs.declared.rule.Side.{Side}
+use Rattle.std.proofs.Common.{◌≡◌, ℕ, ◌<◌, ◌≤◌, ◌⊎◌, List, [], ◌∷◌, not, IsTrue, false, refl, sym, ◌∙◌, ap, subst, inl, inr}
 use Rattle.gm_model.specs.declared.rule.Side.TheVariants.{Left, Right}
 use Rattle.gm_model.specs.declared.step.Step.{Step}
 use Rattle.gm_model.specs.declared.step.Step.TheVariants.{Absent, Exp, Imp}
 use Rattle.gm_model.specs.declared.value.Value.{Value}
-use Rattle.gm_model.specs.declared.word.Letter.TheVariants.{At}
-use Rattle.gm_model.specs.Components.{IsTogether, WereTogether, HasLetterIn, IsKeeper, IsInherited, HasSource, IsUnassigned, IsAssigned}
+use Rattle.gm_model.specs.Components.{IsTogether, WereTogether, HasLetterIn, IsInherited, HasSource, IsUnassigned, IsAssigned}
 use Rattle.gm_model.specs.Maps.{Map, IsDart, IsConstantOnOrbits, dimension}
 use Rattle.gm_model.specs.Matches.{Placement}
-use Rattle.gm_model.specs.NewValues.{IsDecidedBy, IsUndecided, IsAssignedAt, LiesIn, IsValueAfter, Decided, Kept, Added}
-use Rattle.gm_model.specs.Orbits.{Labels, IsPathIn, IsInOrbit, follow}
-use Rattle.gm_model.specs.Rules.{Rule, has_word, is_added, is_preserved, letters, links_on, step, IsLinked}
-use Rattle.gm_model.specs.Structure.{IsJoined, Leads}
-use Rattle.gm_model.specs.Unfolding.{IsUnfolding, IsArcAfter, IsKeptArc, IsMadeArc, LeadsBy, scene_of, name_in}
-use Rattle.gm_theory.proofs.Arcs.{kept_name, same_instance, link_arc, arc_to, arc_back}
-use Rattle.gm_theory.proofs.Scenes.{IsLeftAt, IsRightAt, IsLawful}
+use Rattle.gm_model.specs.NewValues.{IsDecidedBy, IsUndecided, LiesIn, IsValueAfter, Decided, Kept, Added}
+use Rattle.gm_model.specs.Orbits.{Labels, IsPathIn, follow}
+use Rattle.gm_model.specs.Rules.{Rule, has_word, is_preserved, step, IsLinked}
+use Rattle.gm_model.specs.Structure.{Leads}
+use Rattle.gm_model.specs.Unfolding.{IsUnfolding, IsArcAfter, scene_of, name_in}
+use Rattle.gm_theory.proofs.Arcs.{same_instance, link_arc, arc_to, arc_back}
+use Rattle.gm_theory.proofs.Scenes.{IsLawful}
 use Rattle.gm_theory.proofs.Tests.{both_true, not_true, and_true, true_or_false, not_both}
 use Rattle.gm_theory.proofs.ValuesReadOff.{IsReadOff}
-use Rattle.gm_theory.proofs.ValuesJoined.{joined_here, joined_by_link, joined_through, pair_order}
+use Rattle.gm_theory.proofs.ValuesJoined.{joined_here, joined_by_link, joined_through, pair_same}
 
 module _ (map : Map) (rule : Rule) (place : Placement) (count width : ℕ) (label : ℕ → ℕ) (law : IsLawful (scene_of map rule place) count width label) (read_off : IsReadOff (dimension map) rule)
     (IsLive : ℕ → Type 0) (alpha : ℕ → ℕ → ℕ) (next : ℕ) (unfolded : IsUnfolding (scene_of map rule place) IsLive alpha next)
@@ -26,7 +24,6 @@ module _ (map : Map) (rule : Rule) (place : Placement) (count width : ℕ) (labe
     (constant : IsConstantOnOrbits (IsDart map) map.alpha (map.value e) o)
     (sources : (x : ℕ) → IsTrue (has_word rule Right x) → HasSource rule e o x)
     (IsGiven : ℕ → ℕ → Value → Type 0) (one_given : (x p : ℕ) (v w : Value) → IsGiven x p v → IsGiven x p w → v ≡ w) where
-
   abbrev name : ℕ → ℕ → ℕ
   name x p = name_in map rule place x p
 
@@ -89,7 +86,7 @@ module _ (map : Map) (rule : Rule) (place : Placement) (count width : ℕ) (labe
   lies_behind d i x p live t (path, all, f) = (i ∷ path, (t, all), ap (follow alpha path) (back_along d i live t) ∙ f)
 
   -- the nodes of a right component lie in one orbit at each position
-  new_together : (x y p : ℕ) → p < place.positions → IsTogether rule o x y → LiesIn map rule place alpha e o (name x p) y p
+  pub new_together : (x y p : ℕ) → p < place.positions → IsTogether rule o x y → LiesIn map rule place alpha e o (name x p) y p
   new_together x y p b (r, (path, all, leads)) = (path, all, go x r path all leads)
     where
       go : (z : ℕ) → IsTrue (has_word rule Right z) → (path : List ℕ) → IsPathIn o path → Leads rule.right_links z path y → follow alpha path (name z p) ≡ name y p
@@ -102,7 +99,7 @@ module _ (map : Map) (rule : Rule) (place : Placement) (count width : ℕ) (labe
   -- ---- one step between decided darts
 
   same_decider : (d i x p y q : ℕ) → IsLive d → IsTrue (o i) → IsDecidedBy map rule place alpha e o d x p → IsDecidedBy map rule place alpha e o (alpha i d) y q → (x ≡ y) × (p ≡ q)
-  same_decider d i x p y q live t a b = pair_order x p y q
+  same_decider d i x p y q live t a b = pair_same x p y q
       (λ h. b.least x p h a.assigned (lies_behind d i x p live t a.lies))
       (λ h. a.least y q h b.assigned (lies_before d i y q t b.lies))
 
@@ -131,12 +128,14 @@ module _ (map : Map) (rule : Rule) (place : Placement) (count width : ℕ) (labe
           let here : IsTogether rule o x x = (r.0, joined_here rule.right_links o x) in
           f ∙ ap (map.value e) (law.names.kept x p l) ∙ sym (preserved_same x x keeper p r.1 i here (and_true (has_word rule Left x) (has_word rule Right x) l r.0))
       go (inr a) = not_both (map.live (name x p)) live (law.names.fresh x p a r)
-  at_keeper x p keeper v r i u (Added y q k none a b f kept g) = g ∙ sym (ap (λ t. map.value e (place.dart_of k t)) same.1 ) ∙ sym (preserved_same x k keeper p r.1 i there kept.preserved)
+  at_keeper x p keeper v r i u (Added y q k none a b f kept g) = g ∙ sym (ap (λ t. map.value e (place.dart_of k t)) same.1) ∙ sym (preserved_same x k keeper p r.1 i there kept.preserved)
     where
       right : IsTrue (has_word rule Right y)
       right = (both_true (not (has_word rule Left y)) (has_word rule Right y) a).1
+
       same : (x ≡ y) × (p ≡ q)
       same = same_instance (scene_of map rule place) count width label law x p y q r (right, b) f
+
       there : IsTogether rule o x k
       there = subst (λ z. IsTogether rule o z k) (sym same.0) kept.together
 
@@ -154,12 +153,16 @@ module _ (map : Map) (rule : Rule) (place : Placement) (count width : ℕ) (labe
     where
       within : place.turn p m < place.positions
       within = law.turns.within p m r.1 (law.steps.right_place x i m r.0 f)
+
       k : (keeper : ℕ) × IsInherited rule o x keeper
       k = inherits x p r u
+
       along : (z : ℕ) × WereTogether rule o k.0 z × HasLetterIn rule Left o z m
       along = k.1.along m x (r.0, joined_here rule.right_links o x) (i, read_off.lettered Right x i m f, t)
+
       left : IsTrue (has_word rule Left along.0)
       left = left_end k.0 along.0 along.1
+
       old : map.value e (place.dart_of k.0 p) ≡ map.value e (place.dart_of k.0 (place.turn p m))
       old = old_together k.0 along.0 p r.1 along.1 ∙ old_turned along.0 p m (left, r.1) along.2 ∙ sym (old_together k.0 along.0 (place.turn p m) within along.1)
 
@@ -178,10 +181,13 @@ module _ (map : Map) (rule : Rule) (place : Placement) (count width : ℕ) (labe
     where
       u-from : IsUndecidedAt (name made.node made.position)
       u-from = subst IsUndecidedAt made.from u
+
       from : HasNew (name made.node made.position) v
       from = subst (λ c. HasNew c v) made.from a
+
       r : IsRight made.node made.position
       r = (made.right, made.within)
+
       go : (s : Step) → step rule Right made.node i ≡ s → v ≡ w
       go Absent f = absurd (rw f at made.leads)
       go (Exp y) f =
@@ -198,8 +204,10 @@ module _ (map : Map) (rule : Rule) (place : Placement) (count width : ℕ) (labe
     where
       split : IsUndecidedAt d → IsUndecidedAt (alpha i d) → v ≡ w
       split u u' = across_undecided d i v w t u u' a b (arc_at d i live t)
+
       behind : IsUndecidedAt d → IsUndecidedAt (alpha i d)
       behind u x p assigned lies = u x p assigned (lies_before d i x p t lies)
+
       go : HasNew d v → HasNew (alpha i d) w → v ≡ w
       go (Decided x p decided g) (Decided y q decided' g') =
           let same : (x ≡ y) × (p ≡ q) = same_decider d i x p y q live t decided decided' in

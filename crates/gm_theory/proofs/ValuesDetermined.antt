@@ -1,27 +1,19 @@
 -- The new values of an unfolding are determined.
-use Rattle.std.proofs.Common.{◌≡◌, ℕ, ◌<◌, ◌≤◌, ◌⊎◌, List, [], ◌∷◌, not, ◌&&◌, IsTrue, refl, sym, ◌∙◌, ap, subst, inl, inr}
-use Rattle.std.proofs.lemmas.Bool.{cases_order}
+use Rattle.std.proofs.Common.{◌≡◌, ℕ, ◌<◌, ◌≤◌, ◌⊎◌, List, [], ◌∷◌, not, IsTrue, refl, sym, ◌∙◌, ap, subst, inl, inr}
 use Rattle.gm_model.specs.declared.rule.Side.TheVariants.{Left, Right}
 use Rattle.gm_model.specs.declared.value.Value.{Value}
 use Rattle.gm_model.specs.Components.{IsKeeper}
-use Rattle.gm_model.specs.Maps.{Map, IsDart, dimension}
+use Rattle.gm_model.specs.Maps.{Map, dimension}
 use Rattle.gm_model.specs.Matches.{Placement}
-use Rattle.gm_model.specs.NewValues.{IsUndecided, LiesIn, IsDecidedBy, IsValueAfter, Decided, Kept, Added}
+use Rattle.gm_model.specs.NewValues.{LiesIn, IsValueAfter, Decided, Kept, Added}
 use Rattle.gm_model.specs.Orbits.{Labels, IsPathIn, follow}
 use Rattle.gm_model.specs.Rules.{Rule, has_word, is_added}
-use Rattle.gm_model.specs.Unfolding.{scene_of, name_in}
+use Rattle.gm_model.specs.Unfolding.{scene_of}
 use Rattle.gm_theory.proofs.Arcs.{same_instance}
+use Rattle.gm_theory.proofs.NoFault.{one_keeper}
 use Rattle.gm_theory.proofs.Scenes.{IsLawful}
 use Rattle.gm_theory.proofs.Tests.{both_true, not_true, not_both}
-use Rattle.gm_theory.proofs.ValuesJoined.{pair_order}
-
-keeper_same : (rule : Rule) (o : Labels) (x k k' : ℕ) → IsKeeper rule o x k → IsKeeper rule o x k' → k ≡ k'
-keeper_same rule o x k k' a b = go (cases_order k k')
-  where
-    go : (k ≡ k') ⊎ ((k < k') ⊎ (k' < k)) → k ≡ k'
-    go (inl e) = e
-    go (inr (inl h)) = absurd (b.least k h a.together a.preserved)
-    go (inr (inr h)) = absurd (a.least k' h b.together b.preserved)
+use Rattle.gm_theory.proofs.ValuesJoined.{pair_same}
 
 module _ (map : Map) (rule : Rule) (place : Placement) (count width : ℕ) (label : ℕ → ℕ) (law : IsLawful (scene_of map rule place) count width label)
     (e : ℕ) (o : Labels) (labels : (i : ℕ) → IsTrue (o i) → i ≤ dimension map)
@@ -42,7 +34,7 @@ module _ (map : Map) (rule : Rule) (place : Placement) (count width : ℕ) (labe
   value_same d v w live (Decided x p a g) (Decided y q b h) = subst (λ u. u ≡ w) refl (one_given y q v w (subst (λ z. IsGiven z q v) same.0 (subst (λ s. IsGiven x s v) same.1 g)) h)
     where
       same : (x ≡ y) × (p ≡ q)
-      same = pair_order x p y q (λ k. b.least x p k a.assigned (lies_there d x p live a.lies)) (λ k. a.least y q k b.assigned (lies_here d y q live b.lies))
+      same = pair_same x p y q (λ k. b.least x p k a.assigned (lies_there d x p live a.lies)) (λ k. a.least y q k b.assigned (lies_here d y q live b.lies))
   value_same d v w live (Decided x p a g) (Kept u old f) = absurd (u x p a.assigned (lies_there d x p live a.lies))
   value_same d v w live (Decided x p a g) (Added y q k u n b f kept h) = absurd (u x p a.assigned (lies_there d x p live a.lies))
   value_same d v w live (Kept u old f) (Decided y q b h) = absurd (u y q b.assigned (lies_here d y q live b.lies))
@@ -58,9 +50,12 @@ module _ (map : Map) (rule : Rule) (place : Placement) (count width : ℕ) (labe
     where
       right : (z : ℕ) → IsTrue (is_added rule z) → IsTrue (has_word rule Right z)
       right z t = (both_true (not (has_word rule Left z)) (has_word rule Right z) t).1
+
       same : (x ≡ y) × (p ≡ q)
       same = same_instance (scene_of map rule place) count width label law x p y q (right x n, a) (right y m, b) (sym f ∙ f')
+
       keepers : k ≡ l
-      keepers = keeper_same rule o y k l (subst (λ z. IsKeeper rule o z k) same.0 kept) kept'
+      keepers = one_keeper rule o y k l (subst (λ z. IsKeeper rule o z k) same.0 kept) kept'
+
       old : map.value e (place.dart_of k p) ≡ map.value e (place.dart_of l q)
       old = ap (λ z. map.value e (place.dart_of z p)) keepers ∙ ap (λ s. map.value e (place.dart_of l s)) same.1

@@ -1,5 +1,5 @@
 -- Two lists without repeats that have the same darts: they have one length, and one sum of components.
-use Rattle.std.proofs.Common.{◌≡◌, ℕ, zero, suc, ◌+◌, ◌<◌, ◌⊎◌, List, [], ◌∷◌, ◌++◌, length, map, get_or, Contains, ℤ, ◌+ℤ◌, refl, sym, ◌∙◌, ap, ap₂, subst, inl, inr, arith, length-append}
+use Rattle.std.proofs.Common.{◌≡◌, ℕ, zero, suc, ◌⊎◌, List, [], ◌∷◌, ◌++◌, length, map, Contains, ℤ, ◌+ℤ◌, refl, sym, ◌∙◌, ap, ap₂, subst, inl, inr, arith, length-append}
 use Rattle.std.proofs.lemmas.Grind.{get_or_default_zero}
 use Rattle.std.proofs.lemmas.Int.{ints}
 use Rattle.gm_model.specs.Expressions.{by_component, total}
@@ -75,20 +75,26 @@ module _ (R : List ℕ → List ℕ → Type 0) (none : R [] []) (more : (x : �
     where
       parts : (us : List ℕ) × (vs : List ℕ) × (ys ≡ us ++ x ∷ vs)
       parts = split_at ys x (there x (inl refl))
+
       us : List ℕ
       us = parts.0
+
       vs : List ℕ
       vs = parts.1
+
       e : ys ≡ us ++ x ∷ vs
       e = parts.2
+
       apart : (IsIn x (us ++ vs) → ⊥) × AreDistinct (us ++ vs)
       apart = distinct_middle us vs x (subst AreDistinct e d')
+
       there' : (z : ℕ) → IsIn z xs → IsIn z (us ++ vs)
       there' z i = go (in_middle us vs x z (subst (IsIn z) e (there z (inr i))))
         where
           go : (x ≡ z) ⊎ IsIn z (us ++ vs) → IsIn z (us ++ vs)
           go (inl f) = absurd (d.0 (subst (λ u. IsIn u xs) (sym f) i))
           go (inr j) = j
+
       back' : (z : ℕ) → IsIn z (us ++ vs) → IsIn z xs
       back' z i = go (back z (subst (IsIn z) (sym e) (in_around us vs x z (inr i))))
         where

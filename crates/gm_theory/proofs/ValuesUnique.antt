@@ -1,5 +1,5 @@
 -- An expression has at most one value where it is read.
-use Rattle.std.proofs.Common.{◌≡◌, ◌≢◌, ℕ, ◌⊎◌, ◌↔◌, ℤ, pos, negsuc, ◌+ℤ◌, ◌-ℤ◌, ◌*ℤ◌, ◌≤ℤ◌, neg_ℤ, Bool, true, false, not, IsTrue, List, [], ◌∷◌, length, map, slice_get, Some, refl, sym, ◌∙◌, ap, ap₂, subst, inl, inr, arith}
+use Rattle.std.proofs.Common.{◌≡◌, ◌≢◌, ℕ, ◌↔◌, ℤ, pos, negsuc, ◌-ℤ◌, ◌*ℤ◌, ◌≤ℤ◌, Bool, true, false, not, IsTrue, List, [], ◌∷◌, map, refl, sym, ◌∙◌, ap, ap₂, subst, inl, inr, arith}
 use Rattle.std.proofs.lemmas.Int.{ints}
 use Rattle.std.proofs.Math.IntN.{*ℤ_comm}
 use Rattle.gm_model.specs.declared.expr.BinOp.{BinOp}
@@ -12,8 +12,7 @@ use Rattle.gm_model.specs.declared.value.Kind.TheVariants as kinds
 use Rattle.gm_model.specs.declared.value.Value.{Value}
 use Rattle.gm_model.specs.declared.value.Value.TheVariants as values
 use Rattle.gm_model.specs.declared.word.Mask.{Mask}
-use Rattle.gm_model.specs.Expressions.{Reading, HasValue, IsMade, IsUnary, IsBinary, IsComponent, IsScaled, IsProduct, IsQuotient, IsRemainder, IsTest, IsLogic, IsSum, IsFirstOf, IsCollected, components, by_component, floor, total, dart_at}
-use Rattle.gm_model.specs.Kinds.{sum_kind}
+use Rattle.gm_model.specs.Expressions.{Reading, HasValue, IsMade, IsUnary, IsBinary, IsComponent, IsScaled, IsProduct, IsQuotient, IsRemainder, IsTest, IsLogic, IsSum, IsFirstOf, IsCollected, components, floor}
 use Rattle.gm_model.specs.Orbits.{HasCount}
 use Rattle.gm_model.specs.Trees.{Tree, Number, Truth, Param, Field, Same, Count, Sum, Least, Greatest, Unary, Binary, If, MakeVec2, MakeVec3, MakeRgb}
 use Rattle.gm_model.specs.Values.{kind_of}
@@ -80,7 +79,7 @@ scaled_same x y b v w e h k = made_same (kind_of b) (kind_of b) (map (λ z. x *�
 scaled_both : (x y : ℤ) (a b v w : Value) → a ≡ values.Int x → b ≡ values.Int y → IsScaled x b v → IsScaled y a w → v ≡ w
 scaled_both x y a b v w e f h k =
     made_same kinds.Int kinds.Int ((x *ℤ y) ∷ []) ((y *ℤ x) ∷ []) v w refl (ap (λ z. z ∷ []) (*ℤ_comm x y))
-      (subst (λ c. IsScaled x c v) f h) (subst (λ c. IsScaled y c w) e k)
+    (subst (λ c. IsScaled x c v) f h) (subst (λ c. IsScaled y c w) e k)
 
 product_same : (a b v w : Value) → IsProduct a b v → IsProduct a b w → v ≡ w
 product_same a b v w (inl (x, e, h)) (inl (y, f, k)) = scaled_same x y b v w (int_same x y (sym e ∙ f)) h k
