@@ -89,9 +89,9 @@ module _ (m : ArenaMap) (slot name : ℕ) (values : List Value) where
   -- the new dart is its own neighbour
   pub alpha-with_dart_same : (i : ℕ) → alpha (with_dart m slot name values) i name ≡ name
   alpha-with_dart_same i = ap (λ o. option_map_or (λ (dart : Dart). get_or dart.alphas i name) o name) get-with_dart_same ∙ elim (cases_lt i (m.schema.dim + 1)) [
-      | inl l ↦ get_or-replicate (m.schema.dim + 1) i name name l
-      | inr l ↦ get_or_past (replicate (m.schema.dim + 1) name) i name (rw length-replicate l)
-    ]
+    | inl l ↦ get_or-replicate (m.schema.dim + 1) i name name l
+    | inr l ↦ get_or_past (replicate (m.schema.dim + 1) name) i name (rw length-replicate l)
+  ]
 
   pub alpha-with_dart_other : (i other : ℕ) → other ≢ name → alpha (with_dart m slot name values) i other ≡ alpha m i other
   alpha-with_dart_other i other apart = alpha-alike m (with_dart m slot name values) i other (get-with_dart_other other apart)

@@ -23,5 +23,8 @@ loop-name-init g c =
     let only : (name : ℕ) → IsLiveName c.args.arena.now name → name < 8 = λ name live. omega (arith, name_below c.args.arena.now name c.next.ensures.lawful live, c.next.ensures.next) in
     record {
       free = λ name label live within. c.requires.free name label (only name live) within;
-      only = only; schema = refl; room = omega arith; names = refl;
+      only = only;
+      schema = refl;
+      room = omega arith;
+      names = refl;
     }
