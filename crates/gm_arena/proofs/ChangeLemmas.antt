@@ -28,7 +28,7 @@ pub slab_len-with_value : (places : Slab Place) (slot : ℕ) (old new : Place) �
 slab_len-with_value places slot old new here =
     let one : Option Place → ℕ = λ o. cond (is_some o) 1 0 in
     let counts : slab_len (with_value places slot new) + one (get places slot) ≡ slab_len places + 1 =
-        sum_by-set one places.slots slot (Some new) None (ContainsKey-within places slot (is_some_at _ old here)) in
+    sum_by-set one places.slots slot (Some new) None (ContainsKey-within places slot (is_some_at _ old here)) in
     let before : one (get places slot) ≡ 1 = ap one here in
     omega arith
 
