@@ -115,12 +115,12 @@ pub letter_written : (word : List Letter) (k i label : ℕ) (first : Step) (old 
 letter_written word k i label first old new h b e held =
     let m : length (take k word) ≡ k = length-take-le k word (omega (arith, slice_get_within word k (At label) h)) in
     let more : letter_step (take (k + 1) word) i ≡ step_or (letter_step (take k word) i) (cond (eqb label i) (Imp k) Absent)
-      = ap (λ t. letter_step t i) (taken word k (At label) h) ∙ letter_more i (take k word) (At label) ∙ ap (λ n. step_or (letter_step (take k word) i) (cond (eqb label i) (Imp n) Absent)) m in
+    = ap (λ t. letter_step t i) (taken word k (At label) h) ∙ letter_more i (take k word) (At label) ∙ ap (λ n. step_or (letter_step (take k word) i) (cond (eqb label i) (Imp n) Absent)) m in
     ap (λ steps. get_or steps i Absent) e
-      ∙ filled_at old label i (Imp k) b
-      ∙ ap (λ s. step_or s (cond (eqb label i) (Imp k) Absent)) held
-      ∙ step_or_assoc first (letter_step (take k word) i) (cond (eqb label i) (Imp k) Absent)
-      ∙ ap (step_or first) (sym more)
+    ∙ filled_at old label i (Imp k) b
+    ∙ ap (λ s. step_or s (cond (eqb label i) (Imp k) Absent)) held
+    ∙ step_or_assoc first (letter_step (take k word) i) (cond (eqb label i) (Imp k) Absent)
+    ∙ ap (step_or first) (sym more)
 
 pub letter_passed : (word : List Letter) (k i : ℕ) (first : Step) (old : List Step) → slice_get word k ≡ Some Gone →
     get_or old i Absent ≡ step_or first (letter_step (take k word) i) → get_or old i Absent ≡ step_or first (letter_step (take (k + 1) word) i)

@@ -13,11 +13,11 @@ loop-place-preserved c =
     let old = c.loop-place.steps in
     let held = c.loop-place.invariant.same in
     elim c.match-letter.branch [
-      in-At w ↦ (let here : slice_get word k ≡ Some (At w.in-At.label) = rw (← w.in-At.is) c.letter.ensures in rw w.steps-is record {
+      | in-At w ↦ (let here : slice_get word k ≡ Some (At w.in-At.label) = rw (← w.in-At.is) c.letter.ensures in rw w.steps-is record {
         len = w.fill.ensures.len;
         same = λ i h. letter_written word k i w.in-At.label (get_or c.args.steps.now i Absent) old _ here (rw c.loop-place.invariant.len h) w.fill.ensures.after (held i h);
       })
-    | in_default w ↦ (let here : slice_get word k ≡ Some Gone = rw (← w.in_default.is) c.letter.ensures in rw w.steps-is record {
+      | in_default w ↦ (let here : slice_get word k ≡ Some Gone = rw (← w.in_default.is) c.letter.ensures in rw w.steps-is record {
         len = c.loop-place.invariant.len;
         same = λ i h. letter_passed word k i (get_or c.args.steps.now i Absent) old here (held i h);
       })

@@ -16,15 +16,15 @@ loop-link-preserved c =
     let here : slice_get links k ≡ Some link = slice_get-get_or links k _ c.loop-link-test.true in
     let held = c.loop-link.invariant.same in
     elim c.if-link-node.branch [
-      then-link-node w ↦ rw w.steps-is record {
+      | then-link-node w ↦ rw w.steps-is record {
         len = w.fill.ensures.len;
         same = λ i h. link_written links k x i link.to link old _ here (rw c.loop-link.invariant.len h) w.fill.ensures.after (is_end-from x i link w.if-link-node.true) (other_end-from x link w.if-link-node.true) (held i h);
       }
-    | else-link-node+then-link-node-2 w ↦ rw w.steps-is record {
+      | else-link-node+then-link-node-2 w ↦ rw w.steps-is record {
         len = w.fill-then-link-node-2.ensures.len;
         same = λ i h. link_written links k x i link.from link old _ here (rw c.loop-link.invariant.len h) w.fill-then-link-node-2.ensures.after (is_end-to x i link w.if-link-node-2.true) (other_end-to x link w.if-link-node.false) (held i h);
       }
-    | else-link-node+else-link-node-2 w ↦ rw w.steps-is record {
+      | else-link-node+else-link-node-2 w ↦ rw w.steps-is record {
         len = c.loop-link.invariant.len;
         same = λ i h. link_passed links k x i link old here (is_end-neither x i link w.if-link-node.false w.if-link-node-2.false) (held i h);
       }
