@@ -23,5 +23,4 @@ pub mod Acceptance
 pub mod NewValues
 pub mod Applications
 pub mod NodeSteps
-pub mod Breaches
-pub mod MapFaults
+pub mod Ranges
