@@ -5,7 +5,7 @@ use Rattle.std.specs.Prelude.{IfSome, IsErrOf}
 use Rattle.gm_host.specs.Store.{Contents, Lacks, IsCutFrom, IsCutFromHeld, IsLongerThan, OnAbsent, OnFailed, IfTooLong}
 use Rattle.gm_host.specs.declared.fault.LoadFault.{LoadFault}
 use Rattle.gm_host.specs.declared.fault.LoadFault.TheVariants as faults
-use Rattle.gm_model.specs.Answer.{most_bytes, Answer, answers, Files, IsAnswer, IsShow, IsCommand, Usage, NoMap, LongMap, BadMap, LongOutput, Shown}
+use Rattle.gmr.specs.Answer.{most_bytes, Answer, answers, Files, IsAnswer, IsShow, IsCommand, Usage, NoMap, LongMap, BadMap, LongOutput, Shown}
 use Rattle.gmr.specs.declared.refusal.NoText.{NoText}
 use Rattle.gmr.specs.declared.refusal.NoText.TheVariants as nothing
 use Rattle.gmr.specs.declared.refusal.Refusal.{Refusal}

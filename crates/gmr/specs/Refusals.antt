@@ -1,6 +1,6 @@
 -- The status and the line of each refusal of a command.
 use Rattle.std.specs.Prelude.{ℕ, List, codes}
-use Rattle.gm_model.specs.Answer.{Answer, answers}
+use Rattle.gmr.specs.Answer.{Answer, answers}
 use Rattle.gmr.specs.declared.refusal.Refusal.{Refusal}
 use Rattle.gmr.specs.declared.refusal.Refusal.TheVariants.{Usage, LoadMap, SizeMap, MapNotRead, SizeOutput}
 

@@ -2,7 +2,7 @@
 use Rattle.std.specs.Prelude.{◌≡◌, ◌⊎◌, ℕ, ◌<◌, ◌≤◌, List, length, Option, Some, None, Result, Ok, Err}
 use Rattle.std.specs.Global.{Vec}
 use Rattle.gm_host.specs.Store.{Contents, Lacks, IsHeld, HoldsLongerFile}
-use Rattle.gm_model.specs.Answer.{most_bytes}
+use Rattle.gmr.specs.Answer.{most_bytes}
 use Rattle.gm_model.specs.GMap.{Row}
 use Rattle.gm_model.specs.MapText.{MapText, StandsForNoMap, canonical}
 use Rattle.gm_host.specs.declared.fault.LoadFault.{LoadFault}

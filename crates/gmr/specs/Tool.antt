@@ -1,7 +1,7 @@
 -- What a run of the program leaves: its status, what was written, and what its files and output did.
 use Rattle.std.specs.Prelude.{◌≡◌, ◌⊎◌, ◌↔◌, ℕ, ◌<◌, List, ◌++◌, map, take, length, Option, Some, None, Result, Ok, Err, codes, String, string_bytes}
 use Rattle.std.specs.Global.{Vec, Global}
-use Rattle.gm_model.specs.Answer.{Answer, answers, Files, IsAnswer, IsCommand, IsShow}
+use Rattle.gmr.specs.Answer.{Answer, answers, Files, IsAnswer, IsCommand, IsShow}
 use Rattle.gm_host.specs.Store.{Contents, Lacks}
 use Rattle.gm_host.specs.Count.{counted, Rises}
 use Rattle.gm_host.specs.Sink.{extended, ExtendsInPart}

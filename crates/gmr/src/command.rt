@@ -1,5 +1,5 @@
 ghost use Rattle.std.specs.Prelude.{MatchOption, ◌≡◌};
-ghost use Rattle.gm_model.specs.Answer.{IsShow, IsCommand};
+ghost use Rattle.gmr.specs.Answer.{IsShow, IsCommand};
 ghost use Rattle.gmr.specs.Tool.{words_of};
 
 /// The command, or `None` where the words are no command with its number of words.

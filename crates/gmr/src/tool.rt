@@ -1,6 +1,6 @@
 ghost use Rattle.std.specs.Prelude.{◌≡◌, ◌⊎◌, ◌<◌, IsErrOf, IfSome};
 ghost use Rattle.gm_host.specs.Count.{counted, Rises};
-ghost use Rattle.gm_model.specs.Answer.{IsCommand};
+ghost use Rattle.gmr.specs.Answer.{IsCommand};
 ghost use Rattle.gmr.specs.Tool.{words_of, IsTextOf, IsPut, IsStatus, IsUsageStatus, LeavesWhereTold, LacksMap, LoadsAtMostOnce};
 ghost use Rattle.gmr.specs.declared.refusal.NoText.TheVariants as nothing;
 ghost use Rattle.gmr.specs.declared.refusal.Refusal.TheVariants as refusals;
