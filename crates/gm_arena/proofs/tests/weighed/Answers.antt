@@ -15,12 +15,12 @@ long_words = All-from_recursion (λ (w : List ℕ). 2 ≤ length w) reserved_wor
 
 one_lawful : (dim : ℕ) (e : Embed) → length e.name ≡ 1 → e.mask.bits ≡ 0 → e.kind ≡ Int → IsSchema (record { dim = dim; embeds = e ∷ [] })
 one_lawful dim e short bits int = record {
-    few = lit≤ tt;
-    named_apart = λ i j d l h. absurd (omega arith);
-    not_reserved = All-cons (λ (e : Embed). Contains reserved_words e.name → ⊥) e [] (λ h. absurd (omega (arith, short, All-contains (λ (w : List ℕ). 2 ≤ length w) reserved_words e.name long_words h))) (All-nil (λ (e : Embed). Contains reserved_words e.name → ⊥));
-    not_bool = All-cons (λ (e : Embed). e.kind ≡ Bool → ⊥) e [] (λ b. let no : Int ≡ Bool = sym int ∙ b in absurd (cc)) (All-nil (λ (e : Embed). e.kind ≡ Bool → ⊥));
-    labels = All-cons (λ (e : Embed). (label : ℕ) → dim < label → label ≤ 7 → has e.mask label ≡ false) e [] (λ label l h. rw (bits, zero-div) refl) (All-nil (λ (e : Embed). (label : ℕ) → dim < label → label ≤ 7 → has e.mask label ≡ false));
-  }
+  few = lit≤ tt;
+  named_apart = λ i j d l h. absurd (omega arith);
+  not_reserved = All-cons (λ (e : Embed). Contains reserved_words e.name → ⊥) e [] (λ h. absurd (omega (arith, short, All-contains (λ (w : List ℕ). 2 ≤ length w) reserved_words e.name long_words h))) (All-nil (λ (e : Embed). Contains reserved_words e.name → ⊥));
+  not_bool = All-cons (λ (e : Embed). e.kind ≡ Bool → ⊥) e [] (λ b. let no : Int ≡ Bool = sym int ∙ b in absurd (cc)) (All-nil (λ (e : Embed). e.kind ≡ Bool → ⊥));
+  labels = All-cons (λ (e : Embed). (label : ℕ) → dim < label → label ≤ 7 → has e.mask label ≡ false) e [] (λ label l h. rw (bits, zero-div) refl) (All-nil (λ (e : Embed). (label : ℕ) → dim < label → label ≤ 7 → has e.mask label ≡ false));
+}
 
 pub returns-clause-lawful : goal.returns-clause-lawful
 returns-clause-lawful g c =
