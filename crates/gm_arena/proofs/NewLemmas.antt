@@ -11,7 +11,7 @@ use Rattle.gm_model.specs.declared.value.Value.{Value}
 use Rattle.gm_arena.specs.declared.arena.Place.{Place}
 use Rattle.gm_arena.specs.Edits.{empty_map}
 use Rattle.gm_arena.specs.Filled.{filled}
-use Rattle.gm_arena.specs.Lawful.{IsSchema}
+use Rattle.gm_model.specs.Maps.{IsSchema}
 use Rattle.gm_arena.specs.Inside.{no_slot, darts_in, slots_in, map_of, IsSound}
 use Rattle.gm_arena.proofs.FilledLemmas.{get-filled, same_maps}
 

@@ -2,7 +2,7 @@
 ghost use Rattle.std.specs.Prelude.{◌≡◌, ℕ, ◌+◌, ◌<◌, ◌≤◌, [], ◌∷◌, map, IfOk};
 ghost use Rattle.gm_model.specs.declared.schema.Embed.{Embed};
 ghost use Rattle.gm_arena.specs.ArenaMap.{alpha};
-ghost use Rattle.gm_arena.specs.Lawful.{IsSchema};
+ghost use Rattle.gm_model.specs.Maps.{IsSchema};
 
 use super::*;
 use gm_model::{Dim, Embed, Items, Kind, Mask, Name, Schema, Steps, Value};
