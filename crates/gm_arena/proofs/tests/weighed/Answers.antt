@@ -20,14 +20,14 @@ only x y (suc i) e = absurd (none-some y e)
 
 one_lawful : (dim : ℕ) (x : Embed) → length x.name ≡ 1 → x.mask.bits ≡ 0 → x.kind ≡ Int → IsSchema (record { dim = dim; embeds = x ∷ [] })
 one_lawful dim x short bits int = record {
-    count = lit≤ tt;
-    kinds = λ e embed at b. let no : Int ≡ Bool = sym int ∙ (ap (λ (y : Embed). y.kind) (only x embed e at).1 ∙ b) in absurd (cc);
-    labels = λ e i embed at h.
-        let none : has x.mask i ≡ false = rw (bits, zero-div) refl in
-        absurd (false≢true (sym none ∙ (ap (λ (y : Embed). has y.mask i) (only x embed e at).1 ∙ h)));
-    free = λ e embed at h. absurd (omega (arith, short, ap (λ (y : Embed). length y.name) (only x embed e at).1, All-contains (λ (w : List ℕ). 2 ≤ length w) reserved embed.name long_words h));
-    differ = λ e e' embed embed' at at' same. (only x embed e at).0 ∙ sym (only x embed' e' at').0;
-  }
+  count = lit≤ tt;
+  kinds = λ e embed at b. let no : Int ≡ Bool = sym int ∙ (ap (λ (y : Embed). y.kind) (only x embed e at).1 ∙ b) in absurd (cc);
+  labels = λ e i embed at h.
+      let none : has x.mask i ≡ false = rw (bits, zero-div) refl in
+      absurd (false≢true (sym none ∙ (ap (λ (y : Embed). has y.mask i) (only x embed e at).1 ∙ h)));
+  free = λ e embed at h. absurd (omega (arith, short, ap (λ (y : Embed). length y.name) (only x embed e at).1, All-contains (λ (w : List ℕ). 2 ≤ length w) reserved embed.name long_words h));
+  differ = λ e e' embed embed' at at' same. (only x embed e at).0 ∙ sym (only x embed' e' at').0;
+}
 
 pub returns-clause-lawful : goal.returns-clause-lawful
 returns-clause-lawful g c =
