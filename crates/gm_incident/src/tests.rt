@@ -14,18 +14,18 @@ struct Row<'a> {
     fault: Option<RuleFault>,
 }
 
-fn word(text: &str) -> Option<Word> {
-    let mut letters = [Letter::Gone; 8];
-    let bytes = text.as_bytes();
+fn word(alloc: Global, text: &str) -> Result<Option<Word>, Fail> {
     if text == "-" {
-        return None;
+        return Ok(None);
     }
-    for (place, byte) in bytes.iter().enumerate() {
-        if *byte != b'_' {
-            letters[place] = Letter::At(byte.wrapping_sub(b'0'));
-        }
+    let mut letters = Vec::new(alloc);
+    for byte in text.as_bytes() {
+        letters.push(match *byte {
+            b'_' => Letter::Gone,
+            digit => Letter::At(digit.wrapping_sub(b'0')),
+        })?;
     }
-    Word::new(&letters[..bytes.len()])
+    Ok(Some(Word::new(&letters).ok_or("word")?))
 }
 
 fn links(alloc: Global, links: &[(u8, u8, u8)]) -> Result<Items<Link>, Fail> {
@@ -46,8 +46,8 @@ fn rule(alloc: Global, row: &Row) -> Result<RuleTable, Fail> {
     for (left, right) in row.nodes {
         nodes.push(Node {
             name,
-            left: word(left),
-            right: word(right),
+            left: word(alloc, left)?,
+            right: word(alloc, right)?,
             sets: Items::new(Vec::new(alloc)),
         })?;
     }
@@ -70,21 +70,119 @@ fn faults(rt: HostRuntime) -> Result<(), Fail> {
         embeds: Items::new(Vec::new(alloc)),
     };
     let rows = [
-        Row { nodes: &[("01", "01")], hooks: &[], left_links: &[], right_links: &[], fault: Some(RuleFault::Hooks) },
-        Row { nodes: &[("-", "")], hooks: &[], left_links: &[], right_links: &[], fault: Some(RuleFault::ArcMissing { node: 0, label: 0 }) },
-        Row { nodes: &[("0_", "0_")], hooks: &[0], left_links: &[], right_links: &[], fault: Some(RuleFault::HookWord { node: 0 }) },
-        Row { nodes: &[("00", "00")], hooks: &[0], left_links: &[], right_links: &[], fault: Some(RuleFault::HookWord { node: 0 }) },
-        Row { nodes: &[("01", "0")], hooks: &[0], left_links: &[], right_links: &[], fault: Some(RuleFault::WordLength { node: 0 }) },
-        Row { nodes: &[("0", "0"), ("0", "0")], hooks: &[0], left_links: &[], right_links: &[], fault: Some(RuleFault::NotConnected { node: 1 }) },
-        Row { nodes: &[("0", "0"), ("0", "0")], hooks: &[1], left_links: &[(0, 1, 1)], right_links: &[(1, 1, 0)], fault: None },
-        Row { nodes: &[("01", "01")], hooks: &[0], left_links: &[(0, 1, 0)], right_links: &[], fault: Some(RuleFault::ArcTwice { node: 0, label: 1, side: Side::Left }) },
-        Row { nodes: &[("01", "01")], hooks: &[0], left_links: &[(0, 2, 0)], right_links: &[(0, 2, 0), (0, 2, 0)], fault: Some(RuleFault::ArcTwice { node: 0, label: 2, side: Side::Right }) },
-        Row { nodes: &[("01", "0_")], hooks: &[0], left_links: &[], right_links: &[], fault: Some(RuleFault::ArcSetDiffers { node: 0, label: 1 }) },
-        Row { nodes: &[("01", "-")], hooks: &[0], left_links: &[], right_links: &[], fault: Some(RuleFault::ArcMissing { node: 0, label: 2 }) },
-        Row { nodes: &[("01", "01")], hooks: &[0], left_links: &[], right_links: &[], fault: None },
-        Row { nodes: &[("01", "0_"), ("-", "__"), ("-", "12")], hooks: &[0], left_links: &[], right_links: &[(0, 1, 1), (1, 0, 2)], fault: Some(RuleFault::ArcMissing { node: 1, label: 2 }) },
-        Row { nodes: &[("01", "0_"), ("-", "_2"), ("-", "12")], hooks: &[0], left_links: &[], right_links: &[(0, 1, 1), (1, 0, 2)], fault: None },
-        Row { nodes: &[("-", ""), ("-", "")], hooks: &[], left_links: &[], right_links: &[(0, 0, 1), (0, 1, 0), (0, 2, 0), (1, 1, 1), (1, 2, 1)], fault: None },
+        Row {
+            nodes: &[("01", "01")],
+            hooks: &[],
+            left_links: &[],
+            right_links: &[],
+            fault: Some(RuleFault::Hooks),
+        },
+        Row {
+            nodes: &[("-", "")],
+            hooks: &[],
+            left_links: &[],
+            right_links: &[],
+            fault: Some(RuleFault::ArcMissing { node: 0, label: 0 }),
+        },
+        Row {
+            nodes: &[("0_", "0_")],
+            hooks: &[0],
+            left_links: &[],
+            right_links: &[],
+            fault: Some(RuleFault::HookWord { node: 0 }),
+        },
+        Row {
+            nodes: &[("00", "00")],
+            hooks: &[0],
+            left_links: &[],
+            right_links: &[],
+            fault: Some(RuleFault::HookWord { node: 0 }),
+        },
+        Row {
+            nodes: &[("01", "0")],
+            hooks: &[0],
+            left_links: &[],
+            right_links: &[],
+            fault: Some(RuleFault::WordLength { node: 0 }),
+        },
+        Row {
+            nodes: &[("0", "0"), ("0", "0")],
+            hooks: &[0],
+            left_links: &[],
+            right_links: &[],
+            fault: Some(RuleFault::NotConnected { node: 1 }),
+        },
+        Row {
+            nodes: &[("0", "0"), ("0", "0")],
+            hooks: &[1],
+            left_links: &[(0, 1, 1)],
+            right_links: &[(1, 1, 0)],
+            fault: None,
+        },
+        Row {
+            nodes: &[("01", "01")],
+            hooks: &[0],
+            left_links: &[(0, 1, 0)],
+            right_links: &[],
+            fault: Some(RuleFault::ArcTwice {
+                node: 0,
+                label: 1,
+                side: Side::Left,
+            }),
+        },
+        Row {
+            nodes: &[("01", "01")],
+            hooks: &[0],
+            left_links: &[(0, 2, 0)],
+            right_links: &[(0, 2, 0), (0, 2, 0)],
+            fault: Some(RuleFault::ArcTwice {
+                node: 0,
+                label: 2,
+                side: Side::Right,
+            }),
+        },
+        Row {
+            nodes: &[("01", "0_")],
+            hooks: &[0],
+            left_links: &[],
+            right_links: &[],
+            fault: Some(RuleFault::ArcSetDiffers { node: 0, label: 1 }),
+        },
+        Row {
+            nodes: &[("01", "-")],
+            hooks: &[0],
+            left_links: &[],
+            right_links: &[],
+            fault: Some(RuleFault::ArcMissing { node: 0, label: 2 }),
+        },
+        Row {
+            nodes: &[("01", "01")],
+            hooks: &[0],
+            left_links: &[],
+            right_links: &[],
+            fault: None,
+        },
+        Row {
+            nodes: &[("01", "0_"), ("-", "__"), ("-", "12")],
+            hooks: &[0],
+            left_links: &[],
+            right_links: &[(0, 1, 1), (1, 0, 2)],
+            fault: Some(RuleFault::ArcMissing { node: 1, label: 2 }),
+        },
+        Row {
+            nodes: &[("01", "0_"), ("-", "_2"), ("-", "12")],
+            hooks: &[0],
+            left_links: &[],
+            right_links: &[(0, 1, 1), (1, 0, 2)],
+            fault: None,
+        },
+        Row {
+            nodes: &[("-", ""), ("-", "")],
+            hooks: &[],
+            left_links: &[],
+            right_links: &[(0, 0, 1), (0, 1, 0), (0, 2, 0), (1, 1, 1), (1, 2, 1)],
+            fault: None,
+        },
     ];
     for (at, row) in rows.iter().enumerate() {
         let rule = rule(alloc, row)?;
