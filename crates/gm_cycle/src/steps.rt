@@ -65,7 +65,10 @@ pub fn closes(rule: &RuleTable, rows: &StepRows, node: u8, i: u8, j: u8) -> bool
         }
         (Step::Exp(y), Step::Imp(place)) => step_at(rows, y, j) == Step::Imp(place),
         (Step::Imp(place), Step::Exp(z)) => step_at(rows, z, i) == Step::Imp(place),
-        (Step::Imp(place), Step::Imp(other)) => are_apart(label_at(rule, place), label_at(rule, other)),
+        (Step::Imp(place), Step::Imp(other)) => are_apart(
+            label_at(rule, place),
+            label_at(rule, other),
+        ),
         _ => false,
     }
 }

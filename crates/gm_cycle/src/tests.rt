@@ -69,21 +69,116 @@ fn squares(rt: HostRuntime) -> Result<(), Fail> {
     let quad = [(0, 1, 1), (1, 0, 2)];
     let rows = [
         // A square is cut into four, with the letters in order, and then with two exchanged.
-        Row { nodes: &[("01", "0_"), ("-", "_2"), ("-", "12")], hooks: &[0], left_links: &[], right_links: &quad, dim: 2, fault: None },
-        Row { nodes: &[("01", "0_"), ("-", "_2"), ("-", "21")], hooks: &[0], left_links: &[], right_links: &quad, dim: 2, fault: Some(RuleFault::Square { node: 1, i: 0, j: 2 }) },
+        Row {
+            nodes: &[("01", "0_"), ("-", "_2"), ("-", "12")],
+            hooks: &[0],
+            left_links: &[],
+            right_links: &quad,
+            dim: 2,
+            fault: None,
+        },
+        Row {
+            nodes: &[("01", "0_"), ("-", "_2"), ("-", "21")],
+            hooks: &[0],
+            left_links: &[],
+            right_links: &quad,
+            dim: 2,
+            fault: Some(RuleFault::Square {
+                node: 1,
+                i: 0,
+                j: 2,
+            }),
+        },
         // The same in dimension 3.
-        Row { nodes: &[("013", "0_3"), ("-", "_23"), ("-", "123")], hooks: &[0], left_links: &[], right_links: &quad, dim: 3, fault: None },
-        Row { nodes: &[("013", "0_3"), ("-", "_32"), ("-", "123")], hooks: &[0], left_links: &[], right_links: &quad, dim: 3, fault: Some(RuleFault::Square { node: 0, i: 1, j: 3 }) },
+        Row {
+            nodes: &[("013", "0_3"), ("-", "_23"), ("-", "123")],
+            hooks: &[0],
+            left_links: &[],
+            right_links: &quad,
+            dim: 3,
+            fault: None,
+        },
+        Row {
+            nodes: &[("013", "0_3"), ("-", "_32"), ("-", "123")],
+            hooks: &[0],
+            left_links: &[],
+            right_links: &quad,
+            dim: 3,
+            fault: Some(RuleFault::Square {
+                node: 0,
+                i: 1,
+                j: 3,
+            }),
+        },
         // Two darts of which each is its own neighbour but at label 0.
-        Row { nodes: &[("-", ""), ("-", "")], hooks: &[], left_links: &[], right_links: &[(0, 0, 1), (0, 1, 0), (0, 2, 0), (1, 1, 1), (1, 2, 1)], dim: 2, fault: None },
+        Row {
+            nodes: &[("-", ""), ("-", "")],
+            hooks: &[],
+            left_links: &[],
+            right_links: &[(0, 0, 1), (0, 1, 0), (0, 2, 0), (1, 1, 1), (1, 2, 1)],
+            dim: 2,
+            fault: None,
+        },
         // Four darts, of which two are joined at label 2 and two are not.
-        Row { nodes: &[("-", ""), ("-", ""), ("-", ""), ("-", "")], hooks: &[], left_links: &[],
-            right_links: &[(0, 0, 1), (2, 0, 3), (0, 2, 2), (1, 2, 1), (3, 2, 3), (0, 1, 0), (1, 1, 1), (2, 1, 2), (3, 1, 3)], dim: 2, fault: Some(RuleFault::Square { node: 0, i: 0, j: 2 }) },
+        Row {
+            nodes: &[("-", ""), ("-", ""), ("-", ""), ("-", "")],
+            hooks: &[],
+            left_links: &[],
+            right_links: &[
+                (0, 0, 1),
+                (2, 0, 3),
+                (0, 2, 2),
+                (1, 2, 1),
+                (3, 2, 3),
+                (0, 1, 0),
+                (1, 1, 1),
+                (2, 1, 2),
+                (3, 1, 3),
+            ],
+            dim: 2,
+            fault: Some(RuleFault::Square {
+                node: 0,
+                i: 0,
+                j: 2,
+            }),
+        },
         // A step that changes at a preserved node is excused no more.
-        Row { nodes: &[("0", "0")], hooks: &[0], left_links: &[], right_links: &[], dim: 2, fault: None },
-        Row { nodes: &[("01", "01")], hooks: &[0], left_links: &[(0, 2, 0)], right_links: &[(0, 2, 0)], dim: 2, fault: None },
-        Row { nodes: &[("0", "_"), ("0", "_")], hooks: &[0], left_links: &[(0, 2, 1)], right_links: &[(0, 2, 1), (0, 0, 0), (1, 0, 1)], dim: 2, fault: None },
-        Row { nodes: &[("02", "2_"), ("02", "_2")], hooks: &[0], left_links: &[(0, 1, 1)], right_links: &[(0, 0, 1), (0, 1, 1)], dim: 2, fault: Some(RuleFault::Square { node: 0, i: 0, j: 2 }) },
+        Row {
+            nodes: &[("0", "0")],
+            hooks: &[0],
+            left_links: &[],
+            right_links: &[],
+            dim: 2,
+            fault: None,
+        },
+        Row {
+            nodes: &[("01", "01")],
+            hooks: &[0],
+            left_links: &[(0, 2, 0)],
+            right_links: &[(0, 2, 0)],
+            dim: 2,
+            fault: None,
+        },
+        Row {
+            nodes: &[("0", "_"), ("0", "_")],
+            hooks: &[0],
+            left_links: &[(0, 2, 1)],
+            right_links: &[(0, 2, 1), (0, 0, 0), (1, 0, 1)],
+            dim: 2,
+            fault: None,
+        },
+        Row {
+            nodes: &[("02", "2_"), ("02", "_2")],
+            hooks: &[0],
+            left_links: &[(0, 1, 1)],
+            right_links: &[(0, 0, 1), (0, 1, 1)],
+            dim: 2,
+            fault: Some(RuleFault::Square {
+                node: 0,
+                i: 0,
+                j: 2,
+            }),
+        },
     ];
     for (at, row) in rows.iter().enumerate() {
         let schema = Schema {
