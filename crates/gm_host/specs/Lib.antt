@@ -1,4 +1,6 @@
+-- What the contracts of stores and sinks cite.
 pub mod Count
+pub mod FileStore
 pub mod Files
 pub mod MemSink
 pub mod MemStore

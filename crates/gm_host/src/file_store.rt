@@ -10,12 +10,13 @@ use std::alloc::Global;
 use std::fs;
 use std::fs::Files;
 use std::io::Read;
+use std::marker::Model;
 
 /// How many bytes one read asks for.
 const PIECE: usize = 65_536;
 
-/// The files of the system, by name. It does not tell what it holds, and a file that is not there
-/// is `Failed`.
+/// The files of the system, by name. It does not tell what it holds, a file that is not there is
+/// `Failed`, and each load that is not Ok raises its count of faults.
 #[derive(Drop)]
 pub struct FileStore<'r, R> {
     rt: &'r R,
@@ -23,11 +24,18 @@ pub struct FileStore<'r, R> {
     load_faults: u64,
 }
 
+impl<'r, R> Model for FileStore<'r, R> {
+    ghost use Rattle.gm_host.specs.FileStore.{Counts};
+
+    ghost Value = { Counts };
+
+    ghost view = { λ store. record { loads = store.loads; load_faults = store.load_faults } };
+}
+
 impl<'r, R: Files> FileStore<'r, R> {
     /// The files that this runtime reaches.
     pub fn new(rt: &'r R) -> FileStore<'r, R>
-        ensures loads { result.loads ≡ 0 }
-        ensures load_faults { result.load_faults ≡ 0 }
+        ensures { result ≡ record { loads = 0; load_faults = 0 } }
     {
         FileStore {
             rt,

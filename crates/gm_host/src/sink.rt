@@ -6,15 +6,15 @@ use crate::fault::PutFault;
 
 /// Where bytes are written to, one after the other.
 ///
-/// Contracts see the bytes written so far, or that the sink does not tell, and the number of puts
-/// that failed, which stays at 18,446,744,073,709,551,615 once it has reached it, and counts as risen
-/// from then on.
+/// Contracts see the bytes written so far, or that the sink does not tell, and a count of faults that
+/// rises where a put answers `Failed`. A count that has reached 18,446,744,073,709,551,615 stays there,
+/// and counts as risen from then on.
 pub trait Sink {
     ghost written: { Self → Option (List ℕ) };
 
     ghost faults: { Self → ℕ };
 
-    /// Appends the bytes.
+    /// Appends the bytes, all of them where the answer is Ok.
     fn put(&mut self, bytes: &[u8]) -> Result<(), PutFault>
         ensures faults_never_fall { faults self.old ≤ faults self.new }
         ensures ok { OnOk result (written self.new ≡ extended (written self.old) bytes.now) }

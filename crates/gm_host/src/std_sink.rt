@@ -5,18 +5,27 @@ ghost use Rattle.gm_host.specs.Sink.{untold, extended, ExtendsInPart, OnFailed, 
 use crate::fault::PutFault;
 use crate::sink::Sink;
 use std::io::Print;
+use std::marker::Model;
 
-/// The standard output. It does not tell what was written.
+/// The standard output. It does not tell what was written, and contracts see its count of faults.
 #[derive(Drop)]
 pub struct StdSink<'r, R> {
     rt: &'r R,
     faults: u64,
 }
 
+impl<'r, R> Model for StdSink<'r, R> {
+    ghost use Rattle.std.specs.Prelude.{ℕ};
+
+    ghost Value = { ℕ };
+
+    ghost view = { λ sink. sink.faults };
+}
+
 impl<'r, R: Print> StdSink<'r, R> {
     /// The standard output of this runtime.
     pub fn new(rt: &'r R) -> StdSink<'r, R>
-        ensures { result.faults ≡ 0 }
+        ensures { result ≡ 0 }
     {
         StdSink { rt, faults: 0 }
     }
@@ -25,16 +34,16 @@ impl<'r, R: Print> StdSink<'r, R> {
 impl<'r, R: Print> Sink for StdSink<'r, R> {
     ghost written = { λ _. untold };
 
-    ghost faults = { λ sink. sink.faults };
+    ghost faults = { λ sink. sink };
 
     fn put(&mut self, bytes: &[u8]) -> Result<(), PutFault>
-        ensures faults_never_fall { self.old.faults ≤ self.new.faults }
+        ensures faults_never_fall { self.old ≤ self.new }
         ensures ok { OnOk result (untold ≡ extended untold bytes.now) }
-        ensures failed { OnFailed result (Rises self.old.faults self.new.faults) }
+        ensures failed { OnFailed result (Rises self.old self.new) }
         ensures kept { OnFailed result (ExtendsInPart untold bytes.now untold) }
         ensures out_of_memory { OnOutOfMemory result (untold ≡ untold) }
         ensures enough_memory { ¬ IsOutOfMemory result }
-        ensures each_fault_counts { self.new.faults ≡ (if is_err result then counted self.old.faults else self.old.faults) }
+        ensures each_fault_counts { self.new ≡ (if is_err result then counted self.old else self.old) }
     {
         let answer = write_whole(self.rt, bytes);
         if answer.is_err() {

@@ -7,9 +7,10 @@ use std::alloc::Global;
 
 /// Files by name.
 ///
-/// Contracts see what the store holds, as a function from names to bytes, or that it does not tell;
-/// how many loads there were; and how many of them failed. A count that has reached
-/// 18,446,744,073,709,551,615 stays there, and counts as risen from then on.
+/// Contracts see what the store holds, as a function from names to bytes, or that it does not tell.
+/// They see how many loads there were, and a count of faults that rises where a load answers
+/// `Failed`. A count that has reached 18,446,744,073,709,551,615 stays there, and counts as risen from
+/// then on.
 pub trait Store {
     ghost holds: { Self → Option (List ℕ → Option (List ℕ)) };
 
@@ -19,8 +20,8 @@ pub trait Store {
 
     /// The bytes of the file `name`, which are at most `limit`.
     ///
-    /// A longer file is `TooLong`, and no more than `limit` and one bytes of it are read. A file that
-    /// is not there is `Absent` where the store tells what it holds, and `Failed` where it does not.
+    /// A longer file is `TooLong`, and is read no further than one byte past the limit. A file that is
+    /// not there is `Absent` where the store tells what it holds, and `Failed` where it does not.
     fn load(&mut self, alloc: Global, name: &str, limit: usize) -> Result<Vec<u8>, LoadFault>
         ensures held { holds self.new ≡ holds self.old }
         ensures each_load_counts { loads self.new ≡ counted (loads self.old) }

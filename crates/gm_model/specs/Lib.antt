@@ -3,7 +3,6 @@ pub mod Symbols
 pub mod GMap
 pub mod MapText
 pub mod Reading
-pub mod Answer
 pub mod Labels
 pub mod Padded
 pub mod Names
@@ -24,3 +23,6 @@ pub mod NewValues
 pub mod Applications
 pub mod NodeSteps
 pub mod Ranges
+pub mod Breaches
+pub mod MapFaults
+pub mod BookText

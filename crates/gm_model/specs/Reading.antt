@@ -1,5 +1,5 @@
 -- What it is for a text to be read by a grammar with limits, and which fault is the first from left to right where it can't be.
-use Rattle.std.specs.Prelude.{◌≡◌, ℕ, List, [], ◌∷◌, ◌++◌, map, Option, Some, None}
+use Rattle.std.specs.Prelude.{◌≡◌, ℕ, Bool, if◌then◌else◌, List, [], ◌∷◌, ◌++◌, map, Option, Some, None}
 use Rattle.std.specs.List.{AllByRecursion}
 use Rattle.gm_model.specs.declared.limit.LimitKind.{LimitKind}
 use Rattle.gm_model.specs.Symbols.{Symbol, Mark, symbols}
@@ -12,6 +12,12 @@ pub record Part (Role : Type 0) : Type 0 where
 
 abbrev pub symbols_in : {Role : Type 0} → List (Part Role) → List Symbol
 symbols_in parts = map (λ part. part.symbol) parts
+
+-- the place of the last mark
+abbrev pub last_place : List Mark → ℕ
+last_place [] = 0
+last_place (mark ∷ []) = mark.place
+last_place (mark ∷ next ∷ marks) = last_place (next ∷ marks)
 
 module _ {Role : Type 0} (IsSentence : List (Part Role) → Type 0) (limit_of : Role → Symbol → Option LimitKind) where
   -- some sentence begins with these parts
@@ -55,3 +61,18 @@ module _ {Role : Type 0} (IsSentence : List (Part Role) → Type 0) (limit_of : 
     pub begins : Begins (parts ++ part ∷ [])
     pub within : IsWithin parts
     pub passes : limit_of part.role part.symbol ≡ Some what
+
+  -- The same in a grammar where some part tells what the mark before it is: the limit that such a part passes stands at that mark.
+  pub record LimitStandsAt (stands_before : Role → Bool) (marks : List Mark) (what : LimitKind) (place : ℕ) : Type 0 where
+    pub before : List Mark
+    pub mark : Mark
+    pub after : List Mark
+    pub split : marks ≡ before ++ mark ∷ after
+    pub parts : List (Part Role)
+    pub part : Part Role
+    pub spelled : symbols before ≡ symbols_in parts
+    pub read : mark.symbol ≡ part.symbol
+    pub begins : Begins (parts ++ part ∷ [])
+    pub within : IsWithin parts
+    pub passes : limit_of part.role part.symbol ≡ Some what
+    pub here : (if stands_before part.role then last_place before else mark.place) ≡ place

@@ -17,6 +17,8 @@ mod script;
 mod sides;
 mod step;
 mod steps;
+#[cfg(test)]
+mod tests;
 mod token;
 mod value;
 mod word;

@@ -16,6 +16,9 @@ letter_byte b h = grind (arith, nat_tests)
 pub digit_byte : (b : ℕ) → is_digit b ≡ true → (is_blank b ≡ false) × (is_hash b ≡ false) × (is_letter b ≡ false)
 digit_byte b h = grind (arith, nat_tests)
 
+pub blank_byte : (b : ℕ) → is_blank b ≡ true → (is_digit b ≡ false) × (is_name_byte b ≡ false)
+blank_byte b h = grind (arith, nat_tests)
+
 pub two_byte : (b c : ℕ) → is_two_byte_sign b c ≡ true → (is_blank b ≡ false) × (is_hash b ≡ false) × (is_letter b ≡ false) × (is_digit b ≡ false) × (is_underscore b ≡ false)
 two_byte b c h = grind (arith, nat_tests)
 

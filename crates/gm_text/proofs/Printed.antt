@@ -14,7 +14,7 @@ use Rattle.gm_model.specs.declared.token.TokenKind.TheVariants as kinds
 use Rattle.gm_model.specs.Tokens.{is_blank, is_digit, is_name_byte, is_line_feed, is_sign, is_two_byte_sign, begins_two_byte_sign, IsLexeme, Item, Front, Gap, Lexeme, Stray, front_of, size_of, item_before, items_from}
 use Rattle.gm_model.specs.Symbols.{Symbol, Word, Numeral, Sign, Gone, End, value_after, value_of, symbol_of_kind, Mark, mark_of, marks_at, symbols, symbols_of}
 use Rattle.gm_model.specs.Symbols as symbol
-use Rattle.gm_text.proofs.Fronts.{size_of-front_of, front_of-blank, front_of-hash, front_of-letter, front_of-digit, front_of-underscore, front_of-two, front_of-sign}
+use Rattle.gm_text.proofs.Fronts.{blank_byte, size_of-front_of, front_of-blank, front_of-hash, front_of-letter, front_of-digit, front_of-underscore, front_of-two, front_of-sign}
 
 -- ---- the symbols of bytes, wherever the bytes stand
 
@@ -181,3 +181,17 @@ symbols_from-signed (pos n) rest small stops = symbols_from-decimal n rest (omeg
 symbols_from-signed (negsuc n) rest small stops =
     symbols_from-sign 45 (decimal (suc n) ++ rest) refl (minus_alone (decimal (suc n) ++ rest))
     ∙ ap (λ (behind : List Symbol). Sign (45 ∷ []) ∷ behind) (symbols_from-decimal (suc n) rest (omega arith) stops)
+
+-- ---- with a blank behind
+
+pub symbols_from-word_blank : (w : List ℕ) (b : ℕ) (rest : List ℕ) → IsLexeme kinds.Name w → IsTrue (is_blank b) → symbols_from (w ++ b ∷ rest) ≡ Word w ∷ symbols_from rest
+symbols_from-word_blank w b rest name blank =
+    symbols_from-word w (b ∷ rest) name (blank_byte b blank).1 ∙ ap (λ (behind : List Symbol). Word w ∷ behind) (symbols_from-blank b rest blank)
+
+pub symbols_from-decimal_blank : (n b : ℕ) (rest : List ℕ) → n < 2 ^ 64 → IsTrue (is_blank b) → symbols_from (decimal n ++ b ∷ rest) ≡ Numeral n ∷ symbols_from rest
+symbols_from-decimal_blank n b rest small blank =
+    symbols_from-decimal n (b ∷ rest) small (blank_byte b blank).0 ∙ ap (λ (behind : List Symbol). Numeral n ∷ behind) (symbols_from-blank b rest blank)
+
+pub symbols_from-signed_blank : (z : ℤ) (b : ℕ) (rest : List ℕ) → mag z < 2 ^ 63 → IsTrue (is_blank b) → symbols_from (signed_decimal z ++ b ∷ rest) ≡ signed_symbols z ++ symbols_from rest
+symbols_from-signed_blank z b rest small blank =
+    symbols_from-signed z (b ∷ rest) small (blank_byte b blank).0 ∙ ap (λ (behind : List Symbol). signed_symbols z ++ behind) (symbols_from-blank b rest blank)

@@ -1,0 +1,11 @@
+pub mod FilledLemmas
+pub mod InsideLemmas
+pub mod ChangeLemmas
+pub mod AlphaLemmas
+pub mod RemoveLemmas
+pub mod ReserveLemmas
+pub mod NewLemmas
+pub mod ValueLemmas
+pub mod AddLemmas
+pub mod NameLemmas
+pub mod MapLemmas

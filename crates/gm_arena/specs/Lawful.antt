@@ -1,0 +1,38 @@
+-- What every arena keeps: its darts have live neighbours, names and slots agree, and its numbers stay within the limits.
+use Rattle.std.specs.Prelude.{◌≡◌, ℕ, ◌+◌, ◌<◌, ◌≤◌, List, map, length, Some, All}
+use Rattle.std.specs.FinMap.{get, len}
+use Rattle.gm_model.specs.declared.schema.Schema.{Schema}
+use Rattle.gm_model.specs.declared.schema.Embed.{Embed}
+use Rattle.gm_model.specs.declared.value.Value.{Value}
+use Rattle.gm_model.specs.Maps.{IsSchema}
+use Rattle.gm_model.specs.Values.{kind_of}
+use Rattle.gm_arena.specs.ArenaMap.{ArenaMap, Dart, IsAt, IsLiveName}
+
+-- one value of the right kind for each embedding
+abbrev pub HaveKinds : Schema → List Value → Type 0
+HaveKinds schema values = map kind_of values ≡ map (λ (e : Embed). e.kind) schema.embeds
+
+pub record IsLawfulDart (m : ArenaMap) (name : ℕ) (dart : Dart) : Type 0 where
+  -- a neighbour for each label
+  pub whole : length dart.alphas ≡ m.schema.dim + 1
+  -- each of them live
+  pub neighbours : All (IsLiveName m) dart.alphas
+  pub valued : HaveKinds m.schema dart.values
+  pub below_next : name < m.next
+  pub below_reserved : name < m.reserved
+  -- the dart is at one slot
+  pub slot : ℕ
+  pub at : IsAt m slot name
+
+pub record IsLawful (m : ArenaMap) : Type 0 where
+  pub dart : (name : ℕ) (dart : Dart) → get m.darts name ≡ Some dart → IsLawfulDart m name dart
+  -- what stands at a slot is live, and stands at no other slot
+  pub live : (slot name : ℕ) → IsAt m slot name → IsLiveName m name
+  pub one_slot : (slot other name : ℕ) → IsAt m slot name → IsAt m other name → other ≡ slot
+  pub below_bound : (slot name : ℕ) → IsAt m slot name → slot < m.bound
+  pub counted : m.count ≡ len m.darts
+  pub few_darts : m.count + m.spare ≤ 1048576
+  pub few_names : m.next ≤ 16777216
+  pub few_reserved : m.reserved ≤ 16777216
+  pub dim : (0 < m.schema.dim) × (m.schema.dim ≤ 7)
+  pub schema : IsSchema m.schema

@@ -1,0 +1,15 @@
+pub mod PlainLines
+pub mod PlainOrder
+pub mod PlainLaws
+pub mod PlainText
+pub mod MapTest
+pub mod Plan
+pub mod Rows
+pub mod Sentence
+pub mod FirstFault
+pub mod Loop
+pub mod Ascending
+pub mod OneMap
+pub mod Again
+pub mod NoMap
+pub mod Worked

@@ -1,0 +1,220 @@
+//! The text of a map, read from left to right up to its first fault.
+//!
+//! `read_text` knows the grammar and its limits alone. Whether the darts that it lists are a map
+//! is tested afterwards.
+ghost use Rattle.std.specs.Prelude.{◌≡◌, ℕ, ◌+◌, ◌*◌, ◌<◌, ◌≤◌, [], length, IfOk, IfErr, MatchResult};
+ghost use Rattle.gm_model.specs.MapText.{Dimension, Count, DartName, MapText, StandsForNoMap};
+ghost use Rattle.gm_model.specs.Symbols.{marks_of};
+ghost use Rattle.gm_mapfile.specs.Draft.{IsDraft, IsFirstFault};
+ghost use Rattle.gm_mapfile.specs.Plain.{rows_of};
+ghost use Rattle.gm_mapfile.specs.Reading.{Gives, IsNext, HasNoToken, marks_left, TheWord, TheNumber, Any, wanted_at, number_at, numbers_at, ended_at, draft_of};
+
+use crate::plain::{MapFault, PlainMap, build};
+use gm_model::{Dim, LimitKind};
+use gm_text::{Lexer, Token, TokenKind};
+use std::alloc::{AllocError, AllocFailed, Global};
+
+/// The darts that a text lists, in its order, before any law of a map is tested.
+#[derive(Debug, Drop)]
+pub(crate) struct Draft {
+    pub dim: Dim,
+    /// For each dart its name, and then its neighbours from label 0 on.
+    pub numbers: Vec<u32>,
+}
+
+/// Why a text lists no darts: its first fault from left to right, or want of memory.
+#[derive(Debug, Drop)]
+pub(crate) enum TextFault {
+    /// No text of a map goes on with what stands at the place.
+    Text { place: usize },
+    /// What stands at the place passes a limit.
+    Limit { what: LimitKind, place: usize },
+    OutOfMemory,
+}
+
+impl From<AllocError> for TextFault {
+    ghost use Rattle.gm_mapfile.specs.declared.reading.TextFault.TheVariants as faults;
+
+    ghost from_gives = { λ _ fault. fault ≡ faults.OutOfMemory };
+
+    fn from(_error: AllocError) -> TextFault {
+        TextFault::OutOfMemory
+    }
+}
+
+impl<T: Drop> From<AllocFailed<T>> for TextFault {
+    ghost use Rattle.gm_mapfile.specs.declared.reading.TextFault.TheVariants as faults;
+
+    ghost from_gives = { λ _ fault. fault ≡ faults.OutOfMemory };
+
+    fn from(_error: AllocFailed<T>) -> TextFault {
+        TextFault::OutOfMemory
+    }
+}
+
+impl From<TextFault> for MapFault {
+    ghost use Rattle.gm_mapfile.specs.Draft.{map_fault_of};
+
+    ghost from_gives = { λ fault given. given ≡ map_fault_of fault };
+
+    fn from(fault: TextFault) -> MapFault {
+        match fault {
+            TextFault::Text { .. } | TextFault::Limit { .. } => MapFault::NotRead,
+            TextFault::OutOfMemory => MapFault::OutOfMemory,
+        }
+    }
+}
+
+/// A number of the text, and where it stands.
+struct Numeral {
+    /// The greatest `u64` stands for a number that is greater.
+    value: u64,
+    place: usize,
+}
+
+const MOST_DARTS: u64 = 1_048_576;
+
+const DART_NAMES: u64 = 16_777_216;
+
+fn next_token(lexer: &mut Lexer<'_>) -> Result<Token, TextFault>
+    ensures text { lexer.new.text ≡ lexer.old.text }
+    ensures found { IfOk result (λ token. IsNext lexer.old token (marks_left lexer.new)) }
+    ensures none { IfErr result (HasNoToken lexer.old) }
+{
+    match lexer.next() {
+        Ok(Some(token)) => Ok(token),
+        Ok(None) => Err(TextFault::Text {
+            place: lexer.place(),
+        }),
+        Err(fault) => Err(TextFault::Text { place: fault.place }),
+    }
+}
+
+fn word(lexer: &mut Lexer<'_>, bytes: &[u8]) -> Result<(), TextFault>
+    ensures { Gives (λ _. (0, marks_left lexer.new)) result (wanted_at (TheWord bytes.now) (marks_left lexer.old)) }
+{
+    let token = next_token(lexer)?;
+    if !matches!(token.kind, TokenKind::Name) || lexer.text(&token) != bytes {
+        return Err(TextFault::Text { place: token.start });
+    }
+    Ok(())
+}
+
+fn number(lexer: &mut Lexer<'_>) -> Result<Numeral, TextFault>
+    ensures { Gives (λ numeral. (numeral.value, numeral.place, marks_left lexer.new)) result (number_at (marks_left lexer.old)) }
+{
+    let token = next_token(lexer)?;
+    if !matches!(token.kind, TokenKind::Number) {
+        return Err(TextFault::Text { place: token.start });
+    }
+    Ok(Numeral {
+        value: lexer.number(&token).unwrap_or(u64::MAX),
+        place: token.start,
+    })
+}
+
+fn version(lexer: &mut Lexer<'_>) -> Result<(), TextFault>
+    ensures { Gives (λ _. (1, marks_left lexer.new)) result (wanted_at (TheNumber 1) (marks_left lexer.old)) }
+{
+    let Numeral { value, place } = number(lexer)?;
+    if value != 1 {
+        return Err(TextFault::Text { place });
+    }
+    Ok(())
+}
+
+fn dimension(lexer: &mut Lexer<'_>) -> Result<Dim, TextFault>
+    ensures { Gives (λ dim. (dim, marks_left lexer.new)) result (wanted_at (Any Dimension) (marks_left lexer.old)) }
+{
+    let Numeral { value, place } = number(lexer)?;
+    let what = LimitKind::Dimension;
+    if value > 7 {
+        return Err(TextFault::Limit { what, place });
+    }
+    Dim::new(value as u8).ok_or(TextFault::Limit { what, place })
+}
+
+fn dart_count(lexer: &mut Lexer<'_>) -> Result<usize, TextFault>
+    ensures value { Gives (λ count. (count, marks_left lexer.new)) result (wanted_at (Any Count) (marks_left lexer.old)) }
+    ensures most { IfOk result (λ count. count ≤ 1048576) }
+{
+    let Numeral { value, place } = number(lexer)?;
+    if value > MOST_DARTS {
+        let what = LimitKind::Darts;
+        return Err(TextFault::Limit { what, place });
+    }
+    Ok(value as usize)
+}
+
+fn dart_name(lexer: &mut Lexer<'_>) -> Result<u32, TextFault>
+    ensures { Gives (λ name. (name, marks_left lexer.new)) result (wanted_at (Any DartName) (marks_left lexer.old)) }
+{
+    let Numeral { value, place } = number(lexer)?;
+    if value >= DART_NAMES {
+        let what = LimitKind::DartName;
+        return Err(TextFault::Limit { what, place });
+    }
+    Ok(value as u32)
+}
+
+fn dart_names(
+    alloc: Global,
+    lexer: &mut Lexer<'_>,
+    count: usize,
+    room: usize,
+) -> Result<Vec<u32>, TextFault>
+    ensures { Gives (λ names. (names.items, marks_left lexer.new)) result (numbers_at DartName count (marks_left lexer.old)) }
+{
+    let mut names = Vec::with_capacity(alloc, room)?;
+    for _ in 0..count {
+        names.push(dart_name(lexer)?)?;
+    }
+    Ok(names)
+}
+
+fn end(lexer: &mut Lexer<'_>) -> Result<(), TextFault>
+    ensures { Gives (λ end. end) result (ended_at (marks_left lexer.old)) }
+{
+    match lexer.next() {
+        Ok(None) => Ok(()),
+        Ok(Some(token)) => Err(TextFault::Text { place: token.start }),
+        Err(fault) => Err(TextFault::Text { place: fault.place }),
+    }
+}
+
+#[tactic(auto, unfolding(crate::specs::Reading::draft_of))]
+fn read_all(alloc: Global, bytes: &[u8]) -> Result<Draft, TextFault>
+    ensures { Gives (λ draft. (draft.dim, draft.numbers.items)) result (draft_of (marks_of bytes.now)) }
+{
+    let mut lexer = Lexer::new(bytes);
+    word(&mut lexer, b"gmap")?;
+    version(&mut lexer)?;
+    word(&mut lexer, b"dim")?;
+    let dim = dimension(&mut lexer)?;
+    word(&mut lexer, b"darts")?;
+    let count = dart_count(&mut lexer)?;
+    let wanted = count * (dim.top() as usize + 2);
+    // Each number but the last has at least two bytes with the blank behind it.
+    let room = wanted.min(bytes.len() / 2 + 1);
+    let numbers = dart_names(alloc, &mut lexer, wanted, room)?;
+    end(&mut lexer)?;
+    Ok(Draft { dim, numbers })
+}
+
+/// The darts that the text lists, or its first fault from left to right.
+pub(crate) fn read_text(alloc: Global, bytes: &[u8]) -> Result<Draft, TextFault>
+    ensures draft { IfOk result (λ draft. IsDraft bytes.now draft.dim draft.numbers.items) }
+    ensures fault { IfErr result (IsFirstFault bytes.now) }
+{
+    read_all(alloc, bytes)
+}
+
+/// The map that the text stands for. `NotRead` says that it stands for no map without embeddings
+/// within the limits.
+pub fn read_map(alloc: Global, bytes: &[u8]) -> Result<PlainMap, MapFault>
+    ensures map { IfOk result (λ map. MapText bytes.now map.dim (rows_of map.darts)) }
+    ensures not_read { result ≡ Err MapFault.NotRead → StandsForNoMap bytes.now }
+{
+    let draft = read_text(alloc, bytes)?;
+    build(alloc, draft.dim, &draft.numbers)
+}

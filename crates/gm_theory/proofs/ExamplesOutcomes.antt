@@ -1,0 +1,214 @@
+-- Outcomes of applications, worked out.
+use Rattle.std.proofs.Common.{◌≡◌, ℕ, codes, zero, suc, ◌+◌, ◌-◌, ◌<◌, ◌≤◌, false, ◌↔◌, pos, IsTrue, List, [], ◌∷◌, length, eqb, Contains, slice_index, refl, sym, ◌∙◌, ap, subst, inl, inr, arith}
+use Rattle.std.proofs.lemmas.Bool.{eqb-true, eq-eqb, ltb-true, lt-ltb}
+use Rattle.std.proofs.lemmas.Grind.{get_or_default_zero}
+use Rattle.gm_model.specs.declared.rule.Side.TheVariants.{Left, Right}
+use Rattle.gm_model.specs.declared.value.Value.TheVariants as values
+use Rattle.gm_model.specs.Applications.{Application, HasHookDarts, MeetsSteps, HasNoRepeat, IsFound, IsStaying, IsRepeat, IsStepBefore, IsRefused, reading_at, NoDart, Arc, Same, PreNoValue, PreFalse, FullDarts, FullNames, NoHookDart, BrokenStep, Repeated, ValuelessPre, FalsePre, NoRoom, NoNames}
+use Rattle.gm_model.specs.Expressions.{HasNoValue}
+use Rattle.gm_model.specs.Maps.{Map, IsDart, IsMap, IsSchema, IsWellEmbedded}
+use Rattle.gm_model.specs.Matches.{Placement, ArePositions, Walked, IsMatch, IsCandidate, IsForced, IsPathTo, IsInstance, IsMetAt, Created}
+use Rattle.gm_model.specs.Orbits.{HasCount, IsPairBefore, IsWalk, follow}
+use Rattle.gm_model.specs.Rules.{Rule, has_word, step}
+use Rattle.gm_model.specs.Structure.{IsInRange}
+use Rattle.gm_model.specs.Trees.{Tree, Truth}
+use Rattle.gm_model.specs.Unfolding.{scene_of, IsGone}
+use Rattle.gm_theory.proofs.ExamplesChecks.{each_below, each}
+use Rattle.gm_theory.proofs.ExamplesMatches.{match_shown, walk_shown, positions_shown, met_test, met_shown}
+use Rattle.gm_theory.proofs.Lists.{some_same, none_some}
+use Rattle.gm_theory.proofs.RuleSteps.{word_below}
+use Rattle.gm_theory.proofs.Tests.{both_true, not_both}
+use Rattle.gm_theory.proofs.Walks.{walk_unique}
+use Rattle.gm_theory.specs.Examples.{planar, four_triangles, square, square_walk, triangulation, edge, on_edge, merging, point, points_of_vertices}
+use Rattle.gm_theory.specs.ExamplesOutcomes.{drop, drop_at, on_triangle, triangle_walk, lone, merging_alone, on_lone, split_if, valueless, pair, created, late, crowded, pair_on, torn, overdue, misnamed, astray}
+
+-- ---- a match of a rule whose only left node is its hook is found
+
+module _ (rule : Rule) (only : rule.hooks ≡ 0 ∷ []) (alone : (x : ℕ) → IsTrue (has_word rule Left x) → x ≡ 0) where
+  no_path : (path : List ℕ) → IsPathTo rule 0 path → path ≡ []
+  no_path [] to = refl
+  no_path (i ∷ path) to = absurd (to.least [] (some_same to.hook 0 (sym to.first ∙ rw only refl)) tt)
+
+  pub forced_alone : (map : Map) (place : Placement) (walk : List ℕ) → ((p : ℕ) → p < place.positions → place.dart_of 0 p ≡ slice_index walk p) → IsForced map rule place walk
+  forced_alone map place walk along x p path at to =
+      let zero_x : x ≡ 0 = alone x at.0 in
+      let empty : path ≡ [] = no_path path (subst (λ y. IsPathTo rule y path) zero_x to) in
+      ap (λ y. place.dart_of y p) zero_x ∙ along p at.1 ∙ ap (λ q. follow map.alpha q (slice_index walk p)) (sym empty)
+
+-- a candidate whose darts differ is found, where it is a match
+pub found_by : (app : Application) (place : Placement) → HasHookDarts app → IsCandidate app.map app.rule app.hooks place → IsMatch app.map app.rule app.hooks place → IsFound app place
+found_by app place darts candidate m = record { darts = darts; candidate = candidate; steps = m.embedded.steps; distinct = distinct }
+  where
+    distinct : HasNoRepeat app place
+    distinct x p y q r = go r.later
+      where
+        same : (x ≡ y) × (p ≡ q)
+        same = m.embedded.injective x p y q r.first r.second r.same
+
+        go : IsPairBefore x p y q → ⊥
+        go (inl h) = let e : x ≡ y = same.0 in omega arith
+        go (inr (f, h)) = let e : p ≡ q = same.1 in omega arith
+
+-- the one hook is live
+pub one_live : (map : Map) (d : ℕ) → IsDart map d → (c : ℕ) → Contains (d ∷ []) c → IsDart map c
+one_live map d live c (zero, b, e) = subst (IsDart map) e live
+one_live map d live c (suc k, b, e) = absurd (omega arith)
+
+-- ---- refusals before the precondition
+
+pub no_dart : IsRefused (drop_at 99) (NoDart 0)
+no_dart = NoHookDart 0 99 refl (λ h. not_both false h refl) (λ k e h. absurd (omega arith))
+
+only_drop : (x : ℕ) → IsTrue (has_word drop Left x) → x ≡ 0
+only_drop x w = let b : x < 1 = word_below drop Left x w in omega arith
+
+drop_candidate : IsCandidate four_triangles drop (0 ∷ []) on_triangle
+drop_candidate = record { walk = triangle_walk; positions = positions_shown four_triangles drop on_triangle 0 triangle_walk refl refl refl; forced = forced_alone drop refl only_drop four_triangles on_triangle triangle_walk (λ p b. refl) }
+
+-- at its first two positions the triangle has no neighbour, at the third it has one
+pub broken_step : IsRefused (drop_at 0) (Arc 0 2 2)
+broken_step = BrokenStep on_triangle 0 2 2 (one_live four_triangles 0 refl) drop_candidate record { instance = (refl, omega arith); label = omega arith; broken = λ m. let e : Path ℕ 10 8 = m.0 in omega arith; before = before }
+  where
+    met : (q j : ℕ) → IsTrue (met_test four_triangles drop on_triangle 0 q j (step drop Left 0 j)) → IsMetAt four_triangles drop on_triangle 0 q j
+    met q j t = met_shown four_triangles drop on_triangle 0 q j (step drop Left 0 j) t
+
+    front : (q j : ℕ) → q < 2 → j < 3 → IsMetAt four_triangles drop on_triangle 0 q j
+    front q j b c = met q j (each 3 (λ j. met_test four_triangles drop on_triangle 0 q j (step drop Left 0 j)) (each 2 (λ q. each_below 3 (λ j. met_test four_triangles drop on_triangle 0 q j (step drop Left 0 j))) refl q b) j c)
+
+    before : (y q j : ℕ) → IsStepBefore (drop_at 0) on_triangle y q j 0 2 2 → IsInstance drop on_triangle y q → j ≤ 2 → IsMetAt four_triangles drop on_triangle y q j
+    before y q j (inl (inl h)) at c = absurd (omega arith)
+    before y q j (inl (inr (e, h))) at c = subst (λ x. IsMetAt four_triangles drop on_triangle x q j) (sym e) (front q j h (omega arith))
+    before y q j (inr (e, f, h)) at c = subst (λ x. IsMetAt four_triangles drop on_triangle x q j) (sym e) (subst (λ p. IsMetAt four_triangles drop on_triangle 0 p j) (sym f) (met 2 j (each 2 (λ j. met_test four_triangles drop on_triangle 0 2 j (step drop Left 0 j)) refl j h)))
+
+-- the free ends of the one edge are one dart
+pub repeated : IsRefused merging_alone (Same 0 0 1 0)
+repeated = Repeated on_lone 0 0 1 0 (one_live lone 0 refl) candidate meets record { here = record { first = (refl, omega arith); second = (refl, omega arith); later = inl (omega arith); same = refl }; before = before }
+  where
+    loop : (i : ℕ) → lone.alpha i 0 ≡ 0
+    loop zero = refl
+    loop (suc zero) = refl
+    loop (suc (suc i)) = refl
+
+    loops : (path : List ℕ) (c : ℕ) → c ≡ 0 → follow lone.alpha path c ≡ 0
+    loops [] c e = e
+    loops (i ∷ path) c e = loops path (lone.alpha i c) (ap (lone.alpha i) e ∙ loop i)
+
+    candidate : IsCandidate lone merging (0 ∷ []) on_lone
+    candidate = record { walk = 0 ∷ []; positions = positions_shown lone merging on_lone 0 (0 ∷ []) refl refl refl; forced = λ x p path at to. sym (loops path (slice_index (0 ∷ []) p) (let z : 0 ≡ p = (let b : p < 1 = at.1 in omega arith) in subst (λ q. slice_index (0 ∷ []) q ≡ 0) z refl)) }
+
+    meets : MeetsSteps merging_alone on_lone
+    meets x p i at h = met_shown lone merging on_lone x p i (step merging Left x i) (each 2 (λ j. met_test lone merging on_lone x p j (step merging Left x j)) (each 1 (λ q. each_below 2 (λ j. met_test lone merging on_lone x q j (step merging Left x j))) (each 2 (λ y. each_below 1 (λ q. each_below 2 (λ j. met_test lone merging on_lone y q j (step merging Left y j)))) refl x (word_below merging Left x at.0)) p at.1) i (omega arith))
+
+    before : (x p y q : ℕ) → IsPairBefore y q 1 0 → IsRepeat merging_alone on_lone x p y q → ⊥
+    before x p y q (inl h) r = go r.later
+      where
+        go : IsPairBefore x p y q → ⊥
+        go (inl k) = omega arith
+        go (inr (e, k)) = let b : q < 1 = r.second.1 in omega arith
+    before x p y q (inr (e, h)) r = omega arith
+
+-- ---- preconditions
+
+only_split : (tree : Tree) (x : ℕ) → IsTrue (has_word (split_if tree).rule Left x) → x ≡ 0
+only_split tree zero w = refl
+only_split tree (suc zero) w = not_both false w refl
+only_split tree (suc (suc x)) w = not_both false w refl
+
+split_found : (tree : Tree) → IsFound (split_if tree) on_edge
+split_found tree = found_by (split_if tree) on_edge (one_live edge 0 refl) (record { walk = 0 ∷ 1 ∷ []; positions = positions_shown edge (split_if tree).rule on_edge 0 (0 ∷ 1 ∷ []) refl refl refl; forced = forced_alone (split_if tree).rule refl (only_split tree) edge on_edge (0 ∷ 1 ∷ []) (λ p b. eqb-true _ _ (each 2 (λ q. eqb q (slice_index (0 ∷ 1 ∷ []) q)) refl p b)) }) (match_shown edge (split_if tree).rule on_edge 0 (0 ∷ 1 ∷ []) refl refl refl refl)
+
+pub false_pre : IsRefused (split_if (Truth false)) PreFalse
+false_pre = FalsePre on_edge (Truth false) (split_found (Truth false)) refl refl
+
+pub valueless_pre : IsRefused (split_if valueless) PreNoValue
+valueless_pre = ValuelessPre on_edge valueless (split_found valueless) refl none
+  where
+    none : HasNoValue (reading_at (split_if valueless) on_edge 0) valueless
+    none v (x, y, (a, b, one, zero_b, (z, e, nonzero, made)), second, same) = nonzero (let f : values.Int z ≡ values.Int (pos 0) = sym e ∙ zero_b in cc)
+
+-- ---- room
+
+no_left : (x : ℕ) → IsTrue (has_word pair Left x) → ⊥
+no_left zero w = not_both false w refl
+no_left (suc zero) w = not_both false w refl
+no_left (suc (suc x)) w = not_both false w refl
+
+pair_found : (map : Map) → IsFound (pair_on map) created
+pair_found map = record {
+  darts = λ d c. absurd (let b : c.0 < 0 = c.1 in omega arith);
+  candidate = record { walk = []; positions = Created refl refl; forced = λ x p path at to. absurd (no_left x at.0) };
+  steps = λ x p i at h. absurd (no_left x at.0);
+  distinct = λ x p y q r. no_left x r.first.0;
+}
+
+none_gone : (map : Map) (d : ℕ) → IsGone (scene_of map pair created) d → ⊥
+none_gone map d (x, p, g, b, e) = no_left x (both_true _ _ g).0
+
+-- the numbers below n, the greatest first
+numbers : ℕ → List ℕ
+numbers zero = []
+numbers (suc n) = n ∷ numbers n
+
+count_numbers : (n : ℕ) → length (numbers n) ≡ n
+unfolding numbers
+count_numbers zero = refl
+count_numbers (suc n) = ap suc (count_numbers n)
+
+at_place : (n k : ℕ) → k < n → slice_index (numbers n) k + k + 1 ≡ n
+unfolding numbers
+at_place zero k b = absurd (omega arith)
+at_place (suc n) zero b = omega arith
+at_place (suc n) (suc k) b = let rest : slice_index (numbers n) k + k + 1 ≡ n = at_place n k (omega arith) in omega arith
+
+pub numbers_listed : (P : ℕ → Type 0) (n : ℕ) → ((d : ℕ) → P d ↔ (d < n)) → HasCount P n
+numbers_listed P n below = (
+  numbers n,
+  record {
+    distinct = λ p q b c e. absurd (let first : slice_index (numbers n) p + p + 1 ≡ n = at_place n p (omega (arith, count_numbers n)) in let second : slice_index (numbers n) q + q + 1 ≡ n = at_place n q (omega (arith, count_numbers n)) in omega arith);
+    same = λ d. (
+      (λ c. (below d).1 (let there : slice_index (numbers n) c.0 + c.0 + 1 ≡ n = at_place n c.0 (omega (arith, count_numbers n, c.1)) in let same : slice_index (numbers n) c.0 ≡ d = sym (get_or_default_zero (numbers n) c.0 d c.1) ∙ c.2 in omega arith)),
+      (λ p. let h : d < n = (below d).0 p in let k : (n - 1 - d) < length (numbers n) = omega (arith, count_numbers n) in (n - 1 - d, k, get_or_default_zero (numbers n) (n - 1 - d) d k ∙ (let there : slice_index (numbers n) (n - 1 - d) + (n - 1 - d) + 1 ≡ n = at_place n (n - 1 - d) (omega arith) in omega arith))),
+    );
+  },
+  count_numbers n,
+)
+
+pub no_names : IsRefused (pair_on late) (FullNames 16777215 2)
+no_names = NoNames created 1 (pair_found late) (λ tree e. none_some tree e) (16777214 ∷ [], record { distinct = λ p q b c e. absurd (omega arith); same = λ d. (there d, back d) }, refl) (omega arith) (omega arith)
+  where
+    there : (d : ℕ) → Contains (16777214 ∷ []) d → IsStaying (pair_on late) created d
+    there d (zero, b, e) = (eq-eqb d 16777214 (sym e), none_gone late d)
+    there d (suc k, b, e) = absurd (omega arith)
+
+    back : (d : ℕ) → IsStaying (pair_on late) created d → Contains (16777214 ∷ []) d
+    back d (live, stays) = (0, omega arith, sym (eqb-true d 16777214 live))
+
+pub no_room : IsRefused (pair_on crowded) (FullDarts 1048575 2)
+no_room = NoRoom created 1048575 (pair_found crowded) (λ tree e. none_some tree e) (numbers_listed (IsStaying (pair_on crowded) created) 1048575 (λ d. ((λ s. ltb-true d 1048575 s.0), (λ h. (lt-ltb d 1048575 h, none_gone crowded d))))) (omega arith)
+
+-- ---- what fails
+
+-- dart 7 doesn't come before dart 1 in the walk from 0
+pub other_order : IsWalk (λ d l. square.alpha l d) 2 0 (0 ∷ 7 ∷ 1 ∷ 6 ∷ 2 ∷ 5 ∷ 3 ∷ 4 ∷ []) → ⊥
+other_order w = let same : 0 ∷ 7 ∷ 1 ∷ 6 ∷ 2 ∷ 5 ∷ 3 ∷ 4 ∷ [] ≡ square_walk = walk_unique (λ d l. square.alpha l d) 2 0 (0 ∷ 7 ∷ 1 ∷ 6 ∷ 2 ∷ 5 ∷ 3 ∷ 4 ∷ []) square_walk w (walk_shown (λ d l. square.alpha l d) 2 square_walk 0 refl refl) in
+    let second : Path ℕ 7 1 = ap (λ xs. slice_index xs 1) same in omega arith
+
+pub torn_apart : IsWellEmbedded torn → ⊥
+torn_apart h = let e : point 3 0 ≡ point 4 0 = h 0 points_of_vertices refl 1 2 refl (1 ∷ [], (refl, tt), refl) in
+    let f : Path ℕ 3 4 = cc in omega arith
+
+pub next_taken : IsMap overdue → ⊥
+next_taken h = let b : 7 < 7 = h.below 7 refl in omega arith
+
+pub name_reserved : IsSchema misnamed → ⊥
+name_reserved h = h.free 0 (record points_of_vertices { name = codes "rule" }) refl (0, omega arith, refl)
+
+pub label_astray : IsInRange planar astray → ⊥
+label_astray h = let l : 3 ≤ 2 = (h.links Right).1.0.label in omega arith
+
+-- no dart, no match
+pub hook_astray : (place : Placement) → IsMatch square triangulation (99 ∷ []) place → ⊥
+hook_astray place m = go m.positions
+  where
+    go : ArePositions square triangulation place (99 ∷ []) m.walk → ⊥
+    go (Walked d others walk live is_walk many turns) = not_both false live refl

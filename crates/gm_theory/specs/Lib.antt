@@ -1,0 +1,4 @@
+pub mod Examples
+pub mod ExamplesOutcomes
+pub mod Theorem
+pub mod Values

@@ -1,0 +1,18 @@
+//! Why conditions that are read off a rule alone make every application lawful: the laws and the
+//! theorem, over the definitions of `gm_model`. The crate has no code that runs.
+#![tactic(auto)]
+
+#[cfg(test)]
+mod examples;
+mod values;
+
+ghost use Rattle.gm_theory.specs.Theorem.{RulesKeepGeneralisedMaps};
+
+pub use values::{applications_keep_sound_maps, keeps_well_embedded_maps};
+
+/// For every generalised map of dimension 1 to 7, every accepted rule and every match, the
+/// unfolding exists, is determined, and is a generalised map with the next name above its names.
+/// The theorem is the clause; the function does nothing.
+pub fn keeps_generalised_maps()
+    ensures { RulesKeepGeneralisedMaps }
+{}

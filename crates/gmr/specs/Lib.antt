@@ -1,0 +1,4 @@
+pub mod Answer
+pub mod Refusals
+pub mod Show
+pub mod Tool
