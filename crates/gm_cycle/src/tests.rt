@@ -15,18 +15,18 @@ struct Row<'a> {
     fault: Option<RuleFault>,
 }
 
-fn word(text: &str) -> Option<Word> {
-    let mut letters = [Letter::Gone; 8];
-    let bytes = text.as_bytes();
+fn word(alloc: Global, text: &str) -> Result<Option<Word>, Fail> {
     if text == "-" {
-        return None;
+        return Ok(None);
     }
-    for (place, byte) in bytes.iter().enumerate() {
-        if *byte != b'_' {
-            letters[place] = Letter::At(byte.wrapping_sub(b'0'));
-        }
+    let mut letters = Vec::new(alloc);
+    for byte in text.as_bytes() {
+        letters.push(match *byte {
+            b'_' => Letter::Gone,
+            digit => Letter::At(digit.wrapping_sub(b'0')),
+        })?;
     }
-    Word::new(&letters[..bytes.len()])
+    Ok(Some(Word::new(&letters).ok_or("word")?))
 }
 
 fn links(alloc: Global, links: &[(u8, u8, u8)]) -> Result<Items<Link>, Fail> {
@@ -47,8 +47,8 @@ fn rule(alloc: Global, row: &Row) -> Result<RuleTable, Fail> {
     for (left, right) in row.nodes {
         nodes.push(Node {
             name,
-            left: word(left),
-            right: word(right),
+            left: word(alloc, left)?,
+            right: word(alloc, right)?,
             sets: Items::new(Vec::new(alloc)),
         })?;
     }
