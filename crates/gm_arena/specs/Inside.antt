@@ -1,0 +1,77 @@
+-- How an arena keeps its map: places in a slab with their values beside them, and a table from names to slots. No public clause cites this module.
+use Rattle.std.specs.Prelude.{◌≡◌, ◌≢◌, ℕ, ◌+◌, ◌*◌, ◌<◌, ◌≤◌, List, map, length, take, drop, Some, IsSome, All, slice_index_or}
+use Rattle.std.specs.Option.{option_map, option_map_or}
+use Rattle.std.specs.Ordering.{nat_cmp}
+use Rattle.std.specs.FinMap.{FinMap, len}
+use Rattle.slab.specs.Slab.{Slab, get, slab_len, HasRoomFor}
+use Rattle.gm_model.specs.declared.schema.Schema.{Schema}
+use Rattle.gm_model.specs.declared.value.Value.{Value}
+use Rattle.gm_arena.specs.declared.slot.Slot.{Slot}
+use Rattle.gm_arena.specs.declared.arena.Place.{Place}
+use Rattle.gm_arena.specs.ArenaMap.{ArenaMap, Dart}
+use Rattle.gm_arena.specs.Filled.{filled}
+use Rattle.gm_arena.specs.Lawful.{IsSchema, HaveKinds}
+
+-- what the table has where no live dart has a name
+abbrev pub no_slot : ℕ
+no_slot = 4294967295
+
+-- the slot of a name
+abbrev pub slot_in : List ℕ → ℕ → ℕ
+slot_in table name = slice_index_or table name no_slot
+
+abbrev pub name_in : Slab Place → ℕ → ℕ
+name_in places slot = option_map_or (λ (p : Place). p.name) (get places slot) 0
+
+abbrev pub values_in : ℕ → List Value → ℕ → List Value
+values_in width values slot = take width (drop (slot * width) values)
+
+abbrev pub dart_in : ℕ → ℕ → Slab Place → List Value → ℕ → Place → Dart
+dart_in labels width places values slot place = record {
+  alphas = map (λ (s : Slot). name_in places s.at) (take labels place.alphas);
+  values = values_in width values slot;
+}
+
+abbrev pub darts_in : ℕ → ℕ → Slab Place → List Value → List ℕ → FinMap nat_cmp Dart
+darts_in labels width places values table = filled (map (λ slot. option_map (dart_in labels width places values slot) (get places slot)) table)
+
+abbrev pub slots_in : Slab Place → FinMap nat_cmp ℕ
+slots_in places = filled (map (option_map (λ (p : Place). p.name)) places.slots)
+
+abbrev pub map_of : Schema → ℕ → ℕ → Slab Place → List Value → List ℕ → ℕ → ℕ → ℕ → ArenaMap
+map_of schema labels width places values table next spare bound = record {
+  schema = schema; darts = darts_in labels width places values table; slots = slots_in places;
+  count = slab_len places; next = next; spare = spare; reserved = length table; bound = bound;
+}
+
+-- a place is found by its name, and its neighbours are live
+pub record IsPlaced (labels : ℕ) (places : Slab Place) (table : List ℕ) (next bound slot : ℕ) (place : Place) : Type 0 where
+  pub found : slot_in table place.name ≡ slot
+  pub whole : length place.alphas ≡ 8
+  pub live : All (λ (s : Slot). IsSome (get places s.at)) (take labels place.alphas)
+  pub below_next : place.name < next
+  pub below_bound : slot < bound
+  pub below_capacity : slot < places.capacity
+
+-- the numbers of labels and embeddings are those of the schema
+pub record IsSized (schema : Schema) (labels width : ℕ) : Type 0 where
+  pub lawful : IsSchema schema
+  pub one_each : labels ≡ schema.dim + 1
+  pub several : 1 < labels
+  pub few : labels ≤ 8
+  pub wide : width ≡ length schema.embeds
+
+pub record IsSound (schema : Schema) (labels width : ℕ) (places : Slab Place) (values : List Value) (table : List ℕ) (next spare bound : ℕ) : Type 0 where
+  pub sized : IsSized schema labels width
+  pub placed : (slot : ℕ) (place : Place) → get places slot ≡ Some place → IsPlaced labels places table next bound slot place
+  -- a slot in the table holds a place of this name
+  pub named : (name : ℕ) → slot_in table name ≢ no_slot → (place : Place) × (get places (slot_in table name) ≡ Some place) × (place.name ≡ name)
+  pub valued : (slot : ℕ) → IsSome (get places slot) → HaveKinds schema (values_in width values slot)
+  -- each key fits the table, and has room for its values
+  pub fits : places.capacity ≤ no_slot
+  pub long : places.capacity * width ≤ length values
+  pub room : HasRoomFor places spare
+  pub counted : slab_len places ≡ len (darts_in labels width places values table)
+  pub few_darts : slab_len places + spare ≤ 1048576
+  pub few_names : next ≤ 16777216
+  pub few_reserved : length table ≤ 16777216

@@ -1,0 +1,5 @@
+pub mod ArenaMap
+pub mod Lawful
+pub mod Edits
+pub mod Filled
+pub mod Inside

@@ -1,0 +1,317 @@
+ghost use Rattle.std.specs.Prelude.{◌≡◌, ℕ, ◌+◌, ◌*◌, ◌<◌, ◌≤◌, ◌-◌, ◌++◌, [], length, replicate, take, max, map, Some, None, All, MatchOption, IfOk, OnOk, OnErr};
+ghost use Rattle.std.specs.FinMap.{get, keys};
+ghost use Rattle.slab.specs.Slab.{HasRoomFor};
+ghost use Rattle.gm_arena.specs.Inside.{no_slot};
+
+use crate::slot::Slot;
+use gm_model::{OutOfMemory, Schema, Steps, Value};
+use slab::Slab;
+use std::alloc::Global;
+use std::marker::Model;
+use std::sync::ledger::Ledger;
+
+const MOST_LABELS: usize = 8;
+
+/// What the table of names has where no live dart has the name.
+const NO_SLOT: u32 = u32::MAX;
+
+#[derive(Clone, Copy)]
+struct Place {
+    name: u32,
+    /// The neighbours by label. Behind the greatest label there are fillers.
+    alphas: [Slot; MOST_LABELS],
+}
+
+/// The darts of a map, in slots. Contracts see the map by name, the name of the dart at each slot,
+/// and the room that is reserved.
+#[derive(Drop)]
+pub struct Arena {
+    schema: Schema,
+    /// The number of labels, one more than the dimension.
+    labels: usize,
+    /// The number of embeddings.
+    width: usize,
+    places: Slab<Place>,
+    /// The values of the slots one after another, `width` for each. Where no dart is, fillers.
+    values: Vec<Value>,
+    /// The slot of each reserved name.
+    table: Vec<u32>,
+    next: u32,
+    spare: u32,
+    bound: usize,
+}
+
+/// A dart as the arena holds it.
+pub struct Row<'a> {
+    pub name: u32,
+    /// The neighbours, by label.
+    pub alphas: &'a [Slot],
+    /// The values, by embedding.
+    pub values: &'a [Value],
+}
+
+impl Model for Arena {
+    ghost use Rattle.gm_arena.specs.ArenaMap.{ArenaMap, arena_code};
+
+    ghost Value = { ArenaMap };
+
+    ghost coded = { arena_code };
+
+    ghost use Rattle.gm_arena.specs.Inside.{map_of, IsSound};
+
+    ghost view = { λ a. map_of a.schema a.labels a.width a.places a.values.items a.table.items a.next a.spare a.bound };
+
+    ghost invariant = { λ a. IsSound a.schema a.labels a.width a.places a.values.items a.table.items a.next a.spare a.bound };
+}
+
+impl Arena {
+    ghost use Rattle.gm_arena.specs.ArenaMap.{IsAt, IsLiveSlot, IsLiveName, name_at, alpha};
+    ghost use Rattle.gm_arena.specs.Lawful.{IsSchema, IsLawful, HaveKinds};
+    ghost use Rattle.gm_arena.specs.Edits.{empty_map, with_dart, with_alpha, without_dart, IsAlone};
+
+    /// An arena without darts, whose next name is 0. It takes no memory.
+    pub fn new(alloc: Global, schema: Schema) -> Arena
+        requires { IsSchema schema }
+        ensures { result ≡ empty_map schema }
+    {
+        Arena {
+            labels: schema.dim.top() as usize + 1,
+            width: schema.embeds.as_slice().len(),
+            schema,
+            places: Slab::new(alloc),
+            values: Vec::new(alloc),
+            table: Vec::new(alloc),
+            next: 0,
+            spare: 0,
+            bound: 0,
+        }
+    }
+
+    /// The dimension and the embeddings.
+    pub fn schema(&self) -> &Schema
+        ensures { result.now ≡ self.now.schema }
+    {
+        &self.schema
+    }
+
+    /// How many darts are live.
+    pub fn count(&self) -> u32
+        ensures count { result ≡ self.now.count }
+        ensures lawful { IsLawful self.now }
+    {
+        self.places.len() as u32
+    }
+
+    /// The number above every name that was ever in the map.
+    pub fn next(&self) -> u32
+        ensures next { result ≡ self.now.next }
+        ensures lawful { IsLawful self.now }
+    {
+        self.next
+    }
+
+    /// Each live slot is below it. It is the number of slots that were ever in use at once.
+    pub fn bound(&self) -> usize
+        ensures bound { result ≡ self.now.bound }
+        ensures lawful { IsLawful self.now }
+    {
+        self.bound
+    }
+
+    /// The names of the live darts, ascending. It counts one step for each dart.
+    pub fn names<L: Ledger>(
+        &self,
+        alloc: Global,
+        steps: &mut Steps<L>,
+    ) -> Result<Vec<u32>, OutOfMemory>
+        ensures names { IfOk result (λ names. names.items ≡ keys self.now.darts) }
+        ensures cost { steps.new ≡ steps.old + self.now.count }
+    {
+        steps.tick_times(self.places.len() as u64);
+        let mut names = Vec::with_capacity(alloc, self.places.len())?;
+        for (name, slot) in self.table.iter().enumerate() {
+            if *slot != NO_SLOT {
+                names.push(name as u32)?;
+            }
+        }
+        Ok(names)
+    }
+
+    /// The slot of a name; `None` where no live dart has it.
+    pub fn slot_of<L: Ledger>(&self, name: u32, steps: &mut Steps<L>) -> Option<Slot>
+        ensures slot { MatchOption result (get self.now.darts name ≡ None) (λ s. IsAt self.now s.at name) }
+        ensures cost { steps.new ≡ steps.old + 1 }
+    {
+        steps.tick();
+        match self.table.get(name as usize) {
+            Some(slot) if *slot != NO_SLOT => Some(Slot { at: *slot }),
+            _ => None,
+        }
+    }
+
+    /// The name of the dart at a slot.
+    pub fn name_of<L: Ledger>(&self, slot: Slot, steps: &mut Steps<L>) -> u32
+        requires { IsLiveSlot self.now slot.at }
+        ensures name { IsAt self.now slot.at result }
+        ensures cost { steps.new ≡ steps.old + 1 }
+    {
+        steps.tick();
+        self.places[slot.at as usize].name
+    }
+
+    /// The dart at a slot. Nothing is copied.
+    pub fn row<L: Ledger>(&self, slot: Slot, steps: &mut Steps<L>) -> Row<'_>
+        requires { IsLiveSlot self.now slot.at }
+        ensures name { IsAt self.now slot.at result.name }
+        ensures dart { get self.now.darts result.name ≡ Some (record {
+            alphas = map (λ (s : Slot). name_at self.now s.at) result.alphas.now;
+            values = result.values.now;
+        }) }
+        ensures live { All (λ (s : Slot). IsLiveSlot self.now s.at) result.alphas.now }
+        ensures cost { steps.new ≡ steps.old + 1 }
+    {
+        steps.tick();
+        let at = slot.at as usize;
+        let place = &self.places[at];
+        Row {
+            name: place.name,
+            alphas: &place.alphas[..self.labels],
+            values: &self.values[at * self.width..at * self.width + self.width],
+        }
+    }
+
+    /// The neighbour of the dart at a slot, along a label.
+    pub fn alpha<L: Ledger>(&self, slot: Slot, label: u8, steps: &mut Steps<L>) -> Slot
+        requires live { IsLiveSlot self.now slot.at }
+        requires label { label ≤ self.now.schema.dim }
+        ensures neighbour { IsAt self.now result.at (alpha self.now label (name_at self.now slot.at)) }
+        ensures cost { steps.new ≡ steps.old + 1 }
+    {
+        steps.tick();
+        self.places[slot.at as usize].alphas[label as usize]
+    }
+
+    /// Makes room for so many more darts and for all names below `names`, so that `add` takes no
+    /// memory. A refused call may have made room for some of them.
+    pub fn reserve(&mut self, more: u32, names: u32) -> Result<(), OutOfMemory>
+        requires darts { self.old.count + more ≤ 1048576 }
+        requires names { names ≤ 16777216 }
+        ensures darts { OnOk result (self.new.spare ≡ max self.old.spare more) }
+        ensures names { OnOk result (self.new.reserved ≡ max self.old.reserved names) }
+        ensures spare_stays { self.old.spare ≤ self.new.spare }
+        ensures reserved_stays { self.old.reserved ≤ self.new.reserved }
+        ensures map { self.new ≡ record self.old { spare = self.new.spare; reserved = self.new.reserved } }
+    {
+        pad_table(&mut self.table, names as usize)?;
+        let room = self.spare.max(more);
+        reserve_places(&mut self.places, &mut self.values, self.width, room as usize)?;
+        self.spare = room;
+        Ok(())
+    }
+
+    /// Adds a dart that is free for every label. It takes no memory.
+    pub fn add<L: Ledger>(&mut self, name: u32, values: &[Value], steps: &mut Steps<L>) -> Slot
+        requires room { 0 < self.old.spare }
+        requires reserved { name < self.old.reserved }
+        requires new_name { get self.old.darts name ≡ None }
+        requires values { HaveKinds self.old.schema values.now }
+        ensures slot { get self.old.slots result.at ≡ None }
+        ensures map { self.new ≡ with_dart self.old result.at name values.now }
+        ensures cost { steps.new ≡ steps.old + 1 }
+    {
+        steps.tick();
+        let key = self.places.insert_reserved(Place {
+            name,
+            alphas: [Slot { at: 0 }; MOST_LABELS],
+        });
+        let own = Slot { at: key as u32 };
+        self.places[key].alphas = [own; MOST_LABELS];
+        self.values[key * self.width..key * self.width + self.width].copy_from_slice(values);
+        self.table[name as usize] = own.at;
+        self.next = self.next.max(name + 1);
+        self.spare -= 1;
+        self.bound = self.bound.max(key + 1);
+        own
+    }
+
+    /// Makes the dart at `to` the neighbour of the dart at `slot`, and changes nothing at `to`.
+    pub fn set_alpha<L: Ledger>(&mut self, slot: Slot, label: u8, to: Slot, steps: &mut Steps<L>)
+        requires live { IsLiveSlot self.old slot.at }
+        requires label { label ≤ self.old.schema.dim }
+        requires to_live { IsLiveSlot self.old to.at }
+        ensures map { self.new ≡ with_alpha self.old (name_at self.old slot.at) label (name_at self.old to.at) }
+        ensures cost { steps.new ≡ steps.old + 1 }
+    {
+        steps.tick();
+        self.places[slot.at as usize].alphas[label as usize] = to;
+    }
+
+    /// Removes a dart that is no other dart's neighbour. Its slot may be used again.
+    pub fn remove<L: Ledger>(&mut self, slot: Slot, steps: &mut Steps<L>)
+        requires live { IsLiveSlot self.old slot.at }
+        requires alone { IsAlone self.old (name_at self.old slot.at) }
+        ensures map { self.new ≡ without_dart self.old slot.at (name_at self.old slot.at) }
+        ensures cost { steps.new ≡ steps.old + 1 }
+    {
+        steps.tick();
+        let place = self.places.remove(slot.at as usize);
+        self.table[place.name as usize] = NO_SLOT;
+        self.spare += 1;
+    }
+
+    /// Sets the number above every name. It counts no step.
+    pub fn set_next(&mut self, next: u32)
+        requires names { (name : ℕ) → IsLiveName self.old name → name < next }
+        requires limit { next ≤ 16777216 }
+        ensures { self.new ≡ record self.old { next = next } }
+    {
+        self.next = next;
+    }
+}
+
+/// Makes the table at least so long.
+fn pad_table(table: &mut Vec<u32>, names: usize) -> Result<(), OutOfMemory>
+    ensures ok { OnOk result (table.new.items ≡ table.old.items ++ replicate (names - length table.old.items) no_slot) }
+    ensures len { OnOk result (length table.new.items ≡ max (length table.old.items) names) }
+    ensures err { OnErr result (table.new.items ≡ table.old.items) }
+{
+    if table.len() < names {
+        table.resize(names, NO_SLOT)?;
+    }
+    Ok(())
+}
+
+/// Makes room for so many more places, the keys of which fit a slot, and for their values.
+fn reserve_places(
+    places: &mut Slab<Place>,
+    values: &mut Vec<Value>,
+    width: usize,
+    more: usize,
+) -> Result<(), OutOfMemory>
+    requires fits { places.old.capacity ≤ no_slot }
+    requires width { width ≤ 8 }
+    requires long { places.old.capacity * width ≤ length values.old.items }
+    ensures room { OnOk result (HasRoomFor places.new more) }
+    ensures fits { places.new.capacity ≤ no_slot }
+    ensures long { places.new.capacity * width ≤ length values.new.items }
+    ensures slots { places.new.slots ≡ places.old.slots }
+    ensures within { OnOk result (length places.new.slots ≤ places.new.capacity) }
+    ensures values { take (length values.old.items) values.new.items ≡ values.old.items }
+    ensures err { OnErr result (places.new ≡ places.old) }
+{
+    if places.capacity() - places.len() >= more {
+        return Ok(());
+    }
+    // A slab does not say how far it grows, so a copy grows, and is taken where its keys fit.
+    let mut grown = places.clone()?;
+    grown.reserve(more)?;
+    if grown.capacity() > NO_SLOT as usize {
+        return Err(OutOfMemory);
+    }
+    let long = grown.capacity() * width;
+    if values.len() < long {
+        values.resize(long, Value::Int(0))?;
+    }
+    *places = grown;
+    Ok(())
+}

@@ -1,0 +1,6 @@
+/// Where a dart stands in an arena. A live dart keeps its slot until it is removed; after that
+/// another dart may take it.
+#[derive(Clone, Copy, Debug, PartialEq, Eq)]
+pub struct Slot {
+    pub at: u32,
+}
