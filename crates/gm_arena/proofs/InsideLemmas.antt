@@ -64,6 +64,9 @@ key_at places slot h = let p = live_place places slot h in is_some_at _ p.0 p.1
 pub live_at : (places : Slab Place) (slot : ℕ) → IsSome (get places slot) → IsSome (map.get (slots_in places) slot)
 live_at places slot h = let p = some_of _ h in is_some_at _ _ (slot_at places slot p.0 p.1)
 
+pub none_at : (places : Slab Place) (slot : ℕ) → get places slot ≡ None → map.get (slots_in places) slot ≡ None
+none_at places slot e = get-slots places slot ∙ rw e refl
+
 pub name_at_in : (places : Slab Place) (slot : ℕ) → unwrap_or (map.get (slots_in places) slot) 0 ≡ name_in places slot
 name_at_in places slot = ap (λ o. unwrap_or o 0) (get-slots places slot) ∙ unwrapped (get places slot)
   where

@@ -5,3 +5,6 @@ pub mod AlphaLemmas
 pub mod RemoveLemmas
 pub mod ReserveLemmas
 pub mod NewLemmas
+pub mod ValueLemmas
+pub mod AddLemmas
+pub mod NameLemmas

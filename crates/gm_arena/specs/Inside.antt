@@ -1,9 +1,9 @@
 -- How an arena keeps its map: places in a slab with their values beside them, and a table from names to slots. No public clause cites this module.
-use Rattle.std.specs.Prelude.{◌≡◌, ◌≢◌, ℕ, ◌+◌, ◌*◌, ◌<◌, ◌≤◌, List, map, length, take, drop, Some, IsSome, All, slice_index_or}
+use Rattle.std.specs.Prelude.{◌≡◌, ◌≢◌, ℕ, ◌+◌, ◌*◌, ◌<◌, ◌≤◌, List, map, length, take, drop, ◌==◌, if◌then◌else◌, Option, Some, None, IsSome, All, slice_index_or}
 use Rattle.std.specs.Option.{option_map, option_map_or}
 use Rattle.std.specs.Ordering.{nat_cmp}
 use Rattle.std.specs.FinMap.{FinMap, len}
-use Rattle.slab.specs.Slab.{Slab, get, slab_len, HasRoomFor}
+use Rattle.slab.specs.Slab.{Slab, get, slab_len, entries_from, HasRoomFor}
 use Rattle.gm_model.specs.declared.schema.Schema.{Schema}
 use Rattle.gm_model.specs.declared.value.Value.{Value}
 use Rattle.gm_arena.specs.declared.slot.Slot.{Slot}
@@ -19,6 +19,13 @@ no_slot = 4294967295
 -- the slot of a name
 abbrev pub slot_in : List ℕ → ℕ → ℕ
 slot_in table name = slice_index_or table name no_slot
+
+abbrev pub entry_of : ℕ → Option ℕ
+entry_of slot = if slot == no_slot then None else Some slot
+
+-- the names that have a slot, ascending
+abbrev pub names_in : List ℕ → List ℕ
+names_in table = map (λ e. e.0) (entries_from 0 (map entry_of table))
 
 abbrev pub name_in : Slab Place → ℕ → ℕ
 name_in places slot = option_map_or (λ (p : Place). p.name) (get places slot) 0

@@ -1,7 +1,7 @@
 ghost use Rattle.std.specs.Prelude.{◌≡◌, ℕ, ◌+◌, ◌*◌, ◌<◌, ◌≤◌, ◌-◌, ◌++◌, [], length, replicate, take, max, map, Some, None, All, MatchOption, IfOk, OnOk, OnErr};
 ghost use Rattle.std.specs.FinMap.{get, keys};
 ghost use Rattle.slab.specs.Slab.{HasRoomFor};
-ghost use Rattle.gm_arena.specs.Inside.{no_slot};
+ghost use Rattle.gm_arena.specs.Inside.{no_slot, names_in};
 
 use crate::slot::Slot;
 use gm_model::{OutOfMemory, Schema, Steps, Value};
@@ -127,14 +127,9 @@ impl Arena {
         ensures names { IfOk result (λ names. names.items ≡ keys self.now.darts) }
         ensures cost { steps.new ≡ steps.old + self.now.count }
     {
-        steps.tick_times(self.places.len() as u64);
-        let mut names = Vec::with_capacity(alloc, self.places.len())?;
-        for (name, slot) in self.table.iter().enumerate() {
-            if *slot != NO_SLOT {
-                names.push(name as u32)?;
-            }
-        }
-        Ok(names)
+        let count = self.places.len();
+        steps.tick_times(count as u64);
+        taken_names(alloc, &self.table, count)
     }
 
     /// The slot of a name; `None` where no live dart has it.
@@ -267,6 +262,20 @@ impl Arena {
     {
         self.next = next;
     }
+}
+
+/// The names in the table that have a slot, of which there are about `count`.
+fn taken_names(alloc: Global, table: &[u32], count: usize) -> Result<Vec<u32>, OutOfMemory>
+    requires { length table.now ≤ 16777216 }
+    ensures { IfOk result (λ names. names.items ≡ names_in table.now) }
+{
+    let mut names = Vec::with_capacity(alloc, count)?;
+    for (name, slot) in table.iter().enumerate() {
+        if *slot != NO_SLOT {
+            names.push(name as u32)?;
+        }
+    }
+    Ok(names)
 }
 
 /// Makes the table at least so long.

@@ -1,0 +1,10 @@
+use Rattle.std.proofs.lemmas.Result.{IfOk-weaker}
+use Rattle.std.proofs.Common.{◌≡◌, ap, ◌∙◌}
+use Rattle.std.specs.FinMap as map
+use Rattle.gm_arena.specs.Inside.{names_in}
+use Rattle.gm_arena.proofs.NameLemmas.{names_live}
+use Rattle.gm_arena.proofs.arena.Arena.names.Goals as goal
+
+pub returns-clause-names : goal.returns-clause-names
+returns-clause-names g c =
+    IfOk-weaker c.taken_names.result _ _ (λ names e. rw (← c.self.view_is) (e ∙ (ap names_in c.deref.ensures.value ∙ names_live _ _ _ _ _ _ _ _ _ c.self.invariant))) c.taken_names.ensures
