@@ -3,7 +3,7 @@ use Rattle.std.proofs.Common.{◌≡◌, ℕ, zero, suc, ◌+◌, ◌<◌, ◌�
 use Rattle.std.specs.List.{Contains}
 use Rattle.std.specs.Prelude.{slice_index}
 use Rattle.std.proofs.lemmas.Bool.{cases_lt, cases_order}
-use Rattle.std.proofs.lemmas.List.{get_or_append_left, get_or_push, get_or_default, get_or-take, length_push, take-append-le, ext_get_or}
+use Rattle.std.proofs.lemmas.List.{get_or_append_left, get_or_push, get_or_default, get_or-take, length_push, take_all, take-append-le, ext_get_or}
 use Rattle.std.proofs.lemmas.List.Elements.{Contains-append_left, Contains-push}
 use Rattle.std.proofs.lemmas.Option.{none-some, same_Some, slice_get-get_or}
 use Rattle.gm_model.specs.Orbits.{IsPairBefore, IsLeastStep, IsWalkTo, IsWalk, HasNoRepeats}
@@ -60,17 +60,56 @@ module _ (next : ℕ → ℕ → ℕ) (width : ℕ) where
     last : (p : ℕ) → p ≡ length walk → get_or (walk ++ x ∷ []) p 0 ≡ x
     last p e = get_or_push walk x 0 p (sym e)
 
-    still : (q' l' : ℕ) (v : ℕ) → q' < length walk → Contains walk (next (get_or walk q' 0) l') → Contains (walk ++ x ∷ []) (next (get_or (walk ++ x ∷ []) q' 0) l')
-    still q' l' v h c = subst (λ a. Contains (walk ++ x ∷ []) (next a l')) (sym (same q' h)) (Contains-append_left walk (x ∷ []) _ c)
-
     front : (p : ℕ) → p ≤ length walk → take p (walk ++ x ∷ []) ≡ take p walk
     front p h = take-append-le p walk (x ∷ []) h
 
     step_kept : (p q' l' : ℕ) → p < length walk → IsLeastStep next width walk p q' l' → IsLeastStep next width (walk ++ x ∷ []) p q' l'
-    step_kept p q' l' h s = ?
+    step_kept p q' l' h s = record {
+        earlier = s.earlier;
+        place = s.place;
+        leads = same p h ∙ (s.leads ∙ ap (λ a. next a l') (sym (same q' (omega (arith, s.earlier)))));
+        least = λ q'' l'' before k.
+            let less : q'' < length walk = omega (arith, s.earlier, earlier_dart q'' l'' q' l' before) in
+            rw (front p (omega arith)) (subst (λ a. Contains (take p walk) (next a l'')) (sym (same q'' less)) (s.least q'' l'' before k));
+      }
 
     step_new : IsLeastStep next width (walk ++ x ∷ []) (length walk) q l
-    step_new = ?
+    step_new = record {
+        earlier = here;
+        place = place;
+        leads = last (length walk) refl ∙ (leads ∙ ap (λ a. next a l) (sym (same q here)));
+        least = λ q'' l'' before k.
+            let less : q'' < length walk = omega (arith, earlier_dart q'' l'' q l before) in
+            rw (front (length walk) (omega arith), take_all (length walk) walk (omega arith)) (subst (λ a. Contains walk (next a l'')) (sym (same q'' less)) (w.closed q'' l'' before less k));
+      }
+
+    -- the first dart stays
+    first : slice_get (walk ++ x ∷ []) 0 ≡ Some d
+    first =
+        let some : 0 < length walk = omega arith in
+        slice_get-get_or (walk ++ x ∷ []) 0 0 (omega (arith, length_push walk x)) ∙ (ap Some (same 0 some) ∙ (sym (slice_get-get_or walk 0 0 some) ∙ w.starts))
+
+    apart : (p q' : ℕ) → p < q' → q' < length (walk ++ x ∷ []) → get_or (walk ++ x ∷ []) p 0 ≡ get_or (walk ++ x ∷ []) q' 0 → ⊥
+    apart p q' h k e = elim (place_cases walk x q' k) [
+      | inl less ↦ w.distinct p q' h less (sym (same p (omega arith)) ∙ (e ∙ same q' less))
+      | inr end ↦
+          let less : p < length walk = omega arith in
+          let at : get_or walk p 0 ≡ x = sym (same p less) ∙ (e ∙ last q' end) in
+          new (p, less, get_or_default walk p x 0 less ∙ at)
+    ]
 
     pub added : IsWalkTo next width d q (l + 1) (walk ++ x ∷ [])
-    added = ?
+    added = record {
+        starts = first;
+        distinct = apart;
+        closed = λ q' l' before h k.
+            let less : q' < length walk = omega (arith, earlier_dart q' l' q (l + 1) before) in
+            subst (λ a. Contains (walk ++ x ∷ []) (next a l')) (sym (same q' less)) (elim (before_next q' l' q l before) [
+              | inl earlier ↦ Contains-append_left walk (x ∷ []) _ (w.closed q' l' earlier less k)
+              | inr (e, f) ↦ subst (Contains (walk ++ x ∷ [])) (leads ∙ (ap (λ a. next (get_or walk a 0) l) (sym e) ∙ ap (next (get_or walk q' 0)) (sym f))) (Contains-push walk x)
+            ]);
+        least = λ p some h. elim (place_cases walk x p h) [
+          | inl less ↦ let s = w.least p some less in (s.0, s.1, step_kept p s.0 s.1 less s.2)
+          | inr end ↦ (q, l, subst (λ n. IsLeastStep next width (walk ++ x ∷ []) n q l) (sym end) step_new)
+        ];
+      }
