@@ -1,9 +1,9 @@
 -- What a queue and its marks keep when a slot comes or goes, and what a mark tells of its slot.
-use Rattle.std.proofs.Common.{◌≡◌, ◌≢◌, ℕ, ◌+◌, ◌-◌, ◌<◌, ◌≤◌, ◌⊎◌, ◌==◌, List, [], ◌∷◌, ◌++◌, Option, Some, None, cond, eqb, length, get_or, set, take, map, replicate, slice_get, refl, sym, ap, subst, ◌∙◌, inl, inr, arith, length-append, length-set, get_or-set_same, get_or-set_other}
-use Rattle.std.specs.List.{Contains, sum_by, count_by}
+use Rattle.std.proofs.Common.{◌≡◌, ℕ, ◌+◌, ◌-◌, ◌<◌, ◌≤◌, ◌⊎◌, ◌==◌, List, [], ◌∷◌, ◌++◌, Option, Some, None, cond, length, get_or, set, replicate, slice_get, refl, sym, ap, subst, ◌∙◌, inl, inr, arith, length-append, length-set, get_or-set_same, get_or-set_other}
+use Rattle.std.specs.List.{Contains}
 use Rattle.std.specs.Option.{MatchOption, SomeIff}
-use Rattle.std.proofs.lemmas.Bool.{cases_eq, cases_lt, ne_eqb, eq-eqb}
-use Rattle.std.proofs.lemmas.List.{length-map, length-replicate, get_or_append_left, get_or_push, get_or_past, get_or-map, get_or_default, length_push, map_push, get_or-append_right, take_all, get_or-replicate}
+use Rattle.std.proofs.lemmas.Bool.{cases_eq, cases_lt, ne_eqb}
+use Rattle.std.proofs.lemmas.List.{length-map, length-replicate, get_or_append_left, get_or_push, get_or_past, get_or-map, length_push, get_or-append_right, get_or-replicate}
 use Rattle.std.proofs.lemmas.List.Sums.{sum_by-set, sum_by-append}
 use Rattle.std.proofs.lemmas.List.Folds.{sum_by-replicate}
 use Rattle.std.proofs.lemmas.Option.{slice_get-get_or}
@@ -18,31 +18,31 @@ module _ (queue marks : List ℕ) (slot : ℕ) where
   -- a slot without a place comes to the end
   pub taken_in : IsMarked queue marks → slot < length marks → get_or marks slot 0 ≡ 0 → IsMarked (queue ++ slot ∷ []) (set marks slot (length queue + 1))
   taken_in m within free = record {
-      within = λ p h. elim (place_cases queue slot p h) [
-        | inl l ↦ rw (get_or_append_left queue (slot ∷ []) 0 p l, length-set) (m.within p l)
-        | inr e ↦ rw (get_or_push queue slot 0 p (sym e), length-set) within
-      ];
-      marked = λ p h. elim (place_cases queue slot p h) [
-        | inl l ↦
-            let apart : get_or queue p 0 ≡ slot → ⊥ = λ e. let one : get_or marks slot 0 ≡ p + 1 = ap (λ s. get_or marks s 0) (sym e) ∙ m.marked p l in omega arith in
-            rw (get_or_append_left queue (slot ∷ []) 0 p l, get_or-set_other marks slot (get_or queue p 0) (length queue + 1) 0 apart) (m.marked p l)
-        | inr e ↦ rw (get_or_push queue slot 0 p (sym e), get_or-set_same marks slot (length queue + 1) 0 within) (ap (λ n. n + 1) (sym e))
-      ];
-      queued = λ s p h. elim (cases_eq s slot) [
-        | inl e ↦
-            let here : length queue + 1 ≡ p + 1 = sym (get_or-set_same marks slot (length queue + 1) 0 within) ∙ (ap (λ s. get_or (set marks slot (length queue + 1)) s 0) (sym e) ∙ h) in
-            let at : length queue ≡ p = omega arith in
-            (omega (arith, length_push queue slot), get_or_push queue slot 0 p at ∙ sym e)
-        | inr apart ↦
-            let old = m.queued s p (sym (get_or-set_other marks slot s (length queue + 1) 0 apart) ∙ h) in
-            (omega (arith, length_push queue slot, old.0), get_or_append_left queue (slot ∷ []) 0 p old.0 ∙ old.1)
-      ];
-      counted =
-          let one : unmarked (set marks slot (length queue + 1)) + cond {A = ℕ} (get_or marks slot 0 == 0) 1 0 ≡ unmarked marks + cond {A = ℕ} (length queue + 1 == 0) 1 0 = sum_by-set (λ mark. cond (mark == 0) 1 0) marks slot (length queue + 1) 0 within in
-          let was : cond {A = ℕ} (get_or marks slot 0 == 0) 1 0 ≡ 1 = ap (λ mark. cond (mark == 0) 1 0) free in
-          let is : cond {A = ℕ} (length queue + 1 == 0) 1 0 ≡ 0 = ap (λ b. cond b 1 0) (ne_eqb (length queue + 1) 0 (λ e. omega arith)) in
-          omega (arith, length_push queue slot, length-set marks slot (length queue + 1), m.counted);
-    }
+    within = λ p h. elim (place_cases queue slot p h) [
+      | inl l ↦ rw (get_or_append_left queue (slot ∷ []) 0 p l, length-set) (m.within p l)
+      | inr e ↦ rw (get_or_push queue slot 0 p (sym e), length-set) within
+    ];
+    marked = λ p h. elim (place_cases queue slot p h) [
+      | inl l ↦
+          let apart : get_or queue p 0 ≡ slot → ⊥ = λ e. let one : get_or marks slot 0 ≡ p + 1 = ap (λ s. get_or marks s 0) (sym e) ∙ m.marked p l in omega arith in
+          rw (get_or_append_left queue (slot ∷ []) 0 p l, get_or-set_other marks slot (get_or queue p 0) (length queue + 1) 0 apart) (m.marked p l)
+      | inr e ↦ rw (get_or_push queue slot 0 p (sym e), get_or-set_same marks slot (length queue + 1) 0 within) (ap (λ n. n + 1) (sym e))
+    ];
+    queued = λ s p h. elim (cases_eq s slot) [
+      | inl e ↦
+          let here : length queue + 1 ≡ p + 1 = sym (get_or-set_same marks slot (length queue + 1) 0 within) ∙ (ap (λ s. get_or (set marks slot (length queue + 1)) s 0) (sym e) ∙ h) in
+          let at : length queue ≡ p = omega arith in
+          (omega (arith, length_push queue slot), get_or_push queue slot 0 p at ∙ sym e)
+      | inr apart ↦
+          let old = m.queued s p (sym (get_or-set_other marks slot s (length queue + 1) 0 apart) ∙ h) in
+          (omega (arith, length_push queue slot, old.0), get_or_append_left queue (slot ∷ []) 0 p old.0 ∙ old.1)
+    ];
+    counted =
+        let one : unmarked (set marks slot (length queue + 1)) + cond {A = ℕ} (get_or marks slot 0 == 0) 1 0 ≡ unmarked marks + cond {A = ℕ} (length queue + 1 == 0) 1 0 = sum_by-set (λ mark. cond (mark == 0) 1 0) marks slot (length queue + 1) 0 within in
+        let was : cond {A = ℕ} (get_or marks slot 0 == 0) 1 0 ≡ 1 = ap (λ mark. cond (mark == 0) 1 0) free in
+        let is : cond {A = ℕ} (length queue + 1 == 0) 1 0 ≡ 0 = ap (λ b. cond b 1 0) (ne_eqb (length queue + 1) 0 (λ e. omega arith)) in
+        omega (arith, length_push queue slot, length-set marks slot (length queue + 1), m.counted);
+  }
 
   -- the last slot of the queue has a mark
   pub last_within : IsMarked (queue ++ slot ∷ []) marks → slot < length marks
@@ -85,14 +85,14 @@ none_there n i = elim (cases_lt i n) [ inl l ↦ get_or-replicate n i 0 0 l | in
 -- more slots that are not in the queue
 pub more_marks : (queue marks : List ℕ) (more : ℕ) → IsMarked queue marks → IsMarked queue (marks ++ replicate more 0)
 more_marks queue marks more m = record {
-    within = λ p h. omega (arith, m.within p h, length-append marks (replicate more 0));
-    marked = λ p h. get_or_append_left marks (replicate more 0) 0 (get_or queue p 0) (m.within p h) ∙ m.marked p h;
-    queued = λ s p h. elim (cases_lt s (length marks)) [
-      | inl l ↦ m.queued s p (sym (get_or_append_left marks (replicate more 0) 0 s l) ∙ h)
-      | inr l ↦ let none : 0 ≡ p + 1 = sym (get_or-append_right marks (replicate more 0) (length marks) s 0 refl l ∙ none_there more (s - length marks)) ∙ h in absurd (omega arith)
-    ];
-    counted = omega (arith, m.counted, length-append marks (replicate more 0), length-replicate {A = ℕ} more 0, sum_by-append (λ mark. cond (mark == 0) 1 0) marks (replicate more 0), unmarked-replicate more);
-  }
+  within = λ p h. omega (arith, m.within p h, length-append marks (replicate more 0));
+  marked = λ p h. get_or_append_left marks (replicate more 0) 0 (get_or queue p 0) (m.within p h) ∙ m.marked p h;
+  queued = λ s p h. elim (cases_lt s (length marks)) [
+    | inl l ↦ m.queued s p (sym (get_or_append_left marks (replicate more 0) 0 s l) ∙ h)
+    | inr l ↦ let none : 0 ≡ p + 1 = sym (get_or-append_right marks (replicate more 0) (length marks) s 0 refl l ∙ none_there more (s - length marks)) ∙ h in absurd (omega arith)
+  ];
+  counted = omega (arith, m.counted, length-append marks (replicate more 0), length-replicate {A = ℕ} more 0, sum_by-append (λ mark. cond (mark == 0) 1 0) marks (replicate more 0), unmarked-replicate more);
+}
 
 -- ---- slots
 

@@ -1,6 +1,6 @@
 -- The walk of slots as the walk of the names at them.
-use Rattle.std.proofs.Common.{◌≡◌, ℕ, ◌+◌, ◌<◌, ◌≤◌, List, [], ◌∷◌, ◌++◌, Option, Some, None, length, get_or, map, unwrap_or, slice_get, refl, sym, ap, subst, ◌∙◌, arith}
-use Rattle.std.specs.List.{All, Contains}
+use Rattle.std.proofs.Common.{◌≡◌, ℕ, ◌+◌, ◌<◌, ◌≤◌, List, [], ◌∷◌, Option, Some, None, length, get_or, unwrap_or, slice_get, refl, sym, ap, subst, ◌∙◌, arith}
+use Rattle.std.specs.List.{Contains}
 use Rattle.std.specs.Option.{IsSome, option_map}
 use Rattle.std.specs.FinMap.{get}
 use Rattle.std.proofs.lemmas.List.{length-map, length_push, map_push, get_or-map, get_or_append_left}
@@ -98,6 +98,6 @@ module _ (m : ArenaMap) where
             (known (along m word) (length word) d q l (names_of m old.walked) w (subst (Contains (names_of m old.walked)) leads (names_contain old.walked slot c)))
         go (Added c e) = subst (λ (r : Room). IsWalkTo (along m word) (length word) d q (l + 1) (names_of m r.walked)) (sym e)
             (subst (IsWalkTo (along m word) (length word) d q (l + 1)) (sym (map_push (λ (s : Slot). name_at m s.at) old.walked slot))
-              (added (along m word) (length word) d q l (names_of m old.walked) w
-                (omega (arith, length-map old.walked (λ (s : Slot). name_at m s.at))) place (name_at m slot.at) leads
-                (names_lack lawful old.walked slot (name_at m slot.at) live (subst (IsAt m slot.at) (sym (at_name slot.at _ at)) at) c)))
+            (added (along m word) (length word) d q l (names_of m old.walked) w
+            (omega (arith, length-map old.walked (λ (s : Slot). name_at m s.at))) place (name_at m slot.at) leads
+            (names_lack lawful old.walked slot (name_at m slot.at) live (subst (IsAt m slot.at) (sym (at_name slot.at _ at)) at) c)))

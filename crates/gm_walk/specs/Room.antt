@@ -1,4 +1,4 @@
--- What contracts see of a scratch and of a walk that lies in it.
+-- What contracts see of a scratch: its room, and the slots of the last walk in it.
 use Rattle.std.specs.Prelude.{◌≡◌, ℕ, ◌≤◌, List, [], ◌∷◌, ◌++◌, refl}
 use Rattle.std.specs.Coded.{Coded, code_by, coded×, coded_ℕ, coded_list}
 use Rattle.std.specs.List.{Contains}
@@ -6,21 +6,11 @@ use Rattle.gm_arena.specs.ArenaMap.{ArenaMap}
 use Rattle.gm_arena.specs.declared.slot.Slot.{Slot}
 use Rattle.gm_arena.specs.contracts.slot.Slot as slot_block
 
--- a scratch
 pub record Room : Type 0 where
   -- it has room for the slots below it
   pub bound : ℕ
   -- the slots of the last walk, in its order
   pub walked : List Slot
-
--- a walk in a scratch that was lent to it
-pub record Lent : Type 0 where
-  -- its slots, in its order
-  pub slots : List Slot
-  -- the scratch has room for the slots below it
-  pub bound : ℕ
-  -- the name of the borrow: the scratch is what the walk leaves
-  pub lender : ℕ
 
 -- a scratch fits an arena where it has room for each of its slots, so that it fits each arena with no greater bound
 abbrev pub Fits : Room → ArenaMap → Type 0
@@ -38,13 +28,4 @@ room_code =
     (coded× coded_ℕ (coded_list slot_block.the_row.coded))
     (λ r. (r.bound, r.walked))
     (λ p. record { bound = p.0; walked = p.1 })
-    (λ _. refl)
-
-abbrev pub lent_code : Coded Lent
-lent_code =
-    code_by
-    (List Slot × (ℕ × ℕ))
-    (coded× (coded_list slot_block.the_row.coded) (coded× coded_ℕ coded_ℕ))
-    (λ w. (w.slots, (w.bound, w.lender)))
-    (λ p. record { slots = p.0; bound = p.1.0; lender = p.1.1 })
     (λ _. refl)

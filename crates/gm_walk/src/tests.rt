@@ -1,5 +1,7 @@
 //! Walks in a square of eight darts.
 ghost use Rattle.std.specs.Prelude.{◌≡◌, ◌+◌, ◌<◌, ◌≤◌, [], length, IfOk};
+ghost use Rattle.gm_walk.specs.Lent.{slots_of};
+ghost use Rattle.gm_walk.specs.Room.{Fits};
 ghost use Rattle.gm_walk.specs.Walks.{AreLive, IsWord};
 
 use super::*;
@@ -33,11 +35,7 @@ fn plane(rt: &impl Abort, alloc: Global) -> Schema
     }
 }
 
-fn square<L: Ledger>(
-    rt: &impl Abort,
-    alloc: Global,
-    steps: &mut Steps<L>,
-) -> Result<Arena, Fail>
+fn square<L: Ledger>(rt: &impl Abort, alloc: Global, steps: &mut Steps<L>) -> Result<Arena, Fail>
     ensures { IfOk result (λ arena. arena.schema.dim ≡ 2) }
 {
     let mut arena = Arena::new(alloc, plane(rt, alloc));
@@ -49,7 +47,9 @@ fn square<L: Ledger>(
     for (name, alphas) in SQUARE.iter().enumerate() {
         for label in 0..3 {
             let slot = arena.slot_of(name as u32, steps).expect(rt, "a dart");
-            let to = arena.slot_of(alphas[label], steps).expect(rt, "a neighbour");
+            let to = arena
+                .slot_of(alphas[label], steps)
+                .expect(rt, "a neighbour");
             arena.set_alpha(slot, label as u8, to, steps);
         }
     }
@@ -76,7 +76,7 @@ fn expect_walk<L: Ledger>(
     names: &[u32],
     steps: &mut Steps<L>,
 )
-    requires { AreLive arena.now walk.now.slots }
+    requires { AreLive arena.now (slots_of walk.now) }
 {
     let slots = walk.slots();
     assert_eq!(rt; slots.len(), names.len());
@@ -90,7 +90,56 @@ fn expect_walk<L: Ledger>(
     }
 }
 
-fn square_is_walked<L: Ledger>(rt: &impl Abort, alloc: Global, blank: Blank) -> Result<(), Fail>
+fn walk_words<L: Ledger>(
+    rt: &impl Abort,
+    arena: &Arena,
+    scratch: &mut Scratch,
+    steps: &mut Steps<L>,
+)
+    requires dim { arena.now.schema.dim ≡ 2 }
+    requires fits { Fits scratch.old arena.now }
+    ensures { scratch.new.bound ≡ scratch.old.bound }
+{
+    let cases: [(u32, &[u8], &[u32]); 4] = [
+        (0, &[0, 1], &[0, 1, 7, 2, 6, 3, 5, 4]),
+        (0, &[], &[0]),
+        (3, &[1, 0], &[3, 4, 2, 5, 1, 6, 0, 7]),
+        (6, &[0, 2], &[6, 7]),
+    ];
+    for (from, labels, names) in cases {
+        let from = arena.slot_of(from, steps).expect(rt, "a dart");
+        let walk = walk_word(arena, from, &word(rt, labels), scratch, steps);
+        expect_walk(rt, arena, &walk, names, steps);
+    }
+}
+
+fn walk_masks<L: Ledger>(
+    rt: &impl Abort,
+    arena: &Arena,
+    scratch: &mut Scratch,
+    steps: &mut Steps<L>,
+)
+    requires dim { arena.now.schema.dim ≡ 2 }
+    requires fits { Fits scratch.old arena.now }
+    ensures { scratch.new.bound ≡ scratch.old.bound }
+{
+    let cases: [(u32, u8, &[u32]); 3] = [
+        (0, 3, &[0, 1, 7, 2, 6, 3, 5, 4]),
+        (3, 6, &[3, 4]),
+        (5, 0, &[5]),
+    ];
+    for (from, bits, names) in cases {
+        let mask = Mask { bits };
+        for label in 3..8 {
+            assert!(rt; !mask.has(label));
+        }
+        let from = arena.slot_of(from, steps).expect(rt, "a dart");
+        let walk = walk_mask(arena, from, mask, scratch, steps);
+        expect_walk(rt, arena, &walk, names, steps);
+    }
+}
+
+fn walk_square<L: Ledger>(rt: &impl Abort, alloc: Global, blank: Blank) -> Result<(), Fail>
     requires name { blank.name ≡ L.name }
     requires parts { blank.parts ≡ L.parts }
     requires some { 0 < blank.parts }
@@ -99,32 +148,12 @@ fn square_is_walked<L: Ledger>(rt: &impl Abort, alloc: Global, blank: Blank) -> 
     let arena = square(rt, alloc, &mut steps)?;
     let mut scratch = Scratch::new(alloc);
     scratch.fit(&arena)?;
-    let words: [(u32, &[u8], &[u32]); 4] = [
-        (0, &[0, 1], &[0, 1, 7, 2, 6, 3, 5, 4]),
-        (0, &[], &[0]),
-        (3, &[1, 0], &[3, 4, 2, 5, 1, 6, 0, 7]),
-        (6, &[0, 2], &[6, 7]),
-    ];
-    for (from, labels, names) in words {
-        let from = arena.slot_of(from, &mut steps).expect(rt, "a dart");
-        let walk = walk_word(&arena, from, &word(rt, labels), &mut scratch, &mut steps);
-        expect_walk(rt, &arena, &walk, names, &mut steps);
-    }
-    let masks: [(u32, u8, &[u32]); 3] = [
-        (0, 3, &[0, 1, 7, 2, 6, 3, 5, 4]),
-        (3, 6, &[3, 4]),
-        (5, 0, &[5]),
-    ];
-    for (from, bits, names) in masks {
-        assert!(rt; bits < 8);
-        let from = arena.slot_of(from, &mut steps).expect(rt, "a dart");
-        let walk = walk_mask(&arena, from, Mask { bits }, &mut scratch, &mut steps);
-        expect_walk(rt, &arena, &walk, names, &mut steps);
-    }
+    walk_words(rt, &arena, &mut scratch, &mut steps);
+    walk_masks(rt, &arena, &mut scratch, &mut steps);
     Ok(())
 }
 
 #[test]
 fn a_square_is_walked(rt: HostRuntime) -> Result<(), Fail> {
-    square_is_walked::<Brand>(&rt, rt.alloc(), Blank::new(1))
+    walk_square::<Brand>(&rt, rt.alloc(), Blank::new(1))
 }

@@ -5,42 +5,31 @@ ghost use Rattle.gm_arena.specs.Lawful.{IsLawful};
 ghost use Rattle.gm_model.specs.Labels.{has};
 ghost use Rattle.gm_model.specs.Orbits.{IsWalk};
 ghost use Rattle.gm_walk.specs.Room.{Fits};
+ghost use Rattle.gm_walk.specs.Lent.{slots_of, bound_of, lender_of};
 ghost use Rattle.gm_walk.specs.Walks.{IsWord, letters_of, along, names_of, AreLive, IsWalkedTo};
 
 use crate::scratch::Scratch;
 use gm_arena::{Arena, Slot};
 use gm_model::{Letter, Mask, Steps, Word};
-use std::marker::Model;
 use std::sync::ledger::Ledger;
 
-/// A walk, in the scratch that was lent to it. Contracts see its slots in their order, the bound of
-/// the scratch's room, and which scratch it is.
+/// A walk, in the scratch that was lent to it. Contracts see its slots in their order.
 #[derive(Drop)]
 pub struct Walk<'s> {
     scratch: &'s mut Scratch,
 }
 
-impl<'s> Model for Walk<'s> {
-    ghost use Rattle.gm_walk.specs.Room.{Lent, lent_code};
-
-    ghost Value = { Lent };
-
-    ghost coded = { lent_code };
-
-    ghost view = { λ w. record { slots = w.scratch.now.walked; bound = w.scratch.now.bound; lender = w.scratch.ghost_name } };
-}
-
 impl Walk<'_> {
     /// The slots of the walk, in its order.
     pub fn slots(&self) -> &[Slot]
-        ensures { result.now ≡ self.now.slots }
+        ensures { result.now ≡ slots_of self.now }
     {
         self.scratch.walked()
     }
 
     /// The place of the slot in the walk, counted from 0; `None` where it is not in the walk.
     pub fn place(&self, slot: Slot) -> Option<u32>
-        ensures { MatchOption result (Contains self.now.slots slot → ⊥) (λ place. slice_get self.now.slots place ≡ Some slot) }
+        ensures { MatchOption result (Contains (slots_of self.now) slot → ⊥) (λ place. slice_get (slots_of self.now) place ≡ Some slot) }
     {
         self.scratch.place(slot)
     }
@@ -58,11 +47,11 @@ pub fn walk_word<'s, L: Ledger>(
     requires live { IsLiveSlot arena.now from.at }
     requires word { IsWord arena.now.schema.dim word.now }
     requires fits { Fits scratch.old arena.now }
-    ensures walk { IsWalk (along arena.now word.now) (length word.now) (name_at arena.now from.at) (names_of arena.now result.slots) }
-    ensures live { AreLive arena.now result.slots }
-    ensures cost { steps.new ≤ steps.old + 4 * (arena.now.schema.dim + 1) * length result.slots }
-    ensures bound { result.bound ≡ scratch.old.bound }
-    ensures lender { result.lender ≡ scratch.entry.ghost_name }
+    ensures walk { IsWalk (along arena.now word.now) (length word.now) (name_at arena.now from.at) (names_of arena.now (slots_of result)) }
+    ensures live { AreLive arena.now (slots_of result) }
+    ensures cost { steps.new ≤ steps.old + 4 * (arena.now.schema.dim + 1) * length (slots_of result) }
+    ensures room { bound_of result ≡ scratch.old.bound }
+    ensures lender { lender_of result ≡ scratch.entry.ghost_name }
 {
     prove!((from.at as usize) < arena.bound());
     scratch.clear();
@@ -87,11 +76,11 @@ pub fn walk_mask<'s, L: Ledger>(
     requires live { IsLiveSlot arena.now from.at }
     requires mask { (label : ℕ) → label ≤ 7 → IsTrue (has mask label) → label ≤ arena.now.schema.dim }
     requires fits { Fits scratch.old arena.now }
-    ensures walk { IsWalk (along arena.now (letters_of mask)) (length (letters_of mask)) (name_at arena.now from.at) (names_of arena.now result.slots) }
-    ensures live { AreLive arena.now result.slots }
-    ensures cost { steps.new ≤ steps.old + 4 * (arena.now.schema.dim + 1) * length result.slots }
-    ensures bound { result.bound ≡ scratch.old.bound }
-    ensures lender { result.lender ≡ scratch.entry.ghost_name }
+    ensures walk { IsWalk (along arena.now (letters_of mask)) (length (letters_of mask)) (name_at arena.now from.at) (names_of arena.now (slots_of result)) }
+    ensures live { AreLive arena.now (slots_of result) }
+    ensures cost { steps.new ≤ steps.old + 4 * (arena.now.schema.dim + 1) * length (slots_of result) }
+    ensures room { bound_of result ≡ scratch.old.bound }
+    ensures lender { lender_of result ≡ scratch.entry.ghost_name }
 {
     walk_word(arena, from, &word_of(mask), scratch, steps)
 }

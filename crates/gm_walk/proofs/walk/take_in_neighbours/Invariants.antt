@@ -2,7 +2,6 @@ use Rattle.std.proofs.Common.{◌≡◌, ℕ, ◌+◌, ◌≤◌, ◌<◌, lengt
 use Rattle.gm_arena.specs.declared.slot.Slot.{Slot}
 use Rattle.gm_model.specs.Orbits.{IsWalkTo}
 use Rattle.gm_walk.specs.Walks.{AreLive, IsWalkedTo, along, names_of}
-use Rattle.gm_walk.proofs.WalkLemmas
 use Rattle.gm_walk.proofs.walk.take_in_neighbours.Given as goal
 
 abbrev pub invariant-loop-place : goal.invariant-loop-place

@@ -1,5 +1,4 @@
-use Rattle.gm_walk.specs.Walks.{IsWord}
-use Rattle.gm_walk.proofs.MaskLemmas.{is_word}
+use Rattle.gm_walk.proofs.WordLemmas.{is_word}
 use Rattle.gm_walk.proofs.walk.walk_mask.Goals as goal
 
 pub walk_word-requires-clause-word : goal.walk_word-requires-clause-word

@@ -1,4 +1,4 @@
-use Rattle.std.proofs.Common.{◌≡◌, ◌+◌, ◌*◌, ◌≤◌, length, sym, subst, ap, ◌∙◌, arith}
+use Rattle.std.proofs.Common.{◌≡◌, length, subst, ap, ◌∙◌, arith}
 use Rattle.std.proofs.lemmas.List.{length-map}
 use Rattle.gm_arena.specs.declared.slot.Slot.{Slot}
 use Rattle.gm_arena.specs.ArenaMap.{name_at}
@@ -24,5 +24,5 @@ returns-clause-walk g c =
     let word = c.args.word.now in
     let names = names_of m c.loop-at.scratch.walked in
     let end : c.loop-at.at ≡ length names =
-        omega (arith, c.loop-at.invariant.within, c.loop-at-test.false, ap length c.walked.ensures.value, length-map c.loop-at.scratch.walked (λ (s : Slot). name_at m s.at)) in
+    omega (arith, c.loop-at.invariant.within, c.loop-at-test.false, ap length c.walked.ensures.value, length-map c.loop-at.scratch.walked (λ (s : Slot). name_at m s.at)) in
     subst (λ q. IsWalkTo (along m word) (length word) (name_at m c.args.from.at) q 0 names) end c.loop-at.invariant.walk

@@ -1,4 +1,4 @@
-use Rattle.std.proofs.Common.{◌≡◌, ◌≤◌, length, vec_len}
+use Rattle.std.proofs.Common.{◌≡◌, length, vec_len}
 use Rattle.std.specs.Vec.{vec_capacity}
 use Rattle.gm_walk.specs.Marks.{IsKept}
 use Rattle.gm_walk.proofs.scratch.Scratch.clear.Given as goal

@@ -13,6 +13,6 @@ pub returns : goal.returns
 returns c =
     let within : c.args.slot.at < length c.deref.result.now = ltb-true _ _ (sym c.in_ok-get.ensures.lookup.0) in
     let mark : get_or c.self.inside.marks.items c.args.slot.at 0 ≡ c.in_ok-get.field-0.now =
-        ap (λ xs. get_or xs c.args.slot.at 0) (sym c.deref.ensures.value)
-        ∙ (get_or_default c.deref.result.now c.args.slot.at 0 c.in_ok-get.field-0.now within ∙ sym c.in_ok-get.ensures.lookup.1) in
+    ap (λ xs. get_or xs c.args.slot.at 0) (sym c.deref.ensures.value)
+    ∙ (get_or_default c.deref.result.now c.args.slot.at 0 c.in_ok-get.field-0.now within ∙ sym c.in_ok-get.ensures.lookup.1) in
     rw (← c.self.view_is) (place_told _ _ c.self.invariant.marked c.args.slot c.in_ok-get.field-0.now c.checked_sub.result mark c.checked_sub.ensures)

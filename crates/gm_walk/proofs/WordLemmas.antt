@@ -1,12 +1,14 @@
--- The labels of a mask, one after another.
-use Rattle.std.proofs.Common.{◌≡◌, ℕ, ◌+◌, ◌<◌, ◌≤◌, Bool, true, false, List, [], ◌∷◌, ◌++◌, IsTrue, cond, length, get_or, map, take, set, sym, ap, subst, ◌∙◌, arith}
+-- The labels of a mask, one after another, and which words can be walked along.
+use Rattle.std.proofs.Common.{◌≡◌, ℕ, ◌+◌, ◌<◌, ◌≤◌, true, false, List, [], ◌∷◌, ◌++◌, IsTrue, Some, cond, length, get_or, map, take, set, slice_get, refl, sym, ap, ◌∙◌, arith}
 use Rattle.std.specs.List.{All, filter}
 use Rattle.std.proofs.lemmas.List.{append-nil, take_more_set, map_push}
 use Rattle.std.proofs.lemmas.List.Elements.{All-map, All-filter, All-from_recursion, filter_more, filter_passes}
+use Rattle.std.proofs.lemmas.Option.{slice_get-get_or}
 use Rattle.gm_model.specs.declared.word.Letter.{Letter}
-use Rattle.gm_model.specs.declared.word.Letter.TheVariants.{At}
+use Rattle.gm_model.specs.declared.word.Letter.TheVariants.{At, Gone}
 use Rattle.gm_model.specs.declared.word.Mask.{Mask}
 use Rattle.gm_model.specs.Labels.{has}
+use Rattle.gm_model.specs.Structure.{IsPlainWord, HasLabelsUpTo}
 use Rattle.gm_walk.specs.Walks.{IsLabelUpTo, IsWord, labels_of, letters_of}
 
 module _ (mask : Mask) (letters : List Letter) (used index : ℕ) (labels : List ℕ) (within : index < length labels) (front : take used letters ≡ map At (filter (has mask) (take index labels))) where
@@ -30,3 +32,11 @@ is_word n mask few = All-map (IsLabelUpTo n) At (labels_of mask) (λ k d h. few 
   where
     small : All (λ label. label ≤ 7) (labels_of mask)
     small = All-filter (has mask) (λ label. label ≤ 7) (0 ∷ 1 ∷ 2 ∷ 3 ∷ 4 ∷ 5 ∷ 6 ∷ 7 ∷ []) (All-from_recursion (λ label. label ≤ 7) (0 ∷ 1 ∷ 2 ∷ 3 ∷ 4 ∷ 5 ∷ 6 ∷ 7 ∷ []) ((omega arith), ((omega arith), ((omega arith), ((omega arith), ((omega arith), ((omega arith), ((omega arith), ((omega arith), tt)))))))))
+
+-- a plain word with labels up to n, as a rule has it, can be walked along
+pub plain_is_word : (n : ℕ) (word : List Letter) → IsPlainWord word → HasLabelsUpTo n word → IsWord n word
+plain_is_word n word plain labels = λ k d h. go k (get_or word k d) (slice_get-get_or word k d h) (All-from_recursion (λ letter. (i : ℕ) → letter ≡ At i → i ≤ n) word labels k d h)
+  where
+    go : (k : ℕ) (letter : Letter) → slice_get word k ≡ Some letter → ((i : ℕ) → letter ≡ At i → i ≤ n) → IsLabelUpTo n letter
+    go k (At i) e f = f i refl
+    go k Gone e f = plain.labels k e
