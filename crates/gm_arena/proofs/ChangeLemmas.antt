@@ -6,8 +6,8 @@ use Rattle.std.proofs.lemmas.Bool.{cases_eq}
 use Rattle.std.proofs.lemmas.Option.{none-some, same_Some}
 use Rattle.std.proofs.lemmas.List.Elements.{All-head, All-tail}
 use Rattle.std.proofs.lemmas.List.Sums.{sum_by-set}
-use Rattle.slab.specs.Slab.{Slab, get, slab_len, with_value}
-use Rattle.slab.proofs.SlabLemmas.{ContainsKey-within}
+use Rattle.slab.specs.Slab.{Slab, get, slab_len, Updates, with_value}
+use Rattle.slab.proofs.SlabLemmas.{ContainsKey-within, Updates-with_value}
 use Rattle.gm_model.specs.declared.schema.Schema.{Schema}
 use Rattle.gm_model.specs.declared.value.Value.{Value}
 use Rattle.gm_arena.specs.declared.slot.Slot.{Slot}
@@ -28,9 +28,15 @@ pub slab_len-with_value : (places : Slab Place) (slot : ℕ) (old new : Place) �
 slab_len-with_value places slot old new here =
     let one : Option Place → ℕ = λ o. cond (is_some o) 1 0 in
     let counts : slab_len (with_value places slot new) + one (get places slot) ≡ slab_len places + 1 =
-        sum_by-set one places.slots slot (Some new) None (ContainsKey-within places slot (is_some_at _ old here)) in
+    sum_by-set one places.slots slot (Some new) None (ContainsKey-within places slot (is_some_at _ old here)) in
     let before : one (get places slot) ≡ 1 = ap one here in
     omega arith
+
+-- a slab whose new place was written once more
+pub updates_again : (places inserted : Slab Place) (slot : ℕ) (first last : Place) → Updates places inserted slot (Some first) → Updates places (with_value inserted slot last) slot (Some last)
+updates_again places inserted slot first last updates =
+    let again = Updates-with_value inserted slot last (is_some_at _ first updates.changed) in
+    record { changed = again.changed; others = λ other apart. again.others other apart ∙ updates.others other apart }
 
 -- two slabs that have the same name at a slot
 pub slots_alike : (places places' : Slab Place) (slot : ℕ) → option_map (λ (p : Place). p.name) (get places' slot) ≡ option_map (λ (p : Place). p.name) (get places slot) → map.get (slots_in places') slot ≡ map.get (slots_in places) slot

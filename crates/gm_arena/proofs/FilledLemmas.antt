@@ -26,9 +26,9 @@ both false b p q = p
 
 apart : {A : Type 0} (x y : ℕ) (a b : A) → x ≢ y → cond (eq_by_cmp nat_cmp x y) a b ≡ b
 apart x y a b h = elim (cases_lt x y) [
-    | inl l ↦ rw (less x y l) refl
-    | inr l ↦ rw (greater x y (omega arith)) refl
-  ]
+  | inl l ↦ rw (less x y l) refl
+  | inr l ↦ rw (greater x y (omega arith)) refl
+]
 
 module _ {X : Type 0} where
   below_entries : (x k : ℕ) (xs : List (Option X)) → x < k → T (below_all nat_cmp x (entries_from k xs))

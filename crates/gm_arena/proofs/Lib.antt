@@ -8,3 +8,4 @@ pub mod NewLemmas
 pub mod ValueLemmas
 pub mod AddLemmas
 pub mod NameLemmas
+pub mod MapLemmas

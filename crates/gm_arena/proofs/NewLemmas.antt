@@ -33,15 +33,15 @@ module _ (schema : Schema) (places : Slab Place) (slots : places.slots ≡ []) w
 
   pub sound_empty : IsSchema schema → 0 < schema.dim → schema.dim ≤ 7 → places.capacity ≡ 0 → IsSound schema (schema.dim + 1) (length schema.embeds) places [] [] 0 0 0
   sound_empty lawful some few capacity = record {
-      sized = record { lawful = lawful; one_each = refl; several = omega arith; few = omega arith; wide = refl };
-      placed = λ slot place e. absurd (none-some place (sym (vacant slot) ∙ e));
-      named = λ name h. absurd (h refl);
-      valued = λ slot h. absurd (false≢true (rw vacant at h));
-      fits = omega (arith, capacity);
-      long = rw capacity (omega arith);
-      room = omega (arith, capacity, count);
-      counted = count ∙ sym (ap map.len filled_none ∙ map.len-empty nat_cmp _);
-      few_darts = omega (arith, count);
-      few_names = omega arith;
-      few_reserved = omega arith;
-    }
+    sized = record { lawful = lawful; one_each = refl; several = omega arith; few = omega arith; wide = refl };
+    placed = λ slot place e. absurd (none-some place (sym (vacant slot) ∙ e));
+    named = λ name h. absurd (h refl);
+    valued = λ slot h. absurd (false≢true (rw vacant at h));
+    fits = omega (arith, capacity);
+    long = rw capacity (omega arith);
+    room = omega (arith, capacity, count);
+    counted = count ∙ sym (ap map.len filled_none ∙ map.len-empty nat_cmp _);
+    few_darts = omega (arith, count);
+    few_names = omega arith;
+    few_reserved = omega arith;
+  }

@@ -10,8 +10,14 @@ use Rattle.gm_arena.specs.ArenaMap.{ArenaMap, Dart, IsLiveName, alpha}
 -- no darts, and no room
 abbrev pub empty_map : Schema → ArenaMap
 empty_map schema = record {
-  schema = schema; darts = empty; slots = empty;
-  count = 0; next = 0; spare = 0; reserved = 0; bound = 0;
+  schema = schema;
+  darts = empty;
+  slots = empty;
+  count = 0;
+  next = 0;
+  spare = 0;
+  reserved = 0;
+  bound = 0;
 }
 
 -- a dart that is free for every label: each neighbour is the dart itself

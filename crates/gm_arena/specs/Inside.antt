@@ -47,8 +47,14 @@ slots_in places = filled (map (option_map (λ (p : Place). p.name)) places.slots
 
 abbrev pub map_of : Schema → ℕ → ℕ → Slab Place → List Value → List ℕ → ℕ → ℕ → ℕ → ArenaMap
 map_of schema labels width places values table next spare bound = record {
-  schema = schema; darts = darts_in labels width places values table; slots = slots_in places;
-  count = slab_len places; next = next; spare = spare; reserved = length table; bound = bound;
+  schema = schema;
+  darts = darts_in labels width places values table;
+  slots = slots_in places;
+  count = slab_len places;
+  next = next;
+  spare = spare;
+  reserved = length table;
+  bound = bound;
 }
 
 -- a place is found by its name, and its neighbours are live

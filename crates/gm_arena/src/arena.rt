@@ -42,6 +42,7 @@ pub struct Arena {
 }
 
 /// A dart as the arena holds it.
+#[derive(Clone, Copy, Debug)]
 pub struct Row<'a> {
     pub name: u32,
     /// The neighbours, by label.
@@ -159,8 +160,8 @@ impl Arena {
         requires { IsLiveSlot self.now slot.at }
         ensures name { IsAt self.now slot.at result.name }
         ensures dart { get self.now.darts result.name ≡ Some (record {
-            alphas = map (λ (s : Slot). name_at self.now s.at) result.alphas.now;
-            values = result.values.now;
+          alphas = map (λ (s : Slot). name_at self.now s.at) result.alphas.now;
+          values = result.values.now;
         }) }
         ensures live { All (λ (s : Slot). IsLiveSlot self.now s.at) result.alphas.now }
         ensures cost { steps.new ≡ steps.old + 1 }
@@ -199,7 +200,12 @@ impl Arena {
     {
         pad_table(&mut self.table, names as usize)?;
         let room = self.spare.max(more);
-        reserve_places(&mut self.places, &mut self.values, self.width, room as usize)?;
+        reserve_places(
+            &mut self.places,
+            &mut self.values,
+            self.width,
+            room as usize,
+        )?;
         self.spare = room;
         Ok(())
     }

@@ -26,7 +26,7 @@ along_hook map rule d m = map.alpha (hook_label rule m) d
 -- The positions are the places of the walk from the first hook dart along the first hook's word, and a position
 -- turns to the place of its neighbour. A creation rule has one position, and no place to turn at.
 pub data ArePositions (map : Map) (rule : Rule) (place : Placement) : List ℕ → List ℕ → Type 0 where
-  Created : place.positions ≡ 1 → ArePositions map rule place [] []
+  Created : rule.hooks ≡ [] → place.positions ≡ 1 → ArePositions map rule place [] []
   Walked : (d : ℕ) (others walk : List ℕ) → IsDart map d → IsWalk (along_hook map rule) (width rule) d walk → place.positions ≡ length walk → ((p m : ℕ) → p < length walk → m < width rule → (place.turn p m < length walk) × (slice_index walk (place.turn p m) ≡ along_hook map rule (slice_index walk p) m)) → ArePositions map rule place (d ∷ others) walk
 
 -- ---- a match

@@ -15,6 +15,8 @@ mod schema;
 mod script;
 mod step;
 mod steps;
+#[cfg(test)]
+mod tests;
 mod token;
 mod value;
 mod word;

@@ -1,0 +1,13 @@
+pub mod Tests
+pub mod Lists
+pub mod Scenes
+pub mod Arcs
+pub mod Corners
+pub mod Commuting
+pub mod Results
+pub mod RuleSteps
+pub mod Walks
+pub mod Turns
+pub mod NewNames
+pub mod Keeps
+pub mod Candidates

@@ -1,0 +1,12 @@
+//! Why conditions that are read off a rule alone make every application lawful: the laws and the
+//! theorem, over the definitions of `gm_model`. The crate has no code that runs.
+#![tactic(auto)]
+
+ghost use Rattle.gm_theory.specs.Theorem.{RulesKeepGeneralisedMaps};
+
+/// For every generalised map of dimension 1 to 7, every accepted rule and every match, the
+/// unfolding exists, is determined, and is a generalised map with the next name above its names.
+/// The theorem is the clause; the function does nothing.
+pub fn keeps_generalised_maps()
+    ensures { RulesKeepGeneralisedMaps }
+{}
