@@ -1,5 +1,5 @@
 -- What is printed is read again: the canonical text of a map stands for it.
-use Rattle.std.proofs.Common.{◌≡◌, ℕ, ◌+◌, ◌^◌, ◌<◌, ◌≤◌, Bool, true, false, ◌||◌, List, [], ◌∷◌, ◌++◌, length, map, Option, Some, None, refl, sym, ap, subst, ◌∙◌, append_assoc, codes, cond, eqb, ltb, leb, inl, inr, arith}
+use Rattle.std.proofs.Common.{◌≡◌, ℕ, ◌<◌, ◌≤◌, Bool, true, false, ◌||◌, List, [], ◌∷◌, ◌++◌, length, map, Some, None, refl, sym, ap, subst, ◌∙◌, append_assoc, codes, cond, eqb, ltb, leb, inl, inr, arith}
 use Rattle.std.specs.Prelude.{decimal, IsPermutation}
 use Rattle.std.specs.List.{flat_map, AllByRecursion}
 use Rattle.std.specs.List.Sorted.{IsStrictlyIncreasing}
@@ -7,14 +7,13 @@ use Rattle.std.proofs.lemmas.Bool.{le-ltb, lt-leb, ltb-false, leb-false, eqb-fal
 use Rattle.std.proofs.lemmas.List.Elements.{All-from_recursion, recursion_from_All}
 use Rattle.std.proofs.lemmas.List.Sorted.{All-permutation, length_permutation, IsPermutation-refl}
 use Rattle.std.proofs.lemmas.List.{map-append}
-use Rattle.std.proofs.lemmas.List.Concat.{flat_map-cons}
 use Rattle.gm_model.specs.declared.limit.LimitKind.TheVariants as what
-use Rattle.gm_model.specs.declared.token.TokenKind.TheVariants as kinds
-use Rattle.gm_model.specs.Tokens.{is_digit, is_name_byte}
-use Rattle.gm_model.specs.Symbols.{Symbol, Word, Numeral, End, symbols_of, marks_of, symbols}
+use Rattle.gm_model.specs.Tokens.{is_digit}
+use Rattle.gm_model.specs.Symbols.{Symbol, Word, Numeral}
 use Rattle.gm_model.specs.GMap.{Row, AreGMap}
 use Rattle.gm_model.specs.Reading.{Part, symbols_in, IsWithin}
-use Rattle.gm_model.specs.MapText.{Role, Fixed, Dimension, Count, DartName, limit_of, word, number, the_end, spelling, spelling_of_row, AreShaped, IsSentence, IsListed, MapText, names, line_of, canonical}
+use Rattle.gm_model.specs.MapText.{Role, DartName, limit_of, number, the_end, spelling, spelling_of_row, AreShaped, IsSentence, IsListed, MapText, names, line_of, canonical}
+use Rattle.gm_mapfile.proofs.PlainLines.{shaped_permutation}
 use Rattle.gm_text.proofs.Printed.{Stops, symbols_from, symbols_of-from, symbols_from-end, symbols_from-blank, symbols_from-word, symbols_from-digits, symbols_from-decimal}
 
 -- a dart's name and its neighbours pass no limit
@@ -172,8 +171,7 @@ reordered n rows others moved limits = record {
 pub printed_again : (text : List ℕ) (n : ℕ) (darts : List Row) → MapText text n darts → MapText (canonical n darts) n darts
 printed_again text n darts stands =
     let limits = reordered n stands.written darts stands.same (listed_in_limits text n stands.written stands.listed) in
-    let width : Row → Type 0 = λ row. length row.alphas ≡ n + 1 in
-    let shaped : AreShaped n darts = recursion_from_All width darts (All-permutation width stands.written darts stands.same (All-from_recursion width stands.written stands.listed.shaped)) in
+    let shaped = shaped_permutation n stands.written darts stands.same stands.listed.shaped in
     record { written = darts; listed = canonical_lists n darts shaped limits; same = IsPermutation-refl darts; ascending = stands.ascending; lawful = stands.lawful }
 
 pub lawful_printed : (n : ℕ) (darts : List Row) → AreShaped n darts → AreInLimits n darts → IsStrictlyIncreasing (names darts) → AreGMap n darts → MapText (canonical n darts) n darts

@@ -1,5 +1,5 @@
 -- What the reader of a map's text answers: the draft of the text, or its first fault.
-use Rattle.std.proofs.Common.{◌≡◌, ℕ, zero, suc, ◌+◌, ◌*◌, List, [], ◌∷◌, ◌++◌, length, get_or, drop, map, Result, Ok, Err, refl, sym, ap, subst, ◌∙◌, codes}
+use Rattle.std.proofs.Common.{◌≡◌, ℕ, zero, suc, ◌+◌, ◌*◌, List, [], ◌∷◌, ◌++◌, get_or, drop, map, Result, Ok, Err, refl, sym, ap, subst, ◌∙◌, codes}
 use Rattle.std.proofs.lemmas.List.{append_cancel_right}
 use Rattle.std.specs.Prelude.{IfOk, IfErr}
 use Rattle.std.specs.List.{flat_map}
@@ -7,13 +7,13 @@ use Rattle.gm_model.specs.declared.limit.LimitKind.{LimitKind}
 use Rattle.gm_model.specs.GMap.{Row}
 use Rattle.gm_model.specs.Symbols.{Mark, marks_of}
 use Rattle.gm_model.specs.Reading.{Part, IsReadAs, TextEndsAt, LimitPassedAt}
-use Rattle.gm_model.specs.MapText.{Role, Fixed, Dimension, Count, DartName, word, number, the_end, limit_of, spelling, spelling_of_row, AreShaped, IsSentence, IsListed, IsTextFault, IsLimitFault}
+use Rattle.gm_model.specs.MapText.{Role, Dimension, Count, DartName, number, the_end, limit_of, spelling, spelling_of_row, AreShaped, IsSentence, IsListed, IsTextFault, IsLimitFault}
 use Rattle.gm_mapfile.specs.Draft.{numbers_of, IsDraft, IsFirstFault}
 use Rattle.gm_mapfile.specs.declared.reading.Draft.{Draft}
 use Rattle.gm_mapfile.specs.declared.reading.TextFault.{TextFault}
 use Rattle.gm_mapfile.specs.declared.reading.TextFault.TheVariants as faults
-use Rattle.gm_mapfile.specs.Reading.{Stop, Ends, Passes, Lost, Want, TheWord, TheNumber, Any, role_of, fits, value_in, ◌>>=◌, wanted_at, numbers_at, ended_at, draft_of, Gives}
-use Rattle.gm_mapfile.proofs.Plan.{Plan, Finish, Need, Spells, run, IsRight, run_is_right, Wanted, Refused, Limited, Taken, wanted, at_taken}
+use Rattle.gm_mapfile.specs.Reading.{Stop, Ends, Passes, Want, TheWord, TheNumber, Any, role_of, value_in, ◌>>=◌, wanted_at, numbers_at, ended_at, draft_of, Gives}
+use Rattle.gm_mapfile.proofs.Plan.{Plan, Finish, Need, Spells, run, IsRight, run_is_right, Refused, Limited, Taken, wanted, at_taken}
 use Rattle.gm_mapfile.proofs.Rows.{spelling_of_numbers}
 use Rattle.gm_mapfile.proofs.Sentence.{numbers, lines, from_count, from_darts, from_top, from_dim, from_version, map_plan, plan_of_sentence, sentence_of_plan}
 
@@ -219,17 +219,17 @@ read_end marks x y e = go (ended_at marks) refl
     go (Err other) is = let same : Err other ≡ Ok y = rw is at e in absurd cc
 
 -- the values of parts, and what they are in a sentence
-abbrev pub values : List (Part Role) → List ℕ
+abbrev values : List (Part Role) → List ℕ
 values parts = map (λ (part : Part Role). value_in part.symbol) parts
 
 values_of_numbers : (role : Role) (ns : List ℕ) → values (map (number role) ns) ≡ ns
 values_of_numbers role [] = refl
 values_of_numbers role (n ∷ ns) = ap (λ (ms : List ℕ). n ∷ ms) (values_of_numbers role ns)
 
-pub values_of_rows : (rows : List Row) → values (flat_map spelling_of_row rows) ≡ numbers_of rows
+values_of_rows : (rows : List Row) → values (flat_map spelling_of_row rows) ≡ numbers_of rows
 values_of_rows rows = ap values (spelling_of_numbers rows) ∙ values_of_numbers DartName (numbers_of rows)
 
-pub of_spelling : (a b c d e f : Part Role) (parts : List (Part Role)) (n : ℕ) (rows : List Row) → a ∷ b ∷ c ∷ d ∷ e ∷ f ∷ (parts ++ the_end ∷ []) ≡ spelling n rows → (value_in d.symbol ≡ n) × (values parts ≡ numbers_of rows)
+of_spelling : (a b c d e f : Part Role) (parts : List (Part Role)) (n : ℕ) (rows : List Row) → a ∷ b ∷ c ∷ d ∷ e ∷ f ∷ (parts ++ the_end ∷ []) ≡ spelling n rows → (value_in d.symbol ≡ n) × (values parts ≡ numbers_of rows)
 of_spelling a b c d e f parts n rows same =
     let top : d ≡ number Dimension n = ap (λ (ps : List (Part Role)). get_or ps 3 the_end) same in
     let tail : parts ++ the_end ∷ [] ≡ flat_map spelling_of_row rows ++ the_end ∷ [] = ap (λ (ps : List (Part Role)). drop 6 ps) same in
@@ -240,14 +240,18 @@ listed_as text n m rows parts read same shaped dimension =
     let listed : IsListed text m rows = record { shaped = shaped; read = subst (IsReadAs IsSentence limit_of (marks_of text)) same (read_as_sentence (marks_of text) parts read) } in
     subst (λ (k : ℕ). IsListed text k rows) dimension listed
 
+abbrev pair_of : ℕ → List ℕ → ℕ × List ℕ
+pair_of n ns = (n, ns)
+
 -- from the parts that were read
-drafted : (text : List ℕ) (n : ℕ) (ns : List ℕ) (a b c d e f : Part Role) (parts : List (Part Role)) → run map_plan (marks_of text) ≡ Ok (a ∷ b ∷ c ∷ d ∷ e ∷ f ∷ (parts ++ the_end ∷ [])) → value_in d.symbol ≡ n → values parts ≡ ns → IsDraft text n ns
-drafted text n ns a b c d e f parts goes top numbers =
+drafted : (text : List ℕ) (n m : ℕ) (ns ms : List ℕ) (a b c d e f : Part Role) (parts : List (Part Role)) → run map_plan (marks_of text) ≡ Ok (a ∷ b ∷ c ∷ d ∷ e ∷ f ∷ (parts ++ the_end ∷ [])) → value_in d.symbol ≡ m → values parts ≡ ms
+    → pair_of m ms ≡ (n, ns) → IsDraft text n ns
+drafted text n m ns ms a b c d e f parts goes top numbers same =
     let whole : List (Part Role) = a ∷ b ∷ c ∷ d ∷ e ∷ f ∷ (parts ++ the_end ∷ []) in
     let read : IsReadAs (Spells map_plan) limit_of (marks_of text) whole = subst (IsRight map_plan (marks_of text)) goes (run_is_right map_plan (marks_of text)) in
     let sentence = sentence_of_plan whole read.sentence in
     let is = of_spelling a b c d e f parts sentence.0 sentence.1 sentence.3 in
-    (sentence.1, listed_as text n sentence.0 sentence.1 whole read sentence.3 sentence.2 (sym is.0 ∙ top), sym numbers ∙ is.1)
+    (sentence.1, listed_as text n sentence.0 sentence.1 whole read sentence.3 sentence.2 (sym is.0 ∙ top ∙ ap (λ (x : ℕ × List ℕ). x.0) same), ap (λ (x : ℕ × List ℕ). x.1) (sym same) ∙ sym numbers ∙ is.1)
 
 pub draft_is : (text : List ℕ) (n : ℕ) (ns : List ℕ) → draft_of (marks_of text) ≡ Ok (n, ns) → IsDraft text n ns
 unfolding draft_of
@@ -260,10 +264,9 @@ draft_is text n ns e =
     let count = read_step (Any Count) (lines top.0.0) darts.0.1 (after_count top.0.0) (n, ns) darts.2 in
     let found = read_numbers DartName (count.0.0 * (top.0.0 + 2)) Finish count.0.1 (after_numbers top.0.0) (n, ns) count.2 in
     let end = read_end found.0.1 (top.0.0, found.0.0) (n, ns) found.2 in
-    drafted text n ns format.1.part version.1.part dim.1.part top.1.part darts.1.part count.1.part found.1.parts
+    drafted text n top.0.0 ns found.0.0 format.1.part version.1.part dim.1.part top.1.part darts.1.part count.1.part found.1.parts
     (format.1.goes _ (version.1.goes _ (dim.1.goes _ (top.1.goes _ (darts.1.goes _ (count.1.goes _ (found.1.goes (the_end ∷ []) end.0)))))))
-    (top.1.value ∙ ap (λ (x : ℕ × List ℕ). x.0) end.1)
-    (found.1.values ∙ ap (λ (x : ℕ × List ℕ). x.1) end.1)
+    top.1.value found.1.values end.1
 
 -- ---- the same of what the code answers
 

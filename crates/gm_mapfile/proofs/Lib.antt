@@ -1,6 +1,7 @@
 pub mod PlainLines
 pub mod PlainOrder
 pub mod PlainLaws
+pub mod PlainText
 pub mod MapTest
 pub mod Plan
 pub mod Rows

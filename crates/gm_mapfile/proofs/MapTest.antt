@@ -1,12 +1,11 @@
 -- A test that computes whether rows are a map, and what it says of two lists of rows: the square, and two darts that are no map.
-use Rattle.std.proofs.Common.{◌≡◌, ℕ, zero, suc, ◌+◌, ◌<◌, ◌≤◌, inl, inr, List, [], ◌∷◌, length, Bool, true, ◌&&◌, ◌||◌, ◌==◌, nat_lt, IsTrue, is_some, refl, subst, ap, arith, eqb-true, ltb-true}
+use Rattle.std.proofs.Common.{◌≡◌, ℕ, zero, suc, ◌+◌, ◌<◌, ◌≤◌, inl, inr, List, [], ◌∷◌, Bool, true, ◌&&◌, ◌||◌, ◌==◌, nat_lt, IsTrue, is_some, refl, arith, eqb-true, ltb-true}
 use Rattle.std.specs.List.{list_all}
-use Rattle.std.specs.List.Sorted.{IsStrictlyIncreasing}
 use Rattle.std.proofs.lemmas.Bool.{and_parts, or_cases, cases_order}
 use Rattle.std.proofs.lemmas.List.{get_or-map}
 use Rattle.std.proofs.lemmas.List.Recursion.{and_at}
 use Rattle.gm_model.specs.GMap.{Row, row_of, IsLive, alpha, AreGMap}
-use Rattle.gm_mapfile.proofs.PlainLaws.{place_of_live, name_at}
+use Rattle.gm_mapfile.proofs.PlainLaws.{place_of_live}
 
 abbrev pub all_below : ℕ → (ℕ → Bool) → Bool
 all_below zero test = true

@@ -1,21 +1,17 @@
--- A text lists darts in one way at most or has one first fault, and stands for one map at most.
-use Rattle.std.proofs.Common.{◌≡◌, ℕ, zero, suc, ◌+◌, ◌<◌, ◌≤◌, List, [], ◌∷◌, ◌++◌, length, get_or, drop, map, ◌⊎◌, Result, Ok, Err, refl, sym, ap, subst, ◌∙◌, arith, ⊎_elim, codes}
+-- A text has one first fault at most, and then stands for no map; it stands for one map at most.
+use Rattle.std.proofs.Common.{◌≡◌, ℕ, List, Result, Ok, Err, sym, subst, ◌∙◌, ⊎_elim}
 use Rattle.std.specs.Prelude.{IsPermutation}
-use Rattle.std.specs.List.{flat_map}
-use Rattle.std.specs.List.Sorted.{IsStrictlyIncreasing}
-use Rattle.std.proofs.lemmas.List.{append_cancel_right}
 use Rattle.std.proofs.lemmas.List.Sorted.{IsPermutation-sym, IsPermutation-trans}
 use Rattle.gm_model.specs.declared.limit.LimitKind.{LimitKind}
 use Rattle.gm_model.specs.GMap.{Row}
-use Rattle.gm_model.specs.Symbols.{Mark, marks_of}
+use Rattle.gm_model.specs.Symbols.{marks_of}
 use Rattle.gm_model.specs.Reading.{Part}
-use Rattle.gm_model.specs.MapText.{Role, Fixed, Dimension, Count, DartName, word, number, the_end, limit_of, spelling, spelling_of_row, AreShaped, IsListed, MapText, StandsForNoMap, IsTextFault, IsLimitFault, names}
-use Rattle.gm_mapfile.specs.Draft.{numbers_of}
+use Rattle.gm_model.specs.MapText.{Role, spelling, IsListed, MapText, StandsForNoMap, IsTextFault, IsLimitFault}
 use Rattle.gm_mapfile.specs.Reading.{Stop, Ends, Passes, Lost}
 use Rattle.gm_mapfile.proofs.Plan.{run, IsRight, run_is_only}
-use Rattle.gm_mapfile.proofs.Rows.{same_rows, spelling_of_numbers}
+use Rattle.gm_mapfile.proofs.PlainText.{one_listing}
 use Rattle.gm_mapfile.proofs.Sentence.{map_plan}
-use Rattle.gm_mapfile.proofs.FirstFault.{read_by_plan, ends_by_plan, passed_by_plan, of_spelling, values_of_rows}
+use Rattle.gm_mapfile.proofs.FirstFault.{read_by_plan, ends_by_plan, passed_by_plan}
 use Rattle.gm_mapfile.proofs.Ascending.{same_ascending}
 
 -- what is right of the marks is what reading by the plan gives
@@ -50,24 +46,11 @@ no_map_at_text text place fault n darts stands = let same = text_run text place 
 pub no_map_at_limit : (text : List ℕ) (what : LimitKind) (place : ℕ) → IsLimitFault text what place → StandsForNoMap text
 no_map_at_limit text what place fault n darts stands = let same = limit_run text what place fault ∙ sym (listed_run text n stands.written stands.listed) in cc same
 
--- ---- one list of darts at most
-
-same_spelling : (n m : ℕ) (rows others : List Row) → AreShaped n rows → AreShaped m others → spelling n rows ≡ spelling m others → (n ≡ m) × (rows ≡ others)
-same_spelling n m rows others shaped other same =
-    let is = of_spelling (word (codes "gmap")) (number Fixed 1) (word (codes "dim")) (number Dimension n) (word (codes "darts")) (number Count (length rows)) (flat_map spelling_of_row rows) m others same in
-    let numbers : numbers_of rows ≡ numbers_of others = sym (values_of_rows rows) ∙ is.1 in
-    (is.0, same_rows n rows others shaped (subst (λ (k : ℕ). AreShaped k others) (sym is.0) other) numbers)
-
-pub listed_once : (text : List ℕ) (n m : ℕ) (rows others : List Row) → IsListed text n rows → IsListed text m others → (n ≡ m) × (rows ≡ others)
-listed_once text n m rows others a b =
-    let same : Ok (spelling n rows) ≡ Ok (spelling m others) = listed_run text n rows a ∙ sym (listed_run text m others b) in
-    same_spelling n m rows others a.shaped b.shaped (cc same)
-
 -- ---- one map at most
 
 pub one_map : (text : List ℕ) (n m : ℕ) (darts others : List Row) → MapText text n darts → MapText text m others → (n ≡ m) × (darts ≡ others)
 one_map text n m darts others a b =
-    let written = listed_once text n m a.written b.written a.listed b.listed in
+    let written = one_listing text n m a.written b.written a.listed b.listed in
     let second : IsPermutation a.written others = subst (λ (rows : List Row). IsPermutation rows others) (sym written.1) b.same in
     let moved = IsPermutation-trans darts a.written others (IsPermutation-sym a.written darts a.same) second in
     (written.0, same_ascending darts others a.ascending b.ascending moved)

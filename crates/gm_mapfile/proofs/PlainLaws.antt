@@ -1,16 +1,16 @@
 -- The laws of a map, said of the darts' names, are those said of the places where the darts stand.
-use Rattle.std.proofs.Common.{◌≡◌, ℕ, zero, suc, ◌+◌, ◌<◌, ◌≤◌, ◌⊎◌, inl, inr, List, [], ◌∷◌, ◌++◌, length, map, get_or, eqb, cond, true, false, Option, Some, None, is_some, IsSome, Contains, IsPermutation, refl, ap, sym, ◌∙◌, subst, below_more, arith, eq-eqb, eqb-true, ne_eqb}
-use Rattle.std.specs.List.{find, AllByRecursion}
+use Rattle.std.proofs.Common.{◌≡◌, ℕ, zero, suc, ◌+◌, ◌<◌, ◌≤◌, inl, inr, List, [], ◌∷◌, ◌++◌, length, get_or, eqb, Some, None, is_some, IsPermutation, refl, ap, sym, ◌∙◌, subst, below_more, arith, eq-eqb, eqb-true, ne_eqb}
+use Rattle.std.specs.List.{find}
 use Rattle.std.specs.List.Sorted.{IsNonDecreasing, IsStrictlyIncreasing}
 use Rattle.std.proofs.lemmas.Bool.{cases_Bool}
 use Rattle.std.proofs.lemmas.List.{get_or-map, length-map, get_or_default, get_or_append_left, get_or_push}
 use Rattle.std.proofs.lemmas.List.Elements.{All-from_recursion}
 use Rattle.std.proofs.lemmas.List.Recursion.{found_at}
 use Rattle.std.proofs.lemmas.List.Sorted.{IsPermutation-sym, IsPermutation-trans, IsPermutation-map}
-use Rattle.gm_model.specs.GMap.{Row, IsGMap, row_of, IsLive, alpha, AreGMap}
+use Rattle.gm_model.specs.GMap.{Row, row_of, IsLive, alpha, AreGMap}
 use Rattle.gm_model.specs.MapText.{AreShaped, names}
 use Rattle.gm_mapfile.specs.declared.plain.PlainDart.{PlainDart}
-use Rattle.gm_mapfile.specs.Plain.{row_from, rows_of, place_along, neighbours_at, LeadsTo, IsMissing, IsMissingIn, AreLinked, AreWithin, CommutesAt, IsLawfulAt, IsMapOf}
+use Rattle.gm_mapfile.specs.Plain.{row_from, rows_of, place_along, neighbours_at, LeadsTo, IsMissingIn, AreLinked, AreWithin, IsLawfulAt, IsMapOf}
 use Rattle.gm_mapfile.proofs.PlainOrder.{rising_far, rising_same, rising_from_permuted, same_from_rising}
 
 abbrev pub name_at : List Row → ℕ → ℕ

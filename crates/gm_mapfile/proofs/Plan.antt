@@ -1,12 +1,11 @@
 -- A grammar that says at each step what is wanted next. Reading by it answers the one reading of the marks, or their one first fault.
-use Rattle.std.proofs.Common.{◌≡◌, ℕ, zero, suc, ◌+◌, Bool, true, false, cond, eqb, ◌⊎◌, inl, inr, List, [], ◌∷◌, ◌++◌, map, Option, Some, None, Result, Ok, Err, refl, sym, ap, subst, ◌∙◌, eq-eqb, arith}
-use Rattle.std.specs.Str.{bytes_eq}
+use Rattle.std.proofs.Common.{◌≡◌, ℕ, Bool, true, false, cond, ◌⊎◌, inl, inr, List, [], ◌∷◌, ◌++◌, Option, Some, None, Result, Ok, Err, refl, sym, ap, subst, ◌∙◌, eq-eqb}
 use Rattle.std.proofs.lemmas.Slice.Eq.{bytes_eq-Decides}
 use Rattle.gm_model.specs.declared.limit.LimitKind.{LimitKind}
 use Rattle.gm_model.specs.Symbols.{Symbol, Word, Numeral, Sign, Gone, Stray, End, Mark, symbols}
-use Rattle.gm_model.specs.MapText.{Role, Fixed, Dimension, Count, DartName, limit_of, the_end}
+use Rattle.gm_model.specs.MapText.{Role, limit_of, the_end}
 use Rattle.gm_model.specs.Reading.{Part, symbols_in, Begins, IsWithin, IsReadAs, TextEndsAt, LimitPassedAt}
-use Rattle.gm_mapfile.specs.Reading.{Stop, Ends, Passes, Lost, Want, TheWord, TheNumber, Any, role_of, fits, value_in, is_end, ◌>>=◌, unless_passed, wanted_at, no_more, ended_at}
+use Rattle.gm_mapfile.specs.Reading.{Stop, Ends, Passes, Lost, Want, TheWord, TheNumber, Any, role_of, fits, value_in, is_end, ◌>>=◌, wanted_at, no_more, ended_at}
 
 pub data Plan : Type 0 where
   Finish : Plan

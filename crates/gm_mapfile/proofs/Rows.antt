@@ -1,6 +1,6 @@
--- Rows of one length, and the numbers of their lines.
-use Rattle.std.proofs.Common.{◌≡◌, ℕ, zero, suc, ◌+◌, ◌*◌, ◌-◌, List, [], ◌∷◌, ◌++◌, length, map, take, drop, refl, sym, ap, subst, ◌∙◌, append_assoc, arith}
-use Rattle.std.proofs.lemmas.List.{length-append, length-take, length-drop, take-append-drop, map-append, append_cancel_left, take_at, drop_at, nil_from_length}
+-- Rows of one length from the numbers of their lines.
+use Rattle.std.proofs.Common.{◌≡◌, ℕ, zero, suc, ◌+◌, ◌*◌, List, [], ◌∷◌, ◌++◌, length, map, take, drop, refl, sym, ap, ◌∙◌, arith}
+use Rattle.std.proofs.lemmas.List.{length-append, length-take, length-drop, take-append-drop, map-append, nil_from_length}
 use Rattle.std.specs.List.{flat_map}
 use Rattle.gm_model.specs.GMap.{Row}
 use Rattle.gm_model.specs.Reading.{Part}
@@ -39,21 +39,3 @@ rows_of n (suc count) (name ∷ numbers) long =
       many = ap suc rest.many;
       same = ap (λ (ns : List ℕ). name ∷ ns) (ap (λ (ns : List ℕ). take (n + 1) numbers ++ ns) rest.same ∙ take-append-drop (n + 1) numbers);
     }
-
-same_row : (a b : Row) → a.name ≡ b.name → a.alphas ≡ b.alphas → a ≡ b
-same_row a b name alphas = ap (λ (n : ℕ). let row : Row = record { name = n; alphas = a.alphas } in row) name ∙ ap (λ (ns : List ℕ). let row : Row = record { name = b.name; alphas = ns } in row) alphas
-
--- rows of one length are told apart by their numbers
-pub same_rows : (n : ℕ) (rows others : List Row) → AreShaped n rows → AreShaped n others → numbers_of rows ≡ numbers_of others → rows ≡ others
-same_rows n [] [] shaped other same = refl
-same_rows n [] (row ∷ others) shaped other same = absurd cc
-same_rows n (row ∷ rows) [] shaped other same = absurd cc
-same_rows n (row ∷ rows) (first ∷ others) shaped other same =
-    let name : row.name ≡ first.name = cc in
-    let tail : row.alphas ++ numbers_of rows ≡ first.alphas ++ numbers_of others = cc in
-    let alphas : row.alphas ≡ first.alphas =
-    sym (take_at row.alphas (numbers_of rows) (n + 1) shaped.0) ∙ ap (λ (ns : List ℕ). take (n + 1) ns) tail ∙ take_at first.alphas (numbers_of others) (n + 1) other.0 in
-    let later : numbers_of rows ≡ numbers_of others =
-    sym (drop_at row.alphas (numbers_of rows) (n + 1) shaped.0) ∙ ap (λ (ns : List ℕ). drop (n + 1) ns) tail ∙ drop_at first.alphas (numbers_of others) (n + 1) other.0 in
-    let here : row ≡ first = same_row row first name alphas in
-    rw (here, same_rows n rows others shaped.1 other.1 later) refl

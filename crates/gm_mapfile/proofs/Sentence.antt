@@ -1,14 +1,14 @@
 -- The texts of maps are the sentences of a plan.
-use Rattle.std.proofs.Common.{◌≡◌, ℕ, zero, suc, ◌+◌, ◌*◌, Bool, true, false, List, [], ◌∷◌, ◌++◌, length, map, refl, sym, ap, subst, ◌∙◌, codes, eqb, arith}
-use Rattle.std.proofs.lemmas.Bool.{eqb-true, eq-eqb}
+use Rattle.std.proofs.Common.{◌≡◌, ℕ, zero, suc, ◌+◌, ◌*◌, true, List, [], ◌∷◌, ◌++◌, length, map, refl, sym, ap, subst, ◌∙◌, codes}
+use Rattle.std.proofs.lemmas.Bool.{eqb-true}
 use Rattle.std.proofs.lemmas.Slice.Eq.{bytes_eq-Decides}
 use Rattle.std.specs.List.{flat_map}
 use Rattle.gm_model.specs.GMap.{Row}
 use Rattle.gm_model.specs.Symbols.{Symbol, Word, Numeral, Sign, Gone, Stray, End}
 use Rattle.gm_model.specs.Reading.{Part}
-use Rattle.gm_model.specs.MapText.{Role, Fixed, Dimension, Count, DartName, word, number, the_end, spelling, spelling_of_row, AreShaped, IsSentence}
+use Rattle.gm_model.specs.MapText.{Role, Fixed, Dimension, Count, DartName, word, number, the_end, spelling_of_row, AreShaped, IsSentence}
 use Rattle.gm_mapfile.specs.Draft.{numbers_of}
-use Rattle.gm_mapfile.specs.Reading.{Want, TheWord, TheNumber, Any, role_of, fits, value_in}
+use Rattle.gm_mapfile.specs.Reading.{TheWord, TheNumber, Any, fits, value_in}
 use Rattle.gm_mapfile.proofs.Plan.{Plan, Finish, Need, Spells}
 use Rattle.gm_mapfile.proofs.Rows.{length-numbers_of, spelling_of_numbers, rows_of}
 

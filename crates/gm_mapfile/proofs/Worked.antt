@@ -1,11 +1,11 @@
 -- Worked texts, by computation: one that stands for a map, and some that stop.
-use Rattle.std.proofs.Common.{◌≡◌, ℕ, zero, suc, ◌+◌, ◌<◌, lit<, List, [], ◌∷◌, reverse, get_or, Ok, Err, refl, subst, codes, arith}
+use Rattle.std.proofs.Common.{◌≡◌, ℕ, zero, suc, ◌+◌, ◌<◌, lit<, List, reverse, get_or, Ok, refl, subst, codes, arith}
 use Rattle.std.proofs.lemmas.List.Sorted.{IsPermutation-sym, IsPermutation-reverse}
 use Rattle.gm_model.specs.declared.limit.LimitKind.TheVariants as what
 use Rattle.gm_model.specs.GMap.{Row}
 use Rattle.gm_model.specs.Symbols.{marks_of}
 use Rattle.gm_model.specs.MapText.{spelling, AreShaped, IsListed, MapText, names, IsTextFault, IsLimitFault}
-use Rattle.gm_mapfile.specs.Reading.{Ends, Passes, numbers_at, draft_of}
+use Rattle.gm_mapfile.specs.Reading.{numbers_at, draft_of}
 use Rattle.gm_mapfile.proofs.MapTest.{square, gmap_from_test}
 use Rattle.gm_mapfile.proofs.Plan.{run, IsRight, run_is_right}
 use Rattle.gm_mapfile.proofs.Sentence.{map_plan}

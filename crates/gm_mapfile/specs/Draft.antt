@@ -1,8 +1,9 @@
 -- What a text's darts are before any law of a map is tested: the numbers of its lines, in the order of the text.
-use Rattle.std.specs.Prelude.{◌≡◌, ℕ, List, ◌∷◌}
+use Rattle.std.specs.Prelude.{◌≡◌, ℕ, List}
 use Rattle.std.specs.List.{flat_map}
 use Rattle.gm_model.specs.GMap.{Row}
 use Rattle.gm_model.specs.MapText.{IsListed, IsTextFault, IsLimitFault}
+use Rattle.gm_mapfile.specs.Plain.{line_in}
 use Rattle.gm_mapfile.specs.declared.plain.MapFault.{MapFault}
 use Rattle.gm_mapfile.specs.declared.plain.MapFault.TheVariants as answers
 use Rattle.gm_mapfile.specs.declared.reading.TextFault.{TextFault}
@@ -10,7 +11,7 @@ use Rattle.gm_mapfile.specs.declared.reading.TextFault.TheVariants as faults
 
 -- of each dart its name, and then its neighbours from label 0 on
 abbrev pub numbers_of : List Row → List ℕ
-numbers_of rows = flat_map (λ (row : Row). row.name ∷ row.alphas) rows
+numbers_of rows = flat_map line_in rows
 
 -- the text lists darts of dimension n, passes no limit, and these are the numbers of its lines
 abbrev pub IsDraft : List ℕ → ℕ → List ℕ → Type 0

@@ -115,7 +115,7 @@ fn darts_in(alloc: Global, dim: Dim, numbers: &[u32]) -> Result<Vec<PlainDart>, 
     ensures lines { (rows : List Row) → AreLinesOf dim rows numbers.now → IfOk result (λ darts. rows_of darts.items ≡ rows) }
 {
     let labels = dim.top() as usize + 1;
-    let mut darts = Vec::new(alloc);
+    let mut darts = Vec::with_capacity(alloc, numbers.len() / (labels + 1))?;
     let mut rest = numbers;
     while rest.len() > labels {
         let (line, after) = rest.split_at(labels + 1);
@@ -199,6 +199,11 @@ fn place_of(ascending: &[u32], name: u32) -> Option<u32>
     requires { IsStrictlyIncreasing ascending.now }
     ensures { MatchOption result (Contains ascending.now name → ⊥) (λ place. (place < length ascending.now) × (slice_index ascending.now place ≡ name)) }
 {
+    // Where no name is left out, as in most maps, a name is its own place.
+    let guess = name as usize;
+    if guess < ascending.len() && ascending[guess] == name {
+        return Some(name);
+    }
     match ascending.binary_search(&name) {
         Ok(place) => Some(place as u32),
         Err(_) => None,

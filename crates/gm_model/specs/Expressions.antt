@@ -28,8 +28,9 @@ components (values.Vec2 x y) = x ∷ y ∷ []
 components (values.Vec3 x y z) = x ∷ y ∷ z ∷ []
 components (values.Rgb r g b) = pos r ∷ pos g ∷ pos b ∷ []
 
--- v is the value of the kind with these components, which are in its range
+-- v is the value of the kind with these components, which are in its range; a truth has none, and isn't made so
 pub record IsMade (kind : Kind) (parts : List ℤ) (v : Value) : Type 0 where
+  pub numbers : kind ≢ kinds.Bool
   pub kind_is : kind_of v ≡ kind
   pub parts_are : components v ≡ parts
   pub range : IsInValueRange v

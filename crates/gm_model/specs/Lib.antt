@@ -22,3 +22,6 @@ pub mod Expressions
 pub mod Acceptance
 pub mod NewValues
 pub mod Applications
+pub mod NodeSteps
+pub mod Breaches
+pub mod MapFaults

@@ -1,9 +1,8 @@
 -- What a grammar sees of a text: its tokens by what they mean, each with its place.
 use Rattle.std.specs.Prelude.{ℕ, ◌+◌, ◌-◌, ◌*◌, List, [], ◌∷◌, map}
-use Rattle.gm_model.specs.declared.token.Token.{Token}
 use Rattle.gm_model.specs.declared.token.TokenKind.{TokenKind}
 use Rattle.gm_model.specs.declared.token.TokenKind.TheVariants as kinds
-use Rattle.gm_model.specs.Tokens.{Item, Lexed, StrayAt, EndAt, items_of, items_at, bytes_of}
+use Rattle.gm_model.specs.Tokens.{Item, Lexed, StrayAt, EndAt, items_at, bytes_of}
 
 pub data Symbol : Type 0 where
   -- a name, by its bytes

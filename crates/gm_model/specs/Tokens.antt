@@ -1,5 +1,5 @@
 -- What the tokens of a text are and where they stand, with what can stand in a token's place: a stray byte, or the end of the text.
-use Rattle.std.specs.Prelude.{◌≡◌, ℕ, zero, suc, ◌+◌, ◌-◌, ◌<◌, ◌≤◌, Bool, true, false, not, ◌&&◌, ◌||◌, ◌==◌, nat_le, if◌then◌else◌, ◌⊎◌, List, [], ◌∷◌, length, take, drop, IsTrue}
+use Rattle.std.specs.Prelude.{◌≡◌, ℕ, zero, suc, ◌+◌, ◌-◌, ◌≤◌, Bool, false, not, ◌&&◌, ◌||◌, ◌==◌, nat_le, if◌then◌else◌, List, [], ◌∷◌, length, take, drop, IsTrue}
 use Rattle.std.specs.List.{take_while, list_all}
 use Rattle.gm_model.specs.declared.token.Token.{Token}
 use Rattle.gm_model.specs.declared.token.TokenKind.{TokenKind}

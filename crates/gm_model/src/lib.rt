@@ -13,6 +13,7 @@ mod name;
 mod rule;
 mod schema;
 mod script;
+mod sides;
 mod step;
 mod steps;
 #[cfg(test)]
@@ -30,6 +31,7 @@ pub use name::Name;
 pub use rule::{Book, Link, Node, Param, RuleFault, RuleTable, Set, Side};
 pub use schema::{Embed, Schema};
 pub use script::{Line, Script};
+pub use sides::{MOST_LABELS, MOST_NODES};
 pub use step::Step;
 pub use steps::Steps;
 pub use token::{Token, TokenKind};

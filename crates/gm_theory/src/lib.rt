@@ -2,6 +2,10 @@
 //! theorem, over the definitions of `gm_model`. The crate has no code that runs.
 #![tactic(auto)]
 
+mod values;
+
+pub use values::keeps_well_embedded_maps;
+
 ghost use Rattle.gm_theory.specs.Theorem.{RulesKeepGeneralisedMaps};
 
 /// For every generalised map of dimension 1 to 7, every accepted rule and every match, the

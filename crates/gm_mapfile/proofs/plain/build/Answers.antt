@@ -1,5 +1,5 @@
 -- The sorted darts are the only ones that can be the map of the lines, so a law that fails for them fails for all.
-use Rattle.std.proofs.Common.{◌≡◌, subst, sym, IsTrue}
+use Rattle.std.proofs.Common.{subst, sym}
 use Rattle.std.specs.List.Sorted.{IsStrictlyIncreasing}
 use Rattle.std.proofs.lemmas.Result.{err_from_is_err_and}
 use Rattle.gm_model.specs.GMap.{AreGMap}

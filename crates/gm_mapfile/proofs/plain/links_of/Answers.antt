@@ -1,6 +1,6 @@
-use Rattle.std.proofs.Common.{◌≡◌, ◌+◌, ◌∙◌, ap, sym, subst, length, Contains, get_or, arith}
+use Rattle.std.proofs.Common.{◌≡◌, ◌+◌, ◌∙◌, ap, sym, length, arith}
 use Rattle.std.proofs.lemmas.List.{length-map, length_push}
-use Rattle.gm_mapfile.specs.Plain.{rows_of, neighbours_at, IsMissing, LeadsTo}
+use Rattle.gm_mapfile.specs.Plain.{rows_of, neighbours_at, LeadsTo}
 use Rattle.gm_mapfile.proofs.PlainLaws.{neighbours_here, neighbours_long, links_more}
 use Rattle.gm_mapfile.proofs.plain.links_of.Goals as goal
 

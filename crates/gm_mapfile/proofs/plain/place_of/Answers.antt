@@ -1,5 +1,5 @@
 -- A place in a list that rises is no greater than the name there, so it fits the name's type.
-use Rattle.std.proofs.Common.{length, get_or, Contains, Ok, Err, ◌∙◌, sym, inl, inr, arith}
+use Rattle.std.proofs.Common.{Ok, Err, inl, inr, arith}
 use Rattle.std.proofs.lemmas.List.{get_or_default}
 use Rattle.std.proofs.lemmas.List.Sorted.{searched}
 use Rattle.std.proofs.lemmas.Bool.{cases_lt}
