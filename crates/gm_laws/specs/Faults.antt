@@ -1,30 +1,30 @@
--- The first breach of the laws of a map.
-use Rattle.std.specs.Prelude.{◌≡◌, ℕ, ◌<◌}
-use Rattle.gm_model.specs.declared.schema.Embed.{Embed}
-use Rattle.gm_model.specs.declared.word.Mask.{Mask}
-use Rattle.gm_model.specs.Maps.{IsEmbedAt}
+-- Which answer of the test of a map's laws is right.
+use Rattle.std.specs.Prelude.{◌≡◌, ℕ}
+use Rattle.gm_model.specs.Breaches.{IsFirstOneWay, IsFirstCrossing, IsFirstUnshared, PointBack, Commute, AreShared}
 use Rattle.gm_arena.specs.ArenaMap.{ArenaMap, IsLiveName, alpha}
 use Rattle.gm_laws.specs.declared.breach.LawFault.{LawFault}
 use Rattle.gm_laws.specs.declared.breach.LawFault.TheVariants.{Breach, OutOfMemory}
 use Rattle.gm_laws.specs.declared.breach.MapBreach.{MapBreach}
 use Rattle.gm_laws.specs.declared.breach.MapBreach.TheVariants.{Involution, Cycle, Embedding}
-use Rattle.gm_laws.specs.Breaches.{IsFirst, IsLabel, IsDistantLabel, IsOrbitLabel, LeadsBack, IsBack, AreBack, Commute, CommutesWith, Commutes, AreCommuting, HasSame, IsAlike, AreAlikeBefore}
+use Rattle.gm_laws.specs.ArenaAsMap.{value}
 
--- the first two distant labels that do not commute at the dart
-abbrev pub IsFirstPair : ArenaMap → ℕ → ℕ × ℕ → Type 0
-IsFirstPair m d pair = IsFirst (IsLabel m) (CommutesWith m d) pair.0 × IsFirst (IsDistantLabel m pair.0) (Commute m d pair.0) pair.1
+-- each neighbour of the map in the arena points back
+abbrev pub ArePointedBack : ArenaMap → Type 0
+ArePointedBack m = PointBack m.schema.dim (IsLiveName m) (alpha m)
 
--- the first dart that differs from a neighbour along a label of the mask, and the first such neighbour
-abbrev pub IsFirstUnlike : ArenaMap → ℕ → Mask → ℕ × ℕ → Type 0
-IsFirstUnlike m e mask pair =
-    (i : ℕ) × IsFirst (IsLiveName m) (IsAlike m e mask) pair.0 × IsFirst (IsOrbitLabel m mask) (HasSame m e pair.0) i × (pair.1 ≡ alpha m i pair.0)
+-- its distant labels commute
+abbrev pub DoCommute : ArenaMap → Type 0
+DoCommute m = Commute m.schema.dim (IsLiveName m) (alpha m)
 
--- Neighbours that do not lead back come first, by dart and label; then distant labels that do not commute, by dart
--- and labels; then values that differ, by embedding, dart and label.
-pub data IsFirstBreach (m : ArenaMap) : MapBreach → Type 0 where
-  NotBack : (d i : ℕ) → IsFirst (IsLiveName m) (IsBack m) d → IsFirst (IsLabel m) (LeadsBack m d) i → IsFirstBreach m (Involution d i)
-  NotCommuting : (d i j : ℕ) → AreBack m → IsFirst (IsLiveName m) (Commutes m) d → IsFirstPair m d (i, j) → IsFirstBreach m (Cycle d i j)
-  NotAlike : (e d other : ℕ) (embed : Embed) → AreBack m → AreCommuting m → AreAlikeBefore m e → IsEmbedAt m.schema e embed → IsFirstUnlike m e embed.mask (d, other) → IsFirstBreach m (Embedding e d other)
+-- its values are the same along the labels of their embeddings
+abbrev pub AreValuesShared : ArenaMap → Type 0
+AreValuesShared m = AreShared m.schema.dim (IsLiveName m) (alpha m) m.schema (value m)
+
+-- the first breach of the laws of the map in the arena, its darts by name
+abbrev pub IsFirstBreach : ArenaMap → MapBreach → Type 0
+IsFirstBreach m (Involution d i) = IsFirstOneWay m.schema.dim (IsLiveName m) (alpha m) d i
+IsFirstBreach m (Cycle d i j) = IsFirstCrossing m.schema.dim (IsLiveName m) (alpha m) d i j
+IsFirstBreach m (Embedding e d other) = (i : ℕ) × IsFirstUnshared m.schema.dim (IsLiveName m) (alpha m) m.schema (value m) e d i × (other ≡ alpha m i d)
 
 -- where memory was wanting nothing is known of the map
 abbrev pub IsFault : ArenaMap → LawFault → Type 0

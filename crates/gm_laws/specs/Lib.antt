@@ -1,2 +1,3 @@
-pub mod Breaches
+pub mod ArenaAsMap
+pub mod Darts
 pub mod Faults

@@ -2,8 +2,8 @@ ghost use Rattle.std.specs.Prelude.{◌≡◌, ◌+◌, ◌*◌, ◌≤◌, leng
 ghost use Rattle.std.specs.FinMap.{keys};
 ghost use Rattle.gm_arena.specs.ArenaMap.{IsLiveSlot, name_at};
 ghost use Rattle.gm_arena.specs.Lawful.{IsLawful};
-ghost use Rattle.gm_laws.specs.Breaches.{IsFirst, IsLabel, IsDistantLabel, Commute, CommutesWith, Commutes, AreCommuting, AreBack};
-ghost use Rattle.gm_laws.specs.Faults.{IsFirstBreach, IsFirstPair};
+ghost use Rattle.gm_laws.specs.Darts.{IsFirst, IsLabel, IsDistantLabel, Commute, CommutesWith, Commutes, IsFirstPair};
+ghost use Rattle.gm_laws.specs.Faults.{ArePointedBack, DoCommute, IsFirstBreach};
 
 use crate::breach::MapBreach;
 use gm_arena::{Arena, Slot};
@@ -19,8 +19,8 @@ pub(crate) fn first_not_commuting<L: Ledger>(
 ) -> Option<MapBreach>
     requires lawful { IsLawful arena.now }
     requires names { names.now ≡ keys arena.now.darts }
-    requires back { AreBack arena.now }
-    ensures breach { MatchOption result (AreCommuting arena.now) (IsFirstBreach arena.now) }
+    requires back { ArePointedBack arena.now }
+    ensures breach { MatchOption result (DoCommute arena.now) (IsFirstBreach arena.now) }
     ensures cost { let labels = arena.now.schema.dim + 1 in steps.new ≤ steps.old + (labels * (3 * labels + 1) + 1) * length names.now }
 {
     for name in names {

@@ -2,8 +2,8 @@ ghost use Rattle.std.specs.Prelude.{◌≡◌, ◌+◌, ◌*◌, ◌≤◌, leng
 ghost use Rattle.std.specs.FinMap.{keys};
 ghost use Rattle.gm_arena.specs.ArenaMap.{IsLiveSlot, name_at};
 ghost use Rattle.gm_arena.specs.Lawful.{IsLawful};
-ghost use Rattle.gm_laws.specs.Breaches.{IsFirst, IsLabel, LeadsBack, IsBack, AreBack};
-ghost use Rattle.gm_laws.specs.Faults.{IsFirstBreach};
+ghost use Rattle.gm_laws.specs.Darts.{IsFirst, IsLabel, LeadsBack, IsBack};
+ghost use Rattle.gm_laws.specs.Faults.{ArePointedBack, IsFirstBreach};
 
 use crate::breach::MapBreach;
 use gm_arena::{Arena, Slot};
@@ -18,7 +18,7 @@ pub(crate) fn first_not_back<L: Ledger>(
 ) -> Option<MapBreach>
     requires lawful { IsLawful arena.now }
     requires names { names.now ≡ keys arena.now.darts }
-    ensures breach { MatchOption result (AreBack arena.now) (IsFirstBreach arena.now) }
+    ensures breach { MatchOption result (ArePointedBack arena.now) (IsFirstBreach arena.now) }
     ensures cost { steps.new ≤ steps.old + (2 * (arena.now.schema.dim + 1) + 1) * length names.now }
 {
     for name in names {

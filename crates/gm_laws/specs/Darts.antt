@@ -1,22 +1,9 @@
--- The laws of a map in an arena, dart by dart and label by label.
-use Rattle.std.specs.Prelude.{◌≡◌, ℕ, ◌+◌, ◌<◌, ◌≤◌, slice_index_or, IsTrue, pos}
-use Rattle.std.specs.FinMap.{get}
-use Rattle.std.specs.Option.{is_some, option_map_or}
-use Rattle.gm_model.specs.declared.schema.Embed.{Embed}
-use Rattle.gm_model.specs.declared.value.Value.{Value}
-use Rattle.gm_model.specs.declared.value.Value.TheVariants.{Int}
+-- The laws of a map at one dart, and what the first of several is that breaks one. No public clause cites this module.
+use Rattle.std.specs.Prelude.{◌≡◌, ℕ, ◌+◌, ◌<◌, ◌≤◌, IsTrue}
 use Rattle.gm_model.specs.declared.word.Mask.{Mask}
 use Rattle.gm_model.specs.Labels.{has}
-use Rattle.gm_model.specs.Maps.{Map, IsEmbedAt}
-use Rattle.gm_arena.specs.ArenaMap.{ArenaMap, Dart, IsLiveName, alpha}
-
--- the value of an embedding, by its number, at a live dart
-abbrev pub value : ArenaMap → ℕ → ℕ → Value
-value m e name = option_map_or (λ (dart : Dart). slice_index_or dart.values e (Int (pos 0))) (get m.darts name) (Int (pos 0))
-
--- the map in the arena, apart from how it is kept
-abbrev pub as_map : ArenaMap → Map
-as_map m = record { schema = m.schema; live = λ name. is_some (get m.darts name); alpha = alpha m; value = value m; next = m.next }
+use Rattle.gm_arena.specs.ArenaMap.{ArenaMap, IsLiveName, alpha}
+use Rattle.gm_laws.specs.ArenaAsMap.{value}
 
 -- x is the first of its kind that is not good
 pub record IsFirst (IsOne IsGood : ℕ → Type 0) (x : ℕ) : Type 0 where
@@ -35,9 +22,6 @@ LeadsBack m d i = alpha m i (alpha m i d) ≡ d
 abbrev pub IsBack : ArenaMap → ℕ → Type 0
 IsBack m d = (i : ℕ) → IsLabel m i → LeadsBack m d i
 
-abbrev pub AreBack : ArenaMap → Type 0
-AreBack m = (d : ℕ) → IsLiveName m d → IsBack m d
-
 -- ---- distant labels commute
 
 -- j is a label at least two above i
@@ -53,10 +37,11 @@ CommutesWith m d i = (j : ℕ) → IsDistantLabel m i j → Commute m d i j
 abbrev pub Commutes : ArenaMap → ℕ → Type 0
 Commutes m d = (i : ℕ) → IsLabel m i → CommutesWith m d i
 
-abbrev pub AreCommuting : ArenaMap → Type 0
-AreCommuting m = (d : ℕ) → IsLiveName m d → Commutes m d
+-- the first two distant labels that do not commute at the dart
+abbrev pub IsFirstPair : ArenaMap → ℕ → ℕ × ℕ → Type 0
+IsFirstPair m d pair = IsFirst (IsLabel m) (CommutesWith m d) pair.0 × IsFirst (IsDistantLabel m pair.0) (Commute m d pair.0) pair.1
 
--- ---- an embedding has one value over each of its orbits
+-- ---- an embedding has one value along the labels of its orbits
 
 -- a label of the map that is in the mask
 abbrev pub IsOrbitLabel : ArenaMap → Mask → ℕ → Type 0
@@ -72,9 +57,7 @@ IsAlike m e mask d = (i : ℕ) → IsOrbitLabel m mask i → HasSame m e d i
 abbrev pub AreAlike : ArenaMap → ℕ → Mask → Type 0
 AreAlike m e mask = (d : ℕ) → IsLiveName m d → IsAlike m e mask d
 
--- each embedding before number e is alike along its labels
-abbrev pub AreAlikeBefore : ArenaMap → ℕ → Type 0
-AreAlikeBefore m e = (e' : ℕ) (embed : Embed) → e' < e → IsEmbedAt m.schema e' embed → AreAlike m e' embed.mask
-
-abbrev pub AreEmbedded : ArenaMap → Type 0
-AreEmbedded m = (e : ℕ) (embed : Embed) → IsEmbedAt m.schema e embed → AreAlike m e embed.mask
+-- the first dart that differs from a neighbour along a label of the mask, and the first such neighbour
+abbrev pub IsFirstUnlike : ArenaMap → ℕ → Mask → ℕ × ℕ → Type 0
+IsFirstUnlike m e mask pair =
+    (i : ℕ) × IsFirst (IsLiveName m) (IsAlike m e mask) pair.0 × IsFirst (IsOrbitLabel m mask) (HasSame m e pair.0) i × (pair.1 ≡ alpha m i pair.0)
