@@ -1,4 +1,4 @@
-pub mod SlotLemmas
 pub mod NameLemmas
 pub mod FirstLemmas
 pub mod RowLemmas
+pub mod EmbeddedLemmas

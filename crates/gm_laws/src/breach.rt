@@ -20,6 +20,11 @@ pub enum LawFault {
 }
 
 impl From<OutOfMemory> for LawFault {
+    ghost use Rattle.std.specs.Prelude.{◌≡◌};
+    ghost use Rattle.gm_laws.specs.declared.breach.LawFault.TheVariants as faults;
+
+    ghost from_gives = { λ _ fault. fault ≡ faults.OutOfMemory };
+
     fn from(_error: OutOfMemory) -> LawFault {
         LawFault::OutOfMemory
     }
