@@ -10,3 +10,6 @@ mod laws;
 
 pub use breach::{LawFault, MapBreach};
 pub use laws::check_map;
+
+#[cfg(test)]
+mod tests;
