@@ -1,5 +1,5 @@
 -- One more dart: the arena stays sound, and its map has this one dart more.
-use Rattle.std.proofs.Common.{◌≡◌, ◌≢◌, ℕ, zero, suc, ◌+◌, ◌-◌, ◌*◌, ◌<◌, ◌≤◌, List, ◌∷◌, get_or, set, map, take, length, replicate, max, Option, Some, None, ◌⊎◌, refl, sym, ap, subst, ◌∙◌, inl, inr, arith, All}
+use Rattle.std.proofs.Common.{◌≡◌, ◌≢◌, ℕ, zero, suc, ◌+◌, ◌-◌, ◌<◌, List, ◌∷◌, set, map, take, length, replicate, max, Some, None, refl, sym, ap, subst, ◌∙◌, inl, inr, arith, All}
 use Rattle.std.specs.Option.{option_map, IsSome}
 use Rattle.std.specs.FinMap as map
 use Rattle.std.proofs.lemmas.Bool.{cases_eq}
@@ -13,9 +13,9 @@ use Rattle.gm_arena.specs.declared.slot.Slot.{Slot}
 use Rattle.gm_arena.specs.declared.arena.Place.{Place}
 use Rattle.gm_arena.specs.Lawful.{HaveKinds}
 use Rattle.gm_arena.specs.Edits.{free_dart, with_dart}
-use Rattle.gm_arena.specs.Inside.{no_slot, slot_in, name_in, values_in, dart_in, darts_in, slots_in, map_of, IsPlaced, IsSound}
+use Rattle.gm_arena.specs.Inside.{no_slot, slot_in, name_in, dart_in, darts_in, slots_in, map_of, IsPlaced, IsSound}
 use Rattle.gm_arena.proofs.FilledLemmas.{same_maps, get-insert_same, get-insert_other, len-insert_new}
-use Rattle.gm_arena.proofs.InsideLemmas.{nowhere, dart_at, darts_get, get-slots, slot_at, name_in-get, is_some_at, some_of}
+use Rattle.gm_arena.proofs.InsideLemmas.{nowhere, dart_at, darts_get, slot_at, name_in-get, is_some_at, some_of}
 use Rattle.gm_arena.proofs.ValueLemmas.{IsWritten}
 use Rattle.gm_arena.proofs.ChangeLemmas.{slots_alike, name_alike, dart_alike, other_dart}
 

@@ -1,5 +1,5 @@
 -- Another neighbour of one dart: the arena stays sound, and its map has this one neighbour.
-use Rattle.std.proofs.Common.{◌≡◌, ◌≢◌, ℕ, ◌+◌, ◌<◌, ◌≤◌, List, get_or, set, map, take, length, Option, Some, None, ◌⊎◌, refl, sym, ap, subst, ◌∙◌, inl, inr, arith, All}
+use Rattle.std.proofs.Common.{◌≡◌, ℕ, ◌<◌, List, set, map, take, Some, None, refl, sym, ap, subst, ◌∙◌, inl, inr, arith, All}
 use Rattle.std.specs.Option.{option_map, IsSome}
 use Rattle.std.specs.FinMap as map
 use Rattle.std.proofs.Math.Seq.{take-set-lt}
@@ -16,7 +16,7 @@ use Rattle.gm_arena.specs.ArenaMap.{Dart}
 use Rattle.gm_arena.specs.Edits.{turned, put_if, with_alpha}
 use Rattle.gm_arena.specs.Inside.{no_slot, slot_in, name_in, values_in, dart_in, darts_in, slots_in, map_of, IsPlaced, IsSound}
 use Rattle.gm_arena.proofs.FilledLemmas.{same_maps, get-insert_same, get-insert_other, len-insert_again}
-use Rattle.gm_arena.proofs.InsideLemmas.{nowhere, get-darts, dart_at, darts_get, name_in-get, name_at_in, is_some_at, some_of, none_of}
+use Rattle.gm_arena.proofs.InsideLemmas.{nowhere, dart_at, darts_get, some_of, none_of}
 use Rattle.gm_arena.proofs.ChangeLemmas.{slots_alike, name_alike, dart_alike, other_dart, other_slot}
 
 abbrev pub turned_place : Place → ℕ → Slot → Place

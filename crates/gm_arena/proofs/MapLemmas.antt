@@ -1,16 +1,16 @@
 -- What a change of an arena's map leaves at each dart and slot, for callers.
-use Rattle.std.proofs.Common.{◌≡◌, ◌≢◌, ℕ, ◌+◌, ◌<◌, ◌≤◌, List, get_or, set, length, replicate, Option, Some, None, ◌⊎◌, refl, sym, ap, ◌∙◌, inl, inr, arith}
-use Rattle.std.specs.Option.{option_map, option_map_or, unwrap_or, IsSome}
+use Rattle.std.proofs.Common.{◌≡◌, ◌≢◌, ℕ, ◌+◌, ◌<◌, ◌≤◌, List, get_or, replicate, Option, Some, None, refl, sym, ap, ◌∙◌, inl, inr, arith}
+use Rattle.std.specs.Option.{option_map, option_map_or, unwrap_or}
 use Rattle.std.specs.FinMap as map
 use Rattle.std.proofs.lemmas.Bool.{cases_lt, false≢true}
-use Rattle.std.proofs.lemmas.List.{get_or-set_same, get_or-set_other, get_or-replicate, get_or_past, get_or_default, length-replicate}
+use Rattle.std.proofs.lemmas.List.{get_or-set_same, get_or-set_other, get_or-replicate, get_or_past, length-replicate}
 use Rattle.std.proofs.lemmas.List.Elements.{All-get_or}
 use Rattle.gm_model.specs.declared.value.Value.{Value}
 use Rattle.gm_arena.specs.ArenaMap.{ArenaMap, Dart, IsAt, IsLiveSlot, IsLiveName, name_at, alpha}
 use Rattle.gm_arena.specs.Lawful.{IsLawful}
 use Rattle.gm_arena.specs.Edits.{with_dart, with_alpha, without_dart, turned, put_if, free_dart}
 use Rattle.gm_arena.proofs.FilledLemmas.{get-insert_same, get-insert_other, get-remove_same, get-remove_other}
-use Rattle.gm_arena.proofs.InsideLemmas.{some_of, is_some_at}
+use Rattle.gm_arena.proofs.InsideLemmas.{some_of}
 
 -- ---- reading
 

@@ -1,18 +1,18 @@
 -- Without a dart that is alone: the arena stays sound, and its map lacks this one dart.
-use Rattle.std.proofs.Common.{◌≡◌, ◌≢◌, ℕ, ◌+◌, ◌-◌, ◌*◌, ◌<◌, ◌≤◌, List, get_or, set, map, take, length, Option, Some, None, ◌⊎◌, refl, sym, ap, subst, ◌∙◌, inl, inr, arith, All}
-use Rattle.std.specs.Option.{option_map, IsSome}
+use Rattle.std.proofs.Common.{◌≡◌, ◌≢◌, ℕ, ◌+◌, ◌-◌, ◌<◌, List, get_or, set, take, Some, None, refl, sym, ap, ◌∙◌, inl, inr, arith, All}
+use Rattle.std.specs.Option.{option_map}
 use Rattle.std.specs.FinMap as map
 use Rattle.std.proofs.lemmas.Bool.{cases_eq}
 use Rattle.std.proofs.lemmas.Option.{none-some, same_Some}
 use Rattle.std.proofs.lemmas.List.{length-set, length-take-le, get_or-take, get_or-set_same, get_or-set_other}
-use Rattle.slab.specs.Slab.{Slab, get, slab_len, HasRoomFor, Updates}
+use Rattle.slab.specs.Slab.{Slab, get, slab_len, Updates}
 use Rattle.gm_model.specs.declared.schema.Schema.{Schema}
 use Rattle.gm_model.specs.declared.value.Value.{Value}
 use Rattle.gm_arena.specs.declared.slot.Slot.{Slot}
 use Rattle.gm_arena.specs.declared.arena.Place.{Place}
-use Rattle.gm_arena.specs.ArenaMap.{alpha, name_at}
+use Rattle.gm_arena.specs.ArenaMap.{alpha}
 use Rattle.gm_arena.specs.Edits.{IsAlone, without_dart}
-use Rattle.gm_arena.specs.Inside.{no_slot, slot_in, name_in, values_in, dart_in, darts_in, slots_in, map_of, IsPlaced, IsSound}
+use Rattle.gm_arena.specs.Inside.{no_slot, slot_in, name_in, dart_in, darts_in, slots_in, map_of, IsPlaced, IsSound}
 use Rattle.gm_arena.proofs.FilledLemmas.{same_maps, get-remove_same, get-remove_other, len-remove_one}
 use Rattle.gm_arena.proofs.InsideLemmas.{nowhere, dart_at, darts_get, slot_at, get-slots, alpha_at, name_at_in, name_in-get, name_within, apart_names, is_some_at, some_of}
 use Rattle.gm_arena.proofs.ChangeLemmas.{slots_alike, name_alike, dart_alike, other_dart, other_slot}

@@ -1,6 +1,6 @@
 -- More room: the same darts are at the same slots, and the arena stays sound.
-use Rattle.std.proofs.Common.{◌≡◌, ◌≢◌, ℕ, ◌+◌, ◌-◌, ◌*◌, ◌<◌, ◌≤◌, List, ◌++◌, get_or, map, take, drop, length, replicate, Option, Some, None, ◌⊎◌, refl, sym, ap, subst, ◌∙◌, inl, inr, arith, All}
-use Rattle.std.specs.Option.{option_map, IsSome}
+use Rattle.std.proofs.Common.{◌≡◌, ℕ, ◌+◌, ◌-◌, ◌*◌, ◌<◌, ◌≤◌, List, ◌++◌, get_or, take, drop, length, replicate, Some, None, refl, sym, ap, subst, ◌∙◌, inl, inr, arith}
+use Rattle.std.specs.Option.{IsSome}
 use Rattle.std.specs.FinMap as map
 use Rattle.std.proofs.lemmas.Bool.{cases_lt}
 use Rattle.std.proofs.lemmas.Nat.{mul-le}
@@ -8,10 +8,9 @@ use Rattle.std.proofs.lemmas.List.{take-take, drop-take, get_or_append_left, get
 use Rattle.slab.specs.Slab.{Slab, get, slab_len, HasRoomFor}
 use Rattle.gm_model.specs.declared.schema.Schema.{Schema}
 use Rattle.gm_model.specs.declared.value.Value.{Value}
-use Rattle.gm_arena.specs.declared.slot.Slot.{Slot}
 use Rattle.gm_arena.specs.declared.arena.Place.{Place}
 use Rattle.gm_arena.specs.Lawful.{HaveKinds}
-use Rattle.gm_arena.specs.Inside.{no_slot, slot_in, name_in, values_in, dart_in, darts_in, slots_in, map_of, IsPlaced, IsSound}
+use Rattle.gm_arena.specs.Inside.{no_slot, slot_in, values_in, darts_in, slots_in, map_of, IsSound}
 use Rattle.gm_arena.proofs.FilledLemmas.{same_maps}
 use Rattle.gm_arena.proofs.InsideLemmas.{nowhere, is_some_at, some_of}
 use Rattle.gm_arena.proofs.ChangeLemmas.{name_alike, dart_alike, other_dart}

@@ -10,7 +10,8 @@ use Rattle.gm_arena.specs.declared.slot.Slot.{Slot}
 use Rattle.gm_arena.specs.declared.arena.Place.{Place}
 use Rattle.gm_arena.specs.ArenaMap.{ArenaMap, Dart}
 use Rattle.gm_arena.specs.Filled.{filled}
-use Rattle.gm_arena.specs.Lawful.{IsSchema, HaveKinds}
+use Rattle.gm_model.specs.Maps.{IsSchema}
+use Rattle.gm_arena.specs.Lawful.{HaveKinds}
 
 -- what the table has where no live dart has a name
 abbrev pub no_slot : ℕ

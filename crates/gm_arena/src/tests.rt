@@ -1,10 +1,11 @@
 //! The square of eight darts: built, read, taken apart, and built again in the slots that are free.
-ghost use Rattle.std.specs.Prelude.{◌≡◌, ℕ, ◌+◌, ◌<◌, ◌≤◌, [], IsSome};
-ghost use Rattle.std.specs.FinMap.{get};
-ghost use Rattle.gm_arena.specs.ArenaMap.{IsLiveName, alpha};
+ghost use Rattle.std.specs.Prelude.{◌≡◌, ℕ, ◌+◌, ◌<◌, ◌≤◌, [], ◌∷◌, map, IfOk};
+ghost use Rattle.gm_model.specs.declared.schema.Embed.{Embed};
+ghost use Rattle.gm_arena.specs.ArenaMap.{alpha};
+ghost use Rattle.gm_model.specs.Maps.{IsSchema};
 
 use super::*;
-use gm_model::{Dim, Items, Schema, Steps};
+use gm_model::{Dim, Embed, Items, Kind, Mask, Name, Schema, Steps, Value};
 use std::alloc::Global;
 use std::marker::Brand;
 use std::process::Abort;
@@ -167,4 +168,48 @@ fn taken_apart<L: Ledger>(rt: &impl Abort, alloc: Global, blank: Blank) -> Resul
 #[test]
 fn square_is_taken_apart_and_its_slots_are_used_again(rt: HostRuntime) -> Result<(), Fail> {
     taken_apart::<Brand>(&rt, rt.alloc(), Blank::new(1))
+}
+
+fn weighed(rt: &impl Abort, alloc: Global) -> Result<Schema, Fail>
+    ensures lawful { IfOk result IsSchema }
+    ensures kinds { IfOk result (λ schema. map (λ (e : Embed). e.kind) schema.embeds ≡ Kind.Int ∷ []) }
+{
+    let mut embeds = Vec::new(alloc);
+    embeds.push(Embed {
+        name: Name::new(b"w").expect(rt, "a name"),
+        mask: Mask { bits: 0 },
+        kind: Kind::Int,
+    })?;
+    Ok(Schema {
+        dim: Dim::new(1).expect(rt, "1 is a dimension"),
+        embeds: Items::new(embeds),
+    })
+}
+
+fn values_stay<L: Ledger>(rt: &impl Abort, alloc: Global, blank: Blank) -> Result<(), Fail>
+    requires name { blank.name ≡ L.name }
+    requires parts { blank.parts ≡ L.parts }
+    requires some { 0 < blank.parts }
+{
+    let mut steps: Steps<L> = Steps::start(blank);
+    let mut arena = Arena::new(alloc, weighed(rt, alloc)?);
+    arena.reserve(1, 6)?;
+    assert!(rt; arena.slot_of(5, &mut steps).is_none());
+    let first = arena.add(5, &[Value::Int(-7)], &mut steps);
+    arena.reserve(100, 200)?;
+    assert!(rt; arena.slot_of(3, &mut steps).is_none());
+    let second = arena.add(3, &[Value::Int(9)], &mut steps);
+    for (at, name, value) in [(first, 5, -7), (second, 3, 9)] {
+        let slot = arena.slot_of(name, &mut steps).expect(rt, "a dart");
+        assert_eq!(rt; slot, at);
+        let row = arena.row(slot, &mut steps);
+        assert_eq!(rt; row.values.len(), 1);
+        assert_eq!(rt; row.values[0], Value::Int(value));
+    }
+    Ok(())
+}
+
+#[test]
+fn values_stay_while_the_arena_grows(rt: HostRuntime) -> Result<(), Fail> {
+    values_stay::<Brand>(&rt, rt.alloc(), Blank::new(1))
 }

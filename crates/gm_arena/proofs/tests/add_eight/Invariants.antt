@@ -1,4 +1,4 @@
-use Rattle.std.proofs.Common.{◌≡◌, ◌+◌, ◌≤◌}
+use Rattle.std.proofs.Common.{◌≡◌, ◌+◌}
 use Rattle.gm_arena.proofs.tests.add_eight.Given as goal
 
 abbrev pub invariant-loop-name : goal.invariant-loop-name

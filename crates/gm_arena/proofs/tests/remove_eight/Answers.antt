@@ -1,4 +1,4 @@
-use Rattle.std.proofs.Common.{ℕ, ◌+◌, ◌<◌, refl, sym, ◌∙◌, arith}
+use Rattle.std.proofs.Common.{ℕ, ◌<◌, refl, ◌∙◌, arith}
 use Rattle.gm_arena.specs.ArenaMap.{IsLiveName, name_at}
 use Rattle.gm_arena.proofs.MapLemmas.{name_below, IsLiveName-without_dart, alpha-without_dart_other}
 use Rattle.gm_arena.proofs.tests.remove_eight.Goals as goal

@@ -1,7 +1,4 @@
-use Rattle.std.proofs.Common.{◌≡◌, sym, ◌∙◌, arith}
-use Rattle.gm_arena.specs.ArenaMap.{name_at}
-use Rattle.gm_arena.specs.Edits.{IsAlone}
-use Rattle.gm_arena.specs.Inside.{map_of}
+use Rattle.std.proofs.Common.{◌∙◌, arith}
 use Rattle.gm_arena.proofs.InsideLemmas.{key_at, name_within, name_at_in, name_in-get}
 use Rattle.gm_arena.proofs.RemoveLemmas.{sound_without, map_without}
 use Rattle.gm_arena.proofs.arena.Arena.remove.Goals as goal

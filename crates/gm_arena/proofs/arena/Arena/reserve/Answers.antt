@@ -1,5 +1,4 @@
-use Rattle.std.proofs.Common.{◌≡◌, ℕ, ◌+◌, ◌<◌, ◌≤◌, length, Some, sym, ap, ◌∙◌, arith}
-use Rattle.std.specs.Option.{IsSome}
+use Rattle.std.proofs.Common.{◌≡◌, length, Some, ap, arith}
 use Rattle.slab.specs.Slab.{get, slab_len}
 use Rattle.slab.proofs.SlabLemmas.{ContainsKey-within}
 use Rattle.gm_arena.specs.declared.arena.Place.{Place}

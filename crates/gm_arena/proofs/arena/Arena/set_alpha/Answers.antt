@@ -1,4 +1,4 @@
-use Rattle.std.proofs.Common.{◌≡◌, ℕ, ◌<◌, ◌≤◌, refl, arith}
+use Rattle.std.proofs.Common.{◌<◌, ◌≤◌, refl, arith}
 use Rattle.gm_arena.proofs.InsideLemmas.{key_at, name_at_in, name_in-get, is_some_at}
 use Rattle.slab.proofs.SlabLemmas.{Updates-with_value}
 use Rattle.gm_arena.proofs.ChangeLemmas.{slab_len-with_value}
