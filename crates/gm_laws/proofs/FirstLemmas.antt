@@ -9,9 +9,11 @@ use Rattle.gm_laws.specs.Faults.{ArePointedBack}
 module _ (m : ArenaMap) where
   pub one_way : (d i : ℕ) → IsFirst (IsLiveName m) (IsBack m) d → IsFirst (IsLabel m) (LeadsBack m d) i → IsFirstOneWay m.schema.dim (IsLiveName m) (alpha m) d i
   one_way d i dart label = record {
-      live = dart.one; label = label.one; fails = label.fails;
-      before = λ e j before live within. go e j before live within;
-    }
+    live = dart.one;
+    label = label.one;
+    fails = label.fails;
+    before = λ e j before live within. go e j before live within;
+  }
     where
       go : (e j : ℕ) → IsPairBefore e j d i → IsLiveName m e → j ≤ m.schema.dim → LeadsBack m e j
       go e j (inl less) live within = dart.before e less live j within
@@ -19,9 +21,13 @@ module _ (m : ArenaMap) where
 
   pub crossing : (d i j : ℕ) → ArePointedBack m → IsFirst (IsLiveName m) (Commutes m) d → IsFirstPair m d (i, j) → IsFirstCrossing m.schema.dim (IsLiveName m) (alpha m) d i j
   crossing d i j back dart pair = record {
-      back = back; live = dart.one; apart = pair.1.one.0; label = pair.1.one.1; fails = pair.1.fails;
-      before = λ e k l before live apart within. go e k l before live apart within;
-    }
+    back = back;
+    live = dart.one;
+    apart = pair.1.one.0;
+    label = pair.1.one.1;
+    fails = pair.1.fails;
+    before = λ e k l before live apart within. go e k l before live apart within;
+  }
     where
       go : (e k l : ℕ) → IsTripleBefore e k l d i j → IsLiveName m e → k + 2 ≤ l → l ≤ m.schema.dim → DoCommute m e k l
       go e k l (inl less) live apart within = dart.before e less live k (omega arith) l (apart, within)

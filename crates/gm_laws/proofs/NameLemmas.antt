@@ -22,17 +22,17 @@ both false b h = absurd h
 
 less : (a b : ℕ) → T (is_lt (nat_cmp a b)) → a < b
 less a b h = elim (cases_order a b) [
-    | inl e ↦ absurd (subst (λ r. T (is_lt r)) (sym (nat_cmp_is a b Equal e)) h)
-    | inr (inl l) ↦ l
-    | inr (inr l) ↦ absurd (subst (λ r. T (is_lt r)) (sym (nat_cmp_is a b Greater l)) h)
-  ]
+  | inl e ↦ absurd (subst (λ r. T (is_lt r)) (sym (nat_cmp_is a b Equal e)) h)
+  | inr (inl l) ↦ l
+  | inr (inr l) ↦ absurd (subst (λ r. T (is_lt r)) (sym (nat_cmp_is a b Greater l)) h)
+]
 
 same : (a b : ℕ) → eq_by_cmp nat_cmp a b ≡ true → a ≡ b
 same a b h = elim (cases_order a b) [
-    | inl e ↦ e
-    | inr (inl l) ↦ absurd (false≢true (ap is_eq (nat_cmp_is a b Less l) ∙ h))
-    | inr (inr l) ↦ absurd (false≢true (ap is_eq (nat_cmp_is a b Greater l) ∙ h))
-  ]
+  | inl e ↦ e
+  | inr (inl l) ↦ absurd (false≢true (ap is_eq (nat_cmp_is a b Less l) ∙ h))
+  | inr (inr l) ↦ absurd (false≢true (ap is_eq (nat_cmp_is a b Greater l) ∙ h))
+]
 
 above_all : {X : Type 0} (x : ℕ) (es : List (ℕ × X)) → T (below_all nat_cmp x es) → (q : ℕ) → q < length es → x < get_or (map (λ e. e.0) es) q 0
 above_all x [] h q k = absurd (omega arith)
@@ -62,15 +62,15 @@ module _ (m : ArenaMap) where
     -- the dart at a place that is not good, where those before are, is the first
     pub first_there : (p : ℕ) → p < length (keys m.darts) → ((q : ℕ) → q < p → IsGood (get_or (keys m.darts) q 0)) → (IsGood (get_or (keys m.darts) p 0) → ⊥) → IsFirst (IsLiveName m) IsGood (get_or (keys m.darts) p 0)
     first_there p h before fails = record {
-        one = live p 0 h;
-        fails = fails;
-        before = λ d less one.
-            let at = named d one in
-            elim (cases_lt at.0 p) [
-              | inl l ↦ subst IsGood at.2 (before at.0 l)
-              | inr l ↦ absurd (elim (cases_lt p at.0) [ inl k ↦ omega (arith, rising p at.0 k at.1, at.2) | inr k ↦ (let e : p ≡ at.0 = omega arith in omega (arith, at.2, ap (λ q. get_or (keys m.darts) q 0) e)) ])
-            ];
-      }
+      one = live p 0 h;
+      fails = fails;
+      before = λ d less one.
+          let at = named d one in
+          elim (cases_lt at.0 p) [
+            | inl l ↦ subst IsGood at.2 (before at.0 l)
+            | inr l ↦ absurd (elim (cases_lt p at.0) [ inl k ↦ omega (arith, rising p at.0 k at.1, at.2) | inr k ↦ (let e : p ≡ at.0 = omega arith in omega (arith, at.2, ap (λ q. get_or (keys m.darts) q 0) e)) ])
+          ];
+    }
 
     pub all_there : ((p : ℕ) → p < length (keys m.darts) → IsGood (get_or (keys m.darts) p 0)) → (d : ℕ) → IsLiveName m d → IsGood d
     all_there good d one = let at = named d one in subst IsGood at.2 (good at.0 at.1)

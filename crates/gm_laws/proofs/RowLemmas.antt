@@ -20,4 +20,3 @@ module _ (m : ArenaMap) where
 
   pub value_is : (name e : ℕ) (dart : Dart) (d : Value) → get m.darts name ≡ Some dart → e < length dart.values → value m e name ≡ get_or dart.values e d
   value_is name e dart d at h = ap (λ o. option_map_or (λ (dart : Dart). get_or dart.values e (Int (pos 0))) o (Int (pos 0))) at ∙ get_or_default dart.values e (Int (pos 0)) d h
-

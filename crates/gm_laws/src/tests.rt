@@ -61,7 +61,9 @@ fn link<L: Ledger>(rt: &impl Abort, arena: &mut Arena, rows: Rows, steps: &mut S
     for (name, alphas) in rows.iter().enumerate() {
         for label in 0..3 {
             let slot = arena.slot_of(name as u32, steps).expect(rt, "a dart");
-            let to = arena.slot_of(alphas[label], steps).expect(rt, "a neighbour");
+            let to = arena
+                .slot_of(alphas[label], steps)
+                .expect(rt, "a neighbour");
             arena.set_alpha(slot, label as u8, to, steps);
         }
     }
@@ -149,8 +151,26 @@ fn check_maps<L: Ledger>(rt: &impl Abort, alloc: Global, blank: Blank) -> Result
         let answer = answer(rt, alloc, rows, &mut steps)?;
         assert_eq!(rt; answer.err(), breach.map(LawFault::Breach));
     }
-    let square = [(0, 0), (2, 0), (2, 0), (2, 2), (2, 2), (0, 2), (0, 2), (0, 0)];
-    let bent = [(0, 0), (3, 0), (2, 0), (2, 2), (2, 2), (0, 2), (0, 2), (0, 0)];
+    let square = [
+        (0, 0),
+        (2, 0),
+        (2, 0),
+        (2, 2),
+        (2, 2),
+        (0, 2),
+        (0, 2),
+        (0, 0),
+    ];
+    let bent = [
+        (0, 0),
+        (3, 0),
+        (2, 0),
+        (2, 2),
+        (2, 2),
+        (0, 2),
+        (0, 2),
+        (0, 0),
+    ];
     assert_eq!(rt; pointed_answer(rt, alloc, &square, &mut steps)?, Ok(()));
     assert_eq!(rt;
         pointed_answer(rt, alloc, &bent, &mut steps)?,

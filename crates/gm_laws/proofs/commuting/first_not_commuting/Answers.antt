@@ -14,7 +14,7 @@ returns-in-Some-clause-breach g c =
     let name = name_of_slot m (get_or c.args.names.now p 0) c.slot_of.result c.unwrap-slot.result c.slot_of.ensures.slot c.unwrap-slot.ensures in
     let pair = subst (λ d. IsFirstPair m d (c.in-Some.i, c.in-Some.j)) name c.in-Some.ensures.labels in
     crossing m _ _ _ c.requires.back (first_name m c.args.names.now c.requires.names (Commutes m) p c.loop-name-test.true c.loop-name.invariant.commute
-        (λ all. pair.0.fails (all c.in-Some.i pair.0.one))) pair
+    (λ all. pair.0.fails (all c.in-Some.i pair.0.one))) pair
 
 pub returns-clause-breach : goal.returns-clause-breach
 returns-clause-breach g c =
