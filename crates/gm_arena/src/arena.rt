@@ -42,6 +42,7 @@ pub struct Arena {
 }
 
 /// A dart as the arena holds it.
+#[derive(Drop)]
 pub struct Row<'a> {
     pub name: u32,
     /// The neighbours, by label.

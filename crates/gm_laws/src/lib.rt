@@ -1,0 +1,6 @@
+//! Stand-in.
+#![tactic(auto)]
+
+mod laws;
+
+pub use laws::{LawFault, MapBreach, check_map};
