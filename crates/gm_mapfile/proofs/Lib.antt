@@ -16,3 +16,7 @@ pub mod Named
 pub mod Adding
 pub mod Linking
 pub mod LinkedLine
+pub mod Whole
+pub mod Permuted
+pub mod HeldRows
+pub mod ReadMap

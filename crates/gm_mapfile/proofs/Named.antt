@@ -11,7 +11,7 @@ use Rattle.gm_model.specs.MapFaults.{rows_named, AreDistinct}
 abbrev pub is_named : ℕ → Row → Bool
 is_named d row = eqb row.name d
 
-abbrev one_if : ℕ → Row → ℕ
+abbrev pub one_if : ℕ → Row → ℕ
 one_if d row = cond (eqb row.name d) 1 0
 
 -- ---- look-ups

@@ -1,6 +1,6 @@
 -- The faults of the single passes as faults of the whole.
-use Rattle.gm_laws.specs.declared.laws.LawFault.{LawFault}
-use Rattle.gm_laws.specs.declared.laws.LawFault.TheVariants as laws
+use Rattle.gm_laws.specs.declared.breach.LawFault.{LawFault}
+use Rattle.gm_laws.specs.declared.breach.LawFault.TheVariants as laws
 use Rattle.gm_mapfile.specs.declared.reading.TextFault.{TextFault}
 use Rattle.gm_mapfile.specs.declared.reading.TextFault.TheVariants as texts
 use Rattle.gm_mapfile.specs.declared.fault.MapFault.{MapFault}

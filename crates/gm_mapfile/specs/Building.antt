@@ -4,7 +4,7 @@ use Rattle.std.specs.FinMap.{get}
 use Rattle.gm_model.specs.GMap.{Row, row_of, IsLive}
 use Rattle.gm_model.specs.GMap as written
 use Rattle.gm_model.specs.Orbits.{IsPairBefore}
-use Rattle.gm_model.specs.MapFaults.{AreDistinct, IsLeastTwice}
+use Rattle.gm_model.specs.MapFaults.{AreDistinct, IsLeastTwice, HaveTargets}
 use Rattle.gm_arena.specs.ArenaMap.{ArenaMap, Dart, IsAt, IsLiveName, alpha}
 use Rattle.gm_mapfile.specs.Rows.{IsNextLeast}
 
@@ -89,3 +89,4 @@ pub record IsHeld (n : ℕ) (rows : List Row) (m : ArenaMap) : Type 0 where
   pub live : (d : ℕ) → is_some (get m.darts d) ≡ is_some (row_of rows d)
   pub alphas : (d i : ℕ) → i ≤ n → alpha m i d ≡ written.alpha rows i d
   pub distinct : AreDistinct rows
+  pub targets : HaveTargets n rows

@@ -4,8 +4,8 @@ use Rattle.gm_model.specs.GMap.{Row, IsLive, alpha}
 use Rattle.gm_model.specs.Breaches.{IsFirstWithoutTarget}
 use Rattle.gm_model.specs.MapFaults.{TextFault, IsFirstFault, IsLeastTwice, AreDistinct}
 use Rattle.gm_model.specs.MapFaults as first
-use Rattle.gm_laws.specs.declared.laws.MapBreach.{MapBreach}
-use Rattle.gm_laws.specs.declared.laws.MapBreach.TheVariants as breaches
+use Rattle.gm_laws.specs.declared.breach.MapBreach.{MapBreach}
+use Rattle.gm_laws.specs.declared.breach.MapBreach.TheVariants as breaches
 use Rattle.gm_mapfile.specs.declared.fault.MapFault.{MapFault}
 use Rattle.gm_mapfile.specs.declared.fault.MapFault.TheVariants as faults
 

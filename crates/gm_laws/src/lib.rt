@@ -1,6 +1,0 @@
-//! Stand-in.
-#![tactic(auto)]
-
-mod laws;
-
-pub use laws::{LawFault, MapBreach, check_map};
