@@ -1,5 +1,5 @@
 -- One more dart: the arena stays sound, and its map has this one dart more.
-use Rattle.std.proofs.Common.{◌≡◌, ◌≢◌, ℕ, zero, suc, ◌+◌, ◌-◌, ◌*◌, ◌<◌, ◌≤◌, List, ◌∷◌, get_or, set, map, take, length, replicate, max, Option, Some, None, ◌⊎◌, refl, sym, ap, subst, ◌∙◌, inl, inr, arith, All}
+use Rattle.std.proofs.Common.{◌≡◌, ◌≢◌, ℕ, zero, suc, ◌+◌, ◌-◌, ◌<◌, List, ◌∷◌, set, map, take, length, replicate, max, Some, None, refl, sym, ap, subst, ◌∙◌, inl, inr, arith, All}
 use Rattle.std.specs.Option.{option_map, IsSome}
 use Rattle.std.specs.FinMap as map
 use Rattle.std.proofs.lemmas.Bool.{cases_eq}
@@ -13,9 +13,9 @@ use Rattle.gm_arena.specs.declared.slot.Slot.{Slot}
 use Rattle.gm_arena.specs.declared.arena.Place.{Place}
 use Rattle.gm_arena.specs.Lawful.{HaveKinds}
 use Rattle.gm_arena.specs.Edits.{free_dart, with_dart}
-use Rattle.gm_arena.specs.Inside.{no_slot, slot_in, name_in, values_in, dart_in, darts_in, slots_in, map_of, IsPlaced, IsSound}
+use Rattle.gm_arena.specs.Inside.{no_slot, slot_in, name_in, dart_in, darts_in, slots_in, map_of, IsPlaced, IsSound}
 use Rattle.gm_arena.proofs.FilledLemmas.{same_maps, get-insert_same, get-insert_other, len-insert_new}
-use Rattle.gm_arena.proofs.InsideLemmas.{nowhere, dart_at, darts_get, get-slots, slot_at, name_in-get, is_some_at, some_of}
+use Rattle.gm_arena.proofs.InsideLemmas.{nowhere, dart_at, darts_get, slot_at, name_in-get, is_some_at, some_of}
 use Rattle.gm_arena.proofs.ValueLemmas.{IsWritten}
 use Rattle.gm_arena.proofs.ChangeLemmas.{slots_alike, name_alike, dart_alike, other_dart}
 
@@ -77,42 +77,42 @@ module _ (schema : Schema) (labels width : ℕ) (places : Slab Place) (values : 
   dart_here =
       let name_of = λ (s : Slot). name_in places' s.at in
       let alphas : map name_of (take labels (new_place name slot).alphas) ≡ replicate (schema.dim + 1) name =
-          ap (map name_of) front ∙ (map-replicate name_of labels (record { at = slot })
-          ∙ (ap (replicate labels) (name_in-get places' slot (new_place name slot) updates.changed) ∙ ap (λ n. replicate n name) sound.sized.one_each)) in
+      ap (map name_of) front ∙ (map-replicate name_of labels (record { at = slot })
+      ∙ (ap (replicate labels) (name_in-get places' slot (new_place name slot) updates.changed) ∙ ap (λ n. replicate n name) sound.sized.one_each)) in
       λ i. record { alphas = alphas i; values = written.here i }
 
   pub darts_with : darts_in labels width places' values' (set table name slot)
       ≡ map.insert (darts_in labels width places values table) name (free_dart schema.dim name own)
   darts_with = same_maps _ _ (λ other. elim (cases_eq other name) [
-      | inl e ↦ rw e (
-          darts_get labels width places' values' (set table name slot) none' name
-          ∙ (ap (λ s. option_map (dart_in labels width places' values' s) (get places' s)) entry_here
-          ∙ (ap (option_map (dart_in labels width places' values' slot)) updates.changed
-          ∙ (ap Some dart_here ∙ sym (get-insert_same (darts_in labels width places values table) name (free_dart schema.dim name own))))))
-      | inr apart ↦
-          other_dart labels width places places' values values' table (set table name slot) none none' other (entry_other other apart)
-              (updates.others (slot_in table other) (slot_free other))
-              (λ p e. dart_alike labels width places places' values values' _ p (names_same _ p e) (written.others _ (slot_free other)))
-          ∙ sym (get-insert_other (darts_in labels width places values table) name (free_dart schema.dim name own) other apart)
-    ])
+    | inl e ↦ rw e (
+        darts_get labels width places' values' (set table name slot) none' name
+        ∙ (ap (λ s. option_map (dart_in labels width places' values' s) (get places' s)) entry_here
+        ∙ (ap (option_map (dart_in labels width places' values' slot)) updates.changed
+        ∙ (ap Some dart_here ∙ sym (get-insert_same (darts_in labels width places values table) name (free_dart schema.dim name own))))))
+    | inr apart ↦
+        other_dart labels width places places' values values' table (set table name slot) none none' other (entry_other other apart)
+        (updates.others (slot_in table other) (slot_free other))
+        (λ p e. dart_alike labels width places places' values values' _ p (names_same _ p e) (written.others _ (slot_free other)))
+        ∙ sym (get-insert_other (darts_in labels width places values table) name (free_dart schema.dim name own) other apart)
+  ])
 
   pub slots_with : slots_in places' ≡ map.insert (slots_in places) slot name
   slots_with = same_maps _ _ (λ other. elim (cases_eq other slot) [
-      | inl e ↦ rw e (slot_at places' slot (new_place name slot) updates.changed ∙ sym (get-insert_same (slots_in places) slot name))
-      | inr apart ↦ slots_alike places places' other (ap (option_map (λ (p : Place). p.name)) (updates.others other apart)) ∙ sym (get-insert_other (slots_in places) slot name other apart)
-    ])
+    | inl e ↦ rw e (slot_at places' slot (new_place name slot) updates.changed ∙ sym (get-insert_same (slots_in places) slot name))
+    | inr apart ↦ slots_alike places places' other (ap (option_map (λ (p : Place). p.name)) (updates.others other apart)) ∙ sym (get-insert_other (slots_in places) slot name other apart)
+  ])
 
   module _ (next' bound' : ℕ) (next_is : next' ≡ max next (name + 1)) (bound_is : bound' ≡ max bound (slot + 1)) where
     placed_here : IsPlaced labels places' (set table name slot) next' bound' slot (new_place name slot)
     placed_here = record {
-        found = entry_here;
-        whole = refl;
-        live = All-take (λ (s : Slot). IsSome (get places' s.at)) labels (new_place name slot).alphas
-            (All-replicate (λ (s : Slot). IsSome (get places' s.at)) 8 (record { at = slot }) (is_some_at _ _ updates.changed));
-        below_next = omega (arith, next_is);
-        below_bound = omega (arith, bound_is);
-        below_capacity = below;
-      }
+      found = entry_here;
+      whole = refl;
+      live = All-take (λ (s : Slot). IsSome (get places' s.at)) labels (new_place name slot).alphas
+          (All-replicate (λ (s : Slot). IsSome (get places' s.at)) 8 (record { at = slot }) (is_some_at _ _ updates.changed));
+      below_next = omega (arith, next_is);
+      below_bound = omega (arith, bound_is);
+      below_capacity = below;
+    }
 
     placed_before : (other : ℕ) (p : Place) → get places other ≡ Some p → IsPlaced labels places' (set table name slot) next' bound' other p
     placed_before other p e =
@@ -128,36 +128,36 @@ module _ (schema : Schema) (labels width : ℕ) (places : Slab Place) (values : 
 
     pub sound_with : IsSound schema labels width places' values' (set table name slot) next' (spare - 1) bound'
     sound_with = record {
-        sized = sound.sized;
-        placed = λ other p e. elim (cases_eq other slot) [
-            | inl same ↦
-                let is = same_Some (new_place name slot) p (sym updates.changed ∙ (ap (get places') (sym same) ∙ e)) in
-                rw (same, ← is) placed_here
-            | inr apart ↦ placed_before other p (sym (updates.others other apart) ∙ e)
-          ];
-        named = λ other h. elim (cases_eq other name) [
-            | inl e ↦ (new_place name slot, ap (get places') (ap (slot_in (set table name slot)) e ∙ entry_here) ∙ updates.changed, sym e)
-            | inr apart ↦
-                let entry = entry_other other apart in
-                let n = sound.named other (λ no. h (entry ∙ no)) in
-                (n.0, ap (get places') entry ∙ (updates.others _ (slot_free other) ∙ n.1), n.2)
-          ];
-        valued = λ other h. elim (cases_eq other slot) [
-            | inl e ↦ rw e (subst (HaveKinds schema) (sym written.here) kinds)
-            | inr apart ↦
-                let was : IsSome (get places other) = rw (updates.others other apart) at h in
-                subst (HaveKinds schema) (sym (written.others other apart)) (sound.valued other was)
-          ];
-        fits = rw capacity sound.fits;
-        long = rw (capacity, written.long) sound.long;
-        room = omega (arith, more, capacity, sound.room, some_room);
-        counted =
-            let added = ap map.len darts_with ∙ len-insert_new (darts_in labels width places values table) name (free_dart schema.dim name own) new_name in
-            more ∙ (ap (λ n. n + 1) sound.counted ∙ sym added);
-        few_darts = omega (arith, more, sound.few_darts, some_room);
-        few_names = omega (arith, next_is, reserved, sound.few_names, sound.few_reserved);
-        few_reserved = rw length-set sound.few_reserved;
-      }
+      sized = sound.sized;
+      placed = λ other p e. elim (cases_eq other slot) [
+        | inl same ↦
+            let is = same_Some (new_place name slot) p (sym updates.changed ∙ (ap (get places') (sym same) ∙ e)) in
+            rw (same, ← is) placed_here
+        | inr apart ↦ placed_before other p (sym (updates.others other apart) ∙ e)
+      ];
+      named = λ other h. elim (cases_eq other name) [
+        | inl e ↦ (new_place name slot, ap (get places') (ap (slot_in (set table name slot)) e ∙ entry_here) ∙ updates.changed, sym e)
+        | inr apart ↦
+            let entry = entry_other other apart in
+            let n = sound.named other (λ no. h (entry ∙ no)) in
+            (n.0, ap (get places') entry ∙ (updates.others _ (slot_free other) ∙ n.1), n.2)
+      ];
+      valued = λ other h. elim (cases_eq other slot) [
+        | inl e ↦ rw e (subst (HaveKinds schema) (sym written.here) kinds)
+        | inr apart ↦
+            let was : IsSome (get places other) = rw (updates.others other apart) at h in
+            subst (HaveKinds schema) (sym (written.others other apart)) (sound.valued other was)
+      ];
+      fits = rw capacity sound.fits;
+      long = rw (capacity, written.long) sound.long;
+      room = omega (arith, more, capacity, sound.room, some_room);
+      counted =
+          let added = ap map.len darts_with ∙ len-insert_new (darts_in labels width places values table) name (free_dart schema.dim name own) new_name in
+          more ∙ (ap (λ n. n + 1) sound.counted ∙ sym added);
+      few_darts = omega (arith, more, sound.few_darts, some_room);
+      few_names = omega (arith, next_is, reserved, sound.few_names, sound.few_reserved);
+      few_reserved = rw length-set sound.few_reserved;
+    }
 
     pub map_with : map_of schema labels width places' values' (set table name slot) next' (spare - 1) bound'
         ≡ with_dart (map_of schema labels width places values table next spare bound) slot name own

@@ -1,8 +1,7 @@
 -- What a change at one slot leaves: the other slots, the other names, and the darts that have none of both.
-use Rattle.std.proofs.Common.{◌≡◌, ◌≢◌, ℕ, ◌+◌, ◌*◌, ◌<◌, ◌≤◌, List, [], ◌∷◌, get_or, map, take, drop, length, Option, Some, None, cond, ◌⊎◌, refl, sym, ap, ◌∙◌, inl, inr, arith, All}
-use Rattle.std.specs.Option.{option_map, option_map_or, IsSome, is_some}
+use Rattle.std.proofs.Common.{◌≡◌, ◌≢◌, ℕ, ◌+◌, List, [], ◌∷◌, map, take, Option, Some, None, cond, refl, sym, ap, ◌∙◌, arith, All}
+use Rattle.std.specs.Option.{option_map, option_map_or, is_some}
 use Rattle.std.specs.FinMap as map
-use Rattle.std.proofs.lemmas.Bool.{cases_eq}
 use Rattle.std.proofs.lemmas.Option.{none-some, same_Some}
 use Rattle.std.proofs.lemmas.List.Elements.{All-head, All-tail}
 use Rattle.std.proofs.lemmas.List.Sums.{sum_by-set}
@@ -28,7 +27,7 @@ pub slab_len-with_value : (places : Slab Place) (slot : ℕ) (old new : Place) �
 slab_len-with_value places slot old new here =
     let one : Option Place → ℕ = λ o. cond (is_some o) 1 0 in
     let counts : slab_len (with_value places slot new) + one (get places slot) ≡ slab_len places + 1 =
-        sum_by-set one places.slots slot (Some new) None (ContainsKey-within places slot (is_some_at _ old here)) in
+    sum_by-set one places.slots slot (Some new) None (ContainsKey-within places slot (is_some_at _ old here)) in
     let before : one (get places slot) ≡ 1 = ap one here in
     omega arith
 

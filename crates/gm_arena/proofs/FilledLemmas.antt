@@ -1,12 +1,10 @@
 -- What the finite map of a list has at a number.
-use Rattle.std.proofs.Common.{◌≡◌, ◌≢◌, ℕ, zero, suc, ◌+◌, ◌-◌, ◌<◌, Bool, true, false, ◌&&◌, T, cond, List, [], ◌∷◌, get_or, map, length, Option, Some, None, ◌⊎◌, refl, sym, ap, ◌∙◌, inl, inr, arith, add-zero, zero-add}
-use Rattle.std.specs.Option.{option_map}
+use Rattle.std.proofs.Common.{◌≡◌, ◌≢◌, ℕ, zero, suc, ◌+◌, ◌-◌, ◌<◌, Bool, true, false, ◌&&◌, T, cond, List, [], ◌∷◌, get_or, map, Option, Some, None, refl, sym, ap, ◌∙◌, inl, inr, arith, add-zero, zero-add}
 use Rattle.std.specs.Cmp.{nat_cmp_total, nat_cmp_is}
 use Rattle.std.specs.Ordering.{nat_cmp, eq_by_cmp}
 use Rattle.std.specs.FinMap.{FinMap, get, keys, find, is_sorted, insert, remove, same_map, nat_cmp-IsAntisymmetric, get-from_sorted, entries-from_sorted, get-insert, get-remove, len, len-insert, len-remove}
 use Rattle.std.specs.FinMap.Entries.{below_all}
 use Rattle.std.specs.declared.cmp.Ordering.TheVariants.{Less, Equal, Greater}
-use Rattle.std.proofs.lemmas.List.{get_or-map, get_or_past, length-map}
 use Rattle.std.proofs.lemmas.Bool.{cases_lt}
 use Rattle.slab.specs.Slab.{entries_from}
 use Rattle.gm_arena.specs.Filled.{filled}
@@ -26,9 +24,9 @@ both false b p q = p
 
 apart : {A : Type 0} (x y : ℕ) (a b : A) → x ≢ y → cond (eq_by_cmp nat_cmp x y) a b ≡ b
 apart x y a b h = elim (cases_lt x y) [
-    | inl l ↦ rw (less x y l) refl
-    | inr l ↦ rw (greater x y (omega arith)) refl
-  ]
+  | inl l ↦ rw (less x y l) refl
+  | inr l ↦ rw (greater x y (omega arith)) refl
+]
 
 module _ {X : Type 0} where
   below_entries : (x k : ℕ) (xs : List (Option X)) → x < k → T (below_all nat_cmp x (entries_from k xs))

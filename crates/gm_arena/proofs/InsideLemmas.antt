@@ -1,21 +1,19 @@
 -- What a sound arena has inside: its darts and slots by look-up, and that its map is lawful.
-use Rattle.std.proofs.Common.{◌≡◌, ◌≢◌, ℕ, zero, suc, ◌+◌, ◌*◌, ◌<◌, ◌≤◌, Bool, List, [], ◌∷◌, get_or, map, take, drop, length, Option, Some, None, ◌⊎◌, refl, sym, ap, subst, ◌∙◌, inl, inr, arith, All}
+use Rattle.std.proofs.Common.{◌≡◌, ◌≢◌, ℕ, ◌<◌, ◌≤◌, List, get_or, map, take, length, Option, Some, None, refl, sym, ap, subst, ◌∙◌, inl, inr, arith, All}
 use Rattle.std.specs.Option.{option_map, option_map_or, IsSome, unwrap_or}
-use Rattle.std.specs.Ordering.{nat_cmp}
 use Rattle.std.specs.FinMap as map
 use Rattle.std.proofs.lemmas.List.{get_or-map, get_or_past, length-map, length-take-le, get_or-take}
 use Rattle.std.proofs.lemmas.List.Elements.{All-map, All-weaker}
-use Rattle.std.proofs.lemmas.Bool.{cases_lt, cases_eq}
+use Rattle.std.proofs.lemmas.Bool.{cases_lt}
 use Rattle.std.proofs.lemmas.Option.{none-some, same_Some}
-use Rattle.slab.specs.Slab.{Slab, get, slab_len, HasRoomFor}
+use Rattle.slab.specs.Slab.{Slab, get}
 use Rattle.gm_model.specs.declared.schema.Schema.{Schema}
 use Rattle.gm_model.specs.declared.value.Value.{Value}
 use Rattle.gm_arena.specs.declared.slot.Slot.{Slot}
 use Rattle.gm_arena.specs.declared.arena.Place.{Place}
-use Rattle.gm_arena.specs.ArenaMap.{ArenaMap, Dart, IsAt, IsLiveName, IsLiveSlot, name_at, alpha}
-use Rattle.gm_arena.specs.Filled.{filled}
+use Rattle.gm_arena.specs.ArenaMap.{Dart, IsLiveName, name_at, alpha}
 use Rattle.gm_arena.specs.Lawful.{IsLawful, IsLawfulDart, HaveKinds}
-use Rattle.gm_arena.specs.Inside.{no_slot, slot_in, name_in, values_in, dart_in, darts_in, slots_in, map_of, IsPlaced, IsSized, IsSound}
+use Rattle.gm_arena.specs.Inside.{no_slot, slot_in, name_in, values_in, dart_in, darts_in, slots_in, map_of, IsSound}
 use Rattle.gm_arena.proofs.FilledLemmas.{get-filled}
 
 pub some_of : {A : Type 0} (o : Option A) → IsSome o → (x : A) × (o ≡ Some x)
@@ -37,9 +35,9 @@ none_of (Some x) h = absurd (h refl)
 -- the name of the dart at a slot
 pub get-slots : (places : Slab Place) (slot : ℕ) → map.get (slots_in places) slot ≡ option_map (λ (p : Place). p.name) (get places slot)
 get-slots places slot = get-filled _ slot ∙ elim (cases_lt slot (length places.slots)) [
-    | inl l ↦ get_or-map (option_map (λ (p : Place). p.name)) places.slots slot None None l
-    | inr l ↦ get_or_past _ slot None (rw length-map l) ∙ sym (ap (option_map (λ (p : Place). p.name)) (get_or_past places.slots slot None l))
-  ]
+  | inl l ↦ get_or-map (option_map (λ (p : Place). p.name)) places.slots slot None None l
+  | inr l ↦ get_or_past _ slot None (rw length-map l) ∙ sym (ap (option_map (λ (p : Place). p.name)) (get_or_past places.slots slot None l))
+]
 
 -- that name, and nothing at a slot that is not live
 pub name_in-get : (places : Slab Place) (slot : ℕ) (place : Place) → get places slot ≡ Some place → name_in places slot ≡ place.name
@@ -114,7 +112,11 @@ module _ (schema : Schema) (labels width : ℕ) (places : Slab Place) (values : 
       let somewhere : slot ≢ no_slot = λ n. none-some found.0 (sym (ap (get places) n ∙ nowhere) ∙ found.1) in
       let named = sound.named name somewhere in
       record {
-        slot = slot; place = found.0; here = found.1; is = found.2; entry = refl;
+        slot = slot;
+        place = found.0;
+        here = found.1;
+        is = found.2;
+        entry = refl;
         same = ap (λ (p : Place). p.name) (same_Some found.0 named.0 (sym found.1 ∙ named.1)) ∙ named.2;
       }
 
@@ -145,20 +147,20 @@ module _ (schema : Schema) (labels width : ℕ) (places : Slab Place) (values : 
 
   pub lawful : IsLawful (map_of schema labels width places values table next spare bound)
   lawful = record {
-      dart = lawful_dart;
-      live = λ slot name at. let p = place_at places slot name at in rw p.2 (is_some_at _ _ (dart_at slot p.0 p.1));
-      one_slot = λ slot other name at also.
-          let p = place_at places slot name at in
-          let q = place_at places other name also in
-          sym (sound.placed other q.0 q.1).found ∙ (ap (slot_in table) (sym q.2 ∙ p.2) ∙ (sound.placed slot p.0 p.1).found);
-      below_bound = λ slot name at. let p = place_at places slot name at in (sound.placed slot p.0 p.1).below_bound;
-      counted = sound.counted;
-      few_darts = sound.few_darts;
-      few_names = sound.few_names;
-      few_reserved = sound.few_reserved;
-      dim = (omega (arith, sound.sized.several, sound.sized.one_each), omega (arith, sound.sized.few, sound.sized.one_each));
-      schema = sound.sized.lawful;
-    }
+    dart = lawful_dart;
+    live = λ slot name at. let p = place_at places slot name at in rw p.2 (is_some_at _ _ (dart_at slot p.0 p.1));
+    one_slot = λ slot other name at also.
+        let p = place_at places slot name at in
+        let q = place_at places other name also in
+        sym (sound.placed other q.0 q.1).found ∙ (ap (slot_in table) (sym q.2 ∙ p.2) ∙ (sound.placed slot p.0 p.1).found);
+    below_bound = λ slot name at. let p = place_at places slot name at in (sound.placed slot p.0 p.1).below_bound;
+    counted = sound.counted;
+    few_darts = sound.few_darts;
+    few_names = sound.few_names;
+    few_reserved = sound.few_reserved;
+    dim = (omega (arith, sound.sized.several, sound.sized.one_each), omega (arith, sound.sized.few, sound.sized.one_each));
+    schema = sound.sized.lawful;
+  }
 
   -- the neighbour that a place has is the neighbour by name
   pub alpha_at : (slot : ℕ) (place : Place) (label : ℕ) (other : Slot) → get places slot ≡ Some place → label < labels → map.get (slots_in places) (get_or place.alphas label other).at ≡ Some (alpha (map_of schema labels width places values table next spare bound) label (name_at (map_of schema labels width places values table next spare bound) slot))
@@ -207,13 +209,24 @@ module _ (schema : Schema) (labels width : ℕ) (places : Slab Place) (values : 
   -- with another number above every name
   pub sound_next : (next' : ℕ) → ((name : ℕ) → IsSome (map.get (darts_in labels width places values table) name) → name < next') → next' ≤ 16777216 → IsSound schema labels width places values table next' spare bound
   sound_next next' above limit = record {
-      placed = λ slot place e.
-          let p = sound.placed slot place e in
-          record {
-            found = p.found; whole = p.whole; live = p.live;
-            below_next = above place.name (is_some_at _ _ (dart_at slot place e));
-            below_bound = p.below_bound; below_capacity = p.below_capacity;
-          };
-      sized = sound.sized; named = sound.named; valued = sound.valued; fits = sound.fits; long = sound.long; room = sound.room;
-      counted = sound.counted; few_darts = sound.few_darts; few_names = limit; few_reserved = sound.few_reserved;
-    }
+    placed = λ slot place e.
+        let p = sound.placed slot place e in
+        record {
+          found = p.found;
+          whole = p.whole;
+          live = p.live;
+          below_next = above place.name (is_some_at _ _ (dart_at slot place e));
+          below_bound = p.below_bound;
+          below_capacity = p.below_capacity;
+        };
+    sized = sound.sized;
+    named = sound.named;
+    valued = sound.valued;
+    fits = sound.fits;
+    long = sound.long;
+    room = sound.room;
+    counted = sound.counted;
+    few_darts = sound.few_darts;
+    few_names = limit;
+    few_reserved = sound.few_reserved;
+  }

@@ -1,16 +1,16 @@
 -- What a change of an arena's map leaves at each dart and slot, for callers.
-use Rattle.std.proofs.Common.{◌≡◌, ◌≢◌, ℕ, ◌+◌, ◌<◌, ◌≤◌, List, get_or, set, length, replicate, Option, Some, None, ◌⊎◌, refl, sym, ap, ◌∙◌, inl, inr, arith}
-use Rattle.std.specs.Option.{option_map, option_map_or, unwrap_or, IsSome}
+use Rattle.std.proofs.Common.{◌≡◌, ◌≢◌, ℕ, ◌+◌, ◌<◌, ◌≤◌, List, get_or, replicate, Option, Some, None, refl, sym, ap, ◌∙◌, inl, inr, arith}
+use Rattle.std.specs.Option.{option_map, option_map_or, unwrap_or}
 use Rattle.std.specs.FinMap as map
-use Rattle.std.proofs.lemmas.Bool.{cases_lt}
-use Rattle.std.proofs.lemmas.List.{get_or-set_same, get_or-set_other, get_or-replicate, get_or_past, get_or_default, length-replicate}
+use Rattle.std.proofs.lemmas.Bool.{cases_lt, false≢true}
+use Rattle.std.proofs.lemmas.List.{get_or-set_same, get_or-set_other, get_or-replicate, get_or_past, length-replicate}
 use Rattle.std.proofs.lemmas.List.Elements.{All-get_or}
 use Rattle.gm_model.specs.declared.value.Value.{Value}
 use Rattle.gm_arena.specs.ArenaMap.{ArenaMap, Dart, IsAt, IsLiveSlot, IsLiveName, name_at, alpha}
 use Rattle.gm_arena.specs.Lawful.{IsLawful}
 use Rattle.gm_arena.specs.Edits.{with_dart, with_alpha, without_dart, turned, put_if, free_dart}
 use Rattle.gm_arena.proofs.FilledLemmas.{get-insert_same, get-insert_other, get-remove_same, get-remove_other}
-use Rattle.gm_arena.proofs.InsideLemmas.{some_of, is_some_at}
+use Rattle.gm_arena.proofs.InsideLemmas.{some_of}
 
 -- ---- reading
 
@@ -34,6 +34,10 @@ IsLiveName-alpha m label name lawful live within =
     let d : (dart : Dart) × (map.get m.darts name ≡ Some dart) = some_of _ live in
     let dart = lawful.dart name d.0 d.1 in
     rw d.1 (All-get_or (IsLiveName m) d.0.alphas label name (omega (arith, dart.whole)) dart.neighbours)
+
+-- each live name lies below the next
+pub name_below : (m : ArenaMap) (name : ℕ) → IsLawful m → IsLiveName m name → name < m.next
+name_below m name lawful live = let d = some_of _ live in (lawful.dart name d.0 d.1).below_next
 
 -- the same dart, the same neighbours
 pub alpha-alike : (m n : ArenaMap) (label name : ℕ) → map.get n.darts name ≡ map.get m.darts name → alpha n label name ≡ alpha m label name
@@ -85,9 +89,9 @@ module _ (m : ArenaMap) (slot name : ℕ) (values : List Value) where
   -- the new dart is its own neighbour
   pub alpha-with_dart_same : (i : ℕ) → alpha (with_dart m slot name values) i name ≡ name
   alpha-with_dart_same i = ap (λ o. option_map_or (λ (dart : Dart). get_or dart.alphas i name) o name) get-with_dart_same ∙ elim (cases_lt i (m.schema.dim + 1)) [
-      | inl l ↦ get_or-replicate (m.schema.dim + 1) i name name l
-      | inr l ↦ get_or_past (replicate (m.schema.dim + 1) name) i name (rw length-replicate l)
-    ]
+    | inl l ↦ get_or-replicate (m.schema.dim + 1) i name name l
+    | inr l ↦ get_or_past (replicate (m.schema.dim + 1) name) i name (rw length-replicate l)
+  ]
 
   pub alpha-with_dart_other : (i other : ℕ) → other ≢ name → alpha (with_dart m slot name values) i other ≡ alpha m i other
   alpha-with_dart_other i other apart = alpha-alike m (with_dart m slot name values) i other (get-with_dart_other other apart)
@@ -115,3 +119,9 @@ module _ (m : ArenaMap) (slot name : ℕ) where
 
   pub slots-without_dart_other : (other : ℕ) → other ≢ slot → map.get (without_dart m slot name).slots other ≡ map.get m.slots other
   slots-without_dart_other = get-remove_other m.slots slot
+
+  -- who is still live was live, and is another dart
+  pub IsLiveName-without_dart : (other : ℕ) → IsLiveName (without_dart m slot name) other → (other ≢ name) × IsLiveName m other
+  IsLiveName-without_dart other live =
+      let apart : other ≢ name = λ e. false≢true (rw (e, get-without_dart_same) at live) in
+      (apart, rw (get-without_dart_other other apart) at live)

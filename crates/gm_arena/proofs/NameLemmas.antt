@@ -1,5 +1,5 @@
 -- The names that have a slot are those of the live darts.
-use Rattle.std.proofs.Common.{◌≡◌, ◌≢◌, ℕ, ◌+◌, ◌<◌, Bool, true, false, List, [], ◌∷◌, ◌++◌, get_or, map, take, length, Option, Some, None, cond, eqb, ◌⊎◌, refl, sym, ap, ◌∙◌, inl, inr, arith, All, zero-add, add-zero}
+use Rattle.std.proofs.Common.{◌≡◌, ◌≢◌, ℕ, ◌+◌, ◌<◌, Bool, true, false, List, [], ◌∷◌, ◌++◌, get_or, map, take, length, Option, Some, None, cond, eqb, refl, sym, ap, ◌∙◌, inl, inr, arith, All, zero-add}
 use Rattle.std.specs.Option.{is_some, option_map}
 use Rattle.std.specs.FinMap as map
 use Rattle.std.proofs.lemmas.Bool.{cases_eq}

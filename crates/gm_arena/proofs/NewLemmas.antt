@@ -1,18 +1,16 @@
 -- The arena without darts.
-use Rattle.std.proofs.Common.{◌≡◌, ◌≢◌, ℕ, ◌+◌, ◌<◌, ◌≤◌, List, [], get_or, length, Option, Some, None, refl, sym, ap, subst, ◌∙◌, arith}
-use Rattle.std.specs.Option.{IsSome}
+use Rattle.std.proofs.Common.{◌≡◌, ℕ, ◌+◌, ◌<◌, ◌≤◌, [], get_or, length, None, refl, sym, ap, ◌∙◌, arith}
 use Rattle.std.specs.FinMap as map
 use Rattle.std.specs.Ordering.{nat_cmp}
 use Rattle.std.proofs.lemmas.Bool.{false≢true}
 use Rattle.std.proofs.lemmas.Option.{none-some}
 use Rattle.slab.specs.Slab.{Slab, get, slab_len}
 use Rattle.gm_model.specs.declared.schema.Schema.{Schema}
-use Rattle.gm_model.specs.declared.value.Value.{Value}
 use Rattle.gm_arena.specs.declared.arena.Place.{Place}
 use Rattle.gm_arena.specs.Edits.{empty_map}
 use Rattle.gm_arena.specs.Filled.{filled}
-use Rattle.gm_arena.specs.Lawful.{IsSchema}
-use Rattle.gm_arena.specs.Inside.{no_slot, darts_in, slots_in, map_of, IsSound}
+use Rattle.gm_model.specs.Maps.{IsSchema}
+use Rattle.gm_arena.specs.Inside.{slots_in, map_of, IsSound}
 use Rattle.gm_arena.proofs.FilledLemmas.{get-filled, same_maps}
 
 filled_none : {X : Type 0} → filled {X = X} [] ≡ map.empty
@@ -33,15 +31,15 @@ module _ (schema : Schema) (places : Slab Place) (slots : places.slots ≡ []) w
 
   pub sound_empty : IsSchema schema → 0 < schema.dim → schema.dim ≤ 7 → places.capacity ≡ 0 → IsSound schema (schema.dim + 1) (length schema.embeds) places [] [] 0 0 0
   sound_empty lawful some few capacity = record {
-      sized = record { lawful = lawful; one_each = refl; several = omega arith; few = omega arith; wide = refl };
-      placed = λ slot place e. absurd (none-some place (sym (vacant slot) ∙ e));
-      named = λ name h. absurd (h refl);
-      valued = λ slot h. absurd (false≢true (rw vacant at h));
-      fits = omega (arith, capacity);
-      long = rw capacity (omega arith);
-      room = omega (arith, capacity, count);
-      counted = count ∙ sym (ap map.len filled_none ∙ map.len-empty nat_cmp _);
-      few_darts = omega (arith, count);
-      few_names = omega arith;
-      few_reserved = omega arith;
-    }
+    sized = record { lawful = lawful; one_each = refl; several = omega arith; few = omega arith; wide = refl };
+    placed = λ slot place e. absurd (none-some place (sym (vacant slot) ∙ e));
+    named = λ name h. absurd (h refl);
+    valued = λ slot h. absurd (false≢true (rw vacant at h));
+    fits = omega (arith, capacity);
+    long = rw capacity (omega arith);
+    room = omega (arith, capacity, count);
+    counted = count ∙ sym (ap map.len filled_none ∙ map.len-empty nat_cmp _);
+    few_darts = omega (arith, count);
+    few_names = omega arith;
+    few_reserved = omega arith;
+  }

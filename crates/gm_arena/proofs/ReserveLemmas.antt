@@ -1,6 +1,6 @@
 -- More room: the same darts are at the same slots, and the arena stays sound.
-use Rattle.std.proofs.Common.{◌≡◌, ◌≢◌, ℕ, ◌+◌, ◌-◌, ◌*◌, ◌<◌, ◌≤◌, List, ◌++◌, get_or, map, take, drop, length, replicate, Option, Some, None, ◌⊎◌, refl, sym, ap, subst, ◌∙◌, inl, inr, arith, All}
-use Rattle.std.specs.Option.{option_map, IsSome}
+use Rattle.std.proofs.Common.{◌≡◌, ℕ, ◌+◌, ◌-◌, ◌*◌, ◌<◌, ◌≤◌, List, ◌++◌, get_or, take, drop, length, replicate, Some, None, refl, sym, ap, subst, ◌∙◌, inl, inr, arith}
+use Rattle.std.specs.Option.{IsSome}
 use Rattle.std.specs.FinMap as map
 use Rattle.std.proofs.lemmas.Bool.{cases_lt}
 use Rattle.std.proofs.lemmas.Nat.{mul-le}
@@ -8,10 +8,9 @@ use Rattle.std.proofs.lemmas.List.{take-take, drop-take, get_or_append_left, get
 use Rattle.slab.specs.Slab.{Slab, get, slab_len, HasRoomFor}
 use Rattle.gm_model.specs.declared.schema.Schema.{Schema}
 use Rattle.gm_model.specs.declared.value.Value.{Value}
-use Rattle.gm_arena.specs.declared.slot.Slot.{Slot}
 use Rattle.gm_arena.specs.declared.arena.Place.{Place}
 use Rattle.gm_arena.specs.Lawful.{HaveKinds}
-use Rattle.gm_arena.specs.Inside.{no_slot, slot_in, name_in, values_in, dart_in, darts_in, slots_in, map_of, IsPlaced, IsSound}
+use Rattle.gm_arena.specs.Inside.{no_slot, slot_in, values_in, darts_in, slots_in, map_of, IsSound}
 use Rattle.gm_arena.proofs.FilledLemmas.{same_maps}
 use Rattle.gm_arena.proofs.InsideLemmas.{nowhere, is_some_at, some_of}
 use Rattle.gm_arena.proofs.ChangeLemmas.{name_alike, dart_alike, other_dart}
@@ -31,16 +30,16 @@ values_kept width values values' slot kept long =
 -- a table that only grew
 entry_padded : (table : List ℕ) (more name : ℕ) → slot_in (table ++ replicate more no_slot) name ≡ slot_in table name
 entry_padded table more name = elim (cases_lt name (length table)) [
-    | inl l ↦ get_or_append_left table (replicate more no_slot) no_slot name l
-    | inr l ↦ get_or-append_right table (replicate more no_slot) (length table) name no_slot refl l
-        ∙ (padding more (name - length table) ∙ sym (get_or_past table name no_slot l))
-  ]
+  | inl l ↦ get_or_append_left table (replicate more no_slot) no_slot name l
+  | inr l ↦ get_or-append_right table (replicate more no_slot) (length table) name no_slot refl l
+      ∙ (padding more (name - length table) ∙ sym (get_or_past table name no_slot l))
+]
   where
     padding : (count at : ℕ) → get_or (replicate count no_slot) at no_slot ≡ no_slot
     padding count at = elim (cases_lt at count) [
-        | inl l ↦ get_or-replicate count at no_slot no_slot l
-        | inr l ↦ get_or_past (replicate count no_slot) at no_slot (rw length-replicate l)
-      ]
+      | inl l ↦ get_or-replicate count at no_slot no_slot l
+      | inr l ↦ get_or_past (replicate count no_slot) at no_slot (rw length-replicate l)
+    ]
 
 pub entries_padded : (table table' : List ℕ) (more : ℕ) → table' ≡ table ++ replicate more no_slot → (name : ℕ) → slot_in table' name ≡ slot_in table name
 entries_padded table table' more e name = rw e (entry_padded table more name)
@@ -62,7 +61,7 @@ module _ (schema : Schema) (labels width : ℕ) (places : Slab Place) (values : 
   pub darts_same : darts_in labels width places' values' table' ≡ darts_in labels width places values table
   darts_same = same_maps _ _ (λ name.
       other_dart labels width places places' values values' table table' none (same no_slot ∙ none) name (entries name) (same (slot_in table name))
-          (λ p e. dart_alike labels width places places' values values' (slot_in table name) p (λ k d h. name_alike places places' _ (same _)) (values_same (slot_in table name) (is_some_at _ p e))))
+      (λ p e. dart_alike labels width places places' values values' (slot_in table name) p (λ k d h. name_alike places places' _ (same _)) (values_same (slot_in table name) (is_some_at _ p e))))
 
   pub slots_same : slots_in places' ≡ slots_in places
   slots_same = λ i. slots_in (record places { slots = slots i })
@@ -74,27 +73,31 @@ module _ (schema : Schema) (labels width : ℕ) (places : Slab Place) (values : 
       → HasRoomFor places' spare' → slab_len places + spare' ≤ 1048576 → length table' ≤ 16777216
       → IsSound schema labels width places' values' table' next spare' bound
   sound_more spare' keys fits long room few_darts few_reserved = record {
-      sized = sound.sized;
-      placed = λ slot p e.
-          let was = sound.placed slot p (sym (same slot) ∙ e) in
-          record {
-            found = entries p.name ∙ was.found; whole = was.whole;
-            live = λ k d h. rw (same _) (was.live k d h);
-            below_next = was.below_next; below_bound = was.below_bound;
-            below_capacity = keys slot (is_some_at _ p (sym (same slot) ∙ e));
-          };
-      named = λ name h.
-          let n = sound.named name (λ e. h (entries name ∙ e)) in
-          (n.0, ap (get places') (entries name) ∙ (same _ ∙ n.1), n.2);
-      valued = λ slot h.
-          let was : IsSome (get places slot) = rw (same slot) at h in
-          subst (HaveKinds schema) (sym (values_same slot was)) (sound.valued slot was);
-      fits = fits; long = long; room = room;
-      counted = count_same ∙ (sound.counted ∙ sym (ap map.len darts_same));
-      few_darts = rw count_same few_darts;
-      few_names = sound.few_names;
-      few_reserved = few_reserved;
-    }
+    sized = sound.sized;
+    placed = λ slot p e.
+        let was = sound.placed slot p (sym (same slot) ∙ e) in
+        record {
+          found = entries p.name ∙ was.found;
+          whole = was.whole;
+          live = λ k d h. rw (same _) (was.live k d h);
+          below_next = was.below_next;
+          below_bound = was.below_bound;
+          below_capacity = keys slot (is_some_at _ p (sym (same slot) ∙ e));
+        };
+    named = λ name h.
+        let n = sound.named name (λ e. h (entries name ∙ e)) in
+        (n.0, ap (get places') (entries name) ∙ (same _ ∙ n.1), n.2);
+    valued = λ slot h.
+        let was : IsSome (get places slot) = rw (same slot) at h in
+        subst (HaveKinds schema) (sym (values_same slot was)) (sound.valued slot was);
+    fits = fits;
+    long = long;
+    room = room;
+    counted = count_same ∙ (sound.counted ∙ sym (ap map.len darts_same));
+    few_darts = rw count_same few_darts;
+    few_names = sound.few_names;
+    few_reserved = few_reserved;
+  }
 
   pub map_more : (spare' : ℕ) → map_of schema labels width places' values' table' next spare' bound ≡ record (map_of schema labels width places values table next spare bound) { spare = spare'; reserved = length table' }
   map_more spare' =

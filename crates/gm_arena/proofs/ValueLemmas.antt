@@ -1,5 +1,5 @@
 -- The values of the slots after those of one slot were written.
-use Rattle.std.proofs.Common.{◌≡◌, ◌≢◌, ℕ, zero, suc, ◌+◌, ◌-◌, ◌*◌, ◌<◌, ◌≤◌, List, ◌++◌, map, take, drop, length, ◌⊎◌, Vec, Global, refl, sym, ap, ◌∙◌, inl, inr, arith, length-append, length-drop}
+use Rattle.std.proofs.Common.{◌≡◌, ◌≢◌, ℕ, ◌+◌, ◌-◌, ◌*◌, ◌≤◌, List, ◌++◌, take, drop, length, Vec, Global, sym, ap, ◌∙◌, inl, inr, arith, length-append, length-drop}
 use Rattle.std.specs.Vec.{with_items}
 use borrow.Rule.Slice.PartMut.{put_mid}
 use Rattle.std.proofs.lemmas.Bool.{cases_lt}
@@ -29,13 +29,13 @@ module _ (width : ℕ) (values own : List Value) (slot : ℕ) (k : ℕ) (part : 
 
   others : (other : ℕ) → other ≢ slot → values_in width (put_mid (slot * width) k values own) other ≡ values_in width values other
   others other apart = elim (cases_lt other slot) [
-      | inl l ↦
-          let before : other * width + width ≤ slot * width = omega (arith, mul-le (other + 1) width slot width (omega arith) (omega arith)) in
-          sym (drop-take (other * width) width _) ∙ (ap (drop (other * width)) (take-put_mid_below (slot * width) _ values own (other * width + width) before (omega arith)) ∙ drop-take (other * width) width values)
-      | inr l ↦
-          let after : slot * width + width ≤ other * width = omega (arith, mul-le (slot + 1) width other width (omega arith) (omega arith)) in
-          ap (take width) (drop-put_mid (slot * width) _ values own (other * width) (omega arith) (omega arith) (omega (arith, wide)))
-    ]
+    | inl l ↦
+        let before : other * width + width ≤ slot * width = omega (arith, mul-le (other + 1) width slot width (omega arith) (omega arith)) in
+        sym (drop-take (other * width) width _) ∙ (ap (drop (other * width)) (take-put_mid_below (slot * width) _ values own (other * width + width) before (omega arith)) ∙ drop-take (other * width) width values)
+    | inr l ↦
+        let after : slot * width + width ≤ other * width = omega (arith, mul-le (slot + 1) width other width (omega arith) (omega arith)) in
+        ap (take width) (drop-put_mid (slot * width) _ values own (other * width) (omega arith) (omega arith) (omega (arith, wide)))
+  ]
 
   long : length (put_mid (slot * width) k values own) ≡ length values
   long =

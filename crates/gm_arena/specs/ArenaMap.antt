@@ -1,5 +1,5 @@
 -- What contracts see of an arena: a map whose darts go by name, the name that each slot stands for, and the room that is reserved.
-use Rattle.std.specs.Prelude.{◌≡◌, ℕ, List, Option, Some, IsSome, unwrap_or, slice_index_or, refl}
+use Rattle.std.specs.Prelude.{◌≡◌, ℕ, List, Some, IsSome, unwrap_or, slice_index_or, refl}
 use Rattle.std.specs.Option.{option_map_or}
 use Rattle.std.specs.Ordering.{nat_cmp}
 use Rattle.std.specs.FinMap.{FinMap, get}

@@ -1,5 +1,5 @@
 -- What the calls that change an arena make of it.
-use Rattle.std.specs.Prelude.{◌≡◌, ◌≢◌, ℕ, ◌+◌, ◌-◌, ◌≤◌, max, List, Option, Some, None, replicate, slice_set}
+use Rattle.std.specs.Prelude.{◌≢◌, ℕ, ◌+◌, ◌-◌, ◌≤◌, max, List, Option, Some, None, replicate, slice_set}
 use Rattle.std.specs.Option.{option_map}
 use Rattle.std.specs.Ordering.{nat_cmp}
 use Rattle.std.specs.FinMap.{FinMap, get, empty, insert, remove}
@@ -10,8 +10,14 @@ use Rattle.gm_arena.specs.ArenaMap.{ArenaMap, Dart, IsLiveName, alpha}
 -- no darts, and no room
 abbrev pub empty_map : Schema → ArenaMap
 empty_map schema = record {
-  schema = schema; darts = empty; slots = empty;
-  count = 0; next = 0; spare = 0; reserved = 0; bound = 0;
+  schema = schema;
+  darts = empty;
+  slots = empty;
+  count = 0;
+  next = 0;
+  spare = 0;
+  reserved = 0;
+  bound = 0;
 }
 
 -- a dart that is free for every label: each neighbour is the dart itself

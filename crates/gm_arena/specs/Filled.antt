@@ -1,5 +1,5 @@
 -- The finite map that a list stands for: under each number what the list has at that index.
-use Rattle.std.specs.Prelude.{ℕ, List, Option}
+use Rattle.std.specs.Prelude.{List, Option}
 use Rattle.std.specs.Ordering.{nat_cmp}
 use Rattle.std.specs.FinMap.{FinMap, from_sorted}
 use Rattle.slab.specs.Slab.{entries_from}

@@ -10,7 +10,8 @@ use Rattle.gm_arena.specs.declared.slot.Slot.{Slot}
 use Rattle.gm_arena.specs.declared.arena.Place.{Place}
 use Rattle.gm_arena.specs.ArenaMap.{ArenaMap, Dart}
 use Rattle.gm_arena.specs.Filled.{filled}
-use Rattle.gm_arena.specs.Lawful.{IsSchema, HaveKinds}
+use Rattle.gm_model.specs.Maps.{IsSchema}
+use Rattle.gm_arena.specs.Lawful.{HaveKinds}
 
 -- what the table has where no live dart has a name
 abbrev pub no_slot : ℕ
@@ -47,8 +48,14 @@ slots_in places = filled (map (option_map (λ (p : Place). p.name)) places.slots
 
 abbrev pub map_of : Schema → ℕ → ℕ → Slab Place → List Value → List ℕ → ℕ → ℕ → ℕ → ArenaMap
 map_of schema labels width places values table next spare bound = record {
-  schema = schema; darts = darts_in labels width places values table; slots = slots_in places;
-  count = slab_len places; next = next; spare = spare; reserved = length table; bound = bound;
+  schema = schema;
+  darts = darts_in labels width places values table;
+  slots = slots_in places;
+  count = slab_len places;
+  next = next;
+  spare = spare;
+  reserved = length table;
+  bound = bound;
 }
 
 -- a place is found by its name, and its neighbours are live

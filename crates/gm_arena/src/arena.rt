@@ -12,7 +12,7 @@ use std::sync::ledger::Ledger;
 
 const MOST_LABELS: usize = 8;
 
-/// What the table of names has where no live dart has the name.
+/// What the table has at a name that no live dart has.
 const NO_SLOT: u32 = u32::MAX;
 
 #[derive(Clone, Copy)]
@@ -34,15 +34,17 @@ pub struct Arena {
     places: Slab<Place>,
     /// The values of the slots one after another, `width` for each. Where no dart is, fillers.
     values: Vec<Value>,
-    /// The slot of each reserved name.
+    /// The slot of each reserved name, or `NO_SLOT`.
     table: Vec<u32>,
     next: u32,
+    /// How many darts can be added.
     spare: u32,
+    /// One more than the greatest slot that was ever in use.
     bound: usize,
 }
 
 /// A dart as the arena holds it.
-#[derive(Drop)]
+#[derive(Clone, Copy, Debug)]
 pub struct Row<'a> {
     pub name: u32,
     /// The neighbours, by label.
@@ -67,7 +69,8 @@ impl Model for Arena {
 
 impl Arena {
     ghost use Rattle.gm_arena.specs.ArenaMap.{IsAt, IsLiveSlot, IsLiveName, name_at, alpha};
-    ghost use Rattle.gm_arena.specs.Lawful.{IsSchema, IsLawful, HaveKinds};
+    ghost use Rattle.gm_model.specs.Maps.{IsSchema};
+    ghost use Rattle.gm_arena.specs.Lawful.{IsLawful, HaveKinds};
     ghost use Rattle.gm_arena.specs.Edits.{empty_map, with_dart, with_alpha, without_dart, IsAlone};
 
     /// An arena without darts, whose next name is 0. It takes no memory.
@@ -111,7 +114,7 @@ impl Arena {
         self.next
     }
 
-    /// Each live slot is below it. It is the number of slots that were ever in use at once.
+    /// One more than the greatest slot that was ever in use, so each live slot is below it.
     pub fn bound(&self) -> usize
         ensures bound { result ≡ self.now.bound }
         ensures lawful { IsLawful self.now }
@@ -160,8 +163,8 @@ impl Arena {
         requires { IsLiveSlot self.now slot.at }
         ensures name { IsAt self.now slot.at result.name }
         ensures dart { get self.now.darts result.name ≡ Some (record {
-            alphas = map (λ (s : Slot). name_at self.now s.at) result.alphas.now;
-            values = result.values.now;
+          alphas = map (λ (s : Slot). name_at self.now s.at) result.alphas.now;
+          values = result.values.now;
         }) }
         ensures live { All (λ (s : Slot). IsLiveSlot self.now s.at) result.alphas.now }
         ensures cost { steps.new ≡ steps.old + 1 }
@@ -188,7 +191,8 @@ impl Arena {
     }
 
     /// Makes room for so many more darts and for all names below `names`, so that `add` takes no
-    /// memory. A refused call may have made room for some of them.
+    /// memory. An arena has at most 1,048,576 darts, with names below 16,777,216. A refused call
+    /// may have made room for some of them.
     pub fn reserve(&mut self, more: u32, names: u32) -> Result<(), OutOfMemory>
         requires darts { self.old.count + more ≤ 1048576 }
         requires names { names ≤ 16777216 }
@@ -200,7 +204,12 @@ impl Arena {
     {
         pad_table(&mut self.table, names as usize)?;
         let room = self.spare.max(more);
-        reserve_places(&mut self.places, &mut self.values, self.width, room as usize)?;
+        reserve_places(
+            &mut self.places,
+            &mut self.values,
+            self.width,
+            room as usize,
+        )?;
         self.spare = room;
         Ok(())
     }

@@ -6,6 +6,8 @@
 
 mod arena;
 mod slot;
+#[cfg(test)]
+mod tests;
 
 pub use arena::{Arena, Row};
 pub use slot::Slot;

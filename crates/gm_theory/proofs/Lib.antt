@@ -5,6 +5,8 @@ pub mod Corners
 pub mod Keeps
 pub mod Lists
 pub mod NewNames
+pub mod NoFault
+pub mod Quotients
 pub mod Results
 pub mod RuleSteps
 pub mod Scenes

@@ -1,6 +1,5 @@
 use Rattle.std.proofs.lemmas.Result.{IfOk-weaker}
-use Rattle.std.proofs.Common.{◌≡◌, ap, ◌∙◌}
-use Rattle.std.specs.FinMap as map
+use Rattle.std.proofs.Common.{ap, ◌∙◌}
 use Rattle.gm_arena.specs.Inside.{names_in}
 use Rattle.gm_arena.proofs.NameLemmas.{names_live}
 use Rattle.gm_arena.proofs.arena.Arena.names.Goals as goal

@@ -1,7 +1,4 @@
-use Rattle.std.proofs.Common.{◌≡◌, sym, ◌∙◌, arith}
-use Rattle.gm_arena.specs.ArenaMap.{name_at}
-use Rattle.gm_arena.specs.Edits.{IsAlone}
-use Rattle.gm_arena.specs.Inside.{map_of}
+use Rattle.std.proofs.Common.{◌∙◌, arith}
 use Rattle.gm_arena.proofs.InsideLemmas.{key_at, name_within, name_at_in, name_in-get}
 use Rattle.gm_arena.proofs.RemoveLemmas.{sound_without, map_without}
 use Rattle.gm_arena.proofs.arena.Arena.remove.Goals as goal
@@ -17,11 +14,11 @@ invariant_of-self g c =
     let name = name_at_in c.self.inside.places c.args.slot.at ∙ name_in-get c.self.inside.places c.args.slot.at c.remove-place.result c.remove-place.ensures.value in
     let alone = rw (← c.self.view_is, name) at c.requires.alone in
     sound_without _ _ _ _ _ _ _ _ _ c.self.invariant c.args.slot.at c.remove-place.result c.remove-place.ensures.value alone
-        c.remove-place.new.self c.remove-place.ensures.updates c.remove-place.ensures.len c.remove-place.ensures.capacity
+    c.remove-place.new.self c.remove-place.ensures.updates c.remove-place.ensures.len c.remove-place.ensures.capacity
 
 pub returns-clause-map : goal.returns-clause-map
 returns-clause-map g c =
     let name = name_at_in c.self.inside.places c.args.slot.at ∙ name_in-get c.self.inside.places c.args.slot.at c.remove-place.result c.remove-place.ensures.value in
     let alone = rw (← c.self.view_is, name) at c.requires.alone in
     rw (← c.self.view_is, name) (map_without _ _ _ _ _ _ _ _ _ c.self.invariant c.args.slot.at c.remove-place.result c.remove-place.ensures.value alone
-        c.remove-place.new.self c.remove-place.ensures.updates c.remove-place.ensures.len c.remove-place.ensures.capacity)
+    c.remove-place.new.self c.remove-place.ensures.updates c.remove-place.ensures.len c.remove-place.ensures.capacity)

@@ -1,6 +1,4 @@
-use Rattle.std.proofs.Common.{◌≡◌, ℕ, ◌+◌, ◌*◌, ◌-◌, take, drop, ap, ◌∙◌, arith}
-use Rattle.std.proofs.lemmas.List.Elements.{All-weaker}
-use Rattle.gm_arena.specs.declared.slot.Slot.{Slot}
+use Rattle.std.proofs.Common.{◌≡◌, ℕ, ◌+◌, ◌-◌, arith}
 use Rattle.gm_arena.proofs.InsideLemmas.{key_at, live_at, slot_at, row_at}
 use Rattle.gm_arena.proofs.arena.Arena.row.Goals as goal
 

@@ -1,0 +1,4 @@
+pub mod NameLemmas
+pub mod FirstLemmas
+pub mod RowLemmas
+pub mod EmbeddedLemmas

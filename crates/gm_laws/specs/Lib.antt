@@ -1,0 +1,3 @@
+pub mod ArenaAsMap
+pub mod Darts
+pub mod Faults

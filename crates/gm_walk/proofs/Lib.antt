@@ -1,0 +1,4 @@
+pub mod MarkLemmas
+pub mod WalkLemmas
+pub mod NameLemmas
+pub mod WordLemmas

@@ -1,0 +1,103 @@
+-- The walk of slots as the walk of the names at them.
+use Rattle.std.proofs.Common.{◌≡◌, ℕ, ◌+◌, ◌<◌, ◌≤◌, List, [], ◌∷◌, Option, Some, None, length, get_or, unwrap_or, slice_get, refl, sym, ap, subst, ◌∙◌, arith}
+use Rattle.std.specs.List.{Contains}
+use Rattle.std.specs.Option.{IsSome, option_map}
+use Rattle.std.specs.FinMap.{get}
+use Rattle.std.proofs.lemmas.List.{length-map, length_push, map_push, get_or-map, get_or_append_left}
+use Rattle.std.proofs.lemmas.List.Elements.{All-push}
+use Rattle.gm_model.specs.declared.word.Letter.{Letter}
+use Rattle.gm_model.specs.declared.word.Letter.TheVariants.{At}
+use Rattle.gm_model.specs.Orbits.{IsWalkTo}
+use Rattle.gm_model.specs.Rules.{label_of}
+use Rattle.gm_arena.specs.declared.slot.Slot.{Slot}
+use Rattle.gm_arena.specs.ArenaMap.{ArenaMap, IsAt, IsLiveSlot, name_at, alpha}
+use Rattle.gm_arena.specs.Lawful.{IsLawful}
+use Rattle.gm_walk.specs.Room.{Room, TakesIn}
+use Rattle.gm_walk.specs.Room.TakesIn.{Known, Added}
+use Rattle.gm_walk.specs.Walks.{AreLive, along, names_of}
+use Rattle.gm_walk.proofs.MarkLemmas.{same_slot}
+use Rattle.gm_walk.proofs.WalkLemmas.{known, added}
+
+module _ (m : ArenaMap) where
+  pub name_there : (slots : List Slot) (p : ℕ) (d : Slot) → p < length slots → get_or (names_of m slots) p 0 ≡ name_at m (get_or slots p d).at
+  name_there slots p d h = get_or-map (λ (s : Slot). name_at m s.at) slots p d 0 h
+
+  pub at_name : (slot name : ℕ) → IsAt m slot name → name_at m slot ≡ name
+  at_name slot name e = ap (λ o. unwrap_or o 0) e
+
+  pub live_at : (slot name : ℕ) → IsAt m slot name → IsLiveSlot m slot
+  live_at slot name e = rw e refl
+
+  -- the neighbour along a letter is the neighbour at its place
+  pub at_place : (word : List Letter) (l i slot d : ℕ) → slice_get word l ≡ Some (At i) → IsAt m slot (alpha m i d) → IsAt m slot (along m word d l)
+  at_place word l i slot d e at = let P : ℕ → Type 0 = λ label. IsAt m slot (alpha m label d) in subst P (sym (ap (λ o. unwrap_or (option_map label_of o) 0) e)) at
+
+  some_name : (slot : ℕ) → IsLiveSlot m slot → IsAt m slot (name_at m slot)
+  some_name slot h = go (get m.slots slot) h
+    where
+      go : (o : Option ℕ) → IsSome o → o ≡ Some (unwrap_or o 0)
+      go None h = absurd (cc)
+      go (Some x) h = refl
+
+  -- the name of a slot of the walk is a name of the walk
+  pub names_contain : (slots : List Slot) (slot : Slot) → Contains slots slot → Contains (names_of m slots) (name_at m slot.at)
+  names_contain slots slot (p, h, e) =
+      (p, omega (arith, length-map slots (λ (s : Slot). name_at m s.at)), get_or-map (λ (s : Slot). name_at m s.at) slots p slot (name_at m slot.at) h ∙ ap (λ (s : Slot). name_at m s.at) e)
+
+  -- and the name of another live slot is none
+  pub names_lack : IsLawful m → (slots : List Slot) (slot : Slot) (name : ℕ) → AreLive m slots → IsAt m slot.at name → (Contains slots slot → ⊥) → Contains (names_of m slots) name → ⊥
+  names_lack lawful slots slot name live at lacks (p, h, e) =
+      let within : p < length slots = omega (arith, length-map slots (λ (s : Slot). name_at m s.at)) in
+      let there = get_or slots p slot in
+      let same : name_at m there.at ≡ name = sym (get_or-map (λ (s : Slot). name_at m s.at) slots p slot name within) ∙ e in
+      let also : IsAt m there.at name = some_name there.at (live p slot within) ∙ ap Some same in
+      lacks (p, within, same_slot there slot (lawful.one_slot slot.at there.at name at also))
+
+  module _ (old : Room) (slot : Slot) (new : Room) (takes : TakesIn old slot new) where
+    pub live_after : AreLive m old.walked → IsLiveSlot m slot.at → AreLive m new.walked
+    live_after live here = go takes
+      where
+        go : TakesIn old slot new → AreLive m new.walked
+        go (Known c e) = subst (λ (r : Room). AreLive m r.walked) (sym e) live
+        go (Added c e) = subst (λ (r : Room). AreLive m r.walked) (sym e) (All-push (λ (s : Slot). IsLiveSlot m s.at) old.walked slot live here)
+
+    pub longer_after : length old.walked ≤ length new.walked
+    longer_after = go takes
+      where
+        go : TakesIn old slot new → length old.walked ≤ length new.walked
+        go (Known c e) = omega (arith, ap (λ (r : Room). length r.walked) e)
+        go (Added c e) = omega (arith, ap (λ (r : Room). length r.walked) e, length_push old.walked slot)
+
+    pub same_after : (p : ℕ) (d : Slot) → p < length old.walked → get_or new.walked p d ≡ get_or old.walked p d
+    same_after p d h = go takes
+      where
+        go : TakesIn old slot new → get_or new.walked p d ≡ get_or old.walked p d
+        go (Known c e) = ap (λ (r : Room). get_or r.walked p d) e
+        go (Added c e) = ap (λ (r : Room). get_or r.walked p d) e ∙ get_or_append_left old.walked (slot ∷ []) d p h
+
+    pub bound_after : new.bound ≡ old.bound
+    bound_after = go takes
+      where
+        go : TakesIn old slot new → new.bound ≡ old.bound
+        go (Known c e) = ap (λ (r : Room). r.bound) e
+        go (Added c e) = ap (λ (r : Room). r.bound) e
+
+    -- the walk grows by the pair (q, l)
+    pub walk_after : IsLawful m → (word : List Letter) (d q l : ℕ) (from : Slot) → AreLive m old.walked → q < length old.walked → get_or old.walked q from ≡ from → l < length word
+        → IsAt m slot.at (along m word (name_at m from.at) l) → IsWalkTo (along m word) (length word) d q l (names_of m old.walked) → IsWalkTo (along m word) (length word) d q (l + 1) (names_of m new.walked)
+    walk_after lawful word d q l from live within here place at w = go takes
+      where
+        there : get_or (names_of m old.walked) q 0 ≡ name_at m from.at
+        there = name_there old.walked q from within ∙ ap (λ (s : Slot). name_at m s.at) here
+
+        leads : name_at m slot.at ≡ along m word (get_or (names_of m old.walked) q 0) l
+        leads = at_name slot.at _ at ∙ ap (λ a. along m word a l) (sym there)
+
+        go : TakesIn old slot new → IsWalkTo (along m word) (length word) d q (l + 1) (names_of m new.walked)
+        go (Known c e) = subst (λ (r : Room). IsWalkTo (along m word) (length word) d q (l + 1) (names_of m r.walked)) (sym e)
+            (known (along m word) (length word) d q l (names_of m old.walked) w (subst (Contains (names_of m old.walked)) leads (names_contain old.walked slot c)))
+        go (Added c e) = subst (λ (r : Room). IsWalkTo (along m word) (length word) d q (l + 1) (names_of m r.walked)) (sym e)
+            (subst (IsWalkTo (along m word) (length word) d q (l + 1)) (sym (map_push (λ (s : Slot). name_at m s.at) old.walked slot))
+            (added (along m word) (length word) d q l (names_of m old.walked) w
+            (omega (arith, length-map old.walked (λ (s : Slot). name_at m s.at))) place (name_at m slot.at) leads
+            (names_lack lawful old.walked slot (name_at m slot.at) live (subst (IsAt m slot.at) (sym (at_name slot.at _ at)) at) c)))

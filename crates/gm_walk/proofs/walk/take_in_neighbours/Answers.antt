@@ -1,0 +1,30 @@
+use Rattle.std.proofs.Common.{◌≡◌, length, ap, subst, Some, ◌∙◌, arith}
+use Rattle.gm_model.specs.Orbits.{IsWalkTo}
+use Rattle.gm_walk.specs.Walks.{along, names_of}
+use Rattle.gm_walk.proofs.NameLemmas.{live_at, at_place, live_after, longer_after, same_after, bound_after, walk_after}
+use Rattle.gm_walk.proofs.WalkLemmas.{next_dart}
+use Rattle.gm_walk.proofs.walk.take_in_neighbours.Goals as goal
+
+pub loop-place-preserved : goal.loop-place-preserved
+loop-place-preserved g c =
+    let i = c.loop-place.invariant in
+    let takes = c.take_in.ensures in
+    let longer = longer_after c.args.arena.now _ _ _ takes in
+    record {
+      live = live_after c.args.arena.now _ _ _ takes i.live (live_at c.args.arena.now _ _ c.alpha.ensures.neighbour);
+      within = omega (arith, longer, i.within);
+      longer = omega (arith, longer, i.longer);
+      here = λ d. same_after c.args.arena.now _ _ _ takes _ d i.within ∙ i.here d;
+      walk = λ d w. walk_after c.args.arena.now _ _ _ takes c.requires.lawful c.args.word.now d c.args.at c.loop-place.place _ i.live i.within (i.here _)
+          (omega (arith, c.loop-place-test.true, c.len-place-end.ensures.value))
+          (at_place c.args.arena.now c.args.word.now c.loop-place.place c.in-At.label _ _ (c.letter.ensures ∙ ap Some c.in-At.is) c.alpha.ensures.neighbour) (i.walk d w);
+      bound = bound_after c.args.arena.now _ _ _ takes ∙ i.bound;
+      cost = omega (arith, i.cost, c.alpha.ensures.cost);
+    }
+
+pub returns-clause-walk : goal.returns-clause-walk
+returns-clause-walk g c =
+    let end : c.loop-place.place ≡ length c.args.word.now = omega (arith, c.loop-place-test.false, c.loop-place.auto.place-end, c.len-place-end.ensures.value) in
+    let m = c.args.arena.now in
+    let word = c.args.word.now in
+    λ d w. next_dart _ _ d c.args.at _ (subst (λ l. IsWalkTo (along m word) (length word) d c.args.at l (names_of m c.loop-place.scratch.walked)) end (c.loop-place.invariant.walk d w))

@@ -1,0 +1,99 @@
+ghost use Rattle.std.specs.Prelude.{◌≡◌, ◌<◌, ◌≤◌, [], length, slice_get, MatchOption, Some, OnOk};
+ghost use Rattle.std.specs.List.{Contains};
+ghost use Rattle.gm_walk.specs.Room.{Fits, TakesIn};
+
+use gm_arena::{Arena, Slot};
+use gm_model::OutOfMemory;
+use std::alloc::Global;
+use std::marker::Model;
+
+/// The room in which walks are made, one after another. Contracts see for how many slots it has
+/// room, and the slots of the last walk.
+#[derive(Drop)]
+pub struct Scratch {
+    queue: Vec<Slot>,
+    /// For each slot one more than its place in the queue, or 0 where it has none.
+    marks: Vec<u32>,
+}
+
+impl Model for Scratch {
+    ghost use Rattle.gm_walk.specs.Room.{Room, room_code};
+
+    ghost Value = { Room };
+
+    ghost coded = { room_code };
+
+    ghost use Rattle.std.specs.Prelude.{length};
+    ghost use Rattle.std.specs.Vec.{vec_capacity};
+    ghost use Rattle.gm_walk.specs.Marks.{IsKept};
+
+    ghost view = { λ s. record { bound = length s.marks.items; walked = s.queue.items } };
+
+    ghost invariant = { λ s. IsKept s.queue.items s.marks.items (vec_capacity s.queue) };
+}
+
+impl Scratch {
+    /// A scratch without room. It takes no memory.
+    pub fn new(alloc: Global) -> Scratch
+        ensures { result ≡ record { bound = 0; walked = [] } }
+    {
+        Scratch {
+            queue: Vec::new(alloc),
+            marks: Vec::new(alloc),
+        }
+    }
+
+    /// Makes room for walks in the arena, and in any arena with no greater bound. A scratch that
+    /// has the room already stays as it is.
+    pub fn fit(&mut self, arena: &Arena) -> Result<(), OutOfMemory>
+        ensures fits { OnOk result (Fits self.new arena.now) }
+        ensures kept { self.old.bound ≤ self.new.bound }
+        ensures walked { self.new.walked ≡ self.old.walked }
+    {
+        let bound = arena.bound();
+        // A place in a walk is a `u32`.
+        if bound > u32::MAX as usize {
+            return Err(OutOfMemory);
+        }
+        if self.marks.len() < bound {
+            self.queue.reserve(bound - self.queue.len())?;
+            self.marks.resize(bound, 0)?;
+        }
+        Ok(())
+    }
+
+    /// Forgets the last walk, in time that goes by its length.
+    pub(crate) fn clear(&mut self)
+        ensures { self.new ≡ record self.old { walked = [] } }
+    {
+        while let Some(slot) = self.queue.pop() {
+            self.marks[slot.at as usize] = 0;
+        }
+    }
+
+    /// Puts the slot behind those that were walked, unless it is among them.
+    pub(crate) fn take_in(&mut self, slot: Slot)
+        requires { slot.at < self.old.bound }
+        ensures { TakesIn self.old slot self.new }
+    {
+        let place = self.queue.len() as u32;
+        let mark = &mut self.marks[slot.at as usize];
+        if *mark == 0 {
+            *mark = place + 1;
+            self.queue.push_reserved(slot);
+        }
+    }
+
+    pub(crate) fn walked(&self) -> &[Slot]
+        ensures value { result.now ≡ self.now.walked }
+        ensures few { length self.now.walked ≤ self.now.bound }
+    {
+        &self.queue
+    }
+
+    pub(crate) fn place(&self, slot: Slot) -> Option<u32>
+        ensures { MatchOption result (Contains self.now.walked slot → ⊥) (λ place. slice_get self.now.walked place ≡ Some slot) }
+    {
+        self.marks.get(slot.at as usize)?.checked_sub(1)
+    }
+}
