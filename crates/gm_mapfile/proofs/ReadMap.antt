@@ -1,5 +1,6 @@
 -- What was read and built, said of the text.
-use Rattle.std.proofs.Common.{◌≡◌, ℕ, ◌+◌, ◌*◌, ◌/◌, ◌<◌, ◌≤◌, List, [], ◌∷◌, ◌++◌, length, All, refl, sym, ap, subst, ◌∙◌, arith}
+use Rattle.std.proofs.Common.{◌≡◌, ℕ, ◌+◌, ◌*◌, ◌/◌, ◌<◌, ◌≤◌, List, [], ◌∷◌, ◌++◌, length, All, Some, None, refl, sym, ap, subst, ◌∙◌, arith}
+use Rattle.std.specs.Prelude.{slice_get}
 use Rattle.std.specs.List.{flat_map, AllByRecursion}
 use Rattle.std.proofs.lemmas.Nat.{mul-le}
 use Rattle.std.proofs.lemmas.List.Elements.{All-from_recursion}
@@ -12,8 +13,9 @@ use Rattle.gm_arena.specs.ArenaMap.{ArenaMap, IsLiveName, alpha}
 use Rattle.gm_laws.specs.declared.breach.LawFault.{LawFault}
 use Rattle.gm_laws.specs.declared.breach.LawFault.TheVariants as laws
 use Rattle.gm_laws.specs.declared.breach.MapBreach.TheVariants as breaches
-use Rattle.gm_model.specs.Maps.{IsGeneralised}
-use Rattle.gm_laws.specs.ArenaAsMap.{as_map, value}
+use Rattle.gm_model.specs.declared.schema.Embed.{Embed}
+use Rattle.gm_model.specs.Maps.{IsGeneralised, IsEmbedAt}
+use Rattle.gm_laws.specs.ArenaAsMap.{as_map}
 use Rattle.gm_laws.specs.Faults.{IsFault}
 use Rattle.gm_mapfile.specs.declared.reading.TextFault.{TextFault}
 use Rattle.gm_mapfile.specs.declared.reading.TextFault.TheVariants as texts
@@ -42,6 +44,9 @@ all_both P (x ∷ xs) ys one other = (one.0, all_both P xs ys one.1 other)
 small_numbers : (rows : List Row) → AllByRecursion IsSmall rows → AllByRecursion (λ x. x < 16777216) (flat_map line_in rows)
 small_numbers [] small = tt
 small_numbers (row ∷ rows) small = (small.0.0, all_both (λ x. x < 16777216) row.alphas (flat_map line_in rows) small.0.1 (small_numbers rows small.1))
+
+both_within : (square size before middle after : ℕ) → middle ≤ before + 12 * square * size → after ≤ middle + 20 * square * size → after ≤ before + 32 * square * size
+both_within square size before middle after one other = omega (arith, one, other)
 
 module _ (text : List ℕ) (n : ℕ) (numbers : List ℕ) (draft : IsDraft text n numbers) where
   rows_are : rows_in n numbers ≡ draft.0
@@ -92,14 +97,14 @@ module _ (text : List ℕ) (n : ℕ) (numbers : List ℕ) (draft : IsDraft text 
         first.AtCrossing n (rows_in n numbers) d i j listed held.distinct held.targets (of_rows m (rows_in n numbers) found_in (λ l a. IsFirstCrossing n l a d i j) at)
 
     -- no embedding is there to be broken
-    no_embedding : {e : ℕ} {P : Type 0} (embed : Embed) → IsEmbedAt m.schema e embed → P
-    no_embedding embed at = ?
+    no_embedding : (e : ℕ) (embed : Embed) → IsEmbedAt m.schema e embed → ⊥
+    no_embedding e embed at = let none : None ≡ Some embed = sym (ap (λ embeds. slice_get embeds e) held.no_embeds) ∙ at in absurd cc
 
     pub law_fault_of : (fault : LawFault) → IsFault m fault → IsFaultOf text (map_fault_of_laws fault)
     law_fault_of laws.OutOfMemory h = tt
     law_fault_of (laws.Breach (breaches.Involution dart label)) h = one_way_of dart label h
     law_fault_of (laws.Breach (breaches.Cycle dart i j)) h = crossing_of dart i j h
-    law_fault_of (laws.Breach (breaches.Embedding embed dart other)) h = no_embedding h.1.embed h.1.embed_at
+    law_fault_of (laws.Breach (breaches.Embedding embed dart other)) h = absurd (no_embedding embed h.1.embed h.1.embed_at)
 
   -- ---- steps
 
@@ -123,5 +128,7 @@ module _ (text : List ℕ) (n : ℕ) (numbers : List ℕ) (draft : IsDraft text 
       let same = same_size k darts stands in
       subst (λ x. after ≤ before + 20 * ((k + 1) * (k + 1)) * (x + 1)) (many ∙ same.1) (subst (λ x. after ≤ before + 20 * ((x + 1) * (x + 1)) * (count + 1)) (is ∙ same.0) h)
 
-pub both_within : (square size before middle after : ℕ) → middle ≤ before + 12 * square * size → after ≤ middle + 20 * square * size → after ≤ before + 32 * square * size
-both_within square size before middle after one other = omega (arith, one, other)
+  pub all_within : (m : ArenaMap) → IsHeld n (rows_in n numbers) m → (before middle after : ℕ) → middle ≤ before + (2 * n + 5) * length (rows_in n numbers) → after ≤ middle + 20 * ((m.schema.dim + 1) * (m.schema.dim + 1)) * (m.count + 1)
+      → (k : ℕ) (darts : List Row) → MapText text k darts → after ≤ before + 32 * ((k + 1) * (k + 1)) * (length darts + 1)
+  all_within m held before middle after one other k darts stands =
+      both_within ((k + 1) * (k + 1)) (length darts + 1) before middle after (built_within before middle one k darts stands) (checked_within middle after m.count held.count m.schema.dim held.dim other k darts stands)
