@@ -21,7 +21,7 @@ use Rattle.gm_mapfile.proofs.Permuted.{split_found, same_permuted, distinct_asce
 
 -- ---- look-ups
 
-abbrev row_with : ℕ → Dart → Row
+abbrev pub row_with : ℕ → Dart → Row
 row_with d dart = record { name = d; alphas = dart.alphas }
 
 found_row : (es : List (ℕ × Dart)) (d : ℕ) → row_of (map row_of_entry es) d ≡ option_map (row_with d) (find nat_cmp d es)

@@ -20,3 +20,4 @@ pub mod Whole
 pub mod Permuted
 pub mod HeldRows
 pub mod ReadMap
+pub mod Printed

@@ -1,8 +1,8 @@
 //! The canonical text of a map.
-ghost use Rattle.std.specs.Prelude.{◌≡◌, ℕ, ◌+◌, ◌*◌, ◌≤◌, ◌++◌, length, OnOk, IfOk, Some, codes, decimal};
-ghost use Rattle.std.specs.FinMap.{get};
+ghost use Rattle.std.specs.Prelude.{◌≡◌, ℕ, ◌+◌, ◌*◌, ◌≤◌, ◌++◌, OnOk, IfOk, codes, decimal};
 ghost use Rattle.gm_model.specs.MapText.{canonical, line_of};
-ghost use Rattle.gm_arena.specs.ArenaMap.{IsLiveName, IsAt};
+ghost use Rattle.gm_arena.specs.ArenaMap.{IsLiveName};
+ghost use Rattle.gm_arena.specs.Lawful.{IsLawful};
 ghost use Rattle.gm_mapfile.specs.Rows.{rows_of, row_at};
 
 use gm_arena::{Arena, Row};
@@ -24,20 +24,20 @@ pub fn print_map<L: Ledger>(
 {
     let names = arena.names(alloc, steps)?;
     let mut text = Text::new(alloc);
-    print_header(&mut text, arena.schema().dim, names.len())?;
+    print_header(&mut text, arena.schema().dim, arena.count())?;
     for name in &names {
         print_dart(&mut text, arena, *name, steps)?;
     }
     Ok(text.into_bytes())
 }
 
-fn print_header(text: &mut Text, dim: Dim, count: usize) -> Result<(), OutOfMemory>
+fn print_header(text: &mut Text, dim: Dim, count: u32) -> Result<(), OutOfMemory>
     ensures { OnOk result (text.new ≡ text.old ++ (codes "gmap 1\ndim " ++ decimal dim ++ codes "\ndarts " ++ decimal count ++ codes "\n")) }
 {
     text.put(b"gmap 1\ndim ")?;
     text.number(u64::from(dim.top()))?;
     text.put(b"\ndarts ")?;
-    text.number(count as u64)?;
+    text.number(u64::from(count))?;
     text.put(b"\n")
 }
 
@@ -47,7 +47,8 @@ fn print_dart<L: Ledger>(
     name: u32,
     steps: &mut Steps<L>,
 ) -> Result<(), OutOfMemory>
-    requires { IsLiveName arena.now name }
+    requires lawful { IsLawful arena.now }
+    requires live { IsLiveName arena.now name }
     ensures line { OnOk result (text.new ≡ text.old ++ line_of (row_at arena.now name)) }
     ensures most { steps.new ≤ steps.old + (arena.now.schema.dim + 3) }
     ensures least { steps.old ≤ steps.new }
