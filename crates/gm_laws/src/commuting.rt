@@ -22,6 +22,7 @@ pub(crate) fn first_not_commuting<L: Ledger>(
     requires back { ArePointedBack arena.now }
     ensures breach { MatchOption result (DoCommute arena.now) (IsFirstBreach arena.now) }
     ensures cost { let labels = arena.now.schema.dim + 1 in steps.new ≤ steps.old + (labels * (3 * labels + 1) + 1) * length names.now }
+    ensures least { steps.old ≤ steps.new }
 {
     for name in names {
         let slot = arena.slot_of(*name, steps).unwrap();
@@ -42,6 +43,7 @@ fn labels_not_commuting<L: Ledger>(
     requires live { IsLiveSlot arena.now slot.at }
     ensures labels { let d = name_at arena.now slot.at in MatchOption result (Commutes arena.now d) (IsFirstPair arena.now d) }
     ensures cost { let labels = arena.now.schema.dim + 1 in steps.new ≤ steps.old + labels * (3 * labels + 1) }
+    ensures least { steps.old ≤ steps.new }
 {
     for i in 0..arena.schema().dim.top() + 1 {
         if let Some(j) = label_not_commuting(arena, slot, i, steps) {
@@ -63,6 +65,7 @@ fn label_not_commuting<L: Ledger>(
     requires label { IsLabel arena.now i }
     ensures label { let d = name_at arena.now slot.at in MatchOption result (CommutesWith arena.now d i) (IsFirst (IsDistantLabel arena.now i) (Commute arena.now d i)) }
     ensures cost { steps.new ≤ steps.old + (3 * (arena.now.schema.dim + 1) + 1) }
+    ensures least { steps.old ≤ steps.new }
 {
     let to = arena.alpha(slot, i, steps);
     for j in i + 2..arena.schema().dim.top() + 1 {

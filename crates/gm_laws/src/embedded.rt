@@ -25,6 +25,7 @@ pub(crate) fn first_not_embedded<L: Ledger>(
     requires commuting { DoCommute arena.now }
     ensures breach { MatchOption result (AreValuesShared arena.now) (IsFirstBreach arena.now) }
     ensures cost { steps.new ≤ steps.old + 8 * ((2 * (arena.now.schema.dim + 1) + 2) * length names.now + 2) }
+    ensures least { steps.old ≤ steps.new }
 {
     for (embed, kept) in arena.schema().embeds.as_slice().iter().enumerate() {
         if let Some((dart, other)) = first_not_alike(arena, names, embed, kept.mask, steps) {
@@ -52,6 +53,7 @@ fn first_not_alike<L: Ledger>(
     requires embed { embed < length arena.now.schema.embeds }
     ensures darts { MatchOption result (AreAlike arena.now embed mask) (IsFirstUnlike arena.now embed mask) }
     ensures cost { steps.new ≤ steps.old + ((2 * (arena.now.schema.dim + 1) + 2) * length names.now + 2) }
+    ensures least { steps.old ≤ steps.new }
 {
     for name in names {
         let slot = arena.slot_of(*name, steps).unwrap();
@@ -76,6 +78,7 @@ fn label_not_alike<L: Ledger>(
     requires embed { embed < length arena.now.schema.embeds }
     ensures label { let d = name_at arena.now slot.at in MatchOption result (IsAlike arena.now embed mask d) (IsFirst (IsOrbitLabel arena.now mask) (HasSame arena.now embed d)) }
     ensures cost { steps.new ≤ steps.old + (2 * (arena.now.schema.dim + 1) + 1) }
+    ensures least { steps.old ≤ steps.new }
 {
     let own = value_at(arena, slot, embed, steps);
     for label in 0..arena.schema().dim.top() + 1 {

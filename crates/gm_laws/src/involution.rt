@@ -20,6 +20,7 @@ pub(crate) fn first_not_back<L: Ledger>(
     requires names { names.now ≡ keys arena.now.darts }
     ensures breach { MatchOption result (ArePointedBack arena.now) (IsFirstBreach arena.now) }
     ensures cost { steps.new ≤ steps.old + (2 * (arena.now.schema.dim + 1) + 1) * length names.now }
+    ensures least { steps.old ≤ steps.new }
 {
     for name in names {
         let slot = arena.slot_of(*name, steps).unwrap();
@@ -36,6 +37,7 @@ fn label_not_back<L: Ledger>(arena: &Arena, slot: Slot, steps: &mut Steps<L>) ->
     requires live { IsLiveSlot arena.now slot.at }
     ensures label { let d = name_at arena.now slot.at in MatchOption result (IsBack arena.now d) (IsFirst (IsLabel arena.now) (LeadsBack arena.now d)) }
     ensures cost { steps.new ≤ steps.old + 2 * (arena.now.schema.dim + 1) }
+    ensures least { steps.old ≤ steps.new }
 {
     for label in 0..arena.schema().dim.top() + 1 {
         let to = arena.alpha(slot, label, steps);

@@ -25,6 +25,7 @@ pub fn check_map<L: Ledger>(
     ensures well_embedded { OnOk result (IsWellEmbedded (as_map arena.now)) }
     ensures fault { IfErr result (IsFault arena.now) }
     ensures cost { let labels = arena.now.schema.dim + 1 in steps.new ≤ steps.old + 20 * (labels * labels) * (arena.now.count + 1) }
+    ensures least { steps.old ≤ steps.new }
 {
     let names = arena.names(alloc, steps)?;
     prove!(names.len() == arena.count() as usize);

@@ -13,7 +13,7 @@ use Rattle.gm_model.specs.Symbols.{Symbol, Word, Numeral}
 use Rattle.gm_model.specs.GMap.{Row, AreGMap}
 use Rattle.gm_model.specs.Reading.{Part, symbols_in, IsWithin}
 use Rattle.gm_model.specs.MapText.{Role, DartName, limit_of, number, the_end, spelling, spelling_of_row, AreShaped, IsSentence, IsListed, MapText, names, line_of, canonical}
-use Rattle.gm_mapfile.proofs.PlainLines.{shaped_permutation}
+use Rattle.gm_mapfile.proofs.Lines.{shaped_permutation}
 use Rattle.gm_text.proofs.Printed.{Stops, symbols_from, symbols_of-from, symbols_from-end, symbols_from-blank, symbols_from-word, symbols_from-digits, symbols_from-decimal}
 
 -- a dart's name and its neighbours pass no limit
@@ -145,7 +145,7 @@ rows_small (row ∷ rows) within =
     let others = names_small row.alphas (flat_map spelling_of_row rows ++ the_end ∷ []) apart.1 in
     ((small_name row.name apart.0, others.0), rows_small rows others.1)
 
-listed_in_limits : (text : List ℕ) (n : ℕ) (rows : List Row) → IsListed text n rows → AreInLimits n rows
+pub listed_in_limits : (text : List ℕ) (n : ℕ) (rows : List Row) → IsListed text n rows → AreInLimits n rows
 listed_in_limits text n rows listed =
     let within : IsWithin IsSentence limit_of (spelling n rows) = listed.read.within in
     let top = or_parts (eqb n 0) (ltb 7 n) (not_passed (eqb n 0 || ltb 7 n) what.Dimension within.1.1.1.0) in

@@ -13,10 +13,10 @@ abbrev Has : List Row → Row → Type 0
 Has [] row = ⊥
 Has (first ∷ rows) row = (first ≡ row) ⊎ Has rows row
 
-abbrev AreAbove : ℕ → List Row → Type 0
+abbrev pub AreAbove : ℕ → List Row → Type 0
 AreAbove n rows = AllByRecursion (λ (row : Row). n < row.name) rows
 
-abbrev Rises : List Row → Type 0
+abbrev pub Rises : List Row → Type 0
 Rises [] = Unit {0}
 Rises (row ∷ rows) = AreAbove row.name rows × Rises rows
 
@@ -75,7 +75,7 @@ rises_from : (rows : List Row) → ((i j d : ℕ) → i < j → j < length rows 
 rises_from [] h = tt
 rises_from (row ∷ rows) h = (above_from row.name rows (λ j d lt. h 0 (suc j) d (omega arith) (omega arith)), rises_from rows (λ i j d lt last. h (suc i) (suc j) d (omega arith) (omega arith)))
 
-rises : (rows : List Row) → IsStrictlyIncreasing (names rows) → Rises rows
+pub rises : (rows : List Row) → IsStrictlyIncreasing (names rows) → Rises rows
 rises rows up =
     let pairs = AllPairs-from_increasing (names rows) up in
     rises_from rows (λ i j d before last. pairs i j d before (omega (arith, length-map rows (λ (row : Row). row.name), last)))

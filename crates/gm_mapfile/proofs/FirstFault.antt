@@ -1,21 +1,22 @@
 -- What the reader of a map's text answers: the draft of the text, or its first fault.
-use Rattle.std.proofs.Common.{◌≡◌, ℕ, zero, suc, ◌+◌, ◌*◌, List, [], ◌∷◌, ◌++◌, get_or, drop, map, Result, Ok, Err, refl, sym, ap, subst, ◌∙◌, codes}
+use Rattle.std.proofs.Common.{◌≡◌, ℕ, zero, suc, ◌+◌, ◌*◌, Bool, true, false, List, [], ◌∷◌, ◌++◌, get_or, drop, map, Result, Ok, Err, refl, sym, ap, subst, ◌∙◌, codes}
 use Rattle.std.proofs.lemmas.List.{append_cancel_right}
 use Rattle.std.specs.Prelude.{IfOk, IfErr}
 use Rattle.std.specs.List.{flat_map}
 use Rattle.gm_model.specs.declared.limit.LimitKind.{LimitKind}
 use Rattle.gm_model.specs.GMap.{Row}
-use Rattle.gm_model.specs.Symbols.{Mark, marks_of}
+use Rattle.gm_model.specs.Symbols.{Word, Mark, marks_of}
 use Rattle.gm_model.specs.Reading.{Part, IsReadAs, TextEndsAt, LimitPassedAt}
 use Rattle.gm_model.specs.MapText.{Role, Dimension, Count, DartName, number, the_end, limit_of, spelling, spelling_of_row, AreShaped, IsSentence, IsListed, IsTextFault, IsLimitFault}
-use Rattle.gm_mapfile.specs.Draft.{numbers_of, IsDraft, IsFirstFault}
+use Rattle.gm_mapfile.specs.Draft.{numbers_of, IsDraft, IsFaultIn}
 use Rattle.gm_mapfile.specs.declared.reading.Draft.{Draft}
 use Rattle.gm_mapfile.specs.declared.reading.TextFault.{TextFault}
 use Rattle.gm_mapfile.specs.declared.reading.TextFault.TheVariants as faults
-use Rattle.gm_mapfile.specs.Reading.{Stop, Ends, Passes, Want, TheWord, TheNumber, Any, role_of, value_in, ◌>>=◌, wanted_at, numbers_at, ended_at, draft_of, Gives}
+use Rattle.gm_mapfile.specs.Reading.{Stop, Ends, Passes, Embeds, Lost, Want, TheWord, TheNumber, Any, role_of, fits, value_in, is_end, nothing, ◌>>=◌, wanted_at, darts_at, numbers_at, ended_at, draft_of, Gives}
 use Rattle.gm_mapfile.proofs.Plan.{Plan, Finish, Need, Spells, run, IsRight, run_is_right, Refused, Limited, Taken, wanted, at_taken}
 use Rattle.gm_mapfile.proofs.Rows.{spelling_of_numbers}
-use Rattle.gm_mapfile.proofs.Sentence.{numbers, lines, from_count, from_darts, from_top, from_dim, from_version, map_plan, plan_of_sentence, sentence_of_plan}
+use Rattle.gm_mapfile.proofs.Embeds.{embed_at_header, no_embed}
+use Rattle.gm_mapfile.proofs.Sentence.{word_symbol, numbers, lines, from_count, from_darts, from_top, from_dim, from_version, map_plan, plan_of_sentence, sentence_of_plan}
 
 -- ---- readings by the plan are readings of the grammar
 
@@ -87,18 +88,40 @@ passed_by_plan marks what place h = record {
 
 -- ---- where the reader stops
 
+-- the grammar knows no embedding, so it ends there
+abbrev pub plain : Stop → Stop
+plain (Embeds place) = Ends place
+plain stop = stop
+
 -- a step that fails, or what comes after it
 stop_step : {A : Type 0} (want : Want) (next : ℕ → Plan) (marks : List Mark) (f : ℕ × List Mark → Result A Stop) (stop : Stop) → (wanted_at want marks >>= f) ≡ Err stop
-    → ((x : ℕ × List Mark) → f x ≡ Err stop → run (next x.0) x.1 ≡ Err stop) → run (Need want next) marks ≡ Err stop
-stop_step want next [] f stop e later = cc e
-stop_step want next (mark ∷ marks) f stop e later = go (wanted_at want (mark ∷ marks)) refl
+    → ((x : ℕ × List Mark) → f x ≡ Err stop → run (next x.0) x.1 ≡ Err (plain stop)) → run (Need want next) marks ≡ Err (plain stop)
+stop_step want next [] f stop e later = let same : Lost ≡ stop = cc e in ap (λ (s : Stop). Err (plain s)) same
+stop_step want next (mark ∷ marks) f stop e later =
+    elim (wanted want mark marks) [
+      | Refused is step ↦ let same : (Err (Ends mark.place) >>= f) ≡ Err stop = rw step at e in let one : Ends mark.place ≡ stop = cc same in rw step (ap (λ (s : Stop). Err (plain s)) one)
+      | Limited what is limit step ↦ let same : (Err (Passes what mark.place) >>= f) ≡ Err stop = rw step at e in let one : Passes what mark.place ≡ stop = cc same in rw step (ap (λ (s : Stop). Err (plain s)) one)
+      | Taken is limit step ↦
+          let rest : f (value_in mark.symbol, marks) ≡ Err stop = rw step at e in
+          let then : run (next (value_in mark.symbol)) marks ≡ Err (plain stop) = later (value_in mark.symbol, marks) rest in
+          rw (step, then) refl
+    ]
+
+-- the same of the word `darts`
+stop_darts : {A : Type 0} (next : ℕ → Plan) (marks : List Mark) (f : ℕ × List Mark → Result A Stop) (stop : Stop) → (darts_at marks >>= f) ≡ Err stop
+    → ((x : ℕ × List Mark) → f x ≡ Err stop → run (next x.0) x.1 ≡ Err (plain stop)) → run (Need (TheWord (codes "darts")) next) marks ≡ Err (plain stop)
+stop_darts next [] f stop e later = let same : Lost ≡ stop = cc e in ap (λ (s : Stop). Err (plain s)) same
+stop_darts next (mark ∷ marks) f stop e later = go (fits (TheWord (codes "embed")) mark.symbol) refl
   where
-    go : (r : Result (ℕ × List Mark) Stop) → wanted_at want (mark ∷ marks) ≡ r → run (Need want next) (mark ∷ marks) ≡ Err stop
-    go (Ok x) is =
-        let rest : f x ≡ Err stop = rw is at e in
-        let then : run (next x.0) x.1 ≡ Err stop = later x rest in
-        rw (is, then) refl
-    go (Err other) is = let same : Err other ≡ Err stop = rw is at e in rw is (cc same)
+    go : (b : Bool) → fits (TheWord (codes "embed")) mark.symbol ≡ b → run (Need (TheWord (codes "darts")) next) (mark ∷ marks) ≡ Err (plain stop)
+    go true is =
+        let same : (Err (Embeds mark.place) >>= f) ≡ Err stop = rw is at e in
+        let one : Embeds mark.place ≡ stop = cc same in
+        let here : mark.symbol ≡ Word (codes "embed") = word_symbol (codes "embed") mark.symbol is in
+        rw here (ap (λ (s : Stop). Err (plain s)) one)
+    go false is =
+        let same : (wanted_at (TheWord (codes "darts")) (mark ∷ marks) >>= f) ≡ Err stop = rw is at e in
+        stop_step (TheWord (codes "darts")) next (mark ∷ marks) f stop same later
 
 bind_assoc : {A B C : Type 0} (r : Result A Stop) (g : A → Result B Stop) (f : B → Result C Stop) → (r >>= g >>= f) ≡ (r >>= λ x. g x >>= f)
 bind_assoc (Ok x) g f = refl
@@ -108,7 +131,7 @@ abbrev more_numbers : Role → ℕ → ℕ × List Mark → Result (List ℕ × 
 more_numbers role count first = numbers_at role count first.1 >>= λ others. Ok (first.0 ∷ others.0, others.1)
 
 stop_numbers : {A : Type 0} (role : Role) (count : ℕ) (plan : Plan) (marks : List Mark) (f : List ℕ × List Mark → Result A Stop) (stop : Stop) → (numbers_at role count marks >>= f) ≡ Err stop
-    → ((x : List ℕ × List Mark) → f x ≡ Err stop → run plan x.1 ≡ Err stop) → run (numbers role count plan) marks ≡ Err stop
+    → ((x : List ℕ × List Mark) → f x ≡ Err stop → run plan x.1 ≡ Err (plain stop)) → run (numbers role count plan) marks ≡ Err (plain stop)
 unfolding numbers_at
 stop_numbers role zero plan marks f stop e later = later ([], marks) e
 stop_numbers role (suc count) plan marks f stop e later =
@@ -117,12 +140,27 @@ stop_numbers role (suc count) plan marks f stop e later =
     (sym (bind_assoc (numbers_at role count first.1) (λ (others : List ℕ × List Mark). Ok (first.0 ∷ others.0, others.1)) f) ∙ rest)
     (λ others got. later (first.0 ∷ others.0, others.1) got))
 
-stop_end : {A : Type 0} (marks : List Mark) (x : A) (stop : Stop) → (ended_at marks >>= λ _. Ok x) ≡ Err stop → run Finish marks ≡ Err stop
+ended_plain : (marks : List Mark) (stop : Stop) → ended_at marks ≡ Err stop → stop ≡ plain stop
+ended_plain [] stop e = let same : Lost ≡ stop = cc e in subst (λ (s : Stop). s ≡ plain s) same refl
+ended_plain (mark ∷ marks) stop e = go marks (is_end mark.symbol) refl e
+  where
+    at_place : (place : ℕ) → Ends place ≡ stop → stop ≡ plain stop
+    at_place place same = subst (λ (s : Stop). s ≡ plain s) same refl
+    go : (marks : List Mark) (b : Bool) → is_end mark.symbol ≡ b → ended_at (mark ∷ marks) ≡ Err stop → stop ≡ plain stop
+    go marks false is e = let same : Err (Ends mark.place) ≡ Err stop = rw is at e in at_place mark.place (cc same)
+    go [] true is e = let same : nothing ≡ Err stop = rw is at e in absurd cc
+    go (more ∷ marks) true is e = let same : Err (Ends more.place) ≡ Err stop = rw is at e in at_place more.place (cc same)
+
+stop_end : {A : Type 0} (marks : List Mark) (x : A) (stop : Stop) → (ended_at marks >>= λ _. Ok x) ≡ Err stop → run Finish marks ≡ Err (plain stop)
 stop_end marks x stop e = go (ended_at marks) refl
   where
-    go : (r : Result (Unit {0}) Stop) → ended_at marks ≡ r → run Finish marks ≡ Err stop
+    go : (r : Result (Unit {0}) Stop) → ended_at marks ≡ r → run Finish marks ≡ Err (plain stop)
     go (Ok done) is = let same : Ok x ≡ Err stop = rw is at e in absurd cc
-    go (Err other) is = let same : Err other ≡ Err stop = rw is at e in rw is (cc same)
+    go (Err other) is =
+        let same : Err other ≡ Err stop = rw is at e in
+        let one : other ≡ stop = cc same in
+        let ends : run Finish marks ≡ Err other = rw is refl in
+        ends ∙ ap (λ (s : Stop). Err s) (ended_plain marks other is ∙ ap plain one)
 
 -- what the reader does after each step
 
@@ -139,7 +177,7 @@ abbrev after_darts : ℕ → ℕ × List Mark → Answered
 after_darts n darts = wanted_at (Any Count) darts.1 >>= after_count n
 
 abbrev after_top : ℕ × List Mark → Answered
-after_top top = wanted_at (TheWord (codes "darts")) top.1 >>= after_darts top.0
+after_top top = darts_at top.1 >>= after_darts top.0
 
 abbrev after_dim : ℕ × List Mark → Answered
 after_dim dim = wanted_at (Any Dimension) dim.1 >>= after_top
@@ -150,14 +188,14 @@ after_version version = wanted_at (TheWord (codes "dim")) version.1 >>= after_di
 abbrev after_format : ℕ × List Mark → Answered
 after_format format = wanted_at (TheNumber 1) format.1 >>= after_version
 
-pub stop_of_draft : (marks : List Mark) (stop : Stop) → draft_of marks ≡ Err stop → run map_plan marks ≡ Err stop
+pub stop_of_draft : (marks : List Mark) (stop : Stop) → draft_of marks ≡ Err stop → run map_plan marks ≡ Err (plain stop)
 unfolding draft_of
 stop_of_draft marks stop e =
     stop_step (TheWord (codes "gmap")) (λ _. from_version) marks after_format stop e
     (λ format e. stop_step (TheNumber 1) (λ _. from_dim) format.1 after_version stop e
     (λ version e. stop_step (TheWord (codes "dim")) (λ _. from_top) version.1 after_dim stop e
     (λ dim e. stop_step (Any Dimension) from_darts dim.1 after_top stop e
-    (λ top e. stop_step (TheWord (codes "darts")) (λ _. from_count top.0) top.1 (after_darts top.0) stop e
+    (λ top e. stop_darts (λ _. from_count top.0) top.1 (after_darts top.0) stop e
     (λ darts e. stop_step (Any Count) (lines top.0) darts.1 (after_count top.0) stop e
     (λ count e. stop_numbers DartName (count.0 * (top.0 + 2)) Finish count.1 (after_numbers top.0) stop e
     (λ numbers e. stop_end numbers.1 (top.0, numbers.0) stop e)))))))
@@ -165,6 +203,10 @@ stop_of_draft marks stop e =
 pub text_fault : (text : List ℕ) (place : ℕ) → draft_of (marks_of text) ≡ Err (Ends place) → IsTextFault text place
 text_fault text place e =
     ends_for_sentences (marks_of text) place (subst (IsRight map_plan (marks_of text)) (stop_of_draft (marks_of text) (Ends place) e) (run_is_right map_plan (marks_of text)))
+
+pub embed_fault : (text : List ℕ) (place : ℕ) → draft_of (marks_of text) ≡ Err (Embeds place) → IsTextFault text place
+embed_fault text place e =
+    ends_for_sentences (marks_of text) place (subst (IsRight map_plan (marks_of text)) (stop_of_draft (marks_of text) (Embeds place) e) (run_is_right map_plan (marks_of text)))
 
 pub limit_fault : (text : List ℕ) (what : LimitKind) (place : ℕ) → draft_of (marks_of text) ≡ Err (Passes what place) → IsLimitFault text what place
 limit_fault text what place e =
@@ -188,6 +230,15 @@ read_step want next (mark ∷ marks) f y e =
           let part : Part Role = record { symbol = mark.symbol; role = role_of want } in
           ((value_in mark.symbol, marks), record { part = part; value = refl; goes = λ parts then. at_taken want next mark marks (Ok parts) is limit then }, rest)
     ]
+
+-- the same of the word `darts`
+read_darts : {A : Type 0} (next : ℕ → Plan) (marks : List Mark) (f : ℕ × List Mark → Result A Stop) (y : A) → (darts_at marks >>= f) ≡ Ok y → (x : ℕ × List Mark) × Step (TheWord (codes "darts")) next marks x × (f x ≡ Ok y)
+read_darts next [] f y e = absurd cc
+read_darts next (mark ∷ marks) f y e = go (fits (TheWord (codes "embed")) mark.symbol) refl
+  where
+    go : (b : Bool) → fits (TheWord (codes "embed")) mark.symbol ≡ b → (x : ℕ × List Mark) × Step (TheWord (codes "darts")) next (mark ∷ marks) x × (f x ≡ Ok y)
+    go true is = let same : (Err (Embeds mark.place) >>= f) ≡ Ok y = rw is at e in absurd cc
+    go false is = let same : (wanted_at (TheWord (codes "darts")) (mark ∷ marks) >>= f) ≡ Ok y = rw is at e in read_step (TheWord (codes "darts")) next (mark ∷ marks) f y same
 
 record Numbers (role : Role) (count : ℕ) (plan : Plan) (marks : List Mark) (x : List ℕ × List Mark) : Type 0 where
   parts : List (Part Role)
@@ -260,7 +311,7 @@ draft_is text n ns e =
     let version = read_step (TheNumber 1) (λ _. from_dim) format.0.1 after_version (n, ns) format.2 in
     let dim = read_step (TheWord (codes "dim")) (λ _. from_top) version.0.1 after_dim (n, ns) version.2 in
     let top = read_step (Any Dimension) from_darts dim.0.1 after_top (n, ns) dim.2 in
-    let darts = read_step (TheWord (codes "darts")) (λ _. from_count top.0.0) top.0.1 (after_darts top.0.0) (n, ns) top.2 in
+    let darts = read_darts (λ _. from_count top.0.0) top.0.1 (after_darts top.0.0) (n, ns) top.2 in
     let count = read_step (Any Count) (lines top.0.0) darts.0.1 (after_count top.0.0) (n, ns) darts.2 in
     let found = read_numbers DartName (count.0.0 * (top.0.0 + 2)) Finish count.0.1 (after_numbers top.0.0) (n, ns) count.2 in
     let end = read_end found.0.1 (top.0.0, found.0.0) (n, ns) found.2 in
@@ -277,8 +328,9 @@ pub is_draft : (text : List ℕ) (result : Result Draft TextFault) → Gives see
 is_draft text (Ok draft) gives = draft_is text draft.dim draft.numbers.items gives
 is_draft text (Err fault) gives = tt
 
-pub is_first_fault : (text : List ℕ) (result : Result Draft TextFault) → Gives seen result (draft_of (marks_of text)) → IfErr result (IsFirstFault text)
+pub is_first_fault : (text : List ℕ) (result : Result Draft TextFault) → Gives seen result (draft_of (marks_of text)) → IfErr result (IsFaultIn text)
 is_first_fault text (Ok draft) gives = tt
-is_first_fault text (Err (faults.Text place)) gives = text_fault text place gives
+is_first_fault text (Err (faults.Text place)) gives = (text_fault text place gives, no_embed text place gives)
 is_first_fault text (Err (faults.Limit what place)) gives = limit_fault text what place gives
+is_first_fault text (Err (faults.NotBuilt place)) gives = (embed_fault text place gives, embed_at_header text place gives)
 is_first_fault text (Err faults.OutOfMemory) gives = tt

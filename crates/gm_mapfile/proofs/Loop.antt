@@ -5,7 +5,7 @@ use Rattle.gm_model.specs.Symbols.{Mark}
 use Rattle.gm_model.specs.MapText.{Role}
 use Rattle.gm_mapfile.specs.declared.reading.TextFault.{TextFault}
 use Rattle.gm_mapfile.specs.declared.reading.TextFault.TheVariants as faults
-use Rattle.gm_mapfile.specs.Reading.{Stop, Ends, Passes, Any, ◌>>=◌, Fails, wanted_at, numbers_at}
+use Rattle.gm_mapfile.specs.Reading.{Stop, Ends, Passes, Embeds, Any, ◌>>=◌, Fails, wanted_at, numbers_at}
 
 -- what was read before, and what is still read
 abbrev pub with_front : List ℕ → Result (List ℕ × List Mark) Stop → Result (List ℕ × List Mark) Stop
@@ -35,6 +35,7 @@ pub fails : (role : Role) (fault : TextFault) (front : List ℕ) (count i : ℕ)
     → with_front front (numbers_at role (count - i) marks) ≡ total → Fails fault total
 fails role (faults.Text place) front count i marks total lt h so_far = fails_so role (Ends place) front count i marks total lt h so_far
 fails role (faults.Limit what place) front count i marks total lt h so_far = fails_so role (Passes what place) front count i marks total lt h so_far
+fails role (faults.NotBuilt place) front count i marks total lt h so_far = fails_so role (Embeds place) front count i marks total lt h so_far
 fails role faults.OutOfMemory front count i marks total lt h so_far = tt
 
 pub is_done : (role : Role) (front : List ℕ) (count i : ℕ) (marks : List Mark) (total : Result (List ℕ × List Mark) Stop) → count ≤ i → with_front front (numbers_at role (count - i) marks) ≡ total → total ≡ Ok (front, marks)

@@ -1,11 +1,22 @@
 -- A test that computes whether rows are a map, and what it says of two lists of rows: the square, and two darts that are no map.
-use Rattle.std.proofs.Common.{◌≡◌, ℕ, zero, suc, ◌+◌, ◌<◌, ◌≤◌, inl, inr, List, [], ◌∷◌, Bool, true, ◌&&◌, ◌||◌, ◌==◌, nat_lt, IsTrue, is_some, refl, arith, eqb-true, ltb-true}
+use Rattle.std.proofs.Common.{◌≡◌, ℕ, zero, suc, ◌+◌, ◌<◌, ◌≤◌, inl, inr, List, [], ◌∷◌, Bool, true, ◌&&◌, ◌||◌, ◌==◌, nat_lt, length, get_or, eqb, IsTrue, is_some, refl, arith, eqb-true, ltb-true}
 use Rattle.std.specs.List.{list_all}
-use Rattle.std.proofs.lemmas.Bool.{and_parts, or_cases, cases_order}
+use Rattle.std.proofs.lemmas.Bool.{cases_Bool, and_parts, or_cases, cases_order}
 use Rattle.std.proofs.lemmas.List.{get_or-map}
 use Rattle.std.proofs.lemmas.List.Recursion.{and_at}
 use Rattle.gm_model.specs.GMap.{Row, row_of, IsLive, alpha, AreGMap}
-use Rattle.gm_mapfile.proofs.PlainLaws.{place_of_live}
+use Rattle.gm_model.specs.MapText.{names}
+
+-- a name that some row has is that of a place
+place_of_live : (rows : List Row) (x : ℕ) → IsLive rows x → (k : ℕ) × (k < length rows) × (get_or (names rows) k 0 ≡ x)
+place_of_live [] x live = absurd (cc)
+place_of_live (r ∷ rows) x live =
+    elim (cases_Bool (eqb r.name x)) [
+      | inl here ↦ (zero, omega arith, eqb-true _ _ here)
+      | inr other ↦
+          let found = place_of_live rows x (rw other at live) in
+          (suc found.0, omega (arith, found.1), found.2)
+    ]
 
 abbrev pub all_below : ℕ → (ℕ → Bool) → Bool
 all_below zero test = true

@@ -9,7 +9,7 @@ use Rattle.gm_model.specs.Reading.{Part}
 use Rattle.gm_model.specs.MapText.{Role, spelling, IsListed, MapText, StandsForNoMap, IsTextFault, IsLimitFault}
 use Rattle.gm_mapfile.specs.Reading.{Stop, Ends, Passes, Lost}
 use Rattle.gm_mapfile.proofs.Plan.{run, IsRight, run_is_only}
-use Rattle.gm_mapfile.proofs.PlainText.{one_listing}
+use Rattle.gm_mapfile.proofs.Listing.{one_listing}
 use Rattle.gm_mapfile.proofs.Sentence.{map_plan}
 use Rattle.gm_mapfile.proofs.FirstFault.{read_by_plan, ends_by_plan, passed_by_plan}
 use Rattle.gm_mapfile.proofs.Ascending.{same_ascending}

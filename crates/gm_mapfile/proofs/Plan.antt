@@ -5,7 +5,7 @@ use Rattle.gm_model.specs.declared.limit.LimitKind.{LimitKind}
 use Rattle.gm_model.specs.Symbols.{Symbol, Word, Numeral, Sign, Gone, Stray, End, Mark, symbols}
 use Rattle.gm_model.specs.MapText.{Role, limit_of, the_end}
 use Rattle.gm_model.specs.Reading.{Part, symbols_in, Begins, IsWithin, IsReadAs, TextEndsAt, LimitPassedAt}
-use Rattle.gm_mapfile.specs.Reading.{Stop, Ends, Passes, Lost, Want, TheWord, TheNumber, Any, role_of, fits, value_in, is_end, ◌>>=◌, wanted_at, no_more, ended_at}
+use Rattle.gm_mapfile.specs.Reading.{Stop, Ends, Passes, Embeds, Lost, Want, TheWord, TheNumber, Any, role_of, fits, value_in, is_end, ◌>>=◌, wanted_at, no_more, ended_at}
 
 pub data Plan : Type 0 where
   Finish : Plan
@@ -38,6 +38,7 @@ abbrev pub IsRight : Plan → List Mark → Result (List (Part Role)) Stop → T
 IsRight plan marks (Ok parts) = IsReadAs (Spells plan) limit_of marks parts
 IsRight plan marks (Err (Ends place)) = TextEndsAt (Spells plan) limit_of marks place
 IsRight plan marks (Err (Passes what place)) = LimitPassedAt (Spells plan) limit_of marks what place
+IsRight plan marks (Err (Embeds place)) = ⊥
 IsRight plan marks (Err Lost) = Unit {0}
 
 -- ---- each plan can be met
@@ -149,6 +150,7 @@ taken want next mark marks (Err (Passes what place)) is limit right = record {
   within = (limit, right.within);
   passes = right.passes;
 }
+taken want next mark marks (Err (Embeds place)) is limit right = absurd right
 taken want next mark marks (Err Lost) is limit right = tt
 
 not_ended : (mark : Mark) (marks : List Mark) → is_end mark.symbol ≡ false → IsRight Finish (mark ∷ marks) (Err (Ends mark.place))
@@ -283,4 +285,5 @@ run_is_only plan marks (Err (Ends place)) right =
     inl (sym (rw (right.split, ← right.here) (ends_is plan right.before right.mark right.after right.parts right.begins.0 right.spelled right.begins.1 right.within right.ends)))
 run_is_only plan marks (Err (Passes what place)) right =
     inl (sym (rw (right.split, ← right.here) (passes_is plan right.before right.mark right.after right.parts right.part right.begins.0 what right.spelled right.read right.begins.1 right.within right.passes)))
+run_is_only plan marks (Err (Embeds place)) right = absurd right
 run_is_only plan marks (Err Lost) right = inr refl

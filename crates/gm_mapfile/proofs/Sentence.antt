@@ -41,7 +41,7 @@ map_plan = Need (TheWord (codes "gmap")) (λ _. from_version)
 same_part : (part : Part Role) (symbol : Symbol) (role : Role) → part.symbol ≡ symbol → part.role ≡ role → part ≡ record { symbol = symbol; role = role }
 same_part part symbol role one two = ap (λ (s : Symbol). let p : Part Role = record { symbol = s; role = part.role } in p) one ∙ ap (λ (r : Role). let p : Part Role = record { symbol = symbol; role = r } in p) two
 
-word_symbol : (bytes : List ℕ) (symbol : Symbol) → fits (TheWord bytes) symbol ≡ true → symbol ≡ Word bytes
+pub word_symbol : (bytes : List ℕ) (symbol : Symbol) → fits (TheWord bytes) symbol ≡ true → symbol ≡ Word bytes
 word_symbol bytes (Word found) is = ap Word ((bytes_eq-Decides found bytes).0 is)
 word_symbol bytes (Numeral n) is = absurd cc
 word_symbol bytes (Sign found) is = absurd cc
@@ -49,7 +49,7 @@ word_symbol bytes Gone is = absurd cc
 word_symbol bytes Stray is = absurd cc
 word_symbol bytes End is = absurd cc
 
-version_symbol : (n : ℕ) (symbol : Symbol) → fits (TheNumber n) symbol ≡ true → symbol ≡ Numeral n
+pub version_symbol : (n : ℕ) (symbol : Symbol) → fits (TheNumber n) symbol ≡ true → symbol ≡ Numeral n
 version_symbol n (Word found) is = absurd cc
 version_symbol n (Numeral m) is = ap Numeral (eqb-true m n is)
 version_symbol n (Sign found) is = absurd cc
@@ -57,7 +57,7 @@ version_symbol n Gone is = absurd cc
 version_symbol n Stray is = absurd cc
 version_symbol n End is = absurd cc
 
-number_symbol : (role : Role) (symbol : Symbol) → fits (Any role) symbol ≡ true → symbol ≡ Numeral (value_in symbol)
+pub number_symbol : (role : Role) (symbol : Symbol) → fits (Any role) symbol ≡ true → symbol ≡ Numeral (value_in symbol)
 number_symbol role (Word found) is = absurd cc
 number_symbol role (Numeral m) is = refl
 number_symbol role (Sign found) is = absurd cc

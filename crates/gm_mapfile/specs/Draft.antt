@@ -1,13 +1,15 @@
 -- What a text's darts are before any law of a map is tested: the numbers of its lines, in the order of the text.
-use Rattle.std.specs.Prelude.{◌≡◌, ℕ, List}
+use Rattle.std.specs.Prelude.{◌≡◌, ℕ, List, ◌∷◌}
 use Rattle.std.specs.List.{flat_map}
 use Rattle.gm_model.specs.GMap.{Row}
 use Rattle.gm_model.specs.MapText.{IsListed, IsTextFault, IsLimitFault}
-use Rattle.gm_mapfile.specs.Plain.{line_in}
-use Rattle.gm_mapfile.specs.declared.plain.MapFault.{MapFault}
-use Rattle.gm_mapfile.specs.declared.plain.MapFault.TheVariants as answers
+use Rattle.gm_model.specs.MapFaults.{IsEmbedAtHeader}
 use Rattle.gm_mapfile.specs.declared.reading.TextFault.{TextFault}
 use Rattle.gm_mapfile.specs.declared.reading.TextFault.TheVariants as faults
+
+-- the numbers of a dart's line
+abbrev pub line_in : Row → List ℕ
+line_in row = row.name ∷ row.alphas
 
 -- of each dart its name, and then its neighbours from label 0 on
 abbrev pub numbers_of : List Row → List ℕ
@@ -18,13 +20,8 @@ abbrev pub IsDraft : List ℕ → ℕ → List ℕ → Type 0
 IsDraft text n numbers = (rows : List Row) × IsListed text n rows × (numbers ≡ numbers_of rows)
 
 -- the fault is the first of the text; want of memory says nothing of it
-abbrev pub IsFirstFault : List ℕ → TextFault → Type 0
-IsFirstFault text (faults.Text place) = IsTextFault text place
-IsFirstFault text (faults.Limit what place) = IsLimitFault text what place
-IsFirstFault text faults.OutOfMemory = Unit {0}
-
--- the same, where it is not asked which fault it is
-abbrev pub map_fault_of : TextFault → MapFault
-map_fault_of (faults.Text place) = answers.NotRead
-map_fault_of (faults.Limit what place) = answers.NotRead
-map_fault_of faults.OutOfMemory = answers.OutOfMemory
+abbrev pub IsFaultIn : List ℕ → TextFault → Type 0
+IsFaultIn text (faults.Text place) = IsTextFault text place × (IsEmbedAtHeader text place → ⊥)
+IsFaultIn text (faults.Limit what place) = IsLimitFault text what place
+IsFaultIn text (faults.NotBuilt place) = IsTextFault text place × IsEmbedAtHeader text place
+IsFaultIn text faults.OutOfMemory = Unit {0}

@@ -1,3 +1,6 @@
 pub mod Reading
 pub mod Draft
-pub mod Plain
+pub mod Rows
+pub mod Building
+pub mod Faults
+pub mod Answered

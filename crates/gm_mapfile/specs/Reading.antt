@@ -16,6 +16,8 @@ pub data Stop : Type 0 where
   Ends : ℕ → Stop
   -- a limit is passed at this place
   Passes : LimitKind → ℕ → Stop
+  -- at this place stands an embedding, which is not read yet
+  Embeds : ℕ → Stop
   -- no mark is left, as never among the marks of a text
   Lost : Stop
 
@@ -67,6 +69,12 @@ wanted_at want [] = Err Lost
 wanted_at want (mark ∷ marks) =
     if fits want mark.symbol then unless_passed (limit_of (role_of want) mark.symbol) mark marks else Err (Ends mark.place)
 
+-- the word `darts` and the marks behind it, where no embedding stands before it
+abbrev pub darts_at : List Mark → Result (ℕ × List Mark) Stop
+darts_at [] = Err Lost
+darts_at (mark ∷ marks) =
+    if fits (TheWord (codes "embed")) mark.symbol then Err (Embeds mark.place) else wanted_at (TheWord (codes "darts")) (mark ∷ marks)
+
 -- a number, its place, and the marks behind it; a number above the greatest u64 counts as that one
 abbrev pub number_at : List Mark → Result (ℕ × ℕ × List Mark) Stop
 number_at [] = Err Lost
@@ -100,7 +108,7 @@ draft_of marks = do
   version ← wanted_at (TheNumber 1) format.1
   dim ← wanted_at (TheWord (codes "dim")) version.1
   top ← wanted_at (Any Dimension) dim.1
-  darts ← wanted_at (TheWord (codes "darts")) top.1
+  darts ← darts_at top.1
   count ← wanted_at (Any Count) darts.1
   numbers ← numbers_at DartName (count.0 * (top.0 + 2)) count.1
   end ← ended_at numbers.1
@@ -116,6 +124,7 @@ abbrev pub Fails : {Y : Type 0} → TextFault → Result Y Stop → Type 0
 Fails faults.OutOfMemory read = Unit {0}
 Fails (faults.Text place) read = read ≡ Err (Ends place)
 Fails (faults.Limit what place) read = read ≡ Err (Passes what place)
+Fails (faults.NotBuilt place) read = read ≡ Err (Embeds place)
 
 -- what was returned, seen by view, is what reading gives, unless memory was wanting
 abbrev pub Gives : {X Y : Type 0} → (X → Y) → Result X TextFault → Result Y Stop → Type 0
@@ -131,5 +140,8 @@ pub record IsNext (cursor : Cursor) (token : Token) (rest : List Mark) : Type 0 
 
 -- at this place neither a word nor a number stands
 abbrev pub HasNoToken : Cursor → TextFault → Type 0
-HasNoToken cursor (faults.Text place) = ((want : Want) → wanted_at want (marks_left cursor) ≡ Err (Ends place)) × (number_at (marks_left cursor) ≡ Err (Ends place))
+HasNoToken cursor (faults.Text place) =
+    ((want : Want) → wanted_at want (marks_left cursor) ≡ Err (Ends place))
+    × (number_at (marks_left cursor) ≡ Err (Ends place))
+    × (darts_at (marks_left cursor) ≡ Err (Ends place))
 HasNoToken cursor _ = ⊥

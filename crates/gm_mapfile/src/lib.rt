@@ -1,15 +1,16 @@
 //! Maps without embeddings: their texts, read and printed.
 #![tactic(auto)]
 
+mod building;
+mod fault;
 mod laws;
-mod plain;
 mod printing;
 mod reading;
 
+pub use fault::MapFault;
 pub use laws::{one_first_fault_at_most, one_map_at_most, what_is_printed_is_read_again};
-pub use plain::{MapFault, PlainDart, PlainMap};
 pub use printing::print_map;
 pub use reading::read_map;
 
-#[cfg(test)]
-mod tests;
+
+

@@ -2,17 +2,23 @@
 //!
 //! `read_text` knows the grammar and its limits alone. Whether the darts that it lists are a map
 //! is tested afterwards.
-ghost use Rattle.std.specs.Prelude.{◌≡◌, ℕ, ◌+◌, ◌*◌, ◌<◌, ◌≤◌, [], length, IfOk, IfErr, MatchResult};
-ghost use Rattle.gm_model.specs.MapText.{Dimension, Count, DartName, MapText, StandsForNoMap};
+ghost use Rattle.std.specs.Prelude.{◌≡◌, ℕ, List, ◌+◌, ◌*◌, ◌<◌, ◌≤◌, [], length, IfOk, IfErr, MatchResult};
+ghost use Rattle.gm_model.specs.GMap.{Row};
+ghost use Rattle.gm_model.specs.MapText.{Dimension, Count, DartName, MapText};
 ghost use Rattle.gm_model.specs.Symbols.{marks_of};
-ghost use Rattle.gm_mapfile.specs.Draft.{IsDraft, IsFirstFault};
-ghost use Rattle.gm_mapfile.specs.Plain.{rows_of};
-ghost use Rattle.gm_mapfile.specs.Reading.{Gives, IsNext, HasNoToken, marks_left, TheWord, TheNumber, Any, wanted_at, number_at, numbers_at, ended_at, draft_of};
+ghost use Rattle.gm_mapfile.specs.Draft.{IsDraft, IsFaultIn};
+ghost use Rattle.gm_mapfile.specs.Rows.{rows_of, IsNextLeast};
+ghost use Rattle.gm_mapfile.specs.Faults.{IsFaultOf};
+ghost use Rattle.gm_mapfile.specs.Reading.{Gives, IsNext, HasNoToken, marks_left, TheWord, TheNumber, Any, wanted_at, darts_at, number_at, numbers_at, ended_at, draft_of};
 
-use crate::plain::{MapFault, PlainMap, build};
-use gm_model::{Dim, LimitKind};
+use crate::building::build;
+use crate::fault::MapFault;
+use gm_arena::Arena;
+use gm_laws::check_map;
+use gm_model::{Dim, LimitKind, Steps};
 use gm_text::{Lexer, Token, TokenKind};
 use std::alloc::{AllocError, AllocFailed, Global};
+use std::sync::ledger::Ledger;
 
 /// The darts that a text lists, in its order, before any law of a map is tested.
 #[derive(Debug, Drop)]
@@ -29,6 +35,8 @@ pub(crate) enum TextFault {
     Text { place: usize },
     /// What stands at the place passes a limit.
     Limit { what: LimitKind, place: usize },
+    /// An embedding stands at the place, which is not read yet.
+    NotBuilt { place: usize },
     OutOfMemory,
 }
 
@@ -53,13 +61,15 @@ impl<T: Drop> From<AllocFailed<T>> for TextFault {
 }
 
 impl From<TextFault> for MapFault {
-    ghost use Rattle.gm_mapfile.specs.Draft.{map_fault_of};
+    ghost use Rattle.gm_mapfile.specs.Answered.{map_fault_of_text};
 
-    ghost from_gives = { λ fault given. given ≡ map_fault_of fault };
+    ghost from_gives = { λ fault given. given ≡ map_fault_of_text fault };
 
     fn from(fault: TextFault) -> MapFault {
         match fault {
-            TextFault::Text { .. } | TextFault::Limit { .. } => MapFault::NotRead,
+            TextFault::Text { place } => MapFault::Text { place },
+            TextFault::Limit { what, place } => MapFault::Limit { what, place },
+            TextFault::NotBuilt { place } => MapFault::NotBuilt { place },
             TextFault::OutOfMemory => MapFault::OutOfMemory,
         }
     }
@@ -134,6 +144,25 @@ fn dimension(lexer: &mut Lexer<'_>) -> Result<Dim, TextFault>
     Dim::new(value as u8).ok_or(TextFault::Limit { what, place })
 }
 
+/// The word `darts`, which stands behind the dimension where no embedding does.
+fn darts_word(lexer: &mut Lexer<'_>) -> Result<(), TextFault>
+    ensures { Gives (λ _. (0, marks_left lexer.new)) result (darts_at (marks_left lexer.old)) }
+{
+    let token = next_token(lexer)?;
+    let place = token.start;
+    if !matches!(token.kind, TokenKind::Name) {
+        return Err(TextFault::Text { place });
+    }
+    let bytes = lexer.text(&token);
+    if bytes == b"embed".as_slice() {
+        return Err(TextFault::NotBuilt { place });
+    }
+    if bytes != b"darts".as_slice() {
+        return Err(TextFault::Text { place });
+    }
+    Ok(())
+}
+
 fn dart_count(lexer: &mut Lexer<'_>) -> Result<usize, TextFault>
     ensures value { Gives (λ count. (count, marks_left lexer.new)) result (wanted_at (Any Count) (marks_left lexer.old)) }
     ensures most { IfOk result (λ count. count ≤ 1048576) }
@@ -191,7 +220,7 @@ fn read_all(alloc: Global, bytes: &[u8]) -> Result<Draft, TextFault>
     version(&mut lexer)?;
     word(&mut lexer, b"dim")?;
     let dim = dimension(&mut lexer)?;
-    word(&mut lexer, b"darts")?;
+    darts_word(&mut lexer)?;
     let count = dart_count(&mut lexer)?;
     let wanted = count * (dim.top() as usize + 2);
     // Each number but the last has at least two bytes with the blank behind it.
@@ -204,17 +233,28 @@ fn read_all(alloc: Global, bytes: &[u8]) -> Result<Draft, TextFault>
 /// The darts that the text lists, or its first fault from left to right.
 pub(crate) fn read_text(alloc: Global, bytes: &[u8]) -> Result<Draft, TextFault>
     ensures draft { IfOk result (λ draft. IsDraft bytes.now draft.dim draft.numbers.items) }
-    ensures fault { IfErr result (IsFirstFault bytes.now) }
+    ensures fault { IfErr result (IsFaultIn bytes.now) }
 {
     read_all(alloc, bytes)
 }
 
-/// The map that the text stands for. `NotRead` says that it stands for no map without embeddings
-/// within the limits.
-pub fn read_map(alloc: Global, bytes: &[u8]) -> Result<PlainMap, MapFault>
-    ensures map { IfOk result (λ map. MapText bytes.now map.dim (rows_of map.darts)) }
-    ensures not_read { result ≡ Err MapFault.NotRead → StandsForNoMap bytes.now }
+/// The arena of the map that the text stands for, with one step or more for each dart. A fault is
+/// the first of the text: of its grammar and limits by place, then of its darts' names, and then
+/// of the laws of a map.
+pub fn read_map<L: Ledger>(
+    alloc: Global,
+    bytes: &[u8],
+    steps: &mut Steps<L>,
+) -> Result<Arena, MapFault>
+    ensures map { IfOk result (λ arena. MapText bytes.now arena.schema.dim (rows_of arena)) }
+    ensures no_embeds { IfOk result (λ arena. arena.schema.embeds ≡ []) }
+    ensures next { IfOk result IsNextLeast }
+    ensures fault { IfErr result (IsFaultOf bytes.now) }
+    ensures most { (n : ℕ) (darts : List Row) → MapText bytes.now n darts → steps.new ≤ steps.old + 32 * ((n + 1) * (n + 1)) * (length darts + 1) }
+    ensures least { IfOk result (λ arena. steps.old + arena.count ≤ steps.new) }
 {
     let draft = read_text(alloc, bytes)?;
-    build(alloc, draft.dim, &draft.numbers)
+    let arena = build(alloc, draft, steps)?;
+    check_map(alloc, &arena, steps)?;
+    Ok(arena)
 }

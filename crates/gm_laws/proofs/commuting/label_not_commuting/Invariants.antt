@@ -9,4 +9,5 @@ invariant-loop-j g l = record {
   from : l.i + 2 ≤ l.j;
   upto : l.i + 2 < l.j → l.j ≤ l.arena.schema.dim + 1;
   cost : l.steps + 3 * (l.i + 2) ≤ l.fn.steps + 1 + 3 * l.j;
+  least : l.fn.steps ≤ l.steps;
 }

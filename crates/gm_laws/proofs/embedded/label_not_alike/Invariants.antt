@@ -8,4 +8,5 @@ abbrev pub invariant-loop-label : goal.invariant-loop-label
 invariant-loop-label g l = record {
   same : (i : ℕ) → i < l.label → IsTrue (has l.mask i) → HasSame l.arena l.embed (name_at l.arena l.slot.at) i;
   cost : l.steps ≤ l.fn.steps + 1 + 2 * l.label;
+  least : l.fn.steps ≤ l.steps;
 }

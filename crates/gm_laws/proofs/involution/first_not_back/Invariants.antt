@@ -6,4 +6,5 @@ abbrev pub invariant-loop-name : goal.invariant-loop-name
 invariant-loop-name g l = record {
   back : (p : ℕ) → p < l.name-index → IsBack l.arena (get_or l.names p 0);
   cost : l.steps ≤ l.fn.steps + (2 * (l.arena.schema.dim + 1) + 1) * l.name-index;
+  least : l.fn.steps ≤ l.steps;
 }

@@ -1,4 +1,4 @@
-use Rattle.std.proofs.Common.{◌≡◌, ℕ, ◌+◌, ◌*◌, ◌<◌}
+use Rattle.std.proofs.Common.{◌≤◌, ◌≡◌, ℕ, ◌+◌, ◌*◌, ◌<◌}
 use Rattle.gm_arena.specs.ArenaMap.{name_at}
 use Rattle.gm_laws.specs.Darts.{LeadsBack}
 use Rattle.gm_laws.proofs.involution.label_not_back.Given as goal
@@ -7,4 +7,5 @@ abbrev pub invariant-loop-label : goal.invariant-loop-label
 invariant-loop-label g l = record {
   back : (i : ℕ) → i < l.label → LeadsBack l.arena (name_at l.arena l.slot.at) i;
   cost : l.steps ≡ l.fn.steps + 2 * l.label;
+  least : l.fn.steps ≤ l.steps;
 }

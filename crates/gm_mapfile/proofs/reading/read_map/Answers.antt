@@ -1,17 +1,40 @@
-use Rattle.std.proofs.Common.{◌≡◌}
+use Rattle.std.proofs.Common.{◌≡◌, ◌+◌, ◌*◌, length, arith}
 use Rattle.std.proofs.lemmas.Result.{err_from_is_err_and}
-use Rattle.gm_mapfile.specs.declared.plain.MapFault.TheVariants as answers
-use Rattle.gm_mapfile.specs.Draft.{map_fault_of}
-use Rattle.gm_mapfile.proofs.NoMap.{no_map_at_fault, no_map_of_lines}
+use Rattle.gm_mapfile.specs.Rows.{rows_in}
+use Rattle.gm_mapfile.proofs.ReadMap.{text_fault_of, in_room, name_fault_of, text_of_held, law_fault_of, built_within, all_within}
 use Rattle.gm_mapfile.proofs.reading.read_map.Goals as goal
 
-pub returns-in_err-draft-clause-not_read : goal.returns-in_err-draft-clause-not_read
-returns-in_err-draft-clause-not_read c = λ not_read.
-    let p = err_from_is_err_and c.from_residual.result c.from_residual.ensures.1 in
-    let e : map_fault_of c.in_err-draft.field-0.0 ≡ answers.NotRead = cc (p.1, p.2, not_read) in
-    no_map_at_fault c.args.bytes.now c.in_err-draft.field-0.0 c.in_err-draft.ensures.fault e
+pub build-requires : goal.build-requires
+build-requires g c = in_room c.args.bytes.now c.in_ok-draft.draft.dim c.in_ok-draft.draft.numbers.items c.in_ok-draft.ensures.draft
 
-pub returns-clause-not_read : goal.returns-clause-not_read
-returns-clause-not_read c = λ not_read.
-    no_map_of_lines c.args.bytes.now c.in_ok-draft.draft.dim c.in_ok-draft.draft.numbers.items c.in_ok-draft.ensures.draft
-    (λ rows darts lines map. c.build.ensures.not_read rows darts (record { shaped = lines.shaped; spelled = cc (c.deref.ensures.value, lines.spelled) }) not_read map)
+pub returns-in_err-draft-clause-fault : goal.returns-in_err-draft-clause-fault
+returns-in_err-draft-clause-fault g c =
+    let p = err_from_is_err_and c.from_residual.result c.from_residual.ensures.1 in
+    rw (p.1, p.2) (text_fault_of c.args.bytes.now c.in_err-draft.field-0.0 c.in_err-draft.ensures.fault)
+
+pub returns-in_err-arena-clause-fault : goal.returns-in_err-arena-clause-fault
+returns-in_err-arena-clause-fault g c =
+    let p = err_from_is_err_and c.from_residual-in_err-arena.result c.from_residual-in_err-arena.ensures.1 in
+    rw (p.1, p.2) (name_fault_of c.args.bytes.now c.in_ok-draft.draft.dim c.in_ok-draft.draft.numbers.items c.in_ok-draft.ensures.draft c.in_err-arena.field-0.0 c.in_err-arena.ensures.fault)
+
+pub returns-in_err-arena-clause-most : goal.returns-in_err-arena-clause-most
+returns-in_err-arena-clause-most g c n darts stands =
+    let built = built_within c.args.bytes.now c.in_ok-draft.draft.dim c.in_ok-draft.draft.numbers.items c.in_ok-draft.ensures.draft c.args.steps.now c.build.new.steps c.build.ensures.most n darts stands in
+    omega (arith, built)
+
+pub returns-in_err-check_map-clause-fault : goal.returns-in_err-check_map-clause-fault
+returns-in_err-check_map-clause-fault g c =
+    let p = err_from_is_err_and c.from_residual-in_err-check_map.result c.from_residual-in_err-check_map.ensures.1 in
+    rw (p.1, p.2) (law_fault_of c.args.bytes.now c.in_ok-draft.draft.dim c.in_ok-draft.draft.numbers.items c.in_ok-draft.ensures.draft c.in_ok-arena.arena c.in_ok-arena.ensures.held c.in_err-check_map.field-0.0 c.in_err-check_map.ensures.fault)
+
+pub returns-in_err-check_map-clause-most : goal.returns-in_err-check_map-clause-most
+returns-in_err-check_map-clause-most g c n darts stands =
+    all_within c.args.bytes.now c.in_ok-draft.draft.dim c.in_ok-draft.draft.numbers.items c.in_ok-draft.ensures.draft c.in_ok-arena.arena c.in_ok-arena.ensures.held c.args.steps.now c.build.new.steps c.check_map.new.steps c.build.ensures.most c.check_map.ensures.cost n darts stands
+
+pub returns-clause-map : goal.returns-clause-map
+returns-clause-map g c =
+    text_of_held c.args.bytes.now c.in_ok-draft.draft.dim c.in_ok-draft.draft.numbers.items c.in_ok-draft.ensures.draft c.in_ok-arena.arena c.in_ok-arena.ensures.held c.in_ok-check_map.ensures.generalised
+
+pub returns-clause-most : goal.returns-clause-most
+returns-clause-most g c n darts stands =
+    all_within c.args.bytes.now c.in_ok-draft.draft.dim c.in_ok-draft.draft.numbers.items c.in_ok-draft.ensures.draft c.in_ok-arena.arena c.in_ok-arena.ensures.held c.args.steps.now c.build.new.steps c.check_map.new.steps c.build.ensures.most c.check_map.ensures.cost n darts stands

@@ -1,0 +1,154 @@
+//! The arena of the darts that a text lists.
+//!
+//! The darts are added first, each free for every label, and then linked to their neighbours. No
+//! pass keeps the rows a second time, and each looks a name up in the arena.
+ghost use Rattle.std.specs.Prelude.{◌≡◌, ℕ, ◌+◌, ◌*◌, ◌/◌, ◌<◌, ◌≤◌, [], length, min, nat_lt, if◌then◌else◌, All, None, MatchOption, IfOk, IfErr};
+ghost use Rattle.gm_model.specs.MapFaults.{AreDistinct};
+ghost use Rattle.gm_arena.specs.ArenaMap.{IsLiveName};
+ghost use Rattle.gm_mapfile.specs.Rows.{rows_in};
+ghost use Rattle.gm_mapfile.specs.Faults.{IsNameFault};
+ghost use Rattle.gm_mapfile.specs.Building.{AreInRoom, AreSlotsLive, AreWhole, IsFresh, AreAdded, IsRelinked, IsDartLinked, IsLabelWithoutTarget, AreLinkedUnless, IsHeld};
+
+use crate::fault::MapFault;
+use crate::reading::Draft;
+use gm_arena::{Arena, Slot};
+use gm_model::{Items, Schema, Steps};
+use std::alloc::Global;
+use std::sync::ledger::Ledger;
+
+/// The arena of the darts in the lines of the numbers, each linked to its neighbours. The fault is
+/// a name that two darts have, or a neighbour that is no dart.
+pub(crate) fn build<L: Ledger>(
+    alloc: Global,
+    draft: Draft,
+    steps: &mut Steps<L>,
+) -> Result<Arena, MapFault>
+    requires { AreInRoom draft.dim draft.numbers.items }
+    ensures held { IfOk result (IsHeld draft.dim (rows_in draft.dim draft.numbers.items)) }
+    ensures fault { IfErr result (IsNameFault draft.dim (rows_in draft.dim draft.numbers.items)) }
+    ensures most { steps.new ≤ steps.old + (2 * draft.dim + 5) * length (rows_in draft.dim draft.numbers.items) }
+    ensures least { IfOk result (λ arena. steps.old + arena.count ≤ steps.new) }
+{
+    let numbers = draft.numbers.as_slice();
+    let width = draft.dim.top() as usize + 2;
+    let embeds = Items::new(Vec::new(alloc));
+    let mut arena = Arena::new(alloc, Schema { dim: draft.dim, embeds });
+    arena.reserve((numbers.len() / width) as u32, names_end(numbers))?;
+    if let Some(dart) = add_darts(&mut arena, numbers, steps) {
+        return Err(MapFault::DartTwice { dart });
+    }
+    if let Some((dart, label)) = link_darts(&mut arena, numbers, steps) {
+        return Err(MapFault::NoTarget { dart, label });
+    }
+    Ok(arena)
+}
+
+/// One more than the greatest of the numbers, or 0 where there is none.
+fn names_end(numbers: &[u32]) -> u32
+    requires { All (λ x. x < 16777216) numbers.now }
+    ensures above { All (λ x. x < result) numbers.now }
+    ensures few { result ≤ 16777216 }
+{
+    let mut end = 0;
+    for number in numbers {
+        end = end.max(*number + 1);
+    }
+    end
+}
+
+/// Adds the dart of each line, free for every label. The answer is the least name that two lines
+/// have.
+fn add_darts<L: Ledger>(
+    arena: &mut Arena,
+    numbers: &[u32],
+    steps: &mut Steps<L>,
+) -> Option<u32>
+    requires fresh { IsFresh arena.old }
+    requires no_embeds { arena.old.schema.embeds ≡ [] }
+    requires room { length numbers.now / (arena.old.schema.dim + 2) ≤ arena.old.spare }
+    requires reserved { All (λ x. x < arena.old.reserved) numbers.now }
+    ensures schema { arena.new.schema ≡ arena.old.schema }
+    ensures added { AreAdded arena.old.schema.dim (rows_in arena.old.schema.dim numbers.now) arena.new result }
+    ensures most { steps.new ≤ steps.old + 2 * length (rows_in arena.old.schema.dim numbers.now) }
+    ensures least { steps.old + length (rows_in arena.old.schema.dim numbers.now) ≤ steps.new }
+{
+    let mut twice: Option<u32> = None;
+    for line in numbers.chunks_exact(arena.schema().dim.top() as usize + 2) {
+        let name = line[0];
+        if arena.slot_of(name, steps).is_none() {
+            arena.add(name, &[], steps);
+        } else {
+            twice = Some(lesser(twice, name));
+        }
+    }
+    twice
+}
+
+/// The lesser of the name and of one that was found before.
+fn lesser(found: Option<u32>, name: u32) -> u32
+    ensures { MatchOption found (result ≡ name) (λ least. result ≡ min least name) }
+{
+    match found {
+        Some(least) => least.min(name),
+        None => name,
+    }
+}
+
+/// Links the dart of each line to its neighbours. The answer is the first dart and label whose
+/// neighbour is no dart.
+fn link_darts<L: Ledger>(
+    arena: &mut Arena,
+    numbers: &[u32],
+    steps: &mut Steps<L>,
+) -> Option<(u32, u8)>
+    requires added { AreAdded arena.old.schema.dim (rows_in arena.old.schema.dim numbers.now) arena.old None }
+    ensures relinked { IsRelinked arena.old.schema.dim arena.old arena.new }
+    ensures linked { AreLinkedUnless arena.old.schema.dim arena.old arena.new (rows_in arena.old.schema.dim numbers.now) result }
+    ensures most { steps.new ≤ steps.old + (2 * arena.old.schema.dim + 3) * length (rows_in arena.old.schema.dim numbers.now) }
+    ensures least { steps.old ≤ steps.new }
+{
+    let mut missing: Option<(u32, u8)> = None;
+    for line in numbers.chunks_exact(arena.schema().dim.top() as usize + 2) {
+        let name = line[0];
+        if let Some(label) = link_dart(arena, name, &line[1..], steps) {
+            missing = Some(earlier(missing, name, label));
+        }
+    }
+    missing
+}
+
+/// The dart and label, or those that were found before where their dart has a lower name.
+fn earlier(found: Option<(u32, u8)>, dart: u32, label: u8) -> (u32, u8)
+    ensures { MatchOption found (result ≡ (dart, label)) (λ first. result ≡ (if nat_lt first.0 dart then first else (dart, label))) }
+{
+    match found {
+        Some(first) if first.0 < dart => first,
+        _ => (dart, label),
+    }
+}
+
+/// Links a dart to its neighbours by label. The answer is the first label whose neighbour is no
+/// dart, and none is linked from there on.
+fn link_dart<L: Ledger>(
+    arena: &mut Arena,
+    name: u32,
+    neighbours: &[u32],
+    steps: &mut Steps<L>,
+) -> Option<u8>
+    requires live { IsLiveName arena.old name }
+    requires slots { AreSlotsLive arena.old }
+    requires whole { AreWhole arena.old.schema.dim arena.old }
+    requires labels { length neighbours.now ≡ arena.old.schema.dim + 1 }
+    ensures linked { MatchOption result (IsDartLinked arena.old.schema.dim arena.old arena.new name neighbours.now (arena.old.schema.dim + 1)) (λ label. IsDartLinked arena.old.schema.dim arena.old arena.new name neighbours.now label × IsLabelWithoutTarget arena.old.schema.dim arena.old neighbours.now label) }
+    ensures most { steps.new ≤ steps.old + (2 * arena.old.schema.dim + 3) }
+    ensures least { steps.old ≤ steps.new }
+{
+    let slot = arena.slot_of(name, steps)?;
+    for label in 0..=arena.schema().dim.top() {
+        let Some(to) = arena.slot_of(neighbours[label as usize], steps) else {
+            return Some(label);
+        };
+        arena.set_alpha(slot, label, to, steps);
+    }
+    None
+}

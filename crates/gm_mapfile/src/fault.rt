@@ -1,0 +1,78 @@
+ghost use Rattle.std.specs.Prelude.{◌≡◌};
+
+use gm_laws::{LawFault, MapBreach};
+use gm_model::LimitKind;
+use std::alloc::{AllocError, AllocFailed};
+use thiserror::Error;
+
+/// Why a text gives no map. Places are byte indices, and one may be the length of the text.
+#[derive(Debug, Drop, Error)]
+pub enum MapFault {
+    /// No text of a map goes on with what stands at the place.
+    #[error("no map's text goes on so")]
+    Text { place: usize },
+    /// What stands at the place passes a limit.
+    #[error("a limit is passed")]
+    Limit { what: LimitKind, place: usize },
+    /// A name was declared before. No text has this fault before embeddings are read.
+    #[error("a name is declared twice")]
+    Twice { place: usize },
+    /// The least name that two darts have.
+    #[error("two darts have one name")]
+    DartTwice { dart: u32 },
+    /// The first dart and label whose neighbour is no dart.
+    #[error("a neighbour is no dart")]
+    NoTarget { dart: u32, label: u8 },
+    /// The first breach of the laws of a map.
+    #[error("a law of maps is broken")]
+    Breach(MapBreach),
+    /// An embedding stands at the place, which is not read yet.
+    #[error("embeddings are not read yet")]
+    NotBuilt { place: usize },
+    /// Memory was wanting, which says nothing of the text.
+    #[error("out of memory")]
+    OutOfMemory,
+}
+
+impl From<AllocError> for MapFault {
+    ghost use Rattle.gm_mapfile.specs.declared.fault.MapFault.TheVariants as faults;
+
+    ghost from_gives = { λ _ fault. fault ≡ faults.OutOfMemory };
+
+    fn from(_error: AllocError) -> MapFault {
+        MapFault::OutOfMemory
+    }
+}
+
+impl<T: Drop> From<AllocFailed<T>> for MapFault {
+    ghost use Rattle.gm_mapfile.specs.declared.fault.MapFault.TheVariants as faults;
+
+    ghost from_gives = { λ _ fault. fault ≡ faults.OutOfMemory };
+
+    fn from(_error: AllocFailed<T>) -> MapFault {
+        MapFault::OutOfMemory
+    }
+}
+
+impl From<gm_model::OutOfMemory> for MapFault {
+    ghost use Rattle.gm_mapfile.specs.declared.fault.MapFault.TheVariants as faults;
+
+    ghost from_gives = { λ _ fault. fault ≡ faults.OutOfMemory };
+
+    fn from(_error: gm_model::OutOfMemory) -> MapFault {
+        MapFault::OutOfMemory
+    }
+}
+
+impl From<LawFault> for MapFault {
+    ghost use Rattle.gm_mapfile.specs.Answered.{map_fault_of_laws};
+
+    ghost from_gives = { λ fault given. given ≡ map_fault_of_laws fault };
+
+    fn from(fault: LawFault) -> MapFault {
+        match fault {
+            LawFault::Breach(breach) => MapFault::Breach(breach),
+            LawFault::OutOfMemory => MapFault::OutOfMemory,
+        }
+    }
+}
