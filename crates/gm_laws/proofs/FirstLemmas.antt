@@ -1,9 +1,9 @@
 -- The first breach by law, dart and label, from the first dart and its first label.
-use Rattle.std.proofs.Common.{◌≡◌, ℕ, ◌+◌, ◌<◌, ◌≤◌, ◌⊎◌, sym, subst, inl, inr, arith}
-use Rattle.gm_model.specs.Breaches.{IsTripleBefore, IsFirstOneWay, IsFirstCrossing, PointBack, Commute}
+use Rattle.std.proofs.Common.{ℕ, ◌+◌, ◌≤◌, sym, subst, inl, inr, arith}
+use Rattle.gm_model.specs.Breaches.{IsTripleBefore, IsFirstOneWay, IsFirstCrossing}
 use Rattle.gm_model.specs.Orbits.{IsPairBefore}
 use Rattle.gm_arena.specs.ArenaMap.{ArenaMap, IsLiveName, alpha}
-use Rattle.gm_laws.specs.Darts.{IsFirst, IsLabel, IsDistantLabel, LeadsBack, IsBack, Commute as DoCommute, CommutesWith, Commutes, IsFirstPair}
+use Rattle.gm_laws.specs.Darts.{IsFirst, IsLabel, LeadsBack, IsBack, Commute as DoCommute, Commutes, IsFirstPair}
 use Rattle.gm_laws.specs.Faults.{ArePointedBack}
 
 module _ (m : ArenaMap) where

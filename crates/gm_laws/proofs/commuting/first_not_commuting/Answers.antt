@@ -1,4 +1,4 @@
-use Rattle.std.proofs.Common.{◌≡◌, ℕ, ◌<◌, length, get_or, sym, subst, arith}
+use Rattle.std.proofs.Common.{get_or, subst, arith}
 use Rattle.gm_laws.specs.Darts.{Commutes, IsFirstPair}
 use Rattle.gm_laws.proofs.NameLemmas.{has_slot, name_of_slot, first_name, all_names}
 use Rattle.gm_laws.proofs.FirstLemmas.{crossing}

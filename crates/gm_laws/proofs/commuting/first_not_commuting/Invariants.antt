@@ -1,4 +1,4 @@
-use Rattle.std.proofs.Common.{◌≡◌, ℕ, ◌+◌, ◌*◌, ◌<◌, ◌≤◌, get_or}
+use Rattle.std.proofs.Common.{ℕ, ◌+◌, ◌*◌, ◌<◌, ◌≤◌, get_or}
 use Rattle.gm_laws.specs.Darts.{Commutes}
 use Rattle.gm_laws.proofs.commuting.first_not_commuting.Given as goal
 

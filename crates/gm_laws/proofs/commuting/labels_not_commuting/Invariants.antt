@@ -1,4 +1,4 @@
-use Rattle.std.proofs.Common.{◌≡◌, ℕ, ◌+◌, ◌*◌, ◌<◌, ◌≤◌}
+use Rattle.std.proofs.Common.{ℕ, ◌+◌, ◌*◌, ◌<◌, ◌≤◌}
 use Rattle.gm_arena.specs.ArenaMap.{name_at}
 use Rattle.gm_laws.specs.Darts.{CommutesWith}
 use Rattle.gm_laws.proofs.commuting.labels_not_commuting.Given as goal

@@ -1,4 +1,4 @@
-use Rattle.std.proofs.Common.{◌≡◌, ℕ, ◌<◌, length, get_or, sym, subst, ap, ◌∙◌, arith}
+use Rattle.std.proofs.Common.{get_or, sym, subst, ap, ◌∙◌, arith}
 use Rattle.std.proofs.lemmas.Option.{same_Some}
 use Rattle.gm_arena.specs.ArenaMap.{alpha}
 use Rattle.gm_laws.specs.Darts.{IsFirst, IsOrbitLabel, HasSame, IsAlike}

@@ -1,4 +1,4 @@
-use Rattle.std.proofs.Common.{◌≡◌, ℕ, ◌+◌, ◌<◌, IsTrue, sym, ap, ◌∙◌, arith, rules, below_more}
+use Rattle.std.proofs.Common.{◌≡◌, ℕ, IsTrue, sym, ap, ◌∙◌, arith, rules, below_more}
 use Rattle.std.proofs.lemmas.Bool.{false≢true}
 use Rattle.gm_arena.proofs.MapLemmas.{name_at-is}
 use Rattle.gm_arena.specs.ArenaMap.{name_at}

@@ -1,4 +1,4 @@
-use Rattle.std.proofs.Common.{◌≡◌, ℕ, ◌+◌, ◌*◌, ◌<◌, ◌≤◌, IsTrue}
+use Rattle.std.proofs.Common.{ℕ, ◌+◌, ◌*◌, ◌<◌, ◌≤◌, IsTrue}
 use Rattle.gm_arena.specs.ArenaMap.{name_at}
 use Rattle.gm_model.specs.Labels.{has}
 use Rattle.gm_laws.specs.Darts.{HasSame}

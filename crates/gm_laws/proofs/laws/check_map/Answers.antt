@@ -1,4 +1,4 @@
-use Rattle.std.proofs.Common.{◌≡◌, length, sym, ap, ◌∙◌, arith}
+use Rattle.std.proofs.Common.{length, ap, arith}
 use Rattle.std.specs.FinMap.{entries, len-entries}
 use Rattle.std.proofs.lemmas.List.{length-map}
 use Rattle.gm_laws.proofs.EmbeddedLemmas.{well_embedded}
