@@ -58,9 +58,9 @@ least_again rows row t live which below least = record {
   twice = elim (cases_eq t row.name) [
     | inl e ↦ rw e (omega (arith, named_push_same rows row, named_some rows row.name live))
     | inr apart ↦ elim which [
-        | inl e ↦ absurd (apart e)
-        | inr twice ↦ omega (arith, named_push_other rows row t apart, twice)
-      ]
+      | inl e ↦ absurd (apart e)
+      | inr twice ↦ omega (arith, named_push_other rows row t apart, twice)
+    ]
   ];
   least = λ e lt. omega (arith, named_push_other rows row e (λ same. omega (arith, same, lt, below)), least e lt);
 }
@@ -103,15 +103,15 @@ module _ (n : ℕ) (rows : List Row) (row : Row) (m : ArenaMap) (found : Option 
 
     live_is : (d : ℕ) → IsLiveName (with_dart m slot row.name values) d → (d ≡ row.name) ⊎ IsLiveName m d
     live_is d live = elim (cases_eq d row.name) [
-        | inl e ↦ inl e
-        | inr apart ↦ inr (sym (ap is_some (get-with_dart_other m slot row.name values d apart)) ∙ live)
-      ]
+      | inl e ↦ inl e
+      | inr apart ↦ inr (sym (ap is_some (get-with_dart_other m slot row.name values d apart)) ∙ live)
+    ]
 
     live_was : (d : ℕ) → IsLiveName m d → IsLiveName (with_dart m slot row.name values) d
     live_was d live = elim (cases_eq d row.name) [
-        | inl e ↦ rw e (ap is_some (get-with_dart_same m slot row.name values))
-        | inr apart ↦ ap is_some (get-with_dart_other m slot row.name values d apart) ∙ live
-      ]
+      | inl e ↦ rw e (ap is_some (get-with_dart_same m slot row.name values))
+      | inr apart ↦ ap is_some (get-with_dart_other m slot row.name values d apart) ∙ live
+    ]
 
     pub added_more : get m.darts row.name ≡ None → AreAdded n (rows ++ row ∷ []) (with_dart m slot row.name values) found
     added_more new_name = record {

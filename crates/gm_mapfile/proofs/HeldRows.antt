@@ -87,11 +87,11 @@ module _ (n : ℕ) (rows : List Row) (m : ArenaMap) (held : IsHeld n rows m) (sh
       let long : length r.alphas ≡ n + 1 = shape_found n rows d r shaped is in
       let wide : length dart.alphas ≡ n + 1 = held.whole d dart there in
       let each : (i x : ℕ) → i < length r.alphas → get_or r.alphas i x ≡ get_or dart.alphas i x = λ i x lt.
-          get_or_default r.alphas i x d lt
-          ∙ (sym (ap (λ o. option_map_or (λ (row : Row). get_or row.alphas i d) o d) is)
-          ∙ (sym (held.alphas d i (omega (arith, long)))
-          ∙ (ap (λ o. option_map_or (λ (x : Dart). get_or x.alphas i d) o d) there
-          ∙ get_or_default dart.alphas i d x (omega (arith, long, wide))))) in
+      get_or_default r.alphas i x d lt
+      ∙ (sym (ap (λ o. option_map_or (λ (row : Row). get_or row.alphas i d) o d) is)
+      ∙ (sym (held.alphas d i (omega (arith, long)))
+      ∙ (ap (λ o. option_map_or (λ (x : Dart). get_or x.alphas i d) o d) there
+      ∙ get_or_default dart.alphas i d x (omega (arith, long, wide))))) in
       let alphas : r.alphas ≡ dart.alphas = same_lists r.alphas dart.alphas (long ∙ sym wide) each in
       λ k. record { name = name k; alphas = alphas k }
 

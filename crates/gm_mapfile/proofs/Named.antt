@@ -27,6 +27,7 @@ row_of_push_other rows row d apart = go (row_of rows d) refl
   where
     test : eqb row.name d ≡ false
     test = ne_eqb row.name d (λ e. apart (sym e))
+
     go : (o : Option Row) → row_of rows d ≡ o → row_of (rows ++ row ∷ []) d ≡ row_of rows d
     go None is = found_in rows row d None false is test ∙ sym is
     go (Some r) is = found_in rows row d (Some r) false is test ∙ sym is
@@ -99,6 +100,7 @@ live_among front row back = go (row_of (front ++ row ∷ back) row.name) refl
   where
     here : one_if row.name row ≡ 1
     here = rw (eq-eqb row.name row.name refl) refl
+
     go : (o : Option Row) → row_of (front ++ row ∷ back) row.name ≡ o → IsLive (front ++ row ∷ back) row.name
     go None is = absurd (omega (arith, named_none (front ++ row ∷ back) row.name is, named_append front (row ∷ back) row.name, named_cons row back row.name, here))
     go (Some r) is = ap is_some is

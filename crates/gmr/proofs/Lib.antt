@@ -1,2 +1,3 @@
-mod Shows
-mod Two
+mod Judging
+mod Asking
+mod Putting

@@ -1,4 +1,5 @@
 pub mod Answer
 pub mod Refusals
-pub mod Show
+pub mod FaultLines
+pub mod Replies
 pub mod Tool

@@ -1,22 +1,42 @@
--- The status and the line of each refusal of a command.
-use Rattle.std.specs.Prelude.{ℕ, List, codes}
-use Rattle.gmr.specs.Answer.{Answer, answers}
+-- The commands, roles and refusals of the program as the definition of its answer sees them.
+use Rattle.std.specs.Prelude.{◌≡◌, ℕ, List, ◌++◌, codes}
+use Rattle.gmr.specs.Answer.{Answer, answers, role_word, refusal, command_word}
+use Rattle.gmr.specs.Answer as answer
+use Rattle.gmr.specs.declared.command.Command.{Command}
+use Rattle.gmr.specs.declared.command.Command.TheVariants as commands
 use Rattle.gmr.specs.declared.refusal.Refusal.{Refusal}
-use Rattle.gmr.specs.declared.refusal.Refusal.TheVariants.{Usage, LoadMap, SizeMap, MapNotRead, SizeOutput}
+use Rattle.gmr.specs.declared.refusal.Refusal.TheVariants.{Usage, Load, Size, SizeOutput}
+use Rattle.gmr.specs.declared.refusal.Role.{Role}
+use Rattle.gmr.specs.declared.refusal.Role.TheVariants as roles
+
+abbrev pub command_in : Command → answer.Command
+command_in commands.Show = answer.Show
+
+-- the word of no command
+abbrev pub IsNoCommandWord : List ℕ → Type 0
+IsNoCommandWord word = (command : answer.Command) → word ≡ command_word command → ⊥
+
+abbrev pub role_in : Role → answer.Role
+role_in roles.Map = answer.TheMap
 
 abbrev pub status_of : Refusal → ℕ
 status_of Usage = 2
-status_of LoadMap = 3
-status_of SizeMap = 8
-status_of MapNotRead = 4
+status_of (Load role) = 3
+status_of (Size role) = 8
 status_of SizeOutput = 8
 
+abbrev pub words_for : Refusal → List ℕ
+words_for Usage = codes "usage"
+words_for (Load role) = codes "load " ++ role_word (role_in role)
+words_for (Size role) = codes "size " ++ role_word (role_in role)
+words_for SizeOutput = codes "size output"
+
 abbrev pub line_of : Refusal → List ℕ
-line_of Usage = codes "refused usage\n"
-line_of LoadMap = codes "refused load MAP\n"
-line_of SizeMap = codes "refused size MAP\n"
-line_of MapNotRead = codes "refused MAP not-read\n"
-line_of SizeOutput = codes "refused size output\n"
+line_of why = refusal (words_for why)
 
 abbrev pub refusal_answer : Refusal → Answer
-refusal_answer refusal = answers (status_of refusal) (line_of refusal)
+refusal_answer why = answers (status_of why) (line_of why)
+
+-- the role of the command's file
+abbrev pub IsRoleOf : Command → Role → Type 0
+IsRoleOf command role = role_in role ≡ answer.role_of (command_in command)

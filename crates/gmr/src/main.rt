@@ -3,8 +3,11 @@
 #![tactic(auto)]
 
 mod command;
+mod fault_lines;
+mod load;
+mod map;
 mod refusal;
-mod show;
+mod reply;
 #[cfg(test)]
 mod tests;
 mod tool;

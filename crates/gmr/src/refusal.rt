@@ -1,17 +1,23 @@
-ghost use Rattle.std.specs.Prelude.{◌≡◌, codes};
+ghost use Rattle.std.specs.Prelude.{◌≡◌};
 ghost use Rattle.gmr.specs.Refusals.{status_of, line_of};
 
-/// Why a command isn't done. Each has one status and one line.
+use gm_model::OutOfMemory;
+
+/// What a file is for.
+#[derive(Clone, Copy, Debug, PartialEq, Eq)]
+pub enum Role {
+    Map,
+}
+
+/// Why a command isn't done, where its line needs no memory.
 #[derive(Clone, Copy, Debug, PartialEq, Eq)]
 pub enum Refusal {
     /// The words are no command with its number of words.
     Usage,
-    /// The file of the map can't be loaded.
-    LoadMap,
-    /// The file of the map is longer than the limit.
-    SizeMap,
-    /// The file's text stands for no map without embeddings.
-    MapNotRead,
+    /// The file can't be loaded.
+    Load(Role),
+    /// The file is longer than the limit.
+    Size(Role),
     /// The text to put is longer than the limit.
     SizeOutput,
 }
@@ -23,9 +29,8 @@ impl Refusal {
     {
         match self {
             Refusal::Usage => 2,
-            Refusal::LoadMap => 3,
-            Refusal::MapNotRead => 4,
-            Refusal::SizeMap | Refusal::SizeOutput => 8,
+            Refusal::Load(_) => 3,
+            Refusal::Size(_) | Refusal::SizeOutput => 8,
         }
     }
 
@@ -35,9 +40,8 @@ impl Refusal {
     {
         match self {
             Refusal::Usage => b"refused usage\n",
-            Refusal::LoadMap => b"refused load MAP\n",
-            Refusal::SizeMap => b"refused size MAP\n",
-            Refusal::MapNotRead => b"refused MAP not-read\n",
+            Refusal::Load(Role::Map) => b"refused load MAP\n",
+            Refusal::Size(Role::Map) => b"refused size MAP\n",
             Refusal::SizeOutput => b"refused size output\n",
         }
     }
@@ -50,4 +54,14 @@ pub enum NoText {
     OutOfMemory,
     /// The command is refused, and its line is put.
     Refused(Refusal),
+}
+
+impl From<OutOfMemory> for NoText {
+    ghost use Rattle.gmr.specs.declared.refusal.NoText.TheVariants as nothing;
+
+    ghost from_gives = { λ _ none. none ≡ nothing.OutOfMemory };
+
+    fn from(_error: OutOfMemory) -> NoText {
+        NoText::OutOfMemory
+    }
 }

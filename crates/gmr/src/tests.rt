@@ -9,8 +9,6 @@ use std::test::Fail;
 const SQUARE: &str =
     "gmap 1\ndim 2\ndarts 8\n0 1 7 0\n1 0 2 1\n2 3 1 2\n3 2 4 3\n4 5 3 4\n5 4 6 5\n6 7 5 6\n7 6 0 7\n";
 
-const NOT_READ: &str = "refused MAP not-read\n";
-
 /// The words of a line, between single blanks.
 fn words_of(alloc: Global, line: &str) -> Result<Vec<String>, Fail> {
     let mut owned = Vec::new(alloc);
@@ -54,31 +52,61 @@ fn maps_shown_and_refused(rt: HostRuntime) -> Result<(), Fail> {
         (SQUARE, 0, SQUARE),
         ("gmap 1 dim 2 darts 0", 0, empty),
         ("gmap 01 dim 02 darts 00 # a comment", 0, empty),
-        ("gmap 1 dim 2 darts 2 0 1 0 0 1 1 1 1", 4, NOT_READ),
-        (
-            "gmap 1 dim 2 darts 4 0 1 0 2 1 0 1 1 2 3 2 0 3 2 3 3",
-            4,
-            NOT_READ,
-        ),
-        ("gmap 1 dim 8 darts 0", 4, NOT_READ),
-        ("gmap 1 dim 0 darts 0", 4, NOT_READ),
-        ("gmap 2 dim 2 darts 0", 4, NOT_READ),
-        ("gmap 1 dim 1 darts 2 5 5 5 5 5 5", 4, NOT_READ),
-        ("gmap 1 dim 1 darts 1 0 9 0", 4, NOT_READ),
         (
             "gmap 1 dim 1 darts 1 16777215 16777215 16777215",
             0,
             "gmap 1\ndim 1\ndarts 1\n16777215 16777215 16777215\n",
         ),
         (
-            "gmap 1 dim 1 darts 1 16777216 16777216 16777216",
+            "gmap 1 dim 2 darts 2 0 1 0 0 1 1 1 1",
             4,
-            NOT_READ,
+            "refused MAP involution dart 0 label 0\n",
         ),
-        ("gmap 1 dim 1 darts 1048577", 4, NOT_READ),
-        ("gmap 1 dim 1 darts 0 0", 4, NOT_READ),
-        ("gmap 1 dim 1 darts 0 !", 4, NOT_READ),
-        ("", 4, NOT_READ),
+        (
+            "gmap 1 dim 2 darts 4 0 1 0 2 1 0 1 1 2 3 2 0 3 2 3 3",
+            4,
+            "refused MAP cycle dart 0 labels 0 2\n",
+        ),
+        (
+            "gmap 1 dim 8 darts 0",
+            4,
+            "refused MAP limit dimension 11\n",
+        ),
+        (
+            "gmap 1 dim 0 darts 0",
+            4,
+            "refused MAP limit dimension 11\n",
+        ),
+        ("gmap 2 dim 2 darts 0", 4, "refused MAP text 5\n"),
+        (
+            "gmap 1 dim 1 darts 2 5 5 5 5 5 5",
+            4,
+            "refused MAP dart-twice 5\n",
+        ),
+        (
+            "gmap 1 dim 1 darts 1 0 9 0",
+            4,
+            "refused MAP no-target dart 0 label 0\n",
+        ),
+        (
+            "gmap 1 dim 1 darts 1 16777216 0 0",
+            4,
+            "refused MAP limit dart-name 21\n",
+        ),
+        (
+            "gmap 1 dim 1 darts 1048577",
+            4,
+            "refused MAP limit darts 19\n",
+        ),
+        ("gmap 1 dim 1 darts 0 0", 4, "refused MAP text 21\n"),
+        ("gmap 1 dim 1 darts 0 !", 4, "refused MAP text 21\n"),
+        (
+            "gmap 1 dim 2 embed pos <1 2> vec3 darts 0",
+            4,
+            "refused MAP not-built 13\n",
+        ),
+        ("gmap 1 embed", 4, "refused MAP text 7\n"),
+        ("", 4, "refused MAP text 0\n"),
     ] {
         expect(&rt, "show MAP", text, status, put)?;
     }
@@ -101,13 +129,30 @@ fn words_that_are_no_command(rt: HostRuntime) -> Result<(), Fail> {
     Ok(())
 }
 
-/// A text that is cut is refused, unless only its last line end is gone.
+/// Where the square's text stops to go on, by how many of its bytes are there.
+fn stop_of(length: usize) -> usize {
+    match length {
+        1..=3 => 0,
+        8 | 9 => 7,
+        14..=17 => 13,
+        _ => length,
+    }
+}
+
+/// A text that is cut is refused at its last token or its end, unless only its last line end is
+/// gone.
 #[test]
 fn square_cut_at_every_length(rt: HostRuntime) -> Result<(), Fail> {
     for length in 0..=SQUARE.len() {
         let text = SQUARE.get(..length).ok_or("no cut")?;
+        let stop = stop_of(length);
+        let line = format!(in rt.alloc(); "refused MAP text {stop}\n")?;
         let whole = length + 1 >= SQUARE.len();
-        let (status, put) = if whole { (0, SQUARE) } else { (4, NOT_READ) };
+        let (status, put) = if whole {
+            (0, SQUARE)
+        } else {
+            (4, line.as_str())
+        };
         expect(&rt, "show MAP", text, status, put)?;
     }
     Ok(())

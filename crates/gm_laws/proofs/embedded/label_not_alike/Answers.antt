@@ -15,13 +15,13 @@ loop-label-preserved g c =
     let IsGood : ℕ → Type 0 = λ i. IsTrue (has c.args.mask i) → HasSame m c.args.embed d i in
     elim c.if-has.branch [
       | then-has+else-ne w ↦ record {
-          same = below_more IsGood c.loop-label.label c.loop-label.invariant.same (λ _. ap (value m c.args.embed) (sym (name_at-is m w.alpha-to.result.at _ w.alpha-to.ensures.neighbour)) ∙ (sym w.value_at.ensures.value ∙ ((let same : w.value_at.result ≡ c.value_at-own.result = search rules in same) ∙ c.value_at-own.ensures.value)));
-          cost = omega (arith, c.loop-label.invariant.cost, w.steps-is, w.alpha-to.ensures.cost, w.value_at.ensures.cost);
-          least = omega (arith, c.loop-label.invariant.least, w.steps-is, w.alpha-to.ensures.cost, w.value_at.ensures.cost);
-        }
+        same = below_more IsGood c.loop-label.label c.loop-label.invariant.same (λ _. ap (value m c.args.embed) (sym (name_at-is m w.alpha-to.result.at _ w.alpha-to.ensures.neighbour)) ∙ (sym w.value_at.ensures.value ∙ ((let same : w.value_at.result ≡ c.value_at-own.result = search rules in same) ∙ c.value_at-own.ensures.value)));
+        cost = omega (arith, c.loop-label.invariant.cost, w.steps-is, w.alpha-to.ensures.cost, w.value_at.ensures.cost);
+        least = omega (arith, c.loop-label.invariant.least, w.steps-is, w.alpha-to.ensures.cost, w.value_at.ensures.cost);
+      }
       | else-has w ↦ record {
-          same = below_more IsGood c.loop-label.label c.loop-label.invariant.same (λ has_it. absurd (false≢true (sym w.if-has.false ∙ (c.has.ensures ∙ has_it))));
-          cost = omega (arith, c.loop-label.invariant.cost, w.steps-is);
-          least = omega (arith, c.loop-label.invariant.least, w.steps-is);
-        }
+        same = below_more IsGood c.loop-label.label c.loop-label.invariant.same (λ has_it. absurd (false≢true (sym w.if-has.false ∙ (c.has.ensures ∙ has_it))));
+        cost = omega (arith, c.loop-label.invariant.cost, w.steps-is);
+        least = omega (arith, c.loop-label.invariant.least, w.steps-is);
+      }
     ]

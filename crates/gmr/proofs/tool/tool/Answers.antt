@@ -1,14 +1,13 @@
-use Rattle.std.proofs.Common.{◌∙◌, sym, ap, Err}
 use Rattle.gmr.specs.Tool.{words_of}
-use Rattle.gmr.proofs.Shows.{put_text, put_refusal, status_of_text, status_of_refusal, status_without_memory, usage_status}
+use Rattle.gmr.proofs.Putting.{put_reply, put_refusal, put_nothing, status_of_reply, status_of_refusal, status_without_memory, usage_status}
 use Rattle.gmr.proofs.tool.tool.Goals as goal
 
 pub returns-in-Ok-clause-leaves : goal.returns-in-Ok-clause-leaves
 returns-in-Ok-clause-leaves g c =
-    put_text (words_of c.args.words.now) _ _ (g.S.Store.holds c.args.store.now) c.in-Ok.text _ _ _ c.in-Ok.ensures.text (rw c.as_slice.ensures.value at c.put_whole.ensures)
+    put_reply (words_of c.args.words.now) _ _ (g.S.Store.holds c.args.store.now) c.in-Ok.reply _ _ _ c.in-Ok.ensures.text (rw c.as_slice.ensures.value at c.put_whole.ensures)
 
 pub returns-in-Ok-clause-statuses : goal.returns-in-Ok-clause-statuses
-returns-in-Ok-clause-statuses g c = status_of_text _ _ _ _ _ c.put_whole.ensures
+returns-in-Ok-clause-statuses g c = status_of_reply c.in-Ok.reply _ _ _ _ _ c.in-Ok.ensures.statuses c.put_whole.ensures
 
 pub returns-in-Err-Refused-clause-leaves : goal.returns-in-Err-Refused-clause-leaves
 returns-in-Err-Refused-clause-leaves g c =
@@ -24,3 +23,6 @@ returns-in-Err-Refused-clause-no_command g c not_one =
 
 pub returns-in-Err-OutOfMemory-clause-statuses : goal.returns-in-Err-OutOfMemory-clause-statuses
 returns-in-Err-OutOfMemory-clause-statuses g c = status_without_memory
+
+pub returns-in-Err-OutOfMemory-clause-leaves : goal.returns-in-Err-OutOfMemory-clause-leaves
+returns-in-Err-OutOfMemory-clause-leaves g c = put_nothing (words_of c.args.words.now) _ _ (g.S.Store.holds c.args.store.now) (g.O.Sink.written c.args.out.now)

@@ -1,0 +1,33 @@
+ghost use Rattle.std.specs.Prelude.{◌++◌, codes};
+ghost use Rattle.gmr.specs.Answer.{Show, refusal};
+ghost use Rattle.gmr.specs.FaultLines.{IsSaidOfMap, map_words};
+ghost use Rattle.gmr.specs.Replies.{IsJudged, IsRefusal};
+
+use crate::fault_lines::map_line;
+use crate::refusal::NoText;
+use crate::reply::{Reply, reply_within_limit};
+use gm_mapfile::{MapFault, print_map, read_map};
+use gm_model::Steps;
+use std::alloc::Global;
+use std::sync::ledger::Ledger;
+
+/// The canonical text of the map that a file's text stands for, or the line that refuses it.
+pub fn show<L: Ledger>(alloc: Global, bytes: &[u8], steps: &mut Steps<L>) -> Result<Reply, NoText>
+    ensures { IsJudged bytes.now Show result }
+{
+    let arena = match read_map(alloc, bytes, steps) {
+        Ok(arena) => arena,
+        Err(MapFault::OutOfMemory) => return Err(NoText::OutOfMemory),
+        Err(fault) => return refused(alloc, fault),
+    };
+    let text = print_map(alloc, &arena, steps)?;
+    reply_within_limit(0, text)
+}
+
+fn refused(alloc: Global, fault: MapFault) -> Result<Reply, NoText>
+    requires { IsSaidOfMap fault }
+    ensures { IsRefusal (refusal (codes "MAP" ++ codes " " ++ map_words fault)) result }
+{
+    let text = map_line(alloc, fault)?;
+    Ok(Reply { status: 4, text })
+}
