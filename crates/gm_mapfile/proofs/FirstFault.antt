@@ -146,6 +146,7 @@ ended_plain (mark ∷ marks) stop e = go marks (is_end mark.symbol) refl e
   where
     at_place : (place : ℕ) → Ends place ≡ stop → stop ≡ plain stop
     at_place place same = subst (λ (s : Stop). s ≡ plain s) same refl
+
     go : (marks : List Mark) (b : Bool) → is_end mark.symbol ≡ b → ended_at (mark ∷ marks) ≡ Err stop → stop ≡ plain stop
     go marks false is e = let same : Err (Ends mark.place) ≡ Err stop = rw is at e in at_place mark.place (cc same)
     go [] true is e = let same : nothing ≡ Err stop = rw is at e in absurd cc

@@ -1,9 +1,9 @@
 -- One neighbour more, and one dart more whose neighbours are all linked, or one is no dart.
-use Rattle.std.proofs.Common.{◌≡◌, ◌≢◌, ℕ, ◌+◌, ◌<◌, ◌≤◌, Bool, true, false, cond, ltb, List, [], ◌∷◌, ◌++◌, length, get_or, set, Option, Some, None, is_some, ◌⊎◌, inl, inr, refl, sym, ap, ap₂, subst, ◌∙◌, arith}
+use Rattle.std.proofs.Common.{◌≡◌, ◌≢◌, ℕ, ◌+◌, ◌<◌, ◌≤◌, true, false, cond, ltb, List, [], ◌∷◌, ◌++◌, length, get_or, Option, Some, None, is_some, inl, inr, refl, sym, ap, ap₂, subst, ◌∙◌, arith}
 use Rattle.std.specs.Prelude.{MatchOption, slice_index}
 use Rattle.std.specs.Option.{option_map, option_map_or}
 use Rattle.std.specs.FinMap.{get}
-use Rattle.std.proofs.lemmas.Bool.{cases_eq, cases_lt, cases_Bool, ltb-true, ltb-false}
+use Rattle.std.proofs.lemmas.Bool.{cases_eq, cases_Bool, ltb-true, ltb-false}
 use Rattle.std.proofs.lemmas.List.{get_or_default, get_or-set_same, length-set}
 use Rattle.gm_model.specs.GMap.{Row, row_of, IsLive}
 use Rattle.gm_model.specs.GMap as written
@@ -35,18 +35,18 @@ module _ (n : ℕ) (old m : ArenaMap) (name : ℕ) (neighbours : List ℕ) (labe
 
   live_turned : (d : ℕ) → is_some (get (with_alpha m name label to).darts d) ≡ is_some (get m.darts d)
   live_turned d = elim (cases_eq d name) [
-      | inl e ↦ rw e (ap is_some (get-with_alpha_same m name label to) ∙ is_some-map (λ dart. turned dart label to) (get m.darts name))
-      | inr apart ↦ ap is_some (get-with_alpha_other m name label to d apart)
-    ]
+    | inl e ↦ rw e (ap is_some (get-with_alpha_same m name label to) ∙ is_some-map (λ dart. turned dart label to) (get m.darts name))
+    | inr apart ↦ ap is_some (get-with_alpha_other m name label to d apart)
+  ]
 
   whole_turned : AreWhole n (with_alpha m name label to)
   whole_turned d dart is = elim (cases_eq d name) [
-      | inl e ↦
-          let here : get (with_alpha m name label to).darts name ≡ Some dart = subst (λ x. get (with_alpha m name label to).darts x ≡ Some dart) e is in
-          let was = some_from_map (λ (x : Dart). turned x label to) (get m.darts name) dart (sym (get-with_alpha_same m name label to) ∙ here) in
-          ap (λ (x : Dart). length x.alphas) was.2 ∙ (length-set was.0.alphas label to ∙ so_far.relinked.whole name was.0 was.1)
-      | inr apart ↦ so_far.relinked.whole d dart (sym (get-with_alpha_other m name label to d apart) ∙ is)
-    ]
+    | inl e ↦
+        let here : get (with_alpha m name label to).darts name ≡ Some dart = subst (λ x. get (with_alpha m name label to).darts x ≡ Some dart) e is in
+        let was = some_from_map (λ (x : Dart). turned x label to) (get m.darts name) dart (sym (get-with_alpha_same m name label to) ∙ here) in
+        ap (λ (x : Dart). length x.alphas) was.2 ∙ (length-set was.0.alphas label to ∙ so_far.relinked.whole name was.0 was.1)
+    | inr apart ↦ so_far.relinked.whole d dart (sym (get-with_alpha_other m name label to d apart) ∙ is)
+  ]
 
   turned_here : IsLiveName m name → label ≤ n → alpha (with_alpha m name label to) label name ≡ to
   turned_here live within =
@@ -146,11 +146,11 @@ module _ (n : ℕ) (old : ArenaMap) (front : List Row) (row : Row) (new_name : r
 
     all_linked : IsDartLinked n m m' row.name row.alphas (n + 1) → AreLinked n old m front → AreLinked n old m' more
     all_linked linked before d i live within = elim (cases_eq d row.name) [
-        | inl same ↦ rw (same, own i within) (linked.linked i (omega arith), in_old _ (linked.targets i (omega arith)))
-        | inr away ↦
-            let was = before d i (was_live d away live) within in
-            rw (other i d away) (linked.others d i away ∙ was.0, was.1)
-      ]
+      | inl same ↦ rw (same, own i within) (linked.linked i (omega arith), in_old _ (linked.targets i (omega arith)))
+      | inr away ↦
+          let was = before d i (was_live d away live) within in
+          rw (other i d away) (linked.others d i away ∙ was.0, was.1)
+    ]
 
     pub step_linked : (missing : Option (ℕ × ℕ)) → IsDartLinked n m m' row.name row.alphas (n + 1) → AreLinkedUnless n old m front missing → AreLinkedUnless n old m' more missing
     step_linked None linked before = all_linked linked before
@@ -162,16 +162,16 @@ module _ (n : ℕ) (old : ArenaMap) (front : List Row) (row : Row) (new_name : r
         subst (λ (p : ℕ × ℕ). IsFirstLack n old more p.0 p.1) (sym is)
         (lack_new label lacks.within (λ live. lacks.fails (state.live _ ∙ live)) (λ i lt. in_old _ (lacks.before i lt)) (λ e j away lt live within. (before e j live within).1))
     step_lack (Some p) label r lacks is lack = elim (cases_Bool (ltb p.0 row.name)) [
-        | inl lt ↦
-            let same : r ≡ p = rw lt at is in
-            subst (λ (q : ℕ × ℕ). IsFirstLack n old more q.0 q.1) (sym same)
-            (lack_kept p.0 p.1 lack (λ less. absurd (omega (arith, ltb-true p.0 row.name lt))))
-        | inr ge ↦
-            let same : r ≡ (row.name, label) = rw ge at is in
-            subst (λ (q : ℕ × ℕ). IsFirstLack n old more q.0 q.1) (sym same)
-            (lack_new label lacks.within (λ live. lacks.fails (state.live _ ∙ live)) (λ i lt. in_old _ (lacks.before i lt))
-            (λ e j away lt live within. lack.before e j (inl (omega (arith, ltb-false p.0 row.name ge))) live within))
-      ]
+      | inl lt ↦
+          let same : r ≡ p = rw lt at is in
+          subst (λ (q : ℕ × ℕ). IsFirstLack n old more q.0 q.1) (sym same)
+          (lack_kept p.0 p.1 lack (λ less. absurd (omega (arith, ltb-true p.0 row.name lt))))
+      | inr ge ↦
+          let same : r ≡ (row.name, label) = rw ge at is in
+          subst (λ (q : ℕ × ℕ). IsFirstLack n old more q.0 q.1) (sym same)
+          (lack_new label lacks.within (λ live. lacks.fails (state.live _ ∙ live)) (λ i lt. in_old _ (lacks.before i lt))
+          (λ e j away lt live within. lack.before e j (inl (omega (arith, ltb-false p.0 row.name ge))) live within))
+    ]
 
 -- the same where the dart and its neighbour are known by their slots
 pub linked_at : (n : ℕ) (old m m' : ArenaMap) (name : ℕ) (neighbours : List ℕ) (label slot to_slot : ℕ) → IsDartLinked n old m name neighbours label → IsAt old slot name → IsAt m to_slot (slice_index neighbours label)

@@ -1,8 +1,7 @@
 -- Rows by their names: which names there are, and how often.
-use Rattle.std.proofs.Common.{◌≡◌, ◌≢◌, ℕ, zero, suc, ◌+◌, ◌<◌, ◌≤◌, Bool, true, false, cond, eqb, List, [], ◌∷◌, ◌++◌, length, get_or, map, Option, Some, None, is_some, ◌⊎◌, inl, inr, refl, sym, ap, subst, ◌∙◌, arith}
+use Rattle.std.proofs.Common.{◌≡◌, ◌≢◌, ℕ, ◌+◌, ◌≤◌, Bool, true, false, cond, eqb, List, [], ◌∷◌, ◌++◌, get_or, Option, Some, None, is_some, inl, inr, refl, sym, ap, ◌∙◌, arith}
 use Rattle.std.specs.Option.{option_or, option_map_or}
-use Rattle.std.specs.List.{find}
-use Rattle.std.proofs.lemmas.Bool.{cases_Bool, cases_eq, eqb-true, ne_eqb, eq-eqb}
+use Rattle.std.proofs.lemmas.Bool.{cases_Bool, ne_eqb, eq-eqb}
 use Rattle.std.proofs.lemmas.List.Folds.{find-append}
 use Rattle.std.proofs.lemmas.List.Sums.{sum_by-cons, sum_by-append, sum_by_push}
 use Rattle.gm_model.specs.GMap.{Row, row_of, IsLive, alpha}
@@ -27,6 +26,7 @@ row_of_push_other rows row d apart = go (row_of rows d) refl
   where
     test : eqb row.name d ≡ false
     test = ne_eqb row.name d (λ e. apart (sym e))
+
     go : (o : Option Row) → row_of rows d ≡ o → row_of (rows ++ row ∷ []) d ≡ row_of rows d
     go None is = found_in rows row d None false is test ∙ sym is
     go (Some r) is = found_in rows row d (Some r) false is test ∙ sym is
@@ -99,6 +99,7 @@ live_among front row back = go (row_of (front ++ row ∷ back) row.name) refl
   where
     here : one_if row.name row ≡ 1
     here = rw (eq-eqb row.name row.name refl) refl
+
     go : (o : Option Row) → row_of (front ++ row ∷ back) row.name ≡ o → IsLive (front ++ row ∷ back) row.name
     go None is = absurd (omega (arith, named_none (front ++ row ∷ back) row.name is, named_append front (row ∷ back) row.name, named_cons row back row.name, here))
     go (Some r) is = ap is_some is

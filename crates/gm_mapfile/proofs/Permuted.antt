@@ -1,5 +1,5 @@
 -- Distinct rows that answer each look-up alike are the same rows in another order.
-use Rattle.std.proofs.Common.{◌≡◌, ◌≢◌, ℕ, ◌+◌, ◌<◌, ◌≤◌, cond, eqb, false, true, List, [], ◌∷◌, ◌++◌, Option, Some, None, ◌⊎◌, inl, inr, refl, sym, ap, subst, ◌∙◌, arith}
+use Rattle.std.proofs.Common.{◌≡◌, ◌≢◌, ℕ, ◌<◌, ◌≤◌, eqb, List, [], ◌∷◌, ◌++◌, Some, None, inl, inr, refl, sym, ap, subst, ◌∙◌, arith}
 use Rattle.std.specs.Prelude.{IsPermutation}
 use Rattle.std.specs.Option.{option_or}
 use Rattle.std.specs.List.Sorted.{IsStrictlyIncreasing}
@@ -50,15 +50,15 @@ same_permuted (x ∷ xs) ys one other same =
     let back = found.1 in
     let there : AreDistinct (front ++ x ∷ back) = subst AreDistinct found.2 other in
     let rest : IsPermutation xs (front ++ back) =
-        same_permuted xs (front ++ back)
-        (λ d. omega (arith, one d, named_cons x xs d))
-        (λ d. omega (arith, there d, named_append front (x ∷ back) d, named_cons x back d, named_append front back d))
-        (λ d. elim (cases_eq d x.name) [
-          | inl e ↦ rw e (
-              none_named xs x.name (omega (arith, one x.name, named_cons x xs x.name, own_count x))
-              ∙ sym (none_named (front ++ back) x.name (omega (arith, there x.name, named_append front (x ∷ back) x.name, named_cons x back x.name, named_append front back x.name, own_count x))))
-          | inr apart ↦ sym (skip x xs d apart) ∙ (same d ∙ (ap (λ rows. row_of rows d) found.2 ∙ skip_among front x back d apart))
-        ]) in
+    same_permuted xs (front ++ back)
+    (λ d. omega (arith, one d, named_cons x xs d))
+    (λ d. omega (arith, there d, named_append front (x ∷ back) d, named_cons x back d, named_append front back d))
+    (λ d. elim (cases_eq d x.name) [
+      | inl e ↦ rw e (
+          none_named xs x.name (omega (arith, one x.name, named_cons x xs x.name, own_count x))
+          ∙ sym (none_named (front ++ back) x.name (omega (arith, there x.name, named_append front (x ∷ back) x.name, named_cons x back x.name, named_append front back x.name, own_count x))))
+      | inr apart ↦ sym (skip x xs d apart) ∙ (same d ∙ (ap (λ rows. row_of rows d) found.2 ∙ skip_among front x back d apart))
+    ]) in
     subst (IsPermutation (x ∷ xs)) (sym found.2)
     (IsPermutation-trans (x ∷ xs) (x ∷ (front ++ back)) (front ++ x ∷ back) (IsPermutation-cons x xs (front ++ back) rest) (IsPermutation-sym (front ++ x ∷ back) (x ∷ (front ++ back)) (IsPermutation-middle front x back)))
 

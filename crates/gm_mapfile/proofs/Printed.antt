@@ -32,9 +32,9 @@ row_of_place rows up k within =
     let pairs = AllPairs-from_increasing (names rows) up in
     found_at (find (λ (row : Row). eqb row.name x)) (λ (row : Row). eqb row.name x) (λ row. Some row) None refl (λ _ _. refl) rows k nobody within
     (λ j below. ne_eqb _ _ (λ same.
-        let at_j : get_or (names rows) j 0 ≡ (get_or rows j nobody).name = get_or-map (λ (row : Row). row.name) rows j nobody 0 (omega arith) in
-        let lt : get_or (names rows) j 0 < x = pairs j k 0 below (omega (arith, length-map rows (λ (row : Row). row.name), within)) in
-        omega (arith, at_j, same, lt)))
+    let at_j : get_or (names rows) j 0 ≡ (get_or rows j nobody).name = get_or-map (λ (row : Row). row.name) rows j nobody 0 (omega arith) in
+    let lt : get_or (names rows) j 0 < x = pairs j k 0 below (omega (arith, length-map rows (λ (row : Row). row.name), within)) in
+    omega (arith, at_j, same, lt)))
     (eq-eqb _ _ (sym at))
 
 names_are : (es : List (ℕ × Dart)) → names (map row_of_entry es) ≡ map (λ e. e.0) es
@@ -71,7 +71,7 @@ lines_with m k front text after within before last =
     let rows = rows_of m in
     let row : line_of (row_at m (get_or (keys m.darts) k 0)) ≡ flat_map line_of (get_or rows k nobody ∷ []) = ap line_of (row_at_place m k within).0 ∙ sym (append-nil (line_of (get_or rows k nobody))) in
     let more : flat_map line_of (take (k + 1) rows) ≡ flat_map line_of (take k rows) ++ flat_map line_of (get_or rows k nobody ∷ []) =
-        ap (flat_map line_of) (take_more rows k nobody within) ∙ flat_map-append line_of (take k rows) (get_or rows k nobody ∷ []) in
+    ap (flat_map line_of) (take_more rows k nobody within) ∙ flat_map-append line_of (take k rows) (get_or rows k nobody ∷ []) in
     last ∙ (ap (λ xs. xs ++ line_of (row_at m (get_or (keys m.darts) k 0))) before
     ∙ (append_assoc front (flat_map line_of (take k rows)) (line_of (row_at m (get_or (keys m.darts) k 0)))
     ∙ ap (λ xs. front ++ xs) (ap (λ xs. flat_map line_of (take k rows) ++ xs) row ∙ sym more)))
@@ -102,7 +102,7 @@ neighbours_with m slots k name d base front text put after within at before blan
     let here : get_or (map f slots) k 0 ≡ name = get_or-map f slots k d 0 within ∙ name_at-is m (get_or slots k d).at name at in
     let one : flat_map spell (name ∷ []) ≡ 32 ∷ decimal name = append-nil (32 ∷ decimal name) in
     let more : flat_map spell (take (k + 1) (map f slots)) ≡ flat_map spell (take k (map f slots)) ++ 32 ∷ decimal name =
-        ap (flat_map spell) (take_more (map f slots) k 0 inside ∙ ap (λ x. take k (map f slots) ++ x ∷ []) here) ∙ (flat_map-append spell (take k (map f slots)) (name ∷ []) ∙ ap (λ ys. flat_map spell (take k (map f slots)) ++ ys) one) in
+    ap (flat_map spell) (take_more (map f slots) k 0 inside ∙ ap (λ x. take k (map f slots) ++ x ∷ []) here) ∙ (flat_map-append spell (take k (map f slots)) (name ∷ []) ∙ ap (λ ys. flat_map spell (take k (map f slots)) ++ ys) one) in
     last ∙ (ap (λ xs. xs ++ decimal name) blank ∙ (append_assoc text (32 ∷ []) (decimal name) ∙ (ap (λ xs. xs ++ 32 ∷ decimal name) before
     ∙ (append_assoc base (front ++ flat_map spell (take k (map f slots))) (32 ∷ decimal name) ∙ ap (λ xs. base ++ xs) (append_assoc front (flat_map spell (take k (map f slots))) (32 ∷ decimal name) ∙ ap (λ xs. front ++ xs) (sym more))))))
 

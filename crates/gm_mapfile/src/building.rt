@@ -32,7 +32,13 @@ pub(crate) fn build<L: Ledger>(
     let numbers = draft.numbers.as_slice();
     let width = draft.dim.top() as usize + 2;
     let embeds = Items::new(Vec::new(alloc));
-    let mut arena = Arena::new(alloc, Schema { dim: draft.dim, embeds });
+    let mut arena = Arena::new(
+        alloc,
+        Schema {
+            dim: draft.dim,
+            embeds,
+        },
+    );
     arena.reserve((numbers.len() / width) as u32, names_end(numbers))?;
     if let Some(dart) = add_darts(&mut arena, numbers, steps) {
         return Err(MapFault::DartTwice { dart });
@@ -58,11 +64,7 @@ fn names_end(numbers: &[u32]) -> u32
 
 /// Adds the dart of each line, free for every label. The answer is the least name that two lines
 /// have.
-fn add_darts<L: Ledger>(
-    arena: &mut Arena,
-    numbers: &[u32],
-    steps: &mut Steps<L>,
-) -> Option<u32>
+fn add_darts<L: Ledger>(arena: &mut Arena, numbers: &[u32], steps: &mut Steps<L>) -> Option<u32>
     requires fresh { IsFresh arena.old }
     requires no_embeds { arena.old.schema.embeds ≡ [] }
     requires room { length numbers.now / (arena.old.schema.dim + 2) ≤ arena.old.spare }

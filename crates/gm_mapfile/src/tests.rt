@@ -46,7 +46,13 @@ fn check_texts<L: Ledger>(rt: &impl Abort, alloc: Global, blank: Blank) -> Resul
         (SQUARE, SQUARE, 2, 8, 8),
         (SQUARE_IN_DISORDER, SQUARE, 2, 8, 8),
         (b"gmap 1 dim 1 darts 2 40 3 40 3 40 3", FAR_PAIR, 1, 2, 41),
-        (b"gmap 1 dim 7 darts 0", b"gmap 1\ndim 7\ndarts 0\n", 7, 0, 0),
+        (
+            b"gmap 1 dim 7 darts 0",
+            b"gmap 1\ndim 7\ndarts 0\n",
+            7,
+            0,
+            0,
+        ),
     ];
     for (text, canonical, dim, count, next) in texts {
         let arena = read_map(alloc, text, &mut steps)?;
@@ -106,14 +112,8 @@ fn the_first_fault_of_the_text_is_answered(rt: HostRuntime) -> Result<(), Fail> 
             b"gmap 1 dim 99999999999999999999",
             limit(LimitKind::Dimension, 11),
         ),
-        (
-            b"gmap 1 dim 2 darts 1048577 x",
-            limit(LimitKind::Darts, 19),
-        ),
-        (
-            b"gmap 1 dim 2 darts 1048576",
-            MapFault::Text { place: 26 },
-        ),
+        (b"gmap 1 dim 2 darts 1048577 x", limit(LimitKind::Darts, 19)),
+        (b"gmap 1 dim 2 darts 1048576", MapFault::Text { place: 26 }),
         (
             b"gmap 1 dim 2 darts 1 0 16777216 x",
             limit(LimitKind::DartName, 23),
@@ -138,10 +138,7 @@ fn the_first_fault_of_the_text_is_answered(rt: HostRuntime) -> Result<(), Fail> 
             b"gmap 1 dim 2 # none\n embed ?",
             MapFault::NotBuilt { place: 21 },
         ),
-        (
-            b"gmap 1 dim 2 darts 0 embed",
-            MapFault::Text { place: 21 },
-        ),
+        (b"gmap 1 dim 2 darts 0 embed", MapFault::Text { place: 21 }),
         (b"gmap 1 embed dim 2", MapFault::Text { place: 7 }),
         (b"gmap 1 dim 2 embeds", MapFault::Text { place: 13 }),
     ];
