@@ -1,5 +1,5 @@
 -- One dart more: what the arena then has of the rows, and which names are had twice.
-use Rattle.std.proofs.Common.{◌≡◌, ◌≢◌, ℕ, ◌+◌, ◌<◌, ◌≤◌, max, min, Bool, true, false, List, [], ◌∷◌, ◌++◌, length, replicate, Option, Some, None, is_some, ◌⊎◌, inl, inr, refl, sym, ap, subst, ◌∙◌, arith}
+use Rattle.std.proofs.Common.{◌≡◌, ℕ, ◌+◌, ◌<◌, ◌≤◌, min, true, false, List, [], ◌∷◌, ◌++◌, length, Option, Some, None, is_some, ◌⊎◌, inl, inr, refl, sym, ap, subst, ◌∙◌, arith}
 use Rattle.std.specs.Prelude.{MatchOption}
 use Rattle.std.specs.FinMap.{get}
 use Rattle.std.proofs.lemmas.Bool.{cases_eq, cases_lt}
@@ -10,9 +10,8 @@ use Rattle.gm_model.specs.MapFaults.{rows_named, AreDistinct, IsLeastTwice}
 use Rattle.gm_arena.specs.ArenaMap.{ArenaMap, Dart, IsLiveName}
 use Rattle.gm_arena.specs.Edits.{with_dart, free_dart}
 use Rattle.gm_arena.proofs.MapLemmas.{get-with_dart_same, get-with_dart_other, IsAt-with_dart_same, slots-with_dart_other}
-use Rattle.gm_mapfile.specs.Rows.{IsNextLeast}
-use Rattle.gm_mapfile.specs.Building.{AreWhole, IsFresh, IsTwice, AreAdded}
-use Rattle.gm_mapfile.proofs.Named.{none_of, row_of_push_new, row_of_push_other, live_push, named_push_same, named_push_other, named_none, named_some}
+use Rattle.gm_mapfile.specs.Building.{IsFresh, IsTwice, AreAdded}
+use Rattle.gm_mapfile.proofs.Named.{none_of, row_of_push_other, live_push, named_push_same, named_push_other, named_none, named_some}
 
 same_some : {A : Type 0} (x y : A) → Some x ≡ Some y → x ≡ y
 same_some x y e = cc e

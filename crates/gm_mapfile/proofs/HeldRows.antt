@@ -1,22 +1,21 @@
 -- The rows that an arena holds are those of its map, in ascending order.
-use Rattle.std.proofs.Common.{◌≡◌, ℕ, zero, suc, ◌+◌, ◌<◌, ◌≤◌, Bool, true, false, ◌&&◌, T, cond, eqb, List, [], ◌∷◌, length, get_or, map, Option, Some, None, is_some, ◌⊎◌, inl, inr, refl, sym, ap, subst, ◌∙◌, arith}
+use Rattle.std.proofs.Common.{◌≡◌, ℕ, zero, suc, ◌+◌, ◌<◌, Bool, true, false, ◌&&◌, T, eqb, List, [], ◌∷◌, length, get_or, map, Option, Some, None, is_some, inl, inr, refl, sym, ap, subst, ◌∙◌, arith}
 use Rattle.std.specs.Prelude.{IsPermutation}
 use Rattle.std.specs.Option.{option_map, option_map_or}
 use Rattle.std.specs.Ordering.{nat_cmp, is_lt, eq_by_cmp}
 use Rattle.std.specs.Cmp.{nat_cmp_is, unsigned_tied}
 use Rattle.std.specs.FinMap.{get, entries, find, is_sorted, get-entries, entries_sorted}
 use Rattle.std.specs.FinMap.Entries.{below_all}
-use Rattle.std.specs.declared.cmp.Ordering.TheVariants.{Less, Equal, Greater}
+use Rattle.std.specs.declared.cmp.Ordering.TheVariants.{Equal, Greater}
 use Rattle.std.specs.List.Sorted.{IsStrictlyIncreasing}
 use Rattle.std.proofs.lemmas.Bool.{cases_Bool, cases_order, eqb-true, eq-eqb, ne_eqb, eqb-false}
-use Rattle.std.proofs.lemmas.List.{same_lists, get_or_default, length-map}
+use Rattle.std.proofs.lemmas.List.{same_lists, get_or_default}
 use Rattle.gm_model.specs.GMap.{Row, row_of, IsLive}
 use Rattle.gm_model.specs.GMap as written
 use Rattle.gm_model.specs.MapText.{AreShaped, names}
 use Rattle.gm_arena.specs.ArenaMap.{ArenaMap, Dart, IsLiveName, alpha}
 use Rattle.gm_mapfile.specs.Rows.{row_of_entry, rows_of}
 use Rattle.gm_mapfile.specs.Building.{IsHeld}
-use Rattle.gm_mapfile.proofs.Named.{none_of}
 use Rattle.gm_mapfile.proofs.Permuted.{split_found, same_permuted, distinct_ascending}
 
 -- ---- look-ups

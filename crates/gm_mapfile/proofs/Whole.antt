@@ -1,5 +1,5 @@
 -- What the arena holds once all lines are added and linked.
-use Rattle.std.proofs.Common.{◌≡◌, ℕ, ◌+◌, ◌<◌, ◌≤◌, true, false, List, [], length, Option, Some, None, is_some, refl, sym, ap, subst, ◌∙◌, arith}
+use Rattle.std.proofs.Common.{◌≡◌, ℕ, ◌≤◌, List, [], Option, Some, None, is_some, refl, sym, ap, subst, ◌∙◌, arith}
 use Rattle.std.specs.Option.{option_map_or}
 use Rattle.std.specs.Ordering.{nat_cmp}
 use Rattle.std.specs.FinMap.{get, get-empty}
@@ -11,7 +11,7 @@ use Rattle.gm_model.specs.Breaches.{IsFirstWithoutTarget}
 use Rattle.gm_model.specs.MapFaults.{AreDistinct}
 use Rattle.gm_arena.specs.ArenaMap.{ArenaMap, Dart, IsLiveName, alpha}
 use Rattle.gm_arena.specs.Edits.{empty_map}
-use Rattle.gm_mapfile.specs.Rows.{IsNextLeast, rows_in}
+use Rattle.gm_mapfile.specs.Rows.{rows_in}
 use Rattle.gm_mapfile.specs.Building.{IsFresh, AreAdded, IsRelinked, AreLinked, IsFirstLack, IsHeld}
 use Rattle.gm_mapfile.proofs.Named.{none_of}
 

@@ -1,5 +1,5 @@
 -- Which first fault of a text a reader's answer names.
-use Rattle.std.specs.Prelude.{◌≡◌, ℕ, List, Option, Some, None, MatchOption}
+use Rattle.std.specs.Prelude.{ℕ, List, Option, Some, None, MatchOption}
 use Rattle.gm_model.specs.GMap.{Row, IsLive, alpha}
 use Rattle.gm_model.specs.Breaches.{IsFirstWithoutTarget}
 use Rattle.gm_model.specs.MapFaults.{TextFault, IsFirstFault, IsLeastTwice, AreDistinct}

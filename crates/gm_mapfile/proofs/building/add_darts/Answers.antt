@@ -1,7 +1,7 @@
-use Rattle.std.proofs.Common.{◌≡◌, not, ℕ, ◌+◌, ◌/◌, slice_index, ◌∷◌, [], ◌++◌, length, None, Some, refl, sym, ap, subst, ◌∙◌, arith}
+use Rattle.std.proofs.Common.{◌≡◌, not, ◌+◌, ◌/◌, slice_index, ◌∷◌, [], ◌++◌, length, None, refl, sym, ap, subst, ◌∙◌, arith}
 use Rattle.std.proofs.lemmas.List.{length_push}
 use Rattle.std.specs.FinMap.{get}
-use Rattle.std.specs.Slice.Iter.{chunks_exact_rest, chunks_exact_size}
+use Rattle.std.specs.Slice.Iter.{chunks_exact_rest}
 use Rattle.gm_arena.specs.ArenaMap.{IsAt}
 use Rattle.gm_arena.specs.declared.slot.Slot.{Slot}
 use Rattle.gm_mapfile.specs.Rows.{row_in, rows_in}

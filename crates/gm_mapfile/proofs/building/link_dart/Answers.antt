@@ -1,4 +1,4 @@
-use Rattle.std.proofs.Common.{◌≡◌, ℕ, ◌+◌, ap, subst, arith}
+use Rattle.std.proofs.Common.{◌≡◌, ◌+◌, ap, subst, arith}
 use Rattle.gm_mapfile.specs.Building.{IsDartLinked}
 use Rattle.gm_mapfile.proofs.Linking.{none_linked, linked_at}
 use Rattle.gm_mapfile.proofs.building.link_dart.Goals as goal

@@ -1,4 +1,4 @@
-use Rattle.std.proofs.Common.{◌≡◌, ℕ, ◌+◌, ◌*◌, ◌≤◌}
+use Rattle.std.proofs.Common.{◌+◌, ◌*◌, ◌≤◌}
 use Rattle.gm_arena.specs.ArenaMap.{IsAt}
 use Rattle.gm_mapfile.specs.Building.{IsDartLinked}
 use Rattle.gm_mapfile.proofs.building.link_dart.Given as goal

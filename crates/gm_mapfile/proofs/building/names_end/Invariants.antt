@@ -1,4 +1,4 @@
-use Rattle.std.proofs.Common.{◌≡◌, ℕ, ◌<◌, ◌≤◌, get_or}
+use Rattle.std.proofs.Common.{ℕ, ◌<◌, ◌≤◌, get_or}
 use Rattle.gm_mapfile.proofs.building.names_end.Given as goal
 
 abbrev pub invariant-loop-number : goal.invariant-loop-number

@@ -1,4 +1,4 @@
-use Rattle.std.proofs.Common.{◌≡◌, Some, sym, ap, ◌∙◌, arith}
+use Rattle.std.proofs.Common.{Some, sym, ap, ◌∙◌, arith}
 use Rattle.gm_mapfile.proofs.Printed.{neighbours_with, slots_long}
 use Rattle.gm_mapfile.proofs.printing.print_dart.Goals as goal
 

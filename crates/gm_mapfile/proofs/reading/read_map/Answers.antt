@@ -1,6 +1,5 @@
-use Rattle.std.proofs.Common.{◌≡◌, ◌+◌, ◌*◌, length, arith}
+use Rattle.std.proofs.Common.{arith}
 use Rattle.std.proofs.lemmas.Result.{err_from_is_err_and}
-use Rattle.gm_mapfile.specs.Rows.{rows_in}
 use Rattle.gm_mapfile.proofs.ReadMap.{text_fault_of, in_room, name_fault_of, text_of_held, law_fault_of, built_within, all_within}
 use Rattle.gm_mapfile.proofs.reading.read_map.Goals as goal
 
