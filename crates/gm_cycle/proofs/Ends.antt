@@ -1,15 +1,14 @@
 -- The links of a rule in range lead to its nodes.
-use Rattle.std.proofs.Common.{◌≡◌, ℕ, ◌<◌, inl, inr, true, false, Option, Some, None, List, [], ◌∷◌, length, eqb, refl, sym, ◌∙◌}
+use Rattle.std.proofs.Common.{◌≡◌, ℕ, ◌<◌, inl, inr, Option, Some, None, List, [], ◌∷◌, length, eqb, refl, sym, ◌∙◌}
 use Rattle.std.specs.List.{AllByRecursion, find, position}
 use Rattle.std.proofs.lemmas.Bool.{cases_Bool}
-use Rattle.std.proofs.lemmas.Option.{slice_get_cases}
 use Rattle.gm_model.specs.declared.rule.Link.{Link}
 use Rattle.gm_model.specs.declared.rule.Side.{Side}
 use Rattle.gm_model.specs.declared.rule.Side.TheVariants.{Right}
 use Rattle.gm_model.specs.declared.schema.Schema.{Schema}
 use Rattle.gm_model.specs.declared.step.Step.{Step}
 use Rattle.gm_model.specs.declared.step.Step.TheVariants.{Exp}
-use Rattle.gm_model.specs.Rules.{Rule, word_at, has_word, letters, links_on, is_end, is_label, other_end, step_by}
+use Rattle.gm_model.specs.Rules.{Rule, letters, links_on, is_end, is_label, other_end, step_by}
 use Rattle.gm_model.specs.Structure.{IsInRange, IsLinkInRange}
 use Rattle.gm_model.proofs.Nodes.{node_below}
 use Rattle.gm_cycle.specs.StepRows.{HasEnds, HasRows}
