@@ -1,0 +1,5 @@
+pub mod Counted
+pub mod Hooks
+pub mod Letters
+pub mod Marks
+pub mod Moved

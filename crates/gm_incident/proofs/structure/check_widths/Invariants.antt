@@ -1,0 +1,6 @@
+use Rattle.gm_model.specs.Rules.{rule_of}
+use Rattle.gm_model.specs.Structure.{AreGood, HasWidth}
+use Rattle.gm_incident.proofs.structure.check_widths.Given as goal
+
+abbrev pub invariant-loop-node : goal.invariant-loop-node
+invariant-loop-node l = AreGood (HasWidth (rule_of l.rule)) l.node
