@@ -1,0 +1,13 @@
+//! Rules compiled for their application: the steps of each node, and the least path to each left
+//! node; and where an application's instances lie.
+#![tactic(auto)]
+
+mod compile;
+mod instances;
+mod paths;
+mod plan;
+mod sides;
+
+pub use compile::PlanFault;
+pub use instances::Instances;
+pub use plan::Plan;
