@@ -3,3 +3,4 @@ pub mod Paths
 pub mod Placed
 pub mod Plans
 pub mod Refusals
+pub mod Searches

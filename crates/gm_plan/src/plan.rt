@@ -1,8 +1,8 @@
 ghost use Rattle.std.specs.Prelude.{◌≡◌, ◌≢◌, ℕ, ◌<◌, ◌≤◌, ◌↔◌, length, Some, MatchOption, IsTrue};
 
 use crate::sides::Row;
+use crate::paths::Paths;
 use gm_model::{Link, RuleTable, Schema, Side, Step};
-use smallvec::SmallVec;
 use std::marker::Model;
 
 /// A rule that is ready to be applied to maps of the schema: it is in range and typed, it meets
@@ -16,7 +16,7 @@ pub struct Plan<'b> {
     rule: &'b RuleTable,
     left: Vec<Row>,
     right: Vec<Row>,
-    paths: SmallVec<Link, 8>,
+    paths: Paths,
     left_nodes: u8,
     added: u8,
     removed: u8,

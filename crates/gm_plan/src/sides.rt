@@ -1,9 +1,8 @@
 ghost use Rattle.std.specs.Prelude.{◌≡◌, ◌≤◌, length, IfOk};
 ghost use Rattle.gm_model.specs.Rules.{rule_of};
-ghost use Rattle.gm_model.specs.Structure.{IsInRange};
-ghost use Rattle.gm_plan.specs.Plans.{AreSteps, IsLeftCount};
+ghost use Rattle.gm_plan.specs.Plans.{AreSteps};
 
-use gm_model::{OutOfMemory, RuleTable, Schema, Side, Step, MOST_LABELS};
+use gm_model::{OutOfMemory, RuleTable, Side, Step, MOST_LABELS};
 use std::alloc::Global;
 
 /// The steps of one node, by label.
