@@ -30,7 +30,7 @@ pub struct Node {
 }
 
 /// An arc between two nodes of one side, or from a node to itself.
-#[derive(Clone, Copy, Debug, PartialEq, Eq)]
+#[derive(Clone, Copy, Debug, Default, PartialEq, Eq)]
 pub struct Link {
     pub from: u8,
     pub label: u8,

@@ -47,25 +47,25 @@ nodes_have hook links t k x h b e =
     let long : length (take t links) ≡ t = length-take-le t links b in
     (k, omega (arith, nodes_length hook (take t links)), nodes_at hook (take t links) k x (omega arith) ∙ node_taken hook links t k h ∙ e)
 
-module _ (schema : Schema) (rule : Rule) (planned : IsPlanned schema rule) (top : schema.dim ≤ 7) (rows : List (List Step)) (are : AreSteps rule Left rows) where
+module _ (schema : Schema) (rule : Rule) (planned : IsPlanned schema rule) (top : schema.dim ≤ 7) (rows : List (List Step)) (are : AreSteps rule Left (length rule.nodes) rows) where
   -- ---- steps and links
 
   steps_linked_label : (x i y : ℕ) → row_step rows x i ≡ Exp y → i ≤ schema.dim
   steps_linked_label x i y e =
-      let within : (x < length rule.nodes) × (i < 8) = row_step_within rule Left rows are x i y e in
-      (linked_in_range schema rule planned.in_range planned.incidence x i y (step_linked rule x i y (sym (row_step_is rule Left rows are x i within.0 within.1) ∙ e))).2
+      let within : (x < length rule.nodes) × (i < 8) = row_step_within rule Left (length rule.nodes) rows are x i y e in
+      (linked_in_range schema rule planned.in_range planned.incidence x i y (step_linked rule x i y (sym (row_step_is rule Left (length rule.nodes) rows are x i within.0 within.1) ∙ e))).2
 
   pub steps_lead : (x : ℕ) (path : List ℕ) (y : ℕ) → StepsLead (row_step rows) x path y → Leads rule.left_links x path y
   steps_lead x [] y l = l
   steps_lead x (i ∷ path) y (z, e, l) =
-      let within : (x < length rule.nodes) × (i < 8) = row_step_within rule Left rows are x i z e in
-      (z, step_linked rule x i z (sym (row_step_is rule Left rows are x i within.0 within.1) ∙ e), steps_lead z path y l)
+      let within : (x < length rule.nodes) × (i < 8) = row_step_within rule Left (length rule.nodes) rows are x i z e in
+      (z, step_linked rule x i z (sym (row_step_is rule Left (length rule.nodes) rows are x i within.0 within.1) ∙ e), steps_lead z path y l)
 
   lead_steps : (x : ℕ) (path : List ℕ) (y : ℕ) → Leads rule.left_links x path y → StepsLead (row_step rows) x path y
   lead_steps x [] y l = l
   lead_steps x (i ∷ path) y (z, e, l) =
       let range : IsTrue (has_word rule Left x) × IsTrue (has_word rule Left z) × (i ≤ schema.dim) = linked_in_range schema rule planned.in_range planned.incidence x i z e in
-      (z, row_step_is rule Left rows are x i (word_below rule Left x range.0) (omega arith) ∙ linked_step schema rule planned.in_range planned.incidence x i z e, lead_steps z path y l)
+      (z, row_step_is rule Left (length rule.nodes) rows are x i (word_below rule Left x range.0) (omega arith) ∙ linked_step schema rule planned.in_range planned.incidence x i z e, lead_steps z path y l)
 
   lead_word : (x : ℕ) (path : List ℕ) (y : ℕ) → Leads rule.left_links x path y → IsTrue (has_word rule Left x) → IsTrue (has_word rule Left y)
   lead_word x [] y l h = subst (λ w. IsTrue (has_word rule Left w)) l h
@@ -127,7 +127,7 @@ module _ (schema : Schema) (rule : Rule) (planned : IsPlanned schema rule) (top 
           q_in = subst (λ n. q < n) (nodes_length hook links) b
 
           p_in : p < length links + 1
-          p_in = omega arith
+          p_in = omega (arith, q_in)
 
       all_left : (x : ℕ) → Contains (hook ∷ map (λ (link : Link). link.to) links) x ↔ IsTrue (has_word rule Left x)
       all_left x = (left, found)

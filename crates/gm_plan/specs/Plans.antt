@@ -30,11 +30,11 @@ pub record IsPlanned (schema : Schema) (rule : Rule) : Type 0 where
 
 -- ---- the tables
 
--- the list has the steps of each node at the labels 0 to 7
-pub record AreSteps (rule : Rule) (side : Side) (rows : List (List Step)) : Type 0 where
-  pub long : length rows ≡ length rule.nodes
+-- the rows have the steps of the first nodes at the labels 0 to 7
+pub record AreSteps (rule : Rule) (side : Side) (count : ℕ) (rows : List (List Step)) : Type 0 where
+  pub long : length rows ≡ count
   pub row_long : (x : ℕ) (row : List Step) → slice_get rows x ≡ Some row → length row ≡ 8
-  pub here : (x i : ℕ) → x < length rule.nodes → i < 8 → option_and_then (λ row. slice_get row i) (slice_get rows x) ≡ Some (step rule side x i)
+  pub here : (x i : ℕ) → x < count → i < 8 → option_and_then (λ row. slice_get row i) (slice_get rows x) ≡ Some (step rule side x i)
 
 -- the nodes below the count are the left nodes
 abbrev pub IsLeftCount : Rule → ℕ → Type 0
@@ -47,7 +47,7 @@ pub record AreCounts (rule : Rule) (left added removed : ℕ) : Type 0 where
 
 pub record IsCompiled (schema : Schema) (rule : Rule) (left right : List (List Step)) (paths : List Link) (left_nodes added removed : ℕ) : Type 0 where
   pub planned : IsPlanned schema rule
-  pub left_steps : AreSteps rule Left left
-  pub right_steps : AreSteps rule Right right
+  pub left_steps : AreSteps rule Left (length rule.nodes) left
+  pub right_steps : AreSteps rule Right (length rule.nodes) right
   pub are_paths : ArePaths rule paths
   pub are_counts : AreCounts rule left_nodes added removed

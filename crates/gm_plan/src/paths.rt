@@ -17,7 +17,7 @@ pub type Paths = SmallVec<Link, 8>;
 /// The rows have the left steps of each node.
 pub fn least_paths(alloc: Global, schema: &Schema, rule: &RuleTable, rows: &[Row]) -> Result<Paths, OutOfMemory>
     requires planned { IsPlanned schema.now (rule_of rule.now) }
-    requires rows { AreSteps (rule_of rule.now) Left rows.now }
+    requires rows { AreSteps (rule_of rule.now) Left (length (rule_of rule.now).nodes) rows.now }
     ensures { IfOk result (λ paths. ArePaths (rule_of rule.now) paths.items) }
 {
     let labels = schema.dim.top() + 1;
