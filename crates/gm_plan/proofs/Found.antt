@@ -1,9 +1,13 @@
 -- A search that has ended has found the least path to each left node.
 use Rattle.std.proofs.Common.{◌≡◌, ◌≢◌, ℕ, zero, suc, ◌+◌, ◌<◌, ◌≤◌, ◌⊎◌, inl, inr, ◌↔◌, IsTrue, List, [], ◌∷◌, ◌++◌, length, map, take, get_or, Some, refl, sym, ap, subst, ◌∙◌, arith, append-nil}
-use Rattle.std.proofs.lemmas.Bool.{cases_order}
-use Rattle.std.proofs.lemmas.List.{get_or-take, length-map, length-take-le}
+use Rattle.std.proofs.lemmas.Bool.{cases_order, eqb-true}
+use Rattle.std.proofs.lemmas.Bool.Decides.{Decides-eqb}
+use Rattle.std.proofs.lemmas.List.{get_or_default, get_or-take, length-map, length-take-le}
 use Rattle.std.proofs.lemmas.Option.{get_or_from_slice_get, slice_get_within}
-use Rattle.std.specs.List.{slice_get, AllByRecursion, Contains}
+use Rattle.std.proofs.lemmas.Map.Made.{IsDistinct-from_AllPairs}
+use Rattle.std.proofs.lemmas.Map.Steps.{length-le_from_distinct_below}
+use Rattle.std.proofs.lemmas.Map.Views.{Contains-from_any}
+use Rattle.std.specs.List.{slice_get, AllByRecursion, AllPairs, Contains}
 use Rattle.gm_model.specs.declared.rule.Link.{Link}
 use Rattle.gm_model.specs.declared.rule.Side.TheVariants.{Left}
 use Rattle.gm_model.specs.declared.schema.Schema.{Schema}
@@ -19,8 +23,8 @@ use Rattle.gm_plan.specs.Searches.{row_step, StepsLead, IsAtMost, link_at, node_
 use Rattle.gm_plan.proofs.Orders.{at_most_not_smaller}
 use Rattle.gm_plan.proofs.RuleLinks.{linked_in_range, linked_step, step_linked}
 use Rattle.gm_plan.proofs.Rows.{row_step_is, row_step_within}
-use Rattle.gm_plan.proofs.Search.{search_ends}
-use Rattle.gm_theory.proofs.Lists.{none_some}
+use Rattle.gm_plan.proofs.Search.{search_settles, search_ends}
+use Rattle.gm_theory.proofs.Lists.{none_some, some_same}
 use Rattle.gm_theory.proofs.RuleSteps.{word_below}
 
 -- ---- the nodes of paths, as a list
@@ -73,17 +77,56 @@ module _ (schema : Schema) (rule : Rule) (planned : IsPlanned schema rule) (top 
 
   -- ---- a rule with a hook
 
-  module _ (hook : ℕ) (hooks_are : rule.hooks ≡ hook ∷ []) (links : List Link) where
+  pub one_hook : (hook : ℕ) → slice_get rule.hooks 0 ≡ Some hook → rule.hooks ≡ hook ∷ []
+  one_hook hook e = go rule.hooks (planned.incidence.structured.hook.0) planned.in_range.hooks e
+    where
+      go : (hooks : List ℕ) → ((x : ℕ) → IsTrue (has_word rule Left x) → length hooks ≡ 1) → AllByRecursion (λ h. IsTrue (has_word rule Left h)) hooks → slice_get hooks 0 ≡ Some hook → hooks ≡ hook ∷ []
+      go [] one all f = none_some hook f
+      go (h ∷ []) one all f = ap (λ x. x ∷ []) (some_same h hook f)
+      go (h ∷ g ∷ hooks) one all f = absurd (let n : length (h ∷ g ∷ hooks) ≡ 1 = one h all.0 in omega arith)
+
+  module _ (labels : ℕ) (labels_are : labels ≡ schema.dim + 1) (hook : ℕ) (hooks_are : rule.hooks ≡ hook ∷ []) (links : List Link) where
     hook_word : IsTrue (has_word rule Left hook)
     hook_word = (subst (AllByRecursion (λ h. IsTrue (has_word rule Left h))) hooks_are planned.in_range.hooks).0
 
     -- each node that is found is a left node
-    pub found_left : (q l : ℕ) → IsSearched (schema.dim + 1) rows hook links q l → (t : ℕ) → t < length links + 1 → IsTrue (has_word rule Left (node_at hook links t))
+    pub found_left : (q l : ℕ) → IsSearched labels rows hook links q l → (t : ℕ) → t < length links + 1 → IsTrue (has_word rule Left (node_at hook links t))
     found_left q l (way, h) t b = lead_word hook (way t) (node_at hook links t) (steps_lead hook (way t) (node_at hook links t) (h.leads t b)) hook_word
 
-    module _ (way : ℕ → List ℕ) (h : IsSearch (schema.dim + 1) (row_step rows) (node_at hook links) way (link_at links) (length links + 1) (length links + 1) 0) where
+    module _ (q l : ℕ) (searched : IsSearched labels rows hook links q l) where
+      distinct : HasNoRepeats (hook ∷ map (λ (link : Link). link.to) links)
+      distinct s t a b = rw (nodes_at hook links s 0 s_in, nodes_at hook links t 0 t_in) (searched.1.distinct s t a t_in)
+        where
+          t_in : t < length links + 1
+          t_in = subst (λ n. t < n) (nodes_length hook links) b
+
+          s_in : s < length links + 1
+          s_in = omega (arith, t_in)
+
+      differ : AllPairs (λ x y. x ≢ y) (hook ∷ map (λ (link : Link). link.to) links)
+      differ s t d a b = rw (get_or_default (hook ∷ map (λ (link : Link). link.to) links) s d 0 s_in, get_or_default (hook ∷ map (λ (link : Link). link.to) links) t d 0 b) (distinct s t a b)
+        where
+          s_in : s < length (hook ∷ map (λ (link : Link). link.to) links)
+          s_in = omega (arith, b)
+
+      node_below : (x : ℕ) → Contains (hook ∷ map (λ (link : Link). link.to) links) x → x < length rule.nodes
+      node_below x (k, b, e) =
+          let within : k < length links + 1 = subst (λ n. k < n) (nodes_length hook links) b in
+          subst (λ w. w < length rule.nodes) (sym (nodes_at hook links k x within) ∙ e) (word_below rule Left (node_at hook links k) (found_left q l searched k within))
+
+      -- no more nodes are found than the rule has
+      pub search_room : length links + 1 ≤ length rule.nodes
+      search_room = subst (λ n. n ≤ length rule.nodes) (nodes_length hook links) (length-le_from_distinct_below (hook ∷ map (λ (link : Link). link.to) links) (length rule.nodes)
+          (IsDistinct-from_AllPairs Decides-eqb (hook ∷ map (λ (link : Link). link.to) links) differ)
+          (λ x t. node_below x (Contains-from_any (λ a b f. eqb-true a b f) x (hook ∷ map (λ (link : Link). link.to) links) t)))
+
+      -- each node that is found has a row
+      pub found_row : (t : ℕ) → t < length links + 1 → node_at hook links t < length rows
+      found_row t b = rw are.long (word_below rule Left (node_at hook links t) (found_left q l searched t b))
+
+    module _ (way : ℕ → List ℕ) (h : IsSearch labels (row_step rows) (node_at hook links) way (link_at links) (length links + 1) (length links + 1) 0) where
       reached : (x : ℕ) (path : List ℕ) → Leads rule.left_links hook path x → (t : ℕ) × (t < length links + 1) × (node_at hook links t ≡ x) × IsAtMost (way t) path
-      reached x path l = search_ends (schema.dim + 1) (row_step rows) (node_at hook links) way (link_at links) (length links + 1) h (λ w i y e. let b : i ≤ schema.dim = steps_linked_label w i y e in omega arith) path [] 0 hook x (omega arith) refl (inl h.starts) (lead_steps hook path x l)
+      reached x path l = search_ends labels (row_step rows) (node_at hook links) way (link_at links) (length links + 1) h (λ w i y e. let b : i ≤ schema.dim = steps_linked_label w i y e in omega (arith, labels_are)) path [] 0 hook x (omega arith) refl (inl h.starts) (lead_steps hook path x l)
 
       same_place : (s t : ℕ) → s < length links + 1 → t < length links + 1 → node_at hook links s ≡ node_at hook links t → s ≡ t
       same_place s t a b e = go (cases_order s t)
@@ -120,15 +163,6 @@ module _ (schema : Schema) (rule : Rule) (planned : IsPlanned schema rule) (top 
           go : (s : ℕ) × (s ≤ t) × (node_at hook links s ≡ (link_at links t).from) × (way (suc t) ≡ way s ++ (link_at links t).label ∷ []) → Contains (hook ∷ map (λ (link : Link). link.to) (take t links)) (link_at links t).from
           go (s, a, e, f) = nodes_have hook links t s (link_at links t).from a (omega arith) e
 
-      distinct : HasNoRepeats (hook ∷ map (λ (link : Link). link.to) links)
-      distinct p q a b = rw (nodes_at hook links p 0 p_in, nodes_at hook links q 0 q_in) (h.distinct p q a q_in)
-        where
-          q_in : q < length links + 1
-          q_in = subst (λ n. q < n) (nodes_length hook links) b
-
-          p_in : p < length links + 1
-          p_in = omega (arith, q_in)
-
       all_left : (x : ℕ) → Contains (hook ∷ map (λ (link : Link). link.to) links) x ↔ IsTrue (has_word rule Left x)
       all_left x = (left, found)
         where
@@ -150,12 +184,15 @@ module _ (schema : Schema) (rule : Rule) (planned : IsPlanned schema rule) (top 
                   reached_at : (t : ℕ) × (t < length links + 1) × (node_at hook links t ≡ x) × IsAtMost (way t) path → Contains (hook ∷ map (λ (link : Link). link.to) links) x
                   reached_at (t, b, e, m) = (t, subst (λ n. t < n) (sym (nodes_length hook links)) b, nodes_at hook links t x b ∙ e)
 
-    pub searched_paths : IsSearched (schema.dim + 1) rows hook links (length links + 1) 0 → ArePaths rule links
-    searched_paths (way, h) = record {
-      ends = λ t link e. rw (← get_or_from_slice_get links t link (link_from 0 0 0) e) (ends way h t (slice_get_within links t link e));
-      earlier = λ t link e. rw (← get_or_from_slice_get links t link (link_from 0 0 0) e, hooks_are) (earlier way h t (slice_get_within links t link e));
-      nodes = record { distinct = rw hooks_are (distinct way h); same = λ x. rw hooks_are (all_left way h x) };
-    }
+    pub searched_paths : (q : ℕ) → length links + 1 ≤ q → IsSearched labels rows hook links q 0 → ArePaths rule links
+    searched_paths q b (way, g) = settled (search_settles labels (row_step rows) (node_at hook links) way (link_at links) (length links + 1) q b g)
+      where
+        settled : IsSearch labels (row_step rows) (node_at hook links) way (link_at links) (length links + 1) (length links + 1) 0 → ArePaths rule links
+        settled h = record {
+          ends = λ t link e. rw (← get_or_from_slice_get links t link (link_from 0 0 0) e) (ends way h t (slice_get_within links t link e));
+          earlier = λ t link e. rw (← get_or_from_slice_get links t link (link_from 0 0 0) e, hooks_are) (earlier way h t (slice_get_within links t link e));
+          nodes = record { distinct = rw hooks_are (distinct (length links + 1) 0 (way, h)); same = λ x. rw hooks_are (all_left way h x) };
+        }
 
   -- ---- a creation rule
 

@@ -13,7 +13,7 @@ use Rattle.gm_plan.proofs.Orders.{smaller_trans, smaller_push, smaller_last, at_
 below_or_at : (s n : ℕ) → s < n + 1 → (s < n) ⊎ (s ≡ n)
 below_or_at s n h = elim (cases_lt s n) [ inl b ↦ inl b | inr b ↦ inr (omega arith) ]
 
-same_end : (y z : ℕ) → Exp y ≡ Exp z → y ≡ z
+pub same_end : (y z : ℕ) → Exp y ≡ Exp z → y ≡ z
 same_end y z e = cc
 
 pub leads_on : (steps : ℕ → ℕ → Step) (x : ℕ) (path : List ℕ) (y i z : ℕ) → StepsLead steps x path y → steps y i ≡ Exp z → StepsLead steps x (path ++ i ∷ []) z
@@ -96,6 +96,18 @@ module _ (labels : ℕ) (steps : ℕ → ℕ → Step) (node : ℕ → ℕ) (way
           go (inr c) = h.closed s i y (inr (c, k)) a k f
 
   -- ---- the end
+
+  -- Each node was followed.
+  pub search_settles : (count q : ℕ) → count ≤ q → IsSearch labels steps node way link count q 0 → IsSearch labels steps node way link count count 0
+  search_settles count q b h = record {
+    starts = h.starts;
+    leads = h.leads;
+    rising = h.rising;
+    distinct = h.distinct;
+    closed = λ s i y before a k f. h.closed s i y (inl (omega arith)) a k f;
+    below = λ t a c. absurd (omega arith);
+    linked = h.linked;
+  }
 
   -- each path that begins with one to a node that is found leads to a node that is found on a path that is no greater
   pub search_ends : (count : ℕ) → IsSearch labels steps node way link count count 0 → ((x i y : ℕ) → steps x i ≡ Exp y → i < labels) →

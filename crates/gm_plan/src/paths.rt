@@ -1,4 +1,7 @@
-ghost use Rattle.std.specs.Prelude.{◌≡◌, ℕ, ◌+◌, ◌<◌, ◌≤◌, ◌↔◌, length, IfOk, OnOk, IsTrue};
+ghost use Rattle.std.specs.Prelude.{◌≡◌, ℕ, ◌+◌, ◌<◌, ◌≤◌, ◌↔◌, ◌==◌, length, IfOk, OnOk, IsTrue};
+ghost use Rattle.std.specs.List.{find};
+ghost use Rattle.std.specs.Option.{option_copied};
+ghost use Rattle.gm_model.specs.declared.rule.Link.{Link};
 ghost use Rattle.gm_model.specs.declared.rule.Side.TheVariants.{Left};
 ghost use Rattle.gm_model.specs.Rules.{rule_of};
 ghost use Rattle.gm_plan.specs.Paths.{ArePaths};
@@ -55,5 +58,12 @@ fn follow(paths: &mut Paths, rows: &[Row], labels: u8, hook: u8, node: u8) -> Re
 fn is_found(links: &[Link], hook: u8, node: u8) -> bool
     ensures { IsTrue result ↔ IsFound hook links.now node }
 {
-    node == hook || links.iter().any(|link| link.to == node)
+    hook == node || link_to(links, node).is_some()
+}
+
+/// The link to the node.
+pub fn link_to(links: &[Link], node: u8) -> Option<&Link>
+    ensures { option_copied result ≡ find (λ (link : Link). link.to == node) links.now }
+{
+    links.iter().find(|link| link.to == node)
 }

@@ -1,7 +1,7 @@
 ghost use Rattle.std.specs.Prelude.{◌≡◌, ◌≢◌, ℕ, ◌<◌, ◌≤◌, ◌↔◌, length, Some, MatchOption, IsTrue};
 
 use crate::sides::Row;
-use crate::paths::Paths;
+use crate::paths::{link_to, Paths};
 use gm_model::{Link, RuleTable, Schema, Side, Step};
 use std::marker::Model;
 
@@ -118,7 +118,7 @@ impl<'b> Plan<'b> {
             (first_hook (rule_of self.now.table) ≡ Some node)
             (λ end. (first_hook (rule_of self.now.table) ≢ Some node) × IsLastLink (rule_of self.now.table) (link_from end.0 end.1 node)) }
     {
-        let link = self.paths.as_slice().iter().find(|link| link.to == node)?;
+        let link = link_to(self.paths.as_slice(), node)?;
         Some((link.from, link.label))
     }
 }

@@ -1,5 +1,4 @@
-use Rattle.std.proofs.Common.{◌≡◌, ◌+◌, ◌-◌, ◌≤◌, [], ◌∷◌, length}
-use Rattle.gm_model.specs.declared.rule.Side.TheVariants.{Left}
+use Rattle.std.proofs.Common.{◌+◌, ◌-◌}
 use Rattle.gm_plan.specs.Searches.{IsSearched}
 use Rattle.gm_plan.proofs.paths.least_paths.Given as goal
 
