@@ -1,11 +1,11 @@
 -- From the counts of a node's labels to the conditions on its arcs.
-use Rattle.std.proofs.Common.{◌≡◌, ℕ, ◌+◌, ◌<◌, ◌≤◌, ◌↔◌, ◌&&◌, not, inl, inr, Bool, true, false, List, get_or, refl, sym, subst, rules, arith}
+use Rattle.std.proofs.Common.{◌≡◌, ℕ, ◌+◌, ◌<◌, ◌≤◌, ◌↔◌, ◌&&◌, not, inl, inr, Bool, true, false, List, get_or, refl, sym, subst, arith}
 use Rattle.gm_model.specs.declared.rule.RuleFault.{RuleFault}
 use Rattle.gm_model.specs.declared.rule.RuleFault.TheVariants as faults
 use Rattle.gm_model.specs.declared.rule.Side.{Side}
 use Rattle.gm_model.specs.declared.rule.Side.TheVariants.{Left, Right}
-use Rattle.gm_model.specs.Rules.{Rule, has_word, is_preserved, is_removed, is_added}
-use Rattle.gm_model.specs.Structure.{AreGood, IsFirstBad, arcs_at, HasOnce, HasLabel, HasWhereOneSided, HasOnBoth, HasArcs, IsNodeArcFault, TwiceLeft, TwiceRight, Missing, Differs}
+use Rattle.gm_model.specs.Rules.{Rule, has_word}
+use Rattle.gm_model.specs.Structure.{AreGood, arcs_at, HasOnce, HasLabel, HasWhereOneSided, HasOnBoth, HasArcs, IsNodeArcFault, TwiceLeft, TwiceRight, Missing, Differs}
 use Rattle.gm_incident.specs.Faults.{IsFirstFault}
 use Rattle.gm_incident.specs.Ranges.{HasSomeWord}
 use Rattle.gm_incident.proofs.Moved.{good_moved, fault_moved}
@@ -100,8 +100,9 @@ module _ (n : ℕ) (few : n ≤ 7) (rule : Rule) (x : ℕ) where
           left_once = left;
           right_once = right;
           one_sided = λ i b. (
-              (λ p. absurd (not_second (has_word rule Left x) (has_word rule Right x) has_right p)),
-              (λ p. absurd (not_first (has_word rule Left x) (has_word rule Right x) has_left p)));
+            (λ p. absurd (not_second (has_word rule Left x) (has_word rule Right x) has_right p)),
+            (λ p. absurd (not_first (has_word rule Left x) (has_word rule Right x) has_left p)),
+          );
           both = good_moved (IsOnBoth lefts rights) (HasOnBoth rule x) (n + 1) both_to h;
         }
 

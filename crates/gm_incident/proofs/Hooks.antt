@@ -1,5 +1,5 @@
 -- When a rule has as many hooks as it needs, and when the word of each is plain.
-use Rattle.std.proofs.Common.{◌≡◌, ℕ, zero, suc, ◌+◌, ◌<◌, Bool, true, false, List, [], ◌∷◌, length, Some, refl, subst, sym, ◌∙◌, ap, arith}
+use Rattle.std.proofs.Common.{◌≡◌, ℕ, zero, suc, Bool, true, false, List, [], ◌∷◌, length, Some, refl, subst, sym, ◌∙◌, ap, arith}
 use Rattle.std.specs.List.{slice_get, slice_index}
 use mir.Val.{bool_byte}
 use Rattle.std.proofs.lemmas.Bool.{false_from_ne_true}
@@ -32,7 +32,7 @@ hooks_wrong rule false lf h ne hook = ne (ap length (hook.1 (no_left rule lf h))
 module _ (rule : Rule) (k : ℕ) (h : slice_get rule.hooks k ≡ Some (slice_index rule.hooks k)) where
   pub plain_hook : IsPlainWord (letters rule Left (slice_index rule.hooks k)) → HasPlainHook rule k
   plain_hook p h' e = let same : slice_index rule.hooks k ≡ h' = (let e' : Some (slice_index rule.hooks k) ≡ Some h' = sym h ∙ e in cc) in
-    subst (λ y. IsPlainWord (letters rule Left y)) same p
+      subst (λ y. IsPlainWord (letters rule Left y)) same p
 
   pub unplain_hook : (IsPlainWord (letters rule Left (slice_index rule.hooks k)) → ⊥) → HasPlainHook rule k → ⊥
   unplain_hook n good = n (good (slice_index rule.hooks k) h)

@@ -1,7 +1,7 @@
 -- How marks spread along links, and that no mark is missing once they have spread.
-use Rattle.std.proofs.Common.{◌≡◌, ◌≢◌, ℕ, suc, ◌+◌, ◌<◌, ◌≤◌, ◌⊎◌, inl, inr, ◌↔◌, Bool, true, false, not, cond, eqb, List, [], ◌∷◌, ◌++◌, length, get_or, set, take, replicate, refl, ap, sym, subst, ◌∙◌, arith}
+use Rattle.std.proofs.Common.{◌≡◌, ◌≢◌, ℕ, ◌+◌, ◌<◌, ◌⊎◌, inl, inr, ◌↔◌, Bool, true, false, not, cond, eqb, List, [], ◌∷◌, ◌++◌, length, get_or, set, take, replicate, refl, ap, sym, subst, ◌∙◌, arith}
 use mathlib.Core.Bool.{beq}
-use Rattle.std.specs.List.{All, AllByRecursion, Contains, sum_by, count_by}
+use Rattle.std.specs.List.{All, Contains}
 use Rattle.std.proofs.lemmas.Bool.{cases_Bool, cases_lt, eqb-true, eqb-false, true_from_ne_false}
 use Rattle.std.proofs.Math.ListN.{get_or-eq_default}
 use Rattle.std.proofs.lemmas.List.{get_or-set_same, get_or-set_other, get_or-replicate, length-replicate, length-set, take_more}
@@ -17,18 +17,21 @@ use Rattle.gm_incident.specs.Reached.{is_reached, IsReached, unreached, IsJoined
 
 pub nothing_marked : (n x : ℕ) → get_or (replicate n false) x false ≡ true → ⊥
 nothing_marked n x h = elim (cases_lt x n) [
-    inl b ↦ (let e : get_or (replicate n false) x false ≡ false = get_or-replicate n x false false b in cc)
-  | inr b ↦ (let e : get_or (replicate n false) x false ≡ false = get_or-eq_default (replicate n false) false (rw length-replicate b) in cc) ]
+  | inl b ↦ (let e : get_or (replicate n false) x false ≡ false = get_or-replicate n x false false b in cc)
+  | inr b ↦ (let e : get_or (replicate n false) x false ≡ false = get_or-eq_default (replicate n false) false (rw length-replicate b) in cc)
+]
 
 pub mark_kept : (r : List Bool) (y x : ℕ) → y < length r → IsReached r x → IsReached (set r y true) x
 mark_kept r y x b h = elim (cases_Bool (eqb y x)) [
-    inl e ↦ (let e' : y ≡ x = eqb-true y x e in rw (← e') (get_or-set_same r y true false b))
-  | inr e ↦ (let ne : x ≢ y = (λ p. eqb-false y x e (sym p)) in rw (get_or-set_other r y x true false ne) h) ]
+  | inl e ↦ (let e' : y ≡ x = eqb-true y x e in rw (← e') (get_or-set_same r y true false b))
+  | inr e ↦ (let ne : x ≢ y = (λ p. eqb-false y x e (sym p)) in rw (get_or-set_other r y x true false ne) h)
+]
 
 pub mark_set : (r : List Bool) (y x : ℕ) → IsReached (set r y true) x → IsReached r x ⊎ (y ≡ x)
 mark_set r y x h = elim (cases_Bool (eqb y x)) [
-    inl e ↦ inr (eqb-true y x e)
-  | inr e ↦ (let ne : x ≢ y = (λ p. eqb-false y x e (sym p)) in inl (rw (get_or-set_other r y x true false ne) at h)) ]
+  | inl e ↦ inr (eqb-true y x e)
+  | inr e ↦ (let ne : x ≢ y = (λ p. eqb-false y x e (sym p)) in inl (rw (get_or-set_other r y x true false ne) at h))
+]
 
 -- ---- paths
 
@@ -56,12 +59,15 @@ joined_all links x y z h l = (h.0 ++ l.0, any_path (h.0 ++ l.0), leads_all links
 pub marked_more : (nodes : List ℕ) (k : ℕ) (r : List Bool) → k < length nodes → get_or nodes k 0 < length r →
     ((x : ℕ) → IsReached r x ↔ Contains (take k nodes) x) → (x : ℕ) → IsReached (set r (get_or nodes k 0) true) x ↔ Contains (take (k + 1) nodes) x
 marked_more nodes k r b w held x = rw (take_more nodes k 0 b) (
-    (λ h. elim (mark_set r (get_or nodes k 0) x h) [
-        inl p ↦ Contains-append_left (take k nodes) _ x ((held x).0 p)
-      | inr e ↦ subst (λ y. Contains (take k nodes ++ get_or nodes k 0 ∷ []) y) e (Contains-push (take k nodes) (get_or nodes k 0)) ]),
-    (λ h. elim (Contains-push_cases (take k nodes) (get_or nodes k 0) x h) [
-        inl p ↦ mark_kept r (get_or nodes k 0) x w ((held x).1 p)
-      | inr e ↦ subst (λ y. IsReached (set r (get_or nodes k 0) true) y) e (get_or-set_same r (get_or nodes k 0) true false w) ]))
+  (λ h. elim (mark_set r (get_or nodes k 0) x h) [
+    | inl p ↦ Contains-append_left (take k nodes) _ x ((held x).0 p)
+    | inr e ↦ subst (λ y. Contains (take k nodes ++ get_or nodes k 0 ∷ []) y) e (Contains-push (take k nodes) (get_or nodes k 0))
+  ]),
+  (λ h. elim (Contains-push_cases (take k nodes) (get_or nodes k 0) x h) [
+    | inl p ↦ mark_kept r (get_or nodes k 0) x w ((held x).1 p)
+    | inr e ↦ subst (λ y. IsReached (set r (get_or nodes k 0) true) y) e (get_or-set_same r (get_or nodes k 0) true false w)
+  ]),
+)
 
 -- ---- one turn of the loop over the links
 
@@ -80,9 +86,10 @@ source_on links old x i z l h = (h.0, h.1, joined_on links h.0 x i z h.2 l)
 both_sources : (links : List Link) (old r : List Bool) (f i t : ℕ) → HasSpread links old r → IsLinked links f i t → is_reached r f ≢ is_reached r t →
     Source links old f × Source links old t
 both_sources links old r f i t h l ne = elim (cases_Bool (is_reached r f)) [
-    inl p ↦ (h.joined f p, source_on links old f i t l (h.joined f p))
+  | inl p ↦ (h.joined f p, source_on links old f i t l (h.joined f p))
   | inr p ↦ (let q : is_reached r t ≡ true = true_from_ne_false (is_reached r t) (λ e. ne (p ∙ sym e)) in
-      (source_on links old t i f (linked_back links f i t l) (h.joined t q), h.joined t q)) ]
+      (source_on links old t i f (linked_back links f i t l) (h.joined t q), h.joined t q))
+]
 
 pub spread_more : (links : List Link) (old r : List Bool) (f i t : ℕ) → f < length r → t < length r → HasSpread links old r → IsLinked links f i t →
     is_reached r f ≢ is_reached r t → HasSpread links old (set (set r f true) t true)
@@ -92,10 +99,12 @@ spread_more links old r f i t bf bt h l ne =
     record {
       kept = λ x p. mark_kept (set r f true) t x bt' (mark_kept r f x bf (h.kept x p));
       joined = λ x p. elim (mark_set (set r f true) t x p) [
-          inr e ↦ subst (Source links old) e both.1
+        | inr e ↦ subst (Source links old) e both.1
         | inl q ↦ elim (mark_set r f x q) [
-            inr e ↦ subst (Source links old) e both.0
-          | inl k ↦ h.joined x k ] ];
+          | inr e ↦ subst (Source links old) e both.0
+          | inl k ↦ h.joined x k
+        ]
+      ];
     }
 
 -- one node less is unmarked

@@ -1,7 +1,7 @@
 -- A test that agrees with another below a count has the same first fault.
-use Rattle.std.proofs.Common.{◌≡◌, ℕ, ◌<◌, ◌≤◌, arith}
+use Rattle.std.proofs.Common.{ℕ, ◌<◌, arith}
 use Rattle.gm_model.specs.declared.rule.RuleFault.{RuleFault}
-use Rattle.gm_model.specs.Structure.{AreGood, IsFirstBad}
+use Rattle.gm_model.specs.Structure.{AreGood}
 use Rattle.gm_incident.specs.Faults.{IsFirstFault}
 
 module _ (P Q : ℕ → Type 0) (count : ℕ) (to : (i : ℕ) → i < count → P i → Q i) where

@@ -17,9 +17,8 @@ pub record HasLinkLabels (links : List Link) : Type 0 where
   pub few : length links ≤ 256
   pub labels : All (λ (link : Link). link.label < 8) links
 
--- a short word, with labels below 8
+-- a word with labels below 8
 pub record HasWordLabels (word : List Letter) : Type 0 where
-  pub few : length word ≤ 8
   pub labels : (m i : ℕ) → slice_get word m ≡ Some (At i) → i < 8
 
 pub record HasLabels (rule : Rule) : Type 0 where

@@ -1,5 +1,5 @@
 -- Which nodes are marked in a table, and how the marks spread along links.
-use Rattle.std.specs.Prelude.{◌≡◌, ℕ, ◌<◌, Bool, true, false, not, List, length, slice_index_or}
+use Rattle.std.specs.Prelude.{◌≡◌, ℕ, Bool, true, false, not, List, slice_index_or}
 use Rattle.std.specs.List.{Contains, count_by}
 use Rattle.gm_model.specs.declared.rule.Link.{Link}
 use Rattle.gm_model.specs.Structure.{IsJoined, any_label}

@@ -4,19 +4,19 @@ ghost use Rattle.gm_model.specs.Structure.{AreGood, HasArcs, IsArcFault, IsNodeA
 ghost use Rattle.gm_incident.specs.Faults.{IsFirstFault};
 ghost use Rattle.gm_incident.specs.Ranges.{HasLabels, HasSomeWord};
 
-use crate::counts::{arc_counts, Counts};
-use gm_model::{Dim, RuleFault, RuleTable, Side};
+use crate::counts::{Counts, arc_counts};
+use gm_model::{RuleFault, RuleTable, Side};
 
-/// The first fault of the arcs at the nodes of a rule.
-pub fn check_arcs(dim: Dim, rule: &RuleTable) -> Result<(), RuleFault>
+/// The first fault of the arcs at the nodes of a rule, with labels up to the greatest.
+pub fn check_arcs(top: u8, rule: &RuleTable) -> Result<(), RuleFault>
+    requires top { top ≤ 7 }
     requires nodes { length (rule_of rule.now).nodes ≤ 32 }
     requires some_word { (x : ℕ) → x < length (rule_of rule.now).nodes → HasSomeWord (rule_of rule.now) x }
     requires labels { HasLabels (rule_of rule.now) }
     ensures { MatchResult result
-        (λ _. AreGood (HasArcs dim (rule_of rule.now)) (length (rule_of rule.now).nodes))
-        (λ fault. IsArcFault dim (rule_of rule.now) fault) }
+        (λ _. AreGood (HasArcs top (rule_of rule.now)) (length (rule_of rule.now).nodes))
+        (λ fault. IsArcFault top (rule_of rule.now) fault) }
 {
-    let top = dim.top();
     for node in 0..rule.node_count() {
         check_node(top, rule, node)?;
     }

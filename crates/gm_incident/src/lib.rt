@@ -25,5 +25,5 @@ pub fn check(schema: &Schema, rule: &RuleTable) -> Result<(), RuleFault>
         (λ fault. IsIncidenceFault schema.now.dim (rule_of rule.now) fault) }
 {
     check_structure(rule)?;
-    check_arcs(schema.dim, rule)
+    check_arcs(schema.dim.top(), rule)
 }

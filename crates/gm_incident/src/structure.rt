@@ -41,7 +41,7 @@ fn check_hook_words(rule: &RuleTable) -> Result<(), RuleFault>
     ensures { MatchResult result
         (λ _. AreGood (HasPlainHook (rule_of rule.now)) (length rule.now.hooks))
         (λ fault. IsFirstFault (HasPlainHook (rule_of rule.now)) (length rule.now.hooks)
-            (λ t. RuleFault.HookWord (slice_index rule.now.hooks t)) fault) }
+        (λ t. RuleFault.HookWord (slice_index rule.now.hooks t)) fault) }
 {
     for hook in rule.hooks.as_slice() {
         if !has_plain_word(rule, *hook) {
@@ -118,7 +118,8 @@ fn has_width(rule: &RuleTable, node: u8, width: u8) -> bool
     requires { width ≡ width_of (rule_of rule.now) }
     ensures { IsTrue result ↔ HasWidth (rule_of rule.now) node }
 {
-    is_missing_or_long(rule.word(Side::Left, node), width) && is_missing_or_long(rule.word(Side::Right, node), width)
+    is_missing_or_long(rule.word(Side::Left, node), width)
+        && is_missing_or_long(rule.word(Side::Right, node), width)
 }
 
 fn is_missing_or_long(word: Option<Word>, width: u8) -> bool

@@ -29,7 +29,7 @@ use Rattle.gm_theory.proofs.RuleSteps.{word_below}
 
 -- ---- the nodes of paths, as a list
 
-ends_at : (links : List Link) (k d : ℕ) → k < length links → get_or (map (λ (link : Link). link.to) links) k d ≡ (link_at links k).to
+pub ends_at : (links : List Link) (k d : ℕ) → k < length links → get_or (map (λ (link : Link). link.to) links) k d ≡ (link_at links k).to
 ends_at [] k d h = absurd (omega arith)
 ends_at (link ∷ links) zero d h = refl
 ends_at (link ∷ links) (suc k) d h = ends_at links k d (omega arith)

@@ -26,7 +26,7 @@ find_contains p (y ∷ xs) x e = go (true_or_false (p y)) (find_contains p xs x)
         later : Contains xs x → Contains (y ∷ xs) x
         later (k, b, f) = (suc k, omega arith, f)
 
-same_link : (l : Link) (x i y : ℕ) → l.from ≡ x → l.label ≡ i → l.to ≡ y → l ≡ link_from x i y
+pub same_link : (l : Link) (x i y : ℕ) → l.from ≡ x → l.label ≡ i → l.to ≡ y → l ≡ link_from x i y
 same_link l x i y e f g = rw (← e, ← f, ← g) refl
 
 module _ (schema : Schema) (rule : Rule) (range : IsInRange schema rule) (incidence : HasIncidence schema.dim rule) where

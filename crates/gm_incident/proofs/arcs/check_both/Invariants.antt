@@ -1,4 +1,4 @@
-use Rattle.std.proofs.Common.{ℕ, ◌<◌, ◌↔◌, get_or}
+use Rattle.std.proofs.Common.{◌<◌, ◌↔◌, get_or}
 use Rattle.gm_model.specs.Structure.{AreGood}
 use Rattle.gm_incident.proofs.arcs.check_both.Given as goal
 

@@ -1,4 +1,4 @@
-use Rattle.std.proofs.Common.{◌≡◌, ◌≤◌, ◌+◌, true, false, ap, ◌∙◌, sym, arith}
+use Rattle.std.proofs.Common.{◌≡◌, ◌≤◌, ◌+◌, true, false, ap, ◌∙◌, sym}
 use Rattle.std.specs.Option.{is_some}
 use Rattle.std.proofs.lemmas.Result.{err_from_is_err_and, MatchResult-weaker}
 use Rattle.gm_model.specs.declared.rule.Side.TheVariants.{Left, Right}
@@ -35,8 +35,8 @@ returns-in-Some-Some c =
     let l : has_word rule Left x ≡ true = ap is_some (sym c.word.ensures ∙ c.in-Some-Some.is-0) in
     let r : has_word rule Right x ≡ true = ap is_some (sym c.word-2.ensures ∙ c.in-Some-Some.is-1) in
     MatchResult-weaker c.check_both.result c.check_both.ensures
-      (λ _. both_good c.args.top few rule x left right l r c.arc_counts-left.result c.arc_counts-right.result c.arc_counts-left.ensures c.arc_counts-right.ensures)
-      (both_bad c.args.top few rule x left right l r c.arc_counts-left.result c.arc_counts-right.result c.arc_counts-left.ensures c.arc_counts-right.ensures)
+    (λ _. both_good c.args.top few rule x left right l r c.arc_counts-left.result c.arc_counts-right.result c.arc_counts-left.ensures c.arc_counts-right.ensures)
+    (both_bad c.args.top few rule x left right l r c.arc_counts-left.result c.arc_counts-right.result c.arc_counts-left.ensures c.arc_counts-right.ensures)
 
 pub returns-in-Some-None : goal.returns-in-Some-None
 returns-in-Some-None c =
@@ -48,8 +48,8 @@ returns-in-Some-None c =
     let l : has_word rule Left x ≡ true = ap is_some (sym c.word.ensures ∙ c.in-Some-None.is-0) in
     let r : has_word rule Right x ≡ false = ap is_some (sym c.word-2.ensures ∙ c.in-Some-None.is-1) in
     MatchResult-weaker c.check_each.result c.check_each.ensures
-      (λ _. removed_good c.args.top few rule x left right l r c.arc_counts-left.result c.arc_counts-left.ensures)
-      (removed_bad c.args.top few rule x left right l r c.arc_counts-left.result c.arc_counts-left.ensures)
+    (λ _. removed_good c.args.top few rule x left right l r c.arc_counts-left.result c.arc_counts-left.ensures)
+    (removed_bad c.args.top few rule x left right l r c.arc_counts-left.result c.arc_counts-left.ensures)
 
 pub returns-in-None-default : goal.returns-in-None-default
 returns-in-None-default c =
@@ -60,5 +60,5 @@ returns-in-None-default c =
     let right : AreGood (HasOnce rule Right x) (c.args.top + 1) = all_once c.args.top few rule x Right c.arc_counts-right.result c.arc_counts-right.ensures c.in_ok-check_once-2.ensures in
     let l : has_word rule Left x ≡ false = ap is_some (sym c.word.ensures ∙ c.in-None-default.is-0) in
     MatchResult-weaker c.check_each-in-None-default.result c.check_each-in-None-default.ensures
-      (λ _. added_good c.args.top few rule x left right l c.requires.some_word c.arc_counts-right.result c.arc_counts-right.ensures)
-      (added_bad c.args.top few rule x left right l c.requires.some_word c.arc_counts-right.result c.arc_counts-right.ensures)
+    (λ _. added_good c.args.top few rule x left right l c.requires.some_word c.arc_counts-right.result c.arc_counts-right.ensures)
+    (added_bad c.args.top few rule x left right l c.requires.some_word c.arc_counts-right.result c.arc_counts-right.ensures)

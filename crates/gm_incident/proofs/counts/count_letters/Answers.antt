@@ -1,4 +1,4 @@
-use Rattle.std.proofs.Common.{length, get_or, ◌≡◌, Some}
+use Rattle.std.proofs.Common.{get_or, ◌≡◌, Some}
 use Rattle.std.specs.List.{slice_get}
 use Rattle.gm_model.specs.declared.word.Letter.TheVariants.{At, Gone}
 use Rattle.std.proofs.lemmas.List.{length-set}
@@ -12,11 +12,11 @@ loop-place-preserved c =
     let k = c.loop-place.place in
     let counts = c.loop-place.counts in
     elim c.match-letter.branch [
-      in-At w ↦ (let here : slice_get word k ≡ Some (At w.in-At.label) = rw (← w.in-At.is) c.letter.ensures in rw w.counts-is record {
+      | in-At w ↦ (let here : slice_get word k ≡ Some (At w.in-At.label) = rw (← w.in-At.is) c.letter.ensures in rw w.counts-is record {
         len = rw length-set c.loop-place.invariant.len;
         same = λ i h. letter_counted word k i w.in-At.label (get_or c.args.counts.now i 0) counts here (rw c.loop-place.invariant.len h) (c.loop-place.invariant.same i h);
       })
-    | in_default w ↦ (let here : slice_get word k ≡ Some Gone = rw (← w.in_default.is) c.letter.ensures in rw w.counts-is record {
+      | in_default w ↦ (let here : slice_get word k ≡ Some Gone = rw (← w.in_default.is) c.letter.ensures in rw w.counts-is record {
         len = c.loop-place.invariant.len;
         same = λ i h. gap_counted word k i (get_or c.args.counts.now i 0) counts here (c.loop-place.invariant.same i h);
       })

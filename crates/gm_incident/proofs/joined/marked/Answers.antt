@@ -1,6 +1,5 @@
-use Rattle.std.proofs.Common.{◌<◌, length, take, refl, arith}
+use Rattle.std.proofs.Common.{◌<◌, length, refl, arith}
 use Rattle.std.proofs.lemmas.List.{take_all, length-set}
-use Rattle.std.proofs.lemmas.List.Elements.{All-get_or}
 use Rattle.gm_incident.proofs.Marks.{nothing_marked, marked_more}
 use Rattle.gm_incident.proofs.joined.marked.Goals as goal
 

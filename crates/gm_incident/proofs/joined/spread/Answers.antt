@@ -1,5 +1,4 @@
-use Rattle.std.proofs.Common.{◌≡◌, ◌≢◌, ◌<◌, ◌≤◌, inl, true, false, length, get_or, set, take, arith}
-use Rattle.std.specs.List.{All}
+use Rattle.std.proofs.Common.{◌≢◌, ◌<◌, ◌≤◌, inl, true, length, get_or, set, arith}
 use Rattle.std.proofs.lemmas.List.{take_all, length-set}
 use Rattle.std.proofs.lemmas.List.Elements.{All-more, Contains-get_or}
 use Rattle.gm_model.specs.declared.rule.Link.{Link}
@@ -19,19 +18,19 @@ loop-link-preserved c =
     let bf : link.from < length r = rw c.loop-link.invariant.len (c.requires k record { from = 0; label = 0; to = 0 } b).0 in
     let bt : link.to < length r = rw c.loop-link.invariant.len (c.requires k record { from = 0; label = 0; to = 0 } b).1 in
     elim c.if-reached-link.branch [
-      then-reached-link w ↦ (
-        let linked : IsLinked links link.from link.label link.to = inl (Contains-get_or links k _ b) in
-        let ne : is_reached r link.from ≢ is_reached r link.to = differ _ _ w.if-reached-link.true in
-        let less : unreached (set (set r link.from true) link.to true) < unreached r = unreached_less r link.from link.to bf bt ne in
-        let before : unreached r ≤ unreached c.args.reached.now = c.loop-link.invariant.no_more in
-        rw (w.reached-is, w.has_spread-is) record {
-          len = rw (length-set, length-set) c.loop-link.invariant.len;
-          spread = spread_more links c.args.reached.now r link.from link.label link.to bf bt c.loop-link.invariant.spread linked ne;
-          more = λ _. omega arith;
-          no_more = omega arith;
-          done = λ e. cc;
-        })
-    | else-reached-link w ↦ rw (w.reached-is, w.has_spread-is) record {
+      | then-reached-link w ↦ (
+          let linked : IsLinked links link.from link.label link.to = inl (Contains-get_or links k _ b) in
+          let ne : is_reached r link.from ≢ is_reached r link.to = differ _ _ w.if-reached-link.true in
+          let less : unreached (set (set r link.from true) link.to true) < unreached r = unreached_less r link.from link.to bf bt ne in
+          let before : unreached r ≤ unreached c.args.reached.now = c.loop-link.invariant.no_more in
+          rw (w.reached-is, w.has_spread-is) record {
+            len = rw (length-set, length-set) c.loop-link.invariant.len;
+            spread = spread_more links c.args.reached.now r link.from link.label link.to bf bt c.loop-link.invariant.spread linked ne;
+            more = λ _. omega arith;
+            no_more = omega arith;
+            done = λ e. cc;
+          })
+      | else-reached-link w ↦ rw (w.reached-is, w.has_spread-is) record {
         len = c.loop-link.invariant.len;
         spread = c.loop-link.invariant.spread;
         more = c.loop-link.invariant.more;

@@ -1,4 +1,4 @@
-use Rattle.std.proofs.Common.{◌≡◌, ◌<◌, ◌≤◌, true, false, ℕ, length, take}
+use Rattle.std.proofs.Common.{◌≡◌, ◌<◌, ◌≤◌, true, false, length, take}
 use Rattle.std.specs.List.{All}
 use Rattle.gm_model.specs.declared.rule.Link.{Link}
 use Rattle.gm_incident.specs.Reached.{is_reached, unreached, HasSpread}

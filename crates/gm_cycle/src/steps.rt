@@ -1,0 +1,66 @@
+ghost use Rattle.std.specs.Prelude.{◌≡◌, ◌<◌, ◌≤◌, ◌↔◌, ℕ, length, IsTrue};
+ghost use Rattle.gm_model.specs.Rules.{rule_of, hook_label};
+ghost use Rattle.gm_model.specs.Squares.{Closes};
+ghost use Rattle.gm_cycle.specs.StepRows.{step_of, HasEnds, HasRows};
+
+use gm_model::{Letter, MOST_LABELS, MOST_NODES, RuleTable, Side, Step};
+
+/// The steps of the nodes of a rule on one side, by node and label.
+pub type StepRows = [[Step; MOST_LABELS]; MOST_NODES];
+
+/// The right steps of the nodes of the rule.
+pub fn right_steps(rule: &RuleTable) -> StepRows
+    requires { length (rule_of rule.now).nodes ≤ 32 }
+    ensures { HasRows (rule_of rule.now) result (length (rule_of rule.now).nodes) }
+{
+    let mut rows = [[Step::Absent; MOST_LABELS]; MOST_NODES];
+    for node in 0..rule.node_count() {
+        rows[node as usize] = rule.steps(Side::Right, node);
+    }
+    rows
+}
+
+/// What the node has at the label.
+pub fn step_at(rows: &StepRows, node: u8, label: u8) -> Step
+    requires node { node < 32 }
+    requires label { label < 8 }
+    ensures { result ≡ step_of rows.now node label }
+{
+    rows[node as usize][label as usize]
+}
+
+/// The label at the place of the first hook's word; 0 where there is none.
+fn label_at(rule: &RuleTable, place: u8) -> u8
+    ensures { result ≡ hook_label (rule_of rule.now) place }
+{
+    match rule.hook_word() {
+        Some(word) if place < word.len() => match word.letter(place) {
+            Letter::At(label) => label,
+            Letter::Gone => 0,
+        },
+        _ => 0,
+    }
+}
+
+/// Whether the square of the labels closes at the node.
+pub fn closes(rule: &RuleTable, rows: &StepRows, node: u8, i: u8, j: u8) -> bool
+    requires nodes { length (rule_of rule.now).nodes ≤ 32 }
+    requires node { node < length (rule_of rule.now).nodes }
+    requires i { i < 8 }
+    requires j { j < 8 }
+    requires ends { HasEnds rows.now (length (rule_of rule.now).nodes) }
+    ensures { IsTrue result ↔ Closes (step_of rows.now) (hook_label (rule_of rule.now)) node i j }
+{
+    match (step_at(rows, node, i), step_at(rows, node, j)) {
+        (Step::Exp(y), Step::Exp(z)) => {
+            let end = step_at(rows, y, j);
+            matches!(end, Step::Exp(_)) && end == step_at(rows, z, i)
+        }
+        (Step::Exp(y), Step::Imp(place)) => step_at(rows, y, j) == Step::Imp(place),
+        (Step::Imp(place), Step::Exp(z)) => step_at(rows, z, i) == Step::Imp(place),
+        (Step::Imp(place), Step::Imp(other)) => label_at(rule, place).abs_diff(label_at(
+            rule, other,
+        )) >= 2,
+        _ => false,
+    }
+}
