@@ -20,6 +20,9 @@ pub record PlanOf : Type 0 where
   pub schema : Schema
   pub table : RuleTable
 
+abbrev pub plan_of : Schema → RuleTable → PlanOf
+plan_of schema table = record { schema = schema; table = table }
+
 -- the rule is in range and typed, and meets the conditions on structure, arcs and squares
 pub record IsPlanned (schema : Schema) (rule : Rule) : Type 0 where
   pub in_range : IsInRange schema rule

@@ -3,8 +3,8 @@ use Rattle.gm_model.specs.declared.rule.RuleFault.{RuleFault}
 use Rattle.gm_model.specs.declared.schema.Schema.{Schema}
 use Rattle.gm_model.specs.Acceptance.{IsFault}
 use Rattle.gm_model.specs.Rules.{Rule}
-use Rattle.gm_plan.specs.declared.compile.PlanFault.{PlanFault}
-use Rattle.gm_plan.specs.declared.compile.PlanFault.TheVariants as faults
+use Rattle.gm_plan.specs.declared.compiler.PlanFault.{PlanFault}
+use Rattle.gm_plan.specs.declared.compiler.PlanFault.TheVariants as faults
 use Rattle.gm_plan.specs.Plans.{IsPlanned}
 
 -- the rule has a fault, and this is its first; or memory was wanting for the plan of a rule that has one

@@ -2,12 +2,12 @@
 //! node; and where an application's instances lie.
 #![tactic(auto)]
 
-mod compile;
+mod compiler;
 mod instances;
 mod paths;
 mod plan;
 mod sides;
 
-pub use compile::PlanFault;
+pub use compiler::{compile, PlanFault};
 pub use instances::Instances;
 pub use plan::Plan;

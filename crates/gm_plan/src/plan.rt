@@ -1,8 +1,9 @@
-ghost use Rattle.std.specs.Prelude.{◌≡◌, ◌≢◌, ℕ, ◌<◌, ◌≤◌, ◌↔◌, length, Some, MatchOption, IsTrue};
+ghost use Rattle.std.specs.Prelude.{◌≡◌, ◌≢◌, ℕ, ◌<◌, ◌≤◌, ◌↔◌, length, Some, MatchOption, IfOk, IsTrue};
 
-use crate::sides::Row;
-use crate::paths::{link_to, Paths};
-use gm_model::{Link, RuleTable, Schema, Side, Step};
+use crate::paths::{least_paths, link_to, Paths};
+use crate::sides::{count_added, count_left, count_removed, side_steps, Row};
+use gm_model::{Link, OutOfMemory, RuleTable, Schema, Side, Step};
+use std::alloc::Global;
 use std::marker::Model;
 
 /// A rule that is ready to be applied to maps of the schema: it is in range and typed, it meets
@@ -43,7 +44,27 @@ impl<'b> Plan<'b> {
     ghost use Rattle.gm_model.specs.Unfolding.{added_nodes};
     ghost use Rattle.gm_plan.specs.Counts.{removed_nodes};
     ghost use Rattle.gm_plan.specs.Paths.{ArePaths, IsLastLink};
-    ghost use Rattle.gm_plan.specs.Plans.{IsPlanned, IsLeftCount};
+    ghost use Rattle.gm_plan.specs.Plans.{IsPlanned, IsLeftCount, plan_of};
+
+    /// The plan of a rule that is accepted.
+    pub(crate) fn new(alloc: Global, schema: &'b Schema, rule: &'b RuleTable) -> Result<Plan<'b>, OutOfMemory>
+        requires { IsPlanned schema.now (rule_of rule.now) }
+        ensures { IfOk result (λ plan. plan ≡ plan_of schema.now rule.now) }
+    {
+        let left = side_steps(alloc, rule, Side::Left)?;
+        let right = side_steps(alloc, rule, Side::Right)?;
+        let paths = least_paths(alloc, schema, rule, left.as_slice())?;
+        Ok(Plan {
+            schema,
+            rule,
+            left,
+            right,
+            paths,
+            left_nodes: count_left(rule),
+            added: count_added(rule),
+            removed: count_removed(rule),
+        })
+    }
 
     /// The schema of the maps that the rule is for.
     pub fn schema(&self) -> &'b Schema
