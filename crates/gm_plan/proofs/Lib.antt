@@ -1,3 +1,4 @@
+pub mod Accepted
 pub mod Extended
 pub mod Found
 pub mod LeftNodes
