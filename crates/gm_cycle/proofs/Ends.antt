@@ -11,14 +11,8 @@ use Rattle.gm_model.specs.declared.step.Step.{Step}
 use Rattle.gm_model.specs.declared.step.Step.TheVariants.{Exp}
 use Rattle.gm_model.specs.Rules.{Rule, word_at, has_word, letters, links_on, is_end, is_label, other_end, step_by}
 use Rattle.gm_model.specs.Structure.{IsInRange, IsLinkInRange}
+use Rattle.gm_model.proofs.Nodes.{node_below}
 use Rattle.gm_cycle.specs.StepRows.{HasEnds, HasRows}
-
--- a node of a side is one of the nodes
-pub node_below : (rule : Rule) (side : Side) (x : ℕ) → has_word rule side x ≡ true → x < length rule.nodes
-node_below rule side x h = elim ((slice_get_cases rule.nodes x).1) [
-  | inl found ↦ found.1
-  | inr past ↦ absurd (let none : word_at rule side x ≡ None = rw past.1 refl in let e : has_word rule side x ≡ false = rw none refl in cc)
-]
 
 module _ (n : ℕ) (rule : Rule) (side : Side) (x i : ℕ) where
   end_below : (link : Link) → IsLinkInRange n rule side link → other_end x link < length rule.nodes

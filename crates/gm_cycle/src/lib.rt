@@ -31,3 +31,6 @@ pub fn check(schema: &Schema, rule: &RuleTable) -> Result<(), RuleFault>
     }
     Ok(())
 }
+
+#[cfg(test)]
+mod tests;

@@ -1,6 +1,6 @@
 ghost use Rattle.std.specs.Prelude.{◌≡◌, ◌<◌, ◌≤◌, ◌↔◌, ℕ, length, IsTrue};
 ghost use Rattle.gm_model.specs.Rules.{rule_of, hook_label};
-ghost use Rattle.gm_model.specs.Squares.{Closes};
+ghost use Rattle.gm_model.specs.Squares.{Closes, IsApart};
 ghost use Rattle.gm_cycle.specs.StepRows.{step_of, HasEnds, HasRows};
 
 use gm_model::{Letter, MOST_LABELS, MOST_NODES, RuleTable, Side, Step};
@@ -42,6 +42,13 @@ fn label_at(rule: &RuleTable, place: u8) -> u8
     }
 }
 
+/// Whether the labels differ by two or more.
+fn are_apart(i: u8, j: u8) -> bool
+    ensures { IsTrue result ↔ IsApart i j }
+{
+    i.abs_diff(j) >= 2
+}
+
 /// Whether the square of the labels closes at the node.
 pub fn closes(rule: &RuleTable, rows: &StepRows, node: u8, i: u8, j: u8) -> bool
     requires nodes { length (rule_of rule.now).nodes ≤ 32 }
@@ -58,9 +65,7 @@ pub fn closes(rule: &RuleTable, rows: &StepRows, node: u8, i: u8, j: u8) -> bool
         }
         (Step::Exp(y), Step::Imp(place)) => step_at(rows, y, j) == Step::Imp(place),
         (Step::Imp(place), Step::Exp(z)) => step_at(rows, z, i) == Step::Imp(place),
-        (Step::Imp(place), Step::Imp(other)) => label_at(rule, place).abs_diff(label_at(
-            rule, other,
-        )) >= 2,
+        (Step::Imp(place), Step::Imp(other)) => are_apart(label_at(rule, place), label_at(rule, other)),
         _ => false,
     }
 }

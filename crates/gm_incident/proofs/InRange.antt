@@ -1,23 +1,17 @@
 -- What a rule in range gives: numbers of nodes below 32, and labels below 8.
-use Rattle.std.proofs.Common.{◌≡◌, inl, inr, ℕ, ◌<◌, ◌≤◌, false, true, None, length, refl, arith}
+use Rattle.std.proofs.Common.{◌≡◌, ℕ, ◌<◌, ◌≤◌, true, length, arith}
 use Rattle.std.specs.List.{All}
 use Rattle.std.proofs.lemmas.List.Elements.{All-from_recursion, All-weaker}
-use Rattle.std.proofs.lemmas.Option.{slice_get_cases, slice_get_within, get_or_from_slice_get}
+use Rattle.std.proofs.lemmas.Option.{slice_get_within, get_or_from_slice_get}
 use Rattle.gm_model.specs.declared.rule.Link.{Link}
 use Rattle.gm_model.specs.declared.rule.Side.{Side}
 use Rattle.gm_model.specs.declared.rule.Side.TheVariants.{Left, Right}
 use Rattle.gm_model.specs.declared.schema.Schema.{Schema}
 use Rattle.gm_model.specs.declared.word.Letter.TheVariants.{At}
-use Rattle.gm_model.specs.Rules.{Rule, word_at, has_word, letters, links_on}
+use Rattle.gm_model.specs.Rules.{Rule, has_word, letters, links_on}
 use Rattle.gm_model.specs.Structure.{IsInRange, IsWithinLimits, IsLinkInRange}
+use Rattle.gm_model.proofs.Nodes.{node_below}
 use Rattle.gm_incident.specs.Ranges.{HasEndsBelow32, HasLabels}
-
--- a node of a side is one of the nodes
-pub node_below : (rule : Rule) (side : Side) (x : ℕ) → has_word rule side x ≡ true → x < length rule.nodes
-node_below rule side x h = elim ((slice_get_cases rule.nodes x).1) [
-  | inl found ↦ found.1
-  | inr past ↦ absurd (let none : word_at rule side x ≡ None = rw past.1 refl in let e : has_word rule side x ≡ false = rw none refl in cc)
-]
 
 pub hooks_below : (schema : Schema) (rule : Rule) → IsInRange schema rule → IsWithinLimits rule → All (λ h. h < 32) rule.hooks
 hooks_below schema rule r w =

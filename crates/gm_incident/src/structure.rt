@@ -118,15 +118,16 @@ fn has_width(rule: &RuleTable, node: u8, width: u8) -> bool
     requires { width ≡ width_of (rule_of rule.now) }
     ensures { IsTrue result ↔ HasWidth (rule_of rule.now) node }
 {
-    is_missing_or_long(rule.word(Side::Left, node), width)
-        && is_missing_or_long(rule.word(Side::Right, node), width)
+    has_length(rule.word(Side::Left, node), width)
+        && has_length(rule.word(Side::Right, node), width)
 }
 
-fn is_missing_or_long(word: Option<Word>, width: u8) -> bool
-    ensures { IsTrue result ↔ MatchOption word (Unit {0}) (λ letters. length letters ≡ width) }
+/// Whether the word has this length, where there is one.
+fn has_length(word: Option<Word>, wanted: u8) -> bool
+    ensures { IsTrue result ↔ MatchOption word (Unit {0}) (λ letters. length letters ≡ wanted) }
 {
     match word {
-        Some(word) => word.len() == width,
+        Some(word) => word.len() == wanted,
         None => true,
     }
 }

@@ -1,2 +1,6 @@
 pub mod Padded
+pub mod Assigned
+pub mod Each
+pub mod InRange
 pub mod NodeSteps
+pub mod Nodes

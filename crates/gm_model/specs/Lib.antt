@@ -25,3 +25,4 @@ pub mod Applications
 pub mod NodeSteps
 pub mod Breaches
 pub mod MapFaults
+pub mod Ranges

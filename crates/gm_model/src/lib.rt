@@ -10,6 +10,7 @@ mod items;
 mod limit;
 mod memory;
 mod name;
+mod range;
 mod rule;
 mod schema;
 mod script;

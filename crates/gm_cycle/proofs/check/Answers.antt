@@ -5,7 +5,8 @@ use Rattle.std.proofs.lemmas.Result.{err_from_is_err_and}
 use Rattle.gm_model.specs.declared.rule.Side.TheVariants.{Right}
 use Rattle.gm_model.specs.Rules.{rule_of, has_word}
 use Rattle.gm_model.specs.Squares.{IsSquareFault}
-use Rattle.gm_cycle.proofs.Ends.{node_below, ends_below}
+use Rattle.gm_model.proofs.Nodes.{node_below}
+use Rattle.gm_cycle.proofs.Ends.{ends_below}
 use Rattle.gm_cycle.proofs.Firsts.{HasSquaresAt, squares_at, node_fault}
 use Rattle.gm_cycle.proofs.check.Goals as goal
 use Rattle.gm_cycle.proofs.check.Goals.{then-is_some+in_ok-check_node, else-is_some}
