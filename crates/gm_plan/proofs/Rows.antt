@@ -42,15 +42,15 @@ row_more rule side count rows row are long here = record {
   row_long = λ x r e. elim (cases_lt x (length rows)) [
     | inl b ↦ are.row_long x r (sym (row_old rows row x b) ∙ e)
     | inr b ↦
-      let last : x ≡ length rows = omega (arith, slice_get_within (rows ++ row ∷ []) x r e, length_push rows row) in
-      subst (λ l. length l ≡ 8) (same_Some row r (sym (row_new rows row x last) ∙ e)) long
+        let last : x ≡ length rows = omega (arith, slice_get_within (rows ++ row ∷ []) x r e, length_push rows row) in
+        subst (λ l. length l ≡ 8) (same_Some row r (sym (row_new rows row x last) ∙ e)) long
   ];
   here = λ x i b k. elim (cases_lt x (length rows)) [
     | inl c ↦ rw (row_old rows row x c) (are.here x i (omega (arith, are.long)) k)
     | inr c ↦
-      let last : x ≡ length rows = omega (arith, are.long) in
-      let same : x ≡ count = omega (arith, are.long) in
-      rw (row_new rows row x last, same) (here i k)
+        let last : x ≡ length rows = omega (arith, are.long) in
+        let same : x ≡ count = omega (arith, are.long) in
+        rw (row_new rows row x last, same) (here i k)
   ];
 }
 

@@ -43,7 +43,11 @@ impl From<OutOfMemory> for PlanFault {
 ///
 /// The rule's structure is tested first, then its incident arcs, and then its squares. `Rule` has
 /// the first fault. Where the rule has none, memory may be wanting for the tables.
-pub fn compile<'b>(alloc: Global, schema: &'b Schema, rule: &'b RuleTable) -> Result<Plan<'b>, PlanFault>
+pub fn compile<'b>(
+    alloc: Global,
+    schema: &'b Schema,
+    rule: &'b RuleTable,
+) -> Result<Plan<'b>, PlanFault>
     requires in_range { IsInRange schema.now (rule_of rule.now) }
     requires within { IsWithinLimits (rule_of rule.now) }
     requires typed { IsTyped schema.now (rule_of rule.now) }

@@ -7,7 +7,9 @@ mod instances;
 mod paths;
 mod plan;
 mod sides;
+#[cfg(test)]
+mod tests;
 
-pub use compiler::{compile, PlanFault};
+pub use compiler::{PlanFault, compile};
 pub use instances::Instances;
 pub use plan::Plan;

@@ -18,7 +18,12 @@ pub type Paths = SmallVec<Link, 8>;
 
 /// The last link of the least path to each left node but the hook, in the order of these paths.
 /// The rows have the left steps of each node.
-pub fn least_paths(alloc: Global, schema: &Schema, rule: &RuleTable, rows: &[Row]) -> Result<Paths, OutOfMemory>
+pub fn least_paths(
+    alloc: Global,
+    schema: &Schema,
+    rule: &RuleTable,
+    rows: &[Row],
+) -> Result<Paths, OutOfMemory>
     requires planned { IsPlanned schema.now (rule_of rule.now) }
     requires rows { AreSteps (rule_of rule.now) Left (length (rule_of rule.now).nodes) rows.now }
     ensures { IfOk result (λ paths. ArePaths (rule_of rule.now) paths.items) }
@@ -39,7 +44,13 @@ pub fn least_paths(alloc: Global, schema: &Schema, rule: &RuleTable, rows: &[Row
 }
 
 /// Follows the links of a node that is found, by their labels, to the nodes that weren't found yet.
-fn follow(paths: &mut Paths, rows: &[Row], labels: u8, hook: u8, node: u8) -> Result<(), OutOfMemory>
+fn follow(
+    paths: &mut Paths,
+    rows: &[Row],
+    labels: u8,
+    hook: u8,
+    node: u8,
+) -> Result<(), OutOfMemory>
     requires labels { labels ≤ 8 }
     requires node { node < length rows.now }
     ensures { OnOk result ((q : ℕ) → IsFoundAt hook paths.old.items q node → IsSearched labels rows.now hook paths.old.items q 0 → IsSearched labels rows.now hook paths.new.items (q + 1) 0) }
@@ -47,7 +58,11 @@ fn follow(paths: &mut Paths, rows: &[Row], labels: u8, hook: u8, node: u8) -> Re
     for label in 0..labels {
         if let Step::Exp(to) = rows[node as usize][label as usize] {
             if !is_found(paths.as_slice(), hook, to) {
-                paths.push(Link { from: node, label, to })?;
+                paths.push(Link {
+                    from: node,
+                    label,
+                    to,
+                })?;
             }
         }
     }

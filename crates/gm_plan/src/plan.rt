@@ -1,7 +1,7 @@
 ghost use Rattle.std.specs.Prelude.{◌≡◌, ◌≢◌, ℕ, ◌<◌, ◌≤◌, ◌↔◌, length, Some, MatchOption, IfOk, IsTrue};
 
-use crate::paths::{least_paths, link_to, Paths};
-use crate::sides::{count_added, count_left, count_removed, side_steps, Row};
+use crate::paths::{Paths, least_paths, link_to};
+use crate::sides::{Row, count_added, count_left, count_removed, side_steps};
 use gm_model::{Link, OutOfMemory, RuleTable, Schema, Side, Step};
 use std::alloc::Global;
 use std::marker::Model;
@@ -47,7 +47,11 @@ impl<'b> Plan<'b> {
     ghost use Rattle.gm_plan.specs.Plans.{IsPlanned, IsLeftCount, plan_of};
 
     /// The plan of a rule that is accepted.
-    pub(crate) fn new(alloc: Global, schema: &'b Schema, rule: &'b RuleTable) -> Result<Plan<'b>, OutOfMemory>
+    pub(crate) fn new(
+        alloc: Global,
+        schema: &'b Schema,
+        rule: &'b RuleTable,
+    ) -> Result<Plan<'b>, OutOfMemory>
         requires { IsPlanned schema.now (rule_of rule.now) }
         ensures { IfOk result (λ plan. plan ≡ plan_of schema.now rule.now) }
     {

@@ -5,7 +5,7 @@ ghost use Rattle.gm_model.specs.Unfolding.{added_nodes};
 ghost use Rattle.gm_plan.specs.Counts.{removed_nodes};
 ghost use Rattle.gm_plan.specs.Plans.{AreSteps, IsLeftCount};
 
-use gm_model::{OutOfMemory, RuleTable, Side, Step, MOST_LABELS};
+use gm_model::{MOST_LABELS, OutOfMemory, RuleTable, Side, Step};
 use std::alloc::Global;
 
 /// The steps of one node, by label.
