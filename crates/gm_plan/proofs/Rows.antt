@@ -1,0 +1,74 @@
+-- What a table of rows has at a node and a label.
+use Rattle.std.proofs.Common.{◌≡◌, ℕ, zero, suc, ◌+◌, ◌<◌, ◌≤◌, ◌⊎◌, inl, inr, List, [], ◌∷◌, ◌++◌, length, Option, Some, None, get_or, refl, sym, subst, ◌∙◌, arith}
+use Rattle.std.proofs.lemmas.Bool.{cases_lt}
+use Rattle.std.proofs.lemmas.List.{get_or_past, length_push}
+use Rattle.std.proofs.lemmas.Option.{get_or_from_slice_get, same_Some, slice_get-get_or, slice_get_within}
+use Rattle.std.specs.List.{slice_get}
+use Rattle.std.specs.Option.{option_and_then}
+use Rattle.gm_model.specs.declared.rule.Side.{Side}
+use Rattle.gm_model.specs.declared.step.Step.{Step}
+use Rattle.gm_model.specs.declared.step.Step.TheVariants.{Absent, Exp}
+use Rattle.gm_model.specs.Rules.{Rule, step}
+use Rattle.gm_plan.specs.Plans.{AreSteps}
+use Rattle.gm_plan.specs.Searches.{row_step}
+
+cell : (rows : List (List Step)) (x i : ℕ) (row : Option (List Step)) (s : Step) → slice_get rows x ≡ row → option_and_then (λ row. slice_get row i) row ≡ Some s → row_step rows x i ≡ s
+cell rows x i None s e f = absurd (cc)
+cell rows x i (Some row) s e f = rw (get_or_from_slice_get rows x row [] e) (get_or_from_slice_get row i s Absent f)
+
+pub row_step_is : (rule : Rule) (side : Side) (count : ℕ) (rows : List (List Step)) → AreSteps rule side count rows → (x i : ℕ) → x < count → i < 8 → row_step rows x i ≡ step rule side x i
+row_step_is rule side count rows are x i h k = cell rows x i (slice_get rows x) (step rule side x i) refl (are.here x i h k)
+
+absent_not : (y : ℕ) → Absent ≡ Exp y → ⊥
+absent_not y e = cc
+
+-- ---- one row more
+
+row_old : (rows : List (List Step)) (row : List Step) (x : ℕ) → x < length rows → slice_get (rows ++ row ∷ []) x ≡ slice_get rows x
+row_old [] row x h = absurd (omega arith)
+row_old (r ∷ rows) row zero h = refl
+row_old (r ∷ rows) row (suc x) h = row_old rows row x (omega arith)
+
+row_new : (rows : List (List Step)) (row : List Step) (x : ℕ) → x ≡ length rows → slice_get (rows ++ row ∷ []) x ≡ Some row
+row_new [] row zero e = refl
+row_new [] row (suc x) e = absurd (omega arith)
+row_new (r ∷ rows) row zero e = absurd (omega arith)
+row_new (r ∷ rows) row (suc x) e = row_new rows row x (omega arith)
+
+pub row_more : (rule : Rule) (side : Side) (count : ℕ) (rows : List (List Step)) (row : List Step) → AreSteps rule side count rows → length row ≡ 8 →
+    ((i : ℕ) → i < 8 → slice_get row i ≡ Some (step rule side count i)) → AreSteps rule side (count + 1) (rows ++ row ∷ [])
+row_more rule side count rows row are long here = record {
+  long = omega (arith, length_push rows row, are.long);
+  row_long = λ x r e. elim (cases_lt x (length rows)) [
+    | inl b ↦ are.row_long x r (sym (row_old rows row x b) ∙ e)
+    | inr b ↦
+        let last : x ≡ length rows = omega (arith, slice_get_within (rows ++ row ∷ []) x r e, length_push rows row) in
+        subst (λ l. length l ≡ 8) (same_Some row r (sym (row_new rows row x last) ∙ e)) long
+  ];
+  here = λ x i b k. elim (cases_lt x (length rows)) [
+    | inl c ↦ rw (row_old rows row x c) (are.here x i (omega (arith, are.long)) k)
+    | inr c ↦
+        let last : x ≡ length rows = omega (arith, are.long) in
+        let same : x ≡ count = omega (arith, are.long) in
+        rw (row_new rows row x last, same) (here i k)
+  ];
+}
+
+-- ---- link steps
+
+-- a link step stands in a row
+pub row_step_within : (rule : Rule) (side : Side) (count : ℕ) (rows : List (List Step)) → AreSteps rule side count rows → (x i y : ℕ) → row_step rows x i ≡ Exp y → (x < count) × (i < 8)
+row_step_within rule side count rows are x i y e = go (cases_lt x (length rows))
+  where
+    past : length rows ≤ x → ⊥
+    past h = absent_not y (subst (λ row. get_or row i Absent ≡ Exp y) (get_or_past rows x [] h) e)
+
+    label : x < length rows → i < 8
+    label h = elim (cases_lt i (length (get_or rows x []))) [
+      | inl b ↦ subst (λ n. i < n) (are.row_long x (get_or rows x []) (slice_get-get_or rows x [] h)) b
+      | inr b ↦ absurd (absent_not y (sym (get_or_past (get_or rows x []) i Absent b) ∙ e))
+    ]
+
+    go : (x < length rows) ⊎ (length rows ≤ x) → (x < count) × (i < 8)
+    go (inl h) = (subst (λ n. x < n) are.long h, label h)
+    go (inr h) = absurd (past h)

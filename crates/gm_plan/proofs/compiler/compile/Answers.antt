@@ -1,0 +1,19 @@
+use Rattle.std.proofs.lemmas.Result.{err_from_is_err_and}
+use Rattle.gm_model.specs.Acceptance.{Incidence, Cycle}
+use Rattle.gm_plan.specs.Refusals.{Faulty, NoMemory}
+use Rattle.gm_plan.proofs.compiler.compile.Goals as goal
+
+pub returns-in_err-check : goal.returns-in_err-check
+returns-in_err-check c =
+    let p = err_from_is_err_and c.from_residual.result c.from_residual.ensures.1 in
+    rw (p.1, p.2) (Faulty _ (Incidence c.in_err-check.ensures))
+
+pub returns-in_err-check-2 : goal.returns-in_err-check-2
+returns-in_err-check-2 c =
+    let p = err_from_is_err_and c.from_residual-in_err-check-2.result c.from_residual-in_err-check-2.ensures.1 in
+    rw (p.1, p.2) (Faulty _ (Cycle c.in_ok-check.ensures c.in_err-check-2.ensures))
+
+pub returns-in_err-new : goal.returns-in_err-new
+returns-in_err-new c =
+    let p = err_from_is_err_and c.from_residual-in_err-new.result c.from_residual-in_err-new.ensures.1 in
+    rw (p.1, p.2) (NoMemory (record { in_range = c.requires.in_range; within = c.requires.within; typed = c.requires.typed; incidence = c.in_ok-check.ensures; squares = c.in_ok-check-2.ensures }))

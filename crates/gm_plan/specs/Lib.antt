@@ -1,0 +1,6 @@
+pub mod Counts
+pub mod Paths
+pub mod Placed
+pub mod Plans
+pub mod Refusals
+pub mod Searches

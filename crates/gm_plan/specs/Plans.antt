@@ -1,0 +1,56 @@
+-- What contracts see of a plan, what it keeps of its rule, and what its tables have.
+use Rattle.std.specs.Prelude.{◌≡◌, ℕ, ◌+◌, ◌<◌, ◌↔◌, List, length, Some, IsTrue, slice_get}
+use Rattle.std.specs.Option.{option_and_then}
+use Rattle.gm_model.specs.declared.rule.Link.{Link}
+use Rattle.gm_model.specs.declared.rule.RuleTable.{RuleTable}
+use Rattle.gm_model.specs.declared.rule.Side.{Side}
+use Rattle.gm_model.specs.declared.rule.Side.TheVariants.{Left, Right}
+use Rattle.gm_model.specs.declared.schema.Schema.{Schema}
+use Rattle.gm_model.specs.declared.step.Step.{Step}
+use Rattle.gm_model.specs.Kinds.{IsTyped}
+use Rattle.gm_model.specs.Rules.{Rule, rule_of, has_word, step}
+use Rattle.gm_model.specs.Squares.{HasSquares}
+use Rattle.gm_model.specs.Structure.{IsInRange, IsWithinLimits, HasIncidence}
+use Rattle.gm_model.specs.Unfolding.{added_nodes}
+use Rattle.gm_plan.specs.Counts.{removed_nodes}
+use Rattle.gm_plan.specs.Paths.{ArePaths}
+
+-- a plan is that of a rule over a schema
+pub record PlanOf : Type 0 where
+  pub schema : Schema
+  pub table : RuleTable
+
+abbrev pub plan_of : Schema → RuleTable → PlanOf
+plan_of schema table = record { schema = schema; table = table }
+
+-- the rule is in range and typed, and meets the conditions on structure, arcs and squares
+pub record IsPlanned (schema : Schema) (rule : Rule) : Type 0 where
+  pub in_range : IsInRange schema rule
+  pub within : IsWithinLimits rule
+  pub typed : IsTyped schema rule
+  pub incidence : HasIncidence schema.dim rule
+  pub squares : HasSquares schema.dim rule
+
+-- ---- the tables
+
+-- the rows have the steps of the first nodes at the labels 0 to 7
+pub record AreSteps (rule : Rule) (side : Side) (count : ℕ) (rows : List (List Step)) : Type 0 where
+  pub long : length rows ≡ count
+  pub row_long : (x : ℕ) (row : List Step) → slice_get rows x ≡ Some row → length row ≡ 8
+  pub here : (x i : ℕ) → x < count → i < 8 → option_and_then (λ row. slice_get row i) (slice_get rows x) ≡ Some (step rule side x i)
+
+-- the nodes below the count are the left nodes
+abbrev pub IsLeftCount : Rule → ℕ → Type 0
+IsLeftCount rule count = (x : ℕ) → IsTrue (has_word rule Left x) ↔ (x < count)
+
+pub record AreCounts (rule : Rule) (left added removed : ℕ) : Type 0 where
+  pub left_is : IsLeftCount rule left
+  pub added_is : added ≡ added_nodes rule
+  pub removed_is : removed ≡ removed_nodes rule
+
+pub record IsCompiled (schema : Schema) (rule : Rule) (left right : List (List Step)) (paths : List Link) (left_nodes added removed : ℕ) : Type 0 where
+  pub planned : IsPlanned schema rule
+  pub left_steps : AreSteps rule Left (length rule.nodes) left
+  pub right_steps : AreSteps rule Right (length rule.nodes) right
+  pub are_paths : ArePaths rule paths
+  pub are_counts : AreCounts rule left_nodes added removed

@@ -1,0 +1,82 @@
+ghost use Rattle.std.specs.Prelude.{◌≡◌, ℕ, ◌*◌, ◌<◌, ◌≤◌, Some, length};
+ghost use Rattle.std.specs.List.{All};
+ghost use Rattle.gm_plan.specs.Placed.{slot_at, turn_at, HasRowsOf};
+
+use gm_arena::Slot;
+use std::marker::Model;
+
+/// Where the left nodes of a rule lie in an arena, at each position of an application, and to which
+/// position each position turns. Nodes, positions and places are counted from 0.
+#[derive(Drop)]
+pub struct Instances {
+    slots: Vec<Slot>,
+    turns: Vec<u32>,
+    positions: u32,
+    /// The number of slots per position.
+    nodes: usize,
+    places: u8,
+}
+
+impl Model for Instances {
+    ghost use Rattle.gm_plan.specs.Placed.{Placed, IsPlaced, placed_of};
+
+    ghost Value = { Placed };
+
+    ghost view = { λ a. placed_of a.slots.items a.turns.items a.positions a.nodes a.places };
+
+    ghost invariant = { λ a. IsPlaced (placed_of a.slots.items a.turns.items a.positions a.nodes a.places) };
+}
+
+impl Instances {
+    /// The slots of position 0 by node, then those of position 1, and so on; and likewise the
+    /// positions to which each position turns, by place. `places` is the number of places.
+    pub fn new(slots: Vec<Slot>, turns: Vec<u32>, positions: u32, places: u8) -> Instances
+        requires some_position { 1 ≤ positions }
+        requires slots { HasRowsOf positions (length slots.items) }
+        requires turns { positions * places ≡ length turns.items }
+        requires turns_within { All (λ q. q < positions) turns.items }
+        ensures slots { result.slots ≡ slots.items }
+        ensures turns { result.turns ≡ turns.items }
+        ensures positions { result.positions ≡ positions }
+        ensures places { result.places ≡ places }
+        ensures nodes { positions * result.nodes ≡ length slots.items }
+    {
+        let nodes = slots.len() / positions as usize;
+        Instances {
+            slots,
+            turns,
+            positions,
+            nodes,
+            places,
+        }
+    }
+
+    /// The number of positions.
+    pub fn positions(&self) -> u32
+        ensures value { result ≡ self.now.positions }
+        ensures some { 1 ≤ self.now.positions }
+        ensures slots { self.now.positions * self.now.nodes ≡ length self.now.slots }
+        ensures turns { self.now.positions * self.now.places ≡ length self.now.turns }
+    {
+        self.positions
+    }
+
+    /// The slot of the node at the position.
+    pub fn slot(&self, node: u8, position: u32) -> Slot
+        requires node { node < self.now.nodes }
+        requires position { position < self.now.positions }
+        ensures { slot_at self.now node position ≡ Some result }
+    {
+        self.slots[position as usize * self.nodes + node as usize]
+    }
+
+    /// The position to which the position turns at the place.
+    pub fn turn(&self, position: u32, place: u8) -> u32
+        requires position { position < self.now.positions }
+        requires place { place < self.now.places }
+        ensures value { result ≡ turn_at self.now position place }
+        ensures within { result < self.now.positions }
+    {
+        self.turns[position as usize * self.places as usize + place as usize]
+    }
+}

@@ -1,0 +1,15 @@
+//! Rules compiled for their application: the steps of each node, and the least path to each left
+//! node; and where an application's instances lie.
+#![tactic(auto)]
+
+mod compiler;
+mod instances;
+mod paths;
+mod plan;
+mod sides;
+#[cfg(test)]
+mod tests;
+
+pub use compiler::{PlanFault, compile};
+pub use instances::Instances;
+pub use plan::Plan;

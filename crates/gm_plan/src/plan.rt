@@ -1,0 +1,149 @@
+ghost use Rattle.std.specs.Prelude.{◌≡◌, ◌≢◌, ℕ, ◌<◌, ◌≤◌, ◌↔◌, length, Some, MatchOption, IfOk, IsTrue};
+
+use crate::paths::{Paths, least_paths, link_to};
+use crate::sides::{Row, count_added, count_left, count_removed, side_steps};
+use gm_model::{Link, OutOfMemory, RuleTable, Schema, Side, Step};
+use std::alloc::Global;
+use std::marker::Model;
+
+/// A rule that is ready to be applied to maps of the schema: it is in range and typed, it meets
+/// the conditions on structure, arcs and squares, and what an application asks of it again and
+/// again is in tables.
+///
+/// A node goes by its index in the rule, where the left nodes come first.
+#[derive(Drop)]
+pub struct Plan<'b> {
+    schema: &'b Schema,
+    rule: &'b RuleTable,
+    left: Vec<Row>,
+    right: Vec<Row>,
+    paths: Paths,
+    left_nodes: u8,
+    added: u8,
+    removed: u8,
+}
+
+impl<'b> Model for Plan<'b> {
+    ghost use Rattle.std.specs.Coded.{codes};
+    ghost use Rattle.gm_model.specs.contracts.expr.Expr as expr_block;
+    ghost use Rattle.gm_model.specs.Rules.{rule_of};
+    ghost use Rattle.gm_plan.specs.Plans.{PlanOf, IsCompiled};
+
+    ghost Value = { PlanOf };
+
+    ghost coded = { Prim.hlevel (codes, expr_block.the_row.coded) };
+
+    ghost view = { λ a. record { schema = a.schema.now; table = a.rule.now } };
+
+    ghost invariant = { λ a. IsCompiled a.schema.now (rule_of a.rule.now) a.left.items a.right.items a.paths.items a.left_nodes a.added a.removed };
+}
+
+impl<'b> Plan<'b> {
+    ghost use Rattle.gm_model.specs.declared.rule.Side.TheVariants.{Left};
+    ghost use Rattle.gm_model.specs.Rules.{rule_of, has_word, first_hook, link_from, step};
+    ghost use Rattle.gm_model.specs.Unfolding.{added_nodes};
+    ghost use Rattle.gm_plan.specs.Counts.{removed_nodes};
+    ghost use Rattle.gm_plan.specs.Paths.{ArePaths, IsLastLink};
+    ghost use Rattle.gm_plan.specs.Plans.{IsPlanned, IsLeftCount, plan_of};
+
+    /// The plan of a rule that is accepted.
+    pub(crate) fn new(
+        alloc: Global,
+        schema: &'b Schema,
+        rule: &'b RuleTable,
+    ) -> Result<Plan<'b>, OutOfMemory>
+        requires { IsPlanned schema.now (rule_of rule.now) }
+        ensures { IfOk result (λ plan. plan ≡ plan_of schema.now rule.now) }
+    {
+        let left = side_steps(alloc, rule, Side::Left)?;
+        let right = side_steps(alloc, rule, Side::Right)?;
+        let paths = least_paths(alloc, schema, rule, left.as_slice())?;
+        Ok(Plan {
+            schema,
+            rule,
+            left,
+            right,
+            paths,
+            left_nodes: count_left(rule),
+            added: count_added(rule),
+            removed: count_removed(rule),
+        })
+    }
+
+    /// The schema of the maps that the rule is for.
+    pub fn schema(&self) -> &'b Schema
+        ensures schema { result.now ≡ self.now.schema }
+        ensures planned { IsPlanned self.now.schema (rule_of self.now.table) }
+    {
+        self.schema
+    }
+
+    /// The rule.
+    pub fn rule(&self) -> &'b RuleTable
+        ensures rule { result.now ≡ self.now.table }
+        ensures planned { IsPlanned self.now.schema (rule_of self.now.table) }
+    {
+        self.rule
+    }
+
+    /// How many hooks the rule has.
+    pub fn hooks(&self) -> u8
+        ensures { result ≡ length (rule_of self.now.table).hooks }
+    {
+        self.rule.hooks.as_slice().len() as u8
+    }
+
+    /// How many left nodes the rule has: they are the nodes below this number.
+    pub fn left_nodes(&self) -> u8
+        ensures left { IsLeftCount (rule_of self.now.table) result }
+        ensures most { result ≤ length (rule_of self.now.table).nodes }
+    {
+        self.left_nodes
+    }
+
+    /// How many nodes the rule adds.
+    pub fn added(&self) -> u8
+        ensures { result ≡ added_nodes (rule_of self.now.table) }
+    {
+        self.added
+    }
+
+    /// How many nodes the rule removes.
+    pub fn removed(&self) -> u8
+        ensures { result ≡ removed_nodes (rule_of self.now.table) }
+    {
+        self.removed
+    }
+
+    /// What the node has at the label on the side.
+    pub fn step(&self, side: Side, node: u8, label: u8) -> Step
+        requires node { node < length (rule_of self.now.table).nodes }
+        requires label { label < 8 }
+        ensures { result ≡ step (rule_of self.now.table) side node label }
+    {
+        match side {
+            Side::Left => self.left[node as usize][label as usize],
+            Side::Right => self.right[node as usize][label as usize],
+        }
+    }
+
+    /// The last link of the least path to each left node but the hook, in an order in which each
+    /// link leads from the hook or from the end of an earlier link. A path that is shorter is less,
+    /// and of paths of one length that with the lesser labels.
+    pub fn paths(&self) -> &[Link]
+        ensures { ArePaths (rule_of self.now.table) result.now }
+    {
+        self.paths.as_slice()
+    }
+
+    /// The node and the label that end the least path to the left node; none at the hook.
+    pub fn from(&self, node: u8) -> Option<(u8, u8)>
+        requires { IsTrue (has_word (rule_of self.now.table) Left node) }
+        ensures { MatchOption result
+            (first_hook (rule_of self.now.table) ≡ Some node)
+            (λ end. (first_hook (rule_of self.now.table) ≢ Some node) × IsLastLink (rule_of self.now.table) (link_from end.0 end.1 node)) }
+    {
+        let link = link_to(self.paths.as_slice(), node)?;
+        Some((link.from, link.label))
+    }
+}

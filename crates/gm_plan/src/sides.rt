@@ -1,0 +1,66 @@
+ghost use Rattle.std.specs.Prelude.{◌≡◌, ℕ, ◌<◌, ◌≤◌, length, IfOk, IsTrue};
+ghost use Rattle.gm_model.specs.declared.rule.Side.TheVariants.{Left};
+ghost use Rattle.gm_model.specs.Rules.{rule_of, has_word};
+ghost use Rattle.gm_model.specs.Unfolding.{added_nodes};
+ghost use Rattle.gm_plan.specs.Counts.{removed_nodes};
+ghost use Rattle.gm_plan.specs.Plans.{AreSteps, IsLeftCount};
+
+use gm_model::{MOST_LABELS, OutOfMemory, RuleTable, Side, Step};
+use std::alloc::Global;
+
+/// The steps of one node, by label.
+pub type Row = [Step; MOST_LABELS];
+
+/// The steps of each node on the side.
+pub fn side_steps(alloc: Global, rule: &RuleTable, side: Side) -> Result<Vec<Row>, OutOfMemory>
+    requires { length (rule_of rule.now).nodes ≤ 32 }
+    ensures { IfOk result (λ rows. AreSteps (rule_of rule.now) side (length (rule_of rule.now).nodes) rows.items) }
+{
+    let mut rows = Vec::new(alloc);
+    for node in 0..rule.node_count() {
+        rows.push(rule.steps(side, node))?;
+    }
+    Ok(rows)
+}
+
+/// How many left nodes the rule has.
+pub fn count_left(rule: &RuleTable) -> u8
+    requires within { length (rule_of rule.now).nodes ≤ 32 }
+    requires left_first { (x y : ℕ) → x < y → IsTrue (has_word (rule_of rule.now) Left y) → IsTrue (has_word (rule_of rule.now) Left x) }
+    ensures { IsLeftCount (rule_of rule.now) result }
+{
+    for node in 0..rule.node_count() {
+        if rule.word(Side::Left, node).is_none() {
+            return node;
+        }
+    }
+    rule.node_count()
+}
+
+/// How many nodes the rule adds.
+pub fn count_added(rule: &RuleTable) -> u8
+    requires { length (rule_of rule.now).nodes ≤ 32 }
+    ensures { result ≡ added_nodes (rule_of rule.now) }
+{
+    let mut added = 0;
+    for node in 0..rule.node_count() {
+        if rule.word(Side::Left, node).is_none() && rule.word(Side::Right, node).is_some() {
+            added += 1;
+        }
+    }
+    added
+}
+
+/// How many nodes the rule removes.
+pub fn count_removed(rule: &RuleTable) -> u8
+    requires { length (rule_of rule.now).nodes ≤ 32 }
+    ensures { result ≡ removed_nodes (rule_of rule.now) }
+{
+    let mut removed = 0;
+    for node in 0..rule.node_count() {
+        if rule.word(Side::Left, node).is_some() && rule.word(Side::Right, node).is_none() {
+            removed += 1;
+        }
+    }
+    removed
+}
