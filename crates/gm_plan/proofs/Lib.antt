@@ -1,4 +1,5 @@
 pub mod Accepted
+pub mod Bare
 pub mod Extended
 pub mod Found
 pub mod LeftNodes

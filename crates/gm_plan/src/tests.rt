@@ -1,4 +1,6 @@
-ghost use Rattle.std.specs.Prelude.{IsTrue};
+ghost use Rattle.std.specs.Prelude.{◌≡◌, ◌==◌, IsTrue, length};
+ghost use Rattle.std.specs.List.{list_all};
+ghost use Rattle.gm_model.specs.declared.rule.Node.{Node};
 ghost use Rattle.gm_model.specs.Kinds.{IsTyped};
 ghost use Rattle.gm_model.specs.Rules.{rule_of};
 
@@ -82,12 +84,13 @@ fn rule(alloc: Global, row: &Row) -> Result<RuleTable, Fail> {
 fn is_bare(schema: &Schema, rule: &RuleTable) -> bool
     ensures { IsTrue result → IsTyped schema.now (rule_of rule.now) }
 {
-    rule.pre.is_none()
-        && rule
-            .nodes
-            .as_slice()
-            .iter()
-            .all(|node| node.sets.as_slice().is_empty())
+    rule.pre.is_none() && has_no_sets(rule.nodes.as_slice())
+}
+
+fn has_no_sets(nodes: &[Node]) -> bool
+    ensures { result ≡ list_all (λ (node : Node). length node.sets == 0) nodes.now }
+{
+    nodes.iter().all(|node| node.sets.as_slice().len() == 0)
 }
 
 fn schema(alloc: Global, n: u8) -> Result<Schema, Fail> {
