@@ -128,14 +128,31 @@ fn faults(rt: HostRuntime) -> Result<(), Fail> {
         right_links: &[(0, 1, 1), (1, 0, 2)],
     };
     assert_eq!(rt; fault(&rt, alloc, &TRIANGULATION)?, None);
-    assert_eq!(rt; fault(&rt, alloc, &open_square)?, Some(PlanFault::Rule(RuleFault::Square { node: 1, i: 0, j: 2 })));
-    assert_eq!(rt; fault(&rt, alloc, &no_arc)?, Some(PlanFault::Rule(RuleFault::ArcMissing { node: 1, label: 2 })));
+    assert_eq!(rt;
+        fault(&rt, alloc, &open_square)?,
+        Some(PlanFault::Rule(RuleFault::Square {
+            node: 1,
+            i: 0,
+            j: 2
+        }))
+    );
+    assert_eq!(rt;
+        fault(&rt, alloc, &no_arc)?,
+        Some(PlanFault::Rule(RuleFault::ArcMissing { node: 1, label: 2 }))
+    );
     Ok(())
 }
 
 /// Compares what the plan of a rule answers: the numbers of hooks and of left, added and removed
 /// nodes; what ends the least path to each left node; and the ends of the paths, in their order.
-fn compare(rt: &impl Abort, alloc: Global, row: &Row, counts: [u8; 4], from: &[Option<(u8, u8)>], order: &[u8]) -> Result<(), Fail> {
+fn compare(
+    rt: &impl Abort,
+    alloc: Global,
+    row: &Row,
+    counts: [u8; 4],
+    from: &[Option<(u8, u8)>],
+    order: &[u8],
+) -> Result<(), Fail> {
     let schema = schema(alloc, row.dim)?;
     let rule = rule(alloc, row)?;
     assert!(rt; rule.is_within_limits());
@@ -144,7 +161,15 @@ fn compare(rt: &impl Abort, alloc: Global, row: &Row, counts: [u8; 4], from: &[O
     let plan = compile(alloc, &schema, &rule)?;
     assert_eq!(rt; plan.schema().dim, schema.dim);
     assert_eq!(rt; plan.rule().hooks.as_slice(), row.hooks);
-    assert_eq!(rt; [plan.hooks(), plan.left_nodes(), plan.added(), plan.removed()], counts);
+    assert_eq!(rt;
+        [
+            plan.hooks(),
+            plan.left_nodes(),
+            plan.added(),
+            plan.removed()
+        ],
+        counts
+    );
     let mut ends = Vec::new(alloc);
     for node in 0..plan.left_nodes() {
         ends.push(plan.from(node))?;
@@ -168,7 +193,14 @@ fn paths(rt: HostRuntime) -> Result<(), Fail> {
         left_links: &[(3, 1, 3), (3, 0, 1), (2, 1, 1), (0, 0, 2), (0, 1, 0)],
         right_links: &[],
     };
-    compare(&rt, alloc, &three_links, [1, 4, 0, 4], &[Some((2, 0)), Some((3, 0)), Some((1, 1)), None], &[1, 2, 0])?;
+    compare(
+        &rt,
+        alloc,
+        &three_links,
+        [1, 4, 0, 4],
+        &[Some((2, 0)), Some((3, 0)), Some((1, 1)), None],
+        &[1, 2, 0],
+    )?;
     // Two paths of one length: the one with the lesser label wins.
     let square = Row {
         dim: 1,
@@ -177,16 +209,37 @@ fn paths(rt: HostRuntime) -> Result<(), Fail> {
         left_links: &[(0, 1, 1), (0, 0, 2), (1, 0, 3), (2, 1, 3)],
         right_links: &[],
     };
-    compare(&rt, alloc, &square, [1, 4, 0, 4], &[None, Some((0, 1)), Some((0, 0)), Some((2, 1))], &[2, 1, 3])?;
+    compare(
+        &rt,
+        alloc,
+        &square,
+        [1, 4, 0, 4],
+        &[None, Some((0, 1)), Some((0, 0)), Some((2, 1))],
+        &[2, 1, 3],
+    )?;
     // Paths of one link and of two: the shorter wins, though its label is greater.
     let triangle = Row {
         dim: 2,
         nodes: &[("", "-"), ("", "-"), ("", "-")],
         hooks: &[0],
-        left_links: &[(0, 0, 1), (0, 2, 2), (1, 1, 2), (2, 0, 2), (0, 1, 0), (1, 2, 1)],
+        left_links: &[
+            (0, 0, 1),
+            (0, 2, 2),
+            (1, 1, 2),
+            (2, 0, 2),
+            (0, 1, 0),
+            (1, 2, 1),
+        ],
         right_links: &[],
     };
-    compare(&rt, alloc, &triangle, [1, 3, 0, 3], &[None, Some((0, 0)), Some((0, 2))], &[1, 2])
+    compare(
+        &rt,
+        alloc,
+        &triangle,
+        [1, 3, 0, 3],
+        &[None, Some((0, 0)), Some((0, 2))],
+        &[1, 2],
+    )
 }
 
 #[test]
@@ -223,7 +276,14 @@ fn steps(rt: HostRuntime) -> Result<(), Fail> {
 #[test]
 fn instances(rt: HostRuntime) -> Result<(), Fail> {
     let alloc = rt.alloc();
-    let slots = [Slot { at: 7 }, Slot { at: 4 }, Slot { at: 9 }, Slot { at: 2 }, Slot { at: 8 }, Slot { at: 1 }];
+    let slots = [
+        Slot { at: 7 },
+        Slot { at: 4 },
+        Slot { at: 9 },
+        Slot { at: 2 },
+        Slot { at: 8 },
+        Slot { at: 1 },
+    ];
     let instances = Instances::new(slots.to_vec(alloc)?, [1, 0, 0, 1].to_vec(alloc)?, 2, 2);
     assert_eq!(rt; instances.positions(), 2);
     assert_eq!(rt; instances.slot(2, 0), Slot { at: 9 });
