@@ -1,6 +1,5 @@
 -- The rule of a plan is accepted, where the schema has no embeddings.
 use Rattle.std.proofs.Common.{◌≡◌, ℕ, []}
-use Rattle.std.specs.List.{slice_get}
 use Rattle.gm_model.specs.declared.schema.Embed.{Embed}
 use Rattle.gm_model.specs.declared.schema.Schema.{Schema}
 use Rattle.gm_model.specs.Acceptance.{IsAccepted}

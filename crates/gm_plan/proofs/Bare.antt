@@ -1,9 +1,9 @@
 -- A rule without expressions is typed.
-use Rattle.std.proofs.Common.{◌≡◌, ℕ, zero, suc, Bool, true, eqb, List, [], ◌∷◌, length, map, Option, Some, None, refl, sym, ap, ◌∙◌, arith}
+use Rattle.std.proofs.Common.{◌≡◌, ℕ, zero, suc, true, false, eqb, List, [], ◌∷◌, length, map, Option, Some, None, sym, ap, ◌∙◌, arith}
 use Rattle.std.proofs.lemmas.Bool.{eqb-true}
 use Rattle.std.proofs.lemmas.List.{nil_from_length}
 use Rattle.std.specs.List.{list_all, slice_get, Contains}
-use Rattle.std.specs.Option.{is_none, option_map}
+use Rattle.std.specs.Option.{is_some, option_map}
 use Rattle.gm_model.specs.declared.expr.Expr.{Expr}
 use Rattle.gm_model.specs.declared.rule.Node.{Node}
 use Rattle.gm_model.specs.declared.rule.RuleTable.{RuleTable}
@@ -14,7 +14,7 @@ use Rattle.gm_model.specs.Trees.{Tree, tree_of}
 use Rattle.gm_theory.proofs.Lists.{none_some, some_same}
 use Rattle.gm_theory.proofs.Tests.{both_true}
 
-no_pre : (pre : Option Expr) (tree : Tree) → is_none pre ≡ true → option_map tree_of pre ≡ Some tree → ⊥
+no_pre : (pre : Option Expr) (tree : Tree) → is_some pre ≡ false → option_map tree_of pre ≡ Some tree → ⊥
 no_pre None tree h e = none_some tree e
 no_pre (Some expr) tree h e = absurd (cc)
 
@@ -28,7 +28,7 @@ no_sets (n ∷ nodes) h (suc x) node e = no_sets nodes (both_true (eqb (length n
 nothing : (sets : List Assignment) (s : Assignment) → sets ≡ [] → Contains sets s → ⊥
 nothing sets s e (k, b, f) = let z : length sets ≡ 0 = ap length e in omega arith
 
-pub bare_typed : (schema : Schema) (table : RuleTable) → is_none table.pre ≡ true → list_all (λ (node : Node). eqb (length node.sets) 0) table.nodes ≡ true → IsTyped schema (rule_of table)
+pub bare_typed : (schema : Schema) (table : RuleTable) → is_some table.pre ≡ false → list_all (λ (node : Node). eqb (length node.sets) 0) table.nodes ≡ true → IsTyped schema (rule_of table)
 bare_typed schema table pre sets = record {
   pre = λ tree e. absurd (no_pre table.pre tree pre e);
   sets = λ x e tree embed assigns at. absurd (nothing assigns.0.sets (record { embed = e; tree = tree }) (no_sets table.nodes sets x assigns.0 assigns.1) assigns.2);

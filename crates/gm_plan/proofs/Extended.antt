@@ -1,5 +1,5 @@
 -- A search at one label of a node: the link there leads to a node that is found already, or to one more.
-use Rattle.std.proofs.Common.{◌≡◌, ◌≢◌, ℕ, zero, suc, ◌+◌, ◌<◌, ◌↔◌, IsTrue, Bool, Option, Some, None, Bor, cond, eqb, List, [], ◌∷◌, ◌++◌, length, get_or, refl, sym, ap, subst, ◌∙◌, add-one, arith}
+use Rattle.std.proofs.Common.{◌≡◌, ◌≢◌, ℕ, zero, suc, ◌+◌, ◌<◌, ◌↔◌, IsTrue, Bool, Option, Some, None, Bor, cond, eqb, List, [], ◌∷◌, ◌++◌, length, refl, sym, ap, subst, ◌∙◌, add-one, arith}
 use Rattle.std.proofs.lemmas.Bool.{eqb-true, eq-eqb, ne_eqb}
 use Rattle.std.proofs.lemmas.List.{get_or_append_left, get_or_default, get_or_push, length_push}
 use Rattle.std.specs.List.{find, count_by, Contains}
@@ -8,7 +8,7 @@ use Rattle.gm_model.specs.declared.rule.Link.{Link}
 use Rattle.gm_model.specs.declared.step.Step.{Step}
 use Rattle.gm_model.specs.declared.step.Step.TheVariants.{Exp}
 use Rattle.gm_model.specs.Rules.{link_from}
-use Rattle.gm_plan.specs.Searches.{row_step, link_at, node_at, IsSearch, IsSearched, IsFound, IsFoundAt}
+use Rattle.gm_plan.specs.Searches.{row_step, link_at, node_at, IsSearched, IsFound, IsFoundAt}
 use Rattle.gm_theory.proofs.Candidates.{contains_counts}
 use Rattle.gm_theory.proofs.Lists.{find_passes, find_none}
 use Rattle.gm_theory.proofs.Tests.{not_both}

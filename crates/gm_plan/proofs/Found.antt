@@ -1,5 +1,5 @@
 -- A search that has ended has found the least path to each left node.
-use Rattle.std.proofs.Common.{◌≡◌, ◌≢◌, ℕ, zero, suc, ◌+◌, ◌<◌, ◌≤◌, ◌⊎◌, inl, inr, ◌↔◌, IsTrue, List, [], ◌∷◌, ◌++◌, length, map, take, get_or, Some, refl, sym, ap, subst, ◌∙◌, arith, append-nil}
+use Rattle.std.proofs.Common.{◌≡◌, ◌≢◌, ℕ, zero, suc, ◌+◌, ◌<◌, ◌≤◌, ◌⊎◌, inl, inr, ◌↔◌, IsTrue, List, [], ◌∷◌, ◌++◌, length, map, take, get_or, Some, refl, sym, ap, subst, ◌∙◌, arith}
 use Rattle.std.proofs.lemmas.Bool.{cases_order, eqb-true}
 use Rattle.std.proofs.lemmas.Bool.Decides.{Decides-eqb}
 use Rattle.std.proofs.lemmas.List.{get_or_default, get_or-take, length-map, length-take-le}
@@ -14,10 +14,10 @@ use Rattle.gm_model.specs.declared.schema.Schema.{Schema}
 use Rattle.gm_model.specs.declared.step.Step.{Step}
 use Rattle.gm_model.specs.declared.step.Step.TheVariants.{Exp}
 use Rattle.gm_model.specs.Matches.{IsPathTo, IsSmallerPath}
-use Rattle.gm_model.specs.Orbits.{HasNoRepeats, IsListOf}
-use Rattle.gm_model.specs.Rules.{Rule, has_word, first_hook, link_from, step}
+use Rattle.gm_model.specs.Orbits.{HasNoRepeats}
+use Rattle.gm_model.specs.Rules.{Rule, has_word, link_from}
 use Rattle.gm_model.specs.Structure.{Leads, IsJoined, any_label}
-use Rattle.gm_plan.specs.Paths.{IsLastLink, path_nodes, ArePaths}
+use Rattle.gm_plan.specs.Paths.{IsLastLink, ArePaths}
 use Rattle.gm_plan.specs.Plans.{IsPlanned, AreSteps}
 use Rattle.gm_plan.specs.Searches.{row_step, StepsLead, IsAtMost, link_at, node_at, IsSearch, IsSearched}
 use Rattle.gm_plan.proofs.Orders.{at_most_not_smaller}

@@ -1,5 +1,5 @@
 -- What contracts see of a plan, what it keeps of its rule, and what its tables have.
-use Rattle.std.specs.Prelude.{◌≡◌, ℕ, ◌+◌, ◌<◌, ◌↔◌, List, length, Some, IsTrue, slice_get}
+use Rattle.std.specs.Prelude.{◌≡◌, ℕ, ◌<◌, ◌↔◌, List, length, Some, IsTrue, slice_get}
 use Rattle.std.specs.Option.{option_and_then}
 use Rattle.gm_model.specs.declared.rule.Link.{Link}
 use Rattle.gm_model.specs.declared.rule.RuleTable.{RuleTable}
@@ -8,7 +8,7 @@ use Rattle.gm_model.specs.declared.rule.Side.TheVariants.{Left, Right}
 use Rattle.gm_model.specs.declared.schema.Schema.{Schema}
 use Rattle.gm_model.specs.declared.step.Step.{Step}
 use Rattle.gm_model.specs.Kinds.{IsTyped}
-use Rattle.gm_model.specs.Rules.{Rule, rule_of, has_word, step}
+use Rattle.gm_model.specs.Rules.{Rule, has_word, step}
 use Rattle.gm_model.specs.Squares.{HasSquares}
 use Rattle.gm_model.specs.Structure.{IsInRange, IsWithinLimits, HasIncidence}
 use Rattle.gm_model.specs.Unfolding.{added_nodes}

@@ -16,8 +16,9 @@ use std::alloc::Global;
 /// The last links of the least paths of a rule. Few rules have more left nodes than fit in place.
 pub type Paths = SmallVec<Link, 8>;
 
-/// The last link of the least path to each left node but the hook, in the order of these paths.
-/// The rows have the left steps of each node.
+/// The last link of the least path to each left node but the hook: the links are followed from the
+/// hook on, by their labels, and then from each node in the order in which it was found. The rows
+/// have the left steps of each node.
 pub fn least_paths(
     alloc: Global,
     schema: &Schema,
@@ -53,7 +54,9 @@ fn follow(
 ) -> Result<(), OutOfMemory>
     requires labels { labels ≤ 8 }
     requires node { node < length rows.now }
-    ensures { OnOk result ((q : ℕ) → IsFoundAt hook paths.old.items q node → IsSearched labels rows.now hook paths.old.items q 0 → IsSearched labels rows.now hook paths.new.items (q + 1) 0) }
+    ensures { OnOk result ((q : ℕ) → IsFoundAt hook paths.old.items q node
+        → IsSearched labels rows.now hook paths.old.items q 0
+        → IsSearched labels rows.now hook paths.new.items (q + 1) 0) }
 {
     for label in 0..labels {
         if let Step::Exp(to) = rows[node as usize][label as usize] {

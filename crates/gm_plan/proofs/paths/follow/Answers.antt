@@ -1,4 +1,4 @@
-use Rattle.std.proofs.Common.{◌≡◌, ℕ, ◌+◌, ◌<◌, ◌≤◌, List, [], ◌∷◌, ◌++◌, length, sym, subst, ◌∙◌, arith}
+use Rattle.std.proofs.Common.{◌≡◌, sym, subst, ◌∙◌, arith}
 use Rattle.gm_theory.proofs.Tests.{not_both}
 use Rattle.gm_plan.specs.Searches.{IsFound}
 use Rattle.gm_plan.proofs.Extended.{pass_searched, find_searched, found_kept, move_searched}

@@ -1,7 +1,7 @@
-use Rattle.std.proofs.Common.{◌≡◌, ℕ, suc, ◌+◌, ◌<◌, ◌≤◌, [], length, Some, refl, sym, arith}
+use Rattle.std.proofs.Common.{◌≡◌, suc, ◌+◌, Some, refl, sym, arith}
 use Rattle.std.specs.List.{slice_get}
 use Rattle.gm_plan.proofs.Extended.{start_searched, found_next}
-use Rattle.gm_plan.proofs.Found.{no_paths, search_room, found_row, searched_paths, one_hook}
+use Rattle.gm_plan.proofs.Found.{search_room, found_row, searched_paths, one_hook}
 use Rattle.gm_plan.proofs.paths.least_paths.Goals as goal
 
 pub loop-done-init : goal.loop-done-init
