@@ -118,7 +118,7 @@ pub fn tool<S: Store, O: Sink, L: Ledger>(
     }
 }
 
-/// The same over a step counter of its own, which the blank ledger makes.
+/// Runs [`tool`] over a step counter of its own, which the blank ledger makes.
 pub fn with_new_counter<S: Store, O: Sink, L: Ledger>(
     alloc: Global,
     words: &[String],
@@ -129,6 +129,11 @@ pub fn with_new_counter<S: Store, O: Sink, L: Ledger>(
     requires name { blank.name ≡ L.name }
     requires parts { blank.parts ≡ L.parts }
     requires some { 0 < blank.parts }
+    ensures leaves { LeavesWhereTold (words_of words.now) (S.holds store.old)
+        (Rises (S.load_faults store.old) (S.load_faults store.new)) (Rises (O.faults out.old) (O.faults out.new))
+        (O.written out.old) result (O.written out.new) }
+    ensures statuses { IsStatus result }
+    ensures held { S.holds store.new ≡ S.holds store.old }
 {
     let mut steps: Steps<L> = Steps::start(blank);
     tool(alloc, words, store, out, &mut steps)
