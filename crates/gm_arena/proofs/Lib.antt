@@ -9,3 +9,4 @@ pub mod ValueLemmas
 pub mod AddLemmas
 pub mod NameLemmas
 pub mod MapLemmas
+pub mod Keys

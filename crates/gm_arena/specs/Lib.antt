@@ -1,4 +1,5 @@
 pub mod ArenaMap
+pub mod ArenaAsMap
 pub mod Lawful
 pub mod Edits
 pub mod Filled

@@ -10,7 +10,7 @@ use Rattle.gm_model.specs.Orbits.{IsPathIn, follow}
 use Rattle.gm_arena.specs.ArenaMap.{ArenaMap, Dart, IsLiveName, alpha}
 use Rattle.gm_arena.specs.Lawful.{IsLawful}
 use Rattle.gm_arena.proofs.MapLemmas.{IsLiveName-alpha}
-use Rattle.gm_laws.specs.ArenaAsMap.{value, as_map}
+use Rattle.gm_arena.specs.ArenaAsMap.{value, as_map}
 use Rattle.gm_laws.specs.Faults.{AreValuesShared}
 
 module _ (m : ArenaMap) (lawful : IsLawful m) where

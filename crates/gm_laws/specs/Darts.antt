@@ -3,7 +3,7 @@ use Rattle.std.specs.Prelude.{◌≡◌, ℕ, ◌+◌, ◌<◌, ◌≤◌, IsTru
 use Rattle.gm_model.specs.declared.word.Mask.{Mask}
 use Rattle.gm_model.specs.Labels.{has}
 use Rattle.gm_arena.specs.ArenaMap.{ArenaMap, IsLiveName, alpha}
-use Rattle.gm_laws.specs.ArenaAsMap.{value}
+use Rattle.gm_arena.specs.ArenaAsMap.{value}
 
 -- x is the first of its kind that is not good
 pub record IsFirst (IsOne IsGood : ℕ → Type 0) (x : ℕ) : Type 0 where

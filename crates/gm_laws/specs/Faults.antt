@@ -6,7 +6,7 @@ use Rattle.gm_laws.specs.declared.breach.LawFault.{LawFault}
 use Rattle.gm_laws.specs.declared.breach.LawFault.TheVariants.{Breach, OutOfMemory}
 use Rattle.gm_laws.specs.declared.breach.MapBreach.{MapBreach}
 use Rattle.gm_laws.specs.declared.breach.MapBreach.TheVariants.{Involution, Cycle, Embedding}
-use Rattle.gm_laws.specs.ArenaAsMap.{value}
+use Rattle.gm_arena.specs.ArenaAsMap.{value}
 
 -- each neighbour of the map in the arena points back
 abbrev pub ArePointedBack : ArenaMap → Type 0

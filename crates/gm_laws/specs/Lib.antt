@@ -1,3 +1,2 @@
-pub mod ArenaAsMap
 pub mod Darts
 pub mod Faults

@@ -3,7 +3,7 @@ ghost use Rattle.std.specs.FinMap.{keys};
 ghost use Rattle.gm_model.specs.Maps.{IsEmbedAt};
 ghost use Rattle.gm_arena.specs.ArenaMap.{IsLiveSlot, name_at};
 ghost use Rattle.gm_arena.specs.Lawful.{IsLawful};
-ghost use Rattle.gm_laws.specs.ArenaAsMap.{value};
+ghost use Rattle.gm_arena.specs.ArenaAsMap.{value};
 ghost use Rattle.gm_laws.specs.Darts.{IsFirst, IsOrbitLabel, HasSame, IsAlike, AreAlike, IsFirstUnlike};
 ghost use Rattle.gm_laws.specs.Faults.{ArePointedBack, DoCommute, AreValuesShared, IsFirstBreach};
 

@@ -1,6 +1,6 @@
 ghost use Rattle.std.specs.Prelude.{◌≡◌, ◌+◌, ◌*◌, ◌≤◌, OnOk, IfErr};
 ghost use Rattle.gm_model.specs.Maps.{IsGeneralised, IsWellEmbedded};
-ghost use Rattle.gm_laws.specs.ArenaAsMap.{as_map};
+ghost use Rattle.gm_arena.specs.ArenaAsMap.{as_map};
 ghost use Rattle.gm_laws.specs.Faults.{IsFault};
 
 use crate::breach::LawFault;

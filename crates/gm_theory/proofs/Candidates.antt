@@ -8,12 +8,11 @@ use Rattle.gm_model.specs.declared.rule.Side.{Side}
 use Rattle.gm_model.specs.declared.rule.Side.TheVariants.{Left}
 use Rattle.gm_model.specs.declared.schema.Schema.{Schema}
 use Rattle.gm_model.specs.declared.step.Step.TheVariants.{Exp}
-use Rattle.gm_model.specs.Acceptance.{IsAccepted}
 use Rattle.gm_model.specs.Maps.{Map, IsDart, IsGeneralised, dimension}
 use Rattle.gm_model.specs.Matches.{Placement, IsMatch, IsCandidate, IsStepMet, IsMetAt, IsHooked, IsForced, IsInstance, IsSmallerPath}
 use Rattle.gm_model.specs.Orbits.{follow, IsPairBefore}
 use Rattle.gm_model.specs.Rules.{Rule, has_word, links_on, is_end, other_end, link_from, IsLinked, step, first_hook}
-use Rattle.gm_model.specs.Structure.{IsLinkInRange, HasOnce, Leads, IsJoined, any_label}
+use Rattle.gm_model.specs.Structure.{IsInRange, HasIncidence, IsLinkInRange, HasOnce, Leads, IsJoined, any_label}
 use Rattle.gm_theory.proofs.Lists.{some_same, none_some, count_yes, count_no}
 use Rattle.gm_theory.proofs.RuleSteps.{once, word_below}
 use Rattle.gm_theory.proofs.Tests.{true_or_false}
@@ -58,11 +57,11 @@ only_one [] x e c = absurd (omega arith)
 only_one (y ∷ xs) x e (zero, h, f) = ap Some f
 only_one (y ∷ xs) x e (suc k, h, f) = absurd (omega arith)
 
-module _ (schema : Schema) (rule : Rule) (accepted : IsAccepted schema rule) where
+module _ (schema : Schema) (rule : Rule) (in_range : IsInRange schema rule) (incidence : HasIncidence schema.dim rule) where
   -- x and y are nodes of the side, and the label is one of the map
   pub linked_in_range : (side : Side) (x i y : ℕ) → IsLinked (links_on rule side) x i y → IsTrue (has_word rule side x) × IsTrue (has_word rule side y) × (i ≤ schema.dim)
-  linked_in_range side x i y (inl c) = let r : IsLinkInRange schema.dim rule side (link_from x i y) = contains_has (IsLinkInRange schema.dim rule side) (links_on rule side) (link_from x i y) (accepted.in_range.links side) c in (r.from, r.to, r.label)
-  linked_in_range side x i y (inr c) = let r : IsLinkInRange schema.dim rule side (link_from y i x) = contains_has (IsLinkInRange schema.dim rule side) (links_on rule side) (link_from y i x) (accepted.in_range.links side) c in (r.to, r.from, r.label)
+  linked_in_range side x i y (inl c) = let r : IsLinkInRange schema.dim rule side (link_from x i y) = contains_has (IsLinkInRange schema.dim rule side) (links_on rule side) (link_from x i y) (in_range.links side) c in (r.from, r.to, r.label)
+  linked_in_range side x i y (inr c) = let r : IsLinkInRange schema.dim rule side (link_from y i x) = contains_has (IsLinkInRange schema.dim rule side) (links_on rule side) (link_from y i x) (in_range.links side) c in (r.to, r.from, r.label)
 
   -- a link that joins x and y is the step of x
   pub linked_step : (side : Side) (x i y : ℕ) → IsLinked (links_on rule side) x i y → step rule side x i ≡ Exp y
@@ -72,7 +71,7 @@ module _ (schema : Schema) (rule : Rule) (accepted : IsAccepted schema rule) whe
       range = linked_in_range side x i y l
 
       alone : count_by (is_end x i) (links_on rule side) ≤ 1
-      alone = let o : HasOnce rule side x i = once schema rule accepted side x i range.0 range.2 in omega arith
+      alone = let o : HasOnce rule side x i = once schema rule in_range incidence side x i range.0 range.2 in omega arith
 
       by : (link : Link) → find (is_end x i) (links_on rule side) ≡ Some link → other_end x link ≡ y → step rule side x i ≡ Exp y
       by link f e = rw f (ap Exp e)
@@ -95,7 +94,7 @@ module _ (schema : Schema) (rule : Rule) (accepted : IsAccepted schema rule) whe
       go (inl c) = by (link_from x i y) (contains_found (is_end x i) (links_on rule side) (link_from x i y) c (rw (label, here) refl) alone) (rw here refl)
       go (inr c) = by (link_from y i x) (contains_found (is_end x i) (links_on rule side) (link_from y i x) c (rw (label, here) (or_true (eqb y x))) alone) (back (eqb y x) refl)
 
-module _ (map : Map) (rule : Rule) (place : Placement) (accepted : IsAccepted map.schema rule) where
+module _ (map : Map) (rule : Rule) (place : Placement) (in_range : IsInRange map.schema rule) (incidence : HasIncidence map.schema.dim rule) where
   -- each left step is met
   abbrev pub MeetsEach : Type 0
   MeetsEach = (x p i : ℕ) → IsInstance rule place x p → i ≤ dimension map → IsMetAt map rule place x p i
@@ -105,7 +104,7 @@ module _ (map : Map) (rule : Rule) (place : Placement) (accepted : IsAccepted ma
   steps_follow met [] x y p b e = ap (λ z. place.dart_of z p) (sym e)
   steps_follow met (i ∷ path) x y p b (z, linked, leads) =
       steps_follow met path z y p b leads
-      ∙ ap (follow map.alpha path) (sym (subst (IsStepMet map.alpha place x p i) (linked_step map.schema rule accepted Left x i z linked) (met x p i ((linked_in_range map.schema rule accepted Left x i z linked).0, b) (linked_in_range map.schema rule accepted Left x i z linked).2)).0)
+      ∙ ap (follow map.alpha path) (sym (subst (IsStepMet map.alpha place x p i) (linked_step map.schema rule in_range incidence Left x i z linked) (met x p i ((linked_in_range map.schema rule in_range incidence Left x i z linked).0, b) (linked_in_range map.schema rule in_range incidence Left x i z linked).2)).0)
 
   -- so a match is the candidate
   pub match_is_candidate : (hooks : List ℕ) → IsMatch map rule hooks place → IsCandidate map rule hooks place
@@ -118,14 +117,14 @@ module _ (map : Map) (rule : Rule) (place : Placement) (accepted : IsAccepted ma
   -- a path of left links leads from live darts to live darts
   pub follow_live : IsGeneralised map → (path : List ℕ) (x y d : ℕ) → Leads rule.left_links x path y → IsDart map d → IsDart map (follow map.alpha path d)
   follow_live old [] x y d e live = live
-  follow_live old (i ∷ path) x y d (z, linked, leads) live = follow_live old path z y (map.alpha i d) leads (old.stays d i live (linked_in_range map.schema rule accepted Left x i z linked).2)
+  follow_live old (i ∷ path) x y d (z, linked, leads) live = follow_live old path z y (map.alpha i d) leads (old.stays d i live (linked_in_range map.schema rule in_range incidence Left x i z linked).2)
 
   -- the first hook lies along the walk, as the empty path leads to it
   pub candidate_hooked : (walk : List ℕ) → IsForced map rule place walk → IsHooked rule place walk
   candidate_hooked walk forced h p first b = forced h p [] (left, b) (record { hook = h; first = first; leads = refl; least = none_smaller })
     where
       left : IsTrue (has_word rule Left h)
-      left = contains_has (λ x. IsTrue (has_word rule Left x)) rule.hooks h accepted.in_range.hooks (first_contained rule.hooks h first)
+      left = contains_has (λ x. IsTrue (has_word rule Left x)) rule.hooks h in_range.hooks (first_contained rule.hooks h first)
 
       none_smaller : (other : List ℕ) → Leads rule.left_links h other h → IsSmallerPath other [] → ⊥
       none_smaller [] l s = s
@@ -133,10 +132,10 @@ module _ (map : Map) (rule : Rule) (place : Placement) (accepted : IsAccepted ma
 
   -- a left node is joined to the first hook
   pub joined_to_first : (x : ℕ) → IsTrue (has_word rule Left x) → (h : ℕ) × (path : List ℕ) × (first_hook rule ≡ Some h) × Leads rule.left_links h path x
-  joined_to_first x l = go (accepted.incidence.structured.connected x (word_below rule Left x l) l)
+  joined_to_first x l = go (incidence.structured.connected x (word_below rule Left x l) l)
     where
       go : (h : ℕ) × Contains rule.hooks h × IsJoined rule.left_links any_label h x → (h : ℕ) × (path : List ℕ) × (first_hook rule ≡ Some h) × Leads rule.left_links h path x
-      go (h, c, (path, all, leads)) = (h, path, only_one rule.hooks h (accepted.incidence.structured.hook.0 x l) c, leads)
+      go (h, c, (path, all, leads)) = (h, path, only_one rule.hooks h (incidence.structured.hook.0 x l) c, leads)
 
   -- a candidate that meets each step, and takes no dart twice, is a match
   pub candidate_is_match : IsGeneralised map → (hooks : List ℕ) → IsCandidate map rule hooks place → MeetsEach → ((x p y q : ℕ) → IsInstance rule place x p → IsInstance rule place y q → IsPairBefore x p y q → place.dart_of x p ≢ place.dart_of y q) →
@@ -156,7 +155,7 @@ module _ (map : Map) (rule : Rule) (place : Placement) (accepted : IsAccepted ma
         where
           go : (h : ℕ) × (path : List ℕ) × (first_hook rule ≡ Some h) × Leads rule.left_links h path x → IsDart map (place.dart_of x p)
           go (h, path, first, leads) =
-              let walked : IsDart map (slice_index candidate.walk p) = positions_live map rule place hooks candidate.walk old accepted.in_range candidate.positions h first p at.1 in
+              let walked : IsDart map (slice_index candidate.walk p) = positions_live map rule place hooks candidate.walk old in_range candidate.positions h first p at.1 in
               subst (IsDart map) (sym (steps_follow met path h x p at.1 leads)) (follow_live old path h x (place.dart_of h p) leads (subst (IsDart map) (sym (hooked h p first at.1)) walked))
 
       injective : (x p y q : ℕ) → IsInstance rule place x p → IsInstance rule place y q → place.dart_of x p ≡ place.dart_of y q → (x ≡ y) × (p ≡ q)

@@ -23,14 +23,14 @@ module _ (map : Map) (rule : Rule) (place : Placement) (accepted : IsAccepted ma
   lawful_steps = record {
     left_below = word_below rule Left;
     right_below = word_below rule Right;
-    left_back = λ x i y l h e. step_back map.schema rule accepted Left x i y h e;
-    right_back = λ x i y r h e. step_back map.schema rule accepted Right x i y h e;
-    left_place = λ x i m l e. step_within map.schema rule accepted Left x i m l e;
-    right_place = λ x i m r e. step_within map.schema rule accepted Right x i m r e;
-    removed_whole = λ x i l g h. label_step map.schema rule accepted Left x i (((accepted.incidence.arcs x (word_below rule Left x l)).one_sided i (omega arith)).0 (and_true (has_word rule Left x) (not (has_word rule Right x)) l (true_not (has_word rule Right x) g)));
-    added_whole = λ x i a r h. label_step map.schema rule accepted Right x i (((accepted.incidence.arcs x (word_below rule Right x r)).one_sided i (omega arith)).1 (and_true (not (has_word rule Left x)) (has_word rule Right x) (true_not (has_word rule Left x) a) r));
-    left_then_right = λ x i l r h s. label_step map.schema rule accepted Right x i (((accepted.incidence.arcs x (word_below rule Left x l)).both i (omega arith) (and_true (has_word rule Left x) (has_word rule Right x) l r)).0 (step_label map.schema rule accepted Left x i s));
-    right_then_left = λ x i l r h s. label_step map.schema rule accepted Left x i (((accepted.incidence.arcs x (word_below rule Left x l)).both i (omega arith) (and_true (has_word rule Left x) (has_word rule Right x) l r)).1 (step_label map.schema rule accepted Right x i s));
+    left_back = λ x i y l h e. step_back map.schema rule accepted.in_range accepted.incidence Left x i y h e;
+    right_back = λ x i y r h e. step_back map.schema rule accepted.in_range accepted.incidence Right x i y h e;
+    left_place = λ x i m l e. step_within map.schema rule accepted.in_range accepted.incidence Left x i m l e;
+    right_place = λ x i m r e. step_within map.schema rule accepted.in_range accepted.incidence Right x i m r e;
+    removed_whole = λ x i l g h. label_step map.schema rule accepted.in_range accepted.incidence Left x i (((accepted.incidence.arcs x (word_below rule Left x l)).one_sided i (omega arith)).0 (and_true (has_word rule Left x) (not (has_word rule Right x)) l (true_not (has_word rule Right x) g)));
+    added_whole = λ x i a r h. label_step map.schema rule accepted.in_range accepted.incidence Right x i (((accepted.incidence.arcs x (word_below rule Right x r)).one_sided i (omega arith)).1 (and_true (not (has_word rule Left x)) (has_word rule Right x) (true_not (has_word rule Left x) a) r));
+    left_then_right = λ x i l r h s. label_step map.schema rule accepted.in_range accepted.incidence Right x i (((accepted.incidence.arcs x (word_below rule Left x l)).both i (omega arith) (and_true (has_word rule Left x) (has_word rule Right x) l r)).0 (step_label map.schema rule accepted.in_range accepted.incidence Left x i s));
+    right_then_left = λ x i l r h s. label_step map.schema rule accepted.in_range accepted.incidence Left x i (((accepted.incidence.arcs x (word_below rule Left x l)).both i (omega arith) (and_true (has_word rule Left x) (has_word rule Right x) l r)).1 (step_label map.schema rule accepted.in_range accepted.incidence Right x i s));
     squares = squares;
   }
     where

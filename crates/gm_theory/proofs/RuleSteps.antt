@@ -1,4 +1,4 @@
--- The steps of an accepted rule: links are steps of both their ends, places are places of the word, and a step stands where a label is.
+-- The steps of a rule in range, with the conditions on structure and arcs: links are steps of both their ends, places are places of the word, and a step stands where a label is.
 use Rattle.std.proofs.Common.{◌≡◌, ℕ, ◌<◌, ◌≤◌, ◌⊎◌, Bool, true, false, cond, ◌||◌, eqb, IsTrue, length, Option, Some, None, slice_get, refl, sym, ◌∙◌, ap, subst, inl, inr, arith}
 use Rattle.std.proofs.lemmas.Bool.{eqb-true, eq-eqb}
 use Rattle.std.proofs.lemmas.Option.{slice_get_within}
@@ -9,9 +9,8 @@ use Rattle.gm_model.specs.declared.rule.Side.TheVariants.{Left, Right}
 use Rattle.gm_model.specs.declared.schema.Schema.{Schema}
 use Rattle.gm_model.specs.declared.step.Step.{Step}
 use Rattle.gm_model.specs.declared.step.Step.TheVariants.{Absent, Exp, Imp}
-use Rattle.gm_model.specs.Acceptance.{IsAccepted}
 use Rattle.gm_model.specs.Rules.{Rule, RuleNode, has_word, letters, links_on, is_end, is_label, other_end, step, step_by, width}
-use Rattle.gm_model.specs.Structure.{IsLinkInRange, HasOnce, HasLabel}
+use Rattle.gm_model.specs.Structure.{IsInRange, HasIncidence, IsLinkInRange, HasOnce, HasLabel}
 use Rattle.gm_model.specs.Unfolding.{IsStep}
 use Rattle.gm_theory.proofs.Lists.{find_passes, find_has, find_counts, find_alone, find_none, position_within, position_none, position_counts}
 use Rattle.gm_theory.proofs.Tests.{both_true, and_true, not_both}
@@ -78,10 +77,10 @@ step_absent x (Some l) place e = absurd (cc)
 step_absent x None (Some k) e = absurd (cc)
 step_absent x None None e = (refl, refl)
 
-module _ (schema : Schema) (rule : Rule) (accepted : IsAccepted schema rule) where
+module _ (schema : Schema) (rule : Rule) (in_range : IsInRange schema rule) (incidence : HasIncidence schema.dim rule) where
   pub once : (side : Side) (x i : ℕ) → IsTrue (has_word rule side x) → i ≤ schema.dim → HasOnce rule side x i
-  once Left x i h b = (accepted.incidence.arcs x (word_below rule Left x h)).left_once i (omega arith)
-  once Right x i h b = (accepted.incidence.arcs x (word_below rule Right x h)).right_once i (omega arith)
+  once Left x i h b = (incidence.arcs x (word_below rule Left x h)).left_once i (omega arith)
+  once Right x i h b = (incidence.arcs x (word_below rule Right x h)).right_once i (omega arith)
 
   -- a link is a step of both its ends
   pub step_back : (side : Side) (x i y : ℕ) → i ≤ schema.dim → step rule side x i ≡ Exp y → IsTrue (has_word rule side y) × (step rule side y i ≡ Exp x)
@@ -94,7 +93,7 @@ module _ (schema : Schema) (rule : Rule) (accepted : IsAccepted schema rule) whe
           passes = find_passes (is_end x i) (links_on rule side) l found
 
           word : IsTrue (has_word rule side y)
-          word = subst (λ z. IsTrue (has_word rule side z)) o (other_has_word schema.dim rule side x l (find_has (IsLinkInRange schema.dim rule side) (is_end x i) (links_on rule side) l (accepted.in_range.links side) found))
+          word = subst (λ z. IsTrue (has_word rule side z)) o (other_has_word schema.dim rule side x l (find_has (IsLinkInRange schema.dim rule side) (is_end x i) (links_on rule side) l (in_range.links side) found))
 
           there : IsTrue (is_end y i l)
           there = subst (λ z. IsTrue (is_end z i l)) o (other_is_end x i l passes).0
@@ -108,7 +107,7 @@ module _ (schema : Schema) (rule : Rule) (accepted : IsAccepted schema rule) whe
   pub step_within : (side : Side) (x i m : ℕ) → IsTrue (has_word rule side x) → step rule side x i ≡ Imp m → m < width rule
   step_within side x i m h e =
       let place : position (is_label i) (letters rule side x) ≡ Some m = (step_place x m (find (is_end x i) (links_on rule side)) (position (is_label i) (letters rule side x)) e).1 in
-      let wide : length (letters rule side x) ≡ width rule = accepted.incidence.structured.widths x (word_below rule side x h) side h in
+      let wide : length (letters rule side x) ≡ width rule = incidence.structured.widths x (word_below rule side x h) side h in
       subst (λ k. m < k) wide (position_within (is_label i) (letters rule side x) m place)
 
   pub label_step : (side : Side) (x i : ℕ) → HasLabel rule side x i → IsStep (step rule side x i)

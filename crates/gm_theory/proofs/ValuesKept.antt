@@ -158,7 +158,7 @@ rules_keep_well_embedded_maps app place of_schema is_map old embedded accepted f
 -- ---- applications that are done
 
 done_match : (app : Application) (result : Map) (added removed : ℕ) → IsGeneralised app.map → IsAccepted app.map.schema app.rule → (done : IsDone app result added removed) → IsMatch app.map app.rule app.hooks done.place
-done_match app result added removed old accepted done = candidate_is_match app.map app.rule done.place accepted old app.hooks done.ready.found.candidate done.ready.found.steps
+done_match app result added removed old accepted done = candidate_is_match app.map app.rule done.place accepted.in_range accepted.incidence old app.hooks done.ready.found.candidate done.ready.found.steps
     (λ x p y q at at' before e. done.ready.found.distinct x p y q (record { first = at; second = at'; later = before; same = e }))
 
 pub applications_keep_sound_maps : ApplicationsKeepSoundMaps

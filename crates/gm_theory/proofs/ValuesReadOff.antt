@@ -101,7 +101,7 @@ linked_by links x i y l c h o = go (end_parts x i l h)
 module _ (schema : Schema) (rule : Rule) (accepted : IsAccepted schema rule) where
   letter_step : (side : Side) (x i m : ℕ) → IsTrue (has_word rule side x) → i ≤ schema.dim → slice_get (letters rule side x) m ≡ Some (At i) → step rule side x i ≡ Imp m
   letter_step side x i m h b e =
-      let one : HasOnce rule side x i = once schema rule accepted side x i h b in
+      let one : HasOnce rule side x i = once schema rule accepted.in_range accepted.incidence side x i h b in
       let some : 0 < count_by (is_label i) (letters rule side x) = letter_counts i (letters rule side x) m e in
       let no_link : find (is_end x i) (links_on rule side) ≡ None = none_found (is_end x i) (links_on rule side) (omega arith) in
       let at_place : position (is_label i) (letters rule side x) ≡ Some m = place_of i (letters rule side x) m e (omega arith) in
@@ -117,9 +117,9 @@ module _ (schema : Schema) (rule : Rule) (accepted : IsAccepted schema rule) whe
 
   pub read_off : IsReadOff schema.dim rule
   read_off = record {
-    link = λ side x i y w h l. linked_step schema rule accepted side x i y l;
+    link = λ side x i y w h l. linked_step schema rule accepted.in_range accepted.incidence side x i y l;
     letter = letter_step;
     linked = linked;
     lettered = lettered;
-    end = λ side x i y l. (linked_in_range schema rule accepted side x i y l).1;
+    end = λ side x i y l. (linked_in_range schema rule accepted.in_range accepted.incidence side x i y l).1;
   }

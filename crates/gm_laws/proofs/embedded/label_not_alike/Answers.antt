@@ -3,7 +3,7 @@ use Rattle.std.proofs.lemmas.Bool.{false≢true}
 use Rattle.gm_arena.proofs.MapLemmas.{name_at-is}
 use Rattle.gm_arena.specs.ArenaMap.{name_at}
 use Rattle.gm_model.specs.Labels.{has}
-use Rattle.gm_laws.specs.ArenaAsMap.{value}
+use Rattle.gm_arena.specs.ArenaAsMap.{value}
 use Rattle.gm_laws.specs.Darts.{HasSame}
 use Rattle.gm_laws.proofs.embedded.label_not_alike.Goals as goal
 use Rattle.gm_laws.proofs.embedded.label_not_alike.Goals.{then-has+else-ne, else-has}
