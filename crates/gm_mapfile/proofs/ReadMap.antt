@@ -15,7 +15,7 @@ use Rattle.gm_laws.specs.declared.breach.LawFault.TheVariants as laws
 use Rattle.gm_laws.specs.declared.breach.MapBreach.TheVariants as breaches
 use Rattle.gm_model.specs.declared.schema.Embed.{Embed}
 use Rattle.gm_model.specs.Maps.{IsGeneralised, IsEmbedAt}
-use Rattle.gm_laws.specs.ArenaAsMap.{as_map}
+use Rattle.gm_arena.specs.ArenaAsMap.{as_map}
 use Rattle.gm_laws.specs.Faults.{IsFault}
 use Rattle.gm_mapfile.specs.declared.reading.TextFault.{TextFault}
 use Rattle.gm_mapfile.specs.declared.reading.TextFault.TheVariants as texts

@@ -4,5 +4,6 @@ pub mod Items
 pub mod Gaps
 pub mod Values
 pub mod Marks
+pub mod Machine
 pub mod Printed
 pub mod Worked

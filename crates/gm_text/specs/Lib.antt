@@ -1,2 +1,3 @@
 pub mod Cursor
 pub mod Lexing
+pub mod Machine
