@@ -4,6 +4,7 @@ pub mod FileStore
 pub mod Files
 pub mod MemSink
 pub mod MemStore
+pub mod Saves
 pub mod Sink
 pub mod Store
 pub mod SureStore

@@ -12,3 +12,7 @@ pub record StoreState : Type 0 where
 abbrev pub state_code : Coded StoreState
 state_code =
     code_by (Files × ℕ) (coded× files_code coded_ℕ) (λ s. (s.files, s.loads)) (λ p. record { files = p.0; loads = p.1 }) (λ _. refl)
+
+-- the count of its faults, always
+abbrev pub no_faults : ℕ
+no_faults = 0

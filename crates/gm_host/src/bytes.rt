@@ -1,3 +1,5 @@
+ghost use Rattle.std.specs.Prelude.{◌≡◌, take};
+
 use std::marker::Model;
 
 /// Bytes in a public type: a vector that contracts see as its list.
@@ -15,8 +17,6 @@ impl Model for Bytes {
 }
 
 impl Bytes {
-    ghost use Rattle.std.specs.Prelude.{◌≡◌};
-
     /// The bytes of the vector, which it takes over without taking memory.
     pub fn new(vector: Vec<u8>) -> Bytes
         ensures { result ≡ vector.items }
@@ -37,4 +37,11 @@ impl Bytes {
     {
         self.vector
     }
+}
+
+/// The first `count` bytes, at most all.
+pub(crate) fn first(bytes: &[u8], count: usize) -> &[u8]
+    ensures { result.now ≡ take count bytes.now }
+{
+    &bytes[..count.min(bytes.len())]
 }

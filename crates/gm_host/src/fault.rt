@@ -1,6 +1,7 @@
 ghost use Rattle.std.specs.Prelude.{◌≡◌};
 
 use crate::bytes::Bytes;
+use gm_model::OutOfMemory;
 use std::alloc::AllocError;
 
 /// Why a load gave no file.
@@ -26,6 +27,26 @@ impl From<AllocError> for LoadFault {
 
     fn from(_error: AllocError) -> LoadFault {
         LoadFault::OutOfMemory
+    }
+}
+
+/// Why a save did not leave all bytes under the name.
+#[derive(Clone, Copy, Debug, PartialEq, Eq)]
+pub enum SaveFault {
+    /// The store failed, which its count of failed saves shows. The file is as it was, or has some of
+    /// the first bytes.
+    Failed,
+    /// Memory was wanting, and nothing changed.
+    OutOfMemory,
+}
+
+impl From<OutOfMemory> for SaveFault {
+    ghost use Rattle.gm_host.specs.declared.fault.SaveFault.TheVariants as saves;
+
+    ghost from_gives = { λ _ fault. fault ≡ saves.OutOfMemory };
+
+    fn from(_error: OutOfMemory) -> SaveFault {
+        SaveFault::OutOfMemory
     }
 }
 

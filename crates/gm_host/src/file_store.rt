@@ -1,27 +1,31 @@
-ghost use Rattle.std.specs.Prelude.{◌≡◌, ◌+◌, ◌<◌, ◌≤◌, IfOk, OnOk, is_err, length, if◌then◌else◌};
-ghost use Rattle.std.specs.Io.KnownBytes.{Consumes, IsAtEnd};
+ghost use Rattle.std.specs.Prelude.{◌≡◌, ◌+◌, ◌<◌, ◌≤◌, IfOk, OnOk, OnErr, is_err, length, if◌then◌else◌};
+ghost use Rattle.std.specs.Io.KnownBytes.{Appends, Consumes, IsAtEnd};
 ghost use Rattle.gm_host.specs.Count.{counted, Rises};
 ghost use Rattle.gm_host.specs.Store.{untold, Lacks, IsHeld, IsCutFromHeld, HoldsLongerFile, IsAbsent, OnAbsent, OnFailed, IfTooLong, IsAbsentUnlessFailing, IsTooLongUnlessFailing};
+ghost use Rattle.gm_host.specs.FileStore.{AppendsInPart};
+ghost use Rattle.gm_host.specs.Saves as saves;
+ghost use Rattle.gm_host.specs.Saves.{IsSaved, IsSavedInPart};
 
 use crate::bytes::Bytes;
-use crate::fault::LoadFault;
+use crate::fault::{LoadFault, SaveFault};
 use crate::store::Store;
 use std::alloc::Global;
 use std::fs;
 use std::fs::Files;
-use std::io::Read;
+use std::io::{Read, Write};
 use std::marker::Model;
 
 /// How many bytes one read asks for.
 const PIECE: usize = 65_536;
 
 /// The files of the system, by name. It does not tell what it holds, a file that is not there is
-/// `Failed`, and each load that is not Ok raises its count of faults.
+/// `Failed`, and each load or save that is not Ok raises its count of faults.
 #[derive(Drop)]
 pub struct FileStore<'r, R> {
     rt: &'r R,
     loads: u64,
     load_faults: u64,
+    save_faults: u64,
 }
 
 impl<'r, R> Model for FileStore<'r, R> {
@@ -29,18 +33,19 @@ impl<'r, R> Model for FileStore<'r, R> {
 
     ghost Value = { Counts };
 
-    ghost view = { λ store. record { loads = store.loads; load_faults = store.load_faults } };
+    ghost view = { λ store. record { loads = store.loads; load_faults = store.load_faults; save_faults = store.save_faults } };
 }
 
 impl<'r, R: Files> FileStore<'r, R> {
     /// The files that this runtime reaches.
     pub fn new(rt: &'r R) -> FileStore<'r, R>
-        ensures { result ≡ record { loads = 0; load_faults = 0 } }
+        ensures { result ≡ record { loads = 0; load_faults = 0; save_faults = 0 } }
     {
         FileStore {
             rt,
             loads: 0,
             load_faults: 0,
+            save_faults: 0,
         }
     }
 }
@@ -52,10 +57,13 @@ impl<'r, R: Files> Store for FileStore<'r, R> {
 
     ghost load_faults = { λ store. store.load_faults };
 
+    ghost save_faults = { λ store. store.save_faults };
+
     fn load(&mut self, alloc: Global, name: &str, limit: usize) -> Result<Vec<u8>, LoadFault>
         ensures held { untold ≡ untold }
         ensures each_load_counts { self.new.loads ≡ counted self.old.loads }
         ensures faults_never_fall { self.old.load_faults ≤ self.new.load_faults }
+        ensures no_save_fault { self.new.save_faults ≡ self.old.save_faults }
         ensures within_limit { IfOk result (λ bytes. length bytes.items ≤ limit) }
         ensures bytes_held { IfOk result (λ bytes. IsHeld untold name.now bytes.items) }
         ensures absent { OnAbsent result (Lacks untold name.now) }
@@ -70,6 +78,25 @@ impl<'r, R: Files> Store for FileStore<'r, R> {
         let answer = read_file(self.rt, alloc, name, limit);
         if answer.is_err() {
             self.load_faults = self.load_faults.saturating_add(1);
+        }
+        answer
+    }
+
+    fn save(&mut self, name: &str, bytes: &[u8]) -> Result<(), SaveFault>
+        ensures no_load { self.new.loads ≡ self.old.loads }
+        ensures no_load_fault { self.new.load_faults ≡ self.old.load_faults }
+        ensures faults_never_fall { self.old.save_faults ≤ self.new.save_faults }
+        ensures ok { OnOk result (IsSaved untold name.now bytes.now untold) }
+        ensures failed { saves.OnFailed result (Rises self.old.save_faults self.new.save_faults) }
+        ensures kept { saves.OnFailed result (IsSavedInPart untold name.now bytes.now untold) }
+        ensures out_of_memory { saves.OnOutOfMemory result (untold ≡ untold) }
+        ensures no_fault { saves.OnOutOfMemory result (self.new.save_faults ≡ self.old.save_faults) }
+        ensures enough_memory { ¬ saves.IsOutOfMemory result }
+        ensures each_fault_counts { self.new.save_faults ≡ (if is_err result then counted self.old.save_faults else self.old.save_faults) }
+    {
+        let answer = write_file(self.rt, name, bytes);
+        if answer.is_err() {
+            self.save_faults = self.save_faults.saturating_add(1);
         }
         answer
     }
@@ -123,4 +150,30 @@ fn read_within<F: Read>(
     Err(LoadFault::TooLong {
         seen: Bytes::new(bytes),
     })
+}
+
+/// Makes the bytes those of the file, which is made where it is not there.
+fn write_file<R: Files>(rt: &R, name: &str, bytes: &[u8]) -> Result<(), SaveFault>
+    ensures { ¬ saves.IsOutOfMemory result }
+{
+    let Ok(mut file) = fs::create(rt, name) else {
+        return Err(SaveFault::Failed);
+    };
+    write_whole(&mut file, bytes)
+}
+
+/// Writes all of the bytes. A write that takes none of them is a fault.
+fn write_whole<F: Write>(file: &mut F, bytes: &[u8]) -> Result<(), SaveFault>
+    ensures all_bytes { OnOk result (Appends (F.contents file.old) (F.contents file.new) bytes.now) }
+    ensures first_bytes { OnErr result (AppendsInPart (F.contents file.old) (F.contents file.new) bytes.now) }
+    ensures enough_memory { ¬ saves.IsOutOfMemory result }
+{
+    let mut rest = bytes;
+    while !rest.is_empty() {
+        match file.write(rest) {
+            Ok(count) if count > 0 => rest = &rest[count..],
+            _ => return Err(SaveFault::Failed),
+        }
+    }
+    Ok(())
 }

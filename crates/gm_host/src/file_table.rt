@@ -1,9 +1,10 @@
 ghost use Rattle.std.specs.Prelude.{◌≡◌, ◌+◌, ◌≤◌, OnOk, OnErr, IfOk, Some, option_copied, length};
 ghost use Rattle.std.specs.FinMap as map;
 ghost use Rattle.gm_host.specs.Files.{told};
+ghost use Rattle.gm_host.specs.MemStore.{kept_files};
 ghost use Rattle.gm_host.specs.Store.{Lacks, IsHeld, IsCutFromHeld, HoldsLongerFile, IsFailed, OnAbsent, IfTooLong, IsAbsentUnlessFailing, IsTooLongUnlessFailing};
 
-use crate::bytes::Bytes;
+use crate::bytes::{Bytes, first};
 use crate::fault::LoadFault;
 use gm_model::OutOfMemory;
 use std::alloc::Global;
@@ -46,6 +47,22 @@ impl FileTable {
         let bytes = Vec::from_slice(self.alloc, bytes)?;
         self.files.insert(name, bytes)?;
         Ok(())
+    }
+
+    /// Holds so many of the first bytes under the name, at most all, or leaves all as it is.
+    pub(crate) fn hold_part(
+        &mut self,
+        name: &str,
+        bytes: &[u8],
+        kept: Option<usize>,
+    ) -> Result<(), OutOfMemory>
+        ensures ok { OnOk result (self.new ≡ kept_files self.old name.now bytes.now kept) }
+        ensures err { OnErr result (self.new ≡ self.old) }
+    {
+        match kept {
+            Some(count) => self.hold(name, first(bytes, count)),
+            None => Ok(()),
+        }
     }
 
     pub(crate) fn get(&self, name: &str) -> Option<&[u8]>

@@ -18,7 +18,7 @@ mod sure_sink;
 mod sure_store;
 
 pub use bytes::Bytes;
-pub use fault::{LoadFault, PutFault};
+pub use fault::{LoadFault, PutFault, SaveFault};
 pub use file_store::FileStore;
 pub use mem_sink::MemSink;
 pub use mem_store::MemStore;

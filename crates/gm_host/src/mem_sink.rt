@@ -1,9 +1,10 @@
-ghost use Rattle.std.specs.Prelude.{◌≡◌, ◌<◌, ◌≤◌, [], OnOk, OnErr, Some, take};
+ghost use Rattle.std.specs.Prelude.{◌≡◌, ◌<◌, ◌≤◌, [], OnOk, OnErr, Some};
 ghost use Rattle.std.specs.FinMap as map;
 ghost use Rattle.gm_host.specs.Count.{Rises};
 ghost use Rattle.gm_host.specs.Sink.{extended, ExtendsInPart, OnFailed, OnOutOfMemory};
 ghost use Rattle.gm_host.specs.MemSink.{IsPutAsPlanned};
 
+use crate::bytes::first;
 use crate::fault::PutFault;
 use crate::sink::Sink;
 use gm_model::OutOfMemory;
@@ -102,11 +103,4 @@ impl Sink for MemSink {
             }
         }
     }
-}
-
-/// The first `count` bytes, at most all.
-fn first(bytes: &[u8], count: usize) -> &[u8]
-    ensures { result.now ≡ take count bytes.now }
-{
-    &bytes[..count.min(bytes.len())]
 }

@@ -1,22 +1,26 @@
-ghost use Rattle.std.specs.Prelude.{◌≡◌, ◌+◌, ◌≤◌, ℕ, List, Option, length, Some, IfOk};
+ghost use Rattle.std.specs.Prelude.{◌≡◌, ◌+◌, ◌≤◌, ℕ, List, Option, length, OnOk, IfOk};
 ghost use Rattle.gm_host.specs.Count.{counted, Rises};
 ghost use Rattle.gm_host.specs.Store.{Lacks, IsHeld, IsCutFromHeld, HoldsLongerFile, OnAbsent, OnFailed, IfTooLong, IsAbsentUnlessFailing, IsTooLongUnlessFailing};
+ghost use Rattle.gm_host.specs.Saves as saves;
+ghost use Rattle.gm_host.specs.Saves.{IsSaved, IsSavedInPart};
 
-use crate::fault::LoadFault;
+use crate::fault::{LoadFault, SaveFault};
 use std::alloc::Global;
 
 /// Files by name.
 ///
 /// Contracts see what the store holds, as a function from names to bytes, or that it does not tell.
-/// They see how many loads there were, and a count of faults that rises where a load answers
-/// `Failed`. A count that has reached 18,446,744,073,709,551,615 stays there, and counts as risen from
-/// then on.
+/// They see how many loads there were, and two counts of faults: one rises where a load answers
+/// `Failed`, the other where a save does. A count that has reached 18,446,744,073,709,551,615 stays
+/// there, and counts as risen from then on.
 pub trait Store {
     ghost holds: { Self → Option (List ℕ → Option (List ℕ)) };
 
     ghost loads: { Self → ℕ };
 
     ghost load_faults: { Self → ℕ };
+
+    ghost save_faults: { Self → ℕ };
 
     /// The bytes of the file `name`, which are at most `limit`.
     ///
@@ -26,6 +30,7 @@ pub trait Store {
         ensures held { holds self.new ≡ holds self.old }
         ensures each_load_counts { loads self.new ≡ counted (loads self.old) }
         ensures faults_never_fall { load_faults self.old ≤ load_faults self.new }
+        ensures no_save_fault { save_faults self.new ≡ save_faults self.old }
         ensures within_limit { IfOk result (λ bytes. length bytes.items ≤ limit) }
         ensures bytes_held { IfOk result (λ bytes. IsHeld (holds self.old) name.now bytes.items) }
         ensures absent { OnAbsent result (Lacks (holds self.old) name.now) }
@@ -34,4 +39,15 @@ pub trait Store {
         ensures seen_length { IfTooLong result (λ seen. length seen ≡ limit + 1) }
         ensures seen_held { IfTooLong result (λ seen. IsCutFromHeld (holds self.old) name.now limit seen) }
         ensures longer { HoldsLongerFile (holds self.old) name.now limit → IsTooLongUnlessFailing result };
+
+    /// Makes the bytes those of the file `name`, all of them where the answer is Ok.
+    fn save(&mut self, name: &str, bytes: &[u8]) -> Result<(), SaveFault>
+        ensures no_load { loads self.new ≡ loads self.old }
+        ensures no_load_fault { load_faults self.new ≡ load_faults self.old }
+        ensures faults_never_fall { save_faults self.old ≤ save_faults self.new }
+        ensures ok { OnOk result (IsSaved (holds self.old) name.now bytes.now (holds self.new)) }
+        ensures failed { saves.OnFailed result (Rises (save_faults self.old) (save_faults self.new)) }
+        ensures kept { saves.OnFailed result (IsSavedInPart (holds self.old) name.now bytes.now (holds self.new)) }
+        ensures out_of_memory { saves.OnOutOfMemory result (holds self.new ≡ holds self.old) }
+        ensures no_fault { saves.OnOutOfMemory result (save_faults self.new ≡ save_faults self.old) };
 }

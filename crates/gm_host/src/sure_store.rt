@@ -3,8 +3,11 @@ ghost use Rattle.std.specs.FinMap as map;
 ghost use Rattle.gm_host.specs.Files.{told};
 ghost use Rattle.gm_host.specs.Count.{counted, Rises};
 ghost use Rattle.gm_host.specs.Store.{Lacks, IsHeld, IsCutFromHeld, HoldsLongerFile, IsFailed, OnAbsent, OnFailed, IfTooLong, IsAbsentUnlessFailing, IsTooLongUnlessFailing};
+ghost use Rattle.gm_host.specs.SureStore.{no_faults};
+ghost use Rattle.gm_host.specs.Saves as saves;
+ghost use Rattle.gm_host.specs.Saves.{IsSaved, IsSavedInPart};
 
-use crate::fault::LoadFault;
+use crate::fault::{LoadFault, SaveFault};
 use crate::file_table::FileTable;
 use crate::store::Store;
 use gm_model::OutOfMemory;
@@ -60,17 +63,20 @@ impl Store for SureStore {
 
     ghost loads = { λ store. store.loads };
 
-    ghost load_faults = { λ _. 0 };
+    ghost load_faults = { λ _. no_faults };
+
+    ghost save_faults = { λ _. no_faults };
 
     fn load(&mut self, alloc: Global, name: &str, limit: usize) -> Result<Vec<u8>, LoadFault>
         ensures held { told self.new.files ≡ told self.old.files }
         ensures each_load_counts { self.new.loads ≡ counted self.old.loads }
-        ensures faults_never_fall { 0 ≤ 0 }
+        ensures faults_never_fall { no_faults ≤ no_faults }
+        ensures no_save_fault { no_faults ≡ no_faults }
         ensures within_limit { IfOk result (λ bytes. length bytes.items ≤ limit) }
         ensures bytes_held { IfOk result (λ bytes. IsHeld (told self.old.files) name.now bytes.items) }
         ensures absent { OnAbsent result (Lacks (told self.old.files) name.now) }
         ensures lacking { Lacks (told self.old.files) name.now → IsAbsentUnlessFailing result }
-        ensures failed { OnFailed result (Rises 0 0) }
+        ensures failed { OnFailed result (Rises no_faults no_faults) }
         ensures seen_length { IfTooLong result (λ seen. length seen ≡ limit + 1) }
         ensures seen_held { IfTooLong result (λ seen. IsCutFromHeld (told self.old.files) name.now limit seen) }
         ensures longer { HoldsLongerFile (told self.old.files) name.now limit → IsTooLongUnlessFailing result }
@@ -79,5 +85,22 @@ impl Store for SureStore {
     {
         self.loads = self.loads.saturating_add(1);
         self.files.load(alloc, name, limit)
+    }
+
+    fn save(&mut self, name: &str, bytes: &[u8]) -> Result<(), SaveFault>
+        ensures no_load { self.new.loads ≡ self.old.loads }
+        ensures no_load_fault { no_faults ≡ no_faults }
+        ensures faults_never_fall { no_faults ≤ no_faults }
+        ensures ok { OnOk result (IsSaved (told self.old.files) name.now bytes.now (told self.new.files)) }
+        ensures failed { saves.OnFailed result (Rises no_faults no_faults) }
+        ensures kept { saves.OnFailed result (IsSavedInPart (told self.old.files) name.now bytes.now (told self.new.files)) }
+        ensures out_of_memory { saves.OnOutOfMemory result (told self.new.files ≡ told self.old.files) }
+        ensures no_fault { saves.OnOutOfMemory result (no_faults ≡ no_faults) }
+        ensures never_fails { ¬ saves.IsFailed result }
+        ensures after { OnOk result (self.new ≡ record self.old { files = map.insert self.old.files name.now bytes.now }) }
+        ensures unchanged { OnErr result (self.new ≡ self.old) }
+    {
+        self.files.hold(name, bytes)?;
+        Ok(())
     }
 }

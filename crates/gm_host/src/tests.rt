@@ -1,4 +1,4 @@
-use crate::fault::{LoadFault, PutFault};
+use crate::fault::{LoadFault, PutFault, SaveFault};
 use crate::file_store::FileStore;
 use crate::mem_sink::MemSink;
 use crate::mem_store::MemStore;
@@ -97,6 +97,76 @@ fn file_store(rt: HostRuntime) -> Result<(), Fail> {
     let mut store = FileStore::new(&rt);
     assert_loads(&rt, alloc, &mut store, &loads);
     fs::remove_file(&rt, "held.txt")?;
+    Ok(())
+}
+
+fn save_word<S: Store>(store: &mut S, name: &str, bytes: &[u8]) -> &'static str {
+    match store.save(name, bytes) {
+        Ok(()) => "ok",
+        Err(SaveFault::Failed) => "failed",
+        Err(SaveFault::OutOfMemory) => "out of memory",
+    }
+}
+
+/// A save of bytes under a name, its answer as a word, and what is held under the name then.
+type Save<'a> = (&'a str, &'a [u8], &'a str, Option<&'a [u8]>);
+
+#[test]
+fn mem_store_saves(rt: HostRuntime) -> Result<(), Fail> {
+    let mut store = MemStore::new(rt.alloc());
+    store.fail_save(1, Some(9))?;
+    store.fail_save(1, None)?;
+    store.fail_save(2, Some(2))?;
+    store.fail_save(4, Some(9))?;
+    let saves: [Save<'_>; 6] = [
+        ("m", b"abc", "ok", Some(b"abc")),
+        ("m", b"xyz", "failed", Some(b"abc")),
+        ("m", b"def", "failed", Some(b"de")),
+        ("n", b"g", "ok", Some(b"g")),
+        ("n", b"hi", "failed", Some(b"hi")),
+        ("n", b"", "ok", Some(b"")),
+    ];
+    for (name, bytes, word, held) in saves {
+        assert_eq!(rt; save_word(&mut store, name, bytes), word);
+        assert_eq!(rt; store.bytes(name), held);
+    }
+    store.fail_save(5, None)?;
+    assert_eq!(rt; save_word(&mut store, "o", b"j"), "ok");
+    assert_eq!(rt; store.bytes("m"), Some(b"de".as_slice()));
+    Ok(())
+}
+
+#[test]
+fn sure_store_saves(rt: HostRuntime) -> Result<(), Fail> {
+    let mut store = SureStore::new(rt.alloc());
+    let saves: [Save<'_>; 2] = [
+        ("m", b"abc", "ok", Some(b"abc")),
+        ("m", b"de", "ok", Some(b"de")),
+    ];
+    for (name, bytes, word, held) in saves {
+        assert_eq!(rt; save_word(&mut store, name, bytes), word);
+        assert_eq!(rt; store.bytes(name), held);
+    }
+    assert_eq!(rt; store.bytes("n"), None);
+    Ok(())
+}
+
+#[test]
+fn file_store_saves(rt: HostRuntime) -> Result<(), Fail> {
+    let mut store = FileStore::new(&rt);
+    let saves: [Save<'_>; 3] = [
+        ("saved.txt", b"abc", "ok", Some(b"abc")),
+        ("saved.txt", b"de", "ok", Some(b"de")),
+        ("missing/saved.txt", b"fg", "failed", None),
+    ];
+    for (name, bytes, word, held) in saves {
+        assert_eq!(rt; save_word(&mut store, name, bytes), word);
+        match held {
+            Some(held) => assert_loads(&rt, rt.alloc(), &mut store, &[(name, 5, "ok", held)]),
+            None => assert_loads(&rt, rt.alloc(), &mut store, &[(name, 5, "failed", b"")]),
+        }
+    }
+    fs::remove_file(&rt, "saved.txt")?;
     Ok(())
 }
 

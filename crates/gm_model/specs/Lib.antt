@@ -21,6 +21,8 @@ pub mod Expressions
 pub mod Acceptance
 pub mod NewValues
 pub mod Applications
+pub mod Runs
+pub mod Reports
 pub mod NodeSteps
 pub mod Ranges
 pub mod Breaches

@@ -1,0 +1,66 @@
+-- What saves and writes leave.
+use Rattle.std.proofs.Common.{◌≡◌, ◌≢◌, ℕ, ◌-◌, cond, List, [], ◌∷◌, ◌++◌, length, take, drop, Option, Some, None, inl, inr, refl, sym, ap, ◌∙◌, subst, append_assoc, append-nil, take-append-drop}
+use Rattle.std.proofs.lemmas.List.{take_rest}
+use Rattle.std.specs.Cmp.{eq_by_cmp_equiv}
+use Rattle.std.specs.Cmp.Lexicographic.{slice_cmp, nat_list_cmp_total}
+use Rattle.std.specs.FinMap.{insert, get-insert, nat_cmp-IsAntisymmetric, slice_cmp-IsAntisymmetric}
+use Rattle.std.specs.Io.KnownBytes.{Appends, Keeps}
+use Rattle.std.specs.Ordering.{nat_cmp, is_eq}
+use Rattle.std.specs.declared.cmp.Ordering.{Ordering}
+use Rattle.std.specs.declared.cmp.Ordering.TheVariants.{Less, Equal, Greater}
+use Rattle.gm_host.specs.FileStore.{AppendsInPart}
+use Rattle.gm_host.specs.Files.{Files, told}
+use Rattle.gm_host.specs.MemStore.{kept_files}
+use Rattle.gm_host.specs.Saves.{IsSaved, IsSavedInPart}
+
+-- ---- files in memory
+
+other_choice : {A : Type 0} (r : Ordering) (x y : List ℕ) (a b : A) → (r ≡ Equal → x ≡ y) → x ≢ y → cond (is_eq r) a b ≡ b
+other_choice Less x y a b same apart = refl
+other_choice Equal x y a b same apart = absurd (apart (same refl))
+other_choice Greater x y a b same apart = refl
+
+pub saved-insert : (files : Files) (name bytes : List ℕ) → IsSaved (told files) name bytes (told (insert files name bytes))
+saved-insert files name bytes = (
+  get-insert nat_list_cmp_total files name bytes name ∙ rw ((eq_by_cmp_equiv nat_list_cmp_total).refl name) refl,
+  λ other apart. get-insert nat_list_cmp_total files name bytes other
+      ∙ other_choice (slice_cmp nat_cmp other name) other name _ _ (slice_cmp-IsAntisymmetric nat_cmp-IsAntisymmetric other name) apart,
+)
+
+pub saved_in_part : (files : Files) (name bytes : List ℕ) (kept : Option ℕ) → IsSavedInPart (told files) name bytes (told (kept_files files name bytes kept))
+saved_in_part files name bytes None = inl refl
+saved_in_part files name bytes (Some kept) = inr (kept, saved-insert files name (take kept bytes))
+
+-- ---- files of the system
+
+pub Appends-nothing : (known : Option (List ℕ)) → Appends known known []
+Appends-nothing None = tt
+Appends-nothing (Some xs) = sym (append-nil xs)
+
+pub Appends-append : (before between after : Option (List ℕ)) (xs ys : List ℕ)
+    → Appends before between xs → Appends between after ys → Appends before after (xs ++ ys)
+Appends-append None between after xs ys p q = tt
+Appends-append (Some bs) None after xs ys p q = absurd p
+Appends-append (Some bs) (Some cs) None xs ys p q = absurd q
+Appends-append (Some bs) (Some cs) (Some ds) xs ys p q = q ∙ ap (λ front. front ++ ys) p ∙ append_assoc bs xs ys
+
+front_of : (xs ys : List ℕ) → take (length xs) (xs ++ ys) ≡ xs
+front_of [] ys = refl
+front_of (x ∷ xs) ys = ap (λ front. x ∷ front) (front_of xs ys)
+
+pub Appends-kept : (before between after : Option (List ℕ)) (xs : List ℕ) → Appends before between xs → Keeps between after → Appends before after xs
+Appends-kept None between after xs p q = tt
+Appends-kept (Some bs) None after xs p q = absurd p
+Appends-kept (Some bs) (Some cs) None xs p q = absurd q
+Appends-kept (Some bs) (Some cs) (Some ds) xs p q = q ∙ p
+
+-- what was written so far is some of the first bytes
+pub written_in_part : (before after : Option (List ℕ)) (done rest bytes : List ℕ)
+    → bytes ≡ done ++ rest → Appends before after done → AppendsInPart before after bytes
+written_in_part before after done rest bytes split appended =
+    (length done, subst (Appends before after) (sym (ap (take (length done)) split ∙ front_of done rest)) appended)
+
+-- what is still to be written, after a write of so many bytes
+pub split_on : (bytes done rest : List ℕ) (n : ℕ) → bytes ≡ done ++ rest → bytes ≡ (done ++ take n rest) ++ take (length rest - n) (drop n rest)
+split_on bytes done rest n e =
+    e ∙ ap (λ l. done ++ l) (sym (take-append-drop n rest)) ∙ sym (append_assoc done (take n rest) (drop n rest)) ∙ ap (λ l. (done ++ take n rest) ++ l) (sym (take_rest rest n))
