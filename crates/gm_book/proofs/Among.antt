@@ -1,0 +1,47 @@
+-- Which names are among those of a list, as names are taken in.
+use Rattle.std.proofs.Common.{◌≡◌, ℕ, ◌⊎◌, Bool, true, false, ◌||◌, inl, inr, List, [], ◌∷◌, refl, sym, ap, ◌∙◌}
+use Rattle.std.proofs.lemmas.Bool.{cases_Bool}
+use Rattle.std.proofs.lemmas.List.Folds.{list_any-append}
+use Rattle.std.proofs.lemmas.Slice.Eq.{bytes_eq-Decides}
+use Rattle.std.specs.Str.{bytes_eq}
+use Rattle.gm_model.specs.BookText.{Item, NodeItem, LinkItem, is_among, with_name, names_of, nodes_in}
+use Rattle.gm_book.specs.FirstNameFault.{with_items}
+
+pub same_name : (x y : List ℕ) → bytes_eq x y ≡ true → x ≡ y
+same_name x y = (bytes_eq-Decides x y).0
+
+pub own_name : (x : List ℕ) → bytes_eq x x ≡ true
+own_name x = (bytes_eq-Decides x x).1 refl
+
+pub or_false : (b : Bool) → b ≡ (b || false)
+or_false true = refl
+or_false false = refl
+
+pub or_regroup : (a b c : Bool) → ((a || b) || c) ≡ (a || (b || c))
+or_regroup true b c = refl
+or_regroup false b c = refl
+
+pub among_with : (names : List (List ℕ)) (name x : List ℕ) → is_among (with_name names name) x ≡ (is_among names x || bytes_eq x name)
+among_with names name x = elim (cases_Bool (is_among names name)) [
+  | inl there ↦ rw there (by there (cases_Bool (bytes_eq x name)))
+  | inr absent ↦ rw absent (list_any-append (bytes_eq x) names (name ∷ []) ∙ ap (λ b. is_among names x || b) (sym (or_false (bytes_eq x name))))
+]
+  where
+    by : is_among names name ≡ true → (bytes_eq x name ≡ true) ⊎ (bytes_eq x name ≡ false) → is_among names x ≡ (is_among names x || bytes_eq x name)
+    by there (inl same) = let e : is_among names x ≡ true = rw (same_name x name same) there in rw e refl
+    by there (inr other) = rw other (or_false (is_among names x))
+
+pub among_items : (items : List Item) (names : List (List ℕ)) (x : List ℕ) → is_among (with_items names items) x ≡ (is_among names x || is_among (names_of (nodes_in items)) x)
+among_items [] names x = or_false (is_among names x)
+among_items (NodeItem node word hook ∷ items) names x =
+    among_items items (with_name names node.name) x
+    ∙ (ap (λ b. b || is_among (names_of (nodes_in items)) x) (among_with names node.name x) ∙ or_regroup (is_among names x) (bytes_eq x node.name) (is_among (names_of (nodes_in items)) x))
+among_items (LinkItem from label to ∷ items) names x = among_items items names x
+
+pub or_true : (b : Bool) → (b || true) ≡ true
+or_true true = refl
+or_true false = refl
+
+pub or_neither : (a b : Bool) → (a || b) ≡ false → (a ≡ false) × (b ≡ false)
+or_neither true b h = cc
+or_neither false b h = (refl, h)

@@ -1,0 +1,58 @@
+-- Each name of the canonical form has the place of its mark.
+use Rattle.std.proofs.Common.{ℕ, ◌+◌, Bool, true, false, List, [], ◌∷◌, refl}
+use Rattle.gm_model.specs.declared.word.Letter.{Letter}
+use Rattle.gm_model.specs.declared.word.Letter.TheVariants as letters
+use Rattle.gm_model.specs.declared.rule.Side.{Side}
+use Rattle.gm_model.specs.declared.rule.Side.TheVariants.{Left, Right}
+use Rattle.gm_model.specs.Symbols.{Mark}
+use Rattle.gm_model.specs.Reading.{Part}
+use Rattle.gm_model.specs.Rules.{Rule}
+use Rattle.gm_model.specs.BookText.{Role, LetterAt, Count, no_count, count_after, count_across, counted, letter, the_end, spell_letters, spell_hook, spell_item, spell_items, spell_rule, spell_rules, spelling, IsPlacedAt, ArePlaced}
+use Rattle.gm_book.proofs.CanonicalForm.{Line, NodeLine, LinkLine, behind, place_in, behind_letters, behind_hook, behind_line, behind_lines, item_at, items_at, lines_of, left_marks, right_marks, form_at, forms_at, book_at}
+
+-- one part more in front
+first : (marks : List Mark) (part : Part Role) (parts : List (Part Role)) → IsPlacedAt (place_in marks) part.role → ArePlaced (behind marks) parts → ArePlaced marks (part ∷ parts)
+first [] part parts here later = tt
+first (mark ∷ marks) part parts here later = (here, later)
+
+module _ (n : ℕ) where
+  letter_placed : (k place : ℕ) (x : Letter) → IsPlacedAt place (letter (LetterAt n k) x).role
+  letter_placed k place (letters.At i) = tt
+  letter_placed k place letters.Gone = tt
+
+  letters_placed : (k : ℕ) (word : List Letter) (marks : List Mark) (parts : List (Part Role)) → ArePlaced (behind_letters word marks) parts → ArePlaced marks (spell_letters n k word parts)
+  letters_placed k [] marks parts later = later
+  letters_placed k (x ∷ word) marks parts later = first marks (letter (LetterAt n (k + 1)) x) _ (letter_placed (k + 1) (place_in marks) x) (letters_placed (k + 1) word (behind marks) parts later)
+
+  hook_placed : (hook : Bool) (marks : List Mark) (parts : List (Part Role)) → ArePlaced (behind_hook hook marks) parts → ArePlaced marks (spell_hook hook parts)
+  hook_placed true marks parts later = first marks _ parts tt later
+  hook_placed false marks parts later = later
+
+  module _ (side : Side) where
+    line_placed : (line : Line) (count : Count) (marks : List Mark) (parts : List (Part Role)) → ArePlaced (behind_line line marks) parts → ArePlaced marks (spell_item n side count (item_at marks line) parts)
+    line_placed (NodeLine name word hook) count marks parts later =
+        first marks _ _ refl (first (behind marks) _ _ tt (letters_placed 0 word (behind (behind marks)) _
+        (first (behind_letters word (behind (behind marks))) _ _ tt (hook_placed hook (behind (behind_letters word (behind (behind marks)))) parts later))))
+    line_placed (LinkLine from label to) count marks parts later =
+        first marks _ _ refl (first (behind marks) _ _ tt (first (behind (behind marks)) _ _ tt (first (behind (behind (behind marks))) _ _ tt (first (behind (behind (behind (behind marks)))) _ _ refl later))))
+
+    lines_placed : (lines : List Line) (count : Count) (marks : List Mark) (parts : List (Part Role)) → ArePlaced (behind_lines lines marks) parts → ArePlaced marks (spell_items n side count (items_at marks lines) parts)
+    lines_placed [] count marks parts later = later
+    lines_placed (line ∷ lines) count marks parts later = line_placed line count marks _ (lines_placed lines (count_after count (item_at marks line)) (behind_line line marks) parts later)
+
+  rule_placed : (k : ℕ) (rule : Rule) (marks : List Mark) (parts : List (Part Role)) → ArePlaced (behind_lines (lines_of rule Right) (right_marks rule marks)) parts → ArePlaced marks (spell_rule n k (form_at marks rule) parts)
+  rule_placed k rule marks parts later =
+      first marks _ _ tt (first (behind marks) _ _ refl (first (behind (behind marks)) _ _ tt (lines_placed Left (lines_of rule Left) no_count (left_marks marks) _
+      (first (behind_lines (lines_of rule Left) (left_marks marks)) _ _ tt (lines_placed Right (lines_of rule Right) (count_across (counted no_count (form_at marks rule).left)) (right_marks rule marks) parts later)))))
+
+  rules_placed : (k : ℕ) (rules : List Rule) (marks : List Mark) → ArePlaced marks (spell_rules n k (forms_at marks rules) (the_end ∷ []))
+  rules_placed k [] marks = first marks the_end [] tt (none (behind marks))
+    where
+      none : (marks : List Mark) → ArePlaced marks []
+      none [] = tt
+      none (mark ∷ marks) = tt
+  rules_placed k (rule ∷ rules) marks = rule_placed (k + 1) rule marks _ (rules_placed (k + 1) rules (behind_lines (lines_of rule Right) (right_marks rule marks)))
+
+  pub book_placed : (rules : List Rule) (marks : List Mark) → ArePlaced marks (spelling (book_at marks n rules))
+  book_placed rules marks =
+      first marks _ _ tt (first (behind marks) _ _ tt (first (behind (behind marks)) _ _ tt (first (behind (behind (behind marks))) _ _ tt (rules_placed 0 rules (behind (behind (behind (behind marks))))))))

@@ -1,0 +1,174 @@
+-- The rules that a text stands for are in range and within the limits, and can be printed.
+use Rattle.std.proofs.Common.{◌≡◌, ℕ, zero, suc, ◌+◌, ◌<◌, ◌≤◌, Bool, true, false, ◌&&◌, List, [], ◌∷◌, ◌++◌, length, get_or, All, Option, Some, None, is_some, inl, inr, ◌⊎◌, refl, sym, ap, subst, ◌∙◌, arith}
+use Rattle.std.specs.Prelude.{slice_get}
+use Rattle.std.specs.List.{AllByRecursion}
+use Rattle.std.specs.Option.{option_and_then, unwrap_or}
+use Rattle.std.proofs.lemmas.List.{length-append, append_assoc}
+use Rattle.std.proofs.lemmas.List.Elements.{All-from_recursion}
+use Rattle.std.proofs.lemmas.Option.{slice_get-get_or, slice_get_within}
+use Rattle.gm_model.specs.declared.word.Letter.{Letter}
+use Rattle.gm_model.specs.declared.word.Letter.TheVariants as letter
+use Rattle.gm_model.specs.declared.rule.Side.{Side}
+use Rattle.gm_model.specs.declared.rule.Side.TheVariants.{Left, Right}
+use Rattle.gm_model.specs.declared.schema.Schema.{Schema}
+use Rattle.gm_model.specs.Rules.{Rule, RuleNode, Assignment, has_word, word_on, letters, links_on}
+use Rattle.gm_model.specs.Structure.{HasLabelsUpTo, IsLinkInRange, IsInRange, IsWithinLimits}
+use Rattle.gm_model.specs.BookText.{BookText}
+use Rattle.gm_book.proofs.CanonicalForm.{IsGoodLetter, IsGoodWordIfAny, IsGoodNode, IsGoodLink, IsWritable, numbers_where, number_if, hook_on}
+use Rattle.gm_book.proofs.CanonicalText.{element_at, each}
+use Rattle.gm_book.proofs.ReadRules.{writable_from_text}
+
+-- ---- numbers that rise
+
+-- each is at least the first, and less than those behind it
+abbrev Rises : ℕ → List ℕ → Type 0
+Rises x [] = Unit {0}
+Rises x (y ∷ ys) = (x ≤ y) × Rises (y + 1) ys
+
+rises_more : (x more : ℕ) (ys : List ℕ) → x ≤ more → Rises more ys → Rises x ys
+rises_more x more [] le rises = tt
+rises_more x more (y ∷ ys) le rises = (omega (arith, le, rises.0), rises.1)
+
+rises_from : (x : ℕ) (ys : List ℕ) → Rises x ys → (k : ℕ) → k < length ys → x ≤ get_or ys k 0
+rises_from x [] rises k inside = absurd (omega (arith, inside))
+rises_from x (y ∷ ys) rises zero inside = rises.0
+rises_from x (y ∷ ys) rises (suc k) inside = omega (arith, rises.0, rises_from (y + 1) ys rises.1 k (omega (arith, inside)))
+
+rises_apart : (x : ℕ) (ys : List ℕ) → Rises x ys → (p q : ℕ) → p < q → q < length ys → get_or ys p 0 < get_or ys q 0
+rises_apart x [] rises p q before inside = absurd (omega (arith, inside))
+rises_apart x (y ∷ ys) rises p zero before inside = absurd (omega (arith, before))
+rises_apart x (y ∷ ys) rises zero (suc q) before inside = omega (arith, rises_from (y + 1) ys rises.1 q (omega (arith, inside)))
+rises_apart x (y ∷ ys) rises (suc p) (suc q) before inside = rises_apart (y + 1) ys rises.1 p q (omega (arith, before)) (omega (arith, inside))
+
+numbers_rise : (test : ℕ → Bool) (x : ℕ) (nodes : List RuleNode) → Rises x (numbers_where test x nodes)
+numbers_rise test x [] = tt
+numbers_rise test x (node ∷ nodes) = go (is_some node.left && test x) (numbers_rise test (x + 1) nodes)
+  where
+    go : (passes : Bool) → Rises (x + 1) (numbers_where test (x + 1) nodes) → Rises x (number_if passes x (numbers_where test (x + 1) nodes))
+    go true later = (omega arith, later)
+    go false later = rises_more x (x + 1) (numbers_where test (x + 1) nodes) (omega arith) later
+
+abbrev nobody : RuleNode
+nobody = record { name = []; left = None; right = None; sets = [] }
+
+-- ---- the parts of a rule
+
+module _ (n : ℕ) (rule : Rule) (ok : IsWritable n rule) where
+  has_of : (side : Side) (x : ℕ) (node : RuleNode) → slice_get rule.nodes x ≡ Some node → has_word rule side x ≡ is_some (word_on side node)
+  has_of side x node here = rw here refl
+
+  good_letters : (word : List Letter) → AllByRecursion (IsGoodLetter n) word → HasLabelsUpTo n word
+  good_letters word good = each (IsGoodLetter n) (λ x. (i : ℕ) → x ≡ letter.At i → i ≤ n) (λ x fits i is. subst (IsGoodLetter n) is fits) word good
+
+  labels_low : (side : Side) (x : ℕ) → HasLabelsUpTo n (letters rule side x)
+  labels_low side x = go (slice_get rule.nodes x) refl
+    where
+      of_word : (word : Option (List Letter)) → IsGoodWordIfAny n word → HasLabelsUpTo n (unwrap_or word [])
+      of_word None good = tt
+      of_word (Some word) good = good_letters word good.1
+
+      of_side : (side : Side) (node : RuleNode) → IsGoodNode n node → HasLabelsUpTo n (unwrap_or (word_on side node) [])
+      of_side Left node good = of_word node.left good.left
+      of_side Right node good = of_word node.right good.right
+
+      go : (found : Option RuleNode) → slice_get rule.nodes x ≡ found → HasLabelsUpTo n (letters rule side x)
+      go None is = rw is tt
+      go (Some node) is = rw is (of_side side node (element_at (IsGoodNode n) rule.nodes ok.nodes x node is))
+
+  links_low : (side : Side) → AllByRecursion (IsLinkInRange n rule side) (links_on rule side)
+  links_low side = each (IsGoodLink n rule side) (IsLinkInRange n rule side) (λ link good. record { label = good.label; from = good.from; to = good.to }) (links_on rule side) (ok.links side)
+
+  no_sets : (x : ℕ) (node : RuleNode) → slice_get rule.nodes x ≡ Some node → node.sets ≡ []
+  no_sets x node here = (element_at (IsGoodNode n) rule.nodes ok.nodes x node here).sets
+
+  none_set : (x : ℕ) (node : RuleNode) (k : ℕ) (s : Assignment) → slice_get rule.nodes x ≡ Some node → slice_get node.sets k ≡ Some s → ⊥
+  none_set x node k s here set = let inside : k < length node.sets = slice_get_within node.sets k s set in omega (arith, inside, ap length (no_sets x node here))
+
+-- ---- left nodes first
+
+abbrev has_left : List RuleNode → ℕ → Bool
+has_left nodes x = is_some (option_and_then (word_on Left) (slice_get nodes x))
+
+abbrev IsLeft : RuleNode → Type 0
+IsLeft node = is_some node.left ≡ true
+
+none_left : (nodes : List RuleNode) (y : ℕ) → AllByRecursion (λ (node : RuleNode). is_some node.left ≡ false) nodes → has_left nodes y ≡ false
+none_left [] y none = refl
+none_left (node ∷ nodes) zero none = none.0
+none_left (node ∷ nodes) (suc y) none = none_left nodes y none.1
+
+first_left : (front behind : List RuleNode) → AllByRecursion IsLeft front → AllByRecursion (λ (node : RuleNode). is_some node.left ≡ false) behind → (x y : ℕ) → x < y → has_left (front ++ behind) y ≡ true → has_left (front ++ behind) x ≡ true
+first_left [] behind left none x y before has = absurd (let no : has_left behind y ≡ false = none_left behind y none in let e : true ≡ false = sym has ∙ no in cc)
+first_left (node ∷ front) behind left none x zero before has = absurd (omega (arith, before))
+first_left (node ∷ front) behind left none zero (suc y) before has = left.0
+first_left (node ∷ front) behind left none (suc x) (suc y) before has = first_left front behind left.1 none x y (omega (arith, before)) has
+
+left_there : (front nodes : List RuleNode) (node : RuleNode) → IsLeft node → has_left (front ++ node ∷ nodes) (length front) ≡ true
+left_there [] nodes node left = left
+left_there (other ∷ front) nodes node left = left_there front nodes node left
+
+numbers_left : (test : ℕ → Bool) (front nodes : List RuleNode) → AllByRecursion (λ h. has_left (front ++ nodes) h ≡ true) (numbers_where test (length front) nodes)
+numbers_left test front [] = tt
+numbers_left test front (node ∷ nodes) =
+    let longer : length (front ++ node ∷ []) ≡ length front + 1 = length-append front (node ∷ []) in
+    let later : AllByRecursion (λ h. has_left (front ++ node ∷ nodes) h ≡ true) (numbers_where test (length front + 1) nodes) =
+    subst (λ all. AllByRecursion (λ h. has_left all h ≡ true) (numbers_where test (length front + 1) nodes)) (append_assoc front (node ∷ []) nodes)
+    (subst (λ x. AllByRecursion (λ h. has_left ((front ++ node ∷ []) ++ nodes) h ≡ true) (numbers_where test x nodes)) longer (numbers_left test (front ++ node ∷ []) nodes)) in
+    go (is_some node.left) (test (length front)) refl later
+  where
+    go : (left passes : Bool) → is_some node.left ≡ left → AllByRecursion (λ h. has_left (front ++ node ∷ nodes) h ≡ true) (numbers_where test (length front + 1) nodes)
+        → AllByRecursion (λ h. has_left (front ++ node ∷ nodes) h ≡ true) (number_if (left && passes) (length front) (numbers_where test (length front + 1) nodes))
+    go true true is later = (left_there front nodes node is, later)
+    go true false is later = later
+    go false passes is later = later
+
+all_append : {X : Type 0} (P : X → Type 0) (xs ys : List X) → AllByRecursion P xs → AllByRecursion P ys → AllByRecursion P (xs ++ ys)
+all_append P [] ys first last = last
+all_append P (x ∷ xs) ys first last = (first.0, all_append P xs ys first.1 last)
+
+-- ---- a rule
+
+module _ (schema : Schema) (rule : Rule) (ok : IsWritable schema.dim rule) where
+  abbrev HasWord : RuleNode → Type 0
+  HasWord node = IsLeft node ⊎ (is_some node.right ≡ true)
+
+  each_has : AllByRecursion HasWord rule.nodes
+  each_has = subst (AllByRecursion HasWord) (sym ok.left_first) (all_append HasWord ok.left_nodes ok.added_nodes
+      (each IsLeft HasWord (λ node is. inl is) ok.left_nodes ok.left) (each (λ (node : RuleNode). (is_some node.left ≡ false) × (is_some node.right ≡ true)) HasWord (λ node two. inr two.1) ok.added_nodes ok.added))
+
+  has_some : (x : ℕ) → x < length rule.nodes → (has_word rule Left x ≡ true) ⊎ (has_word rule Right x ≡ true)
+  has_some x inside = go (slice_get rule.nodes x) refl
+    where
+      go : (found : Option RuleNode) → slice_get rule.nodes x ≡ found → (has_word rule Left x ≡ true) ⊎ (has_word rule Right x ≡ true)
+      go None is = absurd (let found : None ≡ Some (get_or rule.nodes x nobody) = sym is ∙ slice_get-get_or rule.nodes x nobody inside in cc)
+      go (Some node) is = elim (element_at HasWord rule.nodes each_has x node is) [
+        | inl left ↦ inl (has_of schema.dim rule ok Left x node is ∙ left)
+        | inr right ↦ inr (has_of schema.dim rule ok Right x node is ∙ right)
+      ]
+
+  left_in_front : (x y : ℕ) → x < y → has_word rule Left y ≡ true → has_word rule Left x ≡ true
+  left_in_front x y before = subst (λ nodes. has_left nodes y ≡ true → has_left nodes x ≡ true) (sym ok.left_first)
+      (first_left ok.left_nodes ok.added_nodes ok.left (each _ _ (λ (node : RuleNode) two. two.0) ok.added_nodes ok.added) x y before)
+
+  pub writable_in_range : IsInRange schema rule
+  writable_in_range = record {
+    words = labels_low schema.dim rule ok;
+    some_word = has_some;
+    left_first = left_in_front;
+    links = links_low schema.dim rule ok;
+    hooks = subst (AllByRecursion (λ h. has_word rule Left h ≡ true)) ok.hooks (numbers_left (hook_on rule Left) [] rule.nodes);
+    hooks_differ = λ p q before inside same.
+        let apart = rises_apart 0 rule.hooks (subst (Rises 0) ok.hooks (numbers_rise (hook_on rule Left) 0 rule.nodes)) p q before inside in
+        omega (arith, apart, same);
+    sets = λ x node s here has. absurd (none_set schema.dim rule ok x node has.0 s here (slice_get-get_or node.sets has.0 s has.1 ∙ ap Some has.2));
+    sets_differ = λ x node k l s t here set _ _. absurd (none_set schema.dim rule ok x node k s here set);
+  }
+
+  pub writable_within : IsWithinLimits rule
+  writable_within = record { nodes = ok.few_nodes; left_links = ok.few_links Left; right_links = ok.few_links Right; params = omega (arith, ap length ok.params) }
+
+-- ---- a book
+
+pub range_from_text : (whole : List ℕ) (schema : Schema) (rules : List Rule) → BookText whole schema rules → All (λ rule. IsInRange schema rule × IsWithinLimits rule) rules
+range_from_text whole schema rules stands = All-from_recursion (λ rule. IsInRange schema rule × IsWithinLimits rule) rules
+    (each (IsWritable schema.dim) (λ rule. IsInRange schema rule × IsWithinLimits rule) (λ rule ok. (writable_in_range schema rule ok, writable_within schema rule ok)) rules (writable_from_text whole schema rules stands).each)

@@ -1,0 +1,366 @@
+-- The rules that a text stands for can be written.
+use Rattle.std.proofs.Common.{◌≡◌, ℕ, suc, ◌+◌, ◌<◌, ◌≤◌, Bool, true, false, ◌&&◌, eqb, List, [], ◌∷◌, ◌++◌, length, get_or, map, Some, is_some, inl, inr, refl, sym, ap, subst, ◌∙◌, append_assoc, arith}
+use Rattle.std.specs.Prelude.{slice_get}
+use Rattle.std.specs.Str.{bytes_eq}
+use Rattle.std.specs.List.{list_any, position_or_len, AllByRecursion, Contains}
+use Rattle.std.proofs.lemmas.Bool.{cases_Bool, ne_eqb, eq-eqb}
+use Rattle.std.proofs.lemmas.List.{append-nil, map-append, length-append, length-map}
+use Rattle.std.proofs.lemmas.List.Elements.{recursion_from_All}
+use Rattle.std.proofs.lemmas.Option.{slice_get-map, slice_get-get_or, get_or_from_slice_get}
+use Rattle.std.proofs.lemmas.Slice.Eq.{bytes_eq-Decides}
+use Rattle.gm_model.specs.declared.rule.Side.{Side}
+use Rattle.gm_model.specs.declared.rule.Side.TheVariants.{Left, Right}
+use Rattle.gm_model.specs.declared.schema.Schema.{Schema}
+use Rattle.gm_model.specs.Rules.{Rule, RuleNode, has_word, word_on, links_on}
+use Rattle.gm_model.specs.BookText.{Mention, Item, NodeItem, LinkItem, RuleForm, BookForm, Count, no_count, count_after, count_across, counted, with_name, is_among, names_of, nodes_in, ends_in, items_on, nodes_of, word_in, number_of, links_in, hooks_in, node_in, rule_in, IsAgain, IsStranger, NameFault, IsNameFault, TwiceAt, UnknownAt, RuleTwice, NodeTwice, NodeUnknown, BookText, spelling, canonical}
+use Rattle.gm_book.proofs.CanonicalForm.{AreNew, number_if, numbers_where, node_names, hook_on, IsGoodName, IsGoodWordIfAny, IsGoodNode, IsGoodLink, IsWritable}
+use Rattle.gm_book.proofs.CanonicalText.{each}
+use Rattle.gm_book.proofs.CanonicalRule.{seen_after, counted_seen, seen_new}
+use Rattle.gm_book.proofs.CanonicalNames.{rule_names, HasNoFault}
+use Rattle.gm_book.proofs.CanonicalBook.{AreWritable, written_again}
+use Rattle.gm_book.proofs.DifferentNames.{among_front, among_last, among_neither, new_append, number_behind}
+use Rattle.gm_book.proofs.ReadLimits.{IsGoodItem, IsReadable, IsReadableBook, read_fit, book_good}
+
+-- ---- names
+
+-- where no name is mentioned again, each is new
+new_mentions : (front behind : List Mention) → ((place : ℕ) → IsAgain (front ++ behind) place → ⊥) → AreNew (names_of front) (names_of behind)
+new_mentions front [] never = tt
+new_mentions front (mention ∷ behind) never =
+    let first : is_among (names_of front) mention.name ≡ false = elim (cases_Bool (is_among (names_of front) mention.name)) [
+      | inl again ↦ absurd (never mention.place (record { front = front; mention = mention; behind = behind; split = refl; here = refl; again = again }))
+      | inr new ↦ new
+    ] in
+    let later = new_mentions (front ++ mention ∷ []) behind (subst (λ all. (place : ℕ) → IsAgain all place → ⊥) (sym (append_assoc front (mention ∷ []) behind)) never) in
+    (first, subst (λ names. AreNew names (names_of behind)) (map-append (λ (m : Mention). m.name) front (mention ∷ [])) later)
+
+-- what is added to the names seen
+record Added (seen names : List (List ℕ)) : Type 0 where
+  more : List (List ℕ)
+  is : seen_after seen names ≡ seen ++ more
+  new : AreNew seen more
+  among : AllByRecursion (λ name. is_among names name ≡ true) more
+
+among_more : (name other : List ℕ) (names : List (List ℕ)) → is_among names other ≡ true → is_among (name ∷ names) other ≡ true
+among_more name other names is = elim (cases_Bool (bytes_eq other name)) [
+  | inl same ↦ rw same refl
+  | inr differ ↦ rw differ is
+]
+
+added : (seen names : List (List ℕ)) → Added seen names
+added seen [] = record { more = []; is = sym (append-nil seen); new = tt; among = tt }
+added seen (name ∷ names) = go (is_among seen name) refl (added seen names) (added (seen ++ name ∷ []) names)
+  where
+    go : (known : Bool) → is_among seen name ≡ known → Added seen names → Added (seen ++ name ∷ []) names → Added seen (name ∷ names)
+    go true is here there = record { more = here.more; is = rw is here.is; new = here.new; among = each _ _ (λ other. among_more name other names) here.more here.among }
+    go false is here there = record {
+      more = name ∷ there.more;
+      is = rw is (there.is ∙ append_assoc seen (name ∷ []) there.more);
+      new = (is, there.new);
+      among = (among_last [] names name, each _ _ (λ other. among_more name other names) there.more there.among);
+    }
+
+all_among : (front names : List (List ℕ)) → AllByRecursion (λ name. is_among (front ++ names) name ≡ true) names
+all_among front [] = tt
+all_among front (name ∷ names) = (among_last front names name, subst (λ all. AllByRecursion (λ other. is_among all other ≡ true) names) (append_assoc front (name ∷ []) names) (all_among (front ++ name ∷ []) names))
+
+new_absent : (front seen names : List (List ℕ)) → AreNew (seen ++ front) names → AllByRecursion (λ name. is_among seen name ≡ false) names
+new_absent front seen [] new = tt
+new_absent front seen (name ∷ names) new =
+    ((among_neither seen front name new.0).0, new_absent (front ++ name ∷ []) seen names (subst (λ all. AreNew all names) (append_assoc seen front (name ∷ [])) new.1))
+
+good_with : (P : List ℕ → Type 0) (seen : List (List ℕ)) (name : List ℕ) → AllByRecursion P seen → P name → AllByRecursion P (with_name seen name)
+good_with P seen name all one = elim (cases_Bool (is_among seen name)) [
+  | inl is ↦ rw is all
+  | inr none ↦ rw none (behind seen all)
+]
+  where
+    behind : (seen : List (List ℕ)) → AllByRecursion P seen → AllByRecursion P (seen ++ name ∷ [])
+    behind [] all = (one, tt)
+    behind (other ∷ seen) all = (all.0, behind seen all.1)
+
+good_after : (P : List ℕ → Type 0) (seen names : List (List ℕ)) → AllByRecursion P seen → AllByRecursion P names → AllByRecursion P (seen_after seen names)
+good_after P seen [] all more = all
+good_after P seen (name ∷ names) all more = good_after P (with_name seen name) names (good_with P seen name all more.0) more.1
+
+-- a name seen before, or among the names, is seen then
+known_with : (seen : List (List ℕ)) (name other : List ℕ) → is_among seen other ≡ true → is_among (with_name seen name) other ≡ true
+known_with seen name other is = elim (cases_Bool (is_among seen name)) [
+  | inl known ↦ rw known is
+  | inr new ↦ rw new (among_front seen (name ∷ []) other is)
+]
+
+known_first : (seen names : List (List ℕ)) (name : List ℕ) → is_among seen name ≡ true → is_among (seen_after seen names) name ≡ true
+known_first seen [] name is = is
+known_first seen (other ∷ names) name is = known_first (with_name seen other) names name (known_with seen other name is)
+
+with_itself : (seen : List (List ℕ)) (name : List ℕ) → is_among (with_name seen name) name ≡ true
+with_itself seen name = elim (cases_Bool (is_among seen name)) [
+  | inl known ↦ rw known known
+  | inr new ↦ rw new (among_last seen [] name)
+]
+
+known_later : (seen names : List (List ℕ)) (name : List ℕ) → is_among names name ≡ true → is_among (seen_after seen names) name ≡ true
+known_later seen [] name is = absurd cc
+known_later seen (other ∷ names) name is = elim (cases_Bool (bytes_eq name other)) [
+  | inl same ↦ (let e : name ≡ other = (bytes_eq-Decides name other).0 same in known_first (with_name seen other) names name (ap (is_among (with_name seen other)) e ∙ with_itself seen other))
+  | inr differ ↦ known_later (with_name seen other) names name (let rest : is_among (other ∷ names) name ≡ is_among names name = rw differ refl in sym rest ∙ is)
+]
+
+-- a name among others stands at its number
+stands_at : (names : List (List ℕ)) (name : List ℕ) → is_among names name ≡ true → slice_get names (position_or_len (bytes_eq name) names) ≡ Some name
+stands_at [] name is = absurd cc
+stands_at (other ∷ names) name is = elim (cases_Bool (bytes_eq name other)) [
+  | inl same ↦ (let e : name ≡ other = (bytes_eq-Decides name other).0 same in rw same (ap Some (sym e)))
+  | inr differ ↦ (let rest : is_among (other ∷ names) name ≡ is_among names name = rw differ refl in
+      rw differ (ap (slice_get (other ∷ names)) (one_more (position_or_len (bytes_eq name) names)) ∙ stands_at names name (sym rest ∙ is)))
+]
+  where
+    one_more : (k : ℕ) → 1 + k ≡ suc k
+    one_more k = omega arith
+
+-- ---- words
+
+some_word : (items : List Item) (name : List ℕ) → is_some (word_in items name) ≡ is_among (names_of (nodes_in items)) name
+some_word [] name = refl
+some_word (NodeItem node word hook ∷ items) name = elim (cases_Bool (bytes_eq name node.name)) [
+  | inl same ↦ rw same refl
+  | inr differ ↦ rw differ (some_word items name)
+]
+some_word (LinkItem from label to ∷ items) name = some_word items name
+
+good_word : (n : ℕ) (items : List Item) (name : List ℕ) → AllByRecursion (IsGoodItem n) items → IsGoodWordIfAny n (word_in items name)
+good_word n [] name good = tt
+good_word n (NodeItem node word hook ∷ items) name good = elim (cases_Bool (bytes_eq name node.name)) [
+  | inl same ↦ rw same good.0.1
+  | inr differ ↦ rw differ (good_word n items name good.1)
+]
+good_word n (LinkItem from label to ∷ items) name good = good_word n items name good.1
+
+good_names : (n : ℕ) (items : List Item) → AllByRecursion (IsGoodItem n) items → AllByRecursion IsGoodName (names_of (nodes_in items))
+good_names n [] good = tt
+good_names n (NodeItem node word hook ∷ items) good = (good.0.0, good_names n items good.1)
+good_names n (LinkItem from label to ∷ items) good = good_names n items good.1
+
+-- ---- hooks
+
+abbrev hook_flags : List Item → List Bool
+hook_flags [] = []
+hook_flags (NodeItem node word hook ∷ items) = hook ∷ hook_flags items
+hook_flags (LinkItem from label to ∷ items) = hook_flags items
+
+-- the numbers of the flags that are set
+abbrev flagged : ℕ → List Bool → List ℕ
+flagged x [] = []
+flagged x (flag ∷ flags) = number_if flag x (flagged (x + 1) flags)
+
+hooks_flagged : (names front more : List (List ℕ)) (items : List Item) → names ≡ front ++ (names_of (nodes_in items) ++ more) → AreNew front (names_of (nodes_in items)) → hooks_in names items ≡ flagged (length front) (hook_flags items)
+hooks_flagged names front more [] split new = refl
+hooks_flagged names front more (LinkItem from label to ∷ items) split new = hooks_flagged names front more items split new
+hooks_flagged names front more (NodeItem node word hook ∷ items) split new =
+    let here : number_of names node ≡ length front = ap (position_or_len (bytes_eq node.name)) split ∙ number_behind front (names_of (nodes_in items) ++ more) node.name new.0 in
+    let longer : length (front ++ node.name ∷ []) ≡ length front + 1 = length-append front (node.name ∷ []) in
+    let later : hooks_in names items ≡ flagged (length front + 1) (hook_flags items) =
+    hooks_flagged names (front ++ node.name ∷ []) more items (split ∙ sym (append_assoc front (node.name ∷ []) (names_of (nodes_in items) ++ more))) new.1 ∙ ap (λ x. flagged x (hook_flags items)) longer in
+    go hook here later
+  where
+    go : (hook : Bool) → number_of names node ≡ length front → hooks_in names items ≡ flagged (length front + 1) (hook_flags items)
+        → hooks_in names (NodeItem node word hook ∷ items) ≡ number_if hook (length front) (flagged (length front + 1) (hook_flags items))
+    go true here later = rw (here, later) refl
+    go false here later = later
+
+none_below : (y x : ℕ) (flags : List Bool) → y < x → list_any (eqb y) (flagged x flags) ≡ false
+none_below y x [] below = refl
+none_below y x (true ∷ flags) below = rw (ne_eqb y x (λ e. omega (arith, e, below)), none_below y (x + 1) flags (omega (arith, below))) refl
+none_below y x (false ∷ flags) below = none_below y (x + 1) flags (omega (arith, below))
+
+-- a test that is true at the flags alone
+where_flagged : (test : ℕ → Bool) (x : ℕ) (nodes : List RuleNode) (flags : List Bool) → AllByRecursion (λ (node : RuleNode). is_some node.left ≡ true) nodes → length nodes ≡ length flags
+    → ((y : ℕ) → x ≤ y → test y ≡ list_any (eqb y) (flagged x flags)) → numbers_where test x nodes ≡ flagged x flags
+where_flagged test x [] [] left long agree = refl
+where_flagged test x [] (flag ∷ flags) left long agree = absurd (omega (arith, long))
+where_flagged test x (node ∷ nodes) [] left long agree = absurd (omega (arith, long))
+where_flagged test x (node ∷ nodes) (true ∷ flags) left long agree =
+    let here : test x ≡ true = agree x (omega arith) ∙ rw (eq-eqb x x refl) refl in
+    rw (left.0, here) (ap (λ xs. x ∷ xs) (where_flagged test (x + 1) nodes flags left.1 (omega (arith, long)) (λ y above. agree y (omega (arith, above)) ∙ rw (ne_eqb y x (λ e. omega (arith, e, above))) refl)))
+where_flagged test x (node ∷ nodes) (false ∷ flags) left long agree =
+    let here : test x ≡ false = agree x (omega arith) ∙ none_below x (x + 1) flags (omega arith) in
+    rw (left.0, here) (where_flagged test (x + 1) nodes flags left.1 (omega (arith, long)) (λ y above. agree y (omega (arith, above))))
+
+where_none : (test : ℕ → Bool) (x : ℕ) (nodes : List RuleNode) → AllByRecursion (λ (node : RuleNode). is_some node.left ≡ false) nodes → numbers_where test x nodes ≡ []
+where_none test x [] none = refl
+where_none test x (node ∷ nodes) none = rw none.0 (where_none test (x + 1) nodes none.1)
+
+where_front : (test : ℕ → Bool) (x : ℕ) (front behind : List RuleNode) → AllByRecursion (λ (node : RuleNode). is_some node.left ≡ false) behind → numbers_where test x (front ++ behind) ≡ numbers_where test x front
+where_front test x [] behind none = where_none test x behind none
+where_front test x (node ∷ front) behind none = ap (number_if (is_some node.left && test x) x) (where_front test (x + 1) front behind none)
+
+flags_long : (items : List Item) → length (hook_flags items) ≡ length (names_of (nodes_in items))
+flags_long [] = refl
+flags_long (NodeItem node word hook ∷ items) = ap suc (flags_long items)
+flags_long (LinkItem from label to ∷ items) = flags_long items
+
+-- ---- links
+
+ends_known : (items : List Item) → ((place : ℕ) → IsStranger items place → ⊥) → AllByRecursion (λ (m : Mention). is_among (names_of (nodes_in items)) m.name ≡ true) (ends_in items)
+ends_known items never = recursion_from_All (λ (m : Mention). is_among (names_of (nodes_in items)) m.name ≡ true) (ends_in items) (λ k d inside.
+    let mention = get_or (ends_in items) k d in
+    elim (cases_Bool (is_among (names_of (nodes_in items)) mention.name)) [
+      | inl is ↦ is
+      | inr stranger ↦ absurd (never mention.place (record {
+        mention = mention;
+        among = (k, inside, get_or_from_slice_get (ends_in items) k mention mention (slice_get-get_or (ends_in items) k d inside));
+        here = refl;
+        stranger = stranger;
+      }))
+    ])
+
+links_long : (names : List (List ℕ)) (items : List Item) (count : Count) → (counted count items).links ≡ count.links + length (links_in names items)
+links_long names [] count = omega arith
+links_long names (NodeItem node word hook ∷ items) count = links_long names items (count_after count (NodeItem node word hook))
+links_long names (LinkItem from label to ∷ items) count = omega (arith, links_long names items (count_after count (LinkItem from label to)))
+
+-- ---- a rule
+
+each_mapped : {X Y : Type 0} (P : Y → Type 0) (f : X → Y) (xs : List X) → AllByRecursion (λ x. P (f x)) xs → AllByRecursion P (map f xs)
+each_mapped P f [] all = tt
+each_mapped P f (x ∷ xs) all = (all.0, each_mapped P f xs all.1)
+
+both : {X : Type 0} (P Q : X → Type 0) (xs : List X) → AllByRecursion P xs → AllByRecursion Q xs → AllByRecursion (λ x. P x × Q x) xs
+both P Q [] first second = tt
+both P Q (x ∷ xs) first second = ((first.0, second.0), both P Q xs first.1 second.1)
+
+module _ (n : ℕ) (form : RuleForm) (ok : IsReadable n form) (faultless : HasNoFault form) where
+  abbrev names_in : Side → List (List ℕ)
+  names_in side = names_of (nodes_in (items_on form side))
+
+  left_new : AreNew [] (names_in Left)
+  left_new = new_mentions [] (nodes_in form.left) (faultless.twice Left)
+
+  more : Added (names_in Left) (names_in Right)
+  more = added (names_in Left) (names_in Right)
+
+  names_seen : nodes_of form ≡ seen_after (names_in Left) (names_in Right)
+  names_seen = counted_seen (counted no_count form.left) form.right ∙ ap (λ seen. seen_after seen (names_in Right)) (counted_seen no_count form.left ∙ seen_new [] (names_in Left) left_new)
+
+  names_are : nodes_of form ≡ names_in Left ++ more.more
+  names_are = names_seen ∙ more.is
+
+  all_good : AllByRecursion IsGoodName (nodes_of form)
+  all_good = subst (AllByRecursion IsGoodName) (sym names_seen) (good_after IsGoodName (names_in Left) (names_in Right) (good_names n form.left ok.left) (good_names n form.right ok.right))
+
+  left_nodes_have : AllByRecursion (λ (node : RuleNode). is_some node.left ≡ true) (map (node_in form) (names_in Left))
+  left_nodes_have = each_mapped _ (node_in form) (names_in Left) (each _ _ (λ name among. some_word form.left name ∙ among) (names_in Left) (all_among [] (names_in Left)))
+
+  added_nodes_have : AllByRecursion (λ (node : RuleNode). (is_some node.left ≡ false) × (is_some node.right ≡ true)) (map (node_in form) more.more)
+  added_nodes_have = each_mapped _ (node_in form) more.more (both _ _ more.more
+      (each _ _ (λ name absent. some_word form.left name ∙ absent) more.more (new_absent [] (names_in Left) more.more (subst (λ seen. AreNew seen more.more) (sym (append-nil (names_in Left))) more.new)))
+      (each _ _ (λ name among. some_word form.right name ∙ among) more.more more.among))
+
+  nodes_split : map (node_in form) (nodes_of form) ≡ map (node_in form) (names_in Left) ++ map (node_in form) more.more
+  nodes_split = ap (map (node_in form)) names_are ∙ map-append (node_in form) (names_in Left) more.more
+
+  -- a name of the side is a node with a word there
+  has_at : (side : Side) (name : List ℕ) → is_among (names_in side) name ≡ true → has_word (rule_in form) side (position_or_len (bytes_eq name) (nodes_of form)) ≡ true
+  has_at side name among =
+      let known : is_among (nodes_of form) name ≡ true = ap (λ names. is_among names name) names_seen ∙ known_on side among in
+      let here : slice_get (map (node_in form) (nodes_of form)) (position_or_len (bytes_eq name) (nodes_of form)) ≡ Some (node_in form name) =
+      slice_get-map (node_in form) (nodes_of form) (position_or_len (bytes_eq name) (nodes_of form)) ∙ rw (stands_at (nodes_of form) name known) refl in
+      rw here (word_of side among)
+    where
+      known_on : (side : Side) → is_among (names_in side) name ≡ true → is_among (seen_after (names_in Left) (names_in Right)) name ≡ true
+      known_on Left is = known_first (names_in Left) (names_in Right) name is
+      known_on Right is = known_later (names_in Left) (names_in Right) name is
+
+      word_of : (side : Side) → is_among (names_in side) name ≡ true → is_some (word_on side (node_in form name)) ≡ true
+      word_of Left is = some_word form.left name ∙ is
+      word_of Right is = some_word form.right name ∙ is
+
+  links_good : (side : Side) (items : List Item) → AllByRecursion (IsGoodItem n) items → AllByRecursion (λ (m : Mention). is_among (names_in side) m.name ≡ true) (ends_in items) → AllByRecursion (IsGoodLink n (rule_in form) side) (links_in (nodes_of form) items)
+  links_good side [] good known = tt
+  links_good side (NodeItem node word hook ∷ items) good known = links_good side items good.1 known
+  links_good side (LinkItem from label to ∷ items) good known =
+      (record { label = good.0.1; from = has_at side from.name known.0; to = has_at side to.name known.1.0 }, links_good side items good.1 known.1.1)
+
+  links_on_side : (side : Side) → AllByRecursion (IsGoodLink n (rule_in form) side) (links_on (rule_in form) side)
+  links_on_side Left = links_good Left form.left ok.left (ends_known form.left (faultless.stranger Left))
+  links_on_side Right = links_good Right form.right ok.right (ends_known form.right (faultless.stranger Right))
+
+  few_on_side : (side : Side) → length (links_on (rule_in form) side) ≤ 256
+  few_on_side Left = omega (arith, links_long (nodes_of form) form.left no_count, ok.left_few.links)
+  few_on_side Right = omega (arith, links_long (nodes_of form) form.right (count_across (counted no_count form.left)), ok.right_few.links)
+
+  hooks_kept : numbers_where (hook_on (rule_in form) Left) 0 (rule_in form).nodes ≡ (rule_in form).hooks
+  hooks_kept =
+      let test = hook_on (rule_in form) Left in
+      let same : hooks_in (nodes_of form) form.left ≡ flagged 0 (hook_flags form.left) = hooks_flagged (nodes_of form) [] more.more form.left names_are left_new in
+      ap (numbers_where test 0) nodes_split
+      ∙ where_front test 0 (map (node_in form) (names_in Left)) (map (node_in form) more.more) (each _ _ (λ node two. two.0) (map (node_in form) more.more) added_nodes_have)
+      ∙ where_flagged test 0 (map (node_in form) (names_in Left)) (hook_flags form.left) left_nodes_have (length-map (names_in Left) (node_in form) ∙ sym (flags_long form.left)) (λ y above. ap (list_any (eqb y)) same)
+      ∙ sym same
+
+  names_mapped : (names : List (List ℕ)) → node_names (map (node_in form) names) ≡ names
+  names_mapped [] = refl
+  names_mapped (name ∷ names) = ap (λ others. name ∷ others) (names_mapped names)
+
+  few_names : length (nodes_of form) ≤ 32
+  few_names =
+      let same : (counted (count_across (counted no_count form.left)) form.right).nodes ≡ nodes_of form =
+      counted_seen (count_across (counted no_count form.left)) form.right ∙ sym (counted_seen (counted no_count form.left) form.right) in
+      subst (λ names. length names ≤ 32) same ok.right_few.nodes
+
+  rule_writable : IsWritable n (rule_in form)
+  rule_writable = record {
+    name = ok.name;
+    nodes = each_mapped (IsGoodNode n) (node_in form) (nodes_of form) (each _ _ (λ name good. record { name = good; left = good_word n form.left name ok.left; right = good_word n form.right name ok.right; sets = refl }) (nodes_of form) all_good);
+    differ = subst (AreNew []) (sym (names_mapped (nodes_of form) ∙ names_are)) (new_append [] (names_in Left) more.more left_new more.new);
+    few_nodes = omega (arith, length-map (nodes_of form) (node_in form), few_names);
+    left_nodes = map (node_in form) (names_in Left);
+    added_nodes = map (node_in form) more.more;
+    left_first = nodes_split;
+    left = left_nodes_have;
+    added = added_nodes_have;
+    links = links_on_side;
+    few_links = few_on_side;
+    hooks = hooks_kept;
+    params = refl;
+    pre = refl;
+  }
+
+-- ---- a book
+
+rules_writable : (n : ℕ) (forms : List RuleForm) → AllByRecursion (IsReadable n) forms → AllByRecursion HasNoFault forms → AllByRecursion (IsWritable n) (map rule_in forms)
+rules_writable n [] ok faultless = tt
+rules_writable n (form ∷ forms) ok faultless = (rule_writable n form ok.0 faultless.0, rules_writable n forms ok.1 faultless.1)
+
+faultless_forms : (book : BookForm) → ((fault : NameFault) → IsNameFault book fault → ⊥) → AllByRecursion HasNoFault book.rules
+faultless_forms book sound = recursion_from_All HasNoFault book.rules (λ k d inside.
+    let form = get_or book.rules k d in
+    let has : Contains book.rules form = (k, inside, get_or_from_slice_get book.rules k form form (slice_get-get_or book.rules k d inside)) in
+    record {
+      twice = λ side place again. sound (TwiceAt place) (NodeTwice form side place has again);
+      stranger = λ side place found. sound (UnknownAt place) (NodeUnknown form side place has found);
+    })
+
+names_of_rules : (forms : List RuleForm) → rule_names (map rule_in forms) ≡ names_of (map (λ (form : RuleForm). form.name) forms)
+names_of_rules [] = refl
+names_of_rules (form ∷ forms) = ap (λ names. form.name.name ∷ names) (names_of_rules forms)
+
+book_writable : (book : BookForm) → IsReadableBook book → ((fault : NameFault) → IsNameFault book fault → ⊥) → AreWritable book.dim (map rule_in book.rules)
+book_writable book ok sound = record {
+  some = ok.some;
+  low = ok.low;
+  few = omega (arith, length-map book.rules rule_in, ok.few);
+  each = rules_writable book.dim book.rules ok.each (faultless_forms book sound);
+  differ = subst (AreNew []) (sym (names_of_rules book.rules)) (new_mentions [] (map (λ (form : RuleForm). form.name) book.rules) (λ place again. sound (TwiceAt place) (RuleTwice place again)));
+}
+
+pub writable_from_text : (whole : List ℕ) (schema : Schema) (rules : List Rule) → BookText whole schema rules → AreWritable schema.dim rules
+writable_from_text whole schema rules stands =
+    let book = stands.book in
+    let good = book_good book stands.written.form (read_fit whole (spelling stands.book) stands.written.read.spelled stands.written.read.within) in
+    subst (λ n. AreWritable n rules) (sym stands.dim) (subst (AreWritable book.dim) (sym stands.same) (book_writable book good stands.sound))
+
+-- the canonical text of what a text stands for stands for it
+pub read_again : (whole : List ℕ) (schema : Schema) (rules : List Rule) → BookText whole schema rules → BookText (canonical schema.dim rules) schema rules
+read_again whole schema rules stands = written_again schema rules stands.embeds (writable_from_text whole schema rules stands)

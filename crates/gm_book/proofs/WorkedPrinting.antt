@@ -1,0 +1,74 @@
+-- A worked book: its canonical text, by computation, and that this text stands for it.
+use Rattle.std.proofs.Common.{◌≡◌, ℕ, ◌≤◌, List, [], ◌∷◌, length, Some, None, codes, refl, subst, arith}
+use Rattle.std.proofs.lemmas.Fmt.{decimal_digit}
+use Rattle.gm_model.specs.declared.rule.Link.{Link}
+use Rattle.gm_model.specs.declared.rule.Side.{Side}
+use Rattle.gm_model.specs.declared.rule.Side.TheVariants.{Left, Right}
+use Rattle.gm_model.specs.declared.schema.Schema.{Schema}
+use Rattle.gm_model.specs.declared.word.Letter.TheVariants.{At, Gone}
+use Rattle.gm_model.specs.Rules.{Rule, RuleNode, links_on}
+use Rattle.gm_model.specs.BookText.{BookText, canonical}
+use Rattle.std.specs.List.{AllByRecursion}
+use Rattle.gm_book.proofs.CanonicalForm.{IsWritable, IsGoodLink}
+use Rattle.gm_book.proofs.CanonicalBook.{AreWritable, written_again}
+
+abbrev a : RuleNode
+a = record { name = codes "a"; left = Some (At 0 ∷ At 1 ∷ []); right = Some (At 0 ∷ Gone ∷ []); sets = [] }
+
+abbrev b : RuleNode
+b = record { name = codes "b_2"; left = None; right = Some (Gone ∷ At 2 ∷ []); sets = [] }
+
+-- one preserved node and one added node
+abbrev split : Rule
+split = record {
+  name = codes "split";
+  params = [];
+  nodes = a ∷ b ∷ [];
+  left_links = record { from = 0; label = 2; to = 0 } ∷ [];
+  right_links = record { from = 0; label = 1; to = 1 } ∷ [];
+  hooks = 0 ∷ [];
+  pre = None;
+}
+
+abbrev plane : Schema
+plane = record { dim = 2; embeds = [] }
+
+split_text : List ℕ
+split_text = codes "book 1\ndim 2\nrule split\nleft\na <0 1> hook\na -2- a\nright\na <0 _>\nb_2 <_ 2>\na -1- b_2\n"
+
+split_is_printed : canonical 2 (split ∷ []) ≡ split_text
+unfolding split_text
+split_is_printed = rw (decimal_digit 0 (omega arith), decimal_digit 1 (omega arith), decimal_digit 2 (omega arith)) refl
+
+split_links : (side : Side) → AllByRecursion (IsGoodLink 2 split side) (links_on split side)
+split_links Left = (record { label = omega arith; from = refl; to = refl }, tt)
+split_links Right = (record { label = omega arith; from = refl; to = refl }, tt)
+
+few_links : (side : Side) → length (links_on split side) ≤ 256
+few_links Left = omega arith
+few_links Right = omega arith
+
+split_is_writable : IsWritable 2 split
+split_is_writable = record {
+  name = ((omega arith, (refl, refl)), refl);
+  nodes = (
+    record { name = ((omega arith, (refl, refl)), refl); left = (omega arith, (omega arith, (omega arith, tt))); right = (omega arith, (omega arith, (tt, tt))); sets = refl },
+    (record { name = ((omega arith, (refl, refl)), refl); left = tt; right = (omega arith, (tt, (omega arith, tt))); sets = refl }, tt),
+  );
+  differ = (refl, (refl, tt));
+  few_nodes = omega arith;
+  left_nodes = a ∷ [];
+  added_nodes = b ∷ [];
+  left_first = refl;
+  left = (refl, tt);
+  added = ((refl, refl), tt);
+  links = split_links;
+  few_links = few_links;
+  hooks = refl;
+  params = refl;
+  pre = refl;
+}
+
+split_is_read : BookText split_text plane (split ∷ [])
+split_is_read = subst (λ text. BookText text plane (split ∷ [])) split_is_printed
+    (written_again plane (split ∷ []) refl (record { some = omega arith; low = omega arith; few = omega arith; each = (split_is_writable, tt); differ = (refl, tt) }))

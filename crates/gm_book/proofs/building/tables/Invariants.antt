@@ -1,0 +1,8 @@
+use Rattle.std.proofs.Common.{◌≡◌, map, take}
+use Rattle.gm_model.specs.BookText.{rule_in}
+use Rattle.gm_model.specs.Rules.{rule_of}
+use Rattle.gm_book.specs.Forms.{rule_form_of}
+use Rattle.gm_book.proofs.building.tables.Given as goal
+
+abbrev pub invariant-loop-rule : goal.invariant-loop-rule
+invariant-loop-rule l = map rule_of l.tables.items ≡ map rule_in (map (rule_form_of l.text) (take l.rule-index l.rules))

@@ -1,0 +1,9 @@
+use Rattle.std.proofs.Common.{◌≡◌, map, drop}
+use Rattle.gm_book.specs.Forms.{item_of}
+use Rattle.gm_book.specs.Held.{names_held}
+use Rattle.gm_book.specs.FirstNameFault.{least_of, least_unknown}
+use Rattle.gm_book.proofs.names.first_unknown.Given as goal
+
+abbrev pub invariant-loop-item : goal.invariant-loop-item
+invariant-loop-item l =
+    least_of l.fault (least_unknown (names_held l.table) (map (item_of l.text) (drop l.item-index l.items))) ≡ least_unknown (names_held l.table) (map (item_of l.text) l.items)

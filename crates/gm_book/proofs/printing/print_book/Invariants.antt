@@ -1,0 +1,9 @@
+use Rattle.std.proofs.Common.{◌≡◌, ◌++◌, take, map, codes}
+use Rattle.std.specs.Prelude.{decimal}
+use Rattle.std.specs.List.{flat_map}
+use Rattle.gm_model.specs.Rules.{rule_of}
+use Rattle.gm_model.specs.BookText.{rule_lines}
+use Rattle.gm_book.proofs.printing.print_book.Given as goal
+
+abbrev pub invariant-loop-rule : goal.invariant-loop-rule
+invariant-loop-rule l = l.text ≡ (codes "book 1\ndim " ++ decimal l.book.schema.dim ++ codes "\n") ++ flat_map rule_lines (take l.rule-index (map rule_of l.book.rules))

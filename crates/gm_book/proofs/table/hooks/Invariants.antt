@@ -1,0 +1,9 @@
+use Rattle.std.proofs.Common.{◌≡◌, ◌++◌, map, drop}
+use Rattle.gm_model.specs.BookText.{hooks_in}
+use Rattle.gm_book.specs.Forms.{item_of}
+use Rattle.gm_book.specs.Held.{names_held}
+use Rattle.gm_book.proofs.table.hooks.Given as goal
+
+abbrev pub invariant-loop-item : goal.invariant-loop-item
+invariant-loop-item l =
+    l.hooks.items ++ hooks_in (names_held l.names) (map (item_of l.text) (drop l.item-index l.items)) ≡ hooks_in (names_held l.names) (map (item_of l.text) l.items)

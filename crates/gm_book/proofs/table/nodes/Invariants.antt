@@ -1,0 +1,9 @@
+use Rattle.std.proofs.Common.{◌≡◌, map, take}
+use Rattle.gm_model.specs.BookText.{node_in}
+use Rattle.gm_model.specs.Rules.{node_of}
+use Rattle.gm_book.specs.Forms.{rule_form_of}
+use Rattle.gm_book.specs.Held.{names_at}
+use Rattle.gm_book.proofs.table.nodes.Given as goal
+
+abbrev pub invariant-loop-name : goal.invariant-loop-name
+invariant-loop-name l = map node_of l.nodes.items ≡ map (node_in (rule_form_of l.text l.rule)) (names_at (take l.name-index l.names))

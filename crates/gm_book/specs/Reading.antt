@@ -1,0 +1,283 @@
+-- How a book's text is read, one symbol after another: what can stand next in which role, what is held of what was read, and where something begins that books don't have so far.
+use Rattle.std.specs.Prelude.{◌≡◌, ℕ, ◌+◌, Bool, true, false, ◌==◌, if◌then◌else◌, List, [], ◌∷◌, ◌++◌, length, Option, Some, None, Result, codes}
+use Rattle.std.specs.Option.{option_map, option_map_or}
+use Rattle.std.specs.Str.{bytes_eq}
+use Rattle.gm_model.specs.declared.rule.Side.{Side}
+use Rattle.gm_model.specs.declared.rule.Side.TheVariants.{Left, Right}
+use Rattle.gm_model.specs.declared.word.Letter.{Letter}
+use Rattle.gm_model.specs.declared.word.Letter.TheVariants as letters
+use Rattle.gm_model.specs.Names.{reserved}
+use Rattle.gm_model.specs.Symbols.{Symbol, Word, Numeral, Sign, Gone, Stray, End, Mark}
+use Rattle.gm_model.specs.BookText.{Mention, Item, NodeItem, LinkItem, RuleForm, Count, no_count, count_across, is_among, with_name, Role, Fixed, Dimension, RuleWord, NameAt, NodeSign, LinkSign, LetterAt, WordEnd, LabelAt, limit_of, stands_before}
+use Rattle.gm_text.specs.Machine as machine
+
+-- ---- states
+
+-- where in a side of a rule reading is: the dimension, how many rules have begun, the side, and how much there is so far
+pub record Spot : Type 0 where
+  pub dim : ℕ
+  pub rules : ℕ
+  pub side : Side
+  pub count : Count
+
+pub data State : Type 0 where
+  -- before the word `book`, the version, the word `dim`, the dimension
+  AtFormat : State
+  AtVersion : State
+  AtDim : State
+  AtTop : State
+  -- behind the header with this dimension
+  AtRules : ℕ → State
+  -- before the name of the rule with this ordinal, and behind it
+  AtName : ℕ → ℕ → State
+  AtLeft : ℕ → ℕ → State
+  -- where an item can begin, and behind its first name
+  AtItem : Spot → State
+  AtSign : Spot → List ℕ → State
+  -- in a node's word behind so many letters, and behind the word
+  AtLetter : Spot → ℕ → State
+  AtBehind : Spot → State
+  -- in a link before its label, behind it, and before its second name
+  AtLabel : Spot → State
+  AtDash : Spot → State
+  AtTo : Spot → State
+  -- behind the end
+  AtEnd : State
+
+-- the left side of the rule with this ordinal, before its first item
+abbrev pub left_spot : ℕ → ℕ → Spot
+left_spot n k = record { dim = n; rules = k; side = Left; count = no_count }
+
+abbrev pub right_spot : Spot → Spot
+right_spot spot = record { dim = spot.dim; rules = spot.rules; side = Right; count = count_across spot.count }
+
+abbrev pub with_node : Spot → List ℕ → Spot
+with_node spot name = record spot { count = record spot.count { nodes = with_name spot.count.nodes name } }
+
+abbrev pub with_link : Spot → Spot
+with_link spot = record spot { count = record spot.count { links = spot.count.links + 1 } }
+
+-- ---- roles
+
+-- the word that stands behind the items of a side; behind the right ones the next rule begins
+abbrev pub closing : Side → List ℕ
+closing Left = codes "right"
+closing Right = codes "rule"
+
+abbrev pub closing_role : Side → ℕ → Role
+closing_role Left k = Fixed
+closing_role Right k = RuleWord (k + 1)
+
+abbrev pub item_role : Spot → Symbol → ℕ → Role
+item_role spot (Word word) place = if bytes_eq word (closing spot.side) then closing_role spot.side spot.rules else NameAt place
+item_role spot _ place = Fixed
+
+-- a left node may be a hook
+abbrev pub is_hook : Side → List ℕ → Bool
+is_hook Left word = bytes_eq word (codes "hook")
+is_hook Right word = false
+
+abbrev pub behind_role : Spot → Symbol → ℕ → Role
+behind_role spot (Word word) place = if is_hook spot.side word then Fixed else item_role spot (Word word) place
+behind_role spot _ place = Fixed
+
+abbrev pub sign_role : Spot → List ℕ → Symbol → Role
+sign_role spot name (Sign sign) = if bytes_eq sign (codes "<") then NodeSign (length (with_name spot.count.nodes name)) else LinkSign (spot.count.links + 1)
+sign_role spot name _ = Fixed
+
+abbrev pub letter_role : Spot → ℕ → Symbol → Role
+letter_role spot k (Sign sign) = WordEnd spot.side
+letter_role spot k _ = LetterAt spot.dim (k + 1)
+
+abbrev pub rules_role : Symbol → Role
+rules_role (Word word) = RuleWord 1
+rules_role _ = Fixed
+
+-- the role of a symbol that stands at a place
+abbrev pub role_at : State → Symbol → ℕ → Role
+role_at AtTop symbol place = Dimension
+role_at (AtRules n) symbol place = rules_role symbol
+role_at (AtName n k) symbol place = NameAt place
+role_at (AtItem spot) symbol place = item_role spot symbol place
+role_at (AtSign spot name) symbol place = sign_role spot name symbol
+role_at (AtLetter spot k) symbol place = letter_role spot k symbol
+role_at (AtBehind spot) symbol place = behind_role spot symbol place
+role_at (AtLabel spot) symbol place = LabelAt spot.dim
+role_at (AtTo spot) symbol place = NameAt place
+role_at _ symbol place = Fixed
+
+-- ---- moves
+
+abbrev pub expect : List ℕ → List ℕ → State → Option State
+expect wanted found next = if bytes_eq found wanted then Some next else None
+
+-- a reserved word is no name
+abbrev pub unless_reserved : List ℕ → State → Option State
+unless_reserved word next = if is_among reserved word then None else Some next
+
+abbrev pub closed : Spot → Side → State
+closed spot Left = AtItem (right_spot spot)
+closed spot Right = AtName spot.dim (spot.rules + 1)
+
+abbrev pub item_move : Spot → List ℕ → Option State
+item_move spot word = if bytes_eq word (closing spot.side) then Some (closed spot spot.side) else unless_reserved word (AtSign spot word)
+
+abbrev pub behind_move : Spot → List ℕ → Option State
+behind_move spot word = if is_hook spot.side word then Some (AtItem spot) else item_move spot word
+
+abbrev pub sign_move : Spot → List ℕ → List ℕ → Option State
+sign_move spot name sign = if bytes_eq sign (codes "<") then Some (AtLetter (with_node spot name) 0) else (if bytes_eq sign (codes "-") then Some (AtLabel (with_link spot)) else None)
+
+-- the book can end where a rule can
+abbrev pub end_move : Side → Option State
+end_move Left = None
+end_move Right = Some AtEnd
+
+-- the state behind a symbol, where it can stand
+abbrev pub move : State → Symbol → Option State
+move AtFormat (Word word) = expect (codes "book") word AtVersion
+move AtVersion (Numeral version) = if version == 1 then Some AtDim else None
+move AtDim (Word word) = expect (codes "dim") word AtTop
+move AtTop (Numeral n) = Some (AtRules n)
+move (AtRules n) (Word word) = expect (codes "rule") word (AtName n 1)
+move (AtRules n) End = Some AtEnd
+move (AtName n k) (Word word) = unless_reserved word (AtLeft n k)
+move (AtLeft n k) (Word word) = expect (codes "left") word (AtItem (left_spot n k))
+move (AtItem spot) (Word word) = item_move spot word
+move (AtItem spot) End = end_move spot.side
+move (AtSign spot name) (Sign sign) = sign_move spot name sign
+move (AtLetter spot k) (Numeral label) = Some (AtLetter spot (k + 1))
+move (AtLetter spot k) Gone = Some (AtLetter spot (k + 1))
+move (AtLetter spot k) (Sign sign) = expect (codes ">") sign (AtBehind spot)
+move (AtBehind spot) (Word word) = behind_move spot word
+move (AtBehind spot) End = end_move spot.side
+move (AtLabel spot) (Numeral label) = Some (AtDash spot)
+move (AtDash spot) (Sign sign) = expect (codes "-") sign (AtTo spot)
+move (AtTo spot) (Word word) = unless_reserved word (AtItem spot)
+move _ _ = None
+
+abbrev pub step : State → ℕ → Mark → Result State (machine.Stop State)
+step = machine.step limit_of stands_before role_at move
+
+abbrev pub run : State → ℕ → List Mark → Result State (machine.Stop State)
+run = machine.run limit_of stands_before role_at move
+
+-- ---- what books don't have so far
+
+abbrev pub is_later_behind_items : Side → List ℕ → Bool
+is_later_behind_items Left word = false
+is_later_behind_items Right word = bytes_eq word (codes "pre")
+
+-- the symbol begins an embedding, parameters, an assignment or a precondition
+abbrev pub is_later : State → Symbol → Bool
+is_later (AtRules n) (Word word) = bytes_eq word (codes "embed")
+is_later (AtLeft n k) (Sign sign) = bytes_eq sign (codes "(")
+is_later (AtItem spot) (Word word) = is_later_behind_items spot.side word
+is_later (AtBehind spot) (Word word) = is_later_behind spot.side
+  where
+    is_later_behind : Side → Bool
+    is_later_behind Left = false
+    is_later_behind Right = if bytes_eq word (codes "with") then true else bytes_eq word (codes "pre")
+is_later _ _ = false
+
+-- ---- what is held
+
+-- an item of which a part was read
+pub data Part : Type 0 where
+  Nothing : Part
+  -- its first name
+  Named : Mention → Part
+  -- a node's name and the letters of its word
+  Lettered : Mention → List Letter → Part
+  -- a link's first name, and that name and the label
+  Linked : Mention → Part
+  Labelled : Mention → ℕ → Part
+
+pub record Held : Type 0 where
+  -- the dimension
+  pub dim : ℕ
+  -- the rules that are read whole
+  pub rules : List RuleForm
+  -- the rule that is read
+  pub current : Option RuleForm
+  pub part : Part
+
+abbrev pub nothing_held : Held
+nothing_held = record { dim = 0; rules = []; current = None; part = Nothing }
+
+abbrev pub mention_at : List ℕ → ℕ → Mention
+mention_at name place = record { name = name; place = place }
+
+abbrev pub with_item : Side → Item → RuleForm → RuleForm
+with_item Left item rule = record rule { left = rule.left ++ item ∷ [] }
+with_item Right item rule = record rule { right = rule.right ++ item ∷ [] }
+
+abbrev pub put_item : Side → Item → Held → Held
+put_item side item held = record held { current = option_map (with_item side item) held.current; part = Nothing }
+
+-- the last item is a hook
+abbrev pub hooked : List Item → List Item
+hooked [] = []
+hooked (NodeItem node word hook ∷ []) = NodeItem node word true ∷ []
+hooked (item ∷ items) = item ∷ hooked items
+
+abbrev pub hook_last : RuleForm → RuleForm
+hook_last rule = record rule { left = hooked rule.left }
+
+abbrev pub listed : Option RuleForm → List RuleForm
+listed None = []
+listed (Some rule) = rule ∷ []
+
+abbrev pub close_rule : Held → Held
+close_rule held = record held { rules = held.rules ++ listed held.current; current = None; part = Nothing }
+
+abbrev pub close_side : Side → Held → Held
+close_side Left held = held
+close_side Right held = close_rule held
+
+abbrev pub open_rule : Mention → Held → Held
+open_rule name held = record held { current = Some (record { name = name; left = []; right = [] }) }
+
+abbrev pub hold_item : Spot → List ℕ → ℕ → Held → Held
+hold_item spot word place held = if bytes_eq word (closing spot.side) then close_side spot.side held else record held { part = Named (mention_at word place) }
+
+abbrev pub hold_sign : List ℕ → Part → Part
+hold_sign sign (Named name) = if bytes_eq sign (codes "<") then Lettered name [] else Linked name
+hold_sign sign part = part
+
+abbrev pub hold_letter : Letter → Part → Part
+hold_letter letter (Lettered name word) = Lettered name (word ++ letter ∷ [])
+hold_letter letter part = part
+
+abbrev pub hold_node : Side → Held → Part → Held
+hold_node side held (Lettered name word) = put_item side (NodeItem name word false) held
+hold_node side held part = held
+
+abbrev pub hold_label : ℕ → Part → Part
+hold_label label (Linked name) = Labelled name label
+hold_label label part = part
+
+abbrev pub hold_link : Side → Mention → Held → Part → Held
+hold_link side to held (Labelled from label) = put_item side (LinkItem from label to) held
+hold_link side to held part = held
+
+-- what is held behind a symbol that stands at a place
+abbrev pub hold : State → Symbol → ℕ → Held → Held
+hold AtTop (Numeral n) place held = record held { dim = n }
+hold (AtName n k) (Word word) place held = open_rule (mention_at word place) held
+hold (AtItem spot) (Word word) place held = hold_item spot word place held
+hold (AtItem spot) End place held = close_rule held
+hold (AtSign spot name) (Sign sign) place held = record held { part = hold_sign sign held.part }
+hold (AtLetter spot k) (Numeral label) place held = record held { part = hold_letter (letters.At label) held.part }
+hold (AtLetter spot k) Gone place held = record held { part = hold_letter letters.Gone held.part }
+hold (AtLetter spot k) (Sign sign) place held = hold_node spot.side held held.part
+hold (AtBehind spot) (Word word) place held = if is_hook spot.side word then record held { current = option_map hook_last held.current } else hold_item spot word place held
+hold (AtBehind spot) End place held = close_rule held
+hold (AtLabel spot) (Numeral label) place held = record held { part = hold_label label held.part }
+hold (AtTo spot) (Word word) place held = hold_link spot.side (mention_at word place) held held.part
+hold _ symbol place held = held
+
+-- what is held behind marks, along the states to which they lead
+abbrev pub held_behind : State → List Mark → Held → Held
+held_behind state [] held = held
+held_behind state (mark ∷ marks) held = option_map_or (λ (next : State). held_behind next marks (hold state mark.symbol mark.place held)) (move state mark.symbol) held

@@ -1,0 +1,88 @@
+ghost use Rattle.std.specs.Prelude.{◌≡◌};
+
+use crate::form_fault::FormFault;
+use crate::names::NameFault;
+use gm_model::{LimitKind, OutOfMemory};
+use std::alloc::{AllocError, AllocFailed};
+use thiserror::Error;
+
+/// Why a text gives no book. Places are byte indices, and one may be the length of the text.
+#[derive(Clone, Copy, Debug, PartialEq, Eq, Error)]
+pub enum BookFault {
+    /// No text of a book goes on with what stands at the place.
+    #[error("no book's text goes on so")]
+    Text { place: usize },
+    /// What stands at the place passes a limit.
+    #[error("a limit is passed")]
+    Limit { what: LimitKind, place: usize },
+    /// A rule has the name of an earlier rule, or a node that of an earlier node of its side.
+    #[error("a name is given twice")]
+    Twice { place: usize },
+    /// A link names no node of its side.
+    #[error("a name stands for nothing")]
+    Unknown { place: usize },
+    /// What stands at the place is not read yet.
+    #[error("a part of books that is not read yet")]
+    NotBuilt { place: usize },
+    /// Memory was wanting, which says nothing of the text.
+    #[error("out of memory")]
+    OutOfMemory,
+}
+
+impl From<AllocError> for BookFault {
+    ghost use Rattle.gm_book.specs.declared.fault.BookFault.TheVariants as faults;
+
+    ghost from_gives = { λ _ fault. fault ≡ faults.OutOfMemory };
+
+    fn from(_error: AllocError) -> BookFault {
+        BookFault::OutOfMemory
+    }
+}
+
+impl<T: Drop> From<AllocFailed<T>> for BookFault {
+    ghost use Rattle.gm_book.specs.declared.fault.BookFault.TheVariants as faults;
+
+    ghost from_gives = { λ _ fault. fault ≡ faults.OutOfMemory };
+
+    fn from(_error: AllocFailed<T>) -> BookFault {
+        BookFault::OutOfMemory
+    }
+}
+
+impl From<OutOfMemory> for BookFault {
+    ghost use Rattle.gm_book.specs.declared.fault.BookFault.TheVariants as faults;
+
+    ghost from_gives = { λ _ fault. fault ≡ faults.OutOfMemory };
+
+    fn from(_error: OutOfMemory) -> BookFault {
+        BookFault::OutOfMemory
+    }
+}
+
+impl From<NameFault> for BookFault {
+    ghost use Rattle.gm_book.specs.Building.{book_fault_of};
+
+    ghost from_gives = { λ fault given. given ≡ book_fault_of fault };
+
+    fn from(fault: NameFault) -> BookFault {
+        match fault {
+            NameFault::Twice { place } => BookFault::Twice { place },
+            NameFault::Unknown { place } => BookFault::Unknown { place },
+        }
+    }
+}
+
+impl From<FormFault> for BookFault {
+    ghost use Rattle.gm_book.specs.Faults.{book_fault_of_form};
+
+    ghost from_gives = { λ fault given. given ≡ book_fault_of_form fault };
+
+    fn from(fault: FormFault) -> BookFault {
+        match fault {
+            FormFault::Text { place } => BookFault::Text { place },
+            FormFault::Limit { what, place } => BookFault::Limit { what, place },
+            FormFault::NotBuilt { place } => BookFault::NotBuilt { place },
+            FormFault::OutOfMemory => BookFault::OutOfMemory,
+        }
+    }
+}

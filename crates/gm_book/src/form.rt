@@ -1,0 +1,26 @@
+//! What is written in a book, before its names are looked up. Names are tokens of the text.
+
+use gm_model::{Dim, Word};
+use gm_text::Token;
+
+/// What a side of a rule lists.
+#[derive(Clone, Copy, Debug)]
+pub(crate) enum Item {
+    Node { name: Token, word: Word, hook: bool },
+    Link { from: Token, label: u8, to: Token },
+}
+
+/// A rule as it is written.
+#[derive(Debug, Drop)]
+pub(crate) struct RuleForm {
+    pub name: Token,
+    pub left: Vec<Item>,
+    pub right: Vec<Item>,
+}
+
+/// A book as it is written.
+#[derive(Debug, Drop)]
+pub(crate) struct Form {
+    pub dim: Dim,
+    pub rules: Vec<RuleForm>,
+}

@@ -1,0 +1,73 @@
+//! Moves in the header of a book.
+ghost use Rattle.std.specs.Prelude.{◌≡◌, ◌^◌, ◌-◌, min};
+ghost use Rattle.gm_model.specs.Symbols.{value_of};
+ghost use Rattle.gm_model.specs.Tokens.{bytes_of};
+ghost use Rattle.gm_model.specs.declared.token.TokenKind.TheVariants.{Number};
+ghost use Rattle.gm_book.specs.declared.state.State.TheVariants as states;
+ghost use Rattle.gm_book.specs.Standing.{IsToken, Leads, StaysIn, word_mark, number_mark};
+
+use crate::form_fault::FormFault;
+use crate::state::State;
+use gm_model::{Dim, LimitKind};
+use gm_text::{Lexer, Token};
+
+/// The value of a number; the greatest `u64` stands for a number that is greater.
+pub(crate) fn value(lexer: &Lexer<'_>, token: Token) -> u64
+    requires token { IsToken lexer.now.text token }
+    requires kind { token.kind ≡ Number }
+    ensures { result ≡ min (value_of (bytes_of lexer.now.text token)) (2 ^ 64 - 1) }
+{
+    lexer.number(&token).unwrap_or(u64::MAX)
+}
+
+pub(crate) fn at_format(lexer: &Lexer<'_>, token: Token) -> Result<State, FormFault>
+    requires { IsToken lexer.now.text token }
+    ensures leads { Leads lexer.now.text states.Format (word_mark lexer.now.text token) result }
+    ensures within { StaysIn lexer.now.text states.Format result }
+{
+    if lexer.text(&token) != b"book".as_slice() {
+        return Err(FormFault::Text { place: token.start });
+    }
+    Ok(State::Version)
+}
+
+pub(crate) fn at_version(lexer: &Lexer<'_>, token: Token) -> Result<State, FormFault>
+    requires token { IsToken lexer.now.text token }
+    requires kind { token.kind ≡ Number }
+    ensures leads { Leads lexer.now.text states.Version (number_mark lexer.now.text token) result }
+    ensures within { StaysIn lexer.now.text states.Version result }
+{
+    if value(lexer, token) != 1 {
+        return Err(FormFault::Text { place: token.start });
+    }
+    Ok(State::DimWord)
+}
+
+pub(crate) fn at_dim_word(lexer: &Lexer<'_>, token: Token) -> Result<State, FormFault>
+    requires { IsToken lexer.now.text token }
+    ensures leads { Leads lexer.now.text states.DimWord (word_mark lexer.now.text token) result }
+    ensures within { StaysIn lexer.now.text states.DimWord result }
+{
+    if lexer.text(&token) != b"dim".as_slice() {
+        return Err(FormFault::Text { place: token.start });
+    }
+    Ok(State::Dimension)
+}
+
+pub(crate) fn at_dimension(lexer: &Lexer<'_>, token: Token) -> Result<State, FormFault>
+    requires token { IsToken lexer.now.text token }
+    requires kind { token.kind ≡ Number }
+    ensures leads { Leads lexer.now.text states.Dimension (number_mark lexer.now.text token) result }
+    ensures within { StaysIn lexer.now.text states.Dimension result }
+{
+    let value = value(lexer, token);
+    let what = LimitKind::Dimension;
+    let place = token.start;
+    if value > 7 {
+        return Err(FormFault::Limit { what, place });
+    }
+    match Dim::new(value as u8) {
+        Some(dim) => Ok(State::Rules(dim)),
+        None => Err(FormFault::Limit { what, place }),
+    }
+}

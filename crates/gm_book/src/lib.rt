@@ -1,0 +1,32 @@
+//! The text of a rule book: its rules read by name, and the one canonical text printed.
+#![tactic(auto)]
+
+mod building;
+mod draft;
+mod fault;
+mod form;
+mod form_fault;
+mod headers;
+mod laws;
+mod letters;
+mod names;
+mod nodes;
+mod printing;
+mod reader;
+mod reading;
+mod signs;
+mod state;
+mod table;
+mod tally;
+mod words;
+
+pub use fault::BookFault;
+pub use laws::{
+    no_book_at_a_fault, one_book_at_most, one_first_fault_at_most, what_is_printed_is_read_again,
+    what_is_read_is_in_range,
+};
+pub use printing::print_book;
+pub use reading::read_book;
+
+#[cfg(test)]
+mod tests;

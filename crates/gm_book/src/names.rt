@@ -1,0 +1,194 @@
+//! The first fault of the names of a form.
+//!
+//! The least place counts. So no pass ends the others, and each answers its own least fault.
+ghost use Rattle.std.specs.Prelude.{◌≡◌, [], not, map, IfOk, OnOk};
+ghost use Rattle.std.specs.List.{AllByRecursion};
+ghost use Rattle.gm_model.specs.BookText.{is_among, with_name};
+ghost use Rattle.gm_model.specs.Tokens.{bytes_of};
+ghost use Rattle.gm_book.specs.Forms.{IsIn, IsItemIn, IsRuleIn, IsFormIn, mention_of, item_of, rule_form_of, form_of};
+ghost use Rattle.gm_book.specs.Held.{names_held};
+ghost use Rattle.gm_book.specs.FirstNameFault.{least_of, again_at, place_at, with_item, again_in, with_items, least_again, unknown_at, unknown_in, least_unknown, side_least, rule_least, least_in, IsLeastFault};
+
+use crate::form::{Form, Item, RuleForm};
+use gm_model::OutOfMemory;
+use gm_text::Token;
+use indexmap::IndexSet;
+use std::alloc::Global;
+
+/// A fault of the names of a form, and where it stands.
+#[derive(Clone, Copy, Debug, PartialEq, Eq)]
+pub(crate) enum NameFault {
+    /// A rule has the name of an earlier rule, or a node that of an earlier node of its side.
+    Twice { place: usize },
+    /// A link names no node of its side.
+    Unknown { place: usize },
+}
+
+impl NameFault {
+    fn place(self) -> usize
+        ensures { result ≡ place_at self }
+    {
+        match self {
+            NameFault::Twice { place } | NameFault::Unknown { place } => place,
+        }
+    }
+}
+
+/// The bytes of a name of the text.
+pub(crate) fn bytes_in<'t>(text: &'t [u8], name: &Token) -> &'t [u8]
+    requires { IsIn text.now name.now }
+    ensures { result.now ≡ bytes_of text.now name.now }
+{
+    &text[name.start..name.end]
+}
+
+/// The fault at the lesser place, where there is one.
+fn earlier(fault: Option<NameFault>, other: Option<NameFault>) -> Option<NameFault>
+    ensures { result ≡ least_of fault other }
+{
+    match (fault, other) {
+        (Some(first), Some(second)) if second.place() < first.place() => other,
+        (None, _) => other,
+        _ => fault,
+    }
+}
+
+/// Takes the name into the table. Whether it is new there.
+fn insert<'t>(table: &mut IndexSet<&'t [u8]>, name: &'t [u8]) -> Result<bool, OutOfMemory>
+    ensures held { OnOk result (names_held table.new ≡ with_name (names_held table.old) name.now) }
+    ensures added { IfOk result (λ added. added ≡ not (is_among (names_held table.old) name.now)) }
+{
+    let (_, added) = table.insert_full(name)?;
+    Ok(added)
+}
+
+/// Takes the name into the table. A fault is that it was there.
+fn take_in<'t>(
+    table: &mut IndexSet<&'t [u8]>,
+    text: &'t [u8],
+    name: &Token,
+) -> Result<Option<NameFault>, OutOfMemory>
+    requires { IsIn text.now name.now }
+    ensures held { OnOk result (names_held table.new ≡ with_name (names_held table.old) (bytes_of text.now name.now)) }
+    ensures fault { IfOk result (λ fault. fault ≡ again_at (names_held table.old) (mention_of text.now name.now)) }
+{
+    let place = name.start;
+    if insert(table, bytes_in(text, name))? {
+        return Ok(None);
+    }
+    Ok(Some(NameFault::Twice { place }))
+}
+
+fn take_in_item<'t>(
+    table: &mut IndexSet<&'t [u8]>,
+    text: &'t [u8],
+    item: &Item,
+) -> Result<Option<NameFault>, OutOfMemory>
+    requires { IsItemIn text.now item.now }
+    ensures held { OnOk result (names_held table.new ≡ with_item (names_held table.old) (item_of text.now item.now)) }
+    ensures fault { IfOk result (λ fault. fault ≡ again_in (names_held table.old) (item_of text.now item.now)) }
+{
+    match item {
+        Item::Node { name, .. } => take_in(table, text, name),
+        Item::Link { .. } => Ok(None),
+    }
+}
+
+/// Takes the names of the nodes into the table. The fault is the first name that was there.
+pub(crate) fn take_in_nodes<'t>(
+    table: &mut IndexSet<&'t [u8]>,
+    text: &'t [u8],
+    items: &[Item],
+) -> Result<Option<NameFault>, OutOfMemory>
+    requires { AllByRecursion (IsItemIn text.now) items.now }
+    ensures held { OnOk result (names_held table.new ≡ with_items (names_held table.old) (map (item_of text.now) items.now)) }
+    ensures fault { IfOk result (λ fault. fault ≡ least_again (names_held table.old) (map (item_of text.now) items.now)) }
+{
+    let mut fault = None;
+    for item in items {
+        fault = earlier(fault, take_in_item(table, text, item)?);
+    }
+    Ok(fault)
+}
+
+fn unknown(table: &IndexSet<&[u8]>, text: &[u8], name: &Token) -> Option<NameFault>
+    requires { IsIn text.now name.now }
+    ensures { result ≡ unknown_at (names_held table.now) (mention_of text.now name.now) }
+{
+    let place = name.start;
+    if table.contains(bytes_in(text, name)) {
+        None
+    } else {
+        Some(NameFault::Unknown { place })
+    }
+}
+
+fn unknown_end(table: &IndexSet<&[u8]>, text: &[u8], item: &Item) -> Option<NameFault>
+    requires { IsItemIn text.now item.now }
+    ensures { result ≡ unknown_in (names_held table.now) (item_of text.now item.now) }
+{
+    match item {
+        Item::Node { .. } => None,
+        Item::Link { from, to, .. } => {
+            earlier(unknown(table, text, from), unknown(table, text, to))
+        }
+    }
+}
+
+fn first_unknown(table: &IndexSet<&[u8]>, text: &[u8], items: &[Item]) -> Option<NameFault>
+    requires { AllByRecursion (IsItemIn text.now) items.now }
+    ensures { result ≡ least_unknown (names_held table.now) (map (item_of text.now) items.now) }
+{
+    let mut fault = None;
+    for item in items {
+        fault = earlier(fault, unknown_end(table, text, item));
+    }
+    fault
+}
+
+fn side_fault(alloc: Global, text: &[u8], items: &[Item]) -> Result<Option<NameFault>, OutOfMemory>
+    requires { AllByRecursion (IsItemIn text.now) items.now }
+    ensures { IfOk result (λ fault. fault ≡ side_least (map (item_of text.now) items.now)) }
+{
+    let mut table = IndexSet::new(alloc);
+    let again = take_in_nodes(&mut table, text, items)?;
+    Ok(earlier(again, first_unknown(&table, text, items)))
+}
+
+fn rule_fault(alloc: Global, text: &[u8], rule: &RuleForm) -> Result<Option<NameFault>, OutOfMemory>
+    requires { IsRuleIn text.now rule.now }
+    ensures { IfOk result (λ fault. fault ≡ rule_least (rule_form_of text.now rule.now)) }
+{
+    let left = side_fault(alloc, text, rule.left.as_slice())?;
+    let right = side_fault(alloc, text, rule.right.as_slice())?;
+    Ok(earlier(left, right))
+}
+
+fn first_fault(
+    alloc: Global,
+    text: &[u8],
+    rules: &[RuleForm],
+) -> Result<Option<NameFault>, OutOfMemory>
+    requires { AllByRecursion (IsRuleIn text.now) rules.now }
+    ensures { IfOk result (λ fault. fault ≡ least_in [] (map (rule_form_of text.now) rules.now)) }
+{
+    let mut table = IndexSet::new(alloc);
+    let mut fault = None;
+    for rule in rules {
+        let again = take_in(&mut table, text, &rule.name)?;
+        fault = earlier(fault, earlier(again, rule_fault(alloc, text, rule)?));
+    }
+    Ok(fault)
+}
+
+/// The fault of the form's names that stands first in the text, where there is one.
+pub(crate) fn name_fault(
+    alloc: Global,
+    text: &[u8],
+    form: &Form,
+) -> Result<Option<NameFault>, OutOfMemory>
+    requires { IsFormIn text.now form.now }
+    ensures { IfOk result (IsLeastFault (form_of text.now form.now)) }
+{
+    first_fault(alloc, text, form.rules.as_slice())
+}

@@ -1,0 +1,50 @@
+ghost use Rattle.std.specs.Prelude.{◌≡◌, [], length, OnOk};
+ghost use Rattle.gm_model.specs.BookText.{with_name};
+
+use indexmap::IndexSet;
+use std::alloc::{AllocFailed, Global};
+use std::marker::Model;
+
+/// The different names that a rule mentions as nodes, in the order of their first mention.
+/// Contracts see their list.
+#[derive(Drop)]
+pub(crate) struct Nodes<'a> {
+    names: IndexSet<&'a [u8]>,
+}
+
+impl<'a> Model for Nodes<'a> {
+    ghost use Rattle.std.specs.Prelude.{ℕ, List, map};
+
+    ghost Value = { List (List ℕ) };
+
+    ghost view = { λ nodes. map (λ name. name.now) nodes.names.keys };
+}
+
+impl<'a> Nodes<'a> {
+    pub fn new(alloc: Global) -> Nodes<'a>
+        ensures { result ≡ [] }
+    {
+        Nodes {
+            names: IndexSet::new(alloc),
+        }
+    }
+
+    pub fn len(&self) -> usize
+        ensures { result ≡ length self.now }
+    {
+        self.names.len()
+    }
+
+    pub fn add(&mut self, name: &'a [u8]) -> Result<(), AllocFailed<&'a [u8]>>
+        ensures { OnOk result (self.new ≡ with_name self.old name.now) }
+    {
+        self.names.insert(name)?;
+        Ok(())
+    }
+
+    pub fn clear(&mut self)
+        ensures { self.new ≡ [] }
+    {
+        self.names.clear();
+    }
+}

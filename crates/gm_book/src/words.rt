@@ -1,0 +1,22 @@
+ghost use Rattle.std.specs.Prelude.{◌≡◌, bytes_eq};
+ghost use Rattle.std.specs.List.{list_any};
+ghost use Rattle.gm_model.specs.BookText.{is_among};
+ghost use Rattle.gm_model.specs.Names.{reserved};
+
+/// The words of the formats that no name can be.
+const RESERVED: [&[u8]; 19] = [
+    b"rule", b"left", b"right", b"hook", b"with", b"pre", b"and", b"or", b"not", b"if", b"then",
+    b"else", b"true", b"false", b"sum", b"count", b"min", b"max", b"same",
+];
+
+pub(crate) fn is_reserved(word: &[u8]) -> bool
+    ensures { result ≡ is_among reserved word.now }
+{
+    is_among(&RESERVED, word)
+}
+
+fn is_among(words: &[&[u8]], word: &[u8]) -> bool
+    ensures { result ≡ list_any (λ other. bytes_eq word.now other.now) words.now }
+{
+    words.iter().any(|other| word == *other)
+}
