@@ -1,4 +1,5 @@
 pub mod Counts
+pub mod InArena
 pub mod Paths
 pub mod Placed
 pub mod Plans

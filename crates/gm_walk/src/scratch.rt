@@ -62,8 +62,9 @@ impl Scratch {
         Ok(())
     }
 
-    /// Forgets the last walk, in time that goes by its length.
-    pub(crate) fn clear(&mut self)
+    /// Forgets the last walk, in time that goes by its length. A caller may then take in slots of
+    /// its own, as if it walked.
+    pub fn clear(&mut self)
         ensures { self.new ≡ record self.old { walked = [] } }
     {
         while let Some(slot) = self.queue.pop() {
@@ -71,8 +72,8 @@ impl Scratch {
         }
     }
 
-    /// Puts the slot behind those that were walked, unless it is among them.
-    pub(crate) fn take_in(&mut self, slot: Slot)
+    /// Puts the slot behind those that were walked, unless it is among them. It takes no memory.
+    pub fn take_in(&mut self, slot: Slot)
         requires { slot.at < self.old.bound }
         ensures { TakesIn self.old slot self.new }
     {
@@ -87,11 +88,14 @@ impl Scratch {
     pub(crate) fn walked(&self) -> &[Slot]
         ensures value { result.now ≡ self.now.walked }
         ensures few { length self.now.walked ≤ self.now.bound }
+        ensures most { length self.now.walked ≤ 4294967295 }
     {
         &self.queue
     }
 
-    pub(crate) fn place(&self, slot: Slot) -> Option<u32>
+    /// The place of the slot among those that were walked, counted from 0; `None` where it is not
+    /// among them.
+    pub fn place(&self, slot: Slot) -> Option<u32>
         ensures { MatchOption result (Contains self.now.walked slot → ⊥) (λ place. slice_get self.now.walked place ≡ Some slot) }
     {
         self.marks.get(slot.at as usize)?.checked_sub(1)

@@ -22,7 +22,8 @@ pub struct Walk<'s> {
 impl Walk<'_> {
     /// The slots of the walk, in its order.
     pub fn slots(&self) -> &[Slot]
-        ensures { result.now ≡ slots_of self.now }
+        ensures value { result.now ≡ slots_of self.now }
+        ensures most { length (slots_of self.now) ≤ 4294967295 }
     {
         self.scratch.walked()
     }
@@ -50,6 +51,7 @@ pub fn walk_word<'s, L: Ledger>(
     ensures walk { IsWalk (along arena.now word.now) (length word.now) (name_at arena.now from.at) (names_of arena.now (slots_of result)) }
     ensures live { AreLive arena.now (slots_of result) }
     ensures cost { steps.new ≤ steps.old + 4 * (arena.now.schema.dim + 1) * length (slots_of result) }
+    ensures least { steps.old ≤ steps.new }
     ensures room { bound_of result ≡ scratch.old.bound }
     ensures lender { lender_of result ≡ scratch.entry.ghost_name }
 {
@@ -79,6 +81,7 @@ pub fn walk_mask<'s, L: Ledger>(
     ensures walk { IsWalk (along arena.now (letters_of mask)) (length (letters_of mask)) (name_at arena.now from.at) (names_of arena.now (slots_of result)) }
     ensures live { AreLive arena.now (slots_of result) }
     ensures cost { steps.new ≤ steps.old + 4 * (arena.now.schema.dim + 1) * length (slots_of result) }
+    ensures least { steps.old ≤ steps.new }
     ensures room { bound_of result ≡ scratch.old.bound }
     ensures lender { lender_of result ≡ scratch.entry.ghost_name }
 {
@@ -103,6 +106,7 @@ fn take_in_neighbours<L: Ledger>(
     ensures live { AreLive arena.now scratch.new.walked }
     ensures bound { scratch.new.bound ≡ scratch.old.bound }
     ensures cost { steps.new ≤ steps.old + 4 * (arena.now.schema.dim + 1) }
+    ensures least { steps.old ≤ steps.new }
 {
     let slot = scratch.walked()[at];
     for place in 0..word.len() {

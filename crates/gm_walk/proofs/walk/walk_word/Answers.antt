@@ -16,6 +16,7 @@ loop-at-preserved g c =
       walk = e.walk _ i.walk;
       bound = e.bound ∙ i.bound;
       cost = omega (arith, i.cost, e.cost);
+      least = omega (arith, i.least, e.least);
     }
 
 pub returns-clause-walk : goal.returns-clause-walk

@@ -10,6 +10,7 @@ invariant-loop-at g l = record {
   walk : IsWalkedTo l.arena l.word (name_at l.arena l.fn.from.at) l.at l.scratch.walked;
   bound : l.scratch.bound ≡ l.fn.scratch.bound;
   cost : l.steps ≤ l.fn.steps + 4 * (l.arena.schema.dim + 1) * l.at;
+  least : l.fn.steps ≤ l.steps;
 }
 
 abbrev pub decreases-loop-at : goal.decreases-loop-at

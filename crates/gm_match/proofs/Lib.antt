@@ -1,0 +1,10 @@
+pub mod Agreement
+pub mod InArena
+pub mod Answering
+pub mod CellLemmas
+pub mod Costs
+pub mod Paths
+pub mod Placing
+pub mod Stepping
+pub mod Taking
+pub mod Turning

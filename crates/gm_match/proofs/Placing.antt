@@ -1,0 +1,159 @@
+-- The slots and turns that were made are those of the candidate.
+use Rattle.std.proofs.Common.{◌≡◌, ℕ, ◌+◌, ◌*◌, ◌/◌, ◌<◌, ◌≤◌, List, [], length, map, get_or, Option, Some, refl, sym, ap, subst, ◌∙◌, arith}
+use Rattle.std.proofs.Math.Nat.{mul-div_cancel_left}
+use Rattle.std.proofs.lemmas.List.{length-map, get_or-map}
+use Rattle.std.proofs.lemmas.Option.{slice_get-get_or, slice_get_within, get_or_from_slice_get}
+use Rattle.std.specs.List.{slice_get, Contains}
+use Rattle.std.specs.Option.{option_and_then, unwrap_or}
+use Rattle.std.specs.Prelude.{slice_index}
+use Rattle.gm_model.specs.declared.rule.RuleTable.{RuleTable}
+use Rattle.gm_model.specs.declared.rule.Side.TheVariants.{Left}
+use Rattle.gm_model.specs.declared.schema.Schema.{Schema}
+use Rattle.gm_model.specs.declared.word.Letter.{Letter}
+use Rattle.gm_model.specs.declared.word.Letter.TheVariants.{At, Gone}
+use Rattle.gm_model.specs.Matches.{IsInstance, IsPathTo, along_hook}
+use Rattle.gm_model.specs.Matches.ArePositions.{Walked}
+use Rattle.gm_model.specs.Orbits.{IsWalk, HasNoRepeats, follow}
+use Rattle.gm_model.specs.Rules.{Rule, rule_of, word_at, first_hook, hook_word, label_of, width}
+use Rattle.gm_model.specs.Structure.{IsPlainWord}
+use Rattle.gm_arena.specs.declared.slot.Slot.{Slot}
+use Rattle.gm_arena.specs.ArenaAsMap.{as_map}
+use Rattle.gm_arena.specs.ArenaMap.{ArenaMap, IsLiveSlot, IsLiveName, name_at, alpha}
+use Rattle.gm_plan.specs.Placed.{Placed, slot_at, turn_at}
+use Rattle.gm_plan.specs.Plans.{PlanOf, IsLeftCount, IsPlanned}
+use Rattle.gm_plan.proofs.PathLinks.{same_path}
+use Rattle.gm_theory.proofs.Walks.{walk_unique}
+use Rattle.gm_walk.specs.Walks.{IsWord, IsLabelUpTo, along, names_of}
+use Rattle.gm_walk.proofs.WordLemmas.{plain_is_word}
+use Rattle.gm_match.specs.Cells.{AreCells}
+use Rattle.gm_match.specs.Layout.{AreMatchable, IsTurn, IsReachedBy, IsCandidateAt}
+use Rattle.gm_match.specs.Outcome.{name_of, place_of}
+use Rattle.gm_match.proofs.CellLemmas.{each_entry}
+use Rattle.gm_match.proofs.Costs.{few_below, turns_cost, candidate_cost}
+use Rattle.gm_match.proofs.Paths.{some_node}
+
+-- ---- the hook's word
+
+module _ (schema : Schema) (rule : Rule) (planned : IsPlanned schema rule) (h : ℕ) (first : first_hook rule ≡ Some h) where
+  letters_plain : IsPlainWord (hook_word rule)
+  letters_plain = rw first (planned.incidence.structured.plain 0 (slice_get_within rule.hooks 0 h first) h first)
+
+  hook_is_word : IsWord schema.dim (hook_word rule)
+  hook_is_word = plain_is_word schema.dim (hook_word rule) letters_plain (rw first (planned.in_range.words Left h))
+
+  -- its labels differ, so it has no more than there are labels
+  few_places : width rule ≤ schema.dim + 1
+  few_places = subst (λ n. n ≤ schema.dim + 1) (length-map (hook_word rule) label_of) (few_below (map label_of (hook_word rule)) (schema.dim + 1) distinct low)
+    where
+      is_label : (letter : Letter) → IsLabelUpTo schema.dim letter → (letter ≡ At (label_of letter)) × (label_of letter ≤ schema.dim)
+      is_label (At i) few = (refl, few)
+      is_label Gone few = absurd few
+
+      label_at : (k d : ℕ) → k < width rule → get_or (map label_of (hook_word rule)) k d ≡ label_of (get_or (hook_word rule) k Gone)
+      label_at k d b = get_or-map label_of (hook_word rule) k Gone d b
+
+      labels : (k : ℕ) → k < width rule → (get_or (hook_word rule) k Gone ≡ At (label_of (get_or (hook_word rule) k Gone))) × (label_of (get_or (hook_word rule) k Gone) ≤ schema.dim)
+      labels k b = is_label (get_or (hook_word rule) k Gone) (hook_is_word k Gone b)
+
+      low : (x : ℕ) → Contains (map label_of (hook_word rule)) x → x < schema.dim + 1
+      low x (k, b, e) =
+          let within : k < width rule = omega (arith, length-map (hook_word rule) label_of) in
+          omega (arith, e, label_at k x within, (labels k within).1)
+
+      distinct : HasNoRepeats (map label_of (hook_word rule))
+      distinct p q less b e =
+          let q_in : q < width rule = omega (arith, length-map (hook_word rule) label_of) in
+          let p_in : p < width rule = omega arith in
+          let same : label_of (get_or (hook_word rule) p Gone) ≡ label_of (get_or (hook_word rule) q Gone) = sym (label_at p 0 p_in) ∙ e ∙ label_at q 0 q_in in
+          let p_at : slice_get (hook_word rule) p ≡ Some (At (label_of (get_or (hook_word rule) q Gone))) = slice_get-get_or (hook_word rule) p Gone p_in ∙ ap Some ((labels p p_in).0 ∙ ap At same) in
+          let q_at : slice_get (hook_word rule) q ≡ Some (At (label_of (get_or (hook_word rule) q Gone))) = slice_get-get_or (hook_word rule) q Gone q_in ∙ ap Some (labels q q_in).0 in
+          let one : p ≡ q = letters_plain.distinct p q (label_of (get_or (hook_word rule) q Gone)) p_at q_at in
+          omega arith
+
+-- the word that a rule's table answers
+pub word_is : (table other : RuleTable) (answer : Option (List Letter)) (word : List Letter) → other ≡ table → answer ≡ option_and_then (word_at (rule_of other) Left) (first_hook (rule_of other)) → answer ≡ Some word → word ≡ hook_word (rule_of table)
+word_is table other answer word same is_hook some = ap (λ o. unwrap_or o []) (sym some ∙ is_hook) ∙ ap (λ t. hook_word (rule_of t)) same
+
+-- ---- the candidate
+
+same_factor : (k a b : ℕ) → 0 < k → k * a ≡ k * b → a ≡ b
+same_factor k a b some e = sym (mul-div_cancel_left a some) ∙ ap (λ n. n / k) e ∙ mul-div_cancel_left b some
+
+module _ (m : ArenaMap) (rule : Rule) (d : ℕ) (slots : List Slot) where
+  names_long : length (names_of m slots) ≡ length slots
+  names_long = length-map slots (λ (s : Slot). name_at m s.at)
+
+  pub some_position : (word : List Letter) → IsWalk (along m word) (length word) d (names_of m slots) → 1 ≤ length slots
+  some_position word walk = omega (arith, slice_get_within (names_of m slots) 0 d walk.starts, names_long)
+
+  walk_long : (word : List Letter) (walk : List ℕ) → word ≡ hook_word rule → IsWalk (along m word) (length word) d (names_of m slots) → IsWalk (along_hook (as_map m) rule) (width rule) d walk → length slots ≡ length walk
+  walk_long word walk e ours other = sym names_long ∙ ap length (walk_unique (along_hook (as_map m) rule) (width rule) d (names_of m slots) walk (subst (λ w. IsWalk (along m w) (length w) d (names_of m slots)) e ours) other)
+
+  module _ (found : Placed) where
+    -- what was made: the walk, and the turns along it
+    pub record IsTurned (word : List Letter) : Type 0 where
+      pub walk : IsWalk (along m word) (length word) d (names_of m slots)
+      pub turns : AreCells (IsTurn m word (names_of m slots)) (length slots) (length word) found.turns
+      pub places : found.places ≡ length word
+
+    module _ (nodes : ℕ) (counts : IsLeftCount rule nodes) (laid : AreCells (IsReachedBy m rule (names_of m slots)) (length slots) nodes found.slots) (positions : found.positions ≡ length slots) (long : found.positions * found.nodes ≡ length found.slots) where
+      nodes_are : 1 ≤ length slots → found.nodes ≡ nodes
+      nodes_are some = same_factor (length slots) found.nodes nodes some (ap (λ k. k * found.nodes) (sym positions) ∙ long ∙ sym laid.long)
+
+      module _ (live : IsLiveName m d) (turned : IsTurned (hook_word rule)) where
+        some : 1 ≤ length slots
+        some = some_position (hook_word rule) turned.walk
+
+        place_lies : (x p : ℕ) (path : List ℕ) → IsInstance rule (place_of m found) x p → IsPathTo rule x path → name_of m (slot_at found x p) ≡ follow (alpha m) path (slice_index (names_of m slots) p)
+        place_lies x p path at to = go (laid.each p x (subst (λ k. p < k) positions at.1) ((counts x).0 at.0))
+          where
+            go : (s : Slot) × (slice_get found.slots (p * nodes + x) ≡ Some s) × IsReachedBy m rule (names_of m slots) p x s → name_of m (slot_at found x p) ≡ follow (alpha m) path (slice_index (names_of m slots) p)
+            go (s, e, r) = ap (name_of m) (ap (λ n. slice_get found.slots (p * n + x)) (nodes_are some) ∙ e) ∙ r.leads ∙ ap (λ q. follow (alpha m) q (slice_index (names_of m slots) p)) (same_path rule x r.path path r.least to)
+
+        turn_lies : (p l : ℕ) → p < length (names_of m slots) → l < width rule →
+            (turn_at found p l < length (names_of m slots)) × (slice_index (names_of m slots) (turn_at found p l) ≡ along_hook (as_map m) rule (slice_index (names_of m slots) p) l)
+        turn_lies p l b h = go (turned.turns.each p l (subst (λ k. p < k) names_long b) h)
+          where
+            go : (q : ℕ) × (slice_get found.turns (p * width rule + l) ≡ Some q) × IsTurn m (hook_word rule) (names_of m slots) p l q →
+                (turn_at found p l < length (names_of m slots)) × (slice_index (names_of m slots) (turn_at found p l) ≡ along_hook (as_map m) rule (slice_index (names_of m slots) p) l)
+            go (q, e, t) =
+                let at : turn_at found p l ≡ q = ap (λ n. slice_index found.turns (p * n + l)) turned.places ∙ get_or_from_slice_get found.turns (p * width rule + l) q 0 e in
+                (subst (λ r. r < length (names_of m slots)) (sym at) t.within, ap (slice_index (names_of m slots)) at ∙ t.leads)
+
+        least : {x : ℕ} → (s : Slot) × (slice_get found.slots (0 * nodes + x) ≡ Some s) × IsReachedBy m rule (names_of m slots) 0 x s → (path : List ℕ) × IsPathTo rule x path
+        least (s, e, r) = (r.path, r.least)
+
+        pub is_candidate : IsCandidateAt m rule d found
+        is_candidate = record {
+          laid = record {
+            slots = each_entry (IsReachedBy m rule (names_of m slots)) nodes (λ (s : Slot). IsLiveSlot m s.at) (length slots) found.slots laid (λ p x s r. r.live);
+            long = long;
+            nodes = subst (IsLeftCount rule) (sym (nodes_are some)) counts;
+            places = turned.places;
+          };
+          candidate = λ others. record { walk = names_of m slots; positions = Walked d others (names_of m slots) live turned.walk (positions ∙ sym names_long) turn_lies; forced = place_lies };
+          paths = λ x left. least (laid.each 0 x some ((counts x).0 left));
+        }
+
+-- ---- its cost
+
+module _ (m : ArenaMap) (plan : PlanOf) (able : AreMatchable m plan) (h : ℕ) (first : first_hook (rule_of plan.table) ≡ Some h) (word : List Letter) (is_hook : word ≡ hook_word (rule_of plan.table)) where
+  pub can_be_walked : IsWord m.schema.dim word
+  can_be_walked = rw (is_hook, able.schema) (hook_is_word plan.schema (rule_of plan.table) able.planned h first)
+
+  few : length word ≤ m.schema.dim + 1
+  few = rw (is_hook, able.schema) (few_places plan.schema (rule_of plan.table) able.planned h first)
+
+  some_nodes : 1 ≤ length (rule_of plan.table).nodes
+  some_nodes = some_node plan.schema (rule_of plan.table) able.planned h first
+
+  module _ (d : ℕ) (slots : List Slot) (ours : IsWalk (along m word) (length word) d (names_of m slots)) (start walked turned : ℕ) (walking : walked ≤ start + 4 * (m.schema.dim + 1) * length slots) (turning : turned ≤ walked + length slots * length word) where
+    pub turned_cost : (walk : List ℕ) → IsWalk (along_hook (as_map m) (rule_of plan.table)) (width (rule_of plan.table)) d walk → turned ≤ start + 6 * (m.schema.dim + 1) * (length (rule_of plan.table).nodes * length walk)
+    turned_cost walk is_walk = rw (← walk_long m (rule_of plan.table) d slots word walk is_hook ours is_walk)
+        (turns_cost (m.schema.dim + 1) (length (rule_of plan.table).nodes) (length slots) (length word) some_nodes (omega arith) few start walked turned walking turning)
+
+    pub placed_cost : (lent : List Slot) (placed : ℕ) → lent ≡ slots → placed + length lent ≤ turned + length lent * length (rule_of plan.table).nodes →
+        (walk : List ℕ) → IsWalk (along_hook (as_map m) (rule_of plan.table)) (width (rule_of plan.table)) d walk → placed ≤ start + 6 * (m.schema.dim + 1) * (length (rule_of plan.table).nodes * length walk)
+    placed_cost lent placed same placing walk is_walk = rw (← walk_long m (rule_of plan.table) d slots word walk is_hook ours is_walk)
+        (candidate_cost (m.schema.dim + 1) (length (rule_of plan.table).nodes) (length slots) (length word) some_nodes (omega arith) few start walked turned placed walking turning
+        (subst (λ xs. placed + length xs ≤ turned + length xs * length (rule_of plan.table).nodes) same placing))

@@ -1,0 +1,28 @@
+use Rattle.std.proofs.Common.{below_more, arith}
+use Rattle.gm_model.specs.Rules.{rule_of}
+use Rattle.gm_model.specs.Structure.{IsFirstBad}
+use Rattle.gm_match.specs.Firsts.{AreMetBy}
+use Rattle.gm_match.specs.Firsts.IsFirstStep.{NotMet}
+use Rattle.gm_match.proofs.Stepping.{same_count}
+use Rattle.gm_match.proofs.arcs.meet_steps.Goals as goal
+
+pub broken_position-requires-clause-node : goal.broken_position-requires-clause-node
+broken_position-requires-clause-node g c =
+    let same = same_count (rule_of c.args.plan.now.table) _ _ c.left_nodes-node-end.ensures.left c.requires.laid.nodes in
+    omega (arith, same)
+
+pub returns-in-Some-clause-steps : goal.returns-in-Some-clause-steps
+returns-in-Some-clause-steps g c =
+    let same = same_count (rule_of c.args.plan.now.table) _ _ c.left_nodes-node-end.ensures.left c.requires.laid.nodes in
+    let first = c.in-Some.ensures.first in
+    let bad : IsFirstBad (AreMetBy c.args.arena.now (rule_of c.args.plan.now.table) c.args.found.now) c.args.found.now.nodes c.loop-node.node =
+    record { within = omega (arith, same); fails = λ met. first.position.fails (met _ first.position.within); before = c.loop-node.invariant.met } in
+    NotMet _ _ _ bad first
+
+pub loop-node-preserved : goal.loop-node-preserved
+loop-node-preserved g c = record { met = below_more _ _ c.loop-node.invariant.met c.in_default.ensures.first; cost = omega (arith, c.loop-node.invariant.cost, c.broken_position.ensures.cost); least = omega (arith, c.loop-node.invariant.least, c.broken_position.ensures.least) }
+
+pub returns-clause-steps : goal.returns-clause-steps
+returns-clause-steps g c =
+    let same = same_count (rule_of c.args.plan.now.table) _ _ c.left_nodes-node-end.ensures.left c.requires.laid.nodes in
+    λ x h. c.loop-node.invariant.met x (omega (arith, same))

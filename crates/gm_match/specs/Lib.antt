@@ -1,0 +1,5 @@
+pub mod Cells
+pub mod Firsts
+pub mod Layout
+pub mod Outcome
+pub mod Taken

@@ -1,0 +1,149 @@
+ghost use Rattle.std.specs.Prelude.{◌≡◌, ℕ, List, ◌+◌, ◌*◌, ◌<◌, ◌≤◌, length, slice_get, slice_index, Some, IfOk};
+ghost use Rattle.std.specs.List.{Contains};
+ghost use Rattle.gm_arena.specs.ArenaAsMap.{as_map};
+ghost use Rattle.gm_arena.specs.ArenaMap.{IsLiveSlot, name_at};
+ghost use Rattle.gm_arena.specs.Lawful.{IsLawful};
+ghost use Rattle.gm_model.specs.Matches.{along_hook};
+ghost use Rattle.gm_model.specs.Orbits.{IsWalk};
+ghost use Rattle.gm_model.specs.Rules.{rule_of, first_hook, width};
+ghost use Rattle.gm_plan.specs.Plans.{IsLeftCount};
+ghost use Rattle.gm_walk.specs.Lent.{slots_of};
+ghost use Rattle.gm_walk.specs.Room.{Fits};
+ghost use Rattle.gm_walk.specs.Walks.{IsWord, AreLive, names_of};
+ghost use Rattle.gm_match.specs.Cells.{AreCells, IsRow};
+ghost use Rattle.gm_match.specs.Layout.{AreMatchable, IsClosed, IsReached, IsReachedBy, IsTurn, IsCandidateAt};
+
+use gm_arena::{Arena, Slot};
+use gm_model::{Letter, MOST_NODES, OutOfMemory, Steps, Word};
+use gm_plan::{Instances, Plan};
+use gm_walk::{Scratch, Walk, walk_word};
+use std::alloc::Global;
+use std::sync::ledger::Ledger;
+
+const MOST_PLACES: usize = 8;
+
+/// The candidate from the dart of the first hook.
+pub(crate) fn candidate<L: Ledger>(
+    alloc: Global,
+    plan: &Plan<'_>,
+    arena: &Arena,
+    from: Slot,
+    scratch: &mut Scratch,
+    steps: &mut Steps<L>,
+) -> Result<Instances, OutOfMemory>
+    requires matchable { AreMatchable arena.now plan.now }
+    requires hook { (h : ℕ) × (first_hook (rule_of plan.now.table) ≡ Some h) }
+    requires live { IsLiveSlot arena.now from.at }
+    requires fits { Fits scratch.old arena.now }
+    ensures candidate { IfOk result (IsCandidateAt arena.now (rule_of plan.now.table) (name_at arena.now from.at)) }
+    ensures cost { let rule = rule_of plan.now.table in (walk : List ℕ)
+        → IsWalk (along_hook (as_map arena.now) rule) (width rule) (name_at arena.now from.at) walk
+        → steps.new ≤ steps.old + 6 * (arena.now.schema.dim + 1) * (length rule.nodes * length walk) }
+    ensures least { steps.old ≤ steps.new }
+    ensures room { scratch.new.bound ≡ scratch.old.bound }
+{
+    let word = plan.rule().hook_word().unwrap();
+    let walk = walk_word(arena, from, &word, scratch, steps);
+    let turns = turns(alloc, arena, &walk, &word, steps)?;
+    let slots = slots(alloc, plan, arena, walk.slots(), steps)?;
+    let positions = walk.slots().len() as u32;
+    Ok(Instances::new(slots, turns, positions, word.len()))
+}
+
+/// The positions to which each position turns, by place.
+fn turns<L: Ledger>(
+    alloc: Global,
+    arena: &Arena,
+    walk: &Walk<'_>,
+    word: &Word,
+    steps: &mut Steps<L>,
+) -> Result<Vec<u32>, OutOfMemory>
+    requires lawful { IsLawful arena.now }
+    requires live { AreLive arena.now (slots_of walk.now) }
+    requires word { IsWord arena.now.schema.dim word.now }
+    requires closed { IsClosed arena.now word.now (slots_of walk.now) }
+    ensures turns { IfOk result (λ turns. AreCells (IsTurn arena.now word.now (names_of arena.now (slots_of walk.now))) (length (slots_of walk.now)) (length word.now) turns.items) }
+    ensures cost { steps.new ≤ steps.old + length (slots_of walk.now) * length word.now }
+    ensures least { steps.old ≤ steps.new }
+{
+    let places = word.len() as usize;
+    let mut turns = Vec::with_capacity(alloc, walk.slots().len() * places)?;
+    for slot in walk.slots() {
+        let row = turn(arena, walk, *slot, word, steps);
+        turns.extend_from_slice(&row[..places])?;
+    }
+    Ok(turns)
+}
+
+/// The positions to which the position of the slot turns, by place.
+fn turn<L: Ledger>(
+    arena: &Arena,
+    walk: &Walk<'_>,
+    slot: Slot,
+    word: &Word,
+    steps: &mut Steps<L>,
+) -> [u32; MOST_PLACES]
+    requires lawful { IsLawful arena.now }
+    requires live { AreLive arena.now (slots_of walk.now) }
+    requires word { IsWord arena.now.schema.dim word.now }
+    requires closed { IsClosed arena.now word.now (slots_of walk.now) }
+    requires walked { Contains (slots_of walk.now) slot }
+    ensures row { (p : ℕ) → slice_get (slots_of walk.now) p ≡ Some slot → IsRow (IsTurn arena.now word.now (names_of arena.now (slots_of walk.now)) p) (length word.now) result }
+    ensures len { length result ≡ 8 }
+    ensures cost { steps.new ≡ steps.old + length word.now }
+{
+    let mut row = [0; MOST_PLACES];
+    for place in 0..word.len() {
+        let Letter::At(label) = word.letter(place) else {
+            unreachable!()
+        };
+        row[place as usize] = walk.place(arena.alpha(slot, label, steps)).unwrap();
+    }
+    row
+}
+
+/// The slots of the left nodes, by position and node.
+fn slots<L: Ledger>(
+    alloc: Global,
+    plan: &Plan<'_>,
+    arena: &Arena,
+    walk: &[Slot],
+    steps: &mut Steps<L>,
+) -> Result<Vec<Slot>, OutOfMemory>
+    requires matchable { AreMatchable arena.now plan.now }
+    requires hook { (h : ℕ) × (first_hook (rule_of plan.now.table) ≡ Some h) }
+    requires live { AreLive arena.now walk.now }
+    requires few { length walk.now ≤ 4294967295 }
+    ensures slots { IfOk result (λ slots. (nodes : ℕ) × IsLeftCount (rule_of plan.now.table) nodes × AreCells (IsReachedBy arena.now (rule_of plan.now.table) (names_of arena.now walk.now)) (length walk.now) nodes slots.items) }
+    ensures cost { steps.new + length walk.now ≤ steps.old + length walk.now * length (rule_of plan.now.table).nodes }
+    ensures least { steps.old ≤ steps.new }
+{
+    let nodes = plan.left_nodes() as usize;
+    let mut slots = Vec::with_capacity(alloc, walk.len() * nodes)?;
+    for slot in walk {
+        let row = follow_paths(plan, arena, *slot, steps);
+        slots.extend_from_slice(&row[..nodes])?;
+    }
+    Ok(slots)
+}
+
+/// The slots to which the least paths lead from the hook's slot, by node.
+fn follow_paths<L: Ledger>(
+    plan: &Plan<'_>,
+    arena: &Arena,
+    from: Slot,
+    steps: &mut Steps<L>,
+) -> [Slot; MOST_NODES]
+    requires matchable { AreMatchable arena.now plan.now }
+    requires live { IsLiveSlot arena.now from.at }
+    ensures row { (nodes : ℕ) → IsLeftCount (rule_of plan.now.table) nodes → IsRow (IsReached arena.now (rule_of plan.now.table) (name_at arena.now from.at)) nodes result }
+    ensures len { length result ≡ 32 }
+    ensures cost { (h : ℕ) → first_hook (rule_of plan.now.table) ≡ Some h → steps.new < steps.old + length (rule_of plan.now.table).nodes }
+    ensures least { steps.old ≤ steps.new }
+{
+    let mut slots = [from; MOST_NODES];
+    for link in plan.paths() {
+        slots[link.to as usize] = arena.alpha(slots[link.from as usize], link.label, steps);
+    }
+    slots
+}

@@ -1,0 +1,61 @@
+ghost use Rattle.std.specs.Prelude.{◌≡◌, ℕ, List, ◌+◌, ◌*◌, ◌≤◌, length, MatchResult, IfErr};
+ghost use Rattle.gm_arena.specs.ArenaAsMap.{as_map};
+ghost use Rattle.gm_model.specs.declared.value.Value.{Value};
+ghost use Rattle.gm_model.specs.Maps.{IsGeneralised};
+ghost use Rattle.gm_model.specs.Matches.{Placement, IsMatch};
+ghost use Rattle.gm_model.specs.Rules.{rule_of};
+ghost use Rattle.gm_walk.specs.Room.{Fits};
+ghost use Rattle.gm_match.specs.declared.fault.MatchFault.TheVariants as faults;
+ghost use Rattle.gm_match.specs.Outcome.{application_of, IsAnswer, IsCause, HasPositions};
+
+use crate::arcs::meet_steps;
+use crate::candidates::candidate;
+use crate::darts::first_dart;
+use crate::fault::MatchFault;
+use crate::repeats::take_once;
+use gm_arena::Arena;
+use gm_model::Steps;
+use gm_plan::{Instances, Plan};
+use gm_walk::Scratch;
+use std::alloc::Global;
+use std::sync::ledger::Ledger;
+
+/// The match of the plan's rule at the darts that the hooks name.
+///
+/// First each hook has to name a live dart, then each left step of the one candidate has to be met,
+/// and then no dart may be taken twice. The map is only read. The scratch has its room again after
+/// the call, whatever it answers.
+pub fn find<L: Ledger>(
+    alloc: Global,
+    plan: &Plan<'_>,
+    arena: &Arena,
+    hooks: &[u32],
+    scratch: &mut Scratch,
+    steps: &mut Steps<L>,
+) -> Result<Instances, MatchFault>
+    requires map { IsGeneralised (as_map arena.now) }
+    requires schema { arena.now.schema ≡ plan.now.schema }
+    requires hooks { length hooks.now ≡ length (rule_of plan.now.table).hooks }
+    requires fits { Fits scratch.old arena.now }
+    ensures answer { let rule = rule_of plan.now.table in MatchResult result
+        (IsAnswer arena.now rule hooks.now)
+        (λ fault. (params : List Value) → IsCause (application_of arena.now rule hooks.now params) fault) }
+    ensures none_missed { (place : Placement)
+        → IsMatch (as_map arena.now) (rule_of plan.now.table) hooks.now place
+        → IfErr result (λ fault. fault ≡ faults.OutOfMemory) }
+    ensures cost { let rule = rule_of plan.now.table in (k : ℕ)
+        → HasPositions (as_map arena.now) rule hooks.now k
+        → steps.new ≤ steps.old + 8 * (arena.now.schema.dim + 1) * (length rule.nodes * k + 1) }
+    ensures least { steps.old ≤ steps.new }
+    ensures room { scratch.new.bound ≡ scratch.old.bound }
+{
+    prove!(hooks.len() == plan.rule().hooks.as_slice().len());
+    let Some(from) = first_dart(arena, hooks, steps)? else {
+        return Ok(Instances::new(Vec::new(alloc), Vec::new(alloc), 1, 0));
+    };
+    prove!((from.at as usize) < arena.bound());
+    let found = candidate(alloc, plan, arena, from, scratch, steps)?;
+    meet_steps(plan, arena, &found, steps)?;
+    take_once(&found, plan.left_nodes(), scratch)?;
+    Ok(found)
+}
