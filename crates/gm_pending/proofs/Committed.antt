@@ -1,0 +1,260 @@
+-- The stages of a commit make the result: what each needs is there, and what the last leaves is the unfolding.
+use Rattle.std.proofs.Common.{◌≡◌, ℕ, ◌+◌, ◌*◌, ◌<◌, ◌≤◌, ◌⊎◌, not, List, [], length, get_or, unwrap_or, None, is_some, IsTrue, refl, sym, ap, ◌∙◌, subst, inl, inr, arith, mul_comm}
+use Rattle.std.specs.FinMap.{get}
+use Rattle.std.specs.List.{Contains}
+use Rattle.std.proofs.lemmas.Bool.{false≢true}
+use Rattle.gm_model.specs.declared.rule.Side.TheVariants.{Left, Right}
+use Rattle.gm_model.specs.Maps.{IsDart}
+use Rattle.gm_model.specs.Rules.{has_word}
+use Rattle.gm_model.specs.Unfolding.{Scene, IsGone, IsDartAfter, IsCutAt, IsMadeArc, IsArcAfter, added_before, added_nodes}
+use Rattle.gm_arena.specs.declared.slot.Slot.{Slot}
+use Rattle.gm_arena.specs.ArenaAsMap.{as_map}
+use Rattle.gm_arena.specs.ArenaMap.{ArenaMap, IsAt, IsLiveName, name_at, alpha}
+use Rattle.gm_arena.specs.Edits.{IsAlone}
+use Rattle.gm_arena.proofs.InsideLemmas.{is_some_at}
+use Rattle.gm_arena.proofs.MapLemmas.{name_at-is, IsAt-name_at, IsLiveName-name_at, name_below, alpha-alike}
+use Rattle.gm_theory.proofs.Arcs.{cut_back, gone_cut, arc_from, one_arc}
+use Rattle.gm_theory.proofs.NewNames.{new_name}
+use Rattle.gm_theory.proofs.Tests.{both_true}
+use Rattle.gm_theory.proofs.RuleSteps.{word_below}
+use Rattle.gm_pending.specs.declared.edits.Arc.{Arc}
+use Rattle.gm_pending.specs.declared.edits.End.{End}
+use Rattle.gm_pending.specs.declared.edits.End.TheVariants.{Old, New}
+use Rattle.gm_pending.specs.Results.{PendingOf, rule_in, place_in, scene_in}
+use Rattle.gm_pending.specs.EditLists.{EditLists, AreEditsOf, IsOldEnd, IsResultEnd, IsResultOf, end_name}
+use Rattle.gm_pending.specs.Written.{AreWhole, IsWritable, IsLiveEnd, CanRemove, IsExtended, end_at, with_arcs, without_darts}
+use Rattle.gm_pending.proofs.Law.{law}
+use Rattle.gm_pending.proofs.Made.{unmade_kept}
+use Rattle.gm_pending.proofs.Numbers.{numbered, number_below}
+use Rattle.gm_pending.proofs.WithArcs.{arcs_frame, arcs_live, arcs_whole, arcs_written, AreWritable, IsWrittenOrKept}
+use Rattle.gm_pending.proofs.WithoutDarts.{IsUnnamed, can_remove, dart_stays, dart_goes, slot_stays, without_whole, more_room}
+
+module _ (app : PendingOf) (edits : EditLists) (ok : AreEditsOf app edits) (spare reserved : ℕ) where
+  abbrev scene : Scene
+  scene = scene_in app
+
+  -- the arena as it is before
+  abbrev pub before : ArenaMap
+  before = record app.map { spare = spare; reserved = reserved }
+
+  -- ---- the arcs that are freed
+
+  abbrev pub freed : ArenaMap
+  freed = with_arcs (end_at before []) before edits.freed
+
+  old_end : (end : End) → IsOldEnd app end → IsLiveEnd before [] end × (end_at before [] end ≡ end_name app end) × IsLiveName before (end_at before [] end)
+  old_end (Old slot) live = ((tt, live), refl, IsLiveName-name_at app.map slot.at ok.prepared.lawful live)
+  old_end (New number) h = absurd h
+
+  pub can_free : (arc : Arc) → Contains edits.freed arc → IsWritable before [] arc
+  can_free arc among = record {
+    from = (old_end arc.from (ok.freed.ends arc among).0).0;
+    label = ok.freed.labels arc among;
+    to = (old_end arc.to (ok.freed.ends arc among).1).0;
+  }
+
+  freed_slots : freed.slots ≡ app.map.slots
+  freed_slots = ap (λ (m : ArenaMap). m.slots) (arcs_frame (end_at before []) edits.freed before)
+
+  freed_schema : freed.schema ≡ app.map.schema
+  freed_schema = ap (λ (m : ArenaMap). m.schema) (arcs_frame (end_at before []) edits.freed before)
+
+  freed_live : (d : ℕ) → is_some (get freed.darts d) ≡ is_some (get app.map.darts d)
+  freed_live = arcs_live (end_at before []) edits.freed before
+
+  freed_name : (slot : ℕ) → name_at freed slot ≡ name_at app.map slot
+  freed_name slot = ap (λ slots. unwrap_or (get slots slot) 0) freed_slots
+
+  whole_before : AreWhole before
+  whole_before name dart is = (ok.prepared.lawful.dart name dart is).whole
+
+  freed_whole : AreWhole freed
+  freed_whole = arcs_whole (end_at before []) edits.freed before whole_before
+
+  -- an arc of the freed map leads back to its own dart, or is as it was and isn't cut
+  freed_arc : (d i : ℕ) → i ≤ app.map.schema.dim → (IsCutAt scene d i × (alpha freed i d ≡ d)) ⊎ ((IsCutAt scene d i → ⊥) × (alpha freed i d ≡ alpha app.map i d))
+  freed_arc d i h = go (arcs_written (end_at before []) edits.freed before whole_before fit d i)
+    where
+      fit : AreWritable (end_at before []) before edits.freed
+      fit arc among = ((old_end arc.from (ok.freed.ends arc among).0).2, ok.freed.labels arc among)
+
+      go : IsWrittenOrKept (end_at before []) before edits.freed d i (alpha freed i d) → (IsCutAt scene d i × (alpha freed i d ≡ d)) ⊎ ((IsCutAt scene d i → ⊥) × (alpha freed i d ≡ alpha app.map i d))
+      go (inl w) =
+          let ends = ok.freed.ends w.arc w.among in
+          let wanted = ok.freed.wanted w.arc w.among in
+          let from : end_name app w.arc.from ≡ d = sym (old_end w.arc.from ends.0).1 ∙ w.from in
+          inl (subst (λ j. IsCutAt scene d j) w.label (subst (λ c. IsCutAt scene c w.arc.label) from wanted.0), w.leads ∙ (old_end w.arc.to ends.1).1 ∙ wanted.2 ∙ from)
+      go (inr (unwritten, same)) = inr (
+        λ cut.
+            let there = ok.freed.all d i d (cut, h, refl) in
+            unwritten there.0 there.1 ((old_end there.0.from (ok.freed.ends there.0 there.1).0).1 ∙ there.2) there.3,
+        same,
+      )
+
+  -- ---- the darts that are removed
+
+  abbrev pub fewer : ArenaMap
+  fewer = without_darts freed edits.removed
+
+  alone : (d : ℕ) → IsGone scene d → IsAlone freed d
+  alone d gone other label live apart within leads = go (freed_arc other label h)
+    where
+      h : label ≤ app.map.schema.dim
+      h = rw freed_schema at within
+
+      was : IsTrue (scene.live other)
+      was = sym (freed_live other) ∙ live
+
+      go : (IsCutAt scene other label × (alpha freed label other ≡ other)) ⊎ ((IsCutAt scene other label → ⊥) × (alpha freed label other ≡ alpha app.map label other)) → ⊥
+      go (inl (cut, back)) = apart (sym back ∙ leads)
+      go (inr (uncut, same)) = uncut (cut_back scene _ _ _ (law app ok.prepared) other label was h (rw (sym same ∙ leads) (gone_cut scene _ _ _ (law app ok.prepared) d label h gone)))
+
+  pub can_go : CanRemove freed edits.removed
+  can_go = can_remove edits.removed freed ok.removed.distinct (λ slot among. (
+    rw freed_slots (ok.removed.live slot among),
+    subst (IsAlone freed) (sym (freed_name slot.at)) (alone (name_at app.map slot.at) (ok.removed.gone slot among)),
+  ))
+
+  -- a dart stays unless it goes
+  unnamed : (d : ℕ) → (IsGone scene d → ⊥) → IsUnnamed freed edits.removed d
+  unnamed d stays slot among e = stays (subst (IsGone scene) (sym (freed_name slot.at) ∙ e) (ok.removed.gone slot among))
+
+  fewer_dart : (d : ℕ) → (IsGone scene d → ⊥) → get fewer.darts d ≡ get freed.darts d
+  fewer_dart d stays = dart_stays edits.removed freed d ok.removed.distinct (unnamed d stays)
+
+  fewer_live : (d : ℕ) → IsLiveName fewer d → IsTrue (scene.live d) × (IsGone scene d → ⊥)
+  fewer_live d live = (sym (freed_live d) ∙ sym (ap is_some (fewer_dart d stays)) ∙ live, stays)
+    where
+      stays : IsGone scene d → ⊥
+      stays gone =
+          let there = ok.removed.all d gone in
+          let none : get fewer.darts d ≡ None = subst (λ c. get fewer.darts c ≡ None) (freed_name there.0.at ∙ there.2) (dart_goes edits.removed freed there.0 ok.removed.distinct there.1) in
+          false≢true (rw none at live)
+
+  fewer_slot : (slot : ℕ) → (IsGone scene (name_at app.map slot) → ⊥) → get fewer.slots slot ≡ get app.map.slots slot
+  fewer_slot slot stays =
+      slot_stays edits.removed freed slot (λ other among e. stays (subst (λ n. IsGone scene (name_at app.map n)) e (ok.removed.gone other among)))
+      ∙ ap (λ slots. get slots slot) freed_slots
+
+  pub fewer_embeds : fewer.schema.embeds ≡ []
+  fewer_embeds = ap (λ s. s.embeds) ((more_room edits.removed freed).schema ∙ freed_schema) ∙ ok.prepared.no_embeds
+
+  pub fewer_next : fewer.next ≡ app.map.next
+  fewer_next = (more_room edits.removed freed).next ∙ ap (λ (m : ArenaMap). m.next) (arcs_frame (end_at before []) edits.freed before)
+
+  pub fewer_reserved : fewer.reserved ≡ reserved
+  fewer_reserved = (more_room edits.removed freed).reserved ∙ ap (λ (m : ArenaMap). m.reserved) (arcs_frame (end_at before []) edits.freed before)
+
+  pub fewer_spare : fewer.spare ≡ spare + length edits.removed
+  fewer_spare = (more_room edits.removed freed).spare ∙ ap (λ (m : ArenaMap). m.spare + length edits.removed) (arcs_frame (end_at before []) edits.freed before)
+
+  -- ---- the darts that are added, and the arcs that are made
+
+  module _ (made : List Slot) (more : ArenaMap) (extended : IsExtended fewer made more) (long : length made ≡ edits.added) where
+    numbers : edits.added ≡ app.placed.positions * added_nodes (rule_in app)
+    numbers = ok.added_is
+
+    more_live : (d : ℕ) → IsDartAfter scene d → IsLiveName more d
+    more_live d (inl (live, stays)) =
+        let low : d < fewer.next = rw fewer_next (name_below app.map d ok.prepared.lawful live) in
+        ap is_some (extended.darts d low) ∙ ap is_some (fewer_dart d stays) ∙ freed_live d ∙ live
+    more_live d (inr (x, p, a, b, e)) =
+        let right : IsTrue (has_word (rule_in app) Right x) = (both_true (not (has_word (rule_in app) Left x)) (has_word (rule_in app) Right x) a).1 in
+        let below : added_before (rule_in app) x * app.placed.positions + p < length made = rw (long, numbers) (number_below (rule_in app) app.placed.positions x p a (word_below (rule_in app) Right x right) b) in
+        let name : fewer.next + (added_before (rule_in app) x * app.placed.positions + p) ≡ d = omega (arith, fewer_next, e, new_name (as_map app.map) (rule_in app) (place_in app) x p a) in
+        subst (IsLiveName more) name (extended.made_live (added_before (rule_in app) x * app.placed.positions + p) below)
+
+    then_dart : (d : ℕ) → IsLiveName more d → IsDartAfter scene d
+    then_dart d live = elim (extended.only d live) [
+      | inl old ↦ inl (fewer_live d old)
+      | inr (number, h, e) ↦
+          let low : number < added_before (rule_in app) (length (rule_in app).nodes) * app.placed.positions = omega (arith, h, long, numbers, mul_comm (added_nodes (rule_in app)) app.placed.positions) in
+          let at = numbered (rule_in app) app.placed.positions (length (rule_in app).nodes) number low in
+          inr (at.node, at.position, at.added, at.within, omega (arith, e, fewer_next, at.is, new_name (as_map app.map) (rule_in app) (place_in app) at.node at.position at.added))
+    ]
+
+    result_end : (end : End) → IsResultEnd app end → IsLiveEnd more made end × (end_at more made end ≡ end_name app end) × IsLiveName more (end_at more made end)
+    result_end (Old slot) (live, stays) =
+        let at : IsAt more slot.at (name_at app.map slot.at) = extended.slots slot.at (name_at app.map slot.at) (fewer_slot slot.at stays ∙ IsAt-name_at app.map slot.at live) in
+        let name : name_at more slot.at ≡ name_at app.map slot.at = name_at-is more slot.at _ at in
+        ((tt, is_some_at _ _ at), name, rw name (more_live (name_at app.map slot.at) (inl (IsLiveName-name_at app.map slot.at ok.prepared.lawful live, stays))))
+    result_end (New number) h =
+        let below : number < length made = rw (long, numbers) h in
+        let at = extended.made_at number below in
+        let name : name_at more (get_or made number (record { at = 0 })).at ≡ fewer.next + number = name_at-is more _ _ at in
+        ((below, is_some_at _ _ at), name ∙ ap (λ n. n + number) fewer_next, rw name (extended.made_live number below))
+
+    more_schema : more.schema ≡ app.map.schema
+    more_schema = extended.schema ∙ (more_room edits.removed freed).schema ∙ freed_schema
+
+    pub can_link : (arc : Arc) → Contains edits.arcs arc → IsWritable more made arc
+    can_link arc among = record {
+      from = (result_end arc.from (ok.arcs.ends arc among).0).0;
+      label = rw more_schema (ok.arcs.labels arc among);
+      to = (result_end arc.to (ok.arcs.ends arc among).1).0;
+    }
+
+    abbrev pub linked : ArenaMap
+    linked = with_arcs (end_at more made) more edits.arcs
+
+    linked_live : (d : ℕ) → is_some (get linked.darts d) ≡ is_some (get more.darts d)
+    linked_live = arcs_live (end_at more made) edits.arcs more
+
+    -- the arc of the result
+    linked_arc : (d i : ℕ) → IsDartAfter scene d → i ≤ scene.dimension → IsArcAfter scene d i (alpha linked i d)
+    linked_arc d i after h = go (arcs_written (end_at more made) edits.arcs more (extended.whole (without_whole edits.removed freed freed_whole)) fit d i)
+      where
+        fit : AreWritable (end_at more made) more edits.arcs
+        fit arc among = ((result_end arc.from (ok.arcs.ends arc among).0).2, rw more_schema (ok.arcs.labels arc among))
+
+        kept : ((e : ℕ) → IsMadeArc scene d i e → ⊥) → IsTrue (scene.live d) × IsArcAfter scene d i (alpha app.map i d) → alpha linked i d ≡ alpha more i d → IsArcAfter scene d i (alpha linked i d)
+        kept unmade (live, inr arc) same = absurd (unmade (alpha app.map i d) arc)
+        kept unmade (live, inl arc) same =
+            let stays : IsGone scene d → ⊥ = λ gone. arc.uncut (gone_cut scene _ _ _ (law app ok.prepared) d i h gone) in
+            let low : d < fewer.next = rw fewer_next (name_below app.map d ok.prepared.lawful live) in
+            let was : alpha linked i d ≡ alpha freed i d = same ∙ alpha-alike fewer more i d (extended.darts d low) ∙ alpha-alike freed fewer i d (fewer_dart d stays) in
+            elim (freed_arc d i h) [
+              | inl (cut, back) ↦ absurd (arc.uncut cut)
+              | inr (uncut, old) ↦ subst (IsArcAfter scene d i) (sym (was ∙ old)) (inl arc)
+            ]
+
+        go : IsWrittenOrKept (end_at more made) more edits.arcs d i (alpha linked i d) → IsArcAfter scene d i (alpha linked i d)
+        go (inl w) =
+            let ends = ok.arcs.ends w.arc w.among in
+            let from : end_name app w.arc.from ≡ d = sym (result_end w.arc.from ends.0).1 ∙ w.from in
+            let to : end_name app w.arc.to ≡ alpha linked i d = sym (w.leads ∙ (result_end w.arc.to ends.1).1) in
+            inr (subst (IsMadeArc scene d i) to (subst (λ j. IsMadeArc scene d j (end_name app w.arc.to)) w.label (subst (λ c. IsMadeArc scene c w.arc.label (end_name app w.arc.to)) from (ok.arcs.wanted w.arc w.among))))
+        go (inr (unwritten, same)) = kept unmade (unmade_kept scene _ _ _ (law app ok.prepared) d i h unmade after) same
+          where
+            unmade : (e : ℕ) → IsMadeArc scene d i e → ⊥
+            unmade e arc =
+                let there = ok.arcs.all d i e arc in
+                unwritten there.0 there.1 ((result_end there.0.from (ok.arcs.ends there.0 there.1).0).1 ∙ there.2) there.3
+
+    pub linked_next : linked.next ≡ app.map.next + edits.added
+    linked_next = ap (λ (m : ArenaMap). m.next) (arcs_frame (end_at more made) edits.arcs more) ∙ extended.next ∙ omega (arith, fewer_next, long)
+
+    pub linked_spare : linked.spare + edits.added ≡ spare + length edits.removed
+    linked_spare = omega (arith, ap (λ (m : ArenaMap). m.spare) (arcs_frame (end_at more made) edits.arcs more), extended.spare, long, fewer_spare)
+
+    pub linked_reserved : linked.reserved ≡ reserved
+    linked_reserved = ap (λ (m : ArenaMap). m.reserved) (arcs_frame (end_at more made) edits.arcs more) ∙ extended.reserved ∙ fewer_reserved
+
+    pub linked_schema : linked.schema ≡ app.map.schema
+    linked_schema = ap (λ (m : ArenaMap). m.schema) (arcs_frame (end_at more made) edits.arcs more) ∙ more_schema
+
+    to_dart : (d : ℕ) → IsDart (as_map linked) d → IsDartAfter scene d
+    to_dart d live = then_dart d (sym (linked_live d) ∙ live)
+
+    from_dart : (d : ℕ) → IsDartAfter scene d → IsDart (as_map linked) d
+    from_dart d after = linked_live d ∙ more_live d after
+
+    pub committed : IsResultOf app linked
+    committed = record {
+      darts = λ d. (to_dart d, from_dart d);
+      arcs = λ d i e h. (
+        λ there. subst (IsArcAfter scene d i) there.1 (linked_arc d i (to_dart d there.0) h),
+        λ arc. let after = arc_from scene _ _ _ (law app ok.prepared) d i e arc in (from_dart d after, one_arc scene _ _ _ (law app ok.prepared) d i (alpha linked i d) e (linked_arc d i after h) arc),
+      );
+      next_is = linked_next ∙ ap (λ n. app.map.next + n) numbers;
+    }

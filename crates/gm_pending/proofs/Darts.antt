@@ -1,0 +1,114 @@
+-- Slots and instances of an application: which dart of the result a slot, or an instance of a right node, is.
+use Rattle.std.proofs.Common.{◌≡◌, ℕ, ◌+◌, ◌*◌, ◌<◌, ◌≤◌, ◌⊎◌, not, true, false, IsTrue, IsSome, nat_eq, Some, None, refl, sym, ap, ◌∙◌, subst, inl, inr, arith}
+use Rattle.std.specs.HashMap.{HashMap, get}
+use Rattle.std.proofs.lemmas.Bool.{cases_lt}
+use Rattle.std.proofs.lemmas.Option.{get_or_from_slice_get}
+use Rattle.gm_model.specs.declared.rule.Side.TheVariants.{Left, Right}
+use Rattle.gm_model.specs.Rules.{Rule, has_word}
+use Rattle.gm_model.specs.Unfolding.{IsDartAfter, IsGone, IsMadeArc, IsArcAfter}
+use Rattle.gm_arena.specs.declared.slot.Slot.{Slot}
+use Rattle.gm_arena.specs.ArenaMap.{IsAt, IsLiveSlot, name_at, alpha}
+use Rattle.gm_arena.proofs.InsideLemmas.{is_some_at}
+use Rattle.gm_arena.proofs.MapLemmas.{name_at-is, IsAt-name_at, IsLiveName-name_at}
+use Rattle.gm_plan.specs.InArena.{slot_number}
+use Rattle.gm_plan.specs.Placed.{Placed, slot_at}
+use Rattle.gm_plan.specs.Plans.{IsLeftCount}
+use Rattle.gm_theory.proofs.Arcs.{kept_name, right_dart, arc_to}
+use Rattle.gm_theory.proofs.Scenes.{IsRightAt}
+use Rattle.gm_theory.proofs.Tests.{both_true, and_true, not_true, true_not, true_or_false, not_both}
+use Rattle.gm_pending.specs.declared.at.At.{At}
+use Rattle.gm_pending.specs.declared.at.At.TheVariants.{Old, New}
+use Rattle.gm_pending.specs.Marks.{AreMarks, IsWithin}
+use Rattle.gm_pending.specs.Results.{PendingOf, IsPrepared, rule_in, scene_in, name_of, IsResultDart}
+use Rattle.gm_pending.proofs.Law.{law}
+use Rattle.gm_pending.proofs.Made.{made_there, unmade_kept}
+
+-- the slot of an instance is the one that was answered
+pub slot_answered : (placed : Placed) (x p : ℕ) (slot : Slot) → slot_at placed x p ≡ Some slot → slot_number placed x p ≡ slot.at
+slot_answered placed x p slot e = ap (λ (s : Slot). s.at) (get_or_from_slice_get placed.slots (p * placed.nodes + x) slot (record { at = 0 }) e)
+
+module _ (app : PendingOf) (prepared : IsPrepared app) where
+  -- the dart at a live slot is a dart of the old map
+  pub live_dart : (slot : ℕ) → IsLiveSlot app.map slot → IsTrue ((scene_in app).live (name_at app.map slot))
+  live_dart slot live = IsLiveName-name_at app.map slot prepared.lawful live
+
+  -- slots with one dart are one
+  pub same_slot : (slot other : ℕ) → IsLiveSlot app.map slot → IsLiveSlot app.map other → name_at app.map slot ≡ name_at app.map other → slot ≡ other
+  same_slot slot other live live' e =
+      prepared.lawful.one_slot other slot (name_at app.map other) (IsAt-name_at app.map other live')
+      (subst (IsAt app.map slot) e (IsAt-name_at app.map slot live))
+
+  -- the neighbour of a dart that stays, where it is a dart of the result, stays as well
+  pub old_result : (slot : ℕ) → IsLiveSlot app.map slot → IsDartAfter (scene_in app) (name_at app.map slot) → IsGone (scene_in app) (name_at app.map slot) → ⊥
+  old_result slot live (inl (old, stays)) = stays
+  old_result slot live (inr (y, q, a, b, e)) = λ gone.
+      let sides : IsTrue (not (has_word (rule_in app) Left y)) × IsTrue (has_word (rule_in app) Right y) = both_true (not (has_word (rule_in app) Left y)) (has_word (rule_in app) Right y) a in
+      not_both ((scene_in app).live (name_at app.map slot)) (live_dart slot live) (ap (scene_in app).live e ∙ (law app prepared).names.fresh y q (not_true (has_word (rule_in app) Left y) sides.0) (sides.1, b))
+
+  pub result_dart : (at : At) → IsResultDart app at → IsDartAfter (scene_in app) (name_of app at)
+  result_dart (Old slot) (live, stays) = inl (live_dart slot.at live, stays)
+  result_dart (New x p) (added, within) = inr (x, p, added, within, refl)
+
+  -- an arc of a right step begins at each dart of an added node
+  pub never_unmade : (x p i : ℕ) → IsResultDart app (New x p) → i ≤ app.map.schema.dim → ((e : ℕ) → IsMadeArc (scene_in app) (name_of app (New x p)) i e → ⊥) → ⊥
+  never_unmade x p i (added, within) h unmade =
+      let sides : IsTrue (not (has_word (rule_in app) Left x)) × IsTrue (has_word (rule_in app) Right x) = both_true (not (has_word (rule_in app) Left x)) (has_word (rule_in app) Right x) added in
+      let made = made_there (scene_in app) _ _ _ (law app prepared) x p i (sides.1, within) h ((law app prepared).steps.added_whole x i (not_true (has_word (rule_in app) Left x) sides.0) sides.1 h) in
+      unmade made.0 made.1
+
+  -- where none begins at an old dart, its old arc is kept, and leads to a dart of the result
+  pub old_kept : (slot to i : ℕ) → IsResultDart app (Old (record { at = slot })) → i ≤ app.map.schema.dim → ((e : ℕ) → IsMadeArc (scene_in app) (name_at app.map slot) i e → ⊥) → IsAt app.map to (alpha app.map i (name_at app.map slot)) →
+      IsArcAfter (scene_in app) (name_at app.map slot) i (name_at app.map to) × IsResultDart app (Old (record { at = to }))
+  old_kept slot to i dart h unmade at =
+      let name : name_at app.map to ≡ alpha app.map i (name_at app.map slot) = name_at-is app.map to _ at in
+      let kept = unmade_kept (scene_in app) _ _ _ (law app prepared) (name_at app.map slot) i h unmade (inl (live_dart slot dart.0, dart.1)) in
+      let arc : IsArcAfter (scene_in app) (name_at app.map slot) i (name_at app.map to) = rw name kept.1 in
+      let live : IsLiveSlot app.map to = is_some_at _ _ at in
+      (arc, (live, old_result to live (arc_to (scene_in app) _ _ _ (law app prepared) _ i _ arc)))
+
+  -- the dart of a preserved node stays
+  pub stays_there : (x p : ℕ) → IsTrue (has_word (rule_in app) Left x) → IsRightAt (scene_in app) x p → IsGone (scene_in app) (name_at app.map (slot_number app.placed x p)) → ⊥
+  stays_there x p l r = old_result (slot_number app.placed x p) (prepared.matched.live x p ((prepared.matched.nodes x).0 l) r.1)
+      (subst (IsDartAfter (scene_in app)) (kept_name (scene_in app) _ _ _ (law app prepared) x p l) (right_dart (scene_in app) _ _ _ (law app prepared) x p r))
+
+  module _ {S : Type 0} (marks : HashMap ℕ (ℕ × ℕ) S) (are_marks : AreMarks app.placed (IsWithin app.placed) marks) (slot : ℕ) (dart : IsLiveSlot app.map slot × (IsGone (scene_in app) (name_at app.map slot) → ⊥)) where
+    -- the instance that is found at a slot lies there
+    pub marked_instance : (i : ℕ × ℕ) → get nat_eq marks slot ≡ Some i → IsRightAt (scene_in app) i.0 i.1 × (name_at app.map slot ≡ (scene_in app).name_of i.0 i.1)
+    marked_instance i e = go (true_or_false (has_word (rule_in app) Right i.0))
+      where
+        left : IsTrue (has_word (rule_in app) Left i.0)
+        left = (prepared.matched.nodes i.0).1 (are_marks.noted slot i e).0.0
+
+        within : i.1 < app.placed.positions
+        within = (are_marks.noted slot i e).0.1
+
+        lies : name_at app.map slot ≡ name_at app.map (slot_number app.placed i.0 i.1)
+        lies = ap (name_at app.map) (sym (are_marks.noted slot i e).1)
+
+        go : IsTrue (has_word (rule_in app) Right i.0) ⊎ (has_word (rule_in app) Right i.0 ≡ false) → IsRightAt (scene_in app) i.0 i.1 × (name_at app.map slot ≡ (scene_in app).name_of i.0 i.1)
+        go (inl r) = ((r, within), lies ∙ sym (kept_name (scene_in app) _ _ _ (law app prepared) i.0 i.1 left))
+        go (inr g) = absurd (dart.1 (i.0, i.1, and_true (has_word (rule_in app) Left i.0) (not (has_word (rule_in app) Right i.0)) left (true_not (has_word (rule_in app) Right i.0) g), within, lies))
+
+    -- at a slot without one lies no right node
+    pub unmarked_instance : get nat_eq marks slot ≡ None → (x p : ℕ) → IsRightAt (scene_in app) x p → name_at app.map slot ≡ (scene_in app).name_of x p → ⊥
+    unmarked_instance none x p r e = go (true_or_false (has_word (rule_in app) Left x))
+      where
+        go : IsTrue (has_word (rule_in app) Left x) ⊎ (has_word (rule_in app) Left x ≡ false) → ⊥
+        go (inl l) =
+            let node : x < app.placed.nodes = (prepared.matched.nodes x).0 l in
+            let same : slot ≡ slot_number app.placed x p = same_slot slot (slot_number app.placed x p) dart.0 (prepared.matched.live x p node r.1) (e ∙ kept_name (scene_in app) _ _ _ (law app prepared) x p l) in
+            let some : IsSome (get nat_eq marks (slot_number app.placed x p)) = are_marks.all x p (node, r.1) in
+            let no_some : IsSome (get nat_eq marks slot) = rw same some in
+            let no_mark : false ≡ true = rw none at no_some in
+            absurd (cc)
+        go (inr a) = not_both ((scene_in app).live ((scene_in app).name_of x p)) (subst (λ d. IsTrue ((scene_in app).live d)) e (live_dart slot dart.0)) ((law app prepared).names.fresh x p a r)
+
+-- the number of left nodes is one
+pub one_left_count : (rule : Rule) (a b : ℕ) → IsLeftCount rule a → IsLeftCount rule b → a ≡ b
+one_left_count rule a b left left' = elim (cases_lt a b) [
+  | inl h ↦ absurd (let k : a < a = (left a).0 ((left' a).1 h) in omega arith)
+  | inr h ↦ elim (cases_lt b a) [
+    | inl k ↦ absurd (let l : b < b = (left' b).0 ((left b).1 k) in omega arith)
+    | inr k ↦ omega arith
+  ]
+]

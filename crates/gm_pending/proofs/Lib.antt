@@ -1,0 +1,15 @@
+pub mod Darts
+pub mod Law
+pub mod Made
+pub mod MarkLemmas
+pub mod Whole
+pub mod WithArcs
+pub mod WithoutDarts
+pub mod Extended
+pub mod Numbers
+pub mod Committed
+pub mod Stages
+pub mod Concat
+pub mod Created
+pub mod Ends
+pub mod Collected

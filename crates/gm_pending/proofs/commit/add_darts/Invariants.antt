@@ -1,0 +1,12 @@
+use Rattle.std.proofs.Common.{◌≡◌, ◌+◌, ◌≤◌, length}
+use Rattle.std.specs.Vec.{vec_capacity}
+use Rattle.gm_pending.specs.Written.{IsExtended}
+use Rattle.gm_pending.proofs.commit.add_darts.Given as goal
+
+abbrev pub invariant-loop : goal.invariant-loop
+invariant-loop g l = record {
+  extended : IsExtended l.fn.arena l.made.items l.arena;
+  made : length l.made.items ≡ l.counter;
+  capacity : l.added ≤ vec_capacity l.made;
+  cost : l.steps ≡ l.fn.steps + length l.made.items;
+}

@@ -1,0 +1,232 @@
+//! Creation rules, applied to the empty map and to what they made. Rules with left nodes are applied
+//! where matches are found, in the crates above.
+ghost use Rattle.std.specs.Prelude.{◌≡◌, ◌==◌, ◌+◌, ◌*◌, ◌<◌, ◌≤◌, [], IsTrue, IfOk, OnOk, length};
+ghost use Rattle.std.specs.List.{list_all};
+ghost use Rattle.gm_model.specs.declared.rule.Node.{Node};
+ghost use Rattle.gm_model.specs.Kinds.{IsTyped};
+ghost use Rattle.gm_model.specs.Maps.{IsGeneralised};
+ghost use Rattle.gm_model.specs.Rules.{rule_of};
+ghost use Rattle.gm_arena.specs.ArenaAsMap.{as_map};
+ghost use Rattle.gm_plan.specs.InArena.{AreMatched};
+ghost use Rattle.gm_plan.specs.Plans.{IsLeftCount};
+ghost use Rattle.gm_pending.specs.EditLists.{AreEditsOf};
+ghost use Rattle.gm_pending.specs.Results.{pending_of};
+
+use super::*;
+use gm_arena::Arena;
+use gm_model::{Dim, Items, Letter, Link, Name, Node, RuleTable, Schema, Steps, Word};
+use gm_plan::{Instances, Plan, compile};
+use std::alloc::Global;
+use std::marker::Brand;
+use std::process::Abort;
+use std::sync::ledger::{Blank, Ledger};
+use std::test::Fail;
+
+/// A creation rule of so many nodes without letters, its links, and the neighbours that it gives the
+/// new darts, by node and label.
+#[derive(Drop)]
+struct Row<'a> {
+    alloc: Global,
+    dim: u8,
+    nodes: u8,
+    links: &'a [(u8, u8, u8)],
+    alphas: &'a [[u8; 3]],
+}
+
+impl Row<'_> {
+    fn alpha(&self, rt: &impl Abort, node: u8, label: u8) -> u8 {
+        let alphas = self.alphas.get(node as usize).expect(rt, "a node");
+        *alphas.get(label as usize).expect(rt, "a label")
+    }
+}
+
+fn rule(row: &Row) -> Result<RuleTable, Fail> {
+    let alloc = row.alloc;
+    let name = Name::new(b"r").ok_or("name")?;
+    let word = Word::new(&[]).ok_or("word")?;
+    let mut nodes = Vec::new(alloc);
+    for _ in 0..row.nodes {
+        nodes.push(Node {
+            name,
+            left: None,
+            right: Some(word),
+            sets: Items::new(Vec::new(alloc)),
+        })?;
+    }
+    let mut links = Vec::new(alloc);
+    for (from, label, to) in row.links {
+        links.push(Link {
+            from: *from,
+            label: *label,
+            to: *to,
+        })?;
+    }
+    Ok(RuleTable {
+        name,
+        params: Items::new(Vec::new(alloc)),
+        nodes: Items::new(nodes),
+        left_links: Items::new(Vec::new(alloc)),
+        right_links: Items::new(links),
+        hooks: Items::new(Vec::new(alloc)),
+        pre: None,
+    })
+}
+
+/// Whether the rule has no expressions.
+fn is_bare(schema: &Schema, rule: &RuleTable) -> bool
+    ensures { IsTrue result → IsTyped schema.now (rule_of rule.now) }
+{
+    rule.pre.is_none() && has_no_sets(rule.nodes.as_slice())
+}
+
+fn has_no_sets(nodes: &[Node]) -> bool
+    ensures { result ≡ list_all (λ (node : Node). length node.sets == 0) nodes.now }
+{
+    nodes.iter().all(|node| node.sets.as_slice().len() == 0)
+}
+
+fn schema(alloc: Global, n: u8) -> Result<Schema, Fail>
+    ensures dim { IfOk result (λ schema. schema.dim ≡ n) }
+    ensures embeds { IfOk result (λ schema. schema.embeds ≡ []) }
+{
+    Ok(Schema {
+        dim: Dim::new(n).ok_or("dimension")?,
+        embeds: Items::new(Vec::new(alloc)),
+    })
+}
+
+/// The edits of the rule. Its new darts have these neighbours before anything is written.
+fn edits_of<L: Ledger>(
+    rt: &impl Abort,
+    plan: &Plan<'_>,
+    arena: &Arena,
+    found: &Instances,
+    row: &Row,
+    steps: &mut Steps<L>,
+) -> Result<Edits, Fail>
+    requires schema { arena.now.schema ≡ plan.now.schema }
+    requires no_embeds { plan.now.schema.embeds ≡ [] }
+    requires generalised { IsGeneralised (as_map arena.now) }
+    requires none_left { IsLeftCount (rule_of plan.now.table) 0 }
+    requires matched { AreMatched arena.now (rule_of plan.now.table) [] found.now }
+    requires one { found.now.positions ≡ 1 }
+    ensures { IfOk result (λ edits. AreEditsOf (pending_of arena.now plan.now.table found.now) edits) }
+{
+    let pending = Pending::build(row.alloc, plan, arena, found, steps)?;
+    let top = plan.schema().dim.top();
+    for node in 0..plan.rule().node_count() {
+        for label in 0..top + 1 {
+            let at = At::New { node, position: 0 };
+            let to = At::New {
+                node: row.alpha(rt, node, label),
+                position: 0,
+            };
+            assert_eq!(rt; pending.alpha(at, label, steps), to);
+        }
+    }
+    Ok(pending.into_edits(steps)?)
+}
+
+/// Applies the rule, whose new darts have these neighbours then, by name.
+fn create<L: Ledger>(
+    rt: &impl Abort,
+    plan: &Plan<'_>,
+    arena: &mut Arena,
+    row: &Row,
+    steps: &mut Steps<L>,
+) -> Result<(), Fail>
+    requires schema { arena.old.schema ≡ plan.now.schema }
+    requires no_embeds { plan.now.schema.embeds ≡ [] }
+    requires generalised { IsGeneralised (as_map arena.old) }
+    ensures schema { OnOk result (arena.new.schema ≡ arena.old.schema) }
+    ensures generalised { OnOk result (IsGeneralised (as_map arena.new)) }
+{
+    assert!(rt; plan.left_nodes() == 0);
+    assert!(rt; plan.hooks() == 0);
+    assert!(rt; arena.count() <= 1000);
+    assert!(rt; arena.next() <= 1000);
+    let found = Instances::new(Vec::new(row.alloc), Vec::new(row.alloc), 1, 0);
+    let first = arena.next();
+    let added = plan.added() as u32;
+    arena.reserve(added, first + added)?;
+    let edits = edits_of(rt, plan, arena, &found, row, steps)?;
+    edits.commit(arena, steps);
+    assert_eq!(rt; arena.next(), first + added);
+    expect_darts(rt, arena, row, first, steps);
+    Ok(())
+}
+
+/// The darts of these names have these neighbours.
+fn expect_darts<L: Ledger>(
+    rt: &impl Abort,
+    arena: &Arena,
+    row: &Row,
+    first: u32,
+    steps: &mut Steps<L>,
+)
+    requires { first ≤ 1000 }
+{
+    for node in 0..row.nodes {
+        let slot = arena
+            .slot_of(first + node as u32, steps)
+            .expect(rt, "a dart");
+        for label in 0..arena.schema().dim.top() + 1 {
+            let to = arena.alpha(slot, label, steps);
+            let name = first + row.alpha(rt, node, label) as u32;
+            assert_eq!(rt; arena.name_of(to, steps), name);
+        }
+    }
+}
+
+/// Applies the rule to the empty map, and to the map that it made.
+fn create_twice<L: Ledger>(rt: &impl Abort, row: &Row, blank: Blank) -> Result<(), Fail>
+    requires name { blank.name ≡ L.name }
+    requires parts { blank.parts ≡ L.parts }
+    requires some { 0 < blank.parts }
+{
+    let mut steps: Steps<L> = Steps::start(blank);
+    let schema_of_rule = schema(row.alloc, row.dim)?;
+    let rule = rule(row)?;
+    assert!(rt; rule.is_within_limits());
+    assert!(rt; rule.is_in_range(&schema_of_rule));
+    assert!(rt; is_bare(&schema_of_rule, &rule));
+    let plan = compile(row.alloc, &schema_of_rule, &rule)?;
+    let mut arena = Arena::new(row.alloc, schema(row.alloc, row.dim)?);
+    create(rt, &plan, &mut arena, row, &mut steps)?;
+    create(rt, &plan, &mut arena, row, &mut steps)?;
+    assert_eq!(rt; arena.count(), 2 * row.nodes as u32);
+    Ok(())
+}
+
+#[test]
+fn darts_are_created(rt: HostRuntime) -> Result<(), Fail> {
+    let alloc = rt.alloc();
+    let edge = Row {
+        alloc,
+        dim: 1,
+        nodes: 2,
+        links: &[(0, 0, 1), (0, 1, 0), (1, 1, 1)],
+        alphas: &[[1, 0, 0], [0, 1, 0]],
+    };
+    create_twice::<Brand>(&rt, &edge, Blank::new(1))
+}
+
+#[test]
+fn faces_are_created(rt: HostRuntime) -> Result<(), Fail> {
+    let alloc = rt.alloc();
+    let pillow = Row {
+        alloc,
+        dim: 2,
+        nodes: 4,
+        links: &[
+            (0, 0, 1),
+            (2, 0, 3),
+            (0, 1, 1),
+            (2, 1, 3),
+            (0, 2, 2),
+            (1, 2, 3),
+        ],
+        alphas: &[[1, 1, 2], [0, 0, 3], [3, 3, 0], [2, 2, 1]],
+    };
+    create_twice::<Brand>(&rt, &pillow, Blank::new(1))
+}
