@@ -1,0 +1,4 @@
+pub mod Counting
+pub mod Counted
+pub mod Applying
+pub mod TestLemmas

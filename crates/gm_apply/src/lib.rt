@@ -1,0 +1,12 @@
+//! One application of a rule: matched, tested for room, read before it is written, and committed in
+//! place.
+#![tactic(auto)]
+
+mod application;
+mod refusal;
+
+pub use application::{Applied, apply};
+pub use refusal::Refusal;
+
+#[cfg(test)]
+mod tests;
