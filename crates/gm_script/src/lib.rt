@@ -1,0 +1,19 @@
+//! Scripts: their texts, read to lines under a book of rules.
+#![tactic(auto)]
+
+mod comparing;
+mod fault;
+mod laws;
+mod reader;
+mod reading;
+mod rules;
+mod sight;
+mod spot;
+mod values;
+
+pub use comparing::read_script;
+pub use fault::ScriptFault;
+pub use laws::{one_first_fault_at_most, one_script_at_most};
+
+#[cfg(test)]
+mod tests;

@@ -1,0 +1,48 @@
+//! The values of a line, once the kinds of its rule's parameters are known.
+ghost use Rattle.std.specs.Prelude.{◌≡◌, None, Some, MatchOption};
+ghost use Rattle.gm_script.specs.ScriptText as script;
+ghost use Rattle.gm_script.specs.Comparing.{value_for, params_for};
+
+use gm_model::{Kind, Param, Value};
+
+/// The values as the parameters' kinds take them, or `None` where they don't.
+pub(crate) fn params_of(mut values: Vec<Value>, params: &[Param]) -> Option<Vec<Value>>
+    ensures { MatchOption result (params_for params.now values.items ≡ None) (λ of. params_for params.now values.items ≡ Some of.items) }
+{
+    if values.len() != params.len() {
+        return None;
+    }
+    for (index, param) in params.iter().enumerate() {
+        values[index] = value_of(param.kind, values[index])?;
+    }
+    Some(values)
+}
+
+fn value_of(kind: Kind, value: Value) -> Option<Value>
+    ensures { result ≡ value_for kind value }
+{
+    match (kind, value) {
+        (Kind::Int, Value::Int(_)) => Some(value),
+        (Kind::Bool, Value::Bool(_)) => Some(value),
+        (Kind::Vec2, Value::Vec2(_, _)) => Some(value),
+        (Kind::Vec3, Value::Vec3(_, _, _)) => Some(value),
+        (Kind::Rgb, Value::Vec3(r, g, b)) => colour(r, g, b),
+        _ => None,
+    }
+}
+
+fn colour(r: i64, g: i64, b: i64) -> Option<Value>
+    ensures { result ≡ script.colour r g b }
+{
+    if is_channel(r) && is_channel(g) && is_channel(b) {
+        Some(Value::Rgb(r as u8, g as u8, b as u8))
+    } else {
+        None
+    }
+}
+
+fn is_channel(n: i64) -> bool
+    ensures { result ≡ script.is_channel n }
+{
+    0 <= n && n <= 255
+}
