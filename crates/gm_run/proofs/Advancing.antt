@@ -1,0 +1,265 @@
+-- How a run goes on from line to line.
+use Rattle.std.proofs.Common.{◌≡◌, ◌≢◌, ℕ, ◌+◌, ◌<◌, ◌≤◌, List, [], ◌∷◌, ◌++◌, map, take, length, IsTrue, get_or, None, Some, inl, refl, sym, ap, subst, ap₂, ◌∙◌, Result, Ok, Err, arith}
+use Rattle.std.specs.Prelude.{slice_get, MatchResult}
+use Rattle.std.specs.Option.{option_map}
+use Rattle.std.specs.List.{Contains}
+use Rattle.std.proofs.lemmas.List.{take_more, take_all, map-append, length-map}
+use Rattle.std.proofs.lemmas.List.Elements.{All-push}
+use Rattle.std.proofs.lemmas.Option.{slice_get_within, slice_get-get_or, slice_get-map, get_or_from_slice_get, same_Some}
+use Rattle.gm_model.specs.declared.schema.Embed.{Embed}
+use Rattle.gm_model.specs.declared.memory.OutOfMemory.{OutOfMemory}
+use Rattle.gm_model.specs.declared.schema.Schema.{Schema}
+use Rattle.gm_model.specs.declared.script.Line.{Line}
+use Rattle.gm_model.specs.declared.value.Value.{Value}
+use Rattle.gm_model.specs.Applications.{Application, Cause, IsDone, IsRefused, NoHookDart, BrokenStep, Repeated, ValuelessPre, FalsePre, NoRoom, NoNames, Valueless, IsBudget, Of, IsWork, NoHookDarts, NoMatch, NotReady, Ready, IsStaying, IsUnfolded, IsReachedSum, IsReadSum}
+use Rattle.gm_model.specs.Maps.{Map, IsDart, IsEmbedAt}
+use Rattle.gm_model.specs.Rules.{Rule, rule_of}
+use Rattle.gm_model.specs.Runs.{IsOutcome, IsLineOutcome, IsLineBudget, IsRun, IsRunBudget, changed_darts}
+use Rattle.gm_model.specs.Runs as runs
+use Rattle.gm_model.specs.Unfolding.{IsUnfolding, scene_of}
+use Rattle.gm_apply.specs.Outcomes.{IsRefusedFor}
+use Rattle.gm_apply.specs.declared.application.Applied.{Applied}
+use Rattle.gm_apply.specs.declared.refusal.Refusal.{Refusal}
+use Rattle.gm_apply.specs.declared.refusal.Refusal.TheVariants as refusals
+use Rattle.gm_arena.specs.ArenaAsMap.{as_map}
+use Rattle.gm_arena.specs.ArenaMap.{ArenaMap}
+use Rattle.gm_match.specs.Outcome as matches
+use Rattle.gm_pending.specs.EditLists.{HasSameRows}
+use Rattle.gm_plan.specs.Plans.{PlanOf}
+use Rattle.gm_theory.proofs.ValuesUnique.{one_count}
+use Rattle.gm_run.specs.declared.outcome.Outcome.{Outcome}
+use Rattle.gm_run.specs.declared.outcome.Outcome.TheVariants as outcomes
+use Rattle.gm_run.specs.Lines.{cause_of, outcome_of}
+use Rattle.gm_run.specs.Progress.{rules_of, IsPlanFor, ArePlansFor, Agrees, IsDecided, HasLine, HasRun, IsStopped, IsCutShort}
+
+-- ---- a budget for each application that has an outcome
+
+contained : (xs : List ℕ) (k d : ℕ) → slice_get xs k ≡ Some d → Contains xs d
+contained xs k d at = (k, slice_get_within xs k d at, get_or_from_slice_get xs k d d at)
+
+module _ (app : Application) (no_embeds : app.map.schema.embeds ≡ []) (no_pre : app.rule.pre ≡ None) where
+  none_at : (e : ℕ) (embed : Embed) → IsEmbedAt app.map.schema e embed → ⊥
+  none_at e embed at = let none : None ≡ Some embed = sym (ap (λ embeds. slice_get embeds e) no_embeds) ∙ at in absurd cc
+
+  work_done : (after : Map) (added removed : ℕ) → IsDone app after added removed → (k : ℕ) × IsWork app k 0 0
+  work_done after added removed done =
+      (done.place.positions, Ready done.place after.live after.alpha 0 0 0 done.ready unfolded reached (inl (no_pre, refl)) read)
+    where
+      unfolded : IsUnfolded app done.place (λ d. IsTrue (after.live d)) after.alpha
+      unfolded = subst (λ n. IsUnfolding (scene_of app.map app.rule done.place) (IsDart after) after.alpha n) done.unfolded.next_is done.unfolded
+
+      reached : IsReachedSum app done.place (λ d. IsTrue (after.live d)) after.alpha 0
+      reached = record {
+        counts = [];
+        each = sym (ap length no_embeds);
+        counts_are = λ e c embed is at. absurd (none_at e embed at);
+        sum_is = refl;
+      }
+
+      read : IsReadSum app done.place (λ d. IsTrue (after.live d)) after.alpha 0
+      read = record {
+        read = [];
+        ordered = λ k l a b before is other. let none : None ≡ Some a = is in absurd cc;
+        same = λ decider. (λ c. absurd (omega (arith, c.1)), λ h. absurd (none_at decider.embed h.0.embed h.0.embed_at));
+        units = [];
+        units_are = tt;
+        sum_is = refl;
+      }
+
+  work_refused : (cause : Cause) → IsRefused app cause → (k : ℕ) × IsWork app k 0 0
+  work_refused cause (NoHookDart index d at dead before) = (1, NoHookDarts (λ darts. dead (darts d (contained app.hooks index d at))))
+  work_refused cause (BrokenStep place x p i darts candidate first) = (place.positions, NoMatch place darts candidate (λ found. first.broken (found.steps x p i first.instance first.label)))
+  work_refused cause (Repeated place x p y q darts candidate steps first) = (place.positions, NoMatch place darts candidate (λ found. found.distinct x p y q first.here))
+  work_refused cause (ValuelessPre place tree found is none) = let both : None ≡ Some tree = sym no_pre ∙ is in absurd cc
+  work_refused cause (FalsePre place tree found is value) = let both : None ≡ Some tree = sym no_pre ∙ is in absurd cc
+  work_refused cause (NoRoom place live found pre counted full) =
+      (place.positions, NotReady place 0 found (λ ready. let same = one_count (IsStaying app place) ready.live live ready.live_is counted in let fit = ready.darts_fit in absurd (omega (arith, same, fit, full))) (inl (no_pre, refl)))
+  work_refused cause (NoNames place live found pre counted fits full) =
+      (place.positions, NotReady place 0 found (λ ready. let fit = ready.names_fit in absurd (omega (arith, fit, full))) (inl (no_pre, refl)))
+  work_refused cause (Valueless place live alpha decider ready unfolded first) = absurd (none_at decider.embed first.here.embed first.here.embed_at)
+
+  pub budget_of : (outcome : runs.Outcome) (after : Map) → IsOutcome app outcome after → (most : ℕ) × IsBudget app most
+  budget_of (runs.Done added removed) after done = let work = work_done after added removed done in (_, Of work.0 0 0 work.1)
+  budget_of (runs.Refused cause) after refused = let work = work_refused cause refused.0 in (_, Of work.0 0 0 work.1)
+
+-- ---- one line
+
+refused_for : (app : Application) (refusal : Refusal) → (refusal ≢ refusals.OutOfMemory) → IsRefusedFor app refusal → IsRefused app (cause_of refusal)
+refused_for app (refusals.NoDart index) other h = h
+refused_for app (refusals.Arc x p i) other h = h
+refused_for app (refusals.Same x p y q) other h = h
+refused_for app refusals.PreNoValue other h = h
+refused_for app refusals.PreFalse other h = h
+refused_for app (refusals.FullDarts live more) other h = h
+refused_for app (refusals.FullNames next more) other h = h
+refused_for app (refusals.NoValue e x) other h = h
+refused_for app refusals.OutOfMemory other h = absurd (other refl)
+
+-- the budget of a line is that of its rule's application
+budget_here : (rules : List Rule) (before : Map) (line : Line) (rule : Rule) (most : ℕ) → slice_get rules line.rule ≡ Some rule → IsLineBudget rules before line most → IsBudget (runs.application_of before rule line) most
+budget_here rules before line rule most is budget = subst (λ r. IsBudget (runs.application_of before r line) most) (same_Some budget.rule rule (sym budget.rule_is ∙ is)) budget.budget
+
+module _ (rules : List Rule) (m n : ArenaMap) (line : Line) (rule : Rule) (rule_is : slice_get rules line.rule ≡ Some rule) (no_embeds : m.schema.embeds ≡ []) (no_pre : rule.pre ≡ None) (start steps : ℕ)
+    (within : (most : ℕ) → IsBudget (matches.application_of m rule line.hooks line.params) most → steps ≤ start + most) where
+  has_line : (outcome : Outcome) → IsDecided outcome → IsOutcome (matches.application_of m rule line.hooks line.params) (outcome_of outcome) (as_map n) → start + changed_darts (outcome_of outcome ∷ []) ≤ steps
+      → HasLine rules (as_map m) line outcome (as_map n) start steps
+  has_line outcome decided is least =
+      let budget = budget_of (matches.application_of m rule line.hooks line.params) no_embeds no_pre (outcome_of outcome) (as_map n) is in
+      record {
+        is = record { rule = rule; rule_is = rule_is; outcome_is = is };
+        decided = decided;
+        most = budget.0;
+        budget = record { rule = rule; rule_is = rule_is; budget = budget.1 };
+        within = within budget.0 budget.1;
+        least = least;
+      }
+
+  pub has_done : (applied : Applied) → IsDone (matches.application_of m rule line.hooks line.params) (as_map n) applied.added applied.removed → start + applied.added + applied.removed ≤ steps
+      → HasLine rules (as_map m) line (outcomes.Done applied) (as_map n) start steps
+  has_done applied done least = has_line (outcomes.Done applied) tt done (omega (arith, least))
+
+  pub has_refused : (refusal : Refusal) → (refusal ≢ refusals.OutOfMemory) → IsRefusedFor (matches.application_of m rule line.hooks line.params) refusal → HasSameRows m n → start ≤ steps
+      → HasLine rules (as_map m) line (outcomes.Refused refusal) (as_map n) start steps
+  has_refused refusal other refused same rises =
+      has_line (outcomes.Refused refusal) other (refused_for (matches.application_of m rule line.hooks line.params) refusal other refused, ap as_map same) (omega (arith, rises))
+
+  pub is_stopped : HasSameRows m n → IsStopped rules (as_map m) line (as_map n) start steps
+  is_stopped same = record {
+    same = ap as_map same;
+    within = λ most budget. within most (budget_here rules (as_map m) line rule most rule_is budget);
+  }
+
+-- ---- the line's plan
+
+module _ (plans : List PlanOf) (m n : ArenaMap) (line : Line) (plan : PlanOf) (all_for : ArePlansFor m.schema plans) (agrees : Agrees (rules_of plans) line) (is : plan ≡ get_or plans line.rule plan)
+    (hooks : List ℕ) (params : List Value) (same_hooks : hooks ≡ line.hooks) (same_params : params ≡ line.params) (start steps : ℕ)
+    (within : (most : ℕ) → IsBudget (matches.application_of m (rule_of plan.table) hooks params) most → steps ≤ start + most) where
+  named : line.rule < length plans
+  named = omega (arith, slice_get_within (rules_of plans) line.rule agrees.0 agrees.1, length-map plans (λ (p : PlanOf). rule_of p.table))
+
+  rule_is : slice_get (rules_of plans) line.rule ≡ Some (rule_of plan.table)
+  rule_is = slice_get-map (λ (p : PlanOf). rule_of p.table) plans line.rule ∙ ap (option_map (λ (p : PlanOf). rule_of p.table)) (slice_get-get_or plans line.rule plan named ∙ ap Some (sym is))
+
+  plan_for : IsPlanFor m.schema plan
+  plan_for = subst (IsPlanFor m.schema) (sym is) (all_for line.rule plan named)
+
+  no_embeds_here : m.schema.embeds ≡ []
+  no_embeds_here = ap (λ (schema : Schema). schema.embeds) plan_for.same ∙ plan_for.no_embeds
+
+  same_app : matches.application_of m (rule_of plan.table) hooks params ≡ matches.application_of m (rule_of plan.table) line.hooks line.params
+  same_app = ap₂ (matches.application_of m (rule_of plan.table)) same_hooks same_params
+
+  within_here : (most : ℕ) → IsBudget (matches.application_of m (rule_of plan.table) line.hooks line.params) most → steps ≤ start + most
+  within_here most budget = within most (subst (λ app. IsBudget app most) (sym same_app) budget)
+
+  pub line_done : (applied : Applied) → IsDone (matches.application_of m (rule_of plan.table) hooks params) (as_map n) applied.added applied.removed → start + applied.added + applied.removed ≤ steps
+      → HasLine (rules_of plans) (as_map m) line (outcomes.Done applied) (as_map n) start steps
+  line_done applied done least =
+      has_done (rules_of plans) m n line (rule_of plan.table) rule_is no_embeds_here plan_for.no_pre start steps within_here applied
+      (subst (λ app. IsDone app (as_map n) applied.added applied.removed) same_app done) least
+
+  pub line_refused : (refusal : Refusal) (result : Result Outcome OutOfMemory) → MatchResult result (λ outcome. (outcome ≡ outcomes.Refused refusal) × (refusal ≢ refusals.OutOfMemory)) (λ _. refusal ≡ refusals.OutOfMemory)
+      → IsRefusedFor (matches.application_of m (rule_of plan.table) hooks params) refusal × HasSameRows m n → start ≤ steps
+      → MatchResult result (λ outcome. HasLine (rules_of plans) (as_map m) line outcome (as_map n) start steps) (λ _. IsStopped (rules_of plans) (as_map m) line (as_map n) start steps)
+  line_refused refusal (Ok outcome) told refused rises =
+      subst (λ o. HasLine (rules_of plans) (as_map m) line o (as_map n) start steps) (sym told.0)
+      (has_refused (rules_of plans) m n line (rule_of plan.table) rule_is no_embeds_here plan_for.no_pre start steps within_here refusal told.1
+      (subst (λ app. IsRefusedFor app refusal) same_app refused.0) refused.1 rises)
+  line_refused refusal (Err error) told refused rises =
+      is_stopped (rules_of plans) m n line (rule_of plan.table) rule_is no_embeds_here plan_for.no_pre start steps within_here refused.1
+
+-- ---- one line more
+
+module _ (rules : List Rule) where
+  run_on : (before between after : Map) (lines : List Line) (outcomes : List runs.Outcome) (line : Line) (outcome : runs.Outcome) → IsRun rules before lines outcomes between → IsLineOutcome rules between line outcome after
+      → IsRun rules before (lines ++ line ∷ []) (outcomes ++ outcome ∷ []) after
+  run_on before between after [] [] line outcome e last = (after, subst (λ (m : Map). IsLineOutcome rules m line outcome after) e last, refl)
+  run_on before between after [] (y ∷ outcomes) line outcome h last = absurd h
+  run_on before between after (x ∷ lines) [] line outcome h last = absurd h
+  run_on before between after (x ∷ lines) (y ∷ outcomes) line outcome (next, first, rest) last = (next, first, run_on next between after lines outcomes line outcome rest last)
+
+  budget_on : (before between after : Map) (lines : List Line) (outcomes : List runs.Outcome) (line : Line) (outcome : runs.Outcome) (most last : ℕ) → IsRunBudget rules before lines outcomes between most
+      → IsLineOutcome rules between line outcome after → IsLineBudget rules between line last → IsRunBudget rules before (lines ++ line ∷ []) (outcomes ++ outcome ∷ []) after (most + last)
+  budget_on before between after [] [] line outcome most last (e, z) is budget =
+      (after, last, 0, subst (λ (m : Map). IsLineOutcome rules m line outcome after) e is, subst (λ (m : Map). IsLineBudget rules m line last) e budget, (refl, refl), omega (arith, z))
+  budget_on before between after [] (y ∷ outcomes) line outcome most last h is budget = absurd h
+  budget_on before between after (x ∷ lines) [] line outcome most last h is budget = absurd h
+  budget_on before between after (x ∷ lines) (y ∷ outcomes) line outcome most last (next, one, others, first, first_budget, rest, together) is budget =
+      (next, one, others + last, first, first_budget, budget_on next between after lines outcomes line outcome others last rest is budget, omega (arith, together))
+
+  changed_on : (outcomes : List runs.Outcome) (outcome : runs.Outcome) → changed_darts (outcomes ++ outcome ∷ []) ≡ changed_darts outcomes + changed_darts (outcome ∷ [])
+  changed_on [] outcome = omega arith
+  changed_on (runs.Done added removed ∷ outcomes) outcome = let rest = changed_on outcomes outcome in omega (arith, rest)
+  changed_on (runs.Refused cause ∷ outcomes) outcome = changed_on outcomes outcome
+
+  has_more : (before between after : Map) (lines : List Line) (outcomes : List Outcome) (line : Line) (outcome : Outcome) (start middle steps : ℕ) → HasRun rules before lines outcomes between start middle
+      → HasLine rules between line outcome after middle steps → HasRun rules before (lines ++ line ∷ []) (outcomes ++ outcome ∷ []) after start steps
+  has_more before between after lines outcomes line outcome start middle steps run last =
+      let mapped : map outcome_of outcomes ++ outcome_of outcome ∷ [] ≡ map outcome_of (outcomes ++ outcome ∷ []) = sym (map-append outcome_of outcomes (outcome ∷ [])) in
+      let changed = ap changed_darts (sym mapped) ∙ changed_on (map outcome_of outcomes) (outcome_of outcome) in
+      let least = run.least in
+      let last_least = last.least in
+      let within = run.within in
+      let last_within = last.within in
+      record {
+        run = subst (λ os. IsRun rules before (lines ++ line ∷ []) os after) mapped (run_on before between after lines (map outcome_of outcomes) line (outcome_of outcome) run.run last.is);
+        decided = All-push IsDecided outcomes outcome run.decided last.decided;
+        most = run.most + last.most;
+        budget = subst (λ os. IsRunBudget rules before (lines ++ line ∷ []) os after (run.most + last.most)) mapped
+            (budget_on before between after lines (map outcome_of outcomes) line (outcome_of outcome) run.most last.most run.budget last.is last.budget);
+        within = omega (arith, within, last_within);
+        least = omega (arith, least, last_least, changed);
+      }
+
+  -- of the lines of a script
+  module _ (before : Map) (lines : List Line) (start : ℕ) where
+    pub no_line : HasRun rules before [] [] before start start
+    no_line = record {
+      run = refl;
+      decided = λ k d h. absurd (omega (arith, h));
+      most = 0;
+      budget = (refl, refl);
+      within = omega arith;
+      least = omega arith;
+    }
+
+    pub line_more : (k : ℕ) (d line : Line) (between after : Map) (outcomes : List Outcome) (outcome : Outcome) (middle steps : ℕ) → k < length lines → line ≡ get_or lines k d
+        → HasRun rules before (take k lines) outcomes between start middle → HasLine rules between line outcome after middle steps
+        → HasRun rules before (take (k + 1) lines) (outcomes ++ outcome ∷ []) after start steps
+    line_more k d line between after outcomes outcome middle steps within is run last =
+        subst (λ ls. HasRun rules before ls (outcomes ++ outcome ∷ []) after start steps) (ap (λ l. take k lines ++ l ∷ []) is ∙ sym (take_more lines k d within))
+        (has_more before between after (take k lines) outcomes line outcome start middle steps run last)
+
+    pub all_lines : (k : ℕ) (outcomes : List Outcome) (after : Map) (steps : ℕ) → length lines ≤ k → HasRun rules before (take k lines) outcomes after start steps → HasRun rules before lines outcomes after start steps
+    all_lines k outcomes after steps past run = subst (λ ls. HasRun rules before ls outcomes after start steps) (take_all k lines past) run
+
+    pub cut_first : IsCutShort rules before lines before start start
+    cut_first = record {
+      done = 0;
+      outcomes = [];
+      run = refl;
+      most = 0;
+      budget = (refl, refl);
+      within = λ line rest at budget. omega arith;
+      ended = λ past. omega arith;
+    }
+
+    pub cut_at : (k : ℕ) (d line : Line) (between after : Map) (outcomes : List Outcome) (middle steps : ℕ) → k < length lines → line ≡ get_or lines k d
+        → HasRun rules before (take k lines) outcomes between start middle → IsStopped rules between line after middle steps → IsCutShort rules before lines after start steps
+    cut_at k d line between after outcomes middle steps in_lines is run stopped = record {
+      done = k;
+      outcomes = map outcome_of outcomes;
+      run = subst (IsRun rules before (take k lines) (map outcome_of outcomes)) (sym stopped.same) run.run;
+      most = run.most;
+      budget = subst (λ m. IsRunBudget rules before (take k lines) (map outcome_of outcomes) m run.most) (sym stopped.same) run.budget;
+      within = λ other rest at budget. rest_within other rest at budget;
+      ended = λ past. absurd (omega (arith, in_lines, past));
+    }
+      where
+        rest_within : (other : Line) (rest : ℕ) → slice_get lines k ≡ Some other → IsLineBudget rules after other rest → steps ≤ start + run.most + rest
+        rest_within other rest at budget =
+            let same : other ≡ line = same_Some other line (sym at ∙ slice_get-get_or lines k d in_lines ∙ ap Some (sym is)) in
+            let here : IsLineBudget rules between line rest = subst (λ l. IsLineBudget rules between l rest) same (subst (λ m. IsLineBudget rules m other rest) stopped.same budget) in
+            let last = stopped.within rest here in
+            let before_it = run.within in
+            omega (arith, last, before_it)

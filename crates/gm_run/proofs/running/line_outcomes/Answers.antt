@@ -1,0 +1,33 @@
+use Rattle.std.proofs.Common.{◌+◌, length, take, ap, sym, subst, ◌∙◌, arith}
+use Rattle.std.proofs.lemmas.List.{length_push}
+use Rattle.std.proofs.lemmas.Result.{err_from_is_err_and}
+use Rattle.gm_arena.specs.ArenaAsMap.{as_map}
+use Rattle.gm_run.specs.Progress.{rules_of, Agrees, HasRun}
+use Rattle.gm_run.proofs.Advancing.{line_more, cut_at}
+use Rattle.gm_run.proofs.running.line_outcomes.Goals as goal
+
+pub line_outcome-requires-clause-agrees : goal.line_outcome-requires-clause-agrees
+line_outcome-requires-clause-agrees g c = subst (Agrees (rules_of c.args.plans.now)) (sym c.line-item.is) (c.requires.lines c.loop-line.line-index c.line-item.result c.loop-line-test.true)
+
+pub returns-in_err-outcome-clause-run : goal.returns-in_err-outcome-clause-run
+returns-in_err-outcome-clause-run g c =
+    let p = err_from_is_err_and c.from_residual-in_err-outcome.result c.from_residual-in_err-outcome.ensures.1 in
+    rw p.1 (cut_at (rules_of c.args.plans.now) (as_map c.args.arena.now) c.args.lines.now c.args.steps.now c.loop-line.line-index c.line-item.result c.line-item.result (as_map c.loop-line.arena) (as_map c.line_outcome.new.arena)
+    c.loop-line.outcomes.items c.loop-line.steps c.line_outcome.new.steps c.loop-line-test.true c.line-item.is c.loop-line.invariant.run c.in_err-outcome.ensures.line)
+
+pub loop-line-preserved : goal.loop-line-preserved
+loop-line-preserved g c =
+    let before = c.loop-line.invariant in
+    let items = c.push_reserved.ensures.items in
+    let long = before.long in
+    let room = before.capacity in
+    let same = c.push_reserved.ensures.capacity in
+    record {
+      generalised = c.in_ok-outcome.ensures.generalised;
+      schema = c.in_ok-outcome.ensures.schema ∙ before.schema;
+      long = omega (arith, ap length items, length_push c.loop-line.outcomes.items c.in_ok-outcome.outcome, long);
+      capacity = omega (arith, room, same);
+      run = subst (λ os. HasRun (rules_of c.args.plans.now) (as_map c.args.arena.now) (take (c.loop-line.line-index + 1) c.args.lines.now) os (as_map c.line_outcome.new.arena) c.args.steps.now c.line_outcome.new.steps) (sym items)
+          (line_more (rules_of c.args.plans.now) (as_map c.args.arena.now) c.args.lines.now c.args.steps.now c.loop-line.line-index c.line-item.result c.line-item.result (as_map c.loop-line.arena) (as_map c.line_outcome.new.arena)
+          c.loop-line.outcomes.items c.in_ok-outcome.outcome c.loop-line.steps c.line_outcome.new.steps c.loop-line-test.true c.line-item.is before.run c.in_ok-outcome.ensures.line);
+    }

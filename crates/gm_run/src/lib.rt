@@ -1,0 +1,12 @@
+//! A run of a script over a map: each line is applied to the map that the line before it left, and
+//! what became of the lines is told in a report.
+#![tactic(auto)]
+
+mod outcome;
+mod printing;
+mod running;
+mod words;
+
+pub use outcome::{Outcome, Report};
+pub use printing::print_report;
+pub use running::run;

@@ -1,0 +1,119 @@
+//! A run: the lines of a script, one after another.
+ghost use Rattle.std.specs.Prelude.{◌≡◌, ◌≢◌, ℕ, ◌+◌, ◌≤◌, All, IfOk, IfErr, MatchResult, map};
+ghost use Rattle.gm_model.specs.Maps.{IsGeneralised, IsDart};
+ghost use Rattle.gm_model.specs.Orbits.{HasCount};
+ghost use Rattle.gm_model.specs.Runs.{IsRun, IsRunBudget, changed_darts};
+ghost use Rattle.gm_apply.specs.declared.refusal.Refusal.TheVariants as refusals;
+ghost use Rattle.gm_arena.specs.ArenaAsMap.{as_map};
+ghost use Rattle.gm_run.specs.declared.outcome.Outcome.TheVariants as outcomes;
+ghost use Rattle.gm_run.specs.Lines.{outcome_of};
+ghost use Rattle.gm_run.specs.Printing.{CanBePrinted};
+ghost use Rattle.gm_run.specs.Progress.{rules_of, ArePlansFor, Agrees, IsDecided, HasLine, HasRun, IsCutShort, IsStopped};
+
+use crate::outcome::{Outcome, Report};
+use gm_apply::{Refusal, apply};
+use gm_arena::Arena;
+use gm_model::{Items, Line, OutOfMemory, Script, Steps};
+use gm_plan::Plan;
+use gm_walk::Scratch;
+use std::alloc::Global;
+use std::sync::ledger::Ledger;
+
+/// Applies each line to the map that the line before it left. A line that is refused leaves the
+/// map, and the next is applied to it.
+///
+/// The arena is a generalised map again, whatever the answer is. Where memory was wanting, it has
+/// the map after some of the lines, the first ones, and none was applied in part. No outcome is a
+/// refusal for want of memory.
+pub fn run<L: Ledger>(
+    alloc: Global,
+    plans: &[Plan<'_>],
+    script: &Script,
+    arena: &mut Arena,
+    steps: &mut Steps<L>,
+) -> Result<Report, OutOfMemory>
+    requires generalised { IsGeneralised (as_map arena.old) }
+    requires plans { ArePlansFor arena.old.schema plans.now }
+    requires lines { All (Agrees (rules_of plans.now)) script.now.lines }
+    ensures run { IfOk result (λ report. IsRun (rules_of plans.now) (as_map arena.old) script.now.lines (map outcome_of report.lines) (as_map arena.new)) }
+    ensures decided { IfOk result (λ report. All IsDecided report.lines) }
+    ensures most { IfOk result (λ report. (most : ℕ) × IsRunBudget (rules_of plans.now) (as_map arena.old) script.now.lines (map outcome_of report.lines) (as_map arena.new) most × (steps.new ≤ steps.old + most)) }
+    ensures least { IfOk result (λ report. steps.old + changed_darts (map outcome_of report.lines) ≤ steps.new) }
+    ensures darts { IfOk result (λ report. (report.darts ≡ arena.new.count) × HasCount (IsDart (as_map arena.new)) report.darts) }
+    ensures next { IfOk result (λ report. report.next ≡ arena.new.next) }
+    ensures printable { IfOk result (λ report. CanBePrinted arena.old.schema (rules_of plans.now) script.now.lines report.lines) }
+    ensures cut { IfErr result (λ _. IsCutShort (rules_of plans.now) (as_map arena.old) script.now.lines (as_map arena.new) steps.old steps.new) }
+    ensures generalised { IsGeneralised (as_map arena.new) }
+    ensures schema { arena.new.schema ≡ arena.old.schema }
+{
+    let lines = line_outcomes(alloc, plans, script.lines.as_slice(), arena, steps)?;
+    Ok(Report {
+        lines: Items::new(lines),
+        darts: arena.count(),
+        next: arena.next(),
+    })
+}
+
+fn line_outcomes<L: Ledger>(
+    alloc: Global,
+    plans: &[Plan<'_>],
+    lines: &[Line],
+    arena: &mut Arena,
+    steps: &mut Steps<L>,
+) -> Result<Vec<Outcome>, OutOfMemory>
+    requires generalised { IsGeneralised (as_map arena.old) }
+    requires plans { ArePlansFor arena.old.schema plans.now }
+    requires lines { All (Agrees (rules_of plans.now)) lines.now }
+    ensures run { MatchResult result
+        (λ outcomes. HasRun (rules_of plans.now) (as_map arena.old) lines.now outcomes.items (as_map arena.new) steps.old steps.new)
+        (λ _. IsCutShort (rules_of plans.now) (as_map arena.old) lines.now (as_map arena.new) steps.old steps.new) }
+    ensures generalised { IsGeneralised (as_map arena.new) }
+    ensures schema { arena.new.schema ≡ arena.old.schema }
+{
+    let mut scratch = Scratch::new(alloc);
+    let mut outcomes = Vec::with_capacity(alloc, lines.len())?;
+    for line in lines {
+        let outcome = line_outcome(alloc, plans, line, arena, &mut scratch, steps)?;
+        outcomes.push_reserved(outcome);
+    }
+    Ok(outcomes)
+}
+
+/// Applies the rule of one line. Where memory is wanting, the map is as it was.
+fn line_outcome<L: Ledger>(
+    alloc: Global,
+    plans: &[Plan<'_>],
+    line: &Line,
+    arena: &mut Arena,
+    scratch: &mut Scratch,
+    steps: &mut Steps<L>,
+) -> Result<Outcome, OutOfMemory>
+    requires generalised { IsGeneralised (as_map arena.old) }
+    requires plans { ArePlansFor arena.old.schema plans.now }
+    requires agrees { Agrees (rules_of plans.now) line.now }
+    ensures line { MatchResult result
+        (λ outcome. HasLine (rules_of plans.now) (as_map arena.old) line.now outcome (as_map arena.new) steps.old steps.new)
+        (λ _. IsStopped (rules_of plans.now) (as_map arena.old) line.now (as_map arena.new) steps.old steps.new) }
+    ensures generalised { IsGeneralised (as_map arena.new) }
+    ensures schema { arena.new.schema ≡ arena.old.schema }
+{
+    let plan = &plans[line.rule as usize];
+    let hooks = line.hooks.as_slice();
+    let params = line.params.as_slice();
+    match apply(alloc, plan, arena, hooks, params, scratch, steps) {
+        Ok(applied) => Ok(Outcome::Done(applied)),
+        Err(refusal) => refused(refusal),
+    }
+}
+
+/// The outcome of a line that is refused. Want of memory isn't one.
+fn refused(refusal: Refusal) -> Result<Outcome, OutOfMemory>
+    ensures { MatchResult result
+        (λ outcome. (outcome ≡ outcomes.Refused refusal) × (refusal ≢ refusals.OutOfMemory))
+        (λ _. refusal ≡ refusals.OutOfMemory) }
+{
+    if refusal == Refusal::OutOfMemory {
+        return Err(OutOfMemory);
+    }
+    Ok(Outcome::Refused(refusal))
+}

@@ -1,0 +1,121 @@
+//! The words that say what became of a line.
+ghost use Rattle.std.specs.Prelude.{◌≡◌, ◌++◌, ◌<◌, OnOk, decimal, length, codes};
+ghost use Rattle.gm_model.specs.BookText.{name_at};
+ghost use Rattle.gm_model.specs.Reports.{outcome_words, cause_words, instance_words, embed_name};
+ghost use Rattle.gm_model.specs.Rules.{rule_of};
+ghost use Rattle.gm_run.specs.Lines.{outcome_of, cause_of};
+ghost use Rattle.gm_run.specs.Printing.{SpeaksOf, TellsOf};
+
+use crate::outcome::Outcome;
+use gm_apply::{Applied, Refusal};
+use gm_model::{OutOfMemory, RuleTable, Schema};
+use gm_text::Text;
+
+/// Appends the outcome of a line of the rule.
+pub(crate) fn put_outcome(
+    text: &mut Text,
+    schema: &Schema,
+    rule: &RuleTable,
+    outcome: Outcome,
+) -> Result<(), OutOfMemory>
+    requires { TellsOf (length (rule_of rule.now).nodes) (length schema.now.embeds) outcome }
+    ensures { OnOk result (text.new ≡ text.old ++ outcome_words schema.now (rule_of rule.now).nodes (outcome_of outcome)) }
+{
+    match outcome {
+        Outcome::Done(Applied { added, removed }) => {
+            put_number(text, b"done added ", u64::from(added))?;
+            put_number(text, b" removed ", u64::from(removed))
+        }
+        Outcome::Refused(refusal) => {
+            text.put(b"refused ")?;
+            put_cause(text, schema, rule, refusal)
+        }
+    }
+}
+
+fn put_cause(
+    text: &mut Text,
+    schema: &Schema,
+    rule: &RuleTable,
+    refusal: Refusal,
+) -> Result<(), OutOfMemory>
+    requires { SpeaksOf (length (rule_of rule.now).nodes) (length schema.now.embeds) refusal }
+    ensures { OnOk result (text.new ≡ text.old ++ cause_words schema.now (rule_of rule.now).nodes (cause_of refusal)) }
+{
+    match refusal {
+        Refusal::NoDart { index } => put_number(text, b"no-dart hook ", u64::from(index)),
+        Refusal::Arc {
+            node,
+            position,
+            label,
+        } => {
+            put_instance(text, b"no-match arc ", rule, node, position)?;
+            put_number(text, b" ", u64::from(label))
+        }
+        Refusal::Same {
+            node,
+            position,
+            node2,
+            position2,
+        } => {
+            put_instance(text, b"no-match same ", rule, node, position)?;
+            put_instance(text, b" ", rule, node2, position2)
+        }
+        Refusal::PreNoValue => text.put(b"pre-no-value"),
+        Refusal::PreFalse => text.put(b"pre-false"),
+        Refusal::FullDarts { live, more } => {
+            put_number(text, b"full-darts live ", u64::from(live))?;
+            put_number(text, b" more ", more)
+        }
+        Refusal::FullNames { next, more } => {
+            put_number(text, b"full-names next ", u64::from(next))?;
+            put_number(text, b" more ", more)
+        }
+        Refusal::NoValue { embed, node } => {
+            put_embed(text, b"no-value ", schema, embed)?;
+            put_node(text, b" ", rule, node)
+        }
+        Refusal::OutOfMemory => Err(OutOfMemory),
+    }
+}
+
+/// Appends words, and the name of a node with a position.
+fn put_instance(
+    text: &mut Text,
+    words: &[u8],
+    rule: &RuleTable,
+    node: u8,
+    position: u32,
+) -> Result<(), OutOfMemory>
+    requires { node < length (rule_of rule.now).nodes }
+    ensures { OnOk result (text.new ≡ text.old ++ (words.now ++ instance_words (rule_of rule.now).nodes node position)) }
+{
+    put_node(text, words, rule, node)?;
+    put_number(text, b" ", u64::from(position))
+}
+
+/// Appends words and the name of a node.
+fn put_node(text: &mut Text, words: &[u8], rule: &RuleTable, node: u8) -> Result<(), OutOfMemory>
+    requires { node < length (rule_of rule.now).nodes }
+    ensures { OnOk result (text.new ≡ text.old ++ (words.now ++ name_at (rule_of rule.now).nodes node)) }
+{
+    text.put(words)?;
+    text.put(rule.nodes.as_slice()[node as usize].name.bytes())
+}
+
+/// Appends words and the name of an embedding.
+fn put_embed(text: &mut Text, words: &[u8], schema: &Schema, embed: u8) -> Result<(), OutOfMemory>
+    requires { embed < length schema.now.embeds }
+    ensures { OnOk result (text.new ≡ text.old ++ (words.now ++ embed_name schema.now embed)) }
+{
+    text.put(words)?;
+    text.put(schema.embeds.as_slice()[embed as usize].name.bytes())
+}
+
+/// Appends words and a number.
+pub(crate) fn put_number(text: &mut Text, words: &[u8], number: u64) -> Result<(), OutOfMemory>
+    ensures { OnOk result (text.new ≡ text.old ++ (words.now ++ decimal number)) }
+{
+    text.put(words)?;
+    text.number(number)
+}
