@@ -1,3 +1,13 @@
+mod ReadBooks
+mod Verdicts
 mod Judging
 mod Asking
+mod ArenaMaps
+mod Stopping
+mod BookPlans
+mod Statuses
+mod Lines
+mod RunStops
+mod Agreeing
+mod Saving
 mod Putting

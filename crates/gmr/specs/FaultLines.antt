@@ -1,10 +1,19 @@
 -- The words that say which fault a reader answered.
-use Rattle.std.specs.Prelude.{ℕ, List, [], ◌++◌, codes}
+use Rattle.std.specs.Prelude.{ℕ, List, []}
 use Rattle.gm_laws.specs.declared.breach.MapBreach.{MapBreach}
 use Rattle.gm_laws.specs.declared.breach.MapBreach.TheVariants as breaches
 use Rattle.gm_mapfile.specs.declared.fault.MapFault.{MapFault}
 use Rattle.gm_mapfile.specs.declared.fault.MapFault.TheVariants as map
-use Rattle.gmr.specs.Answer.{refusal}
+use Rattle.gm_book.specs.declared.fault.BookFault.{BookFault}
+use Rattle.gm_book.specs.declared.fault.BookFault.TheVariants as book
+use Rattle.gm_model.specs.BookText.{TwiceAt, UnknownAt}
+use Rattle.gm_script.specs.ScriptText.{UnknownRuleAt, HookCountAt, ParamsAt}
+use Rattle.gm_script.specs.declared.fault.ScriptFault.{ScriptFault}
+use Rattle.gm_script.specs.declared.fault.ScriptFault.TheVariants as script
+use Rattle.gmr.specs.ScriptFaults.{script_fault_words}
+use Rattle.gmr.specs.ScriptFaults as script_faults
+use Rattle.gmr.specs.BookFaults.{book_fault_words}
+use Rattle.gmr.specs.BookFaults as book_faults
 use Rattle.gm_model.specs.MapFaults.{fault_words}
 use Rattle.gm_model.specs.MapFaults as map_faults
 
@@ -39,3 +48,37 @@ map_words (map.NoTarget d i) = fault_words (map_faults.NoTarget d i)
 map_words (map.Breach breach) = breach_words breach
 map_words (map.Twice place) = []
 map_words map.OutOfMemory = []
+
+-- the fault is said by a line
+abbrev pub IsSaidOfBook : BookFault → Type 0
+IsSaidOfBook (book.Text place) = Unit {0}
+IsSaidOfBook (book.Limit what place) = Unit {0}
+IsSaidOfBook (book.Twice place) = Unit {0}
+IsSaidOfBook (book.Unknown place) = Unit {0}
+IsSaidOfBook (book.NotBuilt place) = Unit {0}
+IsSaidOfBook book.OutOfMemory = ⊥
+
+abbrev pub book_words : BookFault → List ℕ
+book_words (book.Text place) = book_fault_words (book_faults.Ends place)
+book_words (book.Limit what place) = book_fault_words (book_faults.Passes what place)
+book_words (book.Twice place) = book_fault_words (book_faults.OfName (TwiceAt place))
+book_words (book.Unknown place) = book_fault_words (book_faults.OfName (UnknownAt place))
+book_words (book.NotBuilt place) = book_fault_words (book_faults.NotBuilt place)
+book_words book.OutOfMemory = []
+
+-- the fault is said by a line
+abbrev pub IsSaidOfScript : ScriptFault → Type 0
+IsSaidOfScript (script.Text place) = Unit {0}
+IsSaidOfScript (script.Limit what place) = Unit {0}
+IsSaidOfScript (script.UnknownRule place) = Unit {0}
+IsSaidOfScript (script.HookCount place) = Unit {0}
+IsSaidOfScript (script.Params place) = Unit {0}
+IsSaidOfScript script.OutOfMemory = ⊥
+
+abbrev pub script_words : ScriptFault → List ℕ
+script_words (script.Text place) = script_fault_words (script_faults.Ends place)
+script_words (script.Limit what place) = script_fault_words (script_faults.Passes what place)
+script_words (script.UnknownRule place) = script_fault_words (script_faults.OfLine (UnknownRuleAt place))
+script_words (script.HookCount place) = script_fault_words (script_faults.OfLine (HookCountAt place))
+script_words (script.Params place) = script_fault_words (script_faults.OfLine (ParamsAt place))
+script_words script.OutOfMemory = []

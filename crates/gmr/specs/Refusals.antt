@@ -5,12 +5,14 @@ use Rattle.gmr.specs.Answer as answer
 use Rattle.gmr.specs.declared.command.Command.{Command}
 use Rattle.gmr.specs.declared.command.Command.TheVariants as commands
 use Rattle.gmr.specs.declared.refusal.Refusal.{Refusal}
-use Rattle.gmr.specs.declared.refusal.Refusal.TheVariants.{Usage, Load, Size, SizeOutput}
+use Rattle.gmr.specs.declared.refusal.Refusal.TheVariants.{Usage, Load, Size, SizeOutput, Agree, Save}
 use Rattle.gmr.specs.declared.refusal.Role.{Role}
 use Rattle.gmr.specs.declared.refusal.Role.TheVariants as roles
 
 abbrev pub command_in : Command → answer.Command
 command_in commands.Show = answer.Show
+command_in commands.Book = answer.Book
+command_in commands.Check = answer.Check
 
 -- the word of no command
 abbrev pub IsNoCommandWord : List ℕ → Type 0
@@ -18,18 +20,24 @@ IsNoCommandWord word = (command : answer.Command) → word ≡ command_word comm
 
 abbrev pub role_in : Role → answer.Role
 role_in roles.Map = answer.TheMap
+role_in roles.Book = answer.TheBook
+role_in roles.Script = answer.TheScript
 
 abbrev pub status_of : Refusal → ℕ
 status_of Usage = 2
 status_of (Load role) = 3
 status_of (Size role) = 8
 status_of SizeOutput = 8
+status_of Agree = 4
+status_of Save = 5
 
 abbrev pub words_for : Refusal → List ℕ
 words_for Usage = codes "usage"
 words_for (Load role) = codes "load " ++ role_word (role_in role)
 words_for (Size role) = codes "size " ++ role_word (role_in role)
 words_for SizeOutput = codes "size output"
+words_for Agree = codes "agree"
+words_for Save = codes "save OUT"
 
 abbrev pub line_of : Refusal → List ℕ
 line_of why = refusal (words_for why)

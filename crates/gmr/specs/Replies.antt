@@ -1,17 +1,21 @@
 -- What loading a file and judging its bytes answer, before anything is put.
-use Rattle.std.specs.Prelude.{◌≡◌, ◌⊎◌, ℕ, ◌<◌, ◌≤◌, List, ◌++◌, length, Option, Some, None, Result, Ok, Err, codes}
+use Rattle.std.specs.Prelude.{◌≡◌, ◌⊎◌, ℕ, ◌<◌, ◌≤◌, List, ◌++◌, length, Some, None, Result, Ok, Err, codes}
 use Rattle.std.specs.Global.{Vec}
 use Rattle.gm_host.specs.Store.{Contents, Lacks, IsHeld, HoldsLongerFile}
 use Rattle.gm_host.specs.declared.fault.LoadFault.{LoadFault}
 use Rattle.gm_host.specs.declared.fault.LoadFault.TheVariants as faults
+use Rattle.gm_book.specs.declared.fault.BookFault.{BookFault}
+use Rattle.gm_model.specs.declared.schema.Schema.{Schema}
+use Rattle.gm_model.specs.Rules.{Rule}
 use Rattle.gmr.specs.Answer.{most_bytes, role_of, role_word, refusal, IsBad, IsOutput}
 use Rattle.gmr.specs.Answer as answer
+use Rattle.gmr.specs.Checking.{AreLines, counts_line, check_status}
+use Rattle.gmr.specs.FaultLines.{IsSaidOfBook, book_words}
 use Rattle.gmr.specs.declared.refusal.NoText.{NoText}
 use Rattle.gmr.specs.declared.refusal.NoText.TheVariants as nothing
-use Rattle.gmr.specs.declared.refusal.Refusal.TheVariants.{Usage, Load, Size, SizeOutput}
+use Rattle.gmr.specs.declared.refusal.Refusal.TheVariants.{Usage, Load, Size, SizeOutput, Agree, Save}
 use Rattle.gmr.specs.declared.refusal.Role.{Role}
 use Rattle.gmr.specs.declared.reply.Reply.{Reply}
-use Rattle.gmr.specs.Refusals.{role_in}
 
 -- ---- loading
 
@@ -28,6 +32,8 @@ IsLoading contents name role fails (Err (nothing.Refused (Load other))) = (other
 IsLoading contents name role fails (Err (nothing.Refused (Size other))) = (other ≡ role) × IsLong contents name
 IsLoading contents name role fails (Err (nothing.Refused Usage)) = ⊥
 IsLoading contents name role fails (Err (nothing.Refused SizeOutput)) = ⊥
+IsLoading contents name role fails (Err (nothing.Refused Agree)) = ⊥
+IsLoading contents name role fails (Err (nothing.Refused Save)) = ⊥
 
 -- the answer to a load that gave no file
 abbrev pub no_file_for : Role → LoadFault → NoText
@@ -51,6 +57,8 @@ IsJudged bytes command (Err (nothing.Refused SizeOutput)) = (status : ℕ) × (t
 IsJudged bytes command (Err (nothing.Refused Usage)) = ⊥
 IsJudged bytes command (Err (nothing.Refused (Load role))) = ⊥
 IsJudged bytes command (Err (nothing.Refused (Size role))) = ⊥
+IsJudged bytes command (Err (nothing.Refused Agree)) = ⊥
+IsJudged bytes command (Err (nothing.Refused Save)) = ⊥
 
 -- a text that is not too long, with its status; or it is
 abbrev pub IsWithinLimit : ℕ → List ℕ → Result Reply NoText → Type 0
@@ -61,3 +69,13 @@ IsWithinLimit status text (Err none) = (none ≡ nothing.Refused SizeOutput) × 
 abbrev pub IsRefusal : List ℕ → Result Reply NoText → Type 0
 IsRefusal line (Ok reply) = (reply.status ≡ 4) × (reply.text.items ≡ line)
 IsRefusal line (Err none) = none ≡ nothing.OutOfMemory
+
+-- the line that refuses the book with this fault; want of memory says nothing of the book
+abbrev pub IsBookRefusal : BookFault → Result Reply NoText → Type 0
+IsBookRefusal fault (Ok reply) = IsSaidOfBook fault × (reply.status ≡ 4) × (reply.text.items ≡ refusal (codes "BOOK" ++ codes " " ++ book_words fault))
+IsBookRefusal fault (Err none) = none ≡ nothing.OutOfMemory
+
+-- what a check puts on these rules, where it is not too long
+abbrev pub IsChecked : Schema → List Rule → Result Reply NoText → Type 0
+IsChecked schema rules (Err nothing.OutOfMemory) = Unit {0}
+IsChecked schema rules reply = (refused : ℕ) × (lines : List ℕ) × AreLines schema rules refused lines × IsWithinLimit (check_status refused) (lines ++ counts_line (length rules) refused) reply

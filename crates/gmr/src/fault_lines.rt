@@ -3,11 +3,13 @@
 ghost use Rattle.std.specs.Prelude.{◌≡◌, ◌++◌, IfOk, OnOk, codes, decimal};
 ghost use Rattle.gmr.specs.Answer.{refusal};
 ghost use Rattle.gm_model.specs.MapFaults.{limit_word};
-ghost use Rattle.gmr.specs.FaultLines.{IsSaidOfMap, IsSaidOfBreach, map_words, breach_words};
+ghost use Rattle.gmr.specs.FaultLines.{IsSaidOfBook, IsSaidOfMap, IsSaidOfBreach, IsSaidOfScript, book_words, map_words, breach_words, script_words};
 
+use gm_book::BookFault;
 use gm_laws::MapBreach;
 use gm_mapfile::MapFault;
 use gm_model::{LimitKind, OutOfMemory};
+use gm_script::ScriptFault;
 use gm_text::Text;
 use std::alloc::Global;
 
@@ -46,6 +48,54 @@ fn put_breach(text: &mut Text, breach: MapBreach) -> Result<(), OutOfMemory>
         MapBreach::Involution { dart, label } => put_label(text, b"involution dart ", dart, label),
         MapBreach::Cycle { dart, i, j } => put_crossing(text, dart, i, j),
         MapBreach::Embedding { .. } => unreachable!(),
+    }
+}
+
+/// The line that refuses a book, with its line end. There is none for want of memory.
+pub fn book_line(alloc: Global, fault: BookFault) -> Result<Vec<u8>, OutOfMemory>
+    ensures { IfOk result (λ line. IsSaidOfBook fault × (line.items ≡ refusal (codes "BOOK" ++ codes " " ++ book_words fault))) }
+{
+    let mut text = Text::new(alloc);
+    text.put(b"refused BOOK ")?;
+    put_book_fault(&mut text, fault)?;
+    text.put(b"\n")?;
+    Ok(text.into_bytes())
+}
+
+fn put_book_fault(text: &mut Text, fault: BookFault) -> Result<(), OutOfMemory>
+    ensures { OnOk result (IsSaidOfBook fault × (text.new ≡ text.old ++ book_words fault)) }
+{
+    match fault {
+        BookFault::Text { place } => put_at(text, b"text ", place as u64),
+        BookFault::Limit { what, place } => put_limit(text, what, place),
+        BookFault::Twice { place } => put_at(text, b"twice ", place as u64),
+        BookFault::Unknown { place } => put_at(text, b"unknown ", place as u64),
+        BookFault::NotBuilt { place } => put_at(text, b"not-built ", place as u64),
+        BookFault::OutOfMemory => Err(OutOfMemory),
+    }
+}
+
+/// The line that refuses a script, with its line end. There is none for want of memory.
+pub fn script_line(alloc: Global, fault: ScriptFault) -> Result<Vec<u8>, OutOfMemory>
+    ensures { IfOk result (λ line. IsSaidOfScript fault × (line.items ≡ refusal (codes "SCRIPT" ++ codes " " ++ script_words fault))) }
+{
+    let mut text = Text::new(alloc);
+    text.put(b"refused SCRIPT ")?;
+    put_script_fault(&mut text, fault)?;
+    text.put(b"\n")?;
+    Ok(text.into_bytes())
+}
+
+fn put_script_fault(text: &mut Text, fault: ScriptFault) -> Result<(), OutOfMemory>
+    ensures { OnOk result (IsSaidOfScript fault × (text.new ≡ text.old ++ script_words fault)) }
+{
+    match fault {
+        ScriptFault::Text { place } => put_at(text, b"text ", place as u64),
+        ScriptFault::Limit { what, place } => put_limit(text, what, place),
+        ScriptFault::UnknownRule { place } => put_at(text, b"unknown-rule ", place as u64),
+        ScriptFault::HookCount { place } => put_at(text, b"hook-count ", place as u64),
+        ScriptFault::Params { place } => put_at(text, b"params ", place as u64),
+        ScriptFault::OutOfMemory => Err(OutOfMemory),
     }
 }
 

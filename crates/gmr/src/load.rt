@@ -1,4 +1,4 @@
-ghost use Rattle.std.specs.Prelude.{◌≡◌};
+ghost use Rattle.std.specs.Prelude.{◌≡◌, ◌≤◌};
 ghost use Rattle.gm_host.specs.Count.{counted, Rises};
 ghost use Rattle.gmr.specs.Replies.{IsLoading, no_file_for};
 
@@ -25,6 +25,8 @@ pub fn load_file<S: Store>(
     store: &mut S,
 ) -> Result<Vec<u8>, NoText>
     ensures held { S.holds store.new ≡ S.holds store.old }
+    ensures no_save_fault { S.save_faults store.new ≡ S.save_faults store.old }
+    ensures faults_never_fall { S.load_faults store.old ≤ S.load_faults store.new }
     ensures once { S.loads store.new ≡ counted (S.loads store.old) }
     ensures loading { IsLoading (S.holds store.old) name.now role (Rises (S.load_faults store.old) (S.load_faults store.new)) result }
 {

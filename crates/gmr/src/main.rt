@@ -2,12 +2,19 @@
 //! terminal.
 #![tactic(auto)]
 
+mod book;
+mod check;
 mod command;
 mod fault_lines;
 mod load;
 mod map;
 mod refusal;
 mod reply;
+mod rule_lines;
+#[cfg(test)]
+mod run_tests;
+mod running;
+mod script;
 #[cfg(test)]
 mod tests;
 mod tool;

@@ -1,11 +1,14 @@
-ghost use Rattle.std.specs.Prelude.{◌++◌, codes};
-ghost use Rattle.gmr.specs.Answer.{Show, refusal};
+ghost use Rattle.std.specs.Prelude.{◌++◌, IfOk, IfErr, codes};
+ghost use Rattle.gmr.specs.Answer.{Show, TheMap, refusal};
 ghost use Rattle.gmr.specs.FaultLines.{IsSaidOfMap, map_words};
 ghost use Rattle.gmr.specs.Replies.{IsJudged, IsRefusal};
+ghost use Rattle.gmr.specs.RunAnswer.{IsBadMap};
+ghost use Rattle.gmr.specs.Stops.{IsReadMap, IsBadFor};
 
 use crate::fault_lines::map_line;
-use crate::refusal::NoText;
+use crate::refusal::{NoText, Stop};
 use crate::reply::{Reply, reply_within_limit};
+use gm_arena::Arena;
 use gm_mapfile::{MapFault, print_map, read_map};
 use gm_model::Steps;
 use std::alloc::Global;
@@ -30,4 +33,16 @@ fn refused(alloc: Global, fault: MapFault) -> Result<Reply, NoText>
 {
     let text = map_line(alloc, fault)?;
     Ok(Reply { status: 4, text })
+}
+
+/// The map that a file's text stands for, or the line that refuses it.
+pub fn read<L: Ledger>(alloc: Global, bytes: &[u8], steps: &mut Steps<L>) -> Result<Arena, Stop>
+    ensures map { IfOk result (IsReadMap bytes.now) }
+    ensures stop { IfErr result (IsBadFor TheMap (IsBadMap bytes.now)) }
+{
+    match read_map(alloc, bytes, steps) {
+        Ok(arena) => Ok(arena),
+        Err(MapFault::OutOfMemory) => Err(Stop::NoText(NoText::OutOfMemory)),
+        Err(fault) => Err(Stop::because(map_line(alloc, fault))),
+    }
 }

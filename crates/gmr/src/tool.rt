@@ -1,18 +1,20 @@
 ghost use Rattle.std.specs.Prelude.{◌≡◌, ◌⊎◌, ◌<◌, IsErrOf, IfSome, IfOk};
 ghost use Rattle.gm_host.specs.Count.{counted, Rises};
-ghost use Rattle.gmr.specs.Answer.{IsCommand};
+ghost use Rattle.gmr.specs.MadeRuns.{LoadsAtMostThrice, IsRunStatus, IsSoundReply, HasCause};
+ghost use Rattle.gmr.specs.Program.{IsCommand, IsFileCommand, IsRunCommand};
 ghost use Rattle.gmr.specs.Refusals.{command_in, IsRoleOf};
 ghost use Rattle.gmr.specs.Replies.{IsJudged};
-ghost use Rattle.gmr.specs.Tool.{words_of, IsTextOf, IsPut, IsReplyStatus, IsStatus, IsUsageStatus, LeavesWhereTold, LacksFile, LoadsAtMostOnce};
+ghost use Rattle.gm_host.specs.Store.{Lacks};
+ghost use Rattle.gmr.specs.Answer as answer;
+ghost use Rattle.gmr.specs.Tool.{words_of, IsText, IsFileText, IsPut, IsReplyStatus, IsStatus, IsUsageStatus, IsCheck, LeavesWhereTold, LacksFile, HoldsSavedMap};
 ghost use Rattle.gmr.specs.declared.refusal.NoText.TheVariants as nothing;
 ghost use Rattle.gmr.specs.declared.refusal.Refusal.TheVariants as refusals;
-ghost use Rattle.gmr.specs.declared.refusal.Role.{Role};
 
-use crate::command::{Command, command_of};
+use crate::command::{Command, command_of, run_of};
 use crate::load::load_file;
-use crate::map;
 use crate::refusal::{NoText, Refusal, Role};
 use crate::reply::Reply;
+use crate::{book, check, map, running};
 use gm_host::{PutFault, Sink, Store};
 use gm_model::Steps;
 use std::alloc::Global;
@@ -29,6 +31,8 @@ fn judged<L: Ledger>(
 {
     match command {
         Command::Show => map::show(alloc, bytes, steps),
+        Command::Book => book::show(alloc, bytes),
+        Command::Check => check::check(alloc, bytes),
     }
 }
 
@@ -37,7 +41,31 @@ fn role_of(command: Command) -> Role
 {
     match command {
         Command::Show => Role::Map,
+        Command::Book | Command::Check => Role::Book,
     }
+}
+
+/// The text that the command on the file asks for.
+fn reply_on<S: Store, L: Ledger>(
+    alloc: Global,
+    command: Command,
+    file: &str,
+    store: &mut S,
+    steps: &mut Steps<L>,
+) -> Result<Reply, NoText>
+    ensures held { S.holds store.new ≡ S.holds store.old }
+    ensures no_save_fault { S.save_faults store.new ≡ S.save_faults store.old }
+    ensures one_load { S.loads store.new ≡ counted (S.loads store.old) }
+    ensures text { IfSome (S.holds store.old) (λ files. IsFileText files (command_in command) file.now
+        (Rises (S.load_faults store.old) (S.load_faults store.new)) (Rises (S.save_faults store.old) (S.save_faults store.new)) (S.holds store.new) result) }
+    ensures statuses { IfOk result (λ reply. IsReplyStatus reply.status) }
+    ensures rule_refused { IfOk result (λ reply. reply.status ≡ 1 → command_in command ≡ answer.Check) }
+    ensures sound { IsSoundReply result
+        (Rises (S.load_faults store.old) (S.load_faults store.new) ⊎ Lacks (S.holds store.old) file.now)
+        (Rises (S.save_faults store.old) (S.save_faults store.new)) }
+{
+    let bytes = load_file(alloc, file, role_of(command), store)?;
+    judged(alloc, command, bytes.as_slice(), steps)
 }
 
 /// The text that the words ask for.
@@ -47,23 +75,29 @@ fn reply_to<S: Store, L: Ledger>(
     store: &mut S,
     steps: &mut Steps<L>,
 ) -> Result<Reply, NoText>
-    ensures held { S.holds store.new ≡ S.holds store.old }
-    ensures loads { LoadsAtMostOnce (S.loads store.old) (S.loads store.new) }
-    ensures one_load { IsCommand (words_of words.now) → S.loads store.new ≡ counted (S.loads store.old) }
-    ensures no_load { (IsCommand (words_of words.now) → ⊥) → S.loads store.new ≡ S.loads store.old }
-    ensures text { IfSome (S.holds store.old) (λ files.
-        IsTextOf (words_of words.now) files (Rises (S.load_faults store.old) (S.load_faults store.new)) result) }
+    ensures held { (IsRunCommand (words_of words.now) → ⊥) → S.holds store.new ≡ S.holds store.old }
+    ensures no_save_fault { (IsRunCommand (words_of words.now) → ⊥) → S.save_faults store.new ≡ S.save_faults store.old }
+    ensures loads { LoadsAtMostThrice (S.loads store.old) (S.loads store.new) }
+    ensures one_load { IsFileCommand (words_of words.now) → S.loads store.new ≡ counted (S.loads store.old) }
+    ensures none_loaded { (IsCommand (words_of words.now) → ⊥) → S.loads store.new ≡ S.loads store.old }
+    ensures text { IfSome (S.holds store.old) (λ files. IsText (words_of words.now) files
+        (Rises (S.load_faults store.old) (S.load_faults store.new)) (Rises (S.save_faults store.old) (S.save_faults store.new)) (S.holds store.new) result) }
     ensures statuses { IfOk result (λ reply. IsReplyStatus reply.status) }
+    ensures refused { IfOk result (λ reply. reply.status ≡ 1 → IsCheck (words_of words.now) ⊎ IsRunCommand (words_of words.now)) }
     ensures usage { IsErrOf result (nothing.Refused refusals.Usage) → IsCommand (words_of words.now) → ⊥ }
     ensures no_command { (IsCommand (words_of words.now) → ⊥) → IsErrOf result (nothing.Refused refusals.Usage) }
-    ensures load_failed { (role : Role) → IsErrOf result (nothing.Refused (refusals.Load role)) →
-        Rises (S.load_faults store.old) (S.load_faults store.new) ⊎ LacksFile (words_of words.now) (S.holds store.old) }
+    ensures cause { HasCause result
+        (Rises (S.load_faults store.old) (S.load_faults store.new) ⊎ LacksFile (words_of words.now) (S.holds store.old))
+        (Rises (S.save_faults store.old) (S.save_faults store.new)) }
+    ensures map { IfOk result (λ reply. IsRunStatus reply.status → HoldsSavedMap (words_of words.now) (S.holds store.new)) }
 {
-    let Some((command, file)) = command_of(words) else {
+    if let Some((command, file)) = command_of(words) {
+        return reply_on(alloc, command, file, store, steps);
+    }
+    let Some(files) = run_of(words) else {
         return Err(NoText::Refused(Refusal::Usage));
     };
-    let bytes = load_file(alloc, file, role_of(command), store)?;
-    judged(alloc, command, bytes.as_slice(), steps)
+    running::answer(alloc, files, store, steps)
 }
 
 /// Puts the bytes by one put, and gives the status where that goes well.
@@ -81,11 +115,16 @@ fn put_whole<O: Sink>(out: &mut O, bytes: &[u8], status: u8) -> u8
 /// program's status.
 ///
 /// `words` are the words after the program's name, read by position. `show MAP` puts the canonical
-/// text of the map in the file MAP. All that is put goes out by one put: the text, with status 0, or
-/// the one line of a refusal. Status 2 is for words that are no command,
-/// 3 for a file that can't be loaded, 4 for a text that stands for nothing, 8 for a file or a text
-/// past 268,435,456 bytes, 6 for a put that failed, and 7 for want of memory, after which nothing is
-/// put.
+/// text of the map in the file MAP, `book BOOK` that of the rule book in the file BOOK, and
+/// `check BOOK` a line for each rule of the book and one that counts. `run MAP BOOK SCRIPT OUT`
+/// applies the lines of the script to the map, saves the map as OUT, which may be MAP, and puts a
+/// report. All that is put goes out by one put: the text, with status 0, or 1 where a rule isn't
+/// accepted or a line is refused, or the one line of a refusal. Status 2 is for words that are no
+/// command, 3 for a file that can't be loaded, 4 for a text that stands for nothing, a rule that
+/// isn't accepted in a run, or a map and a book that don't agree, 8 for a file or a text past
+/// 268,435,456 bytes, 5 for a save that failed, 6 for a put that failed, and 7 for want of memory,
+/// after which nothing is put. Only a run saves, and only where it is done: with status 0 or 1, or
+/// where the save or the put failed.
 pub fn tool<S: Store, O: Sink, L: Ledger>(
     alloc: Global,
     words: &[String],
@@ -93,21 +132,27 @@ pub fn tool<S: Store, O: Sink, L: Ledger>(
     out: &mut O,
     steps: &mut Steps<L>,
 ) -> u8
-    // What was written, where store and sink tell.
-    ensures leaves { LeavesWhereTold (words_of words.now) (S.holds store.old)
-        (Rises (S.load_faults store.old) (S.load_faults store.new)) (Rises (O.faults out.old) (O.faults out.new))
-        (O.written out.old) result (O.written out.new) }
+    // What was written and what is held, where store and sink tell.
+    ensures leaves { LeavesWhereTold (words_of words.now) (S.holds store.old) (S.holds store.new)
+        (Rises (S.load_faults store.old) (S.load_faults store.new)) (Rises (S.save_faults store.old) (S.save_faults store.new))
+        (Rises (O.faults out.old) (O.faults out.new)) (O.written out.old) result (O.written out.new) }
+
+    // The map that a run saves is a generalised map.
+    ensures map { IsRunStatus result → HoldsSavedMap (words_of words.now) (S.holds store.new) }
 
     // The rest holds whatever they tell.
     ensures statuses { IsStatus result }
-    ensures held { S.holds store.new ≡ S.holds store.old }
-    ensures loads { LoadsAtMostOnce (S.loads store.old) (S.loads store.new) }
-    ensures one_load { IsCommand (words_of words.now) → S.loads store.new ≡ counted (S.loads store.old) }
+    ensures held { (IsRunCommand (words_of words.now) → ⊥) → S.holds store.new ≡ S.holds store.old }
+    ensures no_save_fault { (IsRunCommand (words_of words.now) → ⊥) → S.save_faults store.new ≡ S.save_faults store.old }
+    ensures loads { LoadsAtMostThrice (S.loads store.old) (S.loads store.new) }
+    ensures one_load { IsFileCommand (words_of words.now) → S.loads store.new ≡ counted (S.loads store.old) }
     ensures no_load { (IsCommand (words_of words.now) → ⊥) → S.loads store.new ≡ S.loads store.old }
     ensures usage { result ≡ 2 → IsCommand (words_of words.now) → ⊥ }
     ensures no_command { (IsCommand (words_of words.now) → ⊥) → IsUsageStatus result }
+    ensures refused { result ≡ 1 → IsCheck (words_of words.now) ⊎ IsRunCommand (words_of words.now) }
     ensures load_failed { result ≡ 3 →
         Rises (S.load_faults store.old) (S.load_faults store.new) ⊎ LacksFile (words_of words.now) (S.holds store.old) }
+    ensures save_failed { result ≡ 5 → Rises (S.save_faults store.old) (S.save_faults store.new) }
     ensures put_failed { result ≡ 6 → Rises (O.faults out.old) (O.faults out.new) }
     ensures no_memory { result ≡ 7 → O.written out.new ≡ O.written out.old }
 {
@@ -129,11 +174,11 @@ pub fn with_new_counter<S: Store, O: Sink, L: Ledger>(
     requires name { blank.name ≡ L.name }
     requires parts { blank.parts ≡ L.parts }
     requires some { 0 < blank.parts }
-    ensures leaves { LeavesWhereTold (words_of words.now) (S.holds store.old)
-        (Rises (S.load_faults store.old) (S.load_faults store.new)) (Rises (O.faults out.old) (O.faults out.new))
-        (O.written out.old) result (O.written out.new) }
+    ensures leaves { LeavesWhereTold (words_of words.now) (S.holds store.old) (S.holds store.new)
+        (Rises (S.load_faults store.old) (S.load_faults store.new)) (Rises (S.save_faults store.old) (S.save_faults store.new))
+        (Rises (O.faults out.old) (O.faults out.new)) (O.written out.old) result (O.written out.new) }
+    ensures map { IsRunStatus result → HoldsSavedMap (words_of words.now) (S.holds store.new) }
     ensures statuses { IsStatus result }
-    ensures held { S.holds store.new ≡ S.holds store.old }
 {
     let mut steps: Steps<L> = Steps::start(blank);
     tool(alloc, words, store, out, &mut steps)

@@ -1,17 +1,48 @@
-use Rattle.std.proofs.lemmas.Result.{err_from_is_err_and}
+use Rattle.std.proofs.Common.{inl, inr}
+use Rattle.gmr.specs.MadeRuns.{names_of}
 use Rattle.gmr.specs.Refusals.{command_in}
 use Rattle.gmr.specs.Tool.{words_of}
-use Rattle.gmr.proofs.Asking.{not_loaded, loaded}
+use Rattle.gmr.proofs.Asking.{file_text, run_text, usage_text, file_lacks, run_lacks, file_refused, run_refused, run_holds}
 use Rattle.gmr.proofs.tool.reply_to.Goals as goal
 
-pub returns-in_err-bytes-clause-text : goal.returns-in_err-bytes-clause-text
-returns-in_err-bytes-clause-text g c =
-    let p = err_from_is_err_and c.from_residual.result c.from_residual.ensures.1 in
-    rw (p.1, p.2)
-    (not_loaded (words_of c.args.words.now) (command_in c.in-Some.command) c.in-Some.file.now c.in-Some.ensures c.role_of.result c.role_of.ensures _
-    (g.S.Store.holds c.args.store.now) c.in_err-bytes.field-0.0 c.in_err-bytes.ensures.loading)
+pub returns-in-Some-clause-text : goal.returns-in-Some-clause-text
+returns-in-Some-clause-text g c =
+    file_text (words_of c.args.words.now) _ _ _ c.reply_on.result (g.S.Store.holds c.args.store.now) (command_in c.in-Some.command) c.in-Some.file.now c.in-Some.ensures c.reply_on.ensures.text
 
 pub returns-clause-text : goal.returns-clause-text
 returns-clause-text g c =
-    loaded (words_of c.args.words.now) (command_in c.in-Some.command) c.in-Some.file.now c.in-Some.ensures c.role_of.result c.role_of.ensures _
-    (g.S.Store.holds c.args.store.now) c.in_ok-bytes.bytes c.judged.result c.in_ok-bytes.ensures.loading (rw c.as_slice.ensures.value at c.judged.ensures)
+    run_text (words_of c.args.words.now) _ _ _ c.answer.result (g.S.Store.holds c.args.store.now) (names_of c.in-Some-run_of.files) c.in-Some-run_of.ensures c.answer.ensures.text
+
+pub returns-in-Some-clause-cause : goal.returns-in-Some-clause-cause
+returns-in-Some-clause-cause g c =
+    file_lacks (words_of c.args.words.now) (g.S.Store.holds c.args.store.now) _ _ c.reply_on.result (command_in c.in-Some.command) c.in-Some.file.now c.in-Some.ensures c.reply_on.ensures.sound
+
+pub returns-clause-cause : goal.returns-clause-cause
+returns-clause-cause g c =
+    run_lacks (words_of c.args.words.now) (g.S.Store.holds c.args.store.now) _ _ c.answer.result (names_of c.in-Some-run_of.files) c.in-Some-run_of.ensures c.answer.ensures.sound
+
+pub returns-in-Some-clause-refused : goal.returns-in-Some-clause-refused
+returns-in-Some-clause-refused g c =
+    file_refused (words_of c.args.words.now) (command_in c.in-Some.command) c.in-Some.file.now _ c.in-Some.ensures c.reply_on.result c.reply_on.ensures.rule_refused
+
+pub returns-in_default-run_of-clause-text : goal.returns-in_default-run_of-clause-text
+returns-in_default-run_of-clause-text g c =
+    usage_text (words_of c.args.words.now) _ _ (g.S.Store.holds c.args.store.now) (λ either. elim either [ inl file ↦ c.in_default.ensures file | inr run ↦ c.in_default-run_of.ensures run ])
+
+pub returns-clause-held : goal.returns-clause-held
+returns-clause-held g c none = absurd (none (names_of c.in-Some-run_of.files, c.in-Some-run_of.ensures))
+
+pub returns-clause-no_save_fault : goal.returns-clause-no_save_fault
+returns-clause-no_save_fault g c none = absurd (none (names_of c.in-Some-run_of.files, c.in-Some-run_of.ensures))
+
+pub returns-clause-none_loaded : goal.returns-clause-none_loaded
+returns-clause-none_loaded g c none = absurd (none (inr (names_of c.in-Some-run_of.files, c.in-Some-run_of.ensures)))
+
+pub returns-clause-no_command : goal.returns-clause-no_command
+returns-clause-no_command g c none = absurd (none (inr (names_of c.in-Some-run_of.files, c.in-Some-run_of.ensures)))
+
+pub returns-clause-refused : goal.returns-clause-refused
+returns-clause-refused g c = run_refused (words_of c.args.words.now) (names_of c.in-Some-run_of.files) c.in-Some-run_of.ensures c.answer.result
+
+pub returns-clause-map : goal.returns-clause-map
+returns-clause-map g c = run_holds (words_of c.args.words.now) (names_of c.in-Some-run_of.files) _ c.in-Some-run_of.ensures c.answer.result c.answer.ensures.map

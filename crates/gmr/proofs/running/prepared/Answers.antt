@@ -1,0 +1,87 @@
+use Rattle.std.proofs.Common.{rules, refl, map}
+use Rattle.std.proofs.lemmas.Result.{err_from_is_err_and}
+use Rattle.gm_model.specs.Rules.{rule_of}
+use Rattle.gmr.specs.Answer.{TheBook}
+use Rattle.gmr.specs.MadeRuns.{names_of}
+use Rattle.gmr.specs.RunAnswer.{IsFirstRefused}
+use Rattle.gmr.proofs.Agreeing.{can_run, agreed, not_agreed, dims_same, dims_differ}
+use Rattle.gmr.proofs.Lines.{run_is_sound, run_is_done}
+use Rattle.gmr.proofs.ReadBooks.{checkable_rules}
+use Rattle.gmr.proofs.RunStops.{rises_later, rises_last, lacks_map, lacks_book, lacks_script, at_map, at_book, at_rules, at_script, at_agreement, at_end}
+use Rattle.gmr.proofs.Stopping.{sound_to, bad_is_sound}
+use Rattle.gmr.proofs.running.prepared.Goals as goal
+
+pub plans_of-requires : goal.plans_of-requires
+plans_of-requires g c = checkable_rules c.in_ok-book.ensures.read.0 c.in_ok-book.book c.in_ok-book.ensures.read.1
+
+pub applied-requires : goal.applied-requires
+applied-requires g c =
+    can_run c.in_ok-arena.arena c.in_ok-book.book c.in_ok-script.script c.as_slice.result.now c.in_ok-arena.ensures.read c.in_ok-book.ensures.read c.in_ok-script.ensures.read (rw c.as_slice.ensures.value c.in_ok-plans.ensures.plans)
+    (dims_same _ _ (search rules))
+
+pub returns-in_err-arena-clause-made : goal.returns-in_err-arena-clause-made
+returns-in_err-arena-clause-made g c =
+    let p = err_from_is_err_and c.from_residual.result c.from_residual.ensures.1 in
+    rw (p.1, p.2) (at_map (names_of c.args.files) _ (g.S.Store.holds c.args.store.now) c.in_err-arena.field-0.0 c.in_err-arena.ensures.from)
+
+pub returns-in_err-book-clause-made : goal.returns-in_err-book-clause-made
+returns-in_err-book-clause-made g c =
+    let p = err_from_is_err_and c.from_residual-in_err-book.result c.from_residual-in_err-book.ensures.1 in
+    rw (p.1, p.2)
+    (at_book (names_of c.args.files) _ (g.S.Store.holds c.args.store.now) c.in_ok-arena.arena (Unit {0}) _ c.in_err-book.field-0.0 (rises_later _ _ _ c.load_map.ensures.faults_never_fall)
+    c.in_ok-arena.ensures.from (rw c.load_map.ensures.held at c.in_err-book.ensures.from))
+
+pub returns-in_err-plans-clause-made : goal.returns-in_err-plans-clause-made
+returns-in_err-plans-clause-made g c =
+    let p = err_from_is_err_and c.from_residual-in_err-plans.result c.from_residual-in_err-plans.ensures.1 in
+    rw (p.1, p.2)
+    (at_rules (names_of c.args.files) _ (g.S.Store.holds c.args.store.now) c.in_ok-arena.arena c.in_ok-book.book (Unit {0}) (Unit {0}) c.in_err-plans.field-0.0
+    c.in_ok-arena.ensures.from (rw c.load_map.ensures.held at c.in_ok-book.ensures.from) c.in_err-plans.ensures.stop)
+
+pub returns-in_err-script-clause-made : goal.returns-in_err-script-clause-made
+returns-in_err-script-clause-made g c =
+    let p = err_from_is_err_and c.from_residual-in_err-script.result c.from_residual-in_err-script.ensures.1 in
+    rw (p.1, p.2)
+    (at_script (names_of c.args.files) _ (g.S.Store.holds c.args.store.now) c.in_ok-arena.arena c.in_ok-book.book (Unit {0}) (Unit {0}) _ c.in_err-script.field-0.0
+    (rises_last _ _ _ _ c.load_map.ensures.faults_never_fall c.load_book.ensures.faults_never_fall) c.in_ok-arena.ensures.from (rw c.load_map.ensures.held at c.in_ok-book.ensures.from)
+    c.in_ok-plans.ensures.accepted (rw (c.load_book.ensures.held, c.load_map.ensures.held) at c.in_err-script.ensures.from))
+
+pub returns-clause-made : goal.returns-clause-made
+returns-clause-made g c =
+    at_end (names_of c.args.files) _ (g.S.Store.holds c.args.store.now) c.in_ok-arena.arena c.in_ok-book.book c.in_ok-script.script (Unit {0}) (Unit {0}) (Unit {0}) c.in_ok-arena.ensures.from (rw c.load_map.ensures.held at c.in_ok-book.ensures.from)
+    c.in_ok-plans.ensures.accepted (rw (c.load_book.ensures.held, c.load_map.ensures.held) at c.in_ok-script.ensures.from)
+    (agreed c.in_ok-arena.arena c.in_ok-book.book c.in_ok-script.script c.in_ok-book.ensures.read (dims_same _ _ (search rules))) c.applied.result c.applied.ensures.run
+
+pub returns-clause-sound : goal.returns-clause-sound
+returns-clause-sound g c = run_is_sound _ c.applied.result _ c.applied.ensures.run
+
+pub returns-clause-status : goal.returns-clause-status
+returns-clause-status g c = run_is_done _ c.applied.result c.applied.ensures.run
+
+pub returns-in_err-arena-clause-sound : goal.returns-in_err-arena-clause-sound
+returns-in_err-arena-clause-sound g c =
+    let p = err_from_is_err_and c.from_residual.result c.from_residual.ensures.1 in
+    rw (p.1, p.2) (sound_to _ _ (lacks_map (g.S.Store.holds c.args.store.now) (names_of c.args.files) _) c.in_err-arena.field-0.0 c.in_err-arena.ensures.from.1)
+
+pub returns-in_err-book-clause-sound : goal.returns-in_err-book-clause-sound
+returns-in_err-book-clause-sound g c =
+    let p = err_from_is_err_and c.from_residual-in_err-book.result c.from_residual-in_err-book.ensures.1 in
+    rw (p.1, p.2) (sound_to _ _ (lacks_book (g.S.Store.holds c.args.store.now) (names_of c.args.files) _ _ (rises_later _ _ _ c.load_map.ensures.faults_never_fall)) c.in_err-book.field-0.0 (rw c.load_map.ensures.held at c.in_err-book.ensures.from.1))
+
+pub returns-in_err-plans-clause-sound : goal.returns-in_err-plans-clause-sound
+returns-in_err-plans-clause-sound g c =
+    let p = err_from_is_err_and c.from_residual-in_err-plans.result c.from_residual-in_err-plans.ensures.1 in
+    rw (p.1, p.2) (bad_is_sound TheBook (IsFirstRefused c.in_ok-book.book.schema (map rule_of c.in_ok-book.book.rules)) _ c.in_err-plans.field-0.0 c.in_err-plans.ensures.stop)
+
+pub returns-in_err-script-clause-sound : goal.returns-in_err-script-clause-sound
+returns-in_err-script-clause-sound g c =
+    let p = err_from_is_err_and c.from_residual-in_err-script.result c.from_residual-in_err-script.ensures.1 in
+    rw (p.1, p.2)
+    (sound_to _ _ (lacks_script (g.S.Store.holds c.args.store.now) (names_of c.args.files) _ _ (rises_last _ _ _ _ c.load_map.ensures.faults_never_fall c.load_book.ensures.faults_never_fall)) c.in_err-script.field-0.0
+    (rw (c.load_book.ensures.held, c.load_map.ensures.held) at c.in_err-script.ensures.from.1))
+
+pub returns-then-not-agree-clause-made : goal.returns-then-not-agree-clause-made
+returns-then-not-agree-clause-made g c =
+    at_agreement (names_of c.args.files) _ (g.S.Store.holds c.args.store.now) c.in_ok-arena.arena c.in_ok-book.book c.in_ok-script.script (Unit {0}) (Unit {0}) (Unit {0}) c.in_ok-arena.ensures.from
+    (rw c.load_map.ensures.held at c.in_ok-book.ensures.from) c.in_ok-plans.ensures.accepted (rw (c.load_book.ensures.held, c.load_map.ensures.held) at c.in_ok-script.ensures.from)
+    (not_agreed c.in_ok-arena.arena c.in_ok-book.book c.in_ok-script.script (dims_differ _ _ (search rules)))

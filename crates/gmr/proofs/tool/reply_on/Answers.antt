@@ -1,0 +1,26 @@
+use Rattle.std.proofs.lemmas.Result.{err_from_is_err_and}
+use Rattle.gmr.specs.Refusals.{command_in}
+use Rattle.gmr.proofs.Asking.{not_loaded, loaded, load_is_sound, judged_is_sound, judged_refuses}
+use Rattle.gmr.proofs.tool.reply_on.Goals as goal
+
+pub returns-in_err-bytes-clause-text : goal.returns-in_err-bytes-clause-text
+returns-in_err-bytes-clause-text g c =
+    let p = err_from_is_err_and c.from_residual.result c.from_residual.ensures.1 in
+    rw (p.1, p.2)
+    (not_loaded (command_in c.args.command) c.args.file.now c.role_of.result c.role_of.ensures _ _ (g.S.Store.holds c.args.store.now) _ c.load_file.ensures.held c.in_err-bytes.field-0.0 c.in_err-bytes.ensures.loading)
+
+pub returns-in_err-bytes-clause-sound : goal.returns-in_err-bytes-clause-sound
+returns-in_err-bytes-clause-sound g c =
+    let p = err_from_is_err_and c.from_residual.result c.from_residual.ensures.1 in
+    rw (p.1, p.2) (load_is_sound (g.S.Store.holds c.args.store.now) c.args.file.now c.role_of.result _ c.in_err-bytes.field-0.0 _ c.in_err-bytes.ensures.loading)
+
+pub returns-clause-text : goal.returns-clause-text
+returns-clause-text g c =
+    loaded (command_in c.args.command) c.args.file.now c.role_of.result c.role_of.ensures _ _ (g.S.Store.holds c.args.store.now) _ c.load_file.ensures.held
+    c.in_ok-bytes.bytes c.judged.result c.in_ok-bytes.ensures.loading (rw c.as_slice.ensures.value at c.judged.ensures)
+
+pub returns-clause-rule_refused : goal.returns-clause-rule_refused
+returns-clause-rule_refused g c = judged_refuses c.as_slice.result.now (command_in c.args.command) c.judged.result c.judged.ensures
+
+pub returns-clause-sound : goal.returns-clause-sound
+returns-clause-sound g c = judged_is_sound c.as_slice.result.now (command_in c.args.command) c.judged.result _ _ c.judged.ensures

@@ -1,0 +1,32 @@
+-- Why a text stands for no script under a book's rules: its first fault by the grammar and its limits, or its first disagreement with the rules; and the words that say so.
+use Rattle.std.specs.Prelude.{ℕ, List, ◌++◌, codes, decimal}
+use Rattle.gm_model.specs.declared.limit.LimitKind.{LimitKind}
+use Rattle.gm_model.specs.MapFaults.{limit_word}
+use Rattle.gm_model.specs.Rules.{Rule}
+use Rattle.gm_script.specs.ScriptText.{IsTextFault, IsLimitFault, Disagreement, UnknownRuleAt, HookCountAt, ParamsAt, IsFirstDisagreement}
+
+pub data ScriptTextFault : Type 0 where
+  -- at this place no text goes on
+  Ends : ℕ → ScriptTextFault
+  -- a limit is passed at this place
+  Passes : LimitKind → ℕ → ScriptTextFault
+  -- a line disagrees with the rules
+  OfLine : Disagreement → ScriptTextFault
+
+-- Only a text that the grammar reads within its limits is compared with the rules.
+pub data IsFirstScriptFault (text : List ℕ) (rules : List Rule) : ScriptTextFault → Type 0 where
+  AtEnds : (place : ℕ) → IsTextFault text place → IsFirstScriptFault text rules (Ends place)
+  AtPasses : (what : LimitKind) (place : ℕ) → IsLimitFault text what place → IsFirstScriptFault text rules (Passes what place)
+  AtLine : (fault : Disagreement) → IsFirstDisagreement text rules fault → IsFirstScriptFault text rules (OfLine fault)
+
+-- ---- in words
+
+abbrev pub disagreement_words : Disagreement → List ℕ
+disagreement_words (UnknownRuleAt place) = codes "unknown-rule " ++ decimal place
+disagreement_words (HookCountAt place) = codes "hook-count " ++ decimal place
+disagreement_words (ParamsAt place) = codes "params " ++ decimal place
+
+abbrev pub script_fault_words : ScriptTextFault → List ℕ
+script_fault_words (Ends place) = codes "text " ++ decimal place
+script_fault_words (Passes what place) = codes "limit " ++ limit_word what ++ codes " " ++ decimal place
+script_fault_words (OfLine fault) = disagreement_words fault
