@@ -9,7 +9,7 @@ use Rattle.std.proofs.lemmas.List.Sorted.{Contains-permutation, IsPermutation-sy
 use Rattle.gm_model.specs.GMap.{Row}
 use Rattle.gm_model.specs.MapText.{names}
 
-abbrev Has : List Row → Row → Type 0
+abbrev pub Has : List Row → Row → Type 0
 Has [] row = ⊥
 Has (first ∷ rows) row = (first ≡ row) ⊎ Has rows row
 
@@ -62,7 +62,7 @@ contains_had [] row has = absurd has
 contains_had (first ∷ rows) row (inl same) = (0, omega arith, same)
 contains_had (first ∷ rows) row (inr has) = let k = contains_had rows row has in let lt : suc k.0 < suc (length rows) = omega (arith, k.1) in (suc k.0, lt, k.2)
 
-moves_into : (rows others : List Row) → IsPermutation rows others → (r : Row) → Has rows r → Has others r
+pub moves_into : (rows others : List Row) → IsPermutation rows others → (r : Row) → Has rows r → Has others r
 moves_into rows others moved r has =
     let there = Contains-permutation rows others r moved (contains_had rows r has) in
     has_contained others r there.0 there.1 there.2

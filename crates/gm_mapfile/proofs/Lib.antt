@@ -9,6 +9,8 @@ pub mod FirstFault
 pub mod Loop
 pub mod Ascending
 pub mod OneMap
+pub mod Moved
+pub mod OneFault
 pub mod Again
 pub mod Worked
 pub mod Chunks

@@ -1,4 +1,4 @@
--- A text has one first fault at most, and then stands for no map; it stands for one map at most.
+-- A text has one first fault of its grammar and limits at most, and then lists no rows; it stands for one map at most.
 use Rattle.std.proofs.Common.{◌≡◌, ℕ, List, Result, Ok, Err, sym, subst, ◌∙◌, ⊎_elim}
 use Rattle.std.specs.Prelude.{IsPermutation}
 use Rattle.std.proofs.lemmas.List.Sorted.{IsPermutation-sym, IsPermutation-trans}
@@ -6,7 +6,7 @@ use Rattle.gm_model.specs.declared.limit.LimitKind.{LimitKind}
 use Rattle.gm_model.specs.GMap.{Row}
 use Rattle.gm_model.specs.Symbols.{marks_of}
 use Rattle.gm_model.specs.Reading.{Part}
-use Rattle.gm_model.specs.MapText.{Role, spelling, IsListed, MapText, StandsForNoMap, IsTextFault, IsLimitFault}
+use Rattle.gm_model.specs.MapText.{Role, spelling, IsListed, MapText, IsTextFault, IsLimitFault}
 use Rattle.gm_mapfile.specs.Reading.{Stop, Ends, Passes, Lost}
 use Rattle.gm_mapfile.proofs.Plan.{run, IsRight, run_is_only}
 use Rattle.gm_mapfile.proofs.Listing.{one_listing}
@@ -27,7 +27,7 @@ text_run text place fault = is_run text (Err (Ends place)) (λ lost. absurd cc) 
 limit_run : (text : List ℕ) (what : LimitKind) (place : ℕ) → IsLimitFault text what place → Err (Passes what place) ≡ run map_plan (marks_of text)
 limit_run text what place fault = is_run text (Err (Passes what place)) (λ lost. absurd cc) (passed_by_plan (marks_of text) what place fault)
 
--- ---- one first fault at most
+-- ---- one first fault of grammar and limits at most
 
 pub one_text_fault : (text : List ℕ) (place other : ℕ) → IsTextFault text place → IsTextFault text other → place ≡ other
 one_text_fault text place other a b = let same = text_run text place a ∙ sym (text_run text other b) in cc same
@@ -38,13 +38,13 @@ one_limit_fault text what other place place' a b = let same = limit_run text wha
 pub text_or_limit : (text : List ℕ) (what : LimitKind) (place place' : ℕ) → IsTextFault text place → IsLimitFault text what place' → ⊥
 text_or_limit text what place place' a b = let same = text_run text place a ∙ sym (limit_run text what place' b) in cc same
 
--- ---- and then no map
+-- ---- and then no rows
 
-pub no_map_at_text : (text : List ℕ) (place : ℕ) → IsTextFault text place → StandsForNoMap text
-no_map_at_text text place fault n darts stands = let same = text_run text place fault ∙ sym (listed_run text n stands.written stands.listed) in cc same
+pub text_or_listed : (text : List ℕ) (place n : ℕ) (rows : List Row) → IsTextFault text place → IsListed text n rows → ⊥
+text_or_listed text place n rows fault listed = let same = text_run text place fault ∙ sym (listed_run text n rows listed) in cc same
 
-pub no_map_at_limit : (text : List ℕ) (what : LimitKind) (place : ℕ) → IsLimitFault text what place → StandsForNoMap text
-no_map_at_limit text what place fault n darts stands = let same = limit_run text what place fault ∙ sym (listed_run text n stands.written stands.listed) in cc same
+pub limit_or_listed : (text : List ℕ) (what : LimitKind) (place n : ℕ) (rows : List Row) → IsLimitFault text what place → IsListed text n rows → ⊥
+limit_or_listed text what place n rows fault listed = let same = limit_run text what place fault ∙ sym (listed_run text n rows listed) in cc same
 
 -- ---- one map at most
 

@@ -1,17 +1,8 @@
-use Rattle.gm_mapfile.proofs.OneMap.{one_text_fault, one_limit_fault, text_or_limit, no_map_at_text, no_map_at_limit}
+use Rattle.gm_mapfile.proofs.OneFault.{one_fault, no_map_at_fault}
 use Rattle.gm_mapfile.proofs.laws.one_first_fault_at_most.Goals as goal
 
-pub returns-clause-text : goal.returns-clause-text
-returns-clause-text c = one_text_fault
+pub returns-clause-one : goal.returns-clause-one
+returns-clause-one c = one_fault
 
-pub returns-clause-limit : goal.returns-clause-limit
-returns-clause-limit c = one_limit_fault
-
-pub returns-clause-either : goal.returns-clause-either
-returns-clause-either c = text_or_limit
-
-pub returns-clause-no_map_at_text : goal.returns-clause-no_map_at_text
-returns-clause-no_map_at_text c = no_map_at_text
-
-pub returns-clause-no_map_at_limit : goal.returns-clause-no_map_at_limit
-returns-clause-no_map_at_limit c = no_map_at_limit
+pub returns-clause-no_map : goal.returns-clause-no_map
+returns-clause-no_map c = no_map_at_fault
