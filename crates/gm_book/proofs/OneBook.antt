@@ -1,31 +1,30 @@
 -- A text is written as at most one book, and has at most one first fault, and then no book.
-use Rattle.std.proofs.Common.{◌≡◌, ◌≢◌, ℕ, ◌+◌, Bool, true, false, List, [], ◌∷◌, ◌++◌, length, map, Option, Some, None, Result, Ok, Err, refl, sym, ap, subst, ◌∙◌, codes, append_assoc, if◌then◌else◌, ◌≤◌, arith}
+use Rattle.std.proofs.Common.{◌≡◌, ◌≢◌, ℕ, ◌+◌, Bool, true, false, List, [], ◌∷◌, ◌++◌, map, Some, Result, Ok, Err, refl, sym, ap, subst, ◌∙◌, codes, append_assoc, if◌then◌else◌, ◌≤◌, arith}
 use Rattle.std.proofs.lemmas.List.{append-nil}
 use Rattle.std.specs.List.{AllByRecursion}
 use Rattle.std.specs.Str.{bytes_eq}
-use Rattle.gm_model.specs.declared.limit.LimitKind.{LimitKind}
 use Rattle.gm_model.specs.declared.rule.Side.{Side}
 use Rattle.gm_model.specs.declared.rule.Side.TheVariants.{Left, Right}
 use Rattle.gm_model.specs.declared.schema.Embed.{Embed}
 use Rattle.gm_model.specs.declared.schema.Schema.{Schema}
 use Rattle.gm_model.specs.declared.word.Letter.{Letter}
 use Rattle.gm_model.specs.declared.word.Letter.TheVariants as letters
-use Rattle.gm_model.specs.Names.{reserved}
 use Rattle.gm_model.specs.Rules.{Rule}
 use Rattle.gm_model.specs.Symbols.{Symbol, Word, Mark, symbols, marks_of}
 use Rattle.gm_model.specs.Reading.{symbols_in}
 use Rattle.gm_model.specs.Reading as reading
-use Rattle.gm_model.specs.BookText.{Mention, Item, NodeItem, LinkItem, RuleForm, BookForm, Count, no_count, count_after, counted, count_across, is_among, with_name, Role, Fixed, RuleWord, NameAt, NodeSign, WordEnd, limit_of, stands_before, word, sign, named, the_end, spell_letters, spell_hook, spell_item, spell_items, spell_rule, spell_rules, spelling, IsFree, IsItem, IsRule, IsForm, IsSentence, IsPlacedAt, ArePlaced, IsWritten, rule_in, BookText, StandsForNoBook, IsNotBuilt, IsTextFault, NameFault, TwiceAt, UnknownAt, place_of, IsNameFault, IsFirstNameFault}
+use Rattle.gm_model.specs.BookText.{Mention, Item, NodeItem, LinkItem, RuleForm, BookForm, Count, no_count, count_after, counted, count_across, Role, Fixed, NameAt, WordEnd, limit_of, stands_before, word, sign, named, the_end, spell_letters, spell_hook, spell_item, spell_items, spell_rules, spelling, IsItem, IsRule, IsForm, IsSentence, IsPlacedAt, ArePlaced, IsWritten, rule_in, BookText, StandsForNoBook, IsNotBuilt, IsTextFault, NameFault, TwiceAt, UnknownAt, place_of, IsNameFault, IsFirstNameFault}
 use Rattle.gm_text.specs.Machine.{Stop, Ends, Passes}
 use Rattle.gm_text.proofs.Machine.{Along, part_at, reading_runs, ends_run, passes_run}
 use Rattle.gm_book.specs.declared.fault.BookFault.{BookFault}
 use Rattle.gm_book.specs.declared.fault.BookFault.TheVariants as faults
-use Rattle.gm_book.specs.Faults.{IsFaultOf, IsOfGrammar}
-use Rattle.gm_book.specs.Reading.{Spot, State, AtFormat, AtVersion, AtDim, AtTop, AtRules, AtName, AtLeft, AtItem, AtSign, AtLetter, AtBehind, AtLabel, AtDash, AtTo, AtEnd, left_spot, right_spot, with_node, with_link, closing, is_hook, role_at, move, Part, Nothing, Named, Lettered, Linked, Labelled, Held, nothing_held, mention_at, with_item, hook_last, hold, held_behind, run, is_later}
+use Rattle.gm_book.specs.Faults.{IsFaultOf}
+use Rattle.gm_book.specs.Reading.{Spot, State, AtFormat, AtRules, AtName, AtItem, AtLetter, AtBehind, AtTo, AtEnd, with_node, closing, is_hook, role_at, move, Part, Nothing, Lettered, Held, nothing_held, hook_last, held_behind, run, is_later}
 use Rattle.gm_book.proofs.Grammar.{book_grammar}
 use Rattle.gm_book.proofs.Later.{not_built_is, not_built_ends}
-use Rattle.gm_book.proofs.Leading.{Led, spot_at, free_closes, free_hook, hook_side, link_free, led_behind, sentence_leads}
-use Rattle.gm_book.proofs.Spelling.{Parts, within, behind, grown, grown_nothing, put, hook_put}
+use Rattle.gm_book.proofs.Leading.{Led, spot_at, free_closes, free_hook, hook_side, link_free, sentence_leads}
+use Rattle.gm_book.proofs.NamePlaces.{twice_or_unknown}
+use Rattle.gm_book.proofs.Spelling.{Parts, within, behind, put, hook_put}
 
 -- ---- the marks of parts: a name stands where its mention says
 
@@ -217,6 +216,18 @@ one_book text schema schema' rules rules' one other =
 
 -- ---- one fault
 
+-- a fault of the text by its grammar and limits, or of what isn't read yet
+abbrev IsOfGrammar : BookFault → Type 0
+IsOfGrammar (faults.Text place) = Unit {0}
+IsOfGrammar (faults.Limit what place) = Unit {0}
+IsOfGrammar (faults.NotBuilt place) = Unit {0}
+IsOfGrammar _ = ⊥
+
+-- a fault of names as one of the book
+abbrev book_fault_of_name : NameFault → BookFault
+book_fault_of_name (TwiceAt place) = faults.Twice place
+book_fault_of_name (UnknownAt place) = faults.Unknown place
+
 module _ (text : List ℕ) where
   abbrev Run : Result State (Stop State)
   Run = run AtFormat 0 (marks_of text)
@@ -298,12 +309,34 @@ module _ (text : List ℕ) where
   one_answer (faults.NotBuilt p) (faults.Limit what q) of memory (s, m, here, ends, later) passes = let both : Err (Ends s m) ≡ Err (Passes what q) = sym ends ∙ passes in absurd cc
   one_answer (faults.NotBuilt p) (faults.NotBuilt q) of memory (s, m, here, ends, later) (s', m', here', ends', later') = ap faults.NotBuilt (sym here ∙ (same_end s s' m m' ends ends').1 ∙ here')
 
-  pub one_fault : (one other : BookFault) → IsOfGrammar one → other ≢ faults.OutOfMemory → IsFaultOf text one → IsFaultOf text other → one ≡ other
-  one_fault one other of memory is is' = one_answer one other of memory (answers one is) (answers other is')
+  one_grammar_fault : (one other : BookFault) → IsOfGrammar one → other ≢ faults.OutOfMemory → IsFaultOf text one → IsFaultOf text other → one ≡ other
+  one_grammar_fault one other of memory is is' = one_answer one other of memory (answers one is) (answers other is')
 
-  pub one_name_fault : (fault other : NameFault) → IsFirstNameFault text fault → IsFirstNameFault text other → place_of fault ≡ place_of other
+  -- the places are one, and there no name is both declared and looked up
+  pub one_name_fault : (fault other : NameFault) → IsFirstNameFault text fault → IsFirstNameFault text other → fault ≡ other
   one_name_fault fault other is is' =
       let same : is.book ≡ is'.book = one_written text is.book is'.book is.written is'.written in
-      let here : place_of fault ≤ place_of other = is.first other (subst (λ (b : BookForm). IsNameFault b other) (sym same) is'.found) in
-      let there : place_of other ≤ place_of fault = is'.first fault (subst (λ (b : BookForm). IsNameFault b fault) same is.found) in
-      omega (arith, here, there)
+      let found : IsNameFault is.book other = subst (λ (b : BookForm). IsNameFault b other) (sym same) is'.found in
+      let up : place_of fault ≤ place_of other = is.first other found in
+      let down : place_of other ≤ place_of fault = is'.first fault (subst (λ (b : BookForm). IsNameFault b fault) same is.found) in
+      go fault other is.found found (omega (arith, up, down))
+    where
+      go : (one two : NameFault) → IsNameFault is.book one → IsNameFault is.book two → place_of one ≡ place_of two → one ≡ two
+      go (TwiceAt place) (TwiceAt last) twice again same = ap TwiceAt same
+      go (TwiceAt place) (UnknownAt last) twice unknown same = absurd (twice_or_unknown text is.book last is.written (subst (λ p. IsNameFault is.book (TwiceAt p)) same twice) unknown)
+      go (UnknownAt place) (TwiceAt last) unknown twice same = absurd (twice_or_unknown text is.book place is.written (subst (λ p. IsNameFault is.book (TwiceAt p)) (sym same) twice) unknown)
+      go (UnknownAt place) (UnknownAt last) unknown again same = ap UnknownAt same
+
+  pub one_fault : (one other : BookFault) → one ≢ faults.OutOfMemory → other ≢ faults.OutOfMemory → IsFaultOf text one → IsFaultOf text other → one ≡ other
+  one_fault (faults.Text place) other memory memory' is is' = one_grammar_fault (faults.Text place) other tt memory' is is'
+  one_fault (faults.Limit what place) other memory memory' is is' = one_grammar_fault (faults.Limit what place) other tt memory' is is'
+  one_fault (faults.NotBuilt place) other memory memory' is is' = one_grammar_fault (faults.NotBuilt place) other tt memory' is is'
+  one_fault faults.OutOfMemory other memory memory' is is' = absurd (memory refl)
+  one_fault one faults.OutOfMemory memory memory' is is' = absurd (memory' refl)
+  one_fault one (faults.Text place) memory memory' is is' = sym (one_grammar_fault (faults.Text place) one tt memory is' is)
+  one_fault one (faults.Limit what place) memory memory' is is' = sym (one_grammar_fault (faults.Limit what place) one tt memory is' is)
+  one_fault one (faults.NotBuilt place) memory memory' is is' = sym (one_grammar_fault (faults.NotBuilt place) one tt memory is' is)
+  one_fault (faults.Twice place) (faults.Twice last) memory memory' is is' = ap book_fault_of_name (one_name_fault (TwiceAt place) (TwiceAt last) is is')
+  one_fault (faults.Twice place) (faults.Unknown last) memory memory' is is' = ap book_fault_of_name (one_name_fault (TwiceAt place) (UnknownAt last) is is')
+  one_fault (faults.Unknown place) (faults.Twice last) memory memory' is is' = ap book_fault_of_name (one_name_fault (UnknownAt place) (TwiceAt last) is is')
+  one_fault (faults.Unknown place) (faults.Unknown last) memory memory' is is' = ap book_fault_of_name (one_name_fault (UnknownAt place) (UnknownAt last) is is')

@@ -24,13 +24,6 @@ place_of_fault (faults.Twice place) = place
 place_of_fault (faults.Unknown place) = place
 place_of_fault faults.OutOfMemory = 0
 
--- a fault of the text by its grammar and limits, or of what isn't read yet
-abbrev pub IsOfGrammar : BookFault → Type 0
-IsOfGrammar (faults.Text place) = Unit {0}
-IsOfGrammar (faults.Limit what place) = Unit {0}
-IsOfGrammar (faults.NotBuilt place) = Unit {0}
-IsOfGrammar _ = ⊥
-
 -- a fault of the form as one of the book
 abbrev pub book_fault_of_form : FormFault → BookFault
 book_fault_of_form (forms.Text place) = faults.Text place

@@ -3,21 +3,21 @@ ghost use Rattle.std.specs.Prelude.{◌≡◌, ◌≢◌, ℕ, List, All};
 ghost use Rattle.gm_model.specs.declared.schema.Schema.{Schema};
 ghost use Rattle.gm_model.specs.Rules.{Rule};
 ghost use Rattle.gm_model.specs.Structure.{IsInRange, IsWithinLimits};
-ghost use Rattle.gm_model.specs.BookText.{BookText, canonical, StandsForNoBook, NameFault, IsFirstNameFault, place_of};
+ghost use Rattle.gm_model.specs.BookText.{BookText, canonical, StandsForNoBook, NameFault, IsFirstNameFault};
 ghost use Rattle.gm_book.specs.declared.fault.BookFault.{BookFault};
 ghost use Rattle.gm_book.specs.declared.fault.BookFault.TheVariants.{OutOfMemory};
-ghost use Rattle.gm_book.specs.Faults.{IsFaultOf, IsOfGrammar};
+ghost use Rattle.gm_book.specs.Faults.{IsFaultOf};
 
 /// A text stands for one book at most.
 pub fn one_book_at_most()
     ensures { (text : List ℕ) (schema other : Schema) (rules others : List Rule) → BookText text schema rules → BookText text other others → (schema ≡ other) × (rules ≡ others) }
 {}
 
-/// A text has one first fault at most by its grammar and limits, and else the faults of its names
-/// have one first place.
+/// A text has one first fault at most, its kind and place included: by its grammar and limits, or
+/// else by its names.
 pub fn one_first_fault_at_most()
-    ensures grammar { (text : List ℕ) (fault other : BookFault) → IsOfGrammar fault → other ≢ OutOfMemory → IsFaultOf text fault → IsFaultOf text other → fault ≡ other }
-    ensures names { (text : List ℕ) (fault other : NameFault) → IsFirstNameFault text fault → IsFirstNameFault text other → place_of fault ≡ place_of other }
+    ensures one { (text : List ℕ) (fault other : BookFault) → fault ≢ OutOfMemory → other ≢ OutOfMemory → IsFaultOf text fault → IsFaultOf text other → fault ≡ other }
+    ensures names { (text : List ℕ) (fault other : NameFault) → IsFirstNameFault text fault → IsFirstNameFault text other → fault ≡ other }
 {}
 
 /// A text that has a fault stands for no book.
