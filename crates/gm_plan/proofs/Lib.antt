@@ -3,6 +3,7 @@ pub mod Bare
 pub mod Extended
 pub mod Found
 pub mod LeftNodes
+pub mod OneFault
 pub mod Orders
 pub mod PathLinks
 pub mod Rows

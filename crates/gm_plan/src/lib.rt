@@ -4,6 +4,7 @@
 
 mod compiler;
 mod instances;
+mod laws;
 mod paths;
 mod plan;
 mod sides;
@@ -12,4 +13,5 @@ mod tests;
 
 pub use compiler::{PlanFault, compile};
 pub use instances::Instances;
+pub use laws::one_fault_at_most;
 pub use plan::Plan;
