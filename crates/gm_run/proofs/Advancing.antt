@@ -1,9 +1,9 @@
 -- How a run goes on from line to line.
-use Rattle.std.proofs.Common.{◌≡◌, ◌≢◌, ℕ, ◌+◌, ◌<◌, ◌≤◌, List, [], ◌∷◌, ◌++◌, map, take, length, IsTrue, get_or, None, Some, inl, refl, sym, ap, subst, ap₂, ◌∙◌, Result, Ok, Err, arith}
+use Rattle.std.proofs.Common.{◌≡◌, ◌≢◌, ℕ, ◌+◌, ◌<◌, ◌≤◌, List, [], ◌∷◌, ◌++◌, map, take, drop, length, IsTrue, get_or, None, Some, inl, refl, sym, ap, subst, ap₂, ◌∙◌, Result, Ok, Err, arith}
 use Rattle.std.specs.Prelude.{slice_get, MatchResult}
 use Rattle.std.specs.Option.{option_map}
 use Rattle.std.specs.List.{Contains}
-use Rattle.std.proofs.lemmas.List.{take_more, take_all, map-append, length-map}
+use Rattle.std.proofs.lemmas.List.{take_more, take_all, take-append-drop, drop_more, map-append, length-map}
 use Rattle.std.proofs.lemmas.List.Elements.{All-push}
 use Rattle.std.proofs.lemmas.Option.{slice_get_within, slice_get-get_or, slice_get-map, get_or_from_slice_get, same_Some}
 use Rattle.gm_model.specs.declared.schema.Embed.{Embed}
@@ -12,7 +12,7 @@ use Rattle.gm_model.specs.declared.schema.Schema.{Schema}
 use Rattle.gm_model.specs.declared.script.Line.{Line}
 use Rattle.gm_model.specs.declared.value.Value.{Value}
 use Rattle.gm_model.specs.Applications.{Application, Cause, IsDone, IsRefused, NoHookDart, BrokenStep, Repeated, ValuelessPre, FalsePre, NoRoom, NoNames, Valueless, IsBudget, Of, IsWork, NoHookDarts, NoMatch, NotReady, Ready, IsStaying, IsUnfolded, IsReachedSum, IsReadSum}
-use Rattle.gm_model.specs.Maps.{Map, IsDart, IsEmbedAt}
+use Rattle.gm_model.specs.Maps.{Map, IsDart, IsEmbedAt, IsGeneralised}
 use Rattle.gm_model.specs.Rules.{Rule, rule_of}
 use Rattle.gm_model.specs.Runs.{IsOutcome, IsLineOutcome, IsLineBudget, IsRun, IsRunBudget, changed_darts}
 use Rattle.gm_model.specs.Runs as runs
@@ -25,12 +25,16 @@ use Rattle.gm_arena.specs.ArenaAsMap.{as_map}
 use Rattle.gm_arena.specs.ArenaMap.{ArenaMap}
 use Rattle.gm_match.specs.Outcome as matches
 use Rattle.gm_pending.specs.EditLists.{HasSameRows}
-use Rattle.gm_plan.specs.Plans.{PlanOf}
+use Rattle.gm_plan.specs.Plans.{PlanOf, IsPlanned}
 use Rattle.gm_theory.proofs.ValuesUnique.{one_count}
 use Rattle.gm_run.specs.declared.outcome.Outcome.{Outcome}
 use Rattle.gm_run.specs.declared.outcome.Outcome.TheVariants as outcomes
 use Rattle.gm_run.specs.Lines.{cause_of, outcome_of}
+use Rattle.gm_run.specs.Alike.{AreAlike}
 use Rattle.gm_run.specs.Progress.{rules_of, IsPlanFor, ArePlansFor, Agrees, IsDecided, HasLine, HasRun, IsStopped, IsCutShort}
+use Rattle.gm_run.proofs.AlikeLemmas.{alike_self}
+use Rattle.gm_run.proofs.Determined.{determined}
+use Rattle.gm_run.proofs.OnlyRun.{IsDetermined, only_more, within_more}
 
 -- ---- a budget for each application that has an outcome
 
@@ -95,12 +99,19 @@ refused_for app (refusals.FullNames next more) other h = h
 refused_for app (refusals.NoValue e x) other h = h
 refused_for app refusals.OutOfMemory other h = absurd (other refl)
 
+-- the outcome of a line is that of its rule's application
+outcome_here : (rules : List Rule) (before after : Map) (line : Line) (rule : Rule) (outcome : runs.Outcome) → slice_get rules line.rule ≡ Some rule → IsLineOutcome rules before line outcome after → IsOutcome (runs.application_of before rule line) outcome after
+outcome_here rules before after line rule outcome is h = subst (λ r. IsOutcome (runs.application_of before r line) outcome after) (same_Some h.rule rule (sym h.rule_is ∙ is)) h.outcome_is
+
 -- the budget of a line is that of its rule's application
 budget_here : (rules : List Rule) (before : Map) (line : Line) (rule : Rule) (most : ℕ) → slice_get rules line.rule ≡ Some rule → IsLineBudget rules before line most → IsBudget (runs.application_of before rule line) most
 budget_here rules before line rule most is budget = subst (λ r. IsBudget (runs.application_of before r line) most) (same_Some budget.rule rule (sym budget.rule_is ∙ is)) budget.budget
 
 module _ (rules : List Rule) (m n : ArenaMap) (line : Line) (rule : Rule) (rule_is : slice_get rules line.rule ≡ Some rule) (no_embeds : m.schema.embeds ≡ []) (no_pre : rule.pre ≡ None) (start steps : ℕ)
-    (within : (most : ℕ) → IsBudget (matches.application_of m rule line.hooks line.params) most → steps ≤ start + most) where
+    (one : IsDetermined (matches.application_of m rule line.hooks line.params)) (within : (most : ℕ) → IsBudget (matches.application_of m rule line.hooks line.params) most → steps ≤ start + most) where
+  within_alike : (other : Map) → AreAlike other (as_map m) → (most : ℕ) → IsLineBudget rules other line most → steps ≤ start + most
+  within_alike other alike most budget = within most (one.budget other alike most (budget_here rules other line rule most rule_is budget))
+
   has_line : (outcome : Outcome) → IsDecided outcome → IsOutcome (matches.application_of m rule line.hooks line.params) (outcome_of outcome) (as_map n) → start + changed_darts (outcome_of outcome ∷ []) ≤ steps
       → HasLine rules (as_map m) line outcome (as_map n) start steps
   has_line outcome decided is least =
@@ -110,7 +121,8 @@ module _ (rules : List Rule) (m n : ArenaMap) (line : Line) (rule : Rule) (rule_
         decided = decided;
         most = budget.0;
         budget = record { rule = rule; rule_is = rule_is; budget = budget.1 };
-        within = within budget.0 budget.1;
+        only = λ other alike o end h. one.only other alike o (outcome_of outcome) end (as_map n) (outcome_here rules other end line rule o rule_is h) is;
+        within = within_alike;
         least = least;
       }
 
@@ -126,13 +138,14 @@ module _ (rules : List Rule) (m n : ArenaMap) (line : Line) (rule : Rule) (rule_
   pub is_stopped : HasSameRows m n → IsStopped rules (as_map m) line (as_map n) start steps
   is_stopped same = record {
     same = ap as_map same;
-    within = λ most budget. within most (budget_here rules (as_map m) line rule most rule_is budget);
+    within = within_alike;
   }
 
 -- ---- the line's plan
 
 module _ (plans : List PlanOf) (m n : ArenaMap) (line : Line) (plan : PlanOf) (all_for : ArePlansFor m.schema plans) (agrees : Agrees (rules_of plans) line) (is : plan ≡ get_or plans line.rule plan)
     (hooks : List ℕ) (params : List Value) (same_hooks : hooks ≡ line.hooks) (same_params : params ≡ line.params) (start steps : ℕ)
+    (generalised : IsGeneralised (as_map m)) (planned : IsPlanned plan.schema (rule_of plan.table))
     (within : (most : ℕ) → IsBudget (matches.application_of m (rule_of plan.table) hooks params) most → steps ≤ start + most) where
   named : line.rule < length plans
   named = omega (arith, slice_get_within (rules_of plans) line.rule agrees.0 agrees.1, length-map plans (λ (p : PlanOf). rule_of p.table))
@@ -149,13 +162,16 @@ module _ (plans : List PlanOf) (m n : ArenaMap) (line : Line) (plan : PlanOf) (a
   same_app : matches.application_of m (rule_of plan.table) hooks params ≡ matches.application_of m (rule_of plan.table) line.hooks line.params
   same_app = ap₂ (matches.application_of m (rule_of plan.table)) same_hooks same_params
 
+  one_here : IsDetermined (matches.application_of m (rule_of plan.table) line.hooks line.params)
+  one_here = determined plan.schema (rule_of plan.table) line.hooks line.params (as_map m) plan_for.no_embeds plan_for.no_pre planned.in_range planned.incidence plan_for.same generalised
+
   within_here : (most : ℕ) → IsBudget (matches.application_of m (rule_of plan.table) line.hooks line.params) most → steps ≤ start + most
   within_here most budget = within most (subst (λ app. IsBudget app most) (sym same_app) budget)
 
   pub line_done : (applied : Applied) → IsDone (matches.application_of m (rule_of plan.table) hooks params) (as_map n) applied.added applied.removed → start + applied.added + applied.removed ≤ steps
       → HasLine (rules_of plans) (as_map m) line (outcomes.Done applied) (as_map n) start steps
   line_done applied done least =
-      has_done (rules_of plans) m n line (rule_of plan.table) rule_is no_embeds_here plan_for.no_pre start steps within_here applied
+      has_done (rules_of plans) m n line (rule_of plan.table) rule_is no_embeds_here plan_for.no_pre start steps one_here within_here applied
       (subst (λ app. IsDone app (as_map n) applied.added applied.removed) same_app done) least
 
   pub line_refused : (refusal : Refusal) (result : Result Outcome OutOfMemory) → MatchResult result (λ outcome. (outcome ≡ outcomes.Refused refusal) × (refusal ≢ refusals.OutOfMemory)) (λ _. refusal ≡ refusals.OutOfMemory)
@@ -163,10 +179,10 @@ module _ (plans : List PlanOf) (m n : ArenaMap) (line : Line) (plan : PlanOf) (a
       → MatchResult result (λ outcome. HasLine (rules_of plans) (as_map m) line outcome (as_map n) start steps) (λ _. IsStopped (rules_of plans) (as_map m) line (as_map n) start steps)
   line_refused refusal (Ok outcome) told refused rises =
       subst (λ o. HasLine (rules_of plans) (as_map m) line o (as_map n) start steps) (sym told.0)
-      (has_refused (rules_of plans) m n line (rule_of plan.table) rule_is no_embeds_here plan_for.no_pre start steps within_here refusal told.1
+      (has_refused (rules_of plans) m n line (rule_of plan.table) rule_is no_embeds_here plan_for.no_pre start steps one_here within_here refusal told.1
       (subst (λ app. IsRefusedFor app refusal) same_app refused.0) refused.1 rises)
   line_refused refusal (Err error) told refused rises =
-      is_stopped (rules_of plans) m n line (rule_of plan.table) rule_is no_embeds_here plan_for.no_pre start steps within_here refused.1
+      is_stopped (rules_of plans) m n line (rule_of plan.table) rule_is no_embeds_here plan_for.no_pre start steps one_here within_here refused.1
 
 -- ---- one line more
 
@@ -199,15 +215,14 @@ module _ (rules : List Rule) where
       let changed = ap changed_darts (sym mapped) ∙ changed_on (map outcome_of outcomes) (outcome_of outcome) in
       let least = run.least in
       let last_least = last.least in
-      let within = run.within in
-      let last_within = last.within in
       record {
         run = subst (λ os. IsRun rules before (lines ++ line ∷ []) os after) mapped (run_on before between after lines (map outcome_of outcomes) line (outcome_of outcome) run.run last.is);
         decided = All-push IsDecided outcomes outcome run.decided last.decided;
         most = run.most + last.most;
         budget = subst (λ os. IsRunBudget rules before (lines ++ line ∷ []) os after (run.most + last.most)) mapped
             (budget_on before between after lines (map outcome_of outcomes) line (outcome_of outcome) run.most last.most run.budget last.is last.budget);
-        within = omega (arith, within, last_within);
+        only = only_more rules before between lines outcomes line start middle steps run outcome after last;
+        within = within_more rules before between lines outcomes line start middle steps run [] last.within;
         least = omega (arith, least, last_least, changed);
       }
 
@@ -219,9 +234,14 @@ module _ (rules : List Rule) where
       decided = λ k d h. absurd (omega (arith, h));
       most = 0;
       budget = (refl, refl);
-      within = omega arith;
+      only = only_none;
+      within = λ other alike os end most budget. omega arith;
       least = omega arith;
     }
+      where
+        only_none : (other : Map) → AreAlike other before → (os : List runs.Outcome) (end : Map) → IsRun rules other [] os end → (os ≡ []) × AreAlike end before
+        only_none other alike [] end e = (refl, subst (λ m. AreAlike m before) (sym e) alike)
+        only_none other alike (o ∷ os) end h = absurd h
 
     pub line_more : (k : ℕ) (d line : Line) (between after : Map) (outcomes : List Outcome) (outcome : Outcome) (middle steps : ℕ) → k < length lines → line ≡ get_or lines k d
         → HasRun rules before (take k lines) outcomes between start middle → HasLine rules between line outcome after middle steps
@@ -242,6 +262,7 @@ module _ (rules : List Rule) where
       budget = (refl, refl);
       within = λ line rest at budget. omega arith;
       ended = λ past. omega arith;
+      whole = λ os end most budget. omega arith;
     }
 
     pub cut_at : (k : ℕ) (d line : Line) (between after : Map) (outcomes : List Outcome) (middle steps : ℕ) → k < length lines → line ≡ get_or lines k d
@@ -254,12 +275,17 @@ module _ (rules : List Rule) where
       budget = subst (λ m. IsRunBudget rules before (take k lines) (map outcome_of outcomes) m run.most) (sym stopped.same) run.budget;
       within = λ other rest at budget. rest_within other rest at budget;
       ended = λ past. absurd (omega (arith, in_lines, past));
+      whole = λ os end most budget. within_more rules before between (take k lines) outcomes line start middle steps run (drop (k + 1) lines) stopped.within before (alike_self before) os end most
+          (subst (λ ls. IsRunBudget rules before ls os end most) split budget);
     }
       where
+        split : lines ≡ take k lines ++ line ∷ drop (k + 1) lines
+        split = sym (take-append-drop k lines) ∙ ap (λ ls. take k lines ++ ls) (drop_more lines k d in_lines ∙ ap (λ l. l ∷ drop (k + 1) lines) (sym is))
+
         rest_within : (other : Line) (rest : ℕ) → slice_get lines k ≡ Some other → IsLineBudget rules after other rest → steps ≤ start + run.most + rest
         rest_within other rest at budget =
             let same : other ≡ line = same_Some other line (sym at ∙ slice_get-get_or lines k d in_lines ∙ ap Some (sym is)) in
             let here : IsLineBudget rules between line rest = subst (λ l. IsLineBudget rules between l rest) same (subst (λ m. IsLineBudget rules m other rest) stopped.same budget) in
-            let last = stopped.within rest here in
-            let before_it = run.within in
+            let last = stopped.within between (alike_self between) rest here in
+            let before_it = run.within before (alike_self before) (map outcome_of outcomes) between run.most run.budget in
             omega (arith, last, before_it)

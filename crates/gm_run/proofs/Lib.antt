@@ -1,3 +1,14 @@
 pub mod Told
+pub mod AlikeLemmas
+pub mod AlikeMatches
+pub mod AlikeScenes
+pub mod AlikeWork
+pub mod Endings
+pub mod OneOutcome
+pub mod Splitting
+pub mod OnlyRun
+pub mod Determined
 pub mod Advancing
 pub mod Sayable
+pub mod LeastPaths
+pub mod OneRun

@@ -1,3 +1,4 @@
+pub mod Alike
 pub mod Lines
 pub mod Printing
 pub mod Progress

@@ -8,6 +8,7 @@ use Rattle.gm_model.specs.Runs.{IsLineOutcome, IsLineBudget, IsRun, IsRunBudget,
 use Rattle.gm_model.specs.Runs as runs
 use Rattle.gm_plan.specs.Plans.{PlanOf}
 use Rattle.gm_apply.specs.declared.refusal.Refusal.TheVariants as refusals
+use Rattle.gm_run.specs.Alike.{AreAlike}
 use Rattle.gm_run.specs.declared.outcome.Outcome.{Outcome}
 use Rattle.gm_run.specs.declared.outcome.Outcome.TheVariants as outcomes
 use Rattle.gm_run.specs.Lines.{outcome_of}
@@ -37,13 +38,16 @@ abbrev pub IsDecided : Outcome → Type 0
 IsDecided (outcomes.Done applied) = Unit {0}
 IsDecided (outcomes.Refused refusal) = refusal ≢ refusals.OutOfMemory
 
--- one line took the map from one to another, within its budget, and with a step for each dart that it changed
+-- One line took the map from one to another, within its budget, and with a step for each dart that it changed. A run that the definition gives may come to the line at a map that differs from this one at names without a dart, so two fields speak of each map alike.
 pub record HasLine (rules : List Rule) (before : Map) (line : Line) (outcome : Outcome) (after : Map) (start steps : ℕ) : Type 0 where
   pub is : IsLineOutcome rules before line (outcome_of outcome) after
   pub decided : IsDecided outcome
   pub most : ℕ
   pub budget : IsLineBudget rules before line most
-  pub within : steps ≤ start + most
+  -- whatever outcome of the line the definition gives, at a map alike, it is this one
+  pub only : (other : Map) → AreAlike other before → (o : runs.Outcome) (end : Map) → IsLineOutcome rules other line o end → (o ≡ outcome_of outcome) × AreAlike end after
+  -- whatever budget of the line the definition gives, at a map alike, the steps are within it
+  pub within : (other : Map) → AreAlike other before → (most : ℕ) → IsLineBudget rules other line most → steps ≤ start + most
   pub least : start + changed_darts (outcome_of outcome ∷ []) ≤ steps
 
 -- all lines did
@@ -52,15 +56,18 @@ pub record HasRun (rules : List Rule) (before : Map) (lines : List Line) (outcom
   pub decided : All IsDecided outcomes
   pub most : ℕ
   pub budget : IsRunBudget rules before lines (map outcome_of outcomes) after most
-  pub within : steps ≤ start + most
+  -- whatever run of the lines the definition gives, from a map alike, it is this one
+  pub only : (other : Map) → AreAlike other before → (os : List runs.Outcome) (end : Map) → IsRun rules other lines os end → (os ≡ map outcome_of outcomes) × AreAlike end after
+  -- whatever budget of the lines the definition gives, from a map alike, the steps are within it
+  pub within : (other : Map) → AreAlike other before → (os : List runs.Outcome) (end : Map) (most : ℕ) → IsRunBudget rules other lines os end most → steps ≤ start + most
   pub least : start + changed_darts (map outcome_of outcomes) ≤ steps
 
--- memory was wanting at the line, which left the map, within the line's budget
+-- memory was wanting at the line, which left the map, within whatever budget the line has at a map alike
 pub record IsStopped (rules : List Rule) (before : Map) (line : Line) (after : Map) (start steps : ℕ) : Type 0 where
   pub same : after ≡ before
-  pub within : (most : ℕ) → IsLineBudget rules before line most → steps ≤ start + most
+  pub within : (other : Map) → AreAlike other before → (most : ℕ) → IsLineBudget rules other line most → steps ≤ start + most
 
--- Memory was wanting behind some of the lines, which left this map. The steps are within the budget of these lines and of the one behind them, where there is one.
+-- Memory was wanting behind some of the lines, which left this map. The steps are within the budget of these lines and of the one behind them, where there is one, and so within that of all lines.
 pub record IsCutShort (rules : List Rule) (before : Map) (lines : List Line) (after : Map) (start steps : ℕ) : Type 0 where
   pub done : ℕ
   pub outcomes : List runs.Outcome
@@ -69,3 +76,5 @@ pub record IsCutShort (rules : List Rule) (before : Map) (lines : List Line) (af
   pub budget : IsRunBudget rules before (take done lines) outcomes after most
   pub within : (line : Line) (rest : ℕ) → slice_get lines done ≡ Some line → IsLineBudget rules after line rest → steps ≤ start + most + rest
   pub ended : length lines ≤ done → steps ≤ start + most
+  -- whatever budget of all lines the definition gives, the steps are within it
+  pub whole : (os : List runs.Outcome) (end : Map) (most : ℕ) → IsRunBudget rules before lines os end most → steps ≤ start + most

@@ -2,11 +2,13 @@
 //! what became of the lines is told in a report.
 #![tactic(auto)]
 
+mod laws;
 mod outcome;
 mod printing;
 mod running;
 mod words;
 
+pub use laws::one_run_at_most;
 pub use outcome::{Outcome, Report};
 pub use printing::print_report;
 pub use running::run;

@@ -1,10 +1,12 @@
 //! A run: the lines of a script, one after another.
-ghost use Rattle.std.specs.Prelude.{◌≡◌, ◌≢◌, ℕ, ◌+◌, ◌≤◌, All, IfOk, IfErr, MatchResult, map};
-ghost use Rattle.gm_model.specs.Maps.{IsGeneralised, IsDart};
+ghost use Rattle.std.specs.Prelude.{◌≡◌, ◌≢◌, ℕ, ◌+◌, ◌≤◌, All, IfOk, IfErr, List, MatchResult, map};
+ghost use Rattle.gm_model.specs.Maps.{Map, IsGeneralised, IsDart};
 ghost use Rattle.gm_model.specs.Orbits.{HasCount};
 ghost use Rattle.gm_model.specs.Runs.{IsRun, IsRunBudget, changed_darts};
+ghost use Rattle.gm_model.specs.Runs as runs;
 ghost use Rattle.gm_apply.specs.declared.refusal.Refusal.TheVariants as refusals;
 ghost use Rattle.gm_arena.specs.ArenaAsMap.{as_map};
+ghost use Rattle.gm_run.specs.Alike.{AreAlike};
 ghost use Rattle.gm_run.specs.declared.outcome.Outcome.TheVariants as outcomes;
 ghost use Rattle.gm_run.specs.Lines.{outcome_of};
 ghost use Rattle.gm_run.specs.Printing.{CanBePrinted};
@@ -25,6 +27,9 @@ use std::sync::ledger::Ledger;
 /// The arena is a generalised map again, whatever the answer is. Where memory was wanting, it has
 /// the map after some of the lines, the first ones, and none was applied in part. No outcome is a
 /// refusal for want of memory.
+///
+/// There is one run: whatever outcomes the definition gives, the report has them, and whatever map,
+/// the arena has one alike. The steps are within whatever budget it gives, whatever the answer is.
 pub fn run<L: Ledger>(
     alloc: Global,
     plans: &[Plan<'_>],
@@ -37,7 +42,9 @@ pub fn run<L: Ledger>(
     requires lines { All (Agrees (rules_of plans.now)) script.now.lines }
     ensures run { IfOk result (λ report. IsRun (rules_of plans.now) (as_map arena.old) script.now.lines (map outcome_of report.lines) (as_map arena.new)) }
     ensures decided { IfOk result (λ report. All IsDecided report.lines) }
-    ensures most { IfOk result (λ report. (most : ℕ) × IsRunBudget (rules_of plans.now) (as_map arena.old) script.now.lines (map outcome_of report.lines) (as_map arena.new) most × (steps.new ≤ steps.old + most)) }
+    ensures only { IfOk result (λ report. (outcomes : List runs.Outcome) (after : Map) → IsRun (rules_of plans.now) (as_map arena.old) script.now.lines outcomes after → (outcomes ≡ map outcome_of report.lines) × AreAlike after (as_map arena.new)) }
+    ensures most { (outcomes : List runs.Outcome) (after : Map) (most : ℕ) → IsRunBudget (rules_of plans.now) (as_map arena.old) script.now.lines outcomes after most → steps.new ≤ steps.old + most }
+    ensures budget { IfOk result (λ report. (most : ℕ) × IsRunBudget (rules_of plans.now) (as_map arena.old) script.now.lines (map outcome_of report.lines) (as_map arena.new) most) }
     ensures least { IfOk result (λ report. steps.old + changed_darts (map outcome_of report.lines) ≤ steps.new) }
     ensures darts { IfOk result (λ report. (report.darts ≡ arena.new.count) × HasCount (IsDart (as_map arena.new)) report.darts) }
     ensures next { IfOk result (λ report. report.next ≡ arena.new.next) }
@@ -100,6 +107,8 @@ fn line_outcome<L: Ledger>(
     let plan = &plans[line.rule as usize];
     let hooks = line.hooks.as_slice();
     let params = line.params.as_slice();
+    // From this call it is known that a plan's rule is accepted: so the line has one outcome.
+    prove!(plan.rule().hooks.as_slice().len() == hooks.len());
     match apply(alloc, plan, arena, hooks, params, scratch, steps) {
         Ok(applied) => Ok(Outcome::Done(applied)),
         Err(refusal) => refused(refusal),

@@ -3,11 +3,16 @@ use Rattle.std.proofs.lemmas.List.{length_push}
 use Rattle.std.proofs.lemmas.Result.{err_from_is_err_and}
 use Rattle.gm_arena.specs.ArenaAsMap.{as_map}
 use Rattle.gm_run.specs.Progress.{rules_of, Agrees, HasRun}
-use Rattle.gm_run.proofs.Advancing.{line_more, cut_at}
+use Rattle.gm_run.proofs.Advancing.{line_more, cut_first, cut_at}
 use Rattle.gm_run.proofs.running.line_outcomes.Goals as goal
 
 pub line_outcome-requires-clause-agrees : goal.line_outcome-requires-clause-agrees
 line_outcome-requires-clause-agrees g c = subst (Agrees (rules_of c.args.plans.now)) (sym c.line-item.is) (c.requires.lines c.loop-line.line-index c.line-item.result c.loop-line-test.true)
+
+pub returns-in_err-outcomes-clause-run : goal.returns-in_err-outcomes-clause-run
+returns-in_err-outcomes-clause-run g c =
+    let p = err_from_is_err_and c.from_residual.result c.from_residual.ensures.1 in
+    rw p.1 (cut_first (rules_of c.args.plans.now) (as_map c.args.arena.now) c.args.lines.now c.args.steps.now)
 
 pub returns-in_err-outcome-clause-run : goal.returns-in_err-outcome-clause-run
 returns-in_err-outcome-clause-run g c =

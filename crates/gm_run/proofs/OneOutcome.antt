@@ -1,0 +1,101 @@
+-- An application has one outcome and one budget, over maps that are alike, and leaves maps that are alike.
+use Rattle.std.proofs.Common.{◌≡◌, ℕ, ◌*◌, ◌≤◌, ◌↔◌, List, [], None, refl, sym, ap, ap₂, subst, ◌∙◌}
+use Rattle.gm_model.specs.declared.schema.Schema.{Schema}
+use Rattle.gm_model.specs.declared.value.Value.{Value}
+use Rattle.gm_model.specs.Applications.{Application, IsDone, IsBudget}
+use Rattle.gm_model.specs.Maps.{Map, IsDart, IsEmbedAt, IsGeneralised, dimension}
+use Rattle.gm_model.specs.Matches.{IsCandidate}
+use Rattle.gm_model.specs.Rules.{Rule}
+use Rattle.gm_model.specs.Runs.{Outcome, Done, Refused, IsOutcome}
+use Rattle.gm_model.specs.Structure.{IsInRange, HasIncidence}
+use Rattle.gm_model.specs.Unfolding.{IsGone, IsUnfolding, scene_of, added_nodes}
+use Rattle.gm_apply.proofs.Counting.{count_same}
+use Rattle.gm_match.proofs.Agreement.{IsLike}
+use Rattle.gm_theory.proofs.ValuesUnique.{one_count}
+use Rattle.gm_run.specs.Alike.{AreAlike}
+use Rattle.gm_run.proofs.AlikeLemmas.{Suits, suits_too, no_embed, alike_back}
+use Rattle.gm_run.proofs.AlikeMatches.{candidate_there}
+use Rattle.gm_run.proofs.AlikeScenes.{gone_like, unfolding_there, unfolding_like}
+use Rattle.gm_run.proofs.AlikeWork.{ends_there, refused_there, budget_there}
+use Rattle.gm_run.proofs.LeastPaths.{least_path}
+use Rattle.gm_run.proofs.Endings.{candidates_like, refused_by, done_ends, one_cause, done_or_refused}
+
+module _ (schema : Schema) (rule : Rule) (no_embeds : schema.embeds ≡ []) (no_pre : rule.pre ≡ None) (in_range : IsInRange schema rule) (incidence : HasIncidence schema.dim rule) (hooks : List ℕ) (params : List Value) where
+  abbrev pub app_at : Map → Application
+  app_at map = record { map = map; rule = rule; hooks = hooks; params = params }
+
+  -- the rule suits each generalised map of its schema
+  suits_at : (map : Map) → map.schema ≡ schema → IsGeneralised map → Suits rule map
+  suits_at map is_schema generalised = record {
+    generalised = generalised;
+    in_range = subst (λ s. IsInRange s rule) (sym is_schema) in_range;
+    incidence = subst (λ (s : Schema). HasIncidence s.dim rule) (sym is_schema) incidence;
+    no_embeds = ap (λ (s : Schema). s.embeds) is_schema ∙ no_embeds;
+    no_pre = no_pre;
+    paths = least_path schema rule in_range incidence;
+  }
+
+  module _ (a b : Map) (is_schema : b.schema ≡ schema) (generalised : IsGeneralised b) (alike : AreAlike a b) where
+    ours : Suits rule b
+    ours = suits_at b is_schema generalised
+
+    theirs : Suits rule a
+    theirs = suits_too rule b a (alike_back a b alike) ours
+
+    -- two that are done add and remove as many darts, and leave maps that are alike
+    module _ (added removed added' removed' : ℕ) (after after' : Map) (first : IsDone (app_at a) after added removed) (second : IsDone (app_at b) after' added' removed') where
+      candidate : IsCandidate b rule hooks first.place
+      candidate = candidate_there rule hooks params a b theirs alike first.place first.ready.found.candidate
+
+      like : IsLike b rule hooks first.place second.place
+      like = candidates_like (app_at b) ours first.place second.place candidate second.ready.found.candidate
+
+      back : IsLike b rule hooks second.place first.place
+      back = candidates_like (app_at b) ours second.place first.place second.ready.found.candidate candidate
+
+      unfolded : IsUnfolding (scene_of b rule second.place) (IsDart after) after.alpha after.next
+      unfolded =
+          unfolding_like b rule hooks ours.in_range ours.incidence first.place second.place like back (IsDart after) after.alpha after.next
+          (unfolding_there rule first.place a b alike (IsDart after) after.alpha after.next first.unfolded)
+
+      same_added : added ≡ added'
+      same_added = first.added_is ∙ ap (λ n. n * added_nodes rule) like.positions ∙ sym second.added_is
+
+      same_removed : removed ≡ removed'
+      same_removed = one_count (IsGone (scene_of b rule second.place)) removed removed' (count_same (IsGone (scene_of b rule first.place)) (IsGone (scene_of b rule second.place)) removed there first.removed_is) second.removed_is
+        where
+          there : (d : ℕ) → IsGone (scene_of b rule first.place) d ↔ IsGone (scene_of b rule second.place) d
+          there d = (gone_like b rule hooks ours.in_range ours.incidence first.place second.place like d, gone_like b rule hooks ours.in_range ours.incidence second.place first.place back d)
+
+      same_schema : after.schema ≡ b.schema
+      same_schema = first.schema ∙ alike.schema
+
+      results_alike : AreAlike after after'
+      results_alike = record {
+        schema = same_schema ∙ sym second.schema;
+        same = record {
+          next = unfolded.next_is ∙ sym second.unfolded.next_is;
+          darts = λ d. (λ live. (second.unfolded.darts d).1 ((unfolded.darts d).0 live), λ live. (unfolded.darts d).1 ((second.unfolded.darts d).0 live));
+          arcs = λ d i live h.
+              let low : i ≤ dimension b = subst (λ (s : Schema). i ≤ s.dim) same_schema h in
+              sym ((second.unfolded.arcs d i (after.alpha i d) low).1 ((unfolded.arcs d i (after.alpha i d) low).0 (live, refl))).1;
+        };
+        values = λ e d embed at live. absurd (no_embed rule b ours e embed (subst (λ (s : Schema). IsEmbedAt s e embed) same_schema at));
+      }
+
+    -- two outcomes are one, and leave maps that are alike
+    pub one_outcome : (o o' : Outcome) (after after' : Map) → IsOutcome (app_at a) o after → IsOutcome (app_at b) o' after' → (o ≡ o') × AreAlike after after'
+    one_outcome (Done added removed) (Done added' removed') after after' first second =
+        (ap₂ Done (same_added added removed added' removed' after after' first second) (same_removed added removed added' removed' after after' first second), results_alike added removed added' removed' after after' first second)
+    one_outcome (Done added removed) (Refused cause) after after' first second =
+        absurd (done_or_refused (app_at b) ours cause (ends_there rule hooks params a b theirs alike None (done_ends (app_at a) theirs after added removed first)) (refused_by (app_at b) ours cause second.0))
+    one_outcome (Refused cause) (Done added removed) after after' first second =
+        absurd (done_or_refused (app_at b) ours cause (done_ends (app_at b) ours after' added removed second) (refused_there rule hooks params a b theirs alike cause (refused_by (app_at a) theirs cause first.0)))
+    one_outcome (Refused cause) (Refused cause') after after' first second = (
+      ap Refused (one_cause (app_at b) ours cause cause' (refused_there rule hooks params a b theirs alike cause (refused_by (app_at a) theirs cause first.0)) (refused_by (app_at b) ours cause' second.0)),
+      subst (λ m. AreAlike m after') (sym first.1) (subst (AreAlike a) (sym second.1) alike),
+    )
+
+    -- and a budget of one is one of the other
+    pub same_budget : (most : ℕ) → IsBudget (app_at a) most → IsBudget (app_at b) most
+    same_budget most budget = budget_there rule hooks params a b theirs alike most budget
