@@ -1,5 +1,5 @@
 -- What was read of the three files can be run, where map and book agree.
-use Rattle.std.proofs.Common.{◌≡◌, ℕ, List, [], map, All, None, Bool, true, false, refl, sym, ap, ◌∙◌, eqb}
+use Rattle.std.proofs.Common.{◌≡◌, ℕ, List, map, All, None, true, false, sym, ap, ◌∙◌, eqb}
 use Rattle.std.proofs.lemmas.Bool.{eqb-true, eq-eqb, false≢true}
 use Rattle.gm_arena.specs.ArenaMap.{ArenaMap}
 use Rattle.gm_model.specs.declared.rule.Book.{Book}
@@ -10,7 +10,7 @@ use Rattle.gm_model.specs.Rules.{Rule, rule_of}
 use Rattle.gm_book.proofs.Printable.{printable_from_text}
 use Rattle.gm_plan.specs.Plans.{PlanOf, plan_of}
 use Rattle.gmr.specs.MadeRuns.{CanRun, inputs_of}
-use Rattle.gmr.specs.RunAnswer.{Agree, bare_schema}
+use Rattle.gmr.specs.RunAnswer.{Agree}
 use Rattle.gmr.specs.Stops.{IsReadMap, IsReadBook, IsReadScript}
 use Rattle.gmr.proofs.ArenaMaps.{of_map}
 use Rattle.gmr.proofs.ReadBooks.{unmap}

@@ -1,10 +1,9 @@
 -- The map in an arena without embeddings is that of its rows, and its canonical text stands for them.
-use Rattle.std.proofs.Common.{◌≡◌, ℕ, ◌+◌, ◌<◌, ◌≤◌, true, false, List, [], ◌∷◌, length, get_or, map, Option, Some, None, is_some, All, refl, sym, ap, subst, ◌∙◌, arith}
+use Rattle.std.proofs.Common.{◌≡◌, ℕ, ◌+◌, ◌<◌, true, false, List, [], ◌∷◌, length, get_or, map, Option, Some, None, is_some, refl, sym, ap, subst, ◌∙◌, arith}
 use Rattle.std.specs.Prelude.{pos}
-use Rattle.std.specs.List.{AllByRecursion}
 use Rattle.std.specs.Option.{option_map, option_map_or}
 use Rattle.std.specs.FinMap.{get, keys}
-use Rattle.std.proofs.lemmas.List.{get_or_default, length-map}
+use Rattle.std.proofs.lemmas.List.{get_or_default}
 use Rattle.std.proofs.lemmas.List.Elements.{recursion_from_All}
 use Rattle.gm_model.specs.declared.schema.Embed.{Embed}
 use Rattle.gm_model.specs.declared.value.Value.{Value}
@@ -14,14 +13,14 @@ use Rattle.gm_model.specs.GMap as written
 use Rattle.gm_model.specs.Maps.{IsGeneralised}
 use Rattle.gm_model.specs.MapText.{MapText, AreShaped, canonical}
 use Rattle.gm_model.specs.Values.{kind_of}
-use Rattle.gm_arena.specs.ArenaAsMap.{as_map, value}
+use Rattle.gm_arena.specs.ArenaAsMap.{as_map}
 use Rattle.gm_arena.specs.ArenaMap.{ArenaMap, Dart, IsLiveName, alpha}
 use Rattle.gm_arena.specs.Lawful.{IsLawful}
 use Rattle.gm_mapfile.specs.Rows.{rows_of, row_at, IsNextLeast}
 use Rattle.gm_mapfile.proofs.Again.{AreInLimits, IsSmall, lawful_printed}
 use Rattle.gm_mapfile.proofs.HeldRows.{row_with, row_of_held, held_ascending}
 use Rattle.gm_mapfile.proofs.Printed.{nobody, length_rows, row_at_place}
-use Rattle.gmr.specs.RunAnswer.{map_of, bare_schema, IsNextOf}
+use Rattle.gmr.specs.RunAnswer.{map_of, IsNextOf}
 
 -- ---- look-ups
 

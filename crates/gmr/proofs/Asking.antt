@@ -8,7 +8,7 @@ use Rattle.gm_host.specs.declared.fault.LoadFault.TheVariants as faults
 use Rattle.gmr.specs.Answer.{most_bytes, Answer, answers, Files, IsFileAnswer, Asks, IsOutput, role_of, NoFile, LongFile, BadFile, LongOutput, Done, Shown, Printed, Checked}
 use Rattle.gmr.specs.Endings.{IsEnding, Whole, LoadFailed, SaveFailed, IsStored, IsTextOf}
 use Rattle.gmr.specs.MadeRuns.{IsRunText, IsSoundReply, HasCause, LacksInput, HoldsMap, IsRunStatus}
-use Rattle.gmr.specs.Program.{IsCommand, IsRunCommand, IsAnswer, Usage, OfFile, OfRun}
+use Rattle.gmr.specs.Program.{IsCommand, IsRunCommand, Usage, OfFile, OfRun}
 use Rattle.gmr.specs.RunAnswer.{RunNames, AsksRun}
 use Rattle.gmr.specs.Checking.{check_status}
 use Rattle.gmr.specs.Answer as answer
@@ -53,7 +53,7 @@ no_file_is contents name role fails (faults.TooLong seen) absent failed long = (
     cut (Some files) h = held (files name) h
 no_file_is contents name role fails faults.OutOfMemory absent failed long = tt
 
-module _ (command : answer.Command) (name : List ℕ) (role : Role) (of : role_in role ≡ role_of command) (fails save_fails : Type 0) where
+module _ (command : answer.Command) (name : List ℕ) (role : Role) (of : role_in role ≡ role_of command) (fails : Type 0) (load_fails : ℕ → Type 0) (up : fails → load_fails 1) (save_fails : Type 0) where
   load_words : (other : Role) → other ≡ role → refusal_answer (refusals.Load other) ≡ answers 3 (answer.refusal (codes "load " ++ answer.role_word (role_of command)))
   load_words other e = ap (λ (r : answer.Role). answers 3 (answer.refusal (codes "load " ++ answer.role_word r))) (ap role_in e ∙ of)
 
@@ -62,13 +62,13 @@ module _ (command : answer.Command) (name : List ℕ) (role : Role) (of : role_i
 
   module _ (files : Files) (after : Contents) (same : after ≡ Some files) where
     -- the defined answer
-    as_defined : (given : Answer) → IsFileAnswer files command name given → given.saved ≡ None → IsEnding files (IsFileAnswer files command name) (IsFileLoadFailure command) fails save_fails given.status given.text after
+    as_defined : (given : Answer) → IsFileAnswer files command name given → given.saved ≡ None → IsEnding files (IsFileAnswer files command name) (IsFileLoadFailure command load_fails) save_fails given.status given.text after
     as_defined given is none = Whole given is refl refl (subst (λ s. IsStored files s after) (sym none) same)
 
     -- a load that gave no file answers as it must
-    not_loaded_to : (none : NoText) → IsLoading (Some files) name role fails (Err none) → IsFileText files command name fails save_fails after (Err none)
+    not_loaded_to : (none : NoText) → IsLoading (Some files) name role fails (Err none) → IsFileText files command name load_fails save_fails after (Err none)
     not_loaded_to nothing.OutOfMemory h = same
-    not_loaded_to (nothing.Refused (refusals.Load other)) (e, inl failed) = LoadFailed failed (load_words other e) same
+    not_loaded_to (nothing.Refused (refusals.Load other)) (e, inl failed) = LoadFailed (up failed, load_words other e) same
     not_loaded_to (nothing.Refused (refusals.Load other)) (e, inr lacks) = as_defined (refusal_answer (refusals.Load other)) (NoFile lacks (load_words other e)) refl
     not_loaded_to (nothing.Refused (refusals.Size other)) (e, h) = as_defined (refusal_answer (refusals.Size other)) (long (files name) refl h) refl
       where
@@ -80,7 +80,7 @@ module _ (command : answer.Command) (name : List ℕ) (role : Role) (of : role_i
     not_loaded_to (nothing.Refused refusals.Agree) h = absurd h
     not_loaded_to (nothing.Refused refusals.Save) h = absurd h
 
-    loaded_to : (bytes : Vec ℕ) (reply : Result Reply NoText) → IsLoading (Some files) name role fails (Ok bytes) → IsJudged bytes.items command reply → IsFileText files command name fails save_fails after reply
+    loaded_to : (bytes : Vec ℕ) (reply : Result Reply NoText) → IsLoading (Some files) name role fails (Ok bytes) → IsJudged bytes.items command reply → IsFileText files command name load_fails save_fails after reply
     loaded_to bytes (Ok reply) loading (inl (output, fits)) = as_defined (answers reply.status reply.text.items) (Done bytes.items reply.status reply.text.items (loading.1, loading.0) output fits refl) refl
     loaded_to bytes (Ok reply) loading (inr (four, (why, bad, line))) =
         as_defined (answers reply.status reply.text.items) (BadFile bytes.items why (loading.1, loading.0) bad (ap (λ (k : ℕ). answers k reply.text.items) four ∙ ap (λ (t : List ℕ). answers 4 t) line)) refl
@@ -92,13 +92,13 @@ module _ (command : answer.Command) (name : List ℕ) (role : Role) (of : role_i
     loaded_to bytes (Err (nothing.Refused refusals.Agree)) loading h = absurd h
     loaded_to bytes (Err (nothing.Refused refusals.Save)) loading h = absurd h
 
-  pub not_loaded : (contents after : Contents) → after ≡ contents → (none : NoText) → IsLoading contents name role fails (Err none) → IfSome contents (λ files. IsFileText files command name fails save_fails after (Err none))
+  pub not_loaded : (contents after : Contents) → after ≡ contents → (none : NoText) → IsLoading contents name role fails (Err none) → IfSome contents (λ files. IsFileText files command name load_fails save_fails after (Err none))
   not_loaded None after same none h = tt
   not_loaded (Some files) after same none h = not_loaded_to files after same none h
 
   -- what a loaded file gives is as it must be
   pub loaded : (contents after : Contents) → after ≡ contents → (bytes : Vec ℕ) (reply : Result Reply NoText) → IsLoading contents name role fails (Ok bytes) → IsJudged bytes.items command reply
-      → IfSome contents (λ files. IsFileText files command name fails save_fails after reply)
+      → IfSome contents (λ files. IsFileText files command name load_fails save_fails after reply)
   loaded None after same bytes reply loading h = tt
   loaded (Some files) after same bytes reply loading h = loaded_to files after same bytes reply loading h
 
@@ -154,29 +154,29 @@ judged_refuses bytes command (Err none) h = tt
 
 -- ---- any command
 
-module _ {D E L M : Answer → Type 0} (to : (given : Answer) → D given → E given) (from : (given : Answer) → L given → M given) (files : Files) (load_fails save_fails : Type 0) (after : Contents) where
-  ending_to : (status : ℕ) (text : List ℕ) → IsEnding files D L load_fails save_fails status text after → IsEnding files E M load_fails save_fails status text after
+module _ {D E L M : Answer → Type 0} (to : (given : Answer) → D given → E given) (from : (given : Answer) → L given → M given) (files : Files) (save_fails : Type 0) (after : Contents) where
+  ending_to : (status : ℕ) (text : List ℕ) → IsEnding files D L save_fails status text after → IsEnding files E M save_fails status text after
   ending_to status text (Whole given is s t stored) = Whole given (to given is) s t stored
-  ending_to status text (LoadFailed fails is same) = LoadFailed fails (from _ is) same
+  ending_to status text (LoadFailed is same) = LoadFailed (from _ is) same
   ending_to status text (SaveFailed fails given saved is e s t kept) = SaveFailed fails given saved (to given is) e s t kept
 
-  text_to : (reply : Result Reply NoText) → IsTextOf files D L load_fails save_fails after reply → IsTextOf files E M load_fails save_fails after reply
+  text_to : (reply : Result Reply NoText) → IsTextOf files D L save_fails after reply → IsTextOf files E M save_fails after reply
   text_to (Ok reply) h = ending_to reply.status reply.text.items h
   text_to (Err nothing.OutOfMemory) h = h
   text_to (Err (nothing.Refused why)) h = ending_to _ _ h
 
-module _ (words : List (List ℕ)) (load_fails save_fails : Type 0) (after : Contents) (reply : Result Reply NoText) where
+module _ (words : List (List ℕ)) (load_fails : ℕ → Type 0) (save_fails : Type 0) (after : Contents) (reply : Result Reply NoText) where
   pub file_text : (contents : Contents) (command : answer.Command) (name : List ℕ) → Asks words command name → IfSome contents (λ files. IsFileText files command name load_fails save_fails after reply)
       → IfSome contents (λ files. IsText words files load_fails save_fails after reply)
   file_text None command name asks h = tt
-  file_text (Some files) command name asks h = text_to (λ given is. OfFile command name asks is) (λ given is. tool.OfFile command name asks is) files load_fails save_fails after reply h
+  file_text (Some files) command name asks h = text_to (λ given is. OfFile command name asks is) (λ given is. tool.OfFile command name asks is) files save_fails after reply h
 
   pub run_text : (contents : Contents) (named : RunNames) → AsksRun words named → IfSome contents (λ files. IsRunText files named load_fails save_fails after reply)
       → IfSome contents (λ files. IsText words files load_fails save_fails after reply)
   run_text None named asks h = tt
-  run_text (Some files) named asks h = text_to (λ given is. OfRun named asks is) (λ given is. tool.OfRun named asks is) files load_fails save_fails after reply h
+  run_text (Some files) named asks h = text_to (λ given is. OfRun named asks is) (λ given is. tool.OfRun named asks is) files save_fails after reply h
 
-pub usage_text : (words : List (List ℕ)) (load_fails save_fails : Type 0) (contents : Contents) → (IsCommand words → ⊥) → IfSome contents (λ files. IsText words files load_fails save_fails contents (Err (nothing.Refused refusals.Usage)))
+pub usage_text : (words : List (List ℕ)) (load_fails : ℕ → Type 0) (save_fails : Type 0) (contents : Contents) → (IsCommand words → ⊥) → IfSome contents (λ files. IsText words files load_fails save_fails contents (Err (nothing.Refused refusals.Usage)))
 usage_text words load_fails save_fails None none = tt
 usage_text words load_fails save_fails (Some files) none = Whole (refusal_answer refusals.Usage) (Usage none refl) refl refl refl
 
@@ -220,18 +220,15 @@ file_refused words command name R asks (Err none) h = tt
 pub file_is_no_run : (words : List (List ℕ)) (command : answer.Command) (name : List ℕ) (named : RunNames) → Asks words command name → AsksRun words named → ⊥
 file_is_no_run words command name named asks runs = let e : length words ≡ 2 = ap length asks in let f : length words ≡ 5 = ap length runs in omega (arith, e, f)
 
-list_head : List ℕ → List (List ℕ) → List ℕ
-list_head d [] = d
-list_head d (x ∷ xs) = x
-
-list_tail : List (List ℕ) → List (List ℕ)
-list_tail [] = []
-list_tail (x ∷ xs) = xs
-
 -- the files of a run are those that its words name
-pub same_out : (words : List (List ℕ)) (one other : RunNames) → AsksRun words one → AsksRun words other → one.out ≡ other.out
-unfolding list_head list_tail
-same_out words one other a b = ap (λ (w : List (List ℕ)). list_head [] (list_tail (list_tail (list_tail (list_tail w))))) (sym a ∙ b)
+pub same_named : (words : List (List ℕ)) (one other : RunNames) → AsksRun words one → AsksRun words other → one ≡ other
+same_named words one other a b =
+    let both : ◌≡◌ {A = List (List ℕ)} (codes "run" ∷ one.map ∷ one.book ∷ one.script ∷ one.out ∷ []) (codes "run" ∷ other.map ∷ other.book ∷ other.script ∷ other.out ∷ []) = sym a ∙ b in
+    let map : one.map ≡ other.map = cc both in
+    let book : one.book ≡ other.book = cc both in
+    let script : one.script ≡ other.script = cc both in
+    let out : one.out ≡ other.out = cc both in
+    λ k. record { map = map k; book = book k; script = script k; out = out k }
 
 -- a run is refused for a line
 pub run_refused : (words : List (List ℕ)) (named : RunNames) → AsksRun words named → (reply : Result Reply NoText) → IfOk reply (λ r. r.status ≡ 1 → IsCheck words ⊎ IsRunCommand words)
@@ -241,5 +238,5 @@ run_refused words named asks (Err none) = tt
 -- the map is held under the name that the words give
 pub run_holds : (words : List (List ℕ)) (named : RunNames) (contents : Contents) → AsksRun words named → (reply : Result Reply NoText) → IfOk reply (λ r. IsRunStatus r.status → HoldsMap contents named.out)
     → IfOk reply (λ r. IsRunStatus r.status → HoldsSavedMap words contents)
-run_holds words named contents asks (Ok reply) h = λ run other asks_too. subst (λ out. HoldsMap contents out) (same_out words named other asks asks_too) (h run)
+run_holds words named contents asks (Ok reply) h = λ run other asks_too. subst (λ (n : RunNames). HoldsMap contents n.out) (same_named words named other asks asks_too) (h run)
 run_holds words named contents asks (Err none) h = tt

@@ -10,4 +10,14 @@ mod Lines
 mod RunStops
 mod Agreeing
 mod Saving
+mod StepBounds
+mod StepWords
 mod Putting
+mod OneText
+mod OneVerdict
+mod OneBad
+mod OneFile
+mod SameRows
+mod OneRan
+mod OneRunAnswer
+mod OneAnswer

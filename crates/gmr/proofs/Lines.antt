@@ -1,5 +1,5 @@
 -- The plans of a book that was read and the lines of its script are those that a run takes, and what a run answers is the run of what was read.
-use Rattle.std.proofs.Common.{◌≡◌, ◌⊎◌, ℕ, ◌<◌, ◌≤◌, List, [], ◌∷◌, inl, inr, Option, Some, None, Result, Ok, Err, length, map, get_or, All, refl, sym, ap, subst, ◌∙◌, arith}
+use Rattle.std.proofs.Common.{◌≡◌, ℕ, List, [], ◌∷◌, inl, inr, None, Result, Ok, Err, length, map, All, refl, sym, ap, subst, ◌∙◌}
 use Rattle.std.specs.Prelude.{slice_get, IfOk, IfErr}
 use Rattle.std.specs.List.{AllByRecursion}
 use Rattle.std.proofs.lemmas.List.Elements.{All-from_recursion, recursion_from_All}
@@ -14,13 +14,13 @@ use Rattle.gm_model.specs.declared.rule.RuleTable.{RuleTable}
 use Rattle.gm_model.specs.declared.schema.Schema.{Schema}
 use Rattle.gm_model.specs.declared.script.Line.{Line}
 use Rattle.gm_model.specs.declared.script.Script.{Script}
-use Rattle.gm_model.specs.Maps.{Map, IsGeneralised}
+use Rattle.gm_model.specs.Maps.{IsGeneralised}
 use Rattle.gm_model.specs.MapText.{AreShaped, canonical}
 use Rattle.gm_model.specs.Reports.{report_text}
-use Rattle.gm_model.specs.Rules.{Rule, rule_of}
+use Rattle.gm_model.specs.Rules.{rule_of}
 use Rattle.gm_model.specs.Runs.{Outcome, IsRun}
 use Rattle.gm_model.specs.Runs as runs
-use Rattle.gm_script.specs.ScriptText.{LineForm, ScriptText, AreLines, IsLine}
+use Rattle.gm_script.specs.ScriptText.{LineForm, AreLines, IsLine}
 use Rattle.gm_plan.specs.Plans.{PlanOf, plan_of}
 use Rattle.gm_run.specs.declared.outcome.Outcome as answers
 use Rattle.gm_run.specs.Printing.{CanBePrinted}
@@ -28,7 +28,7 @@ use Rattle.gm_run.specs.Progress.{IsPlanFor, ArePlansFor, Agrees, rules_of}
 use Rattle.gmr.specs.MadeRuns.{CanRun, inputs_of, IsFitted, IsPrinted, IsRunOf, IsMapBytes, IsRunStatus}
 use Rattle.gmr.specs.Stops.{IsSoundStop}
 use Rattle.gmr.specs.declared.refusal.Refusal.TheVariants as refusals
-use Rattle.gmr.specs.RunAnswer.{Inputs, Ran, IsRan, map_of, bare_schema, report_of, saved_of, run_status}
+use Rattle.gmr.specs.RunAnswer.{Inputs, Ran, IsRan, map_of, report_of, saved_of, run_status}
 use Rattle.gmr.specs.declared.refusal.NoText.TheVariants as nothing
 use Rattle.gmr.specs.declared.refusal.Stop.{Stop}
 use Rattle.gmr.specs.declared.refusal.Stop.TheVariants as stops

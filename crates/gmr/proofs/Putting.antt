@@ -11,7 +11,7 @@ use Rattle.gmr.specs.Refusals.{refusal_answer}
 use Rattle.gmr.specs.MadeRuns.{HasCause, IsRunStatus}
 use Rattle.gmr.specs.Tool.{IsText, IsPut, IsReplyStatus, IsStatus, IsUsageStatus, Ends, Leaves, Put, PutFailed, Unput, NoMemory, LeavesWhereTold}
 
-module _ (words : List (List ℕ)) (load_fails save_fails put_fails : Type 0) (later : Contents) where
+module _ (words : List (List ℕ)) (load_fails : ℕ → Type 0) (save_fails put_fails : Type 0) (later : Contents) where
   put_ending : (files : Files) (text before : List ℕ) (given status : ℕ) (after : Option (List ℕ)) → Ends words files load_fails save_fails given text later
       → IsPut (Some before) after put_fails text given status → (written : List ℕ) × (after ≡ Some written) × Leaves words files load_fails save_fails put_fails before status written later
   put_ending files text before given status after is (inl put) = (before ++ text, put.1, Put text (subst (λ k. Ends words files load_fails save_fails k text later) (sym put.0) is) refl)

@@ -1,11 +1,11 @@
 -- What a save leaves, and what is put after it.
-use Rattle.std.proofs.Common.{◌≡◌, ◌⊎◌, ℕ, ◌≤◌, List, [], ◌∷◌, inl, inr, Option, Some, None, Result, Ok, Err, length, refl, sym, ap, subst, ◌∙◌, arith}
+use Rattle.std.proofs.Common.{◌≡◌, ℕ, List, inl, inr, Some, None, Result, Ok, Err, refl, sym, subst, ◌∙◌}
 use Rattle.std.specs.Prelude.{IfSome, IfOk}
 use Rattle.std.specs.Global.{Vec}
 use Rattle.gm_host.specs.Store.{Contents}
 use Rattle.gm_host.specs.Saves.{IsSaved, IsSavedInPart}
 use Rattle.gmr.specs.Answer.{Files, Answer, answers, Saved}
-use Rattle.gmr.specs.Endings.{IsEnding, Whole, LoadFailed, SaveFailed}
+use Rattle.gmr.specs.Endings.{Whole, LoadFailed, SaveFailed}
 use Rattle.gmr.specs.MadeRuns.{IsMade, IsStopOf, IsFitted, IsSaving, IsRunText, IsRunStatus, IsMapBytes, HoldsMap, IsSoundReply}
 use Rattle.gmr.specs.Refusals.{refusal_answer}
 use Rattle.gmr.specs.RunAnswer.{RunNames, Inputs, Ran, IsGoodRun, IsRunAnswer, Done, report_of, saved_of, run_status}
@@ -14,12 +14,11 @@ use Rattle.gmr.specs.Tool.{IsReplyStatus}
 use Rattle.gmr.specs.declared.refusal.NoText.{NoText}
 use Rattle.gmr.specs.declared.refusal.NoText.TheVariants as nothing
 use Rattle.gmr.specs.declared.refusal.Refusal.TheVariants as refusals
-use Rattle.gmr.specs.declared.refusal.Stop.{Stop}
 use Rattle.gmr.specs.declared.refusal.Stop.TheVariants as stops
 use Rattle.gmr.specs.declared.reply.Reply.{Reply}
 use Rattle.gmr.specs.declared.running.Made.{Made}
 
-module _ (named : RunNames) (load_fails save_fails : Type 0) where
+module _ (named : RunNames) (load_fails : ℕ → Type 0) (save_fails : Type 0) where
   module _ (files : Files) (after : Contents) (made : Made) (inputs : Inputs) (ran : Ran) (good : IsGoodRun files named inputs ran) (fits : IsFitted (run_status ran.outcomes) (report_of inputs ran) (saved_of inputs ran) (Ok made)) where
     abbrev wanted : Saved
     wanted = record { name = named.out; bytes = saved_of inputs ran }
@@ -55,7 +54,7 @@ module _ (named : RunNames) (load_fails save_fails : Type 0) where
   none_text : (files : Files) (after : Contents) → after ≡ Some files → (none : NoText) → IsStopOf files named load_fails (stops.NoText none) → IsRunText files named load_fails save_fails after (Err none)
   none_text files after same nothing.OutOfMemory h = same
   none_text files after same (nothing.Refused why) (inl h) = Whole (refusal_answer why) h refl refl same
-  none_text files after same (nothing.Refused why) (inr h) = LoadFailed h.0 h.1 same
+  none_text files after same (nothing.Refused why) (inr h) = LoadFailed h same
 
   pub stopped_text : (contents after : Contents) → after ≡ contents → (none : NoText) → IfSome contents (λ files. IsMade files named load_fails (Err (stops.NoText none)))
       → IfSome contents (λ files. IsRunText files named load_fails save_fails after (Err none))

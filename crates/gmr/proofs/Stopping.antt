@@ -1,7 +1,7 @@
 -- Why a file of a run stops it.
-use Rattle.std.proofs.Common.{◌≡◌, ◌⊎◌, ℕ, ◌<◌, ◌≤◌, List, [], ◌∷◌, ◌++◌, inl, inr, Option, Some, None, Result, Ok, Err, length, map, refl, sym, ap, subst, ◌∙◌, arith}
+use Rattle.std.proofs.Common.{◌≡◌, ◌⊎◌, ℕ, ◌≤◌, List, ◌++◌, inl, inr, Option, Some, None, Result, Ok, Err, length, refl, sym, ap, subst, ◌∙◌}
 use Rattle.std.specs.Global.{Vec}
-use Rattle.std.specs.Prelude.{IfOk, IfErr, IfSome, codes}
+use Rattle.std.specs.Prelude.{IfOk, IfErr, codes}
 use Rattle.gm_book.specs.declared.fault.BookFault.{BookFault}
 use Rattle.gm_book.specs.declared.fault.BookFault.TheVariants as book
 use Rattle.gm_book.specs.Faults as book_faults
@@ -13,7 +13,7 @@ use Rattle.gm_model.specs.declared.schema.Schema.{Schema}
 use Rattle.gm_model.specs.Acceptance.{IsFault}
 use Rattle.gm_model.specs.Rules.{Rule}
 use Rattle.gm_plan.specs.declared.compiler.PlanFault.TheVariants as plan_faults
-use Rattle.gm_plan.specs.Refusals.{IsRefusal, Faulty, NoMemory}
+use Rattle.gm_plan.specs.Refusals.{IsRefusal, Faulty}
 use Rattle.gm_script.specs.declared.fault.ScriptFault.{ScriptFault}
 use Rattle.gm_script.specs.declared.fault.ScriptFault.TheVariants as script
 use Rattle.gm_script.specs.Faults as script_faults
@@ -30,7 +30,6 @@ use Rattle.gmr.specs.RunAnswer.{IsBadMap, IsBadBook, IsBadScript, Unread, IsFail
 use Rattle.gmr.specs.Stops.{IsStopWith, IsBadFor, IsRoleStop, IsSoundStop, IsFrom}
 use Rattle.gmr.specs.declared.refusal.NoText.{NoText}
 use Rattle.gmr.specs.declared.refusal.NoText.TheVariants as nothing
-use Rattle.gmr.specs.declared.refusal.Refusal.{Refusal}
 use Rattle.gmr.specs.declared.refusal.Refusal.TheVariants as refusals
 use Rattle.gmr.specs.declared.refusal.Role.{Role}
 use Rattle.gmr.specs.declared.refusal.Stop.{Stop}

@@ -13,19 +13,19 @@ abbrev pub IsStored : Files → Option Saved → Contents → Type 0
 IsStored files None after = after ≡ Some files
 IsStored files (Some saved) after = IsSaved (Some files) saved.name saved.bytes after
 
--- `load_fails` and `save_fails` say that the store's counts of failed loads and of failed saves rose.
-pub data IsEnding (files : Files) (IsDefined IsLoadFailure : Answer → Type 0) (load_fails save_fails : Type 0) (status : ℕ) (text : List ℕ) (after : Contents) : Type 0 where
+-- `IsLoadFailure` says what a load that failed is answered with, and `save_fails` that the store's count of failed saves rose.
+pub data IsEnding (files : Files) (IsDefined IsLoadFailure : Answer → Type 0) (save_fails : Type 0) (status : ℕ) (text : List ℕ) (after : Contents) : Type 0 where
   -- the defined answer, and what it saves
   Whole : (given : Answer) → IsDefined given → status ≡ given.status → text ≡ given.text → IsStored files given.saved after
-      → IsEnding files IsDefined IsLoadFailure load_fails save_fails status text after
+      → IsEnding files IsDefined IsLoadFailure save_fails status text after
   -- the line of a load that failed; the store holds what it held
-  LoadFailed : load_fails → IsLoadFailure (answers status text) → after ≡ Some files → IsEnding files IsDefined IsLoadFailure load_fails save_fails status text after
+  LoadFailed : IsLoadFailure (answers status text) → after ≡ Some files → IsEnding files IsDefined IsLoadFailure save_fails status text after
   -- the line of a save that failed; what was to be saved is saved in part, or not at all
   SaveFailed : save_fails → (given : Answer) (saved : Saved) → IsDefined given → given.saved ≡ Some saved → status ≡ 5 → text ≡ refusal (codes "save OUT")
-      → IsSavedInPart (Some files) saved.name saved.bytes after → IsEnding files IsDefined IsLoadFailure load_fails save_fails status text after
+      → IsSavedInPart (Some files) saved.name saved.bytes after → IsEnding files IsDefined IsLoadFailure save_fails status text after
 
 -- the text to put is that of an ending; where memory was wanting, the store is as at entry
-abbrev pub IsTextOf : Files → (Answer → Type 0) → (Answer → Type 0) → Type 0 → Type 0 → Contents → Result Reply NoText → Type 0
-IsTextOf files IsDefined IsLoadFailure load_fails save_fails after (Ok reply) = IsEnding files IsDefined IsLoadFailure load_fails save_fails reply.status reply.text.items after
-IsTextOf files IsDefined IsLoadFailure load_fails save_fails after (Err nothing.OutOfMemory) = after ≡ Some files
-IsTextOf files IsDefined IsLoadFailure load_fails save_fails after (Err (nothing.Refused why)) = IsEnding files IsDefined IsLoadFailure load_fails save_fails (status_of why) (line_of why) after
+abbrev pub IsTextOf : Files → (Answer → Type 0) → (Answer → Type 0) → Type 0 → Contents → Result Reply NoText → Type 0
+IsTextOf files IsDefined IsLoadFailure save_fails after (Ok reply) = IsEnding files IsDefined IsLoadFailure save_fails reply.status reply.text.items after
+IsTextOf files IsDefined IsLoadFailure save_fails after (Err nothing.OutOfMemory) = after ≡ Some files
+IsTextOf files IsDefined IsLoadFailure save_fails after (Err (nothing.Refused why)) = IsEnding files IsDefined IsLoadFailure save_fails (status_of why) (line_of why) after

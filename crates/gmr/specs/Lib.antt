@@ -7,8 +7,10 @@ pub mod Program
 pub mod Refusals
 pub mod FaultLines
 pub mod Books
+pub mod Loads
 pub mod Endings
 pub mod Replies
 pub mod Stops
 pub mod MadeRuns
 pub mod Tool
+pub mod StepBounds

@@ -69,20 +69,26 @@ IsMapBytes bytes = (n : ℕ) × (darts : List Row) × (bytes ≡ canonical n dar
 
 -- ---- the files
 
--- no file before that of this role fails, and the load of its file did
-abbrev pub IsRunLoadFailure : Files → RunNames → Answer → Type 0
-IsRunLoadFailure files named given = (role : answer.Role) × PassesTo files named role × (given ≡ answers 3 (refusal (codes "load " ++ role_word role)))
+-- which load of a run is that of the role's file, counted from 1
+abbrev pub load_of : answer.Role → ℕ
+load_of answer.TheMap = 1
+load_of answer.TheBook = 2
+load_of answer.TheScript = 3
+
+-- no file before that of this role fails, and the load of its file did; `load_fails` says so of a load by its number
+abbrev pub IsRunLoadFailure : Files → RunNames → (ℕ → Type 0) → Answer → Type 0
+IsRunLoadFailure files named load_fails given = (role : answer.Role) × load_fails (load_of role) × PassesTo files named role × (given ≡ answers 3 (refusal (codes "load " ++ role_word role)))
 
 -- the run stops as its answer says, or for a load that failed, or for want of memory
-abbrev pub IsStopOf : Files → RunNames → Type 0 → Stop → Type 0
-IsStopOf files named fails (stops.Bad line) = IsRunAnswer files named (answers 4 line.items)
-IsStopOf files named fails (stops.NoText nothing.OutOfMemory) = Unit {0}
-IsStopOf files named fails (stops.NoText (nothing.Refused why)) = IsRunAnswer files named (refusal_answer why) ⊎ (fails × IsRunLoadFailure files named (refusal_answer why))
+abbrev pub IsStopOf : Files → RunNames → (ℕ → Type 0) → Stop → Type 0
+IsStopOf files named load_fails (stops.Bad line) = IsRunAnswer files named (answers 4 line.items)
+IsStopOf files named load_fails (stops.NoText nothing.OutOfMemory) = Unit {0}
+IsStopOf files named load_fails (stops.NoText (nothing.Refused why)) = IsRunAnswer files named (refusal_answer why) ⊎ IsRunLoadFailure files named load_fails (refusal_answer why)
 
 -- what is saved and put of a run, or why it stops
-abbrev pub IsMade : Files → RunNames → Type 0 → Result Made Stop → Type 0
-IsMade files named fails (Ok made) = (inputs : Inputs) × (ran : Ran) × IsGoodRun files named inputs ran × IsFitted (run_status ran.outcomes) (report_of inputs ran) (saved_of inputs ran) (Ok made)
-IsMade files named fails (Err stop) = IsStopOf files named fails stop
+abbrev pub IsMade : Files → RunNames → (ℕ → Type 0) → Result Made Stop → Type 0
+IsMade files named load_fails (Ok made) = (inputs : Inputs) × (ran : Ran) × IsGoodRun files named inputs ran × IsFitted (run_status ran.outcomes) (report_of inputs ran) (saved_of inputs ran) (Ok made)
+IsMade files named load_fails (Err stop) = IsStopOf files named load_fails stop
 
 -- the store lacks a file that the run reads
 abbrev pub LacksInput : Contents → RunNames → Type 0
@@ -103,8 +109,8 @@ abbrev pub HoldsMap : Contents → List ℕ → Type 0
 HoldsMap contents name = IfSome contents (λ files. (bytes : List ℕ) × (files name ≡ Some bytes) × IsMapBytes bytes)
 
 -- the text to put of a run, and what the store then holds
-abbrev pub IsRunText : Files → RunNames → Type 0 → Type 0 → Contents → Result Reply NoText → Type 0
-IsRunText files named load_fails save_fails after reply = IsTextOf files (IsRunAnswer files named) (IsRunLoadFailure files named) load_fails save_fails after reply
+abbrev pub IsRunText : Files → RunNames → (ℕ → Type 0) → Type 0 → Contents → Result Reply NoText → Type 0
+IsRunText files named load_fails save_fails after reply = IsTextOf files (IsRunAnswer files named) (IsRunLoadFailure files named load_fails) save_fails after reply
 
 -- an answer for a load has the first cause, one for a save the second, and none is for the words
 abbrev pub IsSoundReply : Result Reply NoText → Type 0 → Type 0 → Type 0

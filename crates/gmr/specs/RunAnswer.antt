@@ -1,5 +1,5 @@
 -- What a run of a script answers to the names of its files: the status, the report, and the map that is saved.
-use Rattle.std.specs.Prelude.{◌≡◌, ◌⊎◌, ℕ, ◌<◌, ◌≤◌, ℤ, pos, List, [], ◌∷◌, ◌++◌, length, Option, Some, None, All, codes, slice_get}
+use Rattle.std.specs.Prelude.{◌≡◌, ◌⊎◌, ℕ, ◌<◌, ◌≤◌, pos, List, [], ◌∷◌, ◌++◌, length, Some, None, All, codes, slice_get}
 use Rattle.std.specs.Option.{is_some}
 use Rattle.std.specs.List.Sorted.{IsStrictlyIncreasing}
 use Rattle.gm_model.specs.declared.rule.RuleFault.{RuleFault}
@@ -16,7 +16,7 @@ use Rattle.gm_model.specs.Rules.{Rule}
 use Rattle.gm_model.specs.Runs.{Outcome, IsRun}
 use Rattle.gm_model.specs.Runs as runs
 use Rattle.gm_script.specs.ScriptText.{ScriptText}
-use Rattle.gmr.specs.Answer.{most_bytes, Files, Answer, answers, Saved, Role, TheMap, TheBook, TheScript, role_word, refusal, HasFile, IsBad}
+use Rattle.gmr.specs.Answer.{most_bytes, Files, Answer, answers, Role, TheMap, TheBook, TheScript, role_word, refusal, HasFile, IsBad}
 use Rattle.gmr.specs.BookFaults.{BookTextFault, IsFirstBookFault, book_fault_words}
 use Rattle.gmr.specs.Checking.{rule_fault_words}
 use Rattle.gmr.specs.ScriptFaults.{ScriptTextFault, IsFirstScriptFault, script_fault_words}

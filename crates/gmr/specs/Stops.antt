@@ -1,5 +1,5 @@
 -- Why a run stops before anything is saved, and what each of its files gives.
-use Rattle.std.specs.Prelude.{◌≡◌, ◌⊎◌, ℕ, List, [], ◌++◌, map, Some, Result, Ok, Err, IfSome, codes}
+use Rattle.std.specs.Prelude.{◌≡◌, ◌⊎◌, ℕ, List, [], ◌++◌, map, Result, Ok, Err, IfSome, codes}
 use Rattle.std.specs.Global.{Vec}
 use Rattle.gm_host.specs.Store.{Contents, Lacks}
 use Rattle.gm_arena.specs.ArenaMap.{ArenaMap}
@@ -10,9 +10,9 @@ use Rattle.gm_model.specs.BookText.{BookText}
 use Rattle.gm_model.specs.MapText.{MapText}
 use Rattle.gm_model.specs.Rules.{Rule, rule_of}
 use Rattle.gm_script.specs.ScriptText.{ScriptText}
-use Rattle.gmr.specs.Answer.{Files, answers, refusal, Role, role_word, HasFile, TheMap, TheBook, TheScript}
+use Rattle.gmr.specs.Answer.{Files, answers, refusal, Role, role_word, HasFile}
 use Rattle.gmr.specs.Refusals.{refusal_answer}
-use Rattle.gmr.specs.RunAnswer.{IsFailing, IsBadMap, IsBadBook, IsBadScript}
+use Rattle.gmr.specs.RunAnswer.{IsFailing}
 use Rattle.gmr.specs.declared.refusal.NoText.TheVariants as nothing
 use Rattle.gmr.specs.declared.refusal.Refusal.TheVariants.{Usage, Load, Save}
 use Rattle.gmr.specs.declared.refusal.Stop.{Stop}

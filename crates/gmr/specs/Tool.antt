@@ -1,14 +1,13 @@
 -- What a run of the program leaves: its status, what was written, and what its files and output did.
-use Rattle.std.specs.Prelude.{◌≡◌, ◌⊎◌, ℕ, List, ◌++◌, map, take, Option, Some, Result, Ok, Err, codes, String, string_bytes}
+use Rattle.std.specs.Prelude.{◌≡◌, ◌⊎◌, ℕ, List, ◌++◌, map, take, Option, Some, Result, codes, String, string_bytes}
 use Rattle.std.specs.Global.{Global}
 use Rattle.gmr.specs.Answer.{Answer, answers, Files, Asks, role_of, role_word, refusal, IsFileAnswer}
 use Rattle.gmr.specs.Answer as answer
 use Rattle.gmr.specs.Endings.{IsEnding, IsTextOf}
-use Rattle.gmr.specs.MadeRuns.{IsRunLoadFailure, LacksInput, HoldsMap, IsRunStatus}
+use Rattle.gmr.specs.MadeRuns.{IsRunLoadFailure, LacksInput, HoldsMap}
 use Rattle.gmr.specs.Program.{IsAnswer}
 use Rattle.gmr.specs.RunAnswer.{RunNames, AsksRun}
 use Rattle.gm_host.specs.Store.{Contents, Lacks}
-use Rattle.gm_host.specs.Count.{counted}
 use Rattle.gm_host.specs.Sink.{extended, ExtendsInPart}
 use Rattle.gmr.specs.declared.reply.Reply.{Reply}
 use Rattle.gmr.specs.declared.refusal.NoText.{NoText}
@@ -19,28 +18,28 @@ words_of words = map string_bytes words
 
 -- ---- a command on one file
 
--- the answer to a load of the command's file that failed
-abbrev pub IsFileLoadFailure : answer.Command → Answer → Type 0
-IsFileLoadFailure command given = given ≡ answers 3 (refusal (codes "load " ++ role_word (role_of command)))
+-- the answer to the one load of the command's file, where it failed
+abbrev pub IsFileLoadFailure : answer.Command → (ℕ → Type 0) → Answer → Type 0
+IsFileLoadFailure command load_fails given = load_fails 1 × (given ≡ answers 3 (refusal (codes "load " ++ role_word (role_of command))))
 
-abbrev pub IsFileText : Files → answer.Command → List ℕ → Type 0 → Type 0 → Contents → Result Reply NoText → Type 0
-IsFileText files command name load_fails save_fails after reply = IsTextOf files (IsFileAnswer files command name) (IsFileLoadFailure command) load_fails save_fails after reply
+abbrev pub IsFileText : Files → answer.Command → List ℕ → (ℕ → Type 0) → Type 0 → Contents → Result Reply NoText → Type 0
+IsFileText files command name load_fails save_fails after reply = IsTextOf files (IsFileAnswer files command name) (IsFileLoadFailure command load_fails) save_fails after reply
 
 -- ---- any command
 
 -- the answer to a load that failed, of a file before which no file of the command fails
-pub data IsLoadFailure (words : List (List ℕ)) (files : Files) (given : Answer) : Type 0 where
-  OfFile : (command : answer.Command) (name : List ℕ) → Asks words command name → IsFileLoadFailure command given → IsLoadFailure words files given
-  OfRun : (named : RunNames) → AsksRun words named → IsRunLoadFailure files named given → IsLoadFailure words files given
+pub data IsLoadFailure (words : List (List ℕ)) (files : Files) (load_fails : ℕ → Type 0) (given : Answer) : Type 0 where
+  OfFile : (command : answer.Command) (name : List ℕ) → Asks words command name → IsFileLoadFailure command load_fails given → IsLoadFailure words files load_fails given
+  OfRun : (named : RunNames) → AsksRun words named → IsRunLoadFailure files named load_fails given → IsLoadFailure words files load_fails given
 
 -- the text to put is that of the words' answer or of a fault of the store, and the store holds what it then holds
-abbrev pub IsText : List (List ℕ) → Files → Type 0 → Type 0 → Contents → Result Reply NoText → Type 0
-IsText words files load_fails save_fails after reply = IsTextOf files (IsAnswer words files) (IsLoadFailure words files) load_fails save_fails after reply
+abbrev pub IsText : List (List ℕ) → Files → (ℕ → Type 0) → Type 0 → Contents → Result Reply NoText → Type 0
+IsText words files load_fails save_fails after reply = IsTextOf files (IsAnswer words files) (IsLoadFailure words files load_fails) save_fails after reply
 
-module _ (words : List (List ℕ)) (files : Files) (load_fails save_fails : Type 0) where
+module _ (words : List (List ℕ)) (files : Files) (load_fails : ℕ → Type 0) (save_fails : Type 0) where
   -- status, text and store as the words' answer says, or as a fault of the store leaves it
   abbrev pub Ends : ℕ → List ℕ → Contents → Type 0
-  Ends status text after = IsEnding files (IsAnswer words files) (IsLoadFailure words files) load_fails save_fails status text after
+  Ends status text after = IsEnding files (IsAnswer words files) (IsLoadFailure words files load_fails) save_fails status text after
 
   -- What is left of store and sink, where both tell. `put_fails` says that the sink's count rose.
   pub data Leaves (put_fails : Type 0) (before : List ℕ) (status : ℕ) (written : List ℕ) (after : Contents) : Type 0 where
@@ -54,7 +53,7 @@ module _ (words : List (List ℕ)) (files : Files) (load_fails save_fails : Type
     NoMemory : status ≡ 7 → written ≡ before → after ≡ Some files → Leaves put_fails before status written after
 
 -- the same, where store and sink tell; else nothing
-abbrev pub LeavesWhereTold : List (List ℕ) → Contents → Contents → Type 0 → Type 0 → Type 0 → Option (List ℕ) → ℕ → Option (List ℕ) → Type 0
+abbrev pub LeavesWhereTold : List (List ℕ) → Contents → Contents → (ℕ → Type 0) → Type 0 → Type 0 → Option (List ℕ) → ℕ → Option (List ℕ) → Type 0
 LeavesWhereTold words (Some files) later load_fails save_fails put_fails (Some before) status after =
     (written : List ℕ) × (after ≡ Some written) × Leaves words files load_fails save_fails put_fails before status written later
 LeavesWhereTold words _ later load_fails save_fails put_fails _ status after = Unit {0}

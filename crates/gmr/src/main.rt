@@ -6,6 +6,7 @@ mod book;
 mod check;
 mod command;
 mod fault_lines;
+mod laws;
 mod load;
 mod map;
 mod refusal;

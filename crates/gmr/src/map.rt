@@ -1,8 +1,11 @@
-ghost use Rattle.std.specs.Prelude.{◌++◌, IfOk, IfErr, codes};
+ghost use Rattle.std.specs.Prelude.{ℕ, List, ◌+◌, ◌≤◌, ◌++◌, length, IfOk, IfErr, codes};
+ghost use Rattle.gm_model.specs.GMap.{Row};
+ghost use Rattle.gm_model.specs.MapText.{MapText};
 ghost use Rattle.gmr.specs.Answer.{Show, TheMap, refusal};
 ghost use Rattle.gmr.specs.FaultLines.{IsSaidOfMap, map_words};
 ghost use Rattle.gmr.specs.Replies.{IsJudged, IsRefusal};
 ghost use Rattle.gmr.specs.RunAnswer.{IsBadMap};
+ghost use Rattle.gmr.specs.StepBounds.{reading};
 ghost use Rattle.gmr.specs.Stops.{IsReadMap, IsBadFor};
 
 use crate::fault_lines::map_line;
@@ -39,6 +42,8 @@ fn refused(alloc: Global, fault: MapFault) -> Result<Reply, NoText>
 pub fn read<L: Ledger>(alloc: Global, bytes: &[u8], steps: &mut Steps<L>) -> Result<Arena, Stop>
     ensures map { IfOk result (IsReadMap bytes.now) }
     ensures stop { IfErr result (IsBadFor TheMap (IsBadMap bytes.now)) }
+    ensures most { (n : ℕ) (darts : List Row) → MapText bytes.now n darts → steps.new ≤ steps.old + reading n (length darts) }
+    ensures least { IfOk result (λ arena. steps.old + arena.count ≤ steps.new) }
 {
     match read_map(alloc, bytes, steps) {
         Ok(arena) => Ok(arena),

@@ -1,10 +1,12 @@
-ghost use Rattle.std.specs.Prelude.{◌≡◌, ◌==◌, ◌≤◌, ◌⊎◌, ℕ, IfOk, IfErr, IfSome, List, map, not};
+ghost use Rattle.std.specs.Prelude.{◌≡◌, ◌==◌, ◌+◌, ◌≤◌, ◌⊎◌, ℕ, IfOk, IfErr, IfSome, List, map, not};
 ghost use Rattle.gm_host.specs.Count.{counted, Rises};
 ghost use Rattle.gm_model.specs.Rules.{rule_of};
 ghost use Rattle.gmr.specs.Answer.{TheMap, TheBook, TheScript};
+ghost use Rattle.gmr.specs.Loads.{FailsAt};
 ghost use Rattle.gmr.specs.MadeRuns.{names_of, inputs_of, CanRun, IsFitted, IsPrinted, IsRunOf, IsMapBytes, IsMade, LacksInput, LoadsAtMostThrice, IsRunStatus, HoldsMap, IsRunText, IsSaving, IsSoundReply};
 ghost use Rattle.gmr.specs.Tool.{IsReplyStatus};
 ghost use Rattle.gmr.specs.RunAnswer.{IsBadMap, IsBadBook, IsBadScript, run_status};
+ghost use Rattle.gmr.specs.StepBounds.{ReadsWithin, RunsWithin, RunsAtLeast, WithinMost, AtLeast, printing};
 ghost use Rattle.gmr.specs.Stops.{IsFrom, IsReadMap, IsReadBook, IsReadScript, IsSoundStop};
 ghost use Rattle.gm_arena.specs.Lawful.{IsLawful};
 ghost use Rattle.gm_mapfile.specs.Rows.{rows_of};
@@ -49,6 +51,8 @@ fn load_map<S: Store, L: Ledger>(
     ensures once { S.loads store.new ≡ counted (S.loads store.old) }
     ensures read { IfOk result (λ arena. (bytes : List ℕ) × IsReadMap bytes arena) }
     ensures from { IsFrom (S.holds store.old) TheMap name.now IsReadMap IsBadMap (Rises (S.load_faults store.old) (S.load_faults store.new)) result }
+    ensures most { ReadsWithin (S.holds store.old) name.now steps.old steps.new }
+    ensures least { IfOk result (λ arena. steps.old + arena.count ≤ steps.new) }
 {
     let bytes = load_file(alloc, name, Role::Map, store)?;
     map::read(alloc, bytes.as_slice(), steps)
@@ -131,6 +135,8 @@ fn printed<L: Ledger>(
     ensures texts { IsPrinted (run_status (map outcome_of report.now.lines))
         (report_text book.now.schema (map rule_of book.now.rules) script.now.lines (map outcome_of report.now.lines) report.now.darts report.now.next)
         (canonical arena.now.schema.dim (rows_of arena.now)) result }
+    ensures most { steps.new ≤ steps.old + printing arena.now.schema.dim arena.now.count }
+    ensures least { IfOk result (λ _. steps.old + arena.now.count ≤ steps.new) }
 {
     prove!(arena.count() <= 1_048_576);
     let text = print_report(alloc, book, script, report)?;
@@ -150,6 +156,9 @@ fn applied<L: Ledger>(
     requires { CanRun arena.old book.now script.now plans.now }
     ensures run { IsRunOf (inputs_of arena.old book.now script.now) result }
     ensures map { IfOk result (λ made. IsMapBytes made.map.items) }
+    ensures lawful { IsLawful arena.old }
+    ensures most { RunsWithin (inputs_of arena.old book.now script.now) steps.old steps.new }
+    ensures least { IfOk result (λ _. RunsAtLeast (inputs_of arena.old book.now script.now) steps.old steps.new) }
 {
     prove!(arena.count() <= 1_048_576);
     let report = gm_run::run(alloc, plans, script, arena, steps)?;
@@ -173,9 +182,11 @@ fn prepared<S: Store, L: Ledger>(
     ensures held { S.holds store.new ≡ S.holds store.old }
     ensures no_save_fault { S.save_faults store.new ≡ S.save_faults store.old }
     ensures loads { LoadsAtMostThrice (S.loads store.old) (S.loads store.new) }
-    ensures made { IfSome (S.holds store.old) (λ held. IsMade held (names_of files.entry) (Rises (S.load_faults store.old) (S.load_faults store.new)) result) }
+    ensures made { IfSome (S.holds store.old) (λ held. IsMade held (names_of files.entry) (FailsAt (S.load_faults store.old) (S.load_faults store.new) (S.loads store.old) (S.loads store.new)) result) }
     ensures map { IfOk result (λ made. IsMapBytes made.map.items) }
     ensures status { IfOk result (λ made. IsRunStatus made.status) }
+    ensures most { IfSome (S.holds store.old) (λ held. WithinMost held (names_of files.entry) steps.old steps.new) }
+    ensures least { IfOk result (λ _. IfSome (S.holds store.old) (λ held. AtLeast held (names_of files.entry) steps.old steps.new)) }
     ensures sound { IfErr result (λ stop. IsSoundStop stop (Rises (S.load_faults store.old) (S.load_faults store.new) ⊎ LacksInput (S.holds store.old) (names_of files.entry))) }
 {
     let mut arena = load_map(alloc, files.map, store, steps)?;
@@ -214,12 +225,14 @@ pub fn answer<S: Store, L: Ledger>(
 ) -> Result<Reply, NoText>
     ensures loads { LoadsAtMostThrice (S.loads store.old) (S.loads store.new) }
     ensures text { IfSome (S.holds store.old) (λ held. IsRunText held (names_of files.entry)
-        (Rises (S.load_faults store.old) (S.load_faults store.new)) (Rises (S.save_faults store.old) (S.save_faults store.new)) (S.holds store.new) result) }
+        (FailsAt (S.load_faults store.old) (S.load_faults store.new) (S.loads store.old) (S.loads store.new)) (Rises (S.save_faults store.old) (S.save_faults store.new)) (S.holds store.new) result) }
     ensures statuses { IfOk result (λ reply. IsReplyStatus reply.status) }
     ensures sound { IsSoundReply result
         (Rises (S.load_faults store.old) (S.load_faults store.new) ⊎ LacksInput (S.holds store.old) (names_of files.entry))
         (Rises (S.save_faults store.old) (S.save_faults store.new)) }
     ensures map { IfOk result (λ reply. IsRunStatus reply.status → HoldsMap (S.holds store.new) files.entry.out.now) }
+    ensures most { IfSome (S.holds store.old) (λ held. WithinMost held (names_of files.entry) steps.old steps.new) }
+    ensures least { IfOk result (λ reply. IfSome (S.holds store.old) (λ held. IsRunStatus reply.status → AtLeast held (names_of files.entry) steps.old steps.new)) }
 {
     match prepared(alloc, files, store, steps) {
         Ok(made) => saved(files.out, made, store),

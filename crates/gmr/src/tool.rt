@@ -1,11 +1,13 @@
 ghost use Rattle.std.specs.Prelude.{◌≡◌, ◌⊎◌, ◌<◌, IsErrOf, IfSome, IfOk};
 ghost use Rattle.gm_host.specs.Count.{counted, Rises};
+ghost use Rattle.gmr.specs.Loads.{FailsAt};
 ghost use Rattle.gmr.specs.MadeRuns.{LoadsAtMostThrice, IsRunStatus, IsSoundReply, HasCause};
 ghost use Rattle.gmr.specs.Program.{IsCommand, IsFileCommand, IsRunCommand};
 ghost use Rattle.gmr.specs.Refusals.{command_in, IsRoleOf};
 ghost use Rattle.gmr.specs.Replies.{IsJudged};
 ghost use Rattle.gm_host.specs.Store.{Lacks};
 ghost use Rattle.gmr.specs.Answer as answer;
+ghost use Rattle.gmr.specs.StepBounds.{StaysWithin, TakesLeast};
 ghost use Rattle.gmr.specs.Tool.{words_of, IsText, IsFileText, IsPut, IsReplyStatus, IsStatus, IsUsageStatus, IsCheck, LeavesWhereTold, LacksFile, HoldsSavedMap};
 ghost use Rattle.gmr.specs.declared.refusal.NoText.TheVariants as nothing;
 ghost use Rattle.gmr.specs.declared.refusal.Refusal.TheVariants as refusals;
@@ -57,7 +59,7 @@ fn reply_on<S: Store, L: Ledger>(
     ensures no_save_fault { S.save_faults store.new ≡ S.save_faults store.old }
     ensures one_load { S.loads store.new ≡ counted (S.loads store.old) }
     ensures text { IfSome (S.holds store.old) (λ files. IsFileText files (command_in command) file.now
-        (Rises (S.load_faults store.old) (S.load_faults store.new)) (Rises (S.save_faults store.old) (S.save_faults store.new)) (S.holds store.new) result) }
+        (FailsAt (S.load_faults store.old) (S.load_faults store.new) (S.loads store.old) (S.loads store.new)) (Rises (S.save_faults store.old) (S.save_faults store.new)) (S.holds store.new) result) }
     ensures statuses { IfOk result (λ reply. IsReplyStatus reply.status) }
     ensures rule_refused { IfOk result (λ reply. reply.status ≡ 1 → command_in command ≡ answer.Check) }
     ensures sound { IsSoundReply result
@@ -81,7 +83,7 @@ fn reply_to<S: Store, L: Ledger>(
     ensures one_load { IsFileCommand (words_of words.now) → S.loads store.new ≡ counted (S.loads store.old) }
     ensures none_loaded { (IsCommand (words_of words.now) → ⊥) → S.loads store.new ≡ S.loads store.old }
     ensures text { IfSome (S.holds store.old) (λ files. IsText (words_of words.now) files
-        (Rises (S.load_faults store.old) (S.load_faults store.new)) (Rises (S.save_faults store.old) (S.save_faults store.new)) (S.holds store.new) result) }
+        (FailsAt (S.load_faults store.old) (S.load_faults store.new) (S.loads store.old) (S.loads store.new)) (Rises (S.save_faults store.old) (S.save_faults store.new)) (S.holds store.new) result) }
     ensures statuses { IfOk result (λ reply. IsReplyStatus reply.status) }
     ensures refused { IfOk result (λ reply. reply.status ≡ 1 → IsCheck (words_of words.now) ⊎ IsRunCommand (words_of words.now)) }
     ensures usage { IsErrOf result (nothing.Refused refusals.Usage) → IsCommand (words_of words.now) → ⊥ }
@@ -90,6 +92,8 @@ fn reply_to<S: Store, L: Ledger>(
         (Rises (S.load_faults store.old) (S.load_faults store.new) ⊎ LacksFile (words_of words.now) (S.holds store.old))
         (Rises (S.save_faults store.old) (S.save_faults store.new)) }
     ensures map { IfOk result (λ reply. IsRunStatus reply.status → HoldsSavedMap (words_of words.now) (S.holds store.new)) }
+    ensures most { StaysWithin (words_of words.now) (S.holds store.old) steps.old steps.new }
+    ensures least { IfOk result (λ reply. TakesLeast (words_of words.now) (S.holds store.old) reply.status steps.old steps.new) }
 {
     if let Some((command, file)) = command_of(words) {
         return reply_on(alloc, command, file, store, steps);
@@ -134,11 +138,16 @@ pub fn tool<S: Store, O: Sink, L: Ledger>(
 ) -> u8
     // What was written and what is held, where store and sink tell.
     ensures leaves { LeavesWhereTold (words_of words.now) (S.holds store.old) (S.holds store.new)
-        (Rises (S.load_faults store.old) (S.load_faults store.new)) (Rises (S.save_faults store.old) (S.save_faults store.new))
+        (FailsAt (S.load_faults store.old) (S.load_faults store.new) (S.loads store.old) (S.loads store.new)) (Rises (S.save_faults store.old) (S.save_faults store.new))
         (Rises (O.faults out.old) (O.faults out.new)) (O.written out.old) result (O.written out.new) }
 
     // The map that a run saves is a generalised map.
     ensures map { IsRunStatus result → HoldsSavedMap (words_of words.now) (S.holds store.new) }
+
+    // The steps of a run, where the store tells: at most so many whatever is answered, and at least
+    // so many where it is done.
+    ensures most { StaysWithin (words_of words.now) (S.holds store.old) steps.old steps.new }
+    ensures least { TakesLeast (words_of words.now) (S.holds store.old) result steps.old steps.new }
 
     // The rest holds whatever they tell.
     ensures statuses { IsStatus result }
@@ -175,7 +184,7 @@ pub fn with_new_counter<S: Store, O: Sink, L: Ledger>(
     requires parts { blank.parts ≡ L.parts }
     requires some { 0 < blank.parts }
     ensures leaves { LeavesWhereTold (words_of words.now) (S.holds store.old) (S.holds store.new)
-        (Rises (S.load_faults store.old) (S.load_faults store.new)) (Rises (S.save_faults store.old) (S.save_faults store.new))
+        (FailsAt (S.load_faults store.old) (S.load_faults store.new) (S.loads store.old) (S.loads store.new)) (Rises (S.save_faults store.old) (S.save_faults store.new))
         (Rises (O.faults out.old) (O.faults out.new)) (O.written out.old) result (O.written out.new) }
     ensures map { IsRunStatus result → HoldsSavedMap (words_of words.now) (S.holds store.new) }
     ensures statuses { IsStatus result }

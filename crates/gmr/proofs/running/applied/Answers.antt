@@ -1,6 +1,7 @@
 use Rattle.std.proofs.Common.{map}
 use Rattle.gm_run.specs.Lines.{outcome_of}
 use Rattle.gmr.proofs.Lines.{plans_fit, lines_fit, printable, run_made, map_made}
+use Rattle.gmr.proofs.StepBounds.{unprinted_within, printed_within, printed_least, if_done}
 use Rattle.gmr.proofs.running.applied.Goals as goal
 
 pub run-requires-clause-plans : goal.run-requires-clause-plans
@@ -19,3 +20,18 @@ returns-clause-run g c =
 
 pub returns-clause-map : goal.returns-clause-map
 returns-clause-map g c = map_made c.run.new.arena _ _ c.printed.result c.printed.ensures.lawful c.run.ensures.generalised c.printed.ensures.texts
+
+pub returns-in_err-report-clause-most : goal.returns-in_err-report-clause-most
+returns-in_err-report-clause-most g c =
+    unprinted_within c.args.arena.now c.run.new.arena c.args.book.now c.args.script.now c.args.plans.now c.requires c.count.ensures.lawful _ _ c.run.ensures.most
+
+pub returns-clause-most : goal.returns-clause-most
+returns-clause-most g c =
+    printed_within c.args.arena.now c.run.new.arena c.args.book.now c.args.script.now c.args.plans.now c.requires c.count.ensures.lawful c.printed.ensures.lawful
+    (map outcome_of c.in_ok-report.report.lines) c.in_ok-report.ensures.only _ _ _ c.run.ensures.most c.run.ensures.schema c.printed.ensures.most
+
+pub returns-clause-least : goal.returns-clause-least
+returns-clause-least g c =
+    if_done
+    (printed_least c.args.arena.now c.run.new.arena c.args.book.now c.args.script.now c.args.plans.now c.requires c.count.ensures.lawful c.printed.ensures.lawful
+    (map outcome_of c.in_ok-report.report.lines) c.in_ok-report.ensures.only _ _ _ c.in_ok-report.ensures.least) c.printed.result c.printed.ensures.least

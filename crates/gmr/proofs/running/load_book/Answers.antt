@@ -1,6 +1,5 @@
-use Rattle.std.proofs.Common.{refl, map}
+use Rattle.std.proofs.Common.{refl}
 use Rattle.std.proofs.lemmas.Result.{err_from_is_err_and}
-use Rattle.gm_model.specs.Rules.{rule_of}
 use Rattle.gmr.specs.Answer.{TheBook}
 use Rattle.gmr.specs.RunAnswer.{IsBadBook}
 use Rattle.gmr.specs.Stops.{IsReadBook}

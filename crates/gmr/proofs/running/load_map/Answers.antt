@@ -1,10 +1,10 @@
-use Rattle.std.proofs.Common.{refl, map}
+use Rattle.std.proofs.Common.{refl}
 use Rattle.std.proofs.lemmas.Result.{err_from_is_err_and}
-use Rattle.gm_model.specs.Rules.{rule_of}
 use Rattle.gmr.specs.Answer.{TheMap}
 use Rattle.gmr.specs.RunAnswer.{IsBadMap}
 use Rattle.gmr.specs.Stops.{IsReadMap}
 use Rattle.gmr.specs.declared.refusal.Role.TheVariants as roles
+use Rattle.gmr.proofs.StepBounds.{loaded_within, unread_within}
 use Rattle.gmr.proofs.Stopping.{not_loaded_from, read_from, some_bytes}
 use Rattle.gmr.proofs.running.load_map.Goals as goal
 
@@ -21,3 +21,10 @@ pub returns-clause-from : goal.returns-clause-from
 returns-clause-from g c =
     read_from TheMap c.args.name.now IsReadMap IsBadMap _ (g.S.Store.holds c.args.store.now) c.in_ok-bytes.bytes.items c.read.result c.in_ok-bytes.ensures.loading
     (rw c.as_slice.ensures.value at c.read.ensures.map) (rw c.as_slice.ensures.value at c.read.ensures.stop)
+
+pub returns-in_err-bytes-clause-most : goal.returns-in_err-bytes-clause-most
+returns-in_err-bytes-clause-most g c = unread_within (g.S.Store.holds c.args.store.now) c.args.name.now _ _ refl
+
+pub returns-clause-most : goal.returns-clause-most
+returns-clause-most g c =
+    loaded_within (g.S.Store.holds c.args.store.now) c.args.name.now c.in_ok-bytes.bytes.items _ _ c.in_ok-bytes.ensures.loading.1 (rw c.as_slice.ensures.value at c.read.ensures.most)

@@ -1,4 +1,5 @@
 use Rattle.std.proofs.lemmas.Result.{err_from_is_err_and}
+use Rattle.gmr.specs.Loads.{FailsAt}
 use Rattle.gmr.specs.Refusals.{command_in}
 use Rattle.gmr.proofs.Asking.{not_loaded, loaded, load_is_sound, judged_is_sound, judged_refuses}
 use Rattle.gmr.proofs.tool.reply_on.Goals as goal
@@ -7,7 +8,7 @@ pub returns-in_err-bytes-clause-text : goal.returns-in_err-bytes-clause-text
 returns-in_err-bytes-clause-text g c =
     let p = err_from_is_err_and c.from_residual.result c.from_residual.ensures.1 in
     rw (p.1, p.2)
-    (not_loaded (command_in c.args.command) c.args.file.now c.role_of.result c.role_of.ensures _ _ (g.S.Store.holds c.args.store.now) _ c.load_file.ensures.held c.in_err-bytes.field-0.0 c.in_err-bytes.ensures.loading)
+    (not_loaded (command_in c.args.command) c.args.file.now c.role_of.result c.role_of.ensures _ (FailsAt (g.S.Store.load_faults c.args.store.now) (g.S.Store.load_faults c.load_file.new.store) (g.S.Store.loads c.args.store.now) (g.S.Store.loads c.load_file.new.store)) (λ rises. (rises, c.load_file.ensures.once)) _ (g.S.Store.holds c.args.store.now) _ c.load_file.ensures.held c.in_err-bytes.field-0.0 c.in_err-bytes.ensures.loading)
 
 pub returns-in_err-bytes-clause-sound : goal.returns-in_err-bytes-clause-sound
 returns-in_err-bytes-clause-sound g c =
@@ -16,7 +17,7 @@ returns-in_err-bytes-clause-sound g c =
 
 pub returns-clause-text : goal.returns-clause-text
 returns-clause-text g c =
-    loaded (command_in c.args.command) c.args.file.now c.role_of.result c.role_of.ensures _ _ (g.S.Store.holds c.args.store.now) _ c.load_file.ensures.held
+    loaded (command_in c.args.command) c.args.file.now c.role_of.result c.role_of.ensures _ (FailsAt (g.S.Store.load_faults c.args.store.now) (g.S.Store.load_faults c.load_file.new.store) (g.S.Store.loads c.args.store.now) (g.S.Store.loads c.load_file.new.store)) (λ rises. (rises, c.load_file.ensures.once)) _ (g.S.Store.holds c.args.store.now) _ c.load_file.ensures.held
     c.in_ok-bytes.bytes c.judged.result c.in_ok-bytes.ensures.loading (rw c.as_slice.ensures.value at c.judged.ensures)
 
 pub returns-clause-rule_refused : goal.returns-clause-rule_refused

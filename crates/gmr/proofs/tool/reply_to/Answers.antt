@@ -2,7 +2,8 @@ use Rattle.std.proofs.Common.{inl, inr}
 use Rattle.gmr.specs.MadeRuns.{names_of}
 use Rattle.gmr.specs.Refusals.{command_in}
 use Rattle.gmr.specs.Tool.{words_of}
-use Rattle.gmr.proofs.Asking.{file_text, run_text, usage_text, file_lacks, run_lacks, file_refused, run_refused, run_holds}
+use Rattle.gmr.proofs.StepWords.{within_of, least_of, within_none, least_none}
+use Rattle.gmr.proofs.Asking.{file_is_no_run, file_text, run_text, usage_text, file_lacks, run_lacks, file_refused, run_refused, run_holds}
 use Rattle.gmr.proofs.tool.reply_to.Goals as goal
 
 pub returns-in-Some-clause-text : goal.returns-in-Some-clause-text
@@ -46,3 +47,20 @@ returns-clause-refused g c = run_refused (words_of c.args.words.now) (names_of c
 
 pub returns-clause-map : goal.returns-clause-map
 returns-clause-map g c = run_holds (words_of c.args.words.now) (names_of c.in-Some-run_of.files) _ c.in-Some-run_of.ensures c.answer.result c.answer.ensures.map
+
+pub returns-in-Some-clause-most : goal.returns-in-Some-clause-most
+returns-in-Some-clause-most g c =
+    within_none (words_of c.args.words.now) (λ named asks. file_is_no_run (words_of c.args.words.now) (command_in c.in-Some.command) c.in-Some.file.now named c.in-Some.ensures asks) _ _ (g.S.Store.holds c.args.store.now)
+
+pub returns-in-Some-clause-least : goal.returns-in-Some-clause-least
+returns-in-Some-clause-least g c =
+    least_none (words_of c.args.words.now) (λ named asks. file_is_no_run (words_of c.args.words.now) (command_in c.in-Some.command) c.in-Some.file.now named c.in-Some.ensures asks) _ _ (g.S.Store.holds c.args.store.now) c.reply_on.result
+
+pub returns-in_default-run_of-clause-most : goal.returns-in_default-run_of-clause-most
+returns-in_default-run_of-clause-most g c = within_none (words_of c.args.words.now) (λ named asks. c.in_default-run_of.ensures (named, asks)) _ _ (g.S.Store.holds c.args.store.now)
+
+pub returns-clause-most : goal.returns-clause-most
+returns-clause-most g c = within_of (words_of c.args.words.now) (names_of c.in-Some-run_of.files) c.in-Some-run_of.ensures _ _ (g.S.Store.holds c.args.store.now) c.answer.ensures.most
+
+pub returns-clause-least : goal.returns-clause-least
+returns-clause-least g c = least_of (words_of c.args.words.now) (names_of c.in-Some-run_of.files) c.in-Some-run_of.ensures _ _ (g.S.Store.holds c.args.store.now) c.answer.result c.answer.ensures.least

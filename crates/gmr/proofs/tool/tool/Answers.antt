@@ -1,5 +1,6 @@
 use Rattle.gmr.specs.Tool.{words_of}
 use Rattle.gmr.proofs.Putting.{put_reply, put_refusal, put_nothing, status_of_reply, status_of_refusal, status_without_memory, usage_status, one_put, not_one, three_put, five_put, not_three, not_five, run_put, no_run_put}
+use Rattle.gmr.proofs.StepWords.{least_put, least_refused, seven_is_no_run}
 use Rattle.gmr.proofs.tool.tool.Goals as goal
 
 pub returns-in-Ok-clause-leaves : goal.returns-in-Ok-clause-leaves
@@ -54,3 +55,14 @@ returns-in-Err-OutOfMemory-clause-statuses g c = status_without_memory
 pub returns-in-Err-OutOfMemory-clause-leaves : goal.returns-in-Err-OutOfMemory-clause-leaves
 returns-in-Err-OutOfMemory-clause-leaves g c =
     put_nothing (words_of c.args.words.now) _ _ _ _ (g.S.Store.holds c.args.store.now) (g.O.Sink.written c.args.out.now) (rw c.in-Err-OutOfMemory.field-0-is at c.in-Err-OutOfMemory.ensures.text)
+
+pub returns-in-Ok-clause-least : goal.returns-in-Ok-clause-least
+returns-in-Ok-clause-least g c =
+    least_put (words_of c.args.words.now) (g.S.Store.holds c.args.store.now) c.in-Ok.reply.status _ _ _ (run_put _ _ _ _ _ c.in-Ok.reply.status c.put_whole.ensures) c.in-Ok.ensures.least
+
+pub returns-in-Err-Refused-clause-least : goal.returns-in-Err-Refused-clause-least
+returns-in-Err-Refused-clause-least g c =
+    least_refused (words_of c.args.words.now) (g.S.Store.holds c.args.store.now) _ _ _ (no_run_put _ _ _ _ _ c.in-Err-Refused.refusal (rw c.status.ensures at c.put_whole-in-Err-Refused.ensures))
+
+pub returns-in-Err-OutOfMemory-clause-least : goal.returns-in-Err-OutOfMemory-clause-least
+returns-in-Err-OutOfMemory-clause-least g c = least_refused (words_of c.args.words.now) (g.S.Store.holds c.args.store.now) _ _ _ seven_is_no_run
