@@ -289,57 +289,144 @@ fn expect_fault<L: Ledger>(
     Ok(())
 }
 
-fn match_in_square<L: Ledger>(rt: &impl Abort, alloc: Global, blank: Blank) -> Result<(), Fail>
+/// Where a rule fits, and the names of the match and the turns of its positions.
+struct Fit<'a> {
+    dim: u8,
+    rows: &'a [&'a [u32]],
+    rule: Row<'a>,
+    hook: u32,
+    names: &'a [u32],
+}
+
+const FITS: [Fit; 3] = [
+    Fit {
+        dim: 2,
+        rows: &SQUARE,
+        rule: FACE,
+        hook: 0,
+        names: &[
+            0, 1, 2, 1, 0, 3, 7, 4, 0, 2, 5, 1, 6, 2, 6, 3, 3, 7, 5, 7, 4, 4, 6, 5,
+        ],
+    },
+    Fit {
+        dim: 2,
+        rows: &SQUARE,
+        rule: CHAIN,
+        hook: 1,
+        names: &[1, 0, 7, 6],
+    },
+    Fit {
+        dim: 3,
+        rows: &SHEETS,
+        rule: ACROSS,
+        hook: 0,
+        names: &[0, 4, 1, 2, 1, 5, 0, 3, 2, 6, 3, 0, 3, 7, 2, 1],
+    },
+];
+
+fn match_each<L: Ledger>(
+    rt: &impl Abort,
+    alloc: Global,
+    fits: &[Fit],
+    steps: &mut Steps<L>,
+) -> Result<(), Fail> {
+    for fit in fits {
+        let map = arena(rt, alloc, fit.dim, fit.rows, steps)?;
+        expect_match(rt, alloc, &map, &fit.rule, fit.hook, fit.names, steps)?;
+    }
+    Ok(())
+}
+
+/// A creation rule matches in any map, and takes no dart.
+fn match_nothing<L: Ledger>(
+    rt: &impl Abort,
+    alloc: Global,
+    steps: &mut Steps<L>,
+) -> Result<(), Fail> {
+    let map = arena(rt, alloc, 2, &SQUARE, steps)?;
+    let rule = creation(alloc)?;
+    let created = matched(rt, alloc, &map, &rule, &[], steps)?;
+    assert!(rt; created.is_ok_and(|names| names.as_slice().is_empty()));
+    Ok(())
+}
+
+fn all_matches<L: Ledger>(rt: &impl Abort, alloc: Global, blank: Blank) -> Result<(), Fail>
     requires name { blank.name ≡ L.name }
     requires parts { blank.parts ≡ L.parts }
     requires some { 0 < blank.parts }
 {
     let mut steps: Steps<L> = Steps::start(blank);
-    let square = arena(rt, alloc, 2, &SQUARE, &mut steps)?;
-    let turned = [
-        0, 1, 2, 1, 0, 3, 7, 4, 0, 2, 5, 1, 6, 2, 6, 3, 3, 7, 5, 7, 4, 4, 6, 5,
-    ];
-    expect_match(rt, alloc, &square, &FACE, 0, &turned, &mut steps)?;
-    expect_match(rt, alloc, &square, &CHAIN, 1, &[1, 0, 7, 6], &mut steps)?;
-    let rule = creation(alloc)?;
-    let created = matched(rt, alloc, &square, &rule, &[], &mut steps)?;
-    assert_eq!(rt; created.ok().ok_or("a match")?.as_slice(), [].as_slice());
-    let sheets = arena(rt, alloc, 3, &SHEETS, &mut steps)?;
-    let across = [0, 4, 1, 2, 1, 5, 0, 3, 2, 6, 3, 0, 3, 7, 2, 1];
-    expect_match(rt, alloc, &sheets, &ACROSS, 0, &across, &mut steps)
+    match_each(rt, alloc, &FITS, &mut steps)?;
+    match_nothing(rt, alloc, &mut steps)
 }
 
 #[test]
 fn matches(rt: HostRuntime) -> Result<(), Fail> {
-    match_in_square::<Brand>(&rt, rt.alloc(), Blank::new(1))
+    all_matches::<Brand>(&rt, rt.alloc(), Blank::new(1))
 }
 
-fn miss_in_square<L: Ledger>(rt: &impl Abort, alloc: Global, blank: Blank) -> Result<(), Fail>
+/// Where a rule doesn't fit in the square, and why.
+struct Miss<'a> {
+    rule: Row<'a>,
+    hook: u32,
+    fault: MatchFault,
+}
+
+const MISSES: [Miss; 4] = [
+    Miss {
+        rule: EDGE,
+        hook: 2,
+        fault: MatchFault::Arc {
+            node: 1,
+            position: 0,
+            label: 0,
+        },
+    },
+    Miss {
+        rule: PAIR,
+        hook: 0,
+        fault: MatchFault::Same {
+            node: 0,
+            position: 0,
+            node2: 1,
+            position2: 0,
+        },
+    },
+    Miss {
+        rule: EDGE,
+        hook: 9,
+        fault: MatchFault::NoDart { index: 0 },
+    },
+    Miss {
+        rule: PAIR,
+        hook: 9,
+        fault: MatchFault::NoDart { index: 0 },
+    },
+];
+
+fn miss_each<L: Ledger>(
+    rt: &impl Abort,
+    alloc: Global,
+    misses: &[Miss],
+    steps: &mut Steps<L>,
+) -> Result<(), Fail> {
+    let map = arena(rt, alloc, 2, &SQUARE, steps)?;
+    for miss in misses {
+        expect_fault(rt, alloc, &map, &miss.rule, miss.hook, miss.fault, steps)?;
+    }
+    Ok(())
+}
+
+fn all_misses<L: Ledger>(rt: &impl Abort, alloc: Global, blank: Blank) -> Result<(), Fail>
     requires name { blank.name ≡ L.name }
     requires parts { blank.parts ≡ L.parts }
     requires some { 0 < blank.parts }
 {
     let mut steps: Steps<L> = Steps::start(blank);
-    let square = arena(rt, alloc, 2, &SQUARE, &mut steps)?;
-    let broken = MatchFault::Arc {
-        node: 1,
-        position: 0,
-        label: 0,
-    };
-    let same = MatchFault::Same {
-        node: 0,
-        position: 0,
-        node2: 1,
-        position2: 0,
-    };
-    let dead = MatchFault::NoDart { index: 0 };
-    expect_fault(rt, alloc, &square, &EDGE, 2, broken, &mut steps)?;
-    expect_fault(rt, alloc, &square, &PAIR, 0, same, &mut steps)?;
-    expect_fault(rt, alloc, &square, &EDGE, 9, dead, &mut steps)?;
-    expect_fault(rt, alloc, &square, &PAIR, 9, dead, &mut steps)
+    miss_each(rt, alloc, &MISSES, &mut steps)
 }
 
 #[test]
 fn faults(rt: HostRuntime) -> Result<(), Fail> {
-    miss_in_square::<Brand>(&rt, rt.alloc(), Blank::new(1))
+    all_misses::<Brand>(&rt, rt.alloc(), Blank::new(1))
 }
