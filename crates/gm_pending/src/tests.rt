@@ -6,6 +6,7 @@ ghost use Rattle.gm_model.specs.declared.rule.Node.{Node};
 ghost use Rattle.gm_model.specs.Kinds.{IsTyped};
 ghost use Rattle.gm_model.specs.Maps.{IsGeneralised};
 ghost use Rattle.gm_model.specs.Rules.{rule_of};
+ghost use Rattle.gm_model.specs.Structure.{IsInRange, IsWithinLimits};
 ghost use Rattle.gm_arena.specs.ArenaAsMap.{as_map};
 ghost use Rattle.gm_plan.specs.InArena.{AreMatched};
 ghost use Rattle.gm_plan.specs.Plans.{IsLeftCount};
@@ -145,10 +146,10 @@ fn create<L: Ledger>(
     assert!(rt; plan.hooks() == 0);
     assert!(rt; arena.count() <= 1000);
     assert!(rt; arena.next() <= 1000);
-    let found = Instances::new(Vec::new(row.alloc), Vec::new(row.alloc), 1, 0);
     let first = arena.next();
     let added = plan.added() as u32;
     arena.reserve(added, first + added)?;
+    let found = Instances::new(Vec::new(row.alloc), Vec::new(row.alloc), 1, 0);
     let edits = edits_of(rt, plan, arena, &found, row, steps)?;
     edits.commit(arena, steps);
     assert_eq!(rt; arena.next(), first + added);
@@ -179,23 +180,55 @@ fn expect_darts<L: Ledger>(
 }
 
 /// Applies the rule to the empty map, and to the map that it made.
+fn create_both<L: Ledger>(
+    rt: &impl Abort,
+    plan: &Plan<'_>,
+    row: &Row,
+    steps: &mut Steps<L>,
+) -> Result<(), Fail>
+    requires dim { plan.now.schema.dim ≡ row.now.dim }
+    requires no_embeds { plan.now.schema.embeds ≡ [] }
+{
+    let mut arena = Arena::new(row.alloc, schema(row.alloc, row.dim)?);
+    create(rt, plan, &mut arena, row, steps)?;
+    create(rt, plan, &mut arena, row, steps)?;
+    assert_eq!(rt; arena.count(), 2 * row.nodes as u32);
+    Ok(())
+}
+
+/// Whether the rule can be compiled.
+fn is_fit(schema: &Schema, rule: &RuleTable) -> bool
+    ensures limits { IsTrue result → IsWithinLimits (rule_of rule.now) }
+    ensures range { IsTrue result → IsInRange schema.now (rule_of rule.now) }
+    ensures typed { IsTrue result → IsTyped schema.now (rule_of rule.now) }
+{
+    rule.is_within_limits() && rule.is_in_range(schema) && is_bare(schema, rule)
+}
+
+fn create_by_rule<L: Ledger>(
+    rt: &impl Abort,
+    schema: &Schema,
+    rule: &RuleTable,
+    row: &Row,
+    steps: &mut Steps<L>,
+) -> Result<(), Fail>
+    requires dim { schema.now.dim ≡ row.now.dim }
+    requires no_embeds { schema.now.embeds ≡ [] }
+{
+    assert!(rt; is_fit(schema, rule));
+    let plan = compile(row.alloc, schema, rule)?;
+    create_both(rt, &plan, row, steps)
+}
+
 fn create_twice<L: Ledger>(rt: &impl Abort, row: &Row, blank: Blank) -> Result<(), Fail>
     requires name { blank.name ≡ L.name }
     requires parts { blank.parts ≡ L.parts }
     requires some { 0 < blank.parts }
 {
     let mut steps: Steps<L> = Steps::start(blank);
-    let schema_of_rule = schema(row.alloc, row.dim)?;
+    let schema = schema(row.alloc, row.dim)?;
     let rule = rule(row)?;
-    assert!(rt; rule.is_within_limits());
-    assert!(rt; rule.is_in_range(&schema_of_rule));
-    assert!(rt; is_bare(&schema_of_rule, &rule));
-    let plan = compile(row.alloc, &schema_of_rule, &rule)?;
-    let mut arena = Arena::new(row.alloc, schema(row.alloc, row.dim)?);
-    create(rt, &plan, &mut arena, row, &mut steps)?;
-    create(rt, &plan, &mut arena, row, &mut steps)?;
-    assert_eq!(rt; arena.count(), 2 * row.nodes as u32);
-    Ok(())
+    create_by_rule(rt, &schema, &rule, row, &mut steps)
 }
 
 #[test]
