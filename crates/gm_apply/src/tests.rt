@@ -1,15 +1,16 @@
 //! Applications in dimensions 1 and 2: done, refused for want of room, and in a full map.
-ghost use Rattle.std.specs.Prelude.{◌≡◌, ◌==◌, ◌+◌, ◌<◌, ◌≤◌, [], IsTrue, length};
+ghost use Rattle.std.specs.Prelude.{◌≡◌, ◌==◌, ◌+◌, ◌<◌, ◌≤◌, [], None, IsTrue, length};
 ghost use Rattle.std.specs.List.{list_all};
 ghost use Rattle.gm_model.specs.declared.rule.Node.{Node};
 ghost use Rattle.gm_model.specs.Kinds.{IsTyped};
 ghost use Rattle.gm_model.specs.Rules.{rule_of};
+ghost use Rattle.gm_model.specs.Structure.{IsInRange, IsWithinLimits};
 
 use super::{Applied, Refusal, apply};
 use gm_arena::Arena;
 use gm_laws::check_map;
 use gm_model::{Dim, Items, Letter, Link, Name, Node, RuleTable, Schema, Steps, Word};
-use gm_plan::compile;
+use gm_plan::{Plan, compile};
 use gm_walk::Scratch;
 use std::alloc::Global;
 use std::marker::Brand;
@@ -130,9 +131,8 @@ fn set_neighbours<L: Ledger>(
     }
 }
 
-/// The darts are those of the rows, by name from 0 on, with these neighbours.
+/// The darts of the rows, by name from 0 on, have these neighbours.
 fn expect_rows<L: Ledger>(rt: &impl Abort, arena: &Arena, rows: &[&[u32]], steps: &mut Steps<L>) {
-    assert_eq!(rt; arena.count() as usize, rows.len());
     for (name, alphas) in rows.iter().enumerate() {
         assert!(rt; name <= 1000);
         expect_neighbours(rt, arena, name as u32, alphas, steps);
@@ -222,12 +222,60 @@ fn has_no_sets(nodes: &[Node]) -> bool
 
 /// Whether both schemas have the same dimension and no embeddings.
 fn are_same(one: &Schema, other: &Schema) -> bool
-    ensures { IsTrue result → one.now ≡ other.now }
+    ensures same { IsTrue result → one.now ≡ other.now }
+    ensures no_embeds { IsTrue result → other.now.embeds ≡ [] }
 {
     if one.embeds.as_slice().len() != 0 || other.embeds.as_slice().len() != 0 {
         return false;
     }
     one.dim.top() == other.dim.top()
+}
+
+/// Whether the rule can be compiled, and has no precondition.
+fn is_fit(schema: &Schema, rule: &RuleTable) -> bool
+    ensures limits { IsTrue result → IsWithinLimits (rule_of rule.now) }
+    ensures range { IsTrue result → IsInRange schema.now (rule_of rule.now) }
+    ensures typed { IsTrue result → IsTyped schema.now (rule_of rule.now) }
+    ensures no_pre { IsTrue result → (rule_of rule.now).pre ≡ None }
+{
+    rule.pre.is_none()
+        && rule.is_within_limits()
+        && rule.is_in_range(schema)
+        && is_bare(schema, rule)
+}
+
+/// What the application of the planned rule to the map answers.
+fn answer_of<L: Ledger>(
+    rt: &impl Abort,
+    alloc: Global,
+    plan: &Plan<'_>,
+    arena: &mut Arena,
+    hooks: &[u32],
+    steps: &mut Steps<L>,
+) -> Result<Result<Applied, Refusal>, Fail>
+    requires no_pre { (rule_of plan.now.table).pre ≡ None }
+{
+    assert!(rt; are_same(arena.schema(), plan.schema()));
+    assert!(rt; hooks.len() == plan.hooks() as usize);
+    let Ok(()) = check_map(alloc, arena, steps) else {
+        return Err("a map".into());
+    };
+    let mut scratch = Scratch::new(alloc);
+    Ok(apply(alloc, plan, arena, hooks, &[], &mut scratch, steps))
+}
+
+fn apply_rule<L: Ledger>(
+    rt: &impl Abort,
+    alloc: Global,
+    arena: &mut Arena,
+    rule: &RuleTable,
+    hooks: &[u32],
+    steps: &mut Steps<L>,
+) -> Result<Result<Applied, Refusal>, Fail> {
+    let schema = schema(rt, alloc, arena.schema().dim.top());
+    assert!(rt; is_fit(&schema, rule));
+    let plan = compile(alloc, &schema, rule)?;
+    answer_of(rt, alloc, &plan, arena, hooks, steps)
 }
 
 /// What the application of the rule to the map answers.
@@ -240,48 +288,111 @@ fn applied<L: Ledger>(
     steps: &mut Steps<L>,
 ) -> Result<Result<Applied, Refusal>, Fail> {
     let rule = rule(alloc, row)?;
-    let schema = schema(rt, alloc, arena.schema().dim.top());
-    assert!(rt; are_same(arena.schema(), &schema));
-    assert!(rt; rule.is_within_limits());
-    assert!(rt; rule.is_in_range(&schema));
-    assert!(rt; is_bare(&schema, &rule));
-    assert!(rt; rule.pre.is_none());
-    let Ok(()) = check_map(alloc, arena, steps) else {
-        return Err("a map".into());
-    };
-    let plan = compile(alloc, &schema, &rule)?;
-    assert!(rt; hooks.len() == plan.hooks() as usize);
-    let mut scratch = Scratch::new(alloc);
-    Ok(apply(alloc, &plan, arena, hooks, &[], &mut scratch, steps))
+    apply_rule(rt, alloc, arena, &rule, hooks, steps)
 }
 
-fn apply_rows<L: Ledger>(rt: &impl Abort, alloc: Global, blank: Blank) -> Result<(), Fail>
+/// What the application of a rule answers, and then how many darts the map has, which name comes
+/// next, and the neighbours of the darts, where they are listed.
+struct Case<'a> {
+    rule: Row<'a>,
+    hooks: &'a [u32],
+    answer: Result<Applied, Refusal>,
+    count: u32,
+    next: u32,
+    rows: &'a [&'a [u32]],
+}
+
+fn expect_answer<L: Ledger>(
+    rt: &impl Abort,
+    alloc: Global,
+    arena: &mut Arena,
+    case: &Case,
+    steps: &mut Steps<L>,
+) -> Result<(), Fail> {
+    let answer = applied(rt, alloc, arena, &case.rule, case.hooks, steps)?;
+    assert_eq!(rt; answer, case.answer);
+    assert_eq!(rt; arena.count(), case.count);
+    assert_eq!(rt; arena.next(), case.next);
+    expect_rows(rt, arena, case.rows, steps);
+    Ok(())
+}
+
+/// A map and what is applied to it, each to what the one before left.
+struct Course<'a> {
+    dim: u8,
+    rows: &'a [&'a [u32]],
+    cases: &'a [Case<'a>],
+}
+
+fn follow<L: Ledger>(
+    rt: &impl Abort,
+    alloc: Global,
+    course: &Course,
+    steps: &mut Steps<L>,
+) -> Result<(), Fail> {
+    let mut map = map_of(rt, alloc, course.dim, course.rows, steps)?;
+    for case in course.cases {
+        expect_answer(rt, alloc, &mut map, case, steps)?;
+    }
+    Ok(())
+}
+
+fn follow_each<L: Ledger>(
+    rt: &impl Abort,
+    alloc: Global,
+    courses: &[Course],
+    blank: Blank,
+) -> Result<(), Fail>
     requires name { blank.name ≡ L.name }
     requires parts { blank.parts ≡ L.parts }
     requires some { 0 < blank.parts }
 {
     let mut steps: Steps<L> = Steps::start(blank);
-    let steps = &mut steps;
-    let mut edge = map_of(rt, alloc, 1, &[&[1, 0], &[0, 1]], steps)?;
-    let split = applied(rt, alloc, &mut edge, &SPLIT, &[0], steps)?;
-    let two_more = Applied {
-        added: 2,
-        removed: 0,
-    };
-    assert_eq!(rt; split, Ok(two_more));
-    expect_rows(rt, &edge, &[&[2, 0], &[3, 1], &[0, 3], &[1, 2]], steps);
-    let pair = applied(rt, alloc, &mut edge, &PAIR, &[], steps)?;
-    assert_eq!(rt; pair, Ok(two_more));
-    assert_eq!(rt; edge.next(), 6);
-    let dead = applied(rt, alloc, &mut edge, &SPLIT, &[9], steps)?;
-    assert_eq!(rt; dead, Err(Refusal::NoDart { index: 0 }));
-    assert_eq!(rt; edge.count(), 6);
+    for course in courses {
+        follow(rt, alloc, course, &mut steps)?;
+    }
     Ok(())
 }
 
+const TWO_MORE: Applied = Applied {
+    added: 2,
+    removed: 0,
+};
+
+const EDGES: [Course; 1] = [Course {
+    dim: 1,
+    rows: &[&[1, 0], &[0, 1]],
+    cases: &[
+        Case {
+            rule: SPLIT,
+            hooks: &[0],
+            answer: Ok(TWO_MORE),
+            count: 4,
+            next: 4,
+            rows: &[&[2, 0], &[3, 1], &[0, 3], &[1, 2]],
+        },
+        Case {
+            rule: PAIR,
+            hooks: &[],
+            answer: Ok(TWO_MORE),
+            count: 6,
+            next: 6,
+            rows: &[],
+        },
+        Case {
+            rule: SPLIT,
+            hooks: &[9],
+            answer: Err(Refusal::NoDart { index: 0 }),
+            count: 6,
+            next: 6,
+            rows: &[],
+        },
+    ],
+}];
+
 #[test]
 fn edges_are_split_and_made(rt: HostRuntime) -> Result<(), Fail> {
-    apply_rows::<Brand>(&rt, rt.alloc(), Blank::new(1))
+    follow_each::<Brand>(&rt, rt.alloc(), &EDGES, Blank::new(1))
 }
 
 const SQUARE: [&[u32]; 8] = [
@@ -322,43 +433,56 @@ const TRIANGLES: [&[u32]; 24] = [
     &[15, 22, 21],
 ];
 
-fn square_rows<L: Ledger>(rt: &impl Abort, alloc: Global, blank: Blank) -> Result<(), Fail>
-    requires name { blank.name ≡ L.name }
-    requires parts { blank.parts ≡ L.parts }
-    requires some { 0 < blank.parts }
-{
-    let mut steps: Steps<L> = Steps::start(blank);
-    let steps = &mut steps;
-    let mut square = map_of(rt, alloc, 2, &SQUARE, steps)?;
-    let triangles = applied(rt, alloc, &mut square, &TRIANGULATE, &[0], steps)?;
-    let new = Applied {
-        added: 16,
-        removed: 0,
-    };
-    assert_eq!(rt; triangles, Ok(new));
-    expect_rows(rt, &square, &TRIANGLES, steps);
-    let broken = applied(rt, alloc, &mut square, &DROP, &[0], steps)?;
-    let arc = Refusal::Arc {
-        node: 0,
-        position: 2,
-        label: 2,
-    };
-    assert_eq!(rt; broken, Err(arc));
-    expect_rows(rt, &square, &TRIANGLES, steps);
-    let mut alone = map_of(rt, alloc, 2, &SQUARE, steps)?;
-    let dropped = applied(rt, alloc, &mut alone, &DROP, &[0], steps)?;
-    let gone = Applied {
-        added: 0,
-        removed: 8,
-    };
-    assert_eq!(rt; dropped, Ok(gone));
-    assert_eq!(rt; (alone.count(), alone.next()), (0, 8));
-    Ok(())
-}
+const SQUARES: [Course; 2] = [
+    Course {
+        dim: 2,
+        rows: &SQUARE,
+        cases: &[
+            Case {
+                rule: TRIANGULATE,
+                hooks: &[0],
+                answer: Ok(Applied {
+                    added: 16,
+                    removed: 0,
+                }),
+                count: 24,
+                next: 24,
+                rows: &TRIANGLES,
+            },
+            Case {
+                rule: DROP,
+                hooks: &[0],
+                answer: Err(Refusal::Arc {
+                    node: 0,
+                    position: 2,
+                    label: 2,
+                }),
+                count: 24,
+                next: 24,
+                rows: &TRIANGLES,
+            },
+        ],
+    },
+    Course {
+        dim: 2,
+        rows: &SQUARE,
+        cases: &[Case {
+            rule: DROP,
+            hooks: &[0],
+            answer: Ok(Applied {
+                added: 0,
+                removed: 8,
+            }),
+            count: 0,
+            next: 8,
+            rows: &[],
+        }],
+    },
+];
 
 #[test]
 fn squares_are_triangulated_and_dropped(rt: HostRuntime) -> Result<(), Fail> {
-    square_rows::<Brand>(&rt, rt.alloc(), Blank::new(1))
+    follow_each::<Brand>(&rt, rt.alloc(), &SQUARES, Blank::new(1))
 }
 
 /// Leaves one name for darts to come.
@@ -367,40 +491,93 @@ fn use_up_names(rt: &impl Abort, arena: &mut Arena) {
     arena.set_next(16_777_215);
 }
 
-fn full_rows<L: Ledger>(rt: &impl Abort, alloc: Global, blank: Blank) -> Result<(), Fail>
+/// A map of free darts, with one name left where it is late, and what is applied to it.
+struct Crowd<'a> {
+    darts: u32,
+    is_late: bool,
+    case: Case<'a>,
+}
+
+const CROWDS: [Crowd; 3] = [
+    Crowd {
+        darts: 1_048_575,
+        is_late: false,
+        case: Case {
+            rule: PAIR,
+            hooks: &[],
+            answer: Err(Refusal::FullDarts {
+                live: 1_048_575,
+                more: 2,
+            }),
+            count: 1_048_575,
+            next: 1_048_575,
+            rows: &[],
+        },
+    },
+    Crowd {
+        darts: 1_048_576,
+        is_late: false,
+        case: Case {
+            rule: RENEW,
+            hooks: &[0],
+            answer: Ok(Applied {
+                added: 1,
+                removed: 1,
+            }),
+            count: 1_048_576,
+            next: 1_048_577,
+            rows: &[],
+        },
+    },
+    Crowd {
+        darts: 1,
+        is_late: true,
+        case: Case {
+            rule: PAIR,
+            hooks: &[],
+            answer: Err(Refusal::FullNames {
+                next: 16_777_215,
+                more: 2,
+            }),
+            count: 1,
+            next: 16_777_215,
+            rows: &[],
+        },
+    },
+];
+
+fn meet_crowd<L: Ledger>(
+    rt: &impl Abort,
+    alloc: Global,
+    crowd: &Crowd,
+    steps: &mut Steps<L>,
+) -> Result<(), Fail> {
+    assert!(rt; crowd.darts <= 1_048_576);
+    let mut map = free_darts(rt, alloc, 1, crowd.darts, steps)?;
+    if crowd.is_late {
+        use_up_names(rt, &mut map);
+    }
+    expect_answer(rt, alloc, &mut map, &crowd.case, steps)
+}
+
+fn meet_each<L: Ledger>(
+    rt: &impl Abort,
+    alloc: Global,
+    crowds: &[Crowd],
+    blank: Blank,
+) -> Result<(), Fail>
     requires name { blank.name ≡ L.name }
     requires parts { blank.parts ≡ L.parts }
     requires some { 0 < blank.parts }
 {
     let mut steps: Steps<L> = Steps::start(blank);
-    let steps = &mut steps;
-    let mut crowded = free_darts(rt, alloc, 1, 1_048_575, steps)?;
-    let refused = applied(rt, alloc, &mut crowded, &PAIR, &[], steps)?;
-    let full = Refusal::FullDarts {
-        live: 1_048_575,
-        more: 2,
-    };
-    assert_eq!(rt; refused, Err(full));
-    let mut full = free_darts(rt, alloc, 1, 1_048_576, steps)?;
-    let renewed = applied(rt, alloc, &mut full, &RENEW, &[0], steps)?;
-    let one = Applied {
-        added: 1,
-        removed: 1,
-    };
-    assert_eq!(rt; renewed, Ok(one));
-    assert_eq!(rt; (full.count(), full.next()), (1_048_576, 1_048_577));
-    let mut late = free_darts(rt, alloc, 1, 1, steps)?;
-    use_up_names(rt, &mut late);
-    let refused = applied(rt, alloc, &mut late, &PAIR, &[], steps)?;
-    let names = Refusal::FullNames {
-        next: 16_777_215,
-        more: 2,
-    };
-    assert_eq!(rt; refused, Err(names));
+    for crowd in crowds {
+        meet_crowd(rt, alloc, crowd, &mut steps)?;
+    }
     Ok(())
 }
 
 #[test]
 fn a_full_map_is_rewritten(rt: HostRuntime) -> Result<(), Fail> {
-    full_rows::<Brand>(&rt, rt.alloc(), Blank::new(1))
+    meet_each::<Brand>(&rt, rt.alloc(), &CROWDS, Blank::new(1))
 }
