@@ -3,6 +3,7 @@ ghost use Rattle.std.specs.List.{list_all};
 ghost use Rattle.gm_model.specs.declared.rule.Node.{Node};
 ghost use Rattle.gm_model.specs.Kinds.{IsTyped};
 ghost use Rattle.gm_model.specs.Rules.{rule_of};
+ghost use Rattle.gm_model.specs.Structure.{IsInRange, IsWithinLimits};
 
 use super::{Instances, Plan, PlanFault, compile};
 use gm_arena::Slot;
@@ -58,24 +59,28 @@ fn links(alloc: Global, links: &[(u8, u8, u8)]) -> Result<Items<Link>, Fail> {
     Ok(Items::new(made))
 }
 
-fn rule(alloc: Global, row: &Row) -> Result<RuleTable, Fail> {
+fn nodes(alloc: Global, rows: &[(&str, &str)]) -> Result<Items<Node>, Fail> {
     let name = Name::new(b"r").ok_or("name")?;
-    let mut nodes = Vec::new(alloc);
-    for (left, right) in row.nodes {
-        nodes.push(Node {
+    let mut made = Vec::new(alloc);
+    for (left, right) in rows {
+        made.push(Node {
             name,
             left: word(alloc, left)?,
             right: word(alloc, right)?,
             sets: Items::new(Vec::new(alloc)),
         })?;
     }
+    Ok(Items::new(made))
+}
+
+fn rule(alloc: Global, row: &Row) -> Result<RuleTable, Fail> {
     Ok(RuleTable {
-        name,
+        name: Name::new(b"r").ok_or("name")?,
         params: Items::new(Vec::new(alloc)),
-        nodes: Items::new(nodes),
+        hooks: Items::new(row.hooks.to_vec(alloc)?),
         left_links: links(alloc, row.left_links)?,
         right_links: links(alloc, row.right_links)?,
-        hooks: Items::new(row.hooks.to_vec(alloc)?),
+        nodes: nodes(alloc, row.nodes)?,
         pre: None,
     })
 }
@@ -100,125 +105,167 @@ fn schema(alloc: Global, n: u8) -> Result<Schema, Fail> {
     })
 }
 
+/// Ends the test where a rule can't be compiled.
+fn expect_fit(rt: &impl Abort, schema: &Schema, rule: &RuleTable)
+    ensures in_range { IsInRange schema.now (rule_of rule.now) }
+    ensures within { IsWithinLimits (rule_of rule.now) }
+    ensures typed { IsTyped schema.now (rule_of rule.now) }
+{
+    assert!(rt; rule.is_within_limits());
+    assert!(rt; rule.is_in_range(schema));
+    assert!(rt; is_bare(schema, rule));
+}
+
+/// A rule and its fault, where it has one.
+struct Verdict<'a> {
+    rule: Row<'a>,
+    fault: Option<PlanFault>,
+}
+
+const VERDICTS: [Verdict; 3] = [
+    Verdict {
+        rule: TRIANGULATION,
+        fault: None,
+    },
+    Verdict {
+        rule: Row {
+            dim: 2,
+            nodes: &[("01", "0_"), ("-", "_2"), ("-", "21")],
+            hooks: &[0],
+            left_links: &[],
+            right_links: &[(0, 1, 1), (1, 0, 2)],
+        },
+        fault: Some(PlanFault::Rule(RuleFault::Square {
+            node: 1,
+            i: 0,
+            j: 2,
+        })),
+    },
+    Verdict {
+        rule: Row {
+            dim: 2,
+            nodes: &[("01", "0_"), ("-", "__"), ("-", "12")],
+            hooks: &[0],
+            left_links: &[],
+            right_links: &[(0, 1, 1), (1, 0, 2)],
+        },
+        fault: Some(PlanFault::Rule(RuleFault::ArcMissing { node: 1, label: 2 })),
+    },
+];
+
 /// The fault of the rule, where it has one.
 fn fault(rt: &impl Abort, alloc: Global, row: &Row) -> Result<Option<PlanFault>, Fail> {
     let schema = schema(alloc, row.dim)?;
     let rule = rule(alloc, row)?;
-    assert!(rt; rule.is_within_limits());
-    assert!(rt; rule.is_in_range(&schema));
-    assert!(rt; is_bare(&schema, &rule));
+    expect_fit(rt, &schema, &rule);
     Ok(compile(alloc, &schema, &rule).err())
+}
+
+fn judge_each(rt: &impl Abort, alloc: Global, verdicts: &[Verdict]) -> Result<(), Fail> {
+    for verdict in verdicts {
+        assert_eq!(rt; fault(rt, alloc, &verdict.rule)?, verdict.fault);
+    }
+    Ok(())
 }
 
 #[test]
 fn faults(rt: HostRuntime) -> Result<(), Fail> {
-    let alloc = rt.alloc();
-    let open_square = Row {
-        dim: 2,
-        nodes: &[("01", "0_"), ("-", "_2"), ("-", "21")],
-        hooks: &[0],
-        left_links: &[],
-        right_links: &[(0, 1, 1), (1, 0, 2)],
-    };
-    let no_arc = Row {
-        dim: 2,
-        nodes: &[("01", "0_"), ("-", "__"), ("-", "12")],
-        hooks: &[0],
-        left_links: &[],
-        right_links: &[(0, 1, 1), (1, 0, 2)],
-    };
-    assert_eq!(rt; fault(&rt, alloc, &TRIANGULATION)?, None);
-    assert_eq!(rt;
-        fault(&rt, alloc, &open_square)?,
-        Some(PlanFault::Rule(RuleFault::Square {
-            node: 1,
-            i: 0,
-            j: 2
-        }))
-    );
-    assert_eq!(rt;
-        fault(&rt, alloc, &no_arc)?,
-        Some(PlanFault::Rule(RuleFault::ArcMissing { node: 1, label: 2 }))
-    );
-    Ok(())
+    judge_each(&rt, rt.alloc(), &VERDICTS)
 }
 
-/// Compares what the plan of a rule answers: the numbers of hooks and of left, added and removed
-/// nodes; what ends the least path to each left node; and the ends of the paths, in their order.
-fn compare(
-    rt: &impl Abort,
-    alloc: Global,
-    row: &Row,
+/// What the plan of a rule answers: the numbers of hooks and of left, added and removed nodes; what
+/// ends the least path to each left node; and the ends of the paths, in their order.
+struct Planned<'a> {
+    rule: Row<'a>,
     counts: [u8; 4],
-    from: &[Option<(u8, u8)>],
-    order: &[u8],
-) -> Result<(), Fail> {
-    let schema = schema(alloc, row.dim)?;
-    let rule = rule(alloc, row)?;
-    assert!(rt; rule.is_within_limits());
-    assert!(rt; rule.is_in_range(&schema));
-    assert!(rt; is_bare(&schema, &rule));
-    let plan = compile(alloc, &schema, &rule)?;
-    assert_eq!(rt; plan.schema().dim, schema.dim);
-    assert_eq!(rt; plan.rule().hooks.as_slice(), row.hooks);
-    assert_eq!(rt;
-        [
-            plan.hooks(),
-            plan.left_nodes(),
-            plan.added(),
-            plan.removed()
-        ],
-        counts
-    );
+    from: &'a [Option<(u8, u8)>],
+    order: &'a [u8],
+}
+
+fn numbers(plan: &Plan<'_>) -> [u8; 4] {
+    [
+        plan.hooks(),
+        plan.left_nodes(),
+        plan.added(),
+        plan.removed(),
+    ]
+}
+
+fn path_ends(alloc: Global, plan: &Plan<'_>) -> Result<Vec<Option<(u8, u8)>>, Fail> {
     let mut ends = Vec::new(alloc);
     for node in 0..plan.left_nodes() {
         ends.push(plan.from(node))?;
     }
-    assert_eq!(rt; ends.as_slice(), from);
+    Ok(ends)
+}
+
+fn path_order(alloc: Global, plan: &Plan<'_>) -> Result<Vec<u8>, Fail> {
     let mut nodes = Vec::new(alloc);
     for link in plan.paths() {
         nodes.push(link.to)?;
     }
-    assert_eq!(rt; nodes.as_slice(), order);
+    Ok(nodes)
+}
+
+fn compare_plan(
+    rt: &impl Abort,
+    alloc: Global,
+    plan: &Plan<'_>,
+    planned: &Planned,
+) -> Result<(), Fail> {
+    assert_eq!(rt; plan.rule().hooks.as_slice(), planned.rule.hooks);
+    assert_eq!(rt; numbers(plan), planned.counts);
+    assert_eq!(rt; path_ends(alloc, plan)?.as_slice(), planned.from);
+    assert_eq!(rt; path_order(alloc, plan)?.as_slice(), planned.order);
     Ok(())
 }
 
-#[test]
-fn paths(rt: HostRuntime) -> Result<(), Fail> {
-    let alloc = rt.alloc();
-    let three_links = Row {
+fn compare(rt: &impl Abort, alloc: Global, planned: &Planned) -> Result<(), Fail> {
+    let schema = schema(alloc, planned.rule.dim)?;
+    let rule = rule(alloc, &planned.rule)?;
+    expect_fit(rt, &schema, &rule);
+    let plan = compile(alloc, &schema, &rule)?;
+    assert_eq!(rt; plan.schema().dim, schema.dim);
+    compare_plan(rt, alloc, &plan, planned)
+}
+
+fn compare_each(rt: &impl Abort, alloc: Global, list: &[Planned]) -> Result<(), Fail> {
+    for planned in list {
+        compare(rt, alloc, planned)?;
+    }
+    Ok(())
+}
+
+const THREE_LINKS: Planned = Planned {
+    rule: Row {
         dim: 1,
         nodes: &[("", "-"), ("", "-"), ("", "-"), ("", "-")],
         hooks: &[3],
         left_links: &[(3, 1, 3), (3, 0, 1), (2, 1, 1), (0, 0, 2), (0, 1, 0)],
         right_links: &[],
-    };
-    compare(
-        &rt,
-        alloc,
-        &three_links,
-        [1, 4, 0, 4],
-        &[Some((2, 0)), Some((3, 0)), Some((1, 1)), None],
-        &[1, 2, 0],
-    )?;
-    // Two paths of one length: the one with the lesser label wins.
-    let square = Row {
+    },
+    counts: [1, 4, 0, 4],
+    from: &[Some((2, 0)), Some((3, 0)), Some((1, 1)), None],
+    order: &[1, 2, 0],
+};
+
+/// Two paths of one length: the one with the lesser label wins.
+const SQUARE: Planned = Planned {
+    rule: Row {
         dim: 1,
         nodes: &[("", "-"), ("", "-"), ("", "-"), ("", "-")],
         hooks: &[0],
         left_links: &[(0, 1, 1), (0, 0, 2), (1, 0, 3), (2, 1, 3)],
         right_links: &[],
-    };
-    compare(
-        &rt,
-        alloc,
-        &square,
-        [1, 4, 0, 4],
-        &[None, Some((0, 1)), Some((0, 0)), Some((2, 1))],
-        &[2, 1, 3],
-    )?;
-    // Paths of one link and of two: the shorter wins, though its label is greater.
-    let triangle = Row {
+    },
+    counts: [1, 4, 0, 4],
+    from: &[None, Some((0, 1)), Some((0, 0)), Some((2, 1))],
+    order: &[2, 1, 3],
+};
+
+/// Paths of one link and of two: the shorter wins, though its label is greater.
+const TRIANGLE: Planned = Planned {
+    rule: Row {
         dim: 2,
         nodes: &[("", "-"), ("", "-"), ("", "-")],
         hooks: &[0],
@@ -231,29 +278,89 @@ fn paths(rt: HostRuntime) -> Result<(), Fail> {
             (1, 2, 1),
         ],
         right_links: &[],
-    };
-    compare(
-        &rt,
-        alloc,
-        &triangle,
-        [1, 3, 0, 3],
-        &[None, Some((0, 0)), Some((0, 2))],
-        &[1, 2],
-    )
+    },
+    counts: [1, 3, 0, 3],
+    from: &[None, Some((0, 0)), Some((0, 2))],
+    order: &[1, 2],
+};
+
+const WITH_PATHS: [Planned; 3] = [THREE_LINKS, SQUARE, TRIANGLE];
+
+#[test]
+fn paths(rt: HostRuntime) -> Result<(), Fail> {
+    compare_each(&rt, rt.alloc(), &WITH_PATHS)
 }
+
+const WITHOUT_PATHS: [Planned; 2] = [
+    Planned {
+        rule: TRIANGULATION,
+        counts: [1, 1, 2, 0],
+        from: &[None],
+        order: &[],
+    },
+    // A creation.
+    Planned {
+        rule: Row {
+            dim: 1,
+            nodes: &[("-", ""), ("-", "")],
+            hooks: &[],
+            left_links: &[],
+            right_links: &[(0, 0, 1), (0, 1, 0), (1, 1, 1)],
+        },
+        counts: [0, 0, 2, 0],
+        from: &[],
+        order: &[],
+    },
+];
 
 #[test]
 fn counts(rt: HostRuntime) -> Result<(), Fail> {
-    let alloc = rt.alloc();
-    compare(&rt, alloc, &TRIANGULATION, [1, 1, 2, 0], &[None], &[])?;
-    let creation = Row {
-        dim: 1,
-        nodes: &[("-", ""), ("-", "")],
-        hooks: &[],
-        left_links: &[],
-        right_links: &[(0, 0, 1), (0, 1, 0), (1, 1, 1)],
-    };
-    compare(&rt, alloc, &creation, [0, 0, 2, 0], &[], &[])
+    compare_each(&rt, rt.alloc(), &WITHOUT_PATHS)
+}
+
+/// What a node has at a label on a side.
+struct Stepped {
+    side: Side,
+    node: u8,
+    label: u8,
+    step: Step,
+}
+
+const STEPPED: [Stepped; 4] = [
+    Stepped {
+        side: Side::Left,
+        node: 0,
+        label: 1,
+        step: Step::Imp(1),
+    },
+    Stepped {
+        side: Side::Right,
+        node: 0,
+        label: 1,
+        step: Step::Exp(1),
+    },
+    Stepped {
+        side: Side::Left,
+        node: 0,
+        label: 2,
+        step: Step::Absent,
+    },
+    Stepped {
+        side: Side::Right,
+        node: 2,
+        label: 2,
+        step: Step::Imp(1),
+    },
+];
+
+fn step_each(rt: &impl Abort, plan: &Plan<'_>, list: &[Stepped])
+    requires { length (rule_of plan.now.table).nodes ≡ 3 }
+{
+    for stepped in list {
+        assert!(rt; stepped.node < 3 && stepped.label < 8);
+        let step = plan.step(stepped.side, stepped.node, stepped.label);
+        assert_eq!(rt; step, stepped.step);
+    }
 }
 
 #[test]
@@ -261,15 +368,10 @@ fn steps(rt: HostRuntime) -> Result<(), Fail> {
     let alloc = rt.alloc();
     let schema = schema(alloc, TRIANGULATION.dim)?;
     let rule = rule(alloc, &TRIANGULATION)?;
-    assert!(rt; rule.is_within_limits());
-    assert!(rt; rule.is_in_range(&schema));
-    assert!(rt; is_bare(&schema, &rule));
+    expect_fit(&rt, &schema, &rule);
     assert_eq!(rt; rule.node_count(), 3);
     let plan = compile(alloc, &schema, &rule)?;
-    assert_eq!(rt; plan.step(Side::Left, 0, 1), Step::Imp(1));
-    assert_eq!(rt; plan.step(Side::Right, 0, 1), Step::Exp(1));
-    assert_eq!(rt; plan.step(Side::Left, 0, 2), Step::Absent);
-    assert_eq!(rt; plan.step(Side::Right, 2, 2), Step::Imp(1));
+    step_each(&rt, &plan, &STEPPED);
     Ok(())
 }
 
