@@ -71,7 +71,7 @@ held_ascending m = rising (entries m.darts) (entries_sorted m.darts)
 
 -- ---- the rows
 
-shape_found : (n : ℕ) (rows : List Row) (d : ℕ) (r : Row) → AreShaped n rows → row_of rows d ≡ Some r → length r.alphas ≡ n + 1
+pub shape_found : (n : ℕ) (rows : List Row) (d : ℕ) (r : Row) → AreShaped n rows → row_of rows d ≡ Some r → length r.alphas ≡ n + 1
 shape_found n [] d r shaped is = absurd cc
 shape_found n (row ∷ rows) d r shaped is =
     elim (cases_Bool (eqb row.name d)) [

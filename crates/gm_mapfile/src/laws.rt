@@ -14,8 +14,9 @@ pub fn what_is_printed_is_read_again()
     ensures { (text : List ℕ) (n : ℕ) (darts : List Row) → MapText text n darts → MapText (canonical n darts) n darts }
 {}
 
-/// A text has one first fault at most, whatever its kind: of grammar, limits, names or laws. So whoever answers a first
-/// fault answers the only one. A text that has one stands for no map, so no text is both a map and refused for a fault.
+/// A text has one first fault at most, whatever its kind: of grammar, limits, names or laws. So
+/// whoever answers a first fault answers the only one. A text that has one stands for no map, so
+/// no text is both a map and refused for a fault.
 pub fn one_first_fault_at_most()
     ensures one { (text : List ℕ) (fault other : TextFault) → IsFirstFault text fault → IsFirstFault text other → fault ≡ other }
     ensures no_map { (text : List ℕ) (fault : TextFault) → IsFirstFault text fault → StandsForNoMap text }

@@ -1,22 +1,13 @@
 -- Rows in ascending order are the same where they have the same darts with the same neighbours.
-use Rattle.std.proofs.Common.{◌≡◌, ℕ, ◌+◌, ◌<◌, ◌≤◌, true, false, eqb, List, [], ◌∷◌, length, get_or, Option, Some, None, is_some, inl, inr, refl, sym, ap, ◌∙◌, arith}
+use Rattle.std.proofs.Common.{◌≡◌, ℕ, ◌+◌, ◌<◌, ◌≤◌, true, false, List, length, get_or, Option, Some, None, is_some, refl, sym, ap, ◌∙◌, arith}
 use Rattle.std.specs.Option.{option_map_or}
 use Rattle.std.specs.List.Sorted.{IsStrictlyIncreasing}
-use Rattle.std.proofs.lemmas.Bool.{cases_Bool}
 use Rattle.std.proofs.lemmas.List.{same_lists, get_or_default}
 use Rattle.gm_model.specs.GMap.{Row, row_of, IsLive, alpha}
 use Rattle.gm_model.specs.MapText.{AreShaped, names}
 use Rattle.gm_mapfile.proofs.Ascending.{same_ascending}
+use Rattle.gm_mapfile.proofs.HeldRows.{shape_found}
 use Rattle.gm_mapfile.proofs.Permuted.{split_found, same_permuted, distinct_ascending}
-
--- a row that is found has a neighbour for each label
-shape_found : (n : ℕ) (rows : List Row) (d : ℕ) (row : Row) → AreShaped n rows → row_of rows d ≡ Some row → length row.alphas ≡ n + 1
-shape_found n [] d row shaped is = absurd cc
-shape_found n (first ∷ rows) d row shaped is =
-    elim (cases_Bool (eqb first.name d)) [
-      | inl here ↦ let found : Some first ≡ Some row = rw here at is in let same : first ≡ row = cc found in ap (λ (x : Row). length x.alphas) (sym same) ∙ shaped.0
-      | inr other ↦ let rest : row_of rows d ≡ Some row = rw other at is in shape_found n rows d row shaped.1 rest
-    ]
 
 -- two rows have the same darts, and the same neighbours of each
 pub record HaveSame (n : ℕ) (rows others : List Row) : Type 0 where

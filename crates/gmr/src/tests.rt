@@ -8,15 +8,15 @@ use std::process::Abort;
 use std::sync::ledger::Blank;
 use std::test::Fail;
 
-pub const SQUARE: &str =
+pub(crate) const SQUARE: &str =
     "gmap 1\ndim 2\ndarts 8\n0 1 7 0\n1 0 2 1\n2 3 1 2\n3 2 4 3\n4 5 3 4\n5 4 6 5\n6 7 5 6\n7 6 0 7\n";
 
-pub const EMPTY: &str = "gmap 1\ndim 2\ndarts 0\n";
+pub(crate) const EMPTY: &str = "gmap 1\ndim 2\ndarts 0\n";
 
 const DROP: &str = "book 1\ndim 2\nrule drop\nleft\na <0 1> hook\na -2- a\nright\n";
 
 /// The words of a line, between single blanks.
-pub fn words_of(alloc: Global, line: &str) -> Result<Vec<String>, Fail> {
+pub(crate) fn words_of(alloc: Global, line: &str) -> Result<Vec<String>, Fail> {
     let mut owned = Vec::new(alloc);
     for word in line.split_whitespace() {
         owned.push(String::from_str(alloc, word)?)?;
@@ -25,7 +25,7 @@ pub fn words_of(alloc: Global, line: &str) -> Result<Vec<String>, Fail> {
 }
 
 /// The status of the words, run over a step counter of their own.
-pub fn run(alloc: Global, words: &[String], store: &mut MemStore, out: &mut MemSink) -> u8 {
+pub(crate) fn run(alloc: Global, words: &[String], store: &mut MemStore, out: &mut MemSink) -> u8 {
     with_new_counter::<MemStore, MemSink, Brand>(alloc, words, store, out, Blank::new(1))
 }
 
