@@ -3,7 +3,8 @@ use Rattle.std.proofs.Common.{◌≡◌, ℕ, ◌+◌, ◌-◌, ◌*◌, ◌<◌
 use Rattle.std.proofs.lemmas.Nat.{mul-le}
 use Rattle.gm_model.specs.declared.schema.Embed.{Embed}
 use Rattle.gm_model.specs.declared.value.Value.{Value}
-use Rattle.gm_model.specs.Applications.{Application, HasHookDarts, IsFound, IsReady, IsRefused, NoRoom, NoNames, FullDarts, FullNames, MeetsPre, IsDone, IsWork, NoHookDarts, NoMatch, NotReady, Ready, IsBudget, Of, more, most_darts, most_names}
+use Rattle.gm_model.specs.Applications.{Application, HasHookDarts, IsFound, IsReady, IsRefused, NoRoom, NoNames, FullDarts, FullNames, MeetsPre, IsDone, IsWork, NoHookDarts, NoMatch, NotReady, Ready, IsBudget, Of, more}
+use Rattle.gm_model.specs.Limits.{most_darts, most_names}
 use Rattle.gm_model.specs.Maps.{Map, IsDart, IsEmbedAt, IsGeneralised, dimension}
 use Rattle.gm_model.specs.Matches.{Placement, ArePositions, Created, Walked, IsCandidate, along_hook}
 use Rattle.gm_model.specs.Orbits.{HasCount}

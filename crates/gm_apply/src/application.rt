@@ -1,6 +1,7 @@
 ghost use Rattle.std.specs.Prelude.{◌≡◌, ℕ, ◌+◌, ◌*◌, ◌≤◌, [], None, length, List, IfOk, MatchResult};
 ghost use Rattle.gm_model.specs.declared.value.Value.{Value};
 ghost use Rattle.gm_model.specs.Applications.{IsBudget, IsDone};
+ghost use Rattle.gm_model.specs.Limits.{most_darts};
 ghost use Rattle.gm_model.specs.Maps.{IsGeneralised};
 ghost use Rattle.gm_model.specs.Rules.{rule_of};
 ghost use Rattle.gm_arena.specs.ArenaAsMap.{as_map};
@@ -11,18 +12,14 @@ ghost use Rattle.gm_plan.specs.InArena.{AreMatched, placement_in};
 ghost use Rattle.gm_apply.specs.Outcomes.{HasRoom, IsRefusedFor};
 
 use crate::refusal::Refusal;
-use gm_arena::Arena;
+use gm_arena::{Arena, Steps};
 use gm_match::find;
-use gm_model::{OutOfMemory, Steps, Value};
+use gm_model::{MOST_DARTS, MOST_NAMES, OutOfMemory, Value};
 use gm_pending::{Edits, Pending};
 use gm_plan::{Instances, Plan};
 use gm_walk::Scratch;
 use std::alloc::Global;
 use std::sync::ledger::Ledger;
-
-const MOST_DARTS: u64 = 1_048_576;
-
-const MOST_NAMES: u64 = 16_777_216;
 
 /// How many darts an application added and removed.
 #[derive(Clone, Copy, Debug, PartialEq, Eq)]
@@ -76,21 +73,21 @@ fn room(plan: &Plan<'_>, arena: &Arena, found: &Instances) -> Result<Applied, Re
         let app = application_of arena.now (rule_of plan.now.table) hooks params in MatchResult result
         (λ applied. HasRoom app (placement_in arena.now found.now) applied.added applied.removed)
         (IsRefusedFor app) }
-    ensures fits { IfOk result (λ applied. arena.now.count + applied.added ≤ 1048576 + applied.removed) }
+    ensures fits { IfOk result (λ applied. arena.now.count + applied.added ≤ most_darts + applied.removed) }
 {
-    prove!(arena.count() <= 1_048_576);
+    prove!(arena.count() <= MOST_DARTS);
     let positions = u64::from(found.positions());
     let more = positions * u64::from(plan.added());
     let removed = positions * u64::from(plan.removed());
     let live = u64::from(arena.count()) - removed;
-    if live + more > MOST_DARTS {
+    if live + more > u64::from(MOST_DARTS) {
         return Err(Refusal::FullDarts {
             live: live as u32,
             more,
         });
     }
     let next = arena.next();
-    if u64::from(next) + more > MOST_NAMES {
+    if u64::from(next) + more > u64::from(MOST_NAMES) {
         return Err(Refusal::FullNames { next, more });
     }
     Ok(Applied {

@@ -7,9 +7,9 @@ ghost use Rattle.gm_model.specs.Rules.{rule_of};
 ghost use Rattle.gm_model.specs.Structure.{IsInRange, IsWithinLimits};
 
 use super::{Applied, Refusal, apply};
-use gm_arena::Arena;
+use gm_arena::{Arena, Steps};
 use gm_laws::check_map;
-use gm_model::{Dim, Items, Letter, Link, Name, Node, RuleTable, Schema, Steps, Word};
+use gm_model::{Dim, Items, Letter, Link, Name, Node, RuleTable, Schema, Word};
 use gm_plan::{Plan, compile};
 use gm_walk::Scratch;
 use std::alloc::Global;

@@ -10,6 +10,7 @@ use Rattle.gm_arena.specs.declared.slot.Slot.{Slot}
 use Rattle.gm_arena.specs.declared.arena.Place.{Place}
 use Rattle.gm_arena.specs.ArenaMap.{ArenaMap, Dart}
 use Rattle.gm_arena.specs.Filled.{filled}
+use Rattle.gm_model.specs.Limits.{most_darts, most_names}
 use Rattle.gm_model.specs.Maps.{IsSchema}
 use Rattle.gm_arena.specs.Lawful.{HaveKinds}
 
@@ -86,6 +87,6 @@ pub record IsSound (schema : Schema) (labels width : ℕ) (places : Slab Place) 
   pub long : places.capacity * width ≤ length values
   pub room : HasRoomFor places spare
   pub counted : slab_len places ≡ len (darts_in labels width places values table)
-  pub few_darts : slab_len places + spare ≤ 1048576
-  pub few_names : next ≤ 16777216
-  pub few_reserved : length table ≤ 16777216
+  pub few_darts : slab_len places + spare ≤ most_darts
+  pub few_names : next ≤ most_names
+  pub few_reserved : length table ≤ most_names

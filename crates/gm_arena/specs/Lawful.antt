@@ -4,6 +4,7 @@ use Rattle.std.specs.FinMap.{get, len}
 use Rattle.gm_model.specs.declared.schema.Schema.{Schema}
 use Rattle.gm_model.specs.declared.schema.Embed.{Embed}
 use Rattle.gm_model.specs.declared.value.Value.{Value}
+use Rattle.gm_model.specs.Limits.{most_darts, most_names}
 use Rattle.gm_model.specs.Maps.{IsSchema}
 use Rattle.gm_model.specs.Values.{kind_of}
 use Rattle.gm_arena.specs.ArenaMap.{ArenaMap, Dart, IsAt, IsLiveName}
@@ -31,8 +32,8 @@ pub record IsLawful (m : ArenaMap) : Type 0 where
   pub one_slot : (slot other name : ℕ) → IsAt m slot name → IsAt m other name → other ≡ slot
   pub below_bound : (slot name : ℕ) → IsAt m slot name → slot < m.bound
   pub counted : m.count ≡ len m.darts
-  pub few_darts : m.count + m.spare ≤ 1048576
-  pub few_names : m.next ≤ 16777216
-  pub few_reserved : m.reserved ≤ 16777216
+  pub few_darts : m.count + m.spare ≤ most_darts
+  pub few_names : m.next ≤ most_names
+  pub few_reserved : m.reserved ≤ most_names
   pub dim : (0 < m.schema.dim) × (m.schema.dim ≤ 7)
   pub schema : IsSchema m.schema

@@ -1,10 +1,12 @@
 ghost use Rattle.std.specs.Prelude.{◌≡◌, ℕ, ◌+◌, ◌*◌, ◌<◌, ◌≤◌, ◌-◌, ◌++◌, [], length, replicate, take, max, map, Some, None, All, MatchOption, IfOk, OnOk, OnErr};
 ghost use Rattle.std.specs.FinMap.{get, keys};
 ghost use Rattle.slab.specs.Slab.{HasRoomFor};
+ghost use Rattle.gm_model.specs.Limits.{most_darts, most_names};
 ghost use Rattle.gm_arena.specs.Inside.{no_slot, names_in};
 
 use crate::slot::Slot;
-use gm_model::{OutOfMemory, Schema, Steps, Value};
+use crate::steps::Steps;
+use gm_model::{OutOfMemory, Schema, Value};
 use slab::Slab;
 use std::alloc::Global;
 use std::marker::Model;
@@ -194,8 +196,8 @@ impl Arena {
     /// memory. An arena has at most 1,048,576 darts, with names below 16,777,216. A refused call
     /// may have made room for some of them.
     pub fn reserve(&mut self, more: u32, names: u32) -> Result<(), OutOfMemory>
-        requires darts { self.old.count + more ≤ 1048576 }
-        requires names { names ≤ 16777216 }
+        requires darts { self.old.count + more ≤ most_darts }
+        requires names { names ≤ most_names }
         ensures darts { OnOk result (self.new.spare ≡ max self.old.spare more) }
         ensures names { OnOk result (self.new.reserved ≡ max self.old.reserved names) }
         ensures spare_stays { self.old.spare ≤ self.new.spare }
@@ -267,7 +269,7 @@ impl Arena {
     /// Sets the number above every name. It counts no step.
     pub fn set_next(&mut self, next: u32)
         requires names { (name : ℕ) → IsLiveName self.old name → name < next }
-        requires limit { next ≤ 16777216 }
+        requires limit { next ≤ most_names }
         ensures { self.new ≡ record self.old { next = next } }
     {
         self.next = next;
@@ -276,7 +278,7 @@ impl Arena {
 
 /// The names in the table that have a slot, of which there are about `count`.
 fn taken_names(alloc: Global, table: &[u32], count: usize) -> Result<Vec<u32>, OutOfMemory>
-    requires { length table.now ≤ 16777216 }
+    requires { length table.now ≤ most_names }
     ensures { IfOk result (λ names. names.items ≡ names_in table.now) }
 {
     let mut names = Vec::with_capacity(alloc, count)?;

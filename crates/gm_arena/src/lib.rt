@@ -6,8 +6,10 @@
 
 mod arena;
 mod slot;
+mod steps;
 #[cfg(test)]
 mod tests;
 
 pub use arena::{Arena, Row};
 pub use slot::Slot;
+pub use steps::Steps;

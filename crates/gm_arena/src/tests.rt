@@ -5,7 +5,7 @@ ghost use Rattle.gm_arena.specs.ArenaMap.{alpha};
 ghost use Rattle.gm_model.specs.Maps.{IsSchema};
 
 use super::*;
-use gm_model::{Dim, Embed, Items, Kind, Mask, Name, Schema, Steps, Value};
+use gm_model::{Dim, Embed, Items, Kind, Mask, Name, Schema, Value};
 use std::alloc::Global;
 use std::marker::Brand;
 use std::process::Abort;

@@ -7,10 +7,10 @@ use Rattle.gm_model.specs.declared.rule.Side.{Side}
 use Rattle.gm_model.specs.declared.rule.Side.TheVariants.{Left, Right}
 use Rattle.gm_model.specs.declared.token.Token.{Token}
 use Rattle.gm_model.specs.declared.word.Letter.{Letter}
-use Rattle.gm_model.specs.Names.{reserved}
+use Rattle.gm_model.specs.Names.{reserved, Mention, is_among}
 use Rattle.gm_model.specs.Tokens.{bytes_of}
 use Rattle.gm_model.specs.Symbols.{Word, End, Mark}
-use Rattle.gm_model.specs.BookText.{Mention, Item, NodeItem, LinkItem, RuleForm, is_among, limit_of, stands_before}
+use Rattle.gm_book.specs.BookText.{Item, NodeItem, LinkItem, RuleForm, limit_of, stands_before}
 use Rattle.gm_text.specs.Machine as machine
 use Rattle.gm_book.specs.declared.draft.Draft.{Draft}
 use Rattle.gm_book.specs.declared.form_fault.FormFault.{FormFault}

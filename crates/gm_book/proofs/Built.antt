@@ -1,8 +1,8 @@
 -- What the pass over the names of a form says of the whole.
 use Rattle.std.proofs.Common.{◌≡◌, ℕ, ◌≤◌, List, [], ◌∷◌, length, map, Some, None, sym, subst}
 use Rattle.std.specs.List.{AllByRecursion}
-use Rattle.gm_model.specs.BookText.{BookForm, IsNameFault, place_of, TwiceAt, UnknownAt, IsSentence, limit_of, spelling, nodes_of}
-use Rattle.gm_model.specs.BookText as text
+use Rattle.gm_book.specs.BookText.{BookForm, IsNameFault, place_of, TwiceAt, UnknownAt, IsSentence, limit_of, spelling, nodes_of}
+use Rattle.gm_book.specs.BookText as text
 use Rattle.gm_model.specs.Reading.{IsWithin}
 use Rattle.gm_book.specs.declared.form.Form.{Form}
 use Rattle.gm_book.specs.declared.form.RuleForm.{RuleForm}

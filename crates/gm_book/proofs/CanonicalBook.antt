@@ -5,7 +5,7 @@ use Rattle.gm_model.specs.declared.rule.Side.TheVariants.{Right}
 use Rattle.gm_model.specs.declared.schema.Schema.{Schema}
 use Rattle.gm_model.specs.Symbols.{Mark, marks_of}
 use Rattle.gm_model.specs.Rules.{Rule}
-use Rattle.gm_model.specs.BookText.{BookText, rule_in, canonical}
+use Rattle.gm_book.specs.BookText.{BookText, rule_in, canonical}
 use Rattle.gm_text.proofs.Printed.{symbols_of-from}
 use Rattle.gm_book.proofs.CanonicalForm.{behind, behind_lines, lines_of, right_marks, forms_at, book_at, AreNew, IsWritable}
 use Rattle.gm_book.proofs.CanonicalText.{canonical_symbols}

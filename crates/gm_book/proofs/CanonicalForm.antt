@@ -8,9 +8,9 @@ use Rattle.gm_model.specs.declared.rule.Link.{Link}
 use Rattle.gm_model.specs.declared.rule.Side.{Side}
 use Rattle.gm_model.specs.declared.rule.Side.TheVariants.{Left, Right}
 use Rattle.gm_model.specs.Symbols.{Mark}
-use Rattle.gm_model.specs.Names.{reserved, IsName}
-use Rattle.gm_model.specs.Rules.{Rule, RuleNode, word_on, links_on, has_word}
-use Rattle.gm_model.specs.BookText.{Mention, Item, NodeItem, LinkItem, RuleForm, BookForm, is_among, node_line, name_at}
+use Rattle.gm_model.specs.Names.{reserved, IsName, Mention, is_among}
+use Rattle.gm_model.specs.Rules.{Rule, RuleNode, word_on, links_on, has_word, name_at}
+use Rattle.gm_book.specs.BookText.{Item, NodeItem, LinkItem, RuleForm, BookForm, node_line}
 
 -- ---- lines
 

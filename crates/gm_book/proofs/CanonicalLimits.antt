@@ -11,7 +11,8 @@ use Rattle.gm_model.specs.declared.rule.Side.TheVariants.{Left, Right}
 use Rattle.gm_model.specs.Symbols.{Mark}
 use Rattle.gm_model.specs.Reading.{Part, IsWithin}
 use Rattle.gm_model.specs.Rules.{Rule, RuleNode, word_on}
-use Rattle.gm_model.specs.BookText.{Item, NodeItem, LinkItem, Role, Count, no_count, count_after, count_across, counted, with_name, is_among, the_end, limit_of, spell_letters, spell_hook, spell_item, spell_items, spell_rule, spell_rules, spelling, IsItem, IsRule, IsForm, IsSentence}
+use Rattle.gm_book.specs.BookText.{Item, NodeItem, LinkItem, Role, Count, no_count, count_after, count_across, counted, with_name, the_end, limit_of, spell_letters, spell_hook, spell_item, spell_items, spell_rule, spell_rules, spelling, IsItem, IsRule, IsForm, IsSentence}
+use Rattle.gm_model.specs.Names.{is_among}
 use Rattle.gm_book.proofs.CanonicalForm.{Line, NodeLine, LinkLine, behind, behind_line, behind_lines, node_lines, line_before, tie, hook_on, item_at, items_at, lines_of, left_marks, right_marks, form_at, forms_at, book_at, node_names, IsGoodLetter, IsGoodLine, IsWritable}
 use Rattle.gm_book.proofs.CanonicalText.{good_lines}
 use Rattle.gm_book.proofs.CanonicalRule.{counted_seen, seen_after, names_on, side_names, left_seen, both_seen}

@@ -8,7 +8,7 @@ use Rattle.std.proofs.lemmas.List.{append-nil, drop_more, take-append-drop, leng
 use Rattle.std.proofs.lemmas.Option.{slice_get_within, get_or_from_slice_get}
 use Rattle.std.proofs.lemmas.List.Folds.{list_any-append}
 use Rattle.std.proofs.lemmas.Slice.Eq.{bytes_eq-Decides}
-use Rattle.gm_model.specs.BookText.{is_among}
+use Rattle.gm_model.specs.Names.{is_among}
 use Rattle.gm_book.proofs.CanonicalForm.{AreNew}
 
 pub same_bytes : (name : List ℕ) → bytes_eq name name ≡ true

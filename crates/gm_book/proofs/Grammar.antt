@@ -6,7 +6,7 @@ use Rattle.gm_model.specs.declared.rule.Side.{Side}
 use Rattle.gm_model.specs.declared.rule.Side.TheVariants.{Left, Right}
 use Rattle.gm_model.specs.Symbols.{Symbol, Word, Numeral, Sign, Gone, Stray, End, Mark, symbols, marks_of}
 use Rattle.gm_model.specs.Reading.{Part, symbols_in, IsReadAs, TextEndsAt}
-use Rattle.gm_model.specs.BookText.{BookForm, Role, NameAt, limit_of, stands_before, spelling, IsForm, IsSentence, IsPlacedAt, ArePlaced, IsWritten, IsLimitFault}
+use Rattle.gm_book.specs.BookText.{BookForm, Role, NameAt, limit_of, stands_before, spelling, IsForm, IsSentence, IsPlacedAt, ArePlaced, IsWritten, IsLimitFault}
 use Rattle.gm_text.specs.Machine.{Stop, Ends, Passes, Leads, IsGrammar}
 use Rattle.gm_text.proofs.Machine.{Along, IsRead, along_leads, run_reads, run_ends, run_passes, read_is, ended_is, passing_is, reading_runs}
 use Rattle.gm_book.specs.Reading.{Spot, State, AtFormat, AtVersion, AtDim, AtTop, AtRules, AtName, AtLeft, AtItem, AtSign, AtLetter, AtBehind, AtLabel, AtDash, AtTo, AtEnd, closing, closing_role, is_hook, item_role, role_at, move, run, Held, nothing_held, held_behind}

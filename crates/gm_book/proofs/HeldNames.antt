@@ -7,7 +7,8 @@ use Rattle.std.specs.List.{list_any, position, position_or_len}
 use Rattle.std.specs.Option.{unwrap_or}
 use Rattle.std.specs.Str.{bytes_eq}
 use Rattle.indexmap.specs.IndexSet.{insert_key}
-use Rattle.gm_model.specs.BookText.{is_among, with_name}
+use Rattle.gm_model.specs.Names.{is_among}
+use Rattle.gm_book.specs.BookText.{with_name}
 use Rattle.gm_book.specs.Held.{names_at}
 
 abbrev pub same_bytes : Bor (List ℕ) → Bor (List ℕ) → Bool

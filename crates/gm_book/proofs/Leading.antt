@@ -7,10 +7,10 @@ use Rattle.gm_model.specs.declared.rule.Side.{Side}
 use Rattle.gm_model.specs.declared.rule.Side.TheVariants.{Left, Right}
 use Rattle.gm_model.specs.declared.word.Letter.{Letter}
 use Rattle.gm_model.specs.declared.word.Letter.TheVariants as letters
-use Rattle.gm_model.specs.Names.{reserved}
+use Rattle.gm_model.specs.Names.{reserved, Mention, is_among, IsFree}
 use Rattle.gm_model.specs.Symbols.{Symbol, Word, Numeral, Sign, Gone, Stray, End}
 use Rattle.gm_model.specs.Reading.{Part}
-use Rattle.gm_model.specs.BookText.{Mention, Item, NodeItem, LinkItem, RuleForm, BookForm, Count, no_count, count_after, counted, count_across, is_among, with_name, Role, Fixed, RuleWord, NameAt, LetterAt, WordEnd, NodeSign, limit_of, stands_before, word, sign, named, the_end, spell_letters, spell_hook, spell_item, spell_items, spell_rule, spell_rules, spelling, IsFree, IsItem, IsRule, IsForm, IsSentence}
+use Rattle.gm_book.specs.BookText.{Item, NodeItem, LinkItem, RuleForm, BookForm, Count, no_count, count_after, counted, count_across, with_name, Role, Fixed, RuleWord, NameAt, LetterAt, WordEnd, NodeSign, limit_of, stands_before, word, sign, named, the_end, spell_letters, spell_hook, spell_item, spell_items, spell_rule, spell_rules, spelling, IsItem, IsRule, IsForm, IsSentence}
 use Rattle.gm_text.specs.Machine.{Leads}
 use Rattle.gm_book.specs.Reading.{Spot, State, AtFormat, AtVersion, AtDim, AtTop, AtRules, AtName, AtLeft, AtItem, AtSign, AtLetter, AtBehind, AtLabel, AtDash, AtTo, AtEnd, left_spot, right_spot, with_node, with_link, closing, is_hook, item_role, role_at, item_move, unless_reserved, move}
 

@@ -4,8 +4,9 @@ use Rattle.std.proofs.lemmas.Bool.{cases_Bool, ltb-true, ltb-false}
 use Rattle.std.specs.List.{Contains}
 use Rattle.gm_model.specs.declared.rule.Side.{Side}
 use Rattle.gm_model.specs.declared.rule.Side.TheVariants.{Left, Right}
-use Rattle.gm_model.specs.BookText.{Mention, Item, NodeItem, LinkItem, RuleForm, BookForm, is_among, with_name, names_of, nodes_in, ends_in, items_on, IsAgain, IsStranger, IsNameFault, RuleTwice, NodeTwice, NodeUnknown}
-use Rattle.gm_model.specs.BookText as text
+use Rattle.gm_model.specs.Names.{Mention, is_among}
+use Rattle.gm_book.specs.BookText.{Item, NodeItem, LinkItem, RuleForm, BookForm, with_name, names_of, nodes_in, ends_in, items_on, IsAgain, IsStranger, IsNameFault, RuleTwice, NodeTwice, NodeUnknown}
+use Rattle.gm_book.specs.BookText as text
 use Rattle.gm_book.specs.declared.names.NameFault.{NameFault}
 use Rattle.gm_book.specs.declared.names.NameFault.TheVariants.{Twice, Unknown}
 use Rattle.gm_book.specs.FirstNameFault.{place_at, fault_of, IsLeast, IsLeastFault, least_of, again_at, with_items, least_again, unknown_at, least_unknown, side_least, rule_least, least_in}

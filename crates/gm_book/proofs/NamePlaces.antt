@@ -8,7 +8,8 @@ use Rattle.gm_model.specs.declared.word.Letter.TheVariants as letters
 use Rattle.gm_model.specs.Tokens.{Front, Gap, Lexeme, Stray, front_of, item_before, items_from}
 use Rattle.gm_model.specs.Symbols.{Mark, mark_of, marks_of, symbols}
 use Rattle.gm_model.specs.Reading.{Part, symbols_in}
-use Rattle.gm_model.specs.BookText.{Mention, Item, NodeItem, LinkItem, RuleForm, BookForm, Count, no_count, count_after, count_across, counted, Role, NameAt, the_end, spell_letters, spell_hook, spell_items, spell_rules, spelling, nodes_in, ends_in, items_on, IsPlacedAt, ArePlaced, IsWritten, IsAgain, IsStranger, TwiceAt, UnknownAt, IsNameFault, RuleTwice, NodeTwice, NodeUnknown}
+use Rattle.gm_model.specs.Names.{Mention}
+use Rattle.gm_book.specs.BookText.{Item, NodeItem, LinkItem, RuleForm, BookForm, Count, no_count, count_after, count_across, counted, Role, NameAt, the_end, spell_letters, spell_hook, spell_items, spell_rules, spelling, nodes_in, ends_in, items_on, IsPlacedAt, ArePlaced, IsWritten, IsAgain, IsStranger, TwiceAt, UnknownAt, IsNameFault, RuleTwice, NodeTwice, NodeUnknown}
 use Rattle.gm_book.proofs.Contained.{contains_cases, contains_none}
 
 -- ---- the marks of a text rise

@@ -4,7 +4,8 @@ use Rattle.std.specs.List.{list_any}
 use Rattle.std.specs.Str.{bytes_eq}
 use Rattle.indexmap.specs.IndexSet.{insert_key}
 use Rattle.std.proofs.lemmas.List.{map-append}
-use Rattle.gm_model.specs.BookText.{is_among, with_name}
+use Rattle.gm_model.specs.Names.{is_among}
+use Rattle.gm_book.specs.BookText.{with_name}
 
 module _ {K : Type 0} (eq : K → K → Bool) (name_of : K → List ℕ) (by_name : (x y : K) → eq x y ≡ bytes_eq (name_of x) (name_of y)) where
   pub among_keys : (key : K) (keys : List K) → list_any (eq key) keys ≡ is_among (map name_of keys) (name_of key)

@@ -13,7 +13,8 @@ use Rattle.gm_model.specs.Rules.{Rule}
 use Rattle.gm_model.specs.Symbols.{Symbol, Word, Mark, symbols, marks_of}
 use Rattle.gm_model.specs.Reading.{symbols_in}
 use Rattle.gm_model.specs.Reading as reading
-use Rattle.gm_model.specs.BookText.{Mention, Item, NodeItem, LinkItem, RuleForm, BookForm, Count, no_count, count_after, counted, count_across, Role, Fixed, NameAt, WordEnd, limit_of, stands_before, word, sign, named, the_end, spell_letters, spell_hook, spell_item, spell_items, spell_rules, spelling, IsItem, IsRule, IsForm, IsSentence, IsPlacedAt, ArePlaced, IsWritten, rule_in, BookText, StandsForNoBook, IsNotBuilt, IsTextFault, NameFault, TwiceAt, UnknownAt, place_of, IsNameFault, IsFirstNameFault}
+use Rattle.gm_model.specs.Names.{Mention}
+use Rattle.gm_book.specs.BookText.{Item, NodeItem, LinkItem, RuleForm, BookForm, Count, no_count, count_after, counted, count_across, Role, Fixed, NameAt, WordEnd, limit_of, stands_before, word, sign, named, the_end, spell_letters, spell_hook, spell_item, spell_items, spell_rules, spelling, IsItem, IsRule, IsForm, IsSentence, IsPlacedAt, ArePlaced, IsWritten, rule_in, BookText, StandsForNoBook, IsNotBuilt, IsTextFault, NameFault, TwiceAt, UnknownAt, place_of, IsNameFault, IsFirstNameFault}
 use Rattle.gm_text.specs.Machine.{Stop, Ends, Passes}
 use Rattle.gm_text.proofs.Machine.{Along, part_at, reading_runs, ends_run, passes_run}
 use Rattle.gm_book.specs.declared.fault.BookFault.{BookFault}

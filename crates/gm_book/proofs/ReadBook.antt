@@ -9,7 +9,7 @@ use Rattle.gm_model.specs.declared.schema.Schema.{Schema}
 use Rattle.gm_model.specs.Reading.{IsWithin}
 use Rattle.gm_model.specs.Rules.{Rule, rule_of}
 use Rattle.gm_model.specs.Structure.{IsInRange, IsWithinLimits}
-use Rattle.gm_model.specs.BookText.{RuleForm, BookForm, IsSentence, limit_of, spelling, IsWritten, IsTextFault, IsNotBuilt, rule_in, BookText}
+use Rattle.gm_book.specs.BookText.{RuleForm, BookForm, IsSentence, limit_of, spelling, IsWritten, IsTextFault, IsNotBuilt, rule_in, BookText}
 use Rattle.gm_book.specs.declared.fault.BookFault.{BookFault}
 use Rattle.gm_book.specs.declared.fault.BookFault.TheVariants as faults
 use Rattle.gm_book.specs.declared.form_fault.FormFault.{FormFault}

@@ -13,9 +13,9 @@ use Rattle.gm_model.specs.declared.rule.Side.TheVariants.{Left, Right}
 use Rattle.gm_model.specs.Tokens.{Item, Front, Gap, Lexeme, Stray, front_of, size_of, item_before, items_from, IsLexeme}
 use Rattle.gm_model.specs.Symbols.{Symbol, Word, symbol_of_kind, mark_of, symbols, symbols_of}
 use Rattle.gm_model.specs.Reading.{Part, symbols_in, IsWithin}
-use Rattle.gm_model.specs.Names.{reserved}
-use Rattle.gm_model.specs.BookText.{NodeItem, LinkItem, RuleForm, BookForm, Role, Count, no_count, count_after, count_across, counted, with_name, is_among, the_end, limit_of, spell_letters, spell_hook, spell_item, spell_items, spell_rule, spell_rules, spelling, IsItem, IsRule, IsForm, IsSentence}
-use Rattle.gm_model.specs.BookText as text
+use Rattle.gm_model.specs.Names.{reserved, is_among}
+use Rattle.gm_book.specs.BookText.{NodeItem, LinkItem, RuleForm, BookForm, Role, Count, no_count, count_after, count_across, counted, with_name, the_end, limit_of, spell_letters, spell_hook, spell_item, spell_items, spell_rule, spell_rules, spelling, IsItem, IsRule, IsForm, IsSentence}
+use Rattle.gm_book.specs.BookText as text
 use Rattle.gm_text.proofs.Longest.{IsLongest-front_of}
 use Rattle.gm_book.proofs.CanonicalForm.{IsGoodName, IsGoodLetter, IsGoodWord}
 use Rattle.gm_book.proofs.CanonicalLimits.{AreFew}

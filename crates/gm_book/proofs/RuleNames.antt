@@ -2,9 +2,9 @@
 use Rattle.std.proofs.Common.{◌≡◌, ℕ, zero, suc, ◌<◌, inl, inr, List, [], ◌∷◌, ◌++◌, length, get_or, map, Bor, arith, refl, ap, ◌∙◌}
 use Rattle.std.proofs.lemmas.Bool.{cases_Bool}
 use Rattle.std.specs.List.{AllByRecursion}
-use Rattle.gm_model.specs.BookText.{NodeItem, LinkItem, Count, RuleForm, is_among, with_name, counted, count_after, no_count, nodes_of}
-use Rattle.gm_model.specs.BookText as text
-use Rattle.gm_model.specs.Names.{IsName}
+use Rattle.gm_book.specs.BookText.{NodeItem, LinkItem, Count, RuleForm, with_name, counted, count_after, no_count, nodes_of}
+use Rattle.gm_model.specs.Names.{is_among, IsName}
+use Rattle.gm_book.specs.BookText as text
 use Rattle.gm_book.specs.declared.form.Item.{Item}
 use Rattle.gm_book.specs.declared.form.Item.TheVariants.{Node, Link}
 use Rattle.gm_book.specs.Forms.{IsItemIn, item_of}

@@ -2,7 +2,7 @@
 use Rattle.std.proofs.Common.{◌≡◌, ℕ, Bool, true, false, cond, List, [], ◌∷◌, Option, Some, None, Result, Ok, Err, refl, ap, subst}
 use Rattle.gm_model.specs.declared.limit.LimitKind.{LimitKind}
 use Rattle.gm_model.specs.Symbols.{Mark, marks_of}
-use Rattle.gm_model.specs.BookText.{RuleForm, limit_of, stands_before}
+use Rattle.gm_book.specs.BookText.{RuleForm, limit_of, stands_before}
 use Rattle.gm_text.specs.Machine as machine
 use Rattle.gm_book.specs.declared.form_fault.FormFault.{FormFault}
 use Rattle.gm_book.specs.declared.form_fault.FormFault.TheVariants as faults

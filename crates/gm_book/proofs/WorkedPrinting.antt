@@ -7,7 +7,7 @@ use Rattle.gm_model.specs.declared.rule.Side.TheVariants.{Left, Right}
 use Rattle.gm_model.specs.declared.schema.Schema.{Schema}
 use Rattle.gm_model.specs.declared.word.Letter.TheVariants.{At, Gone}
 use Rattle.gm_model.specs.Rules.{Rule, RuleNode, links_on}
-use Rattle.gm_model.specs.BookText.{BookText, canonical}
+use Rattle.gm_book.specs.BookText.{BookText, canonical}
 use Rattle.std.specs.List.{AllByRecursion}
 use Rattle.gm_book.proofs.CanonicalForm.{IsWritable, IsGoodLink}
 use Rattle.gm_book.proofs.CanonicalBook.{AreWritable, written_again}

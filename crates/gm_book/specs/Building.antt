@@ -1,7 +1,7 @@
 -- Which form gives a book, and which fault it has otherwise.
 use Rattle.std.specs.Prelude.{◌≤◌}
-use Rattle.gm_model.specs.BookText.{BookForm, IsNameFault, place_of, TwiceAt, UnknownAt}
-use Rattle.gm_model.specs.BookText as text
+use Rattle.gm_book.specs.BookText.{BookForm, IsNameFault, place_of, TwiceAt, UnknownAt}
+use Rattle.gm_book.specs.BookText as text
 use Rattle.gm_book.specs.declared.fault.BookFault.{BookFault}
 use Rattle.gm_book.specs.declared.fault.BookFault.TheVariants as faults
 use Rattle.gm_book.specs.declared.names.NameFault.{NameFault}

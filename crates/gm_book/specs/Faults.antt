@@ -1,6 +1,6 @@
 -- Which first fault of a text a reader's answer names.
 use Rattle.std.specs.Prelude.{ℕ, List}
-use Rattle.gm_model.specs.BookText.{IsTextFault, IsLimitFault, IsNotBuilt, IsFirstNameFault, TwiceAt, UnknownAt}
+use Rattle.gm_book.specs.BookText.{IsTextFault, IsLimitFault, IsNotBuilt, IsFirstNameFault, TwiceAt, UnknownAt}
 use Rattle.gm_book.specs.declared.fault.BookFault.{BookFault}
 use Rattle.gm_book.specs.declared.fault.BookFault.TheVariants as faults
 use Rattle.gm_book.specs.declared.form_fault.FormFault.{FormFault}

@@ -1,7 +1,8 @@
 -- The fault of a form's names that stands first, and the least fault of each of its parts.
 use Rattle.std.specs.Prelude.{ℕ, ◌≤◌, nat_lt, if◌then◌else◌, List, [], ◌∷◌, Option, Some, None}
-use Rattle.gm_model.specs.BookText.{Mention, Item, NodeItem, LinkItem, RuleForm, BookForm, IsNameFault, is_among, with_name}
-use Rattle.gm_model.specs.BookText as text
+use Rattle.gm_model.specs.Names.{Mention, is_among}
+use Rattle.gm_book.specs.BookText.{Item, NodeItem, LinkItem, RuleForm, BookForm, IsNameFault, with_name}
+use Rattle.gm_book.specs.BookText as text
 use Rattle.gm_book.specs.declared.names.NameFault.{NameFault}
 use Rattle.gm_book.specs.declared.names.NameFault.TheVariants.{Twice, Unknown}
 

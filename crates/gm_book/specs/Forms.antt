@@ -2,10 +2,10 @@
 use Rattle.std.specs.Prelude.{◌≤◌, ◌<◌, ℕ, List, length, map}
 use Rattle.std.specs.List.{AllByRecursion}
 use Rattle.gm_model.specs.declared.token.Token.{Token}
-use Rattle.gm_model.specs.Names.{IsName}
+use Rattle.gm_model.specs.Names.{IsName, Mention}
 use Rattle.gm_model.specs.Tokens.{bytes_of}
-use Rattle.gm_model.specs.BookText.{Mention, NodeItem, LinkItem, BookForm}
-use Rattle.gm_model.specs.BookText as text
+use Rattle.gm_book.specs.BookText.{NodeItem, LinkItem, BookForm}
+use Rattle.gm_book.specs.BookText as text
 use Rattle.gm_book.specs.declared.form.Item.{Item}
 use Rattle.gm_book.specs.declared.form.Item.TheVariants.{Node, Link}
 use Rattle.gm_book.specs.declared.form.RuleForm.{RuleForm}

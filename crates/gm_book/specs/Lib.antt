@@ -1,3 +1,4 @@
+pub mod BookText
 pub mod Forms
 pub mod Reading
 pub mod Standing

@@ -4,7 +4,7 @@ use Rattle.gm_model.specs.declared.word.Letter.{Letter}
 use Rattle.gm_model.specs.declared.rule.Link.{Link}
 use Rattle.gm_model.specs.declared.schema.Schema.{Schema}
 use Rattle.gm_model.specs.Rules.{Rule, RuleNode}
-use Rattle.gm_model.specs.BookText.{node_line}
+use Rattle.gm_book.specs.BookText.{node_line}
 
 -- both ends are among so many nodes
 abbrev pub AreEndsNodes : ℕ → Link → Type 0

@@ -6,9 +6,9 @@ use Rattle.gm_model.specs.declared.rule.Side.{Side}
 use Rattle.gm_model.specs.declared.rule.Side.TheVariants.{Left, Right}
 use Rattle.gm_model.specs.declared.word.Letter.{Letter}
 use Rattle.gm_model.specs.declared.word.Letter.TheVariants as letters
-use Rattle.gm_model.specs.Names.{reserved}
+use Rattle.gm_model.specs.Names.{reserved, Mention, is_among}
 use Rattle.gm_model.specs.Symbols.{Symbol, Word, Numeral, Sign, Gone, Stray, End, Mark}
-use Rattle.gm_model.specs.BookText.{Mention, Item, NodeItem, LinkItem, RuleForm, Count, no_count, count_across, is_among, with_name, Role, Fixed, Dimension, RuleWord, NameAt, NodeSign, LinkSign, LetterAt, WordEnd, LabelAt, limit_of, stands_before}
+use Rattle.gm_book.specs.BookText.{Item, NodeItem, LinkItem, RuleForm, Count, no_count, count_across, with_name, Role, Fixed, Dimension, RuleWord, NameAt, NodeSign, LinkSign, LetterAt, WordEnd, LabelAt, limit_of, stands_before}
 use Rattle.gm_text.specs.Machine as machine
 
 -- ---- states

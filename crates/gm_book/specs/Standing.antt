@@ -5,7 +5,7 @@ use Rattle.std.specs.Option.{option_map}
 use Rattle.gm_model.specs.declared.token.Token.{Token}
 use Rattle.gm_model.specs.Tokens.{bytes_of, IsLexeme}
 use Rattle.gm_model.specs.Symbols.{Word, Numeral, Sign, Stray, End, Mark, symbol_of_kind, value_of, marks_at, marks_of}
-use Rattle.gm_model.specs.BookText.{NodeItem, RuleForm, BookForm}
+use Rattle.gm_book.specs.BookText.{NodeItem, RuleForm, BookForm}
 use Rattle.gm_text.specs.Cursor.{Cursor}
 use Rattle.gm_text.specs.Machine.{Stop, Ends, Passes}
 use Rattle.gm_book.specs.declared.form.RuleForm.{RuleForm as CodeRule}

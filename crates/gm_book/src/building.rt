@@ -1,7 +1,7 @@
 //! The book of a form that is written in a text.
 ghost use Rattle.std.specs.Prelude.{◌≡◌, ◌≤◌, [], length, map, IfOk, IfErr};
 ghost use Rattle.std.specs.List.{AllByRecursion};
-ghost use Rattle.gm_model.specs.BookText.{IsSentence, limit_of, spelling, nodes_of, rule_in, IsNameFault};
+ghost use Rattle.gm_book.specs.BookText.{IsSentence, limit_of, spelling, nodes_of, rule_in, IsNameFault};
 ghost use Rattle.gm_model.specs.Reading.{IsWithin};
 ghost use Rattle.gm_model.specs.Rules.{rule_of};
 ghost use Rattle.gm_book.specs.Building.{HasNoNameFault, IsFaultOfNames};

@@ -3,7 +3,8 @@
 //! The least place counts. So no pass ends the others, and each answers its own least fault.
 ghost use Rattle.std.specs.Prelude.{◌≡◌, [], not, map, IfOk, OnOk};
 ghost use Rattle.std.specs.List.{AllByRecursion};
-ghost use Rattle.gm_model.specs.BookText.{is_among, with_name};
+ghost use Rattle.gm_model.specs.Names.{is_among};
+ghost use Rattle.gm_book.specs.BookText.{with_name};
 ghost use Rattle.gm_model.specs.Tokens.{bytes_of};
 ghost use Rattle.gm_book.specs.Forms.{IsIn, IsItemIn, IsRuleIn, IsFormIn, mention_of, item_of, rule_form_of, form_of};
 ghost use Rattle.gm_book.specs.Held.{names_held};

@@ -1,5 +1,5 @@
 ghost use Rattle.std.specs.Prelude.{◌≡◌, [], length, OnOk};
-ghost use Rattle.gm_model.specs.BookText.{with_name};
+ghost use Rattle.gm_book.specs.BookText.{with_name};
 
 use indexmap::IndexSet;
 use std::alloc::{AllocFailed, Global};

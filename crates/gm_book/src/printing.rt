@@ -1,8 +1,8 @@
 //! The canonical text of a book.
 ghost use Rattle.std.specs.Prelude.{◌≡◌, ◌++◌, ◌∷◌, ◌<◌, ◌==◌, if◌then◌else◌, [], length, nat_eq, All, OnOk, IfOk, map, filter, codes, decimal};
 ghost use Rattle.std.specs.List.{flat_map, list_any};
-ghost use Rattle.gm_model.specs.Rules.{rule_of, node_of};
-ghost use Rattle.gm_model.specs.BookText.{canonical, rule_lines, left_lines, right_line, right_lines, link_line, node_line, letters_text, letter_text, name_at};
+ghost use Rattle.gm_model.specs.Rules.{rule_of, node_of, name_at};
+ghost use Rattle.gm_book.specs.BookText.{canonical, rule_lines, left_lines, right_line, right_lines, link_line, node_line, letters_text, letter_text};
 ghost use Rattle.gm_book.specs.Printing.{CanBePrinted, NamesItsNodes, AreEndsNodes, left_line, is_left};
 
 use gm_model::{Book, Dim, Letter, Link, Name, Node, OutOfMemory, RuleTable, Word};

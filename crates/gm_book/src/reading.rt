@@ -1,7 +1,7 @@
 //! A book's text read from left to right up to its first fault, before its names are looked up.
 ghost use Rattle.std.specs.Prelude.{◌≡◌, [], None, length, map, IfOk, IfErr};
 ghost use Rattle.std.specs.List.{AllByRecursion};
-ghost use Rattle.gm_model.specs.BookText.{BookText};
+ghost use Rattle.gm_book.specs.BookText.{BookText};
 ghost use Rattle.gm_model.specs.Rules.{rule_of};
 ghost use Rattle.gm_model.specs.Structure.{IsInRange, IsWithinLimits};
 ghost use Rattle.gm_model.specs.Symbols.{marks_of};

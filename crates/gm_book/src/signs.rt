@@ -1,7 +1,7 @@
 //! Moves in a word and in a link: at signs, numbers and `_`.
 ghost use Rattle.std.specs.Prelude.{◌≡◌, List, ℕ, Option};
 ghost use Rattle.gm_model.specs.declared.token.TokenKind.TheVariants.{Number};
-ghost use Rattle.gm_model.specs.BookText.{RuleForm};
+ghost use Rattle.gm_book.specs.BookText.{RuleForm};
 ghost use Rattle.gm_model.specs.Symbols.{Gone};
 ghost use Rattle.gm_book.specs.declared.state.State.TheVariants as states;
 ghost use Rattle.gm_book.specs.Forms.{IsIn};

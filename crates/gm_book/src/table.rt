@@ -1,7 +1,7 @@
 //! The table of a rule whose names are in order.
 ghost use Rattle.std.specs.Prelude.{◌≡◌, ◌≤◌, [], length, map, IfOk, OnOk};
 ghost use Rattle.std.specs.List.{AllByRecursion};
-ghost use Rattle.gm_model.specs.BookText.{nodes_of, number_of, word_in, links_in, hooks_in, node_in, rule_in};
+ghost use Rattle.gm_book.specs.BookText.{nodes_of, number_of, word_in, links_in, hooks_in, node_in, rule_in};
 ghost use Rattle.gm_model.specs.Names.{IsName};
 ghost use Rattle.gm_model.specs.Rules.{node_of, rule_of};
 ghost use Rattle.gm_book.specs.Forms.{IsIn, IsItemIn, IsRuleIn, mention_of, item_of, rule_form_of};

@@ -1,7 +1,6 @@
 ghost use Rattle.std.specs.Prelude.{◌≡◌, bytes_eq};
 ghost use Rattle.std.specs.List.{list_any};
-ghost use Rattle.gm_model.specs.BookText.{is_among};
-ghost use Rattle.gm_model.specs.Names.{reserved};
+ghost use Rattle.gm_model.specs.Names.{is_among, reserved};
 
 /// The words of the formats that no name can be.
 const RESERVED: [&[u8]; 19] = [

@@ -6,8 +6,7 @@ ghost use Rattle.gm_laws.specs.Darts.{IsFirst, IsLabel, IsDistantLabel, Commute,
 ghost use Rattle.gm_laws.specs.Faults.{ArePointedBack, DoCommute, IsFirstBreach};
 
 use crate::breach::MapBreach;
-use gm_arena::{Arena, Slot};
-use gm_model::Steps;
+use gm_arena::{Arena, Slot, Steps};
 use std::sync::ledger::Ledger;
 
 /// The first dart, and its first two distant labels, that do not commute, where all neighbours lead

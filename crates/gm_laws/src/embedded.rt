@@ -8,8 +8,8 @@ ghost use Rattle.gm_laws.specs.Darts.{IsFirst, IsOrbitLabel, HasSame, IsAlike, A
 ghost use Rattle.gm_laws.specs.Faults.{ArePointedBack, DoCommute, AreValuesShared, IsFirstBreach};
 
 use crate::breach::MapBreach;
-use gm_arena::{Arena, Slot};
-use gm_model::{Mask, Steps, Value};
+use gm_arena::{Arena, Slot, Steps};
+use gm_model::{Mask, Value};
 use std::sync::ledger::Ledger;
 
 /// The first embedding, and its first dart and label, along which its value changes, where all

@@ -6,8 +6,7 @@ ghost use Rattle.gm_laws.specs.Darts.{IsFirst, IsLabel, LeadsBack, IsBack};
 ghost use Rattle.gm_laws.specs.Faults.{ArePointedBack, IsFirstBreach};
 
 use crate::breach::MapBreach;
-use gm_arena::{Arena, Slot};
-use gm_model::Steps;
+use gm_arena::{Arena, Slot, Steps};
 use std::sync::ledger::Ledger;
 
 /// The first dart, and its first label, whose neighbour does not lead back.

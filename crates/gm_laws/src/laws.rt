@@ -7,8 +7,7 @@ use crate::breach::LawFault;
 use crate::commuting::first_not_commuting;
 use crate::embedded::first_not_embedded;
 use crate::involution::first_not_back;
-use gm_arena::Arena;
-use gm_model::Steps;
+use gm_arena::{Arena, Steps};
 use std::alloc::Global;
 use std::sync::ledger::Ledger;
 

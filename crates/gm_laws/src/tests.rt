@@ -4,8 +4,8 @@ ghost use Rattle.gm_model.specs.declared.schema.Embed.{Embed};
 ghost use Rattle.gm_model.specs.Maps.{IsSchema};
 
 use super::*;
-use gm_arena::Arena;
-use gm_model::{Dim, Embed, Items, Kind, Mask, Name, Schema, Steps, Value};
+use gm_arena::{Arena, Steps};
+use gm_model::{Dim, Embed, Items, Kind, Mask, Name, Schema, Value};
 use std::alloc::Global;
 use std::marker::Brand;
 use std::process::Abort;

@@ -12,7 +12,7 @@ use Rattle.gm_model.specs.Tokens.{is_digit}
 use Rattle.gm_model.specs.Symbols.{Symbol, Word, Numeral}
 use Rattle.gm_model.specs.GMap.{Row, AreGMap}
 use Rattle.gm_model.specs.Reading.{Part, symbols_in, IsWithin}
-use Rattle.gm_model.specs.MapText.{Role, DartName, limit_of, number, the_end, spelling, spelling_of_row, AreShaped, IsSentence, IsListed, MapText, names, line_of, canonical}
+use Rattle.gm_mapfile.specs.MapText.{Role, DartName, limit_of, number, the_end, spelling, spelling_of_row, AreShaped, IsSentence, IsListed, MapText, names, line_of, canonical}
 use Rattle.gm_mapfile.proofs.Lines.{shaped_permutation}
 use Rattle.gm_text.proofs.Printed.{Stops, symbols_from, symbols_of-from, symbols_from-end, symbols_from-blank, symbols_from-word, symbols_from-digits, symbols_from-decimal}
 

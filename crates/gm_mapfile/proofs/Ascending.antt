@@ -7,7 +7,7 @@ use Rattle.std.proofs.lemmas.List.{length-map}
 use Rattle.std.proofs.lemmas.List.Kept.{AllPairs-from_increasing}
 use Rattle.std.proofs.lemmas.List.Sorted.{Contains-permutation, IsPermutation-sym}
 use Rattle.gm_model.specs.GMap.{Row}
-use Rattle.gm_model.specs.MapText.{names}
+use Rattle.gm_mapfile.specs.MapText.{names}
 
 abbrev pub Has : List Row → Row → Type 0
 Has [] row = ⊥

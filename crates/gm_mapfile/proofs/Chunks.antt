@@ -5,7 +5,7 @@ use Rattle.std.proofs.Math.Seq.{take-append_seam, drop-append_seam}
 use Rattle.std.specs.List.{flat_map}
 use Rattle.std.proofs.lemmas.List.{length-append, append_assoc, append-nil, get_or_append_left, get_or-append-add}
 use Rattle.gm_model.specs.GMap.{Row}
-use Rattle.gm_model.specs.MapText.{AreShaped}
+use Rattle.gm_mapfile.specs.MapText.{AreShaped}
 use Rattle.gm_mapfile.specs.Draft.{line_in}
 use Rattle.gm_mapfile.specs.Rows.{row_in, rows_from, rows_in}
 

@@ -1,8 +1,8 @@
 -- Where the reader meets an embedding, one stands behind the dimension; and nowhere else does one.
 use Rattle.std.proofs.Common.{◌≡◌, ℕ, zero, suc, ◌+◌, ◌*◌, Bool, true, false, ◌||◌, eqb, ltb, List, [], ◌∷◌, ◌++◌, Result, Ok, Err, refl, ap, subst, codes}
 use Rattle.gm_model.specs.Symbols.{Word, Numeral, Mark, symbols, marks_of}
-use Rattle.gm_model.specs.MapText.{Dimension, Count, DartName, Role}
-use Rattle.gm_model.specs.MapFaults.{IsEmbedAtHeader}
+use Rattle.gm_mapfile.specs.MapText.{Dimension, Count, DartName, Role}
+use Rattle.gm_mapfile.specs.MapFaults.{IsEmbedAtHeader}
 use Rattle.gm_mapfile.specs.Reading.{Stop, Ends, Passes, Embeds, Want, TheWord, TheNumber, Any, fits, value_in, is_end, nothing, ◌>>=◌, wanted_at, darts_at, numbers_at, ended_at, draft_of}
 use Rattle.gm_mapfile.proofs.Plan.{Refused, Limited, Taken, wanted}
 use Rattle.gm_mapfile.proofs.Sentence.{word_symbol, version_symbol, number_symbol}

@@ -7,7 +7,7 @@ use Rattle.gm_model.specs.declared.limit.LimitKind.{LimitKind}
 use Rattle.gm_model.specs.GMap.{Row}
 use Rattle.gm_model.specs.Symbols.{Word, Mark, marks_of}
 use Rattle.gm_model.specs.Reading.{Part, IsReadAs, TextEndsAt, LimitPassedAt}
-use Rattle.gm_model.specs.MapText.{Role, Dimension, Count, DartName, number, the_end, limit_of, spelling, spelling_of_row, AreShaped, IsSentence, IsListed, IsTextFault, IsLimitFault}
+use Rattle.gm_mapfile.specs.MapText.{Role, Dimension, Count, DartName, number, the_end, limit_of, spelling, spelling_of_row, AreShaped, IsSentence, IsListed, IsTextFault, IsLimitFault}
 use Rattle.gm_mapfile.specs.Draft.{numbers_of, IsDraft, IsFaultIn}
 use Rattle.gm_mapfile.specs.declared.reading.Draft.{Draft}
 use Rattle.gm_mapfile.specs.declared.reading.TextFault.{TextFault}

@@ -12,7 +12,7 @@ use Rattle.std.proofs.lemmas.Bool.{cases_Bool, cases_order, eqb-true, eq-eqb, ne
 use Rattle.std.proofs.lemmas.List.{same_lists, get_or_default}
 use Rattle.gm_model.specs.GMap.{Row, row_of, IsLive}
 use Rattle.gm_model.specs.GMap as written
-use Rattle.gm_model.specs.MapText.{AreShaped, names}
+use Rattle.gm_mapfile.specs.MapText.{AreShaped, names}
 use Rattle.gm_arena.specs.ArenaMap.{ArenaMap, Dart, IsLiveName, alpha}
 use Rattle.gm_mapfile.specs.Rows.{row_of_entry, rows_of}
 use Rattle.gm_mapfile.specs.Building.{IsHeld}

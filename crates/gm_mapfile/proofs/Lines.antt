@@ -4,7 +4,7 @@ use Rattle.std.specs.List.{flat_map}
 use Rattle.std.proofs.lemmas.List.Elements.{recursion_from_All, All-from_recursion}
 use Rattle.std.proofs.lemmas.List.Sorted.{All-permutation}
 use Rattle.gm_model.specs.GMap.{Row}
-use Rattle.gm_model.specs.MapText.{AreShaped}
+use Rattle.gm_mapfile.specs.MapText.{AreShaped}
 use Rattle.gm_mapfile.specs.Draft.{line_in}
 
 -- lists of one length at the front of equal lists are equal, and so is what follows

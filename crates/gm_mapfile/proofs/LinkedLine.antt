@@ -3,7 +3,7 @@ use Rattle.std.proofs.Common.{◌≡◌, ℕ, ◌+◌, ◌-◌, ◌*◌, ◌≤�
 use Rattle.std.specs.Prelude.{MatchOption}
 use Rattle.std.proofs.Math.Seq.{take-length}
 use Rattle.gm_model.specs.GMap.{Row, row_of, IsLive}
-use Rattle.gm_model.specs.MapFaults.{AreDistinct}
+use Rattle.gm_mapfile.specs.MapFaults.{AreDistinct}
 use Rattle.gm_arena.specs.ArenaMap.{ArenaMap}
 use Rattle.gm_mapfile.specs.Rows.{row_in, rows_in}
 use Rattle.gm_mapfile.specs.Building.{IsRelinked, IsDartLinked, IsLabelWithoutTarget, IsFirstLack, AreLinkedUnless}

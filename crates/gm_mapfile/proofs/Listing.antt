@@ -4,7 +4,7 @@ use Rattle.std.specs.List.{flat_map}
 use Rattle.gm_model.specs.GMap.{Row}
 use Rattle.gm_model.specs.Symbols.{Symbol, Numeral, End}
 use Rattle.gm_model.specs.Reading.{Part, symbols_in}
-use Rattle.gm_model.specs.MapText.{Role, DartName, number, the_end, spelling, spelling_of_row, AreShaped, IsListed}
+use Rattle.gm_mapfile.specs.MapText.{Role, DartName, number, the_end, spelling, spelling_of_row, AreShaped, IsListed}
 use Rattle.gm_mapfile.specs.Draft.{line_in}
 use Rattle.gm_mapfile.proofs.Lines.{same_rows}
 

@@ -2,7 +2,7 @@
 use Rattle.std.proofs.Common.{◌≡◌, ℕ, suc, ◌-◌, ◌+◌, ◌≤◌, ◌<◌, List, [], ◌∷◌, ◌++◌, Result, Ok, Err, refl, sym, ap, ◌∙◌, append_assoc, arith}
 use Rattle.std.proofs.lemmas.List.{append-nil}
 use Rattle.gm_model.specs.Symbols.{Mark}
-use Rattle.gm_model.specs.MapText.{Role}
+use Rattle.gm_mapfile.specs.MapText.{Role}
 use Rattle.gm_mapfile.specs.declared.reading.TextFault.{TextFault}
 use Rattle.gm_mapfile.specs.declared.reading.TextFault.TheVariants as faults
 use Rattle.gm_mapfile.specs.Reading.{Stop, Ends, Passes, Embeds, Any, ◌>>=◌, Fails, wanted_at, numbers_at}

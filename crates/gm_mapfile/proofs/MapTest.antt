@@ -5,7 +5,7 @@ use Rattle.std.proofs.lemmas.Bool.{cases_Bool, and_parts, or_cases, cases_order}
 use Rattle.std.proofs.lemmas.List.{get_or-map}
 use Rattle.std.proofs.lemmas.List.Recursion.{and_at}
 use Rattle.gm_model.specs.GMap.{Row, row_of, IsLive, alpha, AreGMap}
-use Rattle.gm_model.specs.MapText.{names}
+use Rattle.gm_mapfile.specs.MapText.{names}
 
 -- a name that some row has is that of a place
 place_of_live : (rows : List Row) (x : ℕ) → IsLive rows x → (k : ℕ) × (k < length rows) × (get_or (names rows) k 0 ≡ x)

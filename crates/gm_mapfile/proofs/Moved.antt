@@ -5,7 +5,7 @@ use Rattle.std.specs.Option.{option_map_or}
 use Rattle.std.proofs.lemmas.Bool.{cases_Bool, eqb-true, eq-eqb}
 use Rattle.std.proofs.lemmas.List.Sorted.{sum_by-IsPermutation, IsPermutation-sym}
 use Rattle.gm_model.specs.GMap.{Row, row_of, IsLive, alpha}
-use Rattle.gm_model.specs.MapFaults.{rows_named, AreDistinct}
+use Rattle.gm_mapfile.specs.MapFaults.{rows_named, AreDistinct}
 use Rattle.gm_mapfile.proofs.Ascending.{Has, moves_into}
 use Rattle.gm_mapfile.proofs.Named.{one_if, named_cons, named_some}
 

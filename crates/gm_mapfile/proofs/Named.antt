@@ -5,7 +5,7 @@ use Rattle.std.proofs.lemmas.Bool.{cases_Bool, ne_eqb, eq-eqb}
 use Rattle.std.proofs.lemmas.List.Folds.{find-append}
 use Rattle.std.proofs.lemmas.List.Sums.{sum_by-cons, sum_by-append, sum_by_push}
 use Rattle.gm_model.specs.GMap.{Row, row_of, IsLive, alpha}
-use Rattle.gm_model.specs.MapFaults.{rows_named, AreDistinct}
+use Rattle.gm_mapfile.specs.MapFaults.{rows_named, AreDistinct}
 
 abbrev pub is_named : ℕ → Row → Bool
 is_named d row = eqb row.name d

@@ -5,8 +5,8 @@ use Rattle.gm_model.specs.declared.limit.LimitKind.{LimitKind}
 use Rattle.gm_model.specs.Orbits.{IsPairBefore}
 use Rattle.gm_model.specs.Breaches.{IsTripleBefore, IsFirstWithoutTarget, IsFirstOneWay, IsFirstCrossing}
 use Rattle.gm_model.specs.GMap.{Row, IsLive, alpha, IsGMap, AreGMap}
-use Rattle.gm_model.specs.MapText.{IsListed, StandsForNoMap, IsTextFault, IsLimitFault}
-use Rattle.gm_model.specs.MapFaults.{TextFault, Ends, Passes, NotBuilt, Twice, NoTarget, OneWay, Crossing, IsEmbedAtHeader, IsLeastTwice, AreDistinct, HaveTargets, IsFirstFault, AtEnds, AtPasses, AtNotBuilt, AtTwice, AtNoTarget, AtOneWay, AtCrossing}
+use Rattle.gm_mapfile.specs.MapText.{IsListed, StandsForNoMap, IsTextFault, IsLimitFault}
+use Rattle.gm_mapfile.specs.MapFaults.{TextFault, Ends, Passes, NotBuilt, Twice, NoTarget, OneWay, Crossing, IsEmbedAtHeader, IsLeastTwice, AreDistinct, HaveTargets, IsFirstFault, AtEnds, AtPasses, AtNotBuilt, AtTwice, AtNoTarget, AtOneWay, AtCrossing}
 use Rattle.gm_mapfile.proofs.Listing.{one_listing}
 use Rattle.gm_mapfile.proofs.Moved.{distinct_moved, same_moved, of_look_ups}
 use Rattle.gm_mapfile.proofs.OneMap.{one_text_fault, one_limit_fault, text_or_limit, text_or_listed, limit_or_listed}

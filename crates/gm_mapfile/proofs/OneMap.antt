@@ -6,7 +6,7 @@ use Rattle.gm_model.specs.declared.limit.LimitKind.{LimitKind}
 use Rattle.gm_model.specs.GMap.{Row}
 use Rattle.gm_model.specs.Symbols.{marks_of}
 use Rattle.gm_model.specs.Reading.{Part}
-use Rattle.gm_model.specs.MapText.{Role, spelling, IsListed, MapText, IsTextFault, IsLimitFault}
+use Rattle.gm_mapfile.specs.MapText.{Role, spelling, IsListed, MapText, IsTextFault, IsLimitFault}
 use Rattle.gm_mapfile.specs.Reading.{Stop, Ends, Passes, Lost}
 use Rattle.gm_mapfile.proofs.Plan.{run, IsRight, run_is_only}
 use Rattle.gm_mapfile.proofs.Listing.{one_listing}

@@ -7,8 +7,8 @@ use Rattle.std.proofs.lemmas.Bool.{cases_Bool, cases_eq, eqb-true, ne_eqb, eq-eq
 use Rattle.std.proofs.lemmas.List.Folds.{find-append}
 use Rattle.std.proofs.lemmas.List.Sorted.{IsPermutation-refl, IsPermutation-sym, IsPermutation-trans, IsPermutation-cons, IsPermutation-middle}
 use Rattle.gm_model.specs.GMap.{Row, row_of}
-use Rattle.gm_model.specs.MapText.{names}
-use Rattle.gm_model.specs.MapFaults.{rows_named, AreDistinct}
+use Rattle.gm_mapfile.specs.MapText.{names}
+use Rattle.gm_mapfile.specs.MapFaults.{rows_named, AreDistinct}
 use Rattle.gm_mapfile.proofs.Ascending.{Rises, AreAbove, rises}
 use Rattle.gm_mapfile.proofs.Named.{is_named, one_if, named_cons, named_append, none_named}
 

@@ -3,7 +3,7 @@ use Rattle.std.proofs.Common.{◌≡◌, ℕ, Bool, true, false, cond, ◌⊎◌
 use Rattle.std.proofs.lemmas.Slice.Eq.{bytes_eq-Decides}
 use Rattle.gm_model.specs.declared.limit.LimitKind.{LimitKind}
 use Rattle.gm_model.specs.Symbols.{Symbol, Word, Numeral, Sign, Gone, Stray, End, Mark, symbols}
-use Rattle.gm_model.specs.MapText.{Role, limit_of, the_end}
+use Rattle.gm_mapfile.specs.MapText.{Role, limit_of, the_end}
 use Rattle.gm_model.specs.Reading.{Part, symbols_in, Begins, IsWithin, IsReadAs, TextEndsAt, LimitPassedAt}
 use Rattle.gm_mapfile.specs.Reading.{Stop, Ends, Passes, Embeds, Lost, Want, TheWord, TheNumber, Any, role_of, fits, value_in, is_end, ◌>>=◌, wanted_at, no_more, ended_at}
 

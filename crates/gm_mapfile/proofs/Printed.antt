@@ -13,7 +13,7 @@ use Rattle.std.proofs.lemmas.List.Kept.{AllPairs-from_increasing}
 use Rattle.std.proofs.lemmas.List.Recursion.{found_at}
 use Rattle.gm_model.specs.declared.value.Value.{Value}
 use Rattle.gm_model.specs.GMap.{Row, row_of}
-use Rattle.gm_model.specs.MapText.{names, line_of, canonical}
+use Rattle.gm_mapfile.specs.MapText.{names, line_of, canonical}
 use Rattle.gm_arena.specs.ArenaMap.{ArenaMap, Dart, IsAt, IsLiveName, name_at}
 use Rattle.gm_arena.specs.declared.slot.Slot.{Slot}
 use Rattle.gm_arena.proofs.MapLemmas.{name_at-is}

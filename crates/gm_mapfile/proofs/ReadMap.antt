@@ -7,8 +7,8 @@ use Rattle.std.proofs.lemmas.List.Elements.{All-from_recursion}
 use Rattle.std.proofs.lemmas.List.Sorted.{length_permutation}
 use Rattle.gm_model.specs.GMap.{Row, row_of, IsGMap}
 use Rattle.gm_model.specs.Breaches.{IsFirstOneWay, IsFirstCrossing}
-use Rattle.gm_model.specs.MapText.{IsListed, MapText}
-use Rattle.gm_model.specs.MapFaults as first
+use Rattle.gm_mapfile.specs.MapText.{IsListed, MapText}
+use Rattle.gm_mapfile.specs.MapFaults as first
 use Rattle.gm_arena.specs.ArenaMap.{ArenaMap, IsLiveName, alpha}
 use Rattle.gm_laws.specs.declared.breach.LawFault.{LawFault}
 use Rattle.gm_laws.specs.declared.breach.LawFault.TheVariants as laws

@@ -4,7 +4,7 @@ use Rattle.std.proofs.lemmas.List.{length-append, length-take, length-drop, take
 use Rattle.std.specs.List.{flat_map}
 use Rattle.gm_model.specs.GMap.{Row}
 use Rattle.gm_model.specs.Reading.{Part}
-use Rattle.gm_model.specs.MapText.{Role, DartName, number, spelling_of_row, AreShaped}
+use Rattle.gm_mapfile.specs.MapText.{Role, DartName, number, spelling_of_row, AreShaped}
 use Rattle.gm_mapfile.specs.Draft.{numbers_of}
 
 pub length-numbers_of : (n : ℕ) (rows : List Row) → AreShaped n rows → length (numbers_of rows) ≡ length rows * (n + 2)

@@ -6,7 +6,7 @@ use Rattle.std.specs.List.{flat_map}
 use Rattle.gm_model.specs.GMap.{Row}
 use Rattle.gm_model.specs.Symbols.{Symbol, Word, Numeral, Sign, Gone, Stray, End}
 use Rattle.gm_model.specs.Reading.{Part}
-use Rattle.gm_model.specs.MapText.{Role, Fixed, Dimension, Count, DartName, word, number, the_end, spelling_of_row, AreShaped, IsSentence}
+use Rattle.gm_mapfile.specs.MapText.{Role, Fixed, Dimension, Count, DartName, word, number, the_end, spelling_of_row, AreShaped, IsSentence}
 use Rattle.gm_mapfile.specs.Draft.{numbers_of}
 use Rattle.gm_mapfile.specs.Reading.{TheWord, TheNumber, Any, fits, value_in}
 use Rattle.gm_mapfile.proofs.Plan.{Plan, Finish, Need, Spells}

@@ -8,7 +8,7 @@ use Rattle.gm_model.specs.declared.schema.Schema.{Schema}
 use Rattle.gm_model.specs.GMap.{Row, row_of, IsLive}
 use Rattle.gm_model.specs.GMap as written
 use Rattle.gm_model.specs.Breaches.{IsFirstWithoutTarget}
-use Rattle.gm_model.specs.MapFaults.{AreDistinct}
+use Rattle.gm_mapfile.specs.MapFaults.{AreDistinct}
 use Rattle.gm_arena.specs.ArenaMap.{ArenaMap, Dart, IsLiveName, alpha}
 use Rattle.gm_arena.specs.Edits.{empty_map}
 use Rattle.gm_mapfile.specs.Rows.{rows_in}

@@ -4,7 +4,7 @@ use Rattle.std.proofs.lemmas.List.Sorted.{IsPermutation-sym, IsPermutation-rever
 use Rattle.gm_model.specs.declared.limit.LimitKind.TheVariants as what
 use Rattle.gm_model.specs.GMap.{Row}
 use Rattle.gm_model.specs.Symbols.{marks_of}
-use Rattle.gm_model.specs.MapText.{spelling, AreShaped, IsListed, MapText, names, IsTextFault, IsLimitFault}
+use Rattle.gm_mapfile.specs.MapText.{spelling, AreShaped, IsListed, MapText, names, IsTextFault, IsLimitFault}
 use Rattle.gm_mapfile.specs.Reading.{numbers_at, draft_of}
 use Rattle.gm_mapfile.proofs.MapTest.{square, gmap_from_test}
 use Rattle.gm_mapfile.proofs.Plan.{run, IsRight, run_is_right}

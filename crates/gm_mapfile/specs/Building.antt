@@ -3,15 +3,16 @@ use Rattle.std.specs.Prelude.{◌≡◌, ◌≢◌, ℕ, ◌+◌, ◌/◌, ◌<�
 use Rattle.std.specs.FinMap.{get}
 use Rattle.gm_model.specs.GMap.{Row, row_of, IsLive}
 use Rattle.gm_model.specs.GMap as written
+use Rattle.gm_model.specs.Limits.{most_darts, most_names}
 use Rattle.gm_model.specs.Orbits.{IsPairBefore}
-use Rattle.gm_model.specs.MapFaults.{AreDistinct, IsLeastTwice, HaveTargets}
+use Rattle.gm_mapfile.specs.MapFaults.{AreDistinct, IsLeastTwice, HaveTargets}
 use Rattle.gm_arena.specs.ArenaMap.{ArenaMap, Dart, IsAt, IsLiveName, alpha}
 use Rattle.gm_mapfile.specs.Rows.{IsNextLeast}
 
 -- numbers that fit an arena: of so many lines, and each of them a name
 pub record AreInRoom (n : ℕ) (numbers : List ℕ) : Type 0 where
-  pub few : length numbers / (n + 2) ≤ 1048576
-  pub small : All (λ x. x < 16777216) numbers
+  pub few : length numbers / (n + 2) ≤ most_darts
+  pub small : All (λ x. x < most_names) numbers
 
 -- each dart has one neighbour for each label from 0 to n
 abbrev pub AreWhole : ℕ → ArenaMap → Type 0

@@ -2,8 +2,8 @@
 use Rattle.std.specs.Prelude.{◌≡◌, ℕ, List, ◌∷◌}
 use Rattle.std.specs.List.{flat_map}
 use Rattle.gm_model.specs.GMap.{Row}
-use Rattle.gm_model.specs.MapText.{IsListed, IsTextFault, IsLimitFault}
-use Rattle.gm_model.specs.MapFaults.{IsEmbedAtHeader}
+use Rattle.gm_mapfile.specs.MapText.{IsListed, IsTextFault, IsLimitFault}
+use Rattle.gm_mapfile.specs.MapFaults.{IsEmbedAtHeader}
 use Rattle.gm_mapfile.specs.declared.reading.TextFault.{TextFault}
 use Rattle.gm_mapfile.specs.declared.reading.TextFault.TheVariants as faults
 

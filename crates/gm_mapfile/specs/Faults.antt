@@ -2,8 +2,8 @@
 use Rattle.std.specs.Prelude.{ℕ, List, Option, Some, None, MatchOption}
 use Rattle.gm_model.specs.GMap.{Row, IsLive, alpha}
 use Rattle.gm_model.specs.Breaches.{IsFirstWithoutTarget}
-use Rattle.gm_model.specs.MapFaults.{TextFault, IsFirstFault, IsLeastTwice, AreDistinct}
-use Rattle.gm_model.specs.MapFaults as first
+use Rattle.gm_mapfile.specs.MapFaults.{TextFault, IsFirstFault, IsLeastTwice, AreDistinct}
+use Rattle.gm_mapfile.specs.MapFaults as first
 use Rattle.gm_laws.specs.declared.breach.MapBreach.{MapBreach}
 use Rattle.gm_laws.specs.declared.breach.MapBreach.TheVariants as breaches
 use Rattle.gm_mapfile.specs.declared.fault.MapFault.{MapFault}

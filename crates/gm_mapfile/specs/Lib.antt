@@ -1,3 +1,5 @@
+pub mod MapText
+pub mod MapFaults
 pub mod Reading
 pub mod Draft
 pub mod Rows

@@ -5,7 +5,7 @@ use Rattle.gm_model.specs.declared.limit.LimitKind.{LimitKind}
 use Rattle.gm_model.specs.declared.token.Token.{Token}
 use Rattle.gm_model.specs.Tokens.{bytes_of, IsLexeme}
 use Rattle.gm_model.specs.Symbols.{Symbol, Word, Numeral, End, Mark, symbol_of_kind, marks_at}
-use Rattle.gm_model.specs.MapText.{Role, Fixed, Dimension, Count, DartName, limit_of}
+use Rattle.gm_mapfile.specs.MapText.{Role, Fixed, Dimension, Count, DartName, limit_of}
 use Rattle.gm_text.specs.Cursor.{Cursor}
 use Rattle.gm_mapfile.specs.declared.reading.TextFault.{TextFault}
 use Rattle.gm_mapfile.specs.declared.reading.TextFault.TheVariants as faults

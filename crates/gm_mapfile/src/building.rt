@@ -2,8 +2,9 @@
 //!
 //! The darts are added first, each free for every label, and then linked to their neighbours. No
 //! pass keeps the rows a second time, and each looks a name up in the arena.
+ghost use Rattle.gm_model.specs.Limits.{most_names};
 ghost use Rattle.std.specs.Prelude.{◌≡◌, ℕ, ◌+◌, ◌*◌, ◌/◌, ◌<◌, ◌≤◌, [], length, min, nat_lt, if◌then◌else◌, All, None, MatchOption, IfOk, IfErr};
-ghost use Rattle.gm_model.specs.MapFaults.{AreDistinct};
+ghost use Rattle.gm_mapfile.specs.MapFaults.{AreDistinct};
 ghost use Rattle.gm_arena.specs.ArenaMap.{IsLiveName};
 ghost use Rattle.gm_mapfile.specs.Rows.{rows_in};
 ghost use Rattle.gm_mapfile.specs.Faults.{IsNameFault};
@@ -11,8 +12,8 @@ ghost use Rattle.gm_mapfile.specs.Building.{AreInRoom, AreSlotsLive, AreWhole, I
 
 use crate::fault::MapFault;
 use crate::reading::Draft;
-use gm_arena::{Arena, Slot};
-use gm_model::{Items, Schema, Steps};
+use gm_arena::{Arena, Slot, Steps};
+use gm_model::{Items, Schema};
 use std::alloc::Global;
 use std::sync::ledger::Ledger;
 
@@ -51,9 +52,9 @@ pub(crate) fn build<L: Ledger>(
 
 /// One more than the greatest of the numbers, or 0 where there is none.
 fn names_end(numbers: &[u32]) -> u32
-    requires { All (λ x. x < 16777216) numbers.now }
+    requires { All (λ x. x < most_names) numbers.now }
     ensures above { All (λ x. x < result) numbers.now }
-    ensures few { result ≤ 16777216 }
+    ensures few { result ≤ most_names }
 {
     let mut end = 0;
     for number in numbers {

@@ -1,8 +1,8 @@
 //! What holds of the texts of maps, whoever reads or prints them.
 ghost use Rattle.std.specs.Prelude.{◌≡◌, ℕ, List};
 ghost use Rattle.gm_model.specs.GMap.{Row};
-ghost use Rattle.gm_model.specs.MapText.{MapText, StandsForNoMap, canonical};
-ghost use Rattle.gm_model.specs.MapFaults.{TextFault, IsFirstFault};
+ghost use Rattle.gm_mapfile.specs.MapText.{MapText, StandsForNoMap, canonical};
+ghost use Rattle.gm_mapfile.specs.MapFaults.{TextFault, IsFirstFault};
 
 /// A text stands for one map at most.
 pub fn one_map_at_most()

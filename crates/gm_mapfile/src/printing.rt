@@ -1,12 +1,12 @@
 //! The canonical text of a map.
 ghost use Rattle.std.specs.Prelude.{◌≡◌, ℕ, ◌+◌, ◌*◌, ◌≤◌, ◌++◌, OnOk, IfOk, codes, decimal};
-ghost use Rattle.gm_model.specs.MapText.{canonical, line_of};
+ghost use Rattle.gm_mapfile.specs.MapText.{canonical, line_of};
 ghost use Rattle.gm_arena.specs.ArenaMap.{IsLiveName};
 ghost use Rattle.gm_arena.specs.Lawful.{IsLawful};
 ghost use Rattle.gm_mapfile.specs.Rows.{rows_of, row_at};
 
-use gm_arena::{Arena, Row};
-use gm_model::{Dim, OutOfMemory, Steps};
+use gm_arena::{Arena, Row, Steps};
+use gm_model::{Dim, OutOfMemory};
 use gm_text::Text;
 use std::alloc::Global;
 use std::sync::ledger::Ledger;

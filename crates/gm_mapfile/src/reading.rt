@@ -4,7 +4,8 @@
 //! is tested afterwards.
 ghost use Rattle.std.specs.Prelude.{◌≡◌, ℕ, List, ◌+◌, ◌*◌, ◌<◌, ◌≤◌, [], length, IfOk, IfErr, MatchResult};
 ghost use Rattle.gm_model.specs.GMap.{Row};
-ghost use Rattle.gm_model.specs.MapText.{Dimension, Count, DartName, MapText};
+ghost use Rattle.gm_mapfile.specs.MapText.{Dimension, Count, DartName, MapText};
+ghost use Rattle.gm_model.specs.Limits.{most_darts};
 ghost use Rattle.gm_model.specs.Symbols.{marks_of};
 ghost use Rattle.gm_mapfile.specs.Draft.{IsDraft, IsFaultIn};
 ghost use Rattle.gm_mapfile.specs.Rows.{rows_of, IsNextLeast};
@@ -13,9 +14,9 @@ ghost use Rattle.gm_mapfile.specs.Reading.{Gives, IsNext, HasNoToken, marks_left
 
 use crate::building::build;
 use crate::fault::MapFault;
-use gm_arena::Arena;
+use gm_arena::{Arena, Steps};
 use gm_laws::check_map;
-use gm_model::{Dim, LimitKind, Steps};
+use gm_model::{Dim, LimitKind, MOST_DARTS, MOST_NAMES};
 use gm_text::{Lexer, Token, TokenKind};
 use std::alloc::{AllocError, AllocFailed, Global};
 use std::sync::ledger::Ledger;
@@ -81,10 +82,6 @@ struct Numeral {
     value: u64,
     place: usize,
 }
-
-const MOST_DARTS: u64 = 1_048_576;
-
-const DART_NAMES: u64 = 16_777_216;
 
 fn next_token(lexer: &mut Lexer<'_>) -> Result<Token, TextFault>
     ensures text { lexer.new.text ≡ lexer.old.text }
@@ -165,10 +162,10 @@ fn darts_word(lexer: &mut Lexer<'_>) -> Result<(), TextFault>
 
 fn dart_count(lexer: &mut Lexer<'_>) -> Result<usize, TextFault>
     ensures value { Gives (λ count. (count, marks_left lexer.new)) result (wanted_at (Any Count) (marks_left lexer.old)) }
-    ensures most { IfOk result (λ count. count ≤ 1048576) }
+    ensures most { IfOk result (λ count. count ≤ most_darts) }
 {
     let Numeral { value, place } = number(lexer)?;
-    if value > MOST_DARTS {
+    if value > u64::from(MOST_DARTS) {
         let what = LimitKind::Darts;
         return Err(TextFault::Limit { what, place });
     }
@@ -179,7 +176,7 @@ fn dart_name(lexer: &mut Lexer<'_>) -> Result<u32, TextFault>
     ensures { Gives (λ name. (name, marks_left lexer.new)) result (wanted_at (Any DartName) (marks_left lexer.old)) }
 {
     let Numeral { value, place } = number(lexer)?;
-    if value >= DART_NAMES {
+    if value >= u64::from(MOST_NAMES) {
         let what = LimitKind::DartName;
         return Err(TextFault::Limit { what, place });
     }

@@ -2,8 +2,9 @@
 ghost use Rattle.std.specs.Prelude.{◌≡◌, ◌<◌};
 
 use crate::{MapFault, print_map, read_map};
+use gm_arena::Steps;
 use gm_laws::MapBreach;
-use gm_model::{LimitKind, Steps};
+use gm_model::LimitKind;
 use std::alloc::Global;
 use std::marker::Brand;
 use std::process::Abort;

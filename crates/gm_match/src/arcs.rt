@@ -10,8 +10,8 @@ ghost use Rattle.gm_match.specs.Layout.{AreMatchable, IsLaid};
 ghost use Rattle.gm_match.specs.Firsts.{AreMetAt, AreMetBy, AreMet, IsFirstAt, IsFirstStep};
 
 use crate::fault::MatchFault;
-use gm_arena::{Arena, Slot};
-use gm_model::{Side, Step, Steps};
+use gm_arena::{Arena, Slot, Steps};
+use gm_model::{Side, Step};
 use gm_plan::{Instances, Plan};
 use std::sync::ledger::Ledger;
 

@@ -13,8 +13,8 @@ ghost use Rattle.gm_walk.specs.Walks.{IsWord, AreLive, names_of};
 ghost use Rattle.gm_match.specs.Cells.{AreCells, IsRow};
 ghost use Rattle.gm_match.specs.Layout.{AreMatchable, IsClosed, IsReached, IsReachedBy, IsTurn, IsCandidateAt};
 
-use gm_arena::{Arena, Slot};
-use gm_model::{Letter, MOST_NODES, OutOfMemory, Steps, Word};
+use gm_arena::{Arena, Slot, Steps};
+use gm_model::{Letter, MOST_NODES, OutOfMemory, Word};
 use gm_plan::{Instances, Plan};
 use gm_walk::{Scratch, Walk, walk_word};
 use std::alloc::Global;

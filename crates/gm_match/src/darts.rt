@@ -2,8 +2,7 @@ ghost use Rattle.std.specs.Prelude.{◌+◌, ◌≤◌, length, MatchResult};
 ghost use Rattle.gm_match.specs.Layout.{IsFirstDart, AreDarts, IsNoDart};
 
 use crate::fault::MatchFault;
-use gm_arena::{Arena, Slot};
-use gm_model::Steps;
+use gm_arena::{Arena, Slot, Steps};
 use std::sync::ledger::Ledger;
 
 /// The dart of the first hook, where each hook names a live dart; none where there is no hook.

@@ -7,9 +7,9 @@ ghost use Rattle.gm_model.specs.Rules.{rule_of, width};
 ghost use Rattle.gm_walk.specs.Walks.{AreLive};
 
 use super::{MatchFault, find};
-use gm_arena::Arena;
+use gm_arena::{Arena, Steps};
 use gm_laws::check_map;
-use gm_model::{Dim, Items, Letter, Link, Name, Node, RuleTable, Schema, Steps, Word};
+use gm_model::{Dim, Items, Letter, Link, Name, Node, RuleTable, Schema, Word};
 use gm_plan::{Instances, Plan, compile};
 use gm_walk::Scratch;
 use std::alloc::Global;

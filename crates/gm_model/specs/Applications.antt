@@ -5,6 +5,7 @@ use Rattle.gm_model.specs.declared.schema.Embed.{Embed}
 use Rattle.gm_model.specs.declared.value.Value.{Value}
 use Rattle.gm_model.specs.declared.value.Value.TheVariants as values
 use Rattle.gm_model.specs.Expressions.{Reading, HasValue, HasNoValue, HasUnits}
+use Rattle.gm_model.specs.Limits.{most_darts, most_names}
 use Rattle.gm_model.specs.Maps.{Map, IsDart, IsEmbedAt, dimension, type_of}
 use Rattle.gm_model.specs.Matches.{Placement, IsCandidate, IsInstance, IsMetAt}
 use Rattle.gm_model.specs.NewValues.{IsDeciding, IsReached, IsValueAfter}
@@ -42,12 +43,6 @@ pub record Decider : Type 0 where
 -- by embedding, node and position
 abbrev pub IsDeciderBefore : Decider → Decider → Type 0
 IsDeciderBefore a b = (a.embed < b.embed) ⊎ ((a.embed ≡ b.embed) × IsPairBefore a.node a.position b.node b.position)
-
-abbrev pub most_darts : ℕ
-most_darts = 1048576
-
-abbrev pub most_names : ℕ
-most_names = 16777216
 
 module _ (app : Application) where
   -- each hook names a live dart

@@ -1,10 +1,10 @@
 pub mod Tokens
 pub mod Symbols
 pub mod GMap
-pub mod MapText
 pub mod Reading
 pub mod Labels
 pub mod Padded
+pub mod Limits
 pub mod Names
 pub mod Values
 pub mod Trees
@@ -26,5 +26,3 @@ pub mod Reports
 pub mod NodeSteps
 pub mod Ranges
 pub mod Breaches
-pub mod MapFaults
-pub mod BookText

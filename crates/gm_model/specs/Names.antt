@@ -1,6 +1,7 @@
--- What bytes can be a name, and which names are reserved.
-use Rattle.std.specs.Prelude.{ℕ, ◌≤◌, List, [], ◌∷◌, length, codes}
-use Rattle.std.specs.List.{Contains}
+-- What bytes can be a name, which names are reserved, and a name at its place in a text.
+use Rattle.std.specs.Prelude.{ℕ, ◌≤◌, ◌≡◌, Bool, false, List, [], ◌∷◌, length, codes}
+use Rattle.std.specs.List.{Contains, list_any}
+use Rattle.std.specs.Str.{bytes_eq}
 use Rattle.gm_model.specs.declared.token.TokenKind.TheVariants as kinds
 use Rattle.gm_model.specs.Tokens.{IsLexeme}
 
@@ -21,3 +22,17 @@ reserved =
 
 abbrev pub IsReserved : List ℕ → Type 0
 IsReserved bytes = Contains reserved bytes
+
+-- ---- names in a text
+
+-- a name, and the place where it stands
+pub record Mention : Type 0 where
+  pub name : List ℕ
+  pub place : ℕ
+
+abbrev pub is_among : List (List ℕ) → List ℕ → Bool
+is_among names name = list_any (bytes_eq name) names
+
+-- a reserved word is no name
+abbrev pub IsFree : Mention → Type 0
+IsFree mention = is_among reserved mention.name ≡ false

@@ -6,10 +6,9 @@ use Rattle.gm_model.specs.declared.schema.Embed.{Embed}
 use Rattle.gm_model.specs.declared.schema.Schema.{Schema}
 use Rattle.gm_model.specs.declared.script.Line.{Line}
 use Rattle.gm_model.specs.Applications.{Cause, NoDart, Arc, Same, PreNoValue, PreFalse, FullDarts, FullNames, NoValue}
-use Rattle.gm_model.specs.BookText.{name_at}
+use Rattle.gm_model.specs.Rules.{name_at, Rule, RuleNode}
 use Rattle.gm_model.specs.Maps.{Map, IsDart}
 use Rattle.gm_model.specs.Orbits.{HasCount}
-use Rattle.gm_model.specs.Rules.{Rule, RuleNode}
 use Rattle.gm_model.specs.Runs.{Outcome, Done, Refused, is_done, IsRun}
 
 -- ---- names

@@ -68,6 +68,9 @@ links_on rule Right = rule.right_links
 abbrev pub word_at : Rule → Side → ℕ → Option (List Letter)
 word_at rule side x = option_and_then (word_on side) (slice_get rule.nodes x)
 
+abbrev pub name_at : List RuleNode → ℕ → List ℕ
+name_at nodes x = unwrap_or (option_map (λ (node : RuleNode). node.name) (slice_get nodes x)) []
+
 -- whether x is a node of the side
 abbrev pub has_word : Rule → Side → ℕ → Bool
 has_word rule side x = is_some (word_at rule side x)

@@ -8,8 +8,8 @@ ghost use Rattle.gm_pending.specs.Results.{IsRightInstance, rule_in};
 
 use crate::edits::{Arc, Edits, End};
 use crate::pending::Pending;
-use gm_arena::Slot;
-use gm_model::{OutOfMemory, Side, Step, Steps};
+use gm_arena::{Slot, Steps};
+use gm_model::{OutOfMemory, Side, Step};
 use std::sync::ledger::Ledger;
 
 /// The lists of an application's edits.

@@ -9,8 +9,7 @@ ghost use Rattle.gm_pending.specs.Results.{PendingOf, rule_in};
 ghost use Rattle.gm_pending.specs.Written.{HasSlot, IsWritable, CanRemove, IsExtended, slot_of, end_at, with_arcs, without_darts};
 
 use crate::edits::{Arc, Edits, End};
-use gm_arena::{Arena, Slot};
-use gm_model::Steps;
+use gm_arena::{Arena, Slot, Steps};
 use std::sync::ledger::Ledger;
 
 impl Edits {

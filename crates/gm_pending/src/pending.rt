@@ -2,8 +2,8 @@ ghost use Rattle.std.specs.Prelude.{◌≡◌, ◌≢◌, ℕ, ◌+◌, ◌*◌,
 
 use crate::at::At;
 use crate::marks::{Marks, marks_of};
-use gm_arena::Arena;
-use gm_model::{OutOfMemory, Side, Step, Steps};
+use gm_arena::{Arena, Steps};
+use gm_model::{MOST_DARTS, OutOfMemory, Side, Step};
 use gm_plan::{Instances, Plan};
 use std::alloc::Global;
 use std::marker::Model;
@@ -60,7 +60,7 @@ impl<'a> Pending<'a> {
         ensures least { steps.old ≤ steps.new }
     {
         // The arena and the plan tell here what their types keep.
-        prove!(arena.count() <= 1_048_576);
+        prove!(arena.count() <= MOST_DARTS);
         prove_eq!(plan.schema().dim, arena.schema().dim);
         let marks = marks_of(alloc, found, plan.left_nodes())?;
         Ok(Pending {

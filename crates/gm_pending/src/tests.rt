@@ -14,8 +14,8 @@ ghost use Rattle.gm_pending.specs.EditLists.{AreEditsOf};
 ghost use Rattle.gm_pending.specs.Results.{pending_of};
 
 use super::*;
-use gm_arena::Arena;
-use gm_model::{Dim, Items, Letter, Link, Name, Node, RuleTable, Schema, Steps, Word};
+use gm_arena::{Arena, Steps};
+use gm_model::{Dim, Items, Letter, Link, Name, Node, RuleTable, Schema, Word};
 use gm_plan::{Instances, Plan, compile};
 use std::alloc::Global;
 use std::marker::Brand;

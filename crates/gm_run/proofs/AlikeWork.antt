@@ -3,7 +3,8 @@ use Rattle.std.proofs.Common.{ℕ, ◌+◌, ◌*◌, ◌≤◌, inl, inr, Bool, 
 use Rattle.std.specs.List.{Contains, AllZip}
 use Rattle.gm_model.specs.declared.schema.Schema.{Schema}
 use Rattle.gm_model.specs.declared.value.Value.{Value}
-use Rattle.gm_model.specs.Applications.{Application, Cause, Decider, IsStaying, IsReady, IsUnfolded, IsPreUnits, IsReadUnits, IsReadSum, IsReachedSum, IsWork, NoHookDarts, NoMatch, NotReady, Ready, IsBudget, Of, most_names}
+use Rattle.gm_model.specs.Applications.{Application, Cause, Decider, IsStaying, IsReady, IsUnfolded, IsPreUnits, IsReadUnits, IsReadSum, IsReachedSum, IsWork, NoHookDarts, NoMatch, NotReady, Ready, IsBudget, Of}
+use Rattle.gm_model.specs.Limits.{most_names}
 use Rattle.gm_model.specs.Maps.{Map}
 use Rattle.gm_model.specs.Matches.{Placement, IsCandidate}
 use Rattle.gm_model.specs.Orbits.{HasCount}

@@ -3,7 +3,8 @@ use Rattle.std.proofs.Common.{◌≡◌, ℕ, ◌+◌, ◌*◌, ◌<◌, ◌≤�
 use Rattle.std.proofs.lemmas.Bool.{cases_order}
 use Rattle.std.proofs.lemmas.Option.{slice_get_within, get_or_from_slice_get}
 use Rattle.std.specs.List.{slice_get}
-use Rattle.gm_model.specs.Applications.{Application, Cause, NoDart, Arc, Same, FullDarts, FullNames, HasHookDarts, MeetsSteps, IsFirstBroken, IsRepeat, HasNoRepeat, IsFirstRepeat, IsStaying, IsDone, IsRefused, NoHookDart, BrokenStep, Repeated, ValuelessPre, FalsePre, NoRoom, NoNames, Valueless, more, most_darts, most_names}
+use Rattle.gm_model.specs.Applications.{Application, Cause, NoDart, Arc, Same, FullDarts, FullNames, HasHookDarts, MeetsSteps, IsFirstBroken, IsRepeat, HasNoRepeat, IsFirstRepeat, IsStaying, IsDone, IsRefused, NoHookDart, BrokenStep, Repeated, ValuelessPre, FalsePre, NoRoom, NoNames, Valueless, more}
+use Rattle.gm_model.specs.Limits.{most_darts, most_names}
 use Rattle.gm_model.specs.Maps.{Map, IsDart}
 use Rattle.gm_model.specs.Matches.{Placement, IsCandidate, IsInstance}
 use Rattle.gm_model.specs.Orbits.{HasCount, IsPairBefore}

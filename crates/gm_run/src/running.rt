@@ -14,8 +14,8 @@ ghost use Rattle.gm_run.specs.Progress.{rules_of, ArePlansFor, Agrees, IsDecided
 
 use crate::outcome::{Outcome, Report};
 use gm_apply::{Refusal, apply};
-use gm_arena::Arena;
-use gm_model::{Items, Line, OutOfMemory, Script, Steps};
+use gm_arena::{Arena, Steps};
+use gm_model::{Items, Line, OutOfMemory, Script};
 use gm_plan::Plan;
 use gm_walk::Scratch;
 use std::alloc::Global;

@@ -1,8 +1,7 @@
 //! The words that say what became of a line.
 ghost use Rattle.std.specs.Prelude.{◌≡◌, ◌++◌, ◌<◌, OnOk, decimal, length, codes};
-ghost use Rattle.gm_model.specs.BookText.{name_at};
+ghost use Rattle.gm_model.specs.Rules.{name_at, rule_of};
 ghost use Rattle.gm_model.specs.Reports.{outcome_words, cause_words, instance_words, embed_name};
-ghost use Rattle.gm_model.specs.Rules.{rule_of};
 ghost use Rattle.gm_run.specs.Lines.{outcome_of, cause_of};
 ghost use Rattle.gm_run.specs.Printing.{SpeaksOf, TellsOf};
 

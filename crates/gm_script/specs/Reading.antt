@@ -8,10 +8,10 @@ use Rattle.gm_model.specs.declared.token.Token.{Token}
 use Rattle.gm_model.specs.declared.token.TokenKind.TheVariants as tokens
 use Rattle.gm_model.specs.declared.value.Value.{Value}
 use Rattle.gm_model.specs.declared.value.Value.TheVariants as values
-use Rattle.gm_model.specs.Names.{reserved}
+use Rattle.gm_model.specs.Limits.{most_names}
+use Rattle.gm_model.specs.Names.{reserved, is_among}
 use Rattle.gm_model.specs.Tokens.{Item, Lexed, StrayAt, EndAt, items_of, bytes_of, IsLexeme}
 use Rattle.gm_model.specs.Symbols.{Symbol, Word, Numeral, Sign, End, symbol_of_kind}
-use Rattle.gm_model.specs.BookText.{is_among}
 use Rattle.gm_script.specs.ScriptText.{Role, Fixed, ApplyAt, RuleAt, Hook, Size, greatest}
 use Rattle.gm_text.specs.Cursor.{Cursor}
 use Rattle.gm_text.specs.Lexing.{rest_of}
@@ -167,7 +167,7 @@ never role = false
 
 -- the limit that a number passes at the spot
 abbrev pub number_limit : Spot → ℕ → Option LimitKind
-number_limit spots.Rule n = if nat_le 16777216 n then Some limits.DartName else None
+number_limit spots.Rule n = if nat_le most_names n then Some limits.DartName else None
 number_limit spot n = if nat_lt (greatest (is_minus spot)) n then Some limits.Integer else None
 
 -- the limit that is passed at the spot, where so many lines have begun and the token has so many bytes

@@ -10,10 +10,11 @@ use Rattle.gm_model.specs.declared.value.Kind.{Kind}
 use Rattle.gm_model.specs.declared.value.Kind.TheVariants as kinds
 use Rattle.gm_model.specs.declared.value.Value.{Value}
 use Rattle.gm_model.specs.declared.value.Value.TheVariants as values
+use Rattle.gm_model.specs.Limits.{most_names}
 use Rattle.gm_model.specs.Symbols.{Symbol, Word, Numeral, Sign, End, Mark, marks_of}
 use Rattle.gm_model.specs.Rules.{Rule}
 use Rattle.gm_model.specs.Reading.{Part, IsReadAs, TextEndsAt, LimitPassedAt}
-use Rattle.gm_model.specs.BookText.{Mention, IsFree}
+use Rattle.gm_model.specs.Names.{Mention, IsFree}
 
 -- ---- what is written in a script
 
@@ -61,7 +62,7 @@ greatest minus = if minus then 2 ^ 63 else 2 ^ 63 - 1
 abbrev pub limit_of : Role → Symbol → Option LimitKind
 limit_of (ApplyAt k place) (Word word) = if nat_lt 100000 k then Some limits.Lines else None
 limit_of (RuleAt place) (Word name) = if nat_lt 32 (length name) then Some limits.Name else None
-limit_of Hook (Numeral n) = if nat_le 16777216 n then Some limits.DartName else None
+limit_of Hook (Numeral n) = if nat_le most_names n then Some limits.DartName else None
 limit_of (Size minus) (Numeral n) = if nat_lt (greatest minus) n then Some limits.Integer else None
 limit_of _ _ = None
 

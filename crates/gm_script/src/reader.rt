@@ -6,7 +6,7 @@ ghost use Rattle.gm_script.specs.Reading.{Gives};
 
 use crate::sight::Sight;
 use crate::spot::Spot;
-use gm_model::{LimitKind, Token, Value};
+use gm_model::{LimitKind, MOST_NAMES, Token, Value};
 use std::alloc::{AllocFailed, Global};
 use std::marker::Model;
 use std::mem;
@@ -14,8 +14,6 @@ use std::mem;
 const MOST_NAME_BYTES: usize = 32;
 
 const MOST_LINES: usize = 100_000;
-
-const DART_NAMES: u64 = 16_777_216;
 
 /// Why a text lists no lines: its first fault from left to right, or want of memory.
 #[derive(Debug, Drop)]
@@ -289,7 +287,7 @@ fn number_limit(spot: Spot, n: u64) -> Option<LimitKind>
     ensures { result ≡ reading.number_limit spot n }
 {
     match spot {
-        Spot::Rule => limit_where(n >= DART_NAMES, LimitKind::DartName),
+        Spot::Rule => limit_where(n >= u64::from(MOST_NAMES), LimitKind::DartName),
         _ => limit_where(n > greatest(spot.is_minus()), LimitKind::Integer),
     }
 }

@@ -2,7 +2,7 @@ ghost use Rattle.std.specs.Prelude.{◌≡◌, ◌≤◌, length, take, drop};
 ghost use Rattle.gm_model.specs.Tokens.{bytes_of, IsLexeme};
 ghost use Rattle.gm_model.specs.Names as names;
 ghost use Rattle.gm_model.specs.Symbols.{symbol_of_kind};
-ghost use Rattle.gm_model.specs.BookText.{is_among};
+ghost use Rattle.gm_model.specs.Names.{is_among};
 ghost use Rattle.gm_script.specs.Reading as reading;
 
 use gm_text::{Lexer, Token, TokenKind};

@@ -5,8 +5,8 @@ ghost use Rattle.gm_walk.specs.Room.{Fits};
 ghost use Rattle.gm_walk.specs.Walks.{AreLive, IsWord};
 
 use super::*;
-use gm_arena::Arena;
-use gm_model::{Dim, Items, Letter, Mask, Schema, Steps, Word};
+use gm_arena::{Arena, Steps};
+use gm_model::{Dim, Items, Letter, Mask, Schema, Word};
 use std::alloc::Global;
 use std::marker::Brand;
 use std::process::Abort;

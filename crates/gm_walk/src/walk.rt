@@ -9,8 +9,8 @@ ghost use Rattle.gm_walk.specs.Lent.{slots_of, bound_of, lender_of};
 ghost use Rattle.gm_walk.specs.Walks.{IsWord, letters_of, along, names_of, AreLive, IsWalkedTo};
 
 use crate::scratch::Scratch;
-use gm_arena::{Arena, Slot};
-use gm_model::{Letter, Mask, Steps, Word};
+use gm_arena::{Arena, Slot, Steps};
+use gm_model::{Letter, Mask, Word};
 use std::sync::ledger::Ledger;
 
 /// A walk, in the scratch that was lent to it. Contracts see its slots in their order.

@@ -11,7 +11,7 @@ use Rattle.gm_model.specs.declared.value.Value.TheVariants.{Int}
 use Rattle.gm_model.specs.GMap.{Row, IsLive, IsGMap, AreGMap, row_of}
 use Rattle.gm_model.specs.GMap as written
 use Rattle.gm_model.specs.Maps.{IsGeneralised}
-use Rattle.gm_model.specs.MapText.{MapText, AreShaped, canonical}
+use Rattle.gm_mapfile.specs.MapText.{MapText, AreShaped, canonical}
 use Rattle.gm_model.specs.Values.{kind_of}
 use Rattle.gm_arena.specs.ArenaAsMap.{as_map}
 use Rattle.gm_arena.specs.ArenaMap.{ArenaMap, Dart, IsLiveName, alpha}

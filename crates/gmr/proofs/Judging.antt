@@ -9,7 +9,7 @@ use Rattle.gm_book.specs.declared.fault.BookFault.{BookFault}
 use Rattle.gm_book.specs.declared.fault.BookFault.TheVariants as book
 use Rattle.gm_book.specs.Faults as book_faults
 use Rattle.gm_model.specs.declared.schema.Schema.{Schema}
-use Rattle.gm_model.specs.BookText.{BookText}
+use Rattle.gm_book.specs.BookText.{BookText}
 use Rattle.gm_model.specs.Rules.{Rule}
 use Rattle.gmr.specs.Answer.{IsBad, IsOutput, BadMap, BadBook, TheMap, TheBook, role_of, refusal, most_bytes, Checked}
 use Rattle.gmr.specs.BookFaults.{AtEnds, AtPasses, AtNotBuilt, AtName}

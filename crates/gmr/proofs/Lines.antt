@@ -15,7 +15,7 @@ use Rattle.gm_model.specs.declared.schema.Schema.{Schema}
 use Rattle.gm_model.specs.declared.script.Line.{Line}
 use Rattle.gm_model.specs.declared.script.Script.{Script}
 use Rattle.gm_model.specs.Maps.{IsGeneralised}
-use Rattle.gm_model.specs.MapText.{AreShaped, canonical}
+use Rattle.gm_mapfile.specs.MapText.{AreShaped, canonical}
 use Rattle.gm_model.specs.Reports.{report_text}
 use Rattle.gm_model.specs.Rules.{rule_of}
 use Rattle.gm_model.specs.Runs.{Outcome, IsRun}

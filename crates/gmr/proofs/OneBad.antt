@@ -4,11 +4,11 @@ use Rattle.std.proofs.Math.Path.{ap₂}
 use Rattle.gm_model.specs.declared.schema.Schema.{Schema}
 use Rattle.gm_model.specs.declared.script.Line.{Line}
 use Rattle.gm_model.specs.Acceptance.{IsAccepted}
-use Rattle.gm_model.specs.BookText.{BookText}
-use Rattle.gm_model.specs.BookText as books
+use Rattle.gm_book.specs.BookText.{BookText}
+use Rattle.gm_book.specs.BookText as books
 use Rattle.gm_model.specs.GMap.{Row}
-use Rattle.gm_model.specs.MapFaults.{fault_words}
-use Rattle.gm_model.specs.MapText.{MapText, canonical}
+use Rattle.gm_mapfile.specs.MapFaults.{fault_words}
+use Rattle.gm_mapfile.specs.MapText.{MapText, canonical}
 use Rattle.gm_model.specs.Rules.{Rule}
 use Rattle.gm_book.proofs.OneBook.{one_book}
 use Rattle.gm_mapfile.proofs.OneFault.{one_fault, no_map_at_fault}

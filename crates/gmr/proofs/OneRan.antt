@@ -1,7 +1,7 @@
 -- A script has one run: the same outcomes, the same darts after it, and the same next name.
 use Rattle.std.proofs.Common.{◌≡◌, ℕ, ◌≤◌, List, All, subst, arith}
 use Rattle.gm_model.specs.Acceptance.{IsAccepted}
-use Rattle.gm_model.specs.BookText.{BookText}
+use Rattle.gm_book.specs.BookText.{BookText}
 use Rattle.gm_model.specs.GMap.{Row, AreGMap}
 use Rattle.gm_model.specs.Maps.{Map}
 use Rattle.gm_model.specs.Runs.{IsRun}

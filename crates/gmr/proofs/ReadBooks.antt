@@ -5,7 +5,7 @@ use Rattle.std.proofs.lemmas.List.Elements.{All-from_recursion, recursion_from_A
 use Rattle.gm_model.specs.declared.rule.Book.{Book}
 use Rattle.gm_model.specs.declared.rule.RuleTable.{RuleTable}
 use Rattle.gm_model.specs.declared.schema.Schema.{Schema}
-use Rattle.gm_model.specs.BookText.{BookText}
+use Rattle.gm_book.specs.BookText.{BookText}
 use Rattle.gm_model.specs.Kinds.{IsTyped}
 use Rattle.gm_model.specs.Rules.{Rule, rule_of}
 use Rattle.gm_book.specs.Printing.{IsPlain}

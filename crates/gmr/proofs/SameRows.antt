@@ -4,7 +4,7 @@ use Rattle.std.specs.Option.{option_map_or}
 use Rattle.std.specs.List.Sorted.{IsStrictlyIncreasing}
 use Rattle.std.proofs.lemmas.List.{same_lists, get_or_default}
 use Rattle.gm_model.specs.GMap.{Row, row_of, IsLive, alpha}
-use Rattle.gm_model.specs.MapText.{AreShaped, names}
+use Rattle.gm_mapfile.specs.MapText.{AreShaped, names}
 use Rattle.gm_mapfile.proofs.Ascending.{same_ascending}
 use Rattle.gm_mapfile.proofs.HeldRows.{shape_found}
 use Rattle.gm_mapfile.proofs.Permuted.{split_found, same_permuted, distinct_ascending}

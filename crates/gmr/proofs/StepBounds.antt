@@ -21,7 +21,7 @@ use Rattle.gm_model.specs.declared.script.Script.{Script}
 use Rattle.gm_model.specs.Acceptance.{IsAccepted}
 use Rattle.gm_model.specs.GMap.{Row, row_of}
 use Rattle.gm_model.specs.Maps.{Map, IsDart}
-use Rattle.gm_model.specs.MapText.{MapText, names}
+use Rattle.gm_mapfile.specs.MapText.{MapText, names}
 use Rattle.gm_model.specs.Orbits.{HasCount}
 use Rattle.gm_model.specs.Rules.{rule_of}
 use Rattle.gm_model.specs.Runs.{Outcome, IsRun, IsRunBudget, changed_darts}

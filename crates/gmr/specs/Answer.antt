@@ -1,11 +1,11 @@
 -- What a command on one file answers: the status, and the text put.
 use Rattle.std.specs.Prelude.{◌≡◌, ℕ, ◌<◌, ◌≤◌, List, [], ◌∷◌, ◌++◌, length, Option, Some, None, codes}
 use Rattle.gm_model.specs.declared.schema.Schema.{Schema}
-use Rattle.gm_model.specs.BookText.{BookText}
-use Rattle.gm_model.specs.BookText as books
+use Rattle.gm_book.specs.BookText.{BookText}
+use Rattle.gm_book.specs.BookText as books
 use Rattle.gm_model.specs.GMap.{Row}
-use Rattle.gm_model.specs.MapText.{MapText, canonical}
-use Rattle.gm_model.specs.MapFaults.{TextFault, IsFirstFault, fault_words}
+use Rattle.gm_mapfile.specs.MapText.{MapText, canonical}
+use Rattle.gm_mapfile.specs.MapFaults.{TextFault, IsFirstFault, fault_words}
 use Rattle.gm_model.specs.Rules.{Rule}
 use Rattle.gmr.specs.BookFaults.{BookTextFault, IsFirstBookFault, book_fault_words}
 use Rattle.gmr.specs.Checking.{AreLines, counts_line, check_status}

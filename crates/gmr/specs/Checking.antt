@@ -8,8 +8,7 @@ use Rattle.gm_model.specs.declared.rule.Side.TheVariants.{Left, Right}
 use Rattle.gm_model.specs.declared.schema.Embed.{Embed}
 use Rattle.gm_model.specs.declared.schema.Schema.{Schema}
 use Rattle.gm_model.specs.Acceptance.{IsAccepted, IsFault}
-use Rattle.gm_model.specs.BookText.{name_at}
-use Rattle.gm_model.specs.Rules.{Rule}
+use Rattle.gm_model.specs.Rules.{name_at, Rule}
 
 -- ---- the first fault of a rule, in words
 

@@ -6,7 +6,7 @@ use Rattle.gm_mapfile.specs.declared.fault.MapFault.{MapFault}
 use Rattle.gm_mapfile.specs.declared.fault.MapFault.TheVariants as map
 use Rattle.gm_book.specs.declared.fault.BookFault.{BookFault}
 use Rattle.gm_book.specs.declared.fault.BookFault.TheVariants as book
-use Rattle.gm_model.specs.BookText.{TwiceAt, UnknownAt}
+use Rattle.gm_book.specs.BookText.{TwiceAt, UnknownAt}
 use Rattle.gm_script.specs.ScriptText.{UnknownRuleAt, HookCountAt, ParamsAt}
 use Rattle.gm_script.specs.declared.fault.ScriptFault.{ScriptFault}
 use Rattle.gm_script.specs.declared.fault.ScriptFault.TheVariants as script
@@ -14,8 +14,8 @@ use Rattle.gmr.specs.ScriptFaults.{script_fault_words}
 use Rattle.gmr.specs.ScriptFaults as script_faults
 use Rattle.gmr.specs.BookFaults.{book_fault_words}
 use Rattle.gmr.specs.BookFaults as book_faults
-use Rattle.gm_model.specs.MapFaults.{fault_words}
-use Rattle.gm_model.specs.MapFaults as map_faults
+use Rattle.gm_mapfile.specs.MapFaults.{fault_words}
+use Rattle.gm_mapfile.specs.MapFaults as map_faults
 
 -- the breach is said by a line: maps have no embeddings so far
 abbrev pub IsSaidOfBreach : MapBreach → Type 0

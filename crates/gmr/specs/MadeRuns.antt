@@ -11,7 +11,7 @@ use Rattle.gm_model.specs.declared.rule.RuleTable.{RuleTable}
 use Rattle.gm_model.specs.declared.script.Script.{Script}
 use Rattle.gm_model.specs.GMap.{Row}
 use Rattle.gm_model.specs.Maps.{IsGeneralised}
-use Rattle.gm_model.specs.MapText.{MapText, canonical}
+use Rattle.gm_mapfile.specs.MapText.{MapText, canonical}
 use Rattle.gm_model.specs.Rules.{rule_of}
 use Rattle.gm_script.specs.ScriptText.{ScriptText}
 use Rattle.gm_plan.specs.Plans.{PlanOf, plan_of}

@@ -7,10 +7,10 @@ use Rattle.gm_model.specs.declared.schema.Schema.{Schema}
 use Rattle.gm_model.specs.declared.script.Line.{Line}
 use Rattle.gm_model.specs.declared.value.Value.TheVariants.{Int}
 use Rattle.gm_model.specs.Acceptance.{IsAccepted, IsFault}
-use Rattle.gm_model.specs.BookText.{BookText}
+use Rattle.gm_book.specs.BookText.{BookText}
 use Rattle.gm_model.specs.GMap.{Row, row_of, alpha, IsLive}
 use Rattle.gm_model.specs.Maps.{Map}
-use Rattle.gm_model.specs.MapText.{MapText, AreShaped, canonical, names}
+use Rattle.gm_mapfile.specs.MapText.{MapText, AreShaped, canonical, names}
 use Rattle.gm_model.specs.Reports.{report_text}
 use Rattle.gm_model.specs.Rules.{Rule}
 use Rattle.gm_model.specs.Runs.{Outcome, IsRun}

@@ -1,7 +1,7 @@
 -- Why a text stands for no script under a book's rules: its first fault by the grammar and its limits, or its first disagreement with the rules; and the words that say so.
 use Rattle.std.specs.Prelude.{ℕ, List, ◌++◌, codes, decimal}
 use Rattle.gm_model.specs.declared.limit.LimitKind.{LimitKind}
-use Rattle.gm_model.specs.MapFaults.{limit_word}
+use Rattle.gm_mapfile.specs.MapFaults.{limit_word}
 use Rattle.gm_model.specs.Rules.{Rule}
 use Rattle.gm_script.specs.ScriptText.{IsTextFault, IsLimitFault, Disagreement, UnknownRuleAt, HookCountAt, ParamsAt, IsFirstDisagreement}
 

@@ -2,7 +2,7 @@
 use Rattle.std.specs.Prelude.{ℕ, ◌+◌, ◌*◌, ◌≤◌, List, length, IfSome}
 use Rattle.gm_host.specs.Store.{Contents}
 use Rattle.gm_model.specs.GMap.{Row}
-use Rattle.gm_model.specs.MapText.{MapText}
+use Rattle.gm_mapfile.specs.MapText.{MapText}
 use Rattle.gm_model.specs.Runs.{IsRunBudget, changed_darts}
 use Rattle.gmr.specs.Answer.{Files, HasFile}
 use Rattle.gmr.specs.MadeRuns.{IsRunStatus}

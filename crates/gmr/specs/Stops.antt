@@ -6,8 +6,8 @@ use Rattle.gm_arena.specs.ArenaMap.{ArenaMap}
 use Rattle.gm_mapfile.specs.Rows.{rows_of, IsNextLeast}
 use Rattle.gm_model.specs.declared.rule.Book.{Book}
 use Rattle.gm_model.specs.declared.script.Script.{Script}
-use Rattle.gm_model.specs.BookText.{BookText}
-use Rattle.gm_model.specs.MapText.{MapText}
+use Rattle.gm_book.specs.BookText.{BookText}
+use Rattle.gm_mapfile.specs.MapText.{MapText}
 use Rattle.gm_model.specs.Rules.{Rule, rule_of}
 use Rattle.gm_script.specs.ScriptText.{ScriptText}
 use Rattle.gmr.specs.Answer.{Files, answers, refusal, Role, role_word, HasFile}

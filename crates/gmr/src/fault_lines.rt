@@ -2,7 +2,7 @@
 
 ghost use Rattle.std.specs.Prelude.{◌≡◌, ◌++◌, IfOk, OnOk, codes, decimal};
 ghost use Rattle.gmr.specs.Answer.{refusal};
-ghost use Rattle.gm_model.specs.MapFaults.{limit_word};
+ghost use Rattle.gm_mapfile.specs.MapFaults.{limit_word};
 ghost use Rattle.gmr.specs.FaultLines.{IsSaidOfBook, IsSaidOfMap, IsSaidOfBreach, IsSaidOfScript, book_words, map_words, breach_words, script_words};
 
 use gm_book::BookFault;

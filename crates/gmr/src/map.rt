@@ -1,6 +1,6 @@
 ghost use Rattle.std.specs.Prelude.{ℕ, List, ◌+◌, ◌≤◌, ◌++◌, length, IfOk, IfErr, codes};
 ghost use Rattle.gm_model.specs.GMap.{Row};
-ghost use Rattle.gm_model.specs.MapText.{MapText};
+ghost use Rattle.gm_mapfile.specs.MapText.{MapText};
 ghost use Rattle.gmr.specs.Answer.{Show, TheMap, refusal};
 ghost use Rattle.gmr.specs.FaultLines.{IsSaidOfMap, map_words};
 ghost use Rattle.gmr.specs.Replies.{IsJudged, IsRefusal};
@@ -11,9 +11,8 @@ ghost use Rattle.gmr.specs.Stops.{IsReadMap, IsBadFor};
 use crate::fault_lines::map_line;
 use crate::refusal::{NoText, Stop};
 use crate::reply::{Reply, reply_within_limit};
-use gm_arena::Arena;
+use gm_arena::{Arena, Steps};
 use gm_mapfile::{MapFault, print_map, read_map};
-use gm_model::Steps;
 use std::alloc::Global;
 use std::sync::ledger::Ledger;
 

@@ -10,7 +10,7 @@ ghost use Rattle.gmr.specs.StepBounds.{ReadsWithin, RunsWithin, RunsAtLeast, Wit
 ghost use Rattle.gmr.specs.Stops.{IsFrom, IsReadMap, IsReadBook, IsReadScript, IsSoundStop};
 ghost use Rattle.gm_arena.specs.Lawful.{IsLawful};
 ghost use Rattle.gm_mapfile.specs.Rows.{rows_of};
-ghost use Rattle.gm_model.specs.MapText.{canonical};
+ghost use Rattle.gm_mapfile.specs.MapText.{canonical};
 ghost use Rattle.gm_model.specs.Reports.{report_text};
 ghost use Rattle.gm_model.specs.Runs.{is_done};
 ghost use Rattle.gm_run.specs.Lines.{outcome_of};
@@ -22,10 +22,10 @@ use crate::load::load_file;
 use crate::refusal::{NoText, Refusal, Role, Stop};
 use crate::reply::{MOST_BYTES, Reply};
 use crate::{book, map, script};
-use gm_arena::Arena;
+use gm_arena::{Arena, Steps};
 use gm_host::{SaveFault, Store};
 use gm_mapfile::print_map;
-use gm_model::{Book, Script, Steps};
+use gm_model::{Book, MOST_DARTS, Script};
 use gm_plan::Plan;
 use gm_run::{Outcome, Report, print_report};
 use std::alloc::Global;
@@ -138,7 +138,7 @@ fn printed<L: Ledger>(
     ensures most { steps.new ≤ steps.old + printing arena.now.schema.dim arena.now.count }
     ensures least { IfOk result (λ _. steps.old + arena.now.count ≤ steps.new) }
 {
-    prove!(arena.count() <= 1_048_576);
+    prove!(arena.count() <= MOST_DARTS);
     let text = print_report(alloc, book, script, report)?;
     let map = print_map(alloc, arena, steps)?;
     within_limit(status_of(report.lines.as_slice()), text, map)
@@ -160,7 +160,7 @@ fn applied<L: Ledger>(
     ensures most { RunsWithin (inputs_of arena.old book.now script.now) steps.old steps.new }
     ensures least { IfOk result (λ _. RunsAtLeast (inputs_of arena.old book.now script.now) steps.old steps.new) }
 {
-    prove!(arena.count() <= 1_048_576);
+    prove!(arena.count() <= MOST_DARTS);
     let report = gm_run::run(alloc, plans, script, arena, steps)?;
     printed(alloc, book, script, &report, arena, steps)
 }

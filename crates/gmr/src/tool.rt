@@ -17,8 +17,8 @@ use crate::load::load_file;
 use crate::refusal::{NoText, Refusal, Role};
 use crate::reply::Reply;
 use crate::{book, check, map, running};
+use gm_arena::Steps;
 use gm_host::{PutFault, Sink, Store};
-use gm_model::Steps;
 use std::alloc::Global;
 use std::sync::ledger::{Blank, Ledger};
 

@@ -1,5 +1,5 @@
 use Rattle.std.proofs.Common.{◌≡◌, true, false, refl, sym, ap, ◌∙◌}
-use Rattle.gm_model.specs.BookText.{is_among}
+use Rattle.gm_model.specs.Names.{is_among}
 use Rattle.gm_model.specs.Tokens.{bytes_of}
 use Rattle.gm_book.specs.Held.{names_held}
 use Rattle.gm_book.proofs.HeldNames.{among_held}

@@ -2,7 +2,7 @@ use Rattle.std.proofs.Common.{◌≡◌, ◌++◌, take, map, codes}
 use Rattle.std.specs.Prelude.{decimal}
 use Rattle.std.specs.List.{flat_map}
 use Rattle.gm_model.specs.Rules.{rule_of}
-use Rattle.gm_model.specs.BookText.{rule_lines}
+use Rattle.gm_book.specs.BookText.{rule_lines}
 use Rattle.gm_book.proofs.printing.print_book.Given as goal
 
 abbrev pub invariant-loop-rule : goal.invariant-loop-rule

@@ -1,5 +1,5 @@
 use Rattle.std.proofs.Common.{◌≡◌, ◌++◌, map, drop}
-use Rattle.gm_model.specs.BookText.{hooks_in}
+use Rattle.gm_book.specs.BookText.{hooks_in}
 use Rattle.gm_book.specs.Forms.{item_of}
 use Rattle.gm_book.specs.Held.{names_held}
 use Rattle.gm_book.proofs.table.hooks.Given as goal

@@ -1,5 +1,5 @@
 use Rattle.std.proofs.Common.{◌≡◌, map, take}
-use Rattle.gm_model.specs.BookText.{node_in}
+use Rattle.gm_book.specs.BookText.{node_in}
 use Rattle.gm_model.specs.Rules.{node_of}
 use Rattle.gm_book.specs.Forms.{rule_form_of}
 use Rattle.gm_book.specs.Held.{names_at}

@@ -1,5 +1,5 @@
 use Rattle.std.proofs.Common.{◌≡◌, map, drop}
-use Rattle.gm_model.specs.BookText.{word_in}
+use Rattle.gm_book.specs.BookText.{word_in}
 use Rattle.gm_book.specs.Forms.{item_of}
 use Rattle.gm_book.proofs.table.word_of.Given as goal
 

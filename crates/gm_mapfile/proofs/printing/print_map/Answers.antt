@@ -1,6 +1,6 @@
 use Rattle.std.proofs.Common.{◌≡◌, ◌+◌, ◌<◌, ◌≤◌, ◌++◌, length, get_or, refl, sym, ap, subst, ◌∙◌, arith}
 use Rattle.std.specs.FinMap.{keys}
-use Rattle.gm_model.specs.MapText.{line_of}
+use Rattle.gm_mapfile.specs.MapText.{line_of}
 use Rattle.gm_arena.specs.ArenaMap.{IsLiveName}
 use Rattle.gm_mapfile.specs.Rows.{rows_of, row_at}
 use Rattle.gm_mapfile.proofs.Printed.{row_at_place, lines_with, keys_long, length_rows, header, whole_text, printed_within}

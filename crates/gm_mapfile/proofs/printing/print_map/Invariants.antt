@@ -1,7 +1,7 @@
 use Rattle.std.proofs.Common.{◌≡◌, ◌+◌, ◌*◌, ◌≤◌, ◌++◌, take, codes}
 use Rattle.std.specs.Prelude.{decimal}
 use Rattle.std.specs.List.{flat_map}
-use Rattle.gm_model.specs.MapText.{line_of}
+use Rattle.gm_mapfile.specs.MapText.{line_of}
 use Rattle.gm_mapfile.specs.Rows.{rows_of}
 use Rattle.gm_mapfile.proofs.printing.print_map.Given as goal
 

@@ -1,5 +1,5 @@
 use Rattle.std.proofs.lemmas.Result.{err_from_is_err_and}
-use Rattle.gm_model.specs.MapText.{DartName}
+use Rattle.gm_mapfile.specs.MapText.{DartName}
 use Rattle.gm_mapfile.specs.Reading.{marks_left, numbers_at}
 use Rattle.gm_mapfile.proofs.Loop.{goes_on, fails, is_done}
 use Rattle.gm_mapfile.proofs.reading.dart_names.Goals as goal

@@ -1,5 +1,5 @@
 use Rattle.std.proofs.Common.{◌≡◌, ◌-◌}
-use Rattle.gm_model.specs.MapText.{DartName}
+use Rattle.gm_mapfile.specs.MapText.{DartName}
 use Rattle.gm_mapfile.specs.Reading.{marks_left, numbers_at}
 use Rattle.gm_mapfile.proofs.Loop.{with_front}
 use Rattle.gm_mapfile.proofs.reading.dart_names.Given as goal

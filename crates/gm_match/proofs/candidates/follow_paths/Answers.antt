@@ -1,12 +1,11 @@
 use Rattle.std.proofs.Common.{◌≡◌, replicate, get_or, take, refl, sym, subst, ◌∙◌, arith, length-set}
 use Rattle.std.proofs.lemmas.List.{take_all}
 use Rattle.std.specs.List.{Contains}
-use Rattle.gm_model.specs.Rules.{link_from}
+use Rattle.gm_model.specs.Rules.{link_from, rule_of}
 use Rattle.gm_plan.specs.Paths.{path_nodes}
 use Rattle.gm_plan.specs.Searches.{link_at}
 use Rattle.std.proofs.lemmas.List.Elements.{All-replicate, All-get_or, All-set}
 use Rattle.std.proofs.lemmas.Option.{slice_get-get_or}
-use Rattle.gm_model.specs.Rules.{rule_of}
 use Rattle.gm_arena.specs.declared.slot.Slot.{Slot}
 use Rattle.gm_arena.specs.ArenaMap.{IsLiveSlot, name_at}
 use Rattle.gm_arena.proofs.MapLemmas.{IsAt-name_at}

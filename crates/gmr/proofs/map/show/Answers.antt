@@ -1,6 +1,6 @@
 use Rattle.std.proofs.Common.{rules, subst, sym, ℕ, List}
 use Rattle.gm_mapfile.specs.Rows.{rows_of}
-use Rattle.gm_model.specs.MapText.{canonical}
+use Rattle.gm_mapfile.specs.MapText.{canonical}
 use Rattle.gmr.specs.Answer.{IsOutput, Show, Shown}
 use Rattle.gmr.specs.FaultLines.{IsSaidOfMap}
 use Rattle.gmr.proofs.Judging.{map_judged, output_judged}

@@ -3,7 +3,7 @@ use Rattle.std.specs.Option.{option_map}
 use Rattle.std.specs.Str.{bytes_eq}
 use Rattle.gm_model.specs.declared.rule.Side.TheVariants.{Left}
 use Rattle.gm_model.specs.Tokens.{bytes_of}
-use Rattle.gm_model.specs.BookText.{NodeItem}
+use Rattle.gm_book.specs.BookText.{NodeItem}
 use Rattle.gm_book.specs.Forms.{rule_form_of, mention_of}
 use Rattle.gm_book.specs.Reading.{with_item}
 use Rattle.gm_book.specs.Standing.{rules_of, current_of}

@@ -1,7 +1,6 @@
 use Rattle.std.proofs.Common.{rules, ◌≡◌, false, length, nat_lt, ap, map}
-use Rattle.gm_model.specs.Names.{reserved}
+use Rattle.gm_model.specs.Names.{reserved, is_among}
 use Rattle.gm_model.specs.Tokens.{bytes_of}
-use Rattle.gm_model.specs.BookText.{is_among}
 use Rattle.gm_book.specs.Forms.{rule_form_of, IsIn}
 use Rattle.gm_book.proofs.Behind.{to_moves}
 use Rattle.gm_book.proofs.reader.Reader.at_to.Goals as goal

@@ -4,6 +4,7 @@ use Rattle.std.specs.List.Sorted.{IsStrictlyIncreasing}
 use Rattle.std.specs.List.{flat_map, AllByRecursion}
 use Rattle.gm_model.specs.declared.limit.LimitKind.{LimitKind}
 use Rattle.gm_model.specs.declared.limit.LimitKind.TheVariants as limits
+use Rattle.gm_model.specs.Limits.{most_darts, most_names}
 use Rattle.gm_model.specs.Symbols.{Symbol, Word, Numeral, End, marks_of}
 use Rattle.gm_model.specs.GMap.{Row, AreGMap}
 use Rattle.gm_model.specs.Reading.{Part, IsReadAs, TextEndsAt, LimitPassedAt}
@@ -23,8 +24,8 @@ pub data Role : Type 0 where
 -- the limit that a symbol passes in a role
 abbrev pub limit_of : Role → Symbol → Option LimitKind
 limit_of Dimension (Numeral n) = if (n == 0) || nat_lt 7 n then Some limits.Dimension else None
-limit_of Count (Numeral n) = if nat_lt 1048576 n then Some limits.Darts else None
-limit_of DartName (Numeral n) = if nat_le 16777216 n then Some limits.DartName else None
+limit_of Count (Numeral n) = if nat_lt most_darts n then Some limits.Darts else None
+limit_of DartName (Numeral n) = if nat_le most_names n then Some limits.DartName else None
 limit_of _ _ = None
 
 abbrev pub word : List ℕ → Part Role

@@ -12,16 +12,11 @@ use Rattle.gm_model.specs.declared.rule.Side.{Side}
 use Rattle.gm_model.specs.declared.rule.Side.TheVariants.{Left, Right}
 use Rattle.gm_model.specs.declared.schema.Schema.{Schema}
 use Rattle.gm_model.specs.Symbols.{Symbol, Word, Numeral, Sign, Gone, End, Mark, symbols, marks_of}
-use Rattle.gm_model.specs.Names.{reserved}
-use Rattle.gm_model.specs.Rules.{Rule, RuleNode}
+use Rattle.gm_model.specs.Names.{Mention, IsFree, is_among}
+use Rattle.gm_model.specs.Rules.{Rule, RuleNode, name_at}
 use Rattle.gm_model.specs.Reading.{Part, Begins, IsWithin, IsReadAs, TextEndsAt, LimitStandsAt, symbols_in}
 
 -- ---- what is written in a book
-
--- a name, and the place where it stands
-pub record Mention : Type 0 where
-  pub name : List ℕ
-  pub place : ℕ
 
 -- What a side of a rule lists. Assignments, once they can be written, are a further list of a node, which only the right side fills.
 pub data Item : Type 0 where
@@ -45,9 +40,6 @@ items_on rule Left = rule.left
 items_on rule Right = rule.right
 
 -- ---- names in it
-
-abbrev pub is_among : List (List ℕ) → List ℕ → Bool
-is_among names name = list_any (bytes_eq name) names
 
 -- the names, and this one if it is new
 abbrev pub with_name : List (List ℕ) → List ℕ → List (List ℕ)
@@ -187,10 +179,6 @@ header n rest = word Fixed (codes "book") ∷ number Fixed 1 ∷ word Fixed (cod
 
 abbrev pub spelling : BookForm → List (Part Role)
 spelling book = header book.dim (spell_rules book.dim 0 book.rules (the_end ∷ []))
-
--- a reserved word is no name
-abbrev pub IsFree : Mention → Type 0
-IsFree mention = is_among reserved mention.name ≡ false
 
 -- only a left node can be a hook
 abbrev pub IsItem : Side → Item → Type 0
@@ -389,9 +377,6 @@ right_line node = line node.right
 abbrev pub right_lines : List RuleNode → List ℕ
 right_lines nodes =
     flat_map right_line (filter (λ (node : RuleNode). is_some node.left) nodes) ++ flat_map right_line (filter (λ (node : RuleNode). not (is_some node.left)) nodes)
-
-abbrev pub name_at : List RuleNode → ℕ → List ℕ
-name_at nodes x = unwrap_or (option_map (λ (node : RuleNode). node.name) (slice_get nodes x)) []
 
 -- a -1- b
 abbrev pub link_line : List RuleNode → Link → List ℕ

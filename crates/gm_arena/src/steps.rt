@@ -1,10 +1,12 @@
+//! The counter of steps, which only the arena's own calls advance.
 ghost use Rattle.std.specs.Prelude.{◌≡◌, ◌+◌, ◌<◌};
 
 use std::marker::Model;
 use std::sync::ledger::{Blank, Book, Ledger, Share};
 
 /// How many steps were counted. A step is one counted call of the dart arena; nothing else adds
-/// steps. It takes no bytes when the program runs, and contracts see the number.
+/// steps, since no other crate can count one, and no code without the program's own handle can make
+/// a counter. It takes no bytes when the program runs, and contracts see the number.
 #[derive(Drop)]
 pub struct Steps<L: Ledger> {
     book: Book<L>,
@@ -12,6 +14,7 @@ pub struct Steps<L: Ledger> {
 }
 
 impl<L: Ledger> Model for Steps<L> {
+    //! The counter of steps, which only the arena's own calls advance.
     ghost use Rattle.std.specs.Prelude.{ℕ, ◌<◌};
 
     ghost Value = { ℕ };
@@ -22,8 +25,9 @@ impl<L: Ledger> Model for Steps<L> {
 }
 
 impl<L: Ledger> Steps<L> {
-    /// A count at 0, over a ledger that no token stands for yet.
-    pub fn start(blank: Blank) -> Steps<L>
+    /// A count at 0, over a ledger that no token stands for yet. Only who holds the program's handle
+    /// can ask for one: `main`, and a test.
+    pub fn start(_handle: &HostRuntime, blank: Blank) -> Steps<L>
         requires name { blank.name ≡ L.name }
         requires parts { blank.parts ≡ L.parts }
         requires some { 0 < blank.parts }
@@ -33,15 +37,15 @@ impl<L: Ledger> Steps<L> {
         Steps { book, share }
     }
 
-    /// Counts one step. The dart arena alone calls this, once in each counted call.
-    pub fn tick(&mut self)
+    /// Counts one step. Each counted call of the arena does so once.
+    pub(crate) fn tick(&mut self)
         ensures { self.new ≡ self.old + 1 }
     {
         self.book.add(&mut self.share, 1);
     }
 
     /// Counts so many steps at once, for the one call of the arena that counts by the dart.
-    pub fn tick_times(&mut self, times: u64)
+    pub(crate) fn tick_times(&mut self, times: u64)
         ensures { self.new ≡ self.old + times }
     {
         self.book.add(&mut self.share, times);

@@ -5,7 +5,7 @@ use Rattle.gm_model.specs.declared.limit.LimitKind.{LimitKind}
 use Rattle.gm_model.specs.declared.limit.LimitKind.TheVariants as limits
 use Rattle.gm_model.specs.Symbols.{Word, Numeral, Mark, symbols, marks_of}
 use Rattle.gm_model.specs.GMap.{Row, IsLive, alpha}
-use Rattle.gm_model.specs.MapText.{IsListed, IsTextFault, IsLimitFault, number, word, Fixed, Dimension}
+use Rattle.gm_mapfile.specs.MapText.{IsListed, IsTextFault, IsLimitFault, number, word, Fixed, Dimension}
 use Rattle.gm_model.specs.Reading.{symbols_in}
 use Rattle.gm_model.specs.Breaches.{IsFirstWithoutTarget, IsFirstOneWay, IsFirstCrossing}
 
