@@ -72,6 +72,7 @@ impl<'r, R: Files> Store for FileStore<'r, R> {
         ensures seen_length { IfTooLong result (λ seen. length seen ≡ limit + 1) }
         ensures seen_held { IfTooLong result (λ seen. IsCutFromHeld untold name.now limit seen) }
         ensures longer { HoldsLongerFile untold name.now limit → IsTooLongUnlessFailing result }
+        ensures ok_no_fault { OnOk result (self.new.load_faults ≡ self.old.load_faults) }
         ensures each_fault_counts { self.new.load_faults ≡ (if is_err result then counted self.old.load_faults else self.old.load_faults) }
     {
         self.loads = self.loads.saturating_add(1);
@@ -91,6 +92,7 @@ impl<'r, R: Files> Store for FileStore<'r, R> {
         ensures kept { saves.OnFailed result (IsSavedInPart untold name.now bytes.now untold) }
         ensures out_of_memory { saves.OnOutOfMemory result (untold ≡ untold) }
         ensures no_fault { saves.OnOutOfMemory result (self.new.save_faults ≡ self.old.save_faults) }
+        ensures ok_no_fault { OnOk result (self.new.save_faults ≡ self.old.save_faults) }
         ensures enough_memory { ¬ saves.IsOutOfMemory result }
         ensures each_fault_counts { self.new.save_faults ≡ (if is_err result then counted self.old.save_faults else self.old.save_faults) }
     {

@@ -1,4 +1,4 @@
-ghost use Rattle.std.specs.Prelude.{◌≡◌, ◌≤◌, OnOk, is_err, if◌then◌else◌};
+ghost use Rattle.std.specs.Prelude.{◌≡◌, ◌≤◌, true, IsTrue, OnOk, is_err, if◌then◌else◌};
 ghost use Rattle.gm_host.specs.Count.{counted, Rises};
 ghost use Rattle.gm_host.specs.Sink.{untold, extended, ExtendsInPart, OnFailed, IsOutOfMemory, OnOutOfMemory};
 
@@ -36,13 +36,16 @@ impl<'r, R: Print> Sink for StdSink<'r, R> {
 
     ghost faults = { λ sink. sink };
 
+    ghost never_wants_memory = { true };
+
     fn put(&mut self, bytes: &[u8]) -> Result<(), PutFault>
         ensures faults_never_fall { self.old ≤ self.new }
         ensures ok { OnOk result (untold ≡ extended untold bytes.now) }
         ensures failed { OnFailed result (Rises self.old self.new) }
         ensures kept { OnFailed result (ExtendsInPart untold bytes.now untold) }
         ensures out_of_memory { OnOutOfMemory result (untold ≡ untold) }
-        ensures enough_memory { ¬ IsOutOfMemory result }
+        ensures enough_memory { IsTrue true → ¬ IsOutOfMemory result }
+        ensures ok_no_fault { OnOk result (self.new ≡ self.old) }
         ensures each_fault_counts { self.new ≡ (if is_err result then counted self.old else self.old) }
     {
         let answer = write_whole(self.rt, bytes);
