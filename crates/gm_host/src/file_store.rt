@@ -5,7 +5,8 @@ ghost use Rattle.gm_host.specs.Saves as saves;
 ghost use Rattle.gm_host.specs.Saves.{IsSaved, IsSavedInPart};
 
 use crate::fault::{LoadFault, SaveFault};
-use crate::opened::{read_opened, write_made};
+use crate::opened::read_opened;
+use crate::replacing::write_file;
 use crate::store::Store;
 use std::alloc::Global;
 use std::fs;
@@ -96,12 +97,4 @@ impl<'r, R: Files> Store for FileStore<'r, R> {
         }
         answer
     }
-}
-
-/// Makes the bytes those of the file, which is made where it is not there.
-fn write_file<R: Files>(rt: &R, name: &str, bytes: &[u8]) -> Result<(), SaveFault>
-    ensures { ¬ saves.IsOutOfMemory result }
-{
-    write_made(fs::create(rt, name), bytes)?;
-    Ok(())
 }

@@ -12,6 +12,7 @@ mod file_table;
 mod mem_sink;
 mod mem_store;
 mod opened;
+mod replacing;
 mod sink;
 mod std_sink;
 mod store;
