@@ -68,10 +68,7 @@ fn read_within<F: Read>(
 }
 
 /// Writes all of the bytes to a file that was opened to write, and gives the file back.
-pub(crate) fn write_made<F: Write + Drop>(
-    made: io::Result<F>,
-    bytes: &[u8],
-) -> Result<F, SaveFault>
+pub(crate) fn write_made<F: Write + Drop>(made: io::Result<F>, bytes: &[u8]) -> Result<F, SaveFault>
     ensures all_bytes { IfOk made (λ file. IfOk result (λ written. Appends (F.contents file) (F.contents written) bytes.now)) }
     ensures not_made { OnErr made (saves.IsFailed result) }
     ensures enough_memory { ¬ saves.IsOutOfMemory result }

@@ -6,13 +6,11 @@ ghost use Rattle.gm_host.specs.Saves.{IsOutOfMemory};
 use crate::fault::SaveFault;
 use crate::opened::write_made;
 use arrayvec::ArrayString;
-use std::fmt;
 use std::fmt::Write as _;
-use std::fs;
 use std::fs::{Files, OpenFile, OpenOptions, Permissions};
-use std::io;
 use std::io::{ErrorKind, Write};
 use std::os::unix::fs::{OpenOptionsExt, PermissionsExt};
+use std::{fmt, fs, io};
 
 /// No path of the system is longer.
 const LONGEST_PATH: usize = 4_096;
@@ -56,38 +54,18 @@ fn writable_access<R: Files>(rt: &R, name: &str) -> io::Result<u32> {
 
 /// Writes the bytes to a new file beside the name, and gives it the name. Where that fails the new
 /// file is removed.
-fn replace<R: Files>(
-    rt: &R,
-    name: &str,
-    bytes: &[u8],
-    access: Option<u32>,
-) -> Result<(), SaveFault>
+fn replace<R: Files>(rt: &R, name: &str, bytes: &[u8], access: Option<u32>) -> Result<(), SaveFault>
     ensures { ¬ IsOutOfMemory result }
 {
     let Some((beside, file)) = make_beside(rt, name, access) else {
         return Err(SaveFault::Failed);
     };
-    let answer = write_and_rename(rt, file, bytes, access, beside.as_str(), name);
-    if answer.is_err() {
-        // The answer tells of a fault already.
-        let _ = fs::remove_file(rt, beside.as_str());
+    if write_lasting(file, bytes, access).is_ok() && fs::rename(rt, beside.as_str(), name).is_ok() {
+        return Ok(());
     }
-    answer
-}
-
-fn write_and_rename<R: Files>(
-    rt: &R,
-    file: R::File,
-    bytes: &[u8],
-    access: Option<u32>,
-    beside: &str,
-    name: &str,
-) -> Result<(), SaveFault>
-    ensures { ¬ IsOutOfMemory result }
-{
-    write_lasting(file, bytes, access)?;
-    fs::rename(rt, beside, name)?;
-    Ok(())
+    // The answer tells of a fault already.
+    let _ = fs::remove_file(rt, beside.as_str());
+    Err(SaveFault::Failed)
 }
 
 /// Writes all of the bytes to a file that was just made, and waits until the disk has them.
