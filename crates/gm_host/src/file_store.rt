@@ -15,6 +15,16 @@ use std::marker::Model;
 
 /// The files of the system, by name. It does not tell what it holds, a file that is not there is
 /// `Failed`, and each load or save that is not Ok raises its count of faults.
+///
+/// A save over a regular file, or under a name that is nothing's, writes a new file beside it first,
+/// under the name, a dot and the first number from 0 to 999 that is free. Once the disk has all bytes
+/// the new file takes the name and the access of the old one, which must be a file that may be
+/// written. So a save that is `Failed` leaves the old file as it was, and a process that is ended in
+/// the middle leaves the old file or the new one, and perhaps the file beside it. The new file has the
+/// saver as its owner, and other names that the old file had keep the old bytes.
+///
+/// What is no regular file, as a link, a device or a pipe, is written through: there a save that is
+/// `Failed` may have written some of the bytes. A save takes no memory.
 #[derive(Drop)]
 pub struct FileStore<'r, R> {
     rt: &'r R,

@@ -10,7 +10,8 @@ use std::io;
 use std::io::{Print, Write};
 use std::marker::Model;
 
-/// The standard output. It does not tell what was written, and contracts see its count of faults.
+/// The standard output. It does not tell what was written, and contracts see its count of faults. A put
+/// takes no memory.
 #[derive(Drop)]
 pub struct StdSink<'r, R> {
     rt: &'r R,
