@@ -9,7 +9,9 @@ use crate::sure_sink::SureSink;
 use crate::sure_store::SureStore;
 use std::alloc::Global;
 use std::fmt::Display;
-use std::io::Print;
+use std::fs::{Files, Permissions};
+use std::io::{Print, Write};
+use std::os::unix::fs::{PermissionsExt, symlink};
 use std::process::Abort;
 use std::test::Fail;
 use std::{fs, io};
@@ -151,13 +153,25 @@ fn sure_store_saves(rt: HostRuntime) -> Result<(), Fail> {
     Ok(())
 }
 
+fn assert_held(
+    rt: &(impl Abort + Files + AllocGlobal),
+    name: &str,
+    bytes: &[u8],
+) -> Result<(), Fail> {
+    let held = fs::read(rt, name)?;
+    assert_eq!(rt; held.as_slice(), bytes);
+    Ok(())
+}
+
 #[test]
 fn file_store_saves(rt: HostRuntime) -> Result<(), Fail> {
     let mut store = FileStore::new(&rt);
-    let saves: [Save<'_>; 3] = [
+    fs::write(&rt, "saved.txt.0", "mine")?;
+    let saves: [Save<'_>; 4] = [
         ("saved.txt", b"abc", "ok", Some(b"abc")),
         ("saved.txt", b"de", "ok", Some(b"de")),
         ("missing/saved.txt", b"fg", "failed", None),
+        ("", b"hi", "failed", None),
     ];
     for (name, bytes, word, held) in saves {
         assert_eq!(rt; save_word(&mut store, name, bytes), word);
@@ -166,7 +180,60 @@ fn file_store_saves(rt: HostRuntime) -> Result<(), Fail> {
             None => assert_loads(&rt, rt.alloc(), &mut store, &[(name, 5, "failed", b"")]),
         }
     }
+    assert_held(&rt, "saved.txt.0", b"mine")?;
+    assert!(rt; !fs::exists(&rt, "saved.txt.1")?);
+    assert!(rt; !fs::exists(&rt, ".0")?);
     fs::remove_file(&rt, "saved.txt")?;
+    fs::remove_file(&rt, "saved.txt.0")?;
+    Ok(())
+}
+
+#[test]
+fn saves_keep_access(rt: HostRuntime) -> Result<(), Fail> {
+    fs::write(&rt, "access.txt", "abc")?;
+    fs::set_permissions(&rt, "access.txt", Permissions::from_mode(0o640))?;
+    assert_eq!(rt;
+        save_word(&mut FileStore::new(&rt), "access.txt", b"de"),
+        "ok"
+    );
+    assert_held(&rt, "access.txt", b"de")?;
+    let mode = fs::metadata(&rt, "access.txt")?.permissions().mode();
+    assert_eq!(rt; mode & 0o777, 0o640);
+    fs::remove_file(&rt, "access.txt")?;
+    Ok(())
+}
+
+#[test]
+fn saves_follow_links(rt: HostRuntime) -> Result<(), Fail> {
+    fs::write(&rt, "linked.txt", "abcde")?;
+    symlink(&rt, "linked.txt", "link.txt")?;
+    assert_eq!(rt;
+        save_word(&mut FileStore::new(&rt), "link.txt", b"fg"),
+        "ok"
+    );
+    assert_held(&rt, "linked.txt", b"fg")?;
+    assert!(rt; fs::symlink_metadata(&rt, "link.txt")?.is_symlink());
+    fs::remove_file(&rt, "link.txt")?;
+    fs::remove_file(&rt, "linked.txt")?;
+    Ok(())
+}
+
+/// Longer than one piece, of which a load reads a file.
+const LONG: usize = 65_537;
+
+#[test]
+fn long_files(rt: HostRuntime) -> Result<(), Fail> {
+    let alloc = rt.alloc();
+    let mut bytes = vec![in alloc; 7u8; LONG]?;
+    bytes.push(9)?;
+    let mut store = FileStore::new(&rt);
+    assert_eq!(rt; save_word(&mut store, "long.txt", bytes.as_slice()), "ok");
+    let loads = [
+        ("long.txt", LONG + 1, "ok", bytes.as_slice()),
+        ("long.txt", LONG - 1, "too long", &bytes.as_slice()[..LONG]),
+    ];
+    assert_loads(&rt, alloc, &mut store, &loads);
+    fs::remove_file(&rt, "long.txt")?;
     Ok(())
 }
 
@@ -218,13 +285,14 @@ fn std_sink(rt: HostRuntime) {
     assert_eq!(rt; put_word(&mut sink, b"abc\n"), "ok");
 }
 
-/// An output that takes at most so many bytes at once.
+/// An output into a file, which takes at most so many bytes at once.
 #[derive(Drop)]
-struct Narrow {
+struct Narrow<'f> {
+    file: &'f fs::File,
     width: usize,
 }
 
-impl Print for Narrow {
+impl<'f> Print for Narrow<'f> {
     fn print<D: Display + Drop>(&self, _value: D) -> io::Result<()> {
         Ok(())
     }
@@ -238,15 +306,26 @@ impl Print for Narrow {
     }
 
     fn write_some(&self, bytes: &[u8]) -> io::Result<usize> {
-        Ok(self.width.min(bytes.len()))
+        let mut file = self.file;
+        file.write(&bytes[..self.width.min(bytes.len())])
     }
 }
 
 #[test]
-fn narrow_output(rt: HostRuntime) {
-    let narrow = Narrow { width: 2 };
+fn narrow_output(rt: HostRuntime) -> Result<(), Fail> {
+    let file = fs::create(&rt, "narrow.txt")?;
+    let narrow = Narrow {
+        file: &file,
+        width: 2,
+    };
     assert_eq!(rt; put_word(&mut StdSink::new(&narrow), b"abcde"), "ok");
-    let closed = Narrow { width: 0 };
-    assert_eq!(rt; put_word(&mut StdSink::new(&closed), b"abcde"), "failed");
+    let closed = Narrow {
+        file: &file,
+        width: 0,
+    };
+    assert_eq!(rt; put_word(&mut StdSink::new(&closed), b"fg"), "failed");
     assert_eq!(rt; put_word(&mut StdSink::new(&closed), b""), "ok");
+    assert_held(&rt, "narrow.txt", b"abcde")?;
+    fs::remove_file(&rt, "narrow.txt")?;
+    Ok(())
 }
