@@ -1,7 +1,6 @@
 pub mod Darts
 pub mod Law
 pub mod Made
-pub mod MarkLemmas
 pub mod Whole
 pub mod WithArcs
 pub mod WithoutDarts

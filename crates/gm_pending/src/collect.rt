@@ -24,8 +24,7 @@ impl Pending<'_> {
     /// The changes that make the arena the result. It counts no step.
     pub fn into_edits<L: Ledger>(self, steps: &mut Steps<L>) -> Result<Edits, OutOfMemory>
         ensures edits { IfOk result (λ edits. AreEditsOf self.entry edits) }
-        ensures cost { steps.new ≤ steps.old + 6 * (self.entry.map.schema.dim + 1) * (length (rule_in self.entry).nodes * self.entry.placed.positions + 1) }
-        ensures least { steps.old ≤ steps.new }
+        ensures no_step { steps.new ≡ steps.old }
     {
         let Lists {
             freed,

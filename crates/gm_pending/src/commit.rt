@@ -1,4 +1,4 @@
-ghost use Rattle.std.specs.Prelude.{◌≡◌, ℕ, ◌+◌, ◌*◌, ◌<◌, ◌≤◌, [], length};
+ghost use Rattle.std.specs.Prelude.{◌≡◌, ℕ, ◌+◌, ◌-◌, ◌*◌, ◌<◌, ◌≤◌, [], length};
 ghost use Rattle.std.specs.List.{Contains};
 ghost use Rattle.std.specs.Vec.{vec_capacity};
 ghost use Rattle.gm_model.specs.Maps.{IsGeneralised};
@@ -24,6 +24,7 @@ impl Edits {
         ensures unfolded { (app : PendingOf) → HasSameRows app.map arena.old → AreEditsOf app self → IsResultOf app arena.new }
         ensures generalised { IsGeneralised (as_map arena.new) }
         ensures schema { arena.new.schema ≡ arena.old.schema }
+        ensures count { arena.new.count ≡ arena.old.count - length self.removed + self.added }
         ensures spare { arena.new.spare + self.added ≡ arena.old.spare + length self.removed }
         ensures reserved { arena.new.reserved ≡ arena.old.reserved }
         ensures most { (app : PendingOf) → AreEditsOf app self → steps.new ≤ steps.old + 4 * (app.map.schema.dim + 1) * (length (rule_in app).nodes * app.placed.positions + 1) }

@@ -6,7 +6,7 @@ mod at;
 mod collect;
 mod commit;
 mod edits;
-mod marks;
+mod lookup;
 mod pending;
 #[cfg(test)]
 mod tests;

@@ -1,7 +1,7 @@
 ghost use Rattle.std.specs.Prelude.{◌≡◌, ◌≢◌, ℕ, ◌+◌, ◌*◌, ◌<◌, ◌≤◌, List, [], length, Some, MatchOption, IfOk, IsTrue};
 
 use crate::at::At;
-use crate::marks::{Marks, marks_of};
+use crate::lookup::instance_at;
 use gm_arena::{Arena, Steps};
 use gm_model::{MOST_DARTS, OutOfMemory, Side, Step};
 use gm_plan::{Instances, Plan};
@@ -15,7 +15,6 @@ pub struct Pending<'a> {
     pub(crate) plan: &'a Plan<'a>,
     pub(crate) arena: &'a Arena,
     pub(crate) found: &'a Instances,
-    marks: Marks,
     pub(crate) alloc: Global,
 }
 
@@ -23,7 +22,6 @@ impl<'a> Model for Pending<'a> {
     ghost use Rattle.std.specs.Coded.{codes};
     ghost use Rattle.gm_model.specs.contracts.expr.Expr as expr_block;
     ghost use Rattle.gm_arena.specs.ArenaMap.{arena_code};
-    ghost use Rattle.gm_pending.specs.Marks.{AreMarks, IsWithin};
     ghost use Rattle.gm_pending.specs.Results.{PendingOf, IsPrepared, pending_of};
 
     ghost Value = { PendingOf };
@@ -32,7 +30,7 @@ impl<'a> Model for Pending<'a> {
 
     ghost view = { λ a. pending_of a.arena.now a.plan.now.table a.found.now };
 
-    ghost invariant = { λ a. IsPrepared (pending_of a.arena.now a.plan.now.table a.found.now) × AreMarks a.found.now (IsWithin a.found.now) a.marks };
+    ghost invariant = { λ a. IsPrepared (pending_of a.arena.now a.plan.now.table a.found.now) };
 }
 
 impl<'a> Pending<'a> {
@@ -56,18 +54,15 @@ impl<'a> Pending<'a> {
         requires generalised { IsGeneralised (as_map arena.now) }
         requires matched { (hooks : List ℕ) × AreMatched arena.now (rule_of plan.now.table) hooks found.now }
         ensures pending { IfOk result (λ pending. pending ≡ pending_of arena.now plan.now.table found.now) }
-        ensures cost { steps.new ≤ steps.old + 2 * (plan.now.schema.dim + 1) * (length (rule_of plan.now.table).nodes * found.now.positions + 1) }
-        ensures least { steps.old ≤ steps.new }
+        ensures no_step { steps.new ≡ steps.old }
     {
         // The arena and the plan tell here what their types keep.
         prove!(arena.count() <= MOST_DARTS);
         prove_eq!(plan.schema().dim, arena.schema().dim);
-        let marks = marks_of(alloc, found, plan.left_nodes())?;
         Ok(Pending {
             plan,
             arena,
             found,
-            marks,
             alloc,
         })
     }
@@ -114,7 +109,7 @@ impl<'a> Pending<'a> {
             (λ i. IsRightInstance self.now i.0 i.1 × (name_of self.now at ≡ (scene_in self.now).name_of i.0 i.1)) }
     {
         match at {
-            At::Old(slot) => self.marks.get(&slot.at).copied(),
+            At::Old(slot) => instance_at(self.found, self.plan.left_nodes(), slot),
             At::New { node, position } => Some((node, position)),
         }
     }

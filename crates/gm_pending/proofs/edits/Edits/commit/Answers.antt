@@ -1,7 +1,7 @@
 use Rattle.std.proofs.Common.{◌≡◌, length, ap, ◌∙◌}
 use Rattle.gm_pending.specs.EditLists.{EditLists}
 use Rattle.gm_pending.specs.Written.{end_at, with_arcs}
-use Rattle.gm_pending.proofs.Stages.{freeing, removing, adding_embeds, adding_names, adding_room, linking, result, result_generalised, result_spare, result_reserved, same_schema}
+use Rattle.gm_pending.proofs.Stages.{freeing, removing, adding_embeds, adding_names, adding_room, linking, result, result_generalised, result_count, result_spare, result_reserved, same_schema}
 use Rattle.gm_pending.proofs.edits.Edits.commit.Goals as goal
 
 pub write_arcs-requires : goal.write_arcs-requires
@@ -70,6 +70,18 @@ returns-clause-schema g c =
     ∙ ap (λ arcs. with_arcs (end_at more c.deref-4.result.now) more arcs) (c.deref-3.ensures.value ∙ ap (λ (e : EditLists). e.arcs) c.self.view_is)
     ∙ ap (λ made. with_arcs (end_at more made) more c.args.self.arcs) c.deref-4.ensures.value in
     same_schema edits.0 c.args.self c.args.arena.now edits.1 edits.2 c.write_arcs.new.arena is_freed c.remove_darts.new.arena is_fewer c.add_darts.new.made.items c.add_darts.new.arena c.add_darts.ensures.map long c.write_arcs-2.new.arena is_linked
+
+pub returns-clause-count : goal.returns-clause-count
+returns-clause-count g c =
+    let edits = c.requires.edits in
+    let is_freed = rw (c.deref.ensures.value ∙ ap (λ (e : EditLists). e.freed) c.self.view_is) at c.write_arcs.ensures.map in
+    let is_fewer = rw (c.deref-2.ensures.value ∙ ap (λ (e : EditLists). e.removed) c.self.view_is) at c.remove_darts.ensures.map in
+    let long : length c.add_darts.new.made.items ≡ c.args.self.added = c.add_darts.ensures.made ∙ ap (λ (e : EditLists). e.added) c.self.view_is in
+    let more = c.add_darts.new.arena in
+    let is_linked : c.write_arcs-2.new.arena ≡ with_arcs (end_at more c.add_darts.new.made.items) more c.args.self.arcs = c.write_arcs-2.ensures.map
+    ∙ ap (λ arcs. with_arcs (end_at more c.deref-4.result.now) more arcs) (c.deref-3.ensures.value ∙ ap (λ (e : EditLists). e.arcs) c.self.view_is)
+    ∙ ap (λ made. with_arcs (end_at more made) more c.args.self.arcs) c.deref-4.ensures.value in
+    result_count edits.0 c.args.self c.args.arena.now edits.1 edits.2 c.write_arcs.new.arena is_freed c.remove_darts.new.arena is_fewer c.add_darts.new.made.items c.add_darts.new.arena c.add_darts.ensures.map long c.write_arcs-2.new.arena is_linked
 
 pub returns-clause-spare : goal.returns-clause-spare
 returns-clause-spare g c =

@@ -8,11 +8,11 @@ use Rattle.gm_pending.proofs.pending.Pending.end.Goals as goal
 pub returns-then-node-left : goal.returns-then-node-left
 returns-then-node-left c =
     let app = pending_of c.self.inside.arena.now c.self.inside.plan.now.table c.self.inside.found.now in
-    let below : c.args.node < c.self.inside.found.now.nodes = (c.self.invariant.0.matched.nodes c.args.node).0 ((c.left_nodes-left.ensures.left c.args.node).1 c.if-node-left.true) in
+    let below : c.args.node < c.self.inside.found.now.nodes = (c.self.invariant.matched.nodes c.args.node).0 ((c.left_nodes-left.ensures.left c.args.node).1 c.if-node-left.true) in
     rw (← c.self.view_is) (end_left app c.args.node c.args.position c.slot.result below c.slot.ensures)
 
 pub returns-else-node-left : goal.returns-else-node-left
 returns-else-node-left c =
     let app = pending_of c.self.inside.arena.now c.self.inside.plan.now.table c.self.inside.found.now in
-    let left : c.left_nodes-left.result ≡ c.self.inside.found.now.nodes = one_left_count (rule_of c.self.inside.plan.now.table) c.left_nodes-left.result c.self.inside.found.now.nodes c.left_nodes-left.ensures.left c.self.invariant.0.matched.nodes in
+    let left : c.left_nodes-left.result ≡ c.self.inside.found.now.nodes = one_left_count (rule_of c.self.inside.plan.now.table) c.left_nodes-left.result c.self.inside.found.now.nodes c.left_nodes-left.ensures.left c.self.invariant.matched.nodes in
     rw (← c.self.view_is) (end_added app c.args.node c.args.position c.left_nodes-left.result c.positions.result left c.if-node-left.false c.positions.ensures.value)

@@ -6,7 +6,7 @@ use Rattle.gm_pending.proofs.Ends.{freed_is}
 use Rattle.gm_pending.proofs.pending.Pending.freed_arc.Goals as goal
 
 pub slot-requires-clause-node : goal.slot-requires-clause-node
-slot-requires-clause-node c = (c.self.invariant.0.matched.nodes c.args.node).0 ((c.left_nodes.ensures.left c.args.node).1 c.if-node-left_nodes.false)
+slot-requires-clause-node c = (c.self.invariant.matched.nodes c.args.node).0 ((c.left_nodes.ensures.left c.args.node).1 c.if-node-left_nodes.false)
 
 pub returns-in_default : goal.returns-in_default
 returns-in_default c =

@@ -7,7 +7,7 @@ use Rattle.gm_pending.proofs.pending.Pending.into_edits.Goals as goal
 pub returns-clause-edits : goal.returns-clause-edits
 returns-clause-edits g c =
     let app = c.args.self in
-    let prepared : IsPrepared app = subst IsPrepared c.self.view_is c.self.invariant.0 in
+    let prepared : IsPrepared app = subst IsPrepared c.self.view_is c.self.invariant in
     let lists = c.in_ok-freed.ensures in
     let added : c.added.result * c.positions.result ≡ app.placed.positions * added_nodes (rule_in app) =
     ap₂ (λ a b. a * b) (c.added.ensures ∙ ap (λ (a : PendingOf). added_nodes (rule_in a)) c.self.view_is) (c.positions.ensures.value ∙ ap (λ (a : PendingOf). a.placed.positions) c.self.view_is)
