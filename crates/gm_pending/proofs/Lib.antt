@@ -11,4 +11,5 @@ pub mod Stages
 pub mod Concat
 pub mod Created
 pub mod Ends
+pub mod Writing
 pub mod Collected

@@ -7,19 +7,19 @@ use Rattle.gm_pending.proofs.pending.Pending.alpha.Goals as goal
 pub unreachable-requires : goal.unreachable-requires
 unreachable-requires g c =
     let app = c.args.self.now in
-    let prepared : IsPrepared app = subst IsPrepared c.self.view_is c.self.invariant in
+    let prepared : IsPrepared app = subst IsPrepared c.self.view_is c.self.invariant.0 in
     never_unmade app prepared c.in-New.node c.in-New.position c.args.label (rw c.in-New.is at c.requires.dart) c.requires.label (rw c.in-New.is at c.in_default.ensures)
 
 pub returns-clause-arc : goal.returns-clause-arc
 returns-clause-arc g c =
     let app = c.args.self.now in
-    let prepared : IsPrepared app = subst IsPrepared c.self.view_is c.self.invariant in
+    let prepared : IsPrepared app = subst IsPrepared c.self.view_is c.self.invariant.0 in
     let at = subst (λ (a : PendingOf). IsAt a.map c.alpha.result.at (alpha a.map c.args.label (name_at a.map c.in-Old.slot.at))) c.self.view_is c.alpha.ensures.neighbour in
     rw c.in-Old.is ((old_kept app prepared c.in-Old.slot.at c.alpha.result.at c.args.label (rw c.in-Old.is at c.requires.dart) c.requires.label (rw c.in-Old.is at c.in_default.ensures) at).0)
 
 pub returns-clause-dart : goal.returns-clause-dart
 returns-clause-dart g c =
     let app = c.args.self.now in
-    let prepared : IsPrepared app = subst IsPrepared c.self.view_is c.self.invariant in
+    let prepared : IsPrepared app = subst IsPrepared c.self.view_is c.self.invariant.0 in
     let at = subst (λ (a : PendingOf). IsAt a.map c.alpha.result.at (alpha a.map c.args.label (name_at a.map c.in-Old.slot.at))) c.self.view_is c.alpha.ensures.neighbour in
     (old_kept app prepared c.in-Old.slot.at c.alpha.result.at c.args.label (rw c.in-Old.is at c.requires.dart) c.requires.label (rw c.in-Old.is at c.in_default.ensures) at).1

@@ -9,7 +9,7 @@ use Rattle.gm_pending.proofs.Darts.{one_left_count, instance_lies, none_lies}
 use Rattle.gm_pending.proofs.pending.Pending.instance.Goals as goal
 
 pub instance_at-requires : goal.instance_at-requires
-instance_at-requires c = one_left_count (rule_of c.self.inside.plan.now.table) _ _ c.left_nodes.ensures.left c.self.invariant.matched.nodes
+instance_at-requires c = one_left_count (rule_of c.self.inside.plan.now.table) _ _ c.left_nodes.ensures.left c.self.invariant.0.matched.nodes
 
 pub returns-in-Old : goal.returns-in-Old
 returns-in-Old c = go c.instance_at.result (subst (λ (a : PendingOf). MatchOption c.instance_at.result ((x p : ℕ) → IsWithin a.placed x p → slot_number a.placed x p ≢ c.in-Old.slot.at) (λ i. IsAtSlot a.placed c.in-Old.slot.at i.0 i.1)) c.self.view_is c.instance_at.ensures)
@@ -18,7 +18,7 @@ returns-in-Old c = go c.instance_at.result (subst (λ (a : PendingOf). MatchOpti
     app = c.args.self.now
 
     prepared : IsPrepared c.args.self.now
-    prepared = subst IsPrepared c.self.view_is c.self.invariant
+    prepared = subst IsPrepared c.self.view_is c.self.invariant.0
 
     dart : IsResultDart c.args.self.now (Old c.in-Old.slot)
     dart = rw c.in-Old.is at c.requires

@@ -11,7 +11,7 @@ use Rattle.gm_pending.proofs.pending.Pending.made.Goals as goal
 pub place-requires : goal.place-requires
 place-requires c =
     let app = c.args.self.now in
-    let prepared : IsPrepared app = subst IsPrepared c.self.view_is c.self.invariant in
+    let prepared : IsPrepared app = subst IsPrepared c.self.view_is c.self.invariant.0 in
     let is : step (rule_in app) Right c.in_ok-node.node c.args.label ≡ Exp c.in-Exp.other = subst (λ (a : PendingOf). step (rule_in a) Right c.in_ok-node.node c.args.label ≡ Exp c.in-Exp.other) c.self.view_is (sym c.in-Exp.ensures) in
     let at = c.in_ok-node.ensures.0 in
     (((law app prepared).steps.right_back c.in_ok-node.node c.args.label c.in-Exp.other at.0 c.requires.label is).0, at.1)
@@ -19,7 +19,7 @@ place-requires c =
 pub turn-requires-clause-place : goal.turn-requires-clause-place
 turn-requires-clause-place c =
     let app = c.args.self.now in
-    let prepared : IsPrepared app = subst IsPrepared c.self.view_is c.self.invariant in
+    let prepared : IsPrepared app = subst IsPrepared c.self.view_is c.self.invariant.0 in
     let is : step (rule_in app) Right c.in_ok-node.node c.args.label ≡ Imp c.in-Imp.place = subst (λ (a : PendingOf). step (rule_in a) Right c.in_ok-node.node c.args.label ≡ Imp c.in-Imp.place) c.self.view_is (sym c.in-Imp.ensures) in
     let low : c.in-Imp.place < width (rule_in app) = (law app prepared).steps.right_place c.in_ok-node.node c.args.label c.in-Imp.place c.in_ok-node.ensures.0.0 is in
     let there : c.in-Imp.place < app.placed.places = rw prepared.matched.places low in
@@ -28,7 +28,7 @@ turn-requires-clause-place c =
 pub returns-in-Absent : goal.returns-in-Absent
 returns-in-Absent c = λ e made.
     let app = c.args.self.now in
-    let prepared : IsPrepared app = subst IsPrepared c.self.view_is c.self.invariant in
+    let prepared : IsPrepared app = subst IsPrepared c.self.view_is c.self.invariant.0 in
     let is : step (rule_in app) Right c.in_ok-node.node c.args.label ≡ Absent = subst (λ (a : PendingOf). step (rule_in a) Right c.in_ok-node.node c.args.label ≡ Absent) c.self.view_is (sym c.in-Absent.ensures) in
     unmade_there (scene_in app) _ _ _ (law app prepared) c.in_ok-node.node c.in_ok-node.position c.args.label e c.in_ok-node.ensures.0 is
     (subst (λ d. IsMadeArc (scene_in app) d c.args.label e) c.in_ok-node.ensures.1 made)

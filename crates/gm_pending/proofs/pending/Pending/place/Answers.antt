@@ -9,7 +9,7 @@ use Rattle.gm_pending.proofs.pending.Pending.place.Goals as goal
 pub returns-then-node-left_nodes-clause-dart : goal.returns-then-node-left_nodes-clause-dart
 returns-then-node-left_nodes-clause-dart c =
     let app = c.args.self.now in
-    let prepared : IsPrepared app = subst IsPrepared c.self.view_is c.self.invariant in
+    let prepared : IsPrepared app = subst IsPrepared c.self.view_is c.self.invariant.0 in
     let left : IsTrue (has_word (rule_in app) Left c.args.node) = subst (λ (a : PendingOf). IsTrue (has_word (rule_in a) Left c.args.node)) c.self.view_is ((c.left_nodes.ensures.left c.args.node).1 c.if-node-left_nodes.true) in
     let lies : slot_number app.placed c.args.node c.args.position ≡ c.slot.result.at = subst (λ (a : PendingOf). slot_number a.placed c.args.node c.args.position ≡ c.slot.result.at) c.self.view_is (slot_answered c.self.inside.found.now c.args.node c.args.position c.slot.result c.slot.ensures) in
     let below : c.args.node < app.placed.nodes = (prepared.matched.nodes c.args.node).0 left in
