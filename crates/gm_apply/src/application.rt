@@ -105,13 +105,13 @@ fn room(plan: &Plan<'_>, arena: &Arena, found: &Instances) -> Result<Applied, Re
 }
 
 /// The edits that make the result. The arena is only read.
-fn edits<L: Ledger>(
+fn edits<'a, L: Ledger>(
     alloc: Global,
-    plan: &Plan<'_>,
+    plan: &'a Plan<'a>,
     arena: &Arena,
-    found: &Instances,
+    found: &'a Instances,
     steps: &mut Steps<L>,
-) -> Result<Edits, OutOfMemory>
+) -> Result<Edits<'a>, OutOfMemory>
     requires schema { arena.now.schema ≡ plan.now.schema }
     requires no_embeds { plan.now.schema.embeds ≡ [] }
     requires generalised { IsGeneralised (as_map arena.now) }
