@@ -130,18 +130,10 @@ module _ (m : ArenaMap) (rule : Rule) (hooks : List ℕ) (params : List Value) w
   pub find_cost : (found : Placed) (before after : ℕ) → IsAnswer m rule hooks found → ((k : ℕ) → HasPositions (as_map m) rule hooks k → after ≤ before + 8 * (m.schema.dim + 1) * (length rule.nodes * k + 1)) → after ≤ before + 8 * (m.schema.dim + 1) * (length rule.nodes * found.positions + 1)
   find_cost found before after answer cost = cost found.positions (Candidate (placement_in m found) (answer.is_found []).darts (answer.is_found []).candidate)
 
-  pub edits_within : (most dim before found_at after : ℕ) (found : Placed) → m.schema.dim ≡ dim → IsAnswer m rule hooks found → IsBudget (application_of m rule hooks params) most
-      → ((k : ℕ) → HasPositions (as_map m) rule hooks k → found_at ≤ before + 8 * (m.schema.dim + 1) * (length rule.nodes * k + 1)) → after ≤ found_at + 8 * (dim + 1) * (length rule.nodes * found.positions + 1) → after ≤ before + most
-  edits_within most dim before found_at after found same answer budget finding editing =
+  pub all_within : (most dim before found_at after : ℕ) (found : Placed) → dim ≡ m.schema.dim → IsAnswer m rule hooks found → IsBudget (application_of m rule hooks params) most
+      → ((k : ℕ) → HasPositions (as_map m) rule hooks k → found_at ≤ before + 8 * (m.schema.dim + 1) * (length rule.nodes * k + 1))
+      → after ≤ found_at + 4 * (dim + 1) * (length rule.nodes * found.positions + 1) → after ≤ before + most
+  all_within most dim before found_at after found same answer budget finding committing =
       let first = find_cost found before found_at answer finding in
-      let second : after ≤ found_at + 8 * (m.schema.dim + 1) * (length rule.nodes * found.positions + 1) = subst (λ n. after ≤ found_at + 8 * (n + 1) * (length rule.nodes * found.positions + 1)) (sym same) editing in
-      found_within most 16 before after found (omega arith) answer budget (omega (arith, first, second))
-
-  pub all_within : (most dim dim' before found_at edits_at after : ℕ) (found : Placed) → m.schema.dim ≡ dim → dim' ≡ m.schema.dim → IsAnswer m rule hooks found → IsBudget (application_of m rule hooks params) most
-      → ((k : ℕ) → HasPositions (as_map m) rule hooks k → found_at ≤ before + 8 * (m.schema.dim + 1) * (length rule.nodes * k + 1)) → edits_at ≤ found_at + 8 * (dim + 1) * (length rule.nodes * found.positions + 1)
-      → after ≤ edits_at + 4 * (dim' + 1) * (length rule.nodes * found.positions + 1) → after ≤ before + most
-  all_within most dim dim' before found_at edits_at after found same same' answer budget finding editing committing =
-      let first = find_cost found before found_at answer finding in
-      let second : edits_at ≤ found_at + 8 * (m.schema.dim + 1) * (length rule.nodes * found.positions + 1) = subst (λ n. edits_at ≤ found_at + 8 * (n + 1) * (length rule.nodes * found.positions + 1)) (sym same) editing in
-      let third : after ≤ edits_at + 4 * (m.schema.dim + 1) * (length rule.nodes * found.positions + 1) = subst (λ n. after ≤ edits_at + 4 * (n + 1) * (length rule.nodes * found.positions + 1)) same' committing in
-      found_within most 20 before after found (omega arith) answer budget (omega (arith, first, second, third))
+      let second : after ≤ found_at + 4 * (m.schema.dim + 1) * (length rule.nodes * found.positions + 1) = subst (λ n. after ≤ found_at + 4 * (n + 1) * (length rule.nodes * found.positions + 1)) same committing in
+      found_within most 12 before after found (omega arith) answer budget (omega (arith, first, second))

@@ -3,6 +3,7 @@ use Rattle.std.proofs.Common.{◌≡◌, ℕ, ◌+◌, ◌*◌, ◌<◌, ◌≤�
 use Rattle.std.proofs.lemmas.Option.{slice_get-get_or, slice_get_within}
 use Rattle.std.specs.FinMap.{get}
 use Rattle.std.specs.List.{slice_get, All, AllByRecursion, Contains}
+use Rattle.std.specs.Prelude.{slice_index}
 use Rattle.gm_model.specs.declared.rule.Side.TheVariants.{Left}
 use Rattle.gm_model.specs.declared.schema.Schema.{Schema}
 use Rattle.gm_model.specs.declared.value.Value.{Value}
@@ -39,6 +40,7 @@ use Rattle.gm_match.specs.Taken.{AreDistinct, AreDistinctBefore, IsFirstTwice}
 use Rattle.gm_match.specs.Taken.IsFirstTwice.{Twice}
 use Rattle.gm_match.proofs.Agreement.{IsCreatedBy, IsWalkedBy, IsLike, positions_parts, walked_from, candidates_agree, met_alike}
 use Rattle.gm_match.proofs.Costs.{found_cost, met_cost}
+use Rattle.gm_match.proofs.Paths.{hook_path}
 use Rattle.gm_match.proofs.Stepping.{slot_live, slot_some, meets_all, first_broken}
 
 -- ---- lists of hooks
@@ -249,6 +251,34 @@ module _ (m : ArenaMap) (rule : Rule) (hooks : List ℕ) (d : ℕ) (begun : IsBe
         go : IsPairBefore x p y q → (x ≡ y) × (p ≡ q) → ⊥
         go (inl less) (e, f) = omega arith
         go (inr (g, less)) (e, f) = omega arith
+
+    -- ---- one node
+
+    -- no two instances of one node have one slot, since no dart comes twice in a walk
+    pub one_node : (h : ℕ) → first_hook rule ≡ Some h → IsTrue (has_word rule Left h) → found.nodes ≤ 1 → AreDistinct found
+    one_node h first left one y q z r before last q_in r_in same = go before
+      where
+        walked : IsWalkedBy (as_map m) rule hooks (place_of m found) candidate.walk
+        walked = walked_from (as_map m) rule hooks (place_of m found) candidate.walk d begun.first candidate.positions
+
+        lies : (p : ℕ) → p < found.positions → name_of m (slot_at found h p) ≡ slice_index candidate.walk p
+        lies p within = candidate.forced h p [] (left, within) (hook_path rule h first)
+
+        z_in : z < found.nodes
+        z_in = elim last [
+          | inl less ↦ less
+          | inr end ↦ absurd (let k : r < 0 = end.1 in omega arith)
+        ]
+
+        is_hook : (x : ℕ) → x < found.nodes → x ≡ h
+        is_hook x h' = let k : h < found.nodes = (at.laid.nodes h).0 left in omega arith
+
+        go : IsPairBefore y q z r → ⊥
+        go (inl less) = omega (arith, z_in, one)
+        go (inr (e, less)) =
+            let within : r < length candidate.walk = subst (λ k. r < k) walked.size r_in in
+            let here : slot_at found h q ≡ slot_at found h r = subst (λ x. slot_at found x q ≡ slot_at found x r) (is_hook z z_in) (subst (λ x. slot_at found x q ≡ slot_at found z r) e same) in
+            walked.is_walk.distinct q r less within (sym (lies q q_in) ∙ ap (name_of m) here ∙ lies r r_in)
 
     -- ---- a match
 

@@ -3,11 +3,11 @@
 #![tactic(auto)]
 
 mod at;
-mod collect;
 mod commit;
 mod edits;
-mod marks;
+mod lookup;
 mod pending;
+mod rewrite;
 #[cfg(test)]
 mod tests;
 
