@@ -166,12 +166,10 @@ fn assert_held(
 #[test]
 fn file_store_saves(rt: HostRuntime) -> Result<(), Fail> {
     let mut store = FileStore::new(&rt);
-    fs::write(&rt, "saved.txt.0", "mine")?;
-    let saves: [Save<'_>; 4] = [
+    let saves: [Save<'_>; 3] = [
         ("saved.txt", b"abc", "ok", Some(b"abc")),
         ("saved.txt", b"de", "ok", Some(b"de")),
         ("missing/saved.txt", b"fg", "failed", None),
-        ("", b"hi", "failed", None),
     ];
     for (name, bytes, word, held) in saves {
         assert_eq!(rt; save_word(&mut store, name, bytes), word);
@@ -180,11 +178,29 @@ fn file_store_saves(rt: HostRuntime) -> Result<(), Fail> {
             None => assert_loads(&rt, rt.alloc(), &mut store, &[(name, 5, "failed", b"")]),
         }
     }
-    assert_held(&rt, "saved.txt.0", b"mine")?;
-    assert!(rt; !fs::exists(&rt, "saved.txt.1")?);
-    assert!(rt; !fs::exists(&rt, ".0")?);
     fs::remove_file(&rt, "saved.txt")?;
-    fs::remove_file(&rt, "saved.txt.0")?;
+    Ok(())
+}
+
+#[test]
+fn saves_leave_files_beside(rt: HostRuntime) -> Result<(), Fail> {
+    fs::write(&rt, "own.txt.0", "mine")?;
+    assert_eq!(rt;
+        save_word(&mut FileStore::new(&rt), "own.txt", b"abc"),
+        "ok"
+    );
+    assert_held(&rt, "own.txt", b"abc")?;
+    assert_held(&rt, "own.txt.0", b"mine")?;
+    assert!(rt; !fs::exists(&rt, "own.txt.1")?);
+    fs::remove_file(&rt, "own.txt")?;
+    fs::remove_file(&rt, "own.txt.0")?;
+    Ok(())
+}
+
+#[test]
+fn failed_saves_leave_nothing(rt: HostRuntime) -> Result<(), Fail> {
+    assert_eq!(rt; save_word(&mut FileStore::new(&rt), "", b"abc"), "failed");
+    assert!(rt; !fs::exists(&rt, ".0")?);
     Ok(())
 }
 
@@ -287,12 +303,12 @@ fn std_sink(rt: HostRuntime) {
 
 /// An output into a file, which takes at most so many bytes at once.
 #[derive(Drop)]
-struct Narrow<'f> {
-    file: &'f fs::File,
+struct Narrow {
+    file: fs::File,
     width: usize,
 }
 
-impl<'f> Print for Narrow<'f> {
+impl Print for Narrow {
     fn print<D: Display + Drop>(&self, _value: D) -> io::Result<()> {
         Ok(())
     }
@@ -306,7 +322,7 @@ impl<'f> Print for Narrow<'f> {
     }
 
     fn write_some(&self, bytes: &[u8]) -> io::Result<usize> {
-        let mut file = self.file;
+        let mut file = &self.file;
         file.write(&bytes[..self.width.min(bytes.len())])
     }
 }
@@ -314,18 +330,19 @@ impl<'f> Print for Narrow<'f> {
 #[test]
 fn narrow_output(rt: HostRuntime) -> Result<(), Fail> {
     let file = fs::create(&rt, "narrow.txt")?;
-    let narrow = Narrow {
-        file: &file,
-        width: 2,
-    };
+    let narrow = Narrow { file, width: 2 };
     assert_eq!(rt; put_word(&mut StdSink::new(&narrow), b"abcde"), "ok");
-    let closed = Narrow {
-        file: &file,
-        width: 0,
-    };
-    assert_eq!(rt; put_word(&mut StdSink::new(&closed), b"fg"), "failed");
-    assert_eq!(rt; put_word(&mut StdSink::new(&closed), b""), "ok");
     assert_held(&rt, "narrow.txt", b"abcde")?;
     fs::remove_file(&rt, "narrow.txt")?;
+    Ok(())
+}
+
+#[test]
+fn closed_output(rt: HostRuntime) -> Result<(), Fail> {
+    let file = fs::create(&rt, "closed.txt")?;
+    let closed = Narrow { file, width: 0 };
+    assert_eq!(rt; put_word(&mut StdSink::new(&closed), b"abcde"), "failed");
+    assert_eq!(rt; put_word(&mut StdSink::new(&closed), b""), "ok");
+    fs::remove_file(&rt, "closed.txt")?;
     Ok(())
 }
