@@ -77,6 +77,9 @@ returns-in_err-edits-clause-spare_stays g c =
     let spare = c.in_ok-reserve.ensures.spare_stays in
     omega (arith, count, spare)
 
+pub commit-requires-clause-edits : goal.commit-requires-clause-edits
+commit-requires-clause-edits g c = (pending_of c.reserve.new.self c.args.plan.now.table c.in_ok-found.found, refl, c.in_ok-edits.ensures.edits)
+
 pub commit-requires-clause-names : goal.commit-requires-clause-names
 commit-requires-clause-names g c =
     let room = c.in_ok-applied.ensures.room c.args.hooks.now c.args.params.now c.in_ok-found.ensures.answer in
