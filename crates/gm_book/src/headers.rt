@@ -20,6 +20,7 @@ pub(crate) fn value(lexer: &Lexer<'_>, token: Token) -> u64
     lexer.number(&token).unwrap_or(u64::MAX)
 }
 
+#[tactic(auto, unfolding(crate::specs::Standing::stepped))]
 pub(crate) fn at_format(lexer: &Lexer<'_>, token: Token) -> Result<State, FormFault>
     requires { IsToken lexer.now.text token }
     ensures leads { Leads lexer.now.text states.Format (word_mark lexer.now.text token) result }
@@ -31,6 +32,7 @@ pub(crate) fn at_format(lexer: &Lexer<'_>, token: Token) -> Result<State, FormFa
     Ok(State::Version)
 }
 
+#[tactic(auto, unfolding(crate::specs::Standing::stepped))]
 pub(crate) fn at_version(lexer: &Lexer<'_>, token: Token) -> Result<State, FormFault>
     requires token { IsToken lexer.now.text token }
     requires kind { token.kind ≡ Number }
@@ -43,6 +45,7 @@ pub(crate) fn at_version(lexer: &Lexer<'_>, token: Token) -> Result<State, FormF
     Ok(State::DimWord)
 }
 
+#[tactic(auto, unfolding(crate::specs::Standing::stepped))]
 pub(crate) fn at_dim_word(lexer: &Lexer<'_>, token: Token) -> Result<State, FormFault>
     requires { IsToken lexer.now.text token }
     ensures leads { Leads lexer.now.text states.DimWord (word_mark lexer.now.text token) result }
@@ -54,6 +57,7 @@ pub(crate) fn at_dim_word(lexer: &Lexer<'_>, token: Token) -> Result<State, Form
     Ok(State::Dimension)
 }
 
+#[tactic(auto, unfolding(crate::specs::Standing::stepped))]
 pub(crate) fn at_dimension(lexer: &Lexer<'_>, token: Token) -> Result<State, FormFault>
     requires token { IsToken lexer.now.text token }
     requires kind { token.kind ≡ Number }

@@ -30,6 +30,7 @@ pub(crate) struct Reader<'a> {
 }
 
 /// Behind the header, where the first rule can begin.
+#[tactic(auto, unfolding(crate::specs::Standing::stepped))]
 pub(crate) fn at_rules(lexer: &Lexer<'_>, token: Token, dim: Dim) -> Result<State, FormFault>
     requires { IsToken lexer.now.text token }
     ensures leads { Leads lexer.now.text (states.Rules dim) (word_mark lexer.now.text token) result }
@@ -46,6 +47,7 @@ pub(crate) fn at_rules(lexer: &Lexer<'_>, token: Token, dim: Dim) -> Result<Stat
     Ok(State::Name(dim, Tally::one()))
 }
 
+#[tactic(auto, unfolding(crate::specs::Standing::stepped))]
 fn at_left_item(lexer: &Lexer<'_>, token: Token, spot: Spot) -> Result<State, FormFault>
     requires token { IsToken lexer.now.text token }
     requires kind { token.kind ≡ Name }
@@ -83,6 +85,7 @@ impl<'a> Reader<'a> {
         }
     }
 
+    #[tactic(auto, unfolding(crate::specs::Standing::stepped))]
     pub fn at_name(
         &mut self,
         alloc: Global,
@@ -109,6 +112,7 @@ impl<'a> Reader<'a> {
         Ok(State::Left(dim, rules))
     }
 
+    #[tactic(auto, unfolding(crate::specs::Standing::stepped))]
     pub fn at_left(
         &mut self,
         lexer: &Lexer<'a>,
@@ -132,6 +136,7 @@ impl<'a> Reader<'a> {
         }))
     }
 
+    #[tactic(auto, unfolding(crate::specs::Standing::stepped))]
     fn at_right_item(
         &mut self,
         lexer: &Lexer<'a>,
@@ -201,6 +206,7 @@ impl<'a> Reader<'a> {
         at_left_item(lexer, token, spot)
     }
 
+    #[tactic(auto, unfolding(crate::specs::Standing::stepped))]
     fn at_right_behind(
         &mut self,
         lexer: &Lexer<'a>,
@@ -224,6 +230,7 @@ impl<'a> Reader<'a> {
         self.at_right_item(lexer, token, spot)
     }
 
+    #[tactic(auto, unfolding(crate::specs::Standing::stepped))]
     fn at_to(
         &mut self,
         lexer: &Lexer<'a>,
@@ -252,6 +259,7 @@ impl<'a> Reader<'a> {
     }
 
     /// Where a word stands.
+    #[tactic(auto, unfolding(crate::specs::Standing::stepped))]
     pub fn word(
         &mut self,
         alloc: Global,
@@ -302,6 +310,7 @@ impl<'a> Reader<'a> {
     }
 
     /// Where a sign stands. The token before it stands at the place `last`.
+    #[tactic(auto, unfolding(crate::specs::Standing::stepped))]
     fn sign(
         &mut self,
         lexer: &Lexer<'a>,
@@ -346,6 +355,7 @@ impl<'a> Reader<'a> {
     }
 
     /// The dimension, where the book can end.
+    #[tactic(auto, unfolding(crate::specs::Standing::stepped))]
     pub fn end(&mut self, state: State, place: usize) -> Result<Dim, FormFault>
         ensures within { (text : List ℕ) → IsDraftIn text self.old.draft → IsStateIn text state → IfOk result (λ dim. AllByRecursion (IsRuleIn text) self.new.draft.rules.items) }
         ensures ends { (text : List ℕ) → EndsFrom text self.old.nodes self.old.draft state place result self.new.draft }
@@ -358,6 +368,7 @@ impl<'a> Reader<'a> {
         }
     }
 
+    #[tactic(auto, unfolding(crate::specs::Standing::stepped))]
     fn end_item(&mut self, spot: Spot, place: usize) -> Result<Dim, FormFault>
         ensures within { (text : List ℕ) → IsDraftIn text self.old.draft → IfOk result (λ dim. AllByRecursion (IsRuleIn text) self.new.draft.rules.items) }
         ensures ends { (text : List ℕ) → EndsFrom text self.old.nodes self.old.draft (states.Item spot) place result self.new.draft }

@@ -17,6 +17,7 @@ use gm_model::{Dim, Letter, LimitKind, MOST_NODES, Word};
 use gm_text::{Lexer, Token};
 
 /// A letter of a word.
+#[tactic(auto, unfolding(crate::specs::Standing::stepped))]
 pub(crate) fn at_letter(
     lexer: &Lexer<'_>,
     token: Token,
@@ -45,6 +46,7 @@ pub(crate) fn at_letter(
 }
 
 /// A `_` of a word.
+#[tactic(auto, unfolding(crate::specs::Standing::stepped))]
 pub(crate) fn at_gone(spot: Spot, name: Token, word: Word, place: usize) -> Result<State, FormFault>
     ensures leads { (text : List ℕ) → Leads text (states.Letter spot name word) (record { symbol = Gone; place = place }) result }
     ensures within { (text : List ℕ) → StaysIn text (states.Letter spot name word) result }
@@ -59,6 +61,7 @@ pub(crate) fn at_gone(spot: Spot, name: Token, word: Word, place: usize) -> Resu
 }
 
 /// A sign in a word.
+#[tactic(auto, unfolding(crate::specs::Standing::stepped))]
 pub(crate) fn at_word_end(
     lexer: &Lexer<'_>,
     token: Token,
@@ -77,6 +80,7 @@ pub(crate) fn at_word_end(
 }
 
 /// A link's label.
+#[tactic(auto, unfolding(crate::specs::Standing::stepped))]
 pub(crate) fn at_label(
     lexer: &Lexer<'_>,
     token: Token,
@@ -99,6 +103,7 @@ pub(crate) fn at_label(
 }
 
 /// The sign behind a link's label.
+#[tactic(auto, unfolding(crate::specs::Standing::stepped))]
 pub(crate) fn at_dash(
     lexer: &Lexer<'_>,
     token: Token,
@@ -117,6 +122,7 @@ pub(crate) fn at_dash(
 }
 
 /// A sign behind a rule's name.
+#[tactic(auto, unfolding(crate::specs::Standing::stepped))]
 pub(crate) fn at_parameters(
     lexer: &Lexer<'_>,
     token: Token,
@@ -135,6 +141,7 @@ pub(crate) fn at_parameters(
 }
 
 /// The sign behind an item's first name, which stands at the place `last`.
+#[tactic(auto, unfolding(crate::specs::Standing::stepped))]
 pub(crate) fn at_sign<'a>(
     lexer: &Lexer<'a>,
     token: Token,
@@ -171,6 +178,7 @@ pub(crate) fn at_sign<'a>(
 }
 
 /// Where a number stands.
+#[tactic(auto, unfolding(crate::specs::Standing::stepped))]
 pub(crate) fn at_number(lexer: &Lexer<'_>, token: Token, state: State) -> Result<State, FormFault>
     requires token { IsToken lexer.now.text token }
     requires kind { token.kind ≡ Number }
@@ -187,6 +195,7 @@ pub(crate) fn at_number(lexer: &Lexer<'_>, token: Token, state: State) -> Result
 }
 
 /// Where a `_` stands.
+#[tactic(auto, unfolding(crate::specs::Standing::stepped))]
 pub(crate) fn gone(state: State, place: usize) -> Result<State, FormFault>
     ensures leads { (text : List ℕ) → Leads text state (record { symbol = Gone; place = place }) result }
     ensures within { (text : List ℕ) → StaysIn text state result }
