@@ -8,6 +8,7 @@ ghost use Rattle.gm_book.specs.Standing.{IsToken, Leads, StaysIn, word_mark, num
 
 use crate::form_fault::FormFault;
 use crate::state::State;
+use crate::words::reads;
 use gm_model::{Dim, LimitKind};
 use gm_text::{Lexer, Token};
 
@@ -26,7 +27,7 @@ pub(crate) fn at_format(lexer: &Lexer<'_>, token: Token) -> Result<State, FormFa
     ensures leads { Leads lexer.now.text states.Format (word_mark lexer.now.text token) result }
     ensures within { StaysIn lexer.now.text states.Format result }
 {
-    if lexer.text(&token) != b"book".as_slice() {
+    if !reads(lexer, token, b"book") {
         return Err(FormFault::Text { place: token.start });
     }
     Ok(State::Version)
@@ -51,7 +52,7 @@ pub(crate) fn at_dim_word(lexer: &Lexer<'_>, token: Token) -> Result<State, Form
     ensures leads { Leads lexer.now.text states.DimWord (word_mark lexer.now.text token) result }
     ensures within { StaysIn lexer.now.text states.DimWord result }
 {
-    if lexer.text(&token) != b"dim".as_slice() {
+    if !reads(lexer, token, b"dim") {
         return Err(FormFault::Text { place: token.start });
     }
     Ok(State::Dimension)

@@ -9,7 +9,7 @@ use std::hash::{Hash, Hasher};
 
 /// The bytes of a name of the text. They go into a hash in one write, where a slice's go one by
 /// one.
-#[derive(Clone, Copy, Debug)]
+#[derive(Clone, Copy)]
 pub(crate) struct NameKey<'t> {
     pub bytes: &'t [u8],
 }

@@ -18,7 +18,7 @@ use indexmap::IndexSet;
 use std::alloc::Global;
 
 /// A fault of the names of a form, and where it stands.
-#[derive(Clone, Copy, Debug, PartialEq, Eq)]
+#[derive(Clone, Copy)]
 pub(crate) enum NameFault {
     /// A rule has the name of an earlier rule, or a node that of an earlier node of its side.
     Twice { place: usize },
@@ -158,6 +158,7 @@ fn side_fault(alloc: Global, text: &[u8], items: &[Item]) -> Result<Option<NameF
     Ok(earlier(again, first_unknown(&table, text, items)))
 }
 
+#[tactic(auto, unfolding(crate::specs::FirstNameFault::rule_least))]
 fn rule_fault(alloc: Global, text: &[u8], rule: &RuleForm) -> Result<Option<NameFault>, OutOfMemory>
     requires { IsRuleIn text.now rule.now }
     ensures { IfOk result (λ fault. fault ≡ rule_least (rule_form_of text.now rule.now)) }

@@ -15,7 +15,7 @@ use crate::nodes::Nodes;
 use crate::signs::{at_dash, at_number, at_parameters, at_sign, at_word_end, gone};
 use crate::state::{Spot, State};
 use crate::tally::Tally;
-use crate::words::is_reserved;
+use crate::words::{is_reserved, reads};
 use gm_model::{Dim, LimitKind, Side, Word};
 use gm_text::{Lexer, Token, TokenKind};
 use std::alloc::Global;
@@ -36,12 +36,11 @@ pub(crate) fn at_rules(lexer: &Lexer<'_>, token: Token, dim: Dim) -> Result<Stat
     ensures leads { Leads lexer.now.text (states.Rules dim) (word_mark lexer.now.text token) result }
     ensures within { StaysIn lexer.now.text (states.Rules dim) result }
 {
-    let word = lexer.text(&token);
     let place = token.start;
-    if word == b"embed".as_slice() {
+    if reads(lexer, token, b"embed") {
         return Err(FormFault::NotBuilt { place });
     }
-    if word != b"rule".as_slice() {
+    if !reads(lexer, token, b"rule") {
         return Err(FormFault::Text { place });
     }
     Ok(State::Name(dim, Tally::one()))
@@ -57,7 +56,7 @@ fn at_left_item(lexer: &Lexer<'_>, token: Token, spot: Spot) -> Result<State, Fo
 {
     let word = lexer.text(&token);
     let place = token.start;
-    if word == b"right".as_slice() {
+    if reads(lexer, token, b"right") {
         return Ok(State::Item(Spot {
             side: Side::Right,
             links: Tally::none(),
@@ -124,7 +123,7 @@ impl<'a> Reader<'a> {
         ensures moves { Moves lexer.now.text self.old.nodes self.old.draft (states.Left dim rules) (word_mark lexer.now.text token) result self.new.nodes self.new.draft }
         ensures within { KeepsIn lexer.now.text self.old.draft (states.Left dim rules) result self.new.draft }
     {
-        if lexer.text(&token) != b"left".as_slice() {
+        if !reads(lexer, token, b"left") {
             return Err(FormFault::Text { place: token.start });
         }
         self.nodes.clear();
@@ -151,7 +150,7 @@ impl<'a> Reader<'a> {
     {
         let word = lexer.text(&token);
         let place = token.start;
-        if word == b"rule".as_slice() {
+        if reads(lexer, token, b"rule") {
             let Some(rules) = spot.rules.next() else {
                 let what = LimitKind::Rules;
                 return Err(FormFault::Limit { what, place });
@@ -159,7 +158,7 @@ impl<'a> Reader<'a> {
             self.draft.close()?;
             return Ok(State::Name(spot.dim, rules));
         }
-        if word == b"pre".as_slice() {
+        if reads(lexer, token, b"pre") {
             return Err(FormFault::NotBuilt { place });
         }
         if is_reserved(word) {
@@ -198,7 +197,7 @@ impl<'a> Reader<'a> {
         ensures moves { Moves lexer.now.text self.old.nodes self.old.draft (states.Behind spot name word) (word_mark lexer.now.text token) result self.new.nodes self.new.draft }
         ensures within { KeepsIn lexer.now.text self.old.draft (states.Behind spot name word) result self.new.draft }
     {
-        let hook = lexer.text(&token) == b"hook".as_slice();
+        let hook = reads(lexer, token, b"hook");
         self.draft.put(Side::Left, Item::Node { name, word, hook })?;
         if hook {
             return Ok(State::Item(spot));
@@ -221,7 +220,7 @@ impl<'a> Reader<'a> {
         ensures moves { Moves lexer.now.text self.old.nodes self.old.draft (states.Behind spot name word) (word_mark lexer.now.text token) result self.new.nodes self.new.draft }
         ensures within { KeepsIn lexer.now.text self.old.draft (states.Behind spot name word) result self.new.draft }
     {
-        if lexer.text(&token) == b"with".as_slice() {
+        if reads(lexer, token, b"with") {
             return Err(FormFault::NotBuilt { place: token.start });
         }
         let hook = false;
