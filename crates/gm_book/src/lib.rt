@@ -7,6 +7,7 @@ mod fault;
 mod form;
 mod form_fault;
 mod headers;
+mod key;
 mod laws;
 mod letters;
 mod names;
