@@ -1,6 +1,6 @@
 use Rattle.std.proofs.Common.{arith}
 use Rattle.gm_text.proofs.Values.{IsReadTo-more}
-use Rattle.gm_text.proofs.lexer.value_of_digits.Goals as goal
+use Rattle.gm_text.proofs.lexer.value_of_many_digits.Goals as goal
 
 pub returns-in_err-checked_mul : goal.returns-in_err-checked_mul
 returns-in_err-checked_mul c =
