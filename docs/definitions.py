@@ -8,7 +8,7 @@ of its file say where they stand. What comes out is all that is named in that wa
 to be read and believed so that the clause means what its sentence in README says. Words of the kit's
 library (`Rattle.std..`) and types of the code (`declared`) end the walk. Lines count without blank ones,
 comments and `use` lines."""
-import collections, functools, os, re, sys
+import collections, functools, glob, os, re, sys
 
 CRATES = os.path.join(os.path.dirname(os.path.dirname(os.path.abspath(__file__))), "crates")
 HEAD = re.compile(r"^\s*(?:abbrev pub|pub data|pub record|abbrev|data|record) ([^\s:({]+)")
@@ -75,16 +75,14 @@ def walk(crate, module, name, found):
 
 def clauses():
     """The clauses of `tool` by name: the text of each, and what its file imports."""
-    for crate in sorted(os.listdir(CRATES)):
-        path = f"{CRATES}/{crate}/src/tool.rt"
-        if os.path.isfile(path):
-            text, to = open(path, encoding="utf-8").read(), File("", "")
+    for path in sorted(glob.glob(f"{CRATES}/*/src/*.rt")):
+        text, to = open(path, encoding="utf-8").read(), File("", "")
+        if "pub fn tool<" in text:
             for line in text.split("\n"):
                 imports(line, to)
-            body = text[text.index("pub fn tool<") :]
-            body = body[: body.index("\n{")]
-            return dict(re.findall(r"ensures (\w+) \{(.*?)\}\n", body + "\n", re.S)), to
-    sys.exit("no crate has src/tool.rt")
+            contract = text[text.index("pub fn tool<") :].split("\n{")[0] + "\n"
+            return dict(re.findall(r"ensures (\w+) \{(.*?)\}\n", contract, re.S)), to
+    sys.exit("no crate has a function `tool`")
 
 
 def main(wanted):
