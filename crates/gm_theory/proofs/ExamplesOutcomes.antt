@@ -18,6 +18,7 @@ use Rattle.gm_theory.proofs.ExamplesMatches.{match_shown, walk_shown, positions_
 use Rattle.gm_theory.proofs.Lists.{some_same, none_some}
 use Rattle.gm_theory.proofs.RuleSteps.{word_below}
 use Rattle.gm_theory.proofs.Tests.{both_true, not_both}
+use Rattle.gm_theory.proofs.ValuesUnique.{number_made}
 use Rattle.gm_theory.proofs.Walks.{walk_unique}
 use Rattle.gm_theory.specs.Examples.{planar, four_triangles, square, square_walk, triangulation, edge, on_edge, merging, point, points_of_vertices}
 use Rattle.gm_theory.specs.ExamplesOutcomes.{drop, drop_at, on_triangle, triangle_walk, lone, merging_alone, on_lone, split_if, valueless, pair, created, late, crowded, pair_on, torn, overdue, misnamed, astray}
@@ -63,7 +64,7 @@ only_drop : (x : ℕ) → IsTrue (has_word drop Left x) → x ≡ 0
 only_drop x w = let b : x < 1 = word_below drop Left x w in omega arith
 
 drop_candidate : IsCandidate four_triangles drop (0 ∷ []) on_triangle
-drop_candidate = record { walk = triangle_walk; positions = positions_shown four_triangles drop on_triangle 0 triangle_walk refl refl refl; forced = forced_alone drop refl only_drop four_triangles on_triangle triangle_walk (λ p b. refl) }
+drop_candidate = record { count = refl; walk = triangle_walk; positions = positions_shown four_triangles drop on_triangle 0 triangle_walk refl refl refl; forced = forced_alone drop refl only_drop four_triangles on_triangle triangle_walk (λ p b. refl) }
 
 -- at its first two positions the triangle has no neighbour, at the third it has one
 pub broken_step : IsRefused (drop_at 0) (Arc 0 2 2)
@@ -94,7 +95,7 @@ repeated = Repeated on_lone 0 0 1 0 (one_live lone 0 refl) candidate meets recor
     loops (i ∷ path) c e = loops path (lone.alpha i c) (ap (lone.alpha i) e ∙ loop i)
 
     candidate : IsCandidate lone merging (0 ∷ []) on_lone
-    candidate = record { walk = 0 ∷ []; positions = positions_shown lone merging on_lone 0 (0 ∷ []) refl refl refl; forced = λ x p path at to. sym (loops path (slice_index (0 ∷ []) p) (let z : 0 ≡ p = (let b : p < 1 = at.1 in omega arith) in subst (λ q. slice_index (0 ∷ []) q ≡ 0) z refl)) }
+    candidate = record { count = refl; walk = 0 ∷ []; positions = positions_shown lone merging on_lone 0 (0 ∷ []) refl refl refl; forced = λ x p path at to. sym (loops path (slice_index (0 ∷ []) p) (let z : 0 ≡ p = (let b : p < 1 = at.1 in omega arith) in subst (λ q. slice_index (0 ∷ []) q ≡ 0) z refl)) }
 
     meets : MeetsSteps merging_alone on_lone
     meets x p i at h = met_shown lone merging on_lone x p i (step merging Left x i) (each 2 (λ j. met_test lone merging on_lone x p j (step merging Left x j)) (each 1 (λ q. each_below 2 (λ j. met_test lone merging on_lone x q j (step merging Left x j))) (each 2 (λ y. each_below 1 (λ q. each_below 2 (λ j. met_test lone merging on_lone y q j (step merging Left y j)))) refl x (word_below merging Left x at.0)) p at.1) i (omega arith))
@@ -115,7 +116,7 @@ only_split tree (suc zero) w = not_both false w refl
 only_split tree (suc (suc x)) w = not_both false w refl
 
 split_found : (tree : Tree) → IsFound (split_if tree) on_edge
-split_found tree = found_by (split_if tree) on_edge (one_live edge 0 refl) (record { walk = 0 ∷ 1 ∷ []; positions = positions_shown edge (split_if tree).rule on_edge 0 (0 ∷ 1 ∷ []) refl refl refl; forced = forced_alone (split_if tree).rule refl (only_split tree) edge on_edge (0 ∷ 1 ∷ []) (λ p b. eqb-true _ _ (each 2 (λ q. eqb q (slice_index (0 ∷ 1 ∷ []) q)) refl p b)) }) (match_shown edge (split_if tree).rule on_edge 0 (0 ∷ 1 ∷ []) refl refl refl refl)
+split_found tree = found_by (split_if tree) on_edge (one_live edge 0 refl) (record { count = refl; walk = 0 ∷ 1 ∷ []; positions = positions_shown edge (split_if tree).rule on_edge 0 (0 ∷ 1 ∷ []) refl refl refl; forced = forced_alone (split_if tree).rule refl (only_split tree) edge on_edge (0 ∷ 1 ∷ []) (λ p b. eqb-true _ _ (each 2 (λ q. eqb q (slice_index (0 ∷ 1 ∷ []) q)) refl p b)) }) (match_shown edge (split_if tree).rule on_edge 0 (0 ∷ 1 ∷ []) refl refl refl refl)
 
 pub false_pre : IsRefused (split_if (Truth false)) PreFalse
 false_pre = FalsePre on_edge (Truth false) (split_found (Truth false)) refl refl
@@ -124,7 +125,7 @@ pub valueless_pre : IsRefused (split_if valueless) PreNoValue
 valueless_pre = ValuelessPre on_edge valueless (split_found valueless) refl none
   where
     none : HasNoValue (reading_at (split_if valueless) on_edge 0) valueless
-    none v (x, y, (a, b, one, zero_b, (z, e, nonzero, made)), second, same) = nonzero (let f : values.Int z ≡ values.Int (pos 0) = sym e ∙ zero_b in cc)
+    none v (x, y, (a, b, one, zero_b, (z, e, nonzero, made)), second, same) = nonzero (let f : values.Int z ≡ values.Int (pos 0) = sym e ∙ number_made (pos 0) b zero_b in cc)
 
 -- ---- room
 
@@ -136,7 +137,7 @@ no_left (suc (suc x)) w = not_both false w refl
 pair_found : (map : Map) → IsFound (pair_on map) created
 pair_found map = record {
   darts = λ d c. absurd (let b : c.0 < 0 = c.1 in omega arith);
-  candidate = record { walk = []; positions = Created refl refl; forced = λ x p path at to. absurd (no_left x at.0) };
+  candidate = record { count = refl; walk = []; positions = Created refl refl; forced = λ x p path at to. absurd (no_left x at.0) };
   steps = λ x p i at h. absurd (no_left x at.0);
   distinct = λ x p y q r. no_left x r.first.0;
 }

@@ -18,6 +18,7 @@ pub mod Lists
 pub mod NewNames
 pub mod NoFault
 pub mod Quotients
+pub mod ReadingsTyped
 pub mod Results
 pub mod RuleSteps
 pub mod Scenes

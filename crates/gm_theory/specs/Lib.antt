@@ -1,4 +1,5 @@
 pub mod Examples
 pub mod ExamplesOutcomes
+pub mod Readings
 pub mod Theorem
 pub mod Values
