@@ -17,8 +17,12 @@ pub mod Keeps
 pub mod Lists
 pub mod NewNames
 pub mod NoFault
+pub mod OperatorsDecided
+pub mod OrbitsListed
 pub mod Quotients
+pub mod ReadingsDecided
 pub mod ReadingsTyped
+pub mod ReadingsUnits
 pub mod Results
 pub mod RuleSteps
 pub mod Scenes
