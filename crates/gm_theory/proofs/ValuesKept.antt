@@ -161,7 +161,7 @@ rules_keep_well_embedded_maps app place of_schema is_map old embedded accepted f
 
 -- ---- applications that are done
 
-done_match : (app : Application) (result : Map) (added removed : ℕ) → IsGeneralised app.map → IsAccepted app.map.schema app.rule → (done : IsDone app result added removed) → IsMatch app.map app.rule app.hooks done.place
+pub done_match : (app : Application) (result : Map) (added removed : ℕ) → IsGeneralised app.map → IsAccepted app.map.schema app.rule → (done : IsDone app result added removed) → IsMatch app.map app.rule app.hooks done.place
 done_match app result added removed old accepted done = candidate_is_match app.map app.rule done.place accepted.in_range accepted.incidence old app.hooks done.ready.found.candidate done.ready.found.steps
     (λ x p y q at at' before e. done.ready.found.distinct x p y q (record { first = at; second = at'; later = before; same = e }))
 
@@ -178,19 +178,13 @@ value_typed app place alpha is_map old accepted params found e d embed v at (Kep
 value_typed app place alpha is_map old accepted params found e d embed v at (Added x p keeper none n b f kept g) =
     subst (IsValueOf embed.kind) (sym g) (is_map.values e (place.dart_of keeper p) embed at (found.embedded.live keeper p ((both_true (has_word app.rule Left keeper) (has_word app.rule Right keeper) kept.preserved).0, b)))
 
-pub applications_keep_sound_maps : ApplicationsKeepSoundMaps
-applications_keep_sound_maps app result added removed of_schema sound accepted params done = record {
-  is_map = record {
-    below = unfolding_below s count w label here (IsDart result) result.alpha result.next done.result_is.unfolded;
-    values = λ e d embed at live. typed e d embed (subst (λ schema. IsEmbedAt schema e embed) done.result_is.schema at) live;
-  };
-  generalised = subst (λ n. IsGMap n (IsDart result) result.alpha) (sym (ap (λ (schema : Schema). schema.dim) done.result_is.schema)) (unfolding_generalised s count w label here (IsDart result) result.alpha result.next done.result_is.unfolded);
-  embedded = well_embedded app done.place of_schema sound.is_map sound.generalised sound.embedded accepted found result done.result_is;
-}
+-- the unfolding of an application that is done is generalised, with its names below the next, whatever its parameters
+pub done_lawful : (app : Application) (result : Map) (added removed : ℕ) → IsMap app.map → IsGeneralised app.map → IsAccepted app.map.schema app.rule → IsDone app result added removed → IsGeneralised result × ((d : ℕ) → IsDart result d → d < result.next)
+done_lawful app result added removed is_map old accepted done = (
+  subst (λ n. IsGMap n (IsDart result) result.alpha) (sym (ap (λ (schema : Schema). schema.dim) done.result_is.schema)) (unfolding_generalised s count w label here (IsDart result) result.alpha result.next done.result_is.unfolded),
+  unfolding_below s count w label here (IsDart result) result.alpha result.next done.result_is.unfolded,
+)
   where
-    found : IsMatch app.map app.rule app.hooks done.place
-    found = done_match app result added removed sound.generalised accepted done
-
     s : Scene
     s = scene_of app.map app.rule done.place
 
@@ -204,7 +198,20 @@ applications_keep_sound_maps app result added removed of_schema sound accepted p
     label = hook_label app.rule
 
     here : IsLawful (scene_of app.map app.rule done.place) (length app.rule.nodes) (width app.rule) (hook_label app.rule)
-    here = lawful app.map app.rule done.place accepted sound.generalised sound.is_map app.hooks found
+    here = lawful app.map app.rule done.place accepted old is_map app.hooks (done_match app result added removed old accepted done)
+
+pub applications_keep_sound_maps : ApplicationsKeepSoundMaps
+applications_keep_sound_maps app result added removed of_schema sound accepted params done = record {
+  is_map = record { below = unfolded.1; values = λ e d embed at live. typed e d embed (subst (λ schema. IsEmbedAt schema e embed) done.result_is.schema at) live };
+  generalised = unfolded.0;
+  embedded = well_embedded app done.place of_schema sound.is_map sound.generalised sound.embedded accepted found result done.result_is;
+}
+  where
+    found : IsMatch app.map app.rule app.hooks done.place
+    found = done_match app result added removed sound.generalised accepted done
+
+    unfolded : IsGeneralised result × ((d : ℕ) → IsDart result d → d < result.next)
+    unfolded = done_lawful app result added removed sound.is_map sound.generalised accepted done
 
     typed : (e d : ℕ) (embed : Embed) → IsEmbedAt app.map.schema e embed → IsDart result d → IsValueOf embed.kind (result.value e d)
     typed e d embed at live = value_typed app done.place result.alpha sound.is_map sound.generalised accepted params found e d embed (result.value e d) at (done.result_is.values e d embed at live)
