@@ -38,3 +38,4 @@ pub mod ValuesReach
 pub mod ValuesReadOff
 pub mod ValuesUnique
 pub mod Walks
+pub mod WalksFound
