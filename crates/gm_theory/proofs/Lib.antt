@@ -1,5 +1,6 @@
 pub mod Arcs
 pub mod Candidates
+pub mod CandidatesFound
 pub mod Commuting
 pub mod Corners
 pub mod ExamplesCentre
@@ -13,12 +14,15 @@ pub mod ExamplesRules
 pub mod ExamplesSplit
 pub mod ExamplesTriangulation
 pub mod ExamplesUnfoldings
+pub mod FirstFound
 pub mod Keeps
+pub mod LeastPaths
 pub mod Lists
 pub mod NewNames
 pub mod NoFault
 pub mod OperatorsDecided
 pub mod OrbitsListed
+pub mod OutcomesFound
 pub mod Quotients
 pub mod ReadingsDecided
 pub mod ReadingsTyped

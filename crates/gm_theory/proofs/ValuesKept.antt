@@ -1,6 +1,5 @@
 -- The second half of the theorem: for every generalised and well embedded map, every accepted rule and every match, the new values are determined, and the result is well embedded.
-use Rattle.std.proofs.Common.{◌≡◌, ℕ, ◌<◌, ◌≤◌, ◌⊎◌, not, false, IsTrue, List, length, Contains, Option, Some, None, slice_get, refl, sym, ◌∙◌, ap, subst, inl, inr}
-use Rattle.std.proofs.lemmas.Option.{slice_get-get_or}
+use Rattle.std.proofs.Common.{◌≡◌, ℕ, ◌<◌, ◌≤◌, ◌⊎◌, not, false, IsTrue, length, Contains, Option, Some, None, slice_get, refl, sym, ◌∙◌, ap, subst, inl, inr}
 use Rattle.gm_model.specs.declared.rule.Side.TheVariants.{Left, Right}
 use Rattle.gm_model.specs.declared.schema.Embed.{Embed}
 use Rattle.gm_model.specs.declared.schema.Schema.{Schema}
@@ -9,7 +8,7 @@ use Rattle.gm_model.specs.Acceptance.{IsAccepted}
 use Rattle.gm_model.specs.Components.{IsTogether, IsAssigned, IsUnassigned, IsInherited}
 use Rattle.gm_model.specs.NewValues.{LiesIn, IsDecidedBy, IsUndecided, IsValueAfter, Decided, Kept, Added}
 use Rattle.gm_model.specs.Orbits.{IsInOrbit}
-use Rattle.gm_model.specs.Applications.{Application, GivesValue, IsResult, IsDone, reading_at}
+use Rattle.gm_model.specs.Applications.{Application, IsFound, GivesValue, IsResult, IsDone, reading_at}
 use Rattle.gm_model.specs.Expressions.{HasValue}
 use Rattle.gm_model.specs.GMap.{IsGMap}
 use Rattle.gm_model.specs.Kinds.{AreGoodParams}
@@ -22,7 +21,7 @@ use Rattle.gm_model.specs.Unfolding.{Scene, scene_of, name_in, IsDartAfter}
 use Rattle.gm_model.specs.Values.{IsValueOf}
 use Rattle.gm_theory.proofs.Candidates.{candidate_is_match}
 use Rattle.gm_theory.proofs.Keeps.{lawful}
-use Rattle.gm_theory.proofs.Lists.{some_same, none_some}
+use Rattle.gm_theory.proofs.Lists.{some_same, none_some, contained_at}
 use Rattle.gm_theory.proofs.ReadingsTyped.{values_have_their_kinds}
 use Rattle.gm_theory.proofs.Results.{unfolding_generalised, unfolding_below, unfoldings_agree}
 use Rattle.gm_theory.proofs.Scenes.{IsLawful}
@@ -39,10 +38,7 @@ use Rattle.gm_theory.specs.Values.{HaveValues, HaveSameValues, with_values, Keep
 
 -- ---- an instance has one expression, and it has one value
 
-contained_at : {A : Type 0} (xs : List A) (x : A) (c : Contains xs x) → slice_get xs c.0 ≡ Some x
-contained_at xs x (k, b, e) = slice_get-get_or xs k x b ∙ ap Some e
-
-one_tree : (schema : Schema) (rule : Rule) → IsInRange schema rule → (x e : ℕ) (t s : Tree) → Assigns rule x e t → Assigns rule x e s → t ≡ s
+pub one_tree : (schema : Schema) (rule : Rule) → IsInRange schema rule → (x e : ℕ) (t s : Tree) → Assigns rule x e t → Assigns rule x e s → t ≡ s
 one_tree schema rule range x e t s (node, at, c) (node', at', c') = ap (λ (a : Assignment). a.tree) same
   where
     node_same : node' ≡ node
@@ -161,9 +157,9 @@ rules_keep_well_embedded_maps app place of_schema is_map old embedded accepted f
 
 -- ---- applications that are done
 
-pub done_match : (app : Application) (result : Map) (added removed : ℕ) → IsGeneralised app.map → IsAccepted app.map.schema app.rule → (done : IsDone app result added removed) → IsMatch app.map app.rule app.hooks done.place
-done_match app result added removed old accepted done = candidate_is_match app.map app.rule done.place accepted.in_range accepted.incidence old app.hooks done.ready.found.candidate done.ready.found.steps
-    (λ x p y q at at' before e. done.ready.found.distinct x p y q (record { first = at; second = at'; later = before; same = e }))
+-- what is found is a match
+pub found_match : (app : Application) (place : Placement) → IsGeneralised app.map → IsAccepted app.map.schema app.rule → IsFound app place → IsMatch app.map app.rule app.hooks place
+found_match app place old accepted found = candidate_is_match app.map app.rule place accepted.in_range accepted.incidence old app.hooks found.candidate found.steps (λ x p y q at at' before e. found.distinct x p y q (record { first = at; second = at'; later = before; same = e }))
 
 -- an expression is read at a position of a match
 pub match_reading : (app : Application) (place : Placement) → IsMap app.map → IsGeneralised app.map → IsMatch app.map app.rule app.hooks place → (p : ℕ) → p < place.positions → IsReadingOf app.rule (reading_at app place p)
@@ -198,7 +194,7 @@ done_lawful app result added removed is_map old accepted done = (
     label = hook_label app.rule
 
     here : IsLawful (scene_of app.map app.rule done.place) (length app.rule.nodes) (width app.rule) (hook_label app.rule)
-    here = lawful app.map app.rule done.place accepted old is_map app.hooks (done_match app result added removed old accepted done)
+    here = lawful app.map app.rule done.place accepted old is_map app.hooks (found_match app done.place old accepted done.ready.found)
 
 pub applications_keep_sound_maps : ApplicationsKeepSoundMaps
 applications_keep_sound_maps app result added removed of_schema sound accepted params done = record {
@@ -208,7 +204,7 @@ applications_keep_sound_maps app result added removed of_schema sound accepted p
 }
   where
     found : IsMatch app.map app.rule app.hooks done.place
-    found = done_match app result added removed sound.generalised accepted done
+    found = found_match app done.place sound.generalised accepted done.ready.found
 
     unfolded : IsGeneralised result × ((d : ℕ) → IsDart result d → d < result.next)
     unfolded = done_lawful app result added removed sound.is_map sound.generalised accepted done

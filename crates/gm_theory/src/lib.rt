@@ -4,11 +4,13 @@
 
 #[cfg(test)]
 mod examples;
+mod outcomes;
 mod readings;
 mod values;
 
 ghost use Rattle.gm_theory.specs.Theorem.{RulesKeepGeneralisedMaps};
 
+pub use outcomes::applications_have_outcomes;
 pub use readings::{readings_are_determined, values_have_their_kinds};
 pub use values::{applications_keep_sound_maps, keeps_well_embedded_maps};
 
