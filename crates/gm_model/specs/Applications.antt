@@ -154,13 +154,18 @@ module _ (app : Application) where
 
   -- ---- the outcome
 
+  -- The map has the darts and arcs of the unfolding, and on each dart the values that the application gives it: each
+  -- deciding instance has a value, and it is the value of its orbit.
+  pub record IsResult (place : Placement) (result : Map) : Type 0 where
+    pub schema : result.schema ≡ app.map.schema
+    pub unfolded : IsUnfolding (scene_of app.map app.rule place) (IsDart result) result.alpha result.next
+    pub values : (e d : ℕ) (embed : Embed) → IsEmbedAt app.map.schema e embed → IsDart result d → IsValueAfter app.map app.rule place result.alpha e (type_of embed) (GivesValue place e) d (result.value e d)
+
   -- done, with this map as the result, and so many darts added and removed
   pub record IsDone (result : Map) (added removed : ℕ) : Type 0 where
     pub place : Placement
     pub ready : IsReady place
-    pub schema : result.schema ≡ app.map.schema
-    pub unfolded : IsUnfolding (scene_of app.map app.rule place) (IsDart result) result.alpha result.next
-    pub values : (e d : ℕ) (embed : Embed) → IsEmbedAt app.map.schema e embed → IsDart result d → IsValueAfter app.map app.rule place result.alpha e (type_of embed) (GivesValue place e) d (result.value e d)
+    pub result_is : IsResult place result
     pub added_is : added ≡ more place
     pub removed_is : HasCount (IsGone (scene_of app.map app.rule place)) removed
 

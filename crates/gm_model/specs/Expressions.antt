@@ -12,11 +12,11 @@ use Rattle.gm_model.specs.declared.value.Value.TheVariants as values
 use Rattle.gm_model.specs.declared.word.Mask.{Mask}
 use Rattle.gm_model.specs.Kinds.{sum_kind}
 use Rattle.gm_model.specs.Labels.{has}
-use Rattle.gm_model.specs.Maps.{Map, IsInValueRange}
+use Rattle.gm_model.specs.Maps.{Map}
 use Rattle.gm_model.specs.Matches.{Placement}
 use Rattle.gm_model.specs.Orbits.{follow, IsInOrbit, IsListOf, HasCount}
 use Rattle.gm_model.specs.Trees.{Tree, Number, Truth, Param, Field, Same, Count, Sum, Least, Greatest, Unary, Binary, If, MakeVec2, MakeVec3, MakeRgb}
-use Rattle.gm_model.specs.Values.{kind_of}
+use Rattle.gm_model.specs.Values.{kind_of, IsValueOf}
 
 -- ---- values and their components
 
@@ -31,9 +31,8 @@ components (values.Rgb r g b) = pos r ∷ pos g ∷ pos b ∷ []
 -- v is the value of the kind with these components, which are in its range; a truth has none, and isn't made so
 pub record IsMade (kind : Kind) (parts : List ℤ) (v : Value) : Type 0 where
   pub numbers : kind ≢ kinds.Bool
-  pub kind_is : kind_of v ≡ kind
+  pub is_value : IsValueOf kind v
   pub parts_are : components v ≡ parts
-  pub range : IsInValueRange v
 
 abbrev pub by_component : (ℤ → ℤ → ℤ) → List ℤ → List ℤ → List ℤ
 by_component f [] ys = []
@@ -81,7 +80,7 @@ abbrev pub IsQuotient : Value → Value → Value → Type 0
 IsQuotient a b v = (y : ℤ) × (b ≡ values.Int y) × (y ≢ pos 0) × IsMade (kind_of a) (map (λ x. floor x y) (components a)) v
 
 abbrev pub IsRemainder : Value → Value → Value → Type 0
-IsRemainder a b v = (x : ℤ) × (y : ℤ) × (a ≡ values.Int x) × (b ≡ values.Int y) × (y ≢ pos 0) × (v ≡ values.Int (x -ℤ (y *ℤ floor x y)))
+IsRemainder a b v = (x : ℤ) × (y : ℤ) × (a ≡ values.Int x) × (b ≡ values.Int y) × (y ≢ pos 0) × IsMade kinds.Int ((x -ℤ (y *ℤ floor x y)) ∷ []) v
 
 -- the test of two numbers, of two truths
 abbrev pub IsTest : (ℤ → ℤ → Bool) → Value → Value → Value → Type 0
@@ -132,20 +131,20 @@ module _ (reading : Reading) where
 
   -- the expression has this value there
   abbrev pub HasValue : Tree → Value → Type 0
-  HasValue (Number n) v = v ≡ values.Int n
+  HasValue (Number n) v = IsMade kinds.Int (n ∷ []) v
   HasValue (Truth b) v = v ≡ values.Bool b
   HasValue (Param k) v = slice_get reading.params k ≡ Some v
   HasValue (Field d e) v = v ≡ reading.map.value e (dart_at d)
   HasValue (Same d d') v = v ≡ values.Bool (dart_at d == dart_at d')
-  HasValue (Count o d) v = (count : ℕ) × HasCount (IsCollected o d) count × (v ≡ values.Int (pos count))
+  HasValue (Count o d) v = (count : ℕ) × HasCount (IsCollected o d) count × IsMade kinds.Int (pos count ∷ []) v
   HasValue (Sum o d e) v = IsSum o d e v
   HasValue (Least o d e) v = IsFirstOf ◌≤ℤ◌ o d e v
   HasValue (Greatest o d e) v = IsFirstOf (λ x y. y ≤ℤ x) o d e v
   HasValue (Unary op a) v = (x : Value) × HasValue a x × IsUnary op x v
   HasValue (Binary op a b) v = (x : Value) × (y : Value) × HasValue a x × HasValue b y × IsBinary op x y v
   HasValue (If c a b) v = (HasValue c (values.Bool true) × HasValue a v) ⊎ (HasValue c (values.Bool false) × HasValue b v)
-  HasValue (MakeVec2 a b) v = (x : ℤ) × (y : ℤ) × HasValue a (values.Int x) × HasValue b (values.Int y) × (v ≡ values.Vec2 x y)
-  HasValue (MakeVec3 a b c) v = (x : ℤ) × (y : ℤ) × (z : ℤ) × HasValue a (values.Int x) × HasValue b (values.Int y) × HasValue c (values.Int z) × (v ≡ values.Vec3 x y z)
+  HasValue (MakeVec2 a b) v = (x : ℤ) × (y : ℤ) × HasValue a (values.Int x) × HasValue b (values.Int y) × IsMade kinds.Vec2 (x ∷ y ∷ []) v
+  HasValue (MakeVec3 a b c) v = (x : ℤ) × (y : ℤ) × (z : ℤ) × HasValue a (values.Int x) × HasValue b (values.Int y) × HasValue c (values.Int z) × IsMade kinds.Vec3 (x ∷ y ∷ z ∷ []) v
   HasValue (MakeRgb a b c) v = (x : ℤ) × (y : ℤ) × (z : ℤ) × HasValue a (values.Int x) × HasValue b (values.Int y) × HasValue c (values.Int z) × IsMade kinds.Rgb (x ∷ y ∷ z ∷ []) v
 
   abbrev pub HasNoValue : Tree → Type 0

@@ -1,6 +1,6 @@
 -- Which expressions have a kind, and which kinds a rule's expressions must have.
-use Rattle.std.specs.Prelude.{◌≡◌, ℕ, ◌≤◌, ◌<◌, List, length, Option, Some, None, slice_get, IsTrue}
-use Rattle.std.specs.List.{AllByRecursion}
+use Rattle.std.specs.Prelude.{◌≡◌, ℕ, ◌≤◌, ◌<◌, List, length, map, Option, Some, None, slice_get, IsTrue}
+use Rattle.std.specs.List.{AllByRecursion, AllZip}
 use Rattle.std.specs.Option.{option_map, option_and_then}
 use Rattle.gm_model.specs.declared.expr.BinOp.{BinOp}
 use Rattle.gm_model.specs.declared.expr.BinOp.TheVariants as ops
@@ -13,10 +13,12 @@ use Rattle.gm_model.specs.declared.schema.Embed.{Embed}
 use Rattle.gm_model.specs.declared.schema.Schema.{Schema}
 use Rattle.gm_model.specs.declared.value.Kind.{Kind}
 use Rattle.gm_model.specs.declared.value.Kind.TheVariants.{Int, Bool, Vec2, Vec3, Rgb}
+use Rattle.gm_model.specs.declared.value.Value.{Value}
 use Rattle.gm_model.specs.declared.word.Mask.{Mask}
 use Rattle.gm_model.specs.Labels.{has}
 use Rattle.gm_model.specs.Maps.{IsEmbedAt}
 use Rattle.gm_model.specs.Rules.{Rule, Assigns, has_word}
+use Rattle.gm_model.specs.Values.{IsValueOf}
 use Rattle.gm_model.specs.Trees.{Tree, Number, Truth, Param as Parameter, Field, Same, Count, Sum, Least, Greatest, Unary, Binary, If, MakeVec2, MakeVec3, MakeRgb}
 
 -- ---- the table of kinds
@@ -109,7 +111,12 @@ with_two f a b = option_and_then (λ i. option_and_then (f i) b) a
 abbrev pub with_three : (Kind → Kind → Kind → Option Kind) → Option Kind → Option Kind → Option Kind → Option Kind
 with_three f a b c = option_and_then (λ i. with_two (f i) b c) a
 
-module _ (embeds : List Embed) (params : List Param) where
+-- the kinds of the parameters
+abbrev pub param_kinds : List Param → List Kind
+param_kinds params = map (λ (param : Param). param.kind) params
+
+-- over the embeddings, and the kinds of the parameters
+module _ (embeds : List Embed) (params : List Kind) where
   abbrev pub embed_kind : ℕ → Option Kind
   embed_kind e = option_map (λ (embed : Embed). embed.kind) (slice_get embeds e)
 
@@ -117,7 +124,7 @@ module _ (embeds : List Embed) (params : List Param) where
   abbrev pub tree_kind : Tree → Option Kind
   tree_kind (Number n) = Some Int
   tree_kind (Truth b) = Some Bool
-  tree_kind (Parameter k) = option_map (λ (param : Param). param.kind) (slice_get params k)
+  tree_kind (Parameter k) = slice_get params k
   tree_kind (Field d e) = embed_kind e
   tree_kind (Same d d') = Some Bool
   tree_kind (Count o d) = Some Int
@@ -166,9 +173,15 @@ module _ (schema : Schema) (rule : Rule) where
   -- the tree is in range, and has the kind
   pub record HasKind (tree : Tree) (kind : Kind) : Type 0 where
     pub in_range : IsTreeInRange tree
-    pub kind_is : tree_kind schema.embeds rule.params tree ≡ Some kind
+    pub kind_is : tree_kind schema.embeds (param_kinds rule.params) tree ≡ Some kind
 
   -- each expression has the kind that its place needs
   pub record IsTyped : Type 0 where
     pub pre : (tree : Tree) → rule.pre ≡ Some tree → HasKind tree Bool
     pub sets : (x e : ℕ) (tree : Tree) (embed : Embed) → Assigns rule x e tree → IsEmbedAt schema e embed → HasKind tree embed.kind
+
+-- ---- parameters
+
+-- a value for each parameter, one of its kind
+abbrev pub AreGoodParams : Rule → List Value → Type 0
+AreGoodParams rule values = AllZip IsValueOf (param_kinds rule.params) values

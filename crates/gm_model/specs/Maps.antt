@@ -1,16 +1,14 @@
 -- What a map is, apart from how it is kept: which darts are live, their neighbours, their values, and the next name.
-use Rattle.std.specs.Prelude.{◌≡◌, ◌≢◌, ℕ, ◌<◌, ◌≤◌, Bool, length, slice_get, Some, IsTrue, FitsSigned}
-use Rattle.std.specs.Int.{w64}
+use Rattle.std.specs.Prelude.{◌≡◌, ◌≢◌, ℕ, ◌<◌, ◌≤◌, Bool, length, slice_get, Some, IsTrue}
 use Rattle.gm_model.specs.declared.schema.Schema.{Schema}
 use Rattle.gm_model.specs.declared.schema.Embed.{Embed}
 use Rattle.gm_model.specs.declared.value.Kind.TheVariants as kinds
 use Rattle.gm_model.specs.declared.value.Value.{Value}
-use Rattle.gm_model.specs.declared.value.Value.TheVariants as values
 use Rattle.gm_model.specs.GMap.{IsGMap}
 use Rattle.gm_model.specs.Labels.{has}
 use Rattle.gm_model.specs.Names.{IsReserved}
 use Rattle.gm_model.specs.Orbits.{Labels, IsInOrbit}
-use Rattle.gm_model.specs.Values.{kind_of}
+use Rattle.gm_model.specs.Values.{IsValueOf}
 
 pub record Map : Type 0 where
   pub schema : Schema
@@ -46,19 +44,10 @@ pub record IsSchema (schema : Schema) : Type 0 where
 
 -- ---- what holds of a map
 
--- the numbers of a value lie in the range of its kind
-abbrev pub IsInValueRange : Value → Type 0
-IsInValueRange (values.Int x) = FitsSigned w64 x
-IsInValueRange (values.Bool b) = Unit {0}
-IsInValueRange (values.Vec2 x y) = FitsSigned w64 x × FitsSigned w64 y
-IsInValueRange (values.Vec3 x y z) = FitsSigned w64 x × FitsSigned w64 y × FitsSigned w64 z
-IsInValueRange (values.Rgb r g b) = (r < 256) × (g < 256) × (b < 256)
-
--- each name lies below the next, and each value is of its kind
+-- each name lies below the next, and each value is one of its embedding's kind
 pub record IsMap (map : Map) : Type 0 where
   pub below : (d : ℕ) → IsDart map d → d < map.next
-  pub kind : (e d : ℕ) (embed : Embed) → IsEmbedAt map.schema e embed → IsDart map d → kind_of (map.value e d) ≡ embed.kind
-  pub range : (e d : ℕ) (embed : Embed) → IsEmbedAt map.schema e embed → IsDart map d → IsInValueRange (map.value e d)
+  pub values : (e d : ℕ) (embed : Embed) → IsEmbedAt map.schema e embed → IsDart map d → IsValueOf embed.kind (map.value e d)
 
 -- it is a generalised map of its dimension
 abbrev pub IsGeneralised : Map → Type 0
@@ -71,3 +60,9 @@ IsConstantOnOrbits IsLive alpha value o = (d d' : ℕ) → IsLive d → IsInOrbi
 -- any two darts of one orbit of an embedding's type have the same value of it
 abbrev pub IsWellEmbedded : Map → Type 0
 IsWellEmbedded map = (e : ℕ) (embed : Embed) → IsEmbedAt map.schema e embed → IsConstantOnOrbits (IsDart map) map.alpha (map.value e) (type_of embed)
+
+-- what is asked of a map, and what each application leaves: a generalised map, well embedded
+pub record IsSound (map : Map) : Type 0 where
+  pub is_map : IsMap map
+  pub generalised : IsGeneralised map
+  pub embedded : IsWellEmbedded map

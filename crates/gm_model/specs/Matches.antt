@@ -56,6 +56,8 @@ IsHooked rule place walk = (h p : ℕ) → first_hook rule ≡ Some h → p < pl
 
 -- a match of the rule at these hook darts
 pub record IsMatch (map : Map) (rule : Rule) (hooks : List ℕ) (place : Placement) : Type 0 where
+  -- a dart for each hook
+  pub count : length hooks ≡ length rule.hooks
   pub walk : List ℕ
   pub positions : ArePositions map rule place hooks walk
   pub hooked : IsHooked rule place walk
@@ -82,6 +84,8 @@ abbrev pub IsForced : Map → Rule → Placement → List ℕ → Type 0
 IsForced map rule place walk = (x p : ℕ) (path : List ℕ) → IsInstance rule place x p → IsPathTo rule x path → place.dart_of x p ≡ follow map.alpha path (slice_index walk p)
 
 pub record IsCandidate (map : Map) (rule : Rule) (hooks : List ℕ) (place : Placement) : Type 0 where
+  -- a dart for each hook
+  pub count : length hooks ≡ length rule.hooks
   pub walk : List ℕ
   pub positions : ArePositions map rule place hooks walk
   pub forced : IsForced map rule place walk

@@ -109,6 +109,7 @@ module _ (map : Map) (rule : Rule) (place : Placement) (in_range : IsInRange map
   -- so a match is the candidate
   pub match_is_candidate : (hooks : List ℕ) → IsMatch map rule hooks place → IsCandidate map rule hooks place
   match_is_candidate hooks found = record {
+    count = found.count;
     walk = found.walk;
     positions = found.positions;
     forced = λ x p path at to. steps_follow found.embedded.steps path to.hook x p at.1 to.leads ∙ ap (follow map.alpha path) (found.hooked to.hook p to.first at.1);
@@ -141,6 +142,7 @@ module _ (map : Map) (rule : Rule) (place : Placement) (in_range : IsInRange map
   pub candidate_is_match : IsGeneralised map → (hooks : List ℕ) → IsCandidate map rule hooks place → MeetsEach → ((x p y q : ℕ) → IsInstance rule place x p → IsInstance rule place y q → IsPairBefore x p y q → place.dart_of x p ≢ place.dart_of y q) →
       IsMatch map rule hooks place
   candidate_is_match old hooks candidate met distinct = record {
+    count = candidate.count;
     walk = candidate.walk;
     positions = candidate.positions;
     hooked = hooked;

@@ -8,24 +8,23 @@ use Rattle.gm_model.specs.declared.value.Kind.TheVariants as kinds
 use Rattle.gm_model.specs.declared.value.Value.{Value}
 use Rattle.gm_model.specs.declared.value.Value.TheVariants as values
 use Rattle.gm_model.specs.declared.word.Letter.TheVariants.{At}
-use Rattle.gm_model.specs.Applications.{GivesValue, reading_at}
+use Rattle.gm_model.specs.Applications.{GivesValue, IsResult, reading_at}
 use Rattle.gm_model.specs.Components.{IsKeeper}
-use Rattle.gm_model.specs.Expressions.{IsCollected, IsSum, IsQuotient}
+use Rattle.gm_model.specs.Expressions.{IsCollected, IsMade, IsSum, IsQuotient}
 use Rattle.gm_model.specs.Labels.{has}
-use Rattle.gm_model.specs.Maps.{Map, IsDart, IsMap, IsSchema, IsWellEmbedded, IsConstantOnOrbits, IsEmbedAt, IsInValueRange, type_of}
+use Rattle.gm_model.specs.Maps.{Map, IsDart, IsMap, IsSchema, IsWellEmbedded, IsConstantOnOrbits, IsEmbedAt, type_of}
 use Rattle.gm_model.specs.Names.{reserved, IsReserved}
 use Rattle.gm_model.specs.NewValues.{IsDecidedBy, IsUndecided, IsValueAfter, Decided, Kept, Added}
 use Rattle.gm_model.specs.Orbits.{Labels, IsPathIn, IsInOrbit, IsListOf, HasCount, IsPairBefore, follow}
 use Rattle.gm_model.specs.Unfolding.{name_in}
-use Rattle.gm_model.specs.Values.{kind_of}
+use Rattle.gm_model.specs.Values.{IsValueOf}
 use Rattle.gm_theory.proofs.ExamplesChecks.{each_below, each, ◌implies◌, implied, has_number, number_contained}
-use Rattle.gm_theory.proofs.ExamplesMaps.{mask_labels, table_test, table_shown, constant_by_steps, is_point, point_kind, point_range, same_point, point_shown}
+use Rattle.gm_theory.proofs.ExamplesMaps.{mask_labels, table_test, table_shown, constant_by_steps, is_point, small_fits, point_value, same_point, point_shown}
 use Rattle.gm_theory.proofs.ExamplesMatches.{walk_shown}
 use Rattle.gm_theory.proofs.ExamplesTriangulation.{only_points, assigned_new, assigns_centre, unfolded}
 use Rattle.gm_theory.proofs.Tests.{both_true, not_both}
 use Rattle.gm_theory.proofs.ValuesJoined.{joined_by_link}
 use Rattle.gm_theory.specs.Examples.{neighbour, planar, labels_01, labels_12, centre, triangulation, square, square_table, square_walk, on_square, corners, four_triangles, triangles_table, triangles_points, triangulating, point, origin, map_of, IsLawfulExample}
-use Rattle.gm_theory.specs.Values.{HasNewValues}
 
 -- ---- both maps
 
@@ -68,8 +67,7 @@ module _ (table : List (List ℕ)) (points : List Value) where
   shown_map : IsTrue points_test → IsMap planar_map
   shown_map t = record {
     below = λ d live. ltb-true d (length table) live;
-    kind = λ e d embed at live. only_points (λ e' embed'. kind_of (planar_map.value e' d) ≡ embed'.kind) (point_kind (slice_index_or points d origin) (each (length table) _ t d (ltb-true d (length table) live))) e embed at;
-    range = λ e d embed at live. only_points (λ e' embed'. IsInValueRange (planar_map.value e' d)) (point_range (slice_index_or points d origin) (each (length table) _ t d (ltb-true d (length table) live))) e embed at;
+    values = λ e d embed at live. only_points (λ e' embed'. IsValueOf embed'.kind (planar_map.value e' d)) (point_value (slice_index_or points d origin) (each (length table) _ t d (ltb-true d (length table) live))) e embed at;
   }
 
   abbrev constant_test : Bool
@@ -89,7 +87,7 @@ module _ (table : List (List ℕ)) (points : List Value) where
           (both.0, point_shown _ _ both.1)
 
   shown_lawful : IsTrue (table_test planar table points) → IsTrue points_test → IsTrue constant_test → IsLawfulExample planar_map
-  shown_lawful a b c = record { schema = planar_schema; is_map = shown_map b; generalised = table_shown planar table points a; embedded = shown_embedded c }
+  shown_lawful a b c = record { schema = planar_schema; sound = record { is_map = shown_map b; generalised = table_shown planar table points a; embedded = shown_embedded c } }
 
 pub square_lawful : IsLawfulExample square
 square_lawful = shown_lawful square_table corners refl refl refl
@@ -127,19 +125,19 @@ walk_is_face = record {
       where
         stays : (path : List ℕ) (c : ℕ) → c < 8 → IsPathIn (has labels_01) path → follow square.alpha path c < 8
         stays [] c b all = b
-        stays (i ∷ path) c b all = stays path (square.alpha i c) (ltb-true _ _ (square_lawful.generalised.stays c i (lt-ltb c 8 b) (mask_labels 2 labels_01 i (omega arith) all.0))) all.1
+        stays (i ∷ path) c b all = stays path (square.alpha i c) (ltb-true _ _ (square_lawful.sound.generalised.stays c i (lt-ltb c 8 b) (mask_labels 2 labels_01 i (omega arith) all.0))) all.1
 
 centre_value : GivesValue triangulating on_square 0 2 0 (point 2 2)
 centre_value = (centre, (assigns_centre (At 1 ∷ At 2 ∷ []), omega arith), (values.Vec3 (pos 16) (pos 16) (pos 0), values.Int (pos 8), sum, count, quotient))
   where
     sum : IsSum (reading_at triangulating on_square 0) labels_01 (record { node = 0; path = [] }) 0 (values.Vec3 (pos 16) (pos 16) (pos 0))
-    sum = (square_walk, walk_is_face, kinds.Vec3, refl, record { numbers = λ f. absurd (cc); kind_is = refl; parts_are = refl; range = point_range (values.Vec3 (pos 16) (pos 16) (pos 0)) refl })
+    sum = (square_walk, walk_is_face, kinds.Vec3, refl, record { numbers = λ f. absurd (cc); is_value = point_value (values.Vec3 (pos 16) (pos 16) (pos 0)) refl; parts_are = refl })
 
-    count : (n : ℕ) × HasCount (IsCollected (reading_at triangulating on_square 0) labels_01 (record { node = 0; path = [] })) n × (values.Int (pos 8) ≡ values.Int (pos n))
-    count = (8, (square_walk, walk_is_face, refl), refl)
+    count : (n : ℕ) × HasCount (IsCollected (reading_at triangulating on_square 0) labels_01 (record { node = 0; path = [] })) n × IsMade kinds.Int (pos n ∷ []) (values.Int (pos 8))
+    count = (8, (square_walk, walk_is_face, refl), record { numbers = λ f. absurd (cc); is_value = record { kind_is = refl; range = small_fits (pos 8) refl }; parts_are = refl })
 
     quotient : IsQuotient (values.Vec3 (pos 16) (pos 16) (pos 0)) (values.Int (pos 8)) (point 2 2)
-    quotient = (pos 8, refl, (λ f. absurd (cc)), record { numbers = λ f. absurd (cc); kind_is = refl; parts_are = refl; range = point_range (point 2 2) refl })
+    quotient = (pos 8, refl, (λ f. absurd (cc)), record { numbers = λ f. absurd (cc); is_value = point_value (point 2 2) refl; parts_are = refl })
 
 -- ---- which darts are decided
 
@@ -192,7 +190,7 @@ value_at d b = go (cases_lt d 8) (cases_lt d 16)
         Added 1 (d - 8) 0 (undecided d k) refl (omega arith) at keeper (ap (four_triangles.value 0) at ∙ new_value (d - 8) (omega arith))
     go (inr h) (inr k) = Decided 2 0 (decided d k b) (subst (GivesValue triangulating on_square 0 2 0) (sym (point_shown _ _ (implied (leb 16 d) _ (each 24 (λ c. leb 16 c implies same_point (four_triangles.value 0 c) (point 2 2)) refl d b) (le-leb 16 d k)))) centre_value)
 
-pub triangulated : HasNewValues triangulating on_square four_triangles
+pub triangulated : IsResult triangulating on_square four_triangles
 triangulated = record {
   schema = refl;
   unfolded = unfolded;

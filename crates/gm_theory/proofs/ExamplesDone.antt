@@ -28,6 +28,7 @@ use Rattle.gm_theory.proofs.ExamplesUnfoldings.{unfolding_shown}
 use Rattle.gm_theory.proofs.Lists.{some_same, none_some}
 use Rattle.gm_theory.proofs.RuleSteps.{word_below}
 use Rattle.gm_theory.proofs.Tests.{both_true, not_true, not_both}
+use Rattle.gm_theory.proofs.ValuesUnique.{number_made}
 use Rattle.gm_theory.specs.Examples.{square, square_walk, on_square, four_triangles, triangulation, triangulating, centre, labels_12, points_of_vertices, kept_node}
 use Rattle.gm_theory.specs.ExamplesOutcomes.{spoiling, spoiling_square, on_corner}
 
@@ -56,15 +57,13 @@ ready = record {
 }
   where
     candidate : IsCandidate square triangulation (0 ∷ []) on_square
-    candidate = record { walk = square_walk; positions = positions_shown square triangulation on_square 0 square_walk refl refl refl; forced = forced_alone triangulation refl only_a square on_square square_walk (λ p b. refl) }
+    candidate = record { count = refl; walk = square_walk; positions = positions_shown square triangulation on_square 0 square_walk refl refl refl; forced = forced_alone triangulation refl only_a square on_square square_walk (λ p b. refl) }
 
 pub done : IsDone triangulating four_triangles 16 0
 done = record {
   place = on_square;
   ready = ready;
-  schema = refl;
-  unfolded = unfolded;
-  values = triangulated.values;
+  result_is = triangulated;
   added_is = refl;
   removed_is = ([], record { distinct = λ p q b c e. absurd (omega arith); same = λ d. ((λ c. absurd (let b : c.0 < 0 = c.1 in omega arith)), (λ g. absurd (none_gone d g))) }, refl);
 }
@@ -188,7 +187,7 @@ assigns_spoiled = (kept_node (codes "a") (At 1 ∷ At 2 ∷ []) (At 1 ∷ At 2 �
 
 spoiling_ready : IsReady spoiling_square on_corner
 spoiling_ready = record {
-  found = found_by spoiling_square on_corner (one_live square 1 refl) (record { walk = 1 ∷ 2 ∷ []; positions = positions_shown square spoiling on_corner 1 (1 ∷ 2 ∷ []) refl refl refl; forced = forced_alone spoiling refl only_spoiled square on_corner (1 ∷ 2 ∷ []) (λ p b. refl) }) (match_shown square spoiling on_corner 1 (1 ∷ 2 ∷ []) refl refl refl refl);
+  found = found_by spoiling_square on_corner (one_live square 1 refl) (record { count = refl; walk = 1 ∷ 2 ∷ []; positions = positions_shown square spoiling on_corner 1 (1 ∷ 2 ∷ []) refl refl refl; forced = forced_alone spoiling refl only_spoiled square on_corner (1 ∷ 2 ∷ []) (λ p b. refl) }) (match_shown square spoiling on_corner 1 (1 ∷ 2 ∷ []) refl refl refl refl);
   pre = λ tree e. none_some tree e;
   live = 8;
   live_is = numbers_listed (IsStaying spoiling_square on_corner) 8 (λ d. ((λ s. ltb-true d 8 s.0), (λ h. (lt-ltb d 8 h, none_spoiled d))));
@@ -214,7 +213,7 @@ no_value = Valueless on_corner square.live square.alpha (record { embed = 0; nod
     earlier other (inr (e, b)) = first other.node other.position b
 
     no_quotient : (v : Value) → HasValue (reading_at spoiling_square on_corner 0) spoiled v → ⊥
-    no_quotient v (a, b, field, zero_b, (y, e, nonzero, made)) = nonzero (let f : values.Int y ≡ values.Int (pos 0) = sym e ∙ zero_b in cc)
+    no_quotient v (a, b, field, zero_b, (y, e, nonzero, made)) = nonzero (let f : values.Int y ≡ values.Int (pos 0) = sym e ∙ number_made (pos 0) b zero_b in cc)
 
     only_tree : (tree : Tree) → Contains (sets_of spoiling 0) (record { embed = 0; tree = tree }) → spoiled ≡ tree
     only_tree tree (zero, b, e) = ap (λ (s : Assignment). s.tree) e

@@ -10,9 +10,9 @@ use Rattle.gm_model.specs.declared.value.Value.{Value}
 use Rattle.gm_model.specs.declared.value.Value.TheVariants as values
 use Rattle.gm_model.specs.declared.word.Mask.{Mask}
 use Rattle.gm_model.specs.Labels.{has}
-use Rattle.gm_model.specs.Maps.{IsConstantOnOrbits, IsGeneralised, IsInValueRange}
+use Rattle.gm_model.specs.Maps.{IsConstantOnOrbits, IsGeneralised}
 use Rattle.gm_model.specs.Orbits.{Labels, IsPathIn, follow}
-use Rattle.gm_model.specs.Values.{kind_of}
+use Rattle.gm_model.specs.Values.{IsInValueRange, IsValueOf, kind_of}
 use Rattle.gm_theory.proofs.ExamplesChecks.{each_below, each, ◌implies◌, implied}
 use Rattle.gm_theory.proofs.Tests.{both_true, not_both}
 use Rattle.gm_theory.specs.Examples.{Table, neighbour, map_of}
@@ -67,23 +67,27 @@ is_point (values.Bool b) = false
 is_point (values.Vec2 x y) = false
 is_point (values.Rgb r g b) = false
 
-small_fits : (x : ℤ) → IsTrue (small x) → FitsSigned w64 x
+pub small_fits : (x : ℤ) → IsTrue (small x) → FitsSigned w64 x
 small_fits (pos n) h = let b : n ≤ 1000 = leb-true n 1000 h in fits_signed_from_abs w64 (pos n) (omega arith)
 small_fits (negsuc n) h = not_both false h refl
 
-pub point_kind : (v : Value) → IsTrue (is_point v) → kind_of v ≡ kinds.Vec3
+point_kind : (v : Value) → IsTrue (is_point v) → kind_of v ≡ kinds.Vec3
 point_kind (values.Vec3 x y z) h = refl
 point_kind (values.Int x) h = not_both false h refl
 point_kind (values.Bool b) h = not_both false h refl
 point_kind (values.Vec2 x y) h = not_both false h refl
 point_kind (values.Rgb r g b) h = not_both false h refl
 
-pub point_range : (v : Value) → IsTrue (is_point v) → IsInValueRange v
+point_range : (v : Value) → IsTrue (is_point v) → IsInValueRange v
 point_range (values.Vec3 x y z) h = (small_fits x (both_true _ _ (both_true _ _ h).0).0, small_fits y (both_true _ _ (both_true _ _ h).0).1, small_fits z (both_true _ _ h).1)
 point_range (values.Int x) h = not_both false h refl
 point_range (values.Bool b) h = not_both false h refl
 point_range (values.Vec2 x y) h = not_both false h refl
 point_range (values.Rgb r g b) h = not_both false h refl
+
+-- it is a value of the kind of points
+pub point_value : (v : Value) → IsTrue (is_point v) → IsValueOf kinds.Vec3 v
+point_value v h = record { kind_is = point_kind v h; range = point_range v h }
 
 abbrev same_number : ℤ → ℤ → Bool
 same_number (pos m) (pos n) = eqb m n

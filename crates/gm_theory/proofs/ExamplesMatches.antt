@@ -1,5 +1,5 @@
 -- Tests of a walk and of a match, and what they show.
-use Rattle.std.proofs.Common.{◌≡◌, ℕ, suc, ◌+◌, ◌<◌, Bool, true, not, ◌&&◌, ◌||◌, IsTrue, List, [], ◌∷◌, length, take, eqb, ltb, Some, slice_get, slice_index, subst, inl, inr, arith}
+use Rattle.std.proofs.Common.{◌≡◌, ℕ, suc, ◌+◌, ◌<◌, Bool, true, not, ◌&&◌, ◌||◌, IsTrue, List, [], ◌∷◌, length, take, eqb, ltb, Some, slice_get, slice_index, subst, inl, inr, arith, refl}
 use Rattle.std.proofs.lemmas.Bool.{eqb-true, eq-eqb, ltb-true, lt-ltb, or_left, or_right, and_from}
 use Rattle.gm_model.specs.declared.rule.Side.TheVariants.{Left}
 use Rattle.gm_model.specs.declared.step.Step.{Step}
@@ -124,6 +124,7 @@ module _ (map : Map) (rule : Rule) (place : Placement) where
 
   pub match_shown : (d : ℕ) (walk : List ℕ) → rule.hooks ≡ 0 ∷ [] → slice_get walk 0 ≡ Some d → place.positions ≡ length walk → IsTrue (match_test d walk) → IsMatch map rule (d ∷ []) place
   match_shown d walk only starts many t = record {
+    count = rw only refl;
     walk = walk;
     positions = positions_shown d walk starts many (both_true _ _ (both_true _ _ t).0).0;
     hooked = λ h p e b. subst (λ z. place.dart_of z p ≡ slice_index walk p) (some_same 0 h (rw only at e)) (eqb-true _ _ (each (length walk) _ (both_true _ _ (both_true _ _ t).0).1 p (subst (λ k. p < k) many b)));

@@ -1,26 +1,31 @@
 -- Outcomes of applications, worked out.
-use Rattle.std.proofs.Common.{◌≡◌, ℕ, codes, zero, suc, ◌+◌, ◌-◌, ◌<◌, ◌≤◌, false, ◌↔◌, pos, IsTrue, List, [], ◌∷◌, length, eqb, Contains, slice_index, refl, sym, ◌∙◌, ap, subst, inl, inr, arith}
+use Rattle.std.proofs.Common.{◌≡◌, ℕ, codes, zero, suc, ◌+◌, ◌-◌, ◌<◌, ◌≤◌, false, true, ◌↔◌, pos, IsTrue, List, [], ◌∷◌, length, eqb, Contains, slice_index, refl, sym, ◌∙◌, ap, subst, inl, inr, arith}
 use Rattle.std.proofs.lemmas.Bool.{eqb-true, eq-eqb, ltb-true, lt-ltb}
 use Rattle.std.proofs.lemmas.Grind.{get_or_default_zero}
+use Rattle.std.proofs.lemmas.Int.{ints}
 use Rattle.gm_model.specs.declared.rule.Side.TheVariants.{Left, Right}
+use Rattle.gm_model.specs.declared.value.Kind.TheVariants as kinds
 use Rattle.gm_model.specs.declared.value.Value.TheVariants as values
 use Rattle.gm_model.specs.Applications.{Application, HasHookDarts, MeetsSteps, HasNoRepeat, IsFound, IsStaying, IsRepeat, IsStepBefore, IsRefused, reading_at, NoDart, Arc, Same, PreNoValue, PreFalse, FullDarts, FullNames, NoHookDart, BrokenStep, Repeated, ValuelessPre, FalsePre, NoRoom, NoNames}
-use Rattle.gm_model.specs.Expressions.{HasNoValue}
+use Rattle.gm_model.specs.Expressions.{Reading, HasNoValue}
+use Rattle.gm_model.specs.Kinds.{AreGoodParams}
 use Rattle.gm_model.specs.Maps.{Map, IsDart, IsMap, IsSchema, IsWellEmbedded}
 use Rattle.gm_model.specs.Matches.{Placement, ArePositions, Walked, IsMatch, IsCandidate, IsForced, IsPathTo, IsInstance, IsMetAt, Created}
 use Rattle.gm_model.specs.Orbits.{HasCount, IsPairBefore, IsWalk, follow}
 use Rattle.gm_model.specs.Rules.{Rule, has_word, step}
 use Rattle.gm_model.specs.Structure.{IsInRange}
-use Rattle.gm_model.specs.Trees.{Tree, Truth}
+use Rattle.gm_model.specs.Trees.{Tree, Number, Truth}
 use Rattle.gm_model.specs.Unfolding.{scene_of, IsGone}
+use Rattle.gm_model.specs.Values.{IsInValueRange}
 use Rattle.gm_theory.proofs.ExamplesChecks.{each_below, each}
 use Rattle.gm_theory.proofs.ExamplesMatches.{match_shown, walk_shown, positions_shown, met_test, met_shown}
 use Rattle.gm_theory.proofs.Lists.{some_same, none_some}
 use Rattle.gm_theory.proofs.RuleSteps.{word_below}
 use Rattle.gm_theory.proofs.Tests.{both_true, not_both}
+use Rattle.gm_theory.proofs.ValuesUnique.{number_made}
 use Rattle.gm_theory.proofs.Walks.{walk_unique}
 use Rattle.gm_theory.specs.Examples.{planar, four_triangles, square, square_walk, triangulation, edge, on_edge, merging, point, points_of_vertices}
-use Rattle.gm_theory.specs.ExamplesOutcomes.{drop, drop_at, on_triangle, triangle_walk, lone, merging_alone, on_lone, split_if, valueless, pair, created, late, crowded, pair_on, torn, overdue, misnamed, astray}
+use Rattle.gm_theory.specs.ExamplesOutcomes.{drop, drop_at, on_triangle, triangle_walk, lone, merging_alone, on_lone, split_if, valueless, pair, created, late, crowded, pair_on, torn, overdue, misnamed, astray, setting, outsized, too_great}
 
 -- ---- a match of a rule whose only left node is its hook is found
 
@@ -63,7 +68,7 @@ only_drop : (x : ℕ) → IsTrue (has_word drop Left x) → x ≡ 0
 only_drop x w = let b : x < 1 = word_below drop Left x w in omega arith
 
 drop_candidate : IsCandidate four_triangles drop (0 ∷ []) on_triangle
-drop_candidate = record { walk = triangle_walk; positions = positions_shown four_triangles drop on_triangle 0 triangle_walk refl refl refl; forced = forced_alone drop refl only_drop four_triangles on_triangle triangle_walk (λ p b. refl) }
+drop_candidate = record { count = refl; walk = triangle_walk; positions = positions_shown four_triangles drop on_triangle 0 triangle_walk refl refl refl; forced = forced_alone drop refl only_drop four_triangles on_triangle triangle_walk (λ p b. refl) }
 
 -- at its first two positions the triangle has no neighbour, at the third it has one
 pub broken_step : IsRefused (drop_at 0) (Arc 0 2 2)
@@ -94,7 +99,7 @@ repeated = Repeated on_lone 0 0 1 0 (one_live lone 0 refl) candidate meets recor
     loops (i ∷ path) c e = loops path (lone.alpha i c) (ap (lone.alpha i) e ∙ loop i)
 
     candidate : IsCandidate lone merging (0 ∷ []) on_lone
-    candidate = record { walk = 0 ∷ []; positions = positions_shown lone merging on_lone 0 (0 ∷ []) refl refl refl; forced = λ x p path at to. sym (loops path (slice_index (0 ∷ []) p) (let z : 0 ≡ p = (let b : p < 1 = at.1 in omega arith) in subst (λ q. slice_index (0 ∷ []) q ≡ 0) z refl)) }
+    candidate = record { count = refl; walk = 0 ∷ []; positions = positions_shown lone merging on_lone 0 (0 ∷ []) refl refl refl; forced = λ x p path at to. sym (loops path (slice_index (0 ∷ []) p) (let z : 0 ≡ p = (let b : p < 1 = at.1 in omega arith) in subst (λ q. slice_index (0 ∷ []) q ≡ 0) z refl)) }
 
     meets : MeetsSteps merging_alone on_lone
     meets x p i at h = met_shown lone merging on_lone x p i (step merging Left x i) (each 2 (λ j. met_test lone merging on_lone x p j (step merging Left x j)) (each 1 (λ q. each_below 2 (λ j. met_test lone merging on_lone x q j (step merging Left x j))) (each 2 (λ y. each_below 1 (λ q. each_below 2 (λ j. met_test lone merging on_lone y q j (step merging Left y j)))) refl x (word_below merging Left x at.0)) p at.1) i (omega arith))
@@ -115,7 +120,7 @@ only_split tree (suc zero) w = not_both false w refl
 only_split tree (suc (suc x)) w = not_both false w refl
 
 split_found : (tree : Tree) → IsFound (split_if tree) on_edge
-split_found tree = found_by (split_if tree) on_edge (one_live edge 0 refl) (record { walk = 0 ∷ 1 ∷ []; positions = positions_shown edge (split_if tree).rule on_edge 0 (0 ∷ 1 ∷ []) refl refl refl; forced = forced_alone (split_if tree).rule refl (only_split tree) edge on_edge (0 ∷ 1 ∷ []) (λ p b. eqb-true _ _ (each 2 (λ q. eqb q (slice_index (0 ∷ 1 ∷ []) q)) refl p b)) }) (match_shown edge (split_if tree).rule on_edge 0 (0 ∷ 1 ∷ []) refl refl refl refl)
+split_found tree = found_by (split_if tree) on_edge (one_live edge 0 refl) (record { count = refl; walk = 0 ∷ 1 ∷ []; positions = positions_shown edge (split_if tree).rule on_edge 0 (0 ∷ 1 ∷ []) refl refl refl; forced = forced_alone (split_if tree).rule refl (only_split tree) edge on_edge (0 ∷ 1 ∷ []) (λ p b. eqb-true _ _ (each 2 (λ q. eqb q (slice_index (0 ∷ 1 ∷ []) q)) refl p b)) }) (match_shown edge (split_if tree).rule on_edge 0 (0 ∷ 1 ∷ []) refl refl refl refl)
 
 pub false_pre : IsRefused (split_if (Truth false)) PreFalse
 false_pre = FalsePre on_edge (Truth false) (split_found (Truth false)) refl refl
@@ -124,7 +129,7 @@ pub valueless_pre : IsRefused (split_if valueless) PreNoValue
 valueless_pre = ValuelessPre on_edge valueless (split_found valueless) refl none
   where
     none : HasNoValue (reading_at (split_if valueless) on_edge 0) valueless
-    none v (x, y, (a, b, one, zero_b, (z, e, nonzero, made)), second, same) = nonzero (let f : values.Int z ≡ values.Int (pos 0) = sym e ∙ zero_b in cc)
+    none v (x, y, (a, b, one, zero_b, (z, e, nonzero, made)), second, same) = nonzero (let f : values.Int z ≡ values.Int (pos 0) = sym e ∙ number_made (pos 0) b zero_b in cc)
 
 -- ---- room
 
@@ -136,7 +141,7 @@ no_left (suc (suc x)) w = not_both false w refl
 pair_found : (map : Map) → IsFound (pair_on map) created
 pair_found map = record {
   darts = λ d c. absurd (let b : c.0 < 0 = c.1 in omega arith);
-  candidate = record { walk = []; positions = Created refl refl; forced = λ x p path at to. absurd (no_left x at.0) };
+  candidate = record { count = refl; walk = []; positions = Created refl refl; forced = λ x p path at to. absurd (no_left x at.0) };
   steps = λ x p i at h. absurd (no_left x at.0);
   distinct = λ x p y q r. no_left x r.first.0;
 }
@@ -212,3 +217,21 @@ hook_astray place m = go m.positions
   where
     go : ArePositions square triangulation place (99 ∷ []) m.walk → ⊥
     go (Walked d others walk live is_walk many turns) = not_both false live refl
+
+-- the triangulation has one hook
+pub hook_left : (place : Placement) → IsMatch square triangulation (0 ∷ 1 ∷ []) place → ⊥
+hook_left place m = let two_is_one : Path ℕ 2 1 = m.count in omega arith
+
+-- ---- values
+
+pub truth_for_number : AreGoodParams setting (values.Bool true ∷ []) → ⊥
+truth_for_number h = absurd (let e : kinds.Bool ≡ kinds.Int = h.0.kind_is in cc)
+
+out_of_range : IsInValueRange (values.Int (pos too_great)) → ⊥
+out_of_range h = omega (arith, ints)
+
+pub number_too_great : IsMap outsized → ⊥
+number_too_great h = out_of_range (h.values 0 0 (record { name = codes "size"; mask = record { bits = 2 }; kind = kinds.Int }) refl refl).range
+
+pub literal_too_great : (reading : Reading) → HasNoValue reading (Number (pos too_great))
+literal_too_great reading v made = out_of_range (subst IsInValueRange (number_made (pos too_great) v made) made.is_value.range)

@@ -3,6 +3,7 @@ use Rattle.std.proofs.Common.{◌<◌, [], ◌∷◌, refl, arith}
 use Rattle.std.proofs.lemmas.Bool.{ltb-true}
 use Rattle.gm_model.specs.declared.rule.Side.TheVariants.{Left, Right}
 use Rattle.gm_model.specs.Acceptance.{IsAccepted}
+use Rattle.gm_model.specs.Applications.{IsResult}
 use Rattle.gm_model.specs.Unfolding.{scene_of}
 use Rattle.gm_theory.proofs.ExamplesMaps.{table_shown}
 use Rattle.gm_theory.proofs.ExamplesMatches.{match_shown}
@@ -11,7 +12,6 @@ use Rattle.gm_theory.proofs.ExamplesUnfoldings.{unfolding_shown}
 use Rattle.gm_theory.proofs.Lists.{none_some}
 use Rattle.gm_theory.proofs.RuleSteps.{word_below}
 use Rattle.gm_theory.specs.Examples.{linear, split, edge, on_edge, two_edges, splitting, IsLawfulExample, IsWorkedExample}
-use Rattle.gm_theory.specs.Values.{HasNewValues}
 
 accepted : IsAccepted linear split
 accepted = record {
@@ -25,12 +25,14 @@ accepted = record {
 edge_lawful : IsLawfulExample edge
 edge_lawful = record {
   schema = record { count = omega arith; kinds = λ e embed at. none_some embed at; labels = λ e i embed at h. none_some embed at; free = λ e embed at. none_some embed at; differ = λ e e' embed embed' at at' f. none_some embed at };
-  is_map = record { below = λ d h. ltb-true d 2 h; kind = λ e d embed at h. none_some embed at; range = λ e d embed at h. none_some embed at };
-  generalised = table_shown linear ((1 ∷ 0 ∷ []) ∷ (0 ∷ 1 ∷ []) ∷ []) [] refl;
-  embedded = λ e embed at. none_some embed at;
+  sound = record {
+    is_map = record { below = λ d h. ltb-true d 2 h; values = λ e d embed at h. none_some embed at };
+    generalised = table_shown linear ((1 ∷ 0 ∷ []) ∷ (0 ∷ 1 ∷ []) ∷ []) [] refl;
+    embedded = λ e embed at. none_some embed at;
+  };
 }
 
-split_edge : HasNewValues splitting on_edge two_edges
+split_edge : IsResult splitting on_edge two_edges
 split_edge = record {
   schema = refl;
   unfolded = unfolding_shown (scene_of edge split on_edge) 2 4 two_edges.live two_edges.alpha 4 (λ d h. let b : d < 2 = ltb-true d 2 h in omega arith) (λ d h. ltb-true d 4 h) (word_below split Left) (word_below split Right) refl refl;

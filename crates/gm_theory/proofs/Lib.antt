@@ -1,5 +1,6 @@
 pub mod Arcs
 pub mod Candidates
+pub mod CandidatesFound
 pub mod Commuting
 pub mod Corners
 pub mod ExamplesCentre
@@ -13,11 +14,19 @@ pub mod ExamplesRules
 pub mod ExamplesSplit
 pub mod ExamplesTriangulation
 pub mod ExamplesUnfoldings
+pub mod FirstFound
 pub mod Keeps
+pub mod LeastPaths
 pub mod Lists
 pub mod NewNames
 pub mod NoFault
+pub mod OperatorsDecided
+pub mod OrbitsListed
+pub mod OutcomesFound
 pub mod Quotients
+pub mod ReadingsDecided
+pub mod ReadingsTyped
+pub mod ReadingsUnits
 pub mod Results
 pub mod RuleSteps
 pub mod Scenes
@@ -33,3 +42,4 @@ pub mod ValuesReach
 pub mod ValuesReadOff
 pub mod ValuesUnique
 pub mod Walks
+pub mod WalksFound

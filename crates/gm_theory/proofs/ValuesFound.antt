@@ -14,7 +14,7 @@ use Rattle.gm_theory.proofs.ValuesReach.{IsDecided, orbit_through}
 
 -- ---- the least number
 
-abbrev IsLeast : (ℕ → Type 0) → ℕ → Type 0
+abbrev pub IsLeast : (ℕ → Type 0) → ℕ → Type 0
 IsLeast P k = P k × ((j : ℕ) → j < k → P j → ⊥)
 
 pub least_below : (P : ℕ → Type 0) → ((k : ℕ) → IsDecided (P k)) → (n : ℕ) → ((k : ℕ) × (k < n) × IsLeast P k) ⊎ ((k : ℕ) → k < n → P k → ⊥)

@@ -1,6 +1,5 @@
 -- The second half of the theorem: for every generalised and well embedded map, every accepted rule and every match, the new values are determined, and the result is well embedded.
-use Rattle.std.proofs.Common.{◌≡◌, ℕ, ◌<◌, ◌≤◌, ◌⊎◌, not, false, IsTrue, List, length, Contains, Option, Some, None, slice_get, refl, sym, ◌∙◌, ap, subst, inl, inr}
-use Rattle.std.proofs.lemmas.Option.{slice_get-get_or}
+use Rattle.std.proofs.Common.{◌≡◌, ℕ, ◌<◌, ◌≤◌, ◌⊎◌, not, false, IsTrue, length, Contains, Option, Some, None, slice_get, refl, sym, ◌∙◌, ap, subst, inl, inr}
 use Rattle.gm_model.specs.declared.rule.Side.TheVariants.{Left, Right}
 use Rattle.gm_model.specs.declared.schema.Embed.{Embed}
 use Rattle.gm_model.specs.declared.schema.Schema.{Schema}
@@ -9,18 +8,21 @@ use Rattle.gm_model.specs.Acceptance.{IsAccepted}
 use Rattle.gm_model.specs.Components.{IsTogether, IsAssigned, IsUnassigned, IsInherited}
 use Rattle.gm_model.specs.NewValues.{LiesIn, IsDecidedBy, IsUndecided, IsValueAfter, Decided, Kept, Added}
 use Rattle.gm_model.specs.Orbits.{IsInOrbit}
-use Rattle.gm_model.specs.Applications.{Application, GivesValue, IsDone, reading_at}
+use Rattle.gm_model.specs.Applications.{Application, IsFound, GivesValue, IsResult, IsDone, reading_at}
 use Rattle.gm_model.specs.Expressions.{HasValue}
 use Rattle.gm_model.specs.GMap.{IsGMap}
+use Rattle.gm_model.specs.Kinds.{AreGoodParams}
 use Rattle.gm_model.specs.Maps.{Map, IsDart, IsEmbedAt, IsGeneralised, IsMap, IsSchema, IsWellEmbedded, type_of}
 use Rattle.gm_model.specs.Matches.{Placement, IsMatch}
 use Rattle.gm_model.specs.Rules.{Rule, has_word, is_added, RuleNode, Assignment, Assigns, width, hook_label}
 use Rattle.gm_model.specs.Structure.{IsInRange}
 use Rattle.gm_model.specs.Trees.{Tree}
 use Rattle.gm_model.specs.Unfolding.{Scene, scene_of, name_in, IsDartAfter}
+use Rattle.gm_model.specs.Values.{IsValueOf}
 use Rattle.gm_theory.proofs.Candidates.{candidate_is_match}
 use Rattle.gm_theory.proofs.Keeps.{lawful}
-use Rattle.gm_theory.proofs.Lists.{some_same, none_some}
+use Rattle.gm_theory.proofs.Lists.{some_same, none_some, contained_at}
+use Rattle.gm_theory.proofs.ReadingsTyped.{values_have_their_kinds}
 use Rattle.gm_theory.proofs.Results.{unfolding_generalised, unfolding_below, unfoldings_agree}
 use Rattle.gm_theory.proofs.Scenes.{IsLawful}
 use Rattle.gm_theory.proofs.ValuesAcross.{constant_after, new_together}
@@ -30,15 +32,13 @@ use Rattle.gm_theory.proofs.ValuesReach.{IsDecided, decide_orbit}
 use Rattle.gm_theory.proofs.Tests.{both_true, true_or_false, not_both}
 use Rattle.gm_theory.proofs.ValuesReadOff.{read_off}
 use Rattle.gm_theory.proofs.ValuesUnique.{one_value}
+use Rattle.gm_theory.specs.Readings.{IsReadingOf}
 use Rattle.gm_theory.specs.Theorem.{Unfolded, Unfolds}
-use Rattle.gm_theory.specs.Values.{HasNewValues, HaveValues, HaveSameValues, with_values, KeepsWellEmbedded, RulesKeepWellEmbeddedMaps, ApplicationsKeepSoundMaps}
+use Rattle.gm_theory.specs.Values.{HaveValues, HaveSameValues, with_values, KeepsWellEmbedded, RulesKeepWellEmbeddedMaps, ApplicationsKeepSoundMaps}
 
 -- ---- an instance has one expression, and it has one value
 
-contained_at : {A : Type 0} (xs : List A) (x : A) (c : Contains xs x) → slice_get xs c.0 ≡ Some x
-contained_at xs x (k, b, e) = slice_get-get_or xs k x b ∙ ap Some e
-
-one_tree : (schema : Schema) (rule : Rule) → IsInRange schema rule → (x e : ℕ) (t s : Tree) → Assigns rule x e t → Assigns rule x e s → t ≡ s
+pub one_tree : (schema : Schema) (rule : Rule) → IsInRange schema rule → (x e : ℕ) (t s : Tree) → Assigns rule x e t → Assigns rule x e s → t ≡ s
 one_tree schema rule range x e t s (node, at, c) (node', at', c') = ap (λ (a : Assignment). a.tree) same
   where
     node_same : node' ≡ node
@@ -69,7 +69,7 @@ module _ (app : Application) (place : Placement) (of_schema : IsSchema app.map.s
   law : IsLawful (scene_of app.map app.rule place) (length app.rule.nodes) (width app.rule) (hook_label app.rule)
   law = lawful app.map app.rule place accepted old is_map app.hooks found
 
-  well_embedded : (result : Map) → HasNewValues app place result → IsWellEmbedded result
+  well_embedded : (result : Map) → IsResult app place result → IsWellEmbedded result
   well_embedded result new e embed at = constant_after app.map app.rule place (length app.rule.nodes) (width app.rule) (hook_label app.rule) law (read_off app.map.schema app.rule accepted)
       (IsDart result) result.alpha result.next new.unfolded e (type_of embed) (λ i t. of_schema.labels e i embed at' t) (embedded e embed at') (λ x r. accepted.sources e embed at' x r)
       (GivesValue app place e) (one_given app place accepted.in_range e) (result.value e) (λ d live. new.values e d embed at' live)
@@ -77,7 +77,7 @@ module _ (app : Application) (place : Placement) (of_schema : IsSchema app.map.s
       at' : IsEmbedAt app.map.schema e embed
       at' = subst (λ schema. IsEmbedAt schema e embed) new.schema at
 
-  determined : (a b : Map) → HasNewValues app place a → HasNewValues app place b → HaveSameValues a b
+  determined : (a b : Map) → IsResult app place a → IsResult app place b → HaveSameValues a b
   determined a b new new' e d embed at live = value_same app.map app.rule place (length app.rule.nodes) (width app.rule) (hook_label app.rule) law
       e (type_of embed) (λ i t. of_schema.labels e i embed at' t) (GivesValue app place e) (one_given app place accepted.in_range e) (IsDart a) a.alpha b.alpha
       (unfolding_generalised (scene_of app.map app.rule place) (length app.rule.nodes) (width app.rule) (hook_label app.rule) law (IsDart a) a.alpha a.next new.unfolded).stays
@@ -139,7 +139,7 @@ module _ (app : Application) (place : Placement) (of_schema : IsSchema app.map.s
     pick_new e d embed at live (Some embed') f (inr dead) = not_both (result.live d) live dead
     pick_new e d embed at live None f side = none_some embed (sym f ∙ at)
 
-    exists : (value : ℕ → ℕ → Value) × HasNewValues app place (with_values app.map result value)
+    exists : (value : ℕ → ℕ → Value) × IsResult app place (with_values app.map result value)
     exists = (
       (λ e d. pick e d (slice_get app.map.schema.embeds e) refl (true_or_false (result.live d))),
       record {
@@ -157,20 +157,30 @@ rules_keep_well_embedded_maps app place of_schema is_map old embedded accepted f
 
 -- ---- applications that are done
 
-done_match : (app : Application) (result : Map) (added removed : ℕ) → IsGeneralised app.map → IsAccepted app.map.schema app.rule → (done : IsDone app result added removed) → IsMatch app.map app.rule app.hooks done.place
-done_match app result added removed old accepted done = candidate_is_match app.map app.rule done.place accepted.in_range accepted.incidence old app.hooks done.ready.found.candidate done.ready.found.steps
-    (λ x p y q at at' before e. done.ready.found.distinct x p y q (record { first = at; second = at'; later = before; same = e }))
+-- what is found is a match
+pub found_match : (app : Application) (place : Placement) → IsGeneralised app.map → IsAccepted app.map.schema app.rule → IsFound app place → IsMatch app.map app.rule app.hooks place
+found_match app place old accepted found = candidate_is_match app.map app.rule place accepted.in_range accepted.incidence old app.hooks found.candidate found.steps (λ x p y q at at' before e. found.distinct x p y q (record { first = at; second = at'; later = before; same = e }))
 
-pub applications_keep_sound_maps : ApplicationsKeepSoundMaps
-applications_keep_sound_maps app result added removed of_schema is_map old embedded accepted done = record {
-  generalised = subst (λ n. IsGMap n (IsDart result) result.alpha) (sym (ap (λ (schema : Schema). schema.dim) done.schema)) (unfolding_generalised s count w label here (IsDart result) result.alpha result.next done.unfolded);
-  embedded = well_embedded app done.place of_schema is_map old embedded accepted found result (record { schema = done.schema; unfolded = done.unfolded; values = done.values });
-  below = unfolding_below s count w label here (IsDart result) result.alpha result.next done.unfolded;
-}
+-- an expression is read at a position of a match
+pub match_reading : (app : Application) (place : Placement) → IsMap app.map → IsGeneralised app.map → IsMatch app.map app.rule app.hooks place → (p : ℕ) → p < place.positions → IsReadingOf app.rule (reading_at app place p)
+match_reading app place is_map old found p b = record { is_map = is_map; generalised = old; darts = λ x l. found.embedded.live x p (l, b) }
+
+-- each new value is one of its embedding's kind
+value_typed : (app : Application) (place : Placement) (alpha : ℕ → ℕ → ℕ) → IsMap app.map → IsGeneralised app.map → IsAccepted app.map.schema app.rule → AreGoodParams app.rule app.params → IsMatch app.map app.rule app.hooks place →
+    (e d : ℕ) (embed : Embed) (v : Value) → IsEmbedAt app.map.schema e embed → IsValueAfter app.map app.rule place alpha e (type_of embed) (GivesValue app place e) d v → IsValueOf embed.kind v
+value_typed app place alpha is_map old accepted params found e d embed v at (Decided x p by (tree, a, h)) =
+    values_have_their_kinds app.rule (reading_at app place p) tree embed.kind v (match_reading app place is_map old found p a.1) params (accepted.typed.sets x e tree embed a.0 at) h
+value_typed app place alpha is_map old accepted params found e d embed v at (Kept none live f) = subst (IsValueOf embed.kind) (sym f) (is_map.values e d embed at live)
+value_typed app place alpha is_map old accepted params found e d embed v at (Added x p keeper none n b f kept g) =
+    subst (IsValueOf embed.kind) (sym g) (is_map.values e (place.dart_of keeper p) embed at (found.embedded.live keeper p ((both_true (has_word app.rule Left keeper) (has_word app.rule Right keeper) kept.preserved).0, b)))
+
+-- the unfolding of an application that is done is generalised, with its names below the next, whatever its parameters
+pub done_lawful : (app : Application) (result : Map) (added removed : ℕ) → IsMap app.map → IsGeneralised app.map → IsAccepted app.map.schema app.rule → IsDone app result added removed → IsGeneralised result × ((d : ℕ) → IsDart result d → d < result.next)
+done_lawful app result added removed is_map old accepted done = (
+  subst (λ n. IsGMap n (IsDart result) result.alpha) (sym (ap (λ (schema : Schema). schema.dim) done.result_is.schema)) (unfolding_generalised s count w label here (IsDart result) result.alpha result.next done.result_is.unfolded),
+  unfolding_below s count w label here (IsDart result) result.alpha result.next done.result_is.unfolded,
+)
   where
-    found : IsMatch app.map app.rule app.hooks done.place
-    found = done_match app result added removed old accepted done
-
     s : Scene
     s = scene_of app.map app.rule done.place
 
@@ -184,4 +194,20 @@ applications_keep_sound_maps app result added removed of_schema is_map old embed
     label = hook_label app.rule
 
     here : IsLawful (scene_of app.map app.rule done.place) (length app.rule.nodes) (width app.rule) (hook_label app.rule)
-    here = lawful app.map app.rule done.place accepted old is_map app.hooks found
+    here = lawful app.map app.rule done.place accepted old is_map app.hooks (found_match app done.place old accepted done.ready.found)
+
+pub applications_keep_sound_maps : ApplicationsKeepSoundMaps
+applications_keep_sound_maps app result added removed of_schema sound accepted params done = record {
+  is_map = record { below = unfolded.1; values = λ e d embed at live. typed e d embed (subst (λ schema. IsEmbedAt schema e embed) done.result_is.schema at) live };
+  generalised = unfolded.0;
+  embedded = well_embedded app done.place of_schema sound.is_map sound.generalised sound.embedded accepted found result done.result_is;
+}
+  where
+    found : IsMatch app.map app.rule app.hooks done.place
+    found = found_match app done.place sound.generalised accepted done.ready.found
+
+    unfolded : IsGeneralised result × ((d : ℕ) → IsDart result d → d < result.next)
+    unfolded = done_lawful app result added removed sound.is_map sound.generalised accepted done
+
+    typed : (e d : ℕ) (embed : Embed) → IsEmbedAt app.map.schema e embed → IsDart result d → IsValueOf embed.kind (result.value e d)
+    typed e d embed at live = value_typed app done.place result.alpha sound.is_map sound.generalised accepted params found e d embed (result.value e d) at (done.result_is.values e d embed at live)

@@ -20,41 +20,45 @@ use Rattle.gm_theory.proofs.ValuesLists.{one_total}
 
 -- ---- values by kind and components
 
-nat_of : ℤ → ℕ
+abbrev pub nat_of : ℤ → ℕ
 nat_of (pos n) = n
 nat_of (negsuc n) = 0
 
-first : List ℤ → ℤ
+abbrev pub first : List ℤ → ℤ
 first [] = pos 0
 first (x ∷ xs) = x
 
-rest : List ℤ → List ℤ
+abbrev pub rest : List ℤ → List ℤ
 rest [] = []
 rest (x ∷ xs) = xs
 
-made : Kind → List ℤ → Value
+-- what has the kind and these components, if anything has
+abbrev pub made : Kind → List ℤ → Value
 made kinds.Int parts = values.Int (first parts)
 made kinds.Bool parts = values.Bool false
 made kinds.Vec2 parts = values.Vec2 (first parts) (first (rest parts))
 made kinds.Vec3 parts = values.Vec3 (first parts) (first (rest parts)) (first (rest (rest parts)))
 made kinds.Rgb parts = values.Rgb (nat_of (first parts)) (nat_of (first (rest parts))) (nat_of (first (rest (rest parts))))
 
-by_parts : (v : Value) → kind_of v ≢ kinds.Bool → v ≡ made (kind_of v) (components v)
-unfolding made first rest nat_of
+pub by_parts : (v : Value) → kind_of v ≢ kinds.Bool → v ≡ made (kind_of v) (components v)
 by_parts (values.Int x) h = refl
 by_parts (values.Bool b) h = absurd (h refl)
 by_parts (values.Vec2 x y) h = refl
 by_parts (values.Vec3 x y z) h = refl
 by_parts (values.Rgb r g b) h = refl
 
-made_same : (kind kind' : Kind) (parts parts' : List ℤ) (v w : Value) → kind ≡ kind' → parts ≡ parts' → IsMade kind parts v → IsMade kind' parts' w → v ≡ w
+pub made_same : (kind kind' : Kind) (parts parts' : List ℤ) (v w : Value) → kind ≡ kind' → parts ≡ parts' → IsMade kind parts v → IsMade kind' parts' w → v ≡ w
 made_same kind kind' parts parts' v w e f a b =
-    by_parts v (λ h. a.numbers (sym a.kind_is ∙ h)) ∙ ap₂ made (a.kind_is ∙ e ∙ sym b.kind_is) (a.parts_are ∙ f ∙ sym b.parts_are) ∙ sym (by_parts w (λ h. b.numbers (sym b.kind_is ∙ h)))
+    by_parts v (λ h. a.numbers (sym a.is_value.kind_is ∙ h)) ∙ ap₂ made (a.is_value.kind_is ∙ e ∙ sym b.is_value.kind_is) (a.parts_are ∙ f ∙ sym b.parts_are) ∙ sym (by_parts w (λ h. b.numbers (sym b.is_value.kind_is ∙ h)))
 
-int_same : (x y : ℤ) → values.Int x ≡ values.Int y → x ≡ y
+-- a number is made of itself alone
+pub number_made : (n : ℤ) (v : Value) → IsMade kinds.Int (n ∷ []) v → v ≡ values.Int n
+number_made n v m = by_parts v (λ h. m.numbers (sym m.is_value.kind_is ∙ h)) ∙ ap₂ made m.is_value.kind_is m.parts_are
+
+pub int_same : (x y : ℤ) → values.Int x ≡ values.Int y → x ≡ y
 int_same x y e = cc
 
-bool_same : (x y : Bool) → values.Bool x ≡ values.Bool y → x ≡ y
+pub bool_same : (x y : Bool) → values.Bool x ≡ values.Bool y → x ≡ y
 bool_same x y e = cc
 
 -- ---- operators
@@ -92,7 +96,7 @@ quotient_same a b v w (y, e, n, h) (z, f, n', k) = made_same (kind_of a) (kind_o
 
 remainder_same : (a b v w : Value) → IsRemainder a b v → IsRemainder a b w → v ≡ w
 remainder_same a b v w (x, y, e, f, n, h) (x', y', e', f', n', h') =
-    h ∙ ap₂ (λ s t. values.Int (s -ℤ (t *ℤ floor s t))) (int_same x x' (sym e ∙ e')) (int_same y y' (sym f ∙ f')) ∙ sym h'
+    made_same kinds.Int kinds.Int ((x -ℤ (y *ℤ floor x y)) ∷ []) ((x' -ℤ (y' *ℤ floor x' y')) ∷ []) v w refl (ap₂ (λ s t. (s -ℤ (t *ℤ floor s t)) ∷ []) (int_same x x' (sym e ∙ e')) (int_same y y' (sym f ∙ f'))) h h'
 
 test_same : (test : ℤ → ℤ → Bool) (a b v w : Value) → IsTest test a b v → IsTest test a b w → v ≡ w
 test_same test a b v w (x, y, e, f, h) (x', y', e', f', h') = h ∙ ap₂ (λ s t. values.Bool (test s t)) (int_same x x' (sym e ∙ e')) (int_same y y' (sym f ∙ f')) ∙ sym h'
@@ -137,12 +141,12 @@ module _ (reading : Reading) where
       f ∙ ap values.Int (one x x' (all c' x' i' (g' ∙ f')) (all' c x i (g ∙ f))) ∙ sym f'
 
   pub one_value : (tree : Tree) (v w : Value) → HasValue reading tree v → HasValue reading tree w → v ≡ w
-  one_value (Number n) v w h k = h ∙ sym k
+  one_value (Number n) v w h k = made_same kinds.Int kinds.Int (n ∷ []) (n ∷ []) v w refl refl h k
   one_value (Truth b) v w h k = h ∙ sym k
   one_value (Param i) v w h k = cc
   one_value (Field d e) v w h k = h ∙ sym k
   one_value (Same d d') v w h k = h ∙ sym k
-  one_value (Count o d) v w (m, h, e) (n, k, f) = e ∙ ap (λ c. values.Int (pos c)) (one_count (IsCollected reading o d) m n h k) ∙ sym f
+  one_value (Count o d) v w (m, h, e) (n, k, f) = made_same kinds.Int kinds.Int (pos m ∷ []) (pos n ∷ []) v w refl (ap (λ c. pos c ∷ []) (one_count (IsCollected reading o d) m n h k)) e f
   one_value (Sum o d e) v w h k = sum_same o d e v w h k
   one_value (Least o d e) v w h k = first_same ◌≤ℤ◌ (λ x y a b. omega (arith, ints)) o d e v w h k
   one_value (Greatest o d e) v w h k = first_same (λ x y. y ≤ℤ x) (λ x y a b. omega (arith, ints)) o d e v w h k
@@ -154,12 +158,14 @@ module _ (reading : Reading) where
   one_value (If c a b) v w (inr (f, h)) (inl (t, k)) = absurd (let e : true ≡ false = bool_same true false (one_value c (values.Bool true) (values.Bool false) t f) in (cc))
   one_value (If c a b) v w (inr (f, h)) (inr (f', k)) = one_value b v w h k
   one_value (MakeVec2 a b) v w (x, y, h, i, e) (x', y', h', i', e') =
-      e ∙ ap₂ values.Vec2 (int_same x x' (one_value a (values.Int x) (values.Int x') h h')) (int_same y y' (one_value b (values.Int y) (values.Int y') i i')) ∙ sym e'
+      let f : x ≡ x' = int_same x x' (one_value a (values.Int x) (values.Int x') h h') in
+      let g : y ≡ y' = int_same y y' (one_value b (values.Int y) (values.Int y') i i') in
+      made_same kinds.Vec2 kinds.Vec2 (x ∷ y ∷ []) (x' ∷ y' ∷ []) v w refl (cc) e e'
   one_value (MakeVec3 a b c) v w (x, y, z, h, i, j, e) (x', y', z', h', i', j', e') =
       let f : x ≡ x' = int_same x x' (one_value a (values.Int x) (values.Int x') h h') in
       let g : y ≡ y' = int_same y y' (one_value b (values.Int y) (values.Int y') i i') in
       let k : z ≡ z' = int_same z z' (one_value c (values.Int z) (values.Int z') j j') in
-      cc
+      made_same kinds.Vec3 kinds.Vec3 (x ∷ y ∷ z ∷ []) (x' ∷ y' ∷ z' ∷ []) v w refl (cc) e e'
   one_value (MakeRgb a b c) v w (x, y, z, h, i, j, e) (x', y', z', h', i', j', e') =
       let f : x ≡ x' = int_same x x' (one_value a (values.Int x) (values.Int x') h h') in
       let g : y ≡ y' = int_same y y' (one_value b (values.Int y) (values.Int y') i i') in

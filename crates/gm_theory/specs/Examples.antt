@@ -12,16 +12,15 @@ use Rattle.gm_model.specs.declared.word.Letter.{Letter}
 use Rattle.gm_model.specs.declared.word.Letter.TheVariants.{At, Gone}
 use Rattle.gm_model.specs.declared.word.Mask.{Mask}
 use Rattle.gm_model.specs.Acceptance.{IsAccepted}
-use Rattle.gm_model.specs.Applications.{Application}
+use Rattle.gm_model.specs.Applications.{Application, IsResult}
 use Rattle.gm_model.specs.Components.{HasSources}
 use Rattle.gm_model.specs.Kinds.{IsTyped}
-use Rattle.gm_model.specs.Maps.{Map, IsDart, IsMap, IsGeneralised, IsSchema, IsWellEmbedded, dimension}
+use Rattle.gm_model.specs.Maps.{Map, IsDart, IsGeneralised, IsSchema, IsSound, dimension}
 use Rattle.gm_model.specs.Matches.{Placement, IsMatch}
 use Rattle.gm_model.specs.Rules.{Rule, RuleNode, Assignment, link_from}
 use Rattle.gm_model.specs.Structure.{IsInRange, HasIncidence}
 use Rattle.gm_model.specs.Trees.{Tree, Field, Sum, Count, Binary}
 use Rattle.gm_model.specs.Unfolding.{IsUnfolding, scene_of}
-use Rattle.gm_theory.specs.Values.{HasNewValues}
 
 -- ---- maps by tables
 
@@ -164,9 +163,7 @@ four_triangles = map_of planar triangles_table triangles_points
 -- a map that meets all that the theorem asks of one
 pub record IsLawfulExample (map : Map) : Type 0 where
   pub schema : IsSchema map.schema
-  pub is_map : IsMap map
-  pub generalised : IsGeneralised map
-  pub embedded : IsWellEmbedded map
+  pub sound : IsSound map
 
 abbrev pub triangulating : Application
 triangulating = record { map = square; rule = triangulation; hooks = 0 ∷ []; params = [] }
@@ -234,7 +231,7 @@ pub record IsWorkedExample (app : Application) (place : Placement) (result : Map
   pub lawful : IsLawfulExample app.map
   pub accepted : IsAccepted app.map.schema app.rule
   pub found : IsMatch app.map app.rule app.hooks place
-  pub new_values : HasNewValues app place result
+  pub new_values : IsResult app place result
 
 -- the rule meets every condition but that on squares, and its unfolding is no generalised map
 pub record BreaksMaps (map : Map) (rule : Rule) (hooks : List ℕ) (place : Placement) (result : Map) : Type 0 where

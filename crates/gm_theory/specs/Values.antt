@@ -1,21 +1,14 @@
 -- That conditions read off a rule alone make each of its applications keep one value on each orbit.
-use Rattle.std.specs.Prelude.{◌≡◌, ℕ, ◌<◌}
+use Rattle.std.specs.Prelude.{◌≡◌, ℕ}
 use Rattle.gm_model.specs.declared.schema.Embed.{Embed}
 use Rattle.gm_model.specs.declared.value.Value.{Value}
 use Rattle.gm_model.specs.Acceptance.{IsAccepted}
-use Rattle.gm_model.specs.Applications.{Application, GivesValue, IsDone}
-use Rattle.gm_model.specs.Maps.{Map, IsDart, IsEmbedAt, IsGeneralised, IsMap, IsSchema, IsWellEmbedded, type_of}
+use Rattle.gm_model.specs.Applications.{Application, GivesValue, IsResult, IsDone}
+use Rattle.gm_model.specs.Kinds.{AreGoodParams}
+use Rattle.gm_model.specs.Maps.{Map, IsDart, IsEmbedAt, IsGeneralised, IsMap, IsSchema, IsSound, IsWellEmbedded, type_of}
 use Rattle.gm_model.specs.Matches.{Placement, IsMatch}
-use Rattle.gm_model.specs.NewValues.{IsDeciding, IsValueAfter}
-use Rattle.gm_model.specs.Unfolding.{IsUnfolding, scene_of}
+use Rattle.gm_model.specs.NewValues.{IsDeciding}
 use Rattle.gm_theory.specs.Theorem.{Unfolded, Unfolds}
-
--- The result has the darts and arcs of the unfolding, and on each dart the values that the application gives it. That
--- is, each deciding instance has a value, and it is the value of its orbit.
-pub record HasNewValues (app : Application) (place : Placement) (result : Map) : Type 0 where
-  pub schema : result.schema ≡ app.map.schema
-  pub unfolded : IsUnfolding (scene_of app.map app.rule place) (IsDart result) result.alpha result.next
-  pub values : (e d : ℕ) (embed : Embed) → IsEmbedAt app.map.schema e embed → IsDart result d → IsValueAfter app.map app.rule place result.alpha e (type_of embed) (GivesValue app place e) d (result.value e d)
 
 -- the unfolding, with values of its darts
 abbrev pub with_values : Map → Unfolded → (ℕ → ℕ → Value) → Map
@@ -31,11 +24,11 @@ HaveSameValues a b = (e d : ℕ) (embed : Embed) → IsEmbedAt a.schema e embed 
 
 pub record KeepsWellEmbedded (app : Application) (place : Placement) : Type 0 where
   -- where each deciding instance has a value, an unfolding has new values
-  pub exists : (result : Unfolded) → Unfolds app.map app.rule place result → HaveValues app place result.alpha → (value : ℕ → ℕ → Value) × HasNewValues app place (with_values app.map result value)
+  pub exists : (result : Unfolded) → Unfolds app.map app.rule place result → HaveValues app place result.alpha → (value : ℕ → ℕ → Value) × IsResult app place (with_values app.map result value)
   -- no others are the new values
-  pub determined : (a b : Map) → HasNewValues app place a → HasNewValues app place b → HaveSameValues a b
+  pub determined : (a b : Map) → IsResult app place a → IsResult app place b → HaveSameValues a b
   -- and they are the same over each orbit
-  pub well_embedded : (result : Map) → HasNewValues app place result → IsWellEmbedded result
+  pub well_embedded : (result : Map) → IsResult app place result → IsWellEmbedded result
 
 -- For every generalised and well embedded map, every accepted rule, and every match of the rule in the map.
 abbrev pub RulesKeepWellEmbeddedMaps : Type 0
@@ -43,12 +36,7 @@ RulesKeepWellEmbeddedMaps = (app : Application) (place : Placement) → IsSchema
 
 -- ---- applications that are done
 
--- what is asked of a map, and what an application leaves
-pub record IsSound (map : Map) : Type 0 where
-  pub generalised : IsGeneralised map
-  pub embedded : IsWellEmbedded map
-  pub below : (d : ℕ) → IsDart map d → d < map.next
-
--- Where the application of an accepted rule is done, its result is sound.
+-- An application of an accepted rule to a sound map, with a value of its kind for each parameter, leaves a sound map
+-- where it is done. So what is asked of a map holds again after each line of a script.
 abbrev pub ApplicationsKeepSoundMaps : Type 0
-ApplicationsKeepSoundMaps = (app : Application) (result : Map) (added removed : ℕ) → IsSchema app.map.schema → IsMap app.map → IsGeneralised app.map → IsWellEmbedded app.map → IsAccepted app.map.schema app.rule → IsDone app result added removed → IsSound result
+ApplicationsKeepSoundMaps = (app : Application) (result : Map) (added removed : ℕ) → IsSchema app.map.schema → IsSound app.map → IsAccepted app.map.schema app.rule → AreGoodParams app.rule app.params → IsDone app result added removed → IsSound result

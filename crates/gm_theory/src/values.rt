@@ -10,9 +10,10 @@ pub fn keeps_well_embedded_maps()
     ensures { RulesKeepWellEmbeddedMaps }
 {}
 
-/// Where the application of an accepted rule to a generalised and well embedded map is done, its
-/// result is one too, with the next name above its names. It follows from the two halves of the
-/// theorem.
+/// Where the application of an accepted rule to a sound map is done, with a value of its kind for
+/// each parameter, its result is sound: a generalised map, well embedded, with each value in the
+/// range of its kind and the next name above its names. So the law holds for each line of a script
+/// in turn. It follows from the two halves of the theorem.
 pub fn applications_keep_sound_maps()
     ensures { ApplicationsKeepSoundMaps }
 {}

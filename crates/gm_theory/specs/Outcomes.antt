@@ -1,0 +1,12 @@
+-- That each application has an outcome.
+use Rattle.std.specs.Prelude.{◌≡◌, length}
+use Rattle.gm_model.specs.Acceptance.{IsAccepted}
+use Rattle.gm_model.specs.Applications.{Application}
+use Rattle.gm_model.specs.Kinds.{AreGoodParams}
+use Rattle.gm_model.specs.Maps.{Map, IsSchema, IsSound}
+use Rattle.gm_model.specs.Runs.{Outcome, IsOutcome}
+
+-- For every sound map, every accepted rule, as many darts as the rule has hooks, and a value of its kind for each
+-- parameter: the application is done, and leaves a map, or it is refused for a cause.
+abbrev pub ApplicationsHaveOutcomes : Type 0
+ApplicationsHaveOutcomes = (app : Application) → IsSchema app.map.schema → IsSound app.map → IsAccepted app.map.schema app.rule → length app.hooks ≡ length app.rule.hooks → AreGoodParams app.rule app.params → (outcome : Outcome) × (after : Map) × IsOutcome app outcome after

@@ -1,0 +1,11 @@
+//! The outcomes of applications, as a law of the definitions.
+
+ghost use Rattle.gm_theory.specs.Outcomes.{ApplicationsHaveOutcomes};
+
+/// Each application of an accepted rule to a sound map, with a dart's name for each hook and a
+/// value of its kind for each parameter, has an outcome: it is done, or it is refused for the first
+/// cause that holds. So no application falls between the definitions. The law is the clause; the
+/// function does nothing.
+pub fn applications_have_outcomes()
+    ensures { ApplicationsHaveOutcomes }
+{}
