@@ -11,7 +11,7 @@ use Rattle.gm_model.specs.declared.schema.Schema.{Schema}
 use Rattle.gm_model.specs.declared.value.Value.{Value}
 use Rattle.gm_arena.specs.declared.slot.Slot.{Slot}
 use Rattle.gm_arena.specs.declared.arena.Place.{Place}
-use Rattle.gm_arena.specs.Lawful.{HaveKinds}
+use Rattle.gm_arena.specs.Lawful.{AreGoodValues}
 use Rattle.gm_arena.specs.Edits.{free_dart, with_dart}
 use Rattle.gm_arena.specs.Inside.{no_slot, slot_in, name_in, part_of, dart_in, darts_in, slots_in, map_of, IsPlaced, IsSound}
 use Rattle.gm_arena.proofs.FilledLemmas.{same_maps, get-insert_same, get-insert_other, len-insert_new}
@@ -35,7 +35,7 @@ module _ (schema : Schema) (labels width : ℕ) (places : Slab Place) (neighbour
     (slot : ℕ) (places' : Slab Place) (free : get places slot ≡ None) (updates : Updates places places' slot (Some (new_place name)))
     (more : slab_len places' ≡ slab_len places + 1) (below : slot < places'.capacity) (capacity : places'.capacity ≡ places.capacity)
     (neighbours' : List Slot) (linked : IsWritten labels slot neighbours (own_links labels slot) neighbours')
-    (values' own : List Value) (kinds : HaveKinds schema own) (written : IsWritten width slot values own values') where
+    (values' own : List Value) (kinds : AreGoodValues schema own) (written : IsWritten width slot values own values') where
   none : get places no_slot ≡ None
   none = nowhere schema labels width places neighbours values table next spare bound sound
 
@@ -145,10 +145,10 @@ module _ (schema : Schema) (labels width : ℕ) (places : Slab Place) (neighbour
             (n.0, ap (get places') entry ∙ (updates.others _ (slot_free other) ∙ n.1), n.2)
       ];
       valued = λ other h. elim (cases_eq other slot) [
-        | inl e ↦ rw e (subst (HaveKinds schema) (sym written.here) kinds)
+        | inl e ↦ rw e (subst (AreGoodValues schema) (sym written.here) kinds)
         | inr apart ↦
             let was : IsSome (get places other) = rw (updates.others other apart) at h in
-            subst (HaveKinds schema) (sym (written.others other apart)) (sound.valued other was)
+            subst (AreGoodValues schema) (sym (written.others other apart)) (sound.valued other was)
       ];
       fits = rw capacity sound.fits;
       linked = rw (capacity, linked.long) sound.linked;

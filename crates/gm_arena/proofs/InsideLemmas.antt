@@ -13,7 +13,7 @@ use Rattle.gm_model.specs.declared.value.Value.{Value}
 use Rattle.gm_arena.specs.declared.slot.Slot.{Slot}
 use Rattle.gm_arena.specs.declared.arena.Place.{Place}
 use Rattle.gm_arena.specs.ArenaMap.{Dart, IsLiveName, name_at, alpha}
-use Rattle.gm_arena.specs.Lawful.{IsLawful, IsLawfulDart, HaveKinds}
+use Rattle.gm_arena.specs.Lawful.{IsLawful, IsLawfulDart, AreGoodValues}
 use Rattle.gm_arena.specs.Inside.{no_slot, slot_in, name_in, part_of, dart_in, darts_in, slots_in, map_of, IsSound}
 use Rattle.gm_arena.proofs.FilledLemmas.{get-filled}
 
@@ -142,7 +142,7 @@ module _ (schema : Schema) (labels width : ℕ) (places : Slab Place) (neighbour
         whole = ap (λ (d : Dart). length d.alphas) h.is ∙ (length-map _ _ ∙ (part_long labels neighbours places.capacity h.slot placed.below_capacity sound.linked ∙ sound.sized.one_each));
         neighbours = subst (λ (d : Dart). All IsLive d.alphas) (sym h.is)
             (All-map IsLive (λ (s : Slot). name_in places s.at) (part_of labels neighbours h.slot) (All-weaker _ _ (λ s live. live_name s.at live) _ placed.live));
-        valued = subst (λ (d : Dart). HaveKinds schema d.values) (sym h.is) (sound.valued h.slot (is_some_at _ _ h.here));
+        valued = subst (λ (d : Dart). AreGoodValues schema d.values) (sym h.is) (sound.valued h.slot (is_some_at _ _ h.here));
         below_next = subst (λ n. n < next) h.same placed.below_next;
         below_reserved = elim (cases_lt name (length table)) [
           | inl l ↦ l

@@ -10,7 +10,7 @@ use Rattle.gm_model.specs.declared.schema.Schema.{Schema}
 use Rattle.gm_model.specs.declared.value.Value.{Value}
 use Rattle.gm_arena.specs.declared.slot.Slot.{Slot}
 use Rattle.gm_arena.specs.declared.arena.Place.{Place}
-use Rattle.gm_arena.specs.Lawful.{HaveKinds}
+use Rattle.gm_arena.specs.Lawful.{AreGoodValues}
 use Rattle.gm_arena.specs.Inside.{no_slot, slot_in, part_of, darts_in, slots_in, map_of, IsSound}
 use Rattle.gm_arena.proofs.FilledLemmas.{same_maps}
 use Rattle.gm_arena.proofs.InsideLemmas.{nowhere, live_place, is_some_at, some_of}
@@ -101,7 +101,7 @@ module _ (schema : Schema) (labels width : ℕ) (places : Slab Place) (neighbour
         (n.0, ap (get places') (entries name) ∙ (same _ ∙ n.1), n.2);
     valued = λ slot h.
         let was : IsSome (get places slot) = rw (same slot) at h in
-        subst (HaveKinds schema) (sym (values_same slot was)) (sound.valued slot was);
+        subst (AreGoodValues schema) (sym (values_same slot was)) (sound.valued slot was);
     fits = fits;
     linked = linked;
     long = long;

@@ -9,12 +9,12 @@ use Rattle.std.proofs.lemmas.List.{drop-take, drop-set-lt, drop-set-add, take-se
 use Rattle.std.proofs.lemmas.Slice.{take-put_mid_below, drop-put_mid, between-put_mid}
 use Rattle.gm_model.specs.declared.schema.Schema.{Schema}
 use Rattle.gm_model.specs.declared.value.Value.{Value}
-use Rattle.gm_arena.specs.Lawful.{HaveKinds}
+use Rattle.gm_arena.specs.Lawful.{AreGoodValues}
 use Rattle.gm_arena.specs.Inside.{part_of}
 
 -- as many values as embeddings
-pub length-kinds : (schema : Schema) (values : List Value) → HaveKinds schema values → length values ≡ length schema.embeds
-length-kinds schema values h = sym (length-map values _) ∙ (ap length h ∙ length-map schema.embeds _)
+pub length-values : (schema : Schema) (values : List Value) → AreGoodValues schema values → length values ≡ length schema.embeds
+length-values schema values h = sym (length-map values _) ∙ (ap length h.kinds ∙ length-map schema.embeds _)
 
 -- the slot has these, and each other slot what it had
 pub record IsWritten {A : Type 0} (width slot : ℕ) (items own items' : List A) : Type 0 where

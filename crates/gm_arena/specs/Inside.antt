@@ -12,7 +12,7 @@ use Rattle.gm_arena.specs.ArenaMap.{ArenaMap, Dart}
 use Rattle.gm_arena.specs.Filled.{filled}
 use Rattle.gm_model.specs.Limits.{most_darts, most_names}
 use Rattle.gm_model.specs.Maps.{IsSchema}
-use Rattle.gm_arena.specs.Lawful.{HaveKinds}
+use Rattle.gm_arena.specs.Lawful.{AreGoodValues}
 
 -- what the table has where no live dart has a name
 abbrev pub no_slot : ℕ
@@ -81,7 +81,7 @@ pub record IsSound (schema : Schema) (labels width : ℕ) (places : Slab Place) 
   pub placed : (slot : ℕ) (place : Place) → get places slot ≡ Some place → IsPlaced labels places neighbours table next bound slot place
   -- a slot in the table holds a place of this name
   pub named : (name : ℕ) → slot_in table name ≢ no_slot → (place : Place) × (get places (slot_in table name) ≡ Some place) × (place.name ≡ name)
-  pub valued : (slot : ℕ) → IsSome (get places slot) → HaveKinds schema (part_of width values slot)
+  pub valued : (slot : ℕ) → IsSome (get places slot) → AreGoodValues schema (part_of width values slot)
   -- each key fits the table, and has room for its neighbours and values
   pub fits : places.capacity ≤ no_slot
   pub linked : places.capacity * labels ≤ length neighbours

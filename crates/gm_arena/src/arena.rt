@@ -72,7 +72,7 @@ impl Model for Arena {
 impl Arena {
     ghost use Rattle.gm_arena.specs.ArenaMap.{IsAt, IsLiveSlot, IsLiveName, name_at, alpha};
     ghost use Rattle.gm_model.specs.Maps.{IsSchema};
-    ghost use Rattle.gm_arena.specs.Lawful.{IsLawful, HaveKinds};
+    ghost use Rattle.gm_arena.specs.Lawful.{IsLawful, AreGoodValues};
     ghost use Rattle.gm_arena.specs.Edits.{empty_map, with_dart, with_alpha, without_dart, IsAlone};
 
     /// An arena without darts, whose next name is 0. It takes no memory.
@@ -223,7 +223,7 @@ impl Arena {
         requires room { 0 < self.old.spare }
         requires reserved { name < self.old.reserved }
         requires new_name { get self.old.darts name ≡ None }
-        requires values { HaveKinds self.old.schema values.now }
+        requires values { AreGoodValues self.old.schema values.now }
         ensures slot { get self.old.slots result.at ≡ None }
         ensures map { self.new ≡ with_dart self.old result.at name values.now }
         ensures cost { steps.new ≡ steps.old + 1 }
@@ -231,8 +231,9 @@ impl Arena {
         steps.tick();
         let key = self.places.insert_reserved(Place { name });
         let own = Slot { at: key as u32 };
-        self.neighbours[key * self.labels..key * self.labels + self.labels]
-            .copy_from_slice(&[own; MOST_LABELS][..self.labels]);
+        self.neighbours[key * self.labels..key * self.labels + self.labels].copy_from_slice(
+            &[own; MOST_LABELS][..self.labels],
+        );
         self.values[key * self.width..key * self.width + self.width].copy_from_slice(values);
         self.table[name as usize] = own.at;
         self.next = self.next.max(name + 1);

@@ -1,8 +1,8 @@
 use Rattle.std.proofs.Common.{◌≡◌, ◌+◌, ◌*◌, ◌≤◌, length, replicate, sym, ◌∙◌, arith}
 use Rattle.std.proofs.lemmas.List.{length-take-le}
-use Rattle.gm_arena.specs.Lawful.{HaveKinds}
+use Rattle.gm_arena.specs.Lawful.{AreGoodValues}
 use Rattle.gm_arena.proofs.ReserveLemmas.{stretch}
-use Rattle.gm_arena.proofs.ValueLemmas.{length-kinds, written}
+use Rattle.gm_arena.proofs.ValueLemmas.{length-values, written}
 use Rattle.gm_arena.proofs.InsideLemmas.{none_at}
 use Rattle.gm_arena.proofs.AddLemmas.{own_links, sound_with, map_with}
 use Rattle.gm_arena.proofs.arena.Arena.add.Goals as goal
@@ -13,8 +13,8 @@ invariant_of-self g c =
     let slot = c.insert_reserved-key.result in
     let own = c.args.values.now in
     let inserted = c.insert_reserved-key.ensures in
-    let kinds : HaveKinds s.schema own = rw (← c.self.view_is) at c.requires.values in
-    let wide : length own ≡ s.width = length-kinds s.schema own kinds ∙ sym c.self.invariant.sized.wide in
+    let kinds : AreGoodValues s.schema own = rw (← c.self.view_is) at c.requires.values in
+    let wide : length own ≡ s.width = length-values s.schema own kinds ∙ sym c.self.invariant.sized.wide in
     let within : slot * s.width + s.width ≤ length s.values.items = stretch slot s.places.capacity s.width (length s.values.items) (omega (arith, inserted.key_in_range, inserted.capacity)) c.self.invariant.long in
     let links : length (own_links s.labels slot) ≡ s.labels = length-take-le s.labels (replicate 8 (record { at = slot })) c.self.invariant.sized.few in
     let links_within : slot * s.labels + s.labels ≤ length s.neighbours.items = stretch slot s.places.capacity s.labels (length s.neighbours.items) (omega (arith, inserted.key_in_range, inserted.capacity)) c.self.invariant.linked in
@@ -35,8 +35,8 @@ returns-clause-map g c =
     let slot = c.insert_reserved-key.result in
     let own = c.args.values.now in
     let inserted = c.insert_reserved-key.ensures in
-    let kinds : HaveKinds s.schema own = rw (← c.self.view_is) at c.requires.values in
-    let wide : length own ≡ s.width = length-kinds s.schema own kinds ∙ sym c.self.invariant.sized.wide in
+    let kinds : AreGoodValues s.schema own = rw (← c.self.view_is) at c.requires.values in
+    let wide : length own ≡ s.width = length-values s.schema own kinds ∙ sym c.self.invariant.sized.wide in
     let within : slot * s.width + s.width ≤ length s.values.items = stretch slot s.places.capacity s.width (length s.values.items) (omega (arith, inserted.key_in_range, inserted.capacity)) c.self.invariant.long in
     let links : length (own_links s.labels slot) ≡ s.labels = length-take-le s.labels (replicate 8 (record { at = slot })) c.self.invariant.sized.few in
     let links_within : slot * s.labels + s.labels ≤ length s.neighbours.items = stretch slot s.places.capacity s.labels (length s.neighbours.items) (omega (arith, inserted.key_in_range, inserted.capacity)) c.self.invariant.linked in
