@@ -1,15 +1,13 @@
 -- What an application comes to by the match, the room for its result, and the edits; and the steps of the whole.
-use Rattle.std.proofs.Common.{◌≡◌, ℕ, ◌+◌, ◌-◌, ◌*◌, ◌<◌, ◌≤◌, ◌⊎◌, inl, inr, List, [], ◌∷◌, length, Option, Some, None, slice_get, refl, sym, ap, subst, ◌∙◌, arith}
+use Rattle.std.proofs.Common.{◌≡◌, ℕ, ◌+◌, ◌-◌, ◌*◌, ◌<◌, ◌≤◌, List, [], length, Some, None, slice_get, sym, ap, subst, ◌∙◌, arith}
 use Rattle.std.proofs.lemmas.Nat.{mul-le}
-use Rattle.gm_model.specs.declared.schema.Embed.{Embed}
 use Rattle.gm_model.specs.declared.value.Value.{Value}
-use Rattle.gm_model.specs.Applications.{Application, HasHookDarts, IsFound, IsReady, IsRefused, NoRoom, NoNames, FullDarts, FullNames, MeetsPre, IsDone, IsWork, NoHookDarts, NoMatch, NotReady, Ready, IsBudget, Of, more}
+use Rattle.gm_model.specs.Applications.{Application, IsRefused, NoRoom, NoNames, FullDarts, FullNames, MeetsPre, IsDone, IsWork, NoHookDarts, NoMatch, NotReady, Ready, IsBudget, Of}
 use Rattle.gm_model.specs.Limits.{most_darts, most_names}
-use Rattle.gm_model.specs.Maps.{Map, IsDart, IsEmbedAt, IsGeneralised, dimension}
-use Rattle.gm_model.specs.Matches.{Placement, ArePositions, Created, Walked, IsCandidate, along_hook}
+use Rattle.gm_model.specs.Maps.{Map, IsDart, IsGeneralised}
+use Rattle.gm_model.specs.Matches.{Placement, ArePositions, Created, Walked, along_hook}
 use Rattle.gm_model.specs.Orbits.{HasCount}
 use Rattle.gm_model.specs.Rules.{Rule, rule_of, width}
-use Rattle.gm_model.specs.Trees.{Tree}
 use Rattle.gm_model.specs.Unfolding.{IsGone, scene_of, added_nodes}
 use Rattle.gm_model.specs.declared.rule.RuleTable.{RuleTable}
 use Rattle.gm_arena.specs.ArenaAsMap.{as_map}

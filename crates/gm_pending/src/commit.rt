@@ -47,13 +47,7 @@ impl Edits<'_> {
 
 impl Rewrite<'_> {
     /// Makes each arc's end the neighbour of its other end. The slots of new darts are in `made`.
-    fn write<L: Ledger>(
-        &self,
-        arcs: Arcs,
-        made: &[Slot],
-        arena: &mut Arena,
-        steps: &mut Steps<L>,
-    )
+    fn write<L: Ledger>(&self, arcs: Arcs, made: &[Slot], arena: &mut Arena, steps: &mut Steps<L>)
         requires { (arc : Arc) → Contains (all_arcs self.now arcs) arc → IsWritable arena.old made.now arc }
         ensures map { arena.new ≡ with_arcs (end_at arena.old made.now) arena.old (all_arcs self.now arcs) }
         ensures cost { steps.new ≡ steps.old + length (all_arcs self.now arcs) }
@@ -123,12 +117,7 @@ impl Rewrite<'_> {
     }
 }
 
-fn write_arc<L: Ledger>(
-    arc: Option<Arc>,
-    made: &[Slot],
-    arena: &mut Arena,
-    steps: &mut Steps<L>,
-)
+fn write_arc<L: Ledger>(arc: Option<Arc>, made: &[Slot], arena: &mut Arena, steps: &mut Steps<L>)
     requires { (a : Arc) → Contains (as_list arc) a → IsWritable arena.old made.now a }
     ensures map { arena.new ≡ with_arcs (end_at arena.old made.now) arena.old (as_list arc) }
     ensures cost { steps.new ≡ steps.old + length (as_list arc) }

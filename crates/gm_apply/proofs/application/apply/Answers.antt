@@ -1,9 +1,9 @@
-use Rattle.std.proofs.Common.{◌≡◌, ℕ, ◌+◌, ◌-◌, ◌*◌, ◌≤◌, refl, sym, ap, ◌∙◌, subst, arith}
+use Rattle.std.proofs.Common.{refl, ap, ◌∙◌, arith}
 use Rattle.std.proofs.lemmas.Result.{err_from_is_err_and}
 use Rattle.gm_model.specs.Rules.{rule_of}
 use Rattle.gm_match.specs.Outcome.{application_of}
 use Rattle.gm_pending.specs.Results.{pending_of}
-use Rattle.gm_apply.proofs.Applying.{refused_match, matched_again, generalised_again, is_done, find_within, find_cost, all_within}
+use Rattle.gm_apply.proofs.Applying.{refused_match, matched_again, is_done, find_within, all_within}
 use Rattle.gm_apply.proofs.application.apply.Goals as goal
 
 pub returns-in_err-found-clause-outcome : goal.returns-in_err-found-clause-outcome

@@ -3,7 +3,6 @@ use Rattle.gm_model.specs.declared.schema.Schema.{Schema}
 use Rattle.gm_model.specs.Rules.{rule_of}
 use Rattle.gm_plan.specs.Plans.{IsPlanned}
 use Rattle.gm_pending.specs.Collected.{rewrite_at, rewrite_of}
-use Rattle.gm_pending.specs.Results.{PendingOf}
 use Rattle.gm_pending.proofs.pending.Pending.rewrite.Goals as goal
 
 pub invariant_of-result : goal.invariant_of-result

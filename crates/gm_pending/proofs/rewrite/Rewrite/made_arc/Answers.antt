@@ -1,9 +1,9 @@
-use Rattle.std.proofs.Common.{◌≡◌, ◌≤◌, ◌<◌, ap, sym, subst, ◌∙◌}
+use Rattle.std.proofs.Common.{◌≡◌, ◌≤◌, ◌<◌, sym, subst}
 use Rattle.gm_model.specs.declared.rule.Side.TheVariants.{Right}
 use Rattle.gm_model.specs.declared.step.Step.TheVariants.{Exp, Imp}
-use Rattle.gm_model.specs.Rules.{rule_of, has_word, step, width}
+use Rattle.gm_model.specs.Rules.{rule_of, step, width}
 use Rattle.gm_theory.proofs.RuleSteps.{step_back, step_within}
-use Rattle.gm_pending.specs.Collected.{RewriteOf, rule_at}
+use Rattle.gm_pending.specs.Collected.{RewriteOf}
 use Rattle.gm_pending.proofs.rewrite.Rewrite.made_arc.Goals as goal
 
 pub end-to-requires-clause-node : goal.end-to-requires-clause-node

@@ -1,6 +1,5 @@
-use Rattle.std.proofs.Common.{◌≡◌, ◌+◌, ◌<◌, length, ap, ◌∙◌, arith}
-use Rattle.gm_pending.specs.Collected.{as_list, rule_at, removed_in}
-use Rattle.gm_pending.specs.Written.{without_darts}
+use Rattle.std.proofs.Common.{◌≡◌, ◌<◌, length, arith}
+use Rattle.gm_pending.specs.Collected.{rule_at, removed_in}
 use Rattle.gm_pending.proofs.Writing.{none_gone, more_gone, can_go_on}
 use Rattle.gm_pending.proofs.rewrite.Rewrite.remove.Goals as goal
 

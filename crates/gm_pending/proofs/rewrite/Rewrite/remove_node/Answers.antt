@@ -1,5 +1,5 @@
 use Rattle.std.proofs.Common.{◌≡◌, ◌+◌, ◌<◌, length, ap, ◌∙◌, arith}
-use Rattle.gm_pending.specs.Collected.{as_list, rule_at, removed_of}
+use Rattle.gm_pending.specs.Collected.{as_list, removed_of}
 use Rattle.gm_pending.specs.Written.{without_darts}
 use Rattle.gm_pending.proofs.Writing.{none_gone, more_gone, can_go_on}
 use Rattle.gm_pending.proofs.rewrite.Rewrite.remove_node.Goals as goal

@@ -1,7 +1,5 @@
-use Rattle.std.proofs.Common.{◌≡◌, ◌+◌, ◌<◌, length, ap, subst, ◌∙◌, arith}
-use Rattle.std.specs.List.{Contains}
-use Rattle.gm_pending.specs.Collected.{concat_below, rule_at, labels, arcs_in}
-use Rattle.gm_pending.specs.Written.{end_at, with_arcs}
+use Rattle.std.proofs.Common.{◌≡◌, ◌<◌, length, arith}
+use Rattle.gm_pending.specs.Collected.{concat_below, rule_at, arcs_in}
 use Rattle.gm_pending.proofs.Concat.{contains_concat}
 use Rattle.gm_pending.proofs.Writing.{none_written, more_written, still_writable}
 use Rattle.gm_pending.proofs.rewrite.Rewrite.write.Goals as goal

@@ -1,6 +1,6 @@
 use Rattle.std.proofs.Common.{◌≡◌, ◌+◌, ◌<◌, length, ap, subst, ◌∙◌, arith}
 use Rattle.std.specs.List.{Contains}
-use Rattle.gm_pending.specs.Collected.{concat_below, rule_at, labels, as_list, arc_at}
+use Rattle.gm_pending.specs.Collected.{concat_below, labels, as_list, arc_at}
 use Rattle.gm_pending.specs.Written.{end_at, with_arcs}
 use Rattle.gm_pending.proofs.Concat.{contains_concat}
 use Rattle.gm_pending.proofs.Writing.{none_written, more_written, still_writable}
