@@ -1,7 +1,7 @@
 -- How reading mark by mark goes on: over a token that a lexer answers, and up to a fault.
-use Rattle.std.proofs.Common.{arith, ◌≡◌, ℕ, List, [], ◌∷◌, length, Option, Some, None, Result, Ok, Err, refl, sym, ap, subst, ◌∙◌}
+use Rattle.std.proofs.Common.{arith, ◌≡◌, ℕ, List, ◌∷◌, Option, Some, None, Result, Ok, Err, refl, sym, ap, subst, ◌∙◌}
 use Rattle.gm_model.specs.declared.token.Token.{Token}
-use Rattle.gm_model.specs.Symbols.{Stray, End, Mark}
+use Rattle.gm_model.specs.Symbols.{Stray, Mark}
 use Rattle.gm_text.specs.Cursor.{Cursor}
 use Rattle.gm_text.specs.Lexing.{rest_of, items_read, after, IsInText, IsLongestThere}
 use Rattle.gm_text.proofs.Marks.{marks_at-token, marks_at-end}
@@ -10,7 +10,7 @@ use Rattle.gm_book.specs.declared.form_fault.FormFault.{FormFault}
 use Rattle.gm_book.specs.declared.form_fault.FormFault.TheVariants as faults
 use Rattle.gm_book.specs.declared.state.State.{State as CodeState}
 use Rattle.gm_book.specs.Reading.{State, AtFormat, AtVersion, AtDim, AtTop, AtRules, AtName, AtLeft, AtItem, AtSign, AtLetter, AtBehind, AtLabel, AtDash, AtTo, AtEnd, Held}
-use Rattle.gm_book.specs.Standing.{Stand, stepped, read_on, ◌>>=◌, Fails, Gives, IsNext, IsStateIn, IsDraftIn, MovesFrom, EndsFrom, end_stand, stand_of, mark_of, marks_left}
+use Rattle.gm_book.specs.Standing.{Stand, stepped, read_on, ◌>>=◌, Fails, IsNext, IsStateIn, IsDraftIn, MovesFrom, stand_of, mark_of, marks_left}
 
 -- ---- tokens
 
