@@ -84,9 +84,11 @@ pub is_done : (old new result : ArenaMap) (table : RuleTable) (hooks : List ℕ)
 is_done old new result table hooks params found added removed no_embeds same room schema is = record {
   place = placement_in old found;
   ready = room.ready;
-  schema = schema ∙ ap (λ (n : ArenaMap). n.schema) same;
-  unfolded = same_arena old new table found result same is;
-  values = λ e d embed at live. let none : None ≡ Some embed = sym (ap (λ embeds. slice_get embeds e) no_embeds) ∙ at in absurd cc;
+  result_is = record {
+    schema = schema ∙ ap (λ (n : ArenaMap). n.schema) same;
+    unfolded = same_arena old new table found result same is;
+    values = λ e d embed at live. let none : None ≡ Some embed = sym (ap (λ embeds. slice_get embeds e) no_embeds) ∙ at in absurd cc;
+  };
   added_is = room.added_is;
   removed_is = room.gone;
 }

@@ -136,7 +136,7 @@ module _ (m : ArenaMap) (rule : Rule) (sound : IsSound m rule) where
           (places ∙ sym (no_places rule none))
         where
           candidate : IsCandidate (as_map m) rule hooks (place_of m found)
-          candidate = record { walk = []; positions = subst (λ hs. ArePositions (as_map m) rule (place_of m found) hs []) (sym no_dart) (Created none one); forced = λ x p path at to. absurd (no_left x at.0) }
+          candidate = record { count = ap length no_dart ∙ sym (ap length none); walk = []; positions = subst (λ hs. ArePositions (as_map m) rule (place_of m found) hs []) (sym no_dart) (Created none one); forced = λ x p path at to. absurd (no_left x at.0) }
 
           nothing : (d : ℕ) → Contains hooks d → ⊥
           nothing d (k, h, e) = let z : length hooks ≡ 0 = ap length no_dart in omega arith
@@ -148,9 +148,10 @@ pub record IsBegun (m : ArenaMap) (rule : Rule) (hooks : List ℕ) (d : ℕ) : T
   pub first : slice_get hooks 0 ≡ Some d
   pub live : AreDarts m hooks (length hooks)
   pub few : length hooks ≤ 1
+  pub count : length hooks ≡ length rule.hooks
 
 pub begun_of : (m : ArenaMap) (rule : Rule) (hooks : List ℕ) (answer : Option Slot) (s : Slot) → IsSound m rule → IsLawful m → length hooks ≡ length rule.hooks → answer ≡ Some s → IsFirstDart m hooks answer × AreDarts m hooks (length hooks) → IsBegun m rule hooks (name_at m s.at)
-begun_of m rule hooks answer s sound lawful same is darts = record { sound = sound; lawful = lawful; first = first_named m hooks answer s is darts.0; live = darts.1; few = omega (arith, few_hooks m rule sound) }
+begun_of m rule hooks answer s sound lawful same is darts = record { sound = sound; lawful = lawful; first = first_named m hooks answer s is darts.0; live = darts.1; few = omega (arith, few_hooks m rule sound); count = same }
 
 module _ (m : ArenaMap) (rule : Rule) (hooks : List ℕ) (d : ℕ) (begun : IsBegun m rule hooks d) where
   live_hooks : (params : List Value) → HasHookDarts (application_of m rule hooks params)
@@ -179,7 +180,7 @@ module _ (m : ArenaMap) (rule : Rule) (hooks : List ℕ) (d : ℕ) (begun : IsBe
 
   module _ (found : Placed) (at : IsCandidateAt m rule d found) where
     candidate : IsCandidate (as_map m) rule hooks (place_of m found)
-    candidate = let c = cons_of hooks d begun.first in subst (λ hs. IsCandidate (as_map m) rule hs (place_of m found)) (sym c.1) (at.candidate c.0)
+    candidate = let c = cons_of hooks d begun.first in subst (λ hs. IsCandidate (as_map m) rule hs (place_of m found)) (sym c.1) (at.candidate c.0 (subst (λ hs. length hs ≡ length rule.hooks) c.1 begun.count))
 
     pub positions_found : (k : ℕ) → HasPositions (as_map m) rule hooks k → k ≡ found.positions
     positions_found k has =
