@@ -1,7 +1,7 @@
 use Rattle.std.proofs.Common.{arith}
 use Rattle.std.proofs.lemmas.List.{length-take}
 use Rattle.gm_host.proofs.Reading.{Consumes-nothing, Consumes-append}
-use Rattle.gm_host.proofs.file_store.read_within.Goals as goal
+use Rattle.gm_host.proofs.opened.read_within.Goals as goal
 
 pub loop-bytes-init : goal.loop-bytes-init
 loop-bytes-init g c = record { within = omega arith; read = rw c.new-bytes.ensures.items (Consumes-nothing _) }

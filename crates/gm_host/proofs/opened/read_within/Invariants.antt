@@ -1,6 +1,6 @@
 use Rattle.std.proofs.Common.{◌≤◌, ◌+◌, ◌-◌, vec_len}
 use Rattle.std.specs.Io.KnownBytes.{Consumes}
-use Rattle.gm_host.proofs.file_store.read_within.Given as goal
+use Rattle.gm_host.proofs.opened.read_within.Given as goal
 
 -- the bytes so far are what was read, and at most one past the limit
 abbrev pub invariant-loop-bytes : goal.invariant-loop-bytes
