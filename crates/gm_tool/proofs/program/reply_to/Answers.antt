@@ -1,4 +1,5 @@
 use Rattle.std.proofs.Common.{Err, inl, inr}
+use Rattle.gm_host.specs.Count.{Rises}
 use Rattle.gm_tool.specs.MadeRuns.{names_of}
 use Rattle.gm_tool.specs.Refusals.{command_in}
 use Rattle.gm_tool.specs.Tool.{words_of}
@@ -83,7 +84,7 @@ returns-clause-show_most g c =
 
 pub returns-in-Some-clause-counted_loads : goal.returns-in-Some-clause-counted_loads
 returns-in-Some-clause-counted_loads g c =
-    counts_none (words_of c.args.words.now) _ _ _ (λ named asks. file_is_no_run (words_of c.args.words.now) (command_in c.in-Some.command) c.in-Some.file.now named c.in-Some.ensures asks) (g.S.Store.holds c.args.store.now) c.reply_on.result
+    counts_none (words_of c.args.words.now) (Rises (g.S.Store.load_faults c.args.store.now) (g.S.Store.load_faults c.reply_on.new.store)) (g.S.Store.loads c.args.store.now) (g.S.Store.loads c.reply_on.new.store) (λ named asks. file_is_no_run (words_of c.args.words.now) (command_in c.in-Some.command) c.in-Some.file.now named c.in-Some.ensures asks) (g.S.Store.holds c.args.store.now) c.reply_on.result
 
 pub returns-in_default-run_of-clause-counted_loads : goal.returns-in_default-run_of-clause-counted_loads
 returns-in_default-run_of-clause-counted_loads g c =
@@ -91,7 +92,7 @@ returns-in_default-run_of-clause-counted_loads g c =
 
 pub returns-clause-counted_loads : goal.returns-clause-counted_loads
 returns-clause-counted_loads g c =
-    counts_of (words_of c.args.words.now) _ _ _ (names_of c.in-Some-run_of.files) c.in-Some-run_of.ensures (g.S.Store.holds c.args.store.now) c.answer.result c.answer.ensures.counted_loads
+    counts_of (words_of c.args.words.now) (Rises (g.S.Store.load_faults c.args.store.now) (g.S.Store.load_faults c.answer.new.store)) (g.S.Store.loads c.args.store.now) (g.S.Store.loads c.answer.new.store) (names_of c.in-Some-run_of.files) c.in-Some-run_of.ensures (g.S.Store.holds c.args.store.now) c.answer.result c.answer.ensures.counted_loads
 
 pub returns-in-Some-clause-none_failed : goal.returns-in-Some-clause-none_failed
 returns-in-Some-clause-none_failed g c = always c.reply_on.ensures.no_save_fault c.reply_on.result

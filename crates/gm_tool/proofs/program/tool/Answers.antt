@@ -82,7 +82,9 @@ returns-in-Err-Refused-clause-no_memory_before g c never seven =
     absurd (refusal_is_not_seven c.in-Err-Refused.refusal (rw c.status.ensures at (c.put_whole-in-Err-Refused.ensures.enough_memory never seven)))
 
 pub returns-in-Err-OutOfMemory-clause-no_memory_before : goal.returns-in-Err-OutOfMemory-clause-no_memory_before
-returns-in-Err-OutOfMemory-clause-no_memory_before g c never seven = (rw c.in-Err-OutOfMemory.field-0-is at c.in-Err-OutOfMemory.ensures.no_memory) refl
+returns-in-Err-OutOfMemory-clause-no_memory_before g c never seven =
+    let unchanged = rw c.in-Err-OutOfMemory.field-0-is at c.in-Err-OutOfMemory.ensures.no_memory in
+    unchanged refl
 
 pub returns-in-Ok-clause-no_save_failed : goal.returns-in-Ok-clause-no_save_failed
 returns-in-Ok-clause-no_save_failed g c run = c.in-Ok.ensures.none_failed

@@ -39,14 +39,14 @@ returns-in-Err-Bad-clause-least g c = least_bad (g.S.Store.holds c.args.store.no
 
 pub returns-in-Ok-clause-counted_loads : goal.returns-in-Ok-clause-counted_loads
 returns-in-Ok-clause-counted_loads g c =
-    rw (c.saved.ensures.no_load_fault, c.saved.ensures.no_load) (counts_saved (names_of c.args.files) _ _ _ (g.S.Store.holds c.args.store.now) c.in-Ok.made c.saved.result c.in-Ok.ensures.counted_loads)
+    rw (c.saved.ensures.no_load_fault, c.saved.ensures.no_load) (counts_saved (names_of c.args.files) (Rises (g.S.Store.load_faults c.args.store.now) (g.S.Store.load_faults c.prepared.new.store)) (g.S.Store.loads c.args.store.now) (g.S.Store.loads c.prepared.new.store) (g.S.Store.holds c.args.store.now) c.in-Ok.made c.saved.result c.in-Ok.ensures.counted_loads)
 
 pub returns-in-Err-Bad-clause-counted_loads : goal.returns-in-Err-Bad-clause-counted_loads
 returns-in-Err-Bad-clause-counted_loads g c = rw c.in-Err-Bad.field-0-is at c.in-Err-Bad.ensures.counted_loads
 
 pub returns-in-Err-NoText-clause-counted_loads : goal.returns-in-Err-NoText-clause-counted_loads
 returns-in-Err-NoText-clause-counted_loads g c =
-    counts_stopped (names_of c.args.files) _ _ _ (g.S.Store.holds c.args.store.now) c.in-Err-NoText.none (rw c.in-Err-NoText.field-0-is at c.in-Err-NoText.ensures.counted_loads)
+    counts_stopped (names_of c.args.files) (Rises (g.S.Store.load_faults c.args.store.now) (g.S.Store.load_faults c.prepared.new.store)) (g.S.Store.loads c.args.store.now) (g.S.Store.loads c.prepared.new.store) (g.S.Store.holds c.args.store.now) c.in-Err-NoText.none (rw c.in-Err-NoText.field-0-is at c.in-Err-NoText.ensures.counted_loads)
 
 pub returns-in-Ok-clause-no_memory : goal.returns-in-Ok-clause-no_memory
 returns-in-Ok-clause-no_memory g c none = unsaved _ _ c.args.files.out.now c.in-Ok.made _ c.saved.result c.saved.ensures.saved none ∙ c.prepared.ensures.held

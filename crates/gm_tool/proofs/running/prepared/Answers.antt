@@ -1,6 +1,6 @@
 use Rattle.std.proofs.Common.{Err, rules, refl, map, ap, ◌∙◌}
 use Rattle.std.proofs.lemmas.Result.{err_from_is_err_and}
-use Rattle.gm_host.specs.Count.{counted}
+use Rattle.gm_host.specs.Count.{counted, Rises}
 use Rattle.gm_model.specs.Rules.{rule_of}
 use Rattle.gm_tool.specs.Answer.{TheBook}
 use Rattle.gm_tool.specs.Loads.{FailsAt}
@@ -124,35 +124,35 @@ returns-clause-least g c =
 pub returns-in_err-arena-clause-counted_loads : goal.returns-in_err-arena-clause-counted_loads
 returns-in_err-arena-clause-counted_loads g c =
     let p = err_from_is_err_and c.from_residual.result c.from_residual.ensures.1 in
-    rw (p.1, p.2) (behind_map (names_of c.args.files) _ _ _ (g.S.Store.holds c.args.store.now) _ c.in_err-arena.field-0.0 (λ rises. rises) c.load_map.ensures.once c.in_err-arena.ensures.from)
+    rw (p.1, p.2) (behind_map (names_of c.args.files) (Rises (g.S.Store.load_faults c.args.store.now) (g.S.Store.load_faults c.load_map.new.store)) (g.S.Store.loads c.args.store.now) (g.S.Store.loads c.load_map.new.store) (g.S.Store.holds c.args.store.now) _ c.in_err-arena.field-0.0 (λ rises. rises) c.load_map.ensures.once c.in_err-arena.ensures.from)
 
 pub returns-in_err-book-clause-counted_loads : goal.returns-in_err-book-clause-counted_loads
 returns-in_err-book-clause-counted_loads g c =
     let p = err_from_is_err_and c.from_residual-in_err-book.result c.from_residual-in_err-book.ensures.1 in
     rw (p.1, p.2)
-    (behind_book (names_of c.args.files) _ _ _ (g.S.Store.holds c.args.store.now) c.in_ok-arena.arena (Unit {0}) _ c.in_err-book.field-0.0 (rises_later _ _ _ c.load_map.ensures.faults_never_fall)
+    (behind_book (names_of c.args.files) (Rises (g.S.Store.load_faults c.args.store.now) (g.S.Store.load_faults c.load_book.new.store)) (g.S.Store.loads c.args.store.now) (g.S.Store.loads c.load_book.new.store) (g.S.Store.holds c.args.store.now) c.in_ok-arena.arena (Unit {0}) _ c.in_err-book.field-0.0 (rises_later _ _ _ c.load_map.ensures.faults_never_fall)
     (c.load_book.ensures.once ∙ ap counted c.load_map.ensures.once) c.in_ok-arena.ensures.from (rw c.load_map.ensures.held at c.in_err-book.ensures.from))
 
 pub returns-in_err-plans-clause-counted_loads : goal.returns-in_err-plans-clause-counted_loads
 returns-in_err-plans-clause-counted_loads g c =
     let p = err_from_is_err_and c.from_residual-in_err-plans.result c.from_residual-in_err-plans.ensures.1 in
     rw (p.1, p.2)
-    (behind_rules (names_of c.args.files) _ _ _ (g.S.Store.holds c.args.store.now) c.in_ok-arena.arena c.in_ok-book.book (Unit {0}) (Unit {0}) c.in_err-plans.field-0.0
+    (behind_rules (names_of c.args.files) (Rises (g.S.Store.load_faults c.args.store.now) (g.S.Store.load_faults c.load_book.new.store)) (g.S.Store.loads c.args.store.now) (g.S.Store.loads c.load_book.new.store) (g.S.Store.holds c.args.store.now) c.in_ok-arena.arena c.in_ok-book.book (Unit {0}) (Unit {0}) c.in_err-plans.field-0.0
     (c.load_book.ensures.once ∙ ap counted c.load_map.ensures.once) c.in_ok-arena.ensures.from (rw c.load_map.ensures.held at c.in_ok-book.ensures.from) c.in_err-plans.ensures.stop)
 
 pub returns-in_err-script-clause-counted_loads : goal.returns-in_err-script-clause-counted_loads
 returns-in_err-script-clause-counted_loads g c =
     let p = err_from_is_err_and c.from_residual-in_err-script.result c.from_residual-in_err-script.ensures.1 in
     rw (p.1, p.2)
-    (behind_script (names_of c.args.files) _ _ _ (g.S.Store.holds c.args.store.now) c.in_ok-arena.arena c.in_ok-book.book (Unit {0}) (Unit {0}) (Err c.in_err-script.field-0.0)
+    (behind_script (names_of c.args.files) (Rises (g.S.Store.load_faults c.args.store.now) (g.S.Store.load_faults c.load_script.new.store)) (g.S.Store.loads c.args.store.now) (g.S.Store.loads c.load_script.new.store) (g.S.Store.holds c.args.store.now) c.in_ok-arena.arena c.in_ok-book.book (Unit {0}) (Unit {0}) (Err c.in_err-script.field-0.0)
     (c.load_script.ensures.once ∙ ap counted (c.load_book.ensures.once ∙ ap counted c.load_map.ensures.once)) c.in_ok-arena.ensures.from (rw c.load_map.ensures.held at c.in_ok-book.ensures.from) c.in_ok-plans.ensures.accepted)
 
 pub returns-then-not-agree-clause-counted_loads : goal.returns-then-not-agree-clause-counted_loads
 returns-then-not-agree-clause-counted_loads g c =
-    behind_script (names_of c.args.files) _ _ _ (g.S.Store.holds c.args.store.now) c.in_ok-arena.arena c.in_ok-book.book (Unit {0}) (Unit {0}) (Err (stops.NoText (nothing.Refused refusals.Agree)))
+    behind_script (names_of c.args.files) (Rises (g.S.Store.load_faults c.args.store.now) (g.S.Store.load_faults c.load_script.new.store)) (g.S.Store.loads c.args.store.now) (g.S.Store.loads c.load_script.new.store) (g.S.Store.holds c.args.store.now) c.in_ok-arena.arena c.in_ok-book.book (Unit {0}) (Unit {0}) (Err (stops.NoText (nothing.Refused refusals.Agree)))
     (c.load_script.ensures.once ∙ ap counted (c.load_book.ensures.once ∙ ap counted c.load_map.ensures.once)) c.in_ok-arena.ensures.from (rw c.load_map.ensures.held at c.in_ok-book.ensures.from) c.in_ok-plans.ensures.accepted
 
 pub returns-clause-counted_loads : goal.returns-clause-counted_loads
 returns-clause-counted_loads g c =
-    behind_script (names_of c.args.files) _ _ _ (g.S.Store.holds c.args.store.now) c.in_ok-arena.arena c.in_ok-book.book (Unit {0}) (Unit {0}) c.applied.result
+    behind_script (names_of c.args.files) (Rises (g.S.Store.load_faults c.args.store.now) (g.S.Store.load_faults c.load_script.new.store)) (g.S.Store.loads c.args.store.now) (g.S.Store.loads c.load_script.new.store) (g.S.Store.holds c.args.store.now) c.in_ok-arena.arena c.in_ok-book.book (Unit {0}) (Unit {0}) c.applied.result
     (c.load_script.ensures.once ∙ ap counted (c.load_book.ensures.once ∙ ap counted c.load_map.ensures.once)) c.in_ok-arena.ensures.from (rw c.load_map.ensures.held at c.in_ok-book.ensures.from) c.in_ok-plans.ensures.accepted
