@@ -231,8 +231,9 @@ impl Arena {
         steps.tick();
         let key = self.places.insert_reserved(Place { name });
         let own = Slot { at: key as u32 };
-        self.neighbours[key * self.labels..key * self.labels + self.labels]
-            .copy_from_slice(&[own; MOST_LABELS][..self.labels]);
+        self.neighbours[key * self.labels..key * self.labels + self.labels].copy_from_slice(
+            &[own; MOST_LABELS][..self.labels],
+        );
         self.values[key * self.width..key * self.width + self.width].copy_from_slice(values);
         self.table[name as usize] = own.at;
         self.next = self.next.max(name + 1);
