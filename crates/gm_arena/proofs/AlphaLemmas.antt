@@ -1,21 +1,20 @@
 -- Another neighbour of one dart: the arena stays sound, and its map has this one neighbour.
-use Rattle.std.proofs.Common.{◌≡◌, ℕ, ◌<◌, List, set, map, take, Some, None, refl, sym, ap, subst, ◌∙◌, inl, inr, arith, All}
+use Rattle.std.proofs.Common.{◌≡◌, ℕ, ◌<◌, List, set, map, Some, None, refl, sym, ap, subst, ◌∙◌, inl, inr, All}
 use Rattle.std.specs.Option.{option_map, IsSome}
 use Rattle.std.specs.FinMap as map
 use Rattle.std.proofs.lemmas.Bool.{cases_eq}
-use Rattle.std.proofs.lemmas.Option.{same_Some}
-use Rattle.std.proofs.lemmas.List.{length-set, map-set}
-use Rattle.std.proofs.lemmas.List.Elements.{All-set, All-weaker}
-use Rattle.slab.specs.Slab.{Slab, get, slab_len, Updates}
+use Rattle.std.proofs.lemmas.List.{map-set}
+use Rattle.std.proofs.lemmas.List.Elements.{All-set}
+use Rattle.slab.specs.Slab.{Slab, get}
 use Rattle.gm_model.specs.declared.schema.Schema.{Schema}
 use Rattle.gm_model.specs.declared.value.Value.{Value}
 use Rattle.gm_arena.specs.declared.slot.Slot.{Slot}
 use Rattle.gm_arena.specs.declared.arena.Place.{Place}
 use Rattle.gm_arena.specs.ArenaMap.{Dart}
 use Rattle.gm_arena.specs.Edits.{turned, put_if, with_alpha}
-use Rattle.gm_arena.specs.Inside.{no_slot, slot_in, name_in, part_of, dart_in, darts_in, slots_in, map_of, IsPlaced, IsSound}
+use Rattle.gm_arena.specs.Inside.{no_slot, name_in, part_of, dart_in, darts_in, map_of, IsPlaced, IsSound}
 use Rattle.gm_arena.proofs.FilledLemmas.{same_maps, get-insert_same, get-insert_other, len-insert_again}
-use Rattle.gm_arena.proofs.InsideLemmas.{nowhere, dart_at, darts_get, some_of, none_of}
+use Rattle.gm_arena.proofs.InsideLemmas.{nowhere, dart_at, darts_get}
 use Rattle.gm_arena.proofs.ValueLemmas.{IsWritten}
 use Rattle.gm_arena.proofs.ChangeLemmas.{dart_alike, other_dart, other_slot}
 

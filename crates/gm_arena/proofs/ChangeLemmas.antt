@@ -1,18 +1,16 @@
 -- What a change at one slot leaves: the other slots, the other names, and the darts that have none of both.
-use Rattle.std.proofs.Common.{◌≡◌, ◌≢◌, ℕ, ◌+◌, List, [], ◌∷◌, map, take, Option, Some, None, cond, refl, sym, ap, ◌∙◌, arith, All}
-use Rattle.std.specs.Option.{option_map, option_map_or, is_some}
+use Rattle.std.proofs.Common.{◌≡◌, ◌≢◌, ℕ, List, [], ◌∷◌, map, Option, Some, None, refl, sym, ap, ◌∙◌, All}
+use Rattle.std.specs.Option.{option_map, option_map_or}
 use Rattle.std.specs.FinMap as map
 use Rattle.std.proofs.lemmas.Option.{none-some, same_Some}
 use Rattle.std.proofs.lemmas.List.Elements.{All-head, All-tail}
-use Rattle.std.proofs.lemmas.List.Sums.{sum_by-set}
-use Rattle.slab.specs.Slab.{Slab, get, slab_len, Updates, with_value}
-use Rattle.slab.proofs.SlabLemmas.{ContainsKey-within, Updates-with_value}
+use Rattle.slab.specs.Slab.{Slab, get}
 use Rattle.gm_model.specs.declared.schema.Schema.{Schema}
 use Rattle.gm_model.specs.declared.value.Value.{Value}
 use Rattle.gm_arena.specs.declared.slot.Slot.{Slot}
 use Rattle.gm_arena.specs.declared.arena.Place.{Place}
 use Rattle.gm_arena.specs.Inside.{no_slot, slot_in, name_in, part_of, dart_in, darts_in, slots_in, IsSound}
-use Rattle.gm_arena.proofs.InsideLemmas.{darts_get, get-slots, nowhere, is_some_at}
+use Rattle.gm_arena.proofs.InsideLemmas.{darts_get, get-slots, nowhere}
 
 pub map_alike : {A B : Type 0} (f g : A → B) (xs : List A) → All (λ x. f x ≡ g x) xs → map f xs ≡ map g xs
 map_alike f g [] h = refl

@@ -1,4 +1,3 @@
-use Rattle.std.proofs.Common.{◌<◌, ◌^◌}
 use Rattle.gm_text.proofs.Values.{IsReadTo}
 use Rattle.gm_text.proofs.lexer.value_of_few_digits.Given as goal
 
