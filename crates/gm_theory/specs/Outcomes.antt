@@ -1,7 +1,7 @@
--- That each application has an outcome.
-use Rattle.std.specs.Prelude.{◌≡◌, length}
+-- That each application has an outcome, and a budget.
+use Rattle.std.specs.Prelude.{◌≡◌, ℕ, length}
 use Rattle.gm_model.specs.Acceptance.{IsAccepted}
-use Rattle.gm_model.specs.Applications.{Application}
+use Rattle.gm_model.specs.Applications.{Application, IsBudget}
 use Rattle.gm_model.specs.Kinds.{AreGoodParams}
 use Rattle.gm_model.specs.Maps.{Map, IsSchema, IsSound}
 use Rattle.gm_model.specs.Runs.{Outcome, IsOutcome}
@@ -10,3 +10,7 @@ use Rattle.gm_model.specs.Runs.{Outcome, IsOutcome}
 -- parameter: the application is done, and leaves a map, or it is refused for a cause.
 abbrev pub ApplicationsHaveOutcomes : Type 0
 ApplicationsHaveOutcomes = (app : Application) → IsSchema app.map.schema → IsSound app.map → IsAccepted app.map.schema app.rule → length app.hooks ≡ length app.rule.hooks → AreGoodParams app.rule app.params → (outcome : Outcome) × (after : Map) × IsOutcome app outcome after
+
+-- And it has a budget, the most steps that it may take.
+abbrev pub ApplicationsHaveBudgets : Type 0
+ApplicationsHaveBudgets = (app : Application) → IsSchema app.map.schema → IsSound app.map → IsAccepted app.map.schema app.rule → length app.hooks ≡ length app.rule.hooks → AreGoodParams app.rule app.params → (most : ℕ) × IsBudget app most
