@@ -31,6 +31,7 @@ pub mod ReadingsTyped
 pub mod ReadingsUnits
 pub mod Results
 pub mod RuleSteps
+pub mod RunsFound
 pub mod Scenes
 pub mod Tests
 pub mod Turns
