@@ -5,7 +5,7 @@ use Rattle.std.proofs.lemmas.Grind.{get_or_default_zero}
 use Rattle.gm_model.specs.declared.rule.Side.TheVariants.{Left}
 use Rattle.gm_model.specs.declared.step.Step.{Step}
 use Rattle.gm_model.specs.declared.step.Step.TheVariants.{Absent, Exp, Imp}
-use Rattle.gm_model.specs.Applications.{Application, Cause, HasHookDarts, IsFirstBroken, IsStepBefore, MeetsSteps, IsRepeat, IsFirstRepeat, HasNoRepeat, IsRefused, NoDart, NoHookDart}
+use Rattle.gm_model.specs.Applications.{Application, HasHookDarts, IsFirstBroken, IsStepBefore, MeetsSteps, IsRepeat, IsFirstRepeat, HasNoRepeat, IsRefused, NoDart, NoHookDart}
 use Rattle.gm_model.specs.Maps.{Map, IsDart, IsMap, IsGeneralised, dimension}
 use Rattle.gm_model.specs.Matches.{Placement, ArePositions, Created, Walked, IsInstance, IsMetAt, IsStepMet, IsCandidate, IsPathTo, along_hook}
 use Rattle.gm_model.specs.Orbits.{IsPairBefore, IsWalk, follow}
@@ -93,13 +93,39 @@ some_position map rule hooks place candidate = go hooks candidate.walk candidate
     go _ _ (Created none one) = omega (arith, one)
     go _ _ (Walked d others walk live is_walk size turns) = subst (λ n. 0 < n) (sym size) (some walk d is_walk.starts)
 
+-- whether a pair comes before another
+pub decide_before : (x p y q : ℕ) → IsDecided (IsPairBefore x p y q)
+decide_before x p y q = go (pair_order x p y q)
+  where
+    go : ((x ≡ y) × (p ≡ q)) ⊎ (IsPairBefore x p y q ⊎ IsPairBefore y q x p) → IsDecided (IsPairBefore x p y q)
+    go (inr (inl before)) = inl before
+    go (inl (e, f)) = inr neither
+      where
+        neither : IsPairBefore x p y q → ⊥
+        neither (inl h) = omega arith
+        neither (inr (g, h)) = omega arith
+    go (inr (inr after)) = inr (both after)
+      where
+        both : IsPairBefore y q x p → IsPairBefore x p y q → ⊥
+        both (inl h) (inl k) = omega arith
+        both (inl h) (inr (e, k)) = omega arith
+        both (inr (e, h)) (inl k) = omega arith
+        both (inr (e, h)) (inr (f, k)) = omega arith
+
 -- ---- over a placement
 
 module _ (app : Application) where
   -- ---- a hook that names no dart
 
-  abbrev IsDead : ℕ → Type 0
+  abbrev pub IsDead : ℕ → Type 0
   IsDead k = (d : ℕ) × (slice_get app.hooks k ≡ Some d) × (IsDart app.map d → ⊥)
+
+  live_hook : (k d : ℕ) → (IsDead k → ⊥) → slice_get app.hooks k ≡ Some d → IsDart app.map d
+  live_hook k d none at = go (true_or_false (app.map.live d))
+    where
+      go : IsDart app.map d ⊎ (app.map.live d ≡ false) → IsDart app.map d
+      go (inl live) = live
+      go (inr dead) = absurd (none (d, at, λ live. not_both (app.map.live d) live dead))
 
   decide_dead : (k : ℕ) → IsDecided (IsDead k)
   decide_dead k = go (slice_get app.hooks k) refl
@@ -112,19 +138,15 @@ module _ (app : Application) where
           side (inl live) = inr (λ h. h.2 (subst (IsDart app.map) (some_same d h.0 (sym e ∙ h.1)) live))
           side (inr dead) = inl (d, e, λ live. not_both (app.map.live d) live dead)
 
-  pub darts_or_none : HasHookDarts app ⊎ ((cause : Cause) × IsRefused app cause)
-  darts_or_none = go (least_below IsDead decide_dead (length app.hooks))
+  pub dead_or_live : ((k : ℕ) × (k < length app.hooks) × IsLeast IsDead k) ⊎ HasHookDarts app
+  dead_or_live = go (least_below IsDead decide_dead (length app.hooks))
     where
-      live : (k d : ℕ) → (IsDead k → ⊥) → slice_get app.hooks k ≡ Some d → IsDart app.map d
-      live k d none at = side (true_or_false (app.map.live d))
-        where
-          side : IsDart app.map d ⊎ (app.map.live d ≡ false) → IsDart app.map d
-          side (inl l) = l
-          side (inr dead) = absurd (none (d, at, λ l. not_both (app.map.live d) l dead))
+      go : ((k : ℕ) × (k < length app.hooks) × IsLeast IsDead k) ⊎ ((k : ℕ) → k < length app.hooks → IsDead k → ⊥) → ((k : ℕ) × (k < length app.hooks) × IsLeast IsDead k) ⊎ HasHookDarts app
+      go (inl dead) = inl dead
+      go (inr none) = inr (λ d c. live_hook c.0 d (none c.0 c.1) (contained_at app.hooks d c))
 
-      go : ((k : ℕ) × (k < length app.hooks) × IsLeast IsDead k) ⊎ ((k : ℕ) → k < length app.hooks → IsDead k → ⊥) → HasHookDarts app ⊎ ((cause : Cause) × IsRefused app cause)
-      go (inl (k, b, ((d, at, dead), least))) = inr (NoDart k, NoHookDart k d at dead (λ j e h f. live j e (least j h) f))
-      go (inr none) = inl (λ d c. live c.0 d (none c.0 c.1) (contained_at app.hooks d c))
+  pub dead_refused : (k : ℕ) → IsLeast IsDead k → IsRefused app (NoDart k)
+  dead_refused k ((d, at, dead), least) = NoHookDart k d at dead (λ j e h f. live_hook j e (least j h) f)
 
   module _ (place : Placement) where
     -- ---- a left step that isn't met
@@ -196,24 +218,6 @@ module _ (app : Application) where
         go (inl left) (inl b) = inl (left, b)
         go (inr right) side = inr (λ h. not_both (has_word app.rule Left x) h.0 right)
         go (inl left) (inr b) = inr (λ h. omega (arith, h.1))
-
-    decide_before : (x p y q : ℕ) → IsDecided (IsPairBefore x p y q)
-    decide_before x p y q = go (pair_order x p y q)
-      where
-        go : ((x ≡ y) × (p ≡ q)) ⊎ (IsPairBefore x p y q ⊎ IsPairBefore y q x p) → IsDecided (IsPairBefore x p y q)
-        go (inr (inl before)) = inl before
-        go (inl (e, f)) = inr neither
-          where
-            neither : IsPairBefore x p y q → ⊥
-            neither (inl h) = omega arith
-            neither (inr (g, h)) = omega arith
-        go (inr (inr after)) = inr (both after)
-          where
-            both : IsPairBefore y q x p → IsPairBefore x p y q → ⊥
-            both (inl h) (inl k) = omega arith
-            both (inl h) (inr (e, k)) = omega arith
-            both (inr (e, h)) (inl k) = omega arith
-            both (inr (e, h)) (inr (f, k)) = omega arith
 
     decide_repeat : (y q x p : ℕ) → IsDecided (IsRepeat app place x p y q)
     decide_repeat y q x p = go (decide_instance x p) (decide_instance y q) (decide_before x p y q) (cases_eq (place.dart_of x p) (place.dart_of y q))

@@ -1,4 +1,5 @@
 pub mod Arcs
+pub mod BudgetsFound
 pub mod Candidates
 pub mod CandidatesFound
 pub mod Commuting
@@ -18,6 +19,7 @@ pub mod FirstFound
 pub mod Keeps
 pub mod LeastPaths
 pub mod Lists
+pub mod ListsGathered
 pub mod NewNames
 pub mod NoFault
 pub mod OperatorsDecided
@@ -29,6 +31,7 @@ pub mod ReadingsTyped
 pub mod ReadingsUnits
 pub mod Results
 pub mod RuleSteps
+pub mod RunsFound
 pub mod Scenes
 pub mod Tests
 pub mod Turns

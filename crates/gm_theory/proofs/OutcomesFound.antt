@@ -8,7 +8,7 @@ use Rattle.gm_model.specs.declared.value.Kind.TheVariants as kinds
 use Rattle.gm_model.specs.declared.value.Value.{Value}
 use Rattle.gm_model.specs.declared.value.Value.TheVariants as values
 use Rattle.gm_model.specs.Acceptance.{IsAccepted}
-use Rattle.gm_model.specs.Applications.{Application, Cause, Decider, IsDeciderBefore, HasHookDarts, MeetsSteps, HasNoRepeat, IsFound, IsFirstBroken, IsFirstRepeat, MeetsPre, IsStaying, more, IsReady, GivesValue, IsDecider, IsFirstValueless, IsRefused, Arc, Same, PreNoValue, PreFalse, FullDarts, FullNames, NoValue, BrokenStep, Repeated, ValuelessPre, FalsePre, NoRoom, NoNames, Valueless, IsResult, reading_at}
+use Rattle.gm_model.specs.Applications.{Application, Cause, Decider, IsDeciderBefore, HasHookDarts, MeetsSteps, HasNoRepeat, IsFound, IsFirstBroken, IsFirstRepeat, MeetsPre, IsStaying, more, IsReady, GivesValue, IsDecider, IsFirstValueless, IsRefused, NoDart, Arc, Same, PreNoValue, PreFalse, FullDarts, FullNames, NoValue, BrokenStep, Repeated, ValuelessPre, FalsePre, NoRoom, NoNames, Valueless, IsResult, reading_at}
 use Rattle.gm_model.specs.Components.{IsAssigned}
 use Rattle.gm_model.specs.Expressions.{HasValue, HasNoValue}
 use Rattle.gm_model.specs.Kinds.{HasKind, AreGoodParams}
@@ -23,12 +23,12 @@ use Rattle.gm_model.specs.Trees.{Tree}
 use Rattle.gm_model.specs.Unfolding.{IsGone, IsUnfolding, Scene, scene_of, name_in}
 use Rattle.gm_model.specs.Values.{IsValueOf, kind_of}
 use Rattle.gm_theory.proofs.Arcs.{right_dart}
-use Rattle.gm_theory.proofs.CandidatesFound.{candidate_exists, some_position, darts_or_none, broken_or_met, repeat_or_none}
+use Rattle.gm_theory.proofs.CandidatesFound.{candidate_exists, some_position, IsDead, dead_or_live, dead_refused, broken_or_met, repeat_or_none}
 use Rattle.gm_theory.proofs.FirstFound.{IsFirstPair, first_pair, decide_pair_below}
 use Rattle.gm_theory.proofs.Keeps.{lawful, rules_keep_generalised_maps}
 use Rattle.gm_theory.proofs.Lists.{some_same, none_some}
 use Rattle.gm_theory.proofs.OrbitsListed.{list_all_of}
-use Rattle.gm_theory.proofs.ReadingsDecided.{decide_value}
+use Rattle.gm_theory.proofs.ReadingsDecided.{decide_value, not_both_truths}
 use Rattle.gm_theory.proofs.ReadingsTyped.{values_have_their_kinds}
 use Rattle.gm_theory.proofs.Results.{unfolding_generalised, unfolding_below}
 use Rattle.gm_theory.proofs.RuleSteps.{word_below}
@@ -38,6 +38,7 @@ use Rattle.gm_theory.proofs.ValuesFound.{IsLeast, least_below, decide_assigned, 
 use Rattle.gm_theory.proofs.ValuesJoined.{pair_same}
 use Rattle.gm_theory.proofs.ValuesKept.{found_match, match_reading, one_tree, rules_keep_well_embedded_maps}
 use Rattle.gm_theory.proofs.ValuesReach.{IsDecided, decide_orbit}
+use Rattle.gm_theory.proofs.ValuesUnique.{one_count}
 use Rattle.gm_theory.specs.Outcomes.{ApplicationsHaveOutcomes}
 use Rattle.gm_theory.specs.Readings.{IsReadingOf}
 use Rattle.gm_theory.specs.Theorem.{Unfolded, Unfolds}
@@ -50,14 +51,18 @@ refused : (app : Application) (cause : Cause) → IsRefused app cause → HasOut
 refused app cause r = (Refused cause, app.map, (r, refl))
 
 module _ (app : Application) (of_schema : IsSchema app.map.schema) (sound : IsSound app.map) (accepted : IsAccepted app.map.schema app.rule) (params : AreGoodParams app.rule app.params) (place : Placement) (found : IsFound app place) where
-  abbrev scene : Scene
+  abbrev pub scene : Scene
   scene = scene_of app.map app.rule place
 
-  matched : IsMatch app.map app.rule app.hooks place
+  pub matched : IsMatch app.map app.rule app.hooks place
   matched = found_match app place sound.generalised accepted found
 
-  law : IsLawful (scene_of app.map app.rule place) (length app.rule.nodes) (width app.rule) (hook_label app.rule)
+  pub law : IsLawful (scene_of app.map app.rule place) (length app.rule.nodes) (width app.rule) (hook_label app.rule)
   law = lawful app.map app.rule place accepted sound.generalised sound.is_map app.hooks matched
+
+  -- refused, as P doesn't hold
+  abbrev pub IsRefusedWithout : Type 0 → Type 0
+  IsRefusedWithout P = (cause : Cause) × IsRefused app cause × (P → ⊥)
 
   -- ---- the precondition
 
@@ -68,10 +73,10 @@ module _ (app : Application) (of_schema : IsSchema app.map.schema) (sound : IsSo
       go (values.Bool b) e = (b, refl)
       go v e = absurd (cc)
 
-  pre_or_none : MeetsPre app place ⊎ ((cause : Cause) × IsRefused app cause)
+  pub pre_or_none : MeetsPre app place ⊎ IsRefusedWithout (MeetsPre app place)
   pre_or_none = go app.rule.pre refl
     where
-      go : (o : Option Tree) → app.rule.pre ≡ o → MeetsPre app place ⊎ ((cause : Cause) × IsRefused app cause)
+      go : (o : Option Tree) → app.rule.pre ≡ o → MeetsPre app place ⊎ IsRefusedWithout (MeetsPre app place)
       go None e = inl (λ tree f. none_some tree (sym e ∙ f))
       go (Some tree) e = side (decide_value app.rule (reading_at app place 0) good tree has_kind.in_range)
         where
@@ -81,13 +86,13 @@ module _ (app : Application) (of_schema : IsSchema app.map.schema) (sound : IsSo
           has_kind : HasKind app.map.schema app.rule tree kinds.Bool
           has_kind = accepted.typed.pre tree e
 
-          by : (v : Value) → HasValue (reading_at app place 0) tree v → (b : Bool) × (v ≡ values.Bool b) → MeetsPre app place ⊎ ((cause : Cause) × IsRefused app cause)
+          by : (v : Value) → HasValue (reading_at app place 0) tree v → (b : Bool) × (v ≡ values.Bool b) → MeetsPre app place ⊎ IsRefusedWithout (MeetsPre app place)
           by v h (true, f) = inl (λ other g. subst (λ t. HasValue (reading_at app place 0) t (values.Bool true)) (some_same tree other (sym e ∙ g)) (subst (HasValue (reading_at app place 0) tree) f h))
-          by v h (false, f) = inr (PreFalse, FalsePre place tree found e (subst (HasValue (reading_at app place 0) tree) f h))
+          by v h (false, f) = inr (PreFalse, FalsePre place tree found e (subst (HasValue (reading_at app place 0) tree) f h), λ pre. not_both_truths (reading_at app place 0) tree (pre tree e) (subst (HasValue (reading_at app place 0) tree) f h))
 
-          side : ((v : Value) × HasValue (reading_at app place 0) tree v) ⊎ HasNoValue (reading_at app place 0) tree → MeetsPre app place ⊎ ((cause : Cause) × IsRefused app cause)
+          side : ((v : Value) × HasValue (reading_at app place 0) tree v) ⊎ HasNoValue (reading_at app place 0) tree → MeetsPre app place ⊎ IsRefusedWithout (MeetsPre app place)
           side (inl (v, h)) = by v h (truth_of v (values_have_their_kinds app.rule (reading_at app place 0) tree kinds.Bool v good params has_kind h))
-          side (inr none) = inr (PreNoValue, ValuelessPre place tree found e none)
+          side (inr none) = inr (PreNoValue, ValuelessPre place tree found e none, λ pre. none (values.Bool true) (pre tree e))
 
   -- ---- room
 
@@ -126,24 +131,24 @@ module _ (app : Application) (of_schema : IsSchema app.map.schema) (sound : IsSo
   counted_gone : (removed : ℕ) × HasCount (IsGone scene) removed
   counted_gone = let l = list_all_of (IsGone scene) decide_gone app.map.next gone_below in (length l.0, (l.0, l.1, refl))
 
-  ready_or_none : MeetsPre app place → IsReady app place ⊎ ((cause : Cause) × IsRefused app cause)
+  pub ready_or_none : MeetsPre app place → IsReady app place ⊎ IsRefusedWithout (IsReady app place)
   ready_or_none pre = go counted_staying
     where
-      go : (live : ℕ) × HasCount (IsStaying app place) live → IsReady app place ⊎ ((cause : Cause) × IsRefused app cause)
+      go : (live : ℕ) × HasCount (IsStaying app place) live → IsReady app place ⊎ IsRefusedWithout (IsReady app place)
       go (live, count) = by (cases_lt most_darts (live + more app place)) (cases_lt most_names (app.map.next + more app place))
         where
-          by : (most_darts < live + more app place) ⊎ (live + more app place ≤ most_darts) → (most_names < app.map.next + more app place) ⊎ (app.map.next + more app place ≤ most_names) → IsReady app place ⊎ ((cause : Cause) × IsRefused app cause)
-          by (inl full) side = inr (FullDarts live (more app place), NoRoom place live found pre count full)
-          by (inr fits) (inl full) = inr (FullNames app.map.next (more app place), NoNames place live found pre count fits full)
+          by : (most_darts < live + more app place) ⊎ (live + more app place ≤ most_darts) → (most_names < app.map.next + more app place) ⊎ (app.map.next + more app place ≤ most_names) → IsReady app place ⊎ IsRefusedWithout (IsReady app place)
+          by (inl full) side = inr (FullDarts live (more app place), NoRoom place live found pre count full, λ ready. let same : ready.live ≡ live = one_count (IsStaying app place) ready.live live ready.live_is count in let fits : ready.live + more app place ≤ most_darts = ready.darts_fit in omega (arith, subst (λ n. n + more app place ≤ most_darts) same fits))
+          by (inr fits) (inl full) = inr (FullNames app.map.next (more app place), NoNames place live found pre count fits full, λ ready. let names : app.map.next + more app place ≤ most_names = ready.names_fit in omega arith)
           by (inr fits) (inr names) = inl (record { found = found; pre = pre; live = live; live_is = count; darts_fit = fits; names_fit = names })
 
   -- ---- the deciding instances
 
   module _ (result : Unfolded) (unfolds : Unfolds app.map app.rule place result) where
-    abbrev IsLiveAfter : ℕ → Type 0
+    abbrev pub IsLiveAfter : ℕ → Type 0
     IsLiveAfter d = IsTrue (result.live d)
 
-    abbrev IsDeciderAt : ℕ → ℕ → ℕ → Type 0
+    abbrev pub IsDeciderAt : ℕ → ℕ → ℕ → Type 0
     IsDeciderAt e x p = IsDecider app place IsLiveAfter result.alpha (record { embed = e; node = x; position = p })
 
     -- an assigned node's dart is one of the result, so that its orbit can be searched
@@ -173,7 +178,7 @@ module _ (app : Application) (of_schema : IsSchema app.map.schema) (sound : IsSo
             same (inr f) side = inr (λ own. f (other y q by own).0)
             same (inl f) (inr g) = inr (λ own. g (other y q by own).1)
 
-    decide_decider : (e x p : ℕ) → IsDecided (IsDeciderAt e x p)
+    pub decide_decider : (e x p : ℕ) → IsDecided (IsDeciderAt e x p)
     decide_decider e x p = go (slice_get app.map.schema.embeds e) refl (decide_assigned app.rule e x) (cases_lt p place.positions)
       where
         go : (o : Option Embed) → slice_get app.map.schema.embeds e ≡ o → IsDecided (IsAssigned app.rule e x) → (p < place.positions) ⊎ (place.positions ≤ p) → IsDecided (IsDeciderAt e x p)
@@ -187,7 +192,7 @@ module _ (app : Application) (of_schema : IsSchema app.map.schema) (sound : IsSo
             by (inr none) = inr (λ h. none (subst (λ (m : Embed). IsDeciding app.map app.rule place result.alpha e (type_of m) x p) (some_same h.embed embed (sym h.embed_at ∙ f)) h.deciding))
 
     -- the expression of a deciding instance has a value, or none
-    abbrev IsValued : ℕ → ℕ → ℕ → Type 0
+    abbrev pub IsValued : ℕ → ℕ → ℕ → Type 0
     IsValued e x p = (v : Value) × GivesValue app place e x p v
 
     decide_valued : (e x p : ℕ) → IsDeciderAt e x p → IsDecided (IsValued e x p)
@@ -200,10 +205,10 @@ module _ (app : Application) (of_schema : IsSchema app.map.schema) (sound : IsSo
         go (inl (v, h)) = inl (v, (by.deciding.assigned.0.0, (assigns, by.deciding.assigned.1), h))
         go (inr none) = inr (λ given. none given.0 (subst (λ t. HasValue (reading_at app place p) t given.0) (one_tree app.map.schema app.rule accepted.in_range x e given.1.0 by.deciding.assigned.0.0 given.1.1.0 assigns) given.1.2))
 
-    abbrev IsValueless : ℕ → ℕ → ℕ → Type 0
+    abbrev pub IsValueless : ℕ → ℕ → ℕ → Type 0
     IsValueless e x p = IsDeciderAt e x p × (IsValued e x p → ⊥)
 
-    decide_valueless : (e x p : ℕ) → IsDecided (IsValueless e x p)
+    pub decide_valueless : (e x p : ℕ) → IsDecided (IsValueless e x p)
     decide_valueless e x p = go (decide_decider e x p)
       where
         go : IsDecided (IsDeciderAt e x p) → IsDecided (IsValueless e x p)
@@ -214,7 +219,7 @@ module _ (app : Application) (of_schema : IsSchema app.map.schema) (sound : IsSo
             side (inl given) = inr (λ h. h.1 given)
             side (inr none) = inl (by, none)
 
-    valued : (e x p : ℕ) → IsDeciderAt e x p → (IsValueless e x p → ⊥) → IsValued e x p
+    pub valued : (e x p : ℕ) → IsDeciderAt e x p → (IsValueless e x p → ⊥) → IsValued e x p
     valued e x p by some = go (decide_valued e x p by)
       where
         go : IsDecided (IsValued e x p) → IsValued e x p
@@ -273,16 +278,16 @@ module _ (app : Application) (of_schema : IsSchema app.map.schema) (sound : IsSo
   found_outcome : HasOutcome app
   found_outcome = go pre_or_none
     where
-      ready : IsReady app place ⊎ ((cause : Cause) × IsRefused app cause) → HasOutcome app
+      ready : IsReady app place ⊎ IsRefusedWithout (IsReady app place) → HasOutcome app
       ready (inl r) = done_or_valueless r
-      ready (inr (cause, r)) = refused app cause r
+      ready (inr (cause, r, none)) = refused app cause r
 
-      go : MeetsPre app place ⊎ ((cause : Cause) × IsRefused app cause) → HasOutcome app
+      go : MeetsPre app place ⊎ IsRefusedWithout (MeetsPre app place) → HasOutcome app
       go (inl pre) = ready (ready_or_none pre)
-      go (inr (cause, r)) = refused app cause r
+      go (inr (cause, r, none)) = refused app cause r
 
 pub applications_have_outcomes : ApplicationsHaveOutcomes
-applications_have_outcomes app of_schema sound accepted count params = begin (darts_or_none app)
+applications_have_outcomes app of_schema sound accepted count params = begin (dead_or_live app)
   where
     at : (place : Placement) (darts : HasHookDarts app) (candidate : IsCandidate app.map app.rule app.hooks place) →
         ((x : ℕ) × (p : ℕ) × (i : ℕ) × IsFirstBroken app place x p i) ⊎ MeetsSteps app place → ((x : ℕ) × (p : ℕ) × (y : ℕ) × (q : ℕ) × IsFirstRepeat app place x p y q) ⊎ HasNoRepeat app place → HasOutcome app
@@ -290,9 +295,9 @@ applications_have_outcomes app of_schema sound accepted count params = begin (da
     at place darts candidate (inr met) (inl (x, p, y, q, first)) = refused app (Same x p y q) (Repeated place x p y q darts candidate met first)
     at place darts candidate (inr met) (inr apart) = found_outcome app of_schema sound accepted params place (record { darts = darts; candidate = candidate; steps = met; distinct = apart })
 
-    begin : HasHookDarts app ⊎ ((cause : Cause) × IsRefused app cause) → HasOutcome app
-    begin (inr (cause, r)) = refused app cause r
-    begin (inl darts) = go (candidate_exists app.map app.rule sound.is_map sound.generalised accepted.in_range accepted.incidence app.hooks count darts)
+    begin : ((k : ℕ) × (k < length app.hooks) × IsLeast (IsDead app) k) ⊎ HasHookDarts app → HasOutcome app
+    begin (inl (k, b, dead)) = refused app (NoDart k) (dead_refused app k dead)
+    begin (inr darts) = go (candidate_exists app.map app.rule sound.is_map sound.generalised accepted.in_range accepted.incidence app.hooks count darts)
       where
         go : (place : Placement) × IsCandidate app.map app.rule app.hooks place → HasOutcome app
         go (place, candidate) = at place darts candidate (broken_or_met app place) (repeat_or_none app place)

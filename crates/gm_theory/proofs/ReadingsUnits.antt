@@ -57,7 +57,7 @@ module _ (reading : Reading) where
 -- ---- there is one
 
 module _ (rule : Rule) (reading : Reading) (good : IsReadingOf rule reading) (params : AreGoodParams rule reading.params) where
-  abbrev IsTypedTree : Tree → Type 0
+  abbrev pub IsTypedTree : Tree → Type 0
   IsTypedTree tree = IsTreeInRange reading.map.schema rule tree × ((kind : Kind) × (kind_in rule reading good tree ≡ Some kind))
 
   collected_units : (mask : Mask) (term : DartTerm) → IsMaskInRange reading.map.schema rule mask → IsTermInRange reading.map.schema rule term → (u : ℕ) × ((count : ℕ) × HasCount (IsCollected reading mask term) count × (u ≡ path_units reading term + count))
@@ -76,7 +76,7 @@ module _ (rule : Rule) (reading : Reading) (good : IsReadingOf rule reading) (pa
           no_other (values.Bool w) e none = none w refl
           no_other v e none = absurd (cc)
 
-  has_units : (tree : Tree) → IsTypedTree tree → (u : ℕ) × HasUnits reading tree u
+  pub has_units : (tree : Tree) → IsTypedTree tree → (u : ℕ) × HasUnits reading tree u
   has_units (Number n) t = (0, refl)
   has_units (Truth b) t = (0, refl)
   has_units (Param k) t = (0, refl)

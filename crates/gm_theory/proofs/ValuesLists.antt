@@ -7,7 +7,7 @@ use Rattle.gm_model.specs.Orbits.{HasNoRepeats, IsListOf}
 
 -- ---- by recursion on the list
 
-abbrev pub IsIn : ℕ → List ℕ → Type 0
+abbrev pub IsIn : {A : Type 0} → A → List A → Type 0
 IsIn x [] = ⊥
 IsIn x (y ∷ ys) = (y ≡ x) ⊎ IsIn x ys
 
@@ -15,12 +15,12 @@ abbrev pub AreDistinct : List ℕ → Type 0
 AreDistinct [] = Unit {0}
 AreDistinct (x ∷ xs) = (IsIn x xs → ⊥) × AreDistinct xs
 
-pub in_contained : (xs : List ℕ) (x : ℕ) → Contains xs x → IsIn x xs
+pub in_contained : {A : Type 0} (xs : List A) (x : A) → Contains xs x → IsIn x xs
 in_contained [] x (k, b, e) = absurd (omega arith)
 in_contained (y ∷ ys) x (zero, b, e) = inl e
 in_contained (y ∷ ys) x (suc k, b, e) = inr (in_contained ys x (k, omega arith, e))
 
-pub contains_in : (xs : List ℕ) (x : ℕ) → IsIn x xs → Contains xs x
+pub contains_in : {A : Type 0} (xs : List A) (x : A) → IsIn x xs → Contains xs x
 contains_in [] x i = absurd i
 contains_in (y ∷ ys) x (inl e) = (0, omega arith, e)
 contains_in (y ∷ ys) x (inr i) = let rest : Contains ys x = contains_in ys x i in (suc rest.0, omega (arith, rest.1), rest.2)

@@ -18,8 +18,9 @@ ghost use Rattle.gm_theory.specs.ExamplesOutcomes.{drop_at, merging_alone, split
 ghost use Rattle.std.specs.Prelude.{[], ◌∷◌, false, pos, true};
 
 use crate::{
-    applications_have_outcomes, applications_keep_sound_maps, keeps_generalised_maps,
-    keeps_well_embedded_maps, readings_are_determined, values_have_their_kinds,
+    applications_have_budgets, applications_have_outcomes, applications_keep_sound_maps,
+    keeps_generalised_maps, keeps_well_embedded_maps, readings_are_determined,
+    scripts_have_runs, values_have_their_kinds,
 };
 
 /// The triangulation of a square face of eight darts gives four triangles, with the new vertex in
@@ -108,4 +109,6 @@ fn examples_stand() {
     values_have_their_kinds();
     readings_are_determined();
     applications_have_outcomes();
+    applications_have_budgets();
+    scripts_have_runs();
 }

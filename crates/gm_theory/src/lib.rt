@@ -10,7 +10,7 @@ mod values;
 
 ghost use Rattle.gm_theory.specs.Theorem.{RulesKeepGeneralisedMaps};
 
-pub use outcomes::applications_have_outcomes;
+pub use outcomes::{applications_have_budgets, applications_have_outcomes, scripts_have_runs};
 pub use readings::{readings_are_determined, values_have_their_kinds};
 pub use values::{applications_keep_sound_maps, keeps_well_embedded_maps};
 
