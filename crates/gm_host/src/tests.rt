@@ -242,11 +242,12 @@ fn long_files(rt: HostRuntime) -> Result<(), Fail> {
     let alloc = rt.alloc();
     let mut bytes = vec![in alloc; 7u8; LONG]?;
     bytes.push(9)?;
+    let seen = vec![in alloc; 7u8; LONG]?;
     let mut store = FileStore::new(&rt);
     assert_eq!(rt; save_word(&mut store, "long.txt", bytes.as_slice()), "ok");
     let loads = [
         ("long.txt", LONG + 1, "ok", bytes.as_slice()),
-        ("long.txt", LONG - 1, "too long", &bytes.as_slice()[..LONG]),
+        ("long.txt", LONG - 1, "too long", seen.as_slice()),
     ];
     assert_loads(&rt, alloc, &mut store, &loads);
     fs::remove_file(&rt, "long.txt")?;
