@@ -1,7 +1,7 @@
 //! Commands on one file, run over a store and a sink in memory.
 
-use gm_tool::with_new_counter;
 use gm_host::{MemSink, MemStore};
+use gm_tool::with_new_counter;
 use std::alloc::Global;
 use std::marker::Brand;
 use std::process::ExitCode;
@@ -60,11 +60,7 @@ fn expect(rt: &HostRuntime, line: &str, case: &Case) -> Result<(), Fail> {
 }
 
 /// Each line is run on each case.
-fn expect_each(
-    rt: &HostRuntime,
-    lines: &[&str],
-    cases: &[Case],
-) -> Result<(), Fail> {
+fn expect_each(rt: &HostRuntime, lines: &[&str], cases: &[Case]) -> Result<(), Fail> {
     for line in lines {
         for case in cases {
             expect(rt, line, case)?;

@@ -1,6 +1,7 @@
 //! `gmr`, a proved rule modeller on generalised maps: the program over the real files and the
 //! terminal.
 #![tactic(auto)]
+
 ghost use Rattle.std.specs.Prelude.{◌≡◌, ◌⊎◌};
 ghost use Rattle.std.specs.IoError.{error_kind};
 ghost use Rattle.std.specs.Process.{exit_status};
