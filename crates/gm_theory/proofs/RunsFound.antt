@@ -1,5 +1,5 @@
 -- Each script of good lines has a run from a sound map, with a budget, and leaves a sound map.
-use Rattle.std.proofs.Common.{◌≡◌, ℕ, ◌+◌, List, [], ◌∷◌, length, Some, slice_get, refl, sym, ◌∙◌, ap, subst}
+use Rattle.std.proofs.Common.{◌≡◌, ℕ, ◌+◌, List, [], ◌∷◌, refl, sym, ap, subst}
 use Rattle.std.specs.List.{AllByRecursion}
 use Rattle.std.specs.Prelude.{All}
 use Rattle.std.proofs.lemmas.Option.{slice_get_within, get_or_from_slice_get}
@@ -9,7 +9,7 @@ use Rattle.gm_model.specs.Acceptance.{IsAccepted}
 use Rattle.gm_model.specs.Applications.{IsBudget}
 use Rattle.gm_model.specs.Maps.{Map, IsSchema, IsSound}
 use Rattle.gm_model.specs.Rules.{Rule}
-use Rattle.gm_model.specs.Runs.{Outcome, Done, Refused, IsOutcome, IsRun, IsRunBudget, application_of}
+use Rattle.gm_model.specs.Runs.{Outcome, Done, Refused, IsOutcome, application_of}
 use Rattle.gm_theory.proofs.BudgetsFound.{applications_have_budgets}
 use Rattle.gm_theory.proofs.OutcomesFound.{applications_have_outcomes}
 use Rattle.gm_theory.proofs.ValuesKept.{applications_keep_sound_maps}

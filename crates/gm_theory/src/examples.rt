@@ -19,8 +19,8 @@ ghost use Rattle.std.specs.Prelude.{[], ◌∷◌, false, pos, true};
 
 use crate::{
     applications_have_budgets, applications_have_outcomes, applications_keep_sound_maps,
-    keeps_generalised_maps, keeps_well_embedded_maps, readings_are_determined,
-    scripts_have_runs, values_have_their_kinds,
+    keeps_generalised_maps, keeps_well_embedded_maps, readings_are_determined, scripts_have_runs,
+    values_have_their_kinds,
 };
 
 /// The triangulation of a square face of eight darts gives four triangles, with the new vertex in
