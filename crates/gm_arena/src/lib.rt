@@ -7,8 +7,6 @@
 mod arena;
 mod slot;
 mod steps;
-#[cfg(test)]
-mod tests;
 
 pub use arena::{Arena, Row};
 pub use slot::Slot;

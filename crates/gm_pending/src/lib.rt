@@ -8,8 +8,6 @@ mod commit;
 mod edits;
 mod marks;
 mod pending;
-#[cfg(test)]
-mod tests;
 
 pub use at::At;
 pub use edits::Edits;
