@@ -1,9 +1,9 @@
 //! Texts that are read and printed, and texts that are refused, with their first faults.
 ghost use Rattle.std.specs.Prelude.{◌≡◌, ◌<◌};
 
-use crate::{MapFault, print_map, read_map};
 use gm_arena::Steps;
 use gm_laws::MapBreach;
+use gm_mapfile::{MapFault, print_map, read_map};
 use gm_model::LimitKind;
 use std::alloc::Global;
 use std::marker::Brand;
@@ -37,12 +37,17 @@ darts 2
 40 3 40
 ";
 
-fn check_texts<L: Ledger>(rt: &impl Abort, alloc: Global, blank: Blank) -> Result<(), Fail>
+fn check_texts<L: Ledger>(
+    rt: &impl Abort,
+    alloc: Global,
+    handle: &HostRuntime,
+    blank: Blank,
+) -> Result<(), Fail>
     requires name { blank.name ≡ L.name }
     requires parts { blank.parts ≡ L.parts }
     requires some { 0 < blank.parts }
 {
-    let mut steps: Steps<L> = Steps::start(blank);
+    let mut steps: Steps<L> = Steps::start(handle, blank);
     let texts: [(&[u8], &[u8], u8, u32, u32); 4] = [
         (SQUARE, SQUARE, 2, 8, 8),
         (SQUARE_IN_DISORDER, SQUARE, 2, 8, 8),
@@ -68,12 +73,13 @@ fn check_texts<L: Ledger>(rt: &impl Abort, alloc: Global, blank: Blank) -> Resul
 
 #[test]
 fn a_map_is_read_and_printed(rt: HostRuntime) -> Result<(), Fail> {
-    check_texts::<Brand>(&rt, rt.alloc(), Blank::new(1))
+    check_texts::<Brand>(&rt, rt.alloc(), &rt, Blank::new(1))
 }
 
 fn check_faults<L: Ledger>(
     rt: &impl Abort,
     alloc: Global,
+    handle: &HostRuntime,
     blank: Blank,
     cases: &[(&[u8], MapFault)],
 ) -> Result<(), Fail>
@@ -81,7 +87,7 @@ fn check_faults<L: Ledger>(
     requires parts { blank.parts ≡ L.parts }
     requires some { 0 < blank.parts }
 {
-    let mut steps: Steps<L> = Steps::start(blank);
+    let mut steps: Steps<L> = Steps::start(handle, blank);
     for (text, wanted) in cases {
         let Err(fault) = read_map(alloc, *text, &mut steps) else {
             return Err("a map".into());
@@ -143,7 +149,7 @@ fn the_first_fault_of_the_text_is_answered(rt: HostRuntime) -> Result<(), Fail> 
         (b"gmap 1 embed dim 2", MapFault::Text { place: 7 }),
         (b"gmap 1 dim 2 embeds", MapFault::Text { place: 13 }),
     ];
-    check_faults::<Brand>(&rt, rt.alloc(), Blank::new(1), &cases)
+    check_faults::<Brand>(&rt, rt.alloc(), &rt, Blank::new(1), &cases)
 }
 
 #[test]
@@ -194,5 +200,5 @@ fn the_first_fault_of_the_darts_is_answered(rt: HostRuntime) -> Result<(), Fail>
             }),
         ),
     ];
-    check_faults::<Brand>(&rt, rt.alloc(), Blank::new(1), &cases)
+    check_faults::<Brand>(&rt, rt.alloc(), &rt, Blank::new(1), &cases)
 }

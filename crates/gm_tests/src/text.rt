@@ -1,5 +1,6 @@
-use super::*;
+//! Tokens, their bytes and values, and text that grows.
 use gm_model::TokenKind::{Gone, Name, Number, Sign};
+use gm_text::{LexFault, Lexer, Text, Token, TokenKind};
 use std::test::*;
 
 type Entry = (

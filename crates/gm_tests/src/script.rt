@@ -1,48 +1,39 @@
 //! Texts that are read, and texts that are refused, with their first faults.
-use crate::{ScriptFault, read_script};
-use gm_model::{Book, Dim, Items, Kind, LimitKind, Line, Name, Param, RuleTable, Schema, Value};
+use gm_model::{Book, Items, Kind, LimitKind, Line, Param, Value};
+use gm_sample::{RuleRow, name, rule, schema};
+use gm_script::{ScriptFault, read_script};
 use std::alloc::Global;
 use std::process::Abort;
 use std::test::*;
 
-fn named(bytes: &[u8]) -> Result<Name, Fail> {
-    match Name::new(bytes) {
-        Some(name) => Ok(name),
-        None => Err("no name".into()),
-    }
-}
+const HOOKED: RuleRow = RuleRow {
+    nodes: &[("a", "0", "0")],
+    hooks: &[0],
+    left_links: &[],
+    right_links: &[],
+};
 
-fn rule(alloc: Global, name: &[u8], hooks: Vec<u8>, kinds: &[Kind]) -> Result<RuleTable, Fail> {
-    let name = named(name)?;
-    let mut params = Vec::new(alloc);
-    for kind in kinds {
-        params.push(Param { name, kind: *kind })?;
-    }
-    Ok(RuleTable {
-        name,
-        params: Items::new(params),
-        nodes: Items::new(Vec::new(alloc)),
-        left_links: Items::new(Vec::new(alloc)),
-        right_links: Items::new(Vec::new(alloc)),
-        hooks: Items::new(hooks),
-        pre: None,
-    })
-}
+const UNHOOKED: RuleRow = RuleRow {
+    nodes: &[("a", "-", "")],
+    hooks: &[],
+    left_links: &[],
+    right_links: &[],
+};
 
 /// A rule `T` with one hook, and a rule `C` with one parameter of each kind.
 fn book(alloc: Global) -> Result<Book, Fail> {
-    let Some(dim) = Dim::new(2) else {
-        return Err("no dimension".into());
-    };
-    let kinds = [Kind::Int, Kind::Bool, Kind::Vec2, Kind::Vec3, Kind::Rgb];
-    let mut rules = Vec::new(alloc);
-    rules.push(rule(alloc, b"T", [0].to_vec(alloc)?, &[])?)?;
-    rules.push(rule(alloc, b"C", Vec::new(alloc), &kinds)?)?;
+    let mut params = Vec::new(alloc);
+    for kind in [Kind::Int, Kind::Bool, Kind::Vec2, Kind::Vec3, Kind::Rgb] {
+        params.push(Param {
+            name: name("C")?,
+            kind,
+        })?;
+    }
+    let mut with_params = rule(alloc, "C", &UNHOOKED)?;
+    with_params.params = Items::new(params);
+    let rules = vec![in alloc; rule(alloc, "T", &HOOKED)?, with_params]?;
     Ok(Book {
-        schema: Schema {
-            dim,
-            embeds: Items::new(Vec::new(alloc)),
-        },
+        schema: schema(alloc, 2)?,
         rules: Items::new(rules),
     })
 }
