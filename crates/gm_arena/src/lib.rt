@@ -8,8 +8,6 @@ mod arena;
 mod laws;
 mod slot;
 mod steps;
-#[cfg(test)]
-mod tests;
 
 pub use arena::{Arena, Row};
 pub use laws::what_is_held_is_a_map;

@@ -28,6 +28,3 @@ pub use laws::{
 };
 pub use printing::print_book;
 pub use reading::read_book;
-
-#[cfg(test)]
-mod tests;

@@ -30,6 +30,3 @@ pub use std_sink::StdSink;
 pub use store::Store;
 pub use sure_sink::SureSink;
 pub use sure_store::SureStore;
-
-#[cfg(test)]
-mod tests;

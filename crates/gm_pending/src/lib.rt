@@ -8,8 +8,6 @@ mod edits;
 mod lookup;
 mod pending;
 mod rewrite;
-#[cfg(test)]
-mod tests;
 
 pub use at::At;
 pub use edits::Edits;
