@@ -87,7 +87,7 @@ module _ (table : List (List ℕ)) (points : List Value) where
           (both.0, point_shown _ _ both.1)
 
   shown_lawful : IsTrue (table_test planar table points) → IsTrue points_test → IsTrue constant_test → IsLawfulExample planar_map
-  shown_lawful a b c = record { schema = planar_schema; is_map = shown_map b; generalised = table_shown planar table points a; embedded = shown_embedded c }
+  shown_lawful a b c = record { schema = planar_schema; sound = record { is_map = shown_map b; generalised = table_shown planar table points a; embedded = shown_embedded c } }
 
 pub square_lawful : IsLawfulExample square
 square_lawful = shown_lawful square_table corners refl refl refl
@@ -125,7 +125,7 @@ walk_is_face = record {
       where
         stays : (path : List ℕ) (c : ℕ) → c < 8 → IsPathIn (has labels_01) path → follow square.alpha path c < 8
         stays [] c b all = b
-        stays (i ∷ path) c b all = stays path (square.alpha i c) (ltb-true _ _ (square_lawful.generalised.stays c i (lt-ltb c 8 b) (mask_labels 2 labels_01 i (omega arith) all.0))) all.1
+        stays (i ∷ path) c b all = stays path (square.alpha i c) (ltb-true _ _ (square_lawful.sound.generalised.stays c i (lt-ltb c 8 b) (mask_labels 2 labels_01 i (omega arith) all.0))) all.1
 
 centre_value : GivesValue triangulating on_square 0 2 0 (point 2 2)
 centre_value = (centre, (assigns_centre (At 1 ∷ At 2 ∷ []), omega arith), (values.Vec3 (pos 16) (pos 16) (pos 0), values.Int (pos 8), sum, count, quotient))

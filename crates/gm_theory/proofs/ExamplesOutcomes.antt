@@ -1,18 +1,22 @@
 -- Outcomes of applications, worked out.
-use Rattle.std.proofs.Common.{◌≡◌, ℕ, codes, zero, suc, ◌+◌, ◌-◌, ◌<◌, ◌≤◌, false, ◌↔◌, pos, IsTrue, List, [], ◌∷◌, length, eqb, Contains, slice_index, refl, sym, ◌∙◌, ap, subst, inl, inr, arith}
+use Rattle.std.proofs.Common.{◌≡◌, ℕ, codes, zero, suc, ◌+◌, ◌-◌, ◌<◌, ◌≤◌, false, true, ◌↔◌, pos, IsTrue, List, [], ◌∷◌, length, eqb, Contains, slice_index, refl, sym, ◌∙◌, ap, subst, inl, inr, arith}
 use Rattle.std.proofs.lemmas.Bool.{eqb-true, eq-eqb, ltb-true, lt-ltb}
 use Rattle.std.proofs.lemmas.Grind.{get_or_default_zero}
+use Rattle.std.proofs.lemmas.Int.{ints}
 use Rattle.gm_model.specs.declared.rule.Side.TheVariants.{Left, Right}
+use Rattle.gm_model.specs.declared.value.Kind.TheVariants as kinds
 use Rattle.gm_model.specs.declared.value.Value.TheVariants as values
 use Rattle.gm_model.specs.Applications.{Application, HasHookDarts, MeetsSteps, HasNoRepeat, IsFound, IsStaying, IsRepeat, IsStepBefore, IsRefused, reading_at, NoDart, Arc, Same, PreNoValue, PreFalse, FullDarts, FullNames, NoHookDart, BrokenStep, Repeated, ValuelessPre, FalsePre, NoRoom, NoNames}
-use Rattle.gm_model.specs.Expressions.{HasNoValue}
+use Rattle.gm_model.specs.Expressions.{Reading, HasNoValue}
+use Rattle.gm_model.specs.Kinds.{AreGoodParams}
 use Rattle.gm_model.specs.Maps.{Map, IsDart, IsMap, IsSchema, IsWellEmbedded}
 use Rattle.gm_model.specs.Matches.{Placement, ArePositions, Walked, IsMatch, IsCandidate, IsForced, IsPathTo, IsInstance, IsMetAt, Created}
 use Rattle.gm_model.specs.Orbits.{HasCount, IsPairBefore, IsWalk, follow}
 use Rattle.gm_model.specs.Rules.{Rule, has_word, step}
 use Rattle.gm_model.specs.Structure.{IsInRange}
-use Rattle.gm_model.specs.Trees.{Tree, Truth}
+use Rattle.gm_model.specs.Trees.{Tree, Number, Truth}
 use Rattle.gm_model.specs.Unfolding.{scene_of, IsGone}
+use Rattle.gm_model.specs.Values.{IsInValueRange}
 use Rattle.gm_theory.proofs.ExamplesChecks.{each_below, each}
 use Rattle.gm_theory.proofs.ExamplesMatches.{match_shown, walk_shown, positions_shown, met_test, met_shown}
 use Rattle.gm_theory.proofs.Lists.{some_same, none_some}
@@ -21,7 +25,7 @@ use Rattle.gm_theory.proofs.Tests.{both_true, not_both}
 use Rattle.gm_theory.proofs.ValuesUnique.{number_made}
 use Rattle.gm_theory.proofs.Walks.{walk_unique}
 use Rattle.gm_theory.specs.Examples.{planar, four_triangles, square, square_walk, triangulation, edge, on_edge, merging, point, points_of_vertices}
-use Rattle.gm_theory.specs.ExamplesOutcomes.{drop, drop_at, on_triangle, triangle_walk, lone, merging_alone, on_lone, split_if, valueless, pair, created, late, crowded, pair_on, torn, overdue, misnamed, astray}
+use Rattle.gm_theory.specs.ExamplesOutcomes.{drop, drop_at, on_triangle, triangle_walk, lone, merging_alone, on_lone, split_if, valueless, pair, created, late, crowded, pair_on, torn, overdue, misnamed, astray, setting, outsized, too_great}
 
 -- ---- a match of a rule whose only left node is its hook is found
 
@@ -213,3 +217,21 @@ hook_astray place m = go m.positions
   where
     go : ArePositions square triangulation place (99 ∷ []) m.walk → ⊥
     go (Walked d others walk live is_walk many turns) = not_both false live refl
+
+-- the triangulation has one hook
+pub hook_left : (place : Placement) → IsMatch square triangulation (0 ∷ 1 ∷ []) place → ⊥
+hook_left place m = let two_is_one : Path ℕ 2 1 = m.count in omega arith
+
+-- ---- values
+
+pub truth_for_number : AreGoodParams setting (values.Bool true ∷ []) → ⊥
+truth_for_number h = absurd (let e : kinds.Bool ≡ kinds.Int = h.0.kind_is in cc)
+
+out_of_range : IsInValueRange (values.Int (pos too_great)) → ⊥
+out_of_range h = omega (arith, ints)
+
+pub number_too_great : IsMap outsized → ⊥
+number_too_great h = out_of_range (h.values 0 0 (record { name = codes "size"; mask = record { bits = 2 }; kind = kinds.Int }) refl refl).range
+
+pub literal_too_great : (reading : Reading) → HasNoValue reading (Number (pos too_great))
+literal_too_great reading v made = out_of_range (subst IsInValueRange (number_made (pos too_great) v made) made.is_value.range)

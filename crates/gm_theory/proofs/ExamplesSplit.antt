@@ -25,9 +25,11 @@ accepted = record {
 edge_lawful : IsLawfulExample edge
 edge_lawful = record {
   schema = record { count = omega arith; kinds = λ e embed at. none_some embed at; labels = λ e i embed at h. none_some embed at; free = λ e embed at. none_some embed at; differ = λ e e' embed embed' at at' f. none_some embed at };
-  is_map = record { below = λ d h. ltb-true d 2 h; values = λ e d embed at h. none_some embed at };
-  generalised = table_shown linear ((1 ∷ 0 ∷ []) ∷ (0 ∷ 1 ∷ []) ∷ []) [] refl;
-  embedded = λ e embed at. none_some embed at;
+  sound = record {
+    is_map = record { below = λ d h. ltb-true d 2 h; values = λ e d embed at h. none_some embed at };
+    generalised = table_shown linear ((1 ∷ 0 ∷ []) ∷ (0 ∷ 1 ∷ []) ∷ []) [] refl;
+    embedded = λ e embed at. none_some embed at;
+  };
 }
 
 split_edge : IsResult splitting on_edge two_edges

@@ -1,5 +1,7 @@
 pub mod Arcs
+pub mod BudgetsFound
 pub mod Candidates
+pub mod CandidatesFound
 pub mod Commuting
 pub mod Corners
 pub mod ExamplesCentre
@@ -13,14 +15,23 @@ pub mod ExamplesRules
 pub mod ExamplesSplit
 pub mod ExamplesTriangulation
 pub mod ExamplesUnfoldings
+pub mod FirstFound
 pub mod Keeps
+pub mod LeastPaths
 pub mod Lists
+pub mod ListsGathered
 pub mod NewNames
 pub mod NoFault
+pub mod OperatorsDecided
+pub mod OrbitsListed
+pub mod OutcomesFound
 pub mod Quotients
+pub mod ReadingsDecided
 pub mod ReadingsTyped
+pub mod ReadingsUnits
 pub mod Results
 pub mod RuleSteps
+pub mod RunsFound
 pub mod Scenes
 pub mod Tests
 pub mod Turns
@@ -34,3 +45,4 @@ pub mod ValuesReach
 pub mod ValuesReadOff
 pub mod ValuesUnique
 pub mod Walks
+pub mod WalksFound

@@ -1,7 +1,8 @@
 -- What is counted in a list, what is found there, and at which place.
-use Rattle.std.proofs.Common.{◌≡◌, ℕ, suc, ◌<◌, ◌≤◌, ◌⊎◌, Bool, true, false, cond, IsTrue, List, [], ◌∷◌, length, Some, None, refl, sym, ◌∙◌, subst, inl, inr, arith}
+use Rattle.std.proofs.Common.{◌≡◌, ℕ, suc, ◌<◌, ◌≤◌, ◌⊎◌, Bool, true, false, cond, IsTrue, List, [], ◌∷◌, length, Contains, Some, None, slice_get, refl, sym, ◌∙◌, ap, subst, inl, inr, arith}
 use Rattle.std.proofs.lemmas.Bool.{ltb-true, lt-ltb, le-ltb}
 use Rattle.std.proofs.lemmas.List.Sums.{sum_by-cons}
+use Rattle.std.proofs.lemmas.Option.{slice_get-get_or}
 use Rattle.std.specs.List.{find, position, position_or_len, count_by, AllByRecursion}
 use Rattle.std.specs.Prelude.{nat_lt}
 use Rattle.gm_theory.proofs.Tests.{true_or_false, not_both}
@@ -11,6 +12,10 @@ some_same x y e = cc
 
 pub none_some : {A P : Type 0} (x : A) → None ≡ Some x → P
 none_some x e = absurd (cc)
+
+-- what a list contains has a place there
+pub contained_at : {A : Type 0} (xs : List A) (x : A) (c : Contains xs x) → slice_get xs c.0 ≡ Some x
+contained_at xs x (k, b, e) = slice_get-get_or xs k x b ∙ ap Some e
 
 module _ {A : Type 0} where
   pub count_yes : (p : A → Bool) (x : A) (xs : List A) → IsTrue (p x) → count_by p (x ∷ xs) ≡ suc (count_by p xs)

@@ -1,5 +1,5 @@
 -- A typed expression has values of its kind alone, in the range of the kind.
-use Rattle.std.proofs.Common.{◌≡◌, ℕ, zero, suc, ◌<◌, ◌≤◌, ℤ, pos, FitsSigned, Bool, true, false, IsTrue, List, [], ◌∷◌, map, Option, Some, None, slice_get, ◌⊎◌, refl, sym, ◌∙◌, ap, subst, inl, inr, arith, w64}
+use Rattle.std.proofs.Common.{◌≡◌, ℕ, zero, suc, ◌<◌, ◌≤◌, ℤ, pos, FitsSigned, Bool, true, false, List, [], ◌∷◌, map, Option, Some, None, slice_get, ◌⊎◌, refl, sym, ◌∙◌, ap, subst, inl, inr, arith, w64}
 use Rattle.std.proofs.lemmas.Int.{fits_signed_from_abs}
 use Rattle.std.specs.List.{AllByRecursion, AllZip}
 use Rattle.std.specs.Option.{option_map, option_and_then}
@@ -8,7 +8,6 @@ use Rattle.gm_model.specs.declared.expr.BinOp.TheVariants as ops
 use Rattle.gm_model.specs.declared.expr.DartTerm.{DartTerm}
 use Rattle.gm_model.specs.declared.expr.UnOp.{UnOp}
 use Rattle.gm_model.specs.declared.expr.UnOp.TheVariants as unary
-use Rattle.gm_model.specs.declared.rule.Side.TheVariants.{Left}
 use Rattle.gm_model.specs.declared.schema.Embed.{Embed}
 use Rattle.gm_model.specs.declared.schema.Schema.{Schema}
 use Rattle.gm_model.specs.declared.value.Kind.{Kind}
@@ -16,12 +15,12 @@ use Rattle.gm_model.specs.declared.value.Kind.TheVariants as kinds
 use Rattle.gm_model.specs.declared.value.Value.{Value}
 use Rattle.gm_model.specs.declared.value.Value.TheVariants as values
 use Rattle.gm_model.specs.declared.word.Mask.{Mask}
-use Rattle.gm_model.specs.Expressions.{Reading, HasValue, IsMade, IsUnary, IsBinary, IsComponent, IsScaled, IsSum, IsFirstOf, components, dart_at}
-use Rattle.gm_model.specs.Kinds.{numeric, unary_kind, common, product_kind, quotient_kind, of_ints, of_bools, binary_kind, sum_kind, only_int, choice_kind, triple_kind, with_two, with_three, param_kinds, embed_kind, tree_kind, IsTermInRange, IsMaskInRange, IsTreeInRange, HasKind, AreGoodParams}
+use Rattle.gm_model.specs.Expressions.{Reading, HasValue, IsUnary, IsBinary, IsComponent, IsSum, IsFirstOf, components, dart_at}
+use Rattle.gm_model.specs.Kinds.{numeric, unary_kind, common, product_kind, quotient_kind, of_ints, of_bools, binary_kind, sum_kind, only_int, choice_kind, triple_kind, with_two, with_three, param_kinds, embed_kind, tree_kind, IsTermInRange, IsMaskInRange, IsTreeInRange, AreGoodParams}
 use Rattle.gm_model.specs.Labels.{has}
-use Rattle.gm_model.specs.Maps.{Map, IsDart, IsEmbedAt, IsGeneralised, dimension}
+use Rattle.gm_model.specs.Maps.{Map, IsDart, IsGeneralised, dimension}
 use Rattle.gm_model.specs.Orbits.{IsPathIn, IsInOrbit, follow}
-use Rattle.gm_model.specs.Rules.{Rule, has_word}
+use Rattle.gm_model.specs.Rules.{Rule}
 use Rattle.gm_model.specs.Trees.{Tree, Number, Truth, Param, Field, Same, Count, Sum, Least, Greatest, Unary, Binary, If, MakeVec2, MakeVec3, MakeRgb}
 use Rattle.gm_model.specs.Values.{IsInValueRange, IsValueOf, kind_of}
 use Rattle.gm_theory.proofs.Lists.{some_same, none_some}
@@ -33,16 +32,16 @@ mapped : {A : Type 0} (f : A → Kind) (o : Option A) (kind : Kind) → option_m
 mapped f None kind e = none_some kind e
 mapped f (Some a) kind e = (a, refl, some_same (f a) kind e)
 
-then_some : (f : Kind → Option Kind) (o : Option Kind) (kind : Kind) → option_and_then f o ≡ Some kind → (i : Kind) × (o ≡ Some i) × (f i ≡ Some kind)
+pub then_some : (f : Kind → Option Kind) (o : Option Kind) (kind : Kind) → option_and_then f o ≡ Some kind → (i : Kind) × (o ≡ Some i) × (f i ≡ Some kind)
 then_some f None kind e = none_some kind e
 then_some f (Some i) kind e = (i, refl, e)
 
-of_two : (f : Kind → Kind → Option Kind) (a b : Option Kind) (kind : Kind) → with_two f a b ≡ Some kind → (i : Kind) × (j : Kind) × (a ≡ Some i) × (b ≡ Some j) × (f i j ≡ Some kind)
+pub of_two : (f : Kind → Kind → Option Kind) (a b : Option Kind) (kind : Kind) → with_two f a b ≡ Some kind → (i : Kind) × (j : Kind) × (a ≡ Some i) × (b ≡ Some j) × (f i j ≡ Some kind)
 of_two f None b kind e = none_some kind e
 of_two f (Some i) None kind e = none_some kind e
 of_two f (Some i) (Some j) kind e = (i, j, refl, refl, e)
 
-of_three : (f : Kind → Kind → Kind → Option Kind) (a b c : Option Kind) (kind : Kind) → with_three f a b c ≡ Some kind → (i : Kind) × (j : Kind) × (k : Kind) × (a ≡ Some i) × (b ≡ Some j) × (c ≡ Some k) × (f i j k ≡ Some kind)
+pub of_three : (f : Kind → Kind → Kind → Option Kind) (a b c : Option Kind) (kind : Kind) → with_three f a b c ≡ Some kind → (i : Kind) × (j : Kind) × (k : Kind) × (a ≡ Some i) × (b ≡ Some j) × (c ≡ Some k) × (f i j k ≡ Some kind)
 of_three f None b c kind e = none_some kind e
 of_three f (Some i) None c kind e = none_some kind e
 of_three f (Some i) (Some j) None kind e = none_some kind e
@@ -89,6 +88,11 @@ triple_same k i j l kind e = none_some kind e
 choice_both : (i j k kind : Kind) → choice_kind i j k ≡ Some kind → (j ≡ kind) × (k ≡ kind)
 choice_both kinds.Bool j k kind e = common_both j k kind e
 choice_both i j k kind e = none_some kind e
+
+-- a choice is by a truth
+pub choice_truth : (i j k kind : Kind) → choice_kind i j k ≡ Some kind → i ≡ kinds.Bool
+choice_truth kinds.Bool j k kind e = refl
+choice_truth i j k kind e = none_some kind e
 
 int_same : (i kind : Kind) → only_int i ≡ Some kind → kinds.Int ≡ kind
 int_same kinds.Int kind e = some_same kinds.Int kind e
@@ -208,7 +212,7 @@ module _ (rule : Rule) (reading : Reading) (good : IsReadingOf rule reading) whe
   schema = reading.map.schema
 
   -- by the table, of an expression and of an embedding
-  abbrev kind_in : Tree → Option Kind
+  abbrev pub kind_in : Tree → Option Kind
   kind_in tree = tree_kind schema.embeds (param_kinds rule.params) tree
 
   abbrev embedding_kind : ℕ → Option Kind
@@ -253,7 +257,7 @@ module _ (rule : Rule) (reading : Reading) (good : IsReadingOf rule reading) whe
         go : (i : Kind) × (j : Kind) × (k : Kind) × (kind_in a ≡ Some i) × (kind_in b ≡ Some j) × (kind_in c ≡ Some k) × (triple_kind built i j k ≡ Some kind) → IsValueOf kind v
         go (i, j, k, f, g, g', e') = at_kind built kind v (triple_same built i j k kind e') h
 
-    typed : (tree : Tree) (kind : Kind) (v : Value) → IsTreeInRange schema rule tree → kind_in tree ≡ Some kind → HasValue reading tree v → IsValueOf kind v
+    pub typed : (tree : Tree) (kind : Kind) (v : Value) → IsTreeInRange schema rule tree → kind_in tree ≡ Some kind → HasValue reading tree v → IsValueOf kind v
     typed (Number n) kind v r e h = at_kind kinds.Int kind v (some_same kinds.Int kind e) h.is_value
     typed (Truth b) kind v r e h = at_kind kinds.Bool kind v (some_same kinds.Bool kind e) (is_truth v b h)
     typed (Param k) kind v r e h = param_typed (param_kinds rule.params) reading.params k kind v params e h

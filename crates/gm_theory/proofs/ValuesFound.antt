@@ -14,7 +14,7 @@ use Rattle.gm_theory.proofs.ValuesReach.{IsDecided, orbit_through}
 
 -- ---- the least number
 
-abbrev IsLeast : (ℕ → Type 0) → ℕ → Type 0
+abbrev pub IsLeast : (ℕ → Type 0) → ℕ → Type 0
 IsLeast P k = P k × ((j : ℕ) → j < k → P j → ⊥)
 
 pub least_below : (P : ℕ → Type 0) → ((k : ℕ) → IsDecided (P k)) → (n : ℕ) → ((k : ℕ) × (k < n) × IsLeast P k) ⊎ ((k : ℕ) → k < n → P k → ⊥)
@@ -52,7 +52,7 @@ decide_assigned rule e x = go (slice_get rule.nodes x) refl
         sets (inl (s, c, g)) = inl (s.tree, (node, f, subst (λ k. Contains node.sets (record { embed = k; tree = s.tree })) g c))
         sets (inr none) = inr (λ a. none (record { embed = e; tree = a.0 }, subst (λ (m : RuleNode). Contains m.sets (record { embed = e; tree = a.0 })) (some_same a.1.0 node (sym a.1.1 ∙ f)) a.1.2, refl))
 
-assigned_below : (rule : Rule) (e x : ℕ) → IsAssigned rule e x → x < length rule.nodes
+pub assigned_below : (rule : Rule) (e x : ℕ) → IsAssigned rule e x → x < length rule.nodes
 assigned_below rule e x (tree, (node, at, c)) = slice_get_within rule.nodes x node at
 
 -- ---- the deciding instance of an orbit

@@ -1,6 +1,5 @@
 -- The second half of the theorem: for every generalised and well embedded map, every accepted rule and every match, the new values are determined, and the result is well embedded.
-use Rattle.std.proofs.Common.{◌≡◌, ℕ, ◌<◌, ◌≤◌, ◌⊎◌, not, false, IsTrue, List, length, Contains, Option, Some, None, slice_get, refl, sym, ◌∙◌, ap, subst, inl, inr}
-use Rattle.std.proofs.lemmas.Option.{slice_get-get_or}
+use Rattle.std.proofs.Common.{◌≡◌, ℕ, ◌<◌, ◌≤◌, ◌⊎◌, not, false, IsTrue, length, Contains, Option, Some, None, slice_get, refl, sym, ◌∙◌, ap, subst, inl, inr}
 use Rattle.gm_model.specs.declared.rule.Side.TheVariants.{Left, Right}
 use Rattle.gm_model.specs.declared.schema.Embed.{Embed}
 use Rattle.gm_model.specs.declared.schema.Schema.{Schema}
@@ -9,7 +8,7 @@ use Rattle.gm_model.specs.Acceptance.{IsAccepted}
 use Rattle.gm_model.specs.Components.{IsTogether, IsAssigned, IsUnassigned, IsInherited}
 use Rattle.gm_model.specs.NewValues.{LiesIn, IsDecidedBy, IsUndecided, IsValueAfter, Decided, Kept, Added}
 use Rattle.gm_model.specs.Orbits.{IsInOrbit}
-use Rattle.gm_model.specs.Applications.{Application, GivesValue, IsResult, IsDone, reading_at}
+use Rattle.gm_model.specs.Applications.{Application, IsFound, GivesValue, IsResult, IsDone, reading_at}
 use Rattle.gm_model.specs.Expressions.{HasValue}
 use Rattle.gm_model.specs.GMap.{IsGMap}
 use Rattle.gm_model.specs.Kinds.{AreGoodParams}
@@ -22,7 +21,7 @@ use Rattle.gm_model.specs.Unfolding.{Scene, scene_of, name_in, IsDartAfter}
 use Rattle.gm_model.specs.Values.{IsValueOf}
 use Rattle.gm_theory.proofs.Candidates.{candidate_is_match}
 use Rattle.gm_theory.proofs.Keeps.{lawful}
-use Rattle.gm_theory.proofs.Lists.{some_same, none_some}
+use Rattle.gm_theory.proofs.Lists.{some_same, none_some, contained_at}
 use Rattle.gm_theory.proofs.ReadingsTyped.{values_have_their_kinds}
 use Rattle.gm_theory.proofs.Results.{unfolding_generalised, unfolding_below, unfoldings_agree}
 use Rattle.gm_theory.proofs.Scenes.{IsLawful}
@@ -39,10 +38,7 @@ use Rattle.gm_theory.specs.Values.{HaveValues, HaveSameValues, with_values, Keep
 
 -- ---- an instance has one expression, and it has one value
 
-contained_at : {A : Type 0} (xs : List A) (x : A) (c : Contains xs x) → slice_get xs c.0 ≡ Some x
-contained_at xs x (k, b, e) = slice_get-get_or xs k x b ∙ ap Some e
-
-one_tree : (schema : Schema) (rule : Rule) → IsInRange schema rule → (x e : ℕ) (t s : Tree) → Assigns rule x e t → Assigns rule x e s → t ≡ s
+pub one_tree : (schema : Schema) (rule : Rule) → IsInRange schema rule → (x e : ℕ) (t s : Tree) → Assigns rule x e t → Assigns rule x e s → t ≡ s
 one_tree schema rule range x e t s (node, at, c) (node', at', c') = ap (λ (a : Assignment). a.tree) same
   where
     node_same : node' ≡ node
@@ -161,9 +157,9 @@ rules_keep_well_embedded_maps app place of_schema is_map old embedded accepted f
 
 -- ---- applications that are done
 
-done_match : (app : Application) (result : Map) (added removed : ℕ) → IsGeneralised app.map → IsAccepted app.map.schema app.rule → (done : IsDone app result added removed) → IsMatch app.map app.rule app.hooks done.place
-done_match app result added removed old accepted done = candidate_is_match app.map app.rule done.place accepted.in_range accepted.incidence old app.hooks done.ready.found.candidate done.ready.found.steps
-    (λ x p y q at at' before e. done.ready.found.distinct x p y q (record { first = at; second = at'; later = before; same = e }))
+-- what is found is a match
+pub found_match : (app : Application) (place : Placement) → IsGeneralised app.map → IsAccepted app.map.schema app.rule → IsFound app place → IsMatch app.map app.rule app.hooks place
+found_match app place old accepted found = candidate_is_match app.map app.rule place accepted.in_range accepted.incidence old app.hooks found.candidate found.steps (λ x p y q at at' before e. found.distinct x p y q (record { first = at; second = at'; later = before; same = e }))
 
 -- an expression is read at a position of a match
 pub match_reading : (app : Application) (place : Placement) → IsMap app.map → IsGeneralised app.map → IsMatch app.map app.rule app.hooks place → (p : ℕ) → p < place.positions → IsReadingOf app.rule (reading_at app place p)
@@ -178,19 +174,13 @@ value_typed app place alpha is_map old accepted params found e d embed v at (Kep
 value_typed app place alpha is_map old accepted params found e d embed v at (Added x p keeper none n b f kept g) =
     subst (IsValueOf embed.kind) (sym g) (is_map.values e (place.dart_of keeper p) embed at (found.embedded.live keeper p ((both_true (has_word app.rule Left keeper) (has_word app.rule Right keeper) kept.preserved).0, b)))
 
-pub applications_keep_sound_maps : ApplicationsKeepSoundMaps
-applications_keep_sound_maps app result added removed of_schema sound accepted params done = record {
-  is_map = record {
-    below = unfolding_below s count w label here (IsDart result) result.alpha result.next done.result_is.unfolded;
-    values = λ e d embed at live. typed e d embed (subst (λ schema. IsEmbedAt schema e embed) done.result_is.schema at) live;
-  };
-  generalised = subst (λ n. IsGMap n (IsDart result) result.alpha) (sym (ap (λ (schema : Schema). schema.dim) done.result_is.schema)) (unfolding_generalised s count w label here (IsDart result) result.alpha result.next done.result_is.unfolded);
-  embedded = well_embedded app done.place of_schema sound.is_map sound.generalised sound.embedded accepted found result done.result_is;
-}
+-- the unfolding of an application that is done is generalised, with its names below the next, whatever its parameters
+pub done_lawful : (app : Application) (result : Map) (added removed : ℕ) → IsMap app.map → IsGeneralised app.map → IsAccepted app.map.schema app.rule → IsDone app result added removed → IsGeneralised result × ((d : ℕ) → IsDart result d → d < result.next)
+done_lawful app result added removed is_map old accepted done = (
+  subst (λ n. IsGMap n (IsDart result) result.alpha) (sym (ap (λ (schema : Schema). schema.dim) done.result_is.schema)) (unfolding_generalised s count w label here (IsDart result) result.alpha result.next done.result_is.unfolded),
+  unfolding_below s count w label here (IsDart result) result.alpha result.next done.result_is.unfolded,
+)
   where
-    found : IsMatch app.map app.rule app.hooks done.place
-    found = done_match app result added removed sound.generalised accepted done
-
     s : Scene
     s = scene_of app.map app.rule done.place
 
@@ -204,7 +194,20 @@ applications_keep_sound_maps app result added removed of_schema sound accepted p
     label = hook_label app.rule
 
     here : IsLawful (scene_of app.map app.rule done.place) (length app.rule.nodes) (width app.rule) (hook_label app.rule)
-    here = lawful app.map app.rule done.place accepted sound.generalised sound.is_map app.hooks found
+    here = lawful app.map app.rule done.place accepted old is_map app.hooks (found_match app done.place old accepted done.ready.found)
+
+pub applications_keep_sound_maps : ApplicationsKeepSoundMaps
+applications_keep_sound_maps app result added removed of_schema sound accepted params done = record {
+  is_map = record { below = unfolded.1; values = λ e d embed at live. typed e d embed (subst (λ schema. IsEmbedAt schema e embed) done.result_is.schema at) live };
+  generalised = unfolded.0;
+  embedded = well_embedded app done.place of_schema sound.is_map sound.generalised sound.embedded accepted found result done.result_is;
+}
+  where
+    found : IsMatch app.map app.rule app.hooks done.place
+    found = found_match app done.place sound.generalised accepted done.ready.found
+
+    unfolded : IsGeneralised result × ((d : ℕ) → IsDart result d → d < result.next)
+    unfolded = done_lawful app result added removed sound.is_map sound.generalised accepted done
 
     typed : (e d : ℕ) (embed : Embed) → IsEmbedAt app.map.schema e embed → IsDart result d → IsValueOf embed.kind (result.value e d)
     typed e d embed at live = value_typed app done.place result.alpha sound.is_map sound.generalised accepted params found e d embed (result.value e d) at (done.result_is.values e d embed at live)

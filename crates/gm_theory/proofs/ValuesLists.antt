@@ -7,25 +7,25 @@ use Rattle.gm_model.specs.Orbits.{HasNoRepeats, IsListOf}
 
 -- ---- by recursion on the list
 
-abbrev IsIn : ℕ → List ℕ → Type 0
+abbrev pub IsIn : {A : Type 0} → A → List A → Type 0
 IsIn x [] = ⊥
 IsIn x (y ∷ ys) = (y ≡ x) ⊎ IsIn x ys
 
-abbrev AreDistinct : List ℕ → Type 0
+abbrev pub AreDistinct : List ℕ → Type 0
 AreDistinct [] = Unit {0}
 AreDistinct (x ∷ xs) = (IsIn x xs → ⊥) × AreDistinct xs
 
-in_contained : (xs : List ℕ) (x : ℕ) → Contains xs x → IsIn x xs
+pub in_contained : {A : Type 0} (xs : List A) (x : A) → Contains xs x → IsIn x xs
 in_contained [] x (k, b, e) = absurd (omega arith)
 in_contained (y ∷ ys) x (zero, b, e) = inl e
 in_contained (y ∷ ys) x (suc k, b, e) = inr (in_contained ys x (k, omega arith, e))
 
-contains_in : (xs : List ℕ) (x : ℕ) → IsIn x xs → Contains xs x
+pub contains_in : {A : Type 0} (xs : List A) (x : A) → IsIn x xs → Contains xs x
 contains_in [] x i = absurd i
 contains_in (y ∷ ys) x (inl e) = (0, omega arith, e)
 contains_in (y ∷ ys) x (inr i) = let rest : Contains ys x = contains_in ys x i in (suc rest.0, omega (arith, rest.1), rest.2)
 
-distinct_list : (xs : List ℕ) → HasNoRepeats xs → AreDistinct xs
+pub distinct_list : (xs : List ℕ) → HasNoRepeats xs → AreDistinct xs
 distinct_list [] h = tt
 distinct_list (x ∷ xs) h = (apart, distinct_list xs (λ p q l b e. h (suc p) (suc q) (omega arith) (omega arith) e))
   where
@@ -34,12 +34,12 @@ distinct_list (x ∷ xs) h = (apart, distinct_list xs (λ p q l b e. h (suc p) (
 
 -- ---- without one element
 
-split_at : (ys : List ℕ) (x : ℕ) → IsIn x ys → (us : List ℕ) × (vs : List ℕ) × (ys ≡ us ++ x ∷ vs)
+pub split_at : (ys : List ℕ) (x : ℕ) → IsIn x ys → (us : List ℕ) × (vs : List ℕ) × (ys ≡ us ++ x ∷ vs)
 split_at [] x i = absurd i
 split_at (y ∷ ys) x (inl e) = ([], ys, ap (λ z. z ∷ ys) e)
 split_at (y ∷ ys) x (inr i) = let rest : (us : List ℕ) × (vs : List ℕ) × (ys ≡ us ++ x ∷ vs) = split_at ys x i in (y ∷ rest.0, rest.1, ap (λ zs. y ∷ zs) rest.2)
 
-in_middle : (us vs : List ℕ) (x z : ℕ) → IsIn z (us ++ x ∷ vs) → (x ≡ z) ⊎ IsIn z (us ++ vs)
+pub in_middle : (us vs : List ℕ) (x z : ℕ) → IsIn z (us ++ x ∷ vs) → (x ≡ z) ⊎ IsIn z (us ++ vs)
 in_middle [] vs x z i = i
 in_middle (u ∷ us) vs x z (inl e) = inr (inl e)
 in_middle (u ∷ us) vs x z (inr i) = go (in_middle us vs x z i)
@@ -48,13 +48,13 @@ in_middle (u ∷ us) vs x z (inr i) = go (in_middle us vs x z i)
     go (inl e) = inl e
     go (inr j) = inr (inr j)
 
-in_around : (us vs : List ℕ) (x z : ℕ) → (x ≡ z) ⊎ IsIn z (us ++ vs) → IsIn z (us ++ x ∷ vs)
+pub in_around : (us vs : List ℕ) (x z : ℕ) → (x ≡ z) ⊎ IsIn z (us ++ vs) → IsIn z (us ++ x ∷ vs)
 in_around [] vs x z i = i
 in_around (u ∷ us) vs x z (inl e) = inr (in_around us vs x z (inl e))
 in_around (u ∷ us) vs x z (inr (inl e)) = inl e
 in_around (u ∷ us) vs x z (inr (inr i)) = inr (in_around us vs x z (inr i))
 
-distinct_middle : (us vs : List ℕ) (x : ℕ) → AreDistinct (us ++ x ∷ vs) → (IsIn x (us ++ vs) → ⊥) × AreDistinct (us ++ vs)
+pub distinct_middle : (us vs : List ℕ) (x : ℕ) → AreDistinct (us ++ x ∷ vs) → (IsIn x (us ++ vs) → ⊥) × AreDistinct (us ++ vs)
 distinct_middle [] vs x d = d
 distinct_middle (u ∷ us) vs x d = more (distinct_middle us vs x d.1)
   where

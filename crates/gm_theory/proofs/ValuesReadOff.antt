@@ -98,6 +98,12 @@ linked_by links x i y l c h o = go (end_parts x i l h)
     go (e, inl f) = let to : l.to ≡ y = (rw (eq-eqb l.from x f) at o) in inl (subst (Contains links) (link_same l x i y f e to) c)
     go (e, inr (f, g)) = let from : l.from ≡ y = (rw g at o) in inr (subst (Contains links) (link_same l y i x from e f) c)
 
+-- a link step of x is that of a link
+pub step_linked : (rule : Rule) (side : Side) (x i y : ℕ) → step rule side x i ≡ Exp y → IsLinked (links_on rule side) x i y
+step_linked rule side x i y e =
+    let parts : (l : Link) × (find (is_end x i) (links_on rule side) ≡ Some l) × (other_end x l ≡ y) = step_link x y (find (is_end x i) (links_on rule side)) (position (is_label i) (letters rule side x)) e in
+    linked_by (links_on rule side) x i y parts.0 (found_contained (is_end x i) (links_on rule side) parts.0 parts.1) (find_passes (is_end x i) (links_on rule side) parts.0 parts.1) parts.2
+
 module _ (schema : Schema) (rule : Rule) (accepted : IsAccepted schema rule) where
   letter_step : (side : Side) (x i m : ℕ) → IsTrue (has_word rule side x) → i ≤ schema.dim → slice_get (letters rule side x) m ≡ Some (At i) → step rule side x i ≡ Imp m
   letter_step side x i m h b e =
@@ -107,11 +113,6 @@ module _ (schema : Schema) (rule : Rule) (accepted : IsAccepted schema rule) whe
       let at_place : position (is_label i) (letters rule side x) ≡ Some m = place_of i (letters rule side x) m e (omega arith) in
       ap₂ (step_by x) no_link at_place
 
-  linked : (side : Side) (x i y : ℕ) → step rule side x i ≡ Exp y → IsLinked (links_on rule side) x i y
-  linked side x i y e =
-      let parts : (l : Link) × (find (is_end x i) (links_on rule side) ≡ Some l) × (other_end x l ≡ y) = step_link x y (find (is_end x i) (links_on rule side)) (position (is_label i) (letters rule side x)) e in
-      linked_by (links_on rule side) x i y parts.0 (found_contained (is_end x i) (links_on rule side) parts.0 parts.1) (find_passes (is_end x i) (links_on rule side) parts.0 parts.1) parts.2
-
   lettered : (side : Side) (x i m : ℕ) → step rule side x i ≡ Imp m → slice_get (letters rule side x) m ≡ Some (At i)
   lettered side x i m e = placed i (letters rule side x) m (step_place x m (find (is_end x i) (links_on rule side)) (position (is_label i) (letters rule side x)) e).1
 
@@ -119,7 +120,7 @@ module _ (schema : Schema) (rule : Rule) (accepted : IsAccepted schema rule) whe
   read_off = record {
     link = λ side x i y w h l. linked_step schema rule accepted.in_range accepted.incidence side x i y l;
     letter = letter_step;
-    linked = linked;
+    linked = step_linked rule;
     lettered = lettered;
     end = λ side x i y l. (linked_in_range schema rule accepted.in_range accepted.incidence side x i y l).1;
   }

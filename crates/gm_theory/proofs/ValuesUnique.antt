@@ -20,46 +20,45 @@ use Rattle.gm_theory.proofs.ValuesLists.{one_total}
 
 -- ---- values by kind and components
 
-nat_of : ℤ → ℕ
+abbrev pub nat_of : ℤ → ℕ
 nat_of (pos n) = n
 nat_of (negsuc n) = 0
 
-first : List ℤ → ℤ
+abbrev pub first : List ℤ → ℤ
 first [] = pos 0
 first (x ∷ xs) = x
 
-rest : List ℤ → List ℤ
+abbrev pub rest : List ℤ → List ℤ
 rest [] = []
 rest (x ∷ xs) = xs
 
-made : Kind → List ℤ → Value
+-- what has the kind and these components, if anything has
+abbrev pub made : Kind → List ℤ → Value
 made kinds.Int parts = values.Int (first parts)
 made kinds.Bool parts = values.Bool false
 made kinds.Vec2 parts = values.Vec2 (first parts) (first (rest parts))
 made kinds.Vec3 parts = values.Vec3 (first parts) (first (rest parts)) (first (rest (rest parts)))
 made kinds.Rgb parts = values.Rgb (nat_of (first parts)) (nat_of (first (rest parts))) (nat_of (first (rest (rest parts))))
 
-by_parts : (v : Value) → kind_of v ≢ kinds.Bool → v ≡ made (kind_of v) (components v)
-unfolding made first rest nat_of
+pub by_parts : (v : Value) → kind_of v ≢ kinds.Bool → v ≡ made (kind_of v) (components v)
 by_parts (values.Int x) h = refl
 by_parts (values.Bool b) h = absurd (h refl)
 by_parts (values.Vec2 x y) h = refl
 by_parts (values.Vec3 x y z) h = refl
 by_parts (values.Rgb r g b) h = refl
 
-made_same : (kind kind' : Kind) (parts parts' : List ℤ) (v w : Value) → kind ≡ kind' → parts ≡ parts' → IsMade kind parts v → IsMade kind' parts' w → v ≡ w
+pub made_same : (kind kind' : Kind) (parts parts' : List ℤ) (v w : Value) → kind ≡ kind' → parts ≡ parts' → IsMade kind parts v → IsMade kind' parts' w → v ≡ w
 made_same kind kind' parts parts' v w e f a b =
     by_parts v (λ h. a.numbers (sym a.is_value.kind_is ∙ h)) ∙ ap₂ made (a.is_value.kind_is ∙ e ∙ sym b.is_value.kind_is) (a.parts_are ∙ f ∙ sym b.parts_are) ∙ sym (by_parts w (λ h. b.numbers (sym b.is_value.kind_is ∙ h)))
 
 -- a number is made of itself alone
 pub number_made : (n : ℤ) (v : Value) → IsMade kinds.Int (n ∷ []) v → v ≡ values.Int n
-unfolding made first
 number_made n v m = by_parts v (λ h. m.numbers (sym m.is_value.kind_is ∙ h)) ∙ ap₂ made m.is_value.kind_is m.parts_are
 
-int_same : (x y : ℤ) → values.Int x ≡ values.Int y → x ≡ y
+pub int_same : (x y : ℤ) → values.Int x ≡ values.Int y → x ≡ y
 int_same x y e = cc
 
-bool_same : (x y : Bool) → values.Bool x ≡ values.Bool y → x ≡ y
+pub bool_same : (x y : Bool) → values.Bool x ≡ values.Bool y → x ≡ y
 bool_same x y e = cc
 
 -- ---- operators

@@ -15,7 +15,7 @@ use Rattle.gm_model.specs.Acceptance.{IsAccepted}
 use Rattle.gm_model.specs.Applications.{Application, IsResult}
 use Rattle.gm_model.specs.Components.{HasSources}
 use Rattle.gm_model.specs.Kinds.{IsTyped}
-use Rattle.gm_model.specs.Maps.{Map, IsDart, IsMap, IsGeneralised, IsSchema, IsWellEmbedded, dimension}
+use Rattle.gm_model.specs.Maps.{Map, IsDart, IsGeneralised, IsSchema, IsSound, dimension}
 use Rattle.gm_model.specs.Matches.{Placement, IsMatch}
 use Rattle.gm_model.specs.Rules.{Rule, RuleNode, Assignment, link_from}
 use Rattle.gm_model.specs.Structure.{IsInRange, HasIncidence}
@@ -163,9 +163,7 @@ four_triangles = map_of planar triangles_table triangles_points
 -- a map that meets all that the theorem asks of one
 pub record IsLawfulExample (map : Map) : Type 0 where
   pub schema : IsSchema map.schema
-  pub is_map : IsMap map
-  pub generalised : IsGeneralised map
-  pub embedded : IsWellEmbedded map
+  pub sound : IsSound map
 
 abbrev pub triangulating : Application
 triangulating = record { map = square; rule = triangulation; hooks = 0 ∷ []; params = [] }

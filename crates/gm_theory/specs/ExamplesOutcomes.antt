@@ -3,12 +3,14 @@ use Rattle.std.specs.Prelude.{ℕ, List, [], ◌∷◌, codes, Some, None, slice
 use Rattle.std.specs.Option.{unwrap_or}
 use Rattle.gm_model.specs.declared.expr.BinOp.TheVariants.{Div, Eq}
 use Rattle.gm_model.specs.declared.schema.Schema.{Schema}
+use Rattle.gm_model.specs.declared.value.Kind.TheVariants as kinds
+use Rattle.gm_model.specs.declared.value.Value.TheVariants as values
 use Rattle.gm_model.specs.declared.word.Letter.TheVariants.{At}
 use Rattle.gm_model.specs.Applications.{Application}
 use Rattle.gm_model.specs.Maps.{Map}
 use Rattle.gm_model.specs.Matches.{Placement}
 use Rattle.gm_model.specs.Rules.{Rule, link_from}
-use Rattle.gm_model.specs.Trees.{Tree, Number, Field, Binary}
+use Rattle.gm_model.specs.Trees.{Tree, Number, Param as Parameter, Field, Binary}
 use Rattle.gm_theory.specs.Examples.{map_of, origin, point, points_of_vertices, planar, polygonal, linear, rule_from, kept_node, new_node, square_table, square, triangulation, four_triangles, merging, split, edge}
 
 -- ---- a left step that isn't met, a hook that names no dart
@@ -108,3 +110,21 @@ misnamed = record { dim = 2; embeds = record points_of_vertices { name = codes "
 -- the triangulation with a link of a label that the map hasn't
 abbrev pub astray : Rule
 astray = record triangulation { right_links = link_from 0 1 1 ∷ link_from 1 3 2 ∷ [] }
+
+-- ---- values out of their kind
+
+-- dimension 1, with a number for each vertex
+abbrev pub sized : Schema
+sized = record { dim = 1; embeds = record { name = codes "size"; mask = record { bits = 2 }; kind = kinds.Int } ∷ [] }
+
+-- the number of a vertex becomes the parameter
+abbrev pub setting : Rule
+setting = record (rule_from (codes "set") (kept_node (codes "a") (At 1 ∷ []) (At 1 ∷ []) (record { embed = 0; tree = Parameter 0 } ∷ []) ∷ []) [] []) { params = record { name = codes "v"; kind = kinds.Int } ∷ [] }
+
+-- one more than the greatest number
+abbrev pub too_great : ℕ
+too_great = 9223372036854775808
+
+-- one dart with that number
+abbrev pub outsized : Map
+outsized = record { schema = sized; live = λ d. d == 0; alpha = λ i d. d; value = λ e d. values.Int (pos too_great); next = 1 }

@@ -4,7 +4,7 @@ use Rattle.gm_model.specs.declared.rule.Side.TheVariants.{Left}
 use Rattle.gm_model.specs.declared.value.Kind.{Kind}
 use Rattle.gm_model.specs.declared.value.Value.{Value}
 use Rattle.gm_model.specs.Expressions.{Reading, HasValue, HasNoValue, HasUnits}
-use Rattle.gm_model.specs.Kinds.{IsTreeInRange, HasKind, AreGoodParams}
+use Rattle.gm_model.specs.Kinds.{HasKind, AreGoodParams}
 use Rattle.gm_model.specs.Maps.{IsDart, IsMap, IsGeneralised}
 use Rattle.gm_model.specs.Rules.{Rule, has_word}
 use Rattle.gm_model.specs.Trees.{Tree}
@@ -32,6 +32,6 @@ pub record IsDetermined (reading : Reading) (tree : Tree) : Type 0 where
   -- and only one
   pub one_number : (u u' : ℕ) → HasUnits reading tree u → HasUnits reading tree u' → u ≡ u'
 
--- For every expression whose numbers name what they stand for.
+-- For every typed expression, where each parameter has a value of its kind.
 abbrev pub ReadingsAreDetermined : Type 0
-ReadingsAreDetermined = (rule : Rule) (reading : Reading) (tree : Tree) → IsReadingOf rule reading → IsTreeInRange reading.map.schema rule tree → IsDetermined reading tree
+ReadingsAreDetermined = (rule : Rule) (reading : Reading) (tree : Tree) (kind : Kind) → IsReadingOf rule reading → AreGoodParams rule reading.params → HasKind reading.map.schema rule tree kind → IsDetermined reading tree

@@ -5,17 +5,23 @@
 ghost use Rattle.gm_model.specs.declared.rule.RuleFault.TheVariants as faults;
 ghost use Rattle.gm_model.specs.Acceptance.{IsFault};
 ghost use Rattle.gm_model.specs.Applications.{IsDone, IsRefused, IsBudget, NoDart, Arc, Same, PreNoValue, PreFalse, FullDarts, FullNames, NoValue};
-ghost use Rattle.gm_model.specs.Kinds.{IsTyped};
+ghost use Rattle.gm_model.specs.declared.value.Value.TheVariants as values;
+ghost use Rattle.gm_model.specs.Expressions.{Reading, HasNoValue};
+ghost use Rattle.gm_model.specs.Kinds.{AreGoodParams, IsTyped};
 ghost use Rattle.gm_model.specs.Maps.{IsMap, IsSchema, IsWellEmbedded};
 ghost use Rattle.gm_model.specs.Matches.{Placement, IsMatch};
 ghost use Rattle.gm_model.specs.Orbits.{IsWalk};
 ghost use Rattle.gm_model.specs.Structure.{IsInRange};
-ghost use Rattle.gm_model.specs.Trees.{Truth};
+ghost use Rattle.gm_model.specs.Trees.{Number, Truth};
 ghost use Rattle.gm_theory.specs.Examples.{IsLawfulExample, IsWorkedExample, BreaksMaps, planar, polygonal, triangulation, square, on_square, twisted, four_triangles, triangulating, on_edge, two_edges, splitting, relabelled, pointless, hookless, unfinished, miscounted, merging, contradicting, turning};
-ghost use Rattle.gm_theory.specs.ExamplesOutcomes.{drop_at, merging_alone, split_if, valueless, crowded, late, pair_on, spoiling_square, torn, overdue, misnamed, astray};
-ghost use Rattle.std.specs.Prelude.{[], ◌∷◌, false};
+ghost use Rattle.gm_theory.specs.ExamplesOutcomes.{drop_at, merging_alone, split_if, valueless, crowded, late, pair_on, spoiling_square, torn, overdue, misnamed, astray, setting, outsized, too_great};
+ghost use Rattle.std.specs.Prelude.{[], ◌∷◌, false, pos, true};
 
-use crate::{applications_keep_sound_maps, keeps_generalised_maps, keeps_well_embedded_maps};
+use crate::{
+    applications_have_budgets, applications_have_outcomes, applications_keep_sound_maps,
+    keeps_generalised_maps, keeps_well_embedded_maps, readings_are_determined, scripts_have_runs,
+    values_have_their_kinds,
+};
 
 /// The triangulation of a square face of eight darts gives four triangles, with the new vertex in
 /// the centre.
@@ -60,7 +66,8 @@ fn refuses_applications()
 {}
 
 /// What lacks a property: a walk in another order, a vertex of two points, a next name that is
-/// taken, a reserved name, a label past the dimension, and a hook where there is no dart.
+/// taken, a reserved name, a label past the dimension, a hook where there is no dart, and a match
+/// without a dart for its hook.
 #[cfg(test)]
 fn tells_apart()
     ensures order { IsWalk (λ d l. square.alpha l d) 2 0 (0 ∷ 7 ∷ 1 ∷ 6 ∷ 2 ∷ 5 ∷ 3 ∷ 4 ∷ []) → ⊥ }
@@ -69,6 +76,16 @@ fn tells_apart()
     ensures name { IsSchema misnamed → ⊥ }
     ensures label { IsInRange planar astray → ⊥ }
     ensures hook { (place : Placement) → IsMatch square triangulation (99 ∷ []) place → ⊥ }
+    ensures count { (place : Placement) → IsMatch square triangulation (0 ∷ 1 ∷ []) place → ⊥ }
+{}
+
+/// Values out of their kind: a truth for a parameter that is a number, and a number past the
+/// greatest, which no map has on a dart and no expression gives.
+#[cfg(test)]
+fn refuses_values()
+    ensures param { AreGoodParams setting (values.Bool true ∷ []) → ⊥ }
+    ensures number { IsMap outsized → ⊥ }
+    ensures literal { (reading : Reading) → HasNoValue reading (Number (pos too_great)) }
 {}
 
 /// A rule that the condition on squares alone refuses, and a square face that it would break.
@@ -84,8 +101,14 @@ fn examples_stand() {
     refuses_rules();
     refuses_applications();
     tells_apart();
+    refuses_values();
     needs_squares();
     keeps_generalised_maps();
     keeps_well_embedded_maps();
     applications_keep_sound_maps();
+    values_have_their_kinds();
+    readings_are_determined();
+    applications_have_outcomes();
+    applications_have_budgets();
+    scripts_have_runs();
 }

@@ -4,12 +4,14 @@
 
 #[cfg(test)]
 mod examples;
+mod outcomes;
 mod readings;
 mod values;
 
 ghost use Rattle.gm_theory.specs.Theorem.{RulesKeepGeneralisedMaps};
 
-pub use readings::values_have_their_kinds;
+pub use outcomes::{applications_have_budgets, applications_have_outcomes, scripts_have_runs};
+pub use readings::{readings_are_determined, values_have_their_kinds};
 pub use values::{applications_keep_sound_maps, keeps_well_embedded_maps};
 
 /// For every generalised map of dimension 1 to 7, every accepted rule and every match, the

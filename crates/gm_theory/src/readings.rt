@@ -1,6 +1,6 @@
-//! What reading an expression of a rule gives, as laws of the definitions.
+//! What reading an expression of a rule gives and takes, as laws of the definitions.
 
-ghost use Rattle.gm_theory.specs.Readings.{ValuesHaveTheirKinds};
+ghost use Rattle.gm_theory.specs.Readings.{ValuesHaveTheirKinds, ReadingsAreDetermined};
 
 /// The value of a typed expression is one of its kind, and its numbers lie in the range of the
 /// kind: where it is read in a generalised map whose values are so, at a position where each left
@@ -8,4 +8,11 @@ ghost use Rattle.gm_theory.specs.Readings.{ValuesHaveTheirKinds};
 /// function does nothing.
 pub fn values_have_their_kinds()
     ensures { ValuesHaveTheirKinds }
+{}
+
+/// A typed expression that is read there has one value, or none, and reading it takes one number
+/// of units. So where the budget or the outcome of an application rests on what is read, there is
+/// one answer. The law is the clause; the function does nothing.
+pub fn readings_are_determined()
+    ensures { ReadingsAreDetermined }
 {}

@@ -1,0 +1,24 @@
+//! The outcomes and budgets of applications, and the runs of scripts, as laws of the definitions.
+
+ghost use Rattle.gm_theory.specs.Outcomes.{ApplicationsHaveOutcomes, ApplicationsHaveBudgets, ScriptsHaveRuns};
+
+/// Each application of an accepted rule to a sound map, with a dart's name for each hook and a
+/// value of its kind for each parameter, has an outcome: it is done, or it is refused for the first
+/// cause that holds. So no application falls between the definitions. The law is the clause; the
+/// function does nothing.
+pub fn applications_have_outcomes()
+    ensures { ApplicationsHaveOutcomes }
+{}
+
+/// Each such application has a budget, whether it is done or refused. The law is the clause; the
+/// function does nothing.
+pub fn applications_have_budgets()
+    ensures { ApplicationsHaveBudgets }
+{}
+
+/// Each script whose lines name accepted rules, with a dart's name for each hook and a value of its
+/// kind for each parameter, has a run from each sound map of their schema, with a budget, and the
+/// run leaves a sound map. The law is the clause; the function does nothing.
+pub fn scripts_have_runs()
+    ensures { ScriptsHaveRuns }
+{}
