@@ -1,15 +1,13 @@
 -- What an application comes to by the match, the room for its result, and the edits; and the steps of the whole.
-use Rattle.std.proofs.Common.{◌≡◌, ℕ, ◌+◌, ◌-◌, ◌*◌, ◌<◌, ◌≤◌, ◌⊎◌, inl, inr, List, [], ◌∷◌, length, Option, Some, None, slice_get, refl, sym, ap, subst, ◌∙◌, arith}
+use Rattle.std.proofs.Common.{◌≡◌, ℕ, ◌+◌, ◌-◌, ◌*◌, ◌<◌, ◌≤◌, List, [], length, Some, None, slice_get, sym, ap, subst, ◌∙◌, arith}
 use Rattle.std.proofs.lemmas.Nat.{mul-le}
-use Rattle.gm_model.specs.declared.schema.Embed.{Embed}
 use Rattle.gm_model.specs.declared.value.Value.{Value}
-use Rattle.gm_model.specs.Applications.{Application, HasHookDarts, IsFound, IsReady, IsRefused, NoRoom, NoNames, FullDarts, FullNames, MeetsPre, IsDone, IsWork, NoHookDarts, NoMatch, NotReady, Ready, IsBudget, Of, more}
+use Rattle.gm_model.specs.Applications.{Application, IsRefused, NoRoom, NoNames, FullDarts, FullNames, MeetsPre, IsDone, IsWork, NoHookDarts, NoMatch, NotReady, Ready, IsBudget, Of}
 use Rattle.gm_model.specs.Limits.{most_darts, most_names}
-use Rattle.gm_model.specs.Maps.{Map, IsDart, IsEmbedAt, IsGeneralised, dimension}
-use Rattle.gm_model.specs.Matches.{Placement, ArePositions, Created, Walked, IsCandidate, along_hook}
+use Rattle.gm_model.specs.Maps.{Map, IsDart, IsGeneralised}
+use Rattle.gm_model.specs.Matches.{Placement, ArePositions, Created, Walked, along_hook}
 use Rattle.gm_model.specs.Orbits.{HasCount}
 use Rattle.gm_model.specs.Rules.{Rule, rule_of, width}
-use Rattle.gm_model.specs.Trees.{Tree}
 use Rattle.gm_model.specs.Unfolding.{IsGone, scene_of, added_nodes}
 use Rattle.gm_model.specs.declared.rule.RuleTable.{RuleTable}
 use Rattle.gm_arena.specs.ArenaAsMap.{as_map}
@@ -86,9 +84,11 @@ pub is_done : (old new result : ArenaMap) (table : RuleTable) (hooks : List ℕ)
 is_done old new result table hooks params found added removed no_embeds same room schema is = record {
   place = placement_in old found;
   ready = room.ready;
-  schema = schema ∙ ap (λ (n : ArenaMap). n.schema) same;
-  unfolded = same_arena old new table found result same is;
-  values = λ e d embed at live. let none : None ≡ Some embed = sym (ap (λ embeds. slice_get embeds e) no_embeds) ∙ at in absurd cc;
+  result_is = record {
+    schema = schema ∙ ap (λ (n : ArenaMap). n.schema) same;
+    unfolded = same_arena old new table found result same is;
+    values = λ e d embed at live. let none : None ≡ Some embed = sym (ap (λ embeds. slice_get embeds e) no_embeds) ∙ at in absurd cc;
+  };
   added_is = room.added_is;
   removed_is = room.gone;
 }
@@ -130,18 +130,10 @@ module _ (m : ArenaMap) (rule : Rule) (hooks : List ℕ) (params : List Value) w
   pub find_cost : (found : Placed) (before after : ℕ) → IsAnswer m rule hooks found → ((k : ℕ) → HasPositions (as_map m) rule hooks k → after ≤ before + 8 * (m.schema.dim + 1) * (length rule.nodes * k + 1)) → after ≤ before + 8 * (m.schema.dim + 1) * (length rule.nodes * found.positions + 1)
   find_cost found before after answer cost = cost found.positions (Candidate (placement_in m found) (answer.is_found []).darts (answer.is_found []).candidate)
 
-  pub edits_within : (most dim before found_at after : ℕ) (found : Placed) → m.schema.dim ≡ dim → IsAnswer m rule hooks found → IsBudget (application_of m rule hooks params) most
-      → ((k : ℕ) → HasPositions (as_map m) rule hooks k → found_at ≤ before + 8 * (m.schema.dim + 1) * (length rule.nodes * k + 1)) → after ≤ found_at + 8 * (dim + 1) * (length rule.nodes * found.positions + 1) → after ≤ before + most
-  edits_within most dim before found_at after found same answer budget finding editing =
+  pub all_within : (most dim before found_at after : ℕ) (found : Placed) → dim ≡ m.schema.dim → IsAnswer m rule hooks found → IsBudget (application_of m rule hooks params) most
+      → ((k : ℕ) → HasPositions (as_map m) rule hooks k → found_at ≤ before + 8 * (m.schema.dim + 1) * (length rule.nodes * k + 1))
+      → after ≤ found_at + 4 * (dim + 1) * (length rule.nodes * found.positions + 1) → after ≤ before + most
+  all_within most dim before found_at after found same answer budget finding committing =
       let first = find_cost found before found_at answer finding in
-      let second : after ≤ found_at + 8 * (m.schema.dim + 1) * (length rule.nodes * found.positions + 1) = subst (λ n. after ≤ found_at + 8 * (n + 1) * (length rule.nodes * found.positions + 1)) (sym same) editing in
-      found_within most 16 before after found (omega arith) answer budget (omega (arith, first, second))
-
-  pub all_within : (most dim dim' before found_at edits_at after : ℕ) (found : Placed) → m.schema.dim ≡ dim → dim' ≡ m.schema.dim → IsAnswer m rule hooks found → IsBudget (application_of m rule hooks params) most
-      → ((k : ℕ) → HasPositions (as_map m) rule hooks k → found_at ≤ before + 8 * (m.schema.dim + 1) * (length rule.nodes * k + 1)) → edits_at ≤ found_at + 8 * (dim + 1) * (length rule.nodes * found.positions + 1)
-      → after ≤ edits_at + 4 * (dim' + 1) * (length rule.nodes * found.positions + 1) → after ≤ before + most
-  all_within most dim dim' before found_at edits_at after found same same' answer budget finding editing committing =
-      let first = find_cost found before found_at answer finding in
-      let second : edits_at ≤ found_at + 8 * (m.schema.dim + 1) * (length rule.nodes * found.positions + 1) = subst (λ n. edits_at ≤ found_at + 8 * (n + 1) * (length rule.nodes * found.positions + 1)) (sym same) editing in
-      let third : after ≤ edits_at + 4 * (m.schema.dim + 1) * (length rule.nodes * found.positions + 1) = subst (λ n. after ≤ edits_at + 4 * (n + 1) * (length rule.nodes * found.positions + 1)) same' committing in
-      found_within most 20 before after found (omega arith) answer budget (omega (arith, first, second, third))
+      let second : after ≤ found_at + 4 * (m.schema.dim + 1) * (length rule.nodes * found.positions + 1) = subst (λ n. after ≤ found_at + 4 * (n + 1) * (length rule.nodes * found.positions + 1)) same committing in
+      found_within most 12 before after found (omega arith) answer budget (omega (arith, first, second))

@@ -1,12 +1,12 @@
 -- How many darts an application removes, and how many stay.
-use Rattle.std.proofs.Common.{◌≡◌, ◌≢◌, ℕ, zero, suc, ◌+◌, ◌-◌, ◌*◌, ◌<◌, ◌≤◌, Bool, true, false, not, ◌&&◌, cond, ◌⊎◌, inl, inr, ◌↔◌, List, [], ◌∷◌, length, map, get_or, Some, None, T, Less, Equal, Greater, IsTrue, refl, sym, ap, subst, ◌∙◌, arith}
+use Rattle.std.proofs.Common.{◌≡◌, ℕ, zero, suc, ◌+◌, ◌-◌, ◌*◌, ◌<◌, ◌≤◌, Bool, true, false, ◌⊎◌, inl, inr, ◌↔◌, length, IsTrue, refl, sym, ap, subst, ◌∙◌, arith}
 use Rattle.std.proofs.lemmas.Bool.{cases_lt}
-use Rattle.gm_model.specs.declared.rule.Side.TheVariants.{Left, Right}
+use Rattle.gm_model.specs.declared.rule.Side.TheVariants.{Left}
 use Rattle.gm_model.specs.Maps.{Map, IsDart}
-use Rattle.gm_model.specs.Matches.{Placement, IsEmbedding, IsInstance}
+use Rattle.gm_model.specs.Matches.{Placement, IsEmbedding}
 use Rattle.gm_model.specs.Orbits.{HasCount, IsPairBefore}
 use Rattle.gm_model.specs.Rules.{Rule, has_word, is_removed}
-use Rattle.gm_model.specs.Unfolding.{Scene, IsGone, scene_of}
+use Rattle.gm_model.specs.Unfolding.{IsGone, scene_of}
 use Rattle.gm_plan.specs.Counts.{removed_before, removed_nodes}
 use Rattle.gm_theory.proofs.RuleSteps.{word_below}
 use Rattle.gm_apply.proofs.Counting.{count_none, count_same, count_more, count_left}

@@ -1,12 +1,9 @@
 -- How many darts a map has, how many of them go, and how many stay.
-use Rattle.std.proofs.Common.{◌≡◌, ◌≢◌, ℕ, zero, suc, ◌+◌, ◌-◌, ◌*◌, ◌<◌, ◌≤◌, Bool, true, false, not, ◌&&◌, cond, ◌⊎◌, inl, inr, ◌↔◌, List, [], ◌∷◌, ◌++◌, length, slice_index, slice_index_or, get_or, eqb, eqb-true, eq-eqb, Some, None, IsTrue, refl, sym, ap, subst, ◌∙◌, arith}
+use Rattle.std.proofs.Common.{◌≡◌, ℕ, zero, suc, ◌+◌, ◌-◌, ◌<◌, ◌≤◌, Bool, true, false, ◌⊎◌, inl, inr, ◌↔◌, List, [], ◌∷◌, length, slice_index, eqb, eqb-true, eq-eqb, refl, sym, ap, subst, ◌∙◌, arith}
 use Rattle.std.proofs.lemmas.Bool.{eqb-true}
-use Rattle.std.proofs.lemmas.List.{get_or_default, length-map}
-use Rattle.std.proofs.lemmas.List.Folds.{list_any_at}
-use Rattle.std.specs.FinMap.{get, keys, entries, len-entries, contains_key-keys}
-use Rattle.std.specs.List.{Contains, list_any}
-use Rattle.gm_model.specs.declared.rule.Side.TheVariants.{Left, Right}
-use Rattle.gm_model.specs.Orbits.{HasNoRepeats, IsListOf, HasCount, IsPairBefore}
+use Rattle.std.proofs.lemmas.List.{get_or_default}
+use Rattle.std.specs.List.{Contains}
+use Rattle.gm_model.specs.Orbits.{HasNoRepeats, HasCount}
 use Rattle.gm_theory.proofs.ValuesUnique.{one_count}
 
 -- ---- lists without repeats

@@ -1,4 +1,4 @@
-ghost use Rattle.std.specs.Prelude.{◌≡◌, ℕ, ◌+◌, ◌*◌, ◌≤◌, [], None, length, List, IfOk, MatchResult};
+ghost use Rattle.std.specs.Prelude.{◌≡◌, ◌≢◌, ℕ, ◌+◌, ◌-◌, ◌*◌, ◌≤◌, [], None, length, max, List, IfErr, IfOk, MatchResult};
 ghost use Rattle.gm_model.specs.declared.value.Value.{Value};
 ghost use Rattle.gm_model.specs.Applications.{IsBudget, IsDone};
 ghost use Rattle.gm_model.specs.Limits.{most_darts};
@@ -9,6 +9,7 @@ ghost use Rattle.gm_match.specs.Outcome.{application_of, IsAnswer};
 ghost use Rattle.gm_pending.specs.EditLists.{HasSameRows, AreEditsOf};
 ghost use Rattle.gm_pending.specs.Results.{pending_of};
 ghost use Rattle.gm_plan.specs.InArena.{AreMatched, placement_in};
+ghost use Rattle.gm_apply.specs.declared.refusal.Refusal.TheVariants as refusals;
 ghost use Rattle.gm_apply.specs.Outcomes.{HasRoom, IsRefusedFor};
 
 use crate::refusal::Refusal;
@@ -30,8 +31,9 @@ pub struct Applied {
 
 /// Applies the plan's rule to the map, at the darts that the hooks name.
 ///
-/// The arena is a generalised map again, whatever the answer is, and after a refusal the same one;
-/// its spare and reserved names may have risen. The scratch may have grown.
+/// The arena is a generalised map again, whatever the answer is, and after a refusal the same one.
+/// Where memory was wanting, its spare and reserved names may have risen. The scratch may have
+/// grown.
 pub fn apply<L: Ledger>(
     alloc: Global,
     plan: &Plan<'_>,
@@ -54,6 +56,12 @@ pub fn apply<L: Ledger>(
     ensures most { (most : ℕ) → IsBudget (application_of arena.old (rule_of plan.now.table) hooks.now params.now) most → steps.new ≤ steps.old + most }
     ensures least { IfOk result (λ applied. steps.old + applied.added + applied.removed ≤ steps.new) }
     ensures rises { steps.old ≤ steps.new }
+    ensures room { scratch.old.bound ≤ scratch.new.bound }
+    ensures spare { IfOk result (λ applied. arena.new.spare + applied.added ≡ max arena.old.spare (applied.added - applied.removed) + applied.removed) }
+    ensures reserved { IfOk result (λ applied. arena.new.reserved ≡ max arena.old.reserved (arena.old.next + applied.added)) }
+    ensures untouched { IfErr result (λ refusal. refusal ≢ refusals.OutOfMemory → arena.new ≡ arena.old) }
+    ensures spare_stays { arena.old.count + arena.old.spare ≤ arena.new.count + arena.new.spare }
+    ensures reserved_stays { arena.old.reserved ≤ arena.new.reserved }
 {
     scratch.fit(arena)?;
     let found = find(alloc, plan, arena, hooks, scratch, steps)?;
@@ -97,20 +105,19 @@ fn room(plan: &Plan<'_>, arena: &Arena, found: &Instances) -> Result<Applied, Re
 }
 
 /// The edits that make the result. The arena is only read.
-fn edits<L: Ledger>(
+fn edits<'a, L: Ledger>(
     alloc: Global,
-    plan: &Plan<'_>,
+    plan: &'a Plan<'a>,
     arena: &Arena,
-    found: &Instances,
+    found: &'a Instances,
     steps: &mut Steps<L>,
-) -> Result<Edits, OutOfMemory>
+) -> Result<Edits<'a>, OutOfMemory>
     requires schema { arena.now.schema ≡ plan.now.schema }
     requires no_embeds { plan.now.schema.embeds ≡ [] }
     requires generalised { IsGeneralised (as_map arena.now) }
     requires matched { (hooks : List ℕ) × AreMatched arena.now (rule_of plan.now.table) hooks found.now }
-    ensures least { steps.old ≤ steps.new }
     ensures edits { IfOk result (AreEditsOf (pending_of arena.now plan.now.table found.now)) }
-    ensures cost { steps.new ≤ steps.old + 8 * (plan.now.schema.dim + 1) * (length (rule_of plan.now.table).nodes * found.now.positions + 1) }
+    ensures no_step { steps.new ≡ steps.old }
 {
     Pending::build(alloc, plan, arena, found, steps)?.into_edits(steps)
 }

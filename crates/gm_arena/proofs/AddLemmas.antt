@@ -11,29 +11,33 @@ use Rattle.gm_model.specs.declared.schema.Schema.{Schema}
 use Rattle.gm_model.specs.declared.value.Value.{Value}
 use Rattle.gm_arena.specs.declared.slot.Slot.{Slot}
 use Rattle.gm_arena.specs.declared.arena.Place.{Place}
-use Rattle.gm_arena.specs.Lawful.{HaveKinds}
+use Rattle.gm_arena.specs.Lawful.{AreGoodValues}
 use Rattle.gm_arena.specs.Edits.{free_dart, with_dart}
-use Rattle.gm_arena.specs.Inside.{no_slot, slot_in, name_in, dart_in, darts_in, slots_in, map_of, IsPlaced, IsSound}
+use Rattle.gm_arena.specs.Inside.{no_slot, slot_in, name_in, part_of, dart_in, darts_in, slots_in, map_of, IsPlaced, IsSound}
 use Rattle.gm_arena.proofs.FilledLemmas.{same_maps, get-insert_same, get-insert_other, len-insert_new}
 use Rattle.gm_arena.proofs.InsideLemmas.{nowhere, dart_at, darts_get, slot_at, name_in-get, is_some_at, some_of}
 use Rattle.gm_arena.proofs.ValueLemmas.{IsWritten}
 use Rattle.gm_arena.proofs.ChangeLemmas.{slots_alike, name_alike, dart_alike, other_dart}
 
--- a new place: each neighbour is the place itself
-abbrev pub new_place : ℕ → ℕ → Place
-new_place name slot = record { name = name; alphas = replicate 8 (record { at = slot }) }
+abbrev pub new_place : ℕ → Place
+new_place name = record { name = name }
+
+-- a new dart's neighbours: each is the dart itself
+abbrev pub own_links : ℕ → ℕ → List Slot
+own_links labels slot = take labels (replicate 8 (record { at = slot }))
 
 map-replicate : {A B : Type 0} (f : A → B) (n : ℕ) (x : A) → map f (replicate n x) ≡ replicate n (f x)
 map-replicate f zero x = refl
 map-replicate f (suc n) x = λ i. f x ∷ map-replicate f n x i
 
-module _ (schema : Schema) (labels width : ℕ) (places : Slab Place) (values : List Value) (table : List ℕ) (next spare bound : ℕ) (sound : IsSound schema labels width places values table next spare bound)
-    (name : ℕ) (new_name : map.get (darts_in labels width places values table) name ≡ None) (reserved : name < length table) (some_room : 0 < spare)
-    (slot : ℕ) (places' : Slab Place) (free : get places slot ≡ None) (updates : Updates places places' slot (Some (new_place name slot)))
+module _ (schema : Schema) (labels width : ℕ) (places : Slab Place) (neighbours : List Slot) (values : List Value) (table : List ℕ) (next spare bound : ℕ) (sound : IsSound schema labels width places neighbours values table next spare bound)
+    (name : ℕ) (new_name : map.get (darts_in labels width places neighbours values table) name ≡ None) (reserved : name < length table) (some_room : 0 < spare)
+    (slot : ℕ) (places' : Slab Place) (free : get places slot ≡ None) (updates : Updates places places' slot (Some (new_place name)))
     (more : slab_len places' ≡ slab_len places + 1) (below : slot < places'.capacity) (capacity : places'.capacity ≡ places.capacity)
-    (values' own : List Value) (kinds : HaveKinds schema own) (written : IsWritten width slot values own values') where
+    (neighbours' : List Slot) (linked : IsWritten labels slot neighbours (own_links labels slot) neighbours')
+    (values' own : List Value) (kinds : AreGoodValues schema own) (written : IsWritten width slot values own values') where
   none : get places no_slot ≡ None
-  none = nowhere schema labels width places values table next spare bound sound
+  none = nowhere schema labels width places neighbours values table next spare bound sound
 
   somewhere : slot ≢ no_slot
   somewhere e = omega (arith, below, capacity, sound.fits)
@@ -65,102 +69,101 @@ module _ (schema : Schema) (labels width : ℕ) (places : Slab Place) (values : 
   -- no dart had the name
   name_apart : (other : ℕ) (p : Place) → get places other ≡ Some p → p.name ≢ name
   name_apart other p e same =
-      none-some _ (sym new_name ∙ (ap (map.get (darts_in labels width places values table)) (sym same) ∙ dart_at schema labels width places values table next spare bound sound other p e))
+      none-some _ (sym new_name ∙ (ap (map.get (darts_in labels width places neighbours values table)) (sym same) ∙ dart_at schema labels width places neighbours values table next spare bound sound other p e))
 
-  names_same : (other : ℕ) (p : Place) → get places other ≡ Some p → All (λ (s : Slot). name_in places' s.at ≡ name_in places s.at) (take labels p.alphas)
+  names_same : (other : ℕ) (p : Place) → get places other ≡ Some p → All (λ (s : Slot). name_in places' s.at ≡ name_in places s.at) (part_of labels neighbours other)
   names_same other p e k d h = name_alike places places' _ (updates.others _ (was_apart _ ((sound.placed other p e).live k d h)))
 
-  front : take labels (new_place name slot).alphas ≡ replicate labels (record { at = slot })
+  front : own_links labels slot ≡ replicate labels (record { at = slot })
   front = take-replicate labels 8 (record { at = slot }) sound.sized.few
 
-  dart_here : dart_in labels width places' values' slot (new_place name slot) ≡ free_dart schema.dim name own
+  dart_here : dart_in labels width places' neighbours' values' slot ≡ free_dart schema.dim name own
   dart_here =
       let name_of = λ (s : Slot). name_in places' s.at in
-      let alphas : map name_of (take labels (new_place name slot).alphas) ≡ replicate (schema.dim + 1) name =
-      ap (map name_of) front ∙ (map-replicate name_of labels (record { at = slot })
-      ∙ (ap (replicate labels) (name_in-get places' slot (new_place name slot) updates.changed) ∙ ap (λ n. replicate n name) sound.sized.one_each)) in
+      let alphas : map name_of (part_of labels neighbours' slot) ≡ replicate (schema.dim + 1) name =
+      ap (map name_of) (linked.here ∙ front) ∙ (map-replicate name_of labels (record { at = slot })
+      ∙ (ap (replicate labels) (name_in-get places' slot (new_place name) updates.changed) ∙ ap (λ n. replicate n name) sound.sized.one_each)) in
       λ i. record { alphas = alphas i; values = written.here i }
 
-  pub darts_with : darts_in labels width places' values' (set table name slot)
-      ≡ map.insert (darts_in labels width places values table) name (free_dart schema.dim name own)
+  pub darts_with : darts_in labels width places' neighbours' values' (set table name slot)
+      ≡ map.insert (darts_in labels width places neighbours values table) name (free_dart schema.dim name own)
   darts_with = same_maps _ _ (λ other. elim (cases_eq other name) [
     | inl e ↦ rw e (
-        darts_get labels width places' values' (set table name slot) none' name
-        ∙ (ap (λ s. option_map (dart_in labels width places' values' s) (get places' s)) entry_here
-        ∙ (ap (option_map (dart_in labels width places' values' slot)) updates.changed
-        ∙ (ap Some dart_here ∙ sym (get-insert_same (darts_in labels width places values table) name (free_dart schema.dim name own))))))
+        darts_get labels width places' neighbours' values' (set table name slot) none' name
+        ∙ (ap (λ s. option_map (λ (p : Place). dart_in labels width places' neighbours' values' s) (get places' s)) entry_here
+        ∙ (ap (option_map (λ (p : Place). dart_in labels width places' neighbours' values' slot)) updates.changed
+        ∙ (ap Some dart_here ∙ sym (get-insert_same (darts_in labels width places neighbours values table) name (free_dart schema.dim name own))))))
     | inr apart ↦
-        other_dart labels width places places' values values' table (set table name slot) none none' other (entry_other other apart)
+        other_dart labels width places places' neighbours neighbours' values values' table (set table name slot) none none' other (entry_other other apart)
         (updates.others (slot_in table other) (slot_free other))
-        (λ p e. dart_alike labels width places places' values values' _ p (names_same _ p e) (written.others _ (slot_free other)))
-        ∙ sym (get-insert_other (darts_in labels width places values table) name (free_dart schema.dim name own) other apart)
+        (λ p e. dart_alike labels width places places' neighbours neighbours' values values' _ (linked.others _ (slot_free other)) (names_same _ p e) (written.others _ (slot_free other)))
+        ∙ sym (get-insert_other (darts_in labels width places neighbours values table) name (free_dart schema.dim name own) other apart)
   ])
 
   pub slots_with : slots_in places' ≡ map.insert (slots_in places) slot name
   slots_with = same_maps _ _ (λ other. elim (cases_eq other slot) [
-    | inl e ↦ rw e (slot_at places' slot (new_place name slot) updates.changed ∙ sym (get-insert_same (slots_in places) slot name))
+    | inl e ↦ rw e (slot_at places' slot (new_place name) updates.changed ∙ sym (get-insert_same (slots_in places) slot name))
     | inr apart ↦ slots_alike places places' other (ap (option_map (λ (p : Place). p.name)) (updates.others other apart)) ∙ sym (get-insert_other (slots_in places) slot name other apart)
   ])
 
   module _ (next' bound' : ℕ) (next_is : next' ≡ max next (name + 1)) (bound_is : bound' ≡ max bound (slot + 1)) where
-    placed_here : IsPlaced labels places' (set table name slot) next' bound' slot (new_place name slot)
+    placed_here : IsPlaced labels places' neighbours' (set table name slot) next' bound' slot (new_place name)
     placed_here = record {
       found = entry_here;
-      whole = refl;
-      live = All-take (λ (s : Slot). IsSome (get places' s.at)) labels (new_place name slot).alphas
-          (All-replicate (λ (s : Slot). IsSome (get places' s.at)) 8 (record { at = slot }) (is_some_at _ _ updates.changed));
+      live = subst (All (λ (s : Slot). IsSome (get places' s.at))) (sym linked.here) (All-take (λ (s : Slot). IsSome (get places' s.at)) labels (replicate 8 (record { at = slot }))
+          (All-replicate (λ (s : Slot). IsSome (get places' s.at)) 8 (record { at = slot }) (is_some_at _ _ updates.changed)));
       below_next = omega (arith, next_is);
       below_bound = omega (arith, bound_is);
       below_capacity = below;
     }
 
-    placed_before : (other : ℕ) (p : Place) → get places other ≡ Some p → IsPlaced labels places' (set table name slot) next' bound' other p
+    placed_before : (other : ℕ) (p : Place) → get places other ≡ Some p → IsPlaced labels places' neighbours' (set table name slot) next' bound' other p
     placed_before other p e =
         let was = sound.placed other p e in
         record {
           found = entry_other p.name (name_apart other p e) ∙ was.found;
-          whole = was.whole;
-          live = λ k d h. live _ (was.live k d h);
+          live = subst (All (λ (s : Slot). IsSome (get places' s.at))) (sym (linked.others other (was_apart other (is_some_at _ _ e)))) (λ k d h. live _ (was.live k d h));
           below_next = omega (arith, next_is, was.below_next);
           below_bound = omega (arith, bound_is, was.below_bound);
           below_capacity = omega (arith, capacity, was.below_capacity);
         }
 
-    pub sound_with : IsSound schema labels width places' values' (set table name slot) next' (spare - 1) bound'
+    pub sound_with : IsSound schema labels width places' neighbours' values' (set table name slot) next' (spare - 1) bound'
     sound_with = record {
       sized = sound.sized;
       placed = λ other p e. elim (cases_eq other slot) [
         | inl same ↦
-            let is = same_Some (new_place name slot) p (sym updates.changed ∙ (ap (get places') (sym same) ∙ e)) in
+            let is = same_Some (new_place name) p (sym updates.changed ∙ (ap (get places') (sym same) ∙ e)) in
             rw (same, ← is) placed_here
         | inr apart ↦ placed_before other p (sym (updates.others other apart) ∙ e)
       ];
       named = λ other h. elim (cases_eq other name) [
-        | inl e ↦ (new_place name slot, ap (get places') (ap (slot_in (set table name slot)) e ∙ entry_here) ∙ updates.changed, sym e)
+        | inl e ↦ (new_place name, ap (get places') (ap (slot_in (set table name slot)) e ∙ entry_here) ∙ updates.changed, sym e)
         | inr apart ↦
             let entry = entry_other other apart in
             let n = sound.named other (λ no. h (entry ∙ no)) in
             (n.0, ap (get places') entry ∙ (updates.others _ (slot_free other) ∙ n.1), n.2)
       ];
       valued = λ other h. elim (cases_eq other slot) [
-        | inl e ↦ rw e (subst (HaveKinds schema) (sym written.here) kinds)
+        | inl e ↦ rw e (subst (AreGoodValues schema) (sym written.here) kinds)
         | inr apart ↦
             let was : IsSome (get places other) = rw (updates.others other apart) at h in
-            subst (HaveKinds schema) (sym (written.others other apart)) (sound.valued other was)
+            subst (AreGoodValues schema) (sym (written.others other apart)) (sound.valued other was)
       ];
       fits = rw capacity sound.fits;
+      linked = rw (capacity, linked.long) sound.linked;
       long = rw (capacity, written.long) sound.long;
       room = omega (arith, more, capacity, sound.room, some_room);
       counted =
-          let added = ap map.len darts_with ∙ len-insert_new (darts_in labels width places values table) name (free_dart schema.dim name own) new_name in
+          let added = ap map.len darts_with ∙ len-insert_new (darts_in labels width places neighbours values table) name (free_dart schema.dim name own) new_name in
           more ∙ (ap (λ n. n + 1) sound.counted ∙ sym added);
       few_darts = omega (arith, more, sound.few_darts, some_room);
       few_names = omega (arith, next_is, reserved, sound.few_names, sound.few_reserved);
       few_reserved = rw length-set sound.few_reserved;
     }
 
-    pub map_with : map_of schema labels width places' values' (set table name slot) next' (spare - 1) bound'
-        ≡ with_dart (map_of schema labels width places values table next spare bound) slot name own
+    pub map_with : map_of schema labels width places' neighbours' values' (set table name slot) next' (spare - 1) bound'
+        ≡ with_dart (map_of schema labels width places neighbours values table next spare bound) slot name own
     map_with =
-        let m = map_of schema labels width places values table next (spare - 1) bound in
+        let m = map_of schema labels width places neighbours values table next (spare - 1) bound in
         λ i. record m { darts = darts_with i; slots = slots_with i; count = more i; next = next_is i; reserved = length-set table name slot i; bound = bound_is i }

@@ -1,18 +1,16 @@
 -- What a change at one slot leaves: the other slots, the other names, and the darts that have none of both.
-use Rattle.std.proofs.Common.{◌≡◌, ◌≢◌, ℕ, ◌+◌, List, [], ◌∷◌, map, take, Option, Some, None, cond, refl, sym, ap, ◌∙◌, arith, All}
-use Rattle.std.specs.Option.{option_map, option_map_or, is_some}
+use Rattle.std.proofs.Common.{◌≡◌, ◌≢◌, ℕ, List, [], ◌∷◌, map, Option, Some, None, refl, sym, ap, ◌∙◌, All}
+use Rattle.std.specs.Option.{option_map, option_map_or}
 use Rattle.std.specs.FinMap as map
 use Rattle.std.proofs.lemmas.Option.{none-some, same_Some}
 use Rattle.std.proofs.lemmas.List.Elements.{All-head, All-tail}
-use Rattle.std.proofs.lemmas.List.Sums.{sum_by-set}
-use Rattle.slab.specs.Slab.{Slab, get, slab_len, Updates, with_value}
-use Rattle.slab.proofs.SlabLemmas.{ContainsKey-within, Updates-with_value}
+use Rattle.slab.specs.Slab.{Slab, get}
 use Rattle.gm_model.specs.declared.schema.Schema.{Schema}
 use Rattle.gm_model.specs.declared.value.Value.{Value}
 use Rattle.gm_arena.specs.declared.slot.Slot.{Slot}
 use Rattle.gm_arena.specs.declared.arena.Place.{Place}
-use Rattle.gm_arena.specs.Inside.{no_slot, slot_in, name_in, values_in, dart_in, darts_in, slots_in, IsSound}
-use Rattle.gm_arena.proofs.InsideLemmas.{darts_get, get-slots, nowhere, is_some_at}
+use Rattle.gm_arena.specs.Inside.{no_slot, slot_in, name_in, part_of, dart_in, darts_in, slots_in, IsSound}
+use Rattle.gm_arena.proofs.InsideLemmas.{darts_get, get-slots, nowhere}
 
 pub map_alike : {A B : Type 0} (f g : A → B) (xs : List A) → All (λ x. f x ≡ g x) xs → map f xs ≡ map g xs
 map_alike f g [] h = refl
@@ -22,21 +20,6 @@ pub mapped_alike : {A B : Type 0} (f g : A → B) (o : Option A) → ((x : A) �
 mapped_alike f g None h = refl
 mapped_alike f g (Some x) h = ap Some (h x refl)
 
--- a write over a value leaves the number of values
-pub slab_len-with_value : (places : Slab Place) (slot : ℕ) (old new : Place) → get places slot ≡ Some old → slab_len (with_value places slot new) ≡ slab_len places
-slab_len-with_value places slot old new here =
-    let one : Option Place → ℕ = λ o. cond (is_some o) 1 0 in
-    let counts : slab_len (with_value places slot new) + one (get places slot) ≡ slab_len places + 1 =
-    sum_by-set one places.slots slot (Some new) None (ContainsKey-within places slot (is_some_at _ old here)) in
-    let before : one (get places slot) ≡ 1 = ap one here in
-    omega arith
-
--- a slab whose new place was written once more
-pub updates_again : (places inserted : Slab Place) (slot : ℕ) (first last : Place) → Updates places inserted slot (Some first) → Updates places (with_value inserted slot last) slot (Some last)
-updates_again places inserted slot first last updates =
-    let again = Updates-with_value inserted slot last (is_some_at _ first updates.changed) in
-    record { changed = again.changed; others = λ other apart. again.others other apart ∙ updates.others other apart }
-
 -- two slabs that have the same name at a slot
 pub slots_alike : (places places' : Slab Place) (slot : ℕ) → option_map (λ (p : Place). p.name) (get places' slot) ≡ option_map (λ (p : Place). p.name) (get places slot) → map.get (slots_in places') slot ≡ map.get (slots_in places) slot
 slots_alike places places' slot e = get-slots places' slot ∙ (e ∙ sym (get-slots places slot))
@@ -44,29 +27,30 @@ slots_alike places places' slot e = get-slots places' slot ∙ (e ∙ sym (get-s
 pub name_alike : (places places' : Slab Place) (slot : ℕ) → get places' slot ≡ get places slot → name_in places' slot ≡ name_in places slot
 name_alike places places' slot e = ap (λ o. option_map_or (λ (p : Place). p.name) o 0) e
 
-module _ (labels width : ℕ) (places places' : Slab Place) (values values' : List Value) where
-  pub dart_alike : (slot : ℕ) (place : Place) → All (λ (s : Slot). name_in places' s.at ≡ name_in places s.at) (take labels place.alphas) → values_in width values' slot ≡ values_in width values slot → dart_in labels width places' values' slot place ≡ dart_in labels width places values slot place
-  dart_alike slot place names same =
-      let alphas = map_alike (λ (s : Slot). name_in places' s.at) (λ (s : Slot). name_in places s.at) (take labels place.alphas) names in
+module _ (labels width : ℕ) (places places' : Slab Place) (neighbours neighbours' : List Slot) (values values' : List Value) where
+  pub dart_alike : (slot : ℕ) → part_of labels neighbours' slot ≡ part_of labels neighbours slot → All (λ (s : Slot). name_in places' s.at ≡ name_in places s.at) (part_of labels neighbours slot) → part_of width values' slot ≡ part_of width values slot
+      → dart_in labels width places' neighbours' values' slot ≡ dart_in labels width places neighbours values slot
+  dart_alike slot links names same =
+      let alphas = ap (map (λ (s : Slot). name_in places' s.at)) links ∙ map_alike (λ (s : Slot). name_in places' s.at) (λ (s : Slot). name_in places s.at) (part_of labels neighbours slot) names in
       λ i. record { alphas = alphas i; values = same i }
 
   module _ (table table' : List ℕ) (none : get places no_slot ≡ None) (none' : get places' no_slot ≡ None) where
     -- a name that keeps its slot, and a dart there that keeps its neighbours' names and its values
     pub other_dart : (name : ℕ) → slot_in table' name ≡ slot_in table name → get places' (slot_in table name) ≡ get places (slot_in table name)
-        → ((place : Place) → get places (slot_in table name) ≡ Some place → dart_in labels width places' values' (slot_in table name) place ≡ dart_in labels width places values (slot_in table name) place)
-        → map.get (darts_in labels width places' values' table') name ≡ map.get (darts_in labels width places values table) name
+        → ((place : Place) → get places (slot_in table name) ≡ Some place → dart_in labels width places' neighbours' values' (slot_in table name) ≡ dart_in labels width places neighbours values (slot_in table name))
+        → map.get (darts_in labels width places' neighbours' values' table') name ≡ map.get (darts_in labels width places neighbours values table) name
     other_dart name entry here same =
-        darts_get labels width places' values' table' none' name
-        ∙ (ap (λ s. option_map (dart_in labels width places' values' s) (get places' s)) entry
-        ∙ (ap (option_map (dart_in labels width places' values' (slot_in table name))) here
+        darts_get labels width places' neighbours' values' table' none' name
+        ∙ (ap (λ s. option_map (λ (p : Place). dart_in labels width places' neighbours' values' s) (get places' s)) entry
+        ∙ (ap (option_map (λ (p : Place). dart_in labels width places' neighbours' values' (slot_in table name))) here
         ∙ (mapped_alike _ _ (get places (slot_in table name)) same
-        ∙ sym (darts_get labels width places values table none name))))
+        ∙ sym (darts_get labels width places neighbours values table none name))))
 
-module _ (schema : Schema) (labels width : ℕ) (places : Slab Place) (values : List Value) (table : List ℕ) (next spare bound : ℕ) (sound : IsSound schema labels width places values table next spare bound) where
+module _ (schema : Schema) (labels width : ℕ) (places : Slab Place) (neighbours : List Slot) (values : List Value) (table : List ℕ) (next spare bound : ℕ) (sound : IsSound schema labels width places neighbours values table next spare bound) where
   -- another name has another slot
   pub other_slot : (slot : ℕ) (place : Place) (name : ℕ) → get places slot ≡ Some place → name ≢ place.name → slot_in table name ≢ slot
   other_slot slot place name here apart at =
-      let none = nowhere schema labels width places values table next spare bound sound in
+      let none = nowhere schema labels width places neighbours values table next spare bound sound in
       let somewhere : slot_in table name ≢ no_slot = λ n. none-some place (sym none ∙ (ap (get places) (sym n ∙ at) ∙ here)) in
       let named = sound.named name somewhere in
       let same = same_Some named.0 place (sym named.1 ∙ (ap (get places) at ∙ here)) in

@@ -1,10 +1,11 @@
 -- What a sound arena has inside: its darts and slots by look-up, and that its map is lawful.
-use Rattle.std.proofs.Common.{◌≡◌, ◌≢◌, ℕ, ◌<◌, ◌≤◌, List, get_or, map, take, length, Option, Some, None, refl, sym, ap, subst, ◌∙◌, inl, inr, arith, All}
+use Rattle.std.proofs.Common.{◌≡◌, ◌≢◌, ℕ, ◌+◌, ◌*◌, ◌<◌, ◌≤◌, List, get_or, map, drop, length, Option, Some, None, refl, sym, ap, subst, ◌∙◌, inl, inr, arith, All, length-drop, get_or-drop}
 use Rattle.std.specs.Option.{option_map, option_map_or, IsSome, unwrap_or}
 use Rattle.std.specs.FinMap as map
 use Rattle.std.proofs.lemmas.List.{get_or-map, get_or_past, length-map, length-take-le, get_or-take}
 use Rattle.std.proofs.lemmas.List.Elements.{All-map, All-weaker}
 use Rattle.std.proofs.lemmas.Bool.{cases_lt}
+use Rattle.std.proofs.lemmas.Nat.{mul-le}
 use Rattle.std.proofs.lemmas.Option.{none-some, same_Some}
 use Rattle.slab.specs.Slab.{Slab, get}
 use Rattle.gm_model.specs.declared.schema.Schema.{Schema}
@@ -12,8 +13,8 @@ use Rattle.gm_model.specs.declared.value.Value.{Value}
 use Rattle.gm_arena.specs.declared.slot.Slot.{Slot}
 use Rattle.gm_arena.specs.declared.arena.Place.{Place}
 use Rattle.gm_arena.specs.ArenaMap.{Dart, IsLiveName, name_at, alpha}
-use Rattle.gm_arena.specs.Lawful.{IsLawful, IsLawfulDart, HaveKinds}
-use Rattle.gm_arena.specs.Inside.{no_slot, slot_in, name_in, values_in, dart_in, darts_in, slots_in, map_of, IsSound}
+use Rattle.gm_arena.specs.Lawful.{IsLawful, IsLawfulDart, AreGoodValues}
+use Rattle.gm_arena.specs.Inside.{no_slot, slot_in, name_in, part_of, dart_in, darts_in, slots_in, map_of, IsSound}
 use Rattle.gm_arena.proofs.FilledLemmas.{get-filled}
 
 pub some_of : {A : Type 0} (o : Option A) → IsSome o → (x : A) × (o ≡ Some x)
@@ -72,29 +73,35 @@ name_at_in places slot = ap (λ o. unwrap_or o 0) (get-slots places slot) ∙ un
     unwrapped None = refl
     unwrapped (Some p) = refl
 
+-- a key has its whole part of a list that is long enough
+pub part_long : {A : Type 0} (width : ℕ) (items : List A) (capacity slot : ℕ) → slot < capacity → capacity * width ≤ length items → length (part_of width items slot) ≡ width
+part_long width items capacity slot below long =
+    let fits = mul-le (slot + 1) width capacity width (omega arith) (omega arith) in
+    length-take-le width (drop (slot * width) items) (omega (arith, fits, long, length-drop (slot * width) items))
+
 -- where no key is that of no slot, a name's dart is the one that the table leads to
-pub darts_get : (labels width : ℕ) (places : Slab Place) (values : List Value) (table : List ℕ) → get places no_slot ≡ None → (name : ℕ) → map.get (darts_in labels width places values table) name ≡ option_map (dart_in labels width places values (slot_in table name)) (get places (slot_in table name))
-darts_get labels width places values table nowhere name =
-    let f = λ (slot : ℕ). option_map (dart_in labels width places values slot) (get places slot) in
+pub darts_get : (labels width : ℕ) (places : Slab Place) (neighbours : List Slot) (values : List Value) (table : List ℕ) → get places no_slot ≡ None → (name : ℕ) → map.get (darts_in labels width places neighbours values table) name ≡ option_map (λ (p : Place). dart_in labels width places neighbours values (slot_in table name)) (get places (slot_in table name))
+darts_get labels width places neighbours values table nowhere name =
+    let f = λ (slot : ℕ). option_map (λ (p : Place). dart_in labels width places neighbours values slot) (get places slot) in
     get-filled _ name ∙ elim (cases_lt name (length table)) [
       | inl l ↦ get_or-map f table name no_slot None l
-      | inr l ↦ get_or_past _ name None (rw length-map l) ∙ sym (ap f (get_or_past table name no_slot l) ∙ ap (option_map (dart_in labels width places values no_slot)) nowhere)
+      | inr l ↦ get_or_past _ name None (rw length-map l) ∙ sym (ap f (get_or_past table name no_slot l) ∙ ap (option_map (λ (p : Place). dart_in labels width places neighbours values no_slot)) nowhere)
     ]
 
-module _ (schema : Schema) (labels width : ℕ) (places : Slab Place) (values : List Value) (table : List ℕ) (next spare bound : ℕ) (sound : IsSound schema labels width places values table next spare bound) where
+module _ (schema : Schema) (labels width : ℕ) (places : Slab Place) (neighbours : List Slot) (values : List Value) (table : List ℕ) (next spare bound : ℕ) (sound : IsSound schema labels width places neighbours values table next spare bound) where
   pub nowhere : get places no_slot ≡ None
   nowhere = none_of _ (λ h.
       let place : (p : Place) × (get places no_slot ≡ Some p) = some_of _ h in
       absurd (omega (arith, (sound.placed no_slot place.0 place.1).below_capacity, sound.fits)))
 
   -- a name's dart is the one that the table leads to
-  pub get-darts : (name : ℕ) → map.get (darts_in labels width places values table) name ≡ option_map (dart_in labels width places values (slot_in table name)) (get places (slot_in table name))
-  get-darts name = darts_get labels width places values table nowhere name
+  pub get-darts : (name : ℕ) → map.get (darts_in labels width places neighbours values table) name ≡ option_map (λ (p : Place). dart_in labels width places neighbours values (slot_in table name)) (get places (slot_in table name))
+  get-darts name = darts_get labels width places neighbours values table nowhere name
 
   -- the dart of the place at a slot
-  pub dart_at : (slot : ℕ) (place : Place) → get places slot ≡ Some place → map.get (darts_in labels width places values table) place.name ≡ Some (dart_in labels width places values slot place)
+  pub dart_at : (slot : ℕ) (place : Place) → get places slot ≡ Some place → map.get (darts_in labels width places neighbours values table) place.name ≡ Some (dart_in labels width places neighbours values slot)
   dart_at slot place e =
-      get-darts place.name ∙ ap (λ s. option_map (dart_in labels width places values s) (get places s)) (sound.placed slot place e).found ∙ ap (option_map (dart_in labels width places values slot)) e
+      get-darts place.name ∙ ap (λ s. option_map (λ (p : Place). dart_in labels width places neighbours values s) (get places s)) (sound.placed slot place e).found ∙ ap (option_map (λ (p : Place). dart_in labels width places neighbours values slot)) e
 
   -- the place of a live dart
   pub record Held (name : ℕ) (dart : Dart) : Type 0 where
@@ -102,13 +109,13 @@ module _ (schema : Schema) (labels width : ℕ) (places : Slab Place) (values : 
     pub place : Place
     pub here : get places slot ≡ Some place
     pub same : place.name ≡ name
-    pub is : dart ≡ dart_in labels width places values slot place
+    pub is : dart ≡ dart_in labels width places neighbours values slot
     pub entry : slot_in table name ≡ slot
 
-  pub held : (name : ℕ) (dart : Dart) → map.get (darts_in labels width places values table) name ≡ Some dart → Held name dart
+  pub held : (name : ℕ) (dart : Dart) → map.get (darts_in labels width places neighbours values table) name ≡ Some dart → Held name dart
   held name dart e =
       let slot = slot_in table name in
-      let found = some_from_map (dart_in labels width places values slot) (get places slot) dart (sym (get-darts name) ∙ e) in
+      let found = some_from_map (λ (p : Place). dart_in labels width places neighbours values slot) (get places slot) dart (sym (get-darts name) ∙ e) in
       let somewhere : slot ≢ no_slot = λ n. none-some found.0 (sym (ap (get places) n ∙ nowhere) ∙ found.1) in
       let named = sound.named name somewhere in
       record {
@@ -120,22 +127,22 @@ module _ (schema : Schema) (labels width : ℕ) (places : Slab Place) (values : 
         same = ap (λ (p : Place). p.name) (same_Some found.0 named.0 (sym found.1 ∙ named.1)) ∙ named.2;
       }
 
-  live_name : (slot : ℕ) → IsSome (get places slot) → IsSome (map.get (darts_in labels width places values table) (name_in places slot))
+  live_name : (slot : ℕ) → IsSome (get places slot) → IsSome (map.get (darts_in labels width places neighbours values table) (name_in places slot))
   live_name slot h =
       let place = some_of _ h in
       let e = dart_at slot place.0 place.1 in
       rw (name_in-get places slot place.0 place.1) (is_some_at _ _ e)
 
-  lawful_dart : (name : ℕ) (dart : Dart) → map.get (darts_in labels width places values table) name ≡ Some dart → IsLawfulDart (map_of schema labels width places values table next spare bound) name dart
+  lawful_dart : (name : ℕ) (dart : Dart) → map.get (darts_in labels width places neighbours values table) name ≡ Some dart → IsLawfulDart (map_of schema labels width places neighbours values table next spare bound) name dart
   lawful_dart name dart e =
-      let IsLive = IsLiveName (map_of schema labels width places values table next spare bound) in
+      let IsLive = IsLiveName (map_of schema labels width places neighbours values table next spare bound) in
       let h = held name dart e in
       let placed = sound.placed h.slot h.place h.here in
       record {
-        whole = ap (λ (d : Dart). length d.alphas) h.is ∙ (length-map _ _ ∙ (length-take-le labels h.place.alphas (omega (arith, placed.whole, sound.sized.few)) ∙ sound.sized.one_each));
+        whole = ap (λ (d : Dart). length d.alphas) h.is ∙ (length-map _ _ ∙ (part_long labels neighbours places.capacity h.slot placed.below_capacity sound.linked ∙ sound.sized.one_each));
         neighbours = subst (λ (d : Dart). All IsLive d.alphas) (sym h.is)
-            (All-map IsLive (λ (s : Slot). name_in places s.at) (take labels h.place.alphas) (All-weaker _ _ (λ s live. live_name s.at live) _ placed.live));
-        valued = subst (λ (d : Dart). HaveKinds schema d.values) (sym h.is) (sound.valued h.slot (is_some_at _ _ h.here));
+            (All-map IsLive (λ (s : Slot). name_in places s.at) (part_of labels neighbours h.slot) (All-weaker _ _ (λ s live. live_name s.at live) _ placed.live));
+        valued = subst (λ (d : Dart). AreGoodValues schema d.values) (sym h.is) (sound.valued h.slot (is_some_at _ _ h.here));
         below_next = subst (λ n. n < next) h.same placed.below_next;
         below_reserved = elim (cases_lt name (length table)) [
           | inl l ↦ l
@@ -145,7 +152,7 @@ module _ (schema : Schema) (labels width : ℕ) (places : Slab Place) (values : 
         at = slot_at places h.slot h.place h.here ∙ ap Some h.same;
       }
 
-  pub lawful : IsLawful (map_of schema labels width places values table next spare bound)
+  pub lawful : IsLawful (map_of schema labels width places neighbours values table next spare bound)
   lawful = record {
     dart = lawful_dart;
     live = λ slot name at. let p = place_at places slot name at in rw p.2 (is_some_at _ _ (dart_at slot p.0 p.1));
@@ -162,24 +169,25 @@ module _ (schema : Schema) (labels width : ℕ) (places : Slab Place) (values : 
     schema = sound.sized.lawful;
   }
 
-  -- the neighbour that a place has is the neighbour by name
-  pub alpha_at : (slot : ℕ) (place : Place) (label : ℕ) (other : Slot) → get places slot ≡ Some place → label < labels → map.get (slots_in places) (get_or place.alphas label other).at ≡ Some (alpha (map_of schema labels width places values table next spare bound) label (name_at (map_of schema labels width places values table next spare bound) slot))
+  -- the neighbour that a slot has is the neighbour by name
+  pub alpha_at : (slot : ℕ) (place : Place) (label : ℕ) (other : Slot) → get places slot ≡ Some place → label < labels → map.get (slots_in places) (get_or neighbours (slot * labels + label) other).at ≡ Some (alpha (map_of schema labels width places neighbours values table next spare bound) label (name_at (map_of schema labels width places neighbours values table next spare bound) slot))
   alpha_at slot place label other e h =
       let placed = sound.placed slot place e in
-      let front = take labels place.alphas in
-      let long : label < length front = rw (length-take-le labels place.alphas (omega (arith, placed.whole, sound.sized.few))) h in
-      let same : get_or front label other ≡ get_or place.alphas label other = get_or-take labels place.alphas label other h in
+      let front = part_of labels neighbours slot in
+      let long : label < length front = rw (part_long labels neighbours places.capacity slot placed.below_capacity sound.linked) h in
+      let same : get_or front label other ≡ get_or neighbours (slot * labels + label) other =
+      get_or-take labels (drop (slot * labels) neighbours) label other h ∙ get_or-drop (slot * labels) neighbours label other in
       let to : (p : Place) × (get places (get_or front label other).at ≡ Some p) = some_of _ (placed.live label other long) in
       let here = ap (λ (s : Slot). get places s.at) (sym same) ∙ to.1 in
       let read = get_or-map (λ (s : Slot). name_in places s.at) front label other place.name long in
       slot_at places _ to.0 here
-      ∙ sym (ap Some (ap (alpha (map_of schema labels width places values table next spare bound) label) (name_at_in places slot ∙ name_in-get places slot place e)
+      ∙ sym (ap Some (ap (alpha (map_of schema labels width places neighbours values table next spare bound) label) (name_at_in places slot ∙ name_in-get places slot place e)
       ∙ (ap (λ o. option_map_or (λ (dart : Dart). get_or dart.alphas label place.name) o place.name) (dart_at slot place e)
       ∙ (read ∙ name_in-get places _ to.0 to.1))))
 
   -- the dart that is lent
-  pub row_at : (slot : ℕ) (place : Place) → get places slot ≡ Some place → map.get (darts_in labels width places values table) place.name ≡ Some (record { alphas = map (λ (s : Slot). unwrap_or (map.get (slots_in places) s.at) 0) (take labels place.alphas); values = values_in width values slot })
-  row_at slot place e = dart_at slot place e ∙ sym (λ i. Some (record { alphas = map (λ (s : Slot). name_at_in places s.at i) (take labels place.alphas); values = values_in width values slot }))
+  pub row_at : (slot : ℕ) (place : Place) → get places slot ≡ Some place → map.get (darts_in labels width places neighbours values table) place.name ≡ Some (record { alphas = map (λ (s : Slot). unwrap_or (map.get (slots_in places) s.at) 0) (part_of labels neighbours slot); values = part_of width values slot })
+  row_at slot place e = dart_at slot place e ∙ sym (λ i. Some (record { alphas = map (λ (s : Slot). name_at_in places s.at i) (part_of labels neighbours slot); values = part_of width values slot }))
 
   -- what the table says of a name
   pub slot_named : (name slot : ℕ) → slot_in table name ≡ slot → slot ≢ no_slot → map.get (slots_in places) slot ≡ Some name
@@ -187,8 +195,8 @@ module _ (schema : Schema) (labels width : ℕ) (places : Slab Place) (values : 
       let named = sound.named name (λ n. h (sym e ∙ n)) in
       ap (map.get (slots_in places)) (sym e) ∙ (slot_at places _ named.0 named.1 ∙ ap Some named.2)
 
-  pub no_dart : (name : ℕ) → slot_in table name ≡ no_slot → map.get (darts_in labels width places values table) name ≡ None
-  no_dart name e = get-darts name ∙ (ap (λ s. option_map (dart_in labels width places values s) (get places s)) e ∙ ap (option_map (dart_in labels width places values no_slot)) nowhere)
+  pub no_dart : (name : ℕ) → slot_in table name ≡ no_slot → map.get (darts_in labels width places neighbours values table) name ≡ None
+  no_dart name e = get-darts name ∙ (ap (λ s. option_map (λ (p : Place). dart_in labels width places neighbours values s) (get places s)) e ∙ ap (option_map (λ (p : Place). dart_in labels width places neighbours values no_slot)) nowhere)
 
   -- the table has an entry for each live name
   pub name_within : (slot : ℕ) (place : Place) → get places slot ≡ Some place → place.name < length table
@@ -207,13 +215,12 @@ module _ (schema : Schema) (labels width : ℕ) (places : Slab Place) (values : 
       apart (sym (sound.placed other also f).found ∙ (ap (slot_in table) same ∙ (sound.placed slot place e).found))
 
   -- with another number above every name
-  pub sound_next : (next' : ℕ) → ((name : ℕ) → IsSome (map.get (darts_in labels width places values table) name) → name < next') → next' ≤ 16777216 → IsSound schema labels width places values table next' spare bound
+  pub sound_next : (next' : ℕ) → ((name : ℕ) → IsSome (map.get (darts_in labels width places neighbours values table) name) → name < next') → next' ≤ 16777216 → IsSound schema labels width places neighbours values table next' spare bound
   sound_next next' above limit = record {
     placed = λ slot place e.
         let p = sound.placed slot place e in
         record {
           found = p.found;
-          whole = p.whole;
           live = p.live;
           below_next = above place.name (is_some_at _ _ (dart_at slot place e));
           below_bound = p.below_bound;
@@ -223,6 +230,7 @@ module _ (schema : Schema) (labels width : ℕ) (places : Slab Place) (values : 
     named = sound.named;
     valued = sound.valued;
     fits = sound.fits;
+    linked = sound.linked;
     long = sound.long;
     room = sound.room;
     counted = sound.counted;

@@ -10,3 +10,4 @@ pub mod AddLemmas
 pub mod NameLemmas
 pub mod MapLemmas
 pub mod Keys
+pub mod ArenaIsMap

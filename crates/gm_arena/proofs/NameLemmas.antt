@@ -10,6 +10,7 @@ use Rattle.slab.specs.Slab.{Slab, get, entries_from}
 use Rattle.slab.proofs.SlabLemmas.{entries_from-append}
 use Rattle.gm_model.specs.declared.schema.Schema.{Schema}
 use Rattle.gm_model.specs.declared.value.Value.{Value}
+use Rattle.gm_arena.specs.declared.slot.Slot.{Slot}
 use Rattle.gm_arena.specs.declared.arena.Place.{Place}
 use Rattle.gm_arena.specs.Inside.{no_slot, slot_in, entry_of, names_in, dart_in, darts_in, IsSound}
 use Rattle.gm_arena.proofs.FilledLemmas.{keys-filled}
@@ -57,12 +58,12 @@ same_keys f g k (slot ∷ table) h =
     one (Some x) None xs ys e rest = cc
     one (Some x) (Some y) xs ys e rest = ap (λ ks. k ∷ ks) rest
 
-module _ (schema : Schema) (labels width : ℕ) (places : Slab Place) (values : List Value) (table : List ℕ) (next spare bound : ℕ) (sound : IsSound schema labels width places values table next spare bound) where
+module _ (schema : Schema) (labels width : ℕ) (places : Slab Place) (neighbours : List Slot) (values : List Value) (table : List ℕ) (next spare bound : ℕ) (sound : IsSound schema labels width places neighbours values table next spare bound) where
   -- a slot in the table has a dart
-  pub names_live : names_in table ≡ map.keys (darts_in labels width places values table)
+  pub names_live : names_in table ≡ map.keys (darts_in labels width places neighbours values table)
   names_live =
-      let f = λ (slot : ℕ). option_map (dart_in labels width places values slot) (get places slot) in
+      let f = λ (slot : ℕ). option_map (λ (p : Place). dart_in labels width places neighbours values slot) (get places slot) in
       same_keys entry_of f 0 table (All-from_get_or (λ slot. is_some (entry_of slot) ≡ is_some (f slot)) table no_slot (λ name h. elim (cases_eq (slot_in table name) no_slot) [
-        | inl e ↦ rw (e, nowhere schema labels width places values table next spare bound sound) refl
-        | inr some ↦ ap is_some (entry_some (slot_in table name) some) ∙ sym (ap (λ o. is_some (option_map (dart_in labels width places values (slot_in table name)) o)) (sound.named name some).1)
+        | inl e ↦ rw (e, nowhere schema labels width places neighbours values table next spare bound sound) refl
+        | inr some ↦ ap is_some (entry_some (slot_in table name) some) ∙ sym (ap (λ o. is_some (option_map (λ (p : Place). dart_in labels width places neighbours values (slot_in table name)) o)) (sound.named name some).1)
       ])) ∙ sym (keys-filled _)

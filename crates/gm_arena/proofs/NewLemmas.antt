@@ -26,16 +26,17 @@ module _ (schema : Schema) (places : Slab Place) (slots : places.slots ≡ []) w
   pub slots_none : slots_in places ≡ map.empty
   slots_none = (λ i. slots_in (record places { slots = slots i })) ∙ filled_none
 
-  pub map_empty : map_of schema (schema.dim + 1) (length schema.embeds) places [] [] 0 0 0 ≡ empty_map schema
+  pub map_empty : map_of schema (schema.dim + 1) (length schema.embeds) places [] [] [] 0 0 0 ≡ empty_map schema
   map_empty = λ i. record (empty_map schema) { darts = filled_none i; slots = slots_none i; count = count i }
 
-  pub sound_empty : IsSchema schema → 0 < schema.dim → schema.dim ≤ 7 → places.capacity ≡ 0 → IsSound schema (schema.dim + 1) (length schema.embeds) places [] [] 0 0 0
+  pub sound_empty : IsSchema schema → 0 < schema.dim → schema.dim ≤ 7 → places.capacity ≡ 0 → IsSound schema (schema.dim + 1) (length schema.embeds) places [] [] [] 0 0 0
   sound_empty lawful some few capacity = record {
     sized = record { lawful = lawful; one_each = refl; several = omega arith; few = omega arith; wide = refl };
     placed = λ slot place e. absurd (none-some place (sym (vacant slot) ∙ e));
     named = λ name h. absurd (h refl);
     valued = λ slot h. absurd (false≢true (rw vacant at h));
     fits = omega (arith, capacity);
+    linked = rw capacity (omega arith);
     long = rw capacity (omega arith);
     room = omega (arith, capacity, count);
     counted = count ∙ sym (ap map.len filled_none ∙ map.len-empty nat_cmp _);

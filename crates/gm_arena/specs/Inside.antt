@@ -1,4 +1,4 @@
--- How an arena keeps its map: places in a slab with their values beside them, and a table from names to slots. No public clause cites this module.
+-- How an arena keeps its map: names in a slab with their neighbours and values beside them, and a table from names to slots. No public clause cites this module.
 use Rattle.std.specs.Prelude.{◌≡◌, ◌≢◌, ℕ, ◌+◌, ◌*◌, ◌<◌, ◌≤◌, List, map, length, take, drop, ◌==◌, if◌then◌else◌, Option, Some, None, IsSome, All, slice_index_or}
 use Rattle.std.specs.Option.{option_map, option_map_or}
 use Rattle.std.specs.Ordering.{nat_cmp}
@@ -12,7 +12,7 @@ use Rattle.gm_arena.specs.ArenaMap.{ArenaMap, Dart}
 use Rattle.gm_arena.specs.Filled.{filled}
 use Rattle.gm_model.specs.Limits.{most_darts, most_names}
 use Rattle.gm_model.specs.Maps.{IsSchema}
-use Rattle.gm_arena.specs.Lawful.{HaveKinds}
+use Rattle.gm_arena.specs.Lawful.{AreGoodValues}
 
 -- what the table has where no live dart has a name
 abbrev pub no_slot : ℕ
@@ -32,25 +32,26 @@ names_in table = map (λ e. e.0) (entries_from 0 (map entry_of table))
 abbrev pub name_in : Slab Place → ℕ → ℕ
 name_in places slot = option_map_or (λ (p : Place). p.name) (get places slot) 0
 
-abbrev pub values_in : ℕ → List Value → ℕ → List Value
-values_in width values slot = take width (drop (slot * width) values)
+-- what a slot has of a list with so many for each
+abbrev pub part_of : {A : Type 0} → ℕ → List A → ℕ → List A
+part_of width items slot = take width (drop (slot * width) items)
 
-abbrev pub dart_in : ℕ → ℕ → Slab Place → List Value → ℕ → Place → Dart
-dart_in labels width places values slot place = record {
-  alphas = map (λ (s : Slot). name_in places s.at) (take labels place.alphas);
-  values = values_in width values slot;
+abbrev pub dart_in : ℕ → ℕ → Slab Place → List Slot → List Value → ℕ → Dart
+dart_in labels width places neighbours values slot = record {
+  alphas = map (λ (s : Slot). name_in places s.at) (part_of labels neighbours slot);
+  values = part_of width values slot;
 }
 
-abbrev pub darts_in : ℕ → ℕ → Slab Place → List Value → List ℕ → FinMap nat_cmp Dart
-darts_in labels width places values table = filled (map (λ slot. option_map (dart_in labels width places values slot) (get places slot)) table)
+abbrev pub darts_in : ℕ → ℕ → Slab Place → List Slot → List Value → List ℕ → FinMap nat_cmp Dart
+darts_in labels width places neighbours values table = filled (map (λ slot. option_map (λ (p : Place). dart_in labels width places neighbours values slot) (get places slot)) table)
 
 abbrev pub slots_in : Slab Place → FinMap nat_cmp ℕ
 slots_in places = filled (map (option_map (λ (p : Place). p.name)) places.slots)
 
-abbrev pub map_of : Schema → ℕ → ℕ → Slab Place → List Value → List ℕ → ℕ → ℕ → ℕ → ArenaMap
-map_of schema labels width places values table next spare bound = record {
+abbrev pub map_of : Schema → ℕ → ℕ → Slab Place → List Slot → List Value → List ℕ → ℕ → ℕ → ℕ → ArenaMap
+map_of schema labels width places neighbours values table next spare bound = record {
   schema = schema;
-  darts = darts_in labels width places values table;
+  darts = darts_in labels width places neighbours values table;
   slots = slots_in places;
   count = slab_len places;
   next = next;
@@ -60,10 +61,9 @@ map_of schema labels width places values table next spare bound = record {
 }
 
 -- a place is found by its name, and its neighbours are live
-pub record IsPlaced (labels : ℕ) (places : Slab Place) (table : List ℕ) (next bound slot : ℕ) (place : Place) : Type 0 where
+pub record IsPlaced (labels : ℕ) (places : Slab Place) (neighbours : List Slot) (table : List ℕ) (next bound slot : ℕ) (place : Place) : Type 0 where
   pub found : slot_in table place.name ≡ slot
-  pub whole : length place.alphas ≡ 8
-  pub live : All (λ (s : Slot). IsSome (get places s.at)) (take labels place.alphas)
+  pub live : All (λ (s : Slot). IsSome (get places s.at)) (part_of labels neighbours slot)
   pub below_next : place.name < next
   pub below_bound : slot < bound
   pub below_capacity : slot < places.capacity
@@ -76,17 +76,18 @@ pub record IsSized (schema : Schema) (labels width : ℕ) : Type 0 where
   pub few : labels ≤ 8
   pub wide : width ≡ length schema.embeds
 
-pub record IsSound (schema : Schema) (labels width : ℕ) (places : Slab Place) (values : List Value) (table : List ℕ) (next spare bound : ℕ) : Type 0 where
+pub record IsSound (schema : Schema) (labels width : ℕ) (places : Slab Place) (neighbours : List Slot) (values : List Value) (table : List ℕ) (next spare bound : ℕ) : Type 0 where
   pub sized : IsSized schema labels width
-  pub placed : (slot : ℕ) (place : Place) → get places slot ≡ Some place → IsPlaced labels places table next bound slot place
+  pub placed : (slot : ℕ) (place : Place) → get places slot ≡ Some place → IsPlaced labels places neighbours table next bound slot place
   -- a slot in the table holds a place of this name
   pub named : (name : ℕ) → slot_in table name ≢ no_slot → (place : Place) × (get places (slot_in table name) ≡ Some place) × (place.name ≡ name)
-  pub valued : (slot : ℕ) → IsSome (get places slot) → HaveKinds schema (values_in width values slot)
-  -- each key fits the table, and has room for its values
+  pub valued : (slot : ℕ) → IsSome (get places slot) → AreGoodValues schema (part_of width values slot)
+  -- each key fits the table, and has room for its neighbours and values
   pub fits : places.capacity ≤ no_slot
+  pub linked : places.capacity * labels ≤ length neighbours
   pub long : places.capacity * width ≤ length values
   pub room : HasRoomFor places spare
-  pub counted : slab_len places ≡ len (darts_in labels width places values table)
+  pub counted : slab_len places ≡ len (darts_in labels width places neighbours values table)
   pub few_darts : slab_len places + spare ≤ most_darts
   pub few_names : next ≤ most_names
   pub few_reserved : length table ≤ most_names

@@ -6,19 +6,20 @@ use Rattle.gm_model.specs.declared.schema.Embed.{Embed}
 use Rattle.gm_model.specs.declared.value.Value.{Value}
 use Rattle.gm_model.specs.Limits.{most_darts, most_names}
 use Rattle.gm_model.specs.Maps.{IsSchema}
-use Rattle.gm_model.specs.Values.{kind_of}
+use Rattle.gm_model.specs.Values.{kind_of, IsInValueRange}
 use Rattle.gm_arena.specs.ArenaMap.{ArenaMap, Dart, IsAt, IsLiveName}
 
--- one value of the right kind for each embedding
-abbrev pub HaveKinds : Schema → List Value → Type 0
-HaveKinds schema values = map kind_of values ≡ map (λ (e : Embed). e.kind) schema.embeds
+-- one value for each embedding, of its kind, with numbers in the kind's range
+pub record AreGoodValues (schema : Schema) (values : List Value) : Type 0 where
+  pub kinds : map kind_of values ≡ map (λ (e : Embed). e.kind) schema.embeds
+  pub ranges : All IsInValueRange values
 
 pub record IsLawfulDart (m : ArenaMap) (name : ℕ) (dart : Dart) : Type 0 where
   -- a neighbour for each label
   pub whole : length dart.alphas ≡ m.schema.dim + 1
   -- each of them live
   pub neighbours : All (IsLiveName m) dart.alphas
-  pub valued : HaveKinds m.schema dart.values
+  pub valued : AreGoodValues m.schema dart.values
   pub below_next : name < m.next
   pub below_reserved : name < m.reserved
   -- the dart is at one slot

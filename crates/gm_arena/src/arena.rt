@@ -1,12 +1,12 @@
 ghost use Rattle.std.specs.Prelude.{◌≡◌, ℕ, ◌+◌, ◌*◌, ◌<◌, ◌≤◌, ◌-◌, ◌++◌, [], length, replicate, take, max, map, Some, None, All, MatchOption, IfOk, OnOk, OnErr};
 ghost use Rattle.std.specs.FinMap.{get, keys};
-ghost use Rattle.slab.specs.Slab.{HasRoomFor};
+ghost use Rattle.slab.specs.Slab.{HasRoomFor, slab_len};
 ghost use Rattle.gm_model.specs.Limits.{most_darts, most_names};
 ghost use Rattle.gm_arena.specs.Inside.{no_slot, names_in};
 
 use crate::slot::Slot;
 use crate::steps::Steps;
-use gm_model::{OutOfMemory, Schema, Value};
+use gm_model::{MOST_DARTS, OutOfMemory, Schema, Value};
 use slab::Slab;
 use std::alloc::Global;
 use std::marker::Model;
@@ -20,8 +20,6 @@ const NO_SLOT: u32 = u32::MAX;
 #[derive(Clone, Copy)]
 struct Place {
     name: u32,
-    /// The neighbours by label. Behind the greatest label there are fillers.
-    alphas: [Slot; MOST_LABELS],
 }
 
 /// The darts of a map, in slots. Contracts see the map by name, the name of the dart at each slot,
@@ -34,6 +32,8 @@ pub struct Arena {
     /// The number of embeddings.
     width: usize,
     places: Slab<Place>,
+    /// The neighbours of the slots one after another, `labels` for each. Where no dart is, fillers.
+    neighbours: Vec<Slot>,
     /// The values of the slots one after another, `width` for each. Where no dart is, fillers.
     values: Vec<Value>,
     /// The slot of each reserved name, or `NO_SLOT`.
@@ -64,15 +64,15 @@ impl Model for Arena {
 
     ghost use Rattle.gm_arena.specs.Inside.{map_of, IsSound};
 
-    ghost view = { λ a. map_of a.schema a.labels a.width a.places a.values.items a.table.items a.next a.spare a.bound };
+    ghost view = { λ a. map_of a.schema a.labels a.width a.places a.neighbours.items a.values.items a.table.items a.next a.spare a.bound };
 
-    ghost invariant = { λ a. IsSound a.schema a.labels a.width a.places a.values.items a.table.items a.next a.spare a.bound };
+    ghost invariant = { λ a. IsSound a.schema a.labels a.width a.places a.neighbours.items a.values.items a.table.items a.next a.spare a.bound };
 }
 
 impl Arena {
     ghost use Rattle.gm_arena.specs.ArenaMap.{IsAt, IsLiveSlot, IsLiveName, name_at, alpha};
     ghost use Rattle.gm_model.specs.Maps.{IsSchema};
-    ghost use Rattle.gm_arena.specs.Lawful.{IsLawful, HaveKinds};
+    ghost use Rattle.gm_arena.specs.Lawful.{IsLawful, AreGoodValues};
     ghost use Rattle.gm_arena.specs.Edits.{empty_map, with_dart, with_alpha, without_dart, IsAlone};
 
     /// An arena without darts, whose next name is 0. It takes no memory.
@@ -85,6 +85,7 @@ impl Arena {
             width: schema.embeds.as_slice().len(),
             schema,
             places: Slab::new(alloc),
+            neighbours: Vec::new(alloc),
             values: Vec::new(alloc),
             table: Vec::new(alloc),
             next: 0,
@@ -173,10 +174,9 @@ impl Arena {
     {
         steps.tick();
         let at = slot.at as usize;
-        let place = &self.places[at];
         Row {
-            name: place.name,
-            alphas: &place.alphas[..self.labels],
+            name: self.places[at].name,
+            alphas: &self.neighbours[at * self.labels..at * self.labels + self.labels],
             values: &self.values[at * self.width..at * self.width + self.width],
         }
     }
@@ -189,7 +189,7 @@ impl Arena {
         ensures cost { steps.new ≡ steps.old + 1 }
     {
         steps.tick();
-        self.places[slot.at as usize].alphas[label as usize]
+        self.neighbours[slot.at as usize * self.labels + label as usize]
     }
 
     /// Makes room for so many more darts and for all names below `names`, so that `add` takes no
@@ -208,7 +208,9 @@ impl Arena {
         let room = self.spare.max(more);
         reserve_places(
             &mut self.places,
+            &mut self.neighbours,
             &mut self.values,
+            self.labels,
             self.width,
             room as usize,
         )?;
@@ -221,18 +223,17 @@ impl Arena {
         requires room { 0 < self.old.spare }
         requires reserved { name < self.old.reserved }
         requires new_name { get self.old.darts name ≡ None }
-        requires values { HaveKinds self.old.schema values.now }
+        requires values { AreGoodValues self.old.schema values.now }
         ensures slot { get self.old.slots result.at ≡ None }
         ensures map { self.new ≡ with_dart self.old result.at name values.now }
         ensures cost { steps.new ≡ steps.old + 1 }
     {
         steps.tick();
-        let key = self.places.insert_reserved(Place {
-            name,
-            alphas: [Slot { at: 0 }; MOST_LABELS],
-        });
+        let key = self.places.insert_reserved(Place { name });
         let own = Slot { at: key as u32 };
-        self.places[key].alphas = [own; MOST_LABELS];
+        self.neighbours[key * self.labels..key * self.labels + self.labels].copy_from_slice(
+            &[own; MOST_LABELS][..self.labels],
+        );
         self.values[key * self.width..key * self.width + self.width].copy_from_slice(values);
         self.table[name as usize] = own.at;
         self.next = self.next.max(name + 1);
@@ -250,7 +251,7 @@ impl Arena {
         ensures cost { steps.new ≡ steps.old + 1 }
     {
         steps.tick();
-        self.places[slot.at as usize].alphas[label as usize] = to;
+        self.neighbours[slot.at as usize * self.labels + label as usize] = to;
     }
 
     /// Removes a dart that is no other dart's neighbour. Its slot may be used again.
@@ -302,37 +303,58 @@ fn pad_table(table: &mut Vec<u32>, names: usize) -> Result<(), OutOfMemory>
     Ok(())
 }
 
-/// Makes room for so many more places, the keys of which fit a slot, and for their values.
+/// Makes room for so many more places, the keys of which fit a slot, and for their neighbours and
+/// values. The room doubles, but not past the most darts of an arena.
 fn reserve_places(
     places: &mut Slab<Place>,
+    neighbours: &mut Vec<Slot>,
     values: &mut Vec<Value>,
+    labels: usize,
     width: usize,
     more: usize,
 ) -> Result<(), OutOfMemory>
     requires fits { places.old.capacity ≤ no_slot }
+    requires few { slab_len places.old + more ≤ most_darts }
+    requires labels { labels ≤ 8 }
     requires width { width ≤ 8 }
+    requires linked { places.old.capacity * labels ≤ length neighbours.old.items }
     requires long { places.old.capacity * width ≤ length values.old.items }
     ensures room { OnOk result (HasRoomFor places.new more) }
     ensures fits { places.new.capacity ≤ no_slot }
+    ensures linked { places.new.capacity * labels ≤ length neighbours.new.items }
     ensures long { places.new.capacity * width ≤ length values.new.items }
     ensures slots { places.new.slots ≡ places.old.slots }
     ensures within { OnOk result (length places.new.slots ≤ places.new.capacity) }
+    ensures neighbours { take (length neighbours.old.items) neighbours.new.items ≡ neighbours.old.items }
     ensures values { take (length values.old.items) values.new.items ≡ values.old.items }
     ensures err { OnErr result (places.new ≡ places.old) }
 {
     if places.capacity() - places.len() >= more {
         return Ok(());
     }
-    // A slab does not say how far it grows, so a copy grows, and is taken where its keys fit.
+    let room = (places.len() + more).max((2 * places.capacity()).min(MOST_DARTS as usize));
+    // A slab does not say that it grows by no more than was asked for, so a copy grows, and is
+    // taken where its keys fit.
     let mut grown = places.clone()?;
-    grown.reserve(more)?;
+    grown.reserve_exact(room - places.len())?;
     if grown.capacity() > NO_SLOT as usize {
         return Err(OutOfMemory);
     }
-    let long = grown.capacity() * width;
-    if values.len() < long {
-        values.resize(long, Value::Int(0))?;
-    }
+    pad(neighbours, grown.capacity() * labels, Slot { at: 0 })?;
+    pad(values, grown.capacity() * width, Value::Int(0))?;
     *places = grown;
+    Ok(())
+}
+
+/// Makes the vector at least so long, by fillers and no more memory than they need.
+fn pad<T: Copy>(vector: &mut Vec<T>, long: usize, filler: T) -> Result<(), OutOfMemory>
+    ensures kept { take (length vector.old.items) vector.new.items ≡ vector.old.items }
+    ensures grows { length vector.old.items ≤ length vector.new.items }
+    ensures long { OnOk result (long ≤ length vector.new.items) }
+{
+    if vector.len() < long {
+        vector.reserve_exact(long - vector.len())?;
+        vector.resize(long, filler)?;
+    }
     Ok(())
 }

@@ -5,11 +5,11 @@
 #![tactic(auto)]
 
 mod arena;
+mod laws;
 mod slot;
 mod steps;
-#[cfg(test)]
-mod tests;
 
 pub use arena::{Arena, Row};
+pub use laws::what_is_held_is_a_map;
 pub use slot::Slot;
 pub use steps::Steps;

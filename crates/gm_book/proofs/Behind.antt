@@ -54,6 +54,7 @@ behind_is_item : (text : List ℕ) (nodes : List (List ℕ)) (rules : List RuleF
     → is_hook spot.side found ≡ false → is_later (AtBehind (spot_of nodes spot)) (Word found) ≡ is_later (AtItem (spot_of nodes spot)) (Word found)
     → stepped (stand_in text nodes rules current (code.Behind spot name word) last) (record { symbol = Word found; place = place })
     ≡ stepped (stand_in text nodes rules (option_map (with_item spot.side (NodeItem (mention_of text name) word false)) current) (code.Item spot) last) (record { symbol = Word found; place = place })
+unfolding stepped
 behind_is_item text nodes rules current spot name word last found place plain later = rw plain (go _ _ _)
   where
     mark : Mark
@@ -95,6 +96,7 @@ module _ (text : List ℕ) (nodes : List (List ℕ)) (old put : Draft) (spot : C
   pub hook_moves : rules_of text put ≡ rules_of text old → current_of text put ≡ option_map (with_item Left (NodeItem (mention_of text name) word true)) (current_of text old)
       → spot.side ≡ Left → bytes_eq found (codes "hook") ≡ true
       → Moves text nodes old (code.Behind spot name word) (record { symbol = Word found; place = place }) (Ok (code.Item spot)) nodes put
+  unfolding stepped
   hook_moves rules current side hook last =
       let here : option_map hook_last (option_map (with_item Left (NodeItem (mention_of text name) word false)) (current_of text old)) ≡ current_of text put =
       hook_is_put (current_of text old) (mention_of text name) word ∙ sym current in
@@ -105,6 +107,7 @@ pub to_moves : (text : List ℕ) (nodes : List (List ℕ)) (old put : Draft) (sp
     → is_among reserved (bytes_of text to) ≡ false → nat_lt 32 (length (bytes_of text to)) ≡ false
     → rules_of text put ≡ rules_of text old → current_of text put ≡ option_map (with_item spot.side (LinkItem (mention_of text from) label (mention_of text to))) (current_of text old)
     → Moves text nodes old (code.To spot from label) (record { symbol = Word (bytes_of text to); place = to.start }) (Ok (code.Item spot)) nodes put
+unfolding stepped
 to_moves text nodes old put spot from label to free short rules current last = rw (free, short, rules, current) refl
 
 -- ---- at the end
@@ -116,6 +119,7 @@ ends_at text nodes draft place result new is ends = subst (λ (s : CodeState). E
 end_is_item : (text : List ℕ) (nodes : List (List ℕ)) (rules : List RuleForm) (current : Option RuleForm) (spot : CodeSpot) (name : Token) (word : List Letter) (last place : ℕ) (side : Side) → spot.side ≡ side
     → stepped (stand_in text nodes rules current (code.Behind spot name word) last) (record { symbol = End; place = place })
     ≡ stepped (stand_in text nodes rules (option_map (with_item spot.side (NodeItem (mention_of text name) word false)) current) (code.Item spot) last) (record { symbol = End; place = place })
+unfolding stepped
 end_is_item text nodes rules current spot name word last place Left is = rw is refl
 end_is_item text nodes rules current spot name word last place Right is = rw is refl
 

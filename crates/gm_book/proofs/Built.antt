@@ -1,5 +1,5 @@
 -- What the pass over the names of a form says of the whole.
-use Rattle.std.proofs.Common.{◌≡◌, ℕ, ◌≤◌, List, [], ◌∷◌, length, map, Some, None, sym, subst}
+use Rattle.std.proofs.Common.{ℕ, ◌≤◌, List, [], ◌∷◌, length, map, Some, None}
 use Rattle.std.specs.List.{AllByRecursion}
 use Rattle.gm_book.specs.BookText.{BookForm, IsNameFault, place_of, TwiceAt, UnknownAt, IsSentence, limit_of, spelling, nodes_of}
 use Rattle.gm_book.specs.BookText as text

@@ -1,15 +1,15 @@
 -- The states are the grammar of books: a reading of a text by them is a book, an end is where no text goes on, and a passed limit is the first.
-use Rattle.std.proofs.Common.{◌≡◌, ℕ, ◌+◌, Bool, true, false, List, [], ◌∷◌, ◌++◌, Option, Some, None, Result, Ok, Err, refl, sym, ap, subst, ◌∙◌, codes}
+use Rattle.std.proofs.Common.{◌≡◌, ℕ, Bool, true, false, List, [], ◌∷◌, None, Ok, Err, refl, ap, subst, codes}
 use Rattle.std.specs.Str.{bytes_eq}
 use Rattle.gm_model.specs.declared.limit.LimitKind.{LimitKind}
 use Rattle.gm_model.specs.declared.rule.Side.{Side}
 use Rattle.gm_model.specs.declared.rule.Side.TheVariants.{Left, Right}
-use Rattle.gm_model.specs.Symbols.{Symbol, Word, Numeral, Sign, Gone, Stray, End, Mark, symbols, marks_of}
-use Rattle.gm_model.specs.Reading.{Part, symbols_in, IsReadAs, TextEndsAt}
-use Rattle.gm_book.specs.BookText.{BookForm, Role, NameAt, limit_of, stands_before, spelling, IsForm, IsSentence, IsPlacedAt, ArePlaced, IsWritten, IsLimitFault}
-use Rattle.gm_text.specs.Machine.{Stop, Ends, Passes, Leads, IsGrammar}
-use Rattle.gm_text.proofs.Machine.{Along, IsRead, along_leads, run_reads, run_ends, run_passes, read_is, ended_is, passing_is, reading_runs}
-use Rattle.gm_book.specs.Reading.{Spot, State, AtFormat, AtVersion, AtDim, AtTop, AtRules, AtName, AtLeft, AtItem, AtSign, AtLetter, AtBehind, AtLabel, AtDash, AtTo, AtEnd, closing, closing_role, is_hook, item_role, role_at, move, run, Held, nothing_held, held_behind}
+use Rattle.gm_model.specs.Symbols.{Symbol, Word, Numeral, Sign, Gone, Stray, End, Mark, marks_of}
+use Rattle.gm_model.specs.Reading.{Part, IsReadAs}
+use Rattle.gm_book.specs.BookText.{BookForm, Role, NameAt, limit_of, stands_before, IsSentence, IsPlacedAt, ArePlaced, IsWritten, IsLimitFault}
+use Rattle.gm_text.specs.Machine.{Passes, IsGrammar}
+use Rattle.gm_text.proofs.Machine.{Along, run_reads, run_passes, read_is, passing_is}
+use Rattle.gm_book.specs.Reading.{Spot, State, AtFormat, AtVersion, AtDim, AtTop, AtRules, AtName, AtLeft, AtItem, AtSign, AtLetter, AtBehind, AtLabel, AtDash, AtTo, AtEnd, closing, closing_role, is_hook, item_role, role_at, move, run, nothing_held, held_behind}
 use Rattle.gm_book.proofs.Leading.{Led, sentence_leads, goes_on}
 use Rattle.gm_book.proofs.Spelling.{along_book}
 

@@ -1,16 +1,15 @@
 -- Where a text ends against the grammar, and where instead something begins that books don't have so far.
-use Rattle.std.proofs.Common.{◌≡◌, ◌≢◌, ℕ, ◌+◌, ◌==◌, Bool, true, false, ◌⊎◌, inl, inr, List, [], ◌∷◌, ◌++◌, Option, Some, None, Result, Ok, Err, refl, sym, ap, subst, ◌∙◌, codes}
+use Rattle.std.proofs.Common.{◌≡◌, ◌≢◌, ℕ, ◌+◌, ◌==◌, Bool, true, false, ◌⊎◌, inl, inr, List, [], ◌∷◌, ◌++◌, Some, None, Err, refl, sym, ap, subst, ◌∙◌, codes}
 use Rattle.std.proofs.lemmas.Bool.{eqb-true}
 use Rattle.std.proofs.lemmas.Slice.Eq.{bytes_eq-Decides}
 use Rattle.std.specs.Str.{bytes_eq}
 use Rattle.gm_model.specs.declared.rule.Side.{Side}
 use Rattle.gm_model.specs.declared.rule.Side.TheVariants.{Left, Right}
-use Rattle.gm_model.specs.Names.{reserved, is_among}
-use Rattle.gm_model.specs.Symbols.{Symbol, Word, Numeral, Sign, Gone, Stray, End, Mark, symbols, marks_of}
-use Rattle.gm_model.specs.Reading.{Part, symbols_in, Begins, TextEndsAt}
+use Rattle.gm_model.specs.Symbols.{Symbol, Word, Numeral, Sign, Gone, Stray, End, Mark, marks_of}
+use Rattle.gm_model.specs.Reading.{Part, Begins}
 use Rattle.gm_book.specs.BookText.{Role, Fixed, Dimension, WordEnd, limit_of, stands_before, header, word, number, sign, the_end, IsSentence, IsLater, Embeddings, Parameters, Assignment, Precondition, IsNotBuilt, IsTextFault}
-use Rattle.gm_text.specs.Machine.{Stop, Ends, Passes, Leads, IsGrammar}
-use Rattle.gm_text.proofs.Machine.{last_of, Along, IsRead, IsEnded, along_leads, along_spelled, run_ends, ended_is, led_begins, begun}
+use Rattle.gm_text.specs.Machine.{Ends, Leads}
+use Rattle.gm_text.proofs.Machine.{last_of, IsEnded, along_leads, along_spelled, run_ends, ended_is, led_begins, begun}
 use Rattle.gm_book.specs.Reading.{Spot, State, AtFormat, AtVersion, AtDim, AtTop, AtRules, AtName, AtLeft, AtItem, AtSign, AtLetter, AtBehind, AtLabel, AtDash, AtTo, AtEnd, left_spot, closing, is_hook, expect, unless_reserved, item_move, behind_move, end_move, closed, role_at, move, run, is_later}
 use Rattle.gm_book.proofs.Spelling.{expected, free_word}
 use Rattle.gm_book.proofs.Grammar.{book_grammar}

@@ -1,5 +1,5 @@
 -- Each text of a book leads through the states to the end, and each state can be gone on from.
-use Rattle.std.proofs.Common.{◌≡◌, ℕ, zero, suc, ◌+◌, Bool, true, false, List, [], ◌∷◌, ◌++◌, length, Option, Some, None, refl, sym, ap, subst, ◌∙◌, codes}
+use Rattle.std.proofs.Common.{◌≡◌, ℕ, ◌+◌, Bool, true, false, List, [], ◌∷◌, length, Some, None, refl, sym, ap, ◌∙◌, codes}
 use Rattle.std.proofs.lemmas.Slice.Eq.{bytes_eq-Decides}
 use Rattle.std.specs.List.{AllByRecursion}
 use Rattle.std.specs.Str.{bytes_eq}
@@ -10,9 +10,9 @@ use Rattle.gm_model.specs.declared.word.Letter.TheVariants as letters
 use Rattle.gm_model.specs.Names.{reserved, Mention, is_among, IsFree}
 use Rattle.gm_model.specs.Symbols.{Symbol, Word, Numeral, Sign, Gone, Stray, End}
 use Rattle.gm_model.specs.Reading.{Part}
-use Rattle.gm_book.specs.BookText.{Item, NodeItem, LinkItem, RuleForm, BookForm, Count, no_count, count_after, counted, count_across, with_name, Role, Fixed, RuleWord, NameAt, LetterAt, WordEnd, NodeSign, limit_of, stands_before, word, sign, named, the_end, spell_letters, spell_hook, spell_item, spell_items, spell_rule, spell_rules, spelling, IsItem, IsRule, IsForm, IsSentence}
+use Rattle.gm_book.specs.BookText.{Item, NodeItem, LinkItem, RuleForm, Count, no_count, count_after, counted, count_across, with_name, Role, Fixed, RuleWord, NameAt, WordEnd, NodeSign, limit_of, stands_before, word, sign, named, the_end, spell_letters, spell_hook, spell_item, spell_items, spell_rules, IsItem, IsRule, IsSentence}
 use Rattle.gm_text.specs.Machine.{Leads}
-use Rattle.gm_book.specs.Reading.{Spot, State, AtFormat, AtVersion, AtDim, AtTop, AtRules, AtName, AtLeft, AtItem, AtSign, AtLetter, AtBehind, AtLabel, AtDash, AtTo, AtEnd, left_spot, right_spot, with_node, with_link, closing, is_hook, item_role, role_at, item_move, unless_reserved, move}
+use Rattle.gm_book.specs.Reading.{Spot, State, AtFormat, AtVersion, AtDim, AtTop, AtRules, AtName, AtLeft, AtItem, AtSign, AtLetter, AtBehind, AtLabel, AtDash, AtTo, AtEnd, left_spot, with_node, with_link, closing, is_hook, item_role, role_at, item_move, move}
 
 abbrev pub Led : State → List (Part Role) → Type 0
 Led state parts = Leads limit_of stands_before role_at move state parts AtEnd

@@ -146,6 +146,7 @@ abbrev FaultIn : RuleForm → NameFault → Type 0
 FaultIn rule fault = SideFault rule.left fault ⊎ SideFault rule.right fault
 
 rule_is_least : (rule : RuleForm) → IsLeast (FaultIn rule) (rule_least rule)
+unfolding rule_least
 rule_is_least rule =
     least_joined {P = SideFault rule.left} {Q = SideFault rule.right} {R = FaultIn rule} (λ f h. h) (λ f h. inl h) (λ f h. inr h)
     (side_least rule.left) (side_least rule.right) (side_is_least rule.left) (side_is_least rule.right)

@@ -1,6 +1,5 @@
 pub mod Behind
 pub mod NamePlaces
-pub mod Naming
 pub mod Onward
 pub mod Run
 pub mod Taking

@@ -1,7 +1,7 @@
 -- How reading mark by mark goes on: over a token that a lexer answers, and up to a fault.
-use Rattle.std.proofs.Common.{arith, ◌≡◌, ℕ, List, [], ◌∷◌, length, Option, Some, None, Result, Ok, Err, refl, sym, ap, subst, ◌∙◌}
+use Rattle.std.proofs.Common.{arith, ◌≡◌, ℕ, List, ◌∷◌, Option, Some, None, Result, Ok, Err, refl, sym, ap, subst, ◌∙◌}
 use Rattle.gm_model.specs.declared.token.Token.{Token}
-use Rattle.gm_model.specs.Symbols.{Stray, End, Mark}
+use Rattle.gm_model.specs.Symbols.{Stray, Mark}
 use Rattle.gm_text.specs.Cursor.{Cursor}
 use Rattle.gm_text.specs.Lexing.{rest_of, items_read, after, IsInText, IsLongestThere}
 use Rattle.gm_text.proofs.Marks.{marks_at-token, marks_at-end}
@@ -10,7 +10,7 @@ use Rattle.gm_book.specs.declared.form_fault.FormFault.{FormFault}
 use Rattle.gm_book.specs.declared.form_fault.FormFault.TheVariants as faults
 use Rattle.gm_book.specs.declared.state.State.{State as CodeState}
 use Rattle.gm_book.specs.Reading.{State, AtFormat, AtVersion, AtDim, AtTop, AtRules, AtName, AtLeft, AtItem, AtSign, AtLetter, AtBehind, AtLabel, AtDash, AtTo, AtEnd, Held}
-use Rattle.gm_book.specs.Standing.{Stand, stepped, read_on, ◌>>=◌, Fails, Gives, IsNext, IsStateIn, IsDraftIn, MovesFrom, EndsFrom, end_stand, stand_of, mark_of, marks_left}
+use Rattle.gm_book.specs.Standing.{Stand, stepped, read_on, ◌>>=◌, Fails, IsNext, IsStateIn, IsDraftIn, MovesFrom, stand_of, mark_of, marks_left}
 
 -- ---- tokens
 
@@ -27,6 +27,32 @@ next_is cursor rest found moved span longest answer =
     subst (λ (r : Cursor). IsNext cursor (Ok found) r) (sym moved) (next_after cursor found span longest there)
 
 -- ---- reading
+
+-- no state goes on with a stray byte
+stray_is_fault : (state : State) (last place : ℕ) (held : Held) → stepped (record { state = state; last = last; held = held }) (record { symbol = Stray; place = place }) ≡ Err (faults.Text place)
+unfolding stepped
+stray_is_fault AtFormat last place held = refl
+stray_is_fault AtVersion last place held = refl
+stray_is_fault AtDim last place held = refl
+stray_is_fault AtTop last place held = refl
+stray_is_fault (AtRules n) last place held = refl
+stray_is_fault (AtName n k) last place held = refl
+stray_is_fault (AtLeft n k) last place held = refl
+stray_is_fault (AtItem spot) last place held = refl
+stray_is_fault (AtSign spot name) last place held = refl
+stray_is_fault (AtLetter spot k) last place held = refl
+stray_is_fault (AtBehind spot) last place held = refl
+stray_is_fault (AtLabel spot) last place held = refl
+stray_is_fault (AtDash spot) last place held = refl
+stray_is_fault (AtTo spot) last place held = refl
+stray_is_fault AtEnd last place held = refl
+
+-- up to a byte that no token begins with
+pub stray_stops : (cursor rest : Cursor) (fault : FormFault) (stand : Stand) (whole : Result Stand FormFault) → IsNext cursor (Err fault) rest → read_on stand (marks_left cursor) ≡ whole → Fails fault whole
+stray_stops cursor rest (faults.Text place) stand whole is so_far = sym so_far ∙ (ap (λ (marks : List Mark). read_on stand marks) is ∙ rw (stray_is_fault stand.state stand.last place stand.held) refl)
+stray_stops cursor rest (faults.Limit what place) stand whole is so_far = absurd is
+stray_stops cursor rest (faults.NotBuilt place) stand whole is so_far = absurd is
+stray_stops cursor rest faults.OutOfMemory stand whole is so_far = absurd is
 
 fails : {A B : Type 0} (fault : FormFault) (found : Result A FormFault) (on : A → Result B FormFault) → Fails fault found → Fails fault (found >>= on)
 fails faults.OutOfMemory found on given = tt

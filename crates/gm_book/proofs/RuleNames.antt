@@ -1,10 +1,11 @@
 -- The names of a rule's nodes, as they are taken in.
-use Rattle.std.proofs.Common.{◌≡◌, ℕ, zero, suc, ◌<◌, inl, inr, List, [], ◌∷◌, ◌++◌, length, get_or, map, Bor, arith, refl, ap, ◌∙◌}
+use Rattle.std.proofs.Common.{◌≡◌, ℕ, zero, suc, ◌<◌, inl, inr, List, [], ◌∷◌, ◌++◌, length, get_or, map, arith, refl, ap, ◌∙◌}
 use Rattle.std.proofs.lemmas.Bool.{cases_Bool}
 use Rattle.std.specs.List.{AllByRecursion}
 use Rattle.gm_book.specs.BookText.{NodeItem, LinkItem, Count, RuleForm, with_name, counted, count_after, no_count, nodes_of}
 use Rattle.gm_model.specs.Names.{is_among, IsName}
 use Rattle.gm_book.specs.BookText as text
+use Rattle.gm_book.specs.declared.key.NameKey.{NameKey}
 use Rattle.gm_book.specs.declared.form.Item.{Item}
 use Rattle.gm_book.specs.declared.form.Item.TheVariants.{Node, Link}
 use Rattle.gm_book.specs.Forms.{IsItemIn, item_of}
@@ -34,7 +35,7 @@ good_items bytes [] names all within = all
 good_items bytes (Node name word hook ∷ items) names all within = good_items bytes items _ (good_with names _ all within.0.2) within.1
 good_items bytes (Link from label to ∷ items) names all within = good_items bytes items names all within.1
 
-pub good_at : (slices : List (Bor (List ℕ))) (k : ℕ) (d : Bor (List ℕ)) → AllByRecursion IsName (names_at slices) → k < length slices → IsName (get_or slices k d).now
+pub good_at : (keys : List NameKey) (k : ℕ) (d : NameKey) → AllByRecursion IsName (names_at keys) → k < length keys → IsName (get_or keys k d).bytes.now
 good_at [] k d all within = absurd (omega arith)
-good_at (slice ∷ slices) zero d all within = all.0
-good_at (slice ∷ slices) (suc k) d all within = good_at slices k d all.1 (omega arith)
+good_at (key ∷ keys) zero d all within = all.0
+good_at (key ∷ keys) (suc k) d all within = good_at keys k d all.1 (omega arith)

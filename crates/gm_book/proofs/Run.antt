@@ -7,7 +7,7 @@ use Rattle.gm_text.specs.Machine as machine
 use Rattle.gm_book.specs.declared.form_fault.FormFault.{FormFault}
 use Rattle.gm_book.specs.declared.form_fault.FormFault.TheVariants as faults
 use Rattle.gm_book.specs.Reading.{State, AtFormat, AtEnd, role_at, move, step, run, is_later, Nothing, Held, hold, held_behind}
-use Rattle.gm_book.specs.Standing.{Stand, first_stand, fault_of, settled, read_on, ◌>>=◌, IsFormRead, IsFormFault, Fails}
+use Rattle.gm_book.specs.Standing.{Stand, first_stand, fault_of, settled, stepped, read_on, ◌>>=◌, IsFormRead, IsFormFault, Fails}
 
 abbrev taken : State → Mark → ℕ → Option State → Option LimitKind → Result State (machine.Stop State)
 taken state mark place next limit = machine.taken limit_of stands_before role_at move state mark place next limit
@@ -29,6 +29,7 @@ pub record Through (stand : Stand) (marks : List Mark) (last : Stand) : Type 0 w
   pub held : held_behind stand.state marks stand.held ≡ last.held
 
 pub read_through : (stand : Stand) (marks : List Mark) (last : Stand) → read_on stand marks ≡ Ok last → Through stand marks last
+unfolding stepped
 read_through stand [] last read =
     let same : stand ≡ last = cc in
     record { ends = ap (λ (s : Stand). Ok s.state) same; held = ap (λ (s : Stand). s.held) same }
@@ -50,6 +51,7 @@ pub record Stops (stand : Stand) (marks : List Mark) (fault : FormFault) : Type 
   pub says : fault_of stop ≡ fault
 
 pub read_stops : (stand : Stand) (marks : List Mark) (fault : FormFault) → read_on stand marks ≡ Err fault → Stops stand marks fault
+unfolding stepped
 read_stops stand [] fault read = absurd cc
 read_stops stand (mark ∷ marks) fault read = go (step stand.state stand.last mark) refl (λ next on. read_stops (behind stand mark next) marks fault on)
   where

@@ -1,5 +1,5 @@
 -- What leads through the states to the end is the text of a book, and that book is what is held.
-use Rattle.std.proofs.Common.{◌≡◌, ℕ, zero, suc, ◌+◌, Bool, true, false, cond, List, [], ◌∷◌, ◌++◌, length, Option, Some, None, refl, sym, ap, subst, ◌∙◌, codes, append_assoc, ◌==◌, if◌then◌else◌}
+use Rattle.std.proofs.Common.{◌≡◌, ℕ, ◌+◌, Bool, true, false, List, [], ◌∷◌, ◌++◌, length, Some, None, refl, sym, ap, subst, ◌∙◌, codes, append_assoc, ◌==◌, if◌then◌else◌}
 use Rattle.std.proofs.lemmas.Bool.{eqb-true}
 use Rattle.std.proofs.lemmas.List.{append-nil}
 use Rattle.std.proofs.lemmas.Slice.Eq.{bytes_eq-Decides}
@@ -10,11 +10,11 @@ use Rattle.gm_model.specs.declared.rule.Side.TheVariants.{Left, Right}
 use Rattle.gm_model.specs.declared.word.Letter.{Letter}
 use Rattle.gm_model.specs.declared.word.Letter.TheVariants as letters
 use Rattle.gm_model.specs.Names.{reserved, Mention, is_among, IsFree}
-use Rattle.gm_model.specs.Symbols.{Symbol, Word, Numeral, Sign, Gone, Stray, End, Mark}
+use Rattle.gm_model.specs.Symbols.{Symbol, Word, Numeral, Sign, Gone, End, Mark}
 use Rattle.gm_model.specs.Reading as reading
-use Rattle.gm_book.specs.BookText.{Item, NodeItem, LinkItem, RuleForm, BookForm, Count, no_count, count_after, counted, count_across, with_name, Role, Fixed, Dimension, RuleWord, NameAt, LetterAt, WordEnd, NodeSign, LinkSign, LabelAt, limit_of, stands_before, word, number, sign, named, the_end, spell_letters, spell_hook, spell_item, spell_items, spell_rule, spell_rules, spelling, IsItem, IsRule, IsForm, IsSentence}
+use Rattle.gm_book.specs.BookText.{Item, NodeItem, LinkItem, RuleForm, BookForm, Count, no_count, count_after, counted, count_across, with_name, Role, Fixed, Dimension, RuleWord, NameAt, LetterAt, WordEnd, NodeSign, LinkSign, LabelAt, limit_of, stands_before, word, number, sign, named, the_end, spell_letters, spell_hook, spell_item, spell_items, spell_rule, spell_rules, spelling, IsItem, IsRule, IsForm}
 use Rattle.gm_text.proofs.Machine.{Along}
-use Rattle.gm_book.specs.Reading.{Spot, State, AtFormat, AtVersion, AtDim, AtTop, AtRules, AtName, AtLeft, AtItem, AtSign, AtLetter, AtBehind, AtLabel, AtDash, AtTo, AtEnd, left_spot, right_spot, with_node, with_link, closing, is_hook, role_at, expect, item_move, behind_move, unless_reserved, end_move, closed, move, Part, Nothing, Named, Lettered, Linked, Labelled, Held, nothing_held, mention_at, with_item, hooked, hook_last, hold, held_behind}
+use Rattle.gm_book.specs.Reading.{Spot, State, AtFormat, AtVersion, AtDim, AtTop, AtRules, AtName, AtLeft, AtItem, AtSign, AtLetter, AtBehind, AtLabel, AtDash, AtTo, AtEnd, left_spot, right_spot, with_node, with_link, closing, is_hook, role_at, expect, item_move, behind_move, unless_reserved, end_move, closed, move, Part, Nothing, Named, Lettered, Linked, Labelled, Held, nothing_held, mention_at, with_item, hooked, hook_last, held_behind}
 use Rattle.gm_book.proofs.Leading.{spot_at}
 
 abbrev pub Parts : Type 0

@@ -1,7 +1,6 @@
 -- A worked book: its canonical text, by computation, and that this text stands for it.
 use Rattle.std.proofs.Common.{◌≡◌, ℕ, ◌≤◌, List, [], ◌∷◌, length, Some, None, codes, refl, subst, arith}
 use Rattle.std.proofs.lemmas.Fmt.{decimal_digit}
-use Rattle.gm_model.specs.declared.rule.Link.{Link}
 use Rattle.gm_model.specs.declared.rule.Side.{Side}
 use Rattle.gm_model.specs.declared.rule.Side.TheVariants.{Left, Right}
 use Rattle.gm_model.specs.declared.schema.Schema.{Schema}
@@ -10,7 +9,7 @@ use Rattle.gm_model.specs.Rules.{Rule, RuleNode, links_on}
 use Rattle.gm_book.specs.BookText.{BookText, canonical}
 use Rattle.std.specs.List.{AllByRecursion}
 use Rattle.gm_book.proofs.CanonicalForm.{IsWritable, IsGoodLink}
-use Rattle.gm_book.proofs.CanonicalBook.{AreWritable, written_again}
+use Rattle.gm_book.proofs.CanonicalBook.{written_again}
 
 abbrev a : RuleNode
 a = record { name = codes "a"; left = Some (At 0 ∷ At 1 ∷ []); right = Some (At 0 ∷ Gone ∷ []); sets = [] }

@@ -67,7 +67,7 @@ least_unknown names (item ∷ items) = least_of (unknown_in names item) (least_u
 abbrev pub side_least : List Item → Option NameFault
 side_least items = least_of (least_again [] items) (least_unknown (with_items [] items) items)
 
-abbrev pub rule_least : RuleForm → Option NameFault
+unfoldable pub rule_least : RuleForm → Option NameFault
 rule_least rule = least_of (side_least rule.left) (side_least rule.right)
 
 -- of the rules' names and in the rules, behind rules with these names

@@ -1,11 +1,11 @@
 -- Which names a table holds.
 use Rattle.std.specs.Prelude.{ℕ, List, map}
-use Rattle.std.specs.Borrow.{Bor}
 use Rattle.std.specs.HashSet.{HashSet}
+use Rattle.gm_book.specs.declared.key.NameKey.{NameKey}
 
-abbrev pub names_at : List (Bor (List ℕ)) → List (List ℕ)
-names_at slices = map (λ (slice : Bor (List ℕ)). slice.now) slices
+abbrev pub names_at : List NameKey → List (List ℕ)
+names_at keys = map (λ (key : NameKey). key.bytes.now) keys
 
 -- in the order in which they were taken in
-abbrev pub names_held : {S : Type 0} → HashSet (Bor (List ℕ)) S → List (List ℕ)
+abbrev pub names_held : {S : Type 0} → HashSet NameKey S → List (List ℕ)
 names_held table = names_at table.keys

@@ -40,7 +40,7 @@ settled stand mark (Ok next) = Ok (record {
 })
 
 -- what one mark comes to
-abbrev pub stepped : Stand → Mark → Result Stand FormFault
+unfoldable pub stepped : Stand → Mark → Result Stand FormFault
 stepped stand mark = settled stand mark (step stand.state stand.last mark)
 
 infixl 10 ◌>>=◌

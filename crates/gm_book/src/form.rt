@@ -4,14 +4,14 @@ use gm_model::{Dim, Word};
 use gm_text::Token;
 
 /// What a side of a rule lists.
-#[derive(Clone, Copy, Debug)]
+#[derive(Clone, Copy)]
 pub(crate) enum Item {
     Node { name: Token, word: Word, hook: bool },
     Link { from: Token, label: u8, to: Token },
 }
 
 /// A rule as it is written.
-#[derive(Debug, Drop)]
+#[derive(Drop)]
 pub(crate) struct RuleForm {
     pub name: Token,
     pub left: Vec<Item>,
@@ -19,7 +19,7 @@ pub(crate) struct RuleForm {
 }
 
 /// A book as it is written.
-#[derive(Debug, Drop)]
+#[derive(Drop)]
 pub(crate) struct Form {
     pub dim: Dim,
     pub rules: Vec<RuleForm>,

@@ -2,7 +2,7 @@ use gm_model::LimitKind;
 use std::alloc::{AllocError, AllocFailed};
 
 /// Why a text has no form: its first fault from left to right, or want of memory.
-#[derive(Debug, Drop)]
+#[derive(Drop)]
 pub(crate) enum FormFault {
     /// No text of a book goes on with what stands at the place.
     Text { place: usize },

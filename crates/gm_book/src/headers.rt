@@ -8,6 +8,7 @@ ghost use Rattle.gm_book.specs.Standing.{IsToken, Leads, StaysIn, word_mark, num
 
 use crate::form_fault::FormFault;
 use crate::state::State;
+use crate::words::reads;
 use gm_model::{Dim, LimitKind};
 use gm_text::{Lexer, Token};
 
@@ -20,17 +21,19 @@ pub(crate) fn value(lexer: &Lexer<'_>, token: Token) -> u64
     lexer.number(&token).unwrap_or(u64::MAX)
 }
 
+#[tactic(auto, unfolding(crate::specs::Standing::stepped))]
 pub(crate) fn at_format(lexer: &Lexer<'_>, token: Token) -> Result<State, FormFault>
     requires { IsToken lexer.now.text token }
     ensures leads { Leads lexer.now.text states.Format (word_mark lexer.now.text token) result }
     ensures within { StaysIn lexer.now.text states.Format result }
 {
-    if lexer.text(&token) != b"book".as_slice() {
+    if !reads(lexer, token, b"book") {
         return Err(FormFault::Text { place: token.start });
     }
     Ok(State::Version)
 }
 
+#[tactic(auto, unfolding(crate::specs::Standing::stepped))]
 pub(crate) fn at_version(lexer: &Lexer<'_>, token: Token) -> Result<State, FormFault>
     requires token { IsToken lexer.now.text token }
     requires kind { token.kind ≡ Number }
@@ -43,17 +46,19 @@ pub(crate) fn at_version(lexer: &Lexer<'_>, token: Token) -> Result<State, FormF
     Ok(State::DimWord)
 }
 
+#[tactic(auto, unfolding(crate::specs::Standing::stepped))]
 pub(crate) fn at_dim_word(lexer: &Lexer<'_>, token: Token) -> Result<State, FormFault>
     requires { IsToken lexer.now.text token }
     ensures leads { Leads lexer.now.text states.DimWord (word_mark lexer.now.text token) result }
     ensures within { StaysIn lexer.now.text states.DimWord result }
 {
-    if lexer.text(&token) != b"dim".as_slice() {
+    if !reads(lexer, token, b"dim") {
         return Err(FormFault::Text { place: token.start });
     }
     Ok(State::Dimension)
 }
 
+#[tactic(auto, unfolding(crate::specs::Standing::stepped))]
 pub(crate) fn at_dimension(lexer: &Lexer<'_>, token: Token) -> Result<State, FormFault>
     requires token { IsToken lexer.now.text token }
     requires kind { token.kind ≡ Number }

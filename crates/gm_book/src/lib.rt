@@ -7,6 +7,7 @@ mod fault;
 mod form;
 mod form_fault;
 mod headers;
+mod key;
 mod laws;
 mod letters;
 mod names;
@@ -27,6 +28,3 @@ pub use laws::{
 };
 pub use printing::print_book;
 pub use reading::read_book;
-
-#[cfg(test)]
-mod tests;

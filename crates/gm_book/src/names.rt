@@ -11,13 +11,14 @@ ghost use Rattle.gm_book.specs.Held.{names_held};
 ghost use Rattle.gm_book.specs.FirstNameFault.{least_of, again_at, place_at, with_item, again_in, with_items, least_again, unknown_at, unknown_in, least_unknown, side_least, rule_least, least_in, IsLeastFault};
 
 use crate::form::{Form, Item, RuleForm};
+use crate::key::NameKey;
 use gm_model::OutOfMemory;
 use gm_text::Token;
 use indexmap::IndexSet;
 use std::alloc::Global;
 
 /// A fault of the names of a form, and where it stands.
-#[derive(Clone, Copy, Debug, PartialEq, Eq)]
+#[derive(Clone, Copy)]
 pub(crate) enum NameFault {
     /// A rule has the name of an earlier rule, or a node that of an earlier node of its side.
     Twice { place: usize },
@@ -55,17 +56,17 @@ fn earlier(fault: Option<NameFault>, other: Option<NameFault>) -> Option<NameFau
 }
 
 /// Takes the name into the table. Whether it is new there.
-fn insert<'t>(table: &mut IndexSet<&'t [u8]>, name: &'t [u8]) -> Result<bool, OutOfMemory>
+fn insert<'t>(table: &mut IndexSet<NameKey<'t>>, name: &'t [u8]) -> Result<bool, OutOfMemory>
     ensures held { OnOk result (names_held table.new ≡ with_name (names_held table.old) name.now) }
     ensures added { IfOk result (λ added. added ≡ not (is_among (names_held table.old) name.now)) }
 {
-    let (_, added) = table.insert_full(name)?;
+    let (_, added) = table.insert_full(NameKey { bytes: name })?;
     Ok(added)
 }
 
 /// Takes the name into the table. A fault is that it was there.
 fn take_in<'t>(
-    table: &mut IndexSet<&'t [u8]>,
+    table: &mut IndexSet<NameKey<'t>>,
     text: &'t [u8],
     name: &Token,
 ) -> Result<Option<NameFault>, OutOfMemory>
@@ -81,7 +82,7 @@ fn take_in<'t>(
 }
 
 fn take_in_item<'t>(
-    table: &mut IndexSet<&'t [u8]>,
+    table: &mut IndexSet<NameKey<'t>>,
     text: &'t [u8],
     item: &Item,
 ) -> Result<Option<NameFault>, OutOfMemory>
@@ -97,7 +98,7 @@ fn take_in_item<'t>(
 
 /// Takes the names of the nodes into the table. The fault is the first name that was there.
 pub(crate) fn take_in_nodes<'t>(
-    table: &mut IndexSet<&'t [u8]>,
+    table: &mut IndexSet<NameKey<'t>>,
     text: &'t [u8],
     items: &[Item],
 ) -> Result<Option<NameFault>, OutOfMemory>
@@ -112,19 +113,20 @@ pub(crate) fn take_in_nodes<'t>(
     Ok(fault)
 }
 
-fn unknown(table: &IndexSet<&[u8]>, text: &[u8], name: &Token) -> Option<NameFault>
+fn unknown(table: &IndexSet<NameKey<'_>>, text: &[u8], name: &Token) -> Option<NameFault>
     requires { IsIn text.now name.now }
     ensures { result ≡ unknown_at (names_held table.now) (mention_of text.now name.now) }
 {
     let place = name.start;
-    if table.contains(bytes_in(text, name)) {
+    let bytes = bytes_in(text, name);
+    if table.contains(&NameKey { bytes }) {
         None
     } else {
         Some(NameFault::Unknown { place })
     }
 }
 
-fn unknown_end(table: &IndexSet<&[u8]>, text: &[u8], item: &Item) -> Option<NameFault>
+fn unknown_end(table: &IndexSet<NameKey<'_>>, text: &[u8], item: &Item) -> Option<NameFault>
     requires { IsItemIn text.now item.now }
     ensures { result ≡ unknown_in (names_held table.now) (item_of text.now item.now) }
 {
@@ -136,7 +138,7 @@ fn unknown_end(table: &IndexSet<&[u8]>, text: &[u8], item: &Item) -> Option<Name
     }
 }
 
-fn first_unknown(table: &IndexSet<&[u8]>, text: &[u8], items: &[Item]) -> Option<NameFault>
+fn first_unknown(table: &IndexSet<NameKey<'_>>, text: &[u8], items: &[Item]) -> Option<NameFault>
     requires { AllByRecursion (IsItemIn text.now) items.now }
     ensures { result ≡ least_unknown (names_held table.now) (map (item_of text.now) items.now) }
 {
@@ -156,6 +158,7 @@ fn side_fault(alloc: Global, text: &[u8], items: &[Item]) -> Result<Option<NameF
     Ok(earlier(again, first_unknown(&table, text, items)))
 }
 
+#[tactic(auto, unfolding(crate::specs::FirstNameFault::rule_least))]
 fn rule_fault(alloc: Global, text: &[u8], rule: &RuleForm) -> Result<Option<NameFault>, OutOfMemory>
     requires { IsRuleIn text.now rule.now }
     ensures { IfOk result (λ fault. fault ≡ rule_least (rule_form_of text.now rule.now)) }
@@ -163,6 +166,22 @@ fn rule_fault(alloc: Global, text: &[u8], rule: &RuleForm) -> Result<Option<Name
     let left = side_fault(alloc, text, rule.left.as_slice())?;
     let right = side_fault(alloc, text, rule.right.as_slice())?;
     Ok(earlier(left, right))
+}
+
+/// Takes the rule's name into the table. The fault is the first of the rule's names, its own
+/// included.
+fn take_in_rule_name<'t>(
+    alloc: Global,
+    table: &mut IndexSet<NameKey<'t>>,
+    text: &'t [u8],
+    rule: &RuleForm,
+) -> Result<Option<NameFault>, OutOfMemory>
+    requires { IsRuleIn text.now rule.now }
+    ensures held { OnOk result (names_held table.new ≡ with_name (names_held table.old) (rule_form_of text.now rule.now).name.name) }
+    ensures fault { IfOk result (λ fault. fault ≡ least_of (again_at (names_held table.old) (rule_form_of text.now rule.now).name) (rule_least (rule_form_of text.now rule.now))) }
+{
+    let again = take_in(table, text, &rule.name)?;
+    Ok(earlier(again, rule_fault(alloc, text, rule)?))
 }
 
 fn first_fault(
@@ -176,8 +195,7 @@ fn first_fault(
     let mut table = IndexSet::new(alloc);
     let mut fault = None;
     for rule in rules {
-        let again = take_in(&mut table, text, &rule.name)?;
-        fault = earlier(fault, earlier(again, rule_fault(alloc, text, rule)?));
+        fault = earlier(fault, take_in_rule_name(alloc, &mut table, text, rule)?);
     }
     Ok(fault)
 }

@@ -1,6 +1,7 @@
 ghost use Rattle.std.specs.Prelude.{◌≡◌, [], length, OnOk};
 ghost use Rattle.gm_book.specs.BookText.{with_name};
 
+use crate::key::NameKey;
 use indexmap::IndexSet;
 use std::alloc::{AllocFailed, Global};
 use std::marker::Model;
@@ -9,7 +10,7 @@ use std::marker::Model;
 /// Contracts see their list.
 #[derive(Drop)]
 pub(crate) struct Nodes<'a> {
-    names: IndexSet<&'a [u8]>,
+    names: IndexSet<NameKey<'a>>,
 }
 
 impl<'a> Model for Nodes<'a> {
@@ -17,7 +18,7 @@ impl<'a> Model for Nodes<'a> {
 
     ghost Value = { List (List ℕ) };
 
-    ghost view = { λ nodes. map (λ name. name.now) nodes.names.keys };
+    ghost view = { λ nodes. map (λ name. name.bytes.now) nodes.names.keys };
 }
 
 impl<'a> Nodes<'a> {
@@ -35,10 +36,10 @@ impl<'a> Nodes<'a> {
         self.names.len()
     }
 
-    pub fn add(&mut self, name: &'a [u8]) -> Result<(), AllocFailed<&'a [u8]>>
+    pub fn add(&mut self, name: &'a [u8]) -> Result<(), AllocFailed<NameKey<'a>>>
         ensures { OnOk result (self.new ≡ with_name self.old name.now) }
     {
-        self.names.insert(name)?;
+        self.names.insert(NameKey { bytes: name })?;
         Ok(())
     }
 

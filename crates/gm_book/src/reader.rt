@@ -15,7 +15,7 @@ use crate::nodes::Nodes;
 use crate::signs::{at_dash, at_number, at_parameters, at_sign, at_word_end, gone};
 use crate::state::{Spot, State};
 use crate::tally::Tally;
-use crate::words::is_reserved;
+use crate::words::{is_reserved, reads};
 use gm_model::{Dim, LimitKind, Side, Word};
 use gm_text::{Lexer, Token, TokenKind};
 use std::alloc::Global;
@@ -30,22 +30,23 @@ pub(crate) struct Reader<'a> {
 }
 
 /// Behind the header, where the first rule can begin.
+#[tactic(auto, unfolding(crate::specs::Standing::stepped))]
 pub(crate) fn at_rules(lexer: &Lexer<'_>, token: Token, dim: Dim) -> Result<State, FormFault>
     requires { IsToken lexer.now.text token }
     ensures leads { Leads lexer.now.text (states.Rules dim) (word_mark lexer.now.text token) result }
     ensures within { StaysIn lexer.now.text (states.Rules dim) result }
 {
-    let word = lexer.text(&token);
     let place = token.start;
-    if word == b"embed".as_slice() {
+    if reads(lexer, token, b"embed") {
         return Err(FormFault::NotBuilt { place });
     }
-    if word != b"rule".as_slice() {
+    if !reads(lexer, token, b"rule") {
         return Err(FormFault::Text { place });
     }
     Ok(State::Name(dim, Tally::one()))
 }
 
+#[tactic(auto, unfolding(crate::specs::Standing::stepped))]
 fn at_left_item(lexer: &Lexer<'_>, token: Token, spot: Spot) -> Result<State, FormFault>
     requires token { IsToken lexer.now.text token }
     requires kind { token.kind ≡ Name }
@@ -55,7 +56,7 @@ fn at_left_item(lexer: &Lexer<'_>, token: Token, spot: Spot) -> Result<State, Fo
 {
     let word = lexer.text(&token);
     let place = token.start;
-    if word == b"right".as_slice() {
+    if reads(lexer, token, b"right") {
         return Ok(State::Item(Spot {
             side: Side::Right,
             links: Tally::none(),
@@ -83,6 +84,7 @@ impl<'a> Reader<'a> {
         }
     }
 
+    #[tactic(auto, unfolding(crate::specs::Standing::stepped))]
     pub fn at_name(
         &mut self,
         alloc: Global,
@@ -109,6 +111,7 @@ impl<'a> Reader<'a> {
         Ok(State::Left(dim, rules))
     }
 
+    #[tactic(auto, unfolding(crate::specs::Standing::stepped))]
     pub fn at_left(
         &mut self,
         lexer: &Lexer<'a>,
@@ -120,7 +123,7 @@ impl<'a> Reader<'a> {
         ensures moves { Moves lexer.now.text self.old.nodes self.old.draft (states.Left dim rules) (word_mark lexer.now.text token) result self.new.nodes self.new.draft }
         ensures within { KeepsIn lexer.now.text self.old.draft (states.Left dim rules) result self.new.draft }
     {
-        if lexer.text(&token) != b"left".as_slice() {
+        if !reads(lexer, token, b"left") {
             return Err(FormFault::Text { place: token.start });
         }
         self.nodes.clear();
@@ -132,6 +135,7 @@ impl<'a> Reader<'a> {
         }))
     }
 
+    #[tactic(auto, unfolding(crate::specs::Standing::stepped))]
     fn at_right_item(
         &mut self,
         lexer: &Lexer<'a>,
@@ -146,7 +150,7 @@ impl<'a> Reader<'a> {
     {
         let word = lexer.text(&token);
         let place = token.start;
-        if word == b"rule".as_slice() {
+        if reads(lexer, token, b"rule") {
             let Some(rules) = spot.rules.next() else {
                 let what = LimitKind::Rules;
                 return Err(FormFault::Limit { what, place });
@@ -154,7 +158,7 @@ impl<'a> Reader<'a> {
             self.draft.close()?;
             return Ok(State::Name(spot.dim, rules));
         }
-        if word == b"pre".as_slice() {
+        if reads(lexer, token, b"pre") {
             return Err(FormFault::NotBuilt { place });
         }
         if is_reserved(word) {
@@ -193,7 +197,7 @@ impl<'a> Reader<'a> {
         ensures moves { Moves lexer.now.text self.old.nodes self.old.draft (states.Behind spot name word) (word_mark lexer.now.text token) result self.new.nodes self.new.draft }
         ensures within { KeepsIn lexer.now.text self.old.draft (states.Behind spot name word) result self.new.draft }
     {
-        let hook = lexer.text(&token) == b"hook".as_slice();
+        let hook = reads(lexer, token, b"hook");
         self.draft.put(Side::Left, Item::Node { name, word, hook })?;
         if hook {
             return Ok(State::Item(spot));
@@ -201,6 +205,7 @@ impl<'a> Reader<'a> {
         at_left_item(lexer, token, spot)
     }
 
+    #[tactic(auto, unfolding(crate::specs::Standing::stepped))]
     fn at_right_behind(
         &mut self,
         lexer: &Lexer<'a>,
@@ -215,7 +220,7 @@ impl<'a> Reader<'a> {
         ensures moves { Moves lexer.now.text self.old.nodes self.old.draft (states.Behind spot name word) (word_mark lexer.now.text token) result self.new.nodes self.new.draft }
         ensures within { KeepsIn lexer.now.text self.old.draft (states.Behind spot name word) result self.new.draft }
     {
-        if lexer.text(&token) == b"with".as_slice() {
+        if reads(lexer, token, b"with") {
             return Err(FormFault::NotBuilt { place: token.start });
         }
         let hook = false;
@@ -224,6 +229,7 @@ impl<'a> Reader<'a> {
         self.at_right_item(lexer, token, spot)
     }
 
+    #[tactic(auto, unfolding(crate::specs::Standing::stepped))]
     fn at_to(
         &mut self,
         lexer: &Lexer<'a>,
@@ -252,6 +258,7 @@ impl<'a> Reader<'a> {
     }
 
     /// Where a word stands.
+    #[tactic(auto, unfolding(crate::specs::Standing::stepped))]
     pub fn word(
         &mut self,
         alloc: Global,
@@ -302,6 +309,7 @@ impl<'a> Reader<'a> {
     }
 
     /// Where a sign stands. The token before it stands at the place `last`.
+    #[tactic(auto, unfolding(crate::specs::Standing::stepped))]
     fn sign(
         &mut self,
         lexer: &Lexer<'a>,
@@ -346,6 +354,7 @@ impl<'a> Reader<'a> {
     }
 
     /// The dimension, where the book can end.
+    #[tactic(auto, unfolding(crate::specs::Standing::stepped))]
     pub fn end(&mut self, state: State, place: usize) -> Result<Dim, FormFault>
         ensures within { (text : List ℕ) → IsDraftIn text self.old.draft → IsStateIn text state → IfOk result (λ dim. AllByRecursion (IsRuleIn text) self.new.draft.rules.items) }
         ensures ends { (text : List ℕ) → EndsFrom text self.old.nodes self.old.draft state place result self.new.draft }
@@ -358,6 +367,7 @@ impl<'a> Reader<'a> {
         }
     }
 
+    #[tactic(auto, unfolding(crate::specs::Standing::stepped))]
     fn end_item(&mut self, spot: Spot, place: usize) -> Result<Dim, FormFault>
         ensures within { (text : List ℕ) → IsDraftIn text self.old.draft → IfOk result (λ dim. AllByRecursion (IsRuleIn text) self.new.draft.rules.items) }
         ensures ends { (text : List ℕ) → EndsFrom text self.old.nodes self.old.draft (states.Item spot) place result self.new.draft }

@@ -1,8 +1,9 @@
 //! Moves in a word and in a link: at signs, numbers and `_`.
-ghost use Rattle.std.specs.Prelude.{◌≡◌, List, ℕ, Option};
+ghost use Rattle.std.specs.Prelude.{◌≡◌, List, ℕ, Option, true, bytes_eq, codes};
 ghost use Rattle.gm_model.specs.declared.token.TokenKind.TheVariants.{Number};
 ghost use Rattle.gm_book.specs.BookText.{RuleForm};
 ghost use Rattle.gm_model.specs.Symbols.{Gone};
+ghost use Rattle.gm_model.specs.Tokens.{bytes_of};
 ghost use Rattle.gm_book.specs.declared.state.State.TheVariants as states;
 ghost use Rattle.gm_book.specs.Forms.{IsIn};
 ghost use Rattle.gm_book.specs.Standing.{IsToken, Leads, StaysIn, Gives, stand_in, stepped, number_mark, sign_mark};
@@ -13,10 +14,12 @@ use crate::letters::{no_letters, with_letter};
 use crate::nodes::Nodes;
 use crate::state::{Spot, State};
 use crate::tally::Tally;
+use crate::words::reads;
 use gm_model::{Dim, Letter, LimitKind, MOST_NODES, Word};
 use gm_text::{Lexer, Token};
 
 /// A letter of a word.
+#[tactic(auto, unfolding(crate::specs::Standing::stepped))]
 pub(crate) fn at_letter(
     lexer: &Lexer<'_>,
     token: Token,
@@ -45,6 +48,7 @@ pub(crate) fn at_letter(
 }
 
 /// A `_` of a word.
+#[tactic(auto, unfolding(crate::specs::Standing::stepped))]
 pub(crate) fn at_gone(spot: Spot, name: Token, word: Word, place: usize) -> Result<State, FormFault>
     ensures leads { (text : List ℕ) → Leads text (states.Letter spot name word) (record { symbol = Gone; place = place }) result }
     ensures within { (text : List ℕ) → StaysIn text (states.Letter spot name word) result }
@@ -59,6 +63,7 @@ pub(crate) fn at_gone(spot: Spot, name: Token, word: Word, place: usize) -> Resu
 }
 
 /// A sign in a word.
+#[tactic(auto, unfolding(crate::specs::Standing::stepped))]
 pub(crate) fn at_word_end(
     lexer: &Lexer<'_>,
     token: Token,
@@ -70,13 +75,14 @@ pub(crate) fn at_word_end(
     ensures leads { Leads lexer.now.text (states.Letter spot name word) (sign_mark lexer.now.text token) result }
     ensures within { StaysIn lexer.now.text (states.Letter spot name word) result }
 {
-    if lexer.text(&token) != b">".as_slice() {
+    if !reads(lexer, token, b">") {
         return Err(FormFault::Text { place: token.start });
     }
     Ok(State::Behind(spot, name, word))
 }
 
 /// A link's label.
+#[tactic(auto, unfolding(crate::specs::Standing::stepped))]
 pub(crate) fn at_label(
     lexer: &Lexer<'_>,
     token: Token,
@@ -99,6 +105,7 @@ pub(crate) fn at_label(
 }
 
 /// The sign behind a link's label.
+#[tactic(auto, unfolding(crate::specs::Standing::stepped))]
 pub(crate) fn at_dash(
     lexer: &Lexer<'_>,
     token: Token,
@@ -110,13 +117,14 @@ pub(crate) fn at_dash(
     ensures leads { Leads lexer.now.text (states.Dash spot from label) (sign_mark lexer.now.text token) result }
     ensures within { StaysIn lexer.now.text (states.Dash spot from label) result }
 {
-    if lexer.text(&token) != b"-".as_slice() {
+    if !reads(lexer, token, b"-") {
         return Err(FormFault::Text { place: token.start });
     }
     Ok(State::To(spot, from, label))
 }
 
 /// A sign behind a rule's name.
+#[tactic(auto, unfolding(crate::specs::Standing::stepped))]
 pub(crate) fn at_parameters(
     lexer: &Lexer<'_>,
     token: Token,
@@ -128,13 +136,38 @@ pub(crate) fn at_parameters(
     ensures within { StaysIn lexer.now.text (states.Left dim rules) result }
 {
     let place = token.start;
-    if lexer.text(&token) == b"(".as_slice() {
+    if reads(lexer, token, b"(") {
         return Err(FormFault::NotBuilt { place });
     }
     Err(FormFault::Text { place })
 }
 
+/// A node's sign behind its name, which stands at the place `last`.
+#[tactic(auto, unfolding(crate::specs::Standing::stepped))]
+fn at_node<'a>(
+    lexer: &Lexer<'a>,
+    token: Token,
+    spot: Spot,
+    name: Token,
+    last: usize,
+    nodes: &mut Nodes<'a>,
+) -> Result<State, FormFault>
+    requires sign { bytes_eq (bytes_of lexer.now.text token) (codes "<") ≡ true }
+    requires name { IsIn lexer.now.text name }
+    ensures within { StaysIn lexer.now.text (states.Sign spot name) result }
+    ensures leads { (rules : List RuleForm) (current : Option RuleForm)
+        → Gives (λ next. stand_in lexer.now.text nodes.new rules current next token.start) result (stepped (stand_in lexer.now.text nodes.old rules current (states.Sign spot name) last) (sign_mark lexer.now.text token)) }
+{
+    nodes.add(lexer.text(&name))?;
+    if nodes.len() > MOST_NODES {
+        let what = LimitKind::Nodes;
+        return Err(FormFault::Limit { what, place: last });
+    }
+    Ok(State::Letter(spot, name, no_letters()))
+}
+
 /// The sign behind an item's first name, which stands at the place `last`.
+#[tactic(auto, unfolding(crate::specs::Standing::stepped))]
 pub(crate) fn at_sign<'a>(
     lexer: &Lexer<'a>,
     token: Token,
@@ -149,16 +182,10 @@ pub(crate) fn at_sign<'a>(
     ensures leads { (rules : List RuleForm) (current : Option RuleForm)
         → Gives (λ next. stand_in lexer.now.text nodes.new rules current next token.start) result (stepped (stand_in lexer.now.text nodes.old rules current (states.Sign spot name) last) (sign_mark lexer.now.text token)) }
 {
-    let sign = lexer.text(&token);
-    if sign == b"<".as_slice() {
-        nodes.add(lexer.text(&name))?;
-        if nodes.len() > MOST_NODES {
-            let what = LimitKind::Nodes;
-            return Err(FormFault::Limit { what, place: last });
-        }
-        return Ok(State::Letter(spot, name, no_letters()));
+    if reads(lexer, token, b"<") {
+        return at_node(lexer, token, spot, name, last, nodes);
     }
-    if sign == b"-".as_slice() {
+    if reads(lexer, token, b"-") {
         return match spot.links.next() {
             Some(links) => Ok(State::Label(Spot { links, ..spot }, name)),
             None => Err(FormFault::Limit {
@@ -171,6 +198,7 @@ pub(crate) fn at_sign<'a>(
 }
 
 /// Where a number stands.
+#[tactic(auto, unfolding(crate::specs::Standing::stepped))]
 pub(crate) fn at_number(lexer: &Lexer<'_>, token: Token, state: State) -> Result<State, FormFault>
     requires token { IsToken lexer.now.text token }
     requires kind { token.kind ≡ Number }
@@ -187,6 +215,7 @@ pub(crate) fn at_number(lexer: &Lexer<'_>, token: Token, state: State) -> Result
 }
 
 /// Where a `_` stands.
+#[tactic(auto, unfolding(crate::specs::Standing::stepped))]
 pub(crate) fn gone(state: State, place: usize) -> Result<State, FormFault>
     ensures leads { (text : List ℕ) → Leads text state (record { symbol = Gone; place = place }) result }
     ensures within { (text : List ℕ) → StaysIn text state result }

@@ -8,6 +8,7 @@ ghost use Rattle.gm_book.specs.Forms.{IsIn, IsItemIn, IsRuleIn, mention_of, item
 ghost use Rattle.gm_book.specs.Held.{names_at, names_held};
 
 use crate::form::{Item, RuleForm};
+use crate::key::NameKey;
 use crate::names::{bytes_in, take_in_nodes};
 use gm_model::{Items, Link, Name, Node, OutOfMemory, RuleTable, Word};
 use gm_text::Token;
@@ -17,7 +18,7 @@ use std::alloc::Global;
 /// Takes the names of the rule's nodes into an empty table. There each has its number.
 /// A node that both sides mention is not new on the right, which is no fault.
 fn take_in_rule<'t>(
-    names: &mut IndexSet<&'t [u8]>,
+    names: &mut IndexSet<NameKey<'t>>,
     text: &'t [u8],
     rule: &RuleForm,
 ) -> Result<(), OutOfMemory>
@@ -32,18 +33,19 @@ fn take_in_rule<'t>(
 }
 
 /// The number of the name in the table. One that it hasn't gets the count of its names.
-fn number(names: &IndexSet<&[u8]>, text: &[u8], name: &Token) -> u8
+fn number(names: &IndexSet<NameKey<'_>>, text: &[u8], name: &Token) -> u8
     requires within { IsIn text.now name.now }
     requires few { length (names_held names.now) ≤ 32 }
     ensures { result ≡ number_of (names_held names.now) (mention_of text.now name.now) }
 {
-    let number = names.get_index_of(bytes_in(text, name));
+    let bytes = bytes_in(text, name);
+    let number = names.get_index_of(&NameKey { bytes });
     number.unwrap_or(names.len()) as u8
 }
 
 fn links(
     alloc: Global,
-    names: &IndexSet<&[u8]>,
+    names: &IndexSet<NameKey<'_>>,
     text: &[u8],
     items: &[Item],
 ) -> Result<Vec<Link>, OutOfMemory>
@@ -66,7 +68,7 @@ fn links(
 
 fn hooks(
     alloc: Global,
-    names: &IndexSet<&[u8]>,
+    names: &IndexSet<NameKey<'_>>,
     text: &[u8],
     items: &[Item],
 ) -> Result<Vec<u8>, OutOfMemory>
@@ -125,7 +127,7 @@ fn nodes(
     alloc: Global,
     text: &[u8],
     rule: &RuleForm,
-    names: &[&[u8]],
+    names: &[NameKey<'_>],
 ) -> Result<Vec<Node>, OutOfMemory>
     requires within { IsRuleIn text.now rule.now }
     requires good { AllByRecursion IsName (names_at names.now) }
@@ -133,9 +135,37 @@ fn nodes(
 {
     let mut nodes = Vec::new(alloc);
     for name in names {
-        nodes.push(node(alloc, text, rule, name))?;
+        nodes.push(node(alloc, text, rule, name.bytes))?;
     }
     Ok(nodes)
+}
+
+/// The table of the rule, whose nodes have their numbers in `names`.
+fn numbered_table(
+    alloc: Global,
+    text: &[u8],
+    rule: &RuleForm,
+    names: &IndexSet<NameKey<'_>>,
+) -> Result<RuleTable, OutOfMemory>
+    requires within { IsRuleIn text.now rule.now }
+    requires numbered { names_held names.now ≡ nodes_of (rule_form_of text.now rule.now) }
+    requires good { AllByRecursion IsName (names_held names.now) }
+    requires few { length (names_held names.now) ≤ 32 }
+    ensures { IfOk result (λ table. rule_of table ≡ rule_in (rule_form_of text.now rule.now)) }
+{
+    let nodes = nodes(alloc, text, rule, names.as_slice())?;
+    let left_links = links(alloc, names, text, rule.left.as_slice())?;
+    let right_links = links(alloc, names, text, rule.right.as_slice())?;
+    let hooks = hooks(alloc, names, text, rule.left.as_slice())?;
+    Ok(RuleTable {
+        name: Name::new(bytes_in(text, &rule.name)).unwrap(),
+        params: Items::new(Vec::new(alloc)),
+        nodes: Items::new(nodes),
+        left_links: Items::new(left_links),
+        right_links: Items::new(right_links),
+        hooks: Items::new(hooks),
+        pre: None,
+    })
 }
 
 /// The table of the rule: its nodes by number, left nodes first.
@@ -144,17 +174,7 @@ pub(crate) fn table(alloc: Global, text: &[u8], rule: &RuleForm) -> Result<RuleT
     requires few { length (nodes_of (rule_form_of text.now rule.now)) ≤ 32 }
     ensures { IfOk result (λ table. rule_of table ≡ rule_in (rule_form_of text.now rule.now)) }
 {
-    let left = rule.left.as_slice();
-    let right = rule.right.as_slice();
     let mut names = IndexSet::new(alloc);
     take_in_rule(&mut names, text, rule)?;
-    Ok(RuleTable {
-        name: Name::new(bytes_in(text, &rule.name)).unwrap(),
-        params: Items::new(Vec::new(alloc)),
-        nodes: Items::new(nodes(alloc, text, rule, names.as_slice())?),
-        left_links: Items::new(links(alloc, &names, text, left)?),
-        right_links: Items::new(links(alloc, &names, text, right)?),
-        hooks: Items::new(hooks(alloc, &names, text, left)?),
-        pre: None,
-    })
+    numbered_table(alloc, text, rule, &names)
 }

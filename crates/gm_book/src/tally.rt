@@ -4,7 +4,7 @@ use std::marker::Model;
 
 /// How many rules, or links of a side, there are so far. Contracts see the number, which is at
 /// most 256.
-#[derive(Clone, Copy, Debug, PartialEq, Eq)]
+#[derive(Clone, Copy)]
 pub(crate) struct Tally {
     count: u16,
 }

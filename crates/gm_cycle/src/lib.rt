@@ -31,6 +31,3 @@ pub fn check(schema: &Schema, rule: &RuleTable) -> Result<(), RuleFault>
     }
     Ok(())
 }
-
-#[cfg(test)]
-mod tests;

@@ -3,6 +3,7 @@ ghost use Rattle.std.specs.Prelude.{◌≡◌};
 use crate::bytes::Bytes;
 use gm_model::OutOfMemory;
 use std::alloc::AllocError;
+use std::io;
 
 /// Why a load gave no file.
 #[derive(Debug, Drop)]
@@ -47,6 +48,16 @@ impl From<OutOfMemory> for SaveFault {
 
     fn from(_error: OutOfMemory) -> SaveFault {
         SaveFault::OutOfMemory
+    }
+}
+
+impl From<io::Error> for SaveFault {
+    ghost use Rattle.gm_host.specs.declared.fault.SaveFault.TheVariants as saves;
+
+    ghost from_gives = { λ _ fault. fault ≡ saves.Failed };
+
+    fn from(_error: io::Error) -> SaveFault {
+        SaveFault::Failed
     }
 }
 

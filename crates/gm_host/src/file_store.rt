@@ -1,25 +1,30 @@
-ghost use Rattle.std.specs.Prelude.{◌≡◌, ◌+◌, ◌<◌, ◌≤◌, IfOk, OnOk, OnErr, is_err, length, if◌then◌else◌};
-ghost use Rattle.std.specs.Io.KnownBytes.{Appends, Consumes, IsAtEnd};
+ghost use Rattle.std.specs.Prelude.{◌≡◌, ◌+◌, ◌≤◌, IfOk, OnOk, is_err, length, if◌then◌else◌};
 ghost use Rattle.gm_host.specs.Count.{counted, Rises};
-ghost use Rattle.gm_host.specs.Store.{untold, Lacks, IsHeld, IsCutFromHeld, HoldsLongerFile, IsAbsent, OnAbsent, OnFailed, IfTooLong, IsAbsentUnlessFailing, IsTooLongUnlessFailing};
-ghost use Rattle.gm_host.specs.FileStore.{AppendsInPart};
+ghost use Rattle.gm_host.specs.Store.{untold, Lacks, IsHeld, IsCutFromHeld, HoldsLongerFile, OnAbsent, OnFailed, IfTooLong, IsAbsentUnlessFailing, IsTooLongUnlessFailing};
 ghost use Rattle.gm_host.specs.Saves as saves;
 ghost use Rattle.gm_host.specs.Saves.{IsSaved, IsSavedInPart};
 
-use crate::bytes::Bytes;
 use crate::fault::{LoadFault, SaveFault};
+use crate::opened::read_opened;
+use crate::replacing::write_file;
 use crate::store::Store;
 use std::alloc::Global;
 use std::fs;
 use std::fs::Files;
-use std::io::{Read, Write};
 use std::marker::Model;
-
-/// How many bytes one read asks for.
-const PIECE: usize = 65_536;
 
 /// The files of the system, by name. It does not tell what it holds, a file that is not there is
 /// `Failed`, and each load or save that is not Ok raises its count of faults.
+///
+/// A save over a regular file, or under a name that is nothing's, writes a new file beside it first,
+/// under the name, a dot and the first number from 0 to 999 that is free. Once the disk has all bytes
+/// the new file takes the name and the access of the old one, which must be a file that may be
+/// written. So a save that is `Failed` leaves the old file as it was, and a process that is ended in
+/// the middle leaves the old file or the new one, and perhaps the file beside it. The new file has the
+/// saver as its owner, and other names that the old file had keep the old bytes.
+///
+/// What is no regular file, as a link, a device or a pipe, is written through: there a save that is
+/// `Failed` may have written some of the bytes. A save takes no memory.
 #[derive(Drop)]
 pub struct FileStore<'r, R> {
     rt: &'r R,
@@ -72,10 +77,11 @@ impl<'r, R: Files> Store for FileStore<'r, R> {
         ensures seen_length { IfTooLong result (λ seen. length seen ≡ limit + 1) }
         ensures seen_held { IfTooLong result (λ seen. IsCutFromHeld untold name.now limit seen) }
         ensures longer { HoldsLongerFile untold name.now limit → IsTooLongUnlessFailing result }
+        ensures ok_no_fault { OnOk result (self.new.load_faults ≡ self.old.load_faults) }
         ensures each_fault_counts { self.new.load_faults ≡ (if is_err result then counted self.old.load_faults else self.old.load_faults) }
     {
         self.loads = self.loads.saturating_add(1);
-        let answer = read_file(self.rt, alloc, name, limit);
+        let answer = read_opened(fs::open(self.rt, name), alloc, limit);
         if answer.is_err() {
             self.load_faults = self.load_faults.saturating_add(1);
         }
@@ -91,6 +97,7 @@ impl<'r, R: Files> Store for FileStore<'r, R> {
         ensures kept { saves.OnFailed result (IsSavedInPart untold name.now bytes.now untold) }
         ensures out_of_memory { saves.OnOutOfMemory result (untold ≡ untold) }
         ensures no_fault { saves.OnOutOfMemory result (self.new.save_faults ≡ self.old.save_faults) }
+        ensures ok_no_fault { OnOk result (self.new.save_faults ≡ self.old.save_faults) }
         ensures enough_memory { ¬ saves.IsOutOfMemory result }
         ensures each_fault_counts { self.new.save_faults ≡ (if is_err result then counted self.old.save_faults else self.old.save_faults) }
     {
@@ -100,80 +107,4 @@ impl<'r, R: Files> Store for FileStore<'r, R> {
         }
         answer
     }
-}
-
-/// The bytes of a file, read no further than one byte past the limit.
-fn read_file<R: Files>(
-    rt: &R,
-    alloc: Global,
-    name: &str,
-    limit: usize,
-) -> Result<Vec<u8>, LoadFault>
-    ensures within_limit { IfOk result (λ bytes. length bytes.items ≤ limit) }
-    ensures never_absent { ¬ IsAbsent result }
-    ensures seen_length { IfTooLong result (λ seen. length seen ≡ limit + 1) }
-{
-    let Ok(mut file) = fs::open(rt, name) else {
-        return Err(LoadFault::Failed);
-    };
-    let mut piece = vec![in alloc; 0u8; PIECE]?;
-    read_within(&mut file, alloc, &mut piece, limit)
-}
-
-/// What is left to read, read through the lent piece no further than one byte past the limit.
-fn read_within<F: Read>(
-    file: &mut F,
-    alloc: Global,
-    piece: &mut [u8],
-    limit: usize,
-) -> Result<Vec<u8>, LoadFault>
-    requires { 0 < length piece.old }
-    ensures within_limit { IfOk result (λ bytes. length bytes.items ≤ limit) }
-    ensures all_bytes { IfOk result (λ bytes. Consumes (F.remaining file.old) (F.remaining file.new) bytes.items) }
-    ensures to_the_end { OnOk result (IsAtEnd (F.remaining file.new)) }
-    ensures never_absent { ¬ IsAbsent result }
-    ensures seen_length { IfTooLong result (λ seen. length seen ≡ limit + 1) }
-    ensures first_bytes { IfTooLong result (λ seen. Consumes (F.remaining file.old) (F.remaining file.new) seen) }
-{
-    let mut bytes = Vec::new(alloc);
-    while bytes.len() <= limit {
-        let wanted = (limit - bytes.len()).saturating_add(1).min(piece.len());
-        let part = &mut piece[..wanted];
-        let Ok(count) = file.read(part) else {
-            return Err(LoadFault::Failed);
-        };
-        if count == 0 {
-            return Ok(bytes);
-        }
-        bytes.extend_from_slice(&part[..count])?;
-    }
-    Err(LoadFault::TooLong {
-        seen: Bytes::new(bytes),
-    })
-}
-
-/// Makes the bytes those of the file, which is made where it is not there.
-fn write_file<R: Files>(rt: &R, name: &str, bytes: &[u8]) -> Result<(), SaveFault>
-    ensures { ¬ saves.IsOutOfMemory result }
-{
-    let Ok(mut file) = fs::create(rt, name) else {
-        return Err(SaveFault::Failed);
-    };
-    write_whole(&mut file, bytes)
-}
-
-/// Writes all of the bytes. A write that takes none of them is a fault.
-fn write_whole<F: Write>(file: &mut F, bytes: &[u8]) -> Result<(), SaveFault>
-    ensures all_bytes { OnOk result (Appends (F.contents file.old) (F.contents file.new) bytes.now) }
-    ensures first_bytes { OnErr result (AppendsInPart (F.contents file.old) (F.contents file.new) bytes.now) }
-    ensures enough_memory { ¬ saves.IsOutOfMemory result }
-{
-    let mut rest = bytes;
-    while !rest.is_empty() {
-        match file.write(rest) {
-            Ok(count) if count > 0 => rest = &rest[count..],
-            _ => return Err(SaveFault::Failed),
-        }
-    }
-    Ok(())
 }

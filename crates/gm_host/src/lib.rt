@@ -11,11 +11,14 @@ mod file_store;
 mod file_table;
 mod mem_sink;
 mod mem_store;
+mod opened;
+mod replacing;
 mod sink;
 mod std_sink;
 mod store;
 mod sure_sink;
 mod sure_store;
+mod whole;
 
 pub use bytes::Bytes;
 pub use fault::{LoadFault, PutFault, SaveFault};
@@ -27,6 +30,3 @@ pub use std_sink::StdSink;
 pub use store::Store;
 pub use sure_sink::SureSink;
 pub use sure_store::SureStore;
-
-#[cfg(test)]
-mod tests;

@@ -1,7 +1,7 @@
-ghost use Rattle.std.specs.Prelude.{◌≡◌, ◌<◌, ◌≤◌, [], OnOk, OnErr, Some};
+ghost use Rattle.std.specs.Prelude.{◌≡◌, ◌<◌, ◌≤◌, [], false, IsTrue, OnOk, OnErr, Some};
 ghost use Rattle.std.specs.FinMap as map;
 ghost use Rattle.gm_host.specs.Count.{Rises};
-ghost use Rattle.gm_host.specs.Sink.{extended, ExtendsInPart, OnFailed, OnOutOfMemory};
+ghost use Rattle.gm_host.specs.Sink.{extended, ExtendsInPart, OnFailed, IsOutOfMemory, OnOutOfMemory};
 ghost use Rattle.gm_host.specs.MemSink.{IsPutAsPlanned};
 
 use crate::bytes::first;
@@ -81,12 +81,16 @@ impl Sink for MemSink {
 
     ghost faults = { λ sink. sink.faults };
 
+    ghost never_wants_memory = { false };
+
     fn put(&mut self, bytes: &[u8]) -> Result<(), PutFault>
         ensures faults_never_fall { self.old.faults ≤ self.new.faults }
         ensures ok { OnOk result (Some self.new.written ≡ extended (Some self.old.written) bytes.now) }
         ensures failed { OnFailed result (Rises self.old.faults self.new.faults) }
         ensures kept { OnFailed result (ExtendsInPart (Some self.old.written) bytes.now (Some self.new.written)) }
         ensures out_of_memory { OnOutOfMemory result (Some self.new.written ≡ Some self.old.written) }
+        ensures enough_memory { IsTrue false → ¬ IsOutOfMemory result }
+        ensures ok_no_fault { OnOk result (self.new.faults ≡ self.old.faults) }
         ensures as_planned { IsPutAsPlanned self.old bytes.now result self.new }
     {
         let call = self.puts;

@@ -133,6 +133,7 @@ impl Store for MemStore {
         ensures seen_length { IfTooLong result (λ seen. length seen ≡ limit + 1) }
         ensures seen_held { IfTooLong result (λ seen. IsCutFromHeld (told self.old.files) name.now limit seen) }
         ensures longer { HoldsLongerFile (told self.old.files) name.now limit → IsTooLongUnlessFailing result }
+        ensures ok_no_fault { OnOk result (self.new.load_faults ≡ self.old.load_faults) }
         ensures fails_exactly { IsFailed result ↔ IsTrue (fails_next self.old) }
         ensures after { self.new ≡ after_load self.old }
     {
@@ -154,6 +155,7 @@ impl Store for MemStore {
         ensures kept { saves.OnFailed result (IsSavedInPart (told self.old.files) name.now bytes.now (told self.new.files)) }
         ensures out_of_memory { saves.OnOutOfMemory result (told self.new.files ≡ told self.old.files) }
         ensures no_fault { saves.OnOutOfMemory result (self.new.save_faults ≡ self.old.save_faults) }
+        ensures ok_no_fault { OnOk result (self.new.save_faults ≡ self.old.save_faults) }
         ensures as_planned { IsSaveAsPlanned self.old name.now bytes.now result self.new }
     {
         let call = self.saves;

@@ -1,6 +1,6 @@
-ghost use Rattle.std.specs.Prelude.{◌≡◌, ◌≤◌, ℕ, List, Option, OnOk};
+ghost use Rattle.std.specs.Prelude.{◌≡◌, ◌≤◌, ℕ, Bool, List, Option, IsTrue, OnOk};
 ghost use Rattle.gm_host.specs.Count.{Rises};
-ghost use Rattle.gm_host.specs.Sink.{extended, ExtendsInPart, OnFailed, OnOutOfMemory};
+ghost use Rattle.gm_host.specs.Sink.{extended, ExtendsInPart, OnFailed, IsOutOfMemory, OnOutOfMemory};
 
 use crate::fault::PutFault;
 
@@ -8,11 +8,14 @@ use crate::fault::PutFault;
 ///
 /// Contracts see the bytes written so far, or that the sink does not tell, and a count of faults that
 /// rises where a put answers `Failed`. A count that has reached 18,446,744,073,709,551,615 stays there,
-/// and counts as risen from then on.
+/// and counts as risen from then on. They also see of which types of sink no put ever answers want of
+/// memory.
 pub trait Sink {
     ghost written: { Self → Option (List ℕ) };
 
     ghost faults: { Self → ℕ };
+
+    ghost never_wants_memory: { Bool };
 
     /// Appends the bytes, all of them where the answer is Ok.
     fn put(&mut self, bytes: &[u8]) -> Result<(), PutFault>
@@ -20,5 +23,7 @@ pub trait Sink {
         ensures ok { OnOk result (written self.new ≡ extended (written self.old) bytes.now) }
         ensures failed { OnFailed result (Rises (faults self.old) (faults self.new)) }
         ensures kept { OnFailed result (ExtendsInPart (written self.old) bytes.now (written self.new)) }
-        ensures out_of_memory { OnOutOfMemory result (written self.new ≡ written self.old) };
+        ensures out_of_memory { OnOutOfMemory result (written self.new ≡ written self.old) }
+        ensures enough_memory { IsTrue never_wants_memory → ¬ IsOutOfMemory result }
+        ensures ok_no_fault { OnOk result (faults self.new ≡ faults self.old) };
 }

@@ -1,13 +1,17 @@
-ghost use Rattle.std.specs.Prelude.{◌≡◌, ◌≤◌, OnOk, is_err, if◌then◌else◌};
+ghost use Rattle.std.specs.Prelude.{◌≡◌, ◌≤◌, true, IsTrue, OnOk, is_err, if◌then◌else◌};
+ghost use Rattle.std.specs.Io.KnownBytes.{Appends};
 ghost use Rattle.gm_host.specs.Count.{counted, Rises};
 ghost use Rattle.gm_host.specs.Sink.{untold, extended, ExtendsInPart, OnFailed, IsOutOfMemory, OnOutOfMemory};
 
 use crate::fault::PutFault;
 use crate::sink::Sink;
-use std::io::Print;
+use crate::whole::write_whole;
+use std::io;
+use std::io::{Print, Write};
 use std::marker::Model;
 
-/// The standard output. It does not tell what was written, and contracts see its count of faults.
+/// The standard output. It does not tell what was written, and contracts see its count of faults. A put
+/// takes no memory.
 #[derive(Drop)]
 pub struct StdSink<'r, R> {
     rt: &'r R,
@@ -36,33 +40,51 @@ impl<'r, R: Print> Sink for StdSink<'r, R> {
 
     ghost faults = { λ sink. sink };
 
+    ghost never_wants_memory = { true };
+
     fn put(&mut self, bytes: &[u8]) -> Result<(), PutFault>
         ensures faults_never_fall { self.old ≤ self.new }
         ensures ok { OnOk result (untold ≡ extended untold bytes.now) }
         ensures failed { OnFailed result (Rises self.old self.new) }
         ensures kept { OnFailed result (ExtendsInPart untold bytes.now untold) }
         ensures out_of_memory { OnOutOfMemory result (untold ≡ untold) }
-        ensures enough_memory { ¬ IsOutOfMemory result }
+        ensures enough_memory { IsTrue true → ¬ IsOutOfMemory result }
+        ensures ok_no_fault { OnOk result (self.new ≡ self.old) }
         ensures each_fault_counts { self.new ≡ (if is_err result then counted self.old else self.old) }
     {
-        let answer = write_whole(self.rt, bytes);
-        if answer.is_err() {
-            self.faults = self.faults.saturating_add(1);
-        }
-        answer
+        let mut output = Output { rt: self.rt };
+        put_whole(&mut output, bytes, &mut self.faults)
     }
 }
 
-/// Writes all of the bytes. A write that takes none of them is a fault.
-fn write_whole<R: Print>(rt: &R, bytes: &[u8]) -> Result<(), PutFault>
-    ensures { ¬ IsOutOfMemory result }
+/// The standard output as a writer.
+#[derive(Drop)]
+struct Output<'r, R> {
+    rt: &'r R,
+}
+
+impl<'r, R: Print> Write for Output<'r, R> {
+    fn write(&mut self, bytes: &[u8]) -> io::Result<usize> {
+        self.rt.write_some(bytes)
+    }
+
+    fn flush(&mut self) -> io::Result<()> {
+        Ok(())
+    }
+}
+
+/// Writes all of the bytes, and raises the count of faults where that fails.
+fn put_whole<W: Write>(writer: &mut W, bytes: &[u8], faults: &mut u64) -> Result<(), PutFault>
+    ensures all_bytes { OnOk result (Appends (W.contents writer.old) (W.contents writer.new) bytes.now) }
+    ensures enough_memory { ¬ IsOutOfMemory result }
+    ensures faults_never_fall { faults.old ≤ faults.new }
+    ensures each_fault_counts { faults.new ≡ (if is_err result then counted faults.old else faults.old) }
 {
-    let mut rest = bytes;
-    while !rest.is_empty() {
-        match rt.write_some(rest) {
-            Ok(count) if count > 0 => rest = &rest[count..],
-            _ => return Err(PutFault::Failed),
+    match write_whole(writer, bytes) {
+        Ok(()) => Ok(()),
+        Err(_) => {
+            *faults = faults.saturating_add(1);
+            Err(PutFault::Failed)
         }
     }
-    Ok(())
 }

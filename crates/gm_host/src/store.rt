@@ -38,7 +38,8 @@ pub trait Store {
         ensures failed { OnFailed result (Rises (load_faults self.old) (load_faults self.new)) }
         ensures seen_length { IfTooLong result (λ seen. length seen ≡ limit + 1) }
         ensures seen_held { IfTooLong result (λ seen. IsCutFromHeld (holds self.old) name.now limit seen) }
-        ensures longer { HoldsLongerFile (holds self.old) name.now limit → IsTooLongUnlessFailing result };
+        ensures longer { HoldsLongerFile (holds self.old) name.now limit → IsTooLongUnlessFailing result }
+        ensures ok_no_fault { OnOk result (load_faults self.new ≡ load_faults self.old) };
 
     /// Makes the bytes those of the file `name`, all of them where the answer is Ok.
     fn save(&mut self, name: &str, bytes: &[u8]) -> Result<(), SaveFault>
@@ -49,5 +50,6 @@ pub trait Store {
         ensures failed { saves.OnFailed result (Rises (save_faults self.old) (save_faults self.new)) }
         ensures kept { saves.OnFailed result (IsSavedInPart (holds self.old) name.now bytes.now (holds self.new)) }
         ensures out_of_memory { saves.OnOutOfMemory result (holds self.new ≡ holds self.old) }
-        ensures no_fault { saves.OnOutOfMemory result (save_faults self.new ≡ save_faults self.old) };
+        ensures no_fault { saves.OnOutOfMemory result (save_faults self.new ≡ save_faults self.old) }
+        ensures ok_no_fault { OnOk result (save_faults self.new ≡ save_faults self.old) };
 }

@@ -80,6 +80,7 @@ impl Store for SureStore {
         ensures seen_length { IfTooLong result (λ seen. length seen ≡ limit + 1) }
         ensures seen_held { IfTooLong result (λ seen. IsCutFromHeld (told self.old.files) name.now limit seen) }
         ensures longer { HoldsLongerFile (told self.old.files) name.now limit → IsTooLongUnlessFailing result }
+        ensures ok_no_fault { OnOk result (no_faults ≡ no_faults) }
         ensures never_fails { ¬ IsFailed result }
         ensures after { self.new ≡ record self.old { loads = counted self.old.loads } }
     {
@@ -96,6 +97,7 @@ impl Store for SureStore {
         ensures kept { saves.OnFailed result (IsSavedInPart (told self.old.files) name.now bytes.now (told self.new.files)) }
         ensures out_of_memory { saves.OnOutOfMemory result (told self.new.files ≡ told self.old.files) }
         ensures no_fault { saves.OnOutOfMemory result (no_faults ≡ no_faults) }
+        ensures ok_no_fault { OnOk result (no_faults ≡ no_faults) }
         ensures never_fails { ¬ saves.IsFailed result }
         ensures after { OnOk result (self.new ≡ record self.old { files = map.insert self.old.files name.now bytes.now }) }
         ensures unchanged { OnErr result (self.new ≡ self.old) }

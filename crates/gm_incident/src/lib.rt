@@ -27,6 +27,3 @@ pub fn check(schema: &Schema, rule: &RuleTable) -> Result<(), RuleFault>
     check_structure(rule)?;
     check_arcs(schema.dim.top(), rule)
 }
-
-#[cfg(test)]
-mod tests;

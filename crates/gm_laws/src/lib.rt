@@ -10,6 +10,3 @@ mod laws;
 
 pub use breach::{LawFault, MapBreach};
 pub use laws::check_map;
-
-#[cfg(test)]
-mod tests;

@@ -11,6 +11,3 @@ pub use fault::MapFault;
 pub use laws::{one_first_fault_at_most, one_map_at_most, what_is_printed_is_read_again};
 pub use printing::print_map;
 pub use reading::read_map;
-
-#[cfg(test)]
-mod tests;

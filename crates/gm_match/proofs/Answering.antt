@@ -3,6 +3,7 @@ use Rattle.std.proofs.Common.{◌≡◌, ℕ, ◌+◌, ◌*◌, ◌<◌, ◌≤�
 use Rattle.std.proofs.lemmas.Option.{slice_get-get_or, slice_get_within}
 use Rattle.std.specs.FinMap.{get}
 use Rattle.std.specs.List.{slice_get, All, AllByRecursion, Contains}
+use Rattle.std.specs.Prelude.{slice_index}
 use Rattle.gm_model.specs.declared.rule.Side.TheVariants.{Left}
 use Rattle.gm_model.specs.declared.schema.Schema.{Schema}
 use Rattle.gm_model.specs.declared.value.Value.{Value}
@@ -39,6 +40,7 @@ use Rattle.gm_match.specs.Taken.{AreDistinct, AreDistinctBefore, IsFirstTwice}
 use Rattle.gm_match.specs.Taken.IsFirstTwice.{Twice}
 use Rattle.gm_match.proofs.Agreement.{IsCreatedBy, IsWalkedBy, IsLike, positions_parts, walked_from, candidates_agree, met_alike}
 use Rattle.gm_match.proofs.Costs.{found_cost, met_cost}
+use Rattle.gm_match.proofs.Paths.{hook_path}
 use Rattle.gm_match.proofs.Stepping.{slot_live, slot_some, meets_all, first_broken}
 
 -- ---- lists of hooks
@@ -134,7 +136,7 @@ module _ (m : ArenaMap) (rule : Rule) (sound : IsSound m rule) where
           (places ∙ sym (no_places rule none))
         where
           candidate : IsCandidate (as_map m) rule hooks (place_of m found)
-          candidate = record { walk = []; positions = subst (λ hs. ArePositions (as_map m) rule (place_of m found) hs []) (sym no_dart) (Created none one); forced = λ x p path at to. absurd (no_left x at.0) }
+          candidate = record { count = ap length no_dart ∙ sym (ap length none); walk = []; positions = subst (λ hs. ArePositions (as_map m) rule (place_of m found) hs []) (sym no_dart) (Created none one); forced = λ x p path at to. absurd (no_left x at.0) }
 
           nothing : (d : ℕ) → Contains hooks d → ⊥
           nothing d (k, h, e) = let z : length hooks ≡ 0 = ap length no_dart in omega arith
@@ -146,9 +148,10 @@ pub record IsBegun (m : ArenaMap) (rule : Rule) (hooks : List ℕ) (d : ℕ) : T
   pub first : slice_get hooks 0 ≡ Some d
   pub live : AreDarts m hooks (length hooks)
   pub few : length hooks ≤ 1
+  pub count : length hooks ≡ length rule.hooks
 
 pub begun_of : (m : ArenaMap) (rule : Rule) (hooks : List ℕ) (answer : Option Slot) (s : Slot) → IsSound m rule → IsLawful m → length hooks ≡ length rule.hooks → answer ≡ Some s → IsFirstDart m hooks answer × AreDarts m hooks (length hooks) → IsBegun m rule hooks (name_at m s.at)
-begun_of m rule hooks answer s sound lawful same is darts = record { sound = sound; lawful = lawful; first = first_named m hooks answer s is darts.0; live = darts.1; few = omega (arith, few_hooks m rule sound) }
+begun_of m rule hooks answer s sound lawful same is darts = record { sound = sound; lawful = lawful; first = first_named m hooks answer s is darts.0; live = darts.1; few = omega (arith, few_hooks m rule sound); count = same }
 
 module _ (m : ArenaMap) (rule : Rule) (hooks : List ℕ) (d : ℕ) (begun : IsBegun m rule hooks d) where
   live_hooks : (params : List Value) → HasHookDarts (application_of m rule hooks params)
@@ -177,7 +180,7 @@ module _ (m : ArenaMap) (rule : Rule) (hooks : List ℕ) (d : ℕ) (begun : IsBe
 
   module _ (found : Placed) (at : IsCandidateAt m rule d found) where
     candidate : IsCandidate (as_map m) rule hooks (place_of m found)
-    candidate = let c = cons_of hooks d begun.first in subst (λ hs. IsCandidate (as_map m) rule hs (place_of m found)) (sym c.1) (at.candidate c.0)
+    candidate = let c = cons_of hooks d begun.first in subst (λ hs. IsCandidate (as_map m) rule hs (place_of m found)) (sym c.1) (at.candidate c.0 (subst (λ hs. length hs ≡ length rule.hooks) c.1 begun.count))
 
     pub positions_found : (k : ℕ) → HasPositions (as_map m) rule hooks k → k ≡ found.positions
     positions_found k has =
@@ -249,6 +252,34 @@ module _ (m : ArenaMap) (rule : Rule) (hooks : List ℕ) (d : ℕ) (begun : IsBe
         go : IsPairBefore x p y q → (x ≡ y) × (p ≡ q) → ⊥
         go (inl less) (e, f) = omega arith
         go (inr (g, less)) (e, f) = omega arith
+
+    -- ---- one node
+
+    -- no two instances of one node have one slot, since no dart comes twice in a walk
+    pub one_node : (h : ℕ) → first_hook rule ≡ Some h → IsTrue (has_word rule Left h) → found.nodes ≤ 1 → AreDistinct found
+    one_node h first left one y q z r before last q_in r_in same = go before
+      where
+        walked : IsWalkedBy (as_map m) rule hooks (place_of m found) candidate.walk
+        walked = walked_from (as_map m) rule hooks (place_of m found) candidate.walk d begun.first candidate.positions
+
+        lies : (p : ℕ) → p < found.positions → name_of m (slot_at found h p) ≡ slice_index candidate.walk p
+        lies p within = candidate.forced h p [] (left, within) (hook_path rule h first)
+
+        z_in : z < found.nodes
+        z_in = elim last [
+          | inl less ↦ less
+          | inr end ↦ absurd (let k : r < 0 = end.1 in omega arith)
+        ]
+
+        is_hook : (x : ℕ) → x < found.nodes → x ≡ h
+        is_hook x h' = let k : h < found.nodes = (at.laid.nodes h).0 left in omega arith
+
+        go : IsPairBefore y q z r → ⊥
+        go (inl less) = omega (arith, z_in, one)
+        go (inr (e, less)) =
+            let within : r < length candidate.walk = subst (λ k. r < k) walked.size r_in in
+            let here : slot_at found h q ≡ slot_at found h r = subst (λ x. slot_at found x q ≡ slot_at found x r) (is_hook z z_in) (subst (λ x. slot_at found x q ≡ slot_at found z r) e same) in
+            walked.is_walk.distinct q r less within (sym (lies q q_in) ∙ ap (name_of m) here ∙ lies r r_in)
 
     -- ---- a match
 

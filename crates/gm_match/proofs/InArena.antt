@@ -1,5 +1,5 @@
 -- The placement of instances by their slots is that by the numbers of their slots.
-use Rattle.std.proofs.Common.{◌≡◌, ℕ, zero, suc, ◌+◌, ◌*◌, ◌<◌, List, [], ◌∷◌, length, slice_get, refl, sym, ap, subst, arith}
+use Rattle.std.proofs.Common.{◌≡◌, ℕ, zero, suc, ◌+◌, ◌*◌, List, [], ◌∷◌, length, slice_get, refl, ap, subst, arith}
 use Rattle.std.proofs.lemmas.Nat.{mul-le}
 use Rattle.std.specs.Option.{option_map_or}
 use Rattle.std.specs.Prelude.{slice_index_or}
@@ -9,8 +9,8 @@ use Rattle.gm_model.specs.Matches.{Placement, IsMatch}
 use Rattle.gm_model.specs.Rules.{Rule, width}
 use Rattle.gm_arena.specs.declared.slot.Slot.{Slot}
 use Rattle.gm_arena.specs.ArenaAsMap.{as_map}
-use Rattle.gm_arena.specs.ArenaMap.{ArenaMap, IsLiveSlot, name_at}
-use Rattle.gm_plan.specs.InArena.{AreMatched, placement_in}
+use Rattle.gm_arena.specs.ArenaMap.{ArenaMap, name_at}
+use Rattle.gm_plan.specs.InArena.{placement_in}
 use Rattle.gm_plan.specs.Placed.{Placed, turn_at}
 use Rattle.gm_plan.specs.Plans.{IsLeftCount}
 use Rattle.gm_walk.specs.Walks.{AreLive}

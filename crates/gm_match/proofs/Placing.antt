@@ -131,7 +131,7 @@ module _ (m : ArenaMap) (rule : Rule) (d : ℕ) (slots : List Slot) where
             nodes = subst (IsLeftCount rule) (sym (nodes_are some)) counts;
             places = turned.places;
           };
-          candidate = λ others. record { walk = names_of m slots; positions = Walked d others (names_of m slots) live turned.walk (positions ∙ sym names_long) turn_lies; forced = place_lies };
+          candidate = λ others count. record { count = count; walk = names_of m slots; positions = Walked d others (names_of m slots) live turned.walk (positions ∙ sym names_long) turn_lies; forced = place_lies };
           paths = λ x left. least (laid.each 0 x some ((counts x).0 left));
         }
 

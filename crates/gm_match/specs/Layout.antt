@@ -76,6 +76,6 @@ pub record IsLaid (m : ArenaMap) (rule : Rule) (found : Placed) : Type 0 where
 -- the instances are those of the candidate from d
 pub record IsCandidateAt (m : ArenaMap) (rule : Rule) (d : ℕ) (found : Placed) : Type 0 where
   pub laid : IsLaid m rule found
-  pub candidate : (others : List ℕ) → IsCandidate (as_map m) rule (d ∷ others) (place_of m found)
+  pub candidate : (others : List ℕ) → length (d ∷ others) ≡ length rule.hooks → IsCandidate (as_map m) rule (d ∷ others) (place_of m found)
   -- each left node has a least path
   pub paths : (x : ℕ) → IsTrue (has_word rule Left x) → (path : List ℕ) × IsPathTo rule x path

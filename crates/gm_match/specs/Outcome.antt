@@ -1,5 +1,5 @@
 -- What matching answers: the match, or why there is none, in the words of an application's outcome.
-use Rattle.std.specs.Prelude.{◌≡◌, ℕ, List, [], Option}
+use Rattle.std.specs.Prelude.{ℕ, List, [], Option}
 use Rattle.std.specs.Option.{option_map_or}
 use Rattle.gm_model.specs.declared.value.Value.{Value}
 use Rattle.gm_model.specs.Applications.{Application, HasHookDarts, IsFound, IsRefused}

@@ -11,8 +11,6 @@ mod darts;
 mod fault;
 mod matching;
 mod repeats;
-#[cfg(test)]
-mod tests;
 
 pub use fault::MatchFault;
 pub use matching::find;

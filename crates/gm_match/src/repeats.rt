@@ -7,7 +7,8 @@ use crate::fault::MatchFault;
 use gm_plan::Instances;
 use gm_walk::Scratch;
 
-/// Tests that no two instances have one slot. The scratch then has the slots that were tested.
+/// Tests that no two instances have one slot. Those of one node have none in common, so that they
+/// need no test.
 pub(crate) fn take_once(
     found: &Instances,
     nodes: u8,
@@ -15,9 +16,13 @@ pub(crate) fn take_once(
 ) -> Result<(), MatchFault>
     requires nodes { nodes ≡ found.now.nodes }
     requires room { All (λ (s : Slot). s.at < scratch.old.bound) found.now.slots }
+    requires alone { found.now.nodes ≤ 1 → AreDistinct found.now }
     ensures once { MatchResult result (λ _. AreDistinct found.now) (IsFirstTwice found.now) }
     ensures room { scratch.new.bound ≡ scratch.old.bound }
 {
+    if nodes <= 1 {
+        return Ok(());
+    }
     scratch.clear();
     for node in 0..nodes {
         take_node(found, node, scratch)?;

@@ -41,18 +41,3 @@ impl Dim {
         self.top
     }
 }
-
-#[cfg(test)]
-mod tests {
-    use super::*;
-    use std::test::Fail;
-
-    #[test]
-    fn dimensions(rt: HostRuntime) -> Result<(), Fail> {
-        for n in 0..=255 {
-            assert_eq!(rt; Dim::new(n).is_some(), (1..8).contains(&n), "{n}");
-        }
-        assert_eq!(rt; Dim::new(3).ok_or("three")?.top(), 3);
-        Ok(())
-    }
-}

@@ -39,17 +39,3 @@ impl<T> Items<T> {
         self.vector
     }
 }
-
-#[cfg(test)]
-mod tests {
-    use super::*;
-    use std::test::Fail;
-
-    #[test]
-    fn elements(rt: HostRuntime) -> Result<(), Fail> {
-        let items = Items::new([3u8, 1, 2].to_vec(rt.alloc())?);
-        assert_eq!(rt; items.as_slice(), [3u8, 1, 2].as_slice());
-        assert_eq!(rt; items.into_vec().as_slice(), [3u8, 1, 2].as_slice());
-        Ok(())
-    }
-}

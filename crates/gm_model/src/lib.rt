@@ -16,8 +16,6 @@ mod schema;
 mod script;
 mod sides;
 mod step;
-#[cfg(test)]
-mod tests;
 mod token;
 mod value;
 mod word;

@@ -1,5 +1,5 @@
 -- The stages of a commit make the result: what each needs is there, and what the last leaves is the unfolding.
-use Rattle.std.proofs.Common.{◌≡◌, ℕ, ◌+◌, ◌*◌, ◌<◌, ◌≤◌, ◌⊎◌, not, List, [], length, get_or, unwrap_or, None, is_some, IsTrue, refl, sym, ap, ◌∙◌, subst, inl, inr, arith, mul_comm}
+use Rattle.std.proofs.Common.{◌≡◌, ℕ, ◌+◌, ◌-◌, ◌*◌, ◌<◌, ◌≤◌, ◌⊎◌, not, List, [], length, get_or, unwrap_or, None, is_some, IsTrue, refl, sym, ap, ◌∙◌, subst, inl, inr, arith, mul_comm}
 use Rattle.std.specs.FinMap.{get}
 use Rattle.std.specs.List.{Contains}
 use Rattle.std.proofs.lemmas.Bool.{false≢true}
@@ -145,6 +145,9 @@ module _ (app : PendingOf) (edits : EditLists) (ok : AreEditsOf app edits) (spar
   pub fewer_reserved : fewer.reserved ≡ reserved
   fewer_reserved = (more_room edits.removed freed).reserved ∙ ap (λ (m : ArenaMap). m.reserved) (arcs_frame (end_at before []) edits.freed before)
 
+  fewer_count : fewer.count ≡ app.map.count - length edits.removed
+  fewer_count = (more_room edits.removed freed).count ∙ ap (λ (m : ArenaMap). m.count - length edits.removed) (arcs_frame (end_at before []) edits.freed before)
+
   pub fewer_spare : fewer.spare ≡ spare + length edits.removed
   fewer_spare = (more_room edits.removed freed).spare ∙ ap (λ (m : ArenaMap). m.spare + length edits.removed) (arcs_frame (end_at before []) edits.freed before)
 
@@ -233,6 +236,9 @@ module _ (app : PendingOf) (edits : EditLists) (ok : AreEditsOf app edits) (spar
 
     pub linked_next : linked.next ≡ app.map.next + edits.added
     linked_next = ap (λ (m : ArenaMap). m.next) (arcs_frame (end_at more made) edits.arcs more) ∙ extended.next ∙ omega (arith, fewer_next, long)
+
+    pub linked_count : linked.count ≡ app.map.count - length edits.removed + edits.added
+    linked_count = omega (arith, ap (λ (m : ArenaMap). m.count) (arcs_frame (end_at more made) edits.arcs more), extended.count, long, fewer_count)
 
     pub linked_spare : linked.spare + edits.added ≡ spare + length edits.removed
     linked_spare = omega (arith, ap (λ (m : ArenaMap). m.spare) (arcs_frame (end_at more made) edits.arcs more), extended.spare, long, fewer_spare)

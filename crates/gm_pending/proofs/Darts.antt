@@ -1,6 +1,5 @@
 -- Slots and instances of an application: which dart of the result a slot, or an instance of a right node, is.
-use Rattle.std.proofs.Common.{◌≡◌, ℕ, ◌+◌, ◌*◌, ◌<◌, ◌≤◌, ◌⊎◌, not, true, false, IsTrue, IsSome, nat_eq, Some, None, refl, sym, ap, ◌∙◌, subst, inl, inr, arith}
-use Rattle.std.specs.HashMap.{HashMap, get}
+use Rattle.std.proofs.Common.{◌≡◌, ◌≢◌, ℕ, ◌+◌, ◌*◌, ◌<◌, ◌≤◌, ◌⊎◌, not, false, IsTrue, Some, refl, sym, ap, ◌∙◌, subst, inl, inr, arith}
 use Rattle.std.proofs.lemmas.Bool.{cases_lt}
 use Rattle.std.proofs.lemmas.Option.{get_or_from_slice_get}
 use Rattle.gm_model.specs.declared.rule.Side.TheVariants.{Left, Right}
@@ -18,7 +17,7 @@ use Rattle.gm_theory.proofs.Scenes.{IsRightAt}
 use Rattle.gm_theory.proofs.Tests.{both_true, and_true, not_true, true_not, true_or_false, not_both}
 use Rattle.gm_pending.specs.declared.at.At.{At}
 use Rattle.gm_pending.specs.declared.at.At.TheVariants.{Old, New}
-use Rattle.gm_pending.specs.Marks.{AreMarks, IsWithin}
+use Rattle.gm_pending.specs.Lookup.{IsWithin, IsAtSlot}
 use Rattle.gm_pending.specs.Results.{PendingOf, IsPrepared, rule_in, scene_in, name_of, IsResultDart}
 use Rattle.gm_pending.proofs.Law.{law}
 use Rattle.gm_pending.proofs.Made.{made_there, unmade_kept}
@@ -71,36 +70,29 @@ module _ (app : PendingOf) (prepared : IsPrepared app) where
   stays_there x p l r = old_result (slot_number app.placed x p) (prepared.matched.live x p ((prepared.matched.nodes x).0 l) r.1)
       (subst (IsDartAfter (scene_in app)) (kept_name (scene_in app) _ _ _ (law app prepared) x p l) (right_dart (scene_in app) _ _ _ (law app prepared) x p r))
 
-  module _ {S : Type 0} (marks : HashMap ℕ (ℕ × ℕ) S) (are_marks : AreMarks app.placed (IsWithin app.placed) marks) (slot : ℕ) (dart : IsLiveSlot app.map slot × (IsGone (scene_in app) (name_at app.map slot) → ⊥)) where
-    -- the instance that is found at a slot lies there
-    pub marked_instance : (i : ℕ × ℕ) → get nat_eq marks slot ≡ Some i → IsRightAt (scene_in app) i.0 i.1 × (name_at app.map slot ≡ (scene_in app).name_of i.0 i.1)
-    marked_instance i e = go (true_or_false (has_word (rule_in app) Right i.0))
+  module _ (slot : ℕ) (dart : IsLiveSlot app.map slot × (IsGone (scene_in app) (name_at app.map slot) → ⊥)) where
+    -- an instance at the slot of a dart of the result is a right node's
+    pub instance_lies : (x p : ℕ) → IsAtSlot app.placed slot x p → IsRightAt (scene_in app) x p × (name_at app.map slot ≡ (scene_in app).name_of x p)
+    instance_lies x p here = go (true_or_false (has_word (rule_in app) Right x))
       where
-        left : IsTrue (has_word (rule_in app) Left i.0)
-        left = (prepared.matched.nodes i.0).1 (are_marks.noted slot i e).0.0
+        left : IsTrue (has_word (rule_in app) Left x)
+        left = (prepared.matched.nodes x).1 here.0.0
 
-        within : i.1 < app.placed.positions
-        within = (are_marks.noted slot i e).0.1
+        lies : name_at app.map slot ≡ name_at app.map (slot_number app.placed x p)
+        lies = ap (name_at app.map) (sym here.1)
 
-        lies : name_at app.map slot ≡ name_at app.map (slot_number app.placed i.0 i.1)
-        lies = ap (name_at app.map) (sym (are_marks.noted slot i e).1)
+        go : IsTrue (has_word (rule_in app) Right x) ⊎ (has_word (rule_in app) Right x ≡ false) → IsRightAt (scene_in app) x p × (name_at app.map slot ≡ (scene_in app).name_of x p)
+        go (inl r) = ((r, here.0.1), lies ∙ sym (kept_name (scene_in app) _ _ _ (law app prepared) x p left))
+        go (inr g) = absurd (dart.1 (x, p, and_true (has_word (rule_in app) Left x) (not (has_word (rule_in app) Right x)) left (true_not (has_word (rule_in app) Right x) g), here.0.1, lies))
 
-        go : IsTrue (has_word (rule_in app) Right i.0) ⊎ (has_word (rule_in app) Right i.0 ≡ false) → IsRightAt (scene_in app) i.0 i.1 × (name_at app.map slot ≡ (scene_in app).name_of i.0 i.1)
-        go (inl r) = ((r, within), lies ∙ sym (kept_name (scene_in app) _ _ _ (law app prepared) i.0 i.1 left))
-        go (inr g) = absurd (dart.1 (i.0, i.1, and_true (has_word (rule_in app) Left i.0) (not (has_word (rule_in app) Right i.0)) left (true_not (has_word (rule_in app) Right i.0) g), within, lies))
-
-    -- at a slot without one lies no right node
-    pub unmarked_instance : get nat_eq marks slot ≡ None → (x p : ℕ) → IsRightAt (scene_in app) x p → name_at app.map slot ≡ (scene_in app).name_of x p → ⊥
-    unmarked_instance none x p r e = go (true_or_false (has_word (rule_in app) Left x))
+    -- at a slot without an instance lies no right node
+    pub none_lies : ((x p : ℕ) → IsWithin app.placed x p → slot_number app.placed x p ≢ slot) → (x p : ℕ) → IsRightAt (scene_in app) x p → name_at app.map slot ≡ (scene_in app).name_of x p → ⊥
+    none_lies none x p r e = go (true_or_false (has_word (rule_in app) Left x))
       where
         go : IsTrue (has_word (rule_in app) Left x) ⊎ (has_word (rule_in app) Left x ≡ false) → ⊥
         go (inl l) =
             let node : x < app.placed.nodes = (prepared.matched.nodes x).0 l in
-            let same : slot ≡ slot_number app.placed x p = same_slot slot (slot_number app.placed x p) dart.0 (prepared.matched.live x p node r.1) (e ∙ kept_name (scene_in app) _ _ _ (law app prepared) x p l) in
-            let some : IsSome (get nat_eq marks (slot_number app.placed x p)) = are_marks.all x p (node, r.1) in
-            let no_some : IsSome (get nat_eq marks slot) = rw same some in
-            let no_mark : false ≡ true = rw none at no_some in
-            absurd (cc)
+            none x p (node, r.1) (sym (same_slot slot (slot_number app.placed x p) dart.0 (prepared.matched.live x p node r.1) (e ∙ kept_name (scene_in app) _ _ _ (law app prepared) x p l)))
         go (inr a) = not_both ((scene_in app).live ((scene_in app).name_of x p)) (subst (λ d. IsTrue ((scene_in app).live d)) e (live_dart slot dart.0)) ((law app prepared).names.fresh x p a r)
 
 -- the number of left nodes is one

@@ -16,7 +16,7 @@ use Rattle.gm_theory.proofs.RuleSteps.{word_below}
 use Rattle.gm_theory.proofs.Tests.{and_true, true_or_false, true_not, not_both}
 use Rattle.gm_pending.specs.declared.edits.Arc.{Arc}
 use Rattle.gm_pending.specs.declared.edits.End.TheVariants.{Old, New}
-use Rattle.gm_pending.specs.Collected.{slot_in, end_of, freed_by, freed_at}
+use Rattle.gm_pending.specs.Collected.{RewriteOf, slot_in, rewrite_of, rule_at, end_of, freed_by, freed_at}
 use Rattle.gm_pending.specs.EditLists.{IsResultEnd, end_name}
 use Rattle.gm_pending.specs.Results.{PendingOf, IsPrepared, IsRightInstance, rule_in, place_in, scene_in}
 use Rattle.gm_pending.proofs.Darts.{stays_there}
@@ -51,7 +51,7 @@ module _ (app : PendingOf) (prepared : IsPrepared app) where
           omega (arith, same, earlier)
       go (inr l) earlier = omega (arith, added_step (rule_in app) x (other_added x l (omega arith)), earlier)
 
-  pub right_end : (x p : ℕ) → IsRightInstance app x p → IsResultEnd app (end_of app x p) × (end_name app (end_of app x p) ≡ (scene_in app).name_of x p)
+  pub right_end : (x p : ℕ) → IsRightInstance app x p → IsResultEnd app (end_of (rewrite_of app) x p) × (end_name app (end_of (rewrite_of app) x p) ≡ (scene_in app).name_of x p)
   right_end x p r = elim (cases_lt x app.placed.nodes) [
     | inl l ↦
         let left : IsTrue (has_word (rule_in app) Left x) = (prepared.matched.nodes x).1 l in
@@ -74,20 +74,20 @@ module _ (app : PendingOf) (prepared : IsPrepared app) where
 slot_is : (placed : Placed) (x p : ℕ) (slot : Slot) → slot_at placed x p ≡ Some slot → slot_in placed x p ≡ slot
 slot_is placed x p slot e = get_or_from_slice_get placed.slots (p * placed.nodes + x) slot (record { at = 0 }) e
 
-module _ (app : PendingOf) (x p : ℕ) where
-  pub end_left : (slot : Slot) → x < app.placed.nodes → slot_at app.placed x p ≡ Some slot → Old slot ≡ end_of app x p
-  end_left slot h e = rw (lt-ltb x app.placed.nodes h) (ap Old (sym (slot_is app.placed x p slot e)))
+module _ (rewrite : RewriteOf) (x p : ℕ) where
+  pub end_left : (slot : Slot) → x < rewrite.placed.nodes → slot_at rewrite.placed x p ≡ Some slot → Old slot ≡ end_of rewrite x p
+  end_left slot h e = rw (lt-ltb x rewrite.placed.nodes h) (ap Old (sym (slot_is rewrite.placed x p slot e)))
 
-  pub end_added : (left positions : ℕ) → left ≡ app.placed.nodes → left ≤ x → positions ≡ app.placed.positions → New ((x - left) * positions + p) ≡ end_of app x p
-  end_added left positions e h k = rw (le-ltb x app.placed.nodes (omega arith), e, k) refl
+  pub end_added : (left positions : ℕ) → left ≡ rewrite.placed.nodes → left ≤ x → positions ≡ rewrite.placed.positions → New ((x - left) * positions + p) ≡ end_of rewrite x p
+  end_added left positions e h k = rw (le-ltb x rewrite.placed.nodes (omega arith), e, k) refl
 
-  pub freed_is : (i : ℕ) (slot : Slot) → IsTrue (has_word (rule_in app) Left x) → slot_at app.placed x p ≡ Some slot → (step (rule_in app) Left x i ≡ Absent → ⊥) → Some (record { from = Old slot; label = i; to = Old slot }) ≡ freed_at app x p i
-  freed_is i slot l e some = rw l (go (step (rule_in app) Left x i) refl)
+  pub freed_is : (i : ℕ) (slot : Slot) → IsTrue (has_word (rule_at rewrite) Left x) → slot_at rewrite.placed x p ≡ Some slot → (step (rule_at rewrite) Left x i ≡ Absent → ⊥) → Some (record { from = Old slot; label = i; to = Old slot }) ≡ freed_at rewrite x p i
+  freed_is i slot l e some = rw l (go (step (rule_at rewrite) Left x i) refl)
     where
       is : (s : Slot) → s ≡ slot → ◌≡◌ {A = Option Arc} (Some (record { from = Old slot; label = i; to = Old slot })) (Some (record { from = Old s; label = i; to = Old s }))
       is s f = rw f refl
 
-      go : (t : Step) → step (rule_in app) Left x i ≡ t → Some (record { from = Old slot; label = i; to = Old slot }) ≡ freed_by app x p i t
+      go : (t : Step) → step (rule_at rewrite) Left x i ≡ t → Some (record { from = Old slot; label = i; to = Old slot }) ≡ freed_by rewrite x p i t
       go Absent f = absurd (some f)
-      go (Exp y) f = is (slot_in app.placed x p) (slot_is app.placed x p slot e)
-      go (Imp m) f = is (slot_in app.placed x p) (slot_is app.placed x p slot e)
+      go (Exp y) f = is (slot_in rewrite.placed x p) (slot_is rewrite.placed x p slot e)
+      go (Imp m) f = is (slot_in rewrite.placed x p) (slot_is rewrite.placed x p slot e)

@@ -17,6 +17,7 @@ none_extended m = record {
   schema = refl;
   reserved = refl;
   next = omega arith;
+  count = omega arith;
   spare = omega arith;
   darts = λ d h. refl;
   slots = λ slot name at. at;
@@ -87,6 +88,7 @@ module _ (old m : ArenaMap) (made : List Slot) (slot : Slot) (so_far : IsExtende
     schema = so_far.schema;
     reserved = so_far.reserved;
     next = omega (arith, long, so_far.next);
+    count = omega (arith, long, so_far.count);
     spare = omega (arith, long, so_far.spare, room);
     darts = λ d h. get-with_dart_other m slot.at m.next [] d (λ e. omega (arith, e, so_far.next)) ∙ so_far.darts d h;
     slots = λ other name at. slot_kept other name (so_far.slots other name at);

@@ -1,7 +1,6 @@
 pub mod Darts
 pub mod Law
 pub mod Made
-pub mod MarkLemmas
 pub mod Whole
 pub mod WithArcs
 pub mod WithoutDarts
@@ -12,4 +11,5 @@ pub mod Stages
 pub mod Concat
 pub mod Created
 pub mod Ends
+pub mod Writing
 pub mod Collected

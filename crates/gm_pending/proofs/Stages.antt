@@ -1,5 +1,5 @@
 -- The stages of a commit, over an arena that has the rows of an application's map.
-use Rattle.std.proofs.Common.{◌≡◌, ◌+◌, ◌≤◌, List, [], length, sym, ap, ◌∙◌, subst, arith}
+use Rattle.std.proofs.Common.{◌≡◌, ◌+◌, ◌-◌, ◌≤◌, List, [], length, sym, ap, ◌∙◌, subst, arith}
 use Rattle.std.specs.List.{Contains}
 use Rattle.gm_model.specs.declared.schema.Schema.{Schema}
 use Rattle.gm_model.specs.GMap.{IsGMap}
@@ -66,6 +66,11 @@ module _ (app : PendingOf) (edits : EditLists) (start : ArenaMap) (same : HasSam
           pub result_generalised : IsGeneralised (as_map m4)
           result_generalised = subst (λ (s : Schema). IsGMap s.dim (IsDart (as_map m4)) (alpha m4)) (sym result_schema)
               (unfolding_generalised (scene_in app) _ _ _ (law app ok.prepared) (IsDart (as_map m4)) (alpha m4) m4.next result)
+
+          pub result_count : m4.count ≡ start.count - length edits.removed + edits.added
+          result_count =
+              ap (λ (m : ArenaMap). m.count) is_linked ∙ Committed.linked_count app edits ok start.spare start.reserved made m3 extended long
+              ∙ sym (ap (λ (m : ArenaMap). m.count - length edits.removed + edits.added) same)
 
           pub result_spare : m4.spare + edits.added ≡ start.spare + length edits.removed
           result_spare = ap (λ (m : ArenaMap). m.spare + edits.added) is_linked ∙ Committed.linked_spare app edits ok start.spare start.reserved made m3 extended long

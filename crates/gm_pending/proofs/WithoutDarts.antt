@@ -1,5 +1,5 @@
 -- What is left where darts at distinct slots are removed one after another.
-use Rattle.std.proofs.Common.{◌≡◌, ◌≢◌, ℕ, ◌+◌, List, [], ◌∷◌, length, None, unwrap_or, refl, sym, ap, ◌∙◌, subst, inl, inr, arith}
+use Rattle.std.proofs.Common.{◌≡◌, ◌≢◌, ℕ, ◌+◌, ◌-◌, List, [], ◌∷◌, length, None, unwrap_or, refl, sym, ap, ◌∙◌, subst, inl, inr, arith}
 use Rattle.std.specs.FinMap.{get}
 use Rattle.std.specs.List.{Contains}
 use Rattle.gm_arena.specs.declared.slot.Slot.{Slot}
@@ -75,15 +75,16 @@ pub without_whole : (slots : List Slot) (m : ArenaMap) → AreWhole m → AreWho
 without_whole [] m whole = whole
 without_whole (slot ∷ slots) m whole = without_whole slots (without_slot m slot) (whole_without m slot.at (name_at m slot.at) whole)
 
--- the names and the schema stay, and there is more room
+-- the names and the schema stay, there are fewer darts, and there is more room
 pub record HasMoreRoom (old : ArenaMap) (more : ℕ) (new : ArenaMap) : Type 0 where
   pub schema : new.schema ≡ old.schema
   pub next : new.next ≡ old.next
   pub reserved : new.reserved ≡ old.reserved
+  pub count : new.count ≡ old.count - more
   pub spare : new.spare ≡ old.spare + more
 
 pub more_room : (slots : List Slot) (m : ArenaMap) → HasMoreRoom m (length slots) (without_darts m slots)
-more_room [] m = record { schema = refl; next = refl; reserved = refl; spare = omega arith }
+more_room [] m = record { schema = refl; next = refl; reserved = refl; count = omega arith; spare = omega arith }
 more_room (slot ∷ slots) m =
     let rest = more_room slots (without_slot m slot) in
-    record { schema = rest.schema; next = rest.next; reserved = rest.reserved; spare = omega (arith, rest.spare) }
+    record { schema = rest.schema; next = rest.next; reserved = rest.reserved; count = omega (arith, rest.count); spare = omega (arith, rest.spare) }

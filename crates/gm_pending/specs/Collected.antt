@@ -1,15 +1,20 @@
--- The edits of an application, node by node, position by position and label by label. No public clause cites this module.
-use Rattle.std.specs.Prelude.{ℕ, zero, suc, ◌+◌, ◌-◌, ◌*◌, if◌then◌else◌, nat_lt, List, [], ◌∷◌, ◌++◌, Option, Some, None, slice_index_or}
+-- The edits of an application, node by node, position by position and label by label: they are told by its rule and its instances alone. No public clause cites this module.
+use Rattle.std.specs.Prelude.{◌≡◌, ℕ, zero, suc, ◌+◌, ◌-◌, ◌*◌, ◌≤◌, if◌then◌else◌, nat_lt, List, [], ◌∷◌, ◌++◌, length, Option, Some, None, slice_index_or}
+use Rattle.gm_model.specs.declared.rule.RuleTable.{RuleTable}
 use Rattle.gm_model.specs.declared.rule.Side.TheVariants.{Left, Right}
+use Rattle.gm_model.specs.declared.schema.Schema.{Schema}
 use Rattle.gm_model.specs.declared.step.Step.{Step}
 use Rattle.gm_model.specs.declared.step.Step.TheVariants.{Absent, Exp, Imp}
-use Rattle.gm_model.specs.Rules.{has_word, is_removed, step}
+use Rattle.gm_model.specs.Rules.{Rule, rule_of, has_word, is_removed, step, width}
 use Rattle.gm_arena.specs.declared.slot.Slot.{Slot}
 use Rattle.gm_plan.specs.Placed.{Placed, turn_at}
+use Rattle.gm_plan.specs.Plans.{IsLeftCount, IsPlanned}
 use Rattle.gm_pending.specs.declared.edits.Arc.{Arc}
 use Rattle.gm_pending.specs.declared.edits.End.{End}
 use Rattle.gm_pending.specs.declared.edits.End.TheVariants.{Old, New}
-use Rattle.gm_pending.specs.Results.{PendingOf, rule_in}
+use Rattle.gm_pending.specs.declared.rewrite.Arcs.{Arcs}
+use Rattle.gm_pending.specs.declared.rewrite.Arcs.TheVariants.{Freed, Made}
+use Rattle.gm_pending.specs.Results.{PendingOf}
 
 module _ {A : Type 0} where
   abbrev pub as_list : Option A → List A
@@ -24,59 +29,81 @@ module _ {A : Type 0} where
 abbrev pub slot_in : Placed → ℕ → ℕ → Slot
 slot_in placed x p = slice_index_or placed.slots (p * placed.nodes + x) (record { at = 0 })
 
-module _ (app : PendingOf) where
+-- ---- what the edits are told by
+
+-- a rule at its instances, in a map of this dimension
+pub record RewriteOf : Type 0 where
+  pub dim : ℕ
+  pub table : RuleTable
+  pub placed : Placed
+
+abbrev pub rewrite_at : ℕ → RuleTable → Placed → RewriteOf
+rewrite_at dim table placed = record { dim = dim; table = table; placed = placed }
+
+abbrev pub rewrite_of : PendingOf → RewriteOf
+rewrite_of app = rewrite_at app.map.schema.dim app.table app.placed
+
+-- the rule is accepted for maps of the schema, and the instances have slots and turns for it
+pub record IsFitted (schema : Schema) (rewrite : RewriteOf) : Type 0 where
+  pub dim : rewrite.dim ≡ schema.dim
+  pub few : rewrite.dim ≤ 7
+  pub planned : IsPlanned schema (rule_of rewrite.table)
+  pub nodes : IsLeftCount (rule_of rewrite.table) rewrite.placed.nodes
+  pub places : rewrite.placed.places ≡ width (rule_of rewrite.table)
+
+-- ---- the edits
+
+module _ (rewrite : RewriteOf) where
+  abbrev pub rule_at : Rule
+  rule_at = rule_of rewrite.table
+
   -- the end of node x at position p: the left nodes come first, and the others are added
   abbrev pub end_of : ℕ → ℕ → End
-  end_of x p = if nat_lt x app.placed.nodes then Old (slot_in app.placed x p) else New ((x - app.placed.nodes) * app.placed.positions + p)
+  end_of x p = if nat_lt x rewrite.placed.nodes then Old (slot_in rewrite.placed x p) else New ((x - rewrite.placed.nodes) * rewrite.placed.positions + p)
 
   abbrev pub freed_by : ℕ → ℕ → ℕ → Step → Option Arc
   freed_by x p i Absent = None
-  freed_by x p i (Exp y) = Some (record { from = Old (slot_in app.placed x p); label = i; to = Old (slot_in app.placed x p) })
-  freed_by x p i (Imp m) = Some (record { from = Old (slot_in app.placed x p); label = i; to = Old (slot_in app.placed x p) })
+  freed_by x p i (Exp y) = Some (record { from = Old (slot_in rewrite.placed x p); label = i; to = Old (slot_in rewrite.placed x p) })
+  freed_by x p i (Imp m) = Some (record { from = Old (slot_in rewrite.placed x p); label = i; to = Old (slot_in rewrite.placed x p) })
 
   abbrev pub freed_at : ℕ → ℕ → ℕ → Option Arc
-  freed_at x p i = if has_word (rule_in app) Left x then freed_by x p i (step (rule_in app) Left x i) else None
+  freed_at x p i = if has_word rule_at Left x then freed_by x p i (step rule_at Left x i) else None
 
   abbrev pub made_by : ℕ → ℕ → ℕ → Step → Option Arc
   made_by x p i Absent = None
   made_by x p i (Exp y) = Some (record { from = end_of x p; label = i; to = end_of y p })
-  made_by x p i (Imp m) = Some (record { from = end_of x p; label = i; to = end_of x (turn_at app.placed p m) })
+  made_by x p i (Imp m) = Some (record { from = end_of x p; label = i; to = end_of x (turn_at rewrite.placed p m) })
 
   abbrev pub made_at : ℕ → ℕ → ℕ → Option Arc
-  made_at x p i = if has_word (rule_in app) Right x then made_by x p i (step (rule_in app) Right x i) else None
+  made_at x p i = if has_word rule_at Right x then made_by x p i (step rule_at Right x i) else None
+
+  abbrev pub arc_at : Arcs → ℕ → ℕ → ℕ → Option Arc
+  arc_at Freed x p i = freed_at x p i
+  arc_at Made x p i = made_at x p i
 
   abbrev pub removed_at : ℕ → ℕ → Option Slot
-  removed_at x p = if is_removed (rule_in app) x then Some (slot_in app.placed x p) else None
+  removed_at x p = if is_removed rule_at x then Some (slot_in rewrite.placed x p) else None
 
   abbrev pub labels : ℕ
-  labels = app.map.schema.dim + 1
+  labels = rewrite.dim + 1
 
   -- of one instance
-  abbrev pub freed_of : ℕ → ℕ → List Arc
-  freed_of x p = concat_below (λ i. as_list (freed_at x p i)) labels
-
-  abbrev pub made_of : ℕ → ℕ → List Arc
-  made_of x p = concat_below (λ i. as_list (made_at x p i)) labels
+  abbrev pub arcs_of : Arcs → ℕ → ℕ → List Arc
+  arcs_of arcs x p = concat_below (λ i. as_list (arc_at arcs x p i)) labels
 
   abbrev pub removed_of : ℕ → ℕ → List Slot
   removed_of x p = as_list (removed_at x p)
 
   -- of one node
-  abbrev pub freed_in : ℕ → List Arc
-  freed_in x = concat_below (freed_of x) app.placed.positions
-
-  abbrev pub made_in : ℕ → List Arc
-  made_in x = concat_below (made_of x) app.placed.positions
+  abbrev pub arcs_in : Arcs → ℕ → List Arc
+  arcs_in arcs x = concat_below (arcs_of arcs x) rewrite.placed.positions
 
   abbrev pub removed_in : ℕ → List Slot
-  removed_in x = concat_below (removed_of x) app.placed.positions
+  removed_in x = concat_below (removed_of x) rewrite.placed.positions
 
-  -- of the first nodes
-  abbrev pub all_freed : ℕ → List Arc
-  all_freed = concat_below freed_in
+  -- of all nodes
+  abbrev pub all_arcs : Arcs → List Arc
+  all_arcs arcs = concat_below (arcs_in arcs) (length rule_at.nodes)
 
-  abbrev pub all_made : ℕ → List Arc
-  all_made = concat_below made_in
-
-  abbrev pub all_removed : ℕ → List Slot
-  all_removed = concat_below removed_in
+  abbrev pub all_removed : List Slot
+  all_removed = concat_below removed_in (length rule_at.nodes)

@@ -1,5 +1,5 @@
 pub mod Collected
 pub mod EditLists
-pub mod Marks
+pub mod Lookup
 pub mod Results
 pub mod Written

@@ -60,6 +60,7 @@ pub record IsExtended (old : ArenaMap) (made : List Slot) (new : ArenaMap) : Typ
   pub schema : new.schema ≡ old.schema
   pub reserved : new.reserved ≡ old.reserved
   pub next : new.next ≡ old.next + length made
+  pub count : new.count ≡ old.count + length made
   pub spare : new.spare + length made ≡ old.spare
   pub darts : (d : ℕ) → d < old.next → get new.darts d ≡ get old.darts d
   pub slots : (slot name : ℕ) → IsAt old slot name → IsAt new slot name

@@ -1,18 +1,21 @@
-ghost use Rattle.std.specs.Prelude.{◌≡◌, ℕ, ◌+◌, ◌*◌, ◌<◌, ◌≤◌, [], length};
+//! The commit: the edits of an application, written one by one as they are told.
+ghost use Rattle.std.specs.Prelude.{◌≡◌, ℕ, ◌+◌, ◌-◌, ◌*◌, ◌<◌, ◌≤◌, [], length};
 ghost use Rattle.std.specs.List.{Contains};
 ghost use Rattle.std.specs.Vec.{vec_capacity};
 ghost use Rattle.gm_model.specs.Maps.{IsGeneralised};
 ghost use Rattle.gm_arena.specs.ArenaAsMap.{as_map};
 ghost use Rattle.gm_pending.specs.declared.edits.Arc.{Arc};
+ghost use Rattle.gm_pending.specs.Collected.{as_list, rule_at, arcs_of, arcs_in, all_arcs, removed_in, all_removed};
 ghost use Rattle.gm_pending.specs.EditLists.{AreEditsHere, AreEditsOf, HasSameRows, IsResultOf};
 ghost use Rattle.gm_pending.specs.Results.{PendingOf, rule_in};
 ghost use Rattle.gm_pending.specs.Written.{HasSlot, IsWritable, CanRemove, IsExtended, slot_of, end_at, with_arcs, without_darts};
 
 use crate::edits::{Arc, Edits, End};
+use crate::rewrite::{Arcs, Rewrite};
 use gm_arena::{Arena, Slot, Steps};
 use std::sync::ledger::Ledger;
 
-impl Edits {
+impl Edits<'_> {
     /// Makes the arena the result. It can't be refused, and takes no memory.
     ///
     /// The darts that go leave before the new ones come, so that a full map can be rewritten: first
@@ -21,49 +24,119 @@ impl Edits {
         requires edits { AreEditsHere arena.old self }
         requires names { arena.old.next + self.added ≤ arena.old.reserved }
         requires room { self.added ≤ arena.old.spare + length self.removed }
-        ensures unfolded { (app : PendingOf) → HasSameRows app.map arena.old → AreEditsOf app self → IsResultOf app arena.new }
+        ensures unfolded { (app : PendingOf) → HasSameRows app.map arena.old → AreEditsOf app self.entry → IsResultOf app arena.new }
         ensures generalised { IsGeneralised (as_map arena.new) }
         ensures schema { arena.new.schema ≡ arena.old.schema }
-        ensures spare { arena.new.spare + self.added ≡ arena.old.spare + length self.removed }
+        ensures count { arena.new.count ≡ arena.old.count - length self.entry.removed + self.entry.added }
+        ensures spare { arena.new.spare + self.entry.added ≡ arena.old.spare + length self.entry.removed }
         ensures reserved { arena.new.reserved ≡ arena.old.reserved }
-        ensures most { (app : PendingOf) → AreEditsOf app self → steps.new ≤ steps.old + 4 * (app.map.schema.dim + 1) * (length (rule_in app).nodes * app.placed.positions + 1) }
-        ensures least { steps.old + self.added + length self.removed ≤ steps.new }
+        ensures most { (app : PendingOf) → AreEditsOf app self.entry → steps.new ≤ steps.old + 4 * (app.map.schema.dim + 1) * (length (rule_in app).nodes * app.placed.positions + 1) }
+        ensures least { steps.old + self.entry.added + length self.entry.removed ≤ steps.new }
     {
         let Edits {
-            freed,
-            removed,
+            rewrite,
             added,
             mut made,
-            arcs,
         } = self;
-        write_arcs(arena, &freed, &[], steps);
-        remove_darts(arena, &removed, steps);
+        rewrite.write(Arcs::Freed, &[], arena, steps);
+        rewrite.remove(arena, steps);
         add_darts(arena, added, &mut made, steps);
-        write_arcs(arena, &arcs, &made, steps);
+        rewrite.write(Arcs::Made, &made, arena, steps);
     }
 }
 
-/// Makes each arc's end the neighbour of its other end. The slots of new darts are in `made`.
-fn write_arcs<L: Ledger>(arena: &mut Arena, arcs: &[Arc], made: &[Slot], steps: &mut Steps<L>)
-    requires { (arc : Arc) → Contains arcs.now arc → IsWritable arena.old made.now arc }
-    ensures map { arena.new ≡ with_arcs (end_at arena.old made.now) arena.old arcs.now }
-    ensures cost { steps.new ≡ steps.old + length arcs.now }
-{
-    for arc in arcs {
-        let from = slot_at(arc.from, made);
-        let to = slot_at(arc.to, made);
-        arena.set_alpha(from, arc.label, to, steps);
+impl Rewrite<'_> {
+    /// Makes each arc's end the neighbour of its other end. The slots of new darts are in `made`.
+    fn write<L: Ledger>(&self, arcs: Arcs, made: &[Slot], arena: &mut Arena, steps: &mut Steps<L>)
+        requires { (arc : Arc) → Contains (all_arcs self.now arcs) arc → IsWritable arena.old made.now arc }
+        ensures map { arena.new ≡ with_arcs (end_at arena.old made.now) arena.old (all_arcs self.now arcs) }
+        ensures cost { steps.new ≡ steps.old + length (all_arcs self.now arcs) }
+    {
+        for node in 0..self.nodes() {
+            self.write_node(arcs, node, made, arena, steps);
+        }
+    }
+
+    fn write_node<L: Ledger>(
+        &self,
+        arcs: Arcs,
+        node: u8,
+        made: &[Slot],
+        arena: &mut Arena,
+        steps: &mut Steps<L>,
+    )
+        requires node { node < length (rule_at self.now).nodes }
+        requires arcs { (arc : Arc) → Contains (arcs_in self.now arcs node) arc → IsWritable arena.old made.now arc }
+        ensures map { arena.new ≡ with_arcs (end_at arena.old made.now) arena.old (arcs_in self.now arcs node) }
+        ensures cost { steps.new ≡ steps.old + length (arcs_in self.now arcs node) }
+    {
+        for position in 0..self.positions() {
+            self.write_instance(arcs, node, position, made, arena, steps);
+        }
+    }
+
+    fn write_instance<L: Ledger>(
+        &self,
+        arcs: Arcs,
+        node: u8,
+        position: u32,
+        made: &[Slot],
+        arena: &mut Arena,
+        steps: &mut Steps<L>,
+    )
+        requires node { node < length (rule_at self.now).nodes }
+        requires position { position < self.now.placed.positions }
+        requires arcs { (arc : Arc) → Contains (arcs_of self.now arcs node position) arc → IsWritable arena.old made.now arc }
+        ensures map { arena.new ≡ with_arcs (end_at arena.old made.now) arena.old (arcs_of self.now arcs node position) }
+        ensures cost { steps.new ≡ steps.old + length (arcs_of self.now arcs node position) }
+    {
+        for label in 0..self.labels() {
+            write_arc(self.arc(arcs, node, position, label), made, arena, steps);
+        }
+    }
+
+    /// Removes the darts that go.
+    fn remove<L: Ledger>(&self, arena: &mut Arena, steps: &mut Steps<L>)
+        requires { CanRemove arena.old (all_removed self.now) }
+        ensures map { arena.new ≡ without_darts arena.old (all_removed self.now) }
+        ensures cost { steps.new ≡ steps.old + length (all_removed self.now) }
+    {
+        for node in 0..self.nodes() {
+            self.remove_node(node, arena, steps);
+        }
+    }
+
+    fn remove_node<L: Ledger>(&self, node: u8, arena: &mut Arena, steps: &mut Steps<L>)
+        requires { CanRemove arena.old (removed_in self.now node) }
+        ensures map { arena.new ≡ without_darts arena.old (removed_in self.now node) }
+        ensures cost { steps.new ≡ steps.old + length (removed_in self.now node) }
+    {
+        for position in 0..self.positions() {
+            remove_dart(self.removed_slot(node, position), arena, steps);
+        }
     }
 }
 
-/// Removes the darts at these slots.
-fn remove_darts<L: Ledger>(arena: &mut Arena, removed: &[Slot], steps: &mut Steps<L>)
-    requires { CanRemove arena.old removed.now }
-    ensures map { arena.new ≡ without_darts arena.old removed.now }
-    ensures cost { steps.new ≡ steps.old + length removed.now }
+fn write_arc<L: Ledger>(arc: Option<Arc>, made: &[Slot], arena: &mut Arena, steps: &mut Steps<L>)
+    requires { (a : Arc) → Contains (as_list arc) a → IsWritable arena.old made.now a }
+    ensures map { arena.new ≡ with_arcs (end_at arena.old made.now) arena.old (as_list arc) }
+    ensures cost { steps.new ≡ steps.old + length (as_list arc) }
 {
-    for slot in removed {
-        arena.remove(*slot, steps);
+    let Some(arc) = arc else {
+        return;
+    };
+    let from = slot_at(arc.from, made);
+    let to = slot_at(arc.to, made);
+    arena.set_alpha(from, arc.label, to, steps);
+}
+
+fn remove_dart<L: Ledger>(slot: Option<Slot>, arena: &mut Arena, steps: &mut Steps<L>)
+    requires { CanRemove arena.old (as_list slot) }
+    ensures map { arena.new ≡ without_darts arena.old (as_list slot) }
+    ensures cost { steps.new ≡ steps.old + length (as_list slot) }
+{
+    if let Some(slot) = slot {
+        arena.remove(slot, steps);
     }
 }
 

@@ -1,3 +1,4 @@
+use crate::rewrite::Rewrite;
 use gm_arena::Slot;
 use std::marker::Model;
 
@@ -21,23 +22,23 @@ pub(crate) struct Arc {
 /// The changes that make an application's result of its arena. They hold all the memory that the
 /// commit needs.
 #[derive(Drop)]
-pub struct Edits {
-    pub(crate) freed: Vec<Arc>,
-    pub(crate) removed: Vec<Slot>,
+pub struct Edits<'a> {
+    pub(crate) rewrite: Rewrite<'a>,
     pub(crate) added: usize,
     /// Room for the slots of the new darts, by their number.
     pub(crate) made: Vec<Slot>,
-    pub(crate) arcs: Vec<Arc>,
 }
 
-impl Model for Edits {
+impl<'a> Model for Edits<'a> {
     ghost use Rattle.std.specs.Prelude.{◌≡◌, ◌≤◌, []};
     ghost use Rattle.std.specs.Vec.{vec_capacity};
+    ghost use Rattle.gm_pending.specs.Collected.{all_arcs, all_removed};
+    ghost use Rattle.gm_pending.specs.declared.rewrite.Arcs.TheVariants.{Freed, Made};
     ghost use Rattle.gm_pending.specs.EditLists.{EditLists, edit_lists};
 
     ghost Value = { EditLists };
 
-    ghost view = { λ e. edit_lists e.freed.items e.removed.items e.added e.arcs.items };
+    ghost view = { λ e. edit_lists (all_arcs e.rewrite Freed) (all_removed e.rewrite) e.added (all_arcs e.rewrite Made) };
 
     ghost invariant = { λ e. (e.made.items ≡ []) × (e.added ≤ vec_capacity e.made) };
 }

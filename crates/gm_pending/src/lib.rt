@@ -3,13 +3,11 @@
 #![tactic(auto)]
 
 mod at;
-mod collect;
 mod commit;
 mod edits;
-mod marks;
+mod lookup;
 mod pending;
-#[cfg(test)]
-mod tests;
+mod rewrite;
 
 pub use at::At;
 pub use edits::Edits;

@@ -1,7 +1,9 @@
 ghost use Rattle.std.specs.Prelude.{◌≡◌, ◌≢◌, ℕ, ◌+◌, ◌*◌, ◌<◌, ◌≤◌, List, [], length, Some, MatchOption, IfOk, IsTrue};
 
 use crate::at::At;
-use crate::marks::{Marks, marks_of};
+use crate::edits::Edits;
+use crate::lookup::instance_at;
+use crate::rewrite::Rewrite;
 use gm_arena::{Arena, Steps};
 use gm_model::{MOST_DARTS, OutOfMemory, Side, Step};
 use gm_plan::{Instances, Plan};
@@ -11,19 +13,18 @@ use std::sync::ledger::Ledger;
 
 /// An application that nothing is written of yet. It answers for the result.
 #[derive(Drop)]
-pub struct Pending<'a> {
-    pub(crate) plan: &'a Plan<'a>,
-    pub(crate) arena: &'a Arena,
-    pub(crate) found: &'a Instances,
-    marks: Marks,
-    pub(crate) alloc: Global,
+pub struct Pending<'a, 'm> {
+    plan: &'a Plan<'a>,
+    arena: &'m Arena,
+    found: &'a Instances,
+    alloc: Global,
 }
 
-impl<'a> Model for Pending<'a> {
+impl<'a, 'm> Model for Pending<'a, 'm> {
     ghost use Rattle.std.specs.Coded.{codes};
+    ghost use Rattle.std.specs.Prelude.{◌≡◌};
     ghost use Rattle.gm_model.specs.contracts.expr.Expr as expr_block;
     ghost use Rattle.gm_arena.specs.ArenaMap.{arena_code};
-    ghost use Rattle.gm_pending.specs.Marks.{AreMarks, IsWithin};
     ghost use Rattle.gm_pending.specs.Results.{PendingOf, IsPrepared, pending_of};
 
     ghost Value = { PendingOf };
@@ -32,44 +33,66 @@ impl<'a> Model for Pending<'a> {
 
     ghost view = { λ a. pending_of a.arena.now a.plan.now.table a.found.now };
 
-    ghost invariant = { λ a. IsPrepared (pending_of a.arena.now a.plan.now.table a.found.now) × AreMarks a.found.now (IsWithin a.found.now) a.marks };
+    ghost invariant = { λ a. IsPrepared (pending_of a.arena.now a.plan.now.table a.found.now) × (a.arena.now.schema ≡ a.plan.now.schema) };
 }
 
-impl<'a> Pending<'a> {
+impl<'a, 'm> Pending<'a, 'm> {
     ghost use Rattle.gm_model.specs.Maps.{IsGeneralised};
     ghost use Rattle.gm_model.specs.Rules.{rule_of};
     ghost use Rattle.gm_model.specs.Unfolding.{IsArcAfter, IsMadeArc, IsGone};
     ghost use Rattle.gm_arena.specs.ArenaAsMap.{as_map};
     ghost use Rattle.gm_plan.specs.InArena.{AreMatched};
+    ghost use Rattle.gm_pending.specs.Collected.{rewrite_of};
+    ghost use Rattle.gm_pending.specs.EditLists.{AreEditsOf};
     ghost use Rattle.gm_pending.specs.Results.{pending_of, scene_in, rule_in, name_of, IsResultDart, IsRightInstance};
 
     /// Takes the match of a rule in a generalised map without embeddings. It counts no step.
     pub fn build<L: Ledger>(
         alloc: Global,
         plan: &'a Plan<'a>,
-        arena: &'a Arena,
+        arena: &'m Arena,
         found: &'a Instances,
         steps: &mut Steps<L>,
-    ) -> Result<Pending<'a>, OutOfMemory>
+    ) -> Result<Pending<'a, 'm>, OutOfMemory>
         requires schema { arena.now.schema ≡ plan.now.schema }
         requires no_embeds { plan.now.schema.embeds ≡ [] }
         requires generalised { IsGeneralised (as_map arena.now) }
         requires matched { (hooks : List ℕ) × AreMatched arena.now (rule_of plan.now.table) hooks found.now }
         ensures pending { IfOk result (λ pending. pending ≡ pending_of arena.now plan.now.table found.now) }
-        ensures cost { steps.new ≤ steps.old + 2 * (plan.now.schema.dim + 1) * (length (rule_of plan.now.table).nodes * found.now.positions + 1) }
-        ensures least { steps.old ≤ steps.new }
+        ensures no_step { steps.new ≡ steps.old }
     {
         // The arena and the plan tell here what their types keep.
         prove!(arena.count() <= MOST_DARTS);
         prove_eq!(plan.schema().dim, arena.schema().dim);
-        let marks = marks_of(alloc, found, plan.left_nodes())?;
         Ok(Pending {
             plan,
             arena,
             found,
-            marks,
             alloc,
         })
+    }
+
+    /// The changes that make the arena the result. It counts no step.
+    pub fn into_edits<L: Ledger>(self, steps: &mut Steps<L>) -> Result<Edits<'a>, OutOfMemory>
+        ensures edits { IfOk result (λ edits. AreEditsOf self.entry edits) }
+        ensures no_step { steps.new ≡ steps.old }
+    {
+        let added = self.plan.added() as usize * self.found.positions() as usize;
+        let made = Vec::with_capacity(self.alloc, added)?;
+        Ok(Edits {
+            rewrite: self.rewrite(),
+            added,
+            made,
+        })
+    }
+
+    fn rewrite(&self) -> Rewrite<'a>
+        ensures { result ≡ rewrite_of self.now }
+    {
+        Rewrite {
+            plan: self.plan,
+            found: self.found,
+        }
     }
 
     /// The neighbour of a dart of the result along a label.
@@ -114,7 +137,7 @@ impl<'a> Pending<'a> {
             (λ i. IsRightInstance self.now i.0 i.1 × (name_of self.now at ≡ (scene_in self.now).name_of i.0 i.1)) }
     {
         match at {
-            At::Old(slot) => self.marks.get(&slot.at).copied(),
+            At::Old(slot) => instance_at(self.found, self.plan.left_nodes(), slot),
             At::New { node, position } => Some((node, position)),
         }
     }

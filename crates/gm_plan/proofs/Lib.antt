@@ -1,5 +1,4 @@
 pub mod Accepted
-pub mod Bare
 pub mod Extended
 pub mod Found
 pub mod LeftNodes

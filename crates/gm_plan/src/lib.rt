@@ -8,8 +8,6 @@ mod laws;
 mod paths;
 mod plan;
 mod sides;
-#[cfg(test)]
-mod tests;
 
 pub use compiler::{PlanFault, compile};
 pub use instances::Instances;

@@ -50,7 +50,7 @@ module _ (app : Application) (no_embeds : app.map.schema.embeds ≡ []) (no_pre 
       (done.place.positions, Ready done.place after.live after.alpha 0 0 0 done.ready unfolded reached (inl (no_pre, refl)) read)
     where
       unfolded : IsUnfolded app done.place (λ d. IsTrue (after.live d)) after.alpha
-      unfolded = subst (λ n. IsUnfolding (scene_of app.map app.rule done.place) (IsDart after) after.alpha n) done.unfolded.next_is done.unfolded
+      unfolded = subst (λ n. IsUnfolding (scene_of app.map app.rule done.place) (IsDart after) after.alpha n) done.result_is.unfolded.next_is done.result_is.unfolded
 
       reached : IsReachedSum app done.place (λ d. IsTrue (after.live d)) after.alpha 0
       reached = record {

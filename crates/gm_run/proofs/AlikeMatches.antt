@@ -109,6 +109,7 @@ module _ (rule : Rule) (hooks : List ℕ) (params : List Value) (a b : Map) (sui
 
     pub candidate_there : IsCandidate b rule hooks place
     candidate_there = record {
+      count = candidate.count;
       walk = candidate.walk;
       positions = positions_there place hooks candidate.walk candidate.positions;
       forced = λ x p path at to. candidate.forced x p path at to ∙ follow_there path to.hook x (slice_index candidate.walk p) to.leads (on_walk x p path at.1 to);

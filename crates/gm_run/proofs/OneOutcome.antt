@@ -56,7 +56,7 @@ module _ (schema : Schema) (rule : Rule) (no_embeds : schema.embeds ≡ []) (no_
       unfolded : IsUnfolding (scene_of b rule second.place) (IsDart after) after.alpha after.next
       unfolded =
           unfolding_like b rule hooks ours.in_range ours.incidence first.place second.place like back (IsDart after) after.alpha after.next
-          (unfolding_there rule first.place a b alike (IsDart after) after.alpha after.next first.unfolded)
+          (unfolding_there rule first.place a b alike (IsDart after) after.alpha after.next first.result_is.unfolded)
 
       same_added : added ≡ added'
       same_added = first.added_is ∙ ap (λ n. n * added_nodes rule) like.positions ∙ sym second.added_is
@@ -68,17 +68,17 @@ module _ (schema : Schema) (rule : Rule) (no_embeds : schema.embeds ≡ []) (no_
           there d = (gone_like b rule hooks ours.in_range ours.incidence first.place second.place like d, gone_like b rule hooks ours.in_range ours.incidence second.place first.place back d)
 
       same_schema : after.schema ≡ b.schema
-      same_schema = first.schema ∙ alike.schema
+      same_schema = first.result_is.schema ∙ alike.schema
 
       results_alike : AreAlike after after'
       results_alike = record {
-        schema = same_schema ∙ sym second.schema;
+        schema = same_schema ∙ sym second.result_is.schema;
         same = record {
-          next = unfolded.next_is ∙ sym second.unfolded.next_is;
-          darts = λ d. (λ live. (second.unfolded.darts d).1 ((unfolded.darts d).0 live), λ live. (unfolded.darts d).1 ((second.unfolded.darts d).0 live));
+          next = unfolded.next_is ∙ sym second.result_is.unfolded.next_is;
+          darts = λ d. (λ live. (second.result_is.unfolded.darts d).1 ((unfolded.darts d).0 live), λ live. (unfolded.darts d).1 ((second.result_is.unfolded.darts d).0 live));
           arcs = λ d i live h.
               let low : i ≤ dimension b = subst (λ (s : Schema). i ≤ s.dim) same_schema h in
-              sym ((second.unfolded.arcs d i (after.alpha i d) low).1 ((unfolded.arcs d i (after.alpha i d) low).0 (live, refl))).1;
+              sym ((second.result_is.unfolded.arcs d i (after.alpha i d) low).1 ((unfolded.arcs d i (after.alpha i d) low).0 (live, refl))).1;
         };
         values = λ e d embed at live. absurd (no_embed rule b ours e embed (subst (λ (s : Schema). IsEmbedAt s e embed) same_schema at));
       }

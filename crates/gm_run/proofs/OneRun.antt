@@ -6,12 +6,11 @@ use Rattle.gm_model.specs.declared.schema.Embed.{Embed}
 use Rattle.gm_model.specs.declared.schema.Schema.{Schema}
 use Rattle.gm_model.specs.declared.script.Line.{Line}
 use Rattle.gm_model.specs.Acceptance.{IsAccepted}
-use Rattle.gm_model.specs.Maps.{Map, IsDart, IsEmbedAt, IsGeneralised, IsMap, IsSchema}
+use Rattle.gm_model.specs.Maps.{Map, IsDart, IsEmbedAt, IsGeneralised, IsSound}
 use Rattle.gm_model.specs.Rules.{Rule}
 use Rattle.gm_model.specs.Runs.{Outcome, Done, Refused, application_of, IsOutcome, IsLineOutcome, IsRun, IsRunBudget}
 use Rattle.gm_theory.proofs.Lists.{none_some}
-use Rattle.gm_theory.proofs.ValuesKept.{applications_keep_sound_maps}
-use Rattle.gm_theory.specs.Values.{IsSound}
+use Rattle.gm_theory.proofs.ValuesKept.{done_lawful}
 use Rattle.gm_run.specs.Alike.{AreAlike}
 use Rattle.gm_run.proofs.Advancing.{budget_of}
 use Rattle.gm_run.proofs.OneOutcome.{one_outcome}
@@ -21,27 +20,11 @@ use Rattle.gm_run.proofs.OneOutcome.{one_outcome}
 no_embed : (schema : Schema) (e : ℕ) (embed : Embed) → schema.embeds ≡ [] → IsEmbedAt schema e embed → ⊥
 no_embed schema e embed none at = none_some embed (sym (ap (λ (embeds : List Embed). slice_get embeds e) none) ∙ at)
 
-bare_schema : (schema : Schema) → schema.embeds ≡ [] → IsSchema schema
-bare_schema schema none = record {
-  count = let long : length schema.embeds ≡ 0 = ap length none in omega (arith, long);
-  kinds = λ e embed at. absurd (no_embed schema e embed none at);
-  labels = λ e i embed at. absurd (no_embed schema e embed none at);
-  free = λ e embed at. absurd (no_embed schema e embed none at);
-  differ = λ e e' embed embed' at. absurd (no_embed schema e embed none at);
-}
-
-bare_map : (map : Map) → map.schema.embeds ≡ [] → ((d : ℕ) → IsDart map d → d < map.next) → IsMap map
-bare_map map none below = record {
-  below = below;
-  kind = λ e d embed at. absurd (no_embed map.schema e embed none at);
-  range = λ e d embed at. absurd (no_embed map.schema e embed none at);
-}
-
 bare_sound : (map : Map) → map.schema.embeds ≡ [] → IsGeneralised map → ((d : ℕ) → IsDart map d → d < map.next) → IsSound map
 bare_sound map none generalised below = record {
+  is_map = record { below = below; values = λ e d embed at. absurd (no_embed map.schema e embed none at) };
   generalised = generalised;
   embedded = λ e embed at. absurd (no_embed map.schema e embed none at);
-  below = below;
 }
 
 -- ---- rules
@@ -62,14 +45,14 @@ module _ (schema : Schema) (no_embeds : schema.embeds ≡ []) where
 
   -- no application changes the schema
   outcome_schema : (a : Map) (rule : Rule) (line : Line) (outcome : Outcome) (after : Map) → a.schema ≡ schema → IsOutcome (application_of a rule line) outcome after → after.schema ≡ schema
-  outcome_schema a rule line (Done added removed) after of_schema done = done.schema ∙ of_schema
+  outcome_schema a rule line (Done added removed) after of_schema done = done.result_is.schema ∙ of_schema
   outcome_schema a rule line (Refused cause) after of_schema refused = ap (λ (m : Map). m.schema) refused.1 ∙ of_schema
 
   -- and where its rule is accepted, it leaves a sound map again
   outcome_sound : (a : Map) (rule : Rule) (line : Line) (outcome : Outcome) (after : Map) → a.schema ≡ schema → IsSound a → IsAccepted schema rule → IsOutcome (application_of a rule line) outcome after → IsSound after
   outcome_sound a rule line (Done added removed) after of_schema sound accepted done =
-      applications_keep_sound_maps (application_of a rule line) after added removed (bare_schema a.schema (bare a of_schema)) (bare_map a (bare a of_schema) sound.below) sound.generalised sound.embedded
-      (subst (λ s. IsAccepted s rule) (sym of_schema) accepted) done
+      let kept : IsGeneralised after × ((d : ℕ) → IsDart after d → d < after.next) = done_lawful (application_of a rule line) after added removed sound.is_map sound.generalised (subst (λ s. IsAccepted s rule) (sym of_schema) accepted) done in
+      bare_sound after (bare after (done.result_is.schema ∙ of_schema)) kept.0 kept.1
   outcome_sound a rule line (Refused cause) after of_schema sound accepted refused = subst IsSound (sym refused.1) sound
 
   -- ---- all lines

@@ -59,7 +59,7 @@ tells_of app (outcomes.Done applied) after decided is = tt
 tells_of app (outcomes.Refused refusal) after decided is = speaks_of (length app.rule.nodes) (length app.map.schema.embeds) refusal decided (names_of app (cause_of refusal) is.0)
 
 schema_after : (app : Application) (outcome : runs.Outcome) (after : Map) → IsOutcome app outcome after → after.schema ≡ app.map.schema
-schema_after app (runs.Done added removed) after done = done.schema
+schema_after app (runs.Done added removed) after done = done.result_is.schema
 schema_after app (runs.Refused cause) after refused = ap (λ (map : Map). map.schema) refused.1
 
 module _ (schema : Schema) (rules : List Rule) where

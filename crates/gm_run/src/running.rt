@@ -52,6 +52,8 @@ pub fn run<L: Ledger>(
     ensures cut { IfErr result (λ _. IsCutShort (rules_of plans.now) (as_map arena.old) script.now.lines (as_map arena.new) steps.old steps.new) }
     ensures generalised { IsGeneralised (as_map arena.new) }
     ensures schema { arena.new.schema ≡ arena.old.schema }
+    ensures spare_stays { arena.old.count + arena.old.spare ≤ arena.new.count + arena.new.spare }
+    ensures reserved_stays { arena.old.reserved ≤ arena.new.reserved }
 {
     let lines = line_outcomes(alloc, plans, script.lines.as_slice(), arena, steps)?;
     Ok(Report {
@@ -76,6 +78,8 @@ fn line_outcomes<L: Ledger>(
         (λ _. IsCutShort (rules_of plans.now) (as_map arena.old) lines.now (as_map arena.new) steps.old steps.new) }
     ensures generalised { IsGeneralised (as_map arena.new) }
     ensures schema { arena.new.schema ≡ arena.old.schema }
+    ensures spare_stays { arena.old.count + arena.old.spare ≤ arena.new.count + arena.new.spare }
+    ensures reserved_stays { arena.old.reserved ≤ arena.new.reserved }
 {
     let mut scratch = Scratch::new(alloc);
     let mut outcomes = Vec::with_capacity(alloc, lines.len())?;
@@ -103,6 +107,8 @@ fn line_outcome<L: Ledger>(
         (λ _. IsStopped (rules_of plans.now) (as_map arena.old) line.now (as_map arena.new) steps.old steps.new) }
     ensures generalised { IsGeneralised (as_map arena.new) }
     ensures schema { arena.new.schema ≡ arena.old.schema }
+    ensures spare_stays { arena.old.count + arena.old.spare ≤ arena.new.count + arena.new.spare }
+    ensures reserved_stays { arena.old.reserved ≤ arena.new.reserved }
 {
     let plan = &plans[line.rule as usize];
     let hooks = line.hooks.as_slice();

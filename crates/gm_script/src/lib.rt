@@ -14,6 +14,3 @@ mod values;
 pub use comparing::read_script;
 pub use fault::ScriptFault;
 pub use laws::{one_first_fault_at_most, one_script_at_most};
-
-#[cfg(test)]
-mod tests;

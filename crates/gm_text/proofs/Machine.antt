@@ -1,10 +1,10 @@
 -- Reading by states answers the one reading of the marks, or their one first fault.
-use Rattle.std.proofs.Common.{◌≡◌, ℕ, Bool, true, false, cond, List, [], ◌∷◌, ◌++◌, Option, Some, None, Result, Ok, Err, refl, sym, ap, subst, ◌∙◌, append_assoc}
+use Rattle.std.proofs.Common.{◌≡◌, ℕ, Bool, cond, List, [], ◌∷◌, ◌++◌, Option, Some, None, Result, Ok, Err, refl, sym, ap, subst, ◌∙◌, append_assoc}
 use Rattle.std.proofs.lemmas.List.{append-nil}
 use Rattle.gm_model.specs.declared.limit.LimitKind.{LimitKind}
 use Rattle.gm_model.specs.Symbols.{Symbol, Mark, symbols}
 use Rattle.gm_model.specs.Reading.{Part, symbols_in, last_place, Begins, IsWithin, IsReadAs, TextEndsAt, LimitStandsAt}
-use Rattle.gm_text.specs.Machine.{Stop, Ends, Passes, ◌>>=◌, Leads, IsGrammar, taken, limit_place, step, run}
+use Rattle.gm_text.specs.Machine.{Stop, Ends, Passes, Leads, IsGrammar, limit_place, step, run}
 
 -- the place of the last mark, behind one at the place `last`
 abbrev pub last_of : ℕ → List Mark → ℕ

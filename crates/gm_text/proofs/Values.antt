@@ -1,7 +1,9 @@
 -- The value of digits: it grows with each digit, and it is the number of a decimal text.
-use Rattle.std.proofs.Common.{◌≡◌, ℕ, ◌+◌, ◌-◌, ◌*◌, ◌<◌, ◌≤◌, true, List, [], ◌∷◌, length, drop, get_or, sym, ap, ◌∙◌, arith}
+use Rattle.std.proofs.Common.{◌≡◌, ℕ, suc, ◌+◌, ◌-◌, ◌*◌, ◌^◌, ◌<◌, ◌≤◌, true, List, [], ◌∷◌, length, drop, get_or, sym, ap, ◌∙◌, arith}
 use Rattle.std.specs.List.{list_all}
+use Rattle.std.proofs.Math.Nat.{mul_assoc, pow-succ', pow-le-pow_right}
 use Rattle.std.proofs.lemmas.Bool.{and_parts, leb-true}
+use Rattle.std.proofs.lemmas.Nat.{mul-le}
 use Rattle.std.proofs.lemmas.List.{drop_more, drop_all}
 use Rattle.gm_model.specs.Tokens.{is_digit}
 use Rattle.gm_model.specs.Symbols.{value_after, value_of}
@@ -38,3 +40,21 @@ IsReadTo-more digits place n inside read =
 
 pub IsReadTo-all : (digits : List ℕ) (place n : ℕ) → length digits ≤ place → IsReadTo digits place n → n ≡ value_of digits
 IsReadTo-all digits place n done read = ap (value_after n) (sym (drop_all place digits done)) ∙ read.value
+
+-- digits are less than their number's power of ten
+pub value_after-below : (n : ℕ) (digits : List ℕ) → list_all is_digit digits ≡ true → value_after n digits < (n + 1) * 10 ^ length digits
+value_after-below n [] h = omega arith
+value_after-below n (digit ∷ digits) h =
+    let tests = and_parts (is_digit digit) (list_all is_digit digits) h in
+    let bounds = and_parts _ _ tests.0 in
+    let high = leb-true digit 57 bounds.1 in
+    let more = value_after-below (n * 10 + (digit - 48)) digits tests.1 in
+    let power = 10 ^ length digits in
+    let wide : (n * 10 + (digit - 48) + 1) * power ≤ ((n + 1) * 10) * power = mul-le (n * 10 + (digit - 48) + 1) power ((n + 1) * 10) power (omega arith) (omega arith) in
+    let split : ((n + 1) * 10) * power ≡ (n + 1) * 10 ^ suc (length digits) = mul_assoc (n + 1) 10 power ∙ ap (λ m. (n + 1) * m) (sym (pow-succ' 10 (length digits))) in
+    omega (arith, more, wide, split)
+
+pub value_of-few : (digits : List ℕ) → list_all is_digit digits ≡ true → length digits ≤ 8 → value_of digits < 2 ^ 32
+value_of-few digits h few =
+    let power : 10 ^ length digits ≤ 10 ^ 8 = pow-le-pow_right (omega arith) few in
+    omega (arith, value_after-below 0 digits h, power)

@@ -6,7 +6,7 @@ ghost use Rattle.gm_model.specs.Symbols.{value_of};
 ghost use Rattle.gm_text.specs.Lexing.{rest_of, items_read, after, stand_of, IsInText, IsLongestThere, IsGap};
 
 use crate::fault::LexFault;
-use crate::scan::{gap_end, token_at};
+use crate::scan::{gap_end, number_near, token_at};
 use gm_model::Token;
 use std::marker::Model;
 
@@ -64,6 +64,9 @@ impl<'a> Lexer<'a> {
         ensures longest { IsLongestThere self.now.text result }
         ensures gap { IsGap self.now.text self.now.place (stand_of self.now.text result) }
     {
+        if let Some(number) = number_near(self.source, self.at) {
+            return Ok(Some(number));
+        }
         let start = gap_end(self.source, self.at);
         if start == self.source.len() {
             return Ok(None);
@@ -107,6 +110,30 @@ impl<'a> Lexer<'a> {
 }
 
 fn value_of_digits(digits: &[u8]) -> Option<u64>
+    requires { IsTrue (list_all is_digit digits.now) }
+    ensures { MatchOption result (2 ^ 64 ≤ value_of digits.now) (λ n. n ≡ value_of digits.now) }
+{
+    if digits.len() <= 8 {
+        Some(value_of_few_digits(digits))
+    } else {
+        value_of_many_digits(digits)
+    }
+}
+
+/// The value of digits that are too few to pass the greatest `u64`.
+fn value_of_few_digits(digits: &[u8]) -> u64
+    requires digits { IsTrue (list_all is_digit digits.now) }
+    requires few { length digits.now ≤ 8 }
+    ensures { result ≡ value_of digits.now }
+{
+    let mut value = 0;
+    for digit in digits {
+        value = value * 10 + u64::from(*digit - b'0');
+    }
+    value
+}
+
+fn value_of_many_digits(digits: &[u8]) -> Option<u64>
     requires { IsTrue (list_all is_digit digits.now) }
     ensures { MatchOption result (2 ^ 64 ≤ value_of digits.now) (λ n. n ≡ value_of digits.now) }
 {

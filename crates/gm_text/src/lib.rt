@@ -15,6 +15,3 @@ pub use fault::LexFault;
 pub use gm_model::{Token, TokenKind};
 pub use lexer::Lexer;
 pub use text::Text;
-
-#[cfg(test)]
-mod tests;

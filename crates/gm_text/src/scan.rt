@@ -1,4 +1,4 @@
-ghost use Rattle.std.specs.Prelude.{◌≡◌, ◌+◌, ◌<◌, ◌≤◌, ◌||◌, true, false, not, length, drop, slice_index, MatchOption};
+ghost use Rattle.std.specs.Prelude.{◌≡◌, ◌+◌, ◌<◌, ◌≤◌, ◌||◌, true, false, not, length, drop, slice_index, IfSome, MatchOption};
 ghost use Rattle.std.specs.List.{take_while};
 ghost use Rattle.gm_model.specs.Tokens as tokens;
 ghost use Rattle.gm_text.specs.Lexing.{IsGap, IsTokenAt, front_at};
@@ -27,6 +27,39 @@ pub fn gap_end(text: &[u8], from: usize) -> usize
         }
     }
     at
+}
+
+/// The number that begins at `from`, or behind one blank there, as most numbers of a map do.
+pub fn number_near(text: &[u8], from: usize) -> Option<Token>
+    requires { from ≤ length text.now }
+    ensures behind { IfSome result (λ token. from ≤ token.start) }
+    ensures same { IfSome result (λ token. tokens.items_at text.now from ≡ tokens.items_at text.now token.start) }
+    ensures gap { IfSome result (λ token. IsGap text.now from token.start) }
+    ensures token { IfSome result (λ token. IsTokenAt text.now token.start token) }
+{
+    let start = behind_blank(text, from);
+    if start < text.len() && is_digit(text[start]) {
+        return Some(Token {
+            kind: TokenKind::Number,
+            start,
+            end: number_end(text, start + 1),
+        });
+    }
+    None
+}
+
+/// The place itself, or the next one where a blank stands at it.
+fn behind_blank(text: &[u8], from: usize) -> usize
+    requires { from ≤ length text.now }
+    ensures behind { from ≤ result }
+    ensures within { result ≤ length text.now }
+    ensures same { tokens.items_at text.now from ≡ tokens.items_at text.now result }
+    ensures gap { IsGap text.now from result }
+{
+    if from < text.len() && is_blank(text[from]) {
+        return from + 1;
+    }
+    from
 }
 
 /// The token that begins at `at`, where neither a blank nor a comment stands.

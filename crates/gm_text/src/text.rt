@@ -1,4 +1,4 @@
-ghost use Rattle.std.specs.Prelude.{◌≡◌, ◌++◌, ◌↔◌, [], length, IsTrue, OnOk, OnErr, decimal};
+ghost use Rattle.std.specs.Prelude.{◌≡◌, ◌++◌, ◌↔◌, [], length, IsTrue, IfOk, OnOk, OnErr, decimal};
 ghost use Rattle.std.specs.Fmt.{signed_decimal};
 
 use gm_model::OutOfMemory;
@@ -28,6 +28,15 @@ impl Text {
         Text {
             bytes: Vec::new(alloc),
         }
+    }
+
+    /// No bytes, with room for so many, so that they are written without taking more memory.
+    pub fn with_capacity(alloc: Global, room: usize) -> Result<Text, OutOfMemory>
+        ensures { IfOk result (λ text. text ≡ []) }
+    {
+        Ok(Text {
+            bytes: Vec::with_capacity(alloc, room)?,
+        })
     }
 
     /// How many bytes there are.

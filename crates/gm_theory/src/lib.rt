@@ -2,8 +2,6 @@
 //! theorem, over the definitions of `gm_model`. The crate has no code that runs.
 #![tactic(auto)]
 
-#[cfg(test)]
-mod examples;
 mod outcomes;
 mod readings;
 mod values;

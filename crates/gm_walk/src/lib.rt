@@ -9,6 +9,3 @@ mod walk;
 
 pub use scratch::Scratch;
 pub use walk::{Walk, walk_mask, walk_word};
-
-#[cfg(test)]
-mod tests;

@@ -1,4 +1,4 @@
-ghost use Rattle.std.specs.Prelude.{◌≡◌, ◌<◌, ◌≤◌, [], length, slice_get, MatchOption, Some, OnOk};
+ghost use Rattle.std.specs.Prelude.{◌≡◌, ◌<◌, ◌≤◌, [], length, slice_get, MatchOption, Some, IsOk, OnOk};
 ghost use Rattle.std.specs.List.{Contains};
 ghost use Rattle.gm_walk.specs.Room.{Fits, TakesIn};
 
@@ -49,16 +49,19 @@ impl Scratch {
         ensures fits { OnOk result (Fits self.new arena.now) }
         ensures kept { self.old.bound ≤ self.new.bound }
         ensures walked { self.new.walked ≡ self.old.walked }
+        ensures stays { arena.now.bound ≤ self.old.bound → self.new ≡ self.old }
+        ensures ready { arena.now.bound ≤ self.old.bound → IsOk result }
     {
         let bound = arena.bound();
+        if bound <= self.marks.len() {
+            return Ok(());
+        }
         // A place in a walk is a `u32`.
         if bound > u32::MAX as usize {
             return Err(OutOfMemory);
         }
-        if self.marks.len() < bound {
-            self.queue.reserve(bound - self.queue.len())?;
-            self.marks.resize(bound, 0)?;
-        }
+        self.queue.reserve(bound - self.queue.len())?;
+        self.marks.resize(bound, 0)?;
         Ok(())
     }
 

@@ -2,37 +2,28 @@
 //! terminal.
 #![tactic(auto)]
 
-mod book;
-mod check;
-mod command;
-mod fault_lines;
-mod laws;
-mod load;
-mod map;
-mod refusal;
-mod reply;
-mod rule_lines;
-#[cfg(test)]
-mod run_tests;
-mod running;
-mod script;
-#[cfg(test)]
-mod tests;
-mod tool;
+ghost use Rattle.std.specs.Prelude.{◌≡◌, ◌⊎◌};
+ghost use Rattle.std.specs.IoError.{error_kind};
+ghost use Rattle.std.specs.Process.{exit_status};
 
 use gm_host::{FileStore, StdSink};
+pub use gm_tool::tool;
+use gm_tool::with_new_counter;
 use std::env::{self, Env};
-use std::io;
+use std::io::{self, ErrorKind};
 use std::marker::Brand;
 use std::process::ExitCode;
 use std::sync::ledger::Blank;
 
-/// The status where the words of the command line can't be had: 7 where memory was wanting, else 9,
-/// which the program gives for nothing else.
-fn status_without_words(error: &io::Error) -> u8 {
+/// The end of a program that can't have the words of its command line: status 7 where memory was
+/// wanting, else 9, which the program gives for nothing else.
+fn without_words(error: &io::Error) -> ExitCode
+    ensures statuses { (exit_status result ≡ 7) ⊎ (exit_status result ≡ 9) }
+    ensures no_memory { error_kind error.now ≡ ErrorKind.OutOfMemory → exit_status result ≡ 7 }
+{
     match error.kind() {
-        io::ErrorKind::OutOfMemory => 7,
-        _ => 9,
+        ErrorKind::OutOfMemory => ExitCode::from(7),
+        _ => ExitCode::from(9),
     }
 }
 
@@ -49,15 +40,14 @@ fn main(rt: HostRuntime) -> ExitCode {
         Ok(words) => {
             let mut store = FileStore::new(&rt);
             let mut out = StdSink::new(&rt);
-            let status = tool::with_new_counter::<_, _, Brand>(
-                rt.alloc(),
+            with_new_counter::<_, _, Brand>(
+                &rt,
                 words.as_slice(),
                 &mut store,
                 &mut out,
                 Blank::new(1),
-            );
-            ExitCode::from(status)
+            )
         }
-        Err(error) => ExitCode::from(status_without_words(&error)),
+        Err(error) => without_words(&error),
     }
 }

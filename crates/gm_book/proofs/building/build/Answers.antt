@@ -1,7 +1,6 @@
-use Rattle.std.proofs.Common.{◌≡◌, map, refl, sym, ap, subst, ◌∙◌, length, ◌≤◌}
+use Rattle.std.proofs.Common.{sym, subst, length, ◌≤◌}
 use Rattle.std.specs.List.{AllByRecursion}
-use Rattle.gm_book.specs.BookText.{nodes_of, rule_in}
-use Rattle.gm_model.specs.Rules.{rule_of}
+use Rattle.gm_book.specs.BookText.{nodes_of}
 use Rattle.gm_book.specs.Building.{HasNoNameFault, IsFaultOfNames}
 use Rattle.gm_book.specs.FirstNameFault.{IsLeastFault}
 use Rattle.gm_book.specs.Forms.{form_of, rule_form_of}

@@ -8,11 +8,11 @@ use Rattle.gm_book.proofs.names.unknown.Goals as goal
 pub returns-then-contains : goal.returns-then-contains
 returns-then-contains c =
     let here : is_among (names_held c.args.table.now) (bytes_of c.args.text.now c.args.name.now) ≡ true =
-    ap (is_among (names_held c.args.table.now)) (sym c.bytes_in.ensures) ∙ (sym (among_held c.args.table.now.keys c.bytes_in.result) ∙ (sym c.contains.ensures ∙ c.if-contains.true)) in
+    ap (is_among (names_held c.args.table.now)) (sym c.bytes_in-bytes.ensures) ∙ (sym (among_held c.args.table.now.keys (record { bytes = c.bytes_in-bytes.result })) ∙ (sym c.contains.ensures ∙ c.if-contains.true)) in
     rw here refl
 
 pub returns-else-contains : goal.returns-else-contains
 returns-else-contains c =
     let absent : is_among (names_held c.args.table.now) (bytes_of c.args.text.now c.args.name.now) ≡ false =
-    ap (is_among (names_held c.args.table.now)) (sym c.bytes_in.ensures) ∙ (sym (among_held c.args.table.now.keys c.bytes_in.result) ∙ (sym c.contains.ensures ∙ c.if-contains.false)) in
+    ap (is_among (names_held c.args.table.now)) (sym c.bytes_in-bytes.ensures) ∙ (sym (among_held c.args.table.now.keys (record { bytes = c.bytes_in-bytes.result })) ∙ (sym c.contains.ensures ∙ c.if-contains.false)) in
     rw absent refl

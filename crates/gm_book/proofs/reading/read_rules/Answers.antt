@@ -2,9 +2,18 @@ use Rattle.std.proofs.Common.{◌∙◌, ℕ, Option, Ok, ap, subst}
 use Rattle.std.proofs.lemmas.Result.{err_from_is_err_and}
 use Rattle.gm_model.specs.declared.token.Token.{Token}
 use Rattle.gm_model.specs.Symbols.{marks_at, marks_of}
-use Rattle.gm_book.specs.Standing.{IsNext, first_stand, read_on, marks_left}
-use Rattle.gm_book.proofs.Onward.{goes_on, stops_here, keeps_on}
+use Rattle.gm_book.specs.Standing.{IsNext, first_stand, stand_of, read_on, marks_left}
+use Rattle.gm_book.proofs.Onward.{goes_on, stops_here, keeps_on, stray_stops}
 use Rattle.gm_book.proofs.reading.read_rules.Goals as goal
+
+pub returns-in_err-token-clause-read : goal.returns-in_err-token-clause-read
+returns-in_err-token-clause-read c =
+    let p = err_from_is_err_and c.from_residual.result c.from_residual.ensures.1 in
+    let text = c.args.lexer.now.text in
+    let l = c.loop-token in
+    let so_far = l.invariant.1 ∙ ap (λ (place : ℕ). read_on first_stand (marks_at text place)) c.requires.start in
+    rw (p.1, p.2)
+    (stray_stops l.lexer c.next_token.new.lexer c.in_err-token.field-0.0 (stand_of text l.reader.nodes l.reader.draft l.state l.last) (read_on first_stand (marks_of text)) c.in_err-token.ensures.next so_far)
 
 pub returns-in_err-state-clause-read : goal.returns-in_err-state-clause-read
 returns-in_err-state-clause-read c =

@@ -7,6 +7,12 @@ use Rattle.gm_mapfile.proofs.Printed.{row_at_place, lines_with, keys_long, lengt
 use Rattle.gm_mapfile.proofs.LinkedLine.{steps_more}
 use Rattle.gm_mapfile.proofs.printing.print_map.Goals as goal
 
+pub room_for-requires : goal.room_for-requires
+room_for-requires g c =
+    let m = c.args.arena.now in
+    let lawful = c.count-count.ensures.lawful in
+    omega (arith, ap length (c.deref.ensures.value ∙ c.in_ok-names.ensures.names), keys_long m, length_rows m lawful, lawful.few_darts)
+
 pub print_dart-requires-clause-live : goal.print_dart-requires-clause-live
 print_dart-requires-clause-live g c =
     let m = c.args.arena.now in
@@ -18,7 +24,7 @@ pub returns-in_err-print_dart-clause-most : goal.returns-in_err-print_dart-claus
 returns-in_err-print_dart-clause-most g c =
     let m = c.args.arena.now in
     let named : c.deref-name-items.result.now ≡ keys m.darts = c.deref-name-items.ensures.value ∙ c.in_ok-names.ensures.names in
-    let within : c.loop-name.name-index + 1 ≤ m.count = omega (arith, c.loop-name-test.true, ap length named, keys_long m, length_rows m c.count.ensures.lawful) in
+    let within : c.loop-name.name-index + 1 ≤ m.count = omega (arith, c.loop-name-test.true, ap length named, keys_long m, length_rows m c.count-count.ensures.lawful) in
     printed_within m.schema.dim m.count c.args.steps.now (c.loop-name.name-index + 1) c.print_dart.new.steps within
     (steps_more (m.schema.dim + 3) (c.args.steps.now + m.count) c.loop-name.steps c.print_dart.new.steps c.loop-name.name-index (c.loop-name.name-index + 1) refl c.loop-name.invariant.most c.in_err-print_dart.ensures.most)
 
@@ -36,14 +42,14 @@ loop-name-preserved g c =
     }
 
 pub returns-clause-text : goal.returns-clause-text
-returns-clause-text g c =
+returns-clause-text g c = λ _.
     let m = c.args.arena.now in
     let named : c.deref-name-items.result.now ≡ keys m.darts = c.deref-name-items.ensures.value ∙ c.in_ok-names.ensures.names in
-    c.into_bytes.ensures ∙ whole_text m c.loop-name.name-index c.loop-name.text c.count.ensures.lawful (omega (arith, c.loop-name-test.false, ap length named, keys_long m)) c.loop-name.invariant.lines
+    c.into_bytes.ensures ∙ whole_text m c.loop-name.name-index c.loop-name.text c.count-count.ensures.lawful (omega (arith, c.loop-name-test.false, ap length named, keys_long m)) c.loop-name.invariant.lines
 
 pub returns-clause-most : goal.returns-clause-most
 returns-clause-most g c =
     let m = c.args.arena.now in
     let named : c.deref-name-items.result.now ≡ keys m.darts = c.deref-name-items.ensures.value ∙ c.in_ok-names.ensures.names in
-    let within : c.loop-name.name-index ≤ m.count = omega (arith, c.loop-name.auto.name-index-end, ap length named, keys_long m, length_rows m c.count.ensures.lawful) in
+    let within : c.loop-name.name-index ≤ m.count = omega (arith, c.loop-name.auto.name-index-end, ap length named, keys_long m, length_rows m c.count-count.ensures.lawful) in
     printed_within m.schema.dim m.count c.args.steps.now c.loop-name.name-index c.loop-name.steps within c.loop-name.invariant.most

@@ -1,7 +1,8 @@
 use Rattle.std.proofs.Common.{◌≤◌, length, ap, ◌∙◌, arith}
 use Rattle.std.proofs.lemmas.Result.{err_from_is_err_and}
 use Rattle.gm_model.specs.Rules.{rule_of}
-use Rattle.gm_match.proofs.Answering.{sound_of, begun_of, few_hooks, has_hook, no_items, none_named, slots_below, dart_cause, dart_missed, created, made_cost, tested_cost, step_cause, step_missed, twice_cause, twice_missed, answer}
+use Rattle.gm_match.proofs.Answering.{sound_of, begun_of, few_hooks, has_hook, no_items, none_named, slots_below, dart_cause, dart_missed, created, made_cost, tested_cost, step_cause, step_missed, twice_cause, twice_missed, one_node, answer}
+use Rattle.gm_match.proofs.Paths.{hook_left}
 use Rattle.gm_match.proofs.Stepping.{same_count}
 use Rattle.gm_match.proofs.matching.find.Goals as goal
 
@@ -79,6 +80,15 @@ take_once-requires-clause-nodes g c =
 pub take_once-requires-clause-room : goal.take_once-requires-clause-room
 take_once-requires-clause-room g c =
     slots_below c.args.arena.now c.in_ok-found.found.slots _ c.bound.ensures.lawful c.in_ok-found.ensures.candidate.laid.slots (omega (arith, c.requires.fits, c.candidate.ensures.room))
+
+pub take_once-requires-clause-alone : goal.take_once-requires-clause-alone
+take_once-requires-clause-alone g c =
+    let m = c.args.arena.now in
+    let rule = rule_of c.args.plan.now.table in
+    let sound = sound_of m c.args.plan.now.schema rule c.requires.map c.requires.schema c.rule.ensures.planned in
+    let begun = begun_of m rule c.args.hooks.now c.in_ok-from.field-0 c.in-Some.from sound c.bound.ensures.lawful c.requires.hooks c.in-Some.is c.in_ok-from.ensures.darts in
+    let hook = has_hook m rule _ _ begun c.requires.hooks in
+    one_node m rule _ _ begun c.in_ok-found.found c.in_ok-found.ensures.candidate hook.0 hook.1 (hook_left c.args.plan.now.schema rule c.rule.ensures.planned hook.0 hook.1)
 
 pub returns-in_err-take_once-clause-answer : goal.returns-in_err-take_once-clause-answer
 returns-in_err-take_once-clause-answer g c =

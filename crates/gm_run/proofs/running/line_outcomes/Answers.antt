@@ -30,6 +30,8 @@ loop-line-preserved g c =
     record {
       generalised = c.in_ok-outcome.ensures.generalised;
       schema = c.in_ok-outcome.ensures.schema ∙ before.schema;
+      spare = let more = c.in_ok-outcome.ensures.spare_stays in let so_far = before.spare in omega (arith, more, so_far);
+      reserved = let more = c.in_ok-outcome.ensures.reserved_stays in let so_far = before.reserved in omega (arith, more, so_far);
       long = omega (arith, ap length items, length_push c.loop-line.outcomes.items c.in_ok-outcome.outcome, long);
       capacity = omega (arith, room, same);
       run = subst (λ os. HasRun (rules_of c.args.plans.now) (as_map c.args.arena.now) (take (c.loop-line.line-index + 1) c.args.lines.now) os (as_map c.line_outcome.new.arena) c.args.steps.now c.line_outcome.new.steps) (sym items)

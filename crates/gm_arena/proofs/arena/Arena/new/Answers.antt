@@ -3,10 +3,10 @@ use Rattle.gm_arena.proofs.arena.Arena.new.Goals as goal
 
 pub invariant_of-result : goal.invariant_of-result
 invariant_of-result c =
-    rw (c.top.ensures.value, c.as_slice.ensures, c.new-2.ensures.items, c.new-3.ensures.items)
+    rw (c.top.ensures.value, c.as_slice.ensures, c.new-2.ensures.items, c.new-3.ensures.items, c.new-4.ensures.items)
     (sound_empty c.args.schema c.new.result c.new.ensures.empty c.requires c.top.ensures.least c.top.ensures.greatest c.new.ensures.capacity)
 
 pub returns : goal.returns
 returns c =
-    rw (c.top.ensures.value, c.as_slice.ensures, c.new-2.ensures.items, c.new-3.ensures.items)
+    rw (c.top.ensures.value, c.as_slice.ensures, c.new-2.ensures.items, c.new-3.ensures.items, c.new-4.ensures.items)
     (map_empty c.args.schema c.new.result c.new.ensures.empty)

@@ -1,21 +1,28 @@
-use Rattle.std.proofs.Common.{◌≡◌, ℕ, ◌+◌, ◌-◌, arith}
+use Rattle.std.proofs.Common.{◌≡◌, ℕ, ◌+◌, ◌-◌, ◌*◌, ◌≤◌, length, arith}
 use Rattle.gm_arena.proofs.InsideLemmas.{key_at, live_at, slot_at, row_at}
+use Rattle.gm_arena.proofs.ReserveLemmas.{links_within}
 use Rattle.gm_arena.proofs.arena.Arena.row.Goals as goal
 
-pub index-place-requires : goal.index-place-requires
-index-place-requires g c = key_at c.self.inside.places _ (rw (← c.self.view_is) at c.requires)
+pub index-requires : goal.index-requires
+index-requires g c = key_at c.self.inside.places _ (rw (← c.self.view_is) at c.requires)
+
+pub slice_bounds-result-end : goal.slice_bounds-result-end
+slice_bounds-result-end g c =
+    let s = c.self.inside in
+    let within : c.args.slot.at * s.labels + s.labels ≤ length s.neighbours.items = links_within _ _ _ _ _ _ _ _ _ _ c.self.invariant c.args.slot.at (rw (← c.self.view_is) at c.requires) in
+    omega (arith, within, s.neighbours.ok.0)
 
 pub returns-clause-name : goal.returns-clause-name
-returns-clause-name g c = rw (← c.self.view_is) (slot_at c.self.inside.places _ _ c.index-place.ensures)
+returns-clause-name g c = rw (← c.self.view_is) (slot_at c.self.inside.places _ _ c.index.ensures)
 
 back : (n k : ℕ) → n + k - n ≡ k
 back n k = omega arith
 
 pub returns-clause-dart : goal.returns-clause-dart
 returns-clause-dart g c =
-    rw (← c.self.view_is, back, c.deref.ensures.value) (row_at _ _ _ _ _ _ _ _ _ c.self.invariant c.args.slot.at c.index-place.result.now c.index-place.ensures)
+    rw (← c.self.view_is, back, back, c.deref.ensures.value, c.deref-2.ensures.value) (row_at _ _ _ _ _ _ _ _ _ _ c.self.invariant c.args.slot.at c.index.result.now c.index.ensures)
 
 pub returns-clause-live : goal.returns-clause-live
 returns-clause-live g c =
-    let placed = c.self.invariant.placed c.args.slot.at c.index-place.result.now c.index-place.ensures in
-    λ k d h. rw (← c.self.view_is) (live_at c.self.inside.places _ (placed.live k d h))
+    let placed = c.self.invariant.placed c.args.slot.at c.index.result.now c.index.ensures in
+    rw (← c.self.view_is, back, c.deref.ensures.value) (λ k d h. live_at c.self.inside.places _ (placed.live k d h))

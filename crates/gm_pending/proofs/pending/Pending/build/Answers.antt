@@ -2,11 +2,7 @@ use Rattle.std.proofs.Common.{sym, subst, ap, ◌∙◌}
 use Rattle.gm_model.specs.declared.schema.Schema.{Schema}
 use Rattle.gm_model.specs.Rules.{rule_of}
 use Rattle.gm_plan.specs.Plans.{IsPlanned}
-use Rattle.gm_pending.proofs.Darts.{one_left_count}
 use Rattle.gm_pending.proofs.pending.Pending.build.Goals as goal
-
-pub marks_of-requires : goal.marks_of-requires
-marks_of-requires g c = one_left_count (rule_of c.args.plan.now.table) c.left_nodes.result c.args.found.now.nodes c.left_nodes.ensures.left c.requires.matched.1.nodes
 
 pub invariant_of-result : goal.invariant_of-result
 invariant_of-result g c = (
@@ -18,5 +14,5 @@ invariant_of-result g c = (
     hooks = c.requires.matched.0;
     matched = c.requires.matched.1;
   },
-  c.in_ok-marks.ensures,
+  c.requires.schema,
 )

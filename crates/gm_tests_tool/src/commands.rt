@@ -1,0 +1,616 @@
+//! Commands on one file, run over a store and a sink in memory.
+
+use gm_host::{MemSink, MemStore};
+use gm_tool::with_new_counter;
+use std::alloc::Global;
+use std::marker::Brand;
+use std::process::ExitCode;
+use std::sync::ledger::Blank;
+use std::test::Fail;
+
+pub(crate) const SQUARE: &str =
+    "gmap 1\ndim 2\ndarts 8\n0 1 7 0\n1 0 2 1\n2 3 1 2\n3 2 4 3\n4 5 3 4\n5 4 6 5\n6 7 5 6\n7 6 0 7\n";
+
+pub(crate) const EMPTY: &str = "gmap 1\ndim 2\ndarts 0\n";
+
+const DROP: &str = "book 1\ndim 2\nrule drop\nleft\na <0 1> hook\na -2- a\nright\n";
+
+/// The words of a line, between single blanks.
+pub(crate) fn words_of(alloc: Global, line: &str) -> Result<Vec<String>, Fail> {
+    let mut owned = Vec::new(alloc);
+    for word in line.split_whitespace() {
+        owned.push(String::from_str(alloc, word)?)?;
+    }
+    Ok(owned)
+}
+
+/// How the program ends on the words, run over a step counter of their own.
+pub(crate) fn run(
+    rt: &HostRuntime,
+    words: &[String],
+    store: &mut MemStore,
+    out: &mut MemSink,
+) -> ExitCode {
+    with_new_counter::<MemStore, MemSink, Brand>(rt, words, store, out, Blank::new(1))
+}
+
+/// A text, and the status and the text put of a command on it.
+#[derive(Drop)]
+struct Case<'a> {
+    text: &'a str,
+    status: u8,
+    put: &'a str,
+}
+
+/// The words of the line are run over a store that holds the text as MAP and as BOOK.
+fn expect(rt: &HostRuntime, line: &str, case: &Case) -> Result<(), Fail> {
+    let alloc = rt.alloc();
+    let text = case.text.as_bytes();
+    let mut store = MemStore::new(alloc);
+    let mut out = MemSink::new(alloc);
+    store.hold("MAP", text)?;
+    store.hold("BOOK", text)?;
+    let words = words_of(alloc, line)?;
+    let ended = run(rt, words.as_slice(), &mut store, &mut out);
+    assert_eq!(rt; ended, ExitCode::from(case.status), "{}", case.text);
+    assert_eq!(rt; out.bytes(), case.put.as_bytes(), "{}", case.text);
+    assert_eq!(rt; store.bytes("MAP"), Some(text));
+    assert_eq!(rt; store.bytes("BOOK"), Some(text));
+    Ok(())
+}
+
+/// Each line is run on each case.
+fn expect_each(rt: &HostRuntime, lines: &[&str], cases: &[Case]) -> Result<(), Fail> {
+    for line in lines {
+        for case in cases {
+            expect(rt, line, case)?;
+        }
+    }
+    Ok(())
+}
+
+const MAPS: [Case; 18] = [
+    Case {
+        text: SQUARE,
+        status: 0,
+        put: SQUARE,
+    },
+    Case {
+        text: "gmap 1 dim 2 darts 0",
+        status: 0,
+        put: EMPTY,
+    },
+    Case {
+        text: "gmap 01 dim 02 darts 00 # a comment",
+        status: 0,
+        put: EMPTY,
+    },
+    Case {
+        text: "gmap 1 dim 1 darts 1 16777215 16777215 16777215",
+        status: 0,
+        put: "gmap 1\ndim 1\ndarts 1\n16777215 16777215 16777215\n",
+    },
+    Case {
+        text: "gmap 1 dim 2 darts 2 0 1 0 0 1 1 1 1",
+        status: 4,
+        put: "refused MAP involution dart 0 label 0\n",
+    },
+    Case {
+        text: "gmap 1 dim 2 darts 4 0 1 0 2 1 0 1 1 2 3 2 0 3 2 3 3",
+        status: 4,
+        put: "refused MAP cycle dart 0 labels 0 2\n",
+    },
+    Case {
+        text: "gmap 1 dim 8 darts 0",
+        status: 4,
+        put: "refused MAP limit dimension 11\n",
+    },
+    Case {
+        text: "gmap 1 dim 0 darts 0",
+        status: 4,
+        put: "refused MAP limit dimension 11\n",
+    },
+    Case {
+        text: "gmap 2 dim 2 darts 0",
+        status: 4,
+        put: "refused MAP text 5\n",
+    },
+    Case {
+        text: "gmap 1 dim 1 darts 2 5 5 5 5 5 5",
+        status: 4,
+        put: "refused MAP dart-twice 5\n",
+    },
+    Case {
+        text: "gmap 1 dim 1 darts 1 0 9 0",
+        status: 4,
+        put: "refused MAP no-target dart 0 label 0\n",
+    },
+    Case {
+        text: "gmap 1 dim 1 darts 1 16777216 0 0",
+        status: 4,
+        put: "refused MAP limit dart-name 21\n",
+    },
+    Case {
+        text: "gmap 1 dim 1 darts 1048577",
+        status: 4,
+        put: "refused MAP limit darts 19\n",
+    },
+    Case {
+        text: "gmap 1 dim 1 darts 0 0",
+        status: 4,
+        put: "refused MAP text 21\n",
+    },
+    Case {
+        text: "gmap 1 dim 1 darts 0 !",
+        status: 4,
+        put: "refused MAP text 21\n",
+    },
+    Case {
+        text: "gmap 1 dim 2 embed pos <1 2> vec3 darts 0",
+        status: 4,
+        put: "refused MAP not-built 13\n",
+    },
+    Case {
+        text: "gmap 1 embed",
+        status: 4,
+        put: "refused MAP text 7\n",
+    },
+    Case {
+        text: "",
+        status: 4,
+        put: "refused MAP text 0\n",
+    },
+];
+
+#[test]
+fn maps_shown_and_refused(rt: HostRuntime) -> Result<(), Fail> {
+    expect_each(&rt, &["show MAP"], &MAPS)
+}
+
+const NO_COMMANDS: [&str; 12] = [
+    "",
+    "show",
+    "show MAP MAP",
+    "Show MAP",
+    "MAP show",
+    "book",
+    "book BOOK BOOK",
+    "books BOOK",
+    "check",
+    "check MAP BOOK",
+    "checks BOOK",
+    "--help",
+];
+
+const USAGE: [Case; 1] = [Case {
+    text: SQUARE,
+    status: 2,
+    put: "refused usage\n",
+}];
+
+#[test]
+fn words_that_are_no_command(rt: HostRuntime) -> Result<(), Fail> {
+    expect_each(&rt, &NO_COMMANDS, &USAGE)
+}
+
+const BOOKS: [Case; 6] = [
+    Case {
+        text: "book 1 dim 2 rule drop left a -2- a a <0 1> hook right",
+        status: 0,
+        put: "book 1\ndim 2\nrule drop\nleft\na <0 1> hook\na -2- a\nright\n",
+    },
+    Case {
+        text: "book 01 dim 02 # no rule",
+        status: 0,
+        put: "book 1\ndim 2\n",
+    },
+    Case {
+        text: "book 1 dim 2 rule T left a <0 1> hook right c <1 2> b -0- c b <_ 2> a <0 _> a -1- b",
+        status: 0,
+        put: "book 1\ndim 2\nrule T\nleft\na <0 1> hook\nright\na <0 _>\nc <1 2>\nb <_ 2>\nb -0- c\na -1- b\n",
+    },
+    Case {
+        text: "book 1 dim 1 rule pair left right x <> y <> x -0- y y -01- y x -1- x",
+        status: 0,
+        put: "book 1\ndim 1\nrule pair\nleft\nright\nx <>\ny <>\nx -0- y\ny -1- y\nx -1- x\n",
+    },
+    Case {
+        text: "book 1 dim 2 rule r left b <0> a <1> right right1 <_> a <_>",
+        status: 0,
+        put: "book 1\ndim 2\nrule r\nleft\nb <0>\na <1>\nright\na <_>\nright1 <_>\n",
+    },
+    Case {
+        text: "book 1 dim 2 rule r left a <0 1> right a <0 1>",
+        status: 0,
+        put: "book 1\ndim 2\nrule r\nleft\na <0 1>\nright\na <0 1>\n",
+    },
+];
+
+#[test]
+fn books_printed(rt: HostRuntime) -> Result<(), Fail> {
+    expect_each(&rt, &["book BOOK"], &BOOKS)
+}
+
+const NO_BOOKS: [Case; 24] = [
+    Case {
+        text: "",
+        status: 4,
+        put: "refused BOOK text 0\n",
+    },
+    Case {
+        text: "book 2 dim 2",
+        status: 4,
+        put: "refused BOOK text 5\n",
+    },
+    Case {
+        text: "book 1 dim 8",
+        status: 4,
+        put: "refused BOOK limit dimension 11\n",
+    },
+    Case {
+        text: "book 1 dim 2 rule left left right",
+        status: 4,
+        put: "refused BOOK text 18\n",
+    },
+    Case {
+        text: "book 1 dim 2 rule r left a <0 1 hook right",
+        status: 4,
+        put: "refused BOOK text 32\n",
+    },
+    Case {
+        text: "book 1 dim 2 rule r left a <0> hook right a <0> hook",
+        status: 4,
+        put: "refused BOOK text 48\n",
+    },
+    Case {
+        text: "book 1 dim 2 rule r left a <0 3> hook right",
+        status: 4,
+        put: "refused BOOK limit label 30\n",
+    },
+    Case {
+        text: "book 1 dim 7 rule r left a <0 1 2 3 4 5 6 7 0> right",
+        status: 4,
+        put: "refused BOOK limit word 44\n",
+    },
+    Case {
+        text: "book 1 dim 2 rule r left a <0 1> hook a -1- a",
+        status: 4,
+        put: "refused BOOK text 45\n",
+    },
+    Case {
+        text: "book 1 dim 2 rule r left right ! right",
+        status: 4,
+        put: "refused BOOK text 31\n",
+    },
+    Case {
+        text: "book 1 dim 2 rule abcdefghijklmnopqrstuvwxyz_1234567 left right",
+        status: 4,
+        put: "refused BOOK limit name 18\n",
+    },
+    Case {
+        text: "book 1 dim 2 rule r left right rule s left right rule r left right",
+        status: 4,
+        put: "refused BOOK twice 54\n",
+    },
+    Case {
+        text: "book 1 dim 2 rule r left a <0> a <1> right",
+        status: 4,
+        put: "refused BOOK twice 31\n",
+    },
+    Case {
+        text: "book 1 dim 2 rule r left a -2- b a <0> hook right",
+        status: 4,
+        put: "refused BOOK unknown 31\n",
+    },
+    Case {
+        text: "book 1 dim 2 rule r left a <0> hook right b <1> a -1- b",
+        status: 4,
+        put: "refused BOOK unknown 48\n",
+    },
+    Case {
+        text: "book 1 dim 2 rule r left b -1- b a <0> a <1> right rule r left a -1- b right !",
+        status: 4,
+        put: "refused BOOK text 77\n",
+    },
+    Case {
+        text: "book 1 dim 2 embed pos <1 2> vec3 rule r left right",
+        status: 4,
+        put: "refused BOOK not-built 13\n",
+    },
+    Case {
+        text: "book 1 dim 2 rule r left a <0 1> hook right a <0 1> pre count<0 1>(a)",
+        status: 4,
+        put: "refused BOOK not-built 52\n",
+    },
+    Case {
+        text: "book 1 dim 2 rule move(v: vec3) left right",
+        status: 4,
+        put: "refused BOOK not-built 22\n",
+    },
+    Case {
+        text: "book 1 dim 2 rule r left a <> hook right a <> with pos = 1",
+        status: 4,
+        put: "refused BOOK not-built 46\n",
+    },
+    Case {
+        text: "book 1 dim 2 rule r left a <> with pos = 1 right",
+        status: 4,
+        put: "refused BOOK text 30\n",
+    },
+    Case {
+        text: "book 1 dim 2 rule r left a <0 1> right rule s left a <0> hook right b -1- b",
+        status: 4,
+        put: "refused BOOK unknown 68\n",
+    },
+    Case {
+        text: "book 1 dim 2 rule r left a <0 1> right rule s left right pre true",
+        status: 4,
+        put: "refused BOOK not-built 57\n",
+    },
+    Case {
+        text: "book 1 dim 2 rule r left a <0 1> right rule r left right",
+        status: 4,
+        put: "refused BOOK twice 44\n",
+    },
+];
+
+#[test]
+fn texts_of_no_book(rt: HostRuntime) -> Result<(), Fail> {
+    expect_each(&rt, &["book BOOK", "check BOOK"], &NO_BOOKS)
+}
+
+/// Books of one rule at most, and then of more: each rule has its line, whatever the lines before it
+/// say.
+const CHECKS: [Case; 23] = [
+    Case {
+        text: "book 1 dim 2",
+        status: 0,
+        put: "rules 0 refused 0\n",
+    },
+    Case {
+        text: "book 1 dim 2 rule r left a <0 1> right a <0 1>",
+        status: 1,
+        put: "rule r refused hooks\nrules 1 refused 1\n",
+    },
+    Case {
+        text: "book 1 dim 2 rule r left right a <> a -0- a a -1- a a -2- a",
+        status: 0,
+        put: "rule r accepted\nrules 1 refused 0\n",
+    },
+    Case {
+        text: "book 1 dim 2 rule r left a <0 1> hook b <0 1> hook a -2- b right a <0 1> b <0 1> a -2- b",
+        status: 1,
+        put: "rule r refused hooks\nrules 1 refused 1\n",
+    },
+    Case {
+        text: "book 1 dim 2 rule r left a <0 _> hook right a <0 _>",
+        status: 1,
+        put: "rule r refused hook-word a\nrules 1 refused 1\n",
+    },
+    Case {
+        text: "book 1 dim 2 rule r left a <0 0> hook right a <0 1>",
+        status: 1,
+        put: "rule r refused hook-word a\nrules 1 refused 1\n",
+    },
+    Case {
+        text: "book 1 dim 2 rule r left a <0 1> hook right a <0>",
+        status: 1,
+        put: "rule r refused word-length a\nrules 1 refused 1\n",
+    },
+    Case {
+        text: "book 1 dim 2 rule r left right a <0>",
+        status: 1,
+        put: "rule r refused word-length a\nrules 1 refused 1\n",
+    },
+    Case {
+        text: "book 1 dim 2 rule r left a <0> hook b <0> right a <0> b <0>",
+        status: 1,
+        put: "rule r refused not-connected b\nrules 1 refused 1\n",
+    },
+    Case {
+        text: "book 1 dim 2 rule r left a <0 1> hook a -1- a right a <0 1>",
+        status: 1,
+        put: "rule r refused arc-twice a 1 left\nrules 1 refused 1\n",
+    },
+    Case {
+        text: "book 1 dim 2 rule r left a <0 1> hook right a <1 1>",
+        status: 1,
+        put: "rule r refused arc-twice a 1 right\nrules 1 refused 1\n",
+    },
+    Case {
+        text: "book 1 dim 2 rule r left a <0 1> hook right a <0 _>",
+        status: 1,
+        put: "rule r refused arc-set a 1\nrules 1 refused 1\n",
+    },
+    Case {
+        text: "book 1 dim 2 rule r left a <0 1> hook right",
+        status: 1,
+        put: "rule r refused arc-missing a 2\nrules 1 refused 1\n",
+    },
+    Case {
+        text: "book 1 dim 2 rule r left a <0> hook b <0> a -2- b right a <0> a -2- a",
+        status: 1,
+        put: "rule r refused arc-missing b 1\nrules 1 refused 1\n",
+    },
+    Case {
+        text: "book 1 dim 2 rule r left a <0 1> hook right a <0 1>",
+        status: 0,
+        put: "rule r accepted\nrules 1 refused 0\n",
+    },
+    Case {
+        text: "book 1 dim 2 rule r left a <0 1 2> hook right a <1 0 2>",
+        status: 1,
+        put: "rule r refused square a 0 2\nrules 1 refused 1\n",
+    },
+    Case {
+        text: "book 1 dim 2 rule drop left a -2- a a <0 1> hook right",
+        status: 0,
+        put: "rule drop accepted\nrules 1 refused 0\n",
+    },
+    Case {
+        text: "book 1 dim 1 rule split left a <0> hook right a <_> b <1> a -0- b",
+        status: 0,
+        put: "rule split accepted\nrules 1 refused 0\n",
+    },
+    Case {
+        text: "book 1 dim 2 rule pair left right x <> y <> x -0- y x -1- x x -2- x y -1- y y -2- y",
+        status: 0,
+        put: "rule pair accepted\nrules 1 refused 0\n",
+    },
+    Case {
+        text: "book 1 dim 2 rule T left a <0 1> hook right a <0 _> b <_ 2> c <1 2> a -1- b b -0- c rule U left a <0 1> hook right a <0 _> b <_ 2> c <2 1> a -1- b b -0- c",
+        status: 1,
+        put: "rule T accepted\nrule U refused square b 0 2\nrules 2 refused 1\n",
+    },
+    Case {
+        text: "book 1 dim 2 rule U left a <0 1> hook right a <0 _> b <_ 2> c <2 1> a -1- b b -0- c rule T left a <0 1> hook right a <0 _> b <_ 2> c <1 2> a -1- b b -0- c",
+        status: 1,
+        put: "rule U refused square b 0 2\nrule T accepted\nrules 2 refused 1\n",
+    },
+    Case {
+        text: "book 1 dim 3 rule T3 left a <0 1 3> hook right a <0 _ 3> b <_ 2 3> c <1 2 3> a -1- b b -0- c rule V3 left a <0 1 3> hook right a <0 _ 3> b <_ 3 2> c <1 2 3> a -1- b b -0- c",
+        status: 1,
+        put: "rule T3 accepted\nrule V3 refused square a 1 3\nrules 2 refused 1\n",
+    },
+    Case {
+        text: "book 1 dim 2 rule a left a <0 1> right rule b left a <0 1> hook right a <0 1> rule c left a <0 1> hook right rule T left a <0 1> hook right a <0 _> b <_ _> c <1 2> a -1- b b -0- c rule d left right",
+        status: 1,
+        put: "rule a refused hooks\nrule b accepted\nrule c refused arc-missing a 2\nrule T refused arc-missing b 2\nrule d accepted\nrules 5 refused 3\n",
+    },
+];
+
+#[test]
+fn rules_checked(rt: HostRuntime) -> Result<(), Fail> {
+    expect_each(&rt, &["check BOOK"], &CHECKS)
+}
+
+/// Where the square's text stops to go on, by how many of its bytes are there.
+fn stop_of(length: usize) -> usize {
+    match length {
+        1..=3 => 0,
+        8 | 9 => 7,
+        14..=17 => 13,
+        _ => length,
+    }
+}
+
+/// A text that is cut is refused at its last token or its end, unless only its last line end is
+/// gone.
+#[test]
+fn square_cut_at_every_length(rt: HostRuntime) -> Result<(), Fail> {
+    for length in 0..=SQUARE.len() {
+        let text = SQUARE.get(..length).ok_or("no cut")?;
+        let stop = stop_of(length);
+        let line = format!(in rt.alloc(); "refused MAP text {stop}\n")?;
+        let whole = length + 1 >= SQUARE.len();
+        let (status, put) = if whole {
+            (0, SQUARE)
+        } else {
+            (4, line.as_str())
+        };
+        expect(&rt, "show MAP", &Case { text, status, put })?;
+    }
+    Ok(())
+}
+
+/// Files that are not there, loads and puts that fail, and what each command of [`COMMANDS`] puts.
+struct Fault<'a> {
+    held: bool,
+    load_fails: bool,
+    put_keeps: Option<usize>,
+    status: u8,
+    puts: [&'a str; 3],
+}
+
+const COMMANDS: [(&str, &str); 3] = [
+    ("show FILE", SQUARE),
+    ("book FILE", DROP),
+    ("check FILE", DROP),
+];
+
+const FAULTS: [Fault; 5] = [
+    Fault {
+        held: false,
+        load_fails: false,
+        put_keeps: None,
+        status: 3,
+        puts: [
+            "refused load MAP\n",
+            "refused load BOOK\n",
+            "refused load BOOK\n",
+        ],
+    },
+    Fault {
+        held: true,
+        load_fails: true,
+        put_keeps: None,
+        status: 3,
+        puts: [
+            "refused load MAP\n",
+            "refused load BOOK\n",
+            "refused load BOOK\n",
+        ],
+    },
+    Fault {
+        held: true,
+        load_fails: true,
+        put_keeps: Some(9),
+        status: 6,
+        puts: ["refused l", "refused l", "refused l"],
+    },
+    Fault {
+        held: true,
+        load_fails: false,
+        put_keeps: Some(0),
+        status: 6,
+        puts: ["", "", ""],
+    },
+    Fault {
+        held: true,
+        load_fails: false,
+        put_keeps: Some(5),
+        status: 6,
+        puts: ["gmap ", "book ", "rule "],
+    },
+];
+
+/// The command meets the fault on the text.
+fn expect_fault(
+    rt: &HostRuntime,
+    command: (&str, &str),
+    fault: &Fault,
+    put: &str,
+) -> Result<(), Fail> {
+    let alloc = rt.alloc();
+    let (line, text) = command;
+    let mut store = MemStore::new(alloc);
+    let mut out = MemSink::new(alloc);
+    if fault.held {
+        store.hold("FILE", text.as_bytes())?;
+    }
+    if fault.load_fails {
+        store.fail_load(0)?;
+    }
+    if let Some(kept) = fault.put_keeps {
+        out.fail_put(0, kept)?;
+    }
+    let words = words_of(alloc, line)?;
+    let ended = run(rt, words.as_slice(), &mut store, &mut out);
+    assert_eq!(rt; ended, ExitCode::from(fault.status), "{line}");
+    assert_eq!(rt; out.bytes(), put.as_bytes(), "{line}");
+    Ok(())
+}
+
+fn expect_faults(rt: &HostRuntime, faults: &[Fault]) -> Result<(), Fail> {
+    for fault in faults {
+        for (command, put) in COMMANDS.iter().zip(&fault.puts) {
+            expect_fault(rt, *command, fault, put)?;
+        }
+    }
+    Ok(())
+}
+
+#[test]
+fn faults_of_files_and_output(rt: HostRuntime) -> Result<(), Fail> {
+    expect_faults(&rt, &FAULTS)
+}

@@ -1,0 +1,7 @@
+//! Tests of the program's commands, over a store and a sink in memory.
+#![tactic(auto)]
+
+#[cfg(test)]
+mod commands;
+#[cfg(test)]
+mod runs;

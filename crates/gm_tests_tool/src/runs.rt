@@ -1,0 +1,403 @@
+//! Runs of scripts over a store and a sink in memory.
+
+use crate::commands::{EMPTY, SQUARE, run, words_of};
+use gm_host::{MemSink, MemStore};
+use std::alloc::Global;
+use std::process::ExitCode;
+use std::test::Fail;
+
+const TRIANGULATED: &str =
+    "gmap 1\ndim 2\ndarts 24\n0 1 8 0\n1 0 9 1\n2 3 11 2\n3 2 13 3\n4 5 15 4\n5 4 14 5\n6 7 12 6\n7 6 10 7\n8 16 0 10\n9 17 1 11\n10 18 7 8\n11 19 2 9\n12 20 6 14\n13 21 3 15\n14 22 5 12\n15 23 4 13\n16 8 17 18\n17 9 16 19\n18 10 20 16\n19 11 21 17\n20 12 18 22\n21 13 19 23\n22 14 23 20\n23 15 22 21\n";
+
+const T: &str =
+    "book 1 dim 2 rule T left a <0 1> hook right a <0 _> b <_ 2> c <1 2> a -1- b b -0- c";
+
+const DROP: &str = "book 1 dim 2 rule drop left a <0 1> hook a -2- a right";
+
+const PAIR: &str =
+    "book 1 dim 2 rule pair left right x <> y <> x -0- y x -1- x x -2- x y -1- y y -2- y";
+
+const DONE: &str = "1 T done added 16 removed 0\napplied 1 refused 0 darts 24 next 24\n";
+
+fn files(alloc: Global, map: &str, book: &str, script: &str) -> Result<MemStore, Fail> {
+    let mut store = MemStore::new(alloc);
+    store.hold("MAP", map.as_bytes())?;
+    store.hold("BOOK", book.as_bytes())?;
+    store.hold("SCRIPT", script.as_bytes())?;
+    Ok(store)
+}
+
+/// The texts of a map, a book and a script, and the status, the text put and the map saved.
+struct Run<'a> {
+    texts: [&'a str; 3],
+    status: u8,
+    put: &'a str,
+    saved: Option<&'a str>,
+}
+
+fn expect_run(rt: &HostRuntime, case: &Run) -> Result<(), Fail> {
+    let alloc = rt.alloc();
+    let [map, book, script] = case.texts;
+    let mut store = files(alloc, map, book, script)?;
+    let mut out = MemSink::new(alloc);
+    let words = words_of(alloc, "run MAP BOOK SCRIPT OUT")?;
+    let ended = run(rt, words.as_slice(), &mut store, &mut out);
+    let saved = case.saved.map(|text| text.as_bytes());
+    assert_eq!(rt; ended, ExitCode::from(case.status), "{}", case.put);
+    assert_eq!(rt; out.bytes(), case.put.as_bytes(), "{}", case.put);
+    assert_eq!(rt; store.bytes("OUT"), saved, "{}", case.put);
+    assert_eq!(rt; store.bytes("MAP"), Some(map.as_bytes()));
+    assert_eq!(rt; store.bytes("BOOK"), Some(book.as_bytes()));
+    assert_eq!(rt; store.bytes("SCRIPT"), Some(script.as_bytes()));
+    Ok(())
+}
+
+fn run_each(rt: &HostRuntime, cases: &[Run]) -> Result<(), Fail> {
+    for case in cases {
+        expect_run(rt, case)?;
+    }
+    Ok(())
+}
+
+const RUNS: [Run; 9] = [
+    Run {
+        texts: [SQUARE, T, "apply T 0"],
+        status: 0,
+        put: DONE,
+        saved: Some(TRIANGULATED),
+    },
+    Run {
+        texts: [SQUARE, T, ""],
+        status: 0,
+        put: "applied 0 refused 0 darts 8 next 8\n",
+        saved: Some(SQUARE),
+    },
+    Run {
+        texts: [SQUARE, DROP, "apply drop 0 apply drop 0"],
+        status: 1,
+        put: "1 drop done added 0 removed 8\n2 drop refused no-dart hook 0\napplied 1 refused 1 darts 0 next 8\n",
+        saved: Some(EMPTY),
+    },
+    Run {
+        texts: [SQUARE, T, "apply T 99 apply T 0"],
+        status: 1,
+        put: "1 T refused no-dart hook 0\n2 T done added 16 removed 0\napplied 1 refused 1 darts 24 next 24\n",
+        saved: Some(TRIANGULATED),
+    },
+    Run {
+        texts: [EMPTY, PAIR, "apply pair"],
+        status: 0,
+        put: "1 pair done added 2 removed 0\napplied 1 refused 0 darts 2 next 2\n",
+        saved: Some("gmap 1\ndim 2\ndarts 2\n0 1 0 0\n1 0 1 1\n"),
+    },
+    Run {
+        texts: [
+            "gmap 1 dim 2 darts 1 16777214 16777214 16777214 16777214",
+            PAIR,
+            "apply pair",
+        ],
+        status: 1,
+        put: "1 pair refused full-names next 16777215 more 2\napplied 0 refused 1 darts 1 next 16777215\n",
+        saved: Some("gmap 1\ndim 2\ndarts 1\n16777214 16777214 16777214 16777214\n"),
+    },
+    Run {
+        texts: [
+            "gmap 1 dim 1 darts 2 0 1 0 1 0 1",
+            "book 1 dim 1 rule split left a <0> hook right a <_> b <1> a -0- b",
+            "apply split 0",
+        ],
+        status: 0,
+        put: "1 split done added 2 removed 0\napplied 1 refused 0 darts 4 next 4\n",
+        saved: Some("gmap 1\ndim 1\ndarts 4\n0 2 0\n1 3 1\n2 0 3\n3 1 2\n"),
+    },
+    Run {
+        texts: [
+            SQUARE,
+            "book 1 dim 2 rule e left a <0> hook b <0> a -1- b right a <0> b <0> a -1- b",
+            "apply e 2",
+        ],
+        status: 1,
+        put: "1 e refused no-match arc b 0 0\napplied 0 refused 1 darts 8 next 8\n",
+        saved: Some(SQUARE),
+    },
+    Run {
+        texts: [
+            SQUARE,
+            "book 1 dim 2 rule s left a <> hook b <> a -2- b right a <> b <> a -2- b",
+            "apply s 0",
+        ],
+        status: 1,
+        put: "1 s refused no-match same a 0 b 0\napplied 0 refused 1 darts 8 next 8\n",
+        saved: Some(SQUARE),
+    },
+];
+
+#[test]
+fn scripts_run(rt: HostRuntime) -> Result<(), Fail> {
+    run_each(&rt, &RUNS)
+}
+
+const NO_RUNS: [Run; 9] = [
+    Run {
+        texts: ["gmap 1 dim 2 darts 1", "", ""],
+        status: 4,
+        put: "refused MAP text 20\n",
+        saved: None,
+    },
+    Run {
+        texts: [SQUARE, "book 2", "apply"],
+        status: 4,
+        put: "refused BOOK text 5\n",
+        saved: None,
+    },
+    Run {
+        texts: [
+            SQUARE,
+            "book 1 dim 2 rule T left a <0 1> hook right a <0 _> b <_ 2> c <1 2> a -1- b b -0- c rule U left a <0 1> hook right a <0 _> b <_ 2> c <2 1> a -1- b b -0- c",
+            "!",
+        ],
+        status: 4,
+        put: "refused BOOK rule U square b 0 2\n",
+        saved: None,
+    },
+    Run {
+        texts: [SQUARE, T, "apply T"],
+        status: 4,
+        put: "refused SCRIPT hook-count 0\n",
+        saved: None,
+    },
+    Run {
+        texts: [SQUARE, T, "apply U 0"],
+        status: 4,
+        put: "refused SCRIPT unknown-rule 6\n",
+        saved: None,
+    },
+    Run {
+        texts: [SQUARE, T, "apply T 0 with 3"],
+        status: 4,
+        put: "refused SCRIPT params 0\n",
+        saved: None,
+    },
+    Run {
+        texts: [SQUARE, T, "apply"],
+        status: 4,
+        put: "refused SCRIPT text 5\n",
+        saved: None,
+    },
+    Run {
+        texts: [SQUARE, T, "apply T 16777216"],
+        status: 4,
+        put: "refused SCRIPT limit dart-name 8\n",
+        saved: None,
+    },
+    Run {
+        texts: ["gmap 1 dim 3 darts 0", T, ""],
+        status: 4,
+        put: "refused agree\n",
+        saved: None,
+    },
+];
+
+#[test]
+fn files_that_do_not_run(rt: HostRuntime) -> Result<(), Fail> {
+    run_each(&rt, &NO_RUNS)
+}
+
+/// What fails: a load by its number, or the first save or put, which keeps some bytes or none.
+enum Failure {
+    Nothing,
+    Load(u32),
+    Save(Option<usize>),
+    Put(usize),
+}
+
+/// A line over the texts of [`DONE`], what fails, and what the file then holds.
+struct Trial<'a> {
+    line: &'a str,
+    failure: Failure,
+    status: u8,
+    put: &'a str,
+    file: &'a str,
+    holds: Option<&'a str>,
+}
+
+fn expect_trial(rt: &HostRuntime, trial: &Trial) -> Result<(), Fail> {
+    let alloc = rt.alloc();
+    let mut store = files(alloc, SQUARE, T, "apply T 0")?;
+    let mut out = MemSink::new(alloc);
+    match trial.failure {
+        Failure::Nothing => {}
+        Failure::Load(call) => store.fail_load(call)?,
+        Failure::Save(kept) => store.fail_save(0, kept)?,
+        Failure::Put(kept) => out.fail_put(0, kept)?,
+    }
+    let words = words_of(alloc, trial.line)?;
+    let ended = run(rt, words.as_slice(), &mut store, &mut out);
+    let holds = trial.holds.map(|text| text.as_bytes());
+    assert_eq!(rt; ended, ExitCode::from(trial.status), "{}", trial.line);
+    assert_eq!(rt; out.bytes(), trial.put.as_bytes(), "{}", trial.line);
+    assert_eq!(rt; store.bytes(trial.file), holds, "{}", trial.line);
+    Ok(())
+}
+
+fn try_each(rt: &HostRuntime, trials: &[Trial]) -> Result<(), Fail> {
+    for trial in trials {
+        expect_trial(rt, trial)?;
+    }
+    Ok(())
+}
+
+/// Loads that fail, files that are not there, saves that fail and keep nothing or some of the bytes,
+/// puts behind a save that fail, and at last a run that saves over its own map.
+const TRIALS: [Trial; 12] = [
+    Trial {
+        line: "run MAP BOOK SCRIPT OUT",
+        failure: Failure::Load(0),
+        status: 3,
+        put: "refused load MAP\n",
+        file: "OUT",
+        holds: None,
+    },
+    Trial {
+        line: "run MAP BOOK SCRIPT OUT",
+        failure: Failure::Load(1),
+        status: 3,
+        put: "refused load BOOK\n",
+        file: "OUT",
+        holds: None,
+    },
+    Trial {
+        line: "run MAP BOOK SCRIPT OUT",
+        failure: Failure::Load(2),
+        status: 3,
+        put: "refused load SCRIPT\n",
+        file: "OUT",
+        holds: None,
+    },
+    Trial {
+        line: "run A BOOK SCRIPT OUT",
+        failure: Failure::Nothing,
+        status: 3,
+        put: "refused load MAP\n",
+        file: "OUT",
+        holds: None,
+    },
+    Trial {
+        line: "run MAP A SCRIPT OUT",
+        failure: Failure::Nothing,
+        status: 3,
+        put: "refused load BOOK\n",
+        file: "OUT",
+        holds: None,
+    },
+    Trial {
+        line: "run MAP BOOK A OUT",
+        failure: Failure::Nothing,
+        status: 3,
+        put: "refused load SCRIPT\n",
+        file: "OUT",
+        holds: None,
+    },
+    Trial {
+        line: "run MAP BOOK SCRIPT OUT",
+        failure: Failure::Save(None),
+        status: 5,
+        put: "refused save OUT\n",
+        file: "OUT",
+        holds: None,
+    },
+    Trial {
+        line: "run MAP BOOK SCRIPT OUT",
+        failure: Failure::Save(Some(0)),
+        status: 5,
+        put: "refused save OUT\n",
+        file: "OUT",
+        holds: Some(""),
+    },
+    Trial {
+        line: "run MAP BOOK SCRIPT OUT",
+        failure: Failure::Save(Some(4)),
+        status: 5,
+        put: "refused save OUT\n",
+        file: "OUT",
+        holds: Some("gmap"),
+    },
+    Trial {
+        line: "run MAP BOOK SCRIPT OUT",
+        failure: Failure::Put(0),
+        status: 6,
+        put: "",
+        file: "OUT",
+        holds: Some(TRIANGULATED),
+    },
+    Trial {
+        line: "run MAP BOOK SCRIPT OUT",
+        failure: Failure::Put(3),
+        status: 6,
+        put: "1 T",
+        file: "OUT",
+        holds: Some(TRIANGULATED),
+    },
+    Trial {
+        line: "run MAP BOOK SCRIPT MAP",
+        failure: Failure::Nothing,
+        status: 0,
+        put: DONE,
+        file: "MAP",
+        holds: Some(TRIANGULATED),
+    },
+];
+
+#[test]
+fn loads_saves_and_puts(rt: HostRuntime) -> Result<(), Fail> {
+    try_each(&rt, &TRIALS)
+}
+
+/// Words that are no run.
+const WRONG_LINES: [Trial; 5] = [
+    Trial {
+        line: "run",
+        failure: Failure::Nothing,
+        status: 2,
+        put: "refused usage\n",
+        file: "OUT",
+        holds: None,
+    },
+    Trial {
+        line: "run MAP BOOK SCRIPT",
+        failure: Failure::Nothing,
+        status: 2,
+        put: "refused usage\n",
+        file: "OUT",
+        holds: None,
+    },
+    Trial {
+        line: "run MAP BOOK SCRIPT OUT OUT",
+        failure: Failure::Nothing,
+        status: 2,
+        put: "refused usage\n",
+        file: "OUT",
+        holds: None,
+    },
+    Trial {
+        line: "Run MAP BOOK SCRIPT OUT",
+        failure: Failure::Nothing,
+        status: 2,
+        put: "refused usage\n",
+        file: "OUT",
+        holds: None,
+    },
+    Trial {
+        line: "show MAP BOOK SCRIPT OUT",
+        failure: Failure::Nothing,
+        status: 2,
+        put: "refused usage\n",
+        file: "OUT",
+        holds: None,
+    },
+];
+
+#[test]
+fn words_that_are_no_run(rt: HostRuntime) -> Result<(), Fail> {
+    try_each(&rt, &WRONG_LINES)
+}

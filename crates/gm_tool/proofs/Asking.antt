@@ -1,0 +1,242 @@
+-- What is asked, and what the load of its file and the judgement of its bytes make of it.
+use Rattle.std.proofs.Common.{◌≡◌, ◌⊎◌, ℕ, List, [], ◌∷◌, ◌++◌, inl, inr, Option, Some, None, Result, Ok, Err, length, get_or, refl, sym, ap, ◌∙◌, subst, arith}
+use Rattle.std.specs.Global.{Vec}
+use Rattle.std.specs.Prelude.{IfSome, IfOk, IsErrOf, codes, ◌==◌, if◌then◌else◌, Bool, true, false}
+use Rattle.gm_host.specs.Store.{Contents, Lacks, IsCutFrom, IsCutFromHeld, IsLongerThan, OnAbsent, OnFailed, IfTooLong}
+use Rattle.gm_host.specs.declared.fault.LoadFault.{LoadFault}
+use Rattle.gm_host.specs.declared.fault.LoadFault.TheVariants as faults
+use Rattle.gm_tool.specs.Answer.{most_bytes, Answer, answers, Files, IsFileAnswer, Asks, IsOutput, role_of, NoFile, LongFile, BadFile, LongOutput, Done, Shown, Printed, Checked}
+use Rattle.gm_tool.specs.Endings.{IsEnding, Whole, LoadFailed, SaveFailed, IsStored, IsTextOf}
+use Rattle.gm_tool.specs.MadeRuns.{IsRunText, IsSoundReply, HasCause, LacksInput, HoldsMap, IsRunStatus}
+use Rattle.gm_tool.specs.Program.{IsCommand, IsRunCommand, Usage, OfFile, OfRun}
+use Rattle.gm_tool.specs.RunAnswer.{RunNames, AsksRun}
+use Rattle.gm_tool.specs.Checking.{check_status}
+use Rattle.gm_tool.specs.Answer as answer
+use Rattle.gm_tool.specs.declared.refusal.NoText.{NoText}
+use Rattle.gm_tool.specs.declared.refusal.NoText.TheVariants as nothing
+use Rattle.gm_tool.specs.declared.refusal.Refusal.TheVariants as refusals
+use Rattle.gm_tool.specs.declared.refusal.Role.{Role}
+use Rattle.gm_tool.specs.declared.reply.Reply.{Reply}
+use Rattle.gm_tool.specs.Refusals.{role_in, refusal_answer}
+use Rattle.gm_tool.specs.Replies.{IsLoading, IsLong, IsJudged, no_file_for}
+use Rattle.gm_tool.specs.Tool.{IsFileText, IsText, IsFileLoadFailure, IsReplyStatus, LacksFile, IsCheck, HoldsSavedMap}
+use Rattle.gm_tool.specs.Tool as tool
+
+pub two_items : {T : Type 0} (xs : List T) (a b : T) → length xs ≡ 2 → a ≡ get_or xs 0 a → b ≡ get_or xs 1 b → xs ≡ a ∷ b ∷ []
+two_items [] a b e p q = absurd (omega arith)
+two_items (x ∷ []) a b e p q = absurd (omega arith)
+two_items (x ∷ y ∷ []) a b e p q = cc
+two_items (x ∷ y ∷ z ∷ xs) a b e p q = absurd (omega arith)
+
+pub five_items : {T : Type 0} (xs : List T) (a b c d e : T) → length xs ≡ 5 → a ≡ get_or xs 0 a → b ≡ get_or xs 1 b → c ≡ get_or xs 2 c → d ≡ get_or xs 3 d → e ≡ get_or xs 4 e → xs ≡ a ∷ b ∷ c ∷ d ∷ e ∷ []
+five_items [] a b c d e n p q r s t = absurd (omega arith)
+five_items (u ∷ []) a b c d e n p q r s t = absurd (omega arith)
+five_items (u ∷ v ∷ []) a b c d e n p q r s t = absurd (omega arith)
+five_items (u ∷ v ∷ w ∷ []) a b c d e n p q r s t = absurd (omega arith)
+five_items (u ∷ v ∷ w ∷ x ∷ []) a b c d e n p q r s t = absurd (omega arith)
+five_items (u ∷ v ∷ w ∷ x ∷ y ∷ []) a b c d e n p q r s t = cc
+five_items (u ∷ v ∷ w ∷ x ∷ y ∷ z ∷ xs) a b c d e n p q r s t = absurd (omega arith)
+
+-- the answer to a fault of a load, by the clauses of `load`
+pub no_file_is : (contents : Contents) (name : List ℕ) (role : Role) (fails : Type 0) (fault : LoadFault) → OnAbsent {T = Vec ℕ} (Err fault) (Lacks contents name)
+    → OnFailed {T = Vec ℕ} (Err fault) fails → IfTooLong {T = Vec ℕ} (Err fault) (λ seen. IsCutFromHeld contents name most_bytes seen) → IsLoading contents name role fails (Err (no_file_for role fault))
+no_file_is contents name role fails faults.Absent absent failed long = (refl, inr absent)
+no_file_is contents name role fails faults.Failed absent failed long = (refl, inl failed)
+no_file_is contents name role fails (faults.TooLong seen) absent failed long = (refl, cut contents long)
+  where
+    held : (file : Option (List ℕ)) → IsCutFrom file most_bytes seen → IsLongerThan most_bytes file
+    held None h = absurd h
+    held (Some bytes) h = h.0
+
+    cut : (contents : Contents) → IsCutFromHeld contents name most_bytes seen → IsLong contents name
+    cut None h = tt
+    cut (Some files) h = held (files name) h
+no_file_is contents name role fails faults.OutOfMemory absent failed long = tt
+
+module _ (command : answer.Command) (name : List ℕ) (role : Role) (of : role_in role ≡ role_of command) (fails : Type 0) (load_fails : ℕ → Type 0) (up : fails → load_fails 1) (save_fails : Type 0) where
+  load_words : (other : Role) → other ≡ role → refusal_answer (refusals.Load other) ≡ answers 3 (answer.refusal (codes "load " ++ answer.role_word (role_of command)))
+  load_words other e = ap (λ (r : answer.Role). answers 3 (answer.refusal (codes "load " ++ answer.role_word r))) (ap role_in e ∙ of)
+
+  size_words : (other : Role) → other ≡ role → refusal_answer (refusals.Size other) ≡ answers 8 (answer.refusal (codes "size " ++ answer.role_word (role_of command)))
+  size_words other e = ap (λ (r : answer.Role). answers 8 (answer.refusal (codes "size " ++ answer.role_word r))) (ap role_in e ∙ of)
+
+  module _ (files : Files) (after : Contents) (same : after ≡ Some files) where
+    -- the defined answer
+    as_defined : (given : Answer) → IsFileAnswer files command name given → given.saved ≡ None → IsEnding files (IsFileAnswer files command name) (IsFileLoadFailure command load_fails) save_fails given.status given.text after
+    as_defined given is none = Whole given is refl refl (subst (λ s. IsStored files s after) (sym none) same)
+
+    -- a load that gave no file answers as it must
+    not_loaded_to : (none : NoText) → IsLoading (Some files) name role fails (Err none) → IsFileText files command name load_fails save_fails after (Err none)
+    not_loaded_to nothing.OutOfMemory h = same
+    not_loaded_to (nothing.Refused (refusals.Load other)) (e, inl failed) = LoadFailed (up failed, load_words other e) same
+    not_loaded_to (nothing.Refused (refusals.Load other)) (e, inr lacks) = as_defined (refusal_answer (refusals.Load other)) (NoFile lacks (load_words other e)) refl
+    not_loaded_to (nothing.Refused (refusals.Size other)) (e, h) = as_defined (refusal_answer (refusals.Size other)) (long (files name) refl h) refl
+      where
+        long : (file : Option (List ℕ)) → files name ≡ file → IsLongerThan most_bytes file → IsFileAnswer files command name (refusal_answer (refusals.Size other))
+        long None is h = absurd h
+        long (Some bytes) is h = LongFile bytes is h (size_words other e)
+    not_loaded_to (nothing.Refused refusals.Usage) h = absurd h
+    not_loaded_to (nothing.Refused refusals.SizeOutput) h = absurd h
+    not_loaded_to (nothing.Refused refusals.Agree) h = absurd h
+    not_loaded_to (nothing.Refused refusals.Save) h = absurd h
+
+    loaded_to : (bytes : Vec ℕ) (reply : Result Reply NoText) → IsLoading (Some files) name role fails (Ok bytes) → IsJudged bytes.items command reply → IsFileText files command name load_fails save_fails after reply
+    loaded_to bytes (Ok reply) loading (inl (output, fits)) = as_defined (answers reply.status reply.text.items) (Done bytes.items reply.status reply.text.items (loading.1, loading.0) output fits refl) refl
+    loaded_to bytes (Ok reply) loading (inr (four, (why, bad, line))) =
+        as_defined (answers reply.status reply.text.items) (BadFile bytes.items why (loading.1, loading.0) bad (ap (λ (k : ℕ). answers k reply.text.items) four ∙ ap (λ (t : List ℕ). answers 4 t) line)) refl
+    loaded_to bytes (Err nothing.OutOfMemory) loading h = same
+    loaded_to bytes (Err (nothing.Refused refusals.SizeOutput)) loading (status, text, output, long) = as_defined (refusal_answer refusals.SizeOutput) (LongOutput bytes.items status text (loading.1, loading.0) output long refl) refl
+    loaded_to bytes (Err (nothing.Refused refusals.Usage)) loading h = absurd h
+    loaded_to bytes (Err (nothing.Refused (refusals.Load other))) loading h = absurd h
+    loaded_to bytes (Err (nothing.Refused (refusals.Size other))) loading h = absurd h
+    loaded_to bytes (Err (nothing.Refused refusals.Agree)) loading h = absurd h
+    loaded_to bytes (Err (nothing.Refused refusals.Save)) loading h = absurd h
+
+  pub not_loaded : (contents after : Contents) → after ≡ contents → (none : NoText) → IsLoading contents name role fails (Err none) → IfSome contents (λ files. IsFileText files command name load_fails save_fails after (Err none))
+  not_loaded None after same none h = tt
+  not_loaded (Some files) after same none h = not_loaded_to files after same none h
+
+  -- what a loaded file gives is as it must be
+  pub loaded : (contents after : Contents) → after ≡ contents → (bytes : Vec ℕ) (reply : Result Reply NoText) → IsLoading contents name role fails (Ok bytes) → IsJudged bytes.items command reply
+      → IfSome contents (λ files. IsFileText files command name load_fails save_fails after reply)
+  loaded None after same bytes reply loading h = tt
+  loaded (Some files) after same bytes reply loading h = loaded_to files after same bytes reply loading h
+
+checked_status : (refused : ℕ) → IsReplyStatus (check_status refused)
+checked_status refused = either (refused == 0)
+  where
+    either : (none : Bool) → IsReplyStatus (if none then 0 else 1)
+    either true = inl refl
+    either false = inr (inl refl)
+
+output_status : (bytes : List ℕ) (command : answer.Command) (status : ℕ) (text : List ℕ) → IsOutput bytes command status text → IsReplyStatus status
+output_status bytes command status text (Shown n darts h) = inl refl
+output_status bytes command status text (Printed schema rules h) = inl refl
+output_status bytes command status text (Checked schema rules refused lines h is) = checked_status refused
+
+-- the statuses of what is judged
+pub judged_status : (bytes : List ℕ) (command : answer.Command) (reply : Result Reply NoText) → IsJudged bytes command reply → IfOk reply (λ r. IsReplyStatus r.status)
+judged_status bytes command (Ok reply) (inl (output, fits)) = output_status bytes command reply.status reply.text.items output
+judged_status bytes command (Ok reply) (inr (four, line)) = inr (inr four)
+judged_status bytes command (Err none) h = tt
+
+-- the faults that a command on one file answers
+pub load_is_sound : (contents : Contents) (name : List ℕ) (role : Role) (fails : Type 0) (none : NoText) (Q : Type 0) → IsLoading contents name role fails (Err none) → IsSoundReply (Err none) (fails ⊎ Lacks contents name) Q
+load_is_sound contents name role fails nothing.OutOfMemory Q h = tt
+load_is_sound contents name role fails (nothing.Refused (refusals.Load other)) Q h = h.1
+load_is_sound contents name role fails (nothing.Refused (refusals.Size other)) Q h = tt
+load_is_sound contents name role fails (nothing.Refused refusals.Usage) Q h = absurd h
+load_is_sound contents name role fails (nothing.Refused refusals.SizeOutput) Q h = tt
+load_is_sound contents name role fails (nothing.Refused refusals.Agree) Q h = tt
+load_is_sound contents name role fails (nothing.Refused refusals.Save) Q h = absurd h
+
+-- what is judged is no fault of the store
+pub judged_is_sound : (bytes : List ℕ) (command : answer.Command) (reply : Result Reply NoText) (P Q : Type 0) → IsJudged bytes command reply → IsSoundReply reply P Q
+judged_is_sound bytes command (Ok reply) P Q h = tt
+judged_is_sound bytes command (Err nothing.OutOfMemory) P Q h = tt
+judged_is_sound bytes command (Err (nothing.Refused refusals.SizeOutput)) P Q h = tt
+judged_is_sound bytes command (Err (nothing.Refused refusals.Usage)) P Q h = absurd h
+judged_is_sound bytes command (Err (nothing.Refused (refusals.Load other))) P Q h = absurd h
+judged_is_sound bytes command (Err (nothing.Refused (refusals.Size other))) P Q h = tt
+judged_is_sound bytes command (Err (nothing.Refused refusals.Agree)) P Q h = tt
+judged_is_sound bytes command (Err (nothing.Refused refusals.Save)) P Q h = absurd h
+
+output_refuses : (bytes : List ℕ) (command : answer.Command) (status : ℕ) (text : List ℕ) → IsOutput bytes command status text → status ≡ 1 → command ≡ answer.Check
+output_refuses bytes command status text (Shown n darts h) one = absurd cc
+output_refuses bytes command status text (Printed schema rules h) one = absurd cc
+output_refuses bytes command status text (Checked schema rules refused lines h is) one = refl
+
+-- only a check answers that a rule is refused
+pub judged_refuses : (bytes : List ℕ) (command : answer.Command) (reply : Result Reply NoText) → IsJudged bytes command reply → IfOk reply (λ r. r.status ≡ 1 → command ≡ answer.Check)
+judged_refuses bytes command (Ok reply) (inl (output, fits)) = λ one. output_refuses bytes command reply.status reply.text.items output one
+judged_refuses bytes command (Ok reply) (inr (four, line)) = λ one. absurd cc
+judged_refuses bytes command (Err none) h = tt
+
+-- ---- any command
+
+module _ {D E L M : Answer → Type 0} (to : (given : Answer) → D given → E given) (from : (given : Answer) → L given → M given) (files : Files) (save_fails : Type 0) (after : Contents) where
+  ending_to : (status : ℕ) (text : List ℕ) → IsEnding files D L save_fails status text after → IsEnding files E M save_fails status text after
+  ending_to status text (Whole given is s t stored) = Whole given (to given is) s t stored
+  ending_to status text (LoadFailed is same) = LoadFailed (from _ is) same
+  ending_to status text (SaveFailed fails given saved is e s t kept) = SaveFailed fails given saved (to given is) e s t kept
+
+  text_to : (reply : Result Reply NoText) → IsTextOf files D L save_fails after reply → IsTextOf files E M save_fails after reply
+  text_to (Ok reply) h = ending_to reply.status reply.text.items h
+  text_to (Err nothing.OutOfMemory) h = h
+  text_to (Err (nothing.Refused why)) h = ending_to _ _ h
+
+module _ (words : List (List ℕ)) (load_fails : ℕ → Type 0) (save_fails : Type 0) (after : Contents) (reply : Result Reply NoText) where
+  pub file_text : (contents : Contents) (command : answer.Command) (name : List ℕ) → Asks words command name → IfSome contents (λ files. IsFileText files command name load_fails save_fails after reply)
+      → IfSome contents (λ files. IsText words files load_fails save_fails after reply)
+  file_text None command name asks h = tt
+  file_text (Some files) command name asks h = text_to (λ given is. OfFile command name asks is) (λ given is. tool.OfFile command name asks is) files save_fails after reply h
+
+  pub run_text : (contents : Contents) (named : RunNames) → AsksRun words named → IfSome contents (λ files. IsRunText files named load_fails save_fails after reply)
+      → IfSome contents (λ files. IsText words files load_fails save_fails after reply)
+  run_text None named asks h = tt
+  run_text (Some files) named asks h = text_to (λ given is. OfRun named asks is) (λ given is. tool.OfRun named asks is) files save_fails after reply h
+
+pub usage_text : (words : List (List ℕ)) (load_fails : ℕ → Type 0) (save_fails : Type 0) (contents : Contents) → (IsCommand words → ⊥) → IfSome contents (λ files. IsText words files load_fails save_fails contents (Err (nothing.Refused refusals.Usage)))
+usage_text words load_fails save_fails None none = tt
+usage_text words load_fails save_fails (Some files) none = Whole (refusal_answer refusals.Usage) (Usage none refl) refl refl refl
+
+-- ---- causes, said of the words
+
+cause_of : (P Q R : Type 0) → (P → R) → (reply : Result Reply NoText) → IsSoundReply reply P Q → HasCause reply R Q
+cause_of P Q R f (Ok reply) h = tt
+cause_of P Q R f (Err nothing.OutOfMemory) h = tt
+cause_of P Q R f (Err (nothing.Refused (refusals.Load role))) h = f h
+cause_of P Q R f (Err (nothing.Refused (refusals.Size role))) h = tt
+cause_of P Q R f (Err (nothing.Refused refusals.Usage)) h = tt
+cause_of P Q R f (Err (nothing.Refused refusals.SizeOutput)) h = tt
+cause_of P Q R f (Err (nothing.Refused refusals.Agree)) h = tt
+cause_of P Q R f (Err (nothing.Refused refusals.Save)) h = h
+
+-- no answer but to words that are no command is for them
+pub sound_no_usage : (reply : Result Reply NoText) (P Q : Type 0) → IsSoundReply reply P Q → IsErrOf reply (nothing.Refused refusals.Usage) → ⊥
+sound_no_usage (Ok reply) P Q h e = absurd cc
+sound_no_usage (Err nothing.OutOfMemory) P Q h e = absurd cc
+sound_no_usage (Err (nothing.Refused refusals.Usage)) P Q h e = h
+sound_no_usage (Err (nothing.Refused (refusals.Load role))) P Q h e = absurd cc
+sound_no_usage (Err (nothing.Refused (refusals.Size role))) P Q h e = absurd cc
+sound_no_usage (Err (nothing.Refused refusals.SizeOutput)) P Q h e = absurd cc
+sound_no_usage (Err (nothing.Refused refusals.Agree)) P Q h e = absurd cc
+sound_no_usage (Err (nothing.Refused refusals.Save)) P Q h e = absurd cc
+
+module _ (words : List (List ℕ)) (contents : Contents) (fails Q : Type 0) (reply : Result Reply NoText) where
+  pub file_lacks : (command : answer.Command) (name : List ℕ) → Asks words command name → IsSoundReply reply (fails ⊎ Lacks contents name) Q → HasCause reply (fails ⊎ LacksFile words contents) Q
+  file_lacks command name asks h = cause_of _ Q _ (λ either. elim either [ inl f ↦ inl f | inr l ↦ inr (inl (command, name, asks, l)) ]) reply h
+
+  pub run_lacks : (named : RunNames) → AsksRun words named → IsSoundReply reply (fails ⊎ LacksInput contents named) Q → HasCause reply (fails ⊎ LacksFile words contents) Q
+  run_lacks named asks h = cause_of _ Q _ (λ either. elim either [ inl f ↦ inl f | inr l ↦ inr (inr (named, asks, l)) ]) reply h
+
+-- a command on one file is refused for a rule under check alone
+pub file_refused : (words : List (List ℕ)) (command : answer.Command) (name : List ℕ) (R : Type 0) → Asks words command name → (reply : Result Reply NoText) → IfOk reply (λ r. r.status ≡ 1 → command ≡ answer.Check)
+    → IfOk reply (λ r. r.status ≡ 1 → IsCheck words ⊎ R)
+file_refused words command name R asks (Ok reply) h = λ one. inl (name, subst (λ c. Asks words c name) (h one) asks)
+file_refused words command name R asks (Err none) h = tt
+
+-- no words are both
+pub file_is_no_run : (words : List (List ℕ)) (command : answer.Command) (name : List ℕ) (named : RunNames) → Asks words command name → AsksRun words named → ⊥
+file_is_no_run words command name named asks runs = let e : length words ≡ 2 = ap length asks in let f : length words ≡ 5 = ap length runs in omega (arith, e, f)
+
+-- the files of a run are those that its words name
+pub same_named : (words : List (List ℕ)) (one other : RunNames) → AsksRun words one → AsksRun words other → one ≡ other
+same_named words one other a b =
+    let both : ◌≡◌ {A = List (List ℕ)} (codes "run" ∷ one.map ∷ one.book ∷ one.script ∷ one.out ∷ []) (codes "run" ∷ other.map ∷ other.book ∷ other.script ∷ other.out ∷ []) = sym a ∙ b in
+    let map : one.map ≡ other.map = cc both in
+    let book : one.book ≡ other.book = cc both in
+    let script : one.script ≡ other.script = cc both in
+    let out : one.out ≡ other.out = cc both in
+    λ k. record { map = map k; book = book k; script = script k; out = out k }
+
+-- a run is refused for a line
+pub run_refused : (words : List (List ℕ)) (named : RunNames) → AsksRun words named → (reply : Result Reply NoText) → IfOk reply (λ r. r.status ≡ 1 → IsCheck words ⊎ IsRunCommand words)
+run_refused words named asks (Ok reply) = λ one. inr (named, asks)
+run_refused words named asks (Err none) = tt
+
+-- the map is held under the name that the words give
+pub run_holds : (words : List (List ℕ)) (named : RunNames) (contents : Contents) → AsksRun words named → (reply : Result Reply NoText) → IfOk reply (λ r. IsRunStatus r.status → HoldsMap contents named.out)
+    → IfOk reply (λ r. IsRunStatus r.status → HoldsSavedMap words contents)
+run_holds words named contents asks (Ok reply) h = λ run other asks_too. subst (λ (n : RunNames). HoldsMap contents n.out) (same_named words named other asks asks_too) (h run)
+run_holds words named contents asks (Err none) h = tt

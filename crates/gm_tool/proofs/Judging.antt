@@ -1,0 +1,94 @@
+-- What a command puts on the bytes of its file, put together from the reader's answer and the printer's.
+use Rattle.std.proofs.Common.{◌≡◌, ℕ, List, ◌++◌, length, inl, inr, Result, Ok, Err, refl, sym, ap, ◌∙◌, subst}
+use Rattle.std.specs.Prelude.{codes}
+use Rattle.gm_laws.specs.declared.breach.MapBreach.TheVariants as breaches
+use Rattle.gm_mapfile.specs.declared.fault.MapFault.{MapFault}
+use Rattle.gm_mapfile.specs.declared.fault.MapFault.TheVariants as map
+use Rattle.gm_mapfile.specs.Faults as map_faults
+use Rattle.gm_book.specs.declared.fault.BookFault.{BookFault}
+use Rattle.gm_book.specs.declared.fault.BookFault.TheVariants as book
+use Rattle.gm_book.specs.Faults as book_faults
+use Rattle.gm_model.specs.declared.schema.Schema.{Schema}
+use Rattle.gm_book.specs.BookText.{BookText}
+use Rattle.gm_model.specs.Rules.{Rule}
+use Rattle.gm_tool.specs.Answer.{IsBad, IsOutput, BadMap, BadBook, TheMap, TheBook, role_of, refusal, most_bytes, Checked}
+use Rattle.gm_tool.specs.BookFaults.{AtEnds, AtPasses, AtNotBuilt, AtName}
+use Rattle.gm_tool.specs.Answer as answer
+use Rattle.gm_tool.specs.declared.refusal.NoText.{NoText}
+use Rattle.gm_tool.specs.declared.refusal.NoText.TheVariants as nothing
+use Rattle.gm_tool.specs.declared.reply.Reply.{Reply}
+use Rattle.gm_tool.specs.Checking.{check_status, counts_line}
+use Rattle.gm_tool.specs.FaultLines.{IsSaidOfMap, IsSaidOfBook, map_words, book_words}
+use Rattle.gm_tool.specs.Replies.{IsJudged, IsRefusal, IsBookRefusal, IsChecked, IsWithinLimit}
+
+pub map_is_said : (bytes : List ℕ) (fault : MapFault) → map_faults.IsFaultOf bytes fault → (fault ≡ map.OutOfMemory → ⊥) → IsSaidOfMap fault
+map_is_said bytes (map.Text place) h other = tt
+map_is_said bytes (map.Limit what place) h other = tt
+map_is_said bytes (map.NotBuilt place) h other = tt
+map_is_said bytes (map.DartTwice d) h other = tt
+map_is_said bytes (map.NoTarget d i) h other = tt
+map_is_said bytes (map.Breach (breaches.Involution d i)) h other = tt
+map_is_said bytes (map.Breach (breaches.Cycle d i j)) h other = tt
+map_is_said bytes (map.Breach (breaches.Embedding e d o)) h other = h
+map_is_said bytes (map.Twice place) h other = h
+map_is_said bytes map.OutOfMemory h other = other refl
+
+pub map_is_bad : (bytes : List ℕ) (fault : MapFault) → map_faults.IsFaultOf bytes fault → IsSaidOfMap fault → IsBad bytes TheMap (map_words fault)
+map_is_bad bytes (map.Text place) h said = BadMap _ h
+map_is_bad bytes (map.Limit what place) h said = BadMap _ h
+map_is_bad bytes (map.NotBuilt place) h said = BadMap _ h
+map_is_bad bytes (map.DartTwice d) h said = BadMap _ h
+map_is_bad bytes (map.NoTarget d i) h said = BadMap _ h
+map_is_bad bytes (map.Breach (breaches.Involution d i)) h said = BadMap _ h
+map_is_bad bytes (map.Breach (breaches.Cycle d i j)) h said = BadMap _ h
+map_is_bad bytes (map.Breach (breaches.Embedding e d o)) h said = absurd h
+map_is_bad bytes (map.Twice place) h said = absurd h
+map_is_bad bytes map.OutOfMemory h said = absurd said
+
+-- a line that refuses, whichever the command
+pub refused_judged : (bytes : List ℕ) (command : answer.Command) (why : List ℕ) (reply : Result Reply NoText) → IsBad bytes (role_of command) why
+    → IsRefusal (refusal (answer.role_word (role_of command) ++ codes " " ++ why)) reply → IsJudged bytes command reply
+refused_judged bytes command why (Ok reply) bad is = inr (is.0, (why, bad, is.1))
+refused_judged bytes command why (Err nothing.OutOfMemory) bad is = tt
+refused_judged bytes command why (Err (nothing.Refused other)) bad is = absurd cc
+
+pub map_judged : (bytes : List ℕ) (fault : MapFault) (reply : Result Reply NoText) → map_faults.IsFaultOf bytes fault → IsSaidOfMap fault
+    → IsRefusal (refusal (codes "MAP" ++ codes " " ++ map_words fault)) reply → IsJudged bytes answer.Show reply
+map_judged bytes fault reply h said is = refused_judged bytes answer.Show (map_words fault) reply (map_is_bad bytes fault h said) is
+
+book_is_bad : (bytes : List ℕ) (fault : BookFault) → book_faults.IsFaultOf bytes fault → IsSaidOfBook fault → IsBad bytes TheBook (book_words fault)
+book_is_bad bytes (book.Text place) h said = BadBook _ (AtEnds place h)
+book_is_bad bytes (book.Limit what place) h said = BadBook _ (AtPasses what place h)
+book_is_bad bytes (book.Twice place) h said = BadBook _ (AtName _ h)
+book_is_bad bytes (book.Unknown place) h said = BadBook _ (AtName _ h)
+book_is_bad bytes (book.NotBuilt place) h said = BadBook _ (AtNotBuilt place h)
+book_is_bad bytes book.OutOfMemory h said = absurd said
+
+-- whichever command reads the book
+pub book_judged : (bytes : List ℕ) (command : answer.Command) (fault : BookFault) (reply : Result Reply NoText) → TheBook ≡ role_of command → book_faults.IsFaultOf bytes fault
+    → IsBookRefusal fault reply → IsJudged bytes command reply
+book_judged bytes command fault (Ok reply) of h is =
+    inr (
+      is.1,
+      (
+        book_words fault,
+        subst (λ (r : answer.Role). IsBad bytes r (book_words fault)) of (book_is_bad bytes fault h is.0),
+        is.2 ∙ ap (λ (r : answer.Role). refusal (answer.role_word r ++ codes " " ++ book_words fault)) of,
+      ),
+    )
+book_judged bytes command fault (Err none) of h is = subst (λ (e : NoText). IsJudged bytes command (Err e)) (sym is) tt
+
+-- an output, within the limit or not
+pub output_judged : (bytes : List ℕ) (command : answer.Command) (status : ℕ) (text : List ℕ) (reply : Result Reply NoText) → IsOutput bytes command status text
+    → IsWithinLimit status text reply → IsJudged bytes command reply
+output_judged bytes command status text (Ok reply) output is =
+    inl (subst (λ (k : ℕ). IsOutput bytes command k reply.text.items) (sym is.0) (subst (λ (t : List ℕ). IsOutput bytes command status t) (sym is.1) output), rw is.1 is.2)
+output_judged bytes command status text (Err none) output is =
+    subst (λ (e : NoText). IsJudged bytes command (Err e)) (sym is.0) (status, text, output, is.1)
+
+pub check_judged : (bytes : List ℕ) (schema : Schema) (rules : List Rule) (reply : Result Reply NoText) → BookText bytes schema rules → IsChecked schema rules reply → IsJudged bytes answer.Check reply
+check_judged bytes schema rules (Err nothing.OutOfMemory) read is = tt
+check_judged bytes schema rules (Err (nothing.Refused why)) read (refused, lines, are, within) =
+    output_judged bytes answer.Check (check_status refused) (lines ++ counts_line (length rules) refused) (Err (nothing.Refused why)) (Checked schema rules refused lines read are) within
+check_judged bytes schema rules (Ok reply) read (refused, lines, are, within) =
+    output_judged bytes answer.Check (check_status refused) (lines ++ counts_line (length rules) refused) (Ok reply) (Checked schema rules refused lines read are) within

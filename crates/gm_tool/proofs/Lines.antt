@@ -1,0 +1,157 @@
+-- The plans of a book that was read and the lines of its script are those that a run takes, and what a run answers is the run of what was read.
+use Rattle.std.proofs.Common.{◌≡◌, ℕ, List, [], ◌∷◌, inl, inr, None, Result, Ok, Err, length, map, All, refl, sym, ap, subst, ◌∙◌}
+use Rattle.std.specs.Prelude.{slice_get, IfOk, IfErr}
+use Rattle.std.specs.List.{AllByRecursion}
+use Rattle.std.proofs.lemmas.List.Elements.{All-from_recursion, recursion_from_All}
+use Rattle.gm_arena.specs.ArenaAsMap.{as_map}
+use Rattle.gm_arena.specs.ArenaMap.{ArenaMap}
+use Rattle.gm_arena.specs.Lawful.{IsLawful}
+use Rattle.gm_mapfile.specs.Rows.{rows_of}
+use Rattle.gm_mapfile.proofs.HeldRows.{held_ascending}
+use Rattle.gm_mapfile.proofs.Printed.{length_rows}
+use Rattle.gm_model.specs.declared.rule.Book.{Book}
+use Rattle.gm_model.specs.declared.rule.RuleTable.{RuleTable}
+use Rattle.gm_model.specs.declared.schema.Schema.{Schema}
+use Rattle.gm_model.specs.declared.script.Line.{Line}
+use Rattle.gm_model.specs.declared.script.Script.{Script}
+use Rattle.gm_model.specs.Maps.{IsGeneralised}
+use Rattle.gm_mapfile.specs.MapText.{AreShaped, canonical}
+use Rattle.gm_model.specs.Reports.{report_text}
+use Rattle.gm_model.specs.Rules.{rule_of}
+use Rattle.gm_model.specs.Runs.{Outcome, IsRun}
+use Rattle.gm_model.specs.Runs as runs
+use Rattle.gm_script.specs.ScriptText.{LineForm, AreLines, IsLine}
+use Rattle.gm_plan.specs.Plans.{PlanOf, plan_of}
+use Rattle.gm_run.specs.declared.outcome.Outcome as answers
+use Rattle.gm_run.specs.Printing.{CanBePrinted}
+use Rattle.gm_run.specs.Progress.{IsPlanFor, ArePlansFor, Agrees, rules_of}
+use Rattle.gm_tool.specs.MadeRuns.{CanRun, inputs_of, IsFitted, IsPrinted, IsRunOf, IsMapBytes, IsRunStatus}
+use Rattle.gm_tool.specs.Stops.{IsSoundStop}
+use Rattle.gm_tool.specs.declared.refusal.Refusal.TheVariants as refusals
+use Rattle.gm_tool.specs.RunAnswer.{Inputs, Ran, IsRan, map_of, report_of, saved_of, run_status}
+use Rattle.gm_tool.specs.declared.refusal.NoText.TheVariants as nothing
+use Rattle.gm_tool.specs.declared.refusal.Stop.{Stop}
+use Rattle.gm_tool.specs.declared.refusal.Stop.TheVariants as stops
+use Rattle.gm_tool.specs.declared.running.Made.{Made}
+use Rattle.gm_tool.proofs.ArenaMaps.{as_rows, next_of, rows_shaped, text_of_arena}
+
+-- a run is done with status 0 or 1
+status_is : (outcomes : List Outcome) → IsRunStatus (run_status outcomes)
+status_is [] = inl refl
+status_is (runs.Done added removed ∷ outcomes) = status_is outcomes
+status_is (runs.Refused cause ∷ outcomes) = inr refl
+
+rules_planned : (schema : Schema) (tables : List RuleTable) → rules_of (map (plan_of schema) tables) ≡ map rule_of tables
+rules_planned schema [] = refl
+rules_planned schema (table ∷ tables) = ap (λ rules. rule_of table ∷ rules) (rules_planned schema tables)
+
+module _ (m : ArenaMap) (book : Book) (script : Script) (plans : List PlanOf) (can : CanRun m book script plans) where
+  pub same_rules : rules_of plans ≡ map rule_of book.rules
+  same_rules = ap rules_of can.plans_are ∙ rules_planned book.schema book.rules
+
+  -- ---- what a run needs
+
+  pub plans_fit : ArePlansFor m.schema plans
+  plans_fit = subst (All (IsPlanFor m.schema)) (sym can.plans_are) (All-from_recursion (IsPlanFor m.schema) (map (plan_of book.schema) book.rules) (each book.rules (recursion_from_All (λ (table : RuleTable). (rule_of table).pre ≡ None) book.rules can.plain)))
+    where
+      each : (tables : List RuleTable) → AllByRecursion (λ (table : RuleTable). (rule_of table).pre ≡ None) tables → AllByRecursion (IsPlanFor m.schema) (map (plan_of book.schema) tables)
+      each [] h = tt
+      each (table ∷ tables) h = (record { same = can.agree; no_embeds = ap (λ (schema : Schema). schema.embeds) (sym can.agree) ∙ can.bare; no_pre = h.0 }, each tables h.1)
+
+  line_fits : (form : LineForm) (line : Line) → IsLine (map rule_of book.rules) form line → Agrees (rules_of plans) line
+  line_fits form line h = (h.rule, ap (λ rules. slice_get rules line.rule) same_rules ∙ h.named.there, ap length h.hooks ∙ h.count)
+
+  pub lines_fit : All (Agrees (rules_of plans)) script.lines
+  lines_fit = All-from_recursion (Agrees (rules_of plans)) script.lines (each can.lines.forms script.lines can.lines.same)
+    where
+      each : (forms : List LineForm) (lines : List Line) → AreLines (map rule_of book.rules) forms lines → AllByRecursion (Agrees (rules_of plans)) lines
+      each [] [] h = tt
+      each [] (line ∷ lines) h = absurd h
+      each (form ∷ forms) [] h = absurd h
+      each (form ∷ forms) (line ∷ lines) h = (line_fits form line h.0, each forms lines h.1)
+
+  pub printable : (outcomes : List answers.Outcome) → CanBePrinted m.schema (rules_of plans) script.lines outcomes → CanBePrinted book.schema (map rule_of book.rules) script.lines outcomes
+  printable outcomes h = subst (λ rules. CanBePrinted book.schema rules script.lines outcomes) same_rules (subst (λ schema. CanBePrinted schema (rules_of plans) script.lines outcomes) can.agree h)
+
+  -- ---- what a run answers
+
+  module _ (after : ArenaMap) (same_schema : after.schema ≡ m.schema) (lawful : IsLawful m) (lawful_after : IsLawful after) where
+    abbrev left : List Outcome → Ran
+    left outcomes = record { outcomes = outcomes; darts = rows_of after; next = after.next }
+
+    bare_after : after.schema.embeds ≡ []
+    bare_after = ap (λ (schema : Schema). schema.embeds) same_schema ∙ can.bare
+
+    dim_after : after.schema.dim ≡ m.schema.dim
+    dim_after = ap (λ (schema : Schema). schema.dim) same_schema
+
+    after_rows : as_map after ≡ map_of m.schema.dim (rows_of after) after.next
+    after_rows = as_rows after lawful_after bare_after ∙ ap (λ n. map_of n (rows_of after) after.next) dim_after
+
+    is_ran : (outcomes : List Outcome) → IsRun (rules_of plans) (as_map m) script.lines outcomes (as_map after) → IsRan (inputs_of m book script) (left outcomes)
+    is_ran outcomes h = record {
+      first = m.next;
+      first_is = next_of m can.next;
+      run =
+          subst (λ x. IsRun (map rule_of book.rules) (map_of m.schema.dim (rows_of m) m.next) script.lines outcomes x) after_rows
+          (subst (λ x. IsRun (map rule_of book.rules) x script.lines outcomes (as_map after)) (as_rows m lawful can.bare)
+          (subst (λ rules. IsRun rules (as_map m) script.lines outcomes (as_map after)) same_rules h));
+      ascending = held_ascending after;
+      shaped = subst (λ n. AreShaped n (rows_of after)) dim_after (rows_shaped after lawful_after);
+    }
+
+    -- the report and the text of the map are those of the run
+    pub run_made : (outcomes : List Outcome) (darts next : ℕ) (result : Result Made Stop) → IsRun (rules_of plans) (as_map m) script.lines outcomes (as_map after) → darts ≡ after.count → next ≡ after.next
+        → IsPrinted (run_status outcomes) (report_text book.schema (map rule_of book.rules) script.lines outcomes darts next) (canonical after.schema.dim (rows_of after)) result → IsRunOf (inputs_of m book script) result
+    run_made outcomes darts next result h counted named = made result
+      where
+        report_is : report_text book.schema (map rule_of book.rules) script.lines outcomes darts next ≡ report_of (inputs_of m book script) (left outcomes)
+        report_is =
+            ap (λ k. report_text book.schema (map rule_of book.rules) script.lines outcomes k next) (counted ∙ sym (length_rows after lawful_after))
+            ∙ ap (λ k. report_text book.schema (map rule_of book.rules) script.lines outcomes (length (rows_of after)) k) named
+
+        map_is : canonical after.schema.dim (rows_of after) ≡ saved_of (inputs_of m book script) (left outcomes)
+        map_is = ap (λ n. canonical n (rows_of after)) dim_after
+
+        fitted : (r : Result Made Stop) → IsFitted (run_status outcomes) (report_text book.schema (map rule_of book.rules) script.lines outcomes darts next) (canonical after.schema.dim (rows_of after)) r
+            → (ran : Ran) × IsRan (inputs_of m book script) ran × IsFitted (run_status ran.outcomes) (report_of (inputs_of m book script) ran) (saved_of (inputs_of m book script) ran) r
+        fitted r is = (
+          left outcomes,
+          is_ran outcomes h,
+          subst (λ t. IsFitted (run_status outcomes) (report_of (inputs_of m book script) (left outcomes)) t r) map_is
+              (subst (λ t. IsFitted (run_status outcomes) t (canonical after.schema.dim (rows_of after)) r) report_is is),
+        )
+
+        made : (r : Result Made Stop) → IsPrinted (run_status outcomes) (report_text book.schema (map rule_of book.rules) script.lines outcomes darts next) (canonical after.schema.dim (rows_of after)) r → IsRunOf (inputs_of m book script) r
+        made (Ok value) is = fitted (Ok value) is
+        made (Err (stops.Bad line)) is = fitted (Err (stops.Bad line)) is
+        made (Err (stops.NoText nothing.OutOfMemory)) is = tt
+        made (Err (stops.NoText (nothing.Refused why))) is = fitted (Err (stops.NoText (nothing.Refused why))) is
+
+-- the text of a map that is printed is that of a generalised map
+pub map_made : (m : ArenaMap) (status : ℕ) (report : List ℕ) (result : Result Made Stop) → IsLawful m → IsGeneralised (as_map m) → IsPrinted status report (canonical m.schema.dim (rows_of m)) result → IfOk result (λ made. IsMapBytes made.map.items)
+map_made m status report (Ok made) lawful gmap is = subst IsMapBytes (sym is.2) (m.schema.dim, rows_of m, refl, text_of_arena m lawful gmap)
+map_made m status report (Err stop) lawful gmap is = tt
+
+-- texts that are fitted are printed
+pub fitted_printed : (status : ℕ) (report map : List ℕ) (result : Result Made Stop) → IsFitted status report map result → IsPrinted status report map result
+fitted_printed status report map (Ok made) h = h
+fitted_printed status report map (Err (stops.Bad line)) h = h
+fitted_printed status report map (Err (stops.NoText nothing.OutOfMemory)) h = tt
+fitted_printed status report map (Err (stops.NoText (nothing.Refused why))) h = h
+
+-- no run of lines stops for its words, for a save or for a load
+pub run_is_sound : (inputs : Inputs) (result : Result Made Stop) (P : Type 0) → IsRunOf inputs result → IfErr result (λ stop. IsSoundStop stop P)
+run_is_sound inputs (Ok made) P h = tt
+run_is_sound inputs (Err (stops.Bad line)) P h = tt
+run_is_sound inputs (Err (stops.NoText nothing.OutOfMemory)) P h = tt
+run_is_sound inputs (Err (stops.NoText (nothing.Refused refusals.SizeOutput))) P h = tt
+run_is_sound inputs (Err (stops.NoText (nothing.Refused refusals.Agree))) P h = tt
+run_is_sound inputs (Err (stops.NoText (nothing.Refused (refusals.Size role)))) P h = tt
+run_is_sound inputs (Err (stops.NoText (nothing.Refused refusals.Usage))) P (ran, is, (e, long)) = absurd cc
+run_is_sound inputs (Err (stops.NoText (nothing.Refused refusals.Save))) P (ran, is, (e, long)) = absurd cc
+run_is_sound inputs (Err (stops.NoText (nothing.Refused (refusals.Load role)))) P (ran, is, (e, long)) = absurd cc
+
+pub run_is_done : (inputs : Inputs) (result : Result Made Stop) → IsRunOf inputs result → IfOk result (λ made. IsRunStatus made.status)
+run_is_done inputs (Ok made) (ran, is, fits) = subst IsRunStatus (sym fits.0) (status_is ran.outcomes)
+run_is_done inputs (Err stop) h = tt

@@ -1,0 +1,80 @@
+-- The words that refuse a text in its role are determined, and no text that stands for something is refused.
+use Rattle.std.proofs.Common.{◌≡◌, ℕ, List, ◌++◌, length, All, refl, sym, ap, subst, ◌∙◌}
+use Rattle.std.proofs.Math.Path.{ap₂}
+use Rattle.gm_model.specs.declared.schema.Schema.{Schema}
+use Rattle.gm_model.specs.declared.script.Line.{Line}
+use Rattle.gm_model.specs.Acceptance.{IsAccepted}
+use Rattle.gm_book.specs.BookText.{BookText}
+use Rattle.gm_book.specs.BookText as books
+use Rattle.gm_model.specs.GMap.{Row}
+use Rattle.gm_mapfile.specs.MapFaults.{fault_words}
+use Rattle.gm_mapfile.specs.MapText.{MapText, canonical}
+use Rattle.gm_model.specs.Rules.{Rule}
+use Rattle.gm_book.proofs.OneBook.{one_book}
+use Rattle.gm_mapfile.proofs.OneFault.{one_fault, no_map_at_fault}
+use Rattle.gm_mapfile.proofs.OneMap.{one_map}
+use Rattle.gm_script.specs.ScriptText.{ScriptText}
+use Rattle.gm_tool.specs.Answer.{Role, TheMap, TheBook, Command, role_of, IsBad, BadMap, BadBook, IsOutput, Shown, Printed, Checked}
+use Rattle.gm_tool.specs.BookFaults.{book_fault_words}
+use Rattle.gm_tool.specs.Checking.{AreLines, check_status, counts_line}
+use Rattle.gm_tool.specs.RunAnswer.{IsFirstRefused, IsBadBook, Unread, RuleRefused, IsBadScript}
+use Rattle.gm_tool.specs.ScriptFaults.{script_fault_words}
+use Rattle.gm_tool.proofs.OneText.{one_book_fault, no_book_at, one_script_fault, no_script_at}
+use Rattle.gm_tool.proofs.OneVerdict.{one_lines, one_refused, none_refused}
+
+-- ---- for a command on one file
+
+pub one_bad : (bytes : List ℕ) (role : Role) (why other : List ℕ) → IsBad bytes role why → IsBad bytes role other → why ≡ other
+one_bad bytes _ _ _ (BadMap fault a) (BadMap other b) = ap fault_words (one_fault bytes fault other a b)
+one_bad bytes _ _ _ (BadBook fault a) (BadBook other b) = ap book_fault_words (one_book_fault bytes fault other a b)
+
+pub no_bad_map : (bytes why : List ℕ) (n : ℕ) (darts : List Row) → IsBad bytes TheMap why → MapText bytes n darts → ⊥
+no_bad_map bytes _ n darts (BadMap fault is) stands = no_map_at_fault bytes fault is n darts stands
+
+no_bad_book : (bytes why : List ℕ) (schema : Schema) (rules : List Rule) → IsBad bytes TheBook why → BookText bytes schema rules → ⊥
+no_bad_book bytes _ schema rules (BadBook fault is) stands = no_book_at bytes fault is schema rules stands
+
+pub no_bad_output : (bytes why : List ℕ) (command : Command) (status : ℕ) (text : List ℕ) → IsBad bytes (role_of command) why → IsOutput bytes command status text → ⊥
+no_bad_output bytes why _ _ _ bad (Shown n darts stands) = no_bad_map bytes why n darts bad stands
+no_bad_output bytes why _ _ _ bad (Printed schema rules stands) = no_bad_book bytes why schema rules bad stands
+no_bad_output bytes why _ _ _ bad (Checked schema rules refused lines stands are) = no_bad_book bytes why schema rules bad stands
+
+-- ---- and what it puts
+
+same_check : (schema schema' : Schema) (rules rules' : List Rule) (refused refused' : ℕ) (lines lines' : List ℕ) → (schema ≡ schema') × (rules ≡ rules') → AreLines schema rules refused lines → AreLines schema' rules' refused' lines'
+    → (check_status refused ≡ check_status refused') × (lines ++ counts_line (length rules) refused ≡ lines' ++ counts_line (length rules') refused')
+same_check schema schema' rules rules' refused refused' lines lines' (schemas, books) are are' =
+    let there : AreLines schema rules refused' lines' = subst (λ s. AreLines s rules refused' lines') (sym schemas) (subst (λ rs. AreLines schema' rs refused' lines') (sym books) are') in
+    let same = one_lines schema rules refused refused' lines lines' are there in (
+      ap check_status same.0,
+      ap₂ (λ (t : List ℕ) (k : ℕ). t ++ counts_line (length rules) k) same.1 same.0 ∙ ap (λ (rs : List Rule). lines' ++ counts_line (length rs) refused') books,
+    )
+
+pub one_output : (bytes : List ℕ) (command : Command) (status other : ℕ) (text others : List ℕ) → IsOutput bytes command status text → IsOutput bytes command other others → (status ≡ other) × (text ≡ others)
+one_output bytes _ _ _ _ _ (Shown n darts a) (Shown m others b) = let same = one_map bytes n m darts others a b in (refl, ap₂ (λ (k : ℕ) (rows : List Row). canonical k rows) same.0 same.1)
+one_output bytes _ _ _ _ _ (Printed schema rules a) (Printed schema' rules' b) =
+    let same = one_book bytes schema schema' rules rules' a b in (refl, ap₂ (λ (s : Schema) (rs : List Rule). books.canonical s.dim rs) same.0 same.1)
+one_output bytes _ _ _ _ _ (Checked schema rules refused lines a are) (Checked schema' rules' refused' lines' b are') =
+    same_check schema schema' rules rules' refused refused' lines lines' (one_book bytes schema schema' rules rules' a b) are are'
+
+-- ---- for a run
+
+pub one_bad_book : (bytes why other : List ℕ) → IsBadBook bytes why → IsBadBook bytes other → why ≡ other
+one_bad_book bytes why other (Unread fault a e) (Unread fault' b f) = e ∙ ap book_fault_words (one_book_fault bytes fault fault' a b) ∙ sym f
+one_bad_book bytes why other (Unread fault a e) (RuleRefused schema rules b first) = absurd (no_book_at bytes fault a schema rules b)
+one_bad_book bytes why other (RuleRefused schema rules a first) (Unread fault b f) = absurd (no_book_at bytes fault b schema rules a)
+one_bad_book bytes why other (RuleRefused schema rules a first) (RuleRefused schema' rules' b first') =
+    let same = one_book bytes schema schema' rules rules' a b in
+    one_refused schema rules why other first (subst (λ s. IsFirstRefused s rules other) (sym same.0) (subst (λ rs. IsFirstRefused schema' rs other) (sym same.1) first'))
+
+pub no_bad_good_book : (bytes why : List ℕ) (schema : Schema) (rules : List Rule) → IsBadBook bytes why → BookText bytes schema rules → All (IsAccepted schema) rules → ⊥
+no_bad_good_book bytes why schema rules (Unread fault a e) stands accepted = no_book_at bytes fault a schema rules stands
+no_bad_good_book bytes why schema rules (RuleRefused schema' rules' a first) stands accepted =
+    let same = one_book bytes schema schema' rules rules' stands a in
+    none_refused schema rules why accepted (subst (λ s. IsFirstRefused s rules why) (sym same.0) (subst (λ rs. IsFirstRefused schema' rs why) (sym same.1) first))
+
+pub one_bad_script : (rules : List Rule) (bytes why other : List ℕ) → IsBadScript rules bytes why → IsBadScript rules bytes other → why ≡ other
+one_bad_script rules bytes why other (fault, a, e) (fault', b, f) = e ∙ ap script_fault_words (one_script_fault bytes rules fault fault' a b) ∙ sym f
+
+pub no_bad_script : (rules : List Rule) (bytes why : List ℕ) (lines : List Line) → IsBadScript rules bytes why → ScriptText bytes rules lines → ⊥
+no_bad_script rules bytes why lines (fault, a, e) stands = no_script_at bytes rules fault a lines stands

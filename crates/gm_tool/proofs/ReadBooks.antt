@@ -1,0 +1,44 @@
+-- The rules of a book that was read can be checked.
+use Rattle.std.proofs.Common.{◌≡◌, ℕ, List, [], ◌∷◌, get_or, map, All, Some, None}
+use Rattle.std.specs.List.{slice_get, AllByRecursion}
+use Rattle.std.proofs.lemmas.List.Elements.{All-from_recursion, recursion_from_All}
+use Rattle.gm_model.specs.declared.rule.Book.{Book}
+use Rattle.gm_model.specs.declared.rule.RuleTable.{RuleTable}
+use Rattle.gm_model.specs.declared.schema.Schema.{Schema}
+use Rattle.gm_book.specs.BookText.{BookText}
+use Rattle.gm_model.specs.Kinds.{IsTyped}
+use Rattle.gm_model.specs.Rules.{Rule, rule_of}
+use Rattle.gm_book.specs.Printing.{IsPlain}
+use Rattle.gm_book.proofs.Printable.{printable_from_text}
+use Rattle.gm_book.proofs.ReadRange.{range_from_text}
+use Rattle.gm_tool.specs.Books.{IsCheckable}
+
+pub unmap : {X Y : Type 0} (P : Y → Type 0) (f : X → Y) (xs : List X) → All P (map f xs) → All (λ x. P (f x)) xs
+unmap {X = X} P f xs h = All-from_recursion (λ x. P (f x)) xs (each xs (recursion_from_All P (map f xs) h))
+  where
+    each : (xs : List X) → AllByRecursion P (map f xs) → AllByRecursion (λ x. P (f x)) xs
+    each [] h = tt
+    each (x ∷ xs) h = (h.0, each xs h.1)
+
+none_some : {X : Type 0} (x : X) → None ≡ Some x → ⊥
+none_some x e = cc
+
+pub no_item : {X : Type 0} (xs : List X) (k : ℕ) (x : X) → xs ≡ [] → slice_get xs k ≡ Some x → ⊥
+no_item xs k x none at = none_some x (rw none at at)
+
+plain_typed : (schema : Schema) (rule : Rule) → schema.embeds ≡ [] → IsPlain rule → IsTyped schema rule
+plain_typed schema rule none plain = record {
+  pre = λ tree e. absurd (none_some tree (rw plain.pre at e));
+  sets = λ x e tree embed assigns at. absurd (no_item schema.embeds e embed none at);
+}
+
+pub checkable_rules : (text : List ℕ) (book : Book) → BookText text book.schema (map rule_of book.rules) → All (λ (rule : RuleTable). IsCheckable book.schema (rule_of rule)) book.rules
+checkable_rules text book read = unmap (IsCheckable book.schema) rule_of book.rules (λ k d b.
+    let rules = map rule_of book.rules in
+    let ranges = range_from_text text book.schema rules read k d b in
+    record {
+      bare = read.embeds;
+      in_range = ranges.0;
+      within = ranges.1;
+      typed = plain_typed book.schema (get_or rules k d) read.embeds ((printable_from_text text book.schema rules read).plain k d b);
+    })

@@ -1,0 +1,133 @@
+-- Why a run stops before anything is saved, file by file.
+use Rattle.std.proofs.Common.{◌≡◌, ◌⊎◌, ℕ, ◌≤◌, List, [], inl, inr, Some, None, Result, Ok, Err, map, All, refl, ap, arith}
+use Rattle.std.specs.Prelude.{IfSome}
+use Rattle.gm_host.specs.Count.{Rises}
+use Rattle.gm_host.specs.Store.{Contents, Lacks}
+use Rattle.gm_arena.specs.ArenaMap.{ArenaMap}
+use Rattle.gm_mapfile.specs.Rows.{rows_of}
+use Rattle.gm_model.specs.declared.rule.Book.{Book}
+use Rattle.gm_model.specs.declared.schema.Schema.{Schema}
+use Rattle.gm_model.specs.declared.script.Script.{Script}
+use Rattle.gm_model.specs.Acceptance.{IsAccepted}
+use Rattle.gm_model.specs.Rules.{Rule, rule_of}
+use Rattle.gm_tool.specs.Answer.{Files, answers, TheMap, TheBook, TheScript, HasFile}
+use Rattle.gm_tool.specs.MadeRuns.{inputs_of, IsRunOf, IsMade, IsStopOf, LacksInput}
+use Rattle.gm_tool.specs.Refusals.{refusal_answer}
+use Rattle.gm_tool.specs.RunAnswer.{RunNames, Inputs, HasMap, HasBook, HasScript, Agree, IsBadMap, IsBadBook, IsBadScript, IsFirstRefused, RuleRefused, Bad, MapFails, BookFails, ScriptFails, Disagree, LongOutput}
+use Rattle.gm_tool.specs.Stops.{IsBadFor, IsRoleStop, IsReadMap, IsReadBook, IsReadScript, IsFrom}
+use Rattle.gm_tool.specs.declared.refusal.NoText.TheVariants as nothing
+use Rattle.gm_tool.specs.declared.refusal.Refusal.TheVariants as refusals
+use Rattle.gm_tool.specs.declared.refusal.Stop.{Stop}
+use Rattle.gm_tool.specs.declared.refusal.Stop.TheVariants as stops
+use Rattle.gm_tool.specs.declared.running.Made.{Made}
+
+-- a count that rises in a later call rises over both
+pub rises_later : (before between after : ℕ) → before ≤ between → Rises between after → Rises before after
+rises_later before between after up (inl more) = inl (omega (arith, up, more))
+rises_later before between after up (inr full) = inr full
+
+pub rises_last : (before between later after : ℕ) → before ≤ between → between ≤ later → Rises later after → Rises before after
+rises_last before between later after up more rises = rises_later before later after (omega (arith, up, more)) rises
+
+module _ (named : RunNames) (load_fails : ℕ → Type 0) where
+  module _ (files : Files) where
+    -- ---- each file
+
+    map_stop : (later : Type 0) → (later → load_fails 1) → (stop : Stop) → IsRoleStop files TheMap named.map IsBadMap later stop → IsStopOf files named load_fails stop
+    map_stop later up (stops.Bad line) h = MapFails h
+    map_stop later up (stops.NoText nothing.OutOfMemory) h = tt
+    map_stop later up (stops.NoText (nothing.Refused why)) (inl h) = inl (MapFails h)
+    map_stop later up (stops.NoText (nothing.Refused why)) (inr h) = inr (TheMap, up h.0, tt, h.1)
+
+    module _ (inputs : Inputs) (the_map : HasMap files named inputs) where
+      book_stop : (later : Type 0) → (later → load_fails 2) → (stop : Stop) → IsRoleStop files TheBook named.book IsBadBook later stop → IsStopOf files named load_fails stop
+      book_stop later up (stops.Bad line) h = BookFails inputs the_map h
+      book_stop later up (stops.NoText nothing.OutOfMemory) h = tt
+      book_stop later up (stops.NoText (nothing.Refused why)) (inl h) = inl (BookFails inputs the_map h)
+      book_stop later up (stops.NoText (nothing.Refused why)) (inr h) = inr (TheBook, up h.0, (inputs, the_map), h.1)
+
+      module _ (the_book : HasBook files named inputs) where
+        script_stop : (later : Type 0) → (later → load_fails 3) → (stop : Stop) → IsRoleStop files TheScript named.script (IsBadScript inputs.rules) later stop → IsStopOf files named load_fails stop
+        script_stop later up (stops.Bad line) h = ScriptFails inputs the_map the_book h
+        script_stop later up (stops.NoText nothing.OutOfMemory) h = tt
+        script_stop later up (stops.NoText (nothing.Refused why)) (inl h) = inl (ScriptFails inputs the_map the_book h)
+        script_stop later up (stops.NoText (nothing.Refused why)) (inr h) = inr (TheScript, up h.0, (inputs, the_map, the_book), h.1)
+
+  -- a rule of a book that was read isn't accepted
+  rule_stop : (files : Files) (inputs : Inputs) → HasMap files named inputs → (bytes : List ℕ) (book : Book) → HasFile files named.book bytes → IsReadBook bytes book
+      → (stop : Stop) → IsBadFor TheBook (IsFirstRefused book.schema (map rule_of book.rules)) stop → IsStopOf files named load_fails stop
+  rule_stop files inputs the_map bytes book held read (stops.Bad line) (why, first, is) =
+      BookFails inputs the_map (Bad bytes why held (RuleRefused book.schema (map rule_of book.rules) read first) (ap (λ text. answers 4 text) is))
+  rule_stop files inputs the_map bytes book held read (stops.NoText nothing.OutOfMemory) h = tt
+  rule_stop files inputs the_map bytes book held read (stops.NoText (nothing.Refused why)) h = absurd h
+
+-- the inputs, as far as they are known
+abbrev pub known : ArenaMap → Schema → List Rule → Inputs
+known m schema rules = record { dim = m.schema.dim; darts = rows_of m; schema = schema; rules = rules; lines = [] }
+
+-- ---- the exits of a run, wherever the store tells
+
+module _ (named : RunNames) (load_fails : ℕ → Type 0) where
+  pub at_map : (contents : Contents) (later : Type 0) (stop : Stop) → (later → load_fails 1) → IsFrom {A = ArenaMap} contents TheMap named.map IsReadMap IsBadMap later (Err stop) → IfSome contents (λ files. IsMade files named load_fails (Err stop))
+  at_map None later stop up h = tt
+  at_map (Some files) later stop up h = map_stop named load_fails files later up stop h.0
+
+  pub at_book : (contents : Contents) (m : ArenaMap) (one later : Type 0) (stop : Stop) → (later → load_fails 2) → IsFrom contents TheMap named.map IsReadMap IsBadMap one (Ok m)
+      → IsFrom {A = Book} contents TheBook named.book IsReadBook IsBadBook later (Err stop) → IfSome contents (λ files. IsMade files named load_fails (Err stop))
+  at_book None m one later stop up f h = tt
+  at_book (Some files) m one later stop up (bytes, held, read) h = book_stop named load_fails files (known m m.schema []) (bytes, held, read.read) later up stop h.0
+
+  pub at_rules : (contents : Contents) (m : ArenaMap) (book : Book) (one two : Type 0) (stop : Stop) → IsFrom contents TheMap named.map IsReadMap IsBadMap one (Ok m) → IsFrom contents TheBook named.book IsReadBook IsBadBook two (Ok book)
+      → IsBadFor TheBook (IsFirstRefused book.schema (map rule_of book.rules)) stop → IfSome contents (λ files. IsMade files named load_fails (Err stop))
+  at_rules None m book one two stop h g bad = tt
+  at_rules (Some files) m book one two stop (bytes, held, read) (text, there, is) bad = rule_stop named load_fails files (known m m.schema []) (bytes, held, read.read) text book there is stop bad
+
+  pub at_script : (contents : Contents) (m : ArenaMap) (book : Book) (one two later : Type 0) (stop : Stop) → (later → load_fails 3) → IsFrom contents TheMap named.map IsReadMap IsBadMap one (Ok m)
+      → IsFrom contents TheBook named.book IsReadBook IsBadBook two (Ok book) → All (IsAccepted book.schema) (map rule_of book.rules)
+      → IsFrom {A = Script} contents TheScript named.script (IsReadScript (map rule_of book.rules)) (IsBadScript (map rule_of book.rules)) later (Err stop) → IfSome contents (λ files. IsMade files named load_fails (Err stop))
+  at_script None m book one two later stop up f g accepted h = tt
+  at_script (Some files) m book one two later stop up (bytes, held, read) (text, there, is) accepted h =
+      script_stop named load_fails files (known m book.schema (map rule_of book.rules)) (bytes, held, read.read) (text, there, is, accepted) later up stop h.0
+
+  -- all three files are read
+  module _ (contents : Contents) (m : ArenaMap) (book : Book) (script : Script) (one two three : Type 0) (the_map : IsFrom contents TheMap named.map IsReadMap IsBadMap one (Ok m))
+      (the_book : IsFrom contents TheBook named.book IsReadBook IsBadBook two (Ok book)) (accepted : All (IsAccepted book.schema) (map rule_of book.rules))
+      (the_script : IsFrom contents TheScript named.script (IsReadScript (map rule_of book.rules)) (IsBadScript (map rule_of book.rules)) three (Ok script)) where
+    pub at_agreement : (Agree (inputs_of m book script) → ⊥) → IfSome contents (λ files. IsMade files named load_fails (Err (stops.NoText (nothing.Refused refusals.Agree))))
+    at_agreement no_agreement = go contents the_map the_book the_script
+      where
+        go : (c : Contents) → IsFrom c TheMap named.map IsReadMap IsBadMap one (Ok m) → IsFrom c TheBook named.book IsReadBook IsBadBook two (Ok book)
+            → IsFrom c TheScript named.script (IsReadScript (map rule_of book.rules)) (IsBadScript (map rule_of book.rules)) three (Ok script) → IfSome c (λ files. IsMade files named load_fails (Err (stops.NoText (nothing.Refused refusals.Agree))))
+        go None f g h = tt
+        go (Some files) (bytes, held, read) (text, there, is) h = inl (Disagree (inputs_of m book script) (bytes, held, read.read) (text, there, is, accepted) h no_agreement refl)
+
+    pub at_end : Agree (inputs_of m book script) → (result : Result Made Stop) → IsRunOf (inputs_of m book script) result → IfSome contents (λ files. IsMade files named load_fails result)
+    at_end agree result made = go contents the_map the_book the_script
+      where
+        run : (files : Files) → HasMap files named (inputs_of m book script) → HasBook files named (inputs_of m book script) → HasScript files named (inputs_of m book script) → (r : Result Made Stop) → IsRunOf (inputs_of m book script) r → IsMade files named load_fails r
+        run files a b c (Ok value) (ran, is, fits) = (inputs_of m book script, ran, record { the_map = a; the_book = b; the_script = c; agree = agree; is_ran = is }, fits)
+        run files a b c (Err (stops.NoText nothing.OutOfMemory)) h = tt
+        run files a b c (Err (stops.NoText (nothing.Refused why))) (ran, is, (e, long)) =
+            let same : why ≡ refusals.SizeOutput = cc in
+            inl (LongOutput (inputs_of m book script) ran (record { the_map = a; the_book = b; the_script = c; agree = agree; is_ran = is }) long (ap refusal_answer same))
+        run files a b c (Err (stops.Bad line)) (ran, is, (e, long)) = absurd cc
+
+        go : (c : Contents) → IsFrom c TheMap named.map IsReadMap IsBadMap one (Ok m) → IsFrom c TheBook named.book IsReadBook IsBadBook two (Ok book)
+            → IsFrom c TheScript named.script (IsReadScript (map rule_of book.rules)) (IsBadScript (map rule_of book.rules)) three (Ok script) → IfSome c (λ files. IsMade files named load_fails result)
+        go None f g h = tt
+        go (Some files) (bytes, held, read) (text, there, is) h = run files (bytes, held, read.read) (text, there, is, accepted) h result made
+
+-- ---- causes
+
+module _ (contents : Contents) (named : RunNames) (fails : Type 0) where
+  pub lacks_map : fails ⊎ Lacks contents named.map → fails ⊎ LacksInput contents named
+  lacks_map (inl f) = inl f
+  lacks_map (inr l) = inr (inl l)
+
+  pub lacks_book : (later : Type 0) → (later → fails) → later ⊎ Lacks contents named.book → fails ⊎ LacksInput contents named
+  lacks_book later up (inl f) = inl (up f)
+  lacks_book later up (inr l) = inr (inr (inl l))
+
+  pub lacks_script : (later : Type 0) → (later → fails) → later ⊎ Lacks contents named.script → fails ⊎ LacksInput contents named
+  lacks_script later up (inl f) = inl (up f)
+  lacks_script later up (inr l) = inr (inr (inr l))

@@ -1,0 +1,201 @@
+-- The steps of a run of the program stay within its most, and reach its least.
+use Rattle.std.proofs.Common.{◌≡◌, ℕ, zero, suc, ◌+◌, ◌*◌, ◌<◌, ◌≤◌, true, List, [], ◌∷◌, inl, inr, Some, None, Result, Ok, Err, is_some, length, map, All, refl, sym, ap, subst, ◌∙◌, eqb, arith}
+use Rattle.std.specs.Prelude.{slice_index, IfOk, IfSome}
+use Rattle.std.specs.List.{Contains}
+use Rattle.std.specs.List.Sorted.{IsStrictlyIncreasing}
+use Rattle.std.proofs.Math.Nat.{mul_assoc}
+use Rattle.std.proofs.lemmas.Bool.{eqb-true, eq-eqb, cases_Bool}
+use Rattle.std.proofs.lemmas.Nat.{mul-le}
+use Rattle.std.proofs.lemmas.List.{length-map}
+use Rattle.std.proofs.lemmas.List.Kept.{AllPairs-from_increasing}
+use Rattle.gm_arena.proofs.Keys.{darts_counted}
+use Rattle.gm_arena.specs.ArenaAsMap.{as_map}
+use Rattle.gm_arena.specs.ArenaMap.{ArenaMap}
+use Rattle.gm_arena.specs.Lawful.{IsLawful}
+use Rattle.gm_host.specs.Store.{Contents, IsHeld}
+use Rattle.gm_mapfile.proofs.Printed.{length_rows}
+use Rattle.gm_mapfile.specs.Rows.{rows_of}
+use Rattle.gm_model.specs.declared.rule.Book.{Book}
+use Rattle.gm_model.specs.declared.schema.Schema.{Schema}
+use Rattle.gm_model.specs.declared.script.Script.{Script}
+use Rattle.gm_model.specs.Acceptance.{IsAccepted}
+use Rattle.gm_model.specs.GMap.{Row, row_of}
+use Rattle.gm_model.specs.Maps.{Map, IsDart}
+use Rattle.gm_mapfile.specs.MapText.{MapText, names}
+use Rattle.gm_model.specs.Orbits.{HasCount}
+use Rattle.gm_model.specs.Rules.{rule_of}
+use Rattle.gm_model.specs.Runs.{Outcome, IsRun, IsRunBudget, changed_darts}
+use Rattle.gm_plan.specs.Plans.{PlanOf}
+use Rattle.gm_run.specs.Alike.{AreAlike}
+use Rattle.gm_run.specs.Progress.{rules_of}
+use Rattle.gm_theory.proofs.ValuesUnique.{one_count}
+use Rattle.gm_tool.specs.Answer.{Files, TheMap, TheBook, TheScript}
+use Rattle.gm_tool.specs.MadeRuns.{CanRun, inputs_of}
+use Rattle.gm_tool.specs.RunAnswer.{RunNames, Inputs, Ran, IsRan, IsNextOf, IsGoodRun, HasMap, HasBook, HasScript, map_of, IsBadMap, IsBadBook, IsBadScript}
+use Rattle.gm_tool.specs.StepBounds.{HasBudget, IsMost, MostOf, IsLeast, LeastOf, WithinMost, AtLeast, ReadsWithin, RunsWithin, RunsAtLeast, reading, printing}
+use Rattle.gm_tool.specs.Stops.{IsReadMap, IsReadBook, IsReadScript, IsFrom}
+use Rattle.gm_tool.proofs.ArenaMaps.{as_rows, next_of}
+use Rattle.gm_tool.proofs.Lines.{same_rules}
+use Rattle.gm_tool.proofs.OneRan.{one_next}
+use Rattle.gm_tool.proofs.OneRunAnswer.{same_inputs}
+
+-- ---- how many darts rows have
+
+row_named : (rows : List Row) (d : ℕ) → Contains (names rows) d → is_some (row_of rows d) ≡ true
+row_named [] d (k, within, is) = absurd (omega arith)
+row_named (row ∷ rows) d (zero, within, is) = let here : eqb row.name d ≡ true = eq-eqb row.name d is in rw here refl
+row_named (row ∷ rows) d (suc k, within, is) =
+    let rest = row_named rows d (k, omega arith, is) in
+    elim (cases_Bool (eqb row.name d)) [
+      | inl here ↦ rw here refl
+      | inr other ↦ rw other rest
+    ]
+
+name_held : (rows : List Row) (d : ℕ) → is_some (row_of rows d) ≡ true → Contains (names rows) d
+name_held [] d live = absurd cc
+name_held (row ∷ rows) d live =
+    elim (cases_Bool (eqb row.name d)) [
+      | inl here ↦ (0, omega arith, eqb-true row.name d here)
+      | inr other ↦ let rest : is_some (row_of rows d) ≡ true = rw other at live in let at = name_held rows d rest in let within : suc at.0 < suc (length (names rows)) = omega (arith, at.1) in (suc at.0, within, at.2)
+    ]
+
+-- rows in ascending order are as many darts
+rows_counted : (rows : List Row) → IsStrictlyIncreasing (names rows) → HasCount (λ d. is_some (row_of rows d) ≡ true) (length rows)
+rows_counted rows up = (names rows, record { distinct = distinct; same = λ d. (row_named rows d, name_held rows d) }, length-map rows (λ (row : Row). row.name))
+  where
+    distinct : (p q : ℕ) → p < q → q < length (names rows) → slice_index (names rows) p ≡ slice_index (names rows) q → ⊥
+    distinct p q before within e = let l = AllPairs-from_increasing (names rows) up p q 0 before within in omega (arith, l, e)
+
+-- ---- what was read is what a good run is of
+
+module _ (files : Files) (named : RunNames) (m : ArenaMap) (book : Book) (script : Script) (the_map : HasMap files named (inputs_of m book script)) (the_book : HasBook files named (inputs_of m book script))
+    (the_script : HasScript files named (inputs_of m book script)) where
+  of_read : (inputs : Inputs) (ran : Ran) → IsGoodRun files named inputs ran → inputs ≡ inputs_of m book script
+  of_read inputs ran good = same_inputs files named inputs (inputs_of m book script) good.the_map the_map good.the_book the_book good.the_script the_script
+
+-- ---- the lines
+
+module _ (m after : ArenaMap) (book : Book) (script : Script) (plans : List PlanOf) (can : CanRun m book script plans) (lawful : IsLawful m) where
+  -- a run of the inputs is one of the map in the arena
+  in_arena : (ran : Ran) (first : ℕ) → IsNextOf (rows_of m) first → map_of m.schema.dim (rows_of m) first ≡ as_map m
+  in_arena ran first is = ap (map_of m.schema.dim (rows_of m)) (one_next (rows_of m) first m.next is (next_of m can.next)) ∙ sym (as_rows m lawful can.bare)
+
+  pub lines_within : (start steps : ℕ)
+      → ((outcomes : List Outcome) (end : Map) (most : ℕ) → IsRunBudget (rules_of plans) (as_map m) script.lines outcomes end most → steps ≤ start + most)
+      → (ran : Ran) (sum : ℕ) → HasBudget (inputs_of m book script) ran sum → steps ≤ start + sum
+  lines_within start steps within ran sum budget =
+      within ran.outcomes (map_of m.schema.dim ran.darts ran.next) sum
+      (subst (λ rules. IsRunBudget rules (as_map m) script.lines ran.outcomes (map_of m.schema.dim ran.darts ran.next) sum) (sym (same_rules m book script plans can))
+      (subst (λ x. IsRunBudget (map rule_of book.rules) x script.lines ran.outcomes (map_of m.schema.dim ran.darts ran.next) sum) (in_arena ran budget.first budget.first_is) budget.budget))
+
+  module _ (lawful_after : IsLawful after) (outcomes : List Outcome)
+      (only : (others : List Outcome) (end : Map) → IsRun (rules_of plans) (as_map m) script.lines others end → (others ≡ outcomes) × AreAlike end (as_map after)) where
+    of_ran : (ran : Ran) → IsRan (inputs_of m book script) ran → (ran.outcomes ≡ outcomes) × AreAlike (map_of m.schema.dim ran.darts ran.next) (as_map after)
+    of_ran ran is =
+        only ran.outcomes (map_of m.schema.dim ran.darts ran.next)
+        (subst (λ rules. IsRun rules (as_map m) script.lines ran.outcomes (map_of m.schema.dim ran.darts ran.next)) (sym (same_rules m book script plans can))
+        (subst (λ x. IsRun (map rule_of book.rules) x script.lines ran.outcomes (map_of m.schema.dim ran.darts ran.next)) (in_arena ran is.first is.first_is) is.run))
+
+    -- the map that is left has as many darts
+    left_counted : (ran : Ran) → IsRan (inputs_of m book script) ran → length ran.darts ≡ after.count
+    left_counted ran is =
+        let darts = (of_ran ran is).1.same.darts in
+        let own = rows_counted ran.darts is.ascending in
+        one_count (IsDart (as_map after)) (length ran.darts) after.count
+        (own.0, record { distinct = own.1.distinct; same = λ d. (λ c. (darts d).0 ((own.1.same d).0 c), λ live. (own.1.same d).1 ((darts d).1 live)) }, own.2) (darts_counted after lawful_after)
+
+    pub printed_within : (start middle steps : ℕ) → ((others : List Outcome) (end : Map) (most : ℕ) → IsRunBudget (rules_of plans) (as_map m) script.lines others end most → middle ≤ start + most)
+        → after.schema ≡ m.schema → steps ≤ middle + printing after.schema.dim after.count → RunsWithin (inputs_of m book script) start steps
+    printed_within start middle steps within same printed ran sum is budget =
+        let first = lines_within start middle within ran sum budget in
+        let dims = ap (λ (schema : Schema). schema.dim) same in
+        let last : steps ≤ middle + printing m.schema.dim (length ran.darts) = rw (left_counted ran is) (subst (λ n. steps ≤ middle + printing n after.count) dims printed) in
+        omega (arith, first, last)
+
+    pub printed_least : (start middle steps : ℕ) → start + changed_darts outcomes ≤ middle → middle + after.count ≤ steps → RunsAtLeast (inputs_of m book script) start steps
+    printed_least start middle steps ran_least printed ran is =
+        let changed = ap changed_darts (of_ran ran is).0 in
+        let count = left_counted ran is in
+        omega (arith, ran_least, printed, changed, count)
+
+  -- a run that stops for want of memory prints nothing
+  pub unprinted_within : (start steps : ℕ) → ((others : List Outcome) (end : Map) (most : ℕ) → IsRunBudget (rules_of plans) (as_map m) script.lines others end most → steps ≤ start + most)
+      → RunsWithin (inputs_of m book script) start steps
+  unprinted_within start steps within ran sum is budget = let first = lines_within start steps within ran sum budget in omega (arith, first)
+
+-- ---- the files
+
+reading_below : (s darts left sum before after : ℕ) → after ≤ before + 32 * s * (darts + 1) → after ≤ before + (sum + 64 * s * (darts + left + 1))
+reading_below s darts left sum before after h =
+    let low : s * (darts + 1) ≤ s * (darts + left + 1) = mul-le s (darts + 1) s (darts + left + 1) (omega arith) (omega arith) in
+    let one : 32 * s * (darts + 1) ≡ 32 * (s * (darts + 1)) = mul_assoc 32 s (darts + 1) in
+    let two : 64 * s * (darts + left + 1) ≡ 64 * (s * (darts + left + 1)) = mul_assoc 64 s (darts + left + 1) in
+    omega (arith, h, low, one, two)
+
+handled : (s darts left sum start read after : ℕ) → read ≤ start + 32 * s * (darts + 1) → after ≤ read + sum + 8 * s * (left + 1) → after ≤ start + (sum + 64 * s * (darts + left + 1))
+handled s darts left sum start read after h k =
+    let low : s * (darts + 1) ≤ s * (darts + left + 1) = mul-le s (darts + 1) s (darts + left + 1) (omega arith) (omega arith) in
+    let high : s * (left + 1) ≤ s * (darts + left + 1) = mul-le s (left + 1) s (darts + left + 1) (omega arith) (omega arith) in
+    let one : 32 * s * (darts + 1) ≡ 32 * (s * (darts + 1)) = mul_assoc 32 s (darts + 1) in
+    let two : 64 * s * (darts + left + 1) ≡ 64 * (s * (darts + left + 1)) = mul_assoc 64 s (darts + left + 1) in
+    let three : 8 * s * (left + 1) ≡ 8 * (s * (left + 1)) = mul_assoc 8 s (left + 1) in
+    omega (arith, h, k, low, high, one, two, three)
+
+-- what was loaded is what is read
+pub loaded_within : (contents : Contents) (name bytes : List ℕ) (before after : ℕ) → IsHeld contents name bytes → ((n : ℕ) (darts : List Row) → MapText bytes n darts → after ≤ before + reading n (length darts)) → ReadsWithin contents name before after
+loaded_within None name bytes before after held within = tt
+loaded_within (Some files) name bytes before after held within = λ other n darts there stands.
+    let same : Some other ≡ Some bytes = sym there.0 ∙ held in
+    let bytes_same : other ≡ bytes = cc same in
+    within n darts (subst (λ b. MapText b n darts) bytes_same stands)
+
+pub unread_within : (contents : Contents) (name : List ℕ) (before after : ℕ) → after ≡ before → ReadsWithin contents name before after
+unread_within None name before after same = tt
+unread_within (Some files) name before after same = λ other n darts there stands. omega (arith, same)
+
+module _ (named : RunNames) where
+  -- a run that stops before its lines takes no more than reading its map
+  pub stopped_within : (contents : Contents) (before after last : ℕ) → last ≡ after → ReadsWithin contents named.map before after → IfSome contents (λ files. WithinMost files named before last)
+  stopped_within None before after last same within = tt
+  stopped_within (Some files) before after last same within = each
+    where
+      each : (most : ℕ) → IsMost files named most → last ≤ before + most
+      each _ (MostOf inputs ran sum good budget) =
+          let read = within good.the_map.0 inputs.dim inputs.darts good.the_map.1 good.the_map.2 in
+          reading_below ((inputs.dim + 1) * (inputs.dim + 1)) (length inputs.darts) (length ran.darts) sum before last (omega (arith, same, read))
+
+  module _ (m : ArenaMap) (book : Book) (script : Script) (one two three : Type 0) (accepted : All (IsAccepted book.schema) (map rule_of book.rules)) where
+    -- the files are those that were read
+    abbrev pub AreRead : Contents → Type 0
+    AreRead contents = IfSome contents (λ files. HasMap files named (inputs_of m book script) × HasBook files named (inputs_of m book script) × HasScript files named (inputs_of m book script))
+
+    pub are_read : (contents : Contents) → IsFrom contents TheMap named.map IsReadMap IsBadMap one (Ok m) → IsFrom contents TheBook named.book IsReadBook IsBadBook two (Ok book)
+        → IsFrom contents TheScript named.script (IsReadScript (map rule_of book.rules)) (IsBadScript (map rule_of book.rules)) three (Ok script) → AreRead contents
+    are_read None a b c = tt
+    are_read (Some files) (bytes, held, is) (text, there, book_is) script_read = ((bytes, held, is.read), (text, there, book_is, accepted), script_read)
+
+    pub ended_within : (contents : Contents) (start read after : ℕ) → AreRead contents → ReadsWithin contents named.map start read → RunsWithin (inputs_of m book script) read after → IfSome contents (λ files. WithinMost files named start after)
+    ended_within None start read after are reads runs = tt
+    ended_within (Some files) start read after (the_map, the_book, the_script) reads runs = each
+      where
+        each : (most : ℕ) → IsMost files named most → after ≤ start + most
+        each _ (MostOf inputs ran sum good budget) =
+            let same = of_read files named m book script the_map the_book the_script inputs ran good in
+            let low = reads good.the_map.0 inputs.dim inputs.darts good.the_map.1 good.the_map.2 in
+            let high : after ≤ read + sum + printing inputs.dim (length ran.darts) = subst (λ x. RunsWithin x read after) (sym same) runs ran sum good.is_ran budget in
+            handled ((inputs.dim + 1) * (inputs.dim + 1)) (length inputs.darts) (length ran.darts) sum start read after low high
+
+    pub ended_least : (contents : Contents) (start read after : ℕ) → IsLawful m → AreRead contents → start + m.count ≤ read → RunsAtLeast (inputs_of m book script) read after → IfSome contents (λ files. AtLeast files named start after)
+    ended_least None start read after lawful are reads runs = tt
+    ended_least (Some files) start read after lawful (the_map, the_book, the_script) reads runs = each
+      where
+        each : (least : ℕ) → IsLeast files named least → start + least ≤ after
+        each _ (LeastOf inputs ran good) =
+            let same = of_read files named m book script the_map the_book the_script inputs ran good in
+            let low = subst (λ x. RunsAtLeast x read after) (sym same) runs ran good.is_ran in
+            let count = ap (λ (x : Inputs). length x.darts) same ∙ length_rows m lawful in
+            omega (arith, low, reads, count)
+
+pub if_done : {A E P Q : Type 0} → (P → Q) → (result : Result A E) → IfOk result (λ _. P) → IfOk result (λ _. Q)
+if_done f (Ok value) h = f h
+if_done f (Err e) h = tt

@@ -1,0 +1,122 @@
+-- The bounds on steps, said of the words of the command line and of the status that is left.
+use Rattle.std.proofs.Common.{◌≡◌, ℕ, ◌+◌, ◌*◌, ◌≤◌, List, inl, inr, Some, None, Result, Ok, Err, length, sym, ap, subst, ◌∙◌, arith}
+use Rattle.std.specs.Prelude.{IfOk, IfSome}
+use Rattle.std.proofs.Math.Nat.{mul_assoc}
+use Rattle.gm_arena.specs.ArenaMap.{ArenaMap}
+use Rattle.gm_arena.specs.Lawful.{IsLawful}
+use Rattle.gm_host.specs.Store.{Contents, IsHeld}
+use Rattle.gm_mapfile.proofs.OneMap.{one_map}
+use Rattle.gm_mapfile.proofs.Printed.{length_rows}
+use Rattle.gm_mapfile.specs.MapText.{MapText}
+use Rattle.gm_mapfile.specs.Rows.{rows_of}
+use Rattle.gm_model.specs.GMap.{Row}
+use Rattle.gm_tool.specs.Answer.{Asks}
+use Rattle.gm_tool.specs.Answer as answer
+use Rattle.gm_tool.specs.MadeRuns.{IsRunStatus}
+use Rattle.gm_tool.specs.RunAnswer.{RunNames, AsksRun}
+use Rattle.gm_tool.specs.StepBounds.{WithinMost, AtLeast, StaysWithin, TakesLeast, ShowsWithin, FileShowsWithin, ShowStaysWithin, reading, printing}
+use Rattle.gm_tool.specs.declared.refusal.NoText.{NoText}
+use Rattle.gm_tool.specs.declared.reply.Reply.{Reply}
+use Rattle.gm_tool.proofs.Asking.{same_named}
+use Rattle.gm_tool.proofs.OneAnswer.{asked_once}
+
+read_below : (s darts before after : ℕ) → after ≤ before + 32 * s * (darts + 1) → after ≤ before + 40 * s * (darts + 1)
+read_below s darts before after h =
+    let one : 32 * s * (darts + 1) ≡ 32 * (s * (darts + 1)) = mul_assoc 32 s (darts + 1) in
+    let two : 40 * s * (darts + 1) ≡ 40 * (s * (darts + 1)) = mul_assoc 40 s (darts + 1) in
+    omega (arith, h, one, two)
+
+printed_below : (s darts before middle after : ℕ) → middle ≤ before + 32 * s * (darts + 1) → after ≤ middle + 8 * s * (darts + 1) → after ≤ before + 40 * s * (darts + 1)
+printed_below s darts before middle after h k =
+    let one : 32 * s * (darts + 1) ≡ 32 * (s * (darts + 1)) = mul_assoc 32 s (darts + 1) in
+    let two : 40 * s * (darts + 1) ≡ 40 * (s * (darts + 1)) = mul_assoc 40 s (darts + 1) in
+    let three : 8 * s * (darts + 1) ≡ 8 * (s * (darts + 1)) = mul_assoc 8 s (darts + 1) in
+    omega (arith, h, k, one, two, three)
+
+-- ---- the words
+
+module _ (words : List (List ℕ)) (named : RunNames) (asks : AsksRun words named) (before after : ℕ) where
+  pub within_of : (contents : Contents) → IfSome contents (λ files. WithinMost files named before after) → StaysWithin words contents before after
+  within_of None h = tt
+  within_of (Some files) h = λ other asks_too. subst (λ n. WithinMost files n before after) (same_named words named other asks asks_too) h
+
+  pub least_of : (contents : Contents) (reply : Result Reply NoText) → IfOk reply (λ r. IfSome contents (λ files. IsRunStatus r.status → AtLeast files named before after)) → IfOk reply (λ r. TakesLeast words contents r.status before after)
+  least_of None (Ok reply) h = tt
+  least_of (Some files) (Ok reply) h = λ other asks_too run. subst (λ n. AtLeast files n before after) (same_named words named other asks asks_too) (h run)
+  least_of contents (Err none) h = tt
+
+-- words that are no run have no bounds
+module _ (words : List (List ℕ)) (none : (named : RunNames) → AsksRun words named → ⊥) (before after : ℕ) where
+  pub within_none : (contents : Contents) → StaysWithin words contents before after
+  within_none None = tt
+  within_none (Some files) = λ named asks. absurd (none named asks)
+
+  pub least_none : (contents : Contents) (reply : Result Reply NoText) → IfOk reply (λ r. TakesLeast words contents r.status before after)
+  least_none None (Ok reply) = tt
+  least_none (Some files) (Ok reply) = λ named asks run. absurd (none named asks)
+  least_none contents (Err error) = tt
+
+-- ---- a map that is shown
+
+pub reads_shown : (bytes : List ℕ) (before after : ℕ) → ((n : ℕ) (darts : List Row) → MapText bytes n darts → after ≤ before + reading n (length darts)) → ShowsWithin bytes before after
+reads_shown bytes before after reads n darts stands = read_below ((n + 1) * (n + 1)) (length darts) before after (reads n darts stands)
+
+pub prints_shown : (bytes : List ℕ) (m : ArenaMap) (before middle after : ℕ) → IsLawful m → MapText bytes m.schema.dim (rows_of m)
+    → ((n : ℕ) (darts : List Row) → MapText bytes n darts → middle ≤ before + reading n (length darts)) → after ≤ middle + printing m.schema.dim m.count → ShowsWithin bytes before after
+prints_shown bytes m before middle after lawful is reads prints n darts stands =
+    let both : (m.schema.dim ≡ n) × (rows_of m ≡ darts) = one_map bytes m.schema.dim n (rows_of m) darts is stands in
+    let count : m.count ≡ length darts = sym (length_rows m lawful) ∙ ap length both.1 in
+    let printed : after ≤ middle + printing n (length darts) = subst (λ k. after ≤ middle + printing k (length darts)) both.0 (subst (λ k. after ≤ middle + printing m.schema.dim k) count prints) in
+    printed_below ((n + 1) * (n + 1)) (length darts) before middle after (reads n darts stands) printed
+
+pub unloaded_shown : (contents : Contents) (name : List ℕ) (steps : ℕ) → FileShowsWithin contents name steps steps
+unloaded_shown None name steps = tt
+unloaded_shown (Some files) name steps = λ bytes held n darts stands. omega arith
+
+pub loaded_shown : (contents : Contents) (name bytes : List ℕ) (before after : ℕ) → IsHeld contents name bytes → ShowsWithin bytes before after → FileShowsWithin contents name before after
+loaded_shown None name bytes before after held shown = tt
+loaded_shown (Some files) name bytes before after held shown = λ other there.
+    let same : Some other ≡ Some bytes = sym there.0 ∙ held in
+    let bytes_same : other ≡ bytes = cc same in
+    subst (λ b. ShowsWithin b before after) (sym bytes_same) shown
+
+pub file_shown : (words : List (List ℕ)) (contents : Contents) (command : answer.Command) (name : List ℕ) (before after : ℕ) → Asks words command name
+    → (command ≡ answer.Show → FileShowsWithin contents name before after) → ShowStaysWithin words contents before after
+file_shown words contents command name before after asks shown other asks_too =
+    let same : (command ≡ answer.Show) × (name ≡ other) = asked_once words command answer.Show name other asks asks_too in
+    subst (λ (n : List ℕ). FileShowsWithin contents n before after) same.1 (shown same.0)
+
+pub none_shown : (words : List (List ℕ)) (contents : Contents) (before after : ℕ) → ((command : answer.Command) (name : List ℕ) → Asks words command name → ⊥) → ShowStaysWithin words contents before after
+none_shown words contents before after none name asks = absurd (none answer.Show name asks)
+
+-- ---- the status
+
+-- of a report that was made and saved
+pub least_saved : (contents : Contents) (named : RunNames) (before after : ℕ) (reply : Result Reply NoText) → IfSome contents (λ files. AtLeast files named before after)
+    → IfOk reply (λ r. IfSome contents (λ files. IsRunStatus r.status → AtLeast files named before after))
+least_saved None named before after (Ok reply) h = tt
+least_saved (Some files) named before after (Ok reply) h = λ run. h
+least_saved contents named before after (Err none) h = tt
+
+-- of a text that stands for nothing
+pub least_bad : (contents : Contents) (named : RunNames) (before after : ℕ) → IfSome contents (λ files. IsRunStatus 4 → AtLeast files named before after)
+least_bad None named before after = tt
+least_bad (Some files) named before after = λ run. absurd (four run)
+  where
+    four : IsRunStatus 4 → ⊥
+    four (inl e) = let f : ◌≡◌ {A = ℕ} 4 0 = e in cc
+    four (inr e) = let f : ◌≡◌ {A = ℕ} 4 1 = e in cc
+
+-- of what is put
+pub least_put : (words : List (List ℕ)) (contents : Contents) (given status before after : ℕ) → (IsRunStatus status → IsRunStatus given) → TakesLeast words contents given before after → TakesLeast words contents status before after
+least_put words None given status before after runs h = tt
+least_put words (Some files) given status before after runs h = λ named asks run. h named asks (runs run)
+
+-- of a refusal
+pub least_refused : (words : List (List ℕ)) (contents : Contents) (status before after : ℕ) → (IsRunStatus status → ⊥) → TakesLeast words contents status before after
+least_refused words None status before after none = tt
+least_refused words (Some files) status before after none = λ named asks run. absurd (none run)
+
+pub seven_is_no_run : IsRunStatus 7 → ⊥
+seven_is_no_run (inl e) = let f : ◌≡◌ {A = ℕ} 7 0 = e in cc
+seven_is_no_run (inr e) = let f : ◌≡◌ {A = ℕ} 7 1 = e in cc

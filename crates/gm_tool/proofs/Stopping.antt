@@ -1,0 +1,171 @@
+-- Why a file of a run stops it.
+use Rattle.std.proofs.Common.{◌≡◌, ◌⊎◌, ℕ, ◌≤◌, List, ◌++◌, inl, inr, Option, Some, None, Result, Ok, Err, length, refl, sym, ap, subst, ◌∙◌}
+use Rattle.std.specs.Global.{Vec}
+use Rattle.std.specs.Prelude.{IfOk, IfErr, codes}
+use Rattle.gm_book.specs.declared.fault.BookFault.{BookFault}
+use Rattle.gm_book.specs.declared.fault.BookFault.TheVariants as book
+use Rattle.gm_book.specs.Faults as book_faults
+use Rattle.gm_host.specs.Store.{Contents, Lacks, IsHeld, IsLongerThan}
+use Rattle.gm_mapfile.specs.declared.fault.MapFault.{MapFault}
+use Rattle.gm_mapfile.specs.Faults as map_faults
+use Rattle.gm_model.specs.declared.rule.RuleFault.{RuleFault}
+use Rattle.gm_model.specs.declared.schema.Schema.{Schema}
+use Rattle.gm_model.specs.Acceptance.{IsFault}
+use Rattle.gm_model.specs.Rules.{Rule}
+use Rattle.gm_plan.specs.declared.compiler.PlanFault.TheVariants as plan_faults
+use Rattle.gm_plan.specs.Refusals.{IsRefusal, Faulty}
+use Rattle.gm_script.specs.declared.fault.ScriptFault.{ScriptFault}
+use Rattle.gm_script.specs.declared.fault.ScriptFault.TheVariants as script
+use Rattle.gm_script.specs.Faults as script_faults
+use Rattle.gm_tool.specs.Answer.{Files, answers, most_bytes, TheMap, TheBook, TheScript, role_word, refusal}
+use Rattle.gm_tool.specs.Answer as answer
+use Rattle.gm_tool.specs.BookFaults as first_book
+use Rattle.gm_tool.specs.ScriptFaults as first_script
+use Rattle.gm_tool.specs.Books.{IsRuleWhy, IsRuleStop}
+use Rattle.gm_tool.specs.Checking.{rule_fault_words}
+use Rattle.gm_tool.specs.FaultLines.{IsSaidOfMap, IsSaidOfBook, IsSaidOfScript, map_words, book_words, script_words}
+use Rattle.gm_tool.specs.Refusals.{role_in, refusal_answer}
+use Rattle.gm_tool.specs.Replies.{IsLoading}
+use Rattle.gm_tool.specs.RunAnswer.{IsBadMap, IsBadBook, IsBadScript, Unread, IsFailing, Missing, Long, Bad}
+use Rattle.gm_tool.specs.Stops.{IsStopWith, IsBadFor, IsRoleStop, IsSoundStop, IsFrom}
+use Rattle.gm_tool.specs.declared.refusal.NoText.{NoText}
+use Rattle.gm_tool.specs.declared.refusal.NoText.TheVariants as nothing
+use Rattle.gm_tool.specs.declared.refusal.Refusal.TheVariants as refusals
+use Rattle.gm_tool.specs.declared.refusal.Role.{Role}
+use Rattle.gm_tool.specs.declared.refusal.Stop.{Stop}
+use Rattle.gm_tool.specs.declared.refusal.Stop.TheVariants as stops
+use Rattle.gm_tool.proofs.Judging.{map_is_bad}
+
+-- ---- texts
+
+-- the line of a text that can't be read
+stopped : {E : Type 0} (role : answer.Role) (IsWhy : List ℕ → Type 0) (why : List ℕ) (line : Result (Vec ℕ) E) (stop : Stop)
+    → IfOk line (λ text. IsWhy why × (text.items ≡ refusal (role_word role ++ codes " " ++ why))) → IsStopWith line stop → IsBadFor role IsWhy stop
+stopped role IsWhy why (Ok line) stop h is = subst (IsBadFor role IsWhy) (sym is) (why, h.0, h.1)
+stopped role IsWhy why (Err e) stop h is = subst (IsBadFor role IsWhy) (sym is) tt
+
+module _ {E : Type 0} (bytes : List ℕ) (line : Result (Vec ℕ) E) (stop : Stop) where
+  pub map_stopped : (fault : MapFault) → map_faults.IsFaultOf bytes fault → IsSaidOfMap fault → IfOk line (λ text. text.items ≡ refusal (codes "MAP" ++ codes " " ++ map_words fault))
+      → IsStopWith line stop → IsBadFor TheMap (IsBadMap bytes) stop
+  map_stopped fault h said says is = stopped TheMap (IsBadMap bytes) (map_words fault) line stop (both line says) is
+    where
+      both : (l : Result (Vec ℕ) E) → IfOk l (λ text. text.items ≡ refusal (codes "MAP" ++ codes " " ++ map_words fault))
+          → IfOk l (λ text. IsBadMap bytes (map_words fault) × (text.items ≡ refusal (codes "MAP" ++ codes " " ++ map_words fault)))
+      both (Ok l) e = (map_is_bad bytes fault h said, e)
+      both (Err e) f = tt
+
+  book_unread : (fault : BookFault) → book_faults.IsFaultOf bytes fault → IsSaidOfBook fault → IsBadBook bytes (book_words fault)
+  book_unread (book.Text place) h said = Unread (first_book.Ends place) (first_book.AtEnds place h) refl
+  book_unread (book.Limit what place) h said = Unread (first_book.Passes what place) (first_book.AtPasses what place h) refl
+  book_unread (book.Twice place) h said = Unread _ (first_book.AtName _ h) refl
+  book_unread (book.Unknown place) h said = Unread _ (first_book.AtName _ h) refl
+  book_unread (book.NotBuilt place) h said = Unread (first_book.NotBuilt place) (first_book.AtNotBuilt place h) refl
+  book_unread book.OutOfMemory h said = absurd said
+
+  pub book_stopped : (fault : BookFault) → book_faults.IsFaultOf bytes fault → IfOk line (λ text. IsSaidOfBook fault × (text.items ≡ refusal (codes "BOOK" ++ codes " " ++ book_words fault)))
+      → IsStopWith line stop → IsBadFor TheBook (IsBadBook bytes) stop
+  book_stopped fault h says is = stopped TheBook (IsBadBook bytes) (book_words fault) line stop (both line says) is
+    where
+      both : (l : Result (Vec ℕ) E) → IfOk l (λ text. IsSaidOfBook fault × (text.items ≡ refusal (codes "BOOK" ++ codes " " ++ book_words fault)))
+          → IfOk l (λ text. IsBadBook bytes (book_words fault) × (text.items ≡ refusal (codes "BOOK" ++ codes " " ++ book_words fault)))
+      both (Ok l) e = (book_unread fault h e.0, e.1)
+      both (Err e) f = tt
+
+  module _ (rules : List Rule) where
+    script_unread : (fault : ScriptFault) → script_faults.IsFaultOf bytes rules fault → IsSaidOfScript fault → IsBadScript rules bytes (script_words fault)
+    script_unread (script.Text place) h said = (first_script.Ends place, first_script.AtEnds place h, refl)
+    script_unread (script.Limit what place) h said = (first_script.Passes what place, first_script.AtPasses what place h, refl)
+    script_unread (script.UnknownRule place) h said = (first_script.OfLine _, first_script.AtLine _ h, refl)
+    script_unread (script.HookCount place) h said = (first_script.OfLine _, first_script.AtLine _ h, refl)
+    script_unread (script.Params place) h said = (first_script.OfLine _, first_script.AtLine _ h, refl)
+    script_unread script.OutOfMemory h said = absurd said
+
+    pub script_stopped : (fault : ScriptFault) → script_faults.IsFaultOf bytes rules fault → IfOk line (λ text. IsSaidOfScript fault × (text.items ≡ refusal (codes "SCRIPT" ++ codes " " ++ script_words fault)))
+        → IsStopWith line stop → IsBadFor TheScript (IsBadScript rules bytes) stop
+    script_stopped fault h says is = stopped TheScript (IsBadScript rules bytes) (script_words fault) line stop (both line says) is
+      where
+        both : (l : Result (Vec ℕ) E) → IfOk l (λ text. IsSaidOfScript fault × (text.items ≡ refusal (codes "SCRIPT" ++ codes " " ++ script_words fault)))
+            → IfOk l (λ text. IsBadScript rules bytes (script_words fault) × (text.items ≡ refusal (codes "SCRIPT" ++ codes " " ++ script_words fault)))
+        both (Ok l) e = (script_unread fault h e.0, e.1)
+        both (Err e) f = tt
+
+-- ---- a rule that isn't accepted
+
+pub refused_fault : (schema : Schema) (rule : Rule) (fault : RuleFault) → IsRefusal schema rule (plan_faults.Rule fault) → IsFault schema rule fault
+refused_fault schema rule fault (Faulty same h) = h
+
+pub rule_stopped : {E : Type 0} (schema : Schema) (rule : Rule) (fault : RuleFault) (line : Result (Vec ℕ) E) (stop : Stop) → IsFault schema rule fault
+    → IfOk line (λ text. text.items ≡ refusal (codes "BOOK" ++ codes " " ++ (codes "rule " ++ rule.name ++ codes " " ++ rule_fault_words schema rule fault))) → IsStopWith line stop → IsRuleStop schema rule stop
+rule_stopped {E = E} schema rule fault line stop h says is = stopped TheBook (IsRuleWhy schema rule) (codes "rule " ++ rule.name ++ codes " " ++ rule_fault_words schema rule fault) line stop (both line says) is
+  where
+    both : (l : Result (Vec ℕ) E) → IfOk l (λ text. text.items ≡ refusal (codes "BOOK" ++ codes " " ++ (codes "rule " ++ rule.name ++ codes " " ++ rule_fault_words schema rule fault)))
+        → IfOk l (λ text. IsRuleWhy schema rule (codes "rule " ++ rule.name ++ codes " " ++ rule_fault_words schema rule fault) × (text.items ≡ refusal (codes "BOOK" ++ codes " " ++ (codes "rule " ++ rule.name ++ codes " " ++ rule_fault_words schema rule fault))))
+    both (Ok l) e = ((fault, h, refl), e)
+    both (Err e) f = tt
+
+-- a text that can't be run is no fault of the store
+pub bad_is_sound : (role : answer.Role) (IsWhy : List ℕ → Type 0) (P : Type 0) (stop : Stop) → IsBadFor role IsWhy stop → IsSoundStop stop P
+bad_is_sound role IsWhy P (stops.Bad line) h = tt
+bad_is_sound role IsWhy P (stops.NoText nothing.OutOfMemory) h = tt
+bad_is_sound role IsWhy P (stops.NoText (nothing.Refused why)) h = absurd h
+
+-- another cause of the same
+pub sound_to : (P Q : Type 0) → (P → Q) → (stop : Stop) → IsSoundStop stop P → IsSoundStop stop Q
+sound_to P Q f (stops.Bad line) h = tt
+sound_to P Q f (stops.NoText nothing.OutOfMemory) h = tt
+sound_to P Q f (stops.NoText (nothing.Refused (refusals.Load role))) h = f h
+sound_to P Q f (stops.NoText (nothing.Refused (refusals.Size role))) h = tt
+sound_to P Q f (stops.NoText (nothing.Refused refusals.Usage)) h = h
+sound_to P Q f (stops.NoText (nothing.Refused refusals.SizeOutput)) h = tt
+sound_to P Q f (stops.NoText (nothing.Refused refusals.Agree)) h = tt
+sound_to P Q f (stops.NoText (nothing.Refused refusals.Save)) h = h
+
+-- ---- files
+
+module _ {A : Type 0} (role : answer.Role) (name : List ℕ) (IsReadAs : List ℕ → A → Type 0) (IsBadText : List ℕ → List ℕ → Type 0) (fails : Type 0) where
+  failing_stop : (files : Files) (of : Role) → role_in of ≡ role → (none : NoText) → IsLoading (Some files) name of fails (Err none) → IsRoleStop files role name IsBadText fails (stops.NoText none)
+  failing_stop files of e nothing.OutOfMemory h = tt
+  failing_stop files of e (nothing.Refused (refusals.Load other)) (same, inl failed) = inr (failed, ap (λ r. answers 3 (refusal (codes "load " ++ role_word r))) (ap role_in same ∙ e))
+  failing_stop files of e (nothing.Refused (refusals.Load other)) (same, inr lacks) = inl (Missing lacks (ap (λ r. answers 3 (refusal (codes "load " ++ role_word r))) (ap role_in same ∙ e)))
+  failing_stop files of e (nothing.Refused (refusals.Size other)) (same, h) = inl (long (files name) refl h)
+    where
+      long : (file : Option (List ℕ)) → files name ≡ file → IsLongerThan most_bytes file → IsFailing files role name IsBadText (refusal_answer (refusals.Size other))
+      long None is h = absurd h
+      long (Some bytes) is h = Long bytes is h (ap (λ r. answers 8 (refusal (codes "size " ++ role_word r))) (ap role_in same ∙ e))
+  failing_stop files of e (nothing.Refused refusals.Usage) h = absurd h
+  failing_stop files of e (nothing.Refused refusals.SizeOutput) h = absurd h
+  failing_stop files of e (nothing.Refused refusals.Agree) h = absurd h
+  failing_stop files of e (nothing.Refused refusals.Save) h = absurd h
+
+  load_cause : (contents : Contents) (of : Role) (none : NoText) → IsLoading contents name of fails (Err none) → IsSoundStop (stops.NoText none) (fails ⊎ Lacks contents name)
+  load_cause contents of nothing.OutOfMemory h = tt
+  load_cause contents of (nothing.Refused (refusals.Load other)) h = h.1
+  load_cause contents of (nothing.Refused (refusals.Size other)) h = tt
+  load_cause contents of (nothing.Refused refusals.Usage) h = absurd h
+  load_cause contents of (nothing.Refused refusals.SizeOutput) h = tt
+  load_cause contents of (nothing.Refused refusals.Agree) h = tt
+  load_cause contents of (nothing.Refused refusals.Save) h = absurd h
+
+  -- a load that gave no file
+  pub not_loaded_from : (contents : Contents) (of : Role) → role_in of ≡ role → (none : NoText) → IsLoading contents name of fails (Err none) → IsFrom {A = A} contents role name IsReadAs IsBadText fails (Err (stops.NoText none))
+  not_loaded_from None of e none h = (tt, load_cause None of none h)
+  not_loaded_from (Some files) of e none h = (failing_stop files of e none h, load_cause (Some files) of none h)
+
+  -- a file that stands for nothing
+  bad_stop : (files : Files) (bytes : List ℕ) → IsHeld (Some files) name bytes → length bytes ≤ most_bytes → (stop : Stop) → IsBadFor role (IsBadText bytes) stop → IsRoleStop files role name IsBadText fails stop
+  bad_stop files bytes held fits (stops.Bad line) (why, bad, is) = Bad bytes why (held, fits) bad (ap (λ text. answers 4 text) is)
+  bad_stop files bytes held fits (stops.NoText nothing.OutOfMemory) h = tt
+  bad_stop files bytes held fits (stops.NoText (nothing.Refused why)) h = absurd h
+
+  -- what is read of a file that was loaded
+  pub read_from : (contents : Contents) (bytes : List ℕ) (result : Result A Stop) → (length bytes ≤ most_bytes) × IsHeld contents name bytes
+      → IfOk result (IsReadAs bytes) → IfErr result (IsBadFor role (IsBadText bytes)) → IsFrom contents role name IsReadAs IsBadText fails result
+  read_from None bytes (Ok value) loaded read bad = tt
+  read_from (Some files) bytes (Ok value) loaded read bad = (bytes, (loaded.1, loaded.0), read)
+  read_from None bytes (Err stop) loaded read bad = (tt, bad_is_sound role (IsBadText bytes) _ stop bad)
+  read_from (Some files) bytes (Err stop) loaded read bad = (bad_stop files bytes loaded.1 loaded.0 stop bad, bad_is_sound role (IsBadText bytes) _ stop bad)
+
+-- what is read is read of some bytes
+pub some_bytes : {A : Type 0} (IsReadAs : List ℕ → A → Type 0) (result : Result A Stop) (bytes : List ℕ) → IfOk result (IsReadAs bytes) → IfOk result (λ value. (text : List ℕ) × IsReadAs text value)
+some_bytes IsReadAs (Ok value) bytes h = (bytes, h)
+some_bytes IsReadAs (Err stop) bytes h = tt

@@ -1,0 +1,7 @@
+use Rattle.std.proofs.Common.{take, map}
+use Rattle.gm_model.specs.Rules.{rule_of}
+use Rattle.gm_tool.specs.Checking.{AreLines}
+use Rattle.gm_tool.proofs.check.lines_of.Given as goal
+
+abbrev pub invariant-loop-rule : goal.invariant-loop-rule
+invariant-loop-rule l = AreLines l.schema (map rule_of (take l.rule-index l.rules)) l.refused l.text

@@ -1,0 +1,98 @@
+use Rattle.std.proofs.Common.{Err, inl, inr}
+use Rattle.gm_host.specs.Count.{Rises}
+use Rattle.gm_tool.specs.MadeRuns.{names_of}
+use Rattle.gm_tool.specs.Refusals.{command_in}
+use Rattle.gm_tool.specs.Tool.{words_of}
+use Rattle.gm_tool.specs.declared.refusal.NoText.TheVariants as nothing
+use Rattle.gm_tool.specs.declared.refusal.Refusal.TheVariants as refusals
+use Rattle.gm_tool.proofs.LoadCounts.{counts_of, counts_none, always}
+use Rattle.gm_tool.proofs.StepWords.{within_of, least_of, within_none, least_none, file_shown, none_shown}
+use Rattle.gm_tool.proofs.Asking.{file_is_no_run, file_text, run_text, usage_text, file_lacks, run_lacks, file_refused, run_refused, run_holds}
+use Rattle.gm_tool.proofs.program.reply_to.Goals as goal
+
+pub returns-in-Some-clause-text : goal.returns-in-Some-clause-text
+returns-in-Some-clause-text g c =
+    file_text (words_of c.args.words.now) _ _ _ c.reply_on.result (g.S.Store.holds c.args.store.now) (command_in c.in-Some.command) c.in-Some.file.now c.in-Some.ensures c.reply_on.ensures.text
+
+pub returns-clause-text : goal.returns-clause-text
+returns-clause-text g c =
+    run_text (words_of c.args.words.now) _ _ _ c.answer.result (g.S.Store.holds c.args.store.now) (names_of c.in-Some-run_of.files) c.in-Some-run_of.ensures c.answer.ensures.text
+
+pub returns-in-Some-clause-cause : goal.returns-in-Some-clause-cause
+returns-in-Some-clause-cause g c =
+    file_lacks (words_of c.args.words.now) (g.S.Store.holds c.args.store.now) _ _ c.reply_on.result (command_in c.in-Some.command) c.in-Some.file.now c.in-Some.ensures c.reply_on.ensures.sound
+
+pub returns-clause-cause : goal.returns-clause-cause
+returns-clause-cause g c =
+    run_lacks (words_of c.args.words.now) (g.S.Store.holds c.args.store.now) _ _ c.answer.result (names_of c.in-Some-run_of.files) c.in-Some-run_of.ensures c.answer.ensures.sound
+
+pub returns-in-Some-clause-refused : goal.returns-in-Some-clause-refused
+returns-in-Some-clause-refused g c =
+    file_refused (words_of c.args.words.now) (command_in c.in-Some.command) c.in-Some.file.now _ c.in-Some.ensures c.reply_on.result c.reply_on.ensures.rule_refused
+
+pub returns-in_default-run_of-clause-text : goal.returns-in_default-run_of-clause-text
+returns-in_default-run_of-clause-text g c =
+    usage_text (words_of c.args.words.now) _ _ (g.S.Store.holds c.args.store.now) (λ either. elim either [ inl file ↦ c.in_default.ensures file | inr run ↦ c.in_default-run_of.ensures run ])
+
+pub returns-clause-held : goal.returns-clause-held
+returns-clause-held g c none = absurd (none (names_of c.in-Some-run_of.files, c.in-Some-run_of.ensures))
+
+pub returns-clause-no_save_fault : goal.returns-clause-no_save_fault
+returns-clause-no_save_fault g c none = absurd (none (names_of c.in-Some-run_of.files, c.in-Some-run_of.ensures))
+
+pub returns-clause-none_loaded : goal.returns-clause-none_loaded
+returns-clause-none_loaded g c none = absurd (none (inr (names_of c.in-Some-run_of.files, c.in-Some-run_of.ensures)))
+
+pub returns-clause-no_command : goal.returns-clause-no_command
+returns-clause-no_command g c none = absurd (none (inr (names_of c.in-Some-run_of.files, c.in-Some-run_of.ensures)))
+
+pub returns-clause-refused : goal.returns-clause-refused
+returns-clause-refused g c = run_refused (words_of c.args.words.now) (names_of c.in-Some-run_of.files) c.in-Some-run_of.ensures c.answer.result
+
+pub returns-clause-map : goal.returns-clause-map
+returns-clause-map g c = run_holds (words_of c.args.words.now) (names_of c.in-Some-run_of.files) _ c.in-Some-run_of.ensures c.answer.result c.answer.ensures.map
+
+pub returns-in-Some-clause-most : goal.returns-in-Some-clause-most
+returns-in-Some-clause-most g c =
+    within_none (words_of c.args.words.now) (λ named asks. file_is_no_run (words_of c.args.words.now) (command_in c.in-Some.command) c.in-Some.file.now named c.in-Some.ensures asks) _ _ (g.S.Store.holds c.args.store.now)
+
+pub returns-in-Some-clause-least : goal.returns-in-Some-clause-least
+returns-in-Some-clause-least g c =
+    least_none (words_of c.args.words.now) (λ named asks. file_is_no_run (words_of c.args.words.now) (command_in c.in-Some.command) c.in-Some.file.now named c.in-Some.ensures asks) _ _ (g.S.Store.holds c.args.store.now) c.reply_on.result
+
+pub returns-in_default-run_of-clause-most : goal.returns-in_default-run_of-clause-most
+returns-in_default-run_of-clause-most g c = within_none (words_of c.args.words.now) (λ named asks. c.in_default-run_of.ensures (named, asks)) _ _ (g.S.Store.holds c.args.store.now)
+
+pub returns-clause-most : goal.returns-clause-most
+returns-clause-most g c = within_of (words_of c.args.words.now) (names_of c.in-Some-run_of.files) c.in-Some-run_of.ensures _ _ (g.S.Store.holds c.args.store.now) c.answer.ensures.most
+
+pub returns-clause-least : goal.returns-clause-least
+returns-clause-least g c = least_of (words_of c.args.words.now) (names_of c.in-Some-run_of.files) c.in-Some-run_of.ensures _ _ (g.S.Store.holds c.args.store.now) c.answer.result c.answer.ensures.least
+
+pub returns-in-Some-clause-show_most : goal.returns-in-Some-clause-show_most
+returns-in-Some-clause-show_most g c =
+    file_shown (words_of c.args.words.now) (g.S.Store.holds c.args.store.now) (command_in c.in-Some.command) c.in-Some.file.now _ _ c.in-Some.ensures c.reply_on.ensures.show_most
+
+pub returns-in_default-run_of-clause-show_most : goal.returns-in_default-run_of-clause-show_most
+returns-in_default-run_of-clause-show_most g c =
+    none_shown (words_of c.args.words.now) (g.S.Store.holds c.args.store.now) _ _ (λ command name asks. c.in_default.ensures (command, name, asks))
+
+pub returns-clause-show_most : goal.returns-clause-show_most
+returns-clause-show_most g c =
+    none_shown (words_of c.args.words.now) (g.S.Store.holds c.args.store.now) _ _
+    (λ command name asks. file_is_no_run (words_of c.args.words.now) command name (names_of c.in-Some-run_of.files) asks c.in-Some-run_of.ensures)
+
+pub returns-in-Some-clause-counted_loads : goal.returns-in-Some-clause-counted_loads
+returns-in-Some-clause-counted_loads g c =
+    counts_none (words_of c.args.words.now) (Rises (g.S.Store.load_faults c.args.store.now) (g.S.Store.load_faults c.reply_on.new.store)) (g.S.Store.loads c.args.store.now) (g.S.Store.loads c.reply_on.new.store) (λ named asks. file_is_no_run (words_of c.args.words.now) (command_in c.in-Some.command) c.in-Some.file.now named c.in-Some.ensures asks) (g.S.Store.holds c.args.store.now) c.reply_on.result
+
+pub returns-in_default-run_of-clause-counted_loads : goal.returns-in_default-run_of-clause-counted_loads
+returns-in_default-run_of-clause-counted_loads g c =
+    counts_none (words_of c.args.words.now) _ _ _ (λ named asks. c.in_default-run_of.ensures (named, asks)) (g.S.Store.holds c.args.store.now) (Err (nothing.Refused refusals.Usage))
+
+pub returns-clause-counted_loads : goal.returns-clause-counted_loads
+returns-clause-counted_loads g c =
+    counts_of (words_of c.args.words.now) (Rises (g.S.Store.load_faults c.args.store.now) (g.S.Store.load_faults c.answer.new.store)) (g.S.Store.loads c.args.store.now) (g.S.Store.loads c.answer.new.store) (names_of c.in-Some-run_of.files) c.in-Some-run_of.ensures (g.S.Store.holds c.args.store.now) c.answer.result c.answer.ensures.counted_loads
+
+pub returns-in-Some-clause-none_failed : goal.returns-in-Some-clause-none_failed
+returns-in-Some-clause-none_failed g c = always c.reply_on.ensures.no_save_fault c.reply_on.result

@@ -1,0 +1,96 @@
+use Rattle.std.proofs.Common.{refl}
+use Rattle.gm_tool.specs.Tool.{words_of}
+use Rattle.gm_tool.proofs.Putting.{put_reply, put_refusal, put_nothing, status_of_reply, status_of_refusal, status_without_memory, usage_status, one_put, not_one, three_put, five_put, not_three, not_five, run_put, no_run_put, reply_is_not_seven, refusal_is_not_seven}
+use Rattle.gm_tool.proofs.StepWords.{least_put, least_refused, seven_is_no_run}
+use Rattle.gm_tool.proofs.program.tool.Goals as goal
+
+pub returns-in-Ok-clause-leaves : goal.returns-in-Ok-clause-leaves
+returns-in-Ok-clause-leaves g c =
+    put_reply (words_of c.args.words.now) _ _ _ _ (g.S.Store.holds c.args.store.now) c.in-Ok.reply _ _ _ c.in-Ok.ensures.text (rw c.as_slice.ensures.value at c.put_whole.ensures.put)
+
+pub returns-in-Ok-clause-statuses : goal.returns-in-Ok-clause-statuses
+returns-in-Ok-clause-statuses g c = status_of_reply c.in-Ok.reply _ _ _ _ _ c.in-Ok.ensures.statuses c.put_whole.ensures.put
+
+pub returns-in-Ok-clause-refused : goal.returns-in-Ok-clause-refused
+returns-in-Ok-clause-refused g c one = c.in-Ok.ensures.refused (one_put _ _ _ _ _ _ c.put_whole.ensures.put one)
+
+pub returns-in-Err-Refused-clause-leaves : goal.returns-in-Err-Refused-clause-leaves
+returns-in-Err-Refused-clause-leaves g c =
+    put_refusal (words_of c.args.words.now) _ _ _ _ (g.S.Store.holds c.args.store.now) c.in-Err-Refused.refusal _ _ _
+    (rw c.in-Err-Refused.field-0-is at c.in-Err-Refused.ensures.text) (rw (c.line.ensures, c.status.ensures) at c.put_whole-in-Err-Refused.ensures.put)
+
+pub returns-in-Err-Refused-clause-statuses : goal.returns-in-Err-Refused-clause-statuses
+returns-in-Err-Refused-clause-statuses g c = status_of_refusal c.in-Err-Refused.refusal _ _ _ _ _ (rw c.status.ensures at c.put_whole-in-Err-Refused.ensures.put)
+
+pub returns-in-Err-Refused-clause-no_command : goal.returns-in-Err-Refused-clause-no_command
+returns-in-Err-Refused-clause-no_command g c not_one =
+    usage_status c.in-Err-Refused.refusal _ _ _ _ _ (rw c.status.ensures at c.put_whole-in-Err-Refused.ensures.put) (rw c.in-Err-Refused.field-0-is at (c.in-Err-Refused.ensures.no_command not_one))
+
+pub returns-in-Err-Refused-clause-refused : goal.returns-in-Err-Refused-clause-refused
+returns-in-Err-Refused-clause-refused g c one =
+    absurd (not_one c.in-Err-Refused.refusal (one_put _ _ _ _ _ _ (rw c.status.ensures at c.put_whole-in-Err-Refused.ensures.put) one))
+
+pub returns-in-Err-Refused-clause-load_failed : goal.returns-in-Err-Refused-clause-load_failed
+returns-in-Err-Refused-clause-load_failed g c three =
+    three_put _ _ _ _ _ c.in-Err-Refused.refusal _ _ (rw c.status.ensures at c.put_whole-in-Err-Refused.ensures.put) three (rw c.in-Err-Refused.field-0-is at c.in-Err-Refused.ensures.cause)
+
+pub returns-in-Err-Refused-clause-save_failed : goal.returns-in-Err-Refused-clause-save_failed
+returns-in-Err-Refused-clause-save_failed g c five =
+    five_put _ _ _ _ _ c.in-Err-Refused.refusal _ _ (rw c.status.ensures at c.put_whole-in-Err-Refused.ensures.put) five (rw c.in-Err-Refused.field-0-is at c.in-Err-Refused.ensures.cause)
+
+pub returns-in-Ok-clause-load_failed : goal.returns-in-Ok-clause-load_failed
+returns-in-Ok-clause-load_failed g c three = absurd (not_three _ _ _ _ _ c.in-Ok.reply.status c.in-Ok.ensures.statuses c.put_whole.ensures.put three)
+
+pub returns-in-Ok-clause-save_failed : goal.returns-in-Ok-clause-save_failed
+returns-in-Ok-clause-save_failed g c five = absurd (not_five _ _ _ _ _ c.in-Ok.reply.status c.in-Ok.ensures.statuses c.put_whole.ensures.put five)
+
+pub returns-in-Ok-clause-map : goal.returns-in-Ok-clause-map
+returns-in-Ok-clause-map g c run = c.in-Ok.ensures.map (run_put _ _ _ _ _ c.in-Ok.reply.status c.put_whole.ensures.put run)
+
+pub returns-in-Err-Refused-clause-map : goal.returns-in-Err-Refused-clause-map
+returns-in-Err-Refused-clause-map g c run = absurd (no_run_put _ _ _ _ _ c.in-Err-Refused.refusal (rw c.status.ensures at c.put_whole-in-Err-Refused.ensures.put) run)
+
+pub returns-in-Err-OutOfMemory-clause-statuses : goal.returns-in-Err-OutOfMemory-clause-statuses
+returns-in-Err-OutOfMemory-clause-statuses g c = status_without_memory
+
+pub returns-in-Err-OutOfMemory-clause-leaves : goal.returns-in-Err-OutOfMemory-clause-leaves
+returns-in-Err-OutOfMemory-clause-leaves g c =
+    put_nothing (words_of c.args.words.now) _ _ _ _ (g.S.Store.holds c.args.store.now) (g.O.Sink.written c.args.out.now) (rw c.in-Err-OutOfMemory.field-0-is at c.in-Err-OutOfMemory.ensures.text)
+
+pub returns-in-Ok-clause-least : goal.returns-in-Ok-clause-least
+returns-in-Ok-clause-least g c =
+    least_put (words_of c.args.words.now) (g.S.Store.holds c.args.store.now) c.in-Ok.reply.status _ _ _ (run_put _ _ _ _ _ c.in-Ok.reply.status c.put_whole.ensures.put) c.in-Ok.ensures.least
+
+pub returns-in-Err-Refused-clause-least : goal.returns-in-Err-Refused-clause-least
+returns-in-Err-Refused-clause-least g c =
+    least_refused (words_of c.args.words.now) (g.S.Store.holds c.args.store.now) _ _ _ (no_run_put _ _ _ _ _ c.in-Err-Refused.refusal (rw c.status.ensures at c.put_whole-in-Err-Refused.ensures.put))
+
+pub returns-in-Err-OutOfMemory-clause-least : goal.returns-in-Err-OutOfMemory-clause-least
+returns-in-Err-OutOfMemory-clause-least g c = least_refused (words_of c.args.words.now) (g.S.Store.holds c.args.store.now) _ _ _ seven_is_no_run
+
+pub returns-in-Ok-clause-counted_loads : goal.returns-in-Ok-clause-counted_loads
+returns-in-Ok-clause-counted_loads g c not_seven = c.in-Ok.ensures.counted_loads
+
+pub returns-in-Err-Refused-clause-counted_loads : goal.returns-in-Err-Refused-clause-counted_loads
+returns-in-Err-Refused-clause-counted_loads g c not_seven = rw c.in-Err-Refused.field-0-is at c.in-Err-Refused.ensures.counted_loads
+
+pub returns-in-Ok-clause-no_memory_before : goal.returns-in-Ok-clause-no_memory_before
+returns-in-Ok-clause-no_memory_before g c never seven = absurd (reply_is_not_seven c.in-Ok.reply.status c.in-Ok.ensures.statuses (c.put_whole.ensures.enough_memory never seven))
+
+pub returns-in-Err-Refused-clause-no_memory_before : goal.returns-in-Err-Refused-clause-no_memory_before
+returns-in-Err-Refused-clause-no_memory_before g c never seven =
+    absurd (refusal_is_not_seven c.in-Err-Refused.refusal (rw c.status.ensures at (c.put_whole-in-Err-Refused.ensures.enough_memory never seven)))
+
+pub returns-in-Err-OutOfMemory-clause-no_memory_before : goal.returns-in-Err-OutOfMemory-clause-no_memory_before
+returns-in-Err-OutOfMemory-clause-no_memory_before g c never seven =
+    let unchanged = rw c.in-Err-OutOfMemory.field-0-is at c.in-Err-OutOfMemory.ensures.no_memory in
+    unchanged refl
+
+pub returns-in-Ok-clause-no_save_failed : goal.returns-in-Ok-clause-no_save_failed
+returns-in-Ok-clause-no_save_failed g c run = c.in-Ok.ensures.none_failed
+
+pub returns-in-Err-Refused-clause-no_save_failed : goal.returns-in-Err-Refused-clause-no_save_failed
+returns-in-Err-Refused-clause-no_save_failed g c run = absurd (no_run_put _ _ _ _ _ c.in-Err-Refused.refusal (rw c.status.ensures at c.put_whole-in-Err-Refused.ensures.put) run)
+
+pub returns-in-Err-OutOfMemory-clause-no_save_failed : goal.returns-in-Err-OutOfMemory-clause-no_save_failed
+returns-in-Err-OutOfMemory-clause-no_save_failed g c run = absurd (seven_is_no_run run)

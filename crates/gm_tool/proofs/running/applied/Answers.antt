@@ -1,0 +1,37 @@
+use Rattle.std.proofs.Common.{map}
+use Rattle.gm_run.specs.Lines.{outcome_of}
+use Rattle.gm_tool.proofs.Lines.{plans_fit, lines_fit, printable, run_made, map_made}
+use Rattle.gm_tool.proofs.StepBounds.{unprinted_within, printed_within, printed_least, if_done}
+use Rattle.gm_tool.proofs.running.applied.Goals as goal
+
+pub run-requires-clause-plans : goal.run-requires-clause-plans
+run-requires-clause-plans g c = plans_fit c.args.arena.now c.args.book.now c.args.script.now c.args.plans.now c.requires
+
+pub run-requires-clause-lines : goal.run-requires-clause-lines
+run-requires-clause-lines g c = lines_fit c.args.arena.now c.args.book.now c.args.script.now c.args.plans.now c.requires
+
+pub printed-requires : goal.printed-requires
+printed-requires g c = printable c.args.arena.now c.args.book.now c.args.script.now c.args.plans.now c.requires c.in_ok-report.report.lines c.in_ok-report.ensures.printable
+
+pub returns-clause-run : goal.returns-clause-run
+returns-clause-run g c =
+    run_made c.args.arena.now c.args.book.now c.args.script.now c.args.plans.now c.requires c.run.new.arena c.run.ensures.schema c.count.ensures.lawful c.printed.ensures.lawful
+    (map outcome_of c.in_ok-report.report.lines) c.in_ok-report.report.darts c.in_ok-report.report.next c.printed.result c.in_ok-report.ensures.run c.in_ok-report.ensures.darts.0 c.in_ok-report.ensures.next c.printed.ensures.texts
+
+pub returns-clause-map : goal.returns-clause-map
+returns-clause-map g c = map_made c.run.new.arena _ _ c.printed.result c.printed.ensures.lawful c.run.ensures.generalised c.printed.ensures.texts
+
+pub returns-in_err-report-clause-most : goal.returns-in_err-report-clause-most
+returns-in_err-report-clause-most g c =
+    unprinted_within c.args.arena.now c.run.new.arena c.args.book.now c.args.script.now c.args.plans.now c.requires c.count.ensures.lawful _ _ c.run.ensures.most
+
+pub returns-clause-most : goal.returns-clause-most
+returns-clause-most g c =
+    printed_within c.args.arena.now c.run.new.arena c.args.book.now c.args.script.now c.args.plans.now c.requires c.count.ensures.lawful c.printed.ensures.lawful
+    (map outcome_of c.in_ok-report.report.lines) c.in_ok-report.ensures.only _ _ _ c.run.ensures.most c.run.ensures.schema c.printed.ensures.most
+
+pub returns-clause-least : goal.returns-clause-least
+returns-clause-least g c =
+    if_done
+    (printed_least c.args.arena.now c.run.new.arena c.args.book.now c.args.script.now c.args.plans.now c.requires c.count.ensures.lawful c.printed.ensures.lawful
+    (map outcome_of c.in_ok-report.report.lines) c.in_ok-report.ensures.only _ _ _ c.in_ok-report.ensures.least) c.printed.result c.printed.ensures.least

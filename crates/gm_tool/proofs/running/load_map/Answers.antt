@@ -1,0 +1,30 @@
+use Rattle.std.proofs.Common.{refl}
+use Rattle.std.proofs.lemmas.Result.{err_from_is_err_and}
+use Rattle.gm_tool.specs.Answer.{TheMap}
+use Rattle.gm_tool.specs.RunAnswer.{IsBadMap}
+use Rattle.gm_tool.specs.Stops.{IsReadMap}
+use Rattle.gm_tool.specs.declared.refusal.Role.TheVariants as roles
+use Rattle.gm_tool.proofs.StepBounds.{loaded_within, unread_within}
+use Rattle.gm_tool.proofs.Stopping.{not_loaded_from, read_from, some_bytes}
+use Rattle.gm_tool.proofs.running.load_map.Goals as goal
+
+pub returns-in_err-bytes-clause-from : goal.returns-in_err-bytes-clause-from
+returns-in_err-bytes-clause-from g c =
+    let p = err_from_is_err_and c.from_residual.result c.from_residual.ensures.1 in
+    rw (p.1, p.2)
+    (not_loaded_from TheMap c.args.name.now IsReadMap IsBadMap _ (g.S.Store.holds c.args.store.now) roles.Map refl c.in_err-bytes.field-0.0 c.in_err-bytes.ensures.loading)
+
+pub returns-clause-read : goal.returns-clause-read
+returns-clause-read g c = some_bytes IsReadMap c.read.result c.as_slice.result.now c.read.ensures.map
+
+pub returns-clause-from : goal.returns-clause-from
+returns-clause-from g c =
+    read_from TheMap c.args.name.now IsReadMap IsBadMap _ (g.S.Store.holds c.args.store.now) c.in_ok-bytes.bytes.items c.read.result c.in_ok-bytes.ensures.loading
+    (rw c.as_slice.ensures.value at c.read.ensures.map) (rw c.as_slice.ensures.value at c.read.ensures.stop)
+
+pub returns-in_err-bytes-clause-most : goal.returns-in_err-bytes-clause-most
+returns-in_err-bytes-clause-most g c = unread_within (g.S.Store.holds c.args.store.now) c.args.name.now _ _ refl
+
+pub returns-clause-most : goal.returns-clause-most
+returns-clause-most g c =
+    loaded_within (g.S.Store.holds c.args.store.now) c.args.name.now c.in_ok-bytes.bytes.items _ _ c.in_ok-bytes.ensures.loading.1 (rw c.as_slice.ensures.value at c.read.ensures.most)

@@ -1,0 +1,104 @@
+-- What a command on one file answers: the status, and the text put.
+use Rattle.std.specs.Prelude.{◌≡◌, ℕ, ◌<◌, ◌≤◌, List, [], ◌∷◌, ◌++◌, length, Option, Some, None, codes}
+use Rattle.gm_model.specs.declared.schema.Schema.{Schema}
+use Rattle.gm_book.specs.BookText.{BookText}
+use Rattle.gm_book.specs.BookText as books
+use Rattle.gm_model.specs.GMap.{Row}
+use Rattle.gm_mapfile.specs.MapText.{MapText, canonical}
+use Rattle.gm_mapfile.specs.MapFaults.{TextFault, IsFirstFault, fault_words}
+use Rattle.gm_model.specs.Rules.{Rule}
+use Rattle.gm_tool.specs.BookFaults.{BookTextFault, IsFirstBookFault, book_fault_words}
+use Rattle.gm_tool.specs.Checking.{AreLines, counts_line, check_status}
+
+-- the most bytes of a file that is read or of a text that is put
+abbrev pub most_bytes : ℕ
+most_bytes = 268435456
+
+-- the files that are held, by name
+abbrev pub Files : Type 0
+Files = List ℕ → Option (List ℕ)
+
+-- what is saved, and under which name
+pub record Saved : Type 0 where
+  pub name : List ℕ
+  pub bytes : List ℕ
+
+pub record Answer : Type 0 where
+  pub status : ℕ
+  pub text : List ℕ
+  pub saved : Option Saved
+
+-- an answer that saves nothing
+abbrev pub answers : ℕ → List ℕ → Answer
+answers status text = record { status = status; text = text; saved = None }
+
+-- ---- commands
+
+-- what a file is for
+pub data Role : Type 0 where
+  TheMap : Role
+  TheBook : Role
+  TheScript : Role
+
+abbrev pub role_word : Role → List ℕ
+role_word TheMap = codes "MAP"
+role_word TheBook = codes "BOOK"
+role_word TheScript = codes "SCRIPT"
+
+-- the commands on one file
+pub data Command : Type 0 where
+  Show : Command
+  Book : Command
+  Check : Command
+
+abbrev pub command_word : Command → List ℕ
+command_word Show = codes "show"
+command_word Book = codes "book"
+command_word Check = codes "check"
+
+-- the one file that a command reads
+abbrev pub role_of : Command → Role
+role_of Show = TheMap
+role_of Book = TheBook
+role_of Check = TheBook
+
+-- the words are this command on this file
+abbrev pub Asks : List (List ℕ) → Command → List ℕ → Type 0
+Asks words command name = words ≡ command_word command ∷ name ∷ []
+
+-- ---- what is put
+
+-- the bytes stand for nothing in the role, and these words say why
+pub data IsBad (bytes : List ℕ) : Role → List ℕ → Type 0 where
+  BadMap : (fault : TextFault) → IsFirstFault bytes fault → IsBad bytes TheMap (fault_words fault)
+  BadBook : (fault : BookTextFault) → IsFirstBookFault bytes fault → IsBad bytes TheBook (book_fault_words fault)
+
+-- the command on these bytes has this status and puts this text, however long
+pub data IsOutput (bytes : List ℕ) : Command → ℕ → List ℕ → Type 0 where
+  -- the canonical text of the map
+  Shown : (n : ℕ) (darts : List Row) → MapText bytes n darts → IsOutput bytes Show 0 (canonical n darts)
+  -- the canonical text of the book, whether its rules are accepted or not
+  Printed : (schema : Schema) (rules : List Rule) → BookText bytes schema rules → IsOutput bytes Book 0 (books.canonical schema.dim rules)
+  -- a line for each rule of the book, and a last one that counts
+  Checked : (schema : Schema) (rules : List Rule) (refused : ℕ) (lines : List ℕ) → BookText bytes schema rules → AreLines schema rules refused lines
+      → IsOutput bytes Check (check_status refused) (lines ++ counts_line (length rules) refused)
+
+-- a line that refuses
+abbrev pub refusal : List ℕ → List ℕ
+refusal words = codes "refused " ++ words ++ codes "\n"
+
+-- the file of a name is held with these bytes, and not too long
+abbrev pub HasFile : Files → List ℕ → List ℕ → Type 0
+HasFile files name bytes = (files name ≡ Some bytes) × (length bytes ≤ most_bytes)
+
+-- What the command on the file of this name answers. One rule for each case; no two of them fit the same files.
+pub data IsFileAnswer (files : Files) (command : Command) (name : List ℕ) (answer : Answer) : Type 0 where
+  NoFile : files name ≡ None → answer ≡ answers 3 (refusal (codes "load " ++ role_word (role_of command))) → IsFileAnswer files command name answer
+  LongFile : (bytes : List ℕ) → files name ≡ Some bytes → most_bytes < length bytes
+      → answer ≡ answers 8 (refusal (codes "size " ++ role_word (role_of command))) → IsFileAnswer files command name answer
+  BadFile : (bytes why : List ℕ) → HasFile files name bytes → IsBad bytes (role_of command) why
+      → answer ≡ answers 4 (refusal (role_word (role_of command) ++ codes " " ++ why)) → IsFileAnswer files command name answer
+  LongOutput : (bytes : List ℕ) (status : ℕ) (text : List ℕ) → HasFile files name bytes
+      → IsOutput bytes command status text → most_bytes < length text → answer ≡ answers 8 (refusal (codes "size output")) → IsFileAnswer files command name answer
+  Done : (bytes : List ℕ) (status : ℕ) (text : List ℕ) → HasFile files name bytes
+      → IsOutput bytes command status text → length text ≤ most_bytes → answer ≡ answers status text → IsFileAnswer files command name answer

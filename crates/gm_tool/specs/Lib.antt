@@ -1,0 +1,16 @@
+pub mod BookFaults
+pub mod Checking
+pub mod Answer
+pub mod ScriptFaults
+pub mod RunAnswer
+pub mod Program
+pub mod Refusals
+pub mod FaultLines
+pub mod Books
+pub mod Loads
+pub mod Endings
+pub mod Replies
+pub mod Stops
+pub mod MadeRuns
+pub mod Tool
+pub mod StepBounds

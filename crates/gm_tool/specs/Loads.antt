@@ -1,0 +1,50 @@
+-- How many loads there were, at which of them the store failed, and behind which a run stops.
+use Rattle.std.specs.Prelude.{◌≡◌, ◌⊎◌, ℕ, zero, suc, List, Result, Ok, Err, IfSome}
+use Rattle.gm_host.specs.Count.{counted, Rises}
+use Rattle.gm_host.specs.Store.{Contents}
+use Rattle.gm_tool.specs.Answer.{Files, Answer, Role, TheMap, TheBook}
+use Rattle.gm_tool.specs.RunAnswer.{RunNames, AsksRun, Inputs, HasMap, HasBook, IsFailing, IsBadMap, IsBadBook}
+use Rattle.gm_tool.specs.declared.refusal.NoText.{NoText}
+use Rattle.gm_tool.specs.declared.refusal.NoText.TheVariants as nothing
+use Rattle.gm_tool.specs.declared.refusal.Stop.{Stop}
+use Rattle.gm_tool.specs.declared.refusal.Stop.TheVariants as stops
+use Rattle.gm_tool.specs.declared.reply.Reply.{Reply}
+use Rattle.gm_tool.specs.declared.running.Made.{Made}
+
+-- a count of loads after so many more
+abbrev pub loads_after : ℕ → ℕ → ℕ
+loads_after zero count = count
+loads_after (suc k) count = counted (loads_after k count)
+
+-- the count of failed loads rose, and this load, counted from 1, was the last
+abbrev pub FailsAt : ℕ → ℕ → ℕ → ℕ → ℕ → Type 0
+FailsAt faults later_faults loads later_loads k = Rises faults later_faults × (later_loads ≡ loads_after k loads)
+
+-- ---- a run
+
+-- the file of the role is not good, or the store failed
+abbrev pub FailsHere : Files → Role → List ℕ → (List ℕ → List ℕ → Type 0) → Type 0 → Type 0
+FailsHere files role name IsBadText fails = fails ⊎ ((answer : Answer) × IsFailing files role name IsBadText answer)
+
+-- The last load of a run, counted from 1: of the map where that fails, else of the book where that does, else of the script. `fails` says that the count of failed loads rose.
+pub data StopsBehind (files : Files) (named : RunNames) (fails : Type 0) : ℕ → Type 0 where
+  BehindMap : FailsHere files TheMap named.map IsBadMap fails → StopsBehind files named fails 1
+  BehindBook : (inputs : Inputs) → HasMap files named inputs → FailsHere files TheBook named.book IsBadBook fails → StopsBehind files named fails 2
+  BehindScript : (inputs : Inputs) → HasMap files named inputs → HasBook files named inputs → StopsBehind files named fails 3
+
+abbrev pub StopsInTime : Files → RunNames → Type 0 → ℕ → ℕ → Type 0
+StopsInTime files named fails before after = (last : ℕ) × StopsBehind files named fails last × (after ≡ loads_after last before)
+
+-- where the words are a run and the store tells, there are as many loads as that
+abbrev pub CountsLoads : List (List ℕ) → Contents → Type 0 → ℕ → ℕ → Type 0
+CountsLoads words contents fails before after = IfSome contents (λ files. (named : RunNames) → AsksRun words named → StopsInTime files named fails before after)
+
+-- the fact, unless memory was wanting
+abbrev pub UnlessNoMemory : Result Reply NoText → Type 0 → Type 0
+UnlessNoMemory (Err nothing.OutOfMemory) P = Unit {0}
+UnlessNoMemory _ P = P
+
+-- the same of what is made
+abbrev pub UnlessNoMemoryToMake : Result Made Stop → Type 0 → Type 0
+UnlessNoMemoryToMake (Err (stops.NoText nothing.OutOfMemory)) P = Unit {0}
+UnlessNoMemoryToMake _ P = P

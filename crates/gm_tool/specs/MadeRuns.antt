@@ -1,0 +1,133 @@
+-- What a run makes of its files before anything is saved, and what is left when the map is saved.
+use Rattle.std.specs.Prelude.{◌≡◌, ◌⊎◌, ℕ, ◌<◌, ◌≤◌, List, [], ◌++◌, length, map, All, Some, None, Result, Ok, Err, IfSome, codes}
+use Rattle.gm_host.specs.Store.{Contents, Lacks}
+use Rattle.gm_host.specs.Count.{counted}
+use Rattle.gm_host.specs.Saves.{IsSaved, IsSavedInPart}
+use Rattle.gm_arena.specs.ArenaAsMap.{as_map}
+use Rattle.gm_arena.specs.ArenaMap.{ArenaMap}
+use Rattle.gm_mapfile.specs.Rows.{rows_of, IsNextLeast}
+use Rattle.gm_model.specs.declared.rule.Book.{Book}
+use Rattle.gm_model.specs.declared.rule.RuleTable.{RuleTable}
+use Rattle.gm_model.specs.declared.script.Script.{Script}
+use Rattle.gm_model.specs.GMap.{Row}
+use Rattle.gm_model.specs.Maps.{IsGeneralised}
+use Rattle.gm_mapfile.specs.MapText.{MapText, canonical}
+use Rattle.gm_model.specs.Rules.{rule_of}
+use Rattle.gm_script.specs.ScriptText.{ScriptText}
+use Rattle.gm_plan.specs.Plans.{PlanOf, plan_of}
+use Rattle.gm_tool.specs.Answer.{most_bytes, Files, Answer, answers, refusal, role_word}
+use Rattle.gm_tool.specs.Answer as answer
+use Rattle.gm_tool.specs.Endings.{IsTextOf}
+use Rattle.gm_tool.specs.Refusals.{refusal_answer}
+use Rattle.gm_tool.specs.RunAnswer.{RunNames, Inputs, Ran, IsRan, IsGoodRun, IsRunAnswer, PassesTo, report_of, saved_of, run_status}
+use Rattle.gm_tool.specs.declared.command.RunFiles.{RunFiles}
+use Rattle.gm_tool.specs.declared.refusal.NoText.{NoText}
+use Rattle.gm_tool.specs.declared.refusal.NoText.TheVariants as nothing
+use Rattle.gm_tool.specs.declared.refusal.Refusal.TheVariants as refusals
+use Rattle.gm_tool.specs.declared.refusal.Stop.{Stop}
+use Rattle.gm_tool.specs.declared.refusal.Stop.TheVariants as stops
+use Rattle.gm_tool.specs.declared.reply.Reply.{Reply}
+use Rattle.gm_tool.specs.declared.running.Made.{Made}
+
+abbrev pub names_of : RunFiles → RunNames
+names_of files = record { map = files.map.now; book = files.book.now; script = files.script.now; out = files.out.now }
+
+-- ---- the lines are applied
+
+abbrev pub inputs_of : ArenaMap → Book → Script → Inputs
+inputs_of m book script = record { dim = m.schema.dim; darts = rows_of m; schema = book.schema; rules = map rule_of book.rules; lines = script.lines }
+
+-- what was read can be run
+pub record CanRun (m : ArenaMap) (book : Book) (script : Script) (plans : List PlanOf) : Type 0 where
+  pub generalised : IsGeneralised (as_map m)
+  pub next : IsNextLeast m
+  pub bare : m.schema.embeds ≡ []
+  pub agree : m.schema ≡ book.schema
+  pub plans_are : plans ≡ map (plan_of book.schema) book.rules
+  pub plain : All (λ (rule : RuleTable). (rule_of rule).pre ≡ None) book.rules
+  pub text : List ℕ
+  pub lines : ScriptText text (map rule_of book.rules) script.lines
+
+-- texts that are not too long, with the status; or one of them is
+abbrev pub IsFitted : ℕ → List ℕ → List ℕ → Result Made Stop → Type 0
+IsFitted status report map (Ok made) = (made.status ≡ status) × (made.report.items ≡ report) × (made.map.items ≡ map) × (length report ≤ most_bytes) × (length map ≤ most_bytes)
+IsFitted status report map (Err stop) = (stop ≡ stops.NoText (nothing.Refused refusals.SizeOutput)) × ((most_bytes < length report) ⊎ (most_bytes < length map))
+
+-- the same, where memory suffices
+abbrev pub IsPrinted : ℕ → List ℕ → List ℕ → Result Made Stop → Type 0
+IsPrinted status report map (Err (stops.NoText nothing.OutOfMemory)) = Unit {0}
+IsPrinted status report map made = IsFitted status report map made
+
+-- what a run of the inputs comes to, where memory suffices
+abbrev pub IsRunOf : Inputs → Result Made Stop → Type 0
+IsRunOf inputs (Err (stops.NoText nothing.OutOfMemory)) = Unit {0}
+IsRunOf inputs made = (ran : Ran) × IsRan inputs ran × IsFitted (run_status ran.outcomes) (report_of inputs ran) (saved_of inputs ran) made
+
+-- the bytes are the canonical text of a generalised map
+abbrev pub IsMapBytes : List ℕ → Type 0
+IsMapBytes bytes = (n : ℕ) × (darts : List Row) × (bytes ≡ canonical n darts) × MapText bytes n darts
+
+-- ---- the files
+
+-- which load of a run is that of the role's file, counted from 1
+abbrev pub load_of : answer.Role → ℕ
+load_of answer.TheMap = 1
+load_of answer.TheBook = 2
+load_of answer.TheScript = 3
+
+-- no file before that of this role fails, and the load of its file did; `load_fails` says so of a load by its number
+abbrev pub IsRunLoadFailure : Files → RunNames → (ℕ → Type 0) → Answer → Type 0
+IsRunLoadFailure files named load_fails given = (role : answer.Role) × load_fails (load_of role) × PassesTo files named role × (given ≡ answers 3 (refusal (codes "load " ++ role_word role)))
+
+-- the run stops as its answer says, or for a load that failed, or for want of memory
+abbrev pub IsStopOf : Files → RunNames → (ℕ → Type 0) → Stop → Type 0
+IsStopOf files named load_fails (stops.Bad line) = IsRunAnswer files named (answers 4 line.items)
+IsStopOf files named load_fails (stops.NoText nothing.OutOfMemory) = Unit {0}
+IsStopOf files named load_fails (stops.NoText (nothing.Refused why)) = IsRunAnswer files named (refusal_answer why) ⊎ IsRunLoadFailure files named load_fails (refusal_answer why)
+
+-- what is saved and put of a run, or why it stops
+abbrev pub IsMade : Files → RunNames → (ℕ → Type 0) → Result Made Stop → Type 0
+IsMade files named load_fails (Ok made) = (inputs : Inputs) × (ran : Ran) × IsGoodRun files named inputs ran × IsFitted (run_status ran.outcomes) (report_of inputs ran) (saved_of inputs ran) (Ok made)
+IsMade files named load_fails (Err stop) = IsStopOf files named load_fails stop
+
+-- the store lacks a file that the run reads
+abbrev pub LacksInput : Contents → RunNames → Type 0
+LacksInput contents named = Lacks contents named.map ⊎ (Lacks contents named.book ⊎ Lacks contents named.script)
+
+-- no load, or one, two or three
+abbrev pub LoadsAtMostThrice : ℕ → ℕ → Type 0
+LoadsAtMostThrice before after = (after ≡ before) ⊎ ((after ≡ counted before) ⊎ ((after ≡ counted (counted before)) ⊎ (after ≡ counted (counted (counted before)))))
+
+-- ---- the save
+
+-- the statuses of a run that is done
+abbrev pub IsRunStatus : ℕ → Type 0
+IsRunStatus status = (status ≡ 0) ⊎ (status ≡ 1)
+
+-- where the store tells, it holds the canonical text of a generalised map under the name
+abbrev pub HoldsMap : Contents → List ℕ → Type 0
+HoldsMap contents name = IfSome contents (λ files. (bytes : List ℕ) × (files name ≡ Some bytes) × IsMapBytes bytes)
+
+-- the text to put of a run, and what the store then holds
+abbrev pub IsRunText : Files → RunNames → (ℕ → Type 0) → Type 0 → Contents → Result Reply NoText → Type 0
+IsRunText files named load_fails save_fails after reply = IsTextOf files (IsRunAnswer files named) (IsRunLoadFailure files named load_fails) save_fails after reply
+
+-- an answer for a load has the first cause, one for a save the second, and none is for the words
+abbrev pub IsSoundReply : Result Reply NoText → Type 0 → Type 0 → Type 0
+IsSoundReply (Err (nothing.Refused (refusals.Load role))) P Q = P
+IsSoundReply (Err (nothing.Refused refusals.Save)) P Q = Q
+IsSoundReply (Err (nothing.Refused refusals.Usage)) P Q = ⊥
+IsSoundReply _ P Q = Unit {0}
+
+-- an answer for a load has the first cause, and one for a save the second
+abbrev pub HasCause : Result Reply NoText → Type 0 → Type 0 → Type 0
+HasCause (Err (nothing.Refused (refusals.Load role))) P Q = P
+HasCause (Err (nothing.Refused refusals.Save)) P Q = Q
+HasCause _ P Q = Unit {0}
+
+-- the map is saved and the report is to be put; or the store failed and saved it in part; or memory was wanting, and nothing changed
+abbrev pub IsSaving : Contents → List ℕ → Made → Type 0 → Contents → Result Reply NoText → Type 0
+IsSaving before name made fails after (Ok reply) = (reply.status ≡ made.status) × (reply.text.items ≡ made.report.items) × IsSaved before name made.map.items after
+IsSaving before name made fails after (Err nothing.OutOfMemory) = after ≡ before
+IsSaving before name made fails after (Err (nothing.Refused refusals.Save)) = fails × IsSavedInPart before name made.map.items after
+IsSaving before name made fails after (Err (nothing.Refused _)) = ⊥

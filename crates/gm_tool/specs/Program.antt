@@ -1,0 +1,20 @@
+-- What the program answers to its words and files: the status, the text put, and the bytes saved.
+use Rattle.std.specs.Prelude.{◌≡◌, ◌⊎◌, ℕ, List, codes}
+use Rattle.gm_tool.specs.Answer.{Files, Answer, answers, Command, Asks, refusal, IsFileAnswer}
+use Rattle.gm_tool.specs.RunAnswer.{RunNames, AsksRun, IsRunAnswer}
+
+-- the words are a command on one file
+abbrev pub IsFileCommand : List (List ℕ) → Type 0
+IsFileCommand words = (command : Command) × (name : List ℕ) × Asks words command name
+
+abbrev pub IsRunCommand : List (List ℕ) → Type 0
+IsRunCommand words = (named : RunNames) × AsksRun words named
+
+-- the words are a command with its number of words
+abbrev pub IsCommand : List (List ℕ) → Type 0
+IsCommand words = IsFileCommand words ⊎ IsRunCommand words
+
+pub data IsAnswer (words : List (List ℕ)) (files : Files) (answer : Answer) : Type 0 where
+  Usage : (IsCommand words → ⊥) → answer ≡ answers 2 (refusal (codes "usage")) → IsAnswer words files answer
+  OfFile : (command : Command) (name : List ℕ) → Asks words command name → IsFileAnswer files command name answer → IsAnswer words files answer
+  OfRun : (named : RunNames) → AsksRun words named → IsRunAnswer files named answer → IsAnswer words files answer

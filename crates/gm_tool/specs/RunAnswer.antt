@@ -1,0 +1,154 @@
+-- What a run of a script answers to the names of its files: the status, the report, and the map that is saved.
+use Rattle.std.specs.Prelude.{◌≡◌, ◌⊎◌, ℕ, ◌<◌, ◌≤◌, pos, List, [], ◌∷◌, ◌++◌, length, Some, None, All, codes, slice_get}
+use Rattle.std.specs.Option.{is_some}
+use Rattle.std.specs.List.Sorted.{IsStrictlyIncreasing}
+use Rattle.gm_model.specs.declared.rule.RuleFault.{RuleFault}
+use Rattle.gm_model.specs.declared.schema.Schema.{Schema}
+use Rattle.gm_model.specs.declared.script.Line.{Line}
+use Rattle.gm_model.specs.declared.value.Value.TheVariants.{Int}
+use Rattle.gm_model.specs.Acceptance.{IsAccepted, IsFault}
+use Rattle.gm_book.specs.BookText.{BookText}
+use Rattle.gm_model.specs.GMap.{Row, row_of, alpha, IsLive}
+use Rattle.gm_model.specs.Maps.{Map}
+use Rattle.gm_mapfile.specs.MapText.{MapText, AreShaped, canonical, names}
+use Rattle.gm_model.specs.Reports.{report_text}
+use Rattle.gm_model.specs.Rules.{Rule}
+use Rattle.gm_model.specs.Runs.{Outcome, IsRun}
+use Rattle.gm_model.specs.Runs as runs
+use Rattle.gm_script.specs.ScriptText.{ScriptText}
+use Rattle.gm_tool.specs.Answer.{most_bytes, Files, Answer, answers, Role, TheMap, TheBook, TheScript, role_word, refusal, HasFile, IsBad}
+use Rattle.gm_tool.specs.BookFaults.{BookTextFault, IsFirstBookFault, book_fault_words}
+use Rattle.gm_tool.specs.Checking.{rule_fault_words}
+use Rattle.gm_tool.specs.ScriptFaults.{ScriptTextFault, IsFirstScriptFault, script_fault_words}
+
+-- the files that are read, and the name under which the map is saved
+pub record RunNames : Type 0 where
+  pub map : List ℕ
+  pub book : List ℕ
+  pub script : List ℕ
+  pub out : List ℕ
+
+abbrev pub AsksRun : List (List ℕ) → RunNames → Type 0
+AsksRun words named = words ≡ codes "run" ∷ named.map ∷ named.book ∷ named.script ∷ named.out ∷ []
+
+-- ---- a file that fails
+
+-- the file of the role fails: it isn't held, or is too long, or stands for nothing that can be run, with words that say why
+pub data IsFailing (files : Files) (role : Role) (name : List ℕ) (IsBadText : List ℕ → List ℕ → Type 0) (answer : Answer) : Type 0 where
+  Missing : files name ≡ None → answer ≡ answers 3 (refusal (codes "load " ++ role_word role)) → IsFailing files role name IsBadText answer
+  Long : (bytes : List ℕ) → files name ≡ Some bytes → most_bytes < length bytes → answer ≡ answers 8 (refusal (codes "size " ++ role_word role)) → IsFailing files role name IsBadText answer
+  Bad : (bytes why : List ℕ) → HasFile files name bytes → IsBadText bytes why → answer ≡ answers 4 (refusal (role_word role ++ codes " " ++ why)) → IsFailing files role name IsBadText answer
+
+-- the first rule that isn't accepted, and the words that say so
+pub record IsFirstRefused (schema : Schema) (rules : List Rule) (why : List ℕ) : Type 0 where
+  pub place : ℕ
+  pub rule : Rule
+  pub rule_at : slice_get rules place ≡ Some rule
+  pub fault : RuleFault
+  pub is_fault : IsFault schema rule fault
+  pub before : (k : ℕ) (other : Rule) → k < place → slice_get rules k ≡ Some other → IsAccepted schema other
+  pub is : why ≡ codes "rule " ++ rule.name ++ codes " " ++ rule_fault_words schema rule fault
+
+-- the text stands for no book, or for one with a rule that isn't accepted
+pub data IsBadBook (bytes why : List ℕ) : Type 0 where
+  Unread : (fault : BookTextFault) → IsFirstBookFault bytes fault → why ≡ book_fault_words fault → IsBadBook bytes why
+  RuleRefused : (schema : Schema) (rules : List Rule) → BookText bytes schema rules → IsFirstRefused schema rules why → IsBadBook bytes why
+
+abbrev pub IsBadMap : List ℕ → List ℕ → Type 0
+IsBadMap bytes why = IsBad bytes TheMap why
+
+abbrev pub IsBadScript : List Rule → List ℕ → List ℕ → Type 0
+IsBadScript rules bytes why = (fault : ScriptTextFault) × IsFirstScriptFault bytes rules fault × (why ≡ script_fault_words fault)
+
+-- ---- the files that are good
+
+pub record Inputs : Type 0 where
+  pub dim : ℕ
+  pub darts : List Row
+  pub schema : Schema
+  pub rules : List Rule
+  pub lines : List Line
+
+module _ (files : Files) (named : RunNames) (inputs : Inputs) where
+  abbrev pub HasMap : Type 0
+  HasMap = (bytes : List ℕ) × HasFile files named.map bytes × MapText bytes inputs.dim inputs.darts
+
+  -- each rule is accepted
+  abbrev pub HasBook : Type 0
+  HasBook = (bytes : List ℕ) × HasFile files named.book bytes × BookText bytes inputs.schema inputs.rules × All (IsAccepted inputs.schema) inputs.rules
+
+  abbrev pub HasScript : Type 0
+  HasScript = (bytes : List ℕ) × HasFile files named.script bytes × ScriptText bytes inputs.rules inputs.lines
+
+-- of maps without embeddings
+abbrev pub bare_schema : ℕ → Schema
+bare_schema n = record { dim = n; embeds = [] }
+
+-- the map and the book are of one dimension, with the same embeddings
+abbrev pub Agree : Inputs → Type 0
+Agree inputs = bare_schema inputs.dim ≡ inputs.schema
+
+-- ---- the run
+
+-- the map without embeddings that has these darts, and this next name
+abbrev pub map_of : ℕ → List Row → ℕ → Map
+map_of n darts next = record { schema = bare_schema n; live = λ d. is_some (row_of darts d); alpha = alpha darts; value = λ e d. Int (pos 0); next = next }
+
+-- the least number above the names of the darts
+pub record IsNextOf (darts : List Row) (next : ℕ) : Type 0 where
+  pub above : (d : ℕ) → IsLive darts d → d < next
+  pub least : (bound : ℕ) → ((d : ℕ) → IsLive darts d → d < bound) → next ≤ bound
+
+-- the outcomes of the lines, the darts after them, in ascending order of their names, and the next name
+pub record Ran : Type 0 where
+  pub outcomes : List Outcome
+  pub darts : List Row
+  pub next : ℕ
+
+pub record IsRan (inputs : Inputs) (ran : Ran) : Type 0 where
+  pub first : ℕ
+  pub first_is : IsNextOf inputs.darts first
+  pub run : IsRun inputs.rules (map_of inputs.dim inputs.darts first) inputs.lines ran.outcomes (map_of inputs.dim ran.darts ran.next)
+  pub ascending : IsStrictlyIncreasing (names ran.darts)
+  pub shaped : AreShaped inputs.dim ran.darts
+
+abbrev pub report_of : Inputs → Ran → List ℕ
+report_of inputs ran = report_text inputs.schema inputs.rules inputs.lines ran.outcomes (length ran.darts) ran.next
+
+abbrev pub saved_of : Inputs → Ran → List ℕ
+saved_of inputs ran = canonical inputs.dim ran.darts
+
+-- 1 where a line was refused
+abbrev pub run_status : List Outcome → ℕ
+run_status [] = 0
+run_status (runs.Done added removed ∷ outcomes) = run_status outcomes
+run_status (runs.Refused cause ∷ outcomes) = 1
+
+-- ---- the answer
+
+-- all files are good, and the lines run so
+pub record IsGoodRun (files : Files) (named : RunNames) (inputs : Inputs) (ran : Ran) : Type 0 where
+  pub the_map : HasMap files named inputs
+  pub the_book : HasBook files named inputs
+  pub the_script : HasScript files named inputs
+  pub agree : Agree inputs
+  pub is_ran : IsRan inputs ran
+
+-- The files are taken in their order, and the first that fails decides. One rule for each case; no two of them fit the same files and names.
+pub data IsRunAnswer (files : Files) (named : RunNames) (answer : Answer) : Type 0 where
+  MapFails : IsFailing files TheMap named.map IsBadMap answer → IsRunAnswer files named answer
+  BookFails : (inputs : Inputs) → HasMap files named inputs → IsFailing files TheBook named.book IsBadBook answer → IsRunAnswer files named answer
+  ScriptFails : (inputs : Inputs) → HasMap files named inputs → HasBook files named inputs → IsFailing files TheScript named.script (IsBadScript inputs.rules) answer → IsRunAnswer files named answer
+  Disagree : (inputs : Inputs) → HasMap files named inputs → HasBook files named inputs → HasScript files named inputs → (Agree inputs → ⊥) → answer ≡ answers 4 (refusal (codes "agree")) → IsRunAnswer files named answer
+  -- the report or the map is too long
+  LongOutput : (inputs : Inputs) (ran : Ran) → IsGoodRun files named inputs ran → (most_bytes < length (report_of inputs ran)) ⊎ (most_bytes < length (saved_of inputs ran))
+      → answer ≡ answers 8 (refusal (codes "size output")) → IsRunAnswer files named answer
+  -- the report is put, and the map is saved
+  Done : (inputs : Inputs) (ran : Ran) → IsGoodRun files named inputs ran → length (report_of inputs ran) ≤ most_bytes → length (saved_of inputs ran) ≤ most_bytes
+      → answer ≡ record { status = run_status ran.outcomes; text = report_of inputs ran; saved = Some (record { name = named.out; bytes = saved_of inputs ran }) } → IsRunAnswer files named answer
+
+-- each file of a run that is taken before that of the role is good
+abbrev pub PassesTo : Files → RunNames → Role → Type 0
+PassesTo files named TheMap = Unit {0}
+PassesTo files named TheBook = (inputs : Inputs) × HasMap files named inputs
+PassesTo files named TheScript = (inputs : Inputs) × HasMap files named inputs × HasBook files named inputs

@@ -1,0 +1,86 @@
+-- How many steps a run of the program takes: the most, and the least; and the most of a map that is shown.
+use Rattle.std.specs.Prelude.{ℕ, ◌+◌, ◌*◌, ◌≤◌, List, length, IfSome}
+use Rattle.gm_host.specs.Store.{Contents}
+use Rattle.gm_model.specs.GMap.{Row}
+use Rattle.gm_mapfile.specs.MapText.{MapText}
+use Rattle.gm_model.specs.Runs.{IsRunBudget, changed_darts}
+use Rattle.gm_tool.specs.Answer.{Files, HasFile, Asks, Show}
+use Rattle.gm_tool.specs.MadeRuns.{IsRunStatus}
+use Rattle.gm_tool.specs.RunAnswer.{RunNames, AsksRun, Inputs, Ran, IsRan, IsNextOf, IsGoodRun, map_of}
+
+-- the sum of the budgets of the lines, each at the map that it is applied to
+pub record HasBudget (inputs : Inputs) (ran : Ran) (sum : ℕ) : Type 0 where
+  pub first : ℕ
+  pub first_is : IsNextOf inputs.darts first
+  pub budget : IsRunBudget inputs.rules (map_of inputs.dim inputs.darts first) inputs.lines ran.outcomes (map_of inputs.dim ran.darts ran.next) sum
+
+-- what a map of so many darts takes to be read, and what it takes to be printed
+abbrev pub reading : ℕ → ℕ → ℕ
+reading n darts = 32 * ((n + 1) * (n + 1)) * (darts + 1)
+
+abbrev pub printing : ℕ → ℕ → ℕ
+printing n darts = 8 * ((n + 1) * (n + 1)) * (darts + 1)
+
+-- and what it takes to be read and printed
+abbrev pub showing : ℕ → ℕ → ℕ
+showing n darts = 40 * ((n + 1) * (n + 1)) * (darts + 1)
+
+-- what it takes at most to read a map of so many darts, to test its laws, and to print the one of so many that is left
+abbrev pub handling : ℕ → ℕ → ℕ → ℕ
+handling n darts left = 64 * ((n + 1) * (n + 1)) * (darts + left + 1)
+
+-- ---- the whole call
+
+module _ (files : Files) (named : RunNames) where
+  -- the most steps that a run of these files takes: the budgets of its lines, and the handling of its darts
+  pub data IsMost : ℕ → Type 0 where
+    MostOf : (inputs : Inputs) (ran : Ran) (sum : ℕ) → IsGoodRun files named inputs ran → HasBudget inputs ran sum → IsMost (sum + handling inputs.dim (length inputs.darts) (length ran.darts))
+
+  -- the least: one for each dart that a line added or removed, for each that is read, and for each that is saved
+  pub data IsLeast : ℕ → Type 0 where
+    LeastOf : (inputs : Inputs) (ran : Ran) → IsGoodRun files named inputs ran → IsLeast (changed_darts ran.outcomes + length inputs.darts + length ran.darts)
+
+  -- no more steps than the most of the run, where the files have one
+  abbrev pub WithinMost : ℕ → ℕ → Type 0
+  WithinMost before after = (most : ℕ) → IsMost most → after ≤ before + most
+
+  -- and no fewer than the least
+  abbrev pub AtLeast : ℕ → ℕ → Type 0
+  AtLeast before after = (least : ℕ) → IsLeast least → before + least ≤ after
+
+-- where the words are a run and the store tells, no more steps than its most
+abbrev pub StaysWithin : List (List ℕ) → Contents → ℕ → ℕ → Type 0
+StaysWithin words contents before after = IfSome contents (λ files. (named : RunNames) → AsksRun words named → WithinMost files named before after)
+
+-- and where it is done, no fewer than its least
+abbrev pub TakesLeast : List (List ℕ) → Contents → ℕ → ℕ → ℕ → Type 0
+TakesLeast words contents status before after = IfSome contents (λ files. (named : RunNames) → AsksRun words named → IsRunStatus status → AtLeast files named before after)
+
+-- ---- a map that is shown
+
+-- where the bytes stand for a map, no more steps than reading and printing it
+abbrev pub ShowsWithin : List ℕ → ℕ → ℕ → Type 0
+ShowsWithin bytes before after = (n : ℕ) (darts : List Row) → MapText bytes n darts → after ≤ before + showing n (length darts)
+
+-- where the store tells, the same of the file of that name
+abbrev pub FileShowsWithin : Contents → List ℕ → ℕ → ℕ → Type 0
+FileShowsWithin contents name before after = IfSome contents (λ files. (bytes : List ℕ) → HasFile files name bytes → ShowsWithin bytes before after)
+
+-- and where the words are `show` and that name
+abbrev pub ShowStaysWithin : List (List ℕ) → Contents → ℕ → ℕ → Type 0
+ShowStaysWithin words contents before after = (name : List ℕ) → Asks words Show name → FileShowsWithin contents name before after
+
+-- ---- the parts of a run
+
+-- where the store tells a file of the name that stands for a map, no more steps than reading it
+abbrev pub ReadsWithin : Contents → List ℕ → ℕ → ℕ → Type 0
+ReadsWithin contents name before after =
+    IfSome contents (λ files. (bytes : List ℕ) (n : ℕ) (darts : List Row) → HasFile files name bytes → MapText bytes n darts → after ≤ before + reading n (length darts))
+
+-- no more steps than the budgets of the lines, and than printing the map that they leave
+abbrev pub RunsWithin : Inputs → ℕ → ℕ → Type 0
+RunsWithin inputs before after = (ran : Ran) (sum : ℕ) → IsRan inputs ran → HasBudget inputs ran sum → after ≤ before + sum + printing inputs.dim (length ran.darts)
+
+-- a step for each dart that a line added or removed, and for each that is left
+abbrev pub RunsAtLeast : Inputs → ℕ → ℕ → Type 0
+RunsAtLeast inputs before after = (ran : Ran) → IsRan inputs ran → before + changed_darts ran.outcomes + length ran.darts ≤ after

@@ -1,0 +1,88 @@
+-- What a run of the program leaves: its status, what was written, and what its files and output did.
+use Rattle.std.specs.Prelude.{◌≡◌, ◌⊎◌, ℕ, List, ◌++◌, map, take, Option, Some, Result, codes, String, string_bytes}
+use Rattle.std.specs.Global.{Global}
+use Rattle.gm_tool.specs.Answer.{Answer, answers, Files, Asks, role_of, role_word, refusal, IsFileAnswer}
+use Rattle.gm_tool.specs.Answer as answer
+use Rattle.gm_tool.specs.Endings.{IsEnding, IsTextOf}
+use Rattle.gm_tool.specs.MadeRuns.{IsRunLoadFailure, LacksInput, HoldsMap}
+use Rattle.gm_tool.specs.Program.{IsAnswer}
+use Rattle.gm_tool.specs.RunAnswer.{RunNames, AsksRun}
+use Rattle.gm_host.specs.Store.{Contents, Lacks}
+use Rattle.gm_host.specs.Sink.{extended, ExtendsInPart}
+use Rattle.gm_tool.specs.declared.reply.Reply.{Reply}
+use Rattle.gm_tool.specs.declared.refusal.NoText.{NoText}
+
+-- the words of the command line, by their bytes
+abbrev pub words_of : List (String Global) → List (List ℕ)
+words_of words = map string_bytes words
+
+-- ---- a command on one file
+
+-- the answer to the one load of the command's file, where it failed
+abbrev pub IsFileLoadFailure : answer.Command → (ℕ → Type 0) → Answer → Type 0
+IsFileLoadFailure command load_fails given = load_fails 1 × (given ≡ answers 3 (refusal (codes "load " ++ role_word (role_of command))))
+
+abbrev pub IsFileText : Files → answer.Command → List ℕ → (ℕ → Type 0) → Type 0 → Contents → Result Reply NoText → Type 0
+IsFileText files command name load_fails save_fails after reply = IsTextOf files (IsFileAnswer files command name) (IsFileLoadFailure command load_fails) save_fails after reply
+
+-- ---- any command
+
+-- the answer to a load that failed, of a file before which no file of the command fails
+pub data IsLoadFailure (words : List (List ℕ)) (files : Files) (load_fails : ℕ → Type 0) (given : Answer) : Type 0 where
+  OfFile : (command : answer.Command) (name : List ℕ) → Asks words command name → IsFileLoadFailure command load_fails given → IsLoadFailure words files load_fails given
+  OfRun : (named : RunNames) → AsksRun words named → IsRunLoadFailure files named load_fails given → IsLoadFailure words files load_fails given
+
+-- the text to put is that of the words' answer or of a fault of the store, and the store holds what it then holds
+abbrev pub IsText : List (List ℕ) → Files → (ℕ → Type 0) → Type 0 → Contents → Result Reply NoText → Type 0
+IsText words files load_fails save_fails after reply = IsTextOf files (IsAnswer words files) (IsLoadFailure words files load_fails) save_fails after reply
+
+module _ (words : List (List ℕ)) (files : Files) (load_fails : ℕ → Type 0) (save_fails : Type 0) where
+  -- status, text and store as the words' answer says, or as a fault of the store leaves it
+  abbrev pub Ends : ℕ → List ℕ → Contents → Type 0
+  Ends status text after = IsEnding files (IsAnswer words files) (IsLoadFailure words files load_fails) save_fails status text after
+
+  -- What is left of store and sink, where both tell. `put_fails` says that the sink's count rose.
+  pub data Leaves (put_fails : Type 0) (before : List ℕ) (status : ℕ) (written : List ℕ) (after : Contents) : Type 0 where
+    -- the text, whole
+    Put : (text : List ℕ) → Ends status text after → written ≡ before ++ text → Leaves put_fails before status written after
+    -- the sink failed: some first bytes of it
+    PutFailed : put_fails → (given : ℕ) (text : List ℕ) (kept : ℕ) → Ends given text after → status ≡ 6 → written ≡ before ++ take kept text → Leaves put_fails before status written after
+    -- memory was wanting for the put, and nothing was put
+    Unput : (given : ℕ) (text : List ℕ) → Ends given text after → status ≡ 7 → written ≡ before → Leaves put_fails before status written after
+    -- memory was wanting before, and all is as at entry
+    NoMemory : status ≡ 7 → written ≡ before → after ≡ Some files → Leaves put_fails before status written after
+
+-- the same, where store and sink tell; else nothing
+abbrev pub LeavesWhereTold : List (List ℕ) → Contents → Contents → (ℕ → Type 0) → Type 0 → Type 0 → Option (List ℕ) → ℕ → Option (List ℕ) → Type 0
+LeavesWhereTold words (Some files) later load_fails save_fails put_fails (Some before) status after =
+    (written : List ℕ) × (after ≡ Some written) × Leaves words files load_fails save_fails put_fails before status written later
+LeavesWhereTold words _ later load_fails save_fails put_fails _ status after = Unit {0}
+
+-- the words ask for a file that the store tells it does not hold
+abbrev pub LacksFile : List (List ℕ) → Contents → Type 0
+LacksFile words contents =
+    ((command : answer.Command) × (name : List ℕ) × Asks words command name × Lacks contents name) ⊎ ((named : RunNames) × AsksRun words named × LacksInput contents named)
+
+-- where the words are a run and the store tells, the store holds the canonical text of a generalised map under the name to save under
+abbrev pub HoldsSavedMap : List (List ℕ) → Contents → Type 0
+HoldsSavedMap words contents = (named : RunNames) → AsksRun words named → HoldsMap contents named.out
+
+-- bytes are put whole with the status given; or the sink failed, and some first bytes are; or memory was wanting, and none are
+abbrev pub IsPut : Option (List ℕ) → Option (List ℕ) → Type 0 → List ℕ → ℕ → ℕ → Type 0
+IsPut before after fails bytes given status =
+    ((status ≡ given) × (after ≡ extended before bytes)) ⊎ (((status ≡ 6) × fails × ExtendsInPart before bytes after) ⊎ ((status ≡ 7) × (after ≡ before)))
+
+-- the statuses of a reply: done, a rule or a line that is refused, or a text that stands for nothing
+abbrev pub IsReplyStatus : ℕ → Type 0
+IsReplyStatus status = (status ≡ 0) ⊎ ((status ≡ 1) ⊎ (status ≡ 4))
+
+abbrev pub IsStatus : ℕ → Type 0
+IsStatus status = IsReplyStatus status ⊎ ((status ≡ 2) ⊎ ((status ≡ 3) ⊎ ((status ≡ 5) ⊎ ((status ≡ 6) ⊎ ((status ≡ 7) ⊎ (status ≡ 8))))))
+
+-- what can be left of words that are no command
+abbrev pub IsUsageStatus : ℕ → Type 0
+IsUsageStatus status = (status ≡ 2) ⊎ ((status ≡ 6) ⊎ (status ≡ 7))
+
+-- the words are `check` and a file
+abbrev pub IsCheck : List (List ℕ) → Type 0
+IsCheck words = (name : List ℕ) × Asks words answer.Check name

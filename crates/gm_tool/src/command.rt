@@ -1,0 +1,70 @@
+ghost use Rattle.std.specs.Prelude.{MatchOption, ◌≡◌};
+ghost use Rattle.gm_tool.specs.Answer.{Asks, command_word};
+ghost use Rattle.gm_tool.specs.MadeRuns.{names_of};
+ghost use Rattle.gm_tool.specs.Program.{IsFileCommand, IsRunCommand};
+ghost use Rattle.gm_tool.specs.RunAnswer.{AsksRun};
+ghost use Rattle.gm_tool.specs.Refusals.{command_in, IsNoCommandWord};
+ghost use Rattle.gm_tool.specs.Tool.{words_of};
+
+/// A command on one file.
+#[derive(Clone, Copy, Debug, PartialEq, Eq)]
+pub enum Command {
+    /// `show MAP`: put the canonical text of a map.
+    Show,
+    /// `book BOOK`: put the canonical text of a rule book.
+    Book,
+    /// `check BOOK`: tell of each rule of a book whether it is accepted.
+    Check,
+}
+
+/// The files that a run reads, and the one under which it saves, by name.
+#[derive(Clone, Copy, Debug, PartialEq, Eq)]
+pub struct RunFiles<'w> {
+    pub map: &'w str,
+    pub book: &'w str,
+    pub script: &'w str,
+    pub out: &'w str,
+}
+
+/// The command and the name of its file, or `None` where the words are no command on one file. The
+/// words are read by position, and none is an option.
+pub fn command_of(words: &[String]) -> Option<(Command, &str)>
+    ensures { MatchOption result (IsFileCommand (words_of words.now) → ⊥)
+        (λ asked. Asks (words_of words.now) (command_in asked.0) asked.1.now) }
+{
+    let [word, file] = words else {
+        return None;
+    };
+    let command = command_named(word.as_str())?;
+    Some((command, file.as_str()))
+}
+
+/// The files of `run MAP BOOK SCRIPT OUT`, or `None` where the words are anything else.
+pub fn run_of(words: &[String]) -> Option<RunFiles<'_>>
+    ensures { MatchOption result (IsRunCommand (words_of words.now) → ⊥)
+        (λ files. AsksRun (words_of words.now) (names_of files)) }
+{
+    let [word, map, book, script, out] = words else {
+        return None;
+    };
+    match word.as_str() {
+        "run" => Some(RunFiles {
+            map: map.as_str(),
+            book: book.as_str(),
+            script: script.as_str(),
+            out: out.as_str(),
+        }),
+        _ => None,
+    }
+}
+
+fn command_named(word: &str) -> Option<Command>
+    ensures { MatchOption result (IsNoCommandWord word.now) (λ command. word.now ≡ command_word (command_in command)) }
+{
+    match word {
+        "show" => Some(Command::Show),
+        "book" => Some(Command::Book),
+        "check" => Some(Command::Check),
+        _ => None,
+    }
+}

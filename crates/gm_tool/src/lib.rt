@@ -1,0 +1,20 @@
+//! The program's commands, over any store and sink: what the words of the command line ask for, what
+//! is put and saved, and with which status.
+#![tactic(auto)]
+
+mod book;
+mod check;
+mod command;
+mod fault_lines;
+mod laws;
+mod load;
+mod map;
+mod program;
+mod refusal;
+mod reply;
+mod rule_lines;
+mod running;
+mod script;
+
+pub use laws::one_answer_at_most;
+pub use program::{tool, with_new_counter};

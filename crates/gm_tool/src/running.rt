@@ -1,0 +1,248 @@
+ghost use Rattle.std.specs.Prelude.{◌≡◌, ◌==◌, ◌+◌, ◌≤◌, ◌⊎◌, ℕ, IfOk, IfErr, IfSome, IsErrOf, List, map, not};
+ghost use Rattle.gm_host.specs.Count.{counted, Rises};
+ghost use Rattle.gm_model.specs.Rules.{rule_of};
+ghost use Rattle.gm_tool.specs.Answer.{TheMap, TheBook, TheScript};
+ghost use Rattle.gm_tool.specs.Loads.{FailsAt, StopsInTime, UnlessNoMemory, UnlessNoMemoryToMake};
+ghost use Rattle.gm_tool.specs.MadeRuns.{names_of, inputs_of, CanRun, IsFitted, IsPrinted, IsRunOf, IsMapBytes, IsMade, LacksInput, LoadsAtMostThrice, IsRunStatus, HoldsMap, IsRunText, IsSaving, IsSoundReply};
+ghost use Rattle.gm_tool.specs.Tool.{IsReplyStatus};
+ghost use Rattle.gm_tool.specs.RunAnswer.{IsBadMap, IsBadBook, IsBadScript, run_status};
+ghost use Rattle.gm_tool.specs.declared.refusal.NoText.TheVariants as nothing;
+ghost use Rattle.gm_tool.specs.StepBounds.{ReadsWithin, RunsWithin, RunsAtLeast, WithinMost, AtLeast, printing};
+ghost use Rattle.gm_tool.specs.Stops.{IsFrom, IsReadMap, IsReadBook, IsReadScript, IsSoundStop};
+ghost use Rattle.gm_arena.specs.Lawful.{IsLawful};
+ghost use Rattle.gm_mapfile.specs.Rows.{rows_of};
+ghost use Rattle.gm_mapfile.specs.MapText.{canonical};
+ghost use Rattle.gm_model.specs.Reports.{report_text};
+ghost use Rattle.gm_model.specs.Runs.{is_done};
+ghost use Rattle.gm_run.specs.Lines.{outcome_of};
+ghost use Rattle.gm_run.specs.Printing.{CanBePrinted};
+
+use crate::book::plans_of;
+use crate::command::RunFiles;
+use crate::load::load_file;
+use crate::refusal::{NoText, Refusal, Role, Stop};
+use crate::reply::{MOST_BYTES, Reply};
+use crate::{book, map, script};
+use gm_arena::{Arena, Steps};
+use gm_host::{SaveFault, Store};
+use gm_mapfile::print_map;
+use gm_model::{Book, MOST_DARTS, Script};
+use gm_plan::Plan;
+use gm_run::{Outcome, Report, print_report};
+use std::alloc::Global;
+use std::sync::ledger::Ledger;
+
+/// What is saved and put of a run, with the status where that goes well.
+#[derive(Debug, Drop)]
+pub struct Made {
+    pub status: u8,
+    pub report: Vec<u8>,
+    pub map: Vec<u8>,
+}
+
+fn load_map<S: Store, L: Ledger>(
+    alloc: Global,
+    name: &str,
+    store: &mut S,
+    steps: &mut Steps<L>,
+) -> Result<Arena, Stop>
+    ensures held { S.holds store.new ≡ S.holds store.old }
+    ensures no_save_fault { S.save_faults store.new ≡ S.save_faults store.old }
+    ensures faults_never_fall { S.load_faults store.old ≤ S.load_faults store.new }
+    ensures once { S.loads store.new ≡ counted (S.loads store.old) }
+    ensures read { IfOk result (λ arena. (bytes : List ℕ) × IsReadMap bytes arena) }
+    ensures from { IsFrom (S.holds store.old) TheMap name.now IsReadMap IsBadMap (Rises (S.load_faults store.old) (S.load_faults store.new)) result }
+    ensures most { ReadsWithin (S.holds store.old) name.now steps.old steps.new }
+    ensures least { IfOk result (λ arena. steps.old + arena.count ≤ steps.new) }
+{
+    let bytes = load_file(alloc, name, Role::Map, store)?;
+    map::read(alloc, bytes.as_slice(), steps)
+}
+
+fn load_book<S: Store>(alloc: Global, name: &str, store: &mut S) -> Result<Book, Stop>
+    ensures held { S.holds store.new ≡ S.holds store.old }
+    ensures no_save_fault { S.save_faults store.new ≡ S.save_faults store.old }
+    ensures faults_never_fall { S.load_faults store.old ≤ S.load_faults store.new }
+    ensures once { S.loads store.new ≡ counted (S.loads store.old) }
+    ensures read { IfOk result (λ book. (bytes : List ℕ) × IsReadBook bytes book) }
+    ensures from { IsFrom (S.holds store.old) TheBook name.now IsReadBook IsBadBook (Rises (S.load_faults store.old) (S.load_faults store.new)) result }
+{
+    let bytes = load_file(alloc, name, Role::Book, store)?;
+    book::read(alloc, bytes.as_slice())
+}
+
+fn load_script<S: Store>(
+    alloc: Global,
+    name: &str,
+    book: &Book,
+    store: &mut S,
+) -> Result<Script, Stop>
+    ensures held { S.holds store.new ≡ S.holds store.old }
+    ensures no_save_fault { S.save_faults store.new ≡ S.save_faults store.old }
+    ensures faults_never_fall { S.load_faults store.old ≤ S.load_faults store.new }
+    ensures once { S.loads store.new ≡ counted (S.loads store.old) }
+    ensures read { IfOk result (λ script. (bytes : List ℕ) × IsReadScript (map rule_of book.now.rules) bytes script) }
+    ensures from { IsFrom (S.holds store.old) TheScript name.now (IsReadScript (map rule_of book.now.rules)) (IsBadScript (map rule_of book.now.rules)) (Rises (S.load_faults store.old) (S.load_faults store.new)) result }
+{
+    let bytes = load_file(alloc, name, Role::Script, store)?;
+    script::read(alloc, bytes.as_slice(), book)
+}
+
+fn is_refused(outcome: &Outcome) -> bool
+    ensures { result ≡ not (is_done (outcome_of outcome.now)) }
+{
+    match outcome {
+        Outcome::Done(_) => false,
+        Outcome::Refused(_) => true,
+    }
+}
+
+/// 1 where a line was refused.
+fn status_of(outcomes: &[Outcome]) -> u8
+    ensures { result ≡ run_status (map outcome_of outcomes.now) }
+{
+    for outcome in outcomes {
+        if is_refused(outcome) {
+            return 1;
+        }
+    }
+    0
+}
+
+fn within_limit(status: u8, report: Vec<u8>, map: Vec<u8>) -> Result<Made, Stop>
+    ensures { IsFitted status report.items map.items result }
+{
+    if report.len() > MOST_BYTES || map.len() > MOST_BYTES {
+        return Err(Stop::NoText(NoText::Refused(Refusal::SizeOutput)));
+    }
+    Ok(Made {
+        status,
+        report,
+        map,
+    })
+}
+
+/// The report of the lines, and the text of the map that they left.
+fn printed<L: Ledger>(
+    alloc: Global,
+    book: &Book,
+    script: &Script,
+    report: &Report,
+    arena: &Arena,
+    steps: &mut Steps<L>,
+) -> Result<Made, Stop>
+    requires { CanBePrinted book.now.schema (map rule_of book.now.rules) script.now.lines report.now.lines }
+    ensures lawful { IsLawful arena.now }
+    ensures texts { IsPrinted (run_status (map outcome_of report.now.lines))
+        (report_text book.now.schema (map rule_of book.now.rules) script.now.lines (map outcome_of report.now.lines) report.now.darts report.now.next)
+        (canonical arena.now.schema.dim (rows_of arena.now)) result }
+    ensures most { steps.new ≤ steps.old + printing arena.now.schema.dim arena.now.count }
+    ensures least { IfOk result (λ _. steps.old + arena.now.count ≤ steps.new) }
+{
+    prove!(arena.count() <= MOST_DARTS);
+    let text = print_report(alloc, book, script, report)?;
+    let map = print_map(alloc, arena, steps)?;
+    within_limit(status_of(report.lines.as_slice()), text, map)
+}
+
+/// Applies the lines to the map, and makes the report and the text of the map that they leave.
+fn applied<L: Ledger>(
+    alloc: Global,
+    plans: &[Plan<'_>],
+    book: &Book,
+    script: &Script,
+    arena: &mut Arena,
+    steps: &mut Steps<L>,
+) -> Result<Made, Stop>
+    requires { CanRun arena.old book.now script.now plans.now }
+    ensures run { IsRunOf (inputs_of arena.old book.now script.now) result }
+    ensures map { IfOk result (λ made. IsMapBytes made.map.items) }
+    ensures lawful { IsLawful arena.old }
+    ensures most { RunsWithin (inputs_of arena.old book.now script.now) steps.old steps.new }
+    ensures least { IfOk result (λ _. RunsAtLeast (inputs_of arena.old book.now script.now) steps.old steps.new) }
+{
+    prove!(arena.count() <= MOST_DARTS);
+    let report = gm_run::run(alloc, plans, script, arena, steps)?;
+    printed(alloc, book, script, &report, arena, steps)
+}
+
+/// The map and the book are of one dimension. Neither has embeddings so far.
+fn agree(arena: &Arena, book: &Book) -> bool
+    ensures { result ≡ (arena.now.schema.dim == book.now.schema.dim) }
+{
+    arena.schema().dim.top() == book.schema.dim.top()
+}
+
+/// What is saved and put of the run, which loads its files and saves nothing.
+fn prepared<S: Store, L: Ledger>(
+    alloc: Global,
+    files: RunFiles<'_>,
+    store: &mut S,
+    steps: &mut Steps<L>,
+) -> Result<Made, Stop>
+    ensures held { S.holds store.new ≡ S.holds store.old }
+    ensures no_save_fault { S.save_faults store.new ≡ S.save_faults store.old }
+    ensures loads { LoadsAtMostThrice (S.loads store.old) (S.loads store.new) }
+    ensures counted_loads { IfSome (S.holds store.old) (λ held. UnlessNoMemoryToMake result (StopsInTime held (names_of files.entry) (Rises (S.load_faults store.old) (S.load_faults store.new)) (S.loads store.old) (S.loads store.new))) }
+    ensures made { IfSome (S.holds store.old) (λ held. IsMade held (names_of files.entry) (FailsAt (S.load_faults store.old) (S.load_faults store.new) (S.loads store.old) (S.loads store.new)) result) }
+    ensures map { IfOk result (λ made. IsMapBytes made.map.items) }
+    ensures status { IfOk result (λ made. IsRunStatus made.status) }
+    ensures most { IfSome (S.holds store.old) (λ held. WithinMost held (names_of files.entry) steps.old steps.new) }
+    ensures least { IfOk result (λ _. IfSome (S.holds store.old) (λ held. AtLeast held (names_of files.entry) steps.old steps.new)) }
+    ensures sound { IfErr result (λ stop. IsSoundStop stop (Rises (S.load_faults store.old) (S.load_faults store.new) ⊎ LacksInput (S.holds store.old) (names_of files.entry))) }
+{
+    let mut arena = load_map(alloc, files.map, store, steps)?;
+    let book = load_book(alloc, files.book, store)?;
+    let plans = plans_of(alloc, &book)?;
+    let script = load_script(alloc, files.script, &book, store)?;
+    if !agree(&arena, &book) {
+        return Err(Stop::NoText(NoText::Refused(Refusal::Agree)));
+    }
+    applied(alloc, plans.as_slice(), &book, &script, &mut arena, steps)
+}
+
+fn saved<S: Store>(out: &str, made: Made, store: &mut S) -> Result<Reply, NoText>
+    ensures no_load { S.loads store.new ≡ S.loads store.old }
+    ensures no_load_fault { S.load_faults store.new ≡ S.load_faults store.old }
+    ensures no_save_fault { IfOk result (λ _. S.save_faults store.new ≡ S.save_faults store.old) }
+    ensures saved { IsSaving (S.holds store.old) out.now made (Rises (S.save_faults store.old) (S.save_faults store.new)) (S.holds store.new) result }
+{
+    match store.save(out, made.map.as_slice()) {
+        Ok(()) => Ok(Reply {
+            status: made.status,
+            text: made.report,
+        }),
+        Err(SaveFault::Failed) => Err(NoText::Refused(Refusal::Save)),
+        Err(SaveFault::OutOfMemory) => Err(NoText::OutOfMemory),
+    }
+}
+
+/// The report of the run, whose map is then saved; or the line that refuses it.
+///
+/// All that takes memory is made before the save.
+pub fn answer<S: Store, L: Ledger>(
+    alloc: Global,
+    files: RunFiles<'_>,
+    store: &mut S,
+    steps: &mut Steps<L>,
+) -> Result<Reply, NoText>
+    ensures loads { LoadsAtMostThrice (S.loads store.old) (S.loads store.new) }
+    ensures text { IfSome (S.holds store.old) (λ held. IsRunText held (names_of files.entry)
+        (FailsAt (S.load_faults store.old) (S.load_faults store.new) (S.loads store.old) (S.loads store.new)) (Rises (S.save_faults store.old) (S.save_faults store.new)) (S.holds store.new) result) }
+    ensures statuses { IfOk result (λ reply. IsReplyStatus reply.status) }
+    ensures sound { IsSoundReply result
+        (Rises (S.load_faults store.old) (S.load_faults store.new) ⊎ LacksInput (S.holds store.old) (names_of files.entry))
+        (Rises (S.save_faults store.old) (S.save_faults store.new)) }
+    ensures map { IfOk result (λ reply. IsRunStatus reply.status → HoldsMap (S.holds store.new) files.entry.out.now) }
+    ensures most { IfSome (S.holds store.old) (λ held. WithinMost held (names_of files.entry) steps.old steps.new) }
+    ensures least { IfOk result (λ reply. IfSome (S.holds store.old) (λ held. IsRunStatus reply.status → AtLeast held (names_of files.entry) steps.old steps.new)) }
+    ensures counted_loads { IfSome (S.holds store.old) (λ held. UnlessNoMemory result (StopsInTime held (names_of files.entry) (Rises (S.load_faults store.old) (S.load_faults store.new)) (S.loads store.old) (S.loads store.new))) }
+    ensures no_memory { IsErrOf result nothing.OutOfMemory → S.holds store.new ≡ S.holds store.old }
+    ensures no_save_fault { IfOk result (λ _. S.save_faults store.new ≡ S.save_faults store.old) }
+{
+    match prepared(alloc, files, store, steps) {
+        Ok(made) => saved(files.out, made, store),
+        Err(Stop::Bad(text)) => Ok(Reply { status: 4, text }),
+        Err(Stop::NoText(none)) => Err(none),
+    }
+}

@@ -1,0 +1,22 @@
+ghost use Rattle.std.specs.Prelude.{IfOk, IfErr, map};
+ghost use Rattle.gm_model.specs.Rules.{rule_of};
+ghost use Rattle.gm_tool.specs.Answer.{TheScript};
+ghost use Rattle.gm_tool.specs.RunAnswer.{IsBadScript};
+ghost use Rattle.gm_tool.specs.Stops.{IsReadScript, IsBadFor};
+
+use crate::fault_lines::script_line;
+use crate::refusal::Stop;
+use gm_model::{Book, Script};
+use gm_script::read_script;
+use std::alloc::Global;
+
+/// The script that a file's text stands for under the book, or the line that refuses it.
+pub fn read(alloc: Global, bytes: &[u8], book: &Book) -> Result<Script, Stop>
+    ensures script { IfOk result (IsReadScript (map rule_of book.now.rules) bytes.now) }
+    ensures stop { IfErr result (IsBadFor TheScript (IsBadScript (map rule_of book.now.rules) bytes.now)) }
+{
+    match read_script(alloc, bytes, book) {
+        Ok(script) => Ok(script),
+        Err(fault) => Err(Stop::because(script_line(alloc, fault))),
+    }
+}

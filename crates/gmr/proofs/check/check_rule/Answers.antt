@@ -1,8 +1,0 @@
-use Rattle.std.proofs.lemmas.Result.{err_from_is_err_and}
-use Rattle.gm_model.specs.Acceptance.{Incidence}
-use Rattle.gmr.proofs.check.check_rule.Goals as goal
-
-pub returns-in_err-check : goal.returns-in_err-check
-returns-in_err-check c =
-    let p = err_from_is_err_and c.from_residual.result c.from_residual.ensures.1 in
-    rw (p.1, p.2) (Incidence c.in_err-check.ensures)

@@ -1,8 +1,0 @@
-use Rattle.std.proofs.Common.{map}
-use Rattle.gm_model.specs.Rules.{rule_of}
-use Rattle.gmr.proofs.Stopping.{script_stopped}
-use Rattle.gmr.proofs.script.read.Goals as goal
-
-pub returns-in-Err-clause-stop : goal.returns-in-Err-clause-stop
-returns-in-Err-clause-stop c =
-    script_stopped c.args.bytes.now c.script_line.result c.because.result (map rule_of c.args.book.now.rules) c.in-Err.fault c.in-Err.ensures.fault c.script_line.ensures c.because.ensures

@@ -1,4 +1,0 @@
-use Rattle.gmr.proofs.tests.run.Given as goal
-
-abbrev pub ghosts-with_new_counter : goal.ghosts-with_new_counter
-ghosts-with_new_counter a = record { name = a.blank.name; parts = a.blank.parts }
