@@ -1,5 +1,5 @@
 -- What an orbit is, and in which order its darts are walked.
-use Rattle.std.specs.Prelude.{◌≡◌, ◌≢◌, ℕ, ◌<◌, Bool, ◌⊎◌, ◌↔◌, List, [], ◌∷◌, length, take, slice_get, slice_index, Some, IsTrue}
+use Rattle.std.specs.Prelude.{◌≡◌, ◌≢◌, ℕ, ◌<◌, ◌≤◌, Bool, ◌⊎◌, ◌↔◌, List, [], ◌∷◌, length, take, slice_get, slice_index, Some, IsTrue}
 use Rattle.std.specs.List.{AllByRecursion, Contains}
 
 -- a set of labels
@@ -29,6 +29,17 @@ pub record IsListOf (P : ℕ → Type 0) (darts : List ℕ) : Type 0 where
 -- so many darts have P
 abbrev pub HasCount : (ℕ → Type 0) → ℕ → Type 0
 HasCount P count = (darts : List ℕ) × IsListOf P darts × (length darts ≡ count)
+
+-- ---- how many orbits there are
+
+-- d is the least live dart of its orbit
+pub record IsLead (IsLive : ℕ → Type 0) (alpha : ℕ → ℕ → ℕ) (o : Labels) (d : ℕ) : Type 0 where
+  pub live : IsLive d
+  pub least : (e : ℕ) → IsInOrbit alpha o d e → IsLive e → d ≤ e
+
+-- so many orbits: one for each least dart of an orbit
+abbrev pub HasOrbits : (ℕ → Type 0) → (ℕ → ℕ → ℕ) → Labels → ℕ → Type 0
+HasOrbits IsLive alpha o count = HasCount (IsLead IsLive alpha o) count
 
 -- ---- the walk
 
