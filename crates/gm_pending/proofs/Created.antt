@@ -28,6 +28,7 @@ created m rule placed none hooks nodes one places = record {
   places = places ∙ sym (no_places rule no_hooks);
   live = λ x p h b. absurd (omega (arith, nodes));
   is_match = record {
+    count = sym hooks;
     walk = [];
     positions = Created no_hooks one;
     hooked = λ h p first b. none_some h (rw no_hooks at first);

@@ -19,8 +19,7 @@ module _ (app : PendingOf) (prepared : IsPrepared app) where
   pub is_map : IsMap (as_map app.map)
   is_map = record {
     below = λ d live. name_below app.map d prepared.lawful live;
-    kind = λ e d embed at live. absurd (no_embed e embed at);
-    range = λ e d embed at live. absurd (no_embed e embed at);
+    values = λ e d embed at live. absurd (no_embed e embed at);
   }
 
   pub accepted : IsAccepted app.map.schema (rule_in app)
