@@ -4,7 +4,7 @@ use gm_host::{MemSink, MemStore};
 use gm_tool::with_new_counter;
 use std::alloc::Global;
 use std::marker::Brand;
-use std::process::ExitCode;
+use std::process::{Abort, ExitCode};
 use std::sync::ledger::Blank;
 use std::test::Fail;
 
@@ -26,12 +26,12 @@ pub(crate) fn words_of(alloc: Global, line: &str) -> Result<Vec<String>, Fail> {
 
 /// How the program ends on the words, run over a step counter of their own.
 pub(crate) fn run(
-    rt: &HostRuntime,
+    host: &HostRuntime,
     words: &[String],
     store: &mut MemStore,
     out: &mut MemSink,
 ) -> ExitCode {
-    with_new_counter::<MemStore, MemSink, Brand>(rt, words, store, out, Blank::new(1))
+    with_new_counter::<MemStore, MemSink, Brand>(host, words, store, out, Blank::new(1))
 }
 
 /// A text, and the status and the text put of a command on it.
@@ -43,15 +43,15 @@ struct Case<'a> {
 }
 
 /// The words of the line are run over a store that holds the text as MAP and as BOOK.
-fn expect(rt: &HostRuntime, line: &str, case: &Case) -> Result<(), Fail> {
-    let alloc = rt.alloc();
+fn expect(rt: &impl Abort, host: &HostRuntime, line: &str, case: &Case) -> Result<(), Fail> {
+    let alloc = host.alloc();
     let text = case.text.as_bytes();
     let mut store = MemStore::new(alloc);
     let mut out = MemSink::new(alloc);
     store.hold("MAP", text)?;
     store.hold("BOOK", text)?;
     let words = words_of(alloc, line)?;
-    let ended = run(rt, words.as_slice(), &mut store, &mut out);
+    let ended = run(host, words.as_slice(), &mut store, &mut out);
     assert_eq!(rt; ended, ExitCode::from(case.status), "{}", case.text);
     assert_eq!(rt; out.bytes(), case.put.as_bytes(), "{}", case.text);
     assert_eq!(rt; store.bytes("MAP"), Some(text));
@@ -60,10 +60,15 @@ fn expect(rt: &HostRuntime, line: &str, case: &Case) -> Result<(), Fail> {
 }
 
 /// Each line is run on each case.
-fn expect_each(rt: &HostRuntime, lines: &[&str], cases: &[Case]) -> Result<(), Fail> {
+fn expect_each(
+    rt: &impl Abort,
+    host: &HostRuntime,
+    lines: &[&str],
+    cases: &[Case],
+) -> Result<(), Fail> {
     for line in lines {
         for case in cases {
-            expect(rt, line, case)?;
+            expect(rt, host, line, case)?;
         }
     }
     Ok(())
@@ -164,7 +169,7 @@ const MAPS: [Case; 18] = [
 
 #[test]
 fn maps_shown_and_refused(rt: HostRuntime) -> Result<(), Fail> {
-    expect_each(&rt, &["show MAP"], &MAPS)
+    expect_each(&rt, &rt, &["show MAP"], &MAPS)
 }
 
 const NO_COMMANDS: [&str; 12] = [
@@ -190,7 +195,7 @@ const USAGE: [Case; 1] = [Case {
 
 #[test]
 fn words_that_are_no_command(rt: HostRuntime) -> Result<(), Fail> {
-    expect_each(&rt, &NO_COMMANDS, &USAGE)
+    expect_each(&rt, &rt, &NO_COMMANDS, &USAGE)
 }
 
 const BOOKS: [Case; 6] = [
@@ -228,7 +233,7 @@ const BOOKS: [Case; 6] = [
 
 #[test]
 fn books_printed(rt: HostRuntime) -> Result<(), Fail> {
-    expect_each(&rt, &["book BOOK"], &BOOKS)
+    expect_each(&rt, &rt, &["book BOOK"], &BOOKS)
 }
 
 const NO_BOOKS: [Case; 24] = [
@@ -356,7 +361,7 @@ const NO_BOOKS: [Case; 24] = [
 
 #[test]
 fn texts_of_no_book(rt: HostRuntime) -> Result<(), Fail> {
-    expect_each(&rt, &["book BOOK", "check BOOK"], &NO_BOOKS)
+    expect_each(&rt, &rt, &["book BOOK", "check BOOK"], &NO_BOOKS)
 }
 
 /// Books of one rule at most, and then of more: each rule has its line, whatever the lines before it
@@ -481,7 +486,7 @@ const CHECKS: [Case; 23] = [
 
 #[test]
 fn rules_checked(rt: HostRuntime) -> Result<(), Fail> {
-    expect_each(&rt, &["check BOOK"], &CHECKS)
+    expect_each(&rt, &rt, &["check BOOK"], &CHECKS)
 }
 
 /// Where the square's text stops to go on, by how many of its bytes are there.
@@ -508,7 +513,7 @@ fn square_cut_at_every_length(rt: HostRuntime) -> Result<(), Fail> {
         } else {
             (4, line.as_str())
         };
-        expect(&rt, "show MAP", &Case { text, status, put })?;
+        expect(&rt, &rt, "show MAP", &Case { text, status, put })?;
     }
     Ok(())
 }
@@ -576,12 +581,13 @@ const FAULTS: [Fault; 5] = [
 
 /// The command meets the fault on the text.
 fn expect_fault(
-    rt: &HostRuntime,
+    rt: &impl Abort,
+    host: &HostRuntime,
     command: (&str, &str),
     fault: &Fault,
     put: &str,
 ) -> Result<(), Fail> {
-    let alloc = rt.alloc();
+    let alloc = host.alloc();
     let (line, text) = command;
     let mut store = MemStore::new(alloc);
     let mut out = MemSink::new(alloc);
@@ -595,16 +601,16 @@ fn expect_fault(
         out.fail_put(0, kept)?;
     }
     let words = words_of(alloc, line)?;
-    let ended = run(rt, words.as_slice(), &mut store, &mut out);
+    let ended = run(host, words.as_slice(), &mut store, &mut out);
     assert_eq!(rt; ended, ExitCode::from(fault.status), "{line}");
     assert_eq!(rt; out.bytes(), put.as_bytes(), "{line}");
     Ok(())
 }
 
-fn expect_faults(rt: &HostRuntime, faults: &[Fault]) -> Result<(), Fail> {
+fn expect_faults(rt: &impl Abort, host: &HostRuntime, faults: &[Fault]) -> Result<(), Fail> {
     for fault in faults {
         for (command, put) in COMMANDS.iter().zip(&fault.puts) {
-            expect_fault(rt, *command, fault, put)?;
+            expect_fault(rt, host, *command, fault, put)?;
         }
     }
     Ok(())
@@ -612,5 +618,5 @@ fn expect_faults(rt: &HostRuntime, faults: &[Fault]) -> Result<(), Fail> {
 
 #[test]
 fn faults_of_files_and_output(rt: HostRuntime) -> Result<(), Fail> {
-    expect_faults(&rt, &FAULTS)
+    expect_faults(&rt, &rt, &FAULTS)
 }

@@ -3,7 +3,7 @@
 use crate::commands::{EMPTY, SQUARE, run, words_of};
 use gm_host::{MemSink, MemStore};
 use std::alloc::Global;
-use std::process::ExitCode;
+use std::process::{Abort, ExitCode};
 use std::test::Fail;
 
 const TRIANGULATED: &str =
@@ -35,13 +35,13 @@ struct Run<'a> {
     saved: Option<&'a str>,
 }
 
-fn expect_run(rt: &HostRuntime, case: &Run) -> Result<(), Fail> {
-    let alloc = rt.alloc();
+fn expect_run(rt: &impl Abort, host: &HostRuntime, case: &Run) -> Result<(), Fail> {
+    let alloc = host.alloc();
     let [map, book, script] = case.texts;
     let mut store = files(alloc, map, book, script)?;
     let mut out = MemSink::new(alloc);
     let words = words_of(alloc, "run MAP BOOK SCRIPT OUT")?;
-    let ended = run(rt, words.as_slice(), &mut store, &mut out);
+    let ended = run(host, words.as_slice(), &mut store, &mut out);
     let saved = case.saved.map(|text| text.as_bytes());
     assert_eq!(rt; ended, ExitCode::from(case.status), "{}", case.put);
     assert_eq!(rt; out.bytes(), case.put.as_bytes(), "{}", case.put);
@@ -52,9 +52,9 @@ fn expect_run(rt: &HostRuntime, case: &Run) -> Result<(), Fail> {
     Ok(())
 }
 
-fn run_each(rt: &HostRuntime, cases: &[Run]) -> Result<(), Fail> {
+fn run_each(rt: &impl Abort, host: &HostRuntime, cases: &[Run]) -> Result<(), Fail> {
     for case in cases {
-        expect_run(rt, case)?;
+        expect_run(rt, host, case)?;
     }
     Ok(())
 }
@@ -134,7 +134,7 @@ const RUNS: [Run; 9] = [
 
 #[test]
 fn scripts_run(rt: HostRuntime) -> Result<(), Fail> {
-    run_each(&rt, &RUNS)
+    run_each(&rt, &rt, &RUNS)
 }
 
 const NO_RUNS: [Run; 9] = [
@@ -200,7 +200,7 @@ const NO_RUNS: [Run; 9] = [
 
 #[test]
 fn files_that_do_not_run(rt: HostRuntime) -> Result<(), Fail> {
-    run_each(&rt, &NO_RUNS)
+    run_each(&rt, &rt, &NO_RUNS)
 }
 
 /// What fails: a load by its number, or the first save or put, which keeps some bytes or none.
@@ -221,8 +221,8 @@ struct Trial<'a> {
     holds: Option<&'a str>,
 }
 
-fn expect_trial(rt: &HostRuntime, trial: &Trial) -> Result<(), Fail> {
-    let alloc = rt.alloc();
+fn expect_trial(rt: &impl Abort, host: &HostRuntime, trial: &Trial) -> Result<(), Fail> {
+    let alloc = host.alloc();
     let mut store = files(alloc, SQUARE, T, "apply T 0")?;
     let mut out = MemSink::new(alloc);
     match trial.failure {
@@ -232,7 +232,7 @@ fn expect_trial(rt: &HostRuntime, trial: &Trial) -> Result<(), Fail> {
         Failure::Put(kept) => out.fail_put(0, kept)?,
     }
     let words = words_of(alloc, trial.line)?;
-    let ended = run(rt, words.as_slice(), &mut store, &mut out);
+    let ended = run(host, words.as_slice(), &mut store, &mut out);
     let holds = trial.holds.map(|text| text.as_bytes());
     assert_eq!(rt; ended, ExitCode::from(trial.status), "{}", trial.line);
     assert_eq!(rt; out.bytes(), trial.put.as_bytes(), "{}", trial.line);
@@ -240,9 +240,9 @@ fn expect_trial(rt: &HostRuntime, trial: &Trial) -> Result<(), Fail> {
     Ok(())
 }
 
-fn try_each(rt: &HostRuntime, trials: &[Trial]) -> Result<(), Fail> {
+fn try_each(rt: &impl Abort, host: &HostRuntime, trials: &[Trial]) -> Result<(), Fail> {
     for trial in trials {
-        expect_trial(rt, trial)?;
+        expect_trial(rt, host, trial)?;
     }
     Ok(())
 }
@@ -350,7 +350,7 @@ const TRIALS: [Trial; 12] = [
 
 #[test]
 fn loads_saves_and_puts(rt: HostRuntime) -> Result<(), Fail> {
-    try_each(&rt, &TRIALS)
+    try_each(&rt, &rt, &TRIALS)
 }
 
 /// Words that are no run.
@@ -399,5 +399,5 @@ const WRONG_LINES: [Trial; 5] = [
 
 #[test]
 fn words_that_are_no_run(rt: HostRuntime) -> Result<(), Fail> {
-    try_each(&rt, &WRONG_LINES)
+    try_each(&rt, &rt, &WRONG_LINES)
 }
