@@ -1,4 +1,4 @@
-ghost use Rattle.std.specs.Prelude.{◌≡◌, ◌==◌, ◌+◌, ◌≤◌, ◌⊎◌, ℕ, IfOk, IfErr, IfSome, IsErrOf, List, map, not};
+ghost use Rattle.std.specs.Prelude.{◌≡◌, ◌==◌, ◌+◌, ◌≤◌, ◌⊎◌, ℕ, [], IfOk, IfErr, IfSome, IsErrOf, List, map, not};
 ghost use Rattle.gm_host.specs.Count.{counted, Rises};
 ghost use Rattle.gm_model.specs.Rules.{rule_of};
 ghost use Rattle.gm_tool.specs.Answer.{TheMap, TheBook, TheScript};
@@ -131,7 +131,8 @@ fn printed<L: Ledger>(
     arena: &Arena,
     steps: &mut Steps<L>,
 ) -> Result<Made, Stop>
-    requires { CanBePrinted book.now.schema (map rule_of book.now.rules) script.now.lines report.now.lines }
+    requires bare { arena.now.schema.embeds ≡ [] }
+    requires printable { CanBePrinted book.now.schema (map rule_of book.now.rules) script.now.lines report.now.lines }
     ensures lawful { IsLawful arena.now }
     ensures texts { IsPrinted (run_status (map outcome_of report.now.lines))
         (report_text book.now.schema (map rule_of book.now.rules) script.now.lines (map outcome_of report.now.lines) report.now.darts report.now.next)

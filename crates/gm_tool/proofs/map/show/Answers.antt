@@ -16,7 +16,7 @@ pub returns-clause-judged : goal.returns-clause-judged
 returns-clause-judged g c =
     let output : IsOutput c.args.bytes.now Show 0 (canonical c.in-Ok.arena.schema.dim (rows_of c.in-Ok.arena)) = Shown c.in-Ok.arena.schema.dim (rows_of c.in-Ok.arena) c.in-Ok.ensures.map in
     output_judged c.args.bytes.now Show 0 c.in_ok-text.text.items c.reply_within_limit.result
-    (subst (λ (t : List ℕ). IsOutput c.args.bytes.now Show 0 t) (sym c.in_ok-text.ensures.text) output) c.reply_within_limit.ensures
+    (subst (λ (t : List ℕ). IsOutput c.args.bytes.now Show 0 t) (sym (c.in_ok-text.ensures.text c.in-Ok.ensures.no_embeds)) output) c.reply_within_limit.ensures
 
 pub returns-in-Err-OutOfMemory-clause-most : goal.returns-in-Err-OutOfMemory-clause-most
 returns-in-Err-OutOfMemory-clause-most g c = reads_shown c.args.bytes.now _ _ c.read_map.ensures.most

@@ -1,4 +1,4 @@
-use Rattle.std.proofs.Common.{map}
+use Rattle.std.proofs.Common.{map, ap, ◌∙◌}
 use Rattle.gm_run.specs.Lines.{outcome_of}
 use Rattle.gm_tool.proofs.Lines.{plans_fit, lines_fit, printable, run_made, map_made}
 use Rattle.gm_tool.proofs.StepBounds.{unprinted_within, printed_within, printed_least, if_done}
@@ -10,8 +10,11 @@ run-requires-clause-plans g c = plans_fit c.args.arena.now c.args.book.now c.arg
 pub run-requires-clause-lines : goal.run-requires-clause-lines
 run-requires-clause-lines g c = lines_fit c.args.arena.now c.args.book.now c.args.script.now c.args.plans.now c.requires
 
-pub printed-requires : goal.printed-requires
-printed-requires g c = printable c.args.arena.now c.args.book.now c.args.script.now c.args.plans.now c.requires c.in_ok-report.report.lines c.in_ok-report.ensures.printable
+pub printed-requires-clause-bare : goal.printed-requires-clause-bare
+printed-requires-clause-bare g c = ap (λ s. s.embeds) c.run.ensures.schema ∙ c.requires.bare
+
+pub printed-requires-clause-printable : goal.printed-requires-clause-printable
+printed-requires-clause-printable g c = printable c.args.arena.now c.args.book.now c.args.script.now c.args.plans.now c.requires c.in_ok-report.report.lines c.in_ok-report.ensures.printable
 
 pub returns-clause-run : goal.returns-clause-run
 returns-clause-run g c =
