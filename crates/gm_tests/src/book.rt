@@ -47,7 +47,13 @@ fn is_printable(schema: &Schema, rule: &RuleTable) -> bool
     ensures numbers { IsTrue result → NamesItsNodes (rule_of rule.now) }
     ensures plain { IsTrue result → IsPlain (rule_of rule.now) }
 {
-    rule.params.as_slice().is_empty() && is_fit(schema, rule)
+    has_no_params(rule) && is_fit(schema, rule)
+}
+
+fn has_no_params(rule: &RuleTable) -> bool
+    ensures { IsTrue result → rule.now.params ≡ [] }
+{
+    rule.params.as_slice().is_empty()
 }
 
 fn book(rt: &impl Abort, alloc: Global) -> Result<Book, Fail>
