@@ -2,7 +2,7 @@ use Rattle.std.proofs.Common.{◌≡◌, length, subst, ap, arith}
 use Rattle.gm_model.specs.Rules.{rule_of}
 use Rattle.gm_plan.specs.Plans.{IsLeftCount}
 use Rattle.gm_pending.proofs.Created.{created}
-use Rattle.gm_tests_rules.proofs.pending.create.Goals as goal
+use Rattle.gm_tests_matches.proofs.pending.create.Goals as goal
 
 pub edits_of-requires-clause-matched : goal.edits_of-requires-clause-matched
 edits_of-requires-clause-matched g c =

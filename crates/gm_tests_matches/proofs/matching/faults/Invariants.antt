@@ -1,4 +1,4 @@
-use Rattle.gm_tests_rules.proofs.matching.faults.Given as goal
+use Rattle.gm_tests_matches.proofs.matching.faults.Given as goal
 
 -- the ledger that the blank begins
 abbrev pub ghosts-all_misses : goal.ghosts-all_misses

@@ -1,7 +1,7 @@
 use Rattle.std.proofs.Common.{sym, ◌∙◌}
 use Rattle.gm_model.specs.Rules.{rule_of}
 use Rattle.gm_match.proofs.Stepping.{same_count}
-use Rattle.gm_tests_rules.proofs.matching.matched.Goals as goal
+use Rattle.gm_tests_matches.proofs.matching.matched.Goals as goal
 
 pub listed-requires-clause-nodes : goal.listed-requires-clause-nodes
 listed-requires-clause-nodes g c = same_count (rule_of c.in_ok-plan.plan.table) _ _ c.left_nodes-nodes.ensures.left c.in-Ok.ensures.answer.matched.nodes

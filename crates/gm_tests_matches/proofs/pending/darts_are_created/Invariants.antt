@@ -1,4 +1,4 @@
-use Rattle.gm_tests_rules.proofs.pending.darts_are_created.Given as goal
+use Rattle.gm_tests_matches.proofs.pending.darts_are_created.Given as goal
 
 -- the ledger that the blank begins
 abbrev pub ghosts-create_twice : goal.ghosts-create_twice

@@ -1,4 +1,4 @@
-use Rattle.gm_tests_rules.proofs.applying.squares_are_triangulated_and_dropped.Given as goal
+use Rattle.gm_tests_matches.proofs.applying.edges_are_split_and_made.Given as goal
 
 -- the ledger that the blank begins
 abbrev pub ghosts-follow_each : goal.ghosts-follow_each

@@ -37,14 +37,14 @@ impl Row<'_> {
 }
 
 /// The edits of the rule. Its new darts have these neighbours before anything is written.
-fn edits_of<L: Ledger>(
+fn edits_of<'a, L: Ledger>(
     rt: &impl Abort,
-    plan: &Plan<'_>,
+    plan: &'a Plan<'a>,
     arena: &Arena,
-    found: &Instances,
+    found: &'a Instances,
     row: &Row,
     steps: &mut Steps<L>,
-) -> Result<Edits, Fail>
+) -> Result<Edits<'a>, Fail>
     requires schema { arena.now.schema ≡ plan.now.schema }
     requires no_embeds { plan.now.schema.embeds ≡ [] }
     requires generalised { IsGeneralised (as_map arena.now) }

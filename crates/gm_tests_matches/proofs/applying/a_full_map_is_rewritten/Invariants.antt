@@ -1,4 +1,4 @@
-use Rattle.gm_tests_rules.proofs.applying.a_full_map_is_rewritten.Given as goal
+use Rattle.gm_tests_matches.proofs.applying.a_full_map_is_rewritten.Given as goal
 
 -- the ledger that the blank begins
 abbrev pub ghosts-meet_each : goal.ghosts-meet_each
