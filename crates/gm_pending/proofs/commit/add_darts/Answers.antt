@@ -1,7 +1,13 @@
-use Rattle.std.proofs.Common.{◌≡◌, ◌+◌, ◌<◌, length, refl, ap, arith}
+use Rattle.std.proofs.Common.{◌≡◌, ◌+◌, ◌<◌, [], length, refl, ap, arith}
 use Rattle.std.proofs.lemmas.List.{length_push}
+use Rattle.gm_model.specs.declared.schema.Schema.{Schema}
+use Rattle.gm_arena.specs.Lawful.{AreGoodValues}
 use Rattle.gm_pending.proofs.Extended.{none_extended, next_is_new, extended_more}
 use Rattle.gm_pending.proofs.commit.add_darts.Goals as goal
+
+-- where there are no embeddings, no values are asked for
+no_values : (schema : Schema) → schema.embeds ≡ [] → AreGoodValues schema []
+no_values schema none = record { kinds = rw none refl; ranges = λ k d within. absurd (let b : k < 0 = within in omega arith) }
 
 pub loop-init : goal.loop-init
 loop-init g c = record {
@@ -21,7 +27,7 @@ pub add-requires-clause-new_name : goal.add-requires-clause-new_name
 add-requires-clause-new_name g c = rw c.next.ensures.next (next_is_new c.loop.arena c.next.ensures.lawful)
 
 pub add-requires-clause-values : goal.add-requires-clause-values
-add-requires-clause-values g c = rw (c.loop.invariant.extended.schema, c.requires.embeds) refl
+add-requires-clause-values g c = no_values c.loop.arena.schema (rw c.loop.invariant.extended.schema c.requires.embeds)
 
 pub loop-preserved : goal.loop-preserved
 loop-preserved g c =
