@@ -62,7 +62,7 @@ module _ (m : ArenaMap) (lawful : IsLawful m) (bare : m.schema.embeds ≡ []) wh
   value_of : (e d : ℕ) (o : Option Dart) → get m.darts d ≡ o → option_map_or (λ (dart : Dart). get_or dart.values e (Int (pos 0))) o (Int (pos 0)) ≡ Int (pos 0)
   value_of e d None is = refl
   value_of e d (Some dart) is =
-      let kinds : map kind_of dart.values ≡ [] = (lawful.dart d dart is).valued ∙ ap (map (λ (embed : Embed). embed.kind)) bare in
+      let kinds : map kind_of dart.values ≡ [] = (lawful.dart d dart is).valued.kinds ∙ ap (map (λ (embed : Embed). embed.kind)) bare in
       ap (λ vs. get_or vs e (Int (pos 0))) (no_values dart.values kinds)
 
   pub as_rows : as_map m ≡ map_of m.schema.dim (rows_of m) m.next
