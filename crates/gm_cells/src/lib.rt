@@ -1,0 +1,24 @@
+//! How many cells a map has, and whether it can be oriented, with a certificate.
+//!
+//! The cells are counted by orbit walks. A map can be oriented where its darts have two colours that
+//! differ between neighbours; where they have none, a closed walk of odd length shows it.
+#![tactic(auto)]
+
+mod colouring;
+mod counts;
+mod free;
+mod laws;
+mod odd_walk;
+mod orbits;
+mod orientation;
+mod printing;
+mod search;
+mod words;
+
+pub use colouring::orient;
+pub use counts::{Counts, count};
+pub use laws::{
+    never_two_colours_and_an_odd_walk, one_orientation_at_most, two_colours_or_an_odd_walk,
+};
+pub use orientation::Orientation;
+pub use printing::print_cells;

@@ -1,0 +1,111 @@
+//! The text of the command that counts cells and orients a map.
+
+ghost use Rattle.std.specs.Prelude.{◌≡◌, ◌++◌, IfOk, OnOk, decimal, codes};
+ghost use Rattle.gm_cells.specs.CellsText.{numbered, listed, counts_text, orientation_text};
+
+use crate::counts::Counts;
+use crate::orientation::Orientation;
+use gm_model::OutOfMemory;
+use gm_text::Text;
+use std::alloc::Global;
+
+/// The lines of the numbers, and those of the orientation.
+pub fn print_cells(
+    alloc: Global,
+    counts: &Counts,
+    orientation: &Orientation,
+) -> Result<Vec<u8>, OutOfMemory>
+    ensures { IfOk result (λ text. text.items ≡ counts_text counts.now ++ orientation_text orientation.now) }
+{
+    let mut text = Text::new(alloc);
+    put_counts(&mut text, counts)?;
+    put_orientation(&mut text, orientation)?;
+    Ok(text.into_bytes())
+}
+
+fn put_counts(text: &mut Text, counts: &Counts) -> Result<(), OutOfMemory>
+    ensures { OnOk result (text.new ≡ text.old ++ counts_text counts.now) }
+{
+    put_number_line(text, b"darts ", counts.darts)?;
+    put_numbered(text, b"cells ", counts.cells.as_slice())?;
+    put_number_line(text, b"components ", counts.components)?;
+    put_numbered(text, b"free ", counts.free.as_slice())
+}
+
+fn put_orientation(text: &mut Text, orientation: &Orientation) -> Result<(), OutOfMemory>
+    ensures { OnOk result (text.new ≡ text.old ++ orientation_text orientation.now) }
+{
+    match orientation {
+        Orientation::Two { first } => put_first(text, first.as_slice()),
+        Orientation::Odd { start, labels } => put_odd(text, *start, labels.as_slice()),
+    }
+}
+
+/// The lines of a map that can be oriented, with the darts of the first colour.
+fn put_first(text: &mut Text, first: &[u32]) -> Result<(), OutOfMemory>
+    ensures { OnOk result (text.new ≡ text.old ++ (codes "orientable yes\nfirst" ++ (listed first.now ++ codes "\n"))) }
+{
+    text.put(b"orientable yes\nfirst")?;
+    put_darts(text, first)?;
+    text.put(b"\n")
+}
+
+/// The lines of a map that can't be, with an odd walk.
+fn put_odd(text: &mut Text, start: u32, labels: &[u8]) -> Result<(), OutOfMemory>
+    ensures { OnOk result (text.new ≡ text.old ++ (codes "orientable no\nodd " ++ (decimal start ++ (codes " labels" ++ (listed labels.now ++ codes "\n"))))) }
+{
+    text.put(b"orientable no\nodd ")?;
+    text.number(u64::from(start))?;
+    put_walk(text, labels)
+}
+
+fn put_walk(text: &mut Text, labels: &[u8]) -> Result<(), OutOfMemory>
+    ensures { OnOk result (text.new ≡ text.old ++ (codes " labels" ++ (listed labels.now ++ codes "\n"))) }
+{
+    text.put(b" labels")?;
+    put_labels(text, labels)?;
+    text.put(b"\n")
+}
+
+/// A line of words and a number.
+fn put_number_line(text: &mut Text, words: &[u8], number: u32) -> Result<(), OutOfMemory>
+    ensures { OnOk result (text.new ≡ text.old ++ (words.now ++ (decimal number ++ codes "\n"))) }
+{
+    text.put(words)?;
+    text.number(u64::from(number))?;
+    text.put(b"\n")
+}
+
+/// A line of words, a label and its number, for each label.
+fn put_numbered(text: &mut Text, words: &[u8], numbers: &[u32]) -> Result<(), OutOfMemory>
+    ensures { OnOk result (text.new ≡ text.old ++ numbered words.now 0 numbers.now) }
+{
+    for (label, number) in numbers.iter().enumerate() {
+        text.put(words)?;
+        text.number(label as u64)?;
+        put_number_line(text, b" ", *number)?;
+    }
+    Ok(())
+}
+
+/// The darts, one space before each.
+fn put_darts(text: &mut Text, darts: &[u32]) -> Result<(), OutOfMemory>
+    ensures { OnOk result (text.new ≡ text.old ++ listed darts.now) }
+{
+    for dart in darts {
+        text.put(b" ")?;
+        text.number(u64::from(*dart))?;
+    }
+    Ok(())
+}
+
+/// The labels, one space before each.
+fn put_labels(text: &mut Text, labels: &[u8]) -> Result<(), OutOfMemory>
+    ensures { OnOk result (text.new ≡ text.old ++ listed labels.now) }
+{
+    for label in labels {
+        text.put(b" ")?;
+        text.number(u64::from(*label))?;
+    }
+    Ok(())
+}
