@@ -172,7 +172,52 @@ fn maps_shown_and_refused(rt: HostRuntime) -> Result<(), Fail> {
     expect_each(&rt, &rt, &["show MAP"], &MAPS)
 }
 
-const NO_COMMANDS: [&str; 12] = [
+/// The square alone, and with two opposite edges glued to a band that turns over; maps without darts; an
+/// edge beside a face that is glued to itself; and texts of no map.
+const CELLS: [Case; 7] = [
+    Case {
+        text: SQUARE,
+        status: 0,
+        put: "darts 8\ncells 0 4\ncells 1 4\ncells 2 1\ncomponents 1\nfree 0 0\nfree 1 0\nfree 2 8\norientable yes\nfirst 0 2 4 6\n",
+    },
+    Case {
+        text: "gmap 1 dim 2 darts 8 0 1 7 0 1 0 2 1 2 3 1 6 3 2 4 7 4 5 3 4 5 4 6 5 6 7 5 2 7 6 0 3",
+        status: 0,
+        put: "darts 8\ncells 0 2\ncells 1 3\ncells 2 1\ncomponents 1\nfree 0 0\nfree 1 0\nfree 2 4\norientable no\nodd 0 labels 0 1 0 2 1\n",
+    },
+    Case {
+        text: "gmap 1 dim 1 darts 0",
+        status: 0,
+        put: "darts 0\ncells 0 0\ncells 1 0\ncomponents 0\nfree 0 0\nfree 1 0\norientable yes\nfirst\n",
+    },
+    Case {
+        text: EMPTY,
+        status: 0,
+        put: "darts 0\ncells 0 0\ncells 1 0\ncells 2 0\ncomponents 0\nfree 0 0\nfree 1 0\nfree 2 0\norientable yes\nfirst\n",
+    },
+    Case {
+        text: "gmap 1 dim 2 darts 6 0 1 0 0 1 0 1 1 2 3 5 4 3 2 4 5 4 5 3 2 5 4 2 3",
+        status: 0,
+        put: "darts 6\ncells 0 3\ncells 1 2\ncells 2 2\ncomponents 2\nfree 0 0\nfree 1 2\nfree 2 2\norientable no\nodd 2 labels 0 1 2\n",
+    },
+    Case {
+        text: "gmap 1 dim 2 darts 2 0 1 0 0 1 1 1 1",
+        status: 4,
+        put: "refused MAP involution dart 0 label 0\n",
+    },
+    Case {
+        text: "",
+        status: 4,
+        put: "refused MAP text 0\n",
+    },
+];
+
+#[test]
+fn cells_counted_and_maps_oriented(rt: HostRuntime) -> Result<(), Fail> {
+    expect_each(&rt, &rt, &["cells MAP"], &CELLS)
+}
+
+const NO_COMMANDS: [&str; 15] = [
     "",
     "show",
     "show MAP MAP",
@@ -184,6 +229,9 @@ const NO_COMMANDS: [&str; 12] = [
     "check",
     "check MAP BOOK",
     "checks BOOK",
+    "cells",
+    "cells MAP MAP",
+    "cell MAP",
     "--help",
 ];
 
@@ -524,13 +572,14 @@ struct Fault<'a> {
     load_fails: bool,
     put_keeps: Option<usize>,
     status: u8,
-    puts: [&'a str; 3],
+    puts: [&'a str; 4],
 }
 
-const COMMANDS: [(&str, &str); 3] = [
+const COMMANDS: [(&str, &str); 4] = [
     ("show FILE", SQUARE),
     ("book FILE", DROP),
     ("check FILE", DROP),
+    ("cells FILE", SQUARE),
 ];
 
 const FAULTS: [Fault; 5] = [
@@ -543,6 +592,7 @@ const FAULTS: [Fault; 5] = [
             "refused load MAP\n",
             "refused load BOOK\n",
             "refused load BOOK\n",
+            "refused load MAP\n",
         ],
     },
     Fault {
@@ -554,6 +604,7 @@ const FAULTS: [Fault; 5] = [
             "refused load MAP\n",
             "refused load BOOK\n",
             "refused load BOOK\n",
+            "refused load MAP\n",
         ],
     },
     Fault {
@@ -561,21 +612,21 @@ const FAULTS: [Fault; 5] = [
         load_fails: true,
         put_keeps: Some(9),
         status: 6,
-        puts: ["refused l", "refused l", "refused l"],
+        puts: ["refused l", "refused l", "refused l", "refused l"],
     },
     Fault {
         held: true,
         load_fails: false,
         put_keeps: Some(0),
         status: 6,
-        puts: ["", "", ""],
+        puts: ["", "", "", ""],
     },
     Fault {
         held: true,
         load_fails: false,
         put_keeps: Some(5),
         status: 6,
-        puts: ["gmap ", "book ", "rule "],
+        puts: ["gmap ", "book ", "rule ", "darts"],
     },
 ];
 

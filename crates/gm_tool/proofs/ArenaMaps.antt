@@ -20,7 +20,8 @@ use Rattle.gm_mapfile.specs.Rows.{rows_of, row_at, IsNextLeast}
 use Rattle.gm_mapfile.proofs.Again.{AreInLimits, IsSmall, lawful_printed}
 use Rattle.gm_mapfile.proofs.HeldRows.{row_with, row_of_held, held_ascending}
 use Rattle.gm_mapfile.proofs.Printed.{nobody, length_rows, row_at_place}
-use Rattle.gm_tool.specs.RunAnswer.{map_of, IsNextOf}
+use Rattle.gm_tool.specs.Answer.{Cells, Counted, IsOutput, TellsCells}
+use Rattle.gm_tool.specs.MapOfRows.{map_of, IsNextOf}
 
 -- ---- look-ups
 
@@ -122,3 +123,7 @@ module _ (m : ArenaMap) (lawful : IsLawful m) where
   -- the canonical text of a generalised map stands for it
   pub text_of_arena : IsGeneralised (as_map m) → MapText (canonical m.schema.dim (rows_of m)) m.schema.dim (rows_of m)
   text_of_arena h = lawful_printed m.schema.dim (rows_of m) rows_shaped in_limits (held_ascending m) (rows_lawful h)
+
+-- what is told of the map in an arena is put for the bytes that it was read of
+pub cells_told : (bytes text : List ℕ) (m : ArenaMap) → IsLawful m → m.schema.embeds ≡ [] → MapText bytes m.schema.dim (rows_of m) → IsNextLeast m → TellsCells (as_map m) text → IsOutput bytes Cells 0 text
+cells_told bytes text m lawful bare stands next tells = Counted m.schema.dim (rows_of m) m.next text stands (next_of m next) (subst (λ map. TellsCells map text) (as_rows m lawful bare) tells)

@@ -5,7 +5,7 @@ use Rattle.std.specs.Prelude.{IfSome, IfOk, IsErrOf, codes, ◌==◌, if◌then�
 use Rattle.gm_host.specs.Store.{Contents, Lacks, IsCutFrom, IsCutFromHeld, IsLongerThan, OnAbsent, OnFailed, IfTooLong}
 use Rattle.gm_host.specs.declared.fault.LoadFault.{LoadFault}
 use Rattle.gm_host.specs.declared.fault.LoadFault.TheVariants as faults
-use Rattle.gm_tool.specs.Answer.{most_bytes, Answer, answers, Files, IsFileAnswer, Asks, IsOutput, role_of, NoFile, LongFile, BadFile, LongOutput, Done, Shown, Printed, Checked}
+use Rattle.gm_tool.specs.Answer.{most_bytes, Answer, answers, Files, IsFileAnswer, Asks, IsOutput, role_of, NoFile, LongFile, BadFile, LongOutput, Done, Shown, Printed, Checked, Counted}
 use Rattle.gm_tool.specs.Endings.{IsEnding, Whole, LoadFailed, SaveFailed, IsStored, IsTextOf}
 use Rattle.gm_tool.specs.MadeRuns.{IsRunText, IsSoundReply, HasCause, LacksInput, HoldsMap, IsRunStatus}
 use Rattle.gm_tool.specs.Program.{IsCommand, IsRunCommand, Usage, OfFile, OfRun}
@@ -113,6 +113,7 @@ output_status : (bytes : List ℕ) (command : answer.Command) (status : ℕ) (te
 output_status bytes command status text (Shown n darts h) = inl refl
 output_status bytes command status text (Printed schema rules h) = inl refl
 output_status bytes command status text (Checked schema rules refused lines h is) = checked_status refused
+output_status bytes command status text (Counted n darts next _ h first is) = inl refl
 
 -- the statuses of what is judged
 pub judged_status : (bytes : List ℕ) (command : answer.Command) (reply : Result Reply NoText) → IsJudged bytes command reply → IfOk reply (λ r. IsReplyStatus r.status)
@@ -145,6 +146,7 @@ output_refuses : (bytes : List ℕ) (command : answer.Command) (status : ℕ) (t
 output_refuses bytes command status text (Shown n darts h) one = absurd cc
 output_refuses bytes command status text (Printed schema rules h) one = absurd cc
 output_refuses bytes command status text (Checked schema rules refused lines h is) one = refl
+output_refuses bytes command status text (Counted n darts next _ h first is) one = absurd cc
 
 -- only a check answers that a rule is refused
 pub judged_refuses : (bytes : List ℕ) (command : answer.Command) (reply : Result Reply NoText) → IsJudged bytes command reply → IfOk reply (λ r. r.status ≡ 1 → command ≡ answer.Check)

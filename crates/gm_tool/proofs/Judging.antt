@@ -52,9 +52,12 @@ refused_judged bytes command why (Ok reply) bad is = inr (is.0, (why, bad, is.1)
 refused_judged bytes command why (Err nothing.OutOfMemory) bad is = tt
 refused_judged bytes command why (Err (nothing.Refused other)) bad is = absurd cc
 
-pub map_judged : (bytes : List ℕ) (fault : MapFault) (reply : Result Reply NoText) → map_faults.IsFaultOf bytes fault → IsSaidOfMap fault
-    → IsRefusal (refusal (codes "MAP" ++ codes " " ++ map_words fault)) reply → IsJudged bytes answer.Show reply
-map_judged bytes fault reply h said is = refused_judged bytes answer.Show (map_words fault) reply (map_is_bad bytes fault h said) is
+-- whichever command reads the map
+pub map_judged : (bytes : List ℕ) (command : answer.Command) (fault : MapFault) (reply : Result Reply NoText) → TheMap ≡ role_of command → map_faults.IsFaultOf bytes fault → IsSaidOfMap fault
+    → IsRefusal (refusal (codes "MAP" ++ codes " " ++ map_words fault)) reply → IsJudged bytes command reply
+map_judged bytes command fault reply of h said is =
+    refused_judged bytes command (map_words fault) reply (subst (λ (r : answer.Role). IsBad bytes r (map_words fault)) of (map_is_bad bytes fault h said))
+    (subst (λ (r : answer.Role). IsRefusal (refusal (answer.role_word r ++ codes " " ++ map_words fault)) reply) of is)
 
 book_is_bad : (bytes : List ℕ) (fault : BookFault) → book_faults.IsFaultOf bytes fault → IsSaidOfBook fault → IsBad bytes TheBook (book_words fault)
 book_is_bad bytes (book.Text place) h said = BadBook _ (AtEnds place h)

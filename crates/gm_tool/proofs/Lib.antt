@@ -16,6 +16,7 @@ mod StepWords
 mod Putting
 mod OneText
 mod OneVerdict
+mod OneCells
 mod OneBad
 mod OneFile
 mod SameRows

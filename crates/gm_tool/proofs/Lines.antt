@@ -28,7 +28,8 @@ use Rattle.gm_run.specs.Progress.{IsPlanFor, ArePlansFor, Agrees, rules_of}
 use Rattle.gm_tool.specs.MadeRuns.{CanRun, inputs_of, IsFitted, IsPrinted, IsRunOf, IsMapBytes, IsRunStatus}
 use Rattle.gm_tool.specs.Stops.{IsSoundStop}
 use Rattle.gm_tool.specs.declared.refusal.Refusal.TheVariants as refusals
-use Rattle.gm_tool.specs.RunAnswer.{Inputs, Ran, IsRan, map_of, report_of, saved_of, run_status}
+use Rattle.gm_tool.specs.MapOfRows.{map_of}
+use Rattle.gm_tool.specs.RunAnswer.{Inputs, Ran, IsRan, report_of, saved_of, run_status}
 use Rattle.gm_tool.specs.declared.refusal.NoText.TheVariants as nothing
 use Rattle.gm_tool.specs.declared.refusal.Stop.{Stop}
 use Rattle.gm_tool.specs.declared.refusal.Stop.TheVariants as stops

@@ -1,16 +1,15 @@
 -- A run loads no file behind the first that fails.
-use Rattle.std.proofs.Common.{◌≡◌, ◌⊎◌, ℕ, List, [], inl, inr, Some, None, Result, Ok, Err, map, All, ap, sym, subst}
+use Rattle.std.proofs.Common.{◌≡◌, ℕ, List, [], inl, inr, Some, None, Result, Ok, Err, map, All, ap, subst}
 use Rattle.std.specs.Prelude.{IfSome, IfOk}
 use Rattle.gm_host.specs.Store.{Contents}
 use Rattle.gm_arena.specs.ArenaMap.{ArenaMap}
 use Rattle.gm_model.specs.declared.rule.Book.{Book}
-use Rattle.gm_model.specs.declared.schema.Schema.{Schema}
 use Rattle.gm_model.specs.Acceptance.{IsAccepted}
-use Rattle.gm_model.specs.Rules.{Rule, rule_of}
+use Rattle.gm_model.specs.Rules.{rule_of}
 use Rattle.gm_tool.specs.Answer.{Files, answers, Role, TheMap, TheBook, HasFile}
 use Rattle.gm_tool.specs.Loads.{loads_after, FailsHere, StopsInTime, CountsLoads, UnlessNoMemory, UnlessNoMemoryToMake, BehindMap, BehindBook, BehindScript}
 use Rattle.gm_tool.specs.Refusals.{refusal_answer}
-use Rattle.gm_tool.specs.RunAnswer.{RunNames, AsksRun, Inputs, HasMap, IsBadMap, IsBadBook, IsFirstRefused, RuleRefused, Bad}
+use Rattle.gm_tool.specs.RunAnswer.{RunNames, AsksRun, IsBadMap, IsBadBook, IsFirstRefused, RuleRefused, Bad}
 use Rattle.gm_tool.specs.Stops.{IsBadFor, IsRoleStop, IsReadMap, IsReadBook, IsFrom}
 use Rattle.gm_tool.specs.declared.refusal.NoText.{NoText}
 use Rattle.gm_tool.specs.declared.refusal.NoText.TheVariants as nothing

@@ -1,7 +1,7 @@
 -- The definition of the program's answer gives one answer at most to the words and the files.
 use Rattle.std.proofs.Common.{◌≡◌, ℕ, true, false, List, [], ◌∷◌, inl, inr, refl, sym, ap, subst, ◌∙◌, codes}
 use Rattle.std.specs.Str.{bytes_eq}
-use Rattle.gm_tool.specs.Answer.{Files, Answer, Command, Show, Book, Check, command_word, Asks, IsFileAnswer}
+use Rattle.gm_tool.specs.Answer.{Files, Answer, Command, Show, Book, Check, Cells, command_word, Asks, IsFileAnswer}
 use Rattle.gm_tool.specs.Program.{IsAnswer, Usage, OfFile, OfRun}
 use Rattle.gm_tool.specs.RunAnswer.{IsRunAnswer}
 use Rattle.gm_tool.proofs.Asking.{file_is_no_run, same_named}
@@ -17,12 +17,19 @@ one_word : (command other : Command) → command_word command ≡ command_word o
 one_word Show Show e = refl
 one_word Show Book e = absurd (differ (codes "show") (codes "book") refl refl e)
 one_word Show Check e = absurd (differ (codes "show") (codes "check") refl refl e)
+one_word Show Cells e = absurd (differ (codes "show") (codes "cells") refl refl e)
 one_word Book Show e = absurd (differ (codes "book") (codes "show") refl refl e)
 one_word Book Book e = refl
 one_word Book Check e = absurd (differ (codes "book") (codes "check") refl refl e)
+one_word Book Cells e = absurd (differ (codes "book") (codes "cells") refl refl e)
 one_word Check Show e = absurd (differ (codes "check") (codes "show") refl refl e)
 one_word Check Book e = absurd (differ (codes "check") (codes "book") refl refl e)
 one_word Check Check e = refl
+one_word Check Cells e = absurd (differ (codes "check") (codes "cells") refl refl e)
+one_word Cells Show e = absurd (differ (codes "cells") (codes "show") refl refl e)
+one_word Cells Book e = absurd (differ (codes "cells") (codes "book") refl refl e)
+one_word Cells Check e = absurd (differ (codes "cells") (codes "check") refl refl e)
+one_word Cells Cells e = refl
 
 pub asked_once : (words : List (List ℕ)) (command other : Command) (name named : List ℕ) → Asks words command name → Asks words other named → (command ≡ other) × (name ≡ named)
 asked_once words command other name named a b =

@@ -6,7 +6,7 @@ use Rattle.gm_model.specs.declared.script.Line.{Line}
 use Rattle.gm_model.specs.Acceptance.{IsAccepted}
 use Rattle.gm_book.specs.BookText.{BookText}
 use Rattle.gm_book.specs.BookText as books
-use Rattle.gm_model.specs.GMap.{Row}
+use Rattle.gm_model.specs.GMap.{Row, AreGMap}
 use Rattle.gm_mapfile.specs.MapFaults.{fault_words}
 use Rattle.gm_mapfile.specs.MapText.{MapText, canonical}
 use Rattle.gm_model.specs.Rules.{Rule}
@@ -14,11 +14,14 @@ use Rattle.gm_book.proofs.OneBook.{one_book}
 use Rattle.gm_mapfile.proofs.OneFault.{one_fault, no_map_at_fault}
 use Rattle.gm_mapfile.proofs.OneMap.{one_map}
 use Rattle.gm_script.specs.ScriptText.{ScriptText}
-use Rattle.gm_tool.specs.Answer.{Role, TheMap, TheBook, Command, role_of, IsBad, BadMap, BadBook, IsOutput, Shown, Printed, Checked}
+use Rattle.gm_tool.specs.Answer.{Role, TheMap, TheBook, Command, role_of, IsBad, BadMap, BadBook, IsOutput, TellsCells, Shown, Printed, Checked, Counted}
 use Rattle.gm_tool.specs.BookFaults.{book_fault_words}
 use Rattle.gm_tool.specs.Checking.{AreLines, check_status, counts_line}
+use Rattle.gm_tool.specs.MapOfRows.{map_of, IsNextOf}
 use Rattle.gm_tool.specs.RunAnswer.{IsFirstRefused, IsBadBook, Unread, RuleRefused, IsBadScript}
 use Rattle.gm_tool.specs.ScriptFaults.{script_fault_words}
+use Rattle.gm_tool.proofs.OneCells.{one_telling}
+use Rattle.gm_tool.proofs.OneRan.{one_next}
 use Rattle.gm_tool.proofs.OneText.{one_book_fault, no_book_at, one_script_fault, no_script_at}
 use Rattle.gm_tool.proofs.OneVerdict.{one_lines, one_refused, none_refused}
 
@@ -38,6 +41,7 @@ pub no_bad_output : (bytes why : List ℕ) (command : Command) (status : ℕ) (t
 no_bad_output bytes why _ _ _ bad (Shown n darts stands) = no_bad_map bytes why n darts bad stands
 no_bad_output bytes why _ _ _ bad (Printed schema rules stands) = no_bad_book bytes why schema rules bad stands
 no_bad_output bytes why _ _ _ bad (Checked schema rules refused lines stands are) = no_bad_book bytes why schema rules bad stands
+no_bad_output bytes why _ _ _ bad (Counted n darts next _ stands first tells) = no_bad_map bytes why n darts bad stands
 
 -- ---- and what it puts
 
@@ -50,12 +54,20 @@ same_check schema schema' rules rules' refused refused' lines lines' (schemas, b
       ap₂ (λ (t : List ℕ) (k : ℕ). t ++ counts_line (length rules) k) same.1 same.0 ∙ ap (λ (rs : List Rule). lines' ++ counts_line (length rs) refused') books,
     )
 
+same_cells : (n m : ℕ) (darts others : List Row) (next next' : ℕ) (text text' : List ℕ) → (n ≡ m) × (darts ≡ others) → AreGMap n darts → IsNextOf darts next → IsNextOf others next' → TellsCells (map_of n darts next) text → TellsCells (map_of m others next') text' → text ≡ text'
+same_cells n m darts others next next' text text' (dims, rows) lawful first first' tells tells' =
+    let first_too : IsNextOf darts next' = subst (λ ds. IsNextOf ds next') (sym rows) first' in
+    let there : TellsCells (map_of n darts next') text' = subst (λ k. TellsCells (map_of k darts next') text') (sym dims) (subst (λ ds. TellsCells (map_of m ds next') text') (sym rows) tells') in
+    let here : TellsCells (map_of n darts next) text' = subst (λ k. TellsCells (map_of n darts k) text') (one_next darts next' next first_too first) there in
+    one_telling (map_of n darts next) lawful text text' tells here
+
 pub one_output : (bytes : List ℕ) (command : Command) (status other : ℕ) (text others : List ℕ) → IsOutput bytes command status text → IsOutput bytes command other others → (status ≡ other) × (text ≡ others)
 one_output bytes _ _ _ _ _ (Shown n darts a) (Shown m others b) = let same = one_map bytes n m darts others a b in (refl, ap₂ (λ (k : ℕ) (rows : List Row). canonical k rows) same.0 same.1)
 one_output bytes _ _ _ _ _ (Printed schema rules a) (Printed schema' rules' b) =
     let same = one_book bytes schema schema' rules rules' a b in (refl, ap₂ (λ (s : Schema) (rs : List Rule). books.canonical s.dim rs) same.0 same.1)
 one_output bytes _ _ _ _ _ (Checked schema rules refused lines a are) (Checked schema' rules' refused' lines' b are') =
     same_check schema schema' rules rules' refused refused' lines lines' (one_book bytes schema schema' rules rules' a b) are are'
+one_output bytes _ _ _ _ _ (Counted n darts next text a first tells) (Counted m others next' text' b first' tells') = (refl, same_cells n m darts others next next' text text' (one_map bytes n m darts others a b) a.lawful first first' tells tells')
 
 -- ---- for a run
 

@@ -9,7 +9,8 @@ use Rattle.gm_book.proofs.Printable.{printable_from_text}
 use Rattle.gm_run.specs.Alike.{AreAlike}
 use Rattle.gm_run.proofs.AlikeLemmas.{alike_self}
 use Rattle.gm_run.proofs.OneRun.{HasNoPre, one_run}
-use Rattle.gm_tool.specs.RunAnswer.{Inputs, Ran, IsRan, IsNextOf, Agree, map_of}
+use Rattle.gm_tool.specs.MapOfRows.{IsNextOf, map_of}
+use Rattle.gm_tool.specs.RunAnswer.{Inputs, Ran, IsRan, Agree}
 use Rattle.gm_tool.proofs.SameRows.{HaveSame, same_rows}
 
 pub one_next : (darts : List Row) (first other : ℕ) → IsNextOf darts first → IsNextOf darts other → first ≡ other

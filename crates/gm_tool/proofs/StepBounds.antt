@@ -31,7 +31,8 @@ use Rattle.gm_run.specs.Progress.{rules_of}
 use Rattle.gm_theory.proofs.ValuesUnique.{one_count}
 use Rattle.gm_tool.specs.Answer.{Files, TheMap, TheBook, TheScript}
 use Rattle.gm_tool.specs.MadeRuns.{CanRun, inputs_of}
-use Rattle.gm_tool.specs.RunAnswer.{RunNames, Inputs, Ran, IsRan, IsNextOf, IsGoodRun, HasMap, HasBook, HasScript, map_of, IsBadMap, IsBadBook, IsBadScript}
+use Rattle.gm_tool.specs.MapOfRows.{IsNextOf, map_of}
+use Rattle.gm_tool.specs.RunAnswer.{RunNames, Inputs, Ran, IsRan, IsGoodRun, HasMap, HasBook, HasScript, IsBadMap, IsBadBook, IsBadScript}
 use Rattle.gm_tool.specs.StepBounds.{HasBudget, IsMost, MostOf, IsLeast, LeastOf, WithinMost, AtLeast, ReadsWithin, RunsWithin, RunsAtLeast, reading, printing}
 use Rattle.gm_tool.specs.Stops.{IsReadMap, IsReadBook, IsReadScript, IsFrom}
 use Rattle.gm_tool.proofs.ArenaMaps.{as_rows, next_of}

@@ -1,13 +1,20 @@
 -- What a command on one file answers: the status, and the text put.
 use Rattle.std.specs.Prelude.{◌≡◌, ℕ, ◌<◌, ◌≤◌, List, [], ◌∷◌, ◌++◌, length, Option, Some, None, codes}
+use Rattle.gm_cells.specs.declared.counts.Counts.{Counts}
+use Rattle.gm_cells.specs.declared.orientation.Orientation.{Orientation}
+use Rattle.gm_cells.specs.Cells.{AreCounts}
+use Rattle.gm_cells.specs.CellsText.{counts_text, orientation_text}
+use Rattle.gm_cells.specs.Colours.{IsOrientation}
 use Rattle.gm_model.specs.declared.schema.Schema.{Schema}
 use Rattle.gm_book.specs.BookText.{BookText}
 use Rattle.gm_book.specs.BookText as books
 use Rattle.gm_model.specs.GMap.{Row}
+use Rattle.gm_model.specs.Maps.{Map}
 use Rattle.gm_mapfile.specs.MapText.{MapText, canonical}
 use Rattle.gm_mapfile.specs.MapFaults.{TextFault, IsFirstFault, fault_words}
 use Rattle.gm_model.specs.Rules.{Rule}
 use Rattle.gm_tool.specs.BookFaults.{BookTextFault, IsFirstBookFault, book_fault_words}
+use Rattle.gm_tool.specs.MapOfRows.{map_of, IsNextOf}
 use Rattle.gm_tool.specs.Checking.{AreLines, counts_line, check_status}
 
 -- the most bytes of a file that is read or of a text that is put
@@ -50,17 +57,20 @@ pub data Command : Type 0 where
   Show : Command
   Book : Command
   Check : Command
+  Cells : Command
 
 abbrev pub command_word : Command → List ℕ
 command_word Show = codes "show"
 command_word Book = codes "book"
 command_word Check = codes "check"
+command_word Cells = codes "cells"
 
 -- the one file that a command reads
 abbrev pub role_of : Command → Role
 role_of Show = TheMap
 role_of Book = TheBook
 role_of Check = TheBook
+role_of Cells = TheMap
 
 -- the words are this command on this file
 abbrev pub Asks : List (List ℕ) → Command → List ℕ → Type 0
@@ -73,6 +83,14 @@ pub data IsBad (bytes : List ℕ) : Role → List ℕ → Type 0 where
   BadMap : (fault : TextFault) → IsFirstFault bytes fault → IsBad bytes TheMap (fault_words fault)
   BadBook : (fault : BookTextFault) → IsFirstBookFault bytes fault → IsBad bytes TheBook (book_fault_words fault)
 
+-- the text is that of the map's numbers of cells, and of its orientation
+pub record TellsCells (map : Map) (text : List ℕ) : Type 0 where
+  pub counts : Counts
+  pub counts_are : AreCounts map counts
+  pub orientation : Orientation
+  pub orientation_is : IsOrientation map orientation
+  pub is : text ≡ counts_text counts ++ orientation_text orientation
+
 -- the command on these bytes has this status and puts this text, however long
 pub data IsOutput (bytes : List ℕ) : Command → ℕ → List ℕ → Type 0 where
   -- the canonical text of the map
@@ -82,6 +100,8 @@ pub data IsOutput (bytes : List ℕ) : Command → ℕ → List ℕ → Type 0 w
   -- a line for each rule of the book, and a last one that counts
   Checked : (schema : Schema) (rules : List Rule) (refused : ℕ) (lines : List ℕ) → BookText bytes schema rules → AreLines schema rules refused lines
       → IsOutput bytes Check (check_status refused) (lines ++ counts_line (length rules) refused)
+  -- the numbers and the orientation of the map
+  Counted : (n : ℕ) (darts : List Row) (next : ℕ) (text : List ℕ) → MapText bytes n darts → IsNextOf darts next → TellsCells (map_of n darts next) text → IsOutput bytes Cells 0 text
 
 -- a line that refuses
 abbrev pub refusal : List ℕ → List ℕ

@@ -1,5 +1,6 @@
 pub mod BookFaults
 pub mod Checking
+pub mod MapOfRows
 pub mod Answer
 pub mod ScriptFaults
 pub mod RunAnswer

@@ -1,5 +1,5 @@
 -- How many loads there were, at which of them the store failed, and behind which a run stops.
-use Rattle.std.specs.Prelude.{◌≡◌, ◌⊎◌, ℕ, zero, suc, List, Result, Ok, Err, IfSome}
+use Rattle.std.specs.Prelude.{◌≡◌, ◌⊎◌, ℕ, zero, suc, List, Result, Err, IfSome}
 use Rattle.gm_host.specs.Count.{counted, Rises}
 use Rattle.gm_host.specs.Store.{Contents}
 use Rattle.gm_tool.specs.Answer.{Files, Answer, Role, TheMap, TheBook}

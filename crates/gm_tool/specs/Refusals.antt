@@ -13,6 +13,7 @@ abbrev pub command_in : Command → answer.Command
 command_in commands.Show = answer.Show
 command_in commands.Book = answer.Book
 command_in commands.Check = answer.Check
+command_in commands.Cells = answer.Cells
 
 -- the word of no command
 abbrev pub IsNoCommandWord : List ℕ → Type 0

@@ -1,15 +1,12 @@
 -- What a run of a script answers to the names of its files: the status, the report, and the map that is saved.
-use Rattle.std.specs.Prelude.{◌≡◌, ◌⊎◌, ℕ, ◌<◌, ◌≤◌, pos, List, [], ◌∷◌, ◌++◌, length, Some, None, All, codes, slice_get}
-use Rattle.std.specs.Option.{is_some}
+use Rattle.std.specs.Prelude.{◌≡◌, ◌⊎◌, ℕ, ◌<◌, ◌≤◌, List, [], ◌∷◌, ◌++◌, length, Some, None, All, codes, slice_get}
 use Rattle.std.specs.List.Sorted.{IsStrictlyIncreasing}
 use Rattle.gm_model.specs.declared.rule.RuleFault.{RuleFault}
 use Rattle.gm_model.specs.declared.schema.Schema.{Schema}
 use Rattle.gm_model.specs.declared.script.Line.{Line}
-use Rattle.gm_model.specs.declared.value.Value.TheVariants.{Int}
 use Rattle.gm_model.specs.Acceptance.{IsAccepted, IsFault}
 use Rattle.gm_book.specs.BookText.{BookText}
-use Rattle.gm_model.specs.GMap.{Row, row_of, alpha, IsLive}
-use Rattle.gm_model.specs.Maps.{Map}
+use Rattle.gm_model.specs.GMap.{Row}
 use Rattle.gm_mapfile.specs.MapText.{MapText, AreShaped, canonical, names}
 use Rattle.gm_model.specs.Reports.{report_text}
 use Rattle.gm_model.specs.Rules.{Rule}
@@ -19,6 +16,7 @@ use Rattle.gm_script.specs.ScriptText.{ScriptText}
 use Rattle.gm_tool.specs.Answer.{most_bytes, Files, Answer, answers, Role, TheMap, TheBook, TheScript, role_word, refusal, HasFile, IsBad}
 use Rattle.gm_tool.specs.BookFaults.{BookTextFault, IsFirstBookFault, book_fault_words}
 use Rattle.gm_tool.specs.Checking.{rule_fault_words}
+use Rattle.gm_tool.specs.MapOfRows.{bare_schema, map_of, IsNextOf}
 use Rattle.gm_tool.specs.ScriptFaults.{ScriptTextFault, IsFirstScriptFault, script_fault_words}
 
 -- the files that are read, and the name under which the map is saved
@@ -80,24 +78,11 @@ module _ (files : Files) (named : RunNames) (inputs : Inputs) where
   abbrev pub HasScript : Type 0
   HasScript = (bytes : List ℕ) × HasFile files named.script bytes × ScriptText bytes inputs.rules inputs.lines
 
--- of maps without embeddings
-abbrev pub bare_schema : ℕ → Schema
-bare_schema n = record { dim = n; embeds = [] }
-
 -- the map and the book are of one dimension, with the same embeddings
 abbrev pub Agree : Inputs → Type 0
 Agree inputs = bare_schema inputs.dim ≡ inputs.schema
 
 -- ---- the run
-
--- the map without embeddings that has these darts, and this next name
-abbrev pub map_of : ℕ → List Row → ℕ → Map
-map_of n darts next = record { schema = bare_schema n; live = λ d. is_some (row_of darts d); alpha = alpha darts; value = λ e d. Int (pos 0); next = next }
-
--- the least number above the names of the darts
-pub record IsNextOf (darts : List Row) (next : ℕ) : Type 0 where
-  pub above : (d : ℕ) → IsLive darts d → d < next
-  pub least : (bound : ℕ) → ((d : ℕ) → IsLive darts d → d < bound) → next ≤ bound
 
 -- the outcomes of the lines, the darts after them, in ascending order of their names, and the next name
 pub record Ran : Type 0 where

@@ -6,7 +6,8 @@ use Rattle.gm_mapfile.specs.MapText.{MapText}
 use Rattle.gm_model.specs.Runs.{IsRunBudget, changed_darts}
 use Rattle.gm_tool.specs.Answer.{Files, HasFile, Asks, Show}
 use Rattle.gm_tool.specs.MadeRuns.{IsRunStatus}
-use Rattle.gm_tool.specs.RunAnswer.{RunNames, AsksRun, Inputs, Ran, IsRan, IsNextOf, IsGoodRun, map_of}
+use Rattle.gm_tool.specs.MapOfRows.{IsNextOf, map_of}
+use Rattle.gm_tool.specs.RunAnswer.{RunNames, AsksRun, Inputs, Ran, IsRan, IsGoodRun}
 
 -- the sum of the budgets of the lines, each at the map that it is applied to
 pub record HasBudget (inputs : Inputs) (ran : Ran) (sum : ℕ) : Type 0 where

@@ -15,6 +15,8 @@ pub enum Command {
     Book,
     /// `check BOOK`: tell of each rule of a book whether it is accepted.
     Check,
+    /// `cells MAP`: count the cells of a map and orient it.
+    Cells,
 }
 
 /// The files that a run reads, and the one under which it saves, by name.
@@ -65,6 +67,7 @@ fn command_named(word: &str) -> Option<Command>
         "show" => Some(Command::Show),
         "book" => Some(Command::Book),
         "check" => Some(Command::Check),
+        "cells" => Some(Command::Cells),
         _ => None,
     }
 }

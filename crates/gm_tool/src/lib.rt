@@ -3,6 +3,7 @@
 #![tactic(auto)]
 
 mod book;
+mod cells;
 mod check;
 mod command;
 mod fault_lines;

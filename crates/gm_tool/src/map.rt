@@ -17,12 +17,15 @@ use gm_model::MOST_DARTS;
 use std::alloc::Global;
 use std::sync::ledger::Ledger;
 
-/// The canonical text of the map that a file's text stands for, or the line that refuses it.
-pub fn show<L: Ledger>(alloc: Global, bytes: &[u8], steps: &mut Steps<L>) -> Result<Reply, NoText>
-    ensures judged { IsJudged bytes.now Show result }
-    ensures most { ShowsWithin bytes.now steps.old steps.new }
+/// The canonical text of the map that a file's text stands for, or the line that refuses it. The
+/// file's text is let go before the map's is made, so that both are never held at once.
+pub fn show<L: Ledger>(alloc: Global, bytes: Vec<u8>, steps: &mut Steps<L>) -> Result<Reply, NoText>
+    ensures judged { IsJudged bytes.items Show result }
+    ensures most { ShowsWithin bytes.items steps.old steps.new }
 {
-    let arena = match read_map(alloc, bytes, steps) {
+    let read = read_map(alloc, bytes.as_slice(), steps);
+    drop(bytes);
+    let arena = match read {
         Ok(arena) => arena,
         Err(MapFault::OutOfMemory) => return Err(NoText::OutOfMemory),
         Err(fault) => return refused(alloc, fault),
@@ -32,7 +35,8 @@ pub fn show<L: Ledger>(alloc: Global, bytes: &[u8], steps: &mut Steps<L>) -> Res
     reply_within_limit(0, text)
 }
 
-fn refused(alloc: Global, fault: MapFault) -> Result<Reply, NoText>
+/// The line that refuses the text of a map.
+pub fn refused(alloc: Global, fault: MapFault) -> Result<Reply, NoText>
     requires { IsSaidOfMap fault }
     ensures { IsRefusal (refusal (codes "MAP" ++ codes " " ++ map_words fault)) result }
 {

@@ -17,7 +17,7 @@ use crate::command::{Command, command_of, run_of};
 use crate::load::load_file;
 use crate::refusal::{NoText, Refusal, Role};
 use crate::reply::Reply;
-use crate::{book, check, map, running};
+use crate::{book, cells, check, map, running};
 use gm_arena::Steps;
 use gm_host::{PutFault, Sink, Store};
 use std::alloc::Global;
@@ -28,16 +28,17 @@ use std::sync::ledger::{Blank, Ledger};
 fn judged<L: Ledger>(
     alloc: Global,
     command: Command,
-    bytes: &[u8],
+    bytes: Vec<u8>,
     steps: &mut Steps<L>,
 ) -> Result<Reply, NoText>
-    ensures judged { IsJudged bytes.now (command_in command) result }
-    ensures show_most { command_in command ≡ answer.Show → ShowsWithin bytes.now steps.old steps.new }
+    ensures judged { IsJudged bytes.items (command_in command) result }
+    ensures show_most { command_in command ≡ answer.Show → ShowsWithin bytes.items steps.old steps.new }
 {
     match command {
         Command::Show => map::show(alloc, bytes, steps),
-        Command::Book => book::show(alloc, bytes),
-        Command::Check => check::check(alloc, bytes),
+        Command::Book => book::show(alloc, bytes.as_slice()),
+        Command::Check => check::check(alloc, bytes.as_slice()),
+        Command::Cells => cells::cells(alloc, bytes, steps),
     }
 }
 
@@ -45,7 +46,7 @@ fn role_of(command: Command) -> Role
     ensures { IsRoleOf command result }
 {
     match command {
-        Command::Show => Role::Map,
+        Command::Show | Command::Cells => Role::Map,
         Command::Book | Command::Check => Role::Book,
     }
 }
@@ -71,7 +72,7 @@ fn reply_on<S: Store, L: Ledger>(
     ensures show_most { command_in command ≡ answer.Show → FileShowsWithin (S.holds store.old) file.now steps.old steps.new }
 {
     let bytes = load_file(alloc, file, role_of(command), store)?;
-    judged(alloc, command, bytes.as_slice(), steps)
+    judged(alloc, command, bytes, steps)
 }
 
 /// The text that the words ask for.
@@ -131,7 +132,8 @@ fn put_whole<O: Sink>(out: &mut O, bytes: &[u8], status: u8) -> u8
 ///
 /// `words` are the words after the program's name, read by position. `show MAP` puts the canonical
 /// text of the map in the file MAP, `book BOOK` that of the rule book in the file BOOK, and
-/// `check BOOK` a line for each rule of the book and one that counts. `run MAP BOOK SCRIPT OUT`
+/// `check BOOK` a line for each rule of the book and one that counts. `cells MAP` puts the numbers of
+/// the map's cells, components and free darts, and its two colours or an odd walk. `run MAP BOOK SCRIPT OUT`
 /// applies the lines of the script to the map, saves the map as OUT, which may be MAP, and puts a
 /// report. All that is put goes out by one put: the text, with status 0, or 1 where a rule isn't
 /// accepted or a line is refused, or the one line of a refusal. Status 2 is for words that are no

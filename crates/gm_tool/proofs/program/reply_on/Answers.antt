@@ -19,17 +19,17 @@ returns-in_err-bytes-clause-sound g c =
 pub returns-clause-text : goal.returns-clause-text
 returns-clause-text g c =
     loaded (command_in c.args.command) c.args.file.now c.role_of.result c.role_of.ensures _ (FailsAt (g.S.Store.load_faults c.args.store.now) (g.S.Store.load_faults c.load_file.new.store) (g.S.Store.loads c.args.store.now) (g.S.Store.loads c.load_file.new.store)) (λ rises. (rises, c.load_file.ensures.once)) _ (g.S.Store.holds c.args.store.now) _ c.load_file.ensures.held
-    c.in_ok-bytes.bytes c.judged.result c.in_ok-bytes.ensures.loading (rw c.as_slice.ensures.value at c.judged.ensures.judged)
+    c.in_ok-bytes.bytes c.judged.result c.in_ok-bytes.ensures.loading c.judged.ensures.judged
 
 pub returns-clause-rule_refused : goal.returns-clause-rule_refused
-returns-clause-rule_refused g c = judged_refuses c.as_slice.result.now (command_in c.args.command) c.judged.result c.judged.ensures.judged
+returns-clause-rule_refused g c = judged_refuses c.in_ok-bytes.bytes.items (command_in c.args.command) c.judged.result c.judged.ensures.judged
 
 pub returns-clause-sound : goal.returns-clause-sound
-returns-clause-sound g c = judged_is_sound c.as_slice.result.now (command_in c.args.command) c.judged.result _ _ c.judged.ensures.judged
+returns-clause-sound g c = judged_is_sound c.in_ok-bytes.bytes.items (command_in c.args.command) c.judged.result _ _ c.judged.ensures.judged
 
 pub returns-in_err-bytes-clause-show_most : goal.returns-in_err-bytes-clause-show_most
 returns-in_err-bytes-clause-show_most g c show = unloaded_shown (g.S.Store.holds c.args.store.now) c.args.file.now _
 
 pub returns-clause-show_most : goal.returns-clause-show_most
 returns-clause-show_most g c show =
-    loaded_shown (g.S.Store.holds c.args.store.now) c.args.file.now c.in_ok-bytes.bytes.items _ _ c.in_ok-bytes.ensures.loading.1 (rw c.as_slice.ensures.value at (c.judged.ensures.show_most show))
+    loaded_shown (g.S.Store.holds c.args.store.now) c.args.file.now c.in_ok-bytes.bytes.items _ _ c.in_ok-bytes.ensures.loading.1 (c.judged.ensures.show_most show)

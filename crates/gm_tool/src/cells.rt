@@ -1,0 +1,53 @@
+ghost use Rattle.std.specs.Prelude.{IfOk};
+ghost use Rattle.gm_arena.specs.ArenaAsMap.{as_map};
+ghost use Rattle.gm_model.specs.Maps.{IsGeneralised};
+ghost use Rattle.gm_tool.specs.Answer.{Cells, TellsCells};
+ghost use Rattle.gm_tool.specs.Replies.{IsJudged};
+
+use crate::map::refused;
+use crate::refusal::NoText;
+use crate::reply::{Reply, reply_within_limit};
+use gm_arena::{Arena, Steps};
+use gm_cells::{count, orient, print_cells};
+use gm_mapfile::{MapFault, read_map};
+use gm_model::{MOST_DARTS, OutOfMemory};
+use gm_walk::Scratch;
+use std::alloc::Global;
+use std::sync::ledger::Ledger;
+
+/// The numbers and the orientation of the map that a file's text stands for, or the line that
+/// refuses it. The file's text is let go before they are counted.
+pub fn cells<L: Ledger>(
+    alloc: Global,
+    bytes: Vec<u8>,
+    steps: &mut Steps<L>,
+) -> Result<Reply, NoText>
+    ensures { IsJudged bytes.items Cells result }
+{
+    let read = read_map(alloc, bytes.as_slice(), steps);
+    drop(bytes);
+    let arena = match read {
+        Ok(arena) => arena,
+        Err(MapFault::OutOfMemory) => return Err(NoText::OutOfMemory),
+        Err(fault) => return refused(alloc, fault),
+    };
+    prove!(arena.count() <= MOST_DARTS);
+    let text = text_of(alloc, &arena, steps)?;
+    reply_within_limit(0, text)
+}
+
+/// The lines of a map's numbers, and those of its orientation.
+fn text_of<L: Ledger>(
+    alloc: Global,
+    arena: &Arena,
+    steps: &mut Steps<L>,
+) -> Result<Vec<u8>, OutOfMemory>
+    requires { IsGeneralised (as_map arena.now) }
+    ensures { IfOk result (λ text. TellsCells (as_map arena.now) text.items) }
+{
+    let mut scratch = Scratch::new(alloc);
+    scratch.fit(arena)?;
+    let counts = count(alloc, arena, &mut scratch, steps)?;
+    let orientation = orient(alloc, arena, steps)?;
+    print_cells(alloc, &counts, &orientation)
+}
