@@ -11,5 +11,5 @@ mod sides;
 
 pub use compiler::{PlanFault, compile};
 pub use instances::Instances;
-pub use laws::one_fault_at_most;
+pub use laws::{no_fault_of_a_condition_that_is_met, one_fault_at_most};
 pub use plan::Plan;

@@ -1,15 +1,15 @@
--- An accepted rule has no fault.
+-- A rule that meets a condition has no fault of it, and an accepted rule has none.
 use Rattle.std.proofs.Common.{◌≡◌, ℕ, ◌<◌, ◌⊎◌, subst, inl, inr, arith}
 use Rattle.std.proofs.lemmas.Bool.{cases_order}
 use Rattle.gm_model.specs.declared.rule.RuleFault.{RuleFault}
 use Rattle.gm_model.specs.declared.schema.Schema.{Schema}
 use Rattle.gm_model.specs.Acceptance.{IsAccepted, IsFault, Incidence, Cycle, Embedding}
-use Rattle.gm_model.specs.Components.{IsKeeper, IsInherited, HasSource, IsTogether, IsAssigned, IsComponentFault, Twice, Sourceless, Merged, MergedAlong, IsEmbedFault, First}
+use Rattle.gm_model.specs.Components.{IsKeeper, IsInherited, HasSource, HasSources, IsTogether, IsAssigned, IsComponentFault, Twice, Sourceless, Merged, MergedAlong, IsEmbedFault, First}
 use Rattle.gm_model.specs.Maps.{type_of}
 use Rattle.gm_model.specs.Orbits.{Labels}
 use Rattle.gm_model.specs.Rules.{Rule}
-use Rattle.gm_model.specs.Squares.{IsSquareFault, OpenSquare}
-use Rattle.gm_model.specs.Structure.{IsStructureFault, NoOneHook, BadHookWord, BadLength, Unconnected, IsArcFault, AtNode, IsNodeArcFault, TwiceLeft, TwiceRight, Missing, Differs, IsStructured, HasArcs, IsIncidenceFault, OfStructure, OfArcs}
+use Rattle.gm_model.specs.Squares.{HasSquares, IsSquareFault, OpenSquare}
+use Rattle.gm_model.specs.Structure.{IsStructureFault, NoOneHook, BadHookWord, BadLength, Unconnected, IsArcFault, AtNode, IsNodeArcFault, TwiceLeft, TwiceRight, Missing, Differs, IsStructured, HasArcs, HasIncidence, IsIncidenceFault, OfStructure, OfArcs}
 
 pub structured_no_fault : (rule : Rule) (fault : RuleFault) → IsStructured rule → IsStructureFault rule fault → ⊥
 structured_no_fault rule _ s (NoOneHook bad) = bad s.hook
@@ -54,20 +54,20 @@ source_no_fault rule e o x _ s (MergedAlong keeper m none kept one bad) = go s.s
     go (inl (z, t, a)) = none z t a
     go (inr (none', (other, i))) = (subst (λ k. IsInherited rule o x k → ⊥) (one_keeper rule o x keeper other kept i.kept) (λ j. bad.fails (j.along m))) i
 
-pub accepted_no_fault : (schema : Schema) (rule : Rule) (fault : RuleFault) → IsAccepted schema rule → IsFault schema rule fault → ⊥
-accepted_no_fault schema rule fault a (Incidence f) = go f
+pub incidence_no_fault : (n : ℕ) (rule : Rule) (fault : RuleFault) → HasIncidence n rule → IsIncidenceFault n rule fault → ⊥
+incidence_no_fault n rule fault has (OfStructure s) = structured_no_fault rule fault has.structured s
+incidence_no_fault n rule fault has (OfArcs s f) = go f
   where
-    at : IsArcFault schema.dim rule fault → ⊥
-    at (AtNode x within before bad) = node_no_fault schema.dim rule x fault (a.incidence.arcs x within) bad
+    go : IsArcFault n rule fault → ⊥
+    go (AtNode x within before bad) = node_no_fault n rule x fault (has.arcs x within) bad
 
-    go : IsIncidenceFault schema.dim rule fault → ⊥
-    go (OfStructure s) = structured_no_fault rule fault a.incidence.structured s
-    go (OfArcs s f) = at f
-accepted_no_fault schema rule fault a (Cycle incidence f) = go fault f
-  where
-    go : (g : RuleFault) → IsSquareFault schema.dim rule g → ⊥
-    go _ (OpenSquare x i j bad) = bad.open_here (a.squares x i j bad.apart bad.label)
-accepted_no_fault schema rule fault a (Embedding incidence squares f) = go f
-  where
-    go : IsEmbedFault schema rule fault → ⊥
-    go (First e embed x bad) = source_no_fault rule e (type_of embed) x fault (a.sources e embed bad.embed_at x bad.leader.0) bad.here
+pub squares_no_fault : (n : ℕ) (rule : Rule) (fault : RuleFault) → HasSquares n rule → IsSquareFault n rule fault → ⊥
+squares_no_fault n rule _ has (OpenSquare x i j bad) = bad.open_here (has x i j bad.apart bad.label)
+
+pub sources_no_fault : (schema : Schema) (rule : Rule) (fault : RuleFault) → HasSources schema rule → IsEmbedFault schema rule fault → ⊥
+sources_no_fault schema rule fault has (First e embed x bad) = source_no_fault rule e (type_of embed) x fault (has e embed bad.embed_at x bad.leader.0) bad.here
+
+pub accepted_no_fault : (schema : Schema) (rule : Rule) (fault : RuleFault) → IsAccepted schema rule → IsFault schema rule fault → ⊥
+accepted_no_fault schema rule fault a (Incidence f) = incidence_no_fault schema.dim rule fault a.incidence f
+accepted_no_fault schema rule fault a (Cycle incidence f) = squares_no_fault schema.dim rule fault a.squares f
+accepted_no_fault schema rule fault a (Embedding incidence squares f) = sources_no_fault schema rule fault a.sources f
