@@ -1,13 +1,12 @@
 -- What a check says of the rules of a book: a line for each, and how many are refused.
-use Rattle.std.specs.Prelude.{ℕ, ◌+◌, ◌==◌, if◌then◌else◌, List, [], ◌∷◌, ◌++◌, Option, Some, None, codes, decimal, slice_get}
-use Rattle.std.specs.Option.{option_map, unwrap_or}
+use Rattle.std.specs.Prelude.{ℕ, ◌+◌, ◌==◌, if◌then◌else◌, List, [], ◌∷◌, ◌++◌, Option, Some, None, codes, decimal}
 use Rattle.gm_model.specs.declared.rule.RuleFault.{RuleFault}
 use Rattle.gm_model.specs.declared.rule.RuleFault.TheVariants as faults
 use Rattle.gm_model.specs.declared.rule.Side.{Side}
 use Rattle.gm_model.specs.declared.rule.Side.TheVariants.{Left, Right}
-use Rattle.gm_model.specs.declared.schema.Embed.{Embed}
 use Rattle.gm_model.specs.declared.schema.Schema.{Schema}
 use Rattle.gm_model.specs.Acceptance.{IsAccepted, IsFault}
+use Rattle.gm_model.specs.Reports.{embed_name}
 use Rattle.gm_model.specs.Rules.{name_at, Rule}
 
 -- ---- the first fault of a rule, in words
@@ -18,9 +17,6 @@ side_word Right = codes "right"
 
 abbrev pub node_name : Rule → ℕ → List ℕ
 node_name rule x = name_at rule.nodes x
-
-abbrev pub embed_name : Schema → ℕ → List ℕ
-embed_name schema e = unwrap_or (option_map (λ (embed : Embed). embed.name) (slice_get schema.embeds e)) []
 
 module _ (schema : Schema) (rule : Rule) where
   abbrev pub rule_fault_words : RuleFault → List ℕ

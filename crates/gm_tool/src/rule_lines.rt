@@ -4,7 +4,8 @@ ghost use Rattle.std.specs.Prelude.{◌≡◌, ◌++◌, ◌<◌, OnOk, IfOk, co
 ghost use Rattle.gm_tool.specs.Answer.{refusal};
 ghost use Rattle.gm_model.specs.Rules.{rule_of};
 ghost use Rattle.gm_tool.specs.Books.{IsSayable, SpeaksOf};
-ghost use Rattle.gm_tool.specs.Checking.{rule_line, verdict_words, rule_fault_words, node_name, embed_name, side_word};
+ghost use Rattle.gm_tool.specs.Checking.{rule_line, verdict_words, rule_fault_words, node_name, side_word};
+ghost use Rattle.gm_model.specs.Reports.{embed_name};
 
 use crate::fault_lines::put_at;
 use gm_model::{OutOfMemory, RuleFault, RuleTable, Schema, Side};
