@@ -1,11 +1,11 @@
 -- Where the nodes of a rule lie in a map: the positions of an application, its turns, what a match is, and the one candidate for it.
-use Rattle.std.specs.Prelude.{◌≡◌, ℕ, ◌<◌, ◌≤◌, ◌⊎◌, List, [], ◌∷◌, length, slice_index, Some, IsTrue}
+use Rattle.std.specs.Prelude.{◌≡◌, ◌≢◌, ℕ, ◌<◌, ◌≤◌, ◌⊎◌, List, [], ◌∷◌, length, slice_get, slice_index, Some, IsTrue}
 use Rattle.gm_model.specs.declared.rule.Side.TheVariants.{Left}
 use Rattle.gm_model.specs.declared.step.Step.{Step}
 use Rattle.gm_model.specs.declared.step.Step.TheVariants.{Absent, Exp, Imp}
 use Rattle.gm_model.specs.Maps.{Map, IsDart, dimension}
-use Rattle.gm_model.specs.Orbits.{IsWalk, follow}
-use Rattle.gm_model.specs.Rules.{Rule, has_word, step, first_hook, hook_label, width}
+use Rattle.gm_model.specs.Orbits.{IsPairBefore, IsWalk, follow}
+use Rattle.gm_model.specs.Rules.{Rule, has_word, letters, step, first_hook, label_at, hook_label, width}
 use Rattle.gm_model.specs.Structure.{Leads}
 
 -- where an application's instances lie
@@ -54,6 +54,10 @@ pub record IsEmbedding (map : Map) (rule : Rule) (place : Placement) : Type 0 wh
 abbrev pub IsHooked : Rule → Placement → List ℕ → Type 0
 IsHooked rule place walk = (h p : ℕ) → first_hook rule ≡ Some h → p < place.positions → place.dart_of h p ≡ slice_index walk p
 
+-- at position 0 each hook lies at its dart
+abbrev pub LieAtDarts : Rule → List ℕ → Placement → Type 0
+LieAtDarts rule hooks place = (t h d : ℕ) → slice_get rule.hooks t ≡ Some h → slice_get hooks t ≡ Some d → place.dart_of h 0 ≡ d
+
 -- a match of the rule at these hook darts
 pub record IsMatch (map : Map) (rule : Rule) (hooks : List ℕ) (place : Placement) : Type 0 where
   -- a dart for each hook
@@ -61,9 +65,22 @@ pub record IsMatch (map : Map) (rule : Rule) (hooks : List ℕ) (place : Placeme
   pub walk : List ℕ
   pub positions : ArePositions map rule place hooks walk
   pub hooked : IsHooked rule place walk
+  pub at_darts : LieAtDarts rule hooks place
   pub embedded : IsEmbedding map rule place
 
 -- ---- the candidate
+
+-- position q turns at place m to position p, and no pair before (q, m) does
+pub record IsFirstTurn (rule : Rule) (place : Placement) (p q m : ℕ) : Type 0 where
+  pub position : q < place.positions
+  pub within : m < width rule
+  pub turns : place.turn q m ≡ p
+  pub first : (q' m' : ℕ) → IsPairBefore q' m' q m → m' < width rule → place.turn q' m' ≢ p
+
+-- The later hooks are walked in step with the first: where the walk reaches position p from position q at place m, such
+-- a hook reaches p from q by its own letter at m.
+abbrev pub GoInStep : Map → Rule → Placement → Type 0
+GoInStep map rule place = (t h p q m : ℕ) → 0 < t → slice_get rule.hooks t ≡ Some h → 0 < p → p < place.positions → IsFirstTurn rule place p q m → place.dart_of h p ≡ map.alpha (label_at (letters rule Left h) m) (place.dart_of h q)
 
 -- shorter, or as long and smaller at the first label that differs
 abbrev pub IsSmallerPath : List ℕ → List ℕ → Type 0
@@ -72,20 +89,29 @@ IsSmallerPath [] (j ∷ path') = Unit {0}
 IsSmallerPath (i ∷ path) [] = ⊥
 IsSmallerPath (i ∷ path) (j ∷ path') = (length path < length path') ⊎ ((length path ≡ length path') × ((i < j) ⊎ ((i ≡ j) × IsSmallerPath path path')))
 
--- the least path along which left links lead from the first hook to x
-pub record IsPathTo (rule : Rule) (x : ℕ) (path : List ℕ) : Type 0 where
-  pub hook : ℕ
-  pub first : first_hook rule ≡ Some hook
+-- a smaller path, or the same from an earlier hook
+abbrev pub IsPathBefore : List ℕ → ℕ → List ℕ → ℕ → Type 0
+IsPathBefore path t path' t' = IsSmallerPath path path' ⊎ ((path ≡ path') × (t < t'))
+
+-- the least path along which left links lead from a hook to x, and of one path from two hooks that from the earlier
+pub record IsPathTo (rule : Rule) (x hook : ℕ) (path : List ℕ) : Type 0 where
+  -- which of the hooks it is
+  pub index : ℕ
+  pub hook_at : slice_get rule.hooks index ≡ Some hook
   pub leads : Leads rule.left_links hook path x
-  pub least : (other : List ℕ) → Leads rule.left_links hook other x → IsSmallerPath other path → ⊥
+  pub least : (t h : ℕ) (other : List ℕ) → slice_get rule.hooks t ≡ Some h → Leads rule.left_links h other x → IsPathBefore other t path index → ⊥
 
--- each left node lies where its path leads from the walk: there is no other match than this one
-abbrev pub IsForced : Map → Rule → Placement → List ℕ → Type 0
-IsForced map rule place walk = (x p : ℕ) (path : List ℕ) → IsInstance rule place x p → IsPathTo rule x path → place.dart_of x p ≡ follow map.alpha path (slice_index walk p)
+-- each left node lies where its path leads from its hook
+abbrev pub IsForced : Map → Rule → Placement → Type 0
+IsForced map rule place = (x p hook : ℕ) (path : List ℕ) → IsInstance rule place x p → IsPathTo rule x hook path → place.dart_of x p ≡ follow map.alpha path (place.dart_of hook p)
 
+-- there is no other match than this one
 pub record IsCandidate (map : Map) (rule : Rule) (hooks : List ℕ) (place : Placement) : Type 0 where
   -- a dart for each hook
   pub count : length hooks ≡ length rule.hooks
   pub walk : List ℕ
   pub positions : ArePositions map rule place hooks walk
-  pub forced : IsForced map rule place walk
+  pub hooked : IsHooked rule place walk
+  pub at_darts : LieAtDarts rule hooks place
+  pub in_step : GoInStep map rule place
+  pub forced : IsForced map rule place

@@ -1,7 +1,6 @@
 -- What it is for a text to be read by a grammar with limits, and which fault is the first from left to right where it can't be.
 use Rattle.std.specs.Prelude.{◌≡◌, ℕ, Bool, if◌then◌else◌, List, [], ◌∷◌, ◌++◌, map, Option, Some, None}
 use Rattle.std.specs.List.{AllByRecursion}
-use Rattle.gm_model.specs.declared.limit.LimitKind.{LimitKind}
 use Rattle.gm_model.specs.Symbols.{Symbol, Mark, symbols}
 
 -- A grammar is its set of sentences. A sentence is a list of parts, the end of the text included: a part is a symbol
@@ -19,7 +18,7 @@ last_place [] = 0
 last_place (mark ∷ []) = mark.place
 last_place (mark ∷ next ∷ marks) = last_place (next ∷ marks)
 
-module _ {Role : Type 0} (IsSentence : List (Part Role) → Type 0) (limit_of : Role → Symbol → Option LimitKind) where
+module _ {Role What : Type 0} (IsSentence : List (Part Role) → Type 0) (limit_of : Role → Symbol → Option What) where
   -- some sentence begins with these parts
   abbrev pub Begins : List (Part Role) → Type 0
   Begins parts = (rest : List (Part Role)) × IsSentence (parts ++ rest)
@@ -48,7 +47,7 @@ module _ {Role : Type 0} (IsSentence : List (Part Role) → Type 0) (limit_of : 
     pub ends : (more : List (Part Role)) → symbols (before ++ mark ∷ []) ≡ symbols_in more → Begins more → ⊥
 
   -- Up to and with what stands at this place the text goes on as some sentence does. There it passes the limit, and none before.
-  pub record LimitPassedAt (marks : List Mark) (what : LimitKind) (place : ℕ) : Type 0 where
+  pub record LimitPassedAt (marks : List Mark) (what : What) (place : ℕ) : Type 0 where
     pub before : List Mark
     pub mark : Mark
     pub after : List Mark
@@ -63,7 +62,7 @@ module _ {Role : Type 0} (IsSentence : List (Part Role) → Type 0) (limit_of : 
     pub passes : limit_of part.role part.symbol ≡ Some what
 
   -- The same in a grammar where some part tells what the mark before it is: the limit that such a part passes stands at that mark.
-  pub record LimitStandsAt (stands_before : Role → Bool) (marks : List Mark) (what : LimitKind) (place : ℕ) : Type 0 where
+  pub record LimitStandsAt (stands_before : Role → Bool) (marks : List Mark) (what : What) (place : ℕ) : Type 0 where
     pub before : List Mark
     pub mark : Mark
     pub after : List Mark

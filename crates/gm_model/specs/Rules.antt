@@ -129,7 +129,7 @@ step_in links word x i = step_by x (find (is_end x i) links) (position (is_label
 abbrev pub step : Rule → Side → ℕ → ℕ → Step
 step rule side x i = step_in (links_on rule side) (letters rule side x) x i
 
--- ---- the hook
+-- ---- hooks
 
 abbrev pub first_hook : Rule → Option ℕ
 first_hook rule = slice_get rule.hooks 0
@@ -146,6 +146,10 @@ abbrev pub label_of : Letter → ℕ
 label_of (At i) = i
 label_of Gone = 0
 
+-- the label at a place of a word
+abbrev pub label_at : List Letter → ℕ → ℕ
+label_at word m = unwrap_or (option_map label_of (slice_get word m)) 0
+
 -- the label at a place of the first hook's word
 abbrev pub hook_label : Rule → ℕ → ℕ
-hook_label rule m = unwrap_or (option_map label_of (slice_get (hook_word rule) m)) 0
+hook_label rule m = label_at (hook_word rule) m

@@ -55,9 +55,9 @@ pub record IsWithinLimits (rule : Rule) : Type 0 where
 
 -- ---- structure
 
--- a rule with left nodes has exactly one hook, and a creation rule has none
+-- a rule with left nodes has a hook, and a creation rule has none
 abbrev pub HasHook : Rule → Type 0
-HasHook rule = ((x : ℕ) → IsTrue (has_word rule Left x) → length rule.hooks ≡ 1) × (((x : ℕ) → IsFalse (has_word rule Left x)) → rule.hooks ≡ [])
+HasHook rule = ((x : ℕ) → IsTrue (has_word rule Left x) → 0 < length rule.hooks) × (((x : ℕ) → IsFalse (has_word rule Left x)) → rule.hooks ≡ [])
 
 -- each letter is a label, and no two are the same
 pub record IsPlainWord (word : List Letter) : Type 0 where
@@ -96,7 +96,7 @@ pub record IsStructured (rule : Rule) : Type 0 where
 
 -- the first fault of structure
 pub data IsStructureFault (rule : Rule) : RuleFault → Type 0 where
-  NoOneHook : (HasHook rule → ⊥) → IsStructureFault rule faults.Hooks
+  BadHooks : (HasHook rule → ⊥) → IsStructureFault rule faults.Hooks
   BadHookWord : (t h : ℕ) → HasHook rule → IsFirstBad (HasPlainHook rule) (length rule.hooks) t → slice_get rule.hooks t ≡ Some h → IsStructureFault rule (faults.HookWord h)
   BadLength : (x : ℕ) → HasHook rule → AreGood (HasPlainHook rule) (length rule.hooks) → IsFirstBad (HasWidth rule) (length rule.nodes) x → IsStructureFault rule (faults.WordLength x)
   Unconnected : (x : ℕ) → HasHook rule → AreGood (HasPlainHook rule) (length rule.hooks) → AreGood (HasWidth rule) (length rule.nodes) → IsFirstBad (IsConnected rule) (length rule.nodes) x → IsStructureFault rule (faults.NotConnected x)

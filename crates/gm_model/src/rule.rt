@@ -38,7 +38,8 @@ pub struct Link {
 }
 
 /// A rule as its text gives it, accepted or not. A number of a node is its index in `nodes`, where
-/// those with a left word come first. `hooks` are such numbers.
+/// those with a left word come first. `hooks` are such numbers, in the order in which the left side
+/// has them.
 #[derive(Debug, Drop)]
 pub struct RuleTable {
     pub name: Name,
@@ -50,9 +51,11 @@ pub struct RuleTable {
     pub pre: Option<Expr>,
 }
 
-/// A book of rules over one schema.
+/// A book of rules over one schema. The version is that of its text, 1 or 2: a rule of version 1
+/// has one hook at most.
 #[derive(Debug, Drop)]
 pub struct Book {
+    pub version: u8,
     pub schema: Schema,
     pub rules: Items<RuleTable>,
 }
@@ -67,13 +70,13 @@ pub enum Side {
 /// The first fault of a rule that isn't accepted. Nodes and embeddings go by their index.
 #[derive(Clone, Copy, Debug, PartialEq, Eq)]
 pub enum RuleFault {
-    /// A rule with left nodes has not exactly one hook, or a rule without has one.
+    /// A rule with left nodes has no hook, or a rule without has one.
     Hooks,
-    /// The hook's left word has `_` or a label twice.
+    /// The hook's left word has `_` or a label twice. It is the first such hook.
     HookWord { node: u8 },
-    /// A word has another length than the hook's, or than 0 where there is no hook.
+    /// A word has another length than the first hook's, or than 0 where there is no hook.
     WordLength { node: u8 },
-    /// Left links don't join the node to the hook.
+    /// Left links join the node to no hook.
     NotConnected { node: u8 },
     /// The node has the label twice on the side.
     ArcTwice { node: u8, label: u8, side: Side },
