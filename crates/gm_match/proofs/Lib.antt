@@ -1,4 +1,3 @@
-pub mod Agreement
 pub mod InArena
 pub mod Answering
 pub mod CellLemmas

@@ -1,25 +1,27 @@
 -- At live hook darts there is a candidate. It has a first left step that it doesn't meet or none, and a first dart that it takes twice or none.
-use Rattle.std.proofs.Common.{◌≡◌, ℕ, ◌+◌, ◌<◌, ◌≤◌, ◌⊎◌, IsTrue, false, List, [], ◌∷◌, length, Contains, Some, None, Option, slice_get, slice_index, refl, sym, ◌∙◌, ap, subst, inl, inr, arith}
+use Rattle.std.proofs.Common.{◌≡◌, ℕ, zero, suc, ◌+◌, ◌<◌, ◌≤◌, ◌⊎◌, IsTrue, false, List, [], ◌∷◌, length, Contains, Some, None, Option, slice_get, slice_index, refl, sym, ◌∙◌, ap, subst, inl, inr, arith}
 use Rattle.std.proofs.lemmas.Bool.{cases_eq, cases_lt}
 use Rattle.std.proofs.lemmas.Grind.{get_or_default_zero}
+use Rattle.std.proofs.lemmas.Option.{slice_get_within, get_or_from_slice_get}
 use Rattle.gm_model.specs.declared.rule.Side.TheVariants.{Left}
 use Rattle.gm_model.specs.declared.step.Step.{Step}
 use Rattle.gm_model.specs.declared.step.Step.TheVariants.{Absent, Exp, Imp}
 use Rattle.gm_model.specs.Applications.{Application, HasHookDarts, IsFirstBroken, IsStepBefore, MeetsSteps, IsRepeat, IsFirstRepeat, HasNoRepeat, IsRefused, NoDart, NoHookDart}
 use Rattle.gm_model.specs.Maps.{Map, IsDart, IsMap, IsGeneralised, dimension}
-use Rattle.gm_model.specs.Matches.{Placement, ArePositions, Created, Walked, IsInstance, IsMetAt, IsStepMet, IsCandidate, IsPathTo, along_hook}
-use Rattle.gm_model.specs.Orbits.{IsPairBefore, IsWalk, follow}
-use Rattle.gm_model.specs.Rules.{Rule, has_word, step, hook_label, width}
+use Rattle.gm_model.specs.Matches.{Placement, ArePositions, Created, Walked, IsInstance, IsMetAt, IsStepMet, IsFirstTurn, IsCandidate, IsPathTo, along_hook}
+use Rattle.gm_model.specs.Orbits.{HasNoRepeats, IsPairBefore, IsWalk, follow}
+use Rattle.gm_model.specs.Rules.{Rule, has_word, letters, step, label_at, hook_label, width}
 use Rattle.gm_model.specs.Structure.{IsInRange, HasIncidence}
+use Rattle.gm_theory.proofs.Candidates.{hook_left}
 use Rattle.gm_theory.proofs.FirstFound.{IsFirstPair, first_pair, decide_pair_below}
-use Rattle.gm_theory.proofs.LeastPaths.{least_path, same_path}
+use Rattle.gm_theory.proofs.LeastPaths.{least_path, same_path, hook_path}
 use Rattle.gm_theory.proofs.Lists.{some_same, none_some, contained_at}
 use Rattle.gm_theory.proofs.RuleSteps.{word_below}
 use Rattle.gm_theory.proofs.Tests.{true_or_false, not_both, search_below}
-use Rattle.gm_theory.proofs.Turns.{hook_label_up_to}
+use Rattle.gm_theory.proofs.Turns.{hook_label_up_to, first_turn, one_first_turn}
 use Rattle.gm_theory.proofs.ValuesFound.{IsLeast, least_below}
 use Rattle.gm_theory.proofs.ValuesReach.{IsDecided}
-use Rattle.gm_theory.proofs.Walks.{pair_order}
+use Rattle.gm_theory.proofs.Walks.{pair_order, same_place, first_at}
 use Rattle.gm_theory.proofs.WalksFound.{walk_exists}
 
 -- ---- the candidate
@@ -39,47 +41,147 @@ placed : (walk : List ℕ) (d : ℕ) (has : HasPlace walk d) → Contains walk d
 placed walk d (inl (k, b, e)) c = (b, e)
 placed walk d (inr none) (k, b, e) = absurd (none k b (sym (get_or_default_zero walk k d b) ∙ e))
 
+-- ---- where hooks lie
+
+-- a number has one place in a list without repeats
+one_index : (xs : List ℕ) (x a b : ℕ) → HasNoRepeats xs → slice_get xs a ≡ Some x → slice_get xs b ≡ Some x → a ≡ b
+one_index xs x a b differ at there = same_place xs a b differ (slice_get_within xs a x at) (slice_get_within xs b x there) (get_or_from_slice_get xs a x 0 at ∙ sym (get_or_from_slice_get xs b x 0 there))
+
+-- Over positions, wherever the nodes are to lie: the later hooks go in step with the first.
+module _ (map : Map) (rule : Rule) (base : Placement) (hooks walk : List ℕ) (positions : ArePositions map rule base hooks walk) where
+  turned_from : (p : ℕ) → suc p < base.positions → (q : ℕ) × (m : ℕ) × (q < suc p) × IsFirstTurn rule base (suc p) q m
+  turned_from p b = first_turn map rule base hooks walk positions (suc p) (omega arith) b
+
+  -- the dart at position p + 1, by those at the positions before it
+  next_dart : (h p : ℕ) → (ℕ → ℕ) → (suc p < base.positions) ⊎ (base.positions ≤ suc p) → ℕ
+  next_dart h p dart (inl b) = map.alpha (label_at (letters rule Left h) (turned_from p b).1) (dart (turned_from p b).0)
+  next_dart h p dart (inr b) = 0
+
+  -- the dart of the hook with this index at the first n positions
+  later_dart : (t h n p : ℕ) → ℕ
+  later_dart t h zero p = 0
+  later_dart t h (suc n) zero = slice_index hooks t
+  later_dart t h (suc n) (suc p) = next_dart h p (later_dart t h n) (cases_lt (suc p) base.positions)
+
+  same_later : (t h n n' p : ℕ) → p < n → p < n' → later_dart t h n p ≡ later_dart t h n' p
+  unfolding later_dart next_dart
+  same_later t h zero n' p b c = absurd (omega arith)
+  same_later t h (suc n) zero p b c = absurd (omega arith)
+  same_later t h (suc n) (suc n') zero b c = refl
+  same_later t h (suc n) (suc n') (suc p) b c = go (cases_lt (suc p) base.positions) (λ q d. same_later t h n n' q (omega arith) (omega arith))
+    where
+      go : (side : (suc p < base.positions) ⊎ (base.positions ≤ suc p)) → ((q : ℕ) → q < suc p → later_dart t h n q ≡ later_dart t h n' q) → next_dart h p (later_dart t h n) side ≡ next_dart h p (later_dart t h n') side
+      go (inl d) rest = ap (map.alpha (label_at (letters rule Left h) (turned_from p d).1)) (rest (turned_from p d).0 (turned_from p d).2)
+      go (inr d) rest = refl
+
+  abbrev hook_dart : ℕ → ℕ → ℕ → ℕ
+  hook_dart zero h p = slice_index walk p
+  hook_dart (suc t) h p = later_dart (suc t) h (suc p) p
+
+  hook_begins : (t h d : ℕ) → slice_get hooks t ≡ Some d → hook_dart t h 0 ≡ d
+  unfolding later_dart
+  hook_begins zero h d at = begins positions at
+    where
+      begins : {named steps : List ℕ} → ArePositions map rule base named steps → slice_get named 0 ≡ Some d → slice_index steps 0 ≡ d
+      begins (Created none one) e = none_some d e
+      begins (Walked e others steps live is_walk size turns) f = first_at steps d (is_walk.starts ∙ f)
+  hook_begins (suc t) h d at = get_or_from_slice_get hooks (suc t) d 0 at
+
+  hook_in_step : (t h p q m : ℕ) → 0 < t → 0 < p → p < base.positions → IsFirstTurn rule base p q m → hook_dart t h p ≡ map.alpha (label_at (letters rule Left h) m) (hook_dart t h q)
+  unfolding later_dart next_dart
+  hook_in_step zero h p q m later some b turn = absurd (omega arith)
+  hook_in_step (suc t) h zero q m later some b turn = absurd (omega arith)
+  hook_in_step (suc t) h (suc p) q m later some b turn = go (cases_lt (suc p) base.positions)
+    where
+      go : (side : (suc p < base.positions) ⊎ (base.positions ≤ suc p)) → next_dart h p (later_dart (suc t) h (suc p)) side ≡ map.alpha (label_at (letters rule Left h) m) (hook_dart (suc t) h q)
+      go (inr none) = absurd (omega (arith, b, none))
+      go (inl c) = at (turned_from p c)
+        where
+          at : (found : (q : ℕ) × (m : ℕ) × (q < suc p) × IsFirstTurn rule base (suc p) q m) → map.alpha (label_at (letters rule Left h) found.1) (later_dart (suc t) h (suc p) found.0) ≡ map.alpha (label_at (letters rule Left h) m) (hook_dart (suc t) h q)
+          at (q', m', earlier, other) =
+              let one : (q' ≡ q) × (m' ≡ m) = one_first_turn rule base (suc p) q' m' q m other turn in
+              ap (λ k. map.alpha (label_at (letters rule Left h) k) (later_dart (suc t) h (suc p) q')) one.1
+              ∙ ap (map.alpha (label_at (letters rule Left h) m)) (ap (later_dart (suc t) h (suc p)) one.0 ∙ same_later (suc t) h (suc p) (suc q) q (omega (arith, earlier, one.0)) (omega arith))
+
 module _ (map : Map) (rule : Rule) (is_map : IsMap map) (old : IsGeneralised map) (in_range : IsInRange map.schema rule) (incidence : HasIncidence map.schema.dim rule) where
-  -- a left node lies where its least path leads
-  abbrev dart_by : (x d : ℕ) → IsTrue (has_word rule Left x) ⊎ (has_word rule Left x ≡ false) → ℕ
-  dart_by x d (inl left) = follow map.alpha (least_path map.schema rule in_range incidence x left).0 d
-  dart_by x d (inr right) = 0
+  -- ---- the candidate from a walk
 
-  dart_forced : (x d : ℕ) (side : IsTrue (has_word rule Left x) ⊎ (has_word rule Left x ≡ false)) (path : List ℕ) → IsTrue (has_word rule Left x) → IsPathTo rule x path → dart_by x d side ≡ follow map.alpha path d
-  dart_forced x d (inl left) path l to = ap (λ q. follow map.alpha q d) (same_path rule x (least_path map.schema rule in_range incidence x left).0 path (least_path map.schema rule in_range incidence x left).1 to)
-  dart_forced x d (inr right) path l to = not_both (has_word rule Left x) l right
+  module _ (base : Placement) (hooks walk : List ℕ) (count : length hooks ≡ length rule.hooks) (positions : ArePositions map rule base hooks walk) where
+    -- a left node lies where its least path leads from its hook
+    abbrev dart_by : (x p : ℕ) → IsTrue (has_word rule Left x) ⊎ (has_word rule Left x ≡ false) → ℕ
+    dart_by x p (inl left) = let to : (hook : ℕ) × (path : List ℕ) × IsPathTo rule x hook path = least_path map.schema rule in_range incidence x left in
+        follow map.alpha to.1 (hook_dart map rule base hooks walk positions to.2.index to.0 p)
+    dart_by x p (inr right) = 0
 
-  abbrev placed_along : List ℕ → Placement
-  placed_along walk = record {
+    by_path : (x p h : ℕ) (path : List ℕ) (side : IsTrue (has_word rule Left x) ⊎ (has_word rule Left x ≡ false)) → IsTrue (has_word rule Left x) → (to : IsPathTo rule x h path) →
+        dart_by x p side ≡ follow map.alpha path (hook_dart map rule base hooks walk positions to.index h p)
+    by_path x p h path (inr right) left to = not_both (has_word rule Left x) left right
+    by_path x p h path (inl left) l to = go (least_path map.schema rule in_range incidence x left)
+      where
+        go : (least : (hook : ℕ) × (path : List ℕ) × IsPathTo rule x hook path) →
+            follow map.alpha least.1 (hook_dart map rule base hooks walk positions least.2.index least.0 p) ≡ follow map.alpha path (hook_dart map rule base hooks walk positions to.index h p)
+        go (hook, known, least) =
+            let one : (hook ≡ h) × (known ≡ path) = same_path rule x hook h known path least to in
+            let index : least.index ≡ to.index = one_index rule.hooks h least.index to.index in_range.hooks_differ (least.hook_at ∙ ap Some one.0) to.hook_at in
+            ap (λ way. follow map.alpha way (hook_dart map rule base hooks walk positions least.index hook p)) one.1
+            ∙ ap (λ g. follow map.alpha path (hook_dart map rule base hooks walk positions least.index g p)) one.0
+            ∙ ap (λ t. follow map.alpha path (hook_dart map rule base hooks walk positions t h p)) index
+
+    abbrev placed_from : Placement
+    placed_from = record { positions = base.positions; turn = base.turn; dart_of = λ x p. dart_by x p (true_or_false (has_word rule Left x)) }
+
+    hook_lies : (t h p : ℕ) → slice_get rule.hooks t ≡ Some h → placed_from.dart_of h p ≡ hook_dart map rule base hooks walk positions t h p
+    hook_lies t h p at = by_path h p h [] (true_or_false (has_word rule Left h)) (hook_left map.schema rule in_range incidence t h at) own ∙ ap (λ u. hook_dart map rule base hooks walk positions u h p) (one_index rule.hooks h own.index t in_range.hooks_differ own.hook_at at)
+      where
+        own : IsPathTo rule h h []
+        own = hook_path rule in_range.hooks_differ t h at
+
+    placed_there : {named steps : List ℕ} → ArePositions map rule base named steps → ArePositions map rule placed_from named steps
+    placed_there (Created none one) = Created none one
+    placed_there (Walked d others steps live is_walk size turns) = Walked d others steps live is_walk size turns
+
+    is_candidate : IsCandidate map rule hooks placed_from
+    is_candidate = record {
+      count = count;
+      walk = walk;
+      positions = placed_there positions;
+      hooked = λ h p at b. hook_lies 0 h p at;
+      at_darts = λ t h d at named. hook_lies t h 0 at ∙ hook_begins map rule base hooks walk positions t h d named;
+      in_step = λ t h p q m later at some b turn.
+          hook_lies t h p at
+          ∙ hook_in_step map rule base hooks walk positions t h p q m later some b (record { position = turn.position; within = turn.within; turns = turn.turns; first = turn.first })
+          ∙ ap (map.alpha (label_at (letters rule Left h) m)) (sym (hook_lies t h q at));
+      forced = λ x p hook path at to. by_path x p hook path (true_or_false (has_word rule Left x)) at.0 to ∙ ap (follow map.alpha path) (sym (hook_lies to.index hook p to.hook_at));
+    }
+
+  abbrev along_walk : List ℕ → Placement
+  along_walk walk = record {
     positions = length walk;
     turn = λ p m. place_by walk (along_hook map rule (slice_index walk p) m) (place_of walk (along_hook map rule (slice_index walk p) m));
-    dart_of = λ x p. dart_by x (slice_index walk p) (true_or_false (has_word rule Left x));
+    dart_of = λ x p. 0;
   }
 
-  walked : (d : ℕ) (others walk : List ℕ) → length (d ∷ others) ≡ length rule.hooks → IsDart map d → IsWalk (along_hook map rule) (width rule) d walk → IsCandidate map rule (d ∷ others) (placed_along walk)
-  walked d others walk count live is_walk = record {
-    count = count;
-    walk = walk;
-    positions = Walked d others walk live is_walk refl (λ p m b h. placed walk (along_hook map rule (slice_index walk p) m) (place_of walk (along_hook map rule (slice_index walk p) m)) (is_walk.closed p m (inl b) b h));
-    forced = λ x p path at to. dart_forced x (slice_index walk p) (true_or_false (has_word rule Left x)) path at.0 to;
-  }
-
-  created : rule.hooks ≡ [] → IsCandidate map rule [] (record { positions = 1; turn = λ p m. 0; dart_of = λ x p. 0 })
-  created none = record { count = sym (ap length none); walk = []; positions = Created none refl; forced = λ x p path at to. absurd (let one : length rule.hooks ≡ 1 = incidence.structured.hook.0 x at.0 in omega (arith, one, ap length none)) }
+  walked : (d : ℕ) (others walk : List ℕ) → IsDart map d → IsWalk (along_hook map rule) (width rule) d walk → ArePositions map rule (along_walk walk) (d ∷ others) walk
+  walked d others walk live is_walk = Walked d others walk live is_walk refl (λ p m b h. placed walk (along_hook map rule (slice_index walk p) m) (place_of walk (along_hook map rule (slice_index walk p) m)) (is_walk.closed p m (inl b) b h))
 
   no_hooks : (hooks : List ℕ) → 0 ≡ length hooks → hooks ≡ []
   no_hooks [] e = refl
   no_hooks (h ∷ hooks) e = absurd (omega arith)
 
   pub candidate_exists : (hooks : List ℕ) → length hooks ≡ length rule.hooks → ((d : ℕ) → Contains hooks d → IsDart map d) → (place : Placement) × IsCandidate map rule hooks place
-  candidate_exists [] count darts = (record { positions = 1; turn = λ p m. 0; dart_of = λ x p. 0 }, created (no_hooks rule.hooks count))
+  candidate_exists [] count darts =
+      let base : Placement = record { positions = 1; turn = λ p m. 0; dart_of = λ x p. 0 } in
+      let positions : ArePositions map rule base [] [] = Created (no_hooks rule.hooks count) refl in
+      (placed_from base [] [] count positions, is_candidate base [] [] count positions)
   candidate_exists (d ∷ others) count darts = go (walk_exists (along_hook map rule) (width rule) d (IsDart map) live (λ e l h live. old.stays e (hook_label rule l) live (hook_label_up_to map.schema rule in_range l)) map.next is_map.below)
     where
       live : IsDart map d
       live = darts d (0, omega arith, refl)
 
       go : (walk : List ℕ) × IsWalk (along_hook map rule) (width rule) d walk → (place : Placement) × IsCandidate map rule (d ∷ others) place
-      go (walk, is_walk) = (placed_along walk, walked d others walk count live is_walk)
+      go (walk, is_walk) =
+          let positions : ArePositions map rule (along_walk walk) (d ∷ others) walk = walked d others walk live is_walk in
+          (placed_from (along_walk walk) (d ∷ others) walk count positions, is_candidate (along_walk walk) (d ∷ others) walk count positions)
 
 -- a candidate has a position
 pub some_position : (map : Map) (rule : Rule) (hooks : List ℕ) (place : Placement) → IsCandidate map rule hooks place → 0 < place.positions

@@ -21,7 +21,7 @@ use Rattle.gm_model.specs.Trees.{Tree, Field, Number, Binary}
 use Rattle.gm_model.specs.Unfolding.{IsGone, scene_of}
 use Rattle.gm_theory.proofs.ExamplesCentre.{name, undecided, decided, walk_is_face, triangulated}
 use Rattle.gm_theory.proofs.ExamplesChecks.{each_below, each, ◌implies◌, implied, has_number, number_contained}
-use Rattle.gm_theory.proofs.ExamplesMatches.{match_shown, positions_shown}
+use Rattle.gm_theory.proofs.ExamplesMatches.{match_shown, candidate_shown}
 use Rattle.gm_theory.proofs.ExamplesOutcomes.{found_by, one_live, forced_alone, numbers_listed}
 use Rattle.gm_theory.proofs.ExamplesTriangulation.{found, unfolded, assigned_new, assigned_there, sets_of, assigns_centre, only_points}
 use Rattle.gm_theory.proofs.ExamplesUnfoldings.{unfolding_shown}
@@ -57,7 +57,7 @@ ready = record {
 }
   where
     candidate : IsCandidate square triangulation (0 ∷ []) on_square
-    candidate = record { count = refl; walk = square_walk; positions = positions_shown square triangulation on_square 0 square_walk refl refl refl; forced = forced_alone triangulation refl only_a square on_square square_walk (λ p b. refl) }
+    candidate = candidate_shown square triangulation on_square 0 square_walk refl refl refl refl (forced_alone triangulation refl only_a square on_square)
 
 pub done : IsDone triangulating four_triangles 16 0
 done = record {
@@ -187,7 +187,7 @@ assigns_spoiled = (kept_node (codes "a") (At 1 ∷ At 2 ∷ []) (At 1 ∷ At 2 �
 
 spoiling_ready : IsReady spoiling_square on_corner
 spoiling_ready = record {
-  found = found_by spoiling_square on_corner (one_live square 1 refl) (record { count = refl; walk = 1 ∷ 2 ∷ []; positions = positions_shown square spoiling on_corner 1 (1 ∷ 2 ∷ []) refl refl refl; forced = forced_alone spoiling refl only_spoiled square on_corner (1 ∷ 2 ∷ []) (λ p b. refl) }) (match_shown square spoiling on_corner 1 (1 ∷ 2 ∷ []) refl refl refl refl);
+  found = found_by spoiling_square on_corner (one_live square 1 refl) (candidate_shown square spoiling on_corner 1 (1 ∷ 2 ∷ []) refl refl refl refl (forced_alone spoiling refl only_spoiled square on_corner)) (match_shown square spoiling on_corner 1 (1 ∷ 2 ∷ []) refl refl refl refl);
   pre = λ tree e. none_some tree e;
   live = 8;
   live_is = numbers_listed (IsStaying spoiling_square on_corner) 8 (λ d. ((λ s. ltb-true d 8 s.0), (λ h. (lt-ltb d 8 h, none_spoiled d))));

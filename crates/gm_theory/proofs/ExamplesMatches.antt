@@ -1,17 +1,19 @@
 -- Tests of a walk and of a match, and what they show.
-use Rattle.std.proofs.Common.{◌≡◌, ℕ, suc, ◌+◌, ◌<◌, Bool, true, not, ◌&&◌, ◌||◌, IsTrue, List, [], ◌∷◌, length, take, eqb, ltb, Some, slice_get, slice_index, subst, inl, inr, arith, refl}
+use Rattle.std.proofs.Common.{◌≡◌, ℕ, suc, ◌+◌, ◌<◌, Bool, true, not, ◌&&◌, ◌||◌, IsTrue, List, [], ◌∷◌, length, take, eqb, ltb, Some, slice_get, slice_index, subst, inl, inr, arith, refl, sym, ap, ◌∙◌, zero}
+use Rattle.std.proofs.lemmas.Option.{slice_get_within}
 use Rattle.std.proofs.lemmas.Bool.{eqb-true, eq-eqb, ltb-true, lt-ltb, or_left, or_right, and_from}
 use Rattle.gm_model.specs.declared.rule.Side.TheVariants.{Left}
 use Rattle.gm_model.specs.declared.step.Step.{Step}
 use Rattle.gm_model.specs.declared.step.Step.TheVariants.{Absent, Exp, Imp}
 use Rattle.gm_model.specs.Maps.{Map, dimension}
-use Rattle.gm_model.specs.Matches.{Placement, ArePositions, Walked, along_hook, IsStepMet, IsEmbedding, IsMatch}
+use Rattle.gm_model.specs.Matches.{Placement, ArePositions, Walked, along_hook, IsStepMet, IsEmbedding, IsMatch, IsCandidate, IsForced, LieAtDarts, GoInStep}
 use Rattle.gm_model.specs.Orbits.{IsPairBefore, IsLeastStep, IsWalk}
-use Rattle.gm_model.specs.Rules.{Rule, has_word, step, width}
+use Rattle.gm_model.specs.Rules.{Rule, has_word, letters, label_at, step, width}
 use Rattle.gm_theory.proofs.ExamplesChecks.{each_below, each, some_below, some, ◌implies◌, implied, has_number, number_contained}
-use Rattle.gm_theory.proofs.Lists.{some_same}
+use Rattle.gm_theory.proofs.Lists.{some_same, none_some}
 use Rattle.gm_theory.proofs.RuleSteps.{word_below}
 use Rattle.gm_theory.proofs.Tests.{both_true, not_true, not_both}
+use Rattle.gm_theory.proofs.Walks.{first_at}
 
 -- ---- walks
 
@@ -118,15 +120,57 @@ module _ (map : Map) (rule : Rule) (place : Placement) where
       turned : (p m : ℕ) → IsTrue (turn_test walk p m) → (place.turn p m < length walk) × (slice_index walk (place.turn p m) ≡ along_hook map rule (slice_index walk p) m)
       turned p m u = (ltb-true (place.turn p m) (length walk) (both_true (ltb (place.turn p m) (length walk)) (eqb (slice_index walk (place.turn p m)) (along_hook map rule (slice_index walk p) m)) u).0, eqb-true (slice_index walk (place.turn p m)) (along_hook map rule (slice_index walk p) m) (both_true (ltb (place.turn p m) (length walk)) (eqb (slice_index walk (place.turn p m)) (along_hook map rule (slice_index walk p) m)) u).1)
 
-  -- for a rule whose hook is its node 0
+  -- ---- a rule whose one hook is its node 0
+
+  one_hook_lies : (d : ℕ) → rule.hooks ≡ 0 ∷ [] → place.dart_of 0 0 ≡ d → LieAtDarts rule (d ∷ []) place
+  one_hook_lies d only lies t h e at named = go t (rw only at at) named
+    where
+      go : (t : ℕ) → slice_get (0 ∷ []) t ≡ Some h → slice_get (d ∷ []) t ≡ Some e → place.dart_of h 0 ≡ e
+      go zero a b = ap (λ z. place.dart_of z 0) (sym (some_same 0 h a)) ∙ lies ∙ some_same d e b
+      go (suc t) a b = none_some h a
+
+  no_later_hook : rule.hooks ≡ 0 ∷ [] → GoInStep map rule place
+  no_later_hook only t h p q m later at some b turn = go t later (rw only at at)
+    where
+      go : (t : ℕ) → 0 < t → slice_get (0 ∷ []) t ≡ Some h → place.dart_of h p ≡ map.alpha (label_at (letters rule Left h) m) (place.dart_of h q)
+      go zero c a = absurd (omega arith)
+      go (suc t) c a = none_some h a
+
+  abbrev along_test : List ℕ → Bool
+  along_test walk = each_below (length walk) (λ p. eqb (place.dart_of 0 p) (slice_index walk p))
+
+  along_shown : (walk : List ℕ) → place.positions ≡ length walk → IsTrue (along_test walk) → (p : ℕ) → p < place.positions → place.dart_of 0 p ≡ slice_index walk p
+  along_shown walk many t p b = eqb-true (place.dart_of 0 p) (slice_index walk p) (each (length walk) (λ p. eqb (place.dart_of 0 p) (slice_index walk p)) t p (subst (λ k. p < k) many b))
+
+  starts_shown : (d : ℕ) (walk : List ℕ) → slice_get walk 0 ≡ Some d → IsTrue (along_test walk) → place.dart_of 0 0 ≡ d
+  starts_shown d walk starts t = eqb-true (place.dart_of 0 0) (slice_index walk 0) (each (length walk) (λ p. eqb (place.dart_of 0 p) (slice_index walk p)) t 0 (slice_get_within walk 0 d starts)) ∙ first_at walk d starts
+
+  abbrev pub hooked_test : ℕ → List ℕ → Bool
+  hooked_test d walk = positions_test d walk && along_test walk
+
+  pub candidate_shown : (d : ℕ) (walk : List ℕ) → rule.hooks ≡ 0 ∷ [] → slice_get walk 0 ≡ Some d → place.positions ≡ length walk → IsTrue (hooked_test d walk) → IsForced map rule place → IsCandidate map rule (d ∷ []) place
+  candidate_shown d walk only starts many t forced = record {
+    count = rw only refl;
+    walk = walk;
+    positions = positions_shown d walk starts many (both_true (positions_test d walk) (along_test walk) t).0;
+    hooked = λ h p e b. subst (λ z. place.dart_of z p ≡ slice_index walk p) (some_same 0 h (rw only at e)) (along_shown walk many (both_true (positions_test d walk) (along_test walk) t).1 p b);
+    at_darts = one_hook_lies d only (starts_shown d walk starts (both_true (positions_test d walk) (along_test walk) t).1);
+    in_step = no_later_hook only;
+    forced = forced;
+  }
+
   abbrev pub match_test : ℕ → List ℕ → Bool
-  match_test d walk = positions_test d walk && each_below (length walk) (λ p. eqb (place.dart_of 0 p) (slice_index walk p)) && embedding_test
+  match_test d walk = hooked_test d walk && embedding_test
 
   pub match_shown : (d : ℕ) (walk : List ℕ) → rule.hooks ≡ 0 ∷ [] → slice_get walk 0 ≡ Some d → place.positions ≡ length walk → IsTrue (match_test d walk) → IsMatch map rule (d ∷ []) place
   match_shown d walk only starts many t = record {
     count = rw only refl;
     walk = walk;
-    positions = positions_shown d walk starts many (both_true _ _ (both_true _ _ t).0).0;
-    hooked = λ h p e b. subst (λ z. place.dart_of z p ≡ slice_index walk p) (some_same 0 h (rw only at e)) (eqb-true _ _ (each (length walk) _ (both_true _ _ (both_true _ _ t).0).1 p (subst (λ k. p < k) many b)));
-    embedded = embedding_shown (both_true _ _ t).1;
+    positions = positions_shown d walk starts many (both_true (positions_test d walk) (along_test walk) here).0;
+    hooked = λ h p e b. subst (λ z. place.dart_of z p ≡ slice_index walk p) (some_same 0 h (rw only at e)) (along_shown walk many (both_true (positions_test d walk) (along_test walk) here).1 p b);
+    at_darts = one_hook_lies d only (starts_shown d walk starts (both_true (positions_test d walk) (along_test walk) here).1);
+    embedded = embedding_shown (both_true (hooked_test d walk) embedding_test t).1;
   }
+    where
+      here : IsTrue (hooked_test d walk)
+      here = (both_true (hooked_test d walk) embedding_test t).0

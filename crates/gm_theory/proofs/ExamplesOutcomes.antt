@@ -1,5 +1,5 @@
 -- Outcomes of applications, worked out.
-use Rattle.std.proofs.Common.{◌≡◌, ℕ, codes, zero, suc, ◌+◌, ◌-◌, ◌<◌, ◌≤◌, false, true, ◌↔◌, pos, IsTrue, List, [], ◌∷◌, length, eqb, Contains, slice_index, refl, sym, ◌∙◌, ap, subst, inl, inr, arith}
+use Rattle.std.proofs.Common.{◌≡◌, ℕ, codes, zero, suc, ◌+◌, ◌-◌, ◌<◌, ◌≤◌, false, true, ◌↔◌, pos, IsTrue, List, [], ◌∷◌, length, Contains, Some, slice_get, slice_index, refl, sym, ◌∙◌, ap, subst, inl, inr, arith}
 use Rattle.std.proofs.lemmas.Bool.{eqb-true, eq-eqb, ltb-true, lt-ltb}
 use Rattle.std.proofs.lemmas.Grind.{get_or_default_zero}
 use Rattle.std.proofs.lemmas.Int.{ints}
@@ -18,7 +18,7 @@ use Rattle.gm_model.specs.Trees.{Tree, Number, Truth}
 use Rattle.gm_model.specs.Unfolding.{scene_of, IsGone}
 use Rattle.gm_model.specs.Values.{IsInValueRange}
 use Rattle.gm_theory.proofs.ExamplesChecks.{each_below, each}
-use Rattle.gm_theory.proofs.ExamplesMatches.{match_shown, walk_shown, positions_shown, met_test, met_shown}
+use Rattle.gm_theory.proofs.ExamplesMatches.{match_shown, candidate_shown, walk_shown, met_test, met_shown}
 use Rattle.gm_theory.proofs.Lists.{some_same, none_some}
 use Rattle.gm_theory.proofs.RuleSteps.{word_below}
 use Rattle.gm_theory.proofs.Tests.{both_true, not_both}
@@ -30,15 +30,22 @@ use Rattle.gm_theory.specs.ExamplesOutcomes.{drop, drop_at, on_triangle, triangl
 -- ---- a match of a rule whose only left node is its hook is found
 
 module _ (rule : Rule) (only : rule.hooks ≡ 0 ∷ []) (alone : (x : ℕ) → IsTrue (has_word rule Left x) → x ≡ 0) where
-  no_path : (path : List ℕ) → IsPathTo rule 0 path → path ≡ []
-  no_path [] to = refl
-  no_path (i ∷ path) to = absurd (to.least [] (some_same to.hook 0 (sym to.first ∙ rw only refl)) tt)
+  only_hook : (t h : ℕ) → slice_get rule.hooks t ≡ Some h → 0 ≡ h
+  only_hook t h at = go t (rw only at at)
+    where
+      go : (t : ℕ) → slice_get (0 ∷ []) t ≡ Some h → 0 ≡ h
+      go zero e = some_same 0 h e
+      go (suc t) e = none_some h e
 
-  pub forced_alone : (map : Map) (place : Placement) (walk : List ℕ) → ((p : ℕ) → p < place.positions → place.dart_of 0 p ≡ slice_index walk p) → IsForced map rule place walk
-  forced_alone map place walk along x p path at to =
+  no_path : (hook : ℕ) (path : List ℕ) → IsPathTo rule 0 hook path → path ≡ []
+  no_path hook [] to = refl
+  no_path hook (i ∷ path) to = absurd (to.least 0 0 [] (rw only refl) refl (inl tt))
+
+  pub forced_alone : (map : Map) (place : Placement) → IsForced map rule place
+  forced_alone map place x p hook path at to =
       let zero_x : x ≡ 0 = alone x at.0 in
-      let empty : path ≡ [] = no_path path (subst (λ y. IsPathTo rule y path) zero_x to) in
-      ap (λ y. place.dart_of y p) zero_x ∙ along p at.1 ∙ ap (λ q. follow map.alpha q (slice_index walk p)) (sym empty)
+      let empty : path ≡ [] = no_path hook path (subst (λ y. IsPathTo rule y hook path) zero_x to) in
+      ap (λ y. place.dart_of y p) (zero_x ∙ only_hook to.index hook to.hook_at) ∙ ap (λ q. follow map.alpha q (place.dart_of hook p)) (sym empty)
 
 -- a candidate whose darts differ is found, where it is a match
 pub found_by : (app : Application) (place : Placement) → HasHookDarts app → IsCandidate app.map app.rule app.hooks place → IsMatch app.map app.rule app.hooks place → IsFound app place
@@ -68,7 +75,7 @@ only_drop : (x : ℕ) → IsTrue (has_word drop Left x) → x ≡ 0
 only_drop x w = let b : x < 1 = word_below drop Left x w in omega arith
 
 drop_candidate : IsCandidate four_triangles drop (0 ∷ []) on_triangle
-drop_candidate = record { count = refl; walk = triangle_walk; positions = positions_shown four_triangles drop on_triangle 0 triangle_walk refl refl refl; forced = forced_alone drop refl only_drop four_triangles on_triangle triangle_walk (λ p b. refl) }
+drop_candidate = candidate_shown four_triangles drop on_triangle 0 triangle_walk refl refl refl refl (forced_alone drop refl only_drop four_triangles on_triangle)
 
 -- at its first two positions the triangle has no neighbour, at the third it has one
 pub broken_step : IsRefused (drop_at 0) (Arc 0 2 2)
@@ -99,7 +106,7 @@ repeated = Repeated on_lone 0 0 1 0 (one_live lone 0 refl) candidate meets recor
     loops (i ∷ path) c e = loops path (lone.alpha i c) (ap (lone.alpha i) e ∙ loop i)
 
     candidate : IsCandidate lone merging (0 ∷ []) on_lone
-    candidate = record { count = refl; walk = 0 ∷ []; positions = positions_shown lone merging on_lone 0 (0 ∷ []) refl refl refl; forced = λ x p path at to. sym (loops path (slice_index (0 ∷ []) p) (let z : 0 ≡ p = (let b : p < 1 = at.1 in omega arith) in subst (λ q. slice_index (0 ∷ []) q ≡ 0) z refl)) }
+    candidate = candidate_shown lone merging on_lone 0 (0 ∷ []) refl refl refl refl (λ x p hook path at to. sym (loops path (on_lone.dart_of hook p) refl))
 
     meets : MeetsSteps merging_alone on_lone
     meets x p i at h = met_shown lone merging on_lone x p i (step merging Left x i) (each 2 (λ j. met_test lone merging on_lone x p j (step merging Left x j)) (each 1 (λ q. each_below 2 (λ j. met_test lone merging on_lone x q j (step merging Left x j))) (each 2 (λ y. each_below 1 (λ q. each_below 2 (λ j. met_test lone merging on_lone y q j (step merging Left y j)))) refl x (word_below merging Left x at.0)) p at.1) i (omega arith))
@@ -120,7 +127,7 @@ only_split tree (suc zero) w = not_both false w refl
 only_split tree (suc (suc x)) w = not_both false w refl
 
 split_found : (tree : Tree) → IsFound (split_if tree) on_edge
-split_found tree = found_by (split_if tree) on_edge (one_live edge 0 refl) (record { count = refl; walk = 0 ∷ 1 ∷ []; positions = positions_shown edge (split_if tree).rule on_edge 0 (0 ∷ 1 ∷ []) refl refl refl; forced = forced_alone (split_if tree).rule refl (only_split tree) edge on_edge (0 ∷ 1 ∷ []) (λ p b. eqb-true _ _ (each 2 (λ q. eqb q (slice_index (0 ∷ 1 ∷ []) q)) refl p b)) }) (match_shown edge (split_if tree).rule on_edge 0 (0 ∷ 1 ∷ []) refl refl refl refl)
+split_found tree = found_by (split_if tree) on_edge (one_live edge 0 refl) (candidate_shown edge (split_if tree).rule on_edge 0 (0 ∷ 1 ∷ []) refl refl refl refl (forced_alone (split_if tree).rule refl (only_split tree) edge on_edge)) (match_shown edge (split_if tree).rule on_edge 0 (0 ∷ 1 ∷ []) refl refl refl refl)
 
 pub false_pre : IsRefused (split_if (Truth false)) PreFalse
 false_pre = FalsePre on_edge (Truth false) (split_found (Truth false)) refl refl
@@ -141,7 +148,7 @@ no_left (suc (suc x)) w = not_both false w refl
 pair_found : (map : Map) → IsFound (pair_on map) created
 pair_found map = record {
   darts = λ d c. absurd (let b : c.0 < 0 = c.1 in omega arith);
-  candidate = record { count = refl; walk = []; positions = Created refl refl; forced = λ x p path at to. absurd (no_left x at.0) };
+  candidate = record { count = refl; walk = []; positions = Created refl refl; hooked = λ h p first b. none_some h first; at_darts = λ t h d at named. none_some h at; in_step = λ t h p q m later at some b turn. none_some h at; forced = λ x p hook path at to. absurd (no_left x at.0) };
   steps = λ x p i at h. absurd (no_left x at.0);
   distinct = λ x p y q r. no_left x r.first.0;
 }

@@ -16,7 +16,7 @@ use Rattle.gm_model.specs.Labels.{has}
 use Rattle.gm_model.specs.Maps.{IsGeneralised}
 use Rattle.gm_model.specs.Rules.{Rule, Assignment, has_word, is_preserved}
 use Rattle.gm_model.specs.Squares.{IsSquareGood, IsExcused, ClosesRight, IsSquareBefore, OpenSquare}
-use Rattle.gm_model.specs.Structure.{HasIncidence, HasArcs, HasOnce, HasWhereOneSided, arcs_at, NoOneHook, OfStructure, OfArcs, AtNode, Missing, AreGood}
+use Rattle.gm_model.specs.Structure.{HasIncidence, HasArcs, HasOnce, HasWhereOneSided, arcs_at, BadHooks, OfStructure, OfArcs, AtNode, Missing, AreGood}
 use Rattle.gm_model.specs.Trees.{Tree, Count}
 use Rattle.gm_model.specs.Unfolding.{scene_of}
 use Rattle.gm_theory.proofs.ExamplesChecks.{each}
@@ -119,7 +119,7 @@ arc_refused = Incidence (OfArcs (structure_shown 2 unfinished 0 refl refl refl) 
     before i b = ((λ r. not_both false r refl), (λ a. ltb-true _ _ (each 2 (λ k. ltb 0 (arcs_at unfinished Right 1 k)) refl i b)))
 
 pub hook_refused : IsFault planar hookless faults.Hooks
-hook_refused = Incidence (OfStructure (NoOneHook (λ h. let e : 0 ≡ 1 = h.0 0 refl in omega arith)))
+hook_refused = Incidence (OfStructure (BadHooks (λ h. let some : 0 < 0 = h.0 0 refl in omega arith)))
 
 pub kind_refused : IsTyped planar miscounted → ⊥
 kind_refused h = let k : HasKind planar miscounted count kinds.Vec3 = h.sets 2 0 count points_of_vertices (record { name = codes "c"; left = None; right = Some (At 1 ∷ At 2 ∷ []); sets = record { embed = 0; tree = count } ∷ [] }, refl, (0, omega arith, refl)) refl in

@@ -194,7 +194,7 @@ module _ (n : ℕ) (rule : Rule) where
   structure_test h = plain_test (letters rule Left h) && each_below (length rule.nodes) (shape_test h)
 
   pub structure_shown : (h : ℕ) → rule.hooks ≡ h ∷ [] → IsTrue (has_word rule Left h) → IsTrue (structure_test h) → IsStructured rule
-  structure_shown h only left t = record { hook = ((λ x l. rw only refl), (λ none. not_both (has_word rule Left h) left (none h))); plain = plain; widths = widths; connected = connected }
+  structure_shown h only left t = record { hook = ((λ x l. rw only (omega arith)), (λ none. not_both (has_word rule Left h) left (none h))); plain = plain; widths = widths; connected = connected }
     where
       shape : (x : ℕ) → x < length rule.nodes → IsTrue (shape_test h x)
       shape x b = each (length rule.nodes) (shape_test h) (both_true (plain_test (letters rule Left h)) (each_below (length rule.nodes) (shape_test h)) t).1 x b

@@ -1,3 +1,4 @@
+pub mod Agreement
 pub mod Arcs
 pub mod BudgetsFound
 pub mod Candidates
@@ -30,6 +31,7 @@ pub mod ReadingsDecided
 pub mod ReadingsTyped
 pub mod ReadingsUnits
 pub mod Results
+pub mod RuleLinks
 pub mod RuleSteps
 pub mod RunsFound
 pub mod Scenes

@@ -1,5 +1,5 @@
 -- What is counted in a list, what is found there, and at which place.
-use Rattle.std.proofs.Common.{◌≡◌, ℕ, suc, ◌<◌, ◌≤◌, ◌⊎◌, Bool, true, false, cond, IsTrue, List, [], ◌∷◌, length, Contains, Some, None, slice_get, refl, sym, ◌∙◌, ap, subst, inl, inr, arith}
+use Rattle.std.proofs.Common.{◌≡◌, ℕ, zero, suc, ◌<◌, ◌≤◌, ◌⊎◌, Bool, true, false, cond, IsTrue, List, [], ◌∷◌, length, Contains, Some, None, slice_get, refl, sym, ◌∙◌, ap, subst, inl, inr, arith}
 use Rattle.std.proofs.lemmas.Bool.{ltb-true, lt-ltb, le-ltb}
 use Rattle.std.proofs.lemmas.List.Sums.{sum_by-cons}
 use Rattle.std.proofs.lemmas.Option.{slice_get-get_or}
@@ -16,6 +16,12 @@ none_some x e = absurd (cc)
 -- what a list contains has a place there
 pub contained_at : {A : Type 0} (xs : List A) (x : A) (c : Contains xs x) → slice_get xs c.0 ≡ Some x
 contained_at xs x (k, b, e) = slice_get-get_or xs k x b ∙ ap Some e
+
+-- and what a place has is an element
+pub get_contained : {A : Type 0} (xs : List A) (k : ℕ) (x : A) → slice_get xs k ≡ Some x → Contains xs x
+get_contained [] k x e = none_some x e
+get_contained (y ∷ xs) zero x e = (0, omega arith, some_same y x e)
+get_contained (y ∷ xs) (suc k) x e = let rest : Contains xs x = get_contained xs k x e in (suc rest.0, omega (arith, rest.1), rest.2)
 
 module _ {A : Type 0} where
   pub count_yes : (p : A → Bool) (x : A) (xs : List A) → IsTrue (p x) → count_by p (x ∷ xs) ≡ suc (count_by p xs)

@@ -9,10 +9,10 @@ use Rattle.gm_model.specs.Maps.{type_of}
 use Rattle.gm_model.specs.Orbits.{Labels}
 use Rattle.gm_model.specs.Rules.{Rule}
 use Rattle.gm_model.specs.Squares.{HasSquares, IsSquareFault, OpenSquare}
-use Rattle.gm_model.specs.Structure.{IsStructureFault, NoOneHook, BadHookWord, BadLength, Unconnected, IsArcFault, AtNode, IsNodeArcFault, TwiceLeft, TwiceRight, Missing, Differs, IsStructured, HasArcs, HasIncidence, IsIncidenceFault, OfStructure, OfArcs}
+use Rattle.gm_model.specs.Structure.{IsStructureFault, BadHooks, BadHookWord, BadLength, Unconnected, IsArcFault, AtNode, IsNodeArcFault, TwiceLeft, TwiceRight, Missing, Differs, IsStructured, HasArcs, HasIncidence, IsIncidenceFault, OfStructure, OfArcs}
 
 pub structured_no_fault : (rule : Rule) (fault : RuleFault) → IsStructured rule → IsStructureFault rule fault → ⊥
-structured_no_fault rule _ s (NoOneHook bad) = bad s.hook
+structured_no_fault rule _ s (BadHooks bad) = bad s.hook
 structured_no_fault rule _ s (BadHookWord t h hook bad at) = bad.fails (s.plain t bad.within)
 structured_no_fault rule _ s (BadLength x hook plain bad) = bad.fails (s.widths x bad.within)
 structured_no_fault rule _ s (Unconnected x hook plain widths bad) = bad.fails (s.connected x bad.within)

@@ -1,24 +1,25 @@
 -- Turning a position twice at one place gives it back, and turns at places with distant labels commute.
-use Rattle.std.proofs.Common.{◌≡◌, ℕ, zero, suc, ◌<◌, ◌≤◌, List, [], ◌∷◌, length, Option, Some, None, slice_get, refl, sym, ◌∙◌, ap, inl, inr, arith}
-use Rattle.std.specs.Option.{option_map, option_and_then, unwrap_or}
+use Rattle.std.proofs.Common.{◌≡◌, ◌≢◌, ℕ, zero, suc, ◌<◌, ◌≤◌, List, [], ◌∷◌, length, ◌⊎◌, Option, Some, None, refl, sym, ◌∙◌, ap, inl, inr, arith}
+use Rattle.std.specs.Option.{option_and_then, unwrap_or}
 use Rattle.std.specs.Prelude.{slice_index}
 use Rattle.gm_model.specs.declared.word.Letter.{Letter}
 use Rattle.gm_model.specs.declared.word.Letter.TheVariants.{At, Gone}
 use Rattle.gm_model.specs.declared.rule.Side.TheVariants.{Left}
 use Rattle.gm_model.specs.declared.schema.Schema.{Schema}
 use Rattle.gm_model.specs.Maps.{Map, IsDart, IsGeneralised, dimension}
-use Rattle.gm_model.specs.Matches.{Placement, ArePositions, Created, Walked, along_hook}
-use Rattle.gm_model.specs.Rules.{Rule, word_at, label_of, first_hook, hook_word, hook_label, width}
+use Rattle.gm_model.specs.Matches.{Placement, ArePositions, Created, Walked, IsFirstTurn, along_hook}
+use Rattle.gm_model.specs.Orbits.{IsLeastStep, IsPairBefore}
+use Rattle.gm_model.specs.Rules.{Rule, word_at, label_at, first_hook, hook_word, hook_label, width}
 use Rattle.gm_model.specs.Squares.{IsApart}
 use Rattle.gm_model.specs.Structure.{IsInRange, HasLabelsUpTo}
 use Rattle.gm_model.specs.Unfolding.{scene_of}
 use Rattle.gm_theory.proofs.Lists.{none_some}
 use Rattle.gm_theory.proofs.Scenes.{HasLawfulTurns}
-use Rattle.gm_theory.proofs.Walks.{same_place, walk_keeps}
+use Rattle.gm_theory.proofs.Walks.{same_place, contains_before, pair_order, walk_keeps}
 
 -- ---- the labels of a hook's word
 
-pub label_up_to : (n : ℕ) (word : List Letter) (m : ℕ) → HasLabelsUpTo n word → unwrap_or (option_map label_of (slice_get word m)) 0 ≤ n
+pub label_up_to : (n : ℕ) (word : List Letter) (m : ℕ) → HasLabelsUpTo n word → label_at word m ≤ n
 label_up_to n [] m all = omega arith
 label_up_to n (At i ∷ word) zero all = all.0 i refl
 label_up_to n (Gone ∷ word) zero all = omega arith
@@ -90,3 +91,39 @@ lawful_turns map rule place _ _ count old range (Walked d others walk live walk_
         old_commutes : IsApart (hook_label rule m) (hook_label rule m') → map.alpha (hook_label rule m') (map.alpha (hook_label rule m) (slice_index walk p)) ≡ map.alpha (hook_label rule m) (map.alpha (hook_label rule m') (slice_index walk p))
         old_commutes (inl far) = sym (old.commutes (slice_index walk p) (hook_label rule m) (hook_label rule m') (live_at p c) far (label_le m'))
         old_commutes (inr far) = old.commutes (slice_index walk p) (hook_label rule m') (hook_label rule m) (live_at p c) far (label_le m)
+
+-- a later position is first turned to from an earlier one
+pub first_turn : (map : Map) (rule : Rule) (place : Placement) (hooks walk : List ℕ) → ArePositions map rule place hooks walk → (p : ℕ) → 0 < p → p < place.positions → (q : ℕ) × (m : ℕ) × (q < p) × IsFirstTurn rule place p q m
+first_turn map rule place _ _ (Created none one) p some b = absurd (omega (arith, one))
+first_turn map rule place _ _ (Walked d others walk live walk_is size turns) p some b = go (walk_is.least p some within)
+  where
+    within : p < length walk
+    within = rw size at b
+
+    go : (q : ℕ) × (l : ℕ) × IsLeastStep (along_hook map rule) (width rule) walk p q l → (q : ℕ) × (m : ℕ) × (q < p) × IsFirstTurn rule place p q m
+    go (q, l, s) = (q, l, s.earlier, record { position = omega (arith, s.earlier); within = s.place; turns = lands; first = first })
+      where
+        before : (q' l' : ℕ) → IsPairBefore q' l' q l → q' < length walk
+        before q' l' (inl h) = omega (arith, s.earlier)
+        before q' l' (inr (e, h)) = omega (arith, s.earlier)
+
+        here : (place.turn q l < length walk) × (slice_index walk (place.turn q l) ≡ along_hook map rule (slice_index walk q) l)
+        here = turns q l (omega (arith, s.earlier)) s.place
+
+        lands : place.turn q l ≡ p
+        lands = same_place walk (place.turn q l) p walk_is.distinct here.0 within (here.1 ∙ sym s.leads)
+
+        first : (q' l' : ℕ) → IsPairBefore q' l' q l → l' < width rule → place.turn q' l' ≢ p
+        first q' l' earlier low e = by (contains_before walk p (along_hook map rule (slice_index walk q') l') (s.least q' l' earlier low))
+          where
+            by : (k : ℕ) × (k < p) × (k < length walk) × (slice_index walk k ≡ along_hook map rule (slice_index walk q') l') → ⊥
+            by (k, less, inside, same) = walk_is.distinct k p less within (same ∙ sym (turns q' l' (before q' l' earlier) low).1 ∙ ap (slice_index walk) e)
+
+-- and by one pair
+pub one_first_turn : (rule : Rule) (place : Placement) (p q m q' m' : ℕ) → IsFirstTurn rule place p q m → IsFirstTurn rule place p q' m' → (q ≡ q') × (m ≡ m')
+one_first_turn rule place p q m q' m' a b = go (pair_order q m q' m')
+  where
+    go : ((q ≡ q') × (m ≡ m')) ⊎ (IsPairBefore q m q' m' ⊎ IsPairBefore q' m' q m) → (q ≡ q') × (m ≡ m')
+    go (inl same) = same
+    go (inr (inl before)) = absurd (b.first q m before a.within a.turns)
+    go (inr (inr before)) = absurd (a.first q' m' before b.within b.turns)

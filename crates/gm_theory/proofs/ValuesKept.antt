@@ -70,7 +70,7 @@ module _ (app : Application) (place : Placement) (of_schema : IsSchema app.map.s
   law = lawful app.map app.rule place accepted old is_map app.hooks found
 
   well_embedded : (result : Map) → IsResult app place result → IsWellEmbedded result
-  well_embedded result new e embed at = constant_after app.map app.rule place (length app.rule.nodes) (width app.rule) (hook_label app.rule) law (read_off app.map.schema app.rule accepted)
+  well_embedded result new e embed at = constant_after app.map app.rule place (length app.rule.nodes) (width app.rule) (hook_label app.rule) law (read_off app.map.schema app.rule accepted.in_range accepted.incidence)
       (IsDart result) result.alpha result.next new.unfolded e (type_of embed) (λ i t. of_schema.labels e i embed at' t) (embedded e embed at') (λ x r. accepted.sources e embed at' x r)
       (GivesValue app place e) (one_given app place accepted.in_range e) (result.value e) (λ d live. new.values e d embed at' live)
     where
@@ -106,7 +106,7 @@ module _ (app : Application) (place : Placement) (of_schema : IsSchema app.map.s
             (unfolding_below (scene_of app.map app.rule place) (length app.rule.nodes) (width app.rule) (hook_label app.rule) law (λ b. IsTrue (result.live b)) result.alpha result.next unfolds) d c live
 
         together : (x y p : ℕ) → p < place.positions → IsTogether app.rule (type_of embed) x y → LiesIn app.map app.rule place result.alpha e (type_of embed) (name_in app.map app.rule place x p) y p
-        together x y p b t = new_together app.map app.rule place (length app.rule.nodes) (width app.rule) (hook_label app.rule) law (read_off app.map.schema app.rule accepted)
+        together x y p b t = new_together app.map app.rule place (length app.rule.nodes) (width app.rule) (hook_label app.rule) law (read_off app.map.schema app.rule accepted.in_range accepted.incidence)
             (λ b. IsTrue (result.live b)) result.alpha result.next unfolds e (type_of embed) (λ i t. of_schema.labels e i embed at t) (embedded e embed at) (λ x r. accepted.sources e embed at x r)
             (GivesValue app place e) (one_given app place accepted.in_range e) x y p b t
 
@@ -159,7 +159,7 @@ rules_keep_well_embedded_maps app place of_schema is_map old embedded accepted f
 
 -- what is found is a match
 pub found_match : (app : Application) (place : Placement) → IsGeneralised app.map → IsAccepted app.map.schema app.rule → IsFound app place → IsMatch app.map app.rule app.hooks place
-found_match app place old accepted found = candidate_is_match app.map app.rule place accepted.in_range accepted.incidence old app.hooks found.candidate found.steps (λ x p y q at at' before e. found.distinct x p y q (record { first = at; second = at'; later = before; same = e }))
+found_match app place old accepted found = candidate_is_match app.map app.rule place accepted.in_range accepted.incidence old app.hooks found.candidate found.darts found.steps (λ x p y q at at' before e. found.distinct x p y q (record { first = at; second = at'; later = before; same = e }))
 
 -- an expression is read at a position of a match
 pub match_reading : (app : Application) (place : Placement) → IsMap app.map → IsGeneralised app.map → IsMatch app.map app.rule app.hooks place → (p : ℕ) → p < place.positions → IsReadingOf app.rule (reading_at app place p)

@@ -9,11 +9,10 @@ use Rattle.gm_model.specs.declared.schema.Schema.{Schema}
 use Rattle.gm_model.specs.declared.step.Step.TheVariants.{Exp, Imp}
 use Rattle.gm_model.specs.declared.word.Letter.{Letter}
 use Rattle.gm_model.specs.declared.word.Letter.TheVariants.{At, Gone}
-use Rattle.gm_model.specs.Acceptance.{IsAccepted}
 use Rattle.gm_model.specs.Rules.{Rule, has_word, letters, links_on, link_from, is_end, is_label, other_end, step, step_by, IsLinked}
-use Rattle.gm_model.specs.Structure.{HasOnce}
-use Rattle.gm_theory.proofs.Candidates.{contains_counts, linked_in_range, linked_step}
-use Rattle.gm_theory.proofs.Lists.{some_same, none_some, count_yes, count_no, find_passes, find_has}
+use Rattle.gm_model.specs.Structure.{IsInRange, HasIncidence, HasOnce}
+use Rattle.gm_theory.proofs.RuleLinks.{contains_counts, linked_in_range, linked_step}
+use Rattle.gm_theory.proofs.Lists.{get_contained, some_same, none_some, count_yes, count_no, find_passes, find_has}
 use Rattle.gm_theory.proofs.RuleSteps.{end_parts, step_link, step_place, once}
 use Rattle.gm_theory.proofs.Tests.{true_or_false, not_both}
 
@@ -39,19 +38,14 @@ module _ {A : Type 0} (p : A → Bool) where
   found_contained : (xs : List A) (x : A) → find p xs ≡ Some x → Contains xs x
   found_contained xs x e = find_has (Contains xs) p xs x (recursion_from_All (Contains xs) xs (λ k d h. Contains-get_or xs k d h)) e
 
-get_contained : {A : Type 0} (xs : List A) (k : ℕ) (x : A) → slice_get xs k ≡ Some x → Contains xs x
-get_contained [] k x e = none_some x e
-get_contained (y ∷ xs) zero x e = (0, omega arith, some_same y x e)
-get_contained (y ∷ xs) (suc k) x e = let rest : Contains xs x = get_contained xs k x e in (suc rest.0, omega (arith, rest.1), rest.2)
-
 -- ---- letters
 
 letter_same : (l : Letter) (i : ℕ) → IsTrue (is_label i l) → l ≡ At i
 letter_same (At j) i h = ap At (eqb-true j i h)
 letter_same Gone i h = not_both false h refl
 
-label_at : (i : ℕ) → IsTrue (is_label i (At i))
-label_at i = eq-eqb i i refl
+own_label : (i : ℕ) → IsTrue (is_label i (At i))
+own_label i = eq-eqb i i refl
 
 first_place : (i : ℕ) (word : List Letter) → position_or_len (is_label i) word < length word → slice_get word (position_or_len (is_label i) word) ≡ Some (At i)
 first_place i [] h = absurd (omega arith)
@@ -71,11 +65,11 @@ placed i word m e = go (cases_lt (position_or_len (is_label i) word) (length wor
     go (inr h) = none_some m (rw (le-ltb (position_or_len (is_label i) word) (length word) h) at e)
 
 letter_counts : (i : ℕ) (word : List Letter) (m : ℕ) → slice_get word m ≡ Some (At i) → 0 < count_by (is_label i) word
-letter_counts i word m e = contains_counts (is_label i) word (At i) (get_contained word m (At i) e) (label_at i)
+letter_counts i word m e = contains_counts (is_label i) word (At i) (get_contained word m (At i) e) (own_label i)
 
 only_place : (i : ℕ) (word : List Letter) (m : ℕ) → slice_get word m ≡ Some (At i) → count_by (is_label i) word ≤ 1 → (position_or_len (is_label i) word ≡ m) × (m < length word)
 only_place i [] m e c = none_some (At i) e
-only_place i (l ∷ word) zero e c = let t : IsTrue (is_label i l) = subst (λ k. IsTrue (is_label i k)) (sym (some_same l (At i) e)) (label_at i) in (rw t refl, omega arith)
+only_place i (l ∷ word) zero e c = let t : IsTrue (is_label i l) = subst (λ k. IsTrue (is_label i k)) (sym (some_same l (At i) e)) (own_label i) in (rw t refl, omega arith)
 only_place i (l ∷ word) (suc m) e c = go (true_or_false (is_label i l)) (λ d. only_place i word m e d)
   where
     go : IsTrue (is_label i l) ⊎ (is_label i l ≡ false) → (count_by (is_label i) word ≤ 1 → (position_or_len (is_label i) word ≡ m) × (m < length word)) → (position_or_len (is_label i) (l ∷ word) ≡ suc m) × (suc m < length (l ∷ word))
@@ -104,10 +98,11 @@ step_linked rule side x i y e =
     let parts : (l : Link) × (find (is_end x i) (links_on rule side) ≡ Some l) × (other_end x l ≡ y) = step_link x y (find (is_end x i) (links_on rule side)) (position (is_label i) (letters rule side x)) e in
     linked_by (links_on rule side) x i y parts.0 (found_contained (is_end x i) (links_on rule side) parts.0 parts.1) (find_passes (is_end x i) (links_on rule side) parts.0 parts.1) parts.2
 
-module _ (schema : Schema) (rule : Rule) (accepted : IsAccepted schema rule) where
-  letter_step : (side : Side) (x i m : ℕ) → IsTrue (has_word rule side x) → i ≤ schema.dim → slice_get (letters rule side x) m ≡ Some (At i) → step rule side x i ≡ Imp m
+module _ (schema : Schema) (rule : Rule) (in_range : IsInRange schema rule) (incidence : HasIncidence schema.dim rule) where
+  -- a letter is a step
+  pub letter_step : (side : Side) (x i m : ℕ) → IsTrue (has_word rule side x) → i ≤ schema.dim → slice_get (letters rule side x) m ≡ Some (At i) → step rule side x i ≡ Imp m
   letter_step side x i m h b e =
-      let one : HasOnce rule side x i = once schema rule accepted.in_range accepted.incidence side x i h b in
+      let one : HasOnce rule side x i = once schema rule in_range incidence side x i h b in
       let some : 0 < count_by (is_label i) (letters rule side x) = letter_counts i (letters rule side x) m e in
       let no_link : find (is_end x i) (links_on rule side) ≡ None = none_found (is_end x i) (links_on rule side) (omega arith) in
       let at_place : position (is_label i) (letters rule side x) ≡ Some m = place_of i (letters rule side x) m e (omega arith) in
@@ -118,9 +113,9 @@ module _ (schema : Schema) (rule : Rule) (accepted : IsAccepted schema rule) whe
 
   pub read_off : IsReadOff schema.dim rule
   read_off = record {
-    link = λ side x i y w h l. linked_step schema rule accepted.in_range accepted.incidence side x i y l;
+    link = λ side x i y w h l. linked_step schema rule in_range incidence side x i y l;
     letter = letter_step;
     linked = step_linked rule;
     lettered = lettered;
-    end = λ side x i y l. (linked_in_range schema rule accepted.in_range accepted.incidence side x i y l).1;
+    end = λ side x i y l. (linked_in_range schema rule in_range incidence side x i y l).1;
   }

@@ -1,5 +1,6 @@
 pub mod Examples
 pub mod ExamplesOutcomes
+pub mod OneMatch
 pub mod Outcomes
 pub mod Readings
 pub mod Theorem

@@ -1,6 +1,13 @@
 //! The outcomes and budgets of applications, and the runs of scripts, as laws of the definitions.
 
+ghost use Rattle.gm_theory.specs.OneMatch.{OneMatchAtMost};
 ghost use Rattle.gm_theory.specs.Outcomes.{ApplicationsHaveOutcomes, ApplicationsHaveBudgets, ScriptsHaveRuns};
+
+/// At given hook darts a rule has one match at most: two have the same positions and turns, and
+/// each left node at the same darts. The law is the clause; the function does nothing.
+pub fn one_match_at_most()
+    ensures { OneMatchAtMost }
+{}
 
 /// Each application of an accepted rule to a sound map, with a dart's name for each hook and a
 /// value of its kind for each parameter, has an outcome: it is done, or it is refused for the first
