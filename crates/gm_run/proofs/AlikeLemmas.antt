@@ -1,11 +1,9 @@
 -- Being alike is an equivalence of maps, and a map that is alike to a generalised map is one.
-use Rattle.std.proofs.Common.{◌≡◌, ℕ, ◌≤◌, List, [], IsTrue, None, slice_get, refl, sym, ap, subst, ◌∙◌, arith}
-use Rattle.gm_model.specs.declared.rule.Side.TheVariants.{Left}
+use Rattle.std.proofs.Common.{◌≡◌, ℕ, ◌≤◌, List, [], None, slice_get, refl, sym, ap, subst, ◌∙◌, arith}
 use Rattle.gm_model.specs.declared.schema.Embed.{Embed}
 use Rattle.gm_model.specs.declared.schema.Schema.{Schema}
 use Rattle.gm_model.specs.Maps.{Map, IsDart, IsEmbedAt, IsGeneralised, dimension}
-use Rattle.gm_model.specs.Matches.{IsPathTo}
-use Rattle.gm_model.specs.Rules.{Rule, has_word}
+use Rattle.gm_model.specs.Rules.{Rule}
 use Rattle.gm_model.specs.Structure.{IsInRange, HasIncidence}
 use Rattle.gm_theory.proofs.Lists.{none_some}
 use Rattle.gm_run.specs.Alike.{AreAlike}
@@ -65,14 +63,13 @@ alike_generalised a b alike old = record {
         ∙ sym (alike.same.arcs (a.alpha j d) i (old.stays d j (live_back d live) (label_back j k)) (label_back i h))
 
 -- What is used of a rule and a map. The map is a generalised one without embeddings. The rule is in range for its
--- schema, has its structure and arcs in order and no precondition, and has a least path to each left node.
+-- schema, has its structure and arcs in order, and no precondition.
 pub record Suits (rule : Rule) (map : Map) : Type 0 where
   pub generalised : IsGeneralised map
   pub in_range : IsInRange map.schema rule
   pub incidence : HasIncidence map.schema.dim rule
   pub no_embeds : map.schema.embeds ≡ []
   pub no_pre : rule.pre ≡ None
-  pub paths : (x : ℕ) → IsTrue (has_word rule Left x) → (path : List ℕ) × IsPathTo rule x path
 
 pub suits_too : (rule : Rule) (a b : Map) → AreAlike a b → Suits rule a → Suits rule b
 suits_too rule a b alike suits = record {
@@ -81,7 +78,6 @@ suits_too rule a b alike suits = record {
   incidence = subst (λ (s : Schema). HasIncidence s.dim rule) alike.schema suits.incidence;
   no_embeds = ap (λ (s : Schema). s.embeds) (sym alike.schema) ∙ suits.no_embeds;
   no_pre = suits.no_pre;
-  paths = suits.paths;
 }
 
 -- there is no embedding

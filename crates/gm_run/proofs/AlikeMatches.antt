@@ -1,5 +1,5 @@
 -- The candidate of an application, the steps that it meets, and its match are those over a map that is alike.
-use Rattle.std.proofs.Common.{◌≡◌, ℕ, suc, ◌<◌, ◌≤◌, inl, inr, List, [], ◌∷◌, length, take, refl, sym, ap, subst, ◌∙◌, arith}
+use Rattle.std.proofs.Common.{◌≡◌, ℕ, suc, ◌<◌, ◌≤◌, inl, inr, List, [], ◌∷◌, length, take, Some, slice_get, refl, sym, ap, subst, ◌∙◌, arith}
 use Rattle.std.specs.List.{Contains}
 use Rattle.std.specs.Prelude.{slice_index}
 use Rattle.gm_model.specs.declared.rule.Side.TheVariants.{Left}
@@ -10,11 +10,13 @@ use Rattle.gm_model.specs.Applications.{Application, HasHookDarts, MeetsSteps, I
 use Rattle.gm_model.specs.Maps.{Map, IsDart, dimension}
 use Rattle.gm_model.specs.Matches.{Placement, ArePositions, Created, Walked, IsCandidate, IsInstance, IsMetAt, IsPathTo, IsStepMet, along_hook}
 use Rattle.gm_model.specs.Orbits.{IsLeastStep, IsPairBefore, IsWalk, follow}
-use Rattle.gm_model.specs.Rules.{Rule, hook_label, step, width}
+use Rattle.gm_model.specs.Rules.{Rule, hook_label, label_at, letters, step, width}
 use Rattle.gm_model.specs.Structure.{Leads}
-use Rattle.gm_theory.proofs.Candidates.{follow_live, linked_in_range}
+use Rattle.gm_theory.proofs.Candidates.{follow_live, hooks_live, letter_low}
+use Rattle.gm_theory.proofs.LeastPaths.{least_path}
+use Rattle.gm_theory.proofs.RuleLinks.{linked_in_range}
 use Rattle.gm_theory.proofs.RuleSteps.{step_back}
-use Rattle.gm_theory.proofs.Turns.{hook_label_up_to, positions_live}
+use Rattle.gm_theory.proofs.Turns.{hook_label_up_to}
 use Rattle.gm_theory.proofs.Walks.{walk_keeps}
 use Rattle.gm_run.specs.Alike.{AreAlike}
 use Rattle.gm_run.proofs.AlikeLemmas.{Suits, label_there}
@@ -103,27 +105,32 @@ module _ (rule : Rule) (hooks : List ℕ) (params : List Value) (a b : Map) (sui
       let label : i ≤ dimension a = (linked_in_range a.schema rule suits.in_range suits.incidence Left x i z linked).2 in
       follow_there path z y (a.alpha i d) leads (suits.generalised.stays d i live label) ∙ ap (follow b.alpha path) (alike.same.arcs d i live label)
 
-  module _ (place : Placement) (candidate : IsCandidate a rule hooks place) where
-    on_walk : (x p : ℕ) (path : List ℕ) → p < place.positions → IsPathTo rule x path → IsDart a (slice_index candidate.walk p)
-    on_walk x p path within to = positions_live a rule place hooks candidate.walk suits.generalised suits.in_range candidate.positions to.hook to.first p within
+  module _ (place : Placement) (candidate : IsCandidate a rule hooks place) (darts : HasHookDarts here) where
+    hook_there : (t h p : ℕ) → slice_get rule.hooks t ≡ Some h → p < place.positions → IsDart a (place.dart_of h p)
+    hook_there = hooks_live a rule place suits.in_range suits.incidence suits.generalised hooks candidate darts
 
     pub candidate_there : IsCandidate b rule hooks place
     candidate_there = record {
       count = candidate.count;
       walk = candidate.walk;
       positions = positions_there place hooks candidate.walk candidate.positions;
-      forced = λ x p path at to. candidate.forced x p path at to ∙ follow_there path to.hook x (slice_index candidate.walk p) to.leads (on_walk x p path at.1 to);
+      hooked = candidate.hooked;
+      at_darts = candidate.at_darts;
+      in_step = λ t h p q m later at some within turn.
+          candidate.in_step t h p q m later at some within turn
+          ∙ alike.same.arcs (place.dart_of h q) (label_at (letters rule Left h) m) (hook_there t h q at turn.position) (letter_low a.schema rule suits.in_range suits.incidence t h at m);
+      forced = λ x p hook path at to. candidate.forced x p hook path at to ∙ follow_there path hook x (place.dart_of hook p) to.leads (hook_there to.index hook p to.hook_at at.1);
     }
 
     -- ---- the steps that it meets
 
     instance_live : (x p : ℕ) → IsInstance rule place x p → IsDart a (place.dart_of x p)
-    instance_live x p at = go (suits.paths x at.0)
+    instance_live x p at = go (least_path a.schema rule suits.in_range suits.incidence x at.0)
       where
-        go : (path : List ℕ) × IsPathTo rule x path → IsDart a (place.dart_of x p)
-        go (path, to) =
-            subst (IsDart a) (sym (candidate.forced x p path at to))
-            (follow_live a rule place suits.in_range suits.incidence suits.generalised path to.hook x (slice_index candidate.walk p) to.leads (on_walk x p path at.1 to))
+        go : (hook : ℕ) × (path : List ℕ) × IsPathTo rule x hook path → IsDart a (place.dart_of x p)
+        go (hook, path, to) =
+            subst (IsDart a) (sym (candidate.forced x p hook path at to))
+            (follow_live a rule place suits.in_range suits.incidence suits.generalised path hook x (place.dart_of hook p) to.leads (hook_there to.index hook p to.hook_at at.1))
 
     arc_there : (x p i : ℕ) → IsInstance rule place x p → i ≤ dimension a → a.alpha i (place.dart_of x p) ≡ b.alpha i (place.dart_of x p)
     arc_there x p i at h = alike.same.arcs (place.dart_of x p) i (instance_live x p at) h
@@ -153,7 +160,7 @@ module _ (rule : Rule) (hooks : List ℕ) (params : List Value) (a b : Map) (sui
   pub found_there : (place : Placement) → IsFound here place → IsFound there place
   found_there place found = record {
     darts = hook_darts_there found.darts;
-    candidate = candidate_there place found.candidate;
-    steps = steps_there place found.candidate found.steps;
+    candidate = candidate_there place found.candidate found.darts;
+    steps = steps_there place found.candidate found.darts found.steps;
     distinct = distinct_there rule hooks params a b place found.distinct;
   }

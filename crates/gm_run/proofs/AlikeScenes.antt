@@ -9,7 +9,7 @@ use Rattle.gm_model.specs.Matches.{Placement}
 use Rattle.gm_model.specs.Rules.{Rule, has_word, is_added, step}
 use Rattle.gm_model.specs.Structure.{IsInRange, HasIncidence}
 use Rattle.gm_model.specs.Unfolding.{Scene, scene_of, name_in, added_before, added_nodes, IsGone, IsAdded, IsCutAt, IsDartAfter, IsMadeArc, IsArcAfter, LeadsBy, IsUnfolding, next_after}
-use Rattle.gm_match.proofs.Agreement.{IsLike}
+use Rattle.gm_theory.specs.OneMatch.{IsLike}
 use Rattle.gm_theory.proofs.RuleSteps.{step_back, step_within}
 use Rattle.gm_theory.proofs.Tests.{both_true}
 use Rattle.gm_run.specs.Alike.{AreAlike}
@@ -106,7 +106,7 @@ module _ (rule : Rule) (place : Placement) where
 -- ---- for places that are like
 
 module _ (map : Map) (rule : Rule) (hooks : List ℕ) (range : IsInRange map.schema rule) (incidence : HasIncidence map.schema.dim rule) where
-  module _ (place other : Placement) (like : IsLike map rule hooks place other) where
+  module _ (place other : Placement) (like : IsLike rule place other) where
     within_like : (p : ℕ) → p < place.positions → p < other.positions
     within_like p h = subst (λ n. p < n) like.positions h
 
@@ -145,7 +145,7 @@ module _ (map : Map) (rule : Rule) (hooks : List ℕ) (range : IsInRange map.sch
       leads = leads_like made.node made.position i e made.right made.within made.label (step rule Right made.node i) refl made.leads;
     }
 
-  pub unfolding_like : (place other : Placement) → IsLike map rule hooks place other → IsLike map rule hooks other place
+  pub unfolding_like : (place other : Placement) → IsLike rule place other → IsLike rule other place
       → (IsLive : ℕ → Type 0) (alpha : ℕ → ℕ → ℕ) (next : ℕ) → IsUnfolding (scene_of map rule place) IsLive alpha next → IsUnfolding (scene_of map rule other) IsLive alpha next
   unfolding_like place other like back = unfolding_on (scene_of map rule place) (scene_of map rule other) (record {
     dimension = refl;

@@ -3,7 +3,7 @@ use Rattle.std.proofs.Common.{ℕ, ◌+◌, ◌*◌, ◌≤◌, inl, inr, Bool, 
 use Rattle.std.specs.List.{Contains, AllZip}
 use Rattle.gm_model.specs.declared.schema.Schema.{Schema}
 use Rattle.gm_model.specs.declared.value.Value.{Value}
-use Rattle.gm_model.specs.Applications.{Application, Cause, Decider, IsStaying, IsReady, IsUnfolded, IsPreUnits, IsReadUnits, IsReadSum, IsReachedSum, IsWork, NoHookDarts, NoMatch, NotReady, Ready, IsBudget, Of}
+use Rattle.gm_model.specs.Applications.{Application, Cause, Decider, HasHookDarts, IsStaying, IsReady, IsUnfolded, IsPreUnits, IsReadUnits, IsReadSum, IsReachedSum, IsWork, NoHookDarts, NoMatch, NotReady, Ready, IsBudget, Of}
 use Rattle.gm_model.specs.Limits.{most_names}
 use Rattle.gm_model.specs.Maps.{Map}
 use Rattle.gm_model.specs.Matches.{Placement, IsCandidate}
@@ -30,19 +30,19 @@ module _ (rule : Rule) (hooks : List ℕ) (params : List Value) (a b : Map) (sui
   staying_there : (place : Placement) (n : ℕ) → HasCount (IsStaying here place) n → HasCount (IsStaying there place) n
   staying_there place n = count_same (IsStaying here place) (IsStaying there place) n (λ d. (λ h. ((alike.same.darts d).0 h.0, h.1), λ h. ((alike.same.darts d).1 h.0, h.1)))
 
-  end_there : (place : Placement) (candidate : IsCandidate a rule hooks place) (told : Option Cause) → IsEnd here place told → IsEnd there place told
-  end_there place candidate _ (Breaks x p i first) = Breaks x p i (broken_there rule hooks params a b suits alike place candidate x p i first)
-  end_there place candidate _ (Repeats x p y q steps first) = Repeats x p y q (steps_there rule hooks params a b suits alike place candidate steps) (first_repeat_there rule hooks params a b place x p y q first)
-  end_there place candidate told (Fits live _ steps distinct counted room) =
-      Fits live told (steps_there rule hooks params a b suits alike place candidate steps) (distinct_there rule hooks params a b place distinct) (staying_there place live counted)
+  end_there : (place : Placement) (candidate : IsCandidate a rule hooks place) → HasHookDarts here → (told : Option Cause) → IsEnd here place told → IsEnd there place told
+  end_there place candidate darts _ (Breaks x p i first) = Breaks x p i (broken_there rule hooks params a b suits alike place candidate darts x p i first)
+  end_there place candidate darts _ (Repeats x p y q steps first) = Repeats x p y q (steps_there rule hooks params a b suits alike place candidate darts steps) (first_repeat_there rule hooks params a b place x p y q first)
+  end_there place candidate darts told (Fits live _ steps distinct counted room) =
+      Fits live told (steps_there rule hooks params a b suits alike place candidate darts steps) (distinct_there rule hooks params a b place distinct) (staying_there place live counted)
       (subst (λ n. IsRoom n (place.positions * added_nodes rule) live told) alike.same.next room)
 
   pub ends_there : (told : Option Cause) → Ends here told → Ends there told
   ends_there told ends = record {
     place = ends.place;
     darts = hook_darts_there rule hooks params a b suits alike ends.darts;
-    candidate = candidate_there rule hooks params a b suits alike ends.place ends.candidate;
-    is_end = end_there ends.place ends.candidate told ends.is_end;
+    candidate = candidate_there rule hooks params a b suits alike ends.place ends.candidate ends.darts;
+    is_end = end_there ends.place ends.candidate ends.darts told ends.is_end;
   }
 
   pub refused_there : (cause : Cause) → IsRefusedBy here cause → IsRefusedBy there cause
@@ -109,7 +109,7 @@ module _ (rule : Rule) (hooks : List ℕ) (params : List Value) (a b : Map) (sui
   work_there : (positions reached read : ℕ) → IsWork (app_over rule hooks params a) positions reached read → IsWork (app_over rule hooks params b) positions reached read
   work_there _ _ _ (NoHookDarts none) = NoHookDarts (λ darts. none (hook_darts_there rule hooks params b a suits_there back darts))
   work_there _ _ _ (NoMatch place darts candidate no_match) =
-      NoMatch place (hook_darts_there rule hooks params a b suits alike darts) (candidate_there rule hooks params a b suits alike place candidate) (λ found. no_match (found_there rule hooks params b a suits_there back place found))
+      NoMatch place (hook_darts_there rule hooks params a b suits alike darts) (candidate_there rule hooks params a b suits alike place candidate darts) (λ found. no_match (found_there rule hooks params b a suits_there back place found))
   work_there _ _ _ (NotReady place u found unready units) =
       NotReady place u (found_there rule hooks params a b suits alike place found) (λ ready. unready (ready_there rule hooks params b a suits_there back place ready)) (pre_units_there rule hooks params a b suits alike place u units)
   work_there _ _ _ (Ready place live alpha reached u w ready unfolded reaches units read) =

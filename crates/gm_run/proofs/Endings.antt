@@ -10,7 +10,8 @@ use Rattle.gm_model.specs.Matches.{Placement, IsCandidate, IsInstance}
 use Rattle.gm_model.specs.Orbits.{HasCount, IsPairBefore}
 use Rattle.gm_model.specs.Unfolding.{added_nodes}
 use Rattle.gm_apply.proofs.Counting.{count_same}
-use Rattle.gm_match.proofs.Agreement.{IsLike, candidates_agree, met_alike}
+use Rattle.gm_theory.specs.OneMatch.{IsLike}
+use Rattle.gm_theory.proofs.Agreement.{candidates_agree, met_alike}
 use Rattle.gm_theory.proofs.Lists.{none_some, some_same}
 use Rattle.gm_theory.proofs.ValuesUnique.{one_count}
 use Rattle.gm_theory.proofs.Walks.{pair_order}
@@ -91,7 +92,7 @@ module _ (app : Application) (place : Placement) where
 
 -- ---- candidates that are like have the same end
 
-module _ (app : Application) (suits : Suits app.rule app.map) (place other : Placement) (like : IsLike app.map app.rule app.hooks place other) (back : IsLike app.map app.rule app.hooks other place) where
+module _ (app : Application) (suits : Suits app.rule app.map) (place other : Placement) (like : IsLike app.rule place other) (back : IsLike app.rule other place) where
   instance_back : (x p : ℕ) → IsInstance app.rule other x p → IsInstance app.rule place x p
   instance_back x p at = (at.0, subst (λ n. p < n) back.positions at.1)
 
@@ -106,7 +107,7 @@ module _ (app : Application) (suits : Suits app.rule app.map) (place other : Pla
     before = λ y q j earlier at h. met_alike app.map app.rule app.hooks suits.in_range suits.incidence other place back y q j at h (first.before y q j earlier (instance_back y q at) h);
   }
 
-repeat_like : (app : Application) (place other : Placement) → IsLike app.map app.rule app.hooks place other → (x p y q : ℕ) → IsRepeat app place x p y q → IsRepeat app other x p y q
+repeat_like : (app : Application) (place other : Placement) → IsLike app.rule place other → (x p y q : ℕ) → IsRepeat app place x p y q → IsRepeat app other x p y q
 repeat_like app place other like x p y q r = record {
   first = (r.first.0, subst (λ n. p < n) like.positions r.first.1);
   second = (r.second.0, subst (λ n. q < n) like.positions r.second.1);
@@ -114,7 +115,7 @@ repeat_like app place other like x p y q r = record {
   same = sym (like.darts x p r.first) ∙ r.same ∙ like.darts y q r.second;
 }
 
-module _ (app : Application) (suits : Suits app.rule app.map) (place other : Placement) (like : IsLike app.map app.rule app.hooks place other) (back : IsLike app.map app.rule app.hooks other place) where
+module _ (app : Application) (suits : Suits app.rule app.map) (place other : Placement) (like : IsLike app.rule place other) (back : IsLike app.rule other place) where
   first_repeat_like : (x p y q : ℕ) → IsFirstRepeat app place x p y q → IsFirstRepeat app other x p y q
   first_repeat_like x p y q first = record {
     here = repeat_like app place other like x p y q first.here;
@@ -173,8 +174,8 @@ module _ (app : Application) (suits : Suits app.rule app.map) where
     is_end = Fits done.ready.live None done.ready.found.steps done.ready.found.distinct done.ready.live_is (HasBoth done.ready.darts_fit done.ready.names_fit);
   }
 
-  pub candidates_like : (place other : Placement) → IsCandidate app.map app.rule app.hooks place → IsCandidate app.map app.rule app.hooks other → IsLike app.map app.rule app.hooks place other
-  candidates_like place other ours theirs = candidates_agree app.map app.rule app.hooks suits.paths place other ours theirs
+  pub candidates_like : (place other : Placement) → IsCandidate app.map app.rule app.hooks place → IsCandidate app.map app.rule app.hooks other → IsLike app.rule place other
+  candidates_like place other ours theirs = candidates_agree app.map app.rule app.hooks suits.in_range suits.incidence place other ours theirs
 
   pub ends_once : (told other : Option Cause) → Ends app told → Ends app other → told ≡ other
   ends_once told other ours theirs =

@@ -10,5 +10,4 @@ pub mod OnlyRun
 pub mod Determined
 pub mod Advancing
 pub mod Sayable
-pub mod LeastPaths
 pub mod OneRun

@@ -10,14 +10,13 @@ use Rattle.gm_model.specs.Runs.{Outcome, Done, Refused, IsOutcome}
 use Rattle.gm_model.specs.Structure.{IsInRange, HasIncidence}
 use Rattle.gm_model.specs.Unfolding.{IsGone, IsUnfolding, scene_of, added_nodes}
 use Rattle.gm_apply.proofs.Counting.{count_same}
-use Rattle.gm_match.proofs.Agreement.{IsLike}
+use Rattle.gm_theory.specs.OneMatch.{IsLike}
 use Rattle.gm_theory.proofs.ValuesUnique.{one_count}
 use Rattle.gm_run.specs.Alike.{AreAlike}
 use Rattle.gm_run.proofs.AlikeLemmas.{Suits, suits_too, no_embed, alike_back}
 use Rattle.gm_run.proofs.AlikeMatches.{candidate_there}
 use Rattle.gm_run.proofs.AlikeScenes.{gone_like, unfolding_there, unfolding_like}
 use Rattle.gm_run.proofs.AlikeWork.{ends_there, refused_there, budget_there}
-use Rattle.gm_run.proofs.LeastPaths.{least_path}
 use Rattle.gm_run.proofs.Endings.{candidates_like, refused_by, done_ends, one_cause, done_or_refused}
 
 module _ (schema : Schema) (rule : Rule) (no_embeds : schema.embeds ≡ []) (no_pre : rule.pre ≡ None) (in_range : IsInRange schema rule) (incidence : HasIncidence schema.dim rule) (hooks : List ℕ) (params : List Value) where
@@ -32,7 +31,6 @@ module _ (schema : Schema) (rule : Rule) (no_embeds : schema.embeds ≡ []) (no_
     incidence = subst (λ (s : Schema). HasIncidence s.dim rule) (sym is_schema) incidence;
     no_embeds = ap (λ (s : Schema). s.embeds) is_schema ∙ no_embeds;
     no_pre = no_pre;
-    paths = least_path schema rule in_range incidence;
   }
 
   module _ (a b : Map) (is_schema : b.schema ≡ schema) (generalised : IsGeneralised b) (alike : AreAlike a b) where
@@ -45,12 +43,12 @@ module _ (schema : Schema) (rule : Rule) (no_embeds : schema.embeds ≡ []) (no_
     -- two that are done add and remove as many darts, and leave maps that are alike
     module _ (added removed added' removed' : ℕ) (after after' : Map) (first : IsDone (app_at a) after added removed) (second : IsDone (app_at b) after' added' removed') where
       candidate : IsCandidate b rule hooks first.place
-      candidate = candidate_there rule hooks params a b theirs alike first.place first.ready.found.candidate
+      candidate = candidate_there rule hooks params a b theirs alike first.place first.ready.found.candidate first.ready.found.darts
 
-      like : IsLike b rule hooks first.place second.place
+      like : IsLike rule first.place second.place
       like = candidates_like (app_at b) ours first.place second.place candidate second.ready.found.candidate
 
-      back : IsLike b rule hooks second.place first.place
+      back : IsLike rule second.place first.place
       back = candidates_like (app_at b) ours second.place first.place second.ready.found.candidate candidate
 
       unfolded : IsUnfolding (scene_of b rule second.place) (IsDart after) after.alpha after.next
