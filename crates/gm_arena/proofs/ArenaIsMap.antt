@@ -1,5 +1,5 @@
 -- The map in an arena is one: its names lie below the next, and each value is one of its embedding's kind.
-use Rattle.std.proofs.Common.{◌≡◌, ℕ, ◌<◌, List, Option, Some, None, length, map, slice_get, slice_index_or, All, IsTrue, refl, sym, ◌∙◌, ap, subst, pos}
+use Rattle.std.proofs.Common.{◌≡◌, ℕ, ◌<◌, List, Option, Some, None, length, map, slice_get, slice_index_or, IsTrue, refl, sym, ◌∙◌, ap, subst, pos}
 use Rattle.std.specs.FinMap.{get}
 use Rattle.std.specs.Option.{is_some, option_map, option_map_or}
 use Rattle.std.proofs.lemmas.Bool.{false≢true}
@@ -9,7 +9,7 @@ use Rattle.gm_model.specs.declared.schema.Embed.{Embed}
 use Rattle.gm_model.specs.declared.value.Kind.{Kind}
 use Rattle.gm_model.specs.declared.value.Value.{Value}
 use Rattle.gm_model.specs.declared.value.Value.TheVariants.{Int}
-use Rattle.gm_model.specs.Maps.{IsDart, IsEmbedAt, IsMap}
+use Rattle.gm_model.specs.Maps.{IsEmbedAt, IsMap}
 use Rattle.gm_model.specs.Values.{kind_of, IsValueOf}
 use Rattle.gm_arena.specs.ArenaAsMap.{as_map}
 use Rattle.gm_arena.specs.ArenaMap.{ArenaMap, Dart}

@@ -1,8 +1,8 @@
 -- What a sound arena has inside: its darts and slots by look-up, and that its map is lawful.
-use Rattle.std.proofs.Common.{◌≡◌, ◌≢◌, ℕ, ◌+◌, ◌*◌, ◌<◌, ◌≤◌, List, get_or, map, drop, length, Option, Some, None, refl, sym, ap, subst, ◌∙◌, inl, inr, arith, All, length-drop, get_or-drop}
+use Rattle.std.proofs.Common.{◌≡◌, ◌≢◌, ℕ, ◌+◌, ◌*◌, ◌<◌, ◌≤◌, List, get_or, map, drop, length, pos, Option, Some, None, refl, sym, ap, subst, ◌∙◌, inl, inr, arith, All, length-drop, get_or-drop}
 use Rattle.std.specs.Option.{option_map, option_map_or, IsSome, unwrap_or}
 use Rattle.std.specs.FinMap as map
-use Rattle.std.proofs.lemmas.List.{get_or-map, get_or_past, length-map, length-take-le, get_or-take}
+use Rattle.std.proofs.lemmas.List.{get_or_default, get_or-map, get_or_past, length-map, length-take-le, get_or-take}
 use Rattle.std.proofs.lemmas.List.Elements.{All-map, All-weaker}
 use Rattle.std.proofs.lemmas.Bool.{cases_lt}
 use Rattle.std.proofs.lemmas.Nat.{mul-le}
@@ -10,8 +10,10 @@ use Rattle.std.proofs.lemmas.Option.{none-some, same_Some}
 use Rattle.slab.specs.Slab.{Slab, get}
 use Rattle.gm_model.specs.declared.schema.Schema.{Schema}
 use Rattle.gm_model.specs.declared.value.Value.{Value}
+use Rattle.gm_model.specs.declared.value.Value.TheVariants.{Int}
 use Rattle.gm_arena.specs.declared.slot.Slot.{Slot}
 use Rattle.gm_arena.specs.declared.arena.Place.{Place}
+use Rattle.gm_arena.specs.ArenaAsMap.{value}
 use Rattle.gm_arena.specs.ArenaMap.{Dart, IsLiveName, name_at, alpha}
 use Rattle.gm_arena.specs.Lawful.{IsLawful, IsLawfulDart, AreGoodValues}
 use Rattle.gm_arena.specs.Inside.{no_slot, slot_in, name_in, part_of, dart_in, darts_in, slots_in, map_of, IsSound}
@@ -184,6 +186,16 @@ module _ (schema : Schema) (labels width : ℕ) (places : Slab Place) (neighbour
       ∙ sym (ap Some (ap (alpha (map_of schema labels width places neighbours values table next spare bound) label) (name_at_in places slot ∙ name_in-get places slot place e)
       ∙ (ap (λ o. option_map_or (λ (dart : Dart). get_or dart.alphas label place.name) o place.name) (dart_at slot place e)
       ∙ (read ∙ name_in-get places _ to.0 to.1))))
+
+  -- the value that a slot has is the value by name
+  pub value_at : (slot : ℕ) (place : Place) (e : ℕ) (other : Value) → get places slot ≡ Some place → e < width → get_or values (slot * width + e) other ≡ value (map_of schema labels width places neighbours values table next spare bound) e (name_at (map_of schema labels width places neighbours values table next spare bound) slot)
+  value_at slot place e other at h =
+      let front = part_of width values slot in
+      let long : e < length front = rw (part_long width values places.capacity slot (sound.placed slot place at).below_capacity sound.long) h in
+      sym (get_or-take width (drop (slot * width) values) e other h ∙ get_or-drop (slot * width) values e other)
+      ∙ get_or_default front e other (Int (pos 0)) long
+      ∙ sym (ap (value (map_of schema labels width places neighbours values table next spare bound) e) (name_at_in places slot ∙ name_in-get places slot place at)
+      ∙ ap (λ o. option_map_or (λ (dart : Dart). get_or dart.values e (Int (pos 0))) o (Int (pos 0))) (dart_at slot place at))
 
   -- the dart that is lent
   pub row_at : (slot : ℕ) (place : Place) → get places slot ≡ Some place → map.get (darts_in labels width places neighbours values table) place.name ≡ Some (record { alphas = map (λ (s : Slot). unwrap_or (map.get (slots_in places) s.at) 0) (part_of labels neighbours slot); values = part_of width values slot })

@@ -4,6 +4,7 @@ pub mod ChangeLemmas
 pub mod AlphaLemmas
 pub mod RemoveLemmas
 pub mod ReserveLemmas
+pub mod RevalueLemmas
 pub mod NewLemmas
 pub mod ValueLemmas
 pub mod AddLemmas

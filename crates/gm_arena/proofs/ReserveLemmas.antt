@@ -52,6 +52,13 @@ links_within schema labels width places neighbours values table next spare bound
     let p = live_place places slot h in
     stretch slot places.capacity labels (length neighbours) (sound.placed slot p.0 p.1).below_capacity sound.linked
 
+-- and its values
+pub values_within : (schema : Schema) (labels width : ℕ) (places : Slab Place) (neighbours : List Slot) (values : List Value) (table : List ℕ) (next spare bound : ℕ) → IsSound schema labels width places neighbours values table next spare bound
+    → (slot : ℕ) → IsSome (map.get (slots_in places) slot) → slot * width + width ≤ length values
+values_within schema labels width places neighbours values table next spare bound sound slot h =
+    let p = live_place places slot h in
+    stretch slot places.capacity width (length values) (sound.placed slot p.0 p.1).below_capacity sound.long
+
 module _ (schema : Schema) (labels width : ℕ) (places : Slab Place) (neighbours : List Slot) (values : List Value) (table : List ℕ) (next spare bound : ℕ) (sound : IsSound schema labels width places neighbours values table next spare bound)
     (places' : Slab Place) (neighbours' : List Slot) (values' : List Value) (table' : List ℕ)
     (slots : places'.slots ≡ places.slots) (links_kept : take (length neighbours) neighbours' ≡ neighbours) (kept : take (length values) values' ≡ values) (entries : (name : ℕ) → slot_in table' name ≡ slot_in table name) where

@@ -49,6 +49,16 @@ with_alpha m name label to = record m {
   darts = put_if m.darts name (option_map (λ dart. turned dart label to) (get m.darts name));
 }
 
+-- the dart with another value of this embedding
+abbrev pub revalued : Dart → ℕ → Value → Dart
+revalued dart e v = record { alphas = dart.alphas; values = slice_set dart.values e v }
+
+-- with this one value
+abbrev pub with_value : ArenaMap → ℕ → ℕ → Value → ArenaMap
+with_value m name e v = record m {
+  darts = put_if m.darts name (option_map (λ dart. revalued dart e v) (get m.darts name));
+}
+
 -- no other dart has the dart as a neighbour
 abbrev pub IsAlone : ArenaMap → ℕ → Type 0
 IsAlone m name = (other label : ℕ) → IsLiveName m other → other ≢ name → label ≤ m.schema.dim → alpha m label other ≢ name

@@ -71,9 +71,12 @@ impl Model for Arena {
 
 impl Arena {
     ghost use Rattle.gm_arena.specs.ArenaMap.{IsAt, IsLiveSlot, IsLiveName, name_at, alpha};
-    ghost use Rattle.gm_model.specs.Maps.{IsSchema};
+    ghost use Rattle.gm_model.specs.declared.schema.Embed.{Embed};
+    ghost use Rattle.gm_model.specs.Maps.{IsSchema, IsEmbedAt};
+    ghost use Rattle.gm_model.specs.Values.{IsValueOf};
+    ghost use Rattle.gm_arena.specs.ArenaAsMap.{value};
     ghost use Rattle.gm_arena.specs.Lawful.{IsLawful, AreGoodValues};
-    ghost use Rattle.gm_arena.specs.Edits.{empty_map, with_dart, with_alpha, without_dart, IsAlone};
+    ghost use Rattle.gm_arena.specs.Edits.{empty_map, with_dart, with_alpha, with_value, without_dart, IsAlone};
 
     /// An arena without darts, whose next name is 0. It takes no memory.
     pub fn new(alloc: Global, schema: Schema) -> Arena
@@ -192,16 +195,29 @@ impl Arena {
         self.neighbours[slot.at as usize * self.labels + label as usize]
     }
 
+    /// The value of the dart at a slot, of an embedding by its index in the schema.
+    pub fn value<L: Ledger>(&self, slot: Slot, embed: u8, steps: &mut Steps<L>) -> Value
+        requires live { IsLiveSlot self.now slot.at }
+        requires embed { embed < length self.now.schema.embeds }
+        ensures value { result ≡ value self.now embed (name_at self.now slot.at) }
+        ensures cost { steps.new ≡ steps.old + 1 }
+    {
+        steps.tick();
+        self.values[slot.at as usize * self.width + embed as usize]
+    }
+
     /// Makes room for so many more darts and for all names below `names`, so that `add` takes no
     /// memory. An arena has at most 1,048,576 darts, with names below 16,777,216. A refused call
-    /// may have made room for some of them.
+    /// may have made room for some of them, and for no more.
     pub fn reserve(&mut self, more: u32, names: u32) -> Result<(), OutOfMemory>
         requires darts { self.old.count + more ≤ most_darts }
         requires names { names ≤ most_names }
         ensures darts { OnOk result (self.new.spare ≡ max self.old.spare more) }
         ensures names { OnOk result (self.new.reserved ≡ max self.old.reserved names) }
         ensures spare_stays { self.old.spare ≤ self.new.spare }
+        ensures spare_most { self.new.spare ≤ max self.old.spare more }
         ensures reserved_stays { self.old.reserved ≤ self.new.reserved }
+        ensures reserved_most { self.new.reserved ≤ max self.old.reserved names }
         ensures map { self.new ≡ record self.old { spare = self.new.spare; reserved = self.new.reserved } }
     {
         pad_table(&mut self.table, names as usize)?;
@@ -252,6 +268,24 @@ impl Arena {
     {
         steps.tick();
         self.neighbours[slot.at as usize * self.labels + label as usize] = to;
+    }
+
+    /// Sets the value of the dart at a slot, of an embedding by its index in the schema. The other
+    /// darts of the embedding's orbit keep theirs.
+    pub fn set_value<L: Ledger>(
+        &mut self,
+        slot: Slot,
+        embed: u8,
+        value: Value,
+        steps: &mut Steps<L>,
+    )
+        requires live { IsLiveSlot self.old slot.at }
+        requires value { (kept : Embed) × IsEmbedAt self.old.schema embed kept × IsValueOf kept.kind value }
+        ensures map { self.new ≡ with_value self.old (name_at self.old slot.at) embed value }
+        ensures cost { steps.new ≡ steps.old + 1 }
+    {
+        steps.tick();
+        self.values[slot.at as usize * self.width + embed as usize] = value;
     }
 
     /// Removes a dart that is no other dart's neighbour. Its slot may be used again.
