@@ -32,6 +32,7 @@ created m rule placed none hooks nodes one places = record {
     walk = [];
     positions = Created no_hooks one;
     hooked = λ h p first b. none_some h (rw no_hooks at first);
+    at_darts = λ t h d there named. none_some h (rw no_hooks at there);
     embedded = record {
       live = λ x p at. absurd (not_left x at.0);
       injective = λ x p y q at at' e. absurd (not_left x at.0);
