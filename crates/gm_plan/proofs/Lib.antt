@@ -1,10 +1,8 @@
 pub mod Accepted
-pub mod Extended
-pub mod Found
+pub mod Distinct
+pub mod Hooks
 pub mod LeftNodes
 pub mod OneFault
 pub mod Orders
 pub mod PathLinks
 pub mod Rows
-pub mod RuleLinks
-pub mod Search
