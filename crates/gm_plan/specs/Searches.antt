@@ -75,5 +75,6 @@ pub record IsSearchedBy (steps : ℕ → ℕ → Step) (hooks : List ℕ) (rank 
   pub below : (t : ℕ) → q < count → t < count → IsSmallerPath (way t) (way q ++ l ∷ [])
   pub few : count ≤ length links + 1
 
+-- the same, by the tables of steps and ranks
 abbrev pub IsSearched : List (List Step) → List ℕ → List (Option ℕ) → List Link → ℕ → ℕ → ℕ → Type 0
 IsSearched rows hooks ranks links count q l = IsSearchedBy (row_step rows) hooks (rank_at ranks) links count q l
