@@ -4,12 +4,12 @@ use Rattle.std.proofs.lemmas.Option.{slice_get-get_or}
 use Rattle.gm_model.specs.declared.rule.RuleFault.{RuleFault}
 use Rattle.gm_model.specs.declared.rule.RuleFault.TheVariants as faults
 use Rattle.gm_model.specs.Rules.{Rule}
-use Rattle.gm_model.specs.Structure.{AreGood, HasHook, HasPlainHook, HasWidth, IsConnected, IsStructureFault, NoOneHook, BadHookWord, BadLength, Unconnected}
+use Rattle.gm_model.specs.Structure.{AreGood, HasHook, HasPlainHook, HasWidth, IsConnected, IsStructureFault, BadHooks, BadHookWord, BadLength, Unconnected}
 use Rattle.gm_incident.specs.Faults.{IsFirstFault}
 
 module _ (rule : Rule) (fault : RuleFault) where
   pub hooks_fault : fault ≡ faults.Hooks → (HasHook rule → ⊥) → IsStructureFault rule fault
-  hooks_fault e h = subst (IsStructureFault rule) (sym e) (NoOneHook h)
+  hooks_fault e h = subst (IsStructureFault rule) (sym e) (BadHooks h)
 
   module _ (hook : HasHook rule) where
     pub hook_word_fault : IsFirstFault (HasPlainHook rule) (length rule.hooks) (λ t. faults.HookWord (slice_index rule.hooks t)) fault → IsStructureFault rule fault

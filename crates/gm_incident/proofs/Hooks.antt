@@ -1,8 +1,9 @@
 -- When a rule has as many hooks as it needs, and when the word of each is plain.
-use Rattle.std.proofs.Common.{◌≡◌, ℕ, zero, suc, Bool, true, false, List, [], ◌∷◌, length, Some, refl, subst, sym, ◌∙◌, ap, arith}
+use Rattle.std.proofs.Common.{◌≡◌, ℕ, zero, suc, ◌<◌, Bool, true, false, eqb, IsTrue, IsFalse, List, [], ◌∷◌, length, Some, refl, subst, sym, ap, ◌∙◌, arith}
+use Rattle.std.specs.Bool.{beq}
 use Rattle.std.specs.List.{slice_get, slice_index}
-use mir.Val.{bool_byte}
-use Rattle.std.proofs.lemmas.Bool.{false_from_ne_true}
+use Rattle.std.proofs.Math.Dec.{eqb-suc-zero}
+use Rattle.std.proofs.lemmas.Bool.{false_from_ne_true, false≢true, true≢false}
 use Rattle.gm_model.specs.declared.rule.Side.TheVariants.{Left}
 use Rattle.gm_model.specs.Rules.{Rule, has_word, letters}
 use Rattle.gm_model.specs.Structure.{HasHook, IsPlainWord, HasPlainHook}
@@ -15,17 +16,28 @@ first_left rule lf (suc x) h = lf 0 (suc x) (omega arith) h
 no_left : (rule : Rule) → HasLeftFirst rule → has_word rule Left 0 ≡ false → (x : ℕ) → has_word rule Left x ≡ false
 no_left rule lf h x = false_from_ne_true (has_word rule Left x) (λ e. let t : has_word rule Left 0 ≡ true = first_left rule lf x e in cc)
 
-empty : (xs : List ℕ) → length xs ≡ 0 → xs ≡ []
-empty [] h = refl
-empty (x ∷ xs) h = absurd (omega arith)
+-- whether there are hooks tells whether there are as many as the rule needs
+module _ (rule : Rule) (first : HasLeftFirst rule) where
+  pub hooks_enough : (left : Bool) → has_word rule Left 0 ≡ left → beq (eqb (length rule.hooks) 0) left ≡ false → HasHook rule
+  hooks_enough left h e = go left rule.hooks h e
+    where
+      go : (left : Bool) (hooks : List ℕ) → has_word rule Left 0 ≡ left → beq (eqb (length hooks) 0) left ≡ false → ((x : ℕ) → IsTrue (has_word rule Left x) → 0 < length hooks) × (((x : ℕ) → IsFalse (has_word rule Left x)) → hooks ≡ [])
+      go true [] h e = absurd (true≢false e)
+      go true (hook ∷ hooks) h e = ((λ x w. omega arith), (λ none. absurd (false≢true (sym (none 0) ∙ h))))
+      go false [] h e = ((λ x w. absurd (false≢true (sym h ∙ first_left rule first x w))), (λ none. refl))
+      go false (hook ∷ hooks) h e = absurd (true≢false (ap (λ none. beq none false) (sym (eqb-suc-zero (length hooks))) ∙ e))
 
-pub hooks_enough : (rule : Rule) (b : Bool) → HasLeftFirst rule → has_word rule Left 0 ≡ b → length rule.hooks ≡ bool_byte b → HasHook rule
-hooks_enough rule true lf h e = ((λ x p. e), (λ none. absurd (let f : has_word rule Left 0 ≡ false = none 0 in cc)))
-hooks_enough rule false lf h e = ((λ x p. absurd (let f : has_word rule Left x ≡ false = no_left rule lf h x in cc)), (λ none. empty rule.hooks e))
-
-pub hooks_wrong : (rule : Rule) (b : Bool) → HasLeftFirst rule → has_word rule Left 0 ≡ b → (length rule.hooks ≡ bool_byte b → ⊥) → HasHook rule → ⊥
-hooks_wrong rule true lf h ne hook = ne (hook.0 0 h)
-hooks_wrong rule false lf h ne hook = ne (ap length (hook.1 (no_left rule lf h)))
+  pub hooks_wrong : (left : Bool) → has_word rule Left 0 ≡ left → beq (eqb (length rule.hooks) 0) left ≡ true → HasHook rule → ⊥
+  hooks_wrong left h e hook = go left rule.hooks h e hook
+    where
+      go : (left : Bool) (hooks : List ℕ) → has_word rule Left 0 ≡ left → beq (eqb (length hooks) 0) left ≡ true → ((x : ℕ) → IsTrue (has_word rule Left x) → 0 < length hooks) × (((x : ℕ) → IsFalse (has_word rule Left x)) → hooks ≡ []) → ⊥
+      go true [] h e hook = omega (arith, hook.0 0 h)
+      go true (hook ∷ hooks) h e all = false≢true (ap (λ none. beq none true) (sym (eqb-suc-zero (length hooks))) ∙ e)
+      go false [] h e all = false≢true e
+      go false (hook ∷ hooks) h e all = some_none (all.1 (no_left rule first h))
+        where
+          some_none : hook ∷ hooks ≡ [] → ⊥
+          some_none same = cc
 
 -- ---- the words of the hooks
 

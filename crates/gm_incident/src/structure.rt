@@ -24,13 +24,13 @@ pub fn check_structure(rule: &RuleTable) -> Result<(), RuleFault>
     check_connected(rule)
 }
 
-/// Whether a rule with left nodes has one hook, and a creation rule none.
+/// Whether a rule with left nodes has a hook, and a creation rule none.
 fn check_hooks(rule: &RuleTable) -> Result<(), RuleFault>
     requires { HasLeftFirst (rule_of rule.now) }
     ensures { MatchResult result (λ _. HasHook (rule_of rule.now)) (λ fault. (fault ≡ RuleFault.Hooks) × (HasHook (rule_of rule.now) → ⊥)) }
 {
     let has_left_nodes = rule.word(Side::Left, 0).is_some();
-    if rule.hooks.as_slice().len() != usize::from(has_left_nodes) {
+    if rule.hooks.as_slice().is_empty() == has_left_nodes {
         return Err(RuleFault::Hooks);
     }
     Ok(())

@@ -1,100 +1,140 @@
--- A search at one label of a node: the link there leads to a node that is found already, or to one more.
-use Rattle.std.proofs.Common.{◌≡◌, ◌≢◌, ℕ, zero, suc, ◌+◌, ◌<◌, ◌↔◌, IsTrue, Bool, Option, Some, None, Bor, cond, eqb, List, [], ◌∷◌, ◌++◌, length, refl, sym, ap, subst, ◌∙◌, add-one, arith}
-use Rattle.std.proofs.lemmas.Bool.{eqb-true, eq-eqb, ne_eqb}
-use Rattle.std.proofs.lemmas.List.{get_or_append_left, get_or_default, get_or_push, length_push}
-use Rattle.std.specs.List.{find, count_by, Contains}
-use Rattle.std.specs.Option.{is_some, option_copied}
+-- A search for the least paths follows a link to a node that is new.
+use Rattle.std.proofs.Common.{◌≡◌, ◌≢◌, ℕ, zero, suc, ◌+◌, ◌<◌, ◌≤◌, ◌⊎◌, inl, inr, ◌↔◌, Bool, true, List, [], ◌∷◌, ◌++◌, length, map, take, Option, Some, None, get_or, sym, ap, subst, ◌∙◌, arith, append_assoc}
+use Rattle.std.proofs.lemmas.Bool.{cases_lt}
+use Rattle.std.proofs.lemmas.List.{get_or_append_left, get_or_push, length_push, map-append, take-append-le, take_all}
+use Rattle.std.proofs.lemmas.List.Elements.{Contains-append_cases, Contains-append_left, Contains-append_right}
+use Rattle.std.proofs.lemmas.Option.{get_or_from_slice_get, slice_get-get_or, slice_get_within}
+use Rattle.std.specs.List.{Contains, slice_get}
 use Rattle.gm_model.specs.declared.rule.Link.{Link}
 use Rattle.gm_model.specs.declared.step.Step.{Step}
 use Rattle.gm_model.specs.declared.step.Step.TheVariants.{Exp}
 use Rattle.gm_model.specs.Rules.{link_from}
-use Rattle.gm_plan.specs.Searches.{row_step, link_at, node_at, IsSearched, IsFound, IsFoundAt}
-use Rattle.gm_theory.proofs.Candidates.{contains_counts}
-use Rattle.gm_theory.proofs.Lists.{find_passes, find_none}
-use Rattle.gm_theory.proofs.Tests.{not_both}
-use Rattle.gm_plan.proofs.RuleLinks.{find_contains}
-use Rattle.gm_plan.proofs.Search.{search_starts, search_passes, search_moves, search_finds, IsOneMore}
+use Rattle.gm_plan.specs.Searches.{StepsLead, IsAtMost, found_nodes, IsRankedLink}
+use Rattle.gm_plan.proofs.Distinct.{distinct_push}
+use Rattle.gm_plan.proofs.Search.{below_or_at, same_end, leads_on, IsDoneWithin, IsFollowed}
+use Rattle.gm_theory.proofs.Lists.{none_some, some_same}
+use Rattle.gm_theory.proofs.Tests.{same_or_not}
 
-link_kept : (links : List Link) (link : Link) (t : ℕ) → t < length links → link_at (links ++ link ∷ []) t ≡ link_at links t
-link_kept links link t h = get_or_append_left links (link ∷ []) (link_from 0 0 0) t h
+-- ---- one link more
 
-link_new : (links : List Link) (link : Link) (t : ℕ) → t ≡ length links → link_at (links ++ link ∷ []) t ≡ link
-link_new links link t e = get_or_push links link (link_from 0 0 0) t (sym e)
-
-node_kept : (hook : ℕ) (links : List Link) (link : Link) (t : ℕ) → t < length links + 1 → node_at hook (links ++ link ∷ []) t ≡ node_at hook links t
-node_kept hook links link zero h = refl
-node_kept hook links link (suc t) h = ap (λ (l : Link). l.to) (link_kept links link t (omega arith))
-
-node_new : (hook : ℕ) (links : List Link) (link : Link) (t : ℕ) → t ≡ length links + 1 → node_at hook (links ++ link ∷ []) t ≡ link.to
-node_new hook links link zero e = absurd (omega arith)
-node_new hook links link (suc t) e = ap (λ (l : Link). l.to) (link_new links link t (omega arith))
-
--- the next of the nodes that are found is that to which the next link leads
-pub found_next : (hook : ℕ) (links : List Link) (t : ℕ) → t < length links → IsFoundAt hook links (t + 1) (link_at links t).to
-found_next hook links t h = (omega arith, rw add-one refl)
-
-pub found_kept : (hook : ℕ) (links : List Link) (link : Link) (q x : ℕ) → IsFoundAt hook links q x → IsFoundAt hook (links ++ link ∷ []) q x
-found_kept hook links link q x at = (omega (arith, at.0, length_push links link), node_kept hook links link q at.0 ∙ at.1)
-
--- ---- the link to a node
-
-pub link_found : (hook : ℕ) (links : List Link) (x : ℕ) (link : Link) → find (λ (l : Link). eqb l.to x) links ≡ Some link → (link.to ≡ x) × IsFound hook links x
-link_found hook links x link e = (ends, go (find_contains (λ (l : Link). eqb l.to x) links link e))
-  where
-    ends : link.to ≡ x
-    ends = eqb-true link.to x (find_passes (λ (l : Link). eqb l.to x) links link e)
-
-    go : Contains links link → IsFound hook links x
-    go (k, b, f) = (suc k, (omega arith, ap (λ (l : Link). l.to) (get_or_default links k (link_from 0 0 0) link b ∙ f) ∙ ends))
-
-found_link : (hook : ℕ) (links : List Link) (x : ℕ) → hook ≢ x → IsFound hook links x → find (λ (l : Link). eqb l.to x) links ≢ None
-found_link hook links x ne (zero, at) e = ne at.1
-found_link hook links x ne (suc k, at) e =
-    let within : k < length links = omega (arith, at.0) in
-    let none : count_by (λ (l : Link). eqb l.to x) links ≡ 0 = find_none (λ (l : Link). eqb l.to x) links e in
-    let some : 0 < count_by (λ (l : Link). eqb l.to x) links = contains_counts (λ (l : Link). eqb l.to x) links (link_at links k) (k, within, get_or_default links k (link_at links k) (link_from 0 0 0) within) (eq-eqb (link_at links k).to x at.1) in
-    omega arith
-
-pub has_link : (hook : ℕ) (links : List Link) (x : ℕ) (b : Bool) (found : Option (Bor Link)) → b ≡ is_some found → option_copied found ≡ find (λ (l : Link). eqb l.to x) links → hook ≢ x → IsTrue b ↔ IsFound hook links x
-has_link hook links x b None e f ne = ((λ h. absurd (not_both b h e)), (λ h. absurd (found_link hook links x ne h (sym f))))
-has_link hook links x b (Some link) e f ne = ((λ h. (link_found hook links x link.now (sym f)).1), (λ h. e))
-
-module _ (labels : ℕ) (rows : List (List Step)) (hook : ℕ) (links : List Link) where
-  pub start_searched : links ≡ [] → IsSearched labels rows hook links 0 0
-  start_searched e = ((λ t. []), rw e (search_starts labels (row_step rows) (node_at hook []) (λ t. []) (link_at []) refl))
-
-  pub move_searched : (q : ℕ) → IsSearched labels rows hook links q labels → IsSearched labels rows hook links (q + 1) 0
-  move_searched q (way, h) = (way, search_moves labels (row_step rows) (node_at hook links) way (link_at links) (length links + 1) q h)
-
-  pub pass_searched : (q l x : ℕ) → IsFoundAt hook links q x → IsSearched labels rows hook links q l → ((y : ℕ) → row_step rows x l ≡ Exp y → IsFound hook links y) → IsSearched labels rows hook links q (l + 1)
-  pass_searched q l x at (way, h) known = (way, search_passes labels (row_step rows) (node_at hook links) way (link_at links) (length links + 1) q l h go)
+module _ (links : List Link) (link : Link) where
+  old_or_new : (k : ℕ) (other : Link) → slice_get (links ++ link ∷ []) k ≡ Some other → ((k < length links) × (slice_get links k ≡ Some other)) ⊎ ((k ≡ length links) × (link ≡ other))
+  old_or_new k other e = go (cases_lt k (length links))
     where
-      go : (y : ℕ) → q < length links + 1 → row_step rows (node_at hook links q) l ≡ Exp y → (t : ℕ) × (t < length links + 1) × (node_at hook links t ≡ y)
-      go y b e = found (known y (subst (λ w. row_step rows w l ≡ Exp y) at.1 e))
-        where
-          found : IsFound hook links y → (t : ℕ) × (t < length links + 1) × (node_at hook links t ≡ y)
-          found (t, c) = (t, c.0, c.1)
+      here : get_or (links ++ link ∷ []) k other ≡ other
+      here = get_or_from_slice_get (links ++ link ∷ []) k other other e
 
-  pub find_searched : (q l x y : ℕ) → IsFoundAt hook links q x → IsSearched labels rows hook links q l → row_step rows x l ≡ Exp y → (IsFound hook links y → ⊥) →
-      IsSearched labels rows hook (links ++ link_from x l y ∷ []) q (l + 1)
-  find_searched q l x y at (way, h) e new = (way', rw (length_push links link) (search_finds labels (row_step rows) (node_at hook links) (node_at hook (links ++ link ∷ [])) way way' (link_at links) (link_at (links ++ link ∷ [])) (length links + 1) q l y h more at.0 (rw at.1 e) fresh))
+      go : (k < length links) ⊎ (length links ≤ k) → ((k < length links) × (slice_get links k ≡ Some other)) ⊎ ((k ≡ length links) × (link ≡ other))
+      go (inl b) = inl (b, slice_get-get_or links k other b ∙ ap Some (sym (get_or_append_left links (link ∷ []) other k b) ∙ here))
+      go (inr b) =
+          let last : length links ≡ k = omega (arith, b, length_push links link, slice_get_within (links ++ link ∷ []) k other e) in
+          inr (sym last, sym (get_or_push links link other k last) ∙ here)
+
+  first_links : (k : ℕ) → k ≤ length links → take k (links ++ link ∷ []) ≡ take k links
+  first_links k b = take-append-le k links (link ∷ []) b
+
+  nodes_pushed : (hooks : List ℕ) → found_nodes hooks (links ++ link ∷ []) ≡ found_nodes hooks links ++ link.to ∷ []
+  nodes_pushed hooks = ap (λ ends. hooks ++ ends) (map-append (λ (l : Link). l.to) links (link ∷ [])) ∙ sym (append_assoc hooks (map (λ (l : Link). l.to) links) (link.to ∷ []))
+
+pub only_element : {A : Type 0} (x y : A) → Contains (x ∷ []) y → x ≡ y
+only_element x y (zero, b, e) = e
+only_element x y (suc k, b, e) = absurd (omega arith)
+
+module _ (steps : ℕ → ℕ → Step) (hooks : List ℕ) (rank rank' : ℕ → Option ℕ) (links : List Link) (count q l n : ℕ) (found : Bool) (h : IsFollowed steps hooks rank links count q l n found)
+    (y : ℕ) (here : rank n ≡ Some q) (step_to : steps n l ≡ Exp y) (fresh : rank y ≡ None) (at_new : rank' y ≡ Some count) (at_others : (x : ℕ) → x ≢ y → rank' x ≡ rank x) where
+  kept : (x t : ℕ) → rank x ≡ Some t → rank' x ≡ Some t
+  kept x t e = at_others x (λ same. none_some t (sym fresh ∙ ap rank (sym same) ∙ e)) ∙ e
+
+  old_rank : (x t : ℕ) → rank' x ≡ Some t → (rank x ≡ Some t) ⊎ ((x ≡ y) × (t ≡ count))
+  old_rank x t e = elim (same_or_not x y) [
+    | inl same ↦ inr (same, some_same t count (sym e ∙ ap rank' same ∙ at_new))
+    | inr differ ↦ inl (sym (at_others x differ) ∙ e)
+  ]
+
+  leads : (x t : ℕ) → (rank x ≡ Some t) ⊎ ((x ≡ y) × (t ≡ count)) → (hook : ℕ) × Contains hooks hook × StepsLead steps hook (h.way t) x
+  leads x t (inl e) = h.search.leads x t e
+  leads x t (inr (e, f)) = go (h.search.leads n q here)
     where
-      link : Link
-      link = link_from x l y
+      go : (hook : ℕ) × Contains hooks hook × StepsLead steps hook (h.way q) n → (hook : ℕ) × Contains hooks hook × StepsLead steps hook (h.way t) x
+      go (hook, c, there) = (hook, c, rw (e, f, h.last) (leads_on steps hook (h.way q) n l y there step_to))
 
-      way' : ℕ → List ℕ
-      way' t = cond (eqb t (length links + 1)) (way q ++ l ∷ []) (way t)
+  closed : (x s i z : ℕ) → IsDoneWithin q l (n + 1) s i x → (rank x ≡ Some s) ⊎ ((x ≡ y) × (s ≡ count)) → steps x i ≡ Exp z → (t : ℕ) × (rank' z ≡ Some t) × IsAtMost (h.way t) (h.way s ++ i ∷ [])
+  closed x s i z (inl (inl b)) (inr (e, f)) k = absurd (omega (arith, b, f, h.within))
+  closed x s i z (inl (inr (p, b))) (inr (e, f)) k = absurd (omega (arith, p, f, h.within))
+  closed x s i z (inr (p, r, b)) (inr (e, f)) k = absurd (omega (arith, p, f, h.within))
+  closed x s i z (inl before) (inl e) k = lifted (h.search.closed x s i z (inl before) e k)
+    where
+      lifted : (t : ℕ) × (rank z ≡ Some t) × IsAtMost (h.way t) (h.way s ++ i ∷ []) → (t : ℕ) × (rank' z ≡ Some t) × IsAtMost (h.way t) (h.way s ++ i ∷ [])
+      lifted (t, f, m) = (t, kept z t f, m)
+  closed x s i z (inr (p, r, b)) (inl e) k = go (below_or_at x n b)
+    where
+      lifted : (t : ℕ) × (rank z ≡ Some t) × IsAtMost (h.way t) (h.way s ++ i ∷ []) → (t : ℕ) × (rank' z ≡ Some t) × IsAtMost (h.way t) (h.way s ++ i ∷ [])
+      lifted (t, f, m) = (t, kept z t f, m)
 
-      fresh : (t : ℕ) → t < length links + 1 → node_at hook links t ≢ y
-      fresh t b f = new (t, (b, f))
+      go : (x < n) ⊎ (x ≡ n) → (t : ℕ) × (rank' z ≡ Some t) × IsAtMost (h.way t) (h.way s ++ i ∷ [])
+      go (inl c) = lifted (h.search.closed x s i z (inr (p, r, c)) e k)
+      go (inr c) =
+          let same : y ≡ z = same_end y z (sym step_to ∙ rw (c, r) at k) in
+          (count, subst (λ w. rank' w ≡ Some count) same at_new, inl (rw (p, r) h.last))
 
-      more : IsOneMore (node_at hook links) (node_at hook (links ++ link ∷ [])) way way' (link_at links) (link_at (links ++ link ∷ [])) (length links + 1) q l y
-      more = record {
-        nodes = λ t b. node_kept hook links link t b;
-        ways = λ t b. let ne : t ≢ length links + 1 = omega arith in rw (ne_eqb t (length links + 1) ne) refl;
-        links = λ t b. link_kept links link t (omega arith);
-        node_is = node_new hook links link (length links + 1) refl;
-        way_is = rw (eq-eqb (length links + 1) (length links + 1) refl) refl;
-        link_from_is = λ t b. ap (λ (k : Link). k.from) (link_new links link t (omega arith)) ∙ sym at.1;
-        link_label_is = λ t b. ap (λ (k : Link). k.label) (link_new links link t (omega arith));
-      }
+  linked : (link : Link) → Contains links link ⊎ Contains (link_from n l y ∷ []) link → IsRankedLink steps rank' h.way link
+  linked link (inl c) = let old : IsRankedLink steps rank h.way link = h.search.linked link c in record {
+    before = old.before;
+    behind = old.behind;
+    from_rank = kept link.from old.before old.from_rank;
+    to_rank = kept link.to old.behind old.to_rank;
+    steps_to = old.steps_to;
+    way_is = old.way_is;
+  }
+  linked link (inr c) = subst (IsRankedLink steps rank' h.way) (only_element (link_from n l y) link c) (record {
+    before = q;
+    behind = count;
+    from_rank = kept n q here;
+    to_rank = at_new;
+    steps_to = step_to;
+    way_is = h.last;
+  })
+
+  earlier : (k : ℕ) (link : Link) → slice_get (links ++ link_from n l y ∷ []) k ≡ Some link → Contains (found_nodes hooks (take k (links ++ link_from n l y ∷ []))) link.from
+  earlier k link e = go (old_or_new links (link_from n l y) k link e)
+    where
+      go : ((k < length links) × (slice_get links k ≡ Some link)) ⊎ ((k ≡ length links) × (link_from n l y ≡ link)) → Contains (found_nodes hooks (take k (links ++ link_from n l y ∷ []))) link.from
+      go (inl (b, f)) = let most : k ≤ length links = omega (arith, b) in rw (first_links links (link_from n l y) k most) (h.search.earlier k link f)
+      go (inr (b, f)) =
+          let most : k ≤ length links = omega (arith, b) in
+          rw (first_links links (link_from n l y) k most, b, take_all (length links) links (omega arith)) (subst (λ (k : Link). Contains (found_nodes hooks links) k.from) f ((h.search.ranked n).1 (q, here)))
+
+  is_new : Contains (found_nodes hooks links) y → ⊥
+  is_new c = let e : (t : ℕ) × (rank y ≡ Some t) = (h.search.ranked y).0 c in none_some e.0 (sym fresh ∙ e.1)
+
+  ranked : (x : ℕ) → Contains (found_nodes hooks links ++ y ∷ []) x ↔ ((t : ℕ) × (rank' x ≡ Some t))
+  ranked x = ((λ c. to_rank (Contains-append_cases (found_nodes hooks links) (y ∷ []) x c)), (λ e. from_rank e (old_rank x e.0 e.1)))
+    where
+      to_rank : Contains (found_nodes hooks links) x ⊎ Contains (y ∷ []) x → (t : ℕ) × (rank' x ≡ Some t)
+      to_rank (inl c) = let e : (t : ℕ) × (rank x ≡ Some t) = (h.search.ranked x).0 c in (e.0, kept x e.0 e.1)
+      to_rank (inr c) = (count, subst (λ w. rank' w ≡ Some count) (only_element y x c) at_new)
+
+      from_rank : (e : (t : ℕ) × (rank' x ≡ Some t)) → (rank x ≡ Some e.0) ⊎ ((x ≡ y) × (e.0 ≡ count)) → Contains (found_nodes hooks links ++ y ∷ []) x
+      from_rank (t, e) (inl f) = Contains-append_left (found_nodes hooks links) (y ∷ []) x ((h.search.ranked x).1 (t, f))
+      from_rank (t, e) (inr (f, g)) = Contains-append_right (found_nodes hooks links) (y ∷ []) x (0, omega arith, sym f)
+
+  pub follow_finds : IsFollowed steps hooks rank' (links ++ link_from n l y ∷ []) count q l (n + 1) true
+  follow_finds = record {
+    way = h.way;
+    search = record {
+      starts = h.search.starts;
+      hooks_first = λ hook c. kept hook 0 (h.search.hooks_first hook c);
+      within = λ x t e. elim (old_rank x t e) [ inl f ↦ h.search.within x t f | inr f ↦ omega (arith, f.1) ];
+      leads = λ x t e. leads x t (old_rank x t e);
+      rising = h.search.rising;
+      closed = λ x s i z done e. closed x s i z done (old_rank x s e);
+      linked = λ link c. linked link (Contains-append_cases links (link_from n l y ∷ []) link c);
+      earlier = earlier;
+      distinct = rw (nodes_pushed links (link_from n l y) hooks) (distinct_push (found_nodes hooks links) y h.search.distinct is_new);
+      ranked = λ x. rw (nodes_pushed links (link_from n l y) hooks) (ranked x);
+    };
+    within = h.within;
+    last = h.last;
+    few = omega (arith, h.few, length_push links (link_from n l y));
+    unfound = λ no_link. absurd (cc);
+  }

@@ -1,10 +1,12 @@
 pub mod Accepted
+pub mod Distinct
 pub mod Extended
 pub mod Found
+pub mod Hooks
 pub mod LeftNodes
 pub mod OneFault
 pub mod Orders
 pub mod PathLinks
+pub mod Ranks
 pub mod Rows
-pub mod RuleLinks
 pub mod Search

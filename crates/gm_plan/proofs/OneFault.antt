@@ -12,7 +12,7 @@ use Rattle.gm_model.specs.Maps.{type_of}
 use Rattle.gm_model.specs.Orbits.{Labels}
 use Rattle.gm_model.specs.Rules.{Rule, has_word, is_preserved}
 use Rattle.gm_model.specs.Squares.{HasSquares, IsSquareFault, OpenSquare}
-use Rattle.gm_model.specs.Structure.{HasIncidence, IsFirstBad, HasWhereOneSided, HasOnBoth, IsStructureFault, NoOneHook, BadHookWord, BadLength, Unconnected, IsArcFault, AtNode, IsNodeArcFault, TwiceLeft, TwiceRight, Missing, Differs, IsIncidenceFault, OfStructure, OfArcs}
+use Rattle.gm_model.specs.Structure.{HasIncidence, IsFirstBad, HasWhereOneSided, HasOnBoth, IsStructureFault, BadHooks, BadHookWord, BadLength, Unconnected, IsArcFault, AtNode, IsNodeArcFault, TwiceLeft, TwiceRight, Missing, Differs, IsIncidenceFault, OfStructure, OfArcs}
 use Rattle.gm_theory.proofs.NoFault.{structured_no_fault, node_no_fault, one_keeper, source_no_fault}
 
 -- two numbers of which neither is less
@@ -30,22 +30,22 @@ one_first_bad count x y one other = one_of_order x y (λ h. one.fails (other.bef
 -- ---- structure
 
 one_structure_fault : (rule : Rule) (fault other : RuleFault) → IsStructureFault rule fault → IsStructureFault rule other → fault ≡ other
-one_structure_fault rule _ _ (NoOneHook bad) (NoOneHook bad') = refl
-one_structure_fault rule _ _ (NoOneHook bad) (BadHookWord t h hook first at) = absurd (bad hook)
-one_structure_fault rule _ _ (NoOneHook bad) (BadLength x hook plain first) = absurd (bad hook)
-one_structure_fault rule _ _ (NoOneHook bad) (Unconnected x hook plain widths first) = absurd (bad hook)
-one_structure_fault rule _ _ (BadHookWord t h hook first at) (NoOneHook bad) = absurd (bad hook)
+one_structure_fault rule _ _ (BadHooks bad) (BadHooks bad') = refl
+one_structure_fault rule _ _ (BadHooks bad) (BadHookWord t h hook first at) = absurd (bad hook)
+one_structure_fault rule _ _ (BadHooks bad) (BadLength x hook plain first) = absurd (bad hook)
+one_structure_fault rule _ _ (BadHooks bad) (Unconnected x hook plain widths first) = absurd (bad hook)
+one_structure_fault rule _ _ (BadHookWord t h hook first at) (BadHooks bad) = absurd (bad hook)
 one_structure_fault rule _ _ (BadHookWord t h hook first at) (BadHookWord t' h' hook' first' at') =
     let same : t ≡ t' = one_first_bad _ t t' first first' in
     let both : Some h ≡ Some h' = sym at ∙ ap (slice_get rule.hooks) same ∙ at' in
     ap faults.HookWord (cc both)
 one_structure_fault rule _ _ (BadHookWord t h hook first at) (BadLength x hook' plain first') = absurd (first.fails (plain t first.within))
 one_structure_fault rule _ _ (BadHookWord t h hook first at) (Unconnected x hook' plain widths first') = absurd (first.fails (plain t first.within))
-one_structure_fault rule _ _ (BadLength x hook plain first) (NoOneHook bad) = absurd (bad hook)
+one_structure_fault rule _ _ (BadLength x hook plain first) (BadHooks bad) = absurd (bad hook)
 one_structure_fault rule _ _ (BadLength x hook plain first) (BadHookWord t h hook' first' at) = absurd (first'.fails (plain t first'.within))
 one_structure_fault rule _ _ (BadLength x hook plain first) (BadLength x' hook' plain' first') = ap faults.WordLength (one_first_bad _ x x' first first')
 one_structure_fault rule _ _ (BadLength x hook plain first) (Unconnected x' hook' plain' widths first') = absurd (first.fails (widths x first.within))
-one_structure_fault rule _ _ (Unconnected x hook plain widths first) (NoOneHook bad) = absurd (bad hook)
+one_structure_fault rule _ _ (Unconnected x hook plain widths first) (BadHooks bad) = absurd (bad hook)
 one_structure_fault rule _ _ (Unconnected x hook plain widths first) (BadHookWord t h hook' first' at) = absurd (first'.fails (plain t first'.within))
 one_structure_fault rule _ _ (Unconnected x hook plain widths first) (BadLength x' hook' plain' first') = absurd (first'.fails (widths x' first'.within))
 one_structure_fault rule _ _ (Unconnected x hook plain widths first) (Unconnected x' hook' plain' widths' first') = ap faults.NotConnected (one_first_bad _ x x' first first')

@@ -1,67 +1,61 @@
--- What the links of the least paths say of one node, and that a node has one least path.
-use Rattle.std.proofs.Common.{◌≡◌, ◌≢◌, ℕ, ◌<◌, ◌⊎◌, inl, inr, eqb, IsTrue, List, [], ◌∷◌, ◌++◌, length, map, Some, None, refl, sym, ap, subst, ◌∙◌, arith}
+-- What the links of the least paths say of one node.
+use Rattle.std.proofs.Common.{◌≡◌, ◌≢◌, ℕ, zero, suc, ◌⊎◌, inl, inr, Bool, false, eqb, IsTrue, List, [], ◌∷◌, ◌++◌, map, Some, None, refl, sym, subst, arith}
 use Rattle.std.proofs.lemmas.Bool.{eqb-true, eq-eqb}
-use Rattle.std.proofs.lemmas.List.{get_or_default, length-map}
 use Rattle.std.proofs.lemmas.List.Elements.{Contains-append_cases}
-use Rattle.std.proofs.lemmas.Option.{slice_get-get_or}
-use Rattle.std.specs.List.{find, count_by, Contains}
+use Rattle.std.specs.List.{find, Contains}
 use Rattle.gm_model.specs.declared.rule.Link.{Link}
 use Rattle.gm_model.specs.declared.rule.Side.TheVariants.{Left}
-use Rattle.gm_model.specs.Matches.{IsPathTo, IsSmallerPath}
-use Rattle.gm_model.specs.Rules.{Rule, has_word, first_hook, link_from}
-use Rattle.gm_model.specs.Structure.{HasHook, Leads}
+use Rattle.gm_model.specs.Matches.{IsSmallerPath}
+use Rattle.gm_model.specs.Rules.{Rule, has_word, link_from}
 use Rattle.gm_plan.specs.Paths.{IsLastLink, ArePaths}
-use Rattle.gm_plan.specs.Searches.{link_at}
-use Rattle.gm_plan.proofs.Found.{ends_at}
-use Rattle.gm_plan.proofs.Orders.{smaller_or_same}
-use Rattle.gm_plan.proofs.RuleLinks.{find_contains, same_link}
-use Rattle.gm_theory.proofs.Candidates.{contains_counts, only_one}
-use Rattle.gm_theory.proofs.Lists.{find_passes, find_none, some_same}
-
-same_hook : (rule : Rule) (h g : ℕ) → first_hook rule ≡ Some h → first_hook rule ≡ Some g → h ≡ g
-same_hook rule h g e f = some_same h g (sym e ∙ f)
-
--- a node has one least path
-pub same_path : (rule : Rule) (x : ℕ) (p q : List ℕ) → IsPathTo rule x p → IsPathTo rule x q → p ≡ q
-same_path rule x p q to_p to_q = go (smaller_or_same p q)
-  where
-    hooks : to_p.hook ≡ to_q.hook
-    hooks = same_hook rule to_p.hook to_q.hook to_p.first to_q.first
-
-    go : (p ≡ q) ⊎ (IsSmallerPath p q ⊎ IsSmallerPath q p) → p ≡ q
-    go (inl e) = e
-    go (inr (inl s)) = absurd (to_q.least p (subst (λ h. Leads rule.left_links h p x) hooks to_p.leads) s)
-    go (inr (inr s)) = absurd (to_p.least q (subst (λ h. Leads rule.left_links h q x) (sym hooks) to_q.leads) s)
+use Rattle.gm_theory.proofs.Lists.{contained_at, find_passes, none_some, some_same}
+use Rattle.gm_theory.proofs.Tests.{true_or_false, not_both}
 
 smallest : (p : List ℕ) (i : ℕ) → IsSmallerPath [] (p ++ i ∷ [])
 smallest [] i = tt
 smallest (j ∷ p) i = tt
 
--- the least path to the hook has no last link
-pub hook_has_none : (rule : Rule) (link : Link) → IsLastLink rule link → first_hook rule ≢ Some link.to
-hook_has_none rule link last e = last.to_end.least [] (same_hook rule last.to_end.hook link.to last.to_end.first e) (smallest last.front link.label)
+-- the least path to a hook has no last link
+hook_has_none : (rule : Rule) (link : Link) → IsLastLink rule link → Contains rule.hooks link.to → ⊥
+hook_has_none rule link last c = last.to_end.least c.0 link.to [] (contained_at rule.hooks link.to c) refl (inl (smallest last.front link.label))
 
-module _ (rule : Rule) (hook : HasHook rule) (links : List Link) (are : ArePaths rule links) (x : ℕ) (left : IsTrue (has_word rule Left x)) where
-  pub unlinked : find (λ (l : Link). eqb l.to x) links ≡ None → first_hook rule ≡ Some x
-  unlinked e = go (Contains-append_cases rule.hooks (map (λ (link : Link). link.to) links) x ((are.nodes.same x).1 left))
+-- ---- the link to a node
+
+-- what a search finds is in the list
+find_contains : {A : Type 0} (p : A → Bool) (xs : List A) (x : A) → find p xs ≡ Some x → Contains xs x
+find_contains p [] x e = none_some x e
+find_contains p (y ∷ xs) x e = go (true_or_false (p y)) (find_contains p xs x)
+  where
+    go : IsTrue (p y) ⊎ (p y ≡ false) → (find p xs ≡ Some x → Contains xs x) → Contains (y ∷ xs) x
+    go (inl h) rest = (0, omega arith, some_same y x (rw h at e))
+    go (inr h) rest = later (rest (rw h at e))
+      where
+        later : Contains xs x → Contains (y ∷ xs) x
+        later (k, b, f) = (suc k, omega arith, f)
+
+-- a node to which a link leads has such a link
+end_found : (links : List Link) (x : ℕ) → Contains (map (λ (link : Link). link.to) links) x → find (λ (l : Link). eqb l.to x) links ≢ None
+end_found [] x (k, b, f) e = omega arith
+end_found (link ∷ links) x c e = go (true_or_false (eqb link.to x)) c (end_found links x)
+  where
+    go : IsTrue (eqb link.to x) ⊎ (eqb link.to x ≡ false) → Contains (link.to ∷ map (λ (l : Link). l.to) links) x → (Contains (map (λ (l : Link). l.to) links) x → find (λ (l : Link). eqb l.to x) links ≢ None) → ⊥
+    go (inl h) d rest = none_some link (sym (rw h at e))
+    go (inr h) (zero, b, f) rest = not_both (eqb link.to x) (eq-eqb link.to x f) h
+    go (inr h) (suc k, b, f) rest = rest (k, omega arith, f) (rw h at e)
+
+module _ (rule : Rule) (links : List Link) (are : ArePaths rule links) (x : ℕ) where
+  pub unlinked : IsTrue (has_word rule Left x) → find (λ (l : Link). eqb l.to x) links ≡ None → Contains rule.hooks x
+  unlinked left e = go (Contains-append_cases rule.hooks (map (λ (link : Link). link.to) links) x ((are.nodes.same x).1 left))
     where
-      go : Contains rule.hooks x ⊎ Contains (map (λ (link : Link). link.to) links) x → first_hook rule ≡ Some x
-      go (inl c) = only_one rule.hooks x (hook.0 x left) c
-      go (inr (k, b, f)) =
-          let within : k < length links = subst (λ n. k < n) (length-map links (λ (link : Link). link.to)) b in
-          let to : (link_at links k).to ≡ x = sym (ends_at links k x within) ∙ f in
-          let none : count_by (λ (l : Link). eqb l.to x) links ≡ 0 = find_none (λ (l : Link). eqb l.to x) links e in
-          let some : 0 < count_by (λ (l : Link). eqb l.to x) links = contains_counts (λ (l : Link). eqb l.to x) links (link_at links k) (k, within, get_or_default links k (link_at links k) (link_from 0 0 0) within) (eq-eqb (link_at links k).to x to) in
-          absurd (omega arith)
+      go : Contains rule.hooks x ⊎ Contains (map (λ (link : Link). link.to) links) x → Contains rule.hooks x
+      go (inl c) = c
+      go (inr c) = absurd (end_found links x c e)
 
-  pub linked : (link : Link) → find (λ (l : Link). eqb l.to x) links ≡ Some link → (first_hook rule ≢ Some x) × IsLastLink rule (link_from link.from link.label x)
-  linked link e = (subst (λ y. first_hook rule ≢ Some y) to (hook_has_none rule link last), subst (IsLastLink rule) (same_link link link.from link.label x refl refl to) last)
+  pub linked : (link : Link) → find (λ (l : Link). eqb l.to x) links ≡ Some link → (Contains rule.hooks x → ⊥) × IsLastLink rule (link_from link.from link.label x)
+  linked link e = (subst (λ y. Contains rule.hooks y → ⊥) to (hook_has_none rule link last), subst (λ y. IsLastLink rule (link_from link.from link.label y)) to last)
     where
       to : link.to ≡ x
       to = eqb-true link.to x (find_passes (λ (l : Link). eqb l.to x) links link e)
 
-      at : Contains links link → IsLastLink rule link
-      at (k, b, f) = are.ends k link (slice_get-get_or links k link b ∙ ap Some f)
-
       last : IsLastLink rule link
-      last = at (find_contains (λ (l : Link). eqb l.to x) links link e)
+      last = let c : Contains links link = find_contains (λ (l : Link). eqb l.to x) links link e in are.ends c.0 link (contained_at links link c)

@@ -1,5 +1,5 @@
 -- What a table of rows has at a node and a label.
-use Rattle.std.proofs.Common.{◌≡◌, ℕ, zero, suc, ◌+◌, ◌<◌, ◌≤◌, ◌⊎◌, inl, inr, List, [], ◌∷◌, ◌++◌, length, Option, Some, None, get_or, refl, sym, subst, ◌∙◌, arith}
+use Rattle.std.proofs.Common.{◌≡◌, ℕ, zero, suc, ◌+◌, ◌<◌, inl, inr, List, [], ◌∷◌, ◌++◌, length, Option, Some, None, get_or, refl, sym, subst, ◌∙◌, arith}
 use Rattle.std.proofs.lemmas.Bool.{cases_lt}
 use Rattle.std.proofs.lemmas.List.{get_or_past, length_push}
 use Rattle.std.proofs.lemmas.Option.{get_or_from_slice_get, same_Some, slice_get-get_or, slice_get_within}
@@ -57,18 +57,20 @@ row_more rule side count rows row are long here = record {
 -- ---- link steps
 
 -- a link step stands in a row
-pub row_step_within : (rule : Rule) (side : Side) (count : ℕ) (rows : List (List Step)) → AreSteps rule side count rows → (x i y : ℕ) → row_step rows x i ≡ Exp y → (x < count) × (i < 8)
-row_step_within rule side count rows are x i y e = go (cases_lt x (length rows))
-  where
-    past : length rows ≤ x → ⊥
-    past h = absent_not y (subst (λ row. get_or row i Absent ≡ Exp y) (get_or_past rows x [] h) e)
+pub row_below : (rows : List (List Step)) (x i y : ℕ) → row_step rows x i ≡ Exp y → x < length rows
+row_below rows x i y e = elim (cases_lt x (length rows)) [
+  | inl b ↦ b
+  | inr b ↦ absurd (absent_not y (subst (λ row. get_or row i Absent ≡ Exp y) (get_or_past rows x [] b) e))
+]
 
-    label : x < length rows → i < 8
-    label h = elim (cases_lt i (length (get_or rows x []))) [
-      | inl b ↦ subst (λ n. i < n) (are.row_long x (get_or rows x []) (slice_get-get_or rows x [] h)) b
+pub row_step_within : (rule : Rule) (side : Side) (count : ℕ) (rows : List (List Step)) → AreSteps rule side count rows → (x i y : ℕ) → row_step rows x i ≡ Exp y → (x < count) × (i < 8)
+row_step_within rule side count rows are x i y e = (subst (λ n. x < n) are.long within, label)
+  where
+    within : x < length rows
+    within = row_below rows x i y e
+
+    label : i < 8
+    label = elim (cases_lt i (length (get_or rows x []))) [
+      | inl b ↦ subst (λ n. i < n) (are.row_long x (get_or rows x []) (slice_get-get_or rows x [] within)) b
       | inr b ↦ absurd (absent_not y (sym (get_or_past (get_or rows x []) i Absent b) ∙ e))
     ]
-
-    go : (x < length rows) ⊎ (length rows ≤ x) → (x < count) × (i < 8)
-    go (inl h) = (subst (λ n. x < n) are.long h, label h)
-    go (inr h) = absurd (past h)

@@ -9,15 +9,16 @@ use Rattle.gm_model.specs.Rules.{Rule, has_word}
 
 -- the least path to `link.to` is the least path to `link.from`, and then the label
 pub record IsLastLink (rule : Rule) (link : Link) : Type 0 where
+  pub hook : ℕ
   pub front : List ℕ
-  pub to_from : IsPathTo rule link.from front
-  pub to_end : IsPathTo rule link.to (front ++ link.label ∷ [])
+  pub to_from : IsPathTo rule link.from hook front
+  pub to_end : IsPathTo rule link.to hook (front ++ link.label ∷ [])
 
--- the hook, and the nodes to which the links lead, in their order
+-- the hooks, and the nodes to which the links lead, in their order
 abbrev pub path_nodes : Rule → List Link → List ℕ
 path_nodes rule links = rule.hooks ++ map (λ (link : Link). link.to) links
 
--- For each left node but the hook the last link of its least path. A link leads from the hook, or from a node to which
+-- For each left node but the hooks the last link of its least path. A link leads from a hook, or from a node to which
 -- an earlier link leads.
 pub record ArePaths (rule : Rule) (links : List Link) : Type 0 where
   pub ends : (t : ℕ) (link : Link) → slice_get links t ≡ Some link → IsLastLink rule link

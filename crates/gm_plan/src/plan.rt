@@ -1,4 +1,5 @@
-ghost use Rattle.std.specs.Prelude.{◌≡◌, ◌≢◌, ℕ, ◌<◌, ◌≤◌, ◌↔◌, length, Some, MatchOption, IfOk, IsTrue};
+ghost use Rattle.std.specs.Prelude.{◌≡◌, ℕ, ◌<◌, ◌≤◌, ◌↔◌, length, MatchOption, IfOk, IsTrue};
+ghost use Rattle.std.specs.List.{Contains};
 
 use crate::paths::{Paths, least_paths, link_to};
 use crate::sides::{Row, count_added, count_left, count_removed, side_steps};
@@ -40,7 +41,7 @@ impl<'b> Model for Plan<'b> {
 
 impl<'b> Plan<'b> {
     ghost use Rattle.gm_model.specs.declared.rule.Side.TheVariants.{Left};
-    ghost use Rattle.gm_model.specs.Rules.{rule_of, has_word, first_hook, link_from, step};
+    ghost use Rattle.gm_model.specs.Rules.{rule_of, has_word, link_from, step};
     ghost use Rattle.gm_model.specs.Unfolding.{added_nodes};
     ghost use Rattle.gm_plan.specs.Counts.{removed_nodes};
     ghost use Rattle.gm_plan.specs.Paths.{ArePaths, IsLastLink};
@@ -127,21 +128,22 @@ impl<'b> Plan<'b> {
         }
     }
 
-    /// The last link of the least path to each left node but the hook, in an order in which each
-    /// link leads from the hook or from the end of an earlier link. A path that is shorter is less,
-    /// and of paths of one length that with the lesser labels.
+    /// The last link of the least path to each left node but the hooks, in an order in which each
+    /// link leads from a hook or from the end of an earlier link. A path that is shorter is less,
+    /// of paths of one length that with the lesser labels, and of one list of labels from two hooks
+    /// that from the earlier hook.
     pub fn paths(&self) -> &[Link]
         ensures { ArePaths (rule_of self.now.table) result.now }
     {
         self.paths.as_slice()
     }
 
-    /// The node and the label that end the least path to the left node; none at the hook.
+    /// The node and the label that end the least path to the left node; none at a hook.
     pub fn from(&self, node: u8) -> Option<(u8, u8)>
         requires { IsTrue (has_word (rule_of self.now.table) Left node) }
         ensures { MatchOption result
-            (first_hook (rule_of self.now.table) ≡ Some node)
-            (λ end. (first_hook (rule_of self.now.table) ≢ Some node) × IsLastLink (rule_of self.now.table) (link_from end.0 end.1 node)) }
+            (Contains (rule_of self.now.table).hooks node)
+            (λ end. (Contains (rule_of self.now.table).hooks node → ⊥) × IsLastLink (rule_of self.now.table) (link_from end.0 end.1 node)) }
     {
         let link = link_to(self.paths.as_slice(), node)?;
         Some((link.from, link.label))

@@ -1,27 +1,29 @@
-use Rattle.std.proofs.Common.{◌≡◌, suc, ◌+◌, Some, refl, sym, arith}
-use Rattle.std.specs.List.{slice_get}
-use Rattle.gm_plan.proofs.Extended.{start_searched, found_next}
-use Rattle.gm_plan.proofs.Found.{search_room, found_row, searched_paths, one_hook}
+use Rattle.std.proofs.Common.{arith}
+use Rattle.gm_model.specs.Rules.{rule_of}
+use Rattle.gm_plan.proofs.Found.{labels_below, ends_within, few_ranks, searched_paths}
+use Rattle.gm_plan.proofs.Search.{search_starts}
 use Rattle.gm_plan.proofs.paths.least_paths.Goals as goal
 
 pub loop-done-init : goal.loop-done-init
-loop-done-init c = c.in_ok-follow.ensures 0 (omega arith, refl) (start_searched _ _ _ _ c.new-paths.ensures.items)
+loop-done-init c = rw c.new.ensures.items (search_starts _ (rule_of c.args.rule.now).hooks _ c.requires.planned.in_range.hooks_differ (rw c.as_slice.ensures at c.hook_ranks.ensures))
 
-pub loop-done-preserved : goal.loop-done-preserved
-loop-done-preserved c = c.in_ok-follow-2.ensures (c.loop-done.done + 1) (rw c.as_slice-in-loop-done.ensures (found_next _ _ _ (omega arith))) c.loop-done.invariant
+pub follow_rank-requires-clause-steps : goal.follow_rank-requires-clause-steps
+follow_rank-requires-clause-steps c = labels_below c.args.schema.now _ c.requires.planned (omega arith) _ c.requires.rows _ (omega arith)
 
-pub follow-requires-in-loop-done-clause-node : goal.follow-requires-in-loop-done-clause-node
-follow-requires-in-loop-done-clause-node c =
-    let hook : slice_get c.args.rule.now.hooks 0 ≡ Some c.in-Some.field-0.now = rw c.as_slice.ensures at (sym c.in-Some.ensures.value) in
-    rw c.as_slice-in-loop-done.ensures
-    (found_row c.args.schema.now _ c.requires.planned (omega arith) _ c.requires.rows _ (omega arith) _ (one_hook _ _ c.requires.planned (omega arith) _ c.requires.rows _ hook) _ _ _ c.loop-done.invariant (suc c.loop-done.done) (omega arith))
+pub follow_rank-requires-clause-ends : goal.follow_rank-requires-clause-ends
+follow_rank-requires-clause-ends c = ends_within c.args.schema.now _ c.requires.planned (omega arith) _ c.requires.rows
+
+pub follow_rank-requires-clause-room : goal.follow_rank-requires-clause-room
+follow_rank-requires-clause-room c =
+    omega (arith, few_ranks c.args.schema.now _ c.requires.planned (omega arith) _ c.requires.rows _ _ _ _ _ c.loop-done.invariant, c.requires.planned.within.nodes)
+
+pub overflow_add-done : goal.overflow_add-done
+overflow_add-done c =
+    omega (arith, few_ranks c.args.schema.now _ c.requires.planned (omega arith) _ c.requires.rows _ _ _ _ _ c.loop-done.invariant, c.requires.planned.within.nodes)
 
 pub loop-done-smaller : goal.loop-done-smaller
 loop-done-smaller c =
-    let hook : slice_get c.args.rule.now.hooks 0 ≡ Some c.in-Some.field-0.now = rw c.as_slice.ensures at (sym c.in-Some.ensures.value) in
-    omega (arith, search_room c.args.schema.now _ c.requires.planned (omega arith) _ c.requires.rows _ (omega arith) _ (one_hook _ _ c.requires.planned (omega arith) _ c.requires.rows _ hook) _ _ _ c.loop-done.invariant)
+    omega (arith, few_ranks c.args.schema.now _ c.requires.planned (omega arith) _ c.requires.rows _ _ _ _ _ c.loop-done.invariant, c.requires.planned.within.nodes)
 
 pub returns : goal.returns
-returns c =
-    let hook : slice_get c.args.rule.now.hooks 0 ≡ Some c.in-Some.field-0.now = rw c.as_slice.ensures at (sym c.in-Some.ensures.value) in
-    searched_paths c.args.schema.now _ c.requires.planned (omega arith) _ c.requires.rows _ (omega arith) _ (one_hook _ _ c.requires.planned (omega arith) _ c.requires.rows _ hook) _ _ (omega arith) c.loop-done.invariant
+returns c = searched_paths c.args.schema.now _ c.requires.planned (omega arith) _ c.requires.rows _ _ _ _ _ c.loop-done.invariant (omega arith)
