@@ -11,7 +11,7 @@ use Rattle.gm_model.specs.Components.{First}
 use Rattle.gm_model.specs.declared.rule.RuleTable.{RuleTable}
 use Rattle.gm_model.specs.Rules.{Rule, rule_of, has_word}
 use Rattle.gm_model.specs.Squares.{IsSquareFault, OpenSquare, IsFirstOpenSquare}
-use Rattle.gm_model.specs.Structure.{IsIncidenceFault, OfStructure, OfArcs, IsStructureFault, NoOneHook, BadHookWord, BadLength, Unconnected, AtNode, IsNodeArcFault, TwiceLeft, TwiceRight, Missing, Differs}
+use Rattle.gm_model.specs.Structure.{IsIncidenceFault, OfStructure, OfArcs, IsStructureFault, BadHooks, BadHookWord, BadLength, Unconnected, AtNode, IsNodeArcFault, TwiceLeft, TwiceRight, Missing, Differs}
 use Rattle.gm_model.proofs.Nodes.{node_below}
 use Rattle.gm_tool.specs.Books.{IsCheckable, SpeaksOf, IsSayable}
 use Rattle.gm_tool.specs.Checking.{IsVerdict, AreLines, NoRules, NextRule, refusals, rule_line}
@@ -21,7 +21,7 @@ use Rattle.gm_tool.proofs.ReadBooks.{no_item}
 
 module _ (schema : Schema) (rule : Rule) (able : IsCheckable schema rule) where
   structure_speaks : (fault : RuleFault) → IsStructureFault rule fault → SpeaksOf (length rule.nodes) (length schema.embeds) fault
-  structure_speaks fault (NoOneHook h) = tt
+  structure_speaks fault (BadHooks h) = tt
   structure_speaks fault (BadHookWord t h one first at) =
       let b = slice_get_within rule.hooks t h at in
       node_below rule Left h (subst (λ x. has_word rule Left x ≡ true) (get_or_from_slice_get rule.hooks t h h at) (All-from_recursion (λ x. has_word rule Left x ≡ true) rule.hooks able.in_range.hooks t h b))
