@@ -1,10 +1,11 @@
 -- Which outcome of an application an answer names.
-use Rattle.std.specs.Prelude.{◌≡◌, ℕ, ◌*◌}
+use Rattle.std.specs.Prelude.{◌≡◌, ℕ, ◌+◌, ◌-◌, ◌*◌, ◌≤◌, max}
 use Rattle.gm_model.specs.Applications.{Application, Cause, IsRefused, IsReady, more}
 use Rattle.gm_model.specs.Applications as causes
 use Rattle.gm_model.specs.Matches.{Placement}
 use Rattle.gm_model.specs.Orbits.{HasCount}
 use Rattle.gm_model.specs.Unfolding.{IsGone, scene_of}
+use Rattle.gm_arena.specs.ArenaMap.{ArenaMap}
 use Rattle.gm_plan.specs.Counts.{removed_nodes}
 use Rattle.gm_match.specs.declared.fault.MatchFault.{MatchFault}
 use Rattle.gm_match.specs.declared.fault.MatchFault.TheVariants as faults
@@ -35,3 +36,8 @@ pub record HasRoom (app : Application) (place : Placement) (added removed : ℕ)
   pub added_is : added ≡ more app place
   pub removed_is : removed ≡ place.positions * removed_nodes app.rule
   pub gone : HasCount (IsGone (scene_of app.map app.rule place)) removed
+
+-- What is reserved after a refusal: what was before, or, where memory was wanting, no more than the result takes.
+pub data StaysInRoom (app : Application) (old new : ArenaMap) : Type 0 where
+  AsBefore : new ≡ old → StaysInRoom app old new
+  ForResult : (place : Placement) (added removed : ℕ) → HasRoom app place added removed → new.spare ≤ max old.spare (added - removed) → new.reserved ≤ max old.reserved (old.next + added) → StaysInRoom app old new

@@ -10,7 +10,7 @@ ghost use Rattle.gm_pending.specs.EditLists.{HasSameRows, AreEditsOf};
 ghost use Rattle.gm_pending.specs.Results.{pending_of};
 ghost use Rattle.gm_plan.specs.InArena.{AreMatched, placement_in};
 ghost use Rattle.gm_apply.specs.declared.refusal.Refusal.TheVariants as refusals;
-ghost use Rattle.gm_apply.specs.Outcomes.{HasRoom, IsRefusedFor};
+ghost use Rattle.gm_apply.specs.Outcomes.{HasRoom, IsRefusedFor, StaysInRoom};
 
 use crate::refusal::Refusal;
 use gm_arena::{Arena, Steps};
@@ -32,8 +32,8 @@ pub struct Applied {
 /// Applies the plan's rule to the map, at the darts that the hooks name.
 ///
 /// The arena is a generalised map again, whatever the answer is, and after a refusal the same one.
-/// Where memory was wanting, its spare and reserved names may have risen. The scratch may have
-/// grown.
+/// Where memory was wanting, its spare and reserved names may have risen, but not past what the
+/// result takes. The scratch may have grown.
 pub fn apply<L: Ledger>(
     alloc: Global,
     plan: &Plan<'_>,
@@ -59,6 +59,7 @@ pub fn apply<L: Ledger>(
     ensures room { scratch.old.bound ≤ scratch.new.bound }
     ensures spare { IfOk result (λ applied. arena.new.spare + applied.added ≡ max arena.old.spare (applied.added - applied.removed) + applied.removed) }
     ensures reserved { IfOk result (λ applied. arena.new.reserved ≡ max arena.old.reserved (arena.old.next + applied.added)) }
+    ensures no_more { IfErr result (λ _. StaysInRoom (application_of arena.old (rule_of plan.now.table) hooks.now params.now) arena.old arena.new) }
     ensures untouched { IfErr result (λ refusal. refusal ≢ refusals.OutOfMemory → arena.new ≡ arena.old) }
     ensures spare_stays { arena.old.count + arena.old.spare ≤ arena.new.count + arena.new.spare }
     ensures reserved_stays { arena.old.reserved ≤ arena.new.reserved }

@@ -3,6 +3,7 @@ use Rattle.std.proofs.lemmas.Result.{err_from_is_err_and}
 use Rattle.gm_model.specs.Rules.{rule_of}
 use Rattle.gm_match.specs.Outcome.{application_of}
 use Rattle.gm_pending.specs.Results.{pending_of}
+use Rattle.gm_apply.specs.Outcomes.{ForResult}
 use Rattle.gm_apply.proofs.Applying.{refused_match, matched_again, is_done, find_within, all_within}
 use Rattle.gm_apply.proofs.application.apply.Goals as goal
 
@@ -156,3 +157,19 @@ returns-clause-least g c =
     let found_at = c.in_ok-found.ensures.least in
     let edits_at = c.in_ok-edits.ensures.no_step in
     omega (arith, added, removed, of, gone, least, found_at, edits_at)
+
+pub returns-in_err-reserve-clause-no_more : goal.returns-in_err-reserve-clause-no_more
+returns-in_err-reserve-clause-no_more g c =
+    let p = err_from_is_err_and c.from_residual-in_err-reserve.result c.from_residual-in_err-reserve.ensures.1 in
+    let room = c.in_ok-applied.ensures.room c.args.hooks.now c.args.params.now c.in_ok-found.ensures.answer in
+    let next = c.next.ensures.next in
+    let more = c.saturating_sub-more.ensures in
+    rw p.1 (ForResult _ _ _ room (omega (arith, more, c.reserve.ensures.spare_most)) (omega (arith, next, c.reserve.ensures.reserved_most)))
+
+pub returns-in_err-edits-clause-no_more : goal.returns-in_err-edits-clause-no_more
+returns-in_err-edits-clause-no_more g c =
+    let p = err_from_is_err_and c.from_residual-in_err-edits.result c.from_residual-in_err-edits.ensures.1 in
+    let room = c.in_ok-applied.ensures.room c.args.hooks.now c.args.params.now c.in_ok-found.ensures.answer in
+    let next = c.next.ensures.next in
+    let more = c.saturating_sub-more.ensures in
+    rw p.1 (ForResult _ _ _ room (omega (arith, more, c.reserve.ensures.spare_most)) (omega (arith, next, c.reserve.ensures.reserved_most)))
