@@ -63,6 +63,34 @@ const ACROSS: RuleRow = RuleRow {
     right_links: &[(0, 3, 1)],
 };
 
+/// Two edges that lie open.
+const SEWING: RuleRow = RuleRow {
+    nodes: &[("a", "0", "0"), ("b", "0", "0")],
+    hooks: &[0, 1],
+    left_links: &[(0, 2, 0), (1, 2, 1)],
+    right_links: &[(0, 2, 1)],
+};
+
+/// An edge and a corner.
+const CORNER: RuleRow = RuleRow {
+    nodes: &[("a", "0", "0"), ("b", "1", "1")],
+    hooks: &[0, 1],
+    left_links: &[],
+    right_links: &[],
+};
+
+const THREE: RuleRow = RuleRow {
+    nodes: &[
+        ("a", "0", "0"),
+        ("b", "0", "0"),
+        ("c", "0", "0"),
+        ("d", "0", "0"),
+    ],
+    hooks: &[0, 1, 2],
+    left_links: &[(2, 2, 3)],
+    right_links: &[(2, 2, 3)],
+};
+
 /// A rule that adds an edge of its own.
 const CREATION: RuleRow = RuleRow {
     nodes: &[("a", "-", ""), ("b", "-", "")],
@@ -135,12 +163,12 @@ fn expect_match<L: Ledger>(
     alloc: Global,
     arena: &Arena,
     row: &RuleRow,
-    hook: u32,
+    hooks: &[u32],
     names: &[u32],
     steps: &mut Steps<L>,
 ) -> Result<(), Fail> {
     let rule = rule(alloc, "r", row)?;
-    let answer = matched(rt, alloc, arena, &rule, &[hook], steps)?;
+    let answer = matched(rt, alloc, arena, &rule, hooks, steps)?;
     assert_eq!(rt; answer.ok().ok_or("a match")?.as_slice(), names);
     Ok(())
 }
@@ -150,12 +178,12 @@ fn expect_fault<L: Ledger>(
     alloc: Global,
     arena: &Arena,
     row: &RuleRow,
-    hook: u32,
+    hooks: &[u32],
     fault: MatchFault,
     steps: &mut Steps<L>,
 ) -> Result<(), Fail> {
     let rule = rule(alloc, "r", row)?;
-    let answer = matched(rt, alloc, arena, &rule, &[hook], steps)?;
+    let answer = matched(rt, alloc, arena, &rule, hooks, steps)?;
     assert_eq!(rt; answer.err(), Some(fault));
     Ok(())
 }
@@ -165,16 +193,16 @@ struct Fit<'a> {
     dim: u8,
     rows: &'a [&'a [u32]],
     rule: RuleRow<'a>,
-    hook: u32,
+    hooks: &'a [u32],
     names: &'a [u32],
 }
 
-const FITS: [Fit; 3] = [
+const FITS: [Fit; 6] = [
     Fit {
         dim: 2,
         rows: &SQUARE,
         rule: FACE,
-        hook: 0,
+        hooks: &[0],
         names: &[
             0, 1, 2, 1, 0, 3, 7, 4, 0, 2, 5, 1, 6, 2, 6, 3, 3, 7, 5, 7, 4, 4, 6, 5,
         ],
@@ -183,15 +211,38 @@ const FITS: [Fit; 3] = [
         dim: 2,
         rows: &SQUARE,
         rule: CHAIN,
-        hook: 1,
+        hooks: &[1],
         names: &[1, 0, 7, 6],
     },
     Fit {
         dim: 3,
         rows: &SHEETS,
         rule: ACROSS,
-        hook: 0,
+        hooks: &[0],
         names: &[0, 4, 1, 2, 1, 5, 0, 3, 2, 6, 3, 0, 3, 7, 2, 1],
+    },
+    // Two edges, each by its own label.
+    Fit {
+        dim: 2,
+        rows: &SQUARE,
+        rule: SEWING,
+        hooks: &[2, 7],
+        names: &[2, 7, 1, 3, 6, 0],
+    },
+    Fit {
+        dim: 2,
+        rows: &SQUARE,
+        rule: CORNER,
+        hooks: &[2, 6],
+        names: &[2, 6, 1, 3, 5, 0],
+    },
+    // Three edges, the third with a node behind it.
+    Fit {
+        dim: 3,
+        rows: &SHEETS,
+        rule: THREE,
+        hooks: &[0, 3, 5],
+        names: &[0, 3, 5, 7, 1, 1, 2, 4, 6, 0],
     },
 ];
 
@@ -203,7 +254,7 @@ fn match_each<L: Ledger>(
 ) -> Result<(), Fail> {
     for fit in fits {
         let map = map_of(alloc, fit.dim, fit.rows, steps)?;
-        expect_match(rt, alloc, &map, &fit.rule, fit.hook, fit.names, steps)?;
+        expect_match(rt, alloc, &map, &fit.rule, fit.hooks, fit.names, steps)?;
     }
     Ok(())
 }
@@ -244,14 +295,14 @@ fn matches(rt: HostRuntime) -> Result<(), Fail> {
 /// Where a rule doesn't fit in the square, and why.
 struct Miss<'a> {
     rule: RuleRow<'a>,
-    hook: u32,
+    hooks: &'a [u32],
     fault: MatchFault,
 }
 
-const MISSES: [Miss; 4] = [
+const MISSES: [Miss; 7] = [
     Miss {
         rule: EDGE,
-        hook: 2,
+        hooks: &[2],
         fault: MatchFault::Arc {
             node: 1,
             position: 0,
@@ -260,7 +311,7 @@ const MISSES: [Miss; 4] = [
     },
     Miss {
         rule: PAIR,
-        hook: 0,
+        hooks: &[0],
         fault: MatchFault::Same {
             node: 0,
             position: 0,
@@ -270,13 +321,38 @@ const MISSES: [Miss; 4] = [
     },
     Miss {
         rule: EDGE,
-        hook: 9,
+        hooks: &[9],
         fault: MatchFault::NoDart { index: 0 },
     },
     Miss {
         rule: PAIR,
-        hook: 9,
+        hooks: &[9],
         fault: MatchFault::NoDart { index: 0 },
+    },
+    Miss {
+        rule: SEWING,
+        hooks: &[2, 9],
+        fault: MatchFault::NoDart { index: 1 },
+    },
+    Miss {
+        rule: SEWING,
+        hooks: &[2, 3],
+        fault: MatchFault::Same {
+            node: 0,
+            position: 1,
+            node2: 1,
+            position2: 0,
+        },
+    },
+    Miss {
+        rule: CORNER,
+        hooks: &[2, 3],
+        fault: MatchFault::Same {
+            node: 0,
+            position: 1,
+            node2: 1,
+            position2: 0,
+        },
     },
 ];
 
@@ -288,7 +364,7 @@ fn miss_each<L: Ledger>(
 ) -> Result<(), Fail> {
     let map = map_of(alloc, 2, &SQUARE, steps)?;
     for miss in misses {
-        expect_fault(rt, alloc, &map, &miss.rule, miss.hook, miss.fault, steps)?;
+        expect_fault(rt, alloc, &map, &miss.rule, miss.hooks, miss.fault, steps)?;
     }
     Ok(())
 }

@@ -7,7 +7,7 @@ use std::alloc::Global;
 use std::process::Abort;
 use std::test::Fail;
 
-const VERDICTS: [Verdict; 15] = [
+const VERDICTS: [Verdict; 18] = [
     Verdict {
         dim: 2,
         rule: RuleRow {
@@ -165,6 +165,36 @@ const VERDICTS: [Verdict; 15] = [
             right_links: &[(0, 0, 1), (0, 1, 0), (0, 2, 0), (1, 1, 1), (1, 2, 1)],
         },
         fault: None,
+    },
+    Verdict {
+        dim: 2,
+        rule: RuleRow {
+            nodes: &[("a", "0", "0"), ("b", "1", "1"), ("c", "0", "0")],
+            hooks: &[0, 1],
+            left_links: &[(1, 2, 2)],
+            right_links: &[(1, 2, 2)],
+        },
+        fault: None,
+    },
+    Verdict {
+        dim: 2,
+        rule: RuleRow {
+            nodes: &[("a", "0", "0"), ("b", "_", "_")],
+            hooks: &[0, 1],
+            left_links: &[],
+            right_links: &[],
+        },
+        fault: Some(RuleFault::HookWord { node: 1 }),
+    },
+    Verdict {
+        dim: 2,
+        rule: RuleRow {
+            nodes: &[("a", "0", "0"), ("b", "01", "01")],
+            hooks: &[0, 1],
+            left_links: &[],
+            right_links: &[],
+        },
+        fault: Some(RuleFault::WordLength { node: 1 }),
     },
 ];
 

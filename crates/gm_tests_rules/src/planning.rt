@@ -193,7 +193,54 @@ const TRIANGLE: Planned = Planned {
     order: &[1, 2],
 };
 
-const WITH_PATHS: [Planned; 3] = [THREE_LINKS, SQUARE, TRIANGLE];
+/// Paths of one length from two hooks: that with the lesser label wins, though its hook is later.
+const LATER_HOOK: Planned = Planned {
+    dim: 1,
+    rule: RuleRow {
+        nodes: &[("a", "", "-"), ("b", "", "-"), ("c", "", "-")],
+        hooks: &[0, 1],
+        left_links: &[(0, 1, 2), (1, 0, 2), (0, 0, 0), (1, 1, 1)],
+        right_links: &[],
+    },
+    counts: [2, 3, 0, 3],
+    from: &[None, None, Some((1, 0))],
+    order: &[2],
+};
+
+/// Two nodes at the end of one label, each from its own hook. What lies behind both is nearest by
+/// the lesser second label, though it leads from the later node.
+const ABREAST: Planned = Planned {
+    dim: 2,
+    rule: RuleRow {
+        nodes: &[
+            ("a", "", "-"),
+            ("b", "", "-"),
+            ("c", "", "-"),
+            ("d", "", "-"),
+            ("e", "", "-"),
+        ],
+        hooks: &[0, 1],
+        left_links: &[
+            (0, 0, 2),
+            (1, 0, 3),
+            (2, 2, 4),
+            (3, 1, 4),
+            (0, 1, 0),
+            (0, 2, 0),
+            (1, 1, 1),
+            (1, 2, 1),
+            (2, 1, 2),
+            (3, 2, 3),
+            (4, 0, 4),
+        ],
+        right_links: &[],
+    },
+    counts: [2, 5, 0, 5],
+    from: &[None, None, Some((0, 0)), Some((1, 0)), Some((3, 1))],
+    order: &[2, 3, 4],
+};
+
+const WITH_PATHS: [Planned; 5] = [THREE_LINKS, SQUARE, TRIANGLE, LATER_HOOK, ABREAST];
 
 #[test]
 fn paths(rt: HostRuntime) -> Result<(), Fail> {

@@ -17,6 +17,15 @@ const DROP: &str = "book 1 dim 2 rule drop left a <0 1> hook a -2- a right";
 const PAIR: &str =
     "book 1 dim 2 rule pair left right x <> y <> x -0- y x -1- x x -2- x y -1- y y -2- y";
 
+const SEW: &str =
+    "book 2 dim 2 rule sew left a <0> hook b <0> hook a -2- a b -2- b right a <0> b <0> a -2- b";
+
+/// The square with two of its edges sewn.
+const ROLLED: &str =
+    "gmap 1\ndim 2\ndarts 8\n0 1 7 0\n1 0 2 1\n2 3 1 7\n3 2 4 6\n4 5 3 4\n5 4 6 5\n6 7 5 3\n7 6 0 2\n";
+
+const EDGE_AND_DART: &str = "gmap 1\ndim 2\ndarts 3\n0 1 0 0\n1 0 1 1\n2 2 2 2\n";
+
 const DONE: &str = "1 T done added 16 removed 0\napplied 1 refused 0 darts 24 next 24\n";
 
 fn files(alloc: Global, map: &str, book: &str, script: &str) -> Result<MemStore, Fail> {
@@ -59,7 +68,7 @@ fn run_each(rt: &impl Abort, host: &HostRuntime, cases: &[Run]) -> Result<(), Fa
     Ok(())
 }
 
-const RUNS: [Run; 9] = [
+const RUNS: [Run; 12] = [
     Run {
         texts: [SQUARE, T, "apply T 0"],
         status: 0,
@@ -130,6 +139,24 @@ const RUNS: [Run; 9] = [
         put: "1 s refused no-match same a 0 b 0\napplied 0 refused 1 darts 8 next 8\n",
         saved: Some(SQUARE),
     },
+    Run {
+        texts: [SQUARE, SEW, "apply sew 2 7 apply sew 2 7 apply sew 2 2"],
+        status: 1,
+        put: "1 sew done added 0 removed 0\n2 sew refused no-match arc a 0 2\n3 sew refused no-match arc a 0 2\napplied 1 refused 2 darts 8 next 8\n",
+        saved: Some(ROLLED),
+    },
+    Run {
+        texts: [EDGE_AND_DART, SEW, "apply sew 0 2"],
+        status: 1,
+        put: "1 sew refused no-match same b 0 b 1\napplied 0 refused 1 darts 3 next 3\n",
+        saved: Some(EDGE_AND_DART),
+    },
+    Run {
+        texts: [EDGE_AND_DART, SEW, "apply sew 2 0"],
+        status: 1,
+        put: "1 sew refused no-match arc b 0 0\napplied 0 refused 1 darts 3 next 3\n",
+        saved: Some(EDGE_AND_DART),
+    },
 ];
 
 #[test]
@@ -145,7 +172,7 @@ const NO_RUNS: [Run; 9] = [
         saved: None,
     },
     Run {
-        texts: [SQUARE, "book 2", "apply"],
+        texts: [SQUARE, "book 3", "apply"],
         status: 4,
         put: "refused BOOK text 5\n",
         saved: None,
