@@ -1,5 +1,4 @@
 //! Where in a book's text reading is, and what of an item is read so far.
-
 ghost use Rattle.std.specs.Prelude.{◌≡◌, ◌≤◌};
 ghost use Rattle.gm_book.specs.Reading.{takes_hook};
 
