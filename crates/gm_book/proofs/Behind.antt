@@ -14,11 +14,12 @@ use Rattle.gm_book.specs.BookText.{Item, NodeItem, LinkItem, RuleForm, limit_of,
 use Rattle.gm_text.specs.Machine as machine
 use Rattle.gm_book.specs.declared.draft.Draft.{Draft}
 use Rattle.gm_book.specs.declared.form_fault.FormFault.{FormFault}
+use Rattle.gm_book.specs.declared.state.Heading.{Heading}
 use Rattle.gm_book.specs.declared.state.Spot.{Spot as CodeSpot}
 use Rattle.gm_book.specs.declared.state.State.{State as CodeState}
 use Rattle.gm_book.specs.declared.state.State.TheVariants as code
 use Rattle.gm_book.specs.Forms.{mention_of}
-use Rattle.gm_book.specs.Reading.{State, role_at, move, AtItem, AtBehind, is_hook, is_later, with_item, hooked, hook_last}
+use Rattle.gm_book.specs.Reading.{State, role_at, move, AtItem, AtBehind, takes_hook, is_hook_on, is_hook, is_later, with_item, hooked, hook_last}
 use Rattle.gm_book.specs.Standing.{StaysIn, KeepsIn, IsStateIn, IsDraftIn, Leads, Moves, MovesFrom, EndsFrom, Gives, end_stand, stand_of, stepped, settled, stand_in, spot_of, rules_of, current_of}
 
 pub leads_at : (text : List ℕ) (mark : Mark) (result : Result CodeState FormFault) {state known : CodeState} → state ≡ known → Leads text known mark result → Leads text state mark result
@@ -51,7 +52,7 @@ pub stays_keeps_at : (text : List ℕ) (draft : Draft) (result : Result CodeStat
 stays_keeps_at text draft result is stays state_in draft_in = also_in text draft result (stays_in_at text result is stays state_in) draft_in
 
 behind_is_item : (text : List ℕ) (nodes : List (List ℕ)) (rules : List RuleForm) (current : Option RuleForm) (spot : CodeSpot) (name : Token) (word : List Letter) (last : ℕ) (found : List ℕ) (place : ℕ)
-    → is_hook spot.side found ≡ false → is_later (AtBehind (spot_of nodes spot)) (Word found) ≡ is_later (AtItem (spot_of nodes spot)) (Word found)
+    → is_hook (spot_of nodes spot) found ≡ false → is_later (AtBehind (spot_of nodes spot)) (Word found) ≡ is_later (AtItem (spot_of nodes spot)) (Word found)
     → stepped (stand_in text nodes rules current (code.Behind spot name word) last) (record { symbol = Word found; place = place })
     ≡ stepped (stand_in text nodes rules (option_map (with_item spot.side (NodeItem (mention_of text name) word false)) current) (code.Item spot) last) (record { symbol = Word found; place = place })
 unfolding stepped
@@ -84,7 +85,7 @@ hook_is_put (Some rule) node word = rw (hooked_put rule.left node word) refl
 module _ (text : List ℕ) (nodes : List (List ℕ)) (old put : Draft) (spot : CodeSpot) (name : Token) (word : List Letter) (found : List ℕ) (place : ℕ) where
   pub behind_moves : (result : Result CodeState FormFault) (new_nodes : List (List ℕ)) (new : Draft)
       → rules_of text put ≡ rules_of text old → current_of text put ≡ option_map (with_item spot.side (NodeItem (mention_of text name) word false)) (current_of text old)
-      → is_hook spot.side found ≡ false → is_later (AtBehind (spot_of nodes spot)) (Word found) ≡ is_later (AtItem (spot_of nodes spot)) (Word found)
+      → is_hook (spot_of nodes spot) found ≡ false → is_later (AtBehind (spot_of nodes spot)) (Word found) ≡ is_later (AtItem (spot_of nodes spot)) (Word found)
       → Moves text nodes put (code.Item spot) (record { symbol = Word found; place = place }) result new_nodes new
       → Moves text nodes old (code.Behind spot name word) (record { symbol = Word found; place = place }) result new_nodes new
   behind_moves result new_nodes new rules current plain later moves last =
@@ -94,13 +95,13 @@ module _ (text : List ℕ) (nodes : List (List ℕ)) (old put : Draft) (spot : C
       subst (λ step. Gives (λ next. stand_of text new_nodes new next place) result step) (there ∙ here ∙ sym same) (moves last)
 
   pub hook_moves : rules_of text put ≡ rules_of text old → current_of text put ≡ option_map (with_item Left (NodeItem (mention_of text name) word true)) (current_of text old)
-      → spot.side ≡ Left → bytes_eq found (codes "hook") ≡ true
-      → Moves text nodes old (code.Behind spot name word) (record { symbol = Word found; place = place }) (Ok (code.Item spot)) nodes put
+      → spot.side ≡ Left → bytes_eq found (codes "hook") ≡ true → takes_hook spot.heading.version spot.hooked ≡ true
+      → Moves text nodes old (code.Behind spot name word) (record { symbol = Word found; place = place }) (Ok (code.Item (record spot { hooked = true }))) nodes put
   unfolding stepped
-  hook_moves rules current side hook last =
+  hook_moves rules current side hook takes last =
       let here : option_map hook_last (option_map (with_item Left (NodeItem (mention_of text name) word false)) (current_of text old)) ≡ current_of text put =
       hook_is_put (current_of text old) (mention_of text name) word ∙ sym current in
-      let is : is_hook Left found ≡ true = hook in
+      let is : is_hook_on Left (takes_hook spot.heading.version spot.hooked) found ≡ true = rw (hook, takes) refl in
       rw (side, is, here, rules, is) refl
 
 pub to_moves : (text : List ℕ) (nodes : List (List ℕ)) (old put : Draft) (spot : CodeSpot) (from : Token) (label : ℕ) (to : Token)
@@ -112,7 +113,7 @@ to_moves text nodes old put spot from label to free short rules current last = r
 
 -- ---- at the end
 
-pub ends_at : (text : List ℕ) (nodes : List (List ℕ)) (draft : Draft) (place : ℕ) (result : Result ℕ FormFault) (new : Draft) {state known : CodeState}
+pub ends_at : (text : List ℕ) (nodes : List (List ℕ)) (draft : Draft) (place : ℕ) (result : Result Heading FormFault) (new : Draft) {state known : CodeState}
     → state ≡ known → EndsFrom text nodes draft known place result new → EndsFrom text nodes draft state place result new
 ends_at text nodes draft place result new is ends = subst (λ (s : CodeState). EndsFrom text nodes draft s place result new) (sym is) ends
 
@@ -123,11 +124,11 @@ unfolding stepped
 end_is_item text nodes rules current spot name word last place Left is = rw is refl
 end_is_item text nodes rules current spot name word last place Right is = rw is refl
 
-pub behind_ends : (text : List ℕ) (nodes : List (List ℕ)) (old put : Draft) (spot : CodeSpot) (name : Token) (word : List Letter) (place : ℕ) (result : Result ℕ FormFault) (new : Draft)
+pub behind_ends : (text : List ℕ) (nodes : List (List ℕ)) (old put : Draft) (spot : CodeSpot) (name : Token) (word : List Letter) (place : ℕ) (result : Result Heading FormFault) (new : Draft)
     → rules_of text put ≡ rules_of text old → current_of text put ≡ option_map (with_item spot.side (NodeItem (mention_of text name) word false)) (current_of text old)
     → EndsFrom text nodes put (code.Item spot) place result new → EndsFrom text nodes old (code.Behind spot name word) place result new
 behind_ends text nodes old put spot name word place result new rules current ends last =
     let same = end_is_item text nodes (rules_of text old) (current_of text old) spot name word last place spot.side refl in
     let there = ap (λ (rs : List RuleForm). stepped (stand_in text nodes rs (current_of text put) (code.Item spot) last) (record { symbol = End; place = place })) rules in
     let here = ap (λ (c : Option RuleForm). stepped (stand_in text nodes (rules_of text old) c (code.Item spot) last) (record { symbol = End; place = place })) current in
-    subst (λ step. Gives (λ (dim : ℕ). end_stand text new dim place) result step) (there ∙ here ∙ sym same) (ends last)
+    subst (λ step. Gives (λ (heading : Heading). end_stand text new heading place) result step) (there ∙ here ∙ sym same) (ends last)

@@ -34,4 +34,4 @@ few_nodes bytes n [] fits = tt
 few_nodes bytes n (rule ∷ rules) fits = (fits.0.nodes, few_nodes bytes n rules fits.1)
 
 pub all_few : (bytes : List ℕ) (form : Form) → IsWithin IsSentence limit_of (spelling (form_of bytes form)) → AllByRecursion (λ rule. length (nodes_of (rule_form_of bytes rule)) ≤ 32) form.rules.items
-all_few bytes form within = few_nodes bytes form.dim form.rules.items (all_fitting (form_of bytes form) within)
+all_few bytes form within = few_nodes bytes form.heading.dim form.rules.items (all_fitting (form_of bytes form) within)

@@ -97,8 +97,8 @@ abbrev pub forms_at : List Mark → List Rule → List RuleForm
 forms_at marks [] = []
 forms_at marks (rule ∷ rules) = form_at marks rule ∷ forms_at (behind_lines (lines_of rule Right) (right_marks rule marks)) rules
 
-abbrev pub book_at : List Mark → ℕ → List Rule → BookForm
-book_at marks n rules = record { dim = n; rules = forms_at (behind (behind (behind (behind marks)))) rules }
+abbrev pub book_at : List Mark → ℕ → ℕ → List Rule → BookForm
+book_at marks version n rules = record { version = version; dim = n; rules = forms_at (behind (behind (behind (behind marks)))) rules }
 
 -- ---- what a text can hold
 

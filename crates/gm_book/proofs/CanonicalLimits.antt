@@ -1,5 +1,5 @@
 -- The canonical form is one, and passes no limit.
-use Rattle.std.proofs.Common.{◌≡◌, ℕ, ◌+◌, ◌<◌, ◌≤◌, Bool, true, false, eqb, ltb, List, [], ◌∷◌, length, map, Option, Some, None, inl, inr, refl, ap, ◌∙◌, arith}
+use Rattle.std.proofs.Common.{◌≡◌, ℕ, ◌+◌, ◌<◌, ◌≤◌, Bool, true, false, eqb, ltb, List, [], ◌∷◌, length, map, Option, Some, None, ◌⊎◌, inl, inr, refl, ap, ◌∙◌, arith}
 use Rattle.std.specs.List.{AllByRecursion}
 use Rattle.std.proofs.lemmas.Bool.{le-ltb, ne_eqb, cases_Bool}
 use Rattle.std.proofs.lemmas.List.{length-append, length-map}
@@ -11,11 +11,11 @@ use Rattle.gm_model.specs.declared.rule.Side.TheVariants.{Left, Right}
 use Rattle.gm_model.specs.Symbols.{Mark}
 use Rattle.gm_model.specs.Reading.{Part, IsWithin}
 use Rattle.gm_model.specs.Rules.{Rule, RuleNode, word_on}
-use Rattle.gm_book.specs.BookText.{Item, NodeItem, LinkItem, Role, Count, no_count, count_after, count_across, counted, with_name, the_end, limit_of, spell_letters, spell_hook, spell_item, spell_items, spell_rule, spell_rules, spelling, IsItem, IsRule, IsForm, IsSentence}
+use Rattle.gm_book.specs.BookText.{Item, NodeItem, LinkItem, RuleForm, hook_count, nodes_of, hooks_in, rule_in, Role, Count, no_count, count_after, count_across, counted, with_name, the_end, limit_of, spell_letters, spell_hook, spell_item, spell_items, spell_rule, spell_rules, spelling, IsItem, IsRule, IsForm, IsSentence}
 use Rattle.gm_model.specs.Names.{is_among}
 use Rattle.gm_book.proofs.CanonicalForm.{Line, NodeLine, LinkLine, behind, behind_line, behind_lines, node_lines, line_before, tie, hook_on, item_at, items_at, lines_of, left_marks, right_marks, form_at, forms_at, book_at, node_names, IsGoodLetter, IsGoodLine, IsWritable}
 use Rattle.gm_book.proofs.CanonicalText.{good_lines}
-use Rattle.gm_book.proofs.CanonicalRule.{counted_seen, seen_after, names_on, side_names, left_seen, both_seen}
+use Rattle.gm_book.proofs.CanonicalRule.{rule_same, counted_seen, seen_after, names_on, side_names, left_seen, both_seen}
 
 -- ---- it is a form
 
@@ -51,19 +51,34 @@ right_lines_fit x (node ∷ nodes) lines rest = go node.right (right_lines_fit (
     go None later = later
     go (Some word) later = (refl, later)
 
-form_is_rule : (n : ℕ) (rule : Rule) (marks : List Mark) → IsWritable n rule → IsRule (form_at marks rule)
-form_is_rule n rule marks ok = (
+hooks_counted : (names : List (List ℕ)) (items : List Item) → hook_count items ≡ length (hooks_in names items)
+hooks_counted names [] = refl
+hooks_counted names (NodeItem node word true ∷ items) = omega (arith, hooks_counted names items)
+hooks_counted names (NodeItem node word false ∷ items) = hooks_counted names items
+hooks_counted names (LinkItem from label to ∷ items) = hooks_counted names items
+
+-- a rule has as many hooks as its form
+pub as_many_hooks : (form : RuleForm) → hook_count form.left ≡ length (rule_in form).hooks
+as_many_hooks form = hooks_counted (nodes_of form) form.left
+
+form_is_rule : (version n : ℕ) (rule : Rule) (marks : List Mark) → (version ≡ 1 → length rule.hooks ≤ 1) → IsWritable n rule → IsRule version (form_at marks rule)
+form_is_rule version n rule marks few ok = (
   ok.name.1,
   lines_are_items n Left (lines_of rule Left) (left_marks marks) (left_lines_fit (lines_of rule Left)) (good_lines n rule Left ok),
   lines_are_items n Right (lines_of rule Right) (right_marks rule marks) (right_lines_fit 0 rule.nodes (map (tie rule.nodes) rule.right_links) (right_ties_fit rule.nodes rule.right_links)) (good_lines n rule Right ok),
+  λ one. omega (arith, few one, as_many_hooks (form_at marks rule), ap (λ (r : Rule). length r.hooks) (rule_same n rule ok marks)),
 )
 
-forms_are_rules : (n : ℕ) (rules : List Rule) (marks : List Mark) → AllByRecursion (IsWritable n) rules → AllByRecursion IsRule (forms_at marks rules)
-forms_are_rules n [] marks ok = tt
-forms_are_rules n (rule ∷ rules) marks ok = (form_is_rule n rule marks ok.0, forms_are_rules n rules (behind_lines (lines_of rule Right) (right_marks rule marks)) ok.1)
+-- in version 1 the rule has one hook at most
+abbrev pub HasFewHooks : ℕ → Rule → Type 0
+HasFewHooks version rule = version ≡ 1 → length rule.hooks ≤ 1
 
-pub book_is_form : (n : ℕ) (rules : List Rule) (marks : List Mark) → AllByRecursion (IsWritable n) rules → IsForm (book_at marks n rules)
-book_is_form n rules marks ok = forms_are_rules n rules (behind (behind (behind (behind marks)))) ok
+forms_are_rules : (version n : ℕ) (rules : List Rule) (marks : List Mark) → AllByRecursion (HasFewHooks version) rules → AllByRecursion (IsWritable n) rules → AllByRecursion (IsRule version) (forms_at marks rules)
+forms_are_rules version n [] marks few ok = tt
+forms_are_rules version n (rule ∷ rules) marks few ok = (form_is_rule version n rule marks few.0 ok.0, forms_are_rules version n rules (behind_lines (lines_of rule Right) (right_marks rule marks)) few.1 ok.1)
+
+pub book_is_form : (version n : ℕ) (rules : List Rule) (marks : List Mark) → (version ≡ 1) ⊎ (version ≡ 2) → AllByRecursion (HasFewHooks version) rules → AllByRecursion (IsWritable n) rules → IsForm (book_at marks version n rules)
+book_is_form version n rules marks known few ok = (known, forms_are_rules version n rules (behind (behind (behind (behind marks)))) few ok)
 
 -- ---- how many there are
 
@@ -177,8 +192,8 @@ module _ (n : ℕ) where
   rules_within k (rule ∷ rules) marks few ok =
       rule_within (k + 1) rule marks _ (omega (arith, few)) ok.0 (rules_within (k + 1) rules (behind_lines (lines_of rule Right) (right_marks rule marks)) (omega (arith, few)) ok.1)
 
-  pub book_within : (rules : List Rule) (marks : List Mark) → 0 < n → n ≤ 7 → length rules ≤ 256 → AllByRecursion (IsWritable n) rules → IsIn (spelling (book_at marks n rules))
-  book_within rules marks some low few ok =
+  pub book_within : (version : ℕ) (rules : List Rule) (marks : List Mark) → 0 < n → n ≤ 7 → length rules ≤ 256 → AllByRecursion (IsWritable n) rules → IsIn (spelling (book_at marks version n rules))
+  book_within version rules marks some low few ok =
       let not_zero : eqb n 0 ≡ false = ne_eqb n 0 (λ e. omega (arith, some, e)) in
       let top : ltb 7 n ≡ false = le-ltb 7 n low in
       (refl, (refl, (refl, (rw (not_zero, top) refl, rules_within 0 rules (behind (behind (behind (behind marks)))) (omega (arith, few)) ok))))

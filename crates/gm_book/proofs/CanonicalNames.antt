@@ -111,10 +111,10 @@ form_names : (rules : List Rule) (marks : List Mark) → names_of (map (λ (form
 form_names [] marks = refl
 form_names (rule ∷ rules) marks = ap (λ names. rule.name ∷ names) (form_names rules (behind_lines (lines_of rule Right) (right_marks rule marks)))
 
-pub book_faultless : (n : ℕ) (rules : List Rule) (marks : List Mark) → AllByRecursion (IsWritable n) rules → AreNew [] (rule_names rules) → (fault : NameFault) → IsNameFault (book_at marks n rules) fault → ⊥
-book_faultless n rules marks ok differ _ (RuleTwice place again) =
+pub book_faultless : (version n : ℕ) (rules : List Rule) (marks : List Mark) → AllByRecursion (IsWritable n) rules → AreNew [] (rule_names rules) → (fault : NameFault) → IsNameFault (book_at marks version n rules) fault → ⊥
+book_faultless version n rules marks ok differ _ (RuleTwice place again) =
     no_again _ place (subst (AreNew []) (sym (form_names rules (behind (behind (behind (behind marks)))))) differ) again
-book_faultless n rules marks ok differ _ (NodeTwice form side place has again) =
+book_faultless version n rules marks ok differ _ (NodeTwice form side place has again) =
     (contained HasNoFault _ form (forms_faultless n rules (behind (behind (behind (behind marks)))) ok) has).twice side place again
-book_faultless n rules marks ok differ _ (NodeUnknown form side place has stranger) =
+book_faultless version n rules marks ok differ _ (NodeUnknown form side place has stranger) =
     (contained HasNoFault _ form (forms_faultless n rules (behind (behind (behind (behind marks)))) ok) has).stranger side place stranger

@@ -53,6 +53,6 @@ module _ (n : ℕ) where
       none (mark ∷ marks) = tt
   rules_placed k (rule ∷ rules) marks = rule_placed (k + 1) rule marks _ (rules_placed (k + 1) rules (behind_lines (lines_of rule Right) (right_marks rule marks)))
 
-  pub book_placed : (rules : List Rule) (marks : List Mark) → ArePlaced marks (spelling (book_at marks n rules))
-  book_placed rules marks =
+  pub book_placed : (version : ℕ) (rules : List Rule) (marks : List Mark) → ArePlaced marks (spelling (book_at marks version n rules))
+  book_placed version rules marks =
       first marks _ _ tt (first (behind marks) _ _ tt (first (behind (behind marks)) _ _ tt (first (behind (behind (behind marks))) _ _ tt (rules_placed 0 rules (behind (behind (behind (behind marks))))))))

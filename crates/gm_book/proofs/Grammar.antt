@@ -9,7 +9,7 @@ use Rattle.gm_model.specs.Reading.{Part, IsReadAs}
 use Rattle.gm_book.specs.BookText.{BookForm, Role, NameAt, limit_of, stands_before, IsSentence, IsPlacedAt, ArePlaced, IsWritten, IsLimitFault}
 use Rattle.gm_text.specs.Machine.{Passes, IsGrammar}
 use Rattle.gm_text.proofs.Machine.{Along, run_reads, run_passes, read_is, passing_is}
-use Rattle.gm_book.specs.Reading.{Spot, State, AtFormat, AtVersion, AtDim, AtTop, AtRules, AtName, AtLeft, AtItem, AtSign, AtLetter, AtBehind, AtLabel, AtDash, AtTo, AtEnd, closing, closing_role, is_hook, item_role, role_at, move, run, nothing_held, held_behind}
+use Rattle.gm_book.specs.Reading.{Spot, State, AtFormat, AtVersion, AtDim, AtTop, AtRules, AtName, AtLeft, AtItem, AtSign, AtLetter, AtBehind, AtLabel, AtDash, AtTo, AtEnd, heading_at, closing, closing_role, is_hook, item_role, role_at, move, run, nothing_held, held_behind}
 use Rattle.gm_book.proofs.Leading.{Led, sentence_leads, goes_on}
 use Rattle.gm_book.proofs.Spelling.{along_book}
 
@@ -38,17 +38,17 @@ same_name_limit End place other = refl
 same_limit : (state : State) (symbol : Symbol) (place other : ℕ) → limit_of (role_at state symbol place) symbol ≡ limit_of (role_at state symbol other) symbol
 same_limit AtFormat symbol place other = refl
 same_limit AtVersion symbol place other = refl
-same_limit AtDim symbol place other = refl
-same_limit AtTop symbol place other = refl
+same_limit (AtDim v) symbol place other = refl
+same_limit (AtTop v) symbol place other = refl
 same_limit (AtRules n) symbol place other = refl
 same_limit (AtName n k) symbol place other = same_name_limit symbol place other
 same_limit (AtLeft n k) symbol place other = refl
 same_limit (AtItem spot) symbol place other = same_item_limit spot symbol place other
 same_limit (AtSign spot name) symbol place other = refl
 same_limit (AtLetter spot k) symbol place other = refl
-same_limit (AtBehind spot) (Word w) place other = go (is_hook spot.side w) refl
+same_limit (AtBehind spot) (Word w) place other = go (is_hook spot w) refl
   where
-    go : (b : Bool) → is_hook spot.side w ≡ b → limit_of (role_at (AtBehind spot) (Word w) place) (Word w) ≡ limit_of (role_at (AtBehind spot) (Word w) other) (Word w)
+    go : (b : Bool) → is_hook spot w ≡ b → limit_of (role_at (AtBehind spot) (Word w) place) (Word w) ≡ limit_of (role_at (AtBehind spot) (Word w) other) (Word w)
     go true e = rw e refl
     go false e = rw e (same_item_limit spot (Word w) place other)
 same_limit (AtBehind spot) (Numeral n) place other = refl
@@ -76,17 +76,17 @@ same_item_before spot End place other = refl
 same_before : (state : State) (symbol : Symbol) (place other : ℕ) → stands_before (role_at state symbol place) ≡ stands_before (role_at state symbol other)
 same_before AtFormat symbol place other = refl
 same_before AtVersion symbol place other = refl
-same_before AtDim symbol place other = refl
-same_before AtTop symbol place other = refl
+same_before (AtDim v) symbol place other = refl
+same_before (AtTop v) symbol place other = refl
 same_before (AtRules n) symbol place other = refl
 same_before (AtName n k) symbol place other = refl
 same_before (AtLeft n k) symbol place other = refl
 same_before (AtItem spot) symbol place other = same_item_before spot symbol place other
 same_before (AtSign spot name) symbol place other = refl
 same_before (AtLetter spot k) symbol place other = refl
-same_before (AtBehind spot) (Word w) place other = go (is_hook spot.side w) refl
+same_before (AtBehind spot) (Word w) place other = go (is_hook spot w) refl
   where
-    go : (b : Bool) → is_hook spot.side w ≡ b → stands_before (role_at (AtBehind spot) (Word w) place) ≡ stands_before (role_at (AtBehind spot) (Word w) other)
+    go : (b : Bool) → is_hook spot w ≡ b → stands_before (role_at (AtBehind spot) (Word w) place) ≡ stands_before (role_at (AtBehind spot) (Word w) other)
     go true e = rw e refl
     go false e = rw e (same_item_before spot (Word w) place other)
 same_before (AtBehind spot) (Numeral n) place other = refl
@@ -119,8 +119,8 @@ placed_item spot End place = tt
 placed_role : (state : State) (symbol : Symbol) (place : ℕ) → IsPlacedAt place (role_at state symbol place)
 placed_role AtFormat symbol place = tt
 placed_role AtVersion symbol place = tt
-placed_role AtDim symbol place = tt
-placed_role AtTop symbol place = tt
+placed_role (AtDim v) symbol place = tt
+placed_role (AtTop v) symbol place = tt
 placed_role (AtRules n) (Word w) place = tt
 placed_role (AtRules n) (Numeral m) place = tt
 placed_role (AtRules n) (Sign s) place = tt
@@ -146,9 +146,9 @@ placed_role (AtLetter spot k) (Numeral m) place = tt
 placed_role (AtLetter spot k) Gone place = tt
 placed_role (AtLetter spot k) Stray place = tt
 placed_role (AtLetter spot k) End place = tt
-placed_role (AtBehind spot) (Word w) place = go (is_hook spot.side w) refl
+placed_role (AtBehind spot) (Word w) place = go (is_hook spot w) refl
   where
-    go : (b : Bool) → is_hook spot.side w ≡ b → IsPlacedAt place (role_at (AtBehind spot) (Word w) place)
+    go : (b : Bool) → is_hook spot w ≡ b → IsPlacedAt place (role_at (AtBehind spot) (Word w) place)
     go true e = rw e tt
     go false e = rw e (placed_item spot (Word w) place)
 placed_role (AtBehind spot) (Numeral n) place = tt
@@ -195,7 +195,7 @@ book_grammar = record { leads = sentence_leads; sentence = led_sentence; goes_on
 pub record IsReading (text : List ℕ) : Type 0 where
   pub book : BookForm
   pub written : IsWritten text book
-  pub held : held_behind AtFormat (marks_of text) nothing_held ≡ record { dim = book.dim; rules = book.rules; current = None; part = nothing_held.part }
+  pub held : held_behind AtFormat (marks_of text) nothing_held ≡ record { heading = heading_at book.version book.dim; rules = book.rules; current = None; part = nothing_held.part }
 
 pub reading_is : (text : List ℕ) → run AtFormat 0 (marks_of text) ≡ Ok AtEnd → IsReading text
 reading_is text e =

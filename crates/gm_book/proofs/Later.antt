@@ -1,6 +1,5 @@
 -- Where a text ends against the grammar, and where instead something begins that books don't have so far.
-use Rattle.std.proofs.Common.{◌≡◌, ◌≢◌, ℕ, ◌+◌, ◌==◌, Bool, true, false, ◌⊎◌, inl, inr, List, [], ◌∷◌, ◌++◌, Some, None, Err, refl, sym, ap, subst, ◌∙◌, codes}
-use Rattle.std.proofs.lemmas.Bool.{eqb-true}
+use Rattle.std.proofs.Common.{◌≡◌, ◌≢◌, ℕ, ◌+◌, Bool, true, false, ◌⊎◌, inl, inr, List, [], ◌∷◌, ◌++◌, Some, None, Err, refl, sym, ap, subst, ◌∙◌, codes}
 use Rattle.std.proofs.lemmas.Slice.Eq.{bytes_eq-Decides}
 use Rattle.std.specs.Str.{bytes_eq}
 use Rattle.gm_model.specs.declared.rule.Side.{Side}
@@ -10,7 +9,8 @@ use Rattle.gm_model.specs.Reading.{Part, Begins}
 use Rattle.gm_book.specs.BookText.{Role, Fixed, Dimension, WordEnd, limit_of, stands_before, header, word, number, sign, the_end, IsSentence, IsLater, Embeddings, Parameters, Assignment, Precondition, IsNotBuilt, IsTextFault}
 use Rattle.gm_text.specs.Machine.{Ends, Leads}
 use Rattle.gm_text.proofs.Machine.{last_of, IsEnded, along_leads, along_spelled, run_ends, ended_is, led_begins, begun}
-use Rattle.gm_book.specs.Reading.{Spot, State, AtFormat, AtVersion, AtDim, AtTop, AtRules, AtName, AtLeft, AtItem, AtSign, AtLetter, AtBehind, AtLabel, AtDash, AtTo, AtEnd, left_spot, closing, is_hook, expect, unless_reserved, item_move, behind_move, end_move, closed, role_at, move, run, is_later}
+use Rattle.gm_book.specs.declared.state.Heading.{Heading}
+use Rattle.gm_book.specs.Reading.{Spot, State, AtFormat, AtVersion, AtDim, AtTop, AtRules, AtName, AtLeft, AtItem, AtSign, AtLetter, AtBehind, AtLabel, AtDash, AtTo, AtEnd, heading_at, left_spot, with_hook, closing, is_hook, is_version, expect, unless_reserved, item_move, behind_move, end_move, closed, role_at, move, run, is_later}
 use Rattle.gm_book.proofs.Spelling.{expected, free_word}
 use Rattle.gm_book.proofs.Grammar.{book_grammar}
 
@@ -26,17 +26,17 @@ Leading state parts last = Leads limit_of stands_before role_at move state parts
 abbrev is_plain : State → Bool
 is_plain AtFormat = false
 is_plain AtVersion = false
-is_plain AtDim = false
-is_plain AtTop = false
+is_plain (AtDim v) = false
+is_plain (AtTop v) = false
 is_plain (AtRules n) = false
 is_plain (AtBehind spot) = false
 is_plain _ = true
 
 data Entered (state : State) (symbol : Symbol) (next : State) : Type 0 where
   Version : state ≡ AtFormat → symbol ≡ Word (codes "book") → next ≡ AtVersion → Entered state symbol next
-  Dim : state ≡ AtVersion → symbol ≡ Numeral 1 → next ≡ AtDim → Entered state symbol next
-  Top : state ≡ AtDim → symbol ≡ Word (codes "dim") → next ≡ AtTop → Entered state symbol next
-  Rules : (n : ℕ) → state ≡ AtTop → symbol ≡ Numeral n → next ≡ AtRules n → Entered state symbol next
+  Dim : (v : ℕ) → state ≡ AtVersion → symbol ≡ Numeral v → next ≡ AtDim v → Entered state symbol next
+  Top : (v : ℕ) → state ≡ AtDim v → symbol ≡ Word (codes "dim") → next ≡ AtTop v → Entered state symbol next
+  Rules : (v n : ℕ) → state ≡ AtTop v → symbol ≡ Numeral n → next ≡ AtRules (heading_at v n) → Entered state symbol next
   Behind : (spot : Spot) (k : ℕ) → state ≡ AtLetter spot k → symbol ≡ Sign (codes ">") → next ≡ AtBehind spot → Entered state symbol next
   Plain : is_plain next ≡ true → Entered state symbol next
 
@@ -61,10 +61,10 @@ plain_item spot w next moves = go (bytes_eq w (closing spot.side)) refl
     go true is = plain_some (closed spot spot.side) next (plain_closed spot spot.side) (rw is at moves)
 
 plain_behind : (spot : Spot) (w : List ℕ) (next : State) → behind_move spot w ≡ Some next → is_plain next ≡ true
-plain_behind spot w next moves = go (is_hook spot.side w) refl
+plain_behind spot w next moves = go (is_hook spot w) refl
   where
-    go : (b : Bool) → is_hook spot.side w ≡ b → is_plain next ≡ true
-    go true is = plain_some (AtItem spot) next refl (rw is at moves)
+    go : (b : Bool) → is_hook spot w ≡ b → is_plain next ≡ true
+    go true is = plain_some (AtItem (with_hook spot)) next refl (rw is at moves)
     go false is = plain_item spot w next (rw is at moves)
 
 plain_sign : (spot : Spot) (name s : List ℕ) (next : State) → move (AtSign spot name) (Sign s) ≡ Some next → is_plain next ≡ true
@@ -81,13 +81,13 @@ plain_end Right next moves = plain_some AtEnd next refl moves
 
 entered : (state : State) (symbol : Symbol) (next : State) → move state symbol ≡ Some next → Entered state symbol next
 entered AtFormat (Word w) next moves = let e = expected (codes "book") w AtVersion next moves in Version refl (ap Word e.0) (sym e.1)
-entered AtVersion (Numeral v) next moves = go (v == 1) refl
+entered AtVersion (Numeral v) next moves = go (is_version v) refl
   where
-    go : (b : Bool) → (v == 1) ≡ b → Entered AtVersion (Numeral v) next
-    go true is = let one : Some AtDim ≡ Some next = rw is at moves in let e : AtDim ≡ next = cc one in Dim refl (ap Numeral (eqb-true v 1 is)) (sym e)
+    go : (b : Bool) → is_version v ≡ b → Entered AtVersion (Numeral v) next
+    go true is = let one : Some (AtDim v) ≡ Some next = rw is at moves in let e : AtDim v ≡ next = cc one in Dim v refl refl (sym e)
     go false is = let one : None ≡ Some next = rw is at moves in absurd cc
-entered AtDim (Word w) next moves = let e = expected (codes "dim") w AtTop next moves in Top refl (ap Word e.0) (sym e.1)
-entered AtTop (Numeral n) next moves = let e : AtRules n ≡ next = cc moves in Rules n refl refl (sym e)
+entered (AtDim v) (Word w) next moves = let e = expected (codes "dim") w (AtTop v) next moves in Top v refl (ap Word e.0) (sym e.1)
+entered (AtTop v) (Numeral n) next moves = let e : AtRules (heading_at v n) ≡ next = cc moves in Rules v n refl refl (sym e)
 entered (AtRules n) (Word w) next moves = Plain (plain_expected (codes "rule") w (AtName n 1) next refl moves)
 entered (AtRules n) End next moves = Plain (plain_some AtEnd next refl moves)
 entered (AtName n k) (Word w) next moves = Plain (plain_free w (AtLeft n k) next refl moves)
@@ -134,9 +134,9 @@ nothing_read parts led = go (last_part AtFormat AtFormat parts led)
   where
     step : (l : LastPart AtFormat AtFormat parts) → Entered l.middle l.part.symbol AtFormat → parts ≡ []
     step l (Version a b c) = absurd cc
-    step l (Dim a b c) = absurd cc
-    step l (Top a b c) = absurd cc
-    step l (Rules n a b c) = absurd cc
+    step l (Dim v a b c) = absurd cc
+    step l (Top v a b c) = absurd cc
+    step l (Rules v n a b c) = absurd cc
     step l (Behind spot k a b c) = absurd cc
     step l (Plain p) = absurd cc
 
@@ -152,9 +152,9 @@ format_read parts led = go (last_part AtFormat AtVersion parts led)
         let front : l.front ≡ [] = nothing_read l.front (subst (Leading AtFormat l.front) a l.led) in
         let role : l.part.role ≡ Fixed = rw a at l.role in
         l.split ∙ ap (λ (ps : Parts). ps ++ l.part ∷ []) front ∙ ap (λ (p : Part Role). p ∷ []) (header_part l.part (Word (codes "book")) Fixed b role)
-    step l (Dim a b c) = absurd cc
-    step l (Top a b c) = absurd cc
-    step l (Rules n a b c) = absurd cc
+    step l (Dim v a b c) = absurd cc
+    step l (Top v a b c) = absurd cc
+    step l (Rules v n a b c) = absurd cc
     step l (Behind spot k a b c) = absurd cc
     step l (Plain p) = absurd cc
 
@@ -162,63 +162,67 @@ format_read parts led = go (last_part AtFormat AtVersion parts led)
     go (inl (e, f)) = absurd cc
     go (inr l) = step l (entered l.middle l.part.symbol AtVersion l.moves)
 
-version_read : (parts : Parts) → Leading AtFormat parts AtDim → parts ≡ word Fixed (codes "book") ∷ number Fixed 1 ∷ []
-version_read parts led = go (last_part AtFormat AtDim parts led)
+version_read : (version : ℕ) (parts : Parts) → Leading AtFormat parts (AtDim version) → parts ≡ word Fixed (codes "book") ∷ number Fixed version ∷ []
+version_read version parts led = go (last_part AtFormat (AtDim version) parts led)
   where
-    step : (l : LastPart AtFormat AtDim parts) → Entered l.middle l.part.symbol AtDim → parts ≡ word Fixed (codes "book") ∷ number Fixed 1 ∷ []
-    step l (Dim a b c) =
+    step : (l : LastPart AtFormat (AtDim version) parts) → Entered l.middle l.part.symbol (AtDim version) → parts ≡ word Fixed (codes "book") ∷ number Fixed version ∷ []
+    step l (Dim v a b c) =
         let front = format_read l.front (subst (Leading AtFormat l.front) a l.led) in
         let role : l.part.role ≡ Fixed = rw a at l.role in
-        l.split ∙ ap (λ (ps : Parts). ps ++ l.part ∷ []) front ∙ ap (λ (p : Part Role). word Fixed (codes "book") ∷ p ∷ []) (header_part l.part (Numeral 1) Fixed b role)
+        let one : v ≡ version = cc c in
+        l.split ∙ ap (λ (ps : Parts). ps ++ l.part ∷ []) front ∙ ap (λ (p : Part Role). word Fixed (codes "book") ∷ p ∷ []) (header_part l.part (Numeral version) Fixed (b ∙ ap Numeral one) role)
     step l (Version a b c) = absurd cc
-    step l (Top a b c) = absurd cc
-    step l (Rules n a b c) = absurd cc
+    step l (Top v a b c) = absurd cc
+    step l (Rules v n a b c) = absurd cc
     step l (Behind spot k a b c) = absurd cc
     step l (Plain p) = absurd cc
 
-    go : ((AtFormat ≡ AtDim) × (parts ≡ [])) ⊎ LastPart AtFormat AtDim parts → parts ≡ word Fixed (codes "book") ∷ number Fixed 1 ∷ []
+    go : ((AtFormat ≡ AtDim version) × (parts ≡ [])) ⊎ LastPart AtFormat (AtDim version) parts → parts ≡ word Fixed (codes "book") ∷ number Fixed version ∷ []
     go (inl (e, f)) = absurd cc
-    go (inr l) = step l (entered l.middle l.part.symbol AtDim l.moves)
+    go (inr l) = step l (entered l.middle l.part.symbol (AtDim version) l.moves)
 
-abbrev three : Parts
-three = word Fixed (codes "book") ∷ number Fixed 1 ∷ word Fixed (codes "dim") ∷ []
+abbrev three : ℕ → Parts
+three version = word Fixed (codes "book") ∷ number Fixed version ∷ word Fixed (codes "dim") ∷ []
 
-dim_read : (parts : Parts) → Leading AtFormat parts AtTop → parts ≡ three
-dim_read parts led = go (last_part AtFormat AtTop parts led)
+dim_read : (version : ℕ) (parts : Parts) → Leading AtFormat parts (AtTop version) → parts ≡ three version
+dim_read version parts led = go (last_part AtFormat (AtTop version) parts led)
   where
-    step : (l : LastPart AtFormat AtTop parts) → Entered l.middle l.part.symbol AtTop → parts ≡ three
-    step l (Top a b c) =
-        let front = version_read l.front (subst (Leading AtFormat l.front) a l.led) in
+    step : (l : LastPart AtFormat (AtTop version) parts) → Entered l.middle l.part.symbol (AtTop version) → parts ≡ three version
+    step l (Top v a b c) =
+        let one : v ≡ version = cc c in
+        let front = version_read version l.front (subst (Leading AtFormat l.front) (a ∙ ap AtDim one) l.led) in
         let role : l.part.role ≡ Fixed = rw a at l.role in
-        l.split ∙ ap (λ (ps : Parts). ps ++ l.part ∷ []) front ∙ ap (λ (p : Part Role). word Fixed (codes "book") ∷ number Fixed 1 ∷ p ∷ []) (header_part l.part (Word (codes "dim")) Fixed b role)
+        l.split ∙ ap (λ (ps : Parts). ps ++ l.part ∷ []) front
+        ∙ ap (λ (p : Part Role). word Fixed (codes "book") ∷ number Fixed version ∷ p ∷ []) (header_part l.part (Word (codes "dim")) Fixed b role)
     step l (Version a b c) = absurd cc
-    step l (Dim a b c) = absurd cc
-    step l (Rules n a b c) = absurd cc
+    step l (Dim v a b c) = absurd cc
+    step l (Rules v n a b c) = absurd cc
     step l (Behind spot k a b c) = absurd cc
     step l (Plain p) = absurd cc
 
-    go : ((AtFormat ≡ AtTop) × (parts ≡ [])) ⊎ LastPart AtFormat AtTop parts → parts ≡ three
+    go : ((AtFormat ≡ AtTop version) × (parts ≡ [])) ⊎ LastPart AtFormat (AtTop version) parts → parts ≡ three version
     go (inl (e, f)) = absurd cc
-    go (inr l) = step l (entered l.middle l.part.symbol AtTop l.moves)
+    go (inr l) = step l (entered l.middle l.part.symbol (AtTop version) l.moves)
 
-header_read : (n : ℕ) (parts : Parts) → Leading AtFormat parts (AtRules n) → parts ≡ header n []
-header_read n parts led = go (last_part AtFormat (AtRules n) parts led)
+header_read : (h : Heading) (parts : Parts) → Leading AtFormat parts (AtRules h) → parts ≡ header h.version h.dim []
+header_read h parts led = go (last_part AtFormat (AtRules h) parts led)
   where
-    step : (l : LastPart AtFormat (AtRules n) parts) → Entered l.middle l.part.symbol (AtRules n) → parts ≡ header n []
-    step l (Rules m a b c) =
-        let front = dim_read l.front (subst (Leading AtFormat l.front) a l.led) in
+    step : (l : LastPart AtFormat (AtRules h) parts) → Entered l.middle l.part.symbol (AtRules h) → parts ≡ header h.version h.dim []
+    step l (Rules v n a b c) =
+        let front = dim_read v l.front (subst (Leading AtFormat l.front) a l.led) in
         let role : l.part.role ≡ Dimension = rw a at l.role in
-        let one : m ≡ n = cc c in
-        l.split ∙ ap (λ (ps : Parts). ps ++ l.part ∷ []) front ∙ ap (λ (p : Part Role). three ++ p ∷ []) (header_part l.part (Numeral n) Dimension (b ∙ ap Numeral one) role)
+        let one : heading_at v n ≡ h = cc c in
+        l.split ∙ ap (λ (ps : Parts). ps ++ l.part ∷ []) front ∙ ap (λ (p : Part Role). three v ++ p ∷ []) (header_part l.part (Numeral n) Dimension b role)
+        ∙ ap (λ (g : Heading). header g.version g.dim []) one
     step l (Version a b c) = absurd cc
-    step l (Dim a b c) = absurd cc
-    step l (Top a b c) = absurd cc
+    step l (Dim v a b c) = absurd cc
+    step l (Top v a b c) = absurd cc
     step l (Behind spot k a b c) = absurd cc
     step l (Plain p) = absurd cc
 
-    go : ((AtFormat ≡ AtRules n) × (parts ≡ [])) ⊎ LastPart AtFormat (AtRules n) parts → parts ≡ header n []
+    go : ((AtFormat ≡ AtRules h) × (parts ≡ [])) ⊎ LastPart AtFormat (AtRules h) parts → parts ≡ header h.version h.dim []
     go (inl (e, f)) = absurd cc
-    go (inr l) = step l (entered l.middle l.part.symbol (AtRules n) l.moves)
+    go (inr l) = step l (entered l.middle l.part.symbol (AtRules h) l.moves)
 
 -- behind a right node the word's end was read last
 node_read : (spot : Spot) (parts : Parts) → spot.side ≡ Right → Leading AtFormat parts (AtBehind spot) → (front : Parts) × (parts ≡ front ++ sign (WordEnd Right) (codes ">") ∷ [])
@@ -230,9 +234,9 @@ node_read spot parts right led = go (last_part AtFormat (AtBehind spot) parts le
         let role : l.part.role ≡ WordEnd at.side = rw (a, b) at l.role in
         (l.front, l.split ∙ ap (λ (p : Part Role). l.front ++ p ∷ []) (header_part l.part (Sign (codes ">")) (WordEnd Right) b (role ∙ ap (λ (s : Spot). WordEnd s.side) one ∙ ap WordEnd right)))
     step l (Version a b c) = absurd cc
-    step l (Dim a b c) = absurd cc
-    step l (Top a b c) = absurd cc
-    step l (Rules n a b c) = absurd cc
+    step l (Dim v a b c) = absurd cc
+    step l (Top v a b c) = absurd cc
+    step l (Rules v n a b c) = absurd cc
     step l (Plain p) = absurd cc
 
     go : ((AtFormat ≡ AtBehind spot) × (parts ≡ [])) ⊎ LastPart AtFormat (AtBehind spot) parts → (front : Parts) × (parts ≡ front ++ sign (WordEnd Right) (codes ">") ∷ [])
@@ -263,22 +267,39 @@ front_of state last (part ∷ parts) rest (place, next, role, moves, led) =
     let f = front_of next last parts rest led in
     record { middle = f.middle; front = (place, next, role, moves, f.front); back = f.back }
 
-header_leads : (n : ℕ) → Leading AtFormat (header n []) (AtRules n)
-header_leads n = (0, AtVersion, refl, refl, (0, AtDim, refl, refl, (0, AtTop, refl, refl, (0, AtRules n, refl, refl, refl))))
+-- behind a header stands the heading
+header_state : (version n : ℕ) (state : State) → Leading AtFormat (header version n []) state → AtRules (heading_at version n) ≡ state
+header_state version n state (first_place, first, first_role, first_moves, (place, second, role, moves, led)) = go (is_version version) refl
+  where
+    begun : first ≡ AtVersion
+    begun = cc first_moves
+
+    goes : move AtVersion (Numeral version) ≡ Some second
+    goes = subst (λ (s : State). move s (Numeral version) ≡ Some second) begun moves
+
+    behind : Leading (AtDim version) (word Fixed (codes "dim") ∷ number Dimension n ∷ []) state → AtRules (heading_at version n) ≡ state
+    behind led' = one_state (AtDim version) (AtRules (heading_at version n)) state (word Fixed (codes "dim") ∷ number Dimension n ∷ []) (0, AtTop version, refl, refl, (0, AtRules (heading_at version n), refl, refl, refl)) led'
+
+    go : (b : Bool) → is_version version ≡ b → AtRules (heading_at version n) ≡ state
+    go false is = let none : None ≡ Some second = rw is at goes in absurd cc
+    go true is =
+        let same : Some (AtDim version) ≡ Some second = rw is at goes in
+        let known : second ≡ AtDim version = cc same in
+        behind (subst (λ (s : State). Leading s (word Fixed (codes "dim") ∷ number Dimension n ∷ []) state) known led)
 
 begins_by : (state : State) (parts : Parts) → Leading AtFormat parts state → Begins IsSentence limit_of parts
 begins_by state parts led = led_begins limit_of stands_before role_at move IsSentence AtFormat AtEnd book_grammar state parts led
 
 -- ---- what is later in a state begins what books don't have
 
-later_sides : (word : List ℕ) → bytes_eq word (codes "pre") ≡ true → (parts : Parts) (state : State) → Leading AtFormat parts state → move state End ≡ Some AtEnd → role_at state End 0 ≡ Fixed → ((n : ℕ) → state ≢ AtRules n) → IsLater parts (Word word)
+later_sides : (word : List ℕ) → bytes_eq word (codes "pre") ≡ true → (parts : Parts) (state : State) → Leading AtFormat parts state → move state End ≡ Some AtEnd → role_at state End 0 ≡ Fixed → ((h : Heading) → state ≢ AtRules h) → IsLater parts (Word word)
 later_sides w is parts state led ends role other =
     let pre : w ≡ codes "pre" = (bytes_eq-Decides w (codes "pre")).0 is in
     let whole : Leading AtFormat (parts ++ the_end ∷ []) AtEnd = led_more AtFormat state AtEnd parts (the_end ∷ []) led (0, AtEnd, sym role, ends, refl) in
-    rw pre (Precondition (book_grammar.sentence (parts ++ the_end ∷ []) whole) (λ n e. other n (one_state AtFormat state (AtRules n) parts led (subst (λ (ps : Parts). Leading AtFormat ps (AtRules n)) (sym e) (header_leads n)))))
+    rw pre (Precondition (book_grammar.sentence (parts ++ the_end ∷ []) whole) (λ v n e. other (heading_at v n) (sym (header_state v n state (subst (λ (ps : Parts). Leading AtFormat ps state) e led)))))
 
 later_here : (state : State) (symbol : Symbol) (parts : Parts) → Leading AtFormat parts state → is_later state symbol ≡ true → IsLater parts symbol
-later_here (AtRules n) (Word w) parts led is = rw ((bytes_eq-Decides w (codes "embed")).0 is) (Embeddings n (header_read n parts led))
+later_here (AtRules h) (Word w) parts led is = rw ((bytes_eq-Decides w (codes "embed")).0 is) (Embeddings h.version h.dim (header_read h parts led))
 later_here (AtLeft n k) (Sign s) parts led is =
     let more : Leading AtFormat (parts ++ word Fixed (codes "left") ∷ []) (AtItem (left_spot n k)) = led_more AtFormat (AtLeft n k) (AtItem (left_spot n k)) parts (word Fixed (codes "left") ∷ []) led (0, AtItem (left_spot n k), refl, refl, refl) in
     rw ((bytes_eq-Decides s (codes "(")).0 is) (Parameters (begins_by (AtItem (left_spot n k)) (parts ++ word Fixed (codes "left") ∷ []) more))
@@ -324,7 +345,7 @@ with_state (AtLetter spot k) next place role moves =
     rw (← same, side) (record { later = refl; stuck = refl })
 with_state state next place role moves = absurd cc
 
-pre_state : (state next : State) → move state End ≡ Some next → ((n : ℕ) → state ≢ AtRules n) → LaterIn state (Word (codes "pre"))
+pre_state : (state next : State) → move state End ≡ Some next → ((h : Heading) → state ≢ AtRules h) → LaterIn state (Word (codes "pre"))
 pre_state (AtRules n) next moves other = absurd (other n refl)
 pre_state (AtItem spot) next moves other = go spot.side refl
   where
@@ -339,8 +360,8 @@ pre_state (AtBehind spot) next moves other = go spot.side refl
 pre_state state next moves other = absurd cc
 
 later_in : (state : State) (symbol : Symbol) (parts : Parts) → Leading AtFormat parts state → IsLater parts symbol → LaterIn state symbol
-later_in state (Word w) parts led (Embeddings n e) =
-    let same : AtRules n ≡ state = one_state AtFormat (AtRules n) state parts (subst (λ (ps : Parts). Leading AtFormat ps (AtRules n)) (sym e) (header_leads n)) led in
+later_in state (Word w) parts led (Embeddings v n e) =
+    let same : AtRules (heading_at v n) ≡ state = header_state v n state (subst (λ (ps : Parts). Leading AtFormat ps state) e led) in
     subst (λ s. LaterIn s (Word (codes "embed"))) same (record { later = refl; stuck = refl })
 later_in state (Sign s) parts led (Parameters begins) =
     let f = front_of AtFormat AtEnd (parts ++ word Fixed (codes "left") ∷ []) begins.0 (book_grammar.leads ((parts ++ word Fixed (codes "left") ∷ []) ++ begins.0) begins.1) in
@@ -354,7 +375,7 @@ later_in state (Word w) parts led (Assignment front e) =
 later_in state (Word w) parts led (Precondition sentence other) =
     let f = front_of AtFormat AtEnd parts (the_end ∷ []) (book_grammar.leads (parts ++ the_end ∷ []) sentence) in
     let same : f.middle ≡ state = one_state AtFormat f.middle state parts f.front led in
-    let not_rules : (n : ℕ) → f.middle ≢ AtRules n = λ n is. other n (header_read n parts (subst (λ s. Leading AtFormat parts s) is f.front)) in
+    let not_rules : (h : Heading) → f.middle ≢ AtRules h = λ h is. other h.version h.dim (header_read h parts (subst (λ s. Leading AtFormat parts s) is f.front)) in
     subst (λ s. LaterIn s (Word (codes "pre"))) same (pre_state f.middle f.back.1 f.back.3 not_rules)
 later_in state (Numeral n) parts led later = elim later [ ]
 later_in state Gone parts led later = elim later [ ]

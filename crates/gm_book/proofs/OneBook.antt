@@ -1,5 +1,5 @@
 -- A text is written as at most one book, and has at most one first fault, and then no book.
-use Rattle.std.proofs.Common.{◌≡◌, ◌≢◌, ℕ, ◌+◌, Bool, true, false, List, [], ◌∷◌, ◌++◌, map, Some, Result, Ok, Err, refl, sym, ap, subst, ◌∙◌, codes, append_assoc, if◌then◌else◌, ◌≤◌, arith}
+use Rattle.std.proofs.Common.{◌≡◌, ◌≢◌, ℕ, ◌+◌, Bool, true, false, ◌||◌, List, [], ◌∷◌, ◌++◌, map, Some, Result, Ok, Err, refl, sym, ap, subst, ◌∙◌, codes, append_assoc, if◌then◌else◌, ◌≤◌, arith}
 use Rattle.std.proofs.lemmas.List.{append-nil}
 use Rattle.std.specs.List.{AllByRecursion}
 use Rattle.std.specs.Str.{bytes_eq}
@@ -20,10 +20,11 @@ use Rattle.gm_text.proofs.Machine.{Along, part_at, reading_runs, ends_run, passe
 use Rattle.gm_book.specs.declared.fault.BookFault.{BookFault}
 use Rattle.gm_book.specs.declared.fault.BookFault.TheVariants as faults
 use Rattle.gm_book.specs.Faults.{IsFaultOf}
-use Rattle.gm_book.specs.Reading.{Spot, State, AtFormat, AtRules, AtName, AtItem, AtLetter, AtBehind, AtTo, AtEnd, with_node, closing, is_hook, role_at, move, Part, Nothing, Lettered, Held, nothing_held, hook_last, held_behind, run, is_later}
+use Rattle.gm_book.specs.declared.state.Heading.{Heading}
+use Rattle.gm_book.specs.Reading.{Spot, State, AtFormat, AtRules, AtName, AtItem, AtLetter, AtBehind, AtTo, AtEnd, heading_at, with_node, with_hook, closing, takes_hook, is_hook_on, is_hook, role_at, move, Part, Nothing, Lettered, Held, nothing_held, hook_last, held_behind, run, is_later}
 use Rattle.gm_book.proofs.Grammar.{book_grammar}
 use Rattle.gm_book.proofs.Later.{not_built_is, not_built_ends}
-use Rattle.gm_book.proofs.Leading.{Led, spot_at, free_closes, free_hook, hook_side, link_free, sentence_leads}
+use Rattle.gm_book.proofs.Leading.{Led, spot_at, hooked_by, hooked_in, IsTaken, AreTaken, left_taken, right_taken, known_version, free_closes, free_hook, hook_side, link_free, sentence_leads}
 use Rattle.gm_book.proofs.NamePlaces.{twice_or_unknown}
 use Rattle.gm_book.proofs.Spelling.{Parts, within, behind, put, hook_put}
 
@@ -40,52 +41,54 @@ marks_for parts = map (λ (part : reading.Part Role). let m : Mark = record { sy
 abbrev Leaves : State → Parts → Held → Held → Type 0
 Leaves state parts held last = held_behind state (marks_for parts) held ≡ last
 
-letters_held : (spot : Spot) (k : ℕ) (word front : List Letter) (rest : Parts) (dim : ℕ) (before : List RuleForm) (rule : RuleForm) (name : Mention) (last : Held)
-    → ((j : ℕ) → Leaves (AtLetter spot j) rest (within dim before rule (Lettered name (front ++ word))) last) → Leaves (AtLetter spot k) (spell_letters spot.dim k word rest) (within dim before rule (Lettered name front)) last
-letters_held spot k [] front rest dim before rule name last ends = ap (λ (w : List Letter). held_behind (AtLetter spot k) (marks_for rest) (within dim before rule (Lettered name w))) (sym (append-nil front)) ∙ ends k
-letters_held spot k (letters.At i ∷ word) front rest dim before rule name last ends =
-    letters_held spot (k + 1) word (front ++ letters.At i ∷ []) rest dim before rule name last (λ j. ap (λ (w : List Letter). held_behind (AtLetter spot j) (marks_for rest) (within dim before rule (Lettered name w))) (append_assoc front (letters.At i ∷ []) word) ∙ ends j)
-letters_held spot k (letters.Gone ∷ word) front rest dim before rule name last ends =
-    letters_held spot (k + 1) word (front ++ letters.Gone ∷ []) rest dim before rule name last (λ j. ap (λ (w : List Letter). held_behind (AtLetter spot j) (marks_for rest) (within dim before rule (Lettered name w))) (append_assoc front (letters.Gone ∷ []) word) ∙ ends j)
+letters_held : (spot : Spot) (k : ℕ) (word front : List Letter) (rest : Parts) (heading : Heading) (before : List RuleForm) (rule : RuleForm) (name : Mention) (last : Held)
+    → ((j : ℕ) → Leaves (AtLetter spot j) rest (within heading before rule (Lettered name (front ++ word))) last) → Leaves (AtLetter spot k) (spell_letters spot.heading.dim k word rest) (within heading before rule (Lettered name front)) last
+letters_held spot k [] front rest heading before rule name last ends = ap (λ (w : List Letter). held_behind (AtLetter spot k) (marks_for rest) (within heading before rule (Lettered name w))) (sym (append-nil front)) ∙ ends k
+letters_held spot k (letters.At i ∷ word) front rest heading before rule name last ends =
+    letters_held spot (k + 1) word (front ++ letters.At i ∷ []) rest heading before rule name last (λ j. ap (λ (w : List Letter). held_behind (AtLetter spot j) (marks_for rest) (within heading before rule (Lettered name w))) (append_assoc front (letters.At i ∷ []) word) ∙ ends j)
+letters_held spot k (letters.Gone ∷ word) front rest heading before rule name last ends =
+    letters_held spot (k + 1) word (front ++ letters.Gone ∷ []) rest heading before rule name last (λ j. ap (λ (w : List Letter). held_behind (AtLetter spot j) (marks_for rest) (within heading before rule (Lettered name w))) (append_assoc front (letters.Gone ∷ []) word) ∙ ends j)
 
 -- ---- items
 
 -- no hook stands at the front
 abbrev HasNoHook : Side → Parts → Type 0
 HasNoHook side [] = Unit {0}
-HasNoHook side (part ∷ parts) = (w : List ℕ) → part.symbol ≡ Word w → is_hook side w ≡ false
+HasNoHook side (part ∷ parts) = (takes : Bool) (w : List ℕ) → part.symbol ≡ Word w → is_hook_on side takes w ≡ false
 
 behind_same : (spot : Spot) (rest : Parts) (held : Held) → HasNoHook spot.side rest → held_behind (AtBehind spot) (marks_for rest) held ≡ held_behind (AtItem spot) (marks_for rest) held
 behind_same spot [] held plain = refl
 behind_same spot (part ∷ parts) held plain = go part.symbol refl
   where
     go : (symbol : Symbol) → part.symbol ≡ symbol → held_behind (AtBehind spot) (marks_for (part ∷ parts)) held ≡ held_behind (AtItem spot) (marks_for (part ∷ parts)) held
-    go (Word w) e = rw (e, plain w e) refl
+    go (Word w) e = rw (e, plain (takes_hook spot.heading.version spot.hooked) w e) refl
     go symbol e = rw e refl
 
 free_item : (side : Side) (item : Item) (n : ℕ) (count : Count) (rest : Parts) → IsItem side item → HasNoHook side (spell_item n side count item rest)
-free_item side (NodeItem node letters hook) n count rest good = λ w e. let same : node.name ≡ w = cc e in rw (← same) (free_hook side node.name (hook_side side node letters hook good).0)
-free_item side (LinkItem from label to) n count rest good = λ w e. let same : from.name ≡ w = cc e in rw (← same) (free_hook side from.name (link_free side from to label good).0)
+free_item side (NodeItem node letters hook) n count rest good = λ takes w e. let same : node.name ≡ w = cc e in rw (← same) (free_hook side takes node.name (hook_side side node letters hook good).0)
+free_item side (LinkItem from label to) n count rest good = λ takes w e. let same : from.name ≡ w = cc e in rw (← same) (free_hook side takes from.name (link_free side from to label good).0)
 
-item_held : (n k : ℕ) (side : Side) (count : Count) (item : Item) (rest : Parts) (dim : ℕ) (before : List RuleForm) (rule : RuleForm) (part : Part) (last : Held) → IsItem side item → HasNoHook side rest
-    → Leaves (AtItem (spot_at n k side (count_after count item))) rest (within dim before (put side item rule) Nothing) last → Leaves (AtItem (spot_at n k side count)) (spell_item n side count item rest) (within dim before rule part) last
-item_held n k side count (NodeItem node letters hook) rest dim before rule part last good plain ends =
+item_held : (h : Heading) (k : ℕ) (side : Side) (count : Count) (hook_before : Bool) (item : Item) (rest : Parts) (heading : Heading) (before : List RuleForm) (rule : RuleForm) (part : Part) (last : Held) → IsItem side item → IsTaken h.version hook_before item → HasNoHook side rest
+    → Leaves (AtItem (spot_at h k side (count_after count item) (hooked_by hook_before item))) rest (within heading before (put side item rule) Nothing) last → Leaves (AtItem (spot_at h k side count hook_before)) (spell_item h.dim side count item rest) (within heading before rule part) last
+item_held h k side count hook_before (NodeItem node letters hook) rest heading before rule part last good taken plain ends =
     let is = hook_side side node letters hook good in
-    let spot = with_node (spot_at n k side count) node.name in
-    let behind_word : Leaves (AtBehind spot) (spell_hook hook rest) (within dim before (put side (NodeItem node letters false) rule) Nothing) last = hooked hook is.1 (hook_put side node letters hook rule is.1) in
-    rw (free_closes side node.name is.0, is.0) (letters_held spot 0 letters [] (sign (WordEnd side) (codes ">") ∷ spell_hook hook rest) dim before rule node last (λ j. behind_word))
+    let spot = with_node (spot_at h k side count hook_before) node.name in
+    let behind_word : Leaves (AtBehind spot) (spell_hook hook rest) (within heading before (put side (NodeItem node letters false) rule) Nothing) last = hooked hook is.1 taken (hook_put side node letters hook rule is.1) ends in
+    rw (free_closes side node.name is.0, is.0) (letters_held spot 0 letters [] (sign (WordEnd side) (codes ">") ∷ spell_hook hook rest) heading before rule node last (λ j. behind_word))
   where
-    hooked : (h : Bool) → (h ≡ true → side ≡ Left) → (if h then hook_last (put side (NodeItem node letters false) rule) else put side (NodeItem node letters false) rule) ≡ put side (NodeItem node letters hook) rule
-        → Leaves (AtBehind (with_node (spot_at n k side count) node.name)) (spell_hook h rest) (within dim before (put side (NodeItem node letters false) rule) Nothing) last
-    hooked false on same =
-        behind_same (with_node (spot_at n k side count) node.name) rest (within dim before (put side (NodeItem node letters false) rule) Nothing) plain
-        ∙ ap (λ (r : RuleForm). held_behind (AtItem (with_node (spot_at n k side count) node.name)) (marks_for rest) (within dim before r Nothing)) same ∙ ends
-    hooked true on same =
+    hooked : (set : Bool) → (set ≡ true → side ≡ Left) → (set ≡ true → takes_hook h.version hook_before ≡ true)
+        → (if set then hook_last (put side (NodeItem node letters false) rule) else put side (NodeItem node letters false) rule) ≡ put side (NodeItem node letters hook) rule
+        → Leaves (AtItem (spot_at h k side (count_after count (NodeItem node letters hook)) (set || hook_before))) rest (within heading before (put side (NodeItem node letters hook) rule) Nothing) last
+        → Leaves (AtBehind (with_node (spot_at h k side count hook_before) node.name)) (spell_hook set rest) (within heading before (put side (NodeItem node letters false) rule) Nothing) last
+    hooked false on takes same ends =
+        behind_same (with_node (spot_at h k side count hook_before) node.name) rest (within heading before (put side (NodeItem node letters false) rule) Nothing) plain
+        ∙ ap (λ (r : RuleForm). held_behind (AtItem (with_node (spot_at h k side count hook_before) node.name)) (marks_for rest) (within heading before r Nothing)) same ∙ ends
+    hooked true on takes same ends =
         let left : side ≡ Left = on refl in
-        let put_hook : held_behind (AtBehind (with_node (spot_at n k side count) node.name)) (marks_for (spell_hook true rest)) (within dim before (put side (NodeItem node letters false) rule) Nothing)
-        ≡ held_behind (AtItem (with_node (spot_at n k side count) node.name)) (marks_for rest) (within dim before (hook_last (put side (NodeItem node letters false) rule)) Nothing) = rw left refl in
-        put_hook ∙ ap (λ (r : RuleForm). held_behind (AtItem (with_node (spot_at n k side count) node.name)) (marks_for rest) (within dim before r Nothing)) same ∙ ends
-item_held n k side count (LinkItem from label to) rest dim before rule part last good plain ends =
+        let put_hook : held_behind (AtBehind (with_node (spot_at h k side count hook_before) node.name)) (marks_for (spell_hook true rest)) (within heading before (put side (NodeItem node letters false) rule) Nothing)
+        ≡ held_behind (AtItem (with_hook (with_node (spot_at h k side count hook_before) node.name))) (marks_for rest) (within heading before (hook_last (put side (NodeItem node letters false) rule)) Nothing) = rw (left, takes refl) refl in
+        put_hook ∙ ap (λ (r : RuleForm). held_behind (AtItem (with_hook (with_node (spot_at h k side count hook_before) node.name))) (marks_for rest) (within heading before r Nothing)) same ∙ ends
+item_held h k side count hook_before (LinkItem from label to) rest heading before rule part last good taken plain ends =
     let is = link_free side from to label good in
     rw (free_closes side from.name is.0, is.0, is.1) ends
 
@@ -93,16 +96,16 @@ abbrev put_all : Side → List Item → RuleForm → RuleForm
 put_all side [] rule = rule
 put_all side (item ∷ items) rule = put_all side items (put side item rule)
 
-items_held : (n k : ℕ) (side : Side) (count : Count) (items : List Item) (rest : Parts) (dim : ℕ) (before : List RuleForm) (rule : RuleForm) (part : Part) (last : Held) → AllByRecursion (IsItem side) items → HasNoHook side rest
-    → ((p : Part) → Leaves (AtItem (spot_at n k side (counted count items))) rest (within dim before (put_all side items rule) p) last) → Leaves (AtItem (spot_at n k side count)) (spell_items n side count items rest) (within dim before rule part) last
-items_held n k side count [] rest dim before rule part last good plain ends = ends part
-items_held n k side count (item ∷ items) rest dim before rule part last good plain ends =
-    item_held n k side count item (spell_items n side (count_after count item) items rest) dim before rule part last good.0 (next items good.1)
-    (items_held n k side (count_after count item) items rest dim before (put side item rule) Nothing last good.1 plain ends)
+items_held : (h : Heading) (k : ℕ) (side : Side) (count : Count) (hook_before : Bool) (items : List Item) (rest : Parts) (heading : Heading) (before : List RuleForm) (rule : RuleForm) (part : Part) (last : Held) → AllByRecursion (IsItem side) items → AreTaken h.version hook_before items → HasNoHook side rest
+    → ((p : Part) → Leaves (AtItem (spot_at h k side (counted count items) (hooked_in hook_before items))) rest (within heading before (put_all side items rule) p) last) → Leaves (AtItem (spot_at h k side count hook_before)) (spell_items h.dim side count items rest) (within heading before rule part) last
+items_held h k side count hook_before [] rest heading before rule part last good taken plain ends = ends part
+items_held h k side count hook_before (item ∷ items) rest heading before rule part last good taken plain ends =
+    item_held h k side count hook_before item (spell_items h.dim side (count_after count item) items rest) heading before rule part last good.0 taken.0 (next items good.1)
+    (items_held h k side (count_after count item) (hooked_by hook_before item) items rest heading before (put side item rule) Nothing last good.1 taken.1 plain ends)
   where
-    next : (items : List Item) → AllByRecursion (IsItem side) items → HasNoHook side (spell_items n side (count_after count item) items rest)
+    next : (items : List Item) → AllByRecursion (IsItem side) items → HasNoHook side (spell_items h.dim side (count_after count item) items rest)
     next [] good = plain
-    next (item' ∷ items) good = free_item side item' n (count_after count item) (spell_items n side (count_after (count_after count item) item') items rest) good.0
+    next (item' ∷ items) good = free_item side item' h.dim (count_after count item) (spell_items h.dim side (count_after (count_after count item) item') items rest) good.0
 
 put_left : (items : List Item) (rule : RuleForm) → put_all Left items rule ≡ record { name = rule.name; left = rule.left ++ items; right = rule.right }
 put_left [] rule = ap (λ (left : List Item). let r : RuleForm = record { name = rule.name; left = left; right = rule.right } in r) (sym (append-nil rule.left))
@@ -114,39 +117,42 @@ put_right (item ∷ items) rule = put_right items (put Right item rule) ∙ ap (
 
 -- ---- rules
 
-rule_held : (n k dim : ℕ) (before : List RuleForm) (rule : RuleForm) (rules : List RuleForm) → IsRule rule
-    → ((count : Count) (part : Part) → Leaves (AtItem (spot_at n k Right count)) (spell_rules n k rules (the_end ∷ [])) (within dim before rule part) (behind dim (before ++ rule ∷ rules)))
-    → Leaves (AtName n k) (named rule.name ∷ word Fixed (codes "left") ∷ spell_items n Left no_count rule.left (word Fixed (codes "right") ∷ spell_items n Right (count_across (counted no_count rule.left)) rule.right (spell_rules n k rules (the_end ∷ [])))) (behind dim before) (behind dim (before ++ rule ∷ rules))
-rule_held n k dim before rule rules (free, left, right) later =
+rule_held : (h : Heading) (k : ℕ) (before : List RuleForm) (rule : RuleForm) (rules : List RuleForm) → IsRule h.version rule
+    → ((count : Count) (hook_before : Bool) (part : Part) → Leaves (AtItem (spot_at h k Right count hook_before)) (spell_rules h.dim k rules (the_end ∷ [])) (within h before rule part) (behind h (before ++ rule ∷ rules)))
+    → Leaves (AtName h k) (named rule.name ∷ word Fixed (codes "left") ∷ spell_items h.dim Left no_count rule.left (word Fixed (codes "right") ∷ spell_items h.dim Right (count_across (counted no_count rule.left)) rule.right (spell_rules h.dim k rules (the_end ∷ [])))) (behind h before) (behind h (before ++ rule ∷ rules))
+rule_held h k before rule rules (free, left, right, few) later =
     let across = count_across (counted no_count rule.left) in
-    let rest = spell_rules n k rules (the_end ∷ []) in
+    let hook_left = hooked_in false rule.left in
+    let hook_right = hooked_in hook_left rule.right in
+    let rest = spell_rules h.dim k rules (the_end ∷ []) in
     let empty : RuleForm = record { name = rule.name; left = []; right = [] } in
     let lefts : RuleForm = record { name = rule.name; left = rule.left; right = [] } in
-    let last = behind dim (before ++ rule ∷ rules) in
-    let on_right : (p : Part) → Leaves (AtItem (spot_at n k Right (counted across rule.right))) rest (within dim before (put_all Right rule.right lefts) p) last = λ p.
-    ap (λ (r : RuleForm). held_behind (AtItem (spot_at n k Right (counted across rule.right))) (marks_for rest) (within dim before r p)) (put_right rule.right lefts) ∙ later (counted across rule.right) p in
-    let right_part : (p : Part) → Leaves (AtItem (spot_at n k Right across)) (spell_items n Right across rule.right rest) (within dim before lefts p) last = λ p.
-    items_held n k Right across rule.right rest dim before lefts p last right (plain_rules rules) on_right in
-    let on_left : (p : Part) → Leaves (AtItem (spot_at n k Left (counted no_count rule.left))) (word Fixed (codes "right") ∷ spell_items n Right across rule.right rest) (within dim before (put_all Left rule.left empty) p) last = λ p.
-    ap (λ (r : RuleForm). held_behind (AtItem (spot_at n k Left (counted no_count rule.left))) (marks_for (word Fixed (codes "right") ∷ spell_items n Right across rule.right rest)) (within dim before r p)) (put_left rule.left empty) ∙ right_part p in
-    rw free (items_held n k Left no_count rule.left (word Fixed (codes "right") ∷ spell_items n Right across rule.right rest) dim before empty Nothing last left (λ w e. let same : codes "right" ≡ w = cc e in rw (← same) refl) on_left)
+    let last = behind h (before ++ rule ∷ rules) in
+    let on_right : (p : Part) → Leaves (AtItem (spot_at h k Right (counted across rule.right) hook_right)) rest (within h before (put_all Right rule.right lefts) p) last = λ p.
+    ap (λ (r : RuleForm). held_behind (AtItem (spot_at h k Right (counted across rule.right) hook_right)) (marks_for rest) (within h before r p)) (put_right rule.right lefts) ∙ later (counted across rule.right) hook_right p in
+    let right_part : (p : Part) → Leaves (AtItem (spot_at h k Right across hook_left)) (spell_items h.dim Right across rule.right rest) (within h before lefts p) last = λ p.
+    items_held h k Right across hook_left rule.right rest h before lefts p last right (right_taken h.version hook_left rule.right right) (plain_rules rules) on_right in
+    let on_left : (p : Part) → Leaves (AtItem (spot_at h k Left (counted no_count rule.left) hook_left)) (word Fixed (codes "right") ∷ spell_items h.dim Right across rule.right rest) (within h before (put_all Left rule.left empty) p) last = λ p.
+    ap (λ (r : RuleForm). held_behind (AtItem (spot_at h k Left (counted no_count rule.left) hook_left)) (marks_for (word Fixed (codes "right") ∷ spell_items h.dim Right across rule.right rest)) (within h before r p)) (put_left rule.left empty) ∙ right_part p in
+    rw free (items_held h k Left no_count false rule.left (word Fixed (codes "right") ∷ spell_items h.dim Right across rule.right rest) h before empty Nothing last left (left_taken h.version rule.left few)
+    (λ takes w e. let same : codes "right" ≡ w = cc e in rw (← same) refl) on_left)
   where
-    plain_rules : (rules : List RuleForm) → HasNoHook Right (spell_rules n k rules (the_end ∷ []))
-    plain_rules [] = λ w e. refl
-    plain_rules (r ∷ rs) = λ w e. refl
+    plain_rules : (rules : List RuleForm) → HasNoHook Right (spell_rules h.dim k rules (the_end ∷ []))
+    plain_rules [] = λ takes w e. refl
+    plain_rules (r ∷ rs) = λ takes w e. refl
 
-rules_held : (n k dim : ℕ) (count : Count) (before : List RuleForm) (rule : RuleForm) (part : Part) (rules : List RuleForm) → AllByRecursion IsRule rules
-    → Leaves (AtItem (spot_at n k Right count)) (spell_rules n k rules (the_end ∷ [])) (within dim before rule part) (behind dim (before ++ rule ∷ rules))
-rules_held n k dim count before rule part [] good = refl
-rules_held n k dim count before rule part (next ∷ rules) good =
-    rule_held n (k + 1) dim (before ++ rule ∷ []) next rules good.0 (λ c p. rules_held n (k + 1) dim c (before ++ rule ∷ []) next p rules good.1) ∙ ap (λ (rs : List RuleForm). behind dim rs) (append_assoc before (rule ∷ []) (next ∷ rules))
+rules_held : (h : Heading) (k : ℕ) (count : Count) (hook_before : Bool) (before : List RuleForm) (rule : RuleForm) (part : Part) (rules : List RuleForm) → AllByRecursion (IsRule h.version) rules
+    → Leaves (AtItem (spot_at h k Right count hook_before)) (spell_rules h.dim k rules (the_end ∷ [])) (within h before rule part) (behind h (before ++ rule ∷ rules))
+rules_held h k count hook_before before rule part [] good = refl
+rules_held h k count hook_before before rule part (next ∷ rules) good =
+    rule_held h (k + 1) (before ++ rule ∷ []) next rules good.0 (λ c b p. rules_held h (k + 1) c b (before ++ rule ∷ []) next p rules good.1) ∙ ap (λ (rs : List RuleForm). behind h rs) (append_assoc before (rule ∷ []) (next ∷ rules))
 
-header_held : (n : ℕ) (rules : List RuleForm) → AllByRecursion IsRule rules → Leaves (AtRules n) (spell_rules n 0 rules (the_end ∷ [])) (behind n []) (behind n rules)
-header_held n [] good = refl
-header_held n (rule ∷ rules) good = rule_held n 1 n [] rule rules good.0 (λ c p. rules_held n 1 n c [] rule p rules good.1)
+header_held : (h : Heading) (rules : List RuleForm) → AllByRecursion (IsRule h.version) rules → Leaves (AtRules h) (spell_rules h.dim 0 rules (the_end ∷ [])) (behind h []) (behind h rules)
+header_held h [] good = refl
+header_held h (rule ∷ rules) good = rule_held h 1 [] rule rules good.0 (λ c b p. rules_held h 1 c b [] rule p rules good.1)
 
-book_held : (book : BookForm) → IsForm book → held_behind AtFormat (marks_for (spelling book)) nothing_held ≡ behind book.dim book.rules
-book_held book good = header_held book.dim book.rules good
+book_held : (book : BookForm) → IsForm book → held_behind AtFormat (marks_for (spelling book)) nothing_held ≡ behind (heading_at book.version book.dim) book.rules
+book_held book good = rw (known_version book.version good.0) (header_held (heading_at book.version book.dim) book.rules good.1)
 
 -- ---- one book
 
@@ -159,9 +165,9 @@ moved_role (AtItem spot) (Word w) place other at = go (bytes_eq w (closing spot.
     go : (b : Bool) → bytes_eq w (closing spot.side) ≡ b → role_at (AtItem spot) (Word w) place ≡ role_at (AtItem spot) (Word w) other
     go true e = rw e refl
     go false e = rw e (ap NameAt (rw e at at))
-moved_role (AtBehind spot) (Word w) place other at = go (is_hook spot.side w) refl (bytes_eq w (closing spot.side)) refl
+moved_role (AtBehind spot) (Word w) place other at = go (is_hook spot w) refl (bytes_eq w (closing spot.side)) refl
   where
-    go : (h : Bool) → is_hook spot.side w ≡ h → (b : Bool) → bytes_eq w (closing spot.side) ≡ b → role_at (AtBehind spot) (Word w) place ≡ role_at (AtBehind spot) (Word w) other
+    go : (h : Bool) → is_hook spot w ≡ h → (b : Bool) → bytes_eq w (closing spot.side) ≡ b → role_at (AtBehind spot) (Word w) place ≡ role_at (AtBehind spot) (Word w) other
     go true f b e = rw f refl
     go false f true e = rw (f, e) refl
     go false f false e = rw (f, e) (ap NameAt (rw (f, e) at at))
@@ -199,18 +205,21 @@ written_along text book written = led_along AtFormat (marks_of text) (spelling b
 pub one_written : (text : List ℕ) (one other : BookForm) → IsWritten text one → IsWritten text other → one ≡ other
 one_written text one other w v =
     let same : spelling one ≡ spelling other = one_along AtFormat AtEnd AtEnd (marks_of text) (spelling one) (spelling other) (written_along text one w) (written_along text other v) in
-    let held : behind one.dim one.rules ≡ behind other.dim other.rules =
+    let held : behind (heading_at one.version one.dim) one.rules ≡ behind (heading_at other.version other.dim) other.rules =
     sym (book_held one w.form) ∙ ap (λ (ps : Parts). held_behind AtFormat (marks_for ps) nothing_held) same ∙ book_held other v.form in
-    let dims : one.dim ≡ other.dim = ap (λ (h : Held). h.dim) held in
+    let versions : one.version ≡ other.version = ap (λ (h : Held). h.heading.version) held in
+    let dims : one.dim ≡ other.dim = ap (λ (h : Held). h.heading.dim) held in
     let rules : one.rules ≡ other.rules = ap (λ (h : Held). h.rules) held in
-    ap (λ (n : ℕ). let b : BookForm = record { dim = n; rules = one.rules } in b) dims ∙ ap (λ (rs : List RuleForm). let b : BookForm = record { dim = other.dim; rules = rs } in b) rules
+    ap (λ (v : ℕ). let b : BookForm = record { version = v; dim = one.dim; rules = one.rules } in b) versions ∙ ap (λ (n : ℕ). let b : BookForm = record { version = other.version; dim = n; rules = one.rules } in b) dims
+    ∙ ap (λ (rs : List RuleForm). let b : BookForm = record { version = other.version; dim = other.dim; rules = rs } in b) rules
 
 -- two books that a text stands for
-pub one_book : (text : List ℕ) (schema schema' : Schema) (rules rules' : List Rule) → BookText text schema rules → BookText text schema' rules' → (schema ≡ schema') × (rules ≡ rules')
-one_book text schema schema' rules rules' one other =
+pub one_book : (text : List ℕ) (version version' : ℕ) (schema schema' : Schema) (rules rules' : List Rule) → BookText text version schema rules → BookText text version' schema' rules' → (version ≡ version') × (schema ≡ schema') × (rules ≡ rules')
+one_book text version version' schema schema' rules rules' one other =
     let same : one.book ≡ other.book = one_written text one.book other.book one.written other.written in
     let dims : schema.dim ≡ schema'.dim = one.dim ∙ ap (λ (b : BookForm). b.dim) same ∙ sym other.dim in
     let embeds : schema.embeds ≡ schema'.embeds = one.embeds ∙ sym other.embeds in (
+      one.versions ∙ ap (λ (b : BookForm). b.version) same ∙ sym other.versions,
       ap (λ (n : ℕ). let s : Schema = record { dim = n; embeds = schema.embeds } in s) dims ∙ ap (λ (es : List Embed). let s : Schema = record { dim = schema'.dim; embeds = es } in s) embeds,
       one.same ∙ ap (λ (b : BookForm). map rule_in b.rules) same ∙ sym other.same,
     )
@@ -263,7 +272,7 @@ module _ (text : List ℕ) where
   answers faults.OutOfMemory fault = tt
 
   pub no_book : (fault : BookFault) → fault ≢ faults.OutOfMemory → IsFaultOf text fault → StandsForNoBook text
-  no_book fault memory is schema rules stands = go fault memory is (answers fault is)
+  no_book fault memory is version schema rules stands = go fault memory is (answers fault is)
     where
       runs : Run ≡ Ok AtEnd
       runs = written_runs stands.book stands.written

@@ -33,8 +33,8 @@ stray_is_fault : (state : State) (last place : ℕ) (held : Held) → stepped (r
 unfolding stepped
 stray_is_fault AtFormat last place held = refl
 stray_is_fault AtVersion last place held = refl
-stray_is_fault AtDim last place held = refl
-stray_is_fault AtTop last place held = refl
+stray_is_fault (AtDim version) last place held = refl
+stray_is_fault (AtTop version) last place held = refl
 stray_is_fault (AtRules n) last place held = refl
 stray_is_fault (AtName n k) last place held = refl
 stray_is_fault (AtLeft n k) last place held = refl

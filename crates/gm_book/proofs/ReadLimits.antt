@@ -140,8 +140,8 @@ pub record IsReadable (n : ℕ) (form : RuleForm) : Type 0 where
   pub right_few : AreFew (counted (count_across (counted no_count form.left)) form.right)
 
 module _ (n : ℕ) where
-  form_good : (k : ℕ) (form : RuleForm) (parts : List (Part Role)) → IsRule form → AreFit (spell_rule n k form parts) → IsReadable n form × (k ≤ 256) × AreFit parts
-  form_good k form parts is fit =
+  form_good : (version k : ℕ) (form : RuleForm) (parts : List (Part Role)) → IsRule version form → AreFit (spell_rule n k form parts) → IsReadable n form × (k ≤ 256) × AreFit parts
+  form_good version k form parts is fit =
       let room = not_passed (ltb 256 k) _ _ fit.0.within in
       let left = items_good n Left form.left no_count _ is.1 (record { nodes = omega arith; links = omega arith }) fit.1.1.1 in
       let right = items_good n Right form.right (count_across (counted no_count form.left)) parts is.2 (record { nodes = left.1.nodes; links = omega arith }) left.2.1 in (
@@ -150,11 +150,11 @@ module _ (n : ℕ) where
         right.2,
       )
 
-  forms_good : (k : ℕ) (forms : List RuleForm) → k ≤ 256 → AllByRecursion IsRule forms → AreFit (spell_rules n k forms (the_end ∷ [])) → AllByRecursion (IsReadable n) forms × (k + length forms ≤ 256)
-  forms_good k [] few are fit = (tt, omega (arith, few))
-  forms_good k (form ∷ forms) few are fit =
-      let first = form_good (k + 1) form _ are.0 fit in
-      let later = forms_good (k + 1) forms first.1 are.1 first.2 in
+  forms_good : (version k : ℕ) (forms : List RuleForm) → k ≤ 256 → AllByRecursion (IsRule version) forms → AreFit (spell_rules n k forms (the_end ∷ [])) → AllByRecursion (IsReadable n) forms × (k + length forms ≤ 256)
+  forms_good version k [] few are fit = (tt, omega (arith, few))
+  forms_good version k (form ∷ forms) few are fit =
+      let first = form_good version (k + 1) form _ are.0 fit in
+      let later = forms_good version (k + 1) forms first.1 are.1 first.2 in
       ((first.0, later.0), omega (arith, later.1))
 
 pub record IsReadableBook (book : BookForm) : Type 0 where
@@ -166,7 +166,7 @@ pub record IsReadableBook (book : BookForm) : Type 0 where
 pub book_good : (book : BookForm) → IsForm book → AreFit (spelling book) → IsReadableBook book
 book_good book is fit =
     let top = or_parts (eqb book.dim 0) (ltb 7 book.dim) (not_passed (eqb book.dim 0 || ltb 7 book.dim) _ _ fit.1.1.1.0.within).0 in
-    let rules = forms_good book.dim 0 book.rules (omega arith) is fit.1.1.1.1 in
+    let rules = forms_good book.dim book.version 0 book.rules (omega arith) is.1 fit.1.1.1.1 in
     record {
       some = elim (cases_lt 0 book.dim) [ inl lt ↦ lt | inr le ↦ absurd (eqb-false book.dim 0 top.0 (omega arith)) ];
       low = ltb-false 7 book.dim top.1;

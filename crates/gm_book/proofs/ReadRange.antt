@@ -169,6 +169,6 @@ module _ (schema : Schema) (rule : Rule) (ok : IsWritable schema.dim rule) where
 
 -- ---- a book
 
-pub range_from_text : (whole : List ℕ) (schema : Schema) (rules : List Rule) → BookText whole schema rules → All (λ rule. IsInRange schema rule × IsWithinLimits rule) rules
-range_from_text whole schema rules stands = All-from_recursion (λ rule. IsInRange schema rule × IsWithinLimits rule) rules
-    (each (IsWritable schema.dim) (λ rule. IsInRange schema rule × IsWithinLimits rule) (λ rule ok. (writable_in_range schema rule ok, writable_within schema rule ok)) rules (writable_from_text whole schema rules stands).each)
+pub range_from_text : (whole : List ℕ) (version : ℕ) (schema : Schema) (rules : List Rule) → BookText whole version schema rules → All (λ rule. IsInRange schema rule × IsWithinLimits rule) rules
+range_from_text whole version schema rules stands = All-from_recursion (λ rule. IsInRange schema rule × IsWithinLimits rule) rules
+    (each (IsWritable schema.dim) (λ rule. IsInRange schema rule × IsWithinLimits rule) (λ rule ok. (writable_in_range schema rule ok, writable_within schema rule ok)) rules (writable_from_text whole version schema rules stands).each)

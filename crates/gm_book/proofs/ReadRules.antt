@@ -1,11 +1,11 @@
 -- The rules that a text stands for can be written.
-use Rattle.std.proofs.Common.{◌≡◌, ℕ, suc, ◌+◌, ◌<◌, ◌≤◌, Bool, true, false, ◌&&◌, eqb, List, [], ◌∷◌, ◌++◌, length, get_or, map, Some, is_some, inl, inr, refl, sym, ap, subst, ◌∙◌, append_assoc, arith}
+use Rattle.std.proofs.Common.{◌≡◌, ℕ, suc, ◌+◌, ◌<◌, ◌≤◌, Bool, true, false, ◌&&◌, eqb, List, [], ◌∷◌, ◌++◌, length, get_or, map, All, Some, is_some, inl, inr, refl, sym, ap, subst, ◌∙◌, append_assoc, arith}
 use Rattle.std.specs.Prelude.{slice_get}
 use Rattle.std.specs.Str.{bytes_eq}
 use Rattle.std.specs.List.{list_any, position_or_len, AllByRecursion, Contains}
 use Rattle.std.proofs.lemmas.Bool.{cases_Bool, ne_eqb, eq-eqb}
 use Rattle.std.proofs.lemmas.List.{append-nil, map-append, length-append, length-map}
-use Rattle.std.proofs.lemmas.List.Elements.{recursion_from_All}
+use Rattle.std.proofs.lemmas.List.Elements.{All-from_recursion, recursion_from_All}
 use Rattle.std.proofs.lemmas.Option.{slice_get-map, slice_get-get_or, get_or_from_slice_get}
 use Rattle.std.proofs.lemmas.Slice.Eq.{bytes_eq-Decides}
 use Rattle.gm_model.specs.declared.rule.Side.{Side}
@@ -13,8 +13,9 @@ use Rattle.gm_model.specs.declared.rule.Side.TheVariants.{Left, Right}
 use Rattle.gm_model.specs.declared.schema.Schema.{Schema}
 use Rattle.gm_model.specs.Rules.{Rule, RuleNode, has_word, word_on, links_on}
 use Rattle.gm_model.specs.Names.{Mention, is_among}
-use Rattle.gm_book.specs.BookText.{Item, NodeItem, LinkItem, RuleForm, BookForm, Count, no_count, count_after, count_across, counted, with_name, names_of, nodes_in, ends_in, items_on, nodes_of, word_in, number_of, links_in, hooks_in, node_in, rule_in, IsAgain, IsStranger, NameFault, IsNameFault, TwiceAt, UnknownAt, RuleTwice, NodeTwice, NodeUnknown, BookText, spelling, canonical}
+use Rattle.gm_book.specs.BookText.{Item, NodeItem, LinkItem, RuleForm, BookForm, Count, no_count, count_after, count_across, counted, with_name, names_of, nodes_in, ends_in, items_on, nodes_of, word_in, number_of, links_in, hooks_in, node_in, rule_in, IsAgain, IsStranger, NameFault, IsNameFault, TwiceAt, UnknownAt, RuleTwice, NodeTwice, NodeUnknown, IsRule, IsForm, BookText, spelling, canonical}
 use Rattle.gm_book.proofs.CanonicalForm.{AreNew, number_if, numbers_where, node_names, hook_on, IsGoodName, IsGoodWordIfAny, IsGoodNode, IsGoodLink, IsWritable}
+use Rattle.gm_book.proofs.CanonicalLimits.{HasFewHooks, as_many_hooks}
 use Rattle.gm_book.proofs.CanonicalText.{each}
 use Rattle.gm_book.proofs.CanonicalRule.{seen_after, counted_seen, seen_new}
 use Rattle.gm_book.proofs.CanonicalNames.{rule_names, HasNoFault}
@@ -347,8 +348,14 @@ names_of_rules : (forms : List RuleForm) → rule_names (map rule_in forms) ≡ 
 names_of_rules [] = refl
 names_of_rules (form ∷ forms) = ap (λ names. form.name.name ∷ names) (names_of_rules forms)
 
-book_writable : (book : BookForm) → IsReadableBook book → ((fault : NameFault) → IsNameFault book fault → ⊥) → AreWritable book.dim (map rule_in book.rules)
-book_writable book ok sound = record {
+few_hooks : (version : ℕ) (forms : List RuleForm) → AllByRecursion (IsRule version) forms → AllByRecursion (HasFewHooks version) (map rule_in forms)
+few_hooks version [] are = tt
+few_hooks version (form ∷ forms) are = (λ one. omega (arith, are.0.3 one, as_many_hooks form), few_hooks version forms are.1)
+
+book_writable : (book : BookForm) → IsForm book → IsReadableBook book → ((fault : NameFault) → IsNameFault book fault → ⊥) → AreWritable book.version book.dim (map rule_in book.rules)
+book_writable book is ok sound = record {
+  known = is.0;
+  hooks = few_hooks book.version book.rules is.1;
   some = ok.some;
   low = ok.low;
   few = omega (arith, length-map book.rules rule_in, ok.few);
@@ -356,12 +363,17 @@ book_writable book ok sound = record {
   differ = subst (AreNew []) (sym (names_of_rules book.rules)) (new_mentions [] (map (λ (form : RuleForm). form.name) book.rules) (λ place again. sound (TwiceAt place) (RuleTwice place again)));
 }
 
-pub writable_from_text : (whole : List ℕ) (schema : Schema) (rules : List Rule) → BookText whole schema rules → AreWritable schema.dim rules
-writable_from_text whole schema rules stands =
+pub writable_from_text : (whole : List ℕ) (version : ℕ) (schema : Schema) (rules : List Rule) → BookText whole version schema rules → AreWritable version schema.dim rules
+writable_from_text whole version schema rules stands =
     let book = stands.book in
     let good = book_good book stands.written.form (read_fit whole (spelling stands.book) stands.written.read.spelled stands.written.read.within) in
-    subst (λ n. AreWritable n rules) (sym stands.dim) (subst (AreWritable book.dim) (sym stands.same) (book_writable book good stands.sound))
+    let of_form = subst (AreWritable book.version book.dim) (sym stands.same) (book_writable book stands.written.form good stands.sound) in
+    subst (λ n. AreWritable version n rules) (sym stands.dim) (subst (λ v. AreWritable v book.dim rules) (sym stands.versions) of_form)
 
 -- the canonical text of what a text stands for stands for it
-pub read_again : (whole : List ℕ) (schema : Schema) (rules : List Rule) → BookText whole schema rules → BookText (canonical schema.dim rules) schema rules
-read_again whole schema rules stands = written_again schema rules stands.embeds (writable_from_text whole schema rules stands)
+pub read_again : (whole : List ℕ) (version : ℕ) (schema : Schema) (rules : List Rule) → BookText whole version schema rules → BookText (canonical version schema.dim rules) version schema rules
+read_again whole version schema rules stands = written_again version schema rules stands.embeds (writable_from_text whole version schema rules stands)
+
+pub one_hook_at_most : (whole : List ℕ) (schema : Schema) (rules : List Rule) → BookText whole 1 schema rules → All (λ (rule : Rule). length rule.hooks ≤ 1) rules
+one_hook_at_most whole schema rules stands =
+    All-from_recursion (λ (rule : Rule). length rule.hooks ≤ 1) rules (each (HasFewHooks 1) (λ rule. length rule.hooks ≤ 1) (λ rule few. few refl) rules (writable_from_text whole 1 schema rules stands).hooks)

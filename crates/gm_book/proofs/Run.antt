@@ -6,6 +6,7 @@ use Rattle.gm_book.specs.BookText.{RuleForm, limit_of, stands_before}
 use Rattle.gm_text.specs.Machine as machine
 use Rattle.gm_book.specs.declared.form_fault.FormFault.{FormFault}
 use Rattle.gm_book.specs.declared.form_fault.FormFault.TheVariants as faults
+use Rattle.gm_book.specs.declared.state.Heading.{Heading}
 use Rattle.gm_book.specs.Reading.{State, AtFormat, AtEnd, role_at, move, step, run, is_later, Nothing, Held, hold, held_behind}
 use Rattle.gm_book.specs.Standing.{Stand, first_stand, fault_of, settled, stepped, read_on, ◌>>=◌, IsFormRead, IsFormFault, Fails}
 
@@ -72,12 +73,12 @@ ended : (text : List ℕ) (state : State) (mark : Mark) (fault : FormFault) → 
 ended text state mark fault stops true later says = subst (IsFormFault text) says (state, mark, stops, refl, later)
 ended text state mark fault stops false later says = subst (IsFormFault text) says (state, mark, stops, refl, later)
 
-pub is_form_read : (text : List ℕ) (dim last : ℕ) (rules : List RuleForm) (current : Option RuleForm)
-    → read_on first_stand (marks_of text) ≡ Ok (record { state = AtEnd; last = last; held = record { dim = dim; rules = rules; current = current; part = Nothing } })
-    → IsFormRead text (record { dim = dim; rules = rules })
-is_form_read text dim last rules current read =
+pub is_form_read : (text : List ℕ) (heading : Heading) (last : ℕ) (rules : List RuleForm) (current : Option RuleForm)
+    → read_on first_stand (marks_of text) ≡ Ok (record { state = AtEnd; last = last; held = record { heading = heading; rules = rules; current = current; part = Nothing } })
+    → IsFormRead text (record { version = heading.version; dim = heading.dim; rules = rules })
+is_form_read text heading last rules current read =
     let through = read_through first_stand (marks_of text) _ read in
-    record { ends = through.ends; dim = ap (λ (held : Held). held.dim) through.held; rules = ap (λ (held : Held). held.rules) through.held }
+    record { ends = through.ends; heading = ap (λ (held : Held). held.heading) through.held; rules = ap (λ (held : Held). held.rules) through.held }
 
 says_fault : (text : List ℕ) (fault : FormFault) → read_on first_stand (marks_of text) ≡ Err fault → IsFormFault text fault
 says_fault text fault read = go stops.stop stops.stops stops.says

@@ -1,5 +1,5 @@
--- A worked book: its canonical text, by computation, and that this text stands for it.
-use Rattle.std.proofs.Common.{◌≡◌, ℕ, ◌≤◌, List, [], ◌∷◌, length, Some, None, codes, refl, subst, arith}
+-- Two worked books, one of each version: their canonical texts, by computation, and that these texts stand for them.
+use Rattle.std.proofs.Common.{◌≡◌, ℕ, ◌≤◌, List, [], ◌∷◌, length, Some, None, inl, inr, codes, refl, subst, arith}
 use Rattle.std.proofs.lemmas.Fmt.{decimal_digit}
 use Rattle.gm_model.specs.declared.rule.Side.{Side}
 use Rattle.gm_model.specs.declared.rule.Side.TheVariants.{Left, Right}
@@ -35,7 +35,7 @@ plane = record { dim = 2; embeds = [] }
 split_text : List ℕ
 split_text = codes "book 1\ndim 2\nrule split\nleft\na <0 1> hook\na -2- a\nright\na <0 _>\nb_2 <_ 2>\na -1- b_2\n"
 
-split_is_printed : canonical 2 (split ∷ []) ≡ split_text
+split_is_printed : canonical 1 2 (split ∷ []) ≡ split_text
 unfolding split_text
 split_is_printed = rw (decimal_digit 0 (omega arith), decimal_digit 1 (omega arith), decimal_digit 2 (omega arith)) refl
 
@@ -68,6 +68,63 @@ split_is_writable = record {
   pre = refl;
 }
 
-split_is_read : BookText split_text plane (split ∷ [])
-split_is_read = subst (λ text. BookText text plane (split ∷ [])) split_is_printed
-    (written_again plane (split ∷ []) refl (record { some = omega arith; low = omega arith; few = omega arith; each = (split_is_writable, tt); differ = (refl, tt) }))
+split_is_read : BookText split_text 1 plane (split ∷ [])
+split_is_read = subst (λ text. BookText text 1 plane (split ∷ [])) split_is_printed
+    (written_again 1 plane (split ∷ []) refl (record { known = inl refl; hooks = (λ one. omega arith, tt); some = omega arith; low = omega arith; few = omega arith; each = (split_is_writable, tt); differ = (refl, tt) }))
+
+-- ---- two hooks
+
+abbrev side : List ℕ → RuleNode
+side name = record { name = name; left = Some (At 0 ∷ []); right = Some (At 0 ∷ []); sets = [] }
+
+-- two edges of which each has a hook, and which are joined
+abbrev sew : Rule
+sew = record {
+  name = codes "sew";
+  params = [];
+  nodes = side (codes "a") ∷ side (codes "b") ∷ [];
+  left_links = [];
+  right_links = record { from = 0; label = 2; to = 1 } ∷ [];
+  hooks = 0 ∷ 1 ∷ [];
+  pre = None;
+}
+
+sew_text : List ℕ
+sew_text = codes "book 2\ndim 2\nrule sew\nleft\na <0> hook\nb <0> hook\nright\na <0>\nb <0>\na -2- b\n"
+
+sew_is_printed : canonical 2 2 (sew ∷ []) ≡ sew_text
+unfolding sew_text
+sew_is_printed = rw (decimal_digit 0 (omega arith), decimal_digit 2 (omega arith)) refl
+
+sew_links : (side : Side) → AllByRecursion (IsGoodLink 2 sew side) (links_on sew side)
+sew_links Left = tt
+sew_links Right = (record { label = omega arith; from = refl; to = refl }, tt)
+
+few_in_sew : (side : Side) → length (links_on sew side) ≤ 256
+few_in_sew Left = omega arith
+few_in_sew Right = omega arith
+
+sew_is_writable : IsWritable 2 sew
+sew_is_writable = record {
+  name = ((omega arith, (refl, refl)), refl);
+  nodes = (
+    record { name = ((omega arith, (refl, refl)), refl); left = (omega arith, (omega arith, tt)); right = (omega arith, (omega arith, tt)); sets = refl },
+    (record { name = ((omega arith, (refl, refl)), refl); left = (omega arith, (omega arith, tt)); right = (omega arith, (omega arith, tt)); sets = refl }, tt),
+  );
+  differ = (refl, (refl, tt));
+  few_nodes = omega arith;
+  left_nodes = side (codes "a") ∷ side (codes "b") ∷ [];
+  added_nodes = [];
+  left_first = refl;
+  left = (refl, (refl, tt));
+  added = tt;
+  links = sew_links;
+  few_links = few_in_sew;
+  hooks = refl;
+  params = refl;
+  pre = refl;
+}
+
+sew_is_read : BookText sew_text 2 plane (sew ∷ [])
+sew_is_read = subst (λ text. BookText text 2 plane (sew ∷ [])) sew_is_printed
+    (written_again 2 plane (sew ∷ []) refl (record { known = inr refl; hooks = (λ one. absurd (omega (arith, one)), tt); some = omega arith; low = omega arith; few = omega arith; each = (sew_is_writable, tt); differ = (refl, tt) }))

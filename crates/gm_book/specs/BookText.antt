@@ -1,5 +1,5 @@
 -- How a book of rules without embeddings, parameters, assignments and preconditions is written: the grammar of its texts with their limits and faults, the rules that a text stands for, and their one canonical text.
-use Rattle.std.specs.Prelude.{◌≡◌, ◌≢◌, ℕ, ◌+◌, ◌≤◌, Bool, true, false, not, ◌||◌, ◌==◌, nat_eq, nat_lt, if◌then◌else◌, List, [], ◌∷◌, ◌++◌, length, map, filter, Option, Some, None, is_some, codes, decimal, IsTrue}
+use Rattle.std.specs.Prelude.{◌≡◌, ◌≢◌, ℕ, ◌+◌, ◌≤◌, ◌⊎◌, Bool, true, false, not, ◌||◌, ◌==◌, nat_eq, nat_lt, if◌then◌else◌, List, [], ◌∷◌, ◌++◌, length, map, filter, Option, Some, None, is_some, codes, decimal, IsTrue}
 use Rattle.std.specs.List.{flat_map, list_any, position_or_len, AllByRecursion, Contains}
 use Rattle.std.specs.Str.{bytes_eq}
 use Rattle.gm_model.specs.declared.limit.LimitKind.{LimitKind}
@@ -31,6 +31,7 @@ pub record RuleForm : Type 0 where
   pub right : List Item
 
 pub record BookForm : Type 0 where
+  pub version : ℕ
   pub dim : ℕ
   pub rules : List RuleForm
 
@@ -58,6 +59,12 @@ abbrev pub ends_in : List Item → List Mention
 ends_in [] = []
 ends_in (NodeItem node word hook ∷ items) = ends_in items
 ends_in (LinkItem from label to ∷ items) = from ∷ to ∷ ends_in items
+
+-- how many of the items are hooks
+abbrev pub hook_count : List Item → ℕ
+hook_count [] = 0
+hook_count (NodeItem node word hook ∷ items) = if hook then hook_count items + 1 else hook_count items
+hook_count (LinkItem from label to ∷ items) = hook_count items
 
 -- How many there are so far: the different names that the rule mentions as nodes, and the links of the side.
 pub record Count : Type 0 where
@@ -172,12 +179,12 @@ abbrev pub spell_rules : ℕ → ℕ → List RuleForm → List (Part Role) → 
 spell_rules n k [] rest = rest
 spell_rules n k (rule ∷ rules) rest = spell_rule n (k + 1) rule (spell_rules n (k + 1) rules rest)
 
--- book 1 dim n
-abbrev pub header : ℕ → List (Part Role) → List (Part Role)
-header n rest = word Fixed (codes "book") ∷ number Fixed 1 ∷ word Fixed (codes "dim") ∷ number Dimension n ∷ rest
+-- book 2 dim 3
+abbrev pub header : ℕ → ℕ → List (Part Role) → List (Part Role)
+header version n rest = word Fixed (codes "book") ∷ number Fixed version ∷ word Fixed (codes "dim") ∷ number Dimension n ∷ rest
 
 abbrev pub spelling : BookForm → List (Part Role)
-spelling book = header book.dim (spell_rules book.dim 0 book.rules (the_end ∷ []))
+spelling book = header book.version book.dim (spell_rules book.dim 0 book.rules (the_end ∷ []))
 
 -- only a left node can be a hook
 abbrev pub IsItem : Side → Item → Type 0
@@ -185,11 +192,12 @@ IsItem Left (NodeItem node word hook) = IsFree node
 IsItem Right (NodeItem node word hook) = IsFree node × (hook ≡ false)
 IsItem side (LinkItem from label to) = IsFree from × IsFree to
 
-abbrev pub IsRule : RuleForm → Type 0
-IsRule rule = IsFree rule.name × AllByRecursion (IsItem Left) rule.left × AllByRecursion (IsItem Right) rule.right
+-- in version 1 a rule has one hook at most
+abbrev pub IsRule : ℕ → RuleForm → Type 0
+IsRule version rule = IsFree rule.name × AllByRecursion (IsItem Left) rule.left × AllByRecursion (IsItem Right) rule.right × (version ≡ 1 → hook_count rule.left ≤ 1)
 
 abbrev pub IsForm : BookForm → Type 0
-IsForm book = AllByRecursion IsRule book.rules
+IsForm book = ((book.version ≡ 1) ⊎ (book.version ≡ 2)) × AllByRecursion (IsRule book.version) book.rules
 
 abbrev pub IsSentence : List (Part Role) → Type 0
 IsSentence parts = (book : BookForm) × IsForm book × (parts ≡ spelling book)
@@ -215,13 +223,13 @@ pub record IsWritten (text : List ℕ) (book : BookForm) : Type 0 where
 -- Behind these parts the symbol begins what books don't have so far.
 pub data IsLater (parts : List (Part Role)) : Symbol → Type 0 where
   -- embeddings, directly behind the header
-  Embeddings : (n : ℕ) → parts ≡ header n [] → IsLater parts (Word (codes "embed"))
+  Embeddings : (version n : ℕ) → parts ≡ header version n [] → IsLater parts (Word (codes "embed"))
   -- parameters, directly behind a rule's name, where else `left` stands
   Parameters : Begins IsSentence limit_of (parts ++ word Fixed (codes "left") ∷ []) → IsLater parts (Sign (codes "("))
   -- an assignment, directly behind a right node
   Assignment : (front : List (Part Role)) → parts ≡ front ++ sign (WordEnd Right) (codes ">") ∷ [] → IsLater parts (Word (codes "with"))
   -- a precondition, where a rule can end
-  Precondition : IsSentence (parts ++ the_end ∷ []) → ((n : ℕ) → parts ≢ header n []) → IsLater parts (Word (codes "pre"))
+  Precondition : IsSentence (parts ++ the_end ∷ []) → ((version n : ℕ) → parts ≢ header version n []) → IsLater parts (Word (codes "pre"))
 
 -- Up to this place the text goes on as some sentence does, and passes no limit. There begins what books don't have so far.
 pub record IsNotBuilt (text : List ℕ) (place : ℕ) : Type 0 where
@@ -325,17 +333,18 @@ rule_in rule = record {
   pre = None;
 }
 
--- the text stands for these rules over the schema
-pub record BookText (text : List ℕ) (schema : Schema) (rules : List Rule) : Type 0 where
+-- the text is one of this version, and stands for these rules over the schema
+pub record BookText (text : List ℕ) (version : ℕ) (schema : Schema) (rules : List Rule) : Type 0 where
   pub book : BookForm
   pub written : IsWritten text book
   pub sound : (fault : NameFault) → IsNameFault book fault → ⊥
+  pub versions : version ≡ book.version
   pub dim : schema.dim ≡ book.dim
   pub embeds : schema.embeds ≡ []
   pub same : rules ≡ map rule_in book.rules
 
 abbrev pub StandsForNoBook : List ℕ → Type 0
-StandsForNoBook text = (schema : Schema) (rules : List Rule) → BookText text schema rules → ⊥
+StandsForNoBook text = (version : ℕ) (schema : Schema) (rules : List Rule) → BookText text version schema rules → ⊥
 
 -- ---- the canonical text
 
@@ -386,5 +395,5 @@ rule_lines rule =
     codes "rule " ++ rule.name ++ codes "\nleft\n" ++ left_lines rule.hooks 0 rule.nodes ++ flat_map (link_line rule.nodes) rule.left_links
     ++ codes "right\n" ++ right_lines rule.nodes ++ flat_map (link_line rule.nodes) rule.right_links
 
-abbrev pub canonical : ℕ → List Rule → List ℕ
-canonical n rules = codes "book 1\ndim " ++ decimal n ++ codes "\n" ++ flat_map rule_lines rules
+abbrev pub canonical : ℕ → ℕ → List Rule → List ℕ
+canonical version n rules = codes "book " ++ decimal version ++ codes "\ndim " ++ decimal n ++ codes "\n" ++ flat_map rule_lines rules

@@ -22,7 +22,7 @@ abbrev pub rule_form_of : List ℕ → RuleForm → text.RuleForm
 rule_form_of bytes rule = record { name = mention_of bytes rule.name; left = map (item_of bytes) rule.left.items; right = map (item_of bytes) rule.right.items }
 
 abbrev pub form_of : List ℕ → Form → BookForm
-form_of bytes form = record { dim = form.dim; rules = map (rule_form_of bytes) form.rules.items }
+form_of bytes form = record { version = form.heading.version; dim = form.heading.dim; rules = map (rule_form_of bytes) form.rules.items }
 
 -- the token lies in the text, and is a name that isn't too long
 abbrev pub IsIn : List ℕ → Token → Type 0

@@ -1,5 +1,5 @@
 -- How a book's text is read, one symbol after another: what can stand next in which role, what is held of what was read, and where something begins that books don't have so far.
-use Rattle.std.specs.Prelude.{ℕ, ◌+◌, Bool, true, false, ◌==◌, if◌then◌else◌, List, [], ◌∷◌, ◌++◌, length, Option, Some, None, Result, codes}
+use Rattle.std.specs.Prelude.{ℕ, ◌+◌, Bool, true, false, not, ◌&&◌, ◌||◌, ◌==◌, if◌then◌else◌, List, [], ◌∷◌, ◌++◌, length, Option, Some, None, Result, codes}
 use Rattle.std.specs.Option.{option_map, option_map_or}
 use Rattle.std.specs.Str.{bytes_eq}
 use Rattle.gm_model.specs.declared.rule.Side.{Side}
@@ -9,28 +9,30 @@ use Rattle.gm_model.specs.declared.word.Letter.TheVariants as letters
 use Rattle.gm_model.specs.Names.{reserved, Mention, is_among}
 use Rattle.gm_model.specs.Symbols.{Symbol, Word, Numeral, Sign, Gone, End, Mark}
 use Rattle.gm_book.specs.BookText.{Item, NodeItem, LinkItem, RuleForm, Count, no_count, count_across, with_name, Role, Fixed, Dimension, RuleWord, NameAt, NodeSign, LinkSign, LetterAt, WordEnd, LabelAt, limit_of, stands_before}
+use Rattle.gm_book.specs.declared.state.Heading.{Heading}
 use Rattle.gm_text.specs.Machine as machine
 
 -- ---- states
 
--- where in a side of a rule reading is: the dimension, how many rules have begun, the side, and how much there is so far
+-- where in a side of a rule reading is: the heading, how many rules have begun, the side, how much there is so far, and whether the rule has a hook so far
 pub record Spot : Type 0 where
-  pub dim : ℕ
+  pub heading : Heading
   pub rules : ℕ
   pub side : Side
   pub count : Count
+  pub hooked : Bool
 
 pub data State : Type 0 where
-  -- before the word `book`, the version, the word `dim`, the dimension
+  -- before the word `book`, the version, the word `dim`, the dimension; the version is known behind it
   AtFormat : State
   AtVersion : State
-  AtDim : State
-  AtTop : State
-  -- behind the header with this dimension
-  AtRules : ℕ → State
+  AtDim : ℕ → State
+  AtTop : ℕ → State
+  -- behind the header
+  AtRules : Heading → State
   -- before the name of the rule with this ordinal, and behind it
-  AtName : ℕ → ℕ → State
-  AtLeft : ℕ → ℕ → State
+  AtName : Heading → ℕ → State
+  AtLeft : Heading → ℕ → State
   -- where an item can begin, and behind its first name
   AtItem : Spot → State
   AtSign : Spot → List ℕ → State
@@ -44,18 +46,24 @@ pub data State : Type 0 where
   -- behind the end
   AtEnd : State
 
+abbrev pub heading_at : ℕ → ℕ → Heading
+heading_at version n = record { version = version; dim = n }
+
 -- the left side of the rule with this ordinal, before its first item
-abbrev pub left_spot : ℕ → ℕ → Spot
-left_spot n k = record { dim = n; rules = k; side = Left; count = no_count }
+abbrev pub left_spot : Heading → ℕ → Spot
+left_spot heading k = record { heading = heading; rules = k; side = Left; count = no_count; hooked = false }
 
 abbrev pub right_spot : Spot → Spot
-right_spot spot = record { dim = spot.dim; rules = spot.rules; side = Right; count = count_across spot.count }
+right_spot spot = record { heading = spot.heading; rules = spot.rules; side = Right; count = count_across spot.count; hooked = spot.hooked }
 
 abbrev pub with_node : Spot → List ℕ → Spot
 with_node spot name = record spot { count = record spot.count { nodes = with_name spot.count.nodes name } }
 
 abbrev pub with_link : Spot → Spot
 with_link spot = record spot { count = record spot.count { links = spot.count.links + 1 } }
+
+abbrev pub with_hook : Spot → Spot
+with_hook spot = record spot { hooked = true }
 
 -- ---- roles
 
@@ -72,13 +80,20 @@ abbrev pub item_role : Spot → Symbol → ℕ → Role
 item_role spot (Word word) place = if bytes_eq word (closing spot.side) then closing_role spot.side spot.rules else NameAt place
 item_role spot _ place = Fixed
 
--- a left node may be a hook
-abbrev pub is_hook : Side → List ℕ → Bool
-is_hook Left word = bytes_eq word (codes "hook")
-is_hook Right word = false
+-- whether a further node of a rule may be a hook, by whether there is one so far; in version 1 it may not where there is
+abbrev pub takes_hook : ℕ → Bool → Bool
+takes_hook version hooked = not (hooked && (version == 1))
+
+-- the word makes the node before it a hook, which only a left one may be
+abbrev pub is_hook_on : Side → Bool → List ℕ → Bool
+is_hook_on Left takes word = bytes_eq word (codes "hook") && takes
+is_hook_on Right takes word = false
+
+abbrev pub is_hook : Spot → List ℕ → Bool
+is_hook spot word = is_hook_on spot.side (takes_hook spot.heading.version spot.hooked) word
 
 abbrev pub behind_role : Spot → Symbol → ℕ → Role
-behind_role spot (Word word) place = if is_hook spot.side word then Fixed else item_role spot (Word word) place
+behind_role spot (Word word) place = if is_hook spot word then Fixed else item_role spot (Word word) place
 behind_role spot _ place = Fixed
 
 abbrev pub sign_role : Spot → List ℕ → Symbol → Role
@@ -87,7 +102,7 @@ sign_role spot name _ = Fixed
 
 abbrev pub letter_role : Spot → ℕ → Symbol → Role
 letter_role spot k (Sign sign) = WordEnd spot.side
-letter_role spot k _ = LetterAt spot.dim (k + 1)
+letter_role spot k _ = LetterAt spot.heading.dim (k + 1)
 
 abbrev pub rules_role : Symbol → Role
 rules_role (Word word) = RuleWord 1
@@ -95,14 +110,14 @@ rules_role _ = Fixed
 
 -- the role of a symbol that stands at a place
 abbrev pub role_at : State → Symbol → ℕ → Role
-role_at AtTop symbol place = Dimension
-role_at (AtRules n) symbol place = rules_role symbol
-role_at (AtName n k) symbol place = NameAt place
+role_at (AtTop version) symbol place = Dimension
+role_at (AtRules heading) symbol place = rules_role symbol
+role_at (AtName heading k) symbol place = NameAt place
 role_at (AtItem spot) symbol place = item_role spot symbol place
 role_at (AtSign spot name) symbol place = sign_role spot name symbol
 role_at (AtLetter spot k) symbol place = letter_role spot k symbol
 role_at (AtBehind spot) symbol place = behind_role spot symbol place
-role_at (AtLabel spot) symbol place = LabelAt spot.dim
+role_at (AtLabel spot) symbol place = LabelAt spot.heading.dim
 role_at (AtTo spot) symbol place = NameAt place
 role_at _ symbol place = Fixed
 
@@ -117,13 +132,13 @@ unless_reserved word next = if is_among reserved word then None else Some next
 
 abbrev pub closed : Spot → Side → State
 closed spot Left = AtItem (right_spot spot)
-closed spot Right = AtName spot.dim (spot.rules + 1)
+closed spot Right = AtName spot.heading (spot.rules + 1)
 
 abbrev pub item_move : Spot → List ℕ → Option State
 item_move spot word = if bytes_eq word (closing spot.side) then Some (closed spot spot.side) else unless_reserved word (AtSign spot word)
 
 abbrev pub behind_move : Spot → List ℕ → Option State
-behind_move spot word = if is_hook spot.side word then Some (AtItem spot) else item_move spot word
+behind_move spot word = if is_hook spot word then Some (AtItem (with_hook spot)) else item_move spot word
 
 abbrev pub sign_move : Spot → List ℕ → List ℕ → Option State
 sign_move spot name sign = if bytes_eq sign (codes "<") then Some (AtLetter (with_node spot name) 0) else (if bytes_eq sign (codes "-") then Some (AtLabel (with_link spot)) else None)
@@ -133,16 +148,19 @@ abbrev pub end_move : Side → Option State
 end_move Left = None
 end_move Right = Some AtEnd
 
+abbrev pub is_version : ℕ → Bool
+is_version version = (version == 1) || (version == 2)
+
 -- the state behind a symbol, where it can stand
 abbrev pub move : State → Symbol → Option State
 move AtFormat (Word word) = expect (codes "book") word AtVersion
-move AtVersion (Numeral version) = if version == 1 then Some AtDim else None
-move AtDim (Word word) = expect (codes "dim") word AtTop
-move AtTop (Numeral n) = Some (AtRules n)
-move (AtRules n) (Word word) = expect (codes "rule") word (AtName n 1)
-move (AtRules n) End = Some AtEnd
-move (AtName n k) (Word word) = unless_reserved word (AtLeft n k)
-move (AtLeft n k) (Word word) = expect (codes "left") word (AtItem (left_spot n k))
+move AtVersion (Numeral version) = if is_version version then Some (AtDim version) else None
+move (AtDim version) (Word word) = expect (codes "dim") word (AtTop version)
+move (AtTop version) (Numeral n) = Some (AtRules (heading_at version n))
+move (AtRules heading) (Word word) = expect (codes "rule") word (AtName heading 1)
+move (AtRules heading) End = Some AtEnd
+move (AtName heading k) (Word word) = unless_reserved word (AtLeft heading k)
+move (AtLeft heading k) (Word word) = expect (codes "left") word (AtItem (left_spot heading k))
 move (AtItem spot) (Word word) = item_move spot word
 move (AtItem spot) End = end_move spot.side
 move (AtSign spot name) (Sign sign) = sign_move spot name sign
@@ -170,8 +188,8 @@ is_later_behind_items Right word = bytes_eq word (codes "pre")
 
 -- the symbol begins an embedding, parameters, an assignment or a precondition
 abbrev pub is_later : State → Symbol → Bool
-is_later (AtRules n) (Word word) = bytes_eq word (codes "embed")
-is_later (AtLeft n k) (Sign sign) = bytes_eq sign (codes "(")
+is_later (AtRules heading) (Word word) = bytes_eq word (codes "embed")
+is_later (AtLeft heading k) (Sign sign) = bytes_eq sign (codes "(")
 is_later (AtItem spot) (Word word) = is_later_behind_items spot.side word
 is_later (AtBehind spot) (Word word) = is_later_behind spot.side
   where
@@ -194,8 +212,7 @@ pub data Part : Type 0 where
   Labelled : Mention → ℕ → Part
 
 pub record Held : Type 0 where
-  -- the dimension
-  pub dim : ℕ
+  pub heading : Heading
   -- the rules that are read whole
   pub rules : List RuleForm
   -- the rule that is read
@@ -203,7 +220,7 @@ pub record Held : Type 0 where
   pub part : Part
 
 abbrev pub nothing_held : Held
-nothing_held = record { dim = 0; rules = []; current = None; part = Nothing }
+nothing_held = record { heading = heading_at 0 0; rules = []; current = None; part = Nothing }
 
 abbrev pub mention_at : List ℕ → ℕ → Mention
 mention_at name place = record { name = name; place = place }
@@ -263,15 +280,15 @@ hold_link side to held part = held
 
 -- what is held behind a symbol that stands at a place
 abbrev pub hold : State → Symbol → ℕ → Held → Held
-hold AtTop (Numeral n) place held = record held { dim = n }
-hold (AtName n k) (Word word) place held = open_rule (mention_at word place) held
+hold (AtTop version) (Numeral n) place held = record held { heading = heading_at version n }
+hold (AtName heading k) (Word word) place held = open_rule (mention_at word place) held
 hold (AtItem spot) (Word word) place held = hold_item spot word place held
 hold (AtItem spot) End place held = close_rule held
 hold (AtSign spot name) (Sign sign) place held = record held { part = hold_sign sign held.part }
 hold (AtLetter spot k) (Numeral label) place held = record held { part = hold_letter (letters.At label) held.part }
 hold (AtLetter spot k) Gone place held = record held { part = hold_letter letters.Gone held.part }
 hold (AtLetter spot k) (Sign sign) place held = hold_node spot.side held held.part
-hold (AtBehind spot) (Word word) place held = if is_hook spot.side word then record held { current = option_map hook_last held.current } else hold_item spot word place held
+hold (AtBehind spot) (Word word) place held = if is_hook spot word then record held { current = option_map hook_last held.current } else hold_item spot word place held
 hold (AtBehind spot) End place held = close_rule held
 hold (AtLabel spot) (Numeral label) place held = record held { part = hold_label label held.part }
 hold (AtTo spot) (Word word) place held = hold_link spot.side (mention_at word place) held held.part

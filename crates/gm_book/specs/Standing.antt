@@ -12,11 +12,12 @@ use Rattle.gm_book.specs.declared.form.RuleForm.{RuleForm as CodeRule}
 use Rattle.gm_book.specs.declared.form_fault.FormFault.{FormFault}
 use Rattle.gm_book.specs.declared.form_fault.FormFault.TheVariants as faults
 use Rattle.gm_book.specs.declared.draft.Draft.{Draft}
+use Rattle.gm_book.specs.declared.state.Heading.{Heading}
 use Rattle.gm_book.specs.declared.state.Spot.{Spot as CodeSpot}
 use Rattle.gm_book.specs.declared.state.State.{State as CodeState}
 use Rattle.gm_book.specs.declared.state.State.TheVariants as code
 use Rattle.gm_book.specs.Forms.{mention_of, rule_form_of, IsIn, IsRuleIn}
-use Rattle.gm_book.specs.Reading.{Spot, State, AtFormat, AtVersion, AtDim, AtTop, AtRules, AtName, AtLeft, AtItem, AtSign, AtLetter, AtBehind, AtLabel, AtDash, AtTo, AtEnd, step, run, is_later, Part, Nothing, Named, Lettered, Linked, Labelled, Held, nothing_held, put_item, hold, held_behind}
+use Rattle.gm_book.specs.Reading.{Spot, State, AtFormat, AtVersion, AtDim, AtTop, AtRules, AtName, AtLeft, AtItem, AtSign, AtLetter, AtBehind, AtLabel, AtDash, AtTo, AtEnd, heading_at, step, run, is_later, Part, Nothing, Named, Lettered, Linked, Labelled, Held, nothing_held, put_item, hold, held_behind}
 
 -- the state, the place of the mark before, and what is held
 pub record Stand : Type 0 where
@@ -56,16 +57,16 @@ read_on stand (mark ∷ marks) = stepped stand mark >>= λ next. read_on next ma
 -- ---- where the code stands
 
 abbrev pub spot_of : List (List ℕ) → CodeSpot → Spot
-spot_of nodes spot = record { dim = spot.dim; rules = spot.rules; side = spot.side; count = record { nodes = nodes; links = spot.links } }
+spot_of nodes spot = record { heading = spot.heading; rules = spot.rules; side = spot.side; count = record { nodes = nodes; links = spot.links }; hooked = spot.hooked }
 
 abbrev pub state_of : List ℕ → List (List ℕ) → CodeState → State
 state_of text nodes code.Format = AtFormat
 state_of text nodes code.Version = AtVersion
-state_of text nodes code.DimWord = AtDim
-state_of text nodes code.Dimension = AtTop
-state_of text nodes (code.Rules dim) = AtRules dim
-state_of text nodes (code.Name dim rules) = AtName dim rules
-state_of text nodes (code.Left dim rules) = AtLeft dim rules
+state_of text nodes (code.DimWord version) = AtDim version
+state_of text nodes (code.Dimension version) = AtTop version
+state_of text nodes (code.Rules heading) = AtRules heading
+state_of text nodes (code.Name heading rules) = AtName heading rules
+state_of text nodes (code.Left heading rules) = AtLeft heading rules
 state_of text nodes (code.Item spot) = AtItem (spot_of nodes spot)
 state_of text nodes (code.Sign spot name) = AtSign (spot_of nodes spot) (bytes_of text name)
 state_of text nodes (code.Letter spot name word) = AtLetter (spot_of nodes spot) (length word)
@@ -74,22 +75,22 @@ state_of text nodes (code.Label spot from) = AtLabel (spot_of nodes spot)
 state_of text nodes (code.Dash spot from label) = AtDash (spot_of nodes spot)
 state_of text nodes (code.To spot from label) = AtTo (spot_of nodes spot)
 
--- the dimension, which is 0 before it is read
-abbrev pub dim_of : CodeState → ℕ
-dim_of code.Format = 0
-dim_of code.Version = 0
-dim_of code.DimWord = 0
-dim_of code.Dimension = 0
-dim_of (code.Rules dim) = dim
-dim_of (code.Name dim rules) = dim
-dim_of (code.Left dim rules) = dim
-dim_of (code.Item spot) = spot.dim
-dim_of (code.Sign spot name) = spot.dim
-dim_of (code.Letter spot name word) = spot.dim
-dim_of (code.Behind spot name word) = spot.dim
-dim_of (code.Label spot from) = spot.dim
-dim_of (code.Dash spot from label) = spot.dim
-dim_of (code.To spot from label) = spot.dim
+-- the heading, which is not held before it is read whole
+abbrev pub heading_of : CodeState → Heading
+heading_of code.Format = heading_at 0 0
+heading_of code.Version = heading_at 0 0
+heading_of (code.DimWord version) = heading_at 0 0
+heading_of (code.Dimension version) = heading_at 0 0
+heading_of (code.Rules heading) = heading
+heading_of (code.Name heading rules) = heading
+heading_of (code.Left heading rules) = heading
+heading_of (code.Item spot) = spot.heading
+heading_of (code.Sign spot name) = spot.heading
+heading_of (code.Letter spot name word) = spot.heading
+heading_of (code.Behind spot name word) = spot.heading
+heading_of (code.Label spot from) = spot.heading
+heading_of (code.Dash spot from label) = spot.heading
+heading_of (code.To spot from label) = spot.heading
 
 abbrev pub part_of : List ℕ → CodeState → Part
 part_of text (code.Sign spot name) = Named (mention_of text name)
@@ -101,8 +102,8 @@ part_of text state = Nothing
 
 -- The node behind whose word reading is joins its side only once it is known whether it is a hook.
 abbrev pub held_in : List ℕ → List RuleForm → Option RuleForm → CodeState → Held
-held_in text rules current (code.Behind spot name word) = put_item spot.side (NodeItem (mention_of text name) word false) (record { dim = spot.dim; rules = rules; current = current; part = Nothing })
-held_in text rules current state = record { dim = dim_of state; rules = rules; current = current; part = part_of text state }
+held_in text rules current (code.Behind spot name word) = put_item spot.side (NodeItem (mention_of text name) word false) (record { heading = spot.heading; rules = rules; current = current; part = Nothing })
+held_in text rules current state = record { heading = heading_of state; rules = rules; current = current; part = part_of text state }
 
 -- the names counted as nodes, the rules read whole and the one that is read stand beside the state
 abbrev pub stand_in : List ℕ → List (List ℕ) → List RuleForm → Option RuleForm → CodeState → ℕ → Stand
@@ -169,13 +170,13 @@ abbrev pub KeepsIn : List ℕ → Draft → CodeState → Result CodeState FormF
 KeepsIn text draft state result new_draft = IsStateIn text state → IsDraftIn text draft → IfOk result (λ next. IsStateIn text next × IsDraftIn text new_draft)
 
 -- behind the end
-abbrev pub end_stand : List ℕ → Draft → ℕ → ℕ → Stand
-end_stand text draft dim last = record { state = AtEnd; last = last; held = record { dim = dim; rules = rules_of text draft; current = current_of text draft; part = Nothing } }
+abbrev pub end_stand : List ℕ → Draft → Heading → ℕ → Stand
+end_stand text draft heading last = record { state = AtEnd; last = last; held = record { heading = heading; rules = rules_of text draft; current = current_of text draft; part = Nothing } }
 
--- the answer is the dimension, where the book can end at the place
-abbrev pub EndsFrom : List ℕ → List (List ℕ) → Draft → CodeState → ℕ → Result ℕ FormFault → Draft → Type 0
+-- the answer is the heading, where the book can end at the place
+abbrev pub EndsFrom : List ℕ → List (List ℕ) → Draft → CodeState → ℕ → Result Heading FormFault → Draft → Type 0
 EndsFrom text nodes draft state place result new_draft =
-    (last : ℕ) → Gives (λ dim. end_stand text new_draft dim place) result (stepped (stand_of text nodes draft state last) (record { symbol = End; place = place }))
+    (last : ℕ) → Gives (λ heading. end_stand text new_draft heading place) result (stepped (stand_of text nodes draft state last) (record { symbol = End; place = place }))
 
 -- ---- tokens
 
@@ -213,7 +214,7 @@ IsNext cursor (Err _) rest = ⊥
 -- the machine goes through all marks of the text, and this is held behind them
 pub record IsFormRead (text : List ℕ) (form : BookForm) : Type 0 where
   pub ends : run AtFormat 0 (marks_of text) ≡ Ok AtEnd
-  pub dim : (held_behind AtFormat (marks_of text) nothing_held).dim ≡ form.dim
+  pub heading : (held_behind AtFormat (marks_of text) nothing_held).heading ≡ heading_at form.version form.dim
   pub rules : (held_behind AtFormat (marks_of text) nothing_held).rules ≡ form.rules
 
 -- the machine ends at the place, where something begins that books don't have so far, or where nothing does

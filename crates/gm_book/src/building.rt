@@ -31,7 +31,8 @@ fn tables(alloc: Global, text: &[u8], rules: &[RuleForm]) -> Result<Vec<RuleTabl
 pub(crate) fn build(alloc: Global, text: &[u8], form: Form) -> Result<Book, BookFault>
     requires names { IsFormIn text.now form }
     requires within { IsWithin IsSentence limit_of (spelling (form_of text.now form)) }
-    ensures dim { IfOk result (λ book. book.schema.dim ≡ form.dim) }
+    ensures version { IfOk result (λ book. book.version ≡ form.heading.version) }
+    ensures dim { IfOk result (λ book. book.schema.dim ≡ form.heading.dim) }
     ensures embeds { IfOk result (λ book. book.schema.embeds ≡ []) }
     ensures rules { IfOk result (λ book. map rule_of book.rules ≡ map rule_in (form_of text.now form).rules) }
     ensures sound { IfOk result (λ _. HasNoNameFault (form_of text.now form)) }
@@ -42,8 +43,9 @@ pub(crate) fn build(alloc: Global, text: &[u8], form: Form) -> Result<Book, Book
     }
     let rules = tables(alloc, text, form.rules.as_slice())?;
     Ok(Book {
+        version: form.heading.version,
         schema: Schema {
-            dim: form.dim,
+            dim: form.heading.dim,
             embeds: Items::new(Vec::new(alloc)),
         },
         rules: Items::new(rules),

@@ -1,6 +1,7 @@
 //! What is written in a book, before its names are looked up. Names are tokens of the text.
 
-use gm_model::{Dim, Word};
+use crate::state::Heading;
+use gm_model::Word;
 use gm_text::Token;
 
 /// What a side of a rule lists.
@@ -21,6 +22,6 @@ pub(crate) struct RuleForm {
 /// A book as it is written.
 #[derive(Drop)]
 pub(crate) struct Form {
-    pub dim: Dim,
+    pub heading: Heading,
     pub rules: Vec<RuleForm>,
 }

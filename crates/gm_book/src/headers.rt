@@ -7,7 +7,7 @@ ghost use Rattle.gm_book.specs.declared.state.State.TheVariants as states;
 ghost use Rattle.gm_book.specs.Standing.{IsToken, Leads, StaysIn, word_mark, number_mark};
 
 use crate::form_fault::FormFault;
-use crate::state::State;
+use crate::state::{Heading, State};
 use crate::words::reads;
 use gm_model::{Dim, LimitKind};
 use gm_text::{Lexer, Token};
@@ -40,30 +40,31 @@ pub(crate) fn at_version(lexer: &Lexer<'_>, token: Token) -> Result<State, FormF
     ensures leads { Leads lexer.now.text states.Version (number_mark lexer.now.text token) result }
     ensures within { StaysIn lexer.now.text states.Version result }
 {
-    if value(lexer, token) != 1 {
+    let version = value(lexer, token);
+    if version != 1 && version != 2 {
         return Err(FormFault::Text { place: token.start });
     }
-    Ok(State::DimWord)
+    Ok(State::DimWord(version as u8))
 }
 
 #[tactic(auto, unfolding(crate::specs::Standing::stepped))]
-pub(crate) fn at_dim_word(lexer: &Lexer<'_>, token: Token) -> Result<State, FormFault>
+pub(crate) fn at_dim_word(lexer: &Lexer<'_>, token: Token, version: u8) -> Result<State, FormFault>
     requires { IsToken lexer.now.text token }
-    ensures leads { Leads lexer.now.text states.DimWord (word_mark lexer.now.text token) result }
-    ensures within { StaysIn lexer.now.text states.DimWord result }
+    ensures leads { Leads lexer.now.text (states.DimWord version) (word_mark lexer.now.text token) result }
+    ensures within { StaysIn lexer.now.text (states.DimWord version) result }
 {
     if !reads(lexer, token, b"dim") {
         return Err(FormFault::Text { place: token.start });
     }
-    Ok(State::Dimension)
+    Ok(State::Dimension(version))
 }
 
 #[tactic(auto, unfolding(crate::specs::Standing::stepped))]
-pub(crate) fn at_dimension(lexer: &Lexer<'_>, token: Token) -> Result<State, FormFault>
+pub(crate) fn at_dimension(lexer: &Lexer<'_>, token: Token, version: u8) -> Result<State, FormFault>
     requires token { IsToken lexer.now.text token }
     requires kind { token.kind ≡ Number }
-    ensures leads { Leads lexer.now.text states.Dimension (number_mark lexer.now.text token) result }
-    ensures within { StaysIn lexer.now.text states.Dimension result }
+    ensures leads { Leads lexer.now.text (states.Dimension version) (number_mark lexer.now.text token) result }
+    ensures within { StaysIn lexer.now.text (states.Dimension version) result }
 {
     let value = value(lexer, token);
     let what = LimitKind::Dimension;
@@ -72,7 +73,7 @@ pub(crate) fn at_dimension(lexer: &Lexer<'_>, token: Token) -> Result<State, For
         return Err(FormFault::Limit { what, place });
     }
     match Dim::new(value as u8) {
-        Some(dim) => Ok(State::Rules(dim)),
+        Some(dim) => Ok(State::Rules(Heading { version, dim })),
         None => Err(FormFault::Limit { what, place }),
     }
 }

@@ -1,5 +1,5 @@
 //! What holds of the texts of books, whoever reads or prints them.
-ghost use Rattle.std.specs.Prelude.{◌≡◌, ◌≢◌, ℕ, List, All};
+ghost use Rattle.std.specs.Prelude.{◌≡◌, ◌≢◌, ◌≤◌, ℕ, List, All, length};
 ghost use Rattle.gm_model.specs.declared.schema.Schema.{Schema};
 ghost use Rattle.gm_model.specs.Rules.{Rule};
 ghost use Rattle.gm_model.specs.Structure.{IsInRange, IsWithinLimits};
@@ -8,9 +8,9 @@ ghost use Rattle.gm_book.specs.declared.fault.BookFault.{BookFault};
 ghost use Rattle.gm_book.specs.declared.fault.BookFault.TheVariants.{OutOfMemory};
 ghost use Rattle.gm_book.specs.Faults.{IsFaultOf};
 
-/// A text stands for one book at most.
+/// A text has one version and stands for one book at most.
 pub fn one_book_at_most()
-    ensures { (text : List ℕ) (schema other : Schema) (rules others : List Rule) → BookText text schema rules → BookText text other others → (schema ≡ other) × (rules ≡ others) }
+    ensures { (text : List ℕ) (version second : ℕ) (schema other : Schema) (rules others : List Rule) → BookText text version schema rules → BookText text second other others → (version ≡ second) × (schema ≡ other) × (rules ≡ others) }
 {}
 
 /// A text has one first fault at most, its kind and place included: by its grammar and limits, or
@@ -25,12 +25,17 @@ pub fn no_book_at_a_fault()
     ensures { (text : List ℕ) (fault : BookFault) → fault ≢ OutOfMemory → IsFaultOf text fault → StandsForNoBook text }
 {}
 
-/// The canonical text of the rules that a text stands for stands for them too.
+/// The canonical text of the rules that a text stands for, in its version, stands for them too.
 pub fn what_is_printed_is_read_again()
-    ensures { (text : List ℕ) (schema : Schema) (rules : List Rule) → BookText text schema rules → BookText (canonical schema.dim rules) schema rules }
+    ensures { (text : List ℕ) (version : ℕ) (schema : Schema) (rules : List Rule) → BookText text version schema rules → BookText (canonical version schema.dim rules) version schema rules }
+{}
+
+/// In version 1 a rule that a text stands for has one hook at most.
+pub fn one_hook_at_most_in_version_one()
+    ensures { (text : List ℕ) (schema : Schema) (rules : List Rule) → BookText text 1 schema rules → All (λ rule. length rule.hooks ≤ 1) rules }
 {}
 
 /// The rules that a text stands for are in range and within the limits on their parts.
 pub fn what_is_read_is_in_range()
-    ensures { (text : List ℕ) (schema : Schema) (rules : List Rule) → BookText text schema rules → All (λ rule. IsInRange schema rule × IsWithinLimits rule) rules }
+    ensures { (text : List ℕ) (version : ℕ) (schema : Schema) (rules : List Rule) → BookText text version schema rules → All (λ rule. IsInRange schema rule × IsWithinLimits rule) rules }
 {}

@@ -23,8 +23,8 @@ mod words;
 
 pub use fault::BookFault;
 pub use laws::{
-    no_book_at_a_fault, one_book_at_most, one_first_fault_at_most, what_is_printed_is_read_again,
-    what_is_read_is_in_range,
+    no_book_at_a_fault, one_book_at_most, one_first_fault_at_most, one_hook_at_most_in_version_one,
+    what_is_printed_is_read_again, what_is_read_is_in_range,
 };
 pub use printing::print_book;
 pub use reading::read_book;

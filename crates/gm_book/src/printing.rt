@@ -9,24 +9,26 @@ use gm_model::{Book, Dim, Letter, Link, Name, Node, OutOfMemory, RuleTable, Word
 use gm_text::Text;
 use std::alloc::Global;
 
-/// The canonical text of the book. What a reader answers can be printed. Books with embeddings,
-/// parameters, assignments or preconditions can't be read or printed so far.
+/// The canonical text of the book, in its version. What a reader answers can be printed. Books
+/// with embeddings, parameters, assignments or preconditions can't be read or printed so far.
 pub fn print_book(alloc: Global, book: &Book) -> Result<Vec<u8>, OutOfMemory>
     requires { CanBePrinted book.now.schema (map rule_of book.now.rules) }
-    ensures { IfOk result (λ text. text.items ≡ canonical book.now.schema.dim (map rule_of book.now.rules)) }
+    ensures { IfOk result (λ text. text.items ≡ canonical book.now.version book.now.schema.dim (map rule_of book.now.rules)) }
 {
     let mut text = Text::new(alloc);
-    print_header(&mut text, book.schema.dim)?;
+    print_header(&mut text, book.version, book.schema.dim)?;
     for rule in book.rules.as_slice() {
         print_rule(&mut text, rule)?;
     }
     Ok(text.into_bytes())
 }
 
-fn print_header(text: &mut Text, dim: Dim) -> Result<(), OutOfMemory>
-    ensures { OnOk result (text.new ≡ text.old ++ (codes "book 1\ndim " ++ decimal dim ++ codes "\n")) }
+fn print_header(text: &mut Text, version: u8, dim: Dim) -> Result<(), OutOfMemory>
+    ensures { OnOk result (text.new ≡ text.old ++ (codes "book " ++ decimal version ++ codes "\ndim " ++ decimal dim ++ codes "\n")) }
 {
-    text.put(b"book 1\ndim ")?;
+    text.put(b"book ")?;
+    text.number(u64::from(version))?;
+    text.put(b"\ndim ")?;
     text.number(u64::from(dim.top()))?;
     text.put(b"\n")
 }

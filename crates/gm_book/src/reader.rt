@@ -13,10 +13,10 @@ use crate::form_fault::FormFault;
 use crate::headers::{at_dim_word, at_format};
 use crate::nodes::Nodes;
 use crate::signs::{at_dash, at_number, at_parameters, at_sign, at_word_end, gone};
-use crate::state::{Spot, State};
+use crate::state::{Heading, Spot, State};
 use crate::tally::Tally;
 use crate::words::{is_reserved, reads};
-use gm_model::{Dim, LimitKind, Side, Word};
+use gm_model::{LimitKind, Side, Word};
 use gm_text::{Lexer, Token, TokenKind};
 use std::alloc::Global;
 
@@ -31,10 +31,14 @@ pub(crate) struct Reader<'a> {
 
 /// Behind the header, where the first rule can begin.
 #[tactic(auto, unfolding(crate::specs::Standing::stepped))]
-pub(crate) fn at_rules(lexer: &Lexer<'_>, token: Token, dim: Dim) -> Result<State, FormFault>
+pub(crate) fn at_rules(
+    lexer: &Lexer<'_>,
+    token: Token,
+    heading: Heading,
+) -> Result<State, FormFault>
     requires { IsToken lexer.now.text token }
-    ensures leads { Leads lexer.now.text (states.Rules dim) (word_mark lexer.now.text token) result }
-    ensures within { StaysIn lexer.now.text (states.Rules dim) result }
+    ensures leads { Leads lexer.now.text (states.Rules heading) (word_mark lexer.now.text token) result }
+    ensures within { StaysIn lexer.now.text (states.Rules heading) result }
 {
     let place = token.start;
     if reads(lexer, token, b"embed") {
@@ -43,7 +47,7 @@ pub(crate) fn at_rules(lexer: &Lexer<'_>, token: Token, dim: Dim) -> Result<Stat
     if !reads(lexer, token, b"rule") {
         return Err(FormFault::Text { place });
     }
-    Ok(State::Name(dim, Tally::one()))
+    Ok(State::Name(heading, Tally::one()))
 }
 
 #[tactic(auto, unfolding(crate::specs::Standing::stepped))]
@@ -90,13 +94,13 @@ impl<'a> Reader<'a> {
         alloc: Global,
         lexer: &Lexer<'a>,
         token: Token,
-        dim: Dim,
+        heading: Heading,
         rules: Tally,
     ) -> Result<State, FormFault>
         requires token { IsToken lexer.now.text token }
         requires kind { token.kind ≡ Name }
-        ensures moves { Moves lexer.now.text self.old.nodes self.old.draft (states.Name dim rules) (word_mark lexer.now.text token) result self.new.nodes self.new.draft }
-        ensures within { KeepsIn lexer.now.text self.old.draft (states.Name dim rules) result self.new.draft }
+        ensures moves { Moves lexer.now.text self.old.nodes self.old.draft (states.Name heading rules) (word_mark lexer.now.text token) result self.new.nodes self.new.draft }
+        ensures within { KeepsIn lexer.now.text self.old.draft (states.Name heading rules) result self.new.draft }
     {
         let word = lexer.text(&token);
         let place = token.start;
@@ -108,7 +112,7 @@ impl<'a> Reader<'a> {
             return Err(FormFault::Limit { what, place });
         }
         self.draft.open(alloc, token);
-        Ok(State::Left(dim, rules))
+        Ok(State::Left(heading, rules))
     }
 
     #[tactic(auto, unfolding(crate::specs::Standing::stepped))]
@@ -116,22 +120,23 @@ impl<'a> Reader<'a> {
         &mut self,
         lexer: &Lexer<'a>,
         token: Token,
-        dim: Dim,
+        heading: Heading,
         rules: Tally,
     ) -> Result<State, FormFault>
         requires { IsToken lexer.now.text token }
-        ensures moves { Moves lexer.now.text self.old.nodes self.old.draft (states.Left dim rules) (word_mark lexer.now.text token) result self.new.nodes self.new.draft }
-        ensures within { KeepsIn lexer.now.text self.old.draft (states.Left dim rules) result self.new.draft }
+        ensures moves { Moves lexer.now.text self.old.nodes self.old.draft (states.Left heading rules) (word_mark lexer.now.text token) result self.new.nodes self.new.draft }
+        ensures within { KeepsIn lexer.now.text self.old.draft (states.Left heading rules) result self.new.draft }
     {
         if !reads(lexer, token, b"left") {
             return Err(FormFault::Text { place: token.start });
         }
         self.nodes.clear();
         Ok(State::Item(Spot {
-            dim,
+            heading,
             rules,
             side: Side::Left,
             links: Tally::none(),
+            hooked: false,
         }))
     }
 
@@ -156,7 +161,7 @@ impl<'a> Reader<'a> {
                 return Err(FormFault::Limit { what, place });
             };
             self.draft.close()?;
-            return Ok(State::Name(spot.dim, rules));
+            return Ok(State::Name(spot.heading, rules));
         }
         if reads(lexer, token, b"pre") {
             return Err(FormFault::NotBuilt { place });
@@ -197,10 +202,11 @@ impl<'a> Reader<'a> {
         ensures moves { Moves lexer.now.text self.old.nodes self.old.draft (states.Behind spot name word) (word_mark lexer.now.text token) result self.new.nodes self.new.draft }
         ensures within { KeepsIn lexer.now.text self.old.draft (states.Behind spot name word) result self.new.draft }
     {
-        let hook = reads(lexer, token, b"hook");
+        let hook = spot.takes_hook() && reads(lexer, token, b"hook");
         self.draft.put(Side::Left, Item::Node { name, word, hook })?;
         if hook {
-            return Ok(State::Item(spot));
+            let hooked = true;
+            return Ok(State::Item(Spot { hooked, ..spot }));
         }
         at_left_item(lexer, token, spot)
     }
@@ -273,15 +279,15 @@ impl<'a> Reader<'a> {
     {
         match state {
             State::Format => at_format(lexer, token),
-            State::DimWord => at_dim_word(lexer, token),
-            State::Rules(dim) => at_rules(lexer, token, dim),
-            State::Name(dim, rules) => self.at_name(alloc, lexer, token, dim, rules),
-            State::Left(dim, rules) => self.at_left(lexer, token, dim, rules),
+            State::DimWord(version) => at_dim_word(lexer, token, version),
+            State::Rules(heading) => at_rules(lexer, token, heading),
+            State::Name(heading, rules) => self.at_name(alloc, lexer, token, heading, rules),
+            State::Left(heading, rules) => self.at_left(lexer, token, heading, rules),
             State::Item(spot) => self.at_item(lexer, token, spot),
             State::Behind(spot, name, word) => self.at_behind(lexer, token, spot, name, word),
             State::To(spot, from, label) => self.at_to(lexer, token, spot, from, label),
             State::Version
-            | State::Dimension
+            | State::Dimension(_)
             | State::Sign(..)
             | State::Letter(..)
             | State::Label(..)
@@ -323,7 +329,7 @@ impl<'a> Reader<'a> {
         ensures within { KeepsIn lexer.now.text self.old.draft state result self.new.draft }
     {
         match state {
-            State::Left(dim, rules) => at_parameters(lexer, token, dim, rules),
+            State::Left(heading, rules) => at_parameters(lexer, token, heading, rules),
             State::Sign(spot, name) => at_sign(lexer, token, spot, name, last, &mut self.nodes),
             State::Letter(spot, name, word) => at_word_end(lexer, token, spot, name, word),
             State::Dash(spot, from, label) => at_dash(lexer, token, spot, from, label),
@@ -353,14 +359,14 @@ impl<'a> Reader<'a> {
         }
     }
 
-    /// The dimension, where the book can end.
+    /// What the header says, where the book can end.
     #[tactic(auto, unfolding(crate::specs::Standing::stepped))]
-    pub fn end(&mut self, state: State, place: usize) -> Result<Dim, FormFault>
-        ensures within { (text : List ℕ) → IsDraftIn text self.old.draft → IsStateIn text state → IfOk result (λ dim. AllByRecursion (IsRuleIn text) self.new.draft.rules.items) }
+    pub fn end(&mut self, state: State, place: usize) -> Result<Heading, FormFault>
+        ensures within { (text : List ℕ) → IsDraftIn text self.old.draft → IsStateIn text state → IfOk result (λ _. AllByRecursion (IsRuleIn text) self.new.draft.rules.items) }
         ensures ends { (text : List ℕ) → EndsFrom text self.old.nodes self.old.draft state place result self.new.draft }
     {
         match state {
-            State::Rules(dim) => Ok(dim),
+            State::Rules(heading) => Ok(heading),
             State::Item(spot) => self.end_item(spot, place),
             State::Behind(spot, name, word) => self.end_behind(spot, name, word, place),
             _ => Err(FormFault::Text { place }),
@@ -368,15 +374,15 @@ impl<'a> Reader<'a> {
     }
 
     #[tactic(auto, unfolding(crate::specs::Standing::stepped))]
-    fn end_item(&mut self, spot: Spot, place: usize) -> Result<Dim, FormFault>
-        ensures within { (text : List ℕ) → IsDraftIn text self.old.draft → IfOk result (λ dim. AllByRecursion (IsRuleIn text) self.new.draft.rules.items) }
+    fn end_item(&mut self, spot: Spot, place: usize) -> Result<Heading, FormFault>
+        ensures within { (text : List ℕ) → IsDraftIn text self.old.draft → IfOk result (λ _. AllByRecursion (IsRuleIn text) self.new.draft.rules.items) }
         ensures ends { (text : List ℕ) → EndsFrom text self.old.nodes self.old.draft (states.Item spot) place result self.new.draft }
     {
         match spot.side {
             Side::Left => Err(FormFault::Text { place }),
             Side::Right => {
                 self.draft.close()?;
-                Ok(spot.dim)
+                Ok(spot.heading)
             }
         }
     }
@@ -387,8 +393,8 @@ impl<'a> Reader<'a> {
         name: Token,
         word: Word,
         place: usize,
-    ) -> Result<Dim, FormFault>
-        ensures within { (text : List ℕ) → IsDraftIn text self.old.draft → IsIn text name → IfOk result (λ dim. AllByRecursion (IsRuleIn text) self.new.draft.rules.items) }
+    ) -> Result<Heading, FormFault>
+        ensures within { (text : List ℕ) → IsDraftIn text self.old.draft → IsIn text name → IfOk result (λ _. AllByRecursion (IsRuleIn text) self.new.draft.rules.items) }
         ensures ends { (text : List ℕ) → EndsFrom text self.old.nodes self.old.draft (states.Behind spot name word) place result self.new.draft }
     {
         let hook = false;

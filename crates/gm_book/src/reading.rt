@@ -14,8 +14,8 @@ use crate::fault::BookFault;
 use crate::form::Form;
 use crate::form_fault::FormFault;
 use crate::reader::Reader;
-use crate::state::State;
-use gm_model::{Book, Dim};
+use crate::state::{Heading, State};
+use gm_model::Book;
 use gm_text::{Lexer, Token};
 use std::alloc::Global;
 
@@ -33,13 +33,13 @@ fn read_rules<'a>(
     alloc: Global,
     lexer: &mut Lexer<'a>,
     reader: &mut Reader<'a>,
-) -> Result<Dim, FormFault>
+) -> Result<Heading, FormFault>
     requires start { lexer.old.place ≡ 0 }
     requires rules { reader.old.draft.rules.items ≡ [] }
     requires current { reader.old.draft.current ≡ None }
     ensures read { let text = lexer.old.text in
-        Gives (λ dim. end_stand text reader.new.draft dim (length text)) result (read_on first_stand (marks_of text)) }
-    ensures within { IfOk result (λ dim. AllByRecursion (IsRuleIn lexer.old.text) reader.new.draft.rules.items) }
+        Gives (λ heading. end_stand text reader.new.draft heading (length text)) result (read_on first_stand (marks_of text)) }
+    ensures within { IfOk result (λ _. AllByRecursion (IsRuleIn lexer.old.text) reader.new.draft.rules.items) }
 {
     let mut state = State::Format;
     let mut last = 0;
@@ -58,10 +58,10 @@ pub(crate) fn read_form(alloc: Global, text: &[u8]) -> Result<Form, FormFault>
 {
     let mut lexer = Lexer::new(text);
     let mut reader = Reader::new(alloc);
-    let dim = read_rules(alloc, &mut lexer, &mut reader)?;
+    let heading = read_rules(alloc, &mut lexer, &mut reader)?;
     let Reader { draft, .. } = reader;
     Ok(Form {
-        dim,
+        heading,
         rules: draft.rules,
     })
 }
@@ -69,7 +69,7 @@ pub(crate) fn read_form(alloc: Global, text: &[u8]) -> Result<Form, FormFault>
 /// The book that the text stands for. A fault is the first of the text: of its grammar and limits
 /// by place, and then of its names by place.
 pub fn read_book(alloc: Global, bytes: &[u8]) -> Result<Book, BookFault>
-    ensures book { IfOk result (λ book. BookText bytes.now book.schema (map rule_of book.rules)) }
+    ensures book { IfOk result (λ book. BookText bytes.now book.version book.schema (map rule_of book.rules)) }
     ensures in_range { IfOk result (λ book. AllByRecursion (λ rule. IsInRange book.schema (rule_of rule)) book.rules) }
     ensures limits { IfOk result (λ book. AllByRecursion (λ rule. IsWithinLimits (rule_of rule)) book.rules) }
     ensures fault { IfErr result (IsFaultOf bytes.now) }

@@ -12,10 +12,10 @@ use crate::form_fault::FormFault;
 use crate::headers::{at_dimension, at_version, value};
 use crate::letters::{no_letters, with_letter};
 use crate::nodes::Nodes;
-use crate::state::{Spot, State};
+use crate::state::{Heading, Spot, State};
 use crate::tally::Tally;
 use crate::words::reads;
-use gm_model::{Dim, Letter, LimitKind, MOST_NODES, Word};
+use gm_model::{Letter, LimitKind, MOST_NODES, Word};
 use gm_text::{Lexer, Token};
 
 /// A letter of a word.
@@ -34,7 +34,7 @@ pub(crate) fn at_letter(
 {
     let value = value(lexer, token);
     let place = token.start;
-    if value > u64::from(spot.dim.top()) {
+    if value > u64::from(spot.heading.top()) {
         let what = LimitKind::Label;
         return Err(FormFault::Limit { what, place });
     }
@@ -95,7 +95,7 @@ pub(crate) fn at_label(
     ensures within { StaysIn lexer.now.text (states.Label spot from) result }
 {
     let label = value(lexer, token);
-    if label > u64::from(spot.dim.top()) {
+    if label > u64::from(spot.heading.top()) {
         return Err(FormFault::Limit {
             what: LimitKind::Label,
             place: token.start,
@@ -128,12 +128,12 @@ pub(crate) fn at_dash(
 pub(crate) fn at_parameters(
     lexer: &Lexer<'_>,
     token: Token,
-    dim: Dim,
+    heading: Heading,
     rules: Tally,
 ) -> Result<State, FormFault>
     requires { IsToken lexer.now.text token }
-    ensures leads { Leads lexer.now.text (states.Left dim rules) (sign_mark lexer.now.text token) result }
-    ensures within { StaysIn lexer.now.text (states.Left dim rules) result }
+    ensures leads { Leads lexer.now.text (states.Left heading rules) (sign_mark lexer.now.text token) result }
+    ensures within { StaysIn lexer.now.text (states.Left heading rules) result }
 {
     let place = token.start;
     if reads(lexer, token, b"(") {
@@ -207,7 +207,7 @@ pub(crate) fn at_number(lexer: &Lexer<'_>, token: Token, state: State) -> Result
 {
     match state {
         State::Version => at_version(lexer, token),
-        State::Dimension => at_dimension(lexer, token),
+        State::Dimension(version) => at_dimension(lexer, token, version),
         State::Letter(spot, name, word) => at_letter(lexer, token, spot, name, word),
         State::Label(spot, from) => at_label(lexer, token, spot, from),
         _ => Err(FormFault::Text { place: token.start }),

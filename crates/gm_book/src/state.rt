@@ -1,31 +1,61 @@
 //! Where in a book's text reading is, and what of an item is read so far.
+ghost use Rattle.std.specs.Prelude.{◌≡◌, ◌≤◌};
+ghost use Rattle.gm_book.specs.Reading.{takes_hook};
 
 use crate::tally::Tally;
 use gm_model::{Dim, Side, Word};
 use gm_text::Token;
 
-/// Where in a side of a rule reading is: how many rules have begun, and how many links the side
-/// has so far.
+/// What the header of a book says.
+#[derive(Clone, Copy)]
+pub(crate) struct Heading {
+    pub version: u8,
+    pub dim: Dim,
+}
+
+impl Heading {
+    /// The greatest label.
+    pub fn top(&self) -> u8
+        ensures value { result ≡ self.now.dim }
+        ensures greatest { self.now.dim ≤ 7 }
+    {
+        self.dim.top()
+    }
+}
+
+/// Where in a side of a rule reading is: how many rules have begun, how many links the side has so
+/// far, and whether the rule has a hook so far.
 #[derive(Clone, Copy)]
 pub(crate) struct Spot {
-    pub dim: Dim,
+    pub heading: Heading,
     pub rules: Tally,
     pub side: Side,
     pub links: Tally,
+    pub hooked: bool,
+}
+
+impl Spot {
+    /// Whether the version lets a further node of the rule be a hook.
+    pub fn takes_hook(&self) -> bool
+        ensures { result ≡ takes_hook self.now.heading.version self.now.hooked }
+    {
+        !self.hooked || self.heading.version != 1
+    }
 }
 
 #[derive(Clone, Copy)]
 pub(crate) enum State {
-    /// Before the word `book`, the version, the word `dim`, the dimension.
+    /// Before the word `book`, the version, the word `dim`, the dimension. The version is known
+    /// behind it.
     Format,
     Version,
-    DimWord,
-    Dimension,
+    DimWord(u8),
+    Dimension(u8),
     /// Behind the header.
-    Rules(Dim),
+    Rules(Heading),
     /// Before the name of the rule with this ordinal, and behind it.
-    Name(Dim, Tally),
-    Left(Dim, Tally),
+    Name(Heading, Tally),
+    Left(Heading, Tally),
     /// Where an item can begin, and behind its first name.
     Item(Spot),
     Sign(Spot, Token),

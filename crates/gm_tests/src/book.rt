@@ -28,6 +28,18 @@ a -1- b_2
 b_2 -0- c
 ";
 
+const PRINTED_WITH_TWO_HOOKS: &[u8] = b"book 2
+dim 2
+rule sew
+left
+a <0> hook
+b <0> hook
+right
+a <0>
+b <0>
+a -2- b
+";
+
 const DROP: RuleRow = RuleRow {
     nodes: &[("a", "01", "-")],
     hooks: &[0],
@@ -40,6 +52,13 @@ const SPLIT: RuleRow = RuleRow {
     hooks: &[0],
     left_links: &[],
     right_links: &[(0, 1, 1), (1, 0, 2)],
+};
+
+const SEW: RuleRow = RuleRow {
+    nodes: &[("a", "0", "0"), ("b", "0", "0")],
+    hooks: &[0, 1],
+    left_links: &[],
+    right_links: &[(0, 2, 1)],
 };
 
 /// Whether the rule is in range, and has no parameters and no expressions.
@@ -66,6 +85,21 @@ fn book(rt: &impl Abort, alloc: Global) -> Result<Book, Fail>
     assert!(rt; is_printable(&schema, &second));
     let rules = vec![in alloc; first, second]?;
     Ok(Book {
+        version: 1,
+        schema,
+        rules: Items::new(rules),
+    })
+}
+
+fn sewing_book(rt: &impl Abort, alloc: Global) -> Result<Book, Fail>
+    ensures { IfOk result (λ book. CanBePrinted book.schema (map rule_of book.rules)) }
+{
+    let schema = schema(alloc, 2)?;
+    let sew = rule(alloc, "sew", &SEW)?;
+    assert!(rt; is_printable(&schema, &sew));
+    let rules = vec![in alloc; sew]?;
+    Ok(Book {
+        version: 2,
         schema,
         rules: Items::new(rules),
     })
@@ -76,5 +110,13 @@ fn a_book_is_printed(rt: HostRuntime) -> Result<(), Fail> {
     let alloc = rt.alloc();
     let book = book(&rt, alloc)?;
     assert_eq!(rt; print_book(alloc, &book)?.as_slice(), PRINTED);
+    Ok(())
+}
+
+#[test]
+fn a_book_with_two_hooks_in_a_rule_is_printed(rt: HostRuntime) -> Result<(), Fail> {
+    let alloc = rt.alloc();
+    let book = sewing_book(&rt, alloc)?;
+    assert_eq!(rt; print_book(alloc, &book)?.as_slice(), PRINTED_WITH_TWO_HOOKS);
     Ok(())
 }

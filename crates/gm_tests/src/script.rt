@@ -13,6 +13,13 @@ const HOOKED: RuleRow = RuleRow {
     right_links: &[],
 };
 
+const TWICE_HOOKED: RuleRow = RuleRow {
+    nodes: &[("a", "0", "0"), ("b", "0", "0")],
+    hooks: &[0, 1],
+    left_links: &[],
+    right_links: &[],
+};
+
 const UNHOOKED: RuleRow = RuleRow {
     nodes: &[("a", "-", "")],
     hooks: &[],
@@ -20,7 +27,8 @@ const UNHOOKED: RuleRow = RuleRow {
     right_links: &[],
 };
 
-/// A rule `T` with one hook, and a rule `C` with one parameter of each kind.
+/// A rule `T` with one hook, a rule `C` with one parameter of each kind, and a rule `S` with two
+/// hooks.
 fn book(alloc: Global) -> Result<Book, Fail> {
     let mut params = Vec::new(alloc);
     for kind in [Kind::Int, Kind::Bool, Kind::Vec2, Kind::Vec3, Kind::Rgb] {
@@ -31,8 +39,11 @@ fn book(alloc: Global) -> Result<Book, Fail> {
     }
     let mut with_params = rule(alloc, "C", &UNHOOKED)?;
     with_params.params = Items::new(params);
-    let rules = vec![in alloc; rule(alloc, "T", &HOOKED)?, with_params]?;
+    let hooked = rule(alloc, "T", &HOOKED)?;
+    let twice_hooked = rule(alloc, "S", &TWICE_HOOKED)?;
+    let rules = vec![in alloc; hooked, with_params, twice_hooked]?;
     Ok(Book {
+        version: 2,
         schema: schema(alloc, 2)?,
         rules: Items::new(rules),
     })
@@ -49,10 +60,10 @@ fn lines_are_read(rt: HostRuntime) -> Result<(), Fail> {
     let book = book(rt.alloc())?;
     let none = read_script(rt.alloc(), b" # no line\n", &book)?;
     assert_eq!(rt; none.lines.as_slice().len(), 0);
-    let text = b"apply T 007 # one\napply C with -3 true (1 -2)(0 0 -0)\n(0 255 9)apply T 16777215";
+    let text = b"apply T 007 # one\napply C with -3 true (1 -2)(0 0 -0)\n(0 255 9)apply T 16777215 apply S 5 3";
     let script = read_script(rt.alloc(), text, &book)?;
-    let [first, second, third] = script.lines.as_slice() else {
-        return Err("not three lines".into());
+    let [first, second, third, fourth] = script.lines.as_slice() else {
+        return Err("not four lines".into());
     };
     let params = [
         Value::Int(-3),
@@ -64,6 +75,7 @@ fn lines_are_read(rt: HostRuntime) -> Result<(), Fail> {
     check_line(&rt, first, 0, &[7], &[]);
     check_line(&rt, second, 1, &[], &params);
     check_line(&rt, third, 0, &[16_777_215], &[]);
+    check_line(&rt, fourth, 2, &[5, 3], &[]);
     Ok(())
 }
 
@@ -129,7 +141,9 @@ fn the_first_fault_of_the_text_is_answered(rt: HostRuntime) -> Result<(), Fail> 
 
 #[test]
 fn the_first_disagreement_is_answered(rt: HostRuntime) -> Result<(), Fail> {
-    let cases: [(&[u8], ScriptFault); 12] = [
+    let cases: [(&[u8], ScriptFault); 14] = [
+        (b"apply S 5", ScriptFault::HookCount { place: 0 }),
+        (b"apply S 5 3 1", ScriptFault::HookCount { place: 0 }),
         (b"apply T", ScriptFault::HookCount { place: 0 }),
         (b"apply T 0 1", ScriptFault::HookCount { place: 0 }),
         (b"apply U 0", ScriptFault::UnknownRule { place: 6 }),

@@ -246,7 +246,7 @@ fn words_that_are_no_command(rt: HostRuntime) -> Result<(), Fail> {
     expect_each(&rt, &rt, &NO_COMMANDS, &USAGE)
 }
 
-const BOOKS: [Case; 6] = [
+const BOOKS: [Case; 11] = [
     Case {
         text: "book 1 dim 2 rule drop left a -2- a a <0 1> hook right",
         status: 0,
@@ -277,6 +277,31 @@ const BOOKS: [Case; 6] = [
         status: 0,
         put: "book 1\ndim 2\nrule r\nleft\na <0 1>\nright\na <0 1>\n",
     },
+    Case {
+        text: "book 02 dim 2",
+        status: 0,
+        put: "book 2\ndim 2\n",
+    },
+    Case {
+        text: "book 2 dim 2 rule r left a <0> right a <0>",
+        status: 0,
+        put: "book 2\ndim 2\nrule r\nleft\na <0>\nright\na <0>\n",
+    },
+    Case {
+        text: "book 2 dim 2 rule drop left a -2- a a <0 1> hook right",
+        status: 0,
+        put: "book 2\ndim 2\nrule drop\nleft\na <0 1> hook\na -2- a\nright\n",
+    },
+    Case {
+        text: "book 2 dim 2 rule sew left a <0> hook b <0> hook right a <0> b <0> a -2- b",
+        status: 0,
+        put: "book 2\ndim 2\nrule sew\nleft\na <0> hook\nb <0> hook\nright\na <0>\nb <0>\na -2- b\n",
+    },
+    Case {
+        text: "book 2 dim 1 rule r left a <> hook b <> c <> hook b -0- a d <> hook right",
+        status: 0,
+        put: "book 2\ndim 1\nrule r\nleft\na <> hook\nb <>\nc <> hook\nd <> hook\nb -0- a\nright\n",
+    },
 ];
 
 #[test]
@@ -284,14 +309,14 @@ fn books_printed(rt: HostRuntime) -> Result<(), Fail> {
     expect_each(&rt, &rt, &["book BOOK"], &BOOKS)
 }
 
-const NO_BOOKS: [Case; 24] = [
+const NO_BOOKS: [Case; 28] = [
     Case {
         text: "",
         status: 4,
         put: "refused BOOK text 0\n",
     },
     Case {
-        text: "book 2 dim 2",
+        text: "book 3 dim 2",
         status: 4,
         put: "refused BOOK text 5\n",
     },
@@ -314,6 +339,26 @@ const NO_BOOKS: [Case; 24] = [
         text: "book 1 dim 2 rule r left a <0> hook right a <0> hook",
         status: 4,
         put: "refused BOOK text 48\n",
+    },
+    Case {
+        text: "book 1 dim 2 rule s left a <0> hook b <0> hook right",
+        status: 4,
+        put: "refused BOOK text 42\n",
+    },
+    Case {
+        text: "book 2 dim 2 rule r left a <0> hook hook right",
+        status: 4,
+        put: "refused BOOK text 36\n",
+    },
+    Case {
+        text: "book 2 dim 2 rule r left a <0> right b <0> hook",
+        status: 4,
+        put: "refused BOOK text 43\n",
+    },
+    Case {
+        text: "book 2 dim 2 rule r left a <0> hook a <0> hook right",
+        status: 4,
+        put: "refused BOOK twice 36\n",
     },
     Case {
         text: "book 1 dim 2 rule r left a <0 3> hook right",
@@ -431,9 +476,9 @@ const CHECKS: [Case; 23] = [
         put: "rule r accepted\nrules 1 refused 0\n",
     },
     Case {
-        text: "book 1 dim 2 rule r left a <0 1> hook b <0 1> hook a -2- b right a <0 1> b <0 1> a -2- b",
-        status: 1,
-        put: "rule r refused hooks\nrules 1 refused 1\n",
+        text: "book 2 dim 2 rule r left a <0 1> hook b <0 1> hook a -2- b right a <0 1> b <0 1> a -2- b",
+        status: 0,
+        put: "rule r accepted\nrules 1 refused 0\n",
     },
     Case {
         text: "book 1 dim 2 rule r left a <0 _> hook right a <0 _>",

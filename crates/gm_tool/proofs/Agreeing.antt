@@ -18,7 +18,7 @@ use Rattle.gm_tool.proofs.ReadBooks.{unmap}
 module _ (m : ArenaMap) (book : Book) (script : Script) where
   -- no rule of a book that was read has a precondition
   plain_rules : (bytes : List ℕ) → IsReadBook bytes book → All (λ (table : RuleTable). (rule_of table).pre ≡ None) book.rules
-  plain_rules bytes read = unmap (λ (rule : Rule). rule.pre ≡ None) rule_of book.rules (λ k d b. ((printable_from_text bytes book.schema (map rule_of book.rules) read).plain k d b).pre)
+  plain_rules bytes read = unmap (λ (rule : Rule). rule.pre ≡ None) rule_of book.rules (λ k d b. ((printable_from_text bytes book.version book.schema (map rule_of book.rules) read).plain k d b).pre)
 
   pub can_run : (plans : List PlanOf) (of_map_file : (bytes : List ℕ) × IsReadMap bytes m) (of_book : (bytes : List ℕ) × IsReadBook bytes book) (of_script : (bytes : List ℕ) × IsReadScript (map rule_of book.rules) bytes script)
       → plans ≡ map (plan_of book.schema) book.rules → m.schema.dim ≡ book.schema.dim → CanRun m book script plans

@@ -111,8 +111,8 @@ checked_status refused = either (refused == 0)
 
 output_status : (bytes : List ℕ) (command : answer.Command) (status : ℕ) (text : List ℕ) → IsOutput bytes command status text → IsReplyStatus status
 output_status bytes command status text (Shown n darts h) = inl refl
-output_status bytes command status text (Printed schema rules h) = inl refl
-output_status bytes command status text (Checked schema rules refused lines h is) = checked_status refused
+output_status bytes command status text (Printed version schema rules h) = inl refl
+output_status bytes command status text (Checked version schema rules refused lines h is) = checked_status refused
 output_status bytes command status text (Counted n darts next _ h first is) = inl refl
 
 -- the statuses of what is judged
@@ -144,8 +144,8 @@ judged_is_sound bytes command (Err (nothing.Refused refusals.Save)) P Q h = absu
 
 output_refuses : (bytes : List ℕ) (command : answer.Command) (status : ℕ) (text : List ℕ) → IsOutput bytes command status text → status ≡ 1 → command ≡ answer.Check
 output_refuses bytes command status text (Shown n darts h) one = absurd cc
-output_refuses bytes command status text (Printed schema rules h) one = absurd cc
-output_refuses bytes command status text (Checked schema rules refused lines h is) one = refl
+output_refuses bytes command status text (Printed version schema rules h) one = absurd cc
+output_refuses bytes command status text (Checked version schema rules refused lines h is) one = refl
 output_refuses bytes command status text (Counted n darts next _ h first is) one = absurd cc
 
 -- only a check answers that a rule is refused

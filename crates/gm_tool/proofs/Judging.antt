@@ -89,9 +89,9 @@ output_judged bytes command status text (Ok reply) output is =
 output_judged bytes command status text (Err none) output is =
     subst (λ (e : NoText). IsJudged bytes command (Err e)) (sym is.0) (status, text, output, is.1)
 
-pub check_judged : (bytes : List ℕ) (schema : Schema) (rules : List Rule) (reply : Result Reply NoText) → BookText bytes schema rules → IsChecked schema rules reply → IsJudged bytes answer.Check reply
-check_judged bytes schema rules (Err nothing.OutOfMemory) read is = tt
-check_judged bytes schema rules (Err (nothing.Refused why)) read (refused, lines, are, within) =
-    output_judged bytes answer.Check (check_status refused) (lines ++ counts_line (length rules) refused) (Err (nothing.Refused why)) (Checked schema rules refused lines read are) within
-check_judged bytes schema rules (Ok reply) read (refused, lines, are, within) =
-    output_judged bytes answer.Check (check_status refused) (lines ++ counts_line (length rules) refused) (Ok reply) (Checked schema rules refused lines read are) within
+pub check_judged : (bytes : List ℕ) (version : ℕ) (schema : Schema) (rules : List Rule) (reply : Result Reply NoText) → BookText bytes version schema rules → IsChecked schema rules reply → IsJudged bytes answer.Check reply
+check_judged bytes version schema rules (Err nothing.OutOfMemory) read is = tt
+check_judged bytes version schema rules (Err (nothing.Refused why)) read (refused, lines, are, within) =
+    output_judged bytes answer.Check (check_status refused) (lines ++ counts_line (length rules) refused) (Err (nothing.Refused why)) (Checked version schema rules refused lines read are) within
+check_judged bytes version schema rules (Ok reply) read (refused, lines, are, within) =
+    output_judged bytes answer.Check (check_status refused) (lines ++ counts_line (length rules) refused) (Ok reply) (Checked version schema rules refused lines read are) within

@@ -31,7 +31,7 @@ fails_here files role name IsBadText later fails Q up f (stops.NoText (nothing.R
 refused_here : (files : Files) (name bytes : List ℕ) (book : Book) (fails Q : Type 0) → HasFile files name bytes → IsReadBook bytes book → (FailsHere files TheBook name IsBadBook fails → Q)
     → (stop : Stop) → IsBadFor TheBook (IsFirstRefused book.schema (map rule_of book.rules)) stop → UnlessNoMemoryToMake (Err stop) Q
 refused_here files name bytes book fails Q held read f (stops.Bad line) (why, first, is) =
-    f (inr (answers 4 line.items, Bad bytes why held (RuleRefused book.schema (map rule_of book.rules) read first) (ap (λ text. answers 4 text) is)))
+    f (inr (answers 4 line.items, Bad bytes why held (RuleRefused book.version book.schema (map rule_of book.rules) read first) (ap (λ text. answers 4 text) is)))
 refused_here files name bytes book fails Q held read f (stops.NoText nothing.OutOfMemory) h = tt
 refused_here files name bytes book fails Q held read f (stops.NoText (nothing.Refused why)) h = absurd h
 
@@ -66,7 +66,7 @@ module _ (named : RunNames) (fails : Type 0) (before after : ℕ) where
       → IsFrom contents TheBook named.book IsReadBook IsBadBook two (Ok book) → All (IsAccepted book.schema) (map rule_of book.rules) → CountsMade contents result
   behind_script None m book one two result thrice f h accepted = tt
   behind_script (Some files) m book one two result thrice (bytes, held, read) (text, there, is) accepted =
-      always_made result (StopsInTime files named fails before after) (3, BehindScript (known m book.schema (map rule_of book.rules)) (bytes, held, read.read) (text, there, is, accepted), thrice)
+      always_made result (StopsInTime files named fails before after) (3, BehindScript (known m book.schema (map rule_of book.rules)) (bytes, held, read.read) (text, book.version, there, is, accepted), thrice)
 
   -- ---- the reply
 

@@ -34,13 +34,13 @@ one_bad bytes _ _ _ (BadBook fault a) (BadBook other b) = ap book_fault_words (o
 pub no_bad_map : (bytes why : List ℕ) (n : ℕ) (darts : List Row) → IsBad bytes TheMap why → MapText bytes n darts → ⊥
 no_bad_map bytes _ n darts (BadMap fault is) stands = no_map_at_fault bytes fault is n darts stands
 
-no_bad_book : (bytes why : List ℕ) (schema : Schema) (rules : List Rule) → IsBad bytes TheBook why → BookText bytes schema rules → ⊥
-no_bad_book bytes _ schema rules (BadBook fault is) stands = no_book_at bytes fault is schema rules stands
+no_bad_book : (bytes why : List ℕ) (version : ℕ) (schema : Schema) (rules : List Rule) → IsBad bytes TheBook why → BookText bytes version schema rules → ⊥
+no_bad_book bytes _ version schema rules (BadBook fault is) stands = no_book_at bytes fault is version schema rules stands
 
 pub no_bad_output : (bytes why : List ℕ) (command : Command) (status : ℕ) (text : List ℕ) → IsBad bytes (role_of command) why → IsOutput bytes command status text → ⊥
 no_bad_output bytes why _ _ _ bad (Shown n darts stands) = no_bad_map bytes why n darts bad stands
-no_bad_output bytes why _ _ _ bad (Printed schema rules stands) = no_bad_book bytes why schema rules bad stands
-no_bad_output bytes why _ _ _ bad (Checked schema rules refused lines stands are) = no_bad_book bytes why schema rules bad stands
+no_bad_output bytes why _ _ _ bad (Printed version schema rules stands) = no_bad_book bytes why version schema rules bad stands
+no_bad_output bytes why _ _ _ bad (Checked version schema rules refused lines stands are) = no_bad_book bytes why version schema rules bad stands
 no_bad_output bytes why _ _ _ bad (Counted n darts next _ stands first tells) = no_bad_map bytes why n darts bad stands
 
 -- ---- and what it puts
@@ -63,27 +63,27 @@ same_cells n m darts others next next' text text' (dims, rows) lawful first firs
 
 pub one_output : (bytes : List ℕ) (command : Command) (status other : ℕ) (text others : List ℕ) → IsOutput bytes command status text → IsOutput bytes command other others → (status ≡ other) × (text ≡ others)
 one_output bytes _ _ _ _ _ (Shown n darts a) (Shown m others b) = let same = one_map bytes n m darts others a b in (refl, ap₂ (λ (k : ℕ) (rows : List Row). canonical k rows) same.0 same.1)
-one_output bytes _ _ _ _ _ (Printed schema rules a) (Printed schema' rules' b) =
-    let same = one_book bytes schema schema' rules rules' a b in (refl, ap₂ (λ (s : Schema) (rs : List Rule). books.canonical s.dim rs) same.0 same.1)
-one_output bytes _ _ _ _ _ (Checked schema rules refused lines a are) (Checked schema' rules' refused' lines' b are') =
-    same_check schema schema' rules rules' refused refused' lines lines' (one_book bytes schema schema' rules rules' a b) are are'
+one_output bytes _ _ _ _ _ (Printed version schema rules a) (Printed version' schema' rules' b) =
+    let same = one_book bytes version version' schema schema' rules rules' a b in (refl, ap₂ (λ (s : Schema) (rs : List Rule). books.canonical version s.dim rs) same.1 same.2 ∙ ap (λ (v : ℕ). books.canonical v schema'.dim rules') same.0)
+one_output bytes _ _ _ _ _ (Checked version schema rules refused lines a are) (Checked version' schema' rules' refused' lines' b are') =
+    let same = one_book bytes version version' schema schema' rules rules' a b in same_check schema schema' rules rules' refused refused' lines lines' (same.1, same.2) are are'
 one_output bytes _ _ _ _ _ (Counted n darts next text a first tells) (Counted m others next' text' b first' tells') = (refl, same_cells n m darts others next next' text text' (one_map bytes n m darts others a b) a.lawful first first' tells tells')
 
 -- ---- for a run
 
 pub one_bad_book : (bytes why other : List ℕ) → IsBadBook bytes why → IsBadBook bytes other → why ≡ other
 one_bad_book bytes why other (Unread fault a e) (Unread fault' b f) = e ∙ ap book_fault_words (one_book_fault bytes fault fault' a b) ∙ sym f
-one_bad_book bytes why other (Unread fault a e) (RuleRefused schema rules b first) = absurd (no_book_at bytes fault a schema rules b)
-one_bad_book bytes why other (RuleRefused schema rules a first) (Unread fault b f) = absurd (no_book_at bytes fault b schema rules a)
-one_bad_book bytes why other (RuleRefused schema rules a first) (RuleRefused schema' rules' b first') =
-    let same = one_book bytes schema schema' rules rules' a b in
-    one_refused schema rules why other first (subst (λ s. IsFirstRefused s rules other) (sym same.0) (subst (λ rs. IsFirstRefused schema' rs other) (sym same.1) first'))
+one_bad_book bytes why other (Unread fault a e) (RuleRefused version schema rules b first) = absurd (no_book_at bytes fault a version schema rules b)
+one_bad_book bytes why other (RuleRefused version schema rules a first) (Unread fault b f) = absurd (no_book_at bytes fault b version schema rules a)
+one_bad_book bytes why other (RuleRefused version schema rules a first) (RuleRefused version' schema' rules' b first') =
+    let same = one_book bytes version version' schema schema' rules rules' a b in
+    one_refused schema rules why other first (subst (λ s. IsFirstRefused s rules other) (sym same.1) (subst (λ rs. IsFirstRefused schema' rs other) (sym same.2) first'))
 
-pub no_bad_good_book : (bytes why : List ℕ) (schema : Schema) (rules : List Rule) → IsBadBook bytes why → BookText bytes schema rules → All (IsAccepted schema) rules → ⊥
-no_bad_good_book bytes why schema rules (Unread fault a e) stands accepted = no_book_at bytes fault a schema rules stands
-no_bad_good_book bytes why schema rules (RuleRefused schema' rules' a first) stands accepted =
-    let same = one_book bytes schema schema' rules rules' stands a in
-    none_refused schema rules why accepted (subst (λ s. IsFirstRefused s rules why) (sym same.0) (subst (λ rs. IsFirstRefused schema' rs why) (sym same.1) first))
+pub no_bad_good_book : (bytes why : List ℕ) (version : ℕ) (schema : Schema) (rules : List Rule) → IsBadBook bytes why → BookText bytes version schema rules → All (IsAccepted schema) rules → ⊥
+no_bad_good_book bytes why version schema rules (Unread fault a e) stands accepted = no_book_at bytes fault a version schema rules stands
+no_bad_good_book bytes why version schema rules (RuleRefused version' schema' rules' a first) stands accepted =
+    let same = one_book bytes version version' schema schema' rules rules' stands a in
+    none_refused schema rules why accepted (subst (λ s. IsFirstRefused s rules why) (sym same.1) (subst (λ rs. IsFirstRefused schema' rs why) (sym same.2) first))
 
 pub one_bad_script : (rules : List Rule) (bytes why other : List ℕ) → IsBadScript rules bytes why → IsBadScript rules bytes other → why ≡ other
 one_bad_script rules bytes why other (fault, a, e) (fault', b, f) = e ∙ ap script_fault_words (one_script_fault bytes rules fault fault' a b) ∙ sym f

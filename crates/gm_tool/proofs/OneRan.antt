@@ -19,9 +19,9 @@ one_next darts first other a b =
     let above : other ≤ first = b.least first a.above in
     omega (arith, below, above)
 
-module _ (inputs : Inputs) (lawful : AreGMap inputs.dim inputs.darts) (bytes : List ℕ) (read : BookText bytes inputs.schema inputs.rules) (accepted : All (IsAccepted inputs.schema) inputs.rules) (agree : Agree inputs) where
+module _ (inputs : Inputs) (lawful : AreGMap inputs.dim inputs.darts) (bytes : List ℕ) (version : ℕ) (read : BookText bytes version inputs.schema inputs.rules) (accepted : All (IsAccepted inputs.schema) inputs.rules) (agree : Agree inputs) where
   have_no_pre : All HasNoPre inputs.rules
-  have_no_pre k d h = ((printable_from_text bytes inputs.schema inputs.rules read).plain k d h).pre
+  have_no_pre k d h = ((printable_from_text bytes version inputs.schema inputs.rules read).plain k d h).pre
 
   -- from one first name
   abbrev start : ℕ → Map

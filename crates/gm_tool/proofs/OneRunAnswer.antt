@@ -21,8 +21,9 @@ module _ (files : Files) (named : RunNames) where
       one_map bytes a.dim b.dim a.darts b.darts stands (subst (λ t. MapText t b.dim b.darts) (same_bytes files named.map other bytes there.0 held.0) stands')
 
   same_book : (a b : Inputs) → HasBook files named a → HasBook files named b → (a.schema ≡ b.schema) × (a.rules ≡ b.rules)
-  same_book a b (bytes, held, stands, accepted) (other, there, stands', accepted') =
-      one_book bytes a.schema b.schema a.rules b.rules stands (subst (λ t. BookText t b.schema b.rules) (same_bytes files named.book other bytes there.0 held.0) stands')
+  same_book a b (bytes, version, held, stands, accepted) (other, version', there, stands', accepted') =
+      let same = one_book bytes version version' a.schema b.schema a.rules b.rules stands (subst (λ t. BookText t version' b.schema b.rules) (same_bytes files named.book other bytes there.0 held.0) stands') in
+      (same.1, same.2)
 
   same_script : (a b : Inputs) → a.rules ≡ b.rules → HasScript files named a → HasScript files named b → a.lines ≡ b.lines
   same_script a b rules (bytes, held, stands) (other, there, stands') =
@@ -63,8 +64,8 @@ module _ (files : Files) (named : RunNames) where
   one_at_end inputs the_map the_book one other (inl (never, e)) (inl (never', f)) = e ∙ sym f
   one_at_end inputs the_map the_book one other (inl (never, e)) (inr (agree, rest)) = absurd (never agree)
   one_at_end inputs the_map the_book one other (inr (agree, rest)) (inl (never, f)) = absurd (never agree)
-  one_at_end inputs the_map (bytes, held, stands, accepted) one other (inr (agree, (ran, is, made))) (inr (agree', (ran', is', made'))) =
-      let same : ran' ≡ ran = one_ran inputs the_map.2.lawful bytes stands accepted agree ran' ran is' is in
+  one_at_end inputs the_map (bytes, version, held, stands, accepted) one other (inr (agree, (ran, is, made))) (inr (agree', (ran', is', made'))) =
+      let same : ran' ≡ ran = one_ran inputs the_map.2.lawful bytes version stands accepted agree ran' ran is' is in
       one_made inputs ran one other made (subst (λ r. IsMade inputs r other) same made')
 
   -- ---- file by file
@@ -93,8 +94,8 @@ module _ (files : Files) (named : RunNames) where
       no_failing_good files named.map TheMap IsBadMap (λ t. MapText t inputs.dim inputs.darts) (λ t why bad good. no_bad_map t why inputs.dim inputs.darts bad good) answer fails bytes held stands
 
   book_fails_not : (inputs : Inputs) (answer : Answer) → IsFailing files TheBook named.book IsBadBook answer → HasBook files named inputs → ⊥
-  book_fails_not inputs answer fails (bytes, held, stands, accepted) =
-      no_failing_good files named.book TheBook IsBadBook (λ t. BookText t inputs.schema inputs.rules) (λ t why bad good. no_bad_good_book t why inputs.schema inputs.rules bad good accepted) answer fails bytes held stands
+  book_fails_not inputs answer fails (bytes, version, held, stands, accepted) =
+      no_failing_good files named.book TheBook IsBadBook (λ t. BookText t version inputs.schema inputs.rules) (λ t why bad good. no_bad_good_book t why version inputs.schema inputs.rules bad good accepted) answer fails bytes held stands
 
   script_fails_not : (inputs : Inputs) (rules : List Rule) (answer : Answer) → rules ≡ inputs.rules → IsFailing files TheScript named.script (IsBadScript rules) answer → HasScript files named inputs → ⊥
   script_fails_not inputs rules answer same fails (bytes, held, stands) =

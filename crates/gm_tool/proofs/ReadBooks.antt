@@ -32,13 +32,13 @@ plain_typed schema rule none plain = record {
   sets = λ x e tree embed assigns at. absurd (no_item schema.embeds e embed none at);
 }
 
-pub checkable_rules : (text : List ℕ) (book : Book) → BookText text book.schema (map rule_of book.rules) → All (λ (rule : RuleTable). IsCheckable book.schema (rule_of rule)) book.rules
+pub checkable_rules : (text : List ℕ) (book : Book) → BookText text book.version book.schema (map rule_of book.rules) → All (λ (rule : RuleTable). IsCheckable book.schema (rule_of rule)) book.rules
 checkable_rules text book read = unmap (IsCheckable book.schema) rule_of book.rules (λ k d b.
     let rules = map rule_of book.rules in
-    let ranges = range_from_text text book.schema rules read k d b in
+    let ranges = range_from_text text book.version book.schema rules read k d b in
     record {
       bare = read.embeds;
       in_range = ranges.0;
       within = ranges.1;
-      typed = plain_typed book.schema (get_or rules k d) read.embeds ((printable_from_text text book.schema rules read).plain k d b);
+      typed = plain_typed book.schema (get_or rules k d) read.embeds ((printable_from_text text book.version book.schema rules read).plain k d b);
     })

@@ -57,7 +57,7 @@ module _ (named : RunNames) (load_fails : ℕ → Type 0) where
   rule_stop : (files : Files) (inputs : Inputs) → HasMap files named inputs → (bytes : List ℕ) (book : Book) → HasFile files named.book bytes → IsReadBook bytes book
       → (stop : Stop) → IsBadFor TheBook (IsFirstRefused book.schema (map rule_of book.rules)) stop → IsStopOf files named load_fails stop
   rule_stop files inputs the_map bytes book held read (stops.Bad line) (why, first, is) =
-      BookFails inputs the_map (Bad bytes why held (RuleRefused book.schema (map rule_of book.rules) read first) (ap (λ text. answers 4 text) is))
+      BookFails inputs the_map (Bad bytes why held (RuleRefused book.version book.schema (map rule_of book.rules) read first) (ap (λ text. answers 4 text) is))
   rule_stop files inputs the_map bytes book held read (stops.NoText nothing.OutOfMemory) h = tt
   rule_stop files inputs the_map bytes book held read (stops.NoText (nothing.Refused why)) h = absurd h
 
@@ -87,7 +87,7 @@ module _ (named : RunNames) (load_fails : ℕ → Type 0) where
       → IsFrom {A = Script} contents TheScript named.script (IsReadScript (map rule_of book.rules)) (IsBadScript (map rule_of book.rules)) later (Err stop) → IfSome contents (λ files. IsMade files named load_fails (Err stop))
   at_script None m book one two later stop up f g accepted h = tt
   at_script (Some files) m book one two later stop up (bytes, held, read) (text, there, is) accepted h =
-      script_stop named load_fails files (known m book.schema (map rule_of book.rules)) (bytes, held, read.read) (text, there, is, accepted) later up stop h.0
+      script_stop named load_fails files (known m book.schema (map rule_of book.rules)) (bytes, held, read.read) (text, book.version, there, is, accepted) later up stop h.0
 
   -- all three files are read
   module _ (contents : Contents) (m : ArenaMap) (book : Book) (script : Script) (one two three : Type 0) (the_map : IsFrom contents TheMap named.map IsReadMap IsBadMap one (Ok m))
@@ -99,7 +99,7 @@ module _ (named : RunNames) (load_fails : ℕ → Type 0) where
         go : (c : Contents) → IsFrom c TheMap named.map IsReadMap IsBadMap one (Ok m) → IsFrom c TheBook named.book IsReadBook IsBadBook two (Ok book)
             → IsFrom c TheScript named.script (IsReadScript (map rule_of book.rules)) (IsBadScript (map rule_of book.rules)) three (Ok script) → IfSome c (λ files. IsMade files named load_fails (Err (stops.NoText (nothing.Refused refusals.Agree))))
         go None f g h = tt
-        go (Some files) (bytes, held, read) (text, there, is) h = inl (Disagree (inputs_of m book script) (bytes, held, read.read) (text, there, is, accepted) h no_agreement refl)
+        go (Some files) (bytes, held, read) (text, there, is) h = inl (Disagree (inputs_of m book script) (bytes, held, read.read) (text, book.version, there, is, accepted) h no_agreement refl)
 
     pub at_end : Agree (inputs_of m book script) → (result : Result Made Stop) → IsRunOf (inputs_of m book script) result → IfSome contents (λ files. IsMade files named load_fails result)
     at_end agree result made = go contents the_map the_book the_script
@@ -115,7 +115,7 @@ module _ (named : RunNames) (load_fails : ℕ → Type 0) where
         go : (c : Contents) → IsFrom c TheMap named.map IsReadMap IsBadMap one (Ok m) → IsFrom c TheBook named.book IsReadBook IsBadBook two (Ok book)
             → IsFrom c TheScript named.script (IsReadScript (map rule_of book.rules)) (IsBadScript (map rule_of book.rules)) three (Ok script) → IfSome c (λ files. IsMade files named load_fails result)
         go None f g h = tt
-        go (Some files) (bytes, held, read) (text, there, is) h = run files (bytes, held, read.read) (text, there, is, accepted) h result made
+        go (Some files) (bytes, held, read) (text, there, is) h = run files (bytes, held, read.read) (text, book.version, there, is, accepted) h result made
 
 -- ---- causes
 

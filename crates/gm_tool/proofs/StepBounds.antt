@@ -173,7 +173,7 @@ module _ (named : RunNames) where
     pub are_read : (contents : Contents) → IsFrom contents TheMap named.map IsReadMap IsBadMap one (Ok m) → IsFrom contents TheBook named.book IsReadBook IsBadBook two (Ok book)
         → IsFrom contents TheScript named.script (IsReadScript (map rule_of book.rules)) (IsBadScript (map rule_of book.rules)) three (Ok script) → AreRead contents
     are_read None a b c = tt
-    are_read (Some files) (bytes, held, is) (text, there, book_is) script_read = ((bytes, held, is.read), (text, there, book_is, accepted), script_read)
+    are_read (Some files) (bytes, held, is) (text, there, book_is) script_read = ((bytes, held, is.read), (text, book.version, there, book_is, accepted), script_read)
 
     pub ended_within : (contents : Contents) (start read after : ℕ) → AreRead contents → ReadsWithin contents named.map start read → RunsWithin (inputs_of m book script) read after → IfSome contents (λ files. WithinMost files named start after)
     ended_within None start read after are reads runs = tt

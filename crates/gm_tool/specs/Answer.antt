@@ -95,10 +95,10 @@ pub record TellsCells (map : Map) (text : List ℕ) : Type 0 where
 pub data IsOutput (bytes : List ℕ) : Command → ℕ → List ℕ → Type 0 where
   -- the canonical text of the map
   Shown : (n : ℕ) (darts : List Row) → MapText bytes n darts → IsOutput bytes Show 0 (canonical n darts)
-  -- the canonical text of the book, whether its rules are accepted or not
-  Printed : (schema : Schema) (rules : List Rule) → BookText bytes schema rules → IsOutput bytes Book 0 (books.canonical schema.dim rules)
+  -- the canonical text of the book in its version, whether its rules are accepted or not
+  Printed : (version : ℕ) (schema : Schema) (rules : List Rule) → BookText bytes version schema rules → IsOutput bytes Book 0 (books.canonical version schema.dim rules)
   -- a line for each rule of the book, and a last one that counts
-  Checked : (schema : Schema) (rules : List Rule) (refused : ℕ) (lines : List ℕ) → BookText bytes schema rules → AreLines schema rules refused lines
+  Checked : (version : ℕ) (schema : Schema) (rules : List Rule) (refused : ℕ) (lines : List ℕ) → BookText bytes version schema rules → AreLines schema rules refused lines
       → IsOutput bytes Check (check_status refused) (lines ++ counts_line (length rules) refused)
   -- the numbers and the orientation of the map
   Counted : (n : ℕ) (darts : List Row) (next : ℕ) (text : List ℕ) → MapText bytes n darts → IsNextOf darts next → TellsCells (map_of n darts next) text → IsOutput bytes Cells 0 text

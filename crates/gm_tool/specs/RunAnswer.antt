@@ -50,7 +50,7 @@ pub record IsFirstRefused (schema : Schema) (rules : List Rule) (why : List ℕ)
 -- the text stands for no book, or for one with a rule that isn't accepted
 pub data IsBadBook (bytes why : List ℕ) : Type 0 where
   Unread : (fault : BookTextFault) → IsFirstBookFault bytes fault → why ≡ book_fault_words fault → IsBadBook bytes why
-  RuleRefused : (schema : Schema) (rules : List Rule) → BookText bytes schema rules → IsFirstRefused schema rules why → IsBadBook bytes why
+  RuleRefused : (version : ℕ) (schema : Schema) (rules : List Rule) → BookText bytes version schema rules → IsFirstRefused schema rules why → IsBadBook bytes why
 
 abbrev pub IsBadMap : List ℕ → List ℕ → Type 0
 IsBadMap bytes why = IsBad bytes TheMap why
@@ -73,7 +73,7 @@ module _ (files : Files) (named : RunNames) (inputs : Inputs) where
 
   -- each rule is accepted
   abbrev pub HasBook : Type 0
-  HasBook = (bytes : List ℕ) × HasFile files named.book bytes × BookText bytes inputs.schema inputs.rules × All (IsAccepted inputs.schema) inputs.rules
+  HasBook = (bytes : List ℕ) × (version : ℕ) × HasFile files named.book bytes × BookText bytes version inputs.schema inputs.rules × All (IsAccepted inputs.schema) inputs.rules
 
   abbrev pub HasScript : Type 0
   HasScript = (bytes : List ℕ) × HasFile files named.script bytes × ScriptText bytes inputs.rules inputs.lines

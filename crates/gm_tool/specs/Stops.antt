@@ -52,7 +52,7 @@ pub record IsReadMap (bytes : List ℕ) (m : ArenaMap) : Type 0 where
   pub next : IsNextLeast m
 
 abbrev pub IsReadBook : List ℕ → Book → Type 0
-IsReadBook bytes book = BookText bytes book.schema (map rule_of book.rules)
+IsReadBook bytes book = BookText bytes book.version book.schema (map rule_of book.rules)
 
 abbrev pub IsReadScript : List Rule → List ℕ → Script → Type 0
 IsReadScript rules bytes script = ScriptText bytes rules script.lines

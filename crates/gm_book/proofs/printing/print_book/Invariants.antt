@@ -6,4 +6,4 @@ use Rattle.gm_book.specs.BookText.{rule_lines}
 use Rattle.gm_book.proofs.printing.print_book.Given as goal
 
 abbrev pub invariant-loop-rule : goal.invariant-loop-rule
-invariant-loop-rule l = l.text ≡ (codes "book 1\ndim " ++ decimal l.book.schema.dim ++ codes "\n") ++ flat_map rule_lines (take l.rule-index (map rule_of l.book.rules))
+invariant-loop-rule l = l.text ≡ (codes "book " ++ decimal l.book.version ++ codes "\ndim " ++ decimal l.book.schema.dim ++ codes "\n") ++ flat_map rule_lines (take l.rule-index (map rule_of l.book.rules))

@@ -12,7 +12,7 @@ pub build-requires-clause-within : goal.build-requires-clause-within
 build-requires-clause-within c = form_within c.args.bytes.now (form_of c.args.bytes.now c.in_ok-form.form) c.in_ok-form.ensures.form
 
 pub returns-clause-book : goal.returns-clause-book
-returns-clause-book c = answer_stands c.args.bytes.now (form_of c.args.bytes.now c.in_ok-form.form) c.in_ok-form.ensures.form c.build.result c.build.ensures.dim c.build.ensures.embeds c.build.ensures.rules c.build.ensures.sound
+returns-clause-book c = answer_stands c.args.bytes.now (form_of c.args.bytes.now c.in_ok-form.form) c.in_ok-form.ensures.form c.build.result c.build.ensures.version c.build.ensures.dim c.build.ensures.embeds c.build.ensures.rules c.build.ensures.sound
 
 pub returns-clause-in_range : goal.returns-clause-in_range
 returns-clause-in_range c = answer_in_range c.args.bytes.now c.build.result (returns-clause-book c)

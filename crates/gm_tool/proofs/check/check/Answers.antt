@@ -9,7 +9,7 @@ pub report-requires : goal.report-requires
 report-requires c = checkable_rules c.args.bytes.now c.in-Ok.book c.in-Ok.ensures.book
 
 pub returns-in-Ok : goal.returns-in-Ok
-returns-in-Ok c = check_judged c.args.bytes.now c.in-Ok.book.schema (map rule_of c.in-Ok.book.rules) c.report.result c.in-Ok.ensures.book c.report.ensures
+returns-in-Ok c = check_judged c.args.bytes.now c.in-Ok.book.version c.in-Ok.book.schema (map rule_of c.in-Ok.book.rules) c.report.result c.in-Ok.ensures.book c.report.ensures
 
 pub returns-in-Err : goal.returns-in-Err
 returns-in-Err c = book_judged c.args.bytes.now Check c.in-Err.fault c.refused.result refl c.in-Err.ensures.fault c.refused.ensures
