@@ -1,8 +1,11 @@
+pub mod Hooks
 pub mod InArena
 pub mod Answering
 pub mod CellLemmas
 pub mod Costs
 pub mod Paths
+pub mod FirstTurns
+pub mod Growing
 pub mod Placing
 pub mod Stepping
 pub mod Taking

@@ -1,28 +1,30 @@
 -- What the links of the least paths are, and that the darts to which they lead one after another are those to which the paths lead.
-use Rattle.std.proofs.Common.{◌≡◌, ◌≢◌, ℕ, ◌+◌, ◌<◌, ◌≤◌, ◌⊎◌, inl, inr, IsTrue, List, [], ◌∷◌, ◌++◌, length, map, take, set, Some, refl, sym, ap, subst, ◌∙◌, arith, length-append, length-set, get_or-set_same, get_or-set_other}
-use Rattle.std.proofs.lemmas.Bool.{cases_eq}
-use Rattle.std.proofs.lemmas.List.{append-nil, append_assoc, length-map, map_push, take_more}
+use Rattle.std.proofs.Common.{◌≡◌, ◌≢◌, ℕ, ◌+◌, ◌<◌, ◌≤◌, ◌⊎◌, inl, inr, IsTrue, List, [], ◌∷◌, ◌++◌, length, map, take, set, get_or, Some, refl, sym, ap, subst, ◌∙◌, arith, length-append, length-set, get_or-set_same, get_or-set_other}
+use Rattle.std.proofs.lemmas.Bool.{cases_eq, cases_lt}
+use Rattle.std.proofs.lemmas.List.{append-nil, append_assoc, length-map, map_push, take_all, take_more}
 use Rattle.std.proofs.lemmas.List.Elements.{Contains-push_cases}
-use Rattle.std.proofs.lemmas.Option.{slice_get-get_or, slice_get_within, get_or_from_slice_get}
+use Rattle.std.proofs.lemmas.Option.{slice_get-get_or, slice_get_past, slice_get_within, get_or_from_slice_get}
 use Rattle.std.specs.List.{slice_get, Contains}
 use Rattle.gm_model.specs.declared.rule.Link.{Link}
 use Rattle.gm_model.specs.declared.rule.Side.TheVariants.{Left}
 use Rattle.gm_model.specs.declared.schema.Schema.{Schema}
-use Rattle.gm_model.specs.Matches.{IsPathTo, IsSmallerPath}
+use Rattle.gm_model.specs.Matches.{IsPathTo}
 use Rattle.gm_model.specs.Orbits.{follow}
-use Rattle.gm_model.specs.Rules.{Rule, has_word, first_hook, IsLinked}
+use Rattle.gm_model.specs.Rules.{Rule, has_word, IsLinked}
 use Rattle.gm_model.specs.Structure.{Leads}
 use Rattle.gm_arena.specs.declared.slot.Slot.{Slot}
-use Rattle.gm_arena.specs.ArenaMap.{ArenaMap, IsAt, IsLiveSlot, name_at, alpha}
+use Rattle.gm_arena.specs.ArenaMap.{ArenaMap, IsAt, name_at, alpha}
 use Rattle.gm_arena.proofs.MapLemmas.{name_at-is}
 use Rattle.gm_plan.specs.Paths.{IsLastLink, ArePaths, path_nodes}
 use Rattle.gm_plan.specs.Plans.{IsPlanned}
-use Rattle.gm_plan.proofs.PathLinks.{same_path}
-use Rattle.gm_plan.proofs.RuleLinks.{linked_in_range}
-use Rattle.gm_theory.proofs.Candidates.{contains_has, first_contained, only_one}
+use Rattle.gm_plan.proofs.Distinct.{few_below}
+use Rattle.gm_theory.proofs.Candidates.{hook_left}
+use Rattle.gm_theory.proofs.LeastPaths.{hook_path, same_path}
+use Rattle.gm_theory.proofs.Lists.{contained_at}
+use Rattle.gm_theory.proofs.RuleLinks.{linked_in_range}
 use Rattle.gm_theory.proofs.RuleSteps.{word_below}
-use Rattle.gm_match.specs.Layout.{IsReached}
-use Rattle.gm_match.proofs.Costs.{few_below}
+use Rattle.gm_match.specs.Layout.{dart_in}
+use Rattle.gm_match.specs.Outcome.{name_of}
 
 pub follow_more : (alphas : ℕ → ℕ → ℕ) (path : List ℕ) (i d : ℕ) → follow alphas (path ++ i ∷ []) d ≡ alphas i (follow alphas path d)
 follow_more alphas [] i d = refl
@@ -33,24 +35,29 @@ last_link : (rule : Rule) (x : ℕ) (path : List ℕ) (i y : ℕ) → Leads rule
 last_link rule x [] i y (z, linked, e) = (x, subst (IsLinked rule.left_links x i) e linked)
 last_link rule x (j ∷ path) i y (z, linked, leads) = last_link rule z path i y leads
 
--- the least path to the first hook has no links
-pub hook_path : (rule : Rule) (h : ℕ) → first_hook rule ≡ Some h → IsPathTo rule h []
-hook_path rule h first = record { hook = h; first = first; leads = refl; least = none_smaller }
-  where
-    none_smaller : (other : List ℕ) → Leads rule.left_links h other h → IsSmallerPath other [] → ⊥
-    none_smaller [] l s = s
-    none_smaller (i ∷ other) l s = s
+-- ---- a row in which one slot is set
+
+module _ (m : ArenaMap) (row : List Slot) (i : ℕ) (slot : Slot) where
+  pub dart_set : i < length row → dart_in m (set row i slot) i ≡ name_at m slot.at
+  dart_set within = ap (name_of m) (slice_get-get_or (set row i slot) i slot (rw length-set within) ∙ ap Some (get_or-set_same row i slot slot within))
+
+  pub dart_stays : (x : ℕ) → x ≢ i → dart_in m (set row i slot) x ≡ dart_in m row x
+  dart_stays x apart = elim (cases_lt x (length row)) [
+    | inl within ↦ ap (name_of m) (slice_get-get_or (set row i slot) x slot (rw length-set within) ∙ ap Some (get_or-set_other row i x slot slot apart) ∙ sym (slice_get-get_or row x slot within))
+    | inr past ↦ ap (name_of m) (slice_get_past (set row i slot) x (rw length-set past) ∙ sym (slice_get_past row x past))
+  ]
 
 module _ (schema : Schema) (rule : Rule) (planned : IsPlanned schema rule) where
-  pub hook_left : (h : ℕ) → first_hook rule ≡ Some h → IsTrue (has_word rule Left h)
-  hook_left h first = contains_has (λ x. IsTrue (has_word rule Left x)) rule.hooks h planned.in_range.hooks (first_contained rule.hooks h first)
-
-  pub some_node : (h : ℕ) → first_hook rule ≡ Some h → 1 ≤ length rule.nodes
-  some_node h first = omega (arith, word_below rule Left h (hook_left h first))
-
   lead_left : (x : ℕ) (path : List ℕ) (y : ℕ) → Leads rule.left_links x path y → IsTrue (has_word rule Left x) → IsTrue (has_word rule Left y)
   lead_left x [] y e left = subst (λ z. IsTrue (has_word rule Left z)) e left
-  lead_left x (i ∷ path) y (z, linked, leads) left = lead_left z path y leads (linked_in_range schema rule planned.in_range planned.incidence x i z linked).1
+  lead_left x (i ∷ path) y (z, linked, leads) left = lead_left z path y leads (linked_in_range schema rule planned.in_range planned.incidence Left x i z linked).1
+
+  -- a path leads to a left node
+  pub path_left : (x h : ℕ) (path : List ℕ) → IsPathTo rule x h path → IsTrue (has_word rule Left x)
+  path_left x h path to = lead_left h path x to.leads (hook_left schema rule planned.in_range planned.incidence to.index h to.hook_at)
+
+  pub hook_within : (t h : ℕ) → slice_get rule.hooks t ≡ Some h → h < 32
+  hook_within t h at = omega (arith, word_below rule Left h (hook_left schema rule planned.in_range planned.incidence t h at), planned.within.nodes)
 
   module _ (links : List Link) (are : ArePaths rule links) where
     -- a link joins left nodes, with a label of the map
@@ -59,48 +66,38 @@ module _ (schema : Schema) (rule : Rule) (planned : IsPlanned schema rule) where
       last = are.ends t link at
 
       end : (z : ℕ) × IsLinked rule.left_links z link.label link.to
-      end = last_link rule last.to_end.hook last.front link.label link.to last.to_end.leads
-
-      range : IsTrue (has_word rule Left end.0) × IsTrue (has_word rule Left link.to) × (link.label ≤ schema.dim)
-      range = linked_in_range schema rule planned.in_range planned.incidence end.0 link.label link.to end.1
-
-      from_left : IsTrue (has_word rule Left link.from)
-      from_left = lead_left last.to_from.hook last.front link.from last.to_from.leads (hook_left last.to_from.hook last.to_from.first)
+      end = last_link rule last.hook last.front link.label link.to last.to_end.leads
 
       pub from_within : link.from < 32
-      from_within = omega (arith, word_below rule Left link.from from_left, planned.within.nodes)
+      from_within = omega (arith, word_below rule Left link.from (path_left link.from last.hook last.front last.to_from), planned.within.nodes)
 
       pub to_within : link.to < 32
-      to_within = omega (arith, word_below rule Left link.to range.1, planned.within.nodes)
+      to_within = omega (arith, word_below rule Left link.to (path_left link.to last.hook (last.front ++ link.label ∷ []) last.to_end), planned.within.nodes)
 
       pub low_label : link.label ≤ schema.dim
-      low_label = range.2
+      low_label = (linked_in_range schema rule planned.in_range planned.incidence Left end.0 link.label link.to end.1).2
 
-    -- there are fewer links than nodes
-    pub few_links : (h : ℕ) → first_hook rule ≡ Some h → length links < length rule.nodes
-    few_links h first =
+    -- a hook or a link for each left node
+    pub few_links : length rule.hooks + length links ≤ length rule.nodes
+    few_links =
         let all : length (path_nodes rule links) ≤ length rule.nodes = few_below (path_nodes rule links) (length rule.nodes) are.nodes.distinct (λ x c. word_below rule Left x ((are.nodes.same x).0 c)) in
-        let one : 0 < length rule.hooks = slice_get_within rule.hooks 0 h first in
         omega (arith, length-append rule.hooks (map (λ (link : Link). link.to) links), length-map links (λ (link : Link). link.to))
 
     -- ---- the darts to which the links lead
 
-    module _ (m : ArenaMap) (d : ℕ) where
-      -- the nodes to which the first links lead have their darts
+    module _ (m : ArenaMap) (old : List Slot) where
+      -- the nodes to which the first links lead lie where their paths lead from the hooks' darts in the old row
       abbrev pub AreReached : ℕ → List Slot → Type 0
-      AreReached t slots = (x : ℕ) → Contains (path_nodes rule (take t links)) x → (s : Slot) × (slice_get slots x ≡ Some s) × IsReached m rule d x s
+      AreReached t row = (x : ℕ) → Contains (path_nodes rule (take t links)) x → (h : ℕ) (path : List ℕ) → IsPathTo rule x h path → dart_in m row x ≡ follow (alpha m) path (dart_in m old h)
 
-      pub hook_reached : (slots : List Slot) (s : Slot) → length rule.nodes ≤ length slots → ((x : ℕ) → x < length slots → slice_get slots x ≡ Some s) → IsAt m s.at d → IsLiveSlot m s.at → AreReached 0 slots
-      hook_reached slots s long same at live x c = (s, same x (omega (arith, word_below rule Left x left)), record { live = live; path = []; least = hook_path rule x first; leads = name_at-is m s.at d at })
+      pub hooks_reached : AreReached 0 old
+      hooks_reached x c h path to = go (same_path rule x h x path [] to (hook_path rule planned.in_range.hooks_differ hooked.0 x (contained_at rule.hooks x hooked)))
         where
           hooked : Contains rule.hooks x
           hooked = subst (λ xs. Contains xs x) (append-nil rule.hooks) c
 
-          left : IsTrue (has_word rule Left x)
-          left = contains_has (λ y. IsTrue (has_word rule Left y)) rule.hooks x planned.in_range.hooks hooked
-
-          first : first_hook rule ≡ Some x
-          first = only_one rule.hooks x (planned.incidence.structured.hook.0 x left) hooked
+          go : (h ≡ x) × (path ≡ []) → dart_in m old x ≡ follow (alpha m) path (dart_in m old h)
+          go (same, none) = rw (same, none) refl
 
       -- the nodes of one more link
       one_more : (t : ℕ) (link : Link) → slice_get links t ≡ Some link → path_nodes rule (take (t + 1) links) ≡ path_nodes rule (take t links) ++ link.to ∷ []
@@ -108,26 +105,18 @@ module _ (schema : Schema) (rule : Rule) (planned : IsPlanned schema rule) where
           let more : take (t + 1) links ≡ take t links ++ link ∷ [] = take_more links t link (slice_get_within links t link at) ∙ ap (λ l. take t links ++ l ∷ []) (get_or_from_slice_get links t link link at) in
           ap (λ ls. rule.hooks ++ map (λ (l : Link). l.to) ls) more ∙ ap (λ xs. rule.hooks ++ xs) (map_push (λ (l : Link). l.to) (take t links) link) ∙ sym (append_assoc rule.hooks (map (λ (l : Link). l.to) (take t links)) (link.to ∷ []))
 
-      pub link_reached : (t : ℕ) (link : Link) (slots : List Slot) (from next : Slot) → slice_get links t ≡ Some link → link.to < length slots → AreReached t slots → slice_get slots link.from ≡ Some from → IsLiveSlot m next.at →
-          IsAt m next.at (alpha m link.label (name_at m from.at)) → AreReached (t + 1) (set slots link.to next)
-      link_reached t link slots from next at within before from_at live next_at x c = go (cases_eq x link.to)
+      pub link_reached : (t : ℕ) (link : Link) (row : List Slot) (next : Slot) → slice_get links t ≡ Some link → link.to < length row → AreReached t row → IsAt m next.at (alpha m link.label (dart_in m row link.from)) → AreReached (t + 1) (set row link.to next)
+      link_reached t link row next at within before next_at x c h path to = go (cases_eq x link.to)
         where
           last : IsLastLink rule link
           last = are.ends t link at
 
-          from_reached : (s : Slot) × (slice_get slots link.from ≡ Some s) × IsReached m rule d link.from s
-          from_reached = before link.from (are.earlier t link at)
-
-          from_name : name_at m from.at ≡ follow (alpha m) last.front d
-          from_name = by from_reached
-            where
-              by : (s : Slot) × (slice_get slots link.from ≡ Some s) × IsReached m rule d link.from s → name_at m from.at ≡ follow (alpha m) last.front d
-              by (s, e, r) =
-                  let same : from ≡ s = (let both : Some from ≡ Some s = sym from_at ∙ e in cc) in
-                  ap (λ (z : Slot). name_at m z.at) same ∙ r.leads ∙ ap (λ p. follow (alpha m) p d) (same_path rule link.from r.path last.front r.least last.to_from)
-
-          new : IsReached m rule d link.to next
-          new = record { live = live; path = last.front ++ link.label ∷ []; least = last.to_end; leads = name_at-is m next.at (alpha m link.label (name_at m from.at)) next_at ∙ ap (alpha m link.label) from_name ∙ sym (follow_more (alpha m) last.front link.label d) }
+          new : dart_in m (set row link.to next) link.to ≡ follow (alpha m) (last.front ++ link.label ∷ []) (dart_in m old last.hook)
+          new =
+              dart_set m row link.to next within
+              ∙ name_at-is m next.at (alpha m link.label (dart_in m row link.from)) next_at
+              ∙ ap (alpha m link.label) (before link.from (are.earlier t link at) last.hook last.front last.to_from)
+              ∙ sym (follow_more (alpha m) last.front link.label (dart_in m old last.hook))
 
           earlier : x ≢ link.to → Contains (path_nodes rule (take t links)) x
           earlier apart = pick (Contains-push_cases (path_nodes rule (take t links)) link.to x (subst (λ xs. Contains xs x) (one_more t link at) c))
@@ -136,11 +125,25 @@ module _ (schema : Schema) (rule : Rule) (planned : IsPlanned schema rule) where
               pick (inl k) = k
               pick (inr e) = absurd (apart (sym e))
 
-          kept : x ≢ link.to → (s : Slot) × (slice_get slots x ≡ Some s) × IsReached m rule d x s → (s : Slot) × (slice_get (set slots link.to next) x ≡ Some s) × IsReached m rule d x s
-          kept apart (s, e, r) =
-              let inside : x < length slots = slice_get_within slots x s e in
-              (s, slice_get-get_or (set slots link.to next) x s (rw length-set inside) ∙ ap Some (get_or-set_other slots link.to x next s apart ∙ get_or_from_slice_get slots x s s e), r)
+          go : (x ≡ link.to) ⊎ (x ≢ link.to) → dart_in m (set row link.to next) x ≡ follow (alpha m) path (dart_in m old h)
+          go (inl e) = by (same_path rule link.to h last.hook path (last.front ++ link.label ∷ []) (subst (λ y. IsPathTo rule y h path) e to) last.to_end)
+            where
+              by : (h ≡ last.hook) × (path ≡ last.front ++ link.label ∷ []) → dart_in m (set row link.to next) x ≡ follow (alpha m) path (dart_in m old h)
+              by (same, along) = rw (e, same, along) new
+          go (inr apart) = dart_stays m row link.to next x apart ∙ before x (earlier apart) h path to
 
-          go : (x ≡ link.to) ⊎ (x ≢ link.to) → (s : Slot) × (slice_get (set slots link.to next) x ≡ Some s) × IsReached m rule d x s
-          go (inl e) = (next, slice_get-get_or (set slots link.to next) x next (rw (length-set, e) within) ∙ ap Some (rw e (get_or-set_same slots link.to next next within)), subst (λ y. IsReached m rule d y next) (sym e) new)
-          go (inr apart) = kept apart (before x (earlier apart))
+      -- once all links are followed, the hooks have stayed
+      module _ (t : ℕ) (row : List Slot) (end_at : length links ≤ t) (reached : AreReached t row) where
+        lies : (x h : ℕ) (path : List ℕ) → IsPathTo rule x h path → dart_in m row x ≡ follow (alpha m) path (dart_in m old h)
+        lies x h path to = reached x (subst (λ ls. Contains (path_nodes rule ls) x) (sym (take_all t links end_at)) ((are.nodes.same x).1 (path_left x h path to))) h path to
+
+        pub hooks_stay : (k h : ℕ) → slice_get rule.hooks k ≡ Some h → dart_in m row h ≡ dart_in m old h
+        hooks_stay k h at = lies h h [] (hook_path rule planned.in_range.hooks_differ k h at)
+
+        -- and each node lies where its path leads from its hook
+        pub all_forced : (x h : ℕ) (path : List ℕ) → IsPathTo rule x h path → dart_in m row x ≡ follow (alpha m) path (dart_in m row h)
+        all_forced x h path to = lies x h path to ∙ ap (follow (alpha m) path) (sym (hooks_stay to.index h to.hook_at))
+
+-- the dart of a row at a node, by its slot
+pub row_name : (m : ArenaMap) (row : List Slot) (x : ℕ) (d : Slot) → x < length row → name_at m (get_or row x d).at ≡ dart_in m row x
+row_name m row x d within = sym (ap (name_of m) (slice_get-get_or row x d within))

@@ -1,6 +1,7 @@
 -- The slots and turns that were made are those of the candidate.
-use Rattle.std.proofs.Common.{◌≡◌, ℕ, ◌+◌, ◌*◌, ◌/◌, ◌<◌, ◌≤◌, List, [], length, map, get_or, Option, Some, refl, sym, ap, subst, ◌∙◌, arith}
+use Rattle.std.proofs.Common.{◌≡◌, ◌≢◌, ℕ, ◌+◌, ◌*◌, ◌/◌, ◌<◌, ◌≤◌, List, [], ◌∷◌, length, map, get_or, Option, Some, refl, sym, ap, subst, ◌∙◌, arith}
 use Rattle.std.proofs.Math.Nat.{mul-div_cancel_left}
+use Rattle.std.proofs.lemmas.Nat.{div-mul-add, mod-mul-add}
 use Rattle.std.proofs.lemmas.List.{length-map, get_or-map}
 use Rattle.std.proofs.lemmas.Option.{slice_get-get_or, slice_get_within, get_or_from_slice_get}
 use Rattle.std.specs.List.{slice_get, Contains}
@@ -11,35 +12,45 @@ use Rattle.gm_model.specs.declared.rule.Side.TheVariants.{Left}
 use Rattle.gm_model.specs.declared.schema.Schema.{Schema}
 use Rattle.gm_model.specs.declared.word.Letter.{Letter}
 use Rattle.gm_model.specs.declared.word.Letter.TheVariants.{At, Gone}
-use Rattle.gm_model.specs.Matches.{IsInstance, IsPathTo, along_hook}
+use Rattle.gm_model.specs.Matches.{ArePositions, IsCandidate, GoInStep, along_hook}
 use Rattle.gm_model.specs.Matches.ArePositions.{Walked}
-use Rattle.gm_model.specs.Orbits.{IsWalk, HasNoRepeats, follow}
-use Rattle.gm_model.specs.Rules.{Rule, rule_of, word_at, first_hook, hook_word, label_of, width}
+use Rattle.gm_model.specs.Orbits.{IsPairBefore, IsWalk, HasNoRepeats, follow}
+use Rattle.gm_model.specs.Rules.{Rule, rule_of, word_at, letters, label_at, first_hook, hook_word, label_of, width}
 use Rattle.gm_model.specs.Structure.{IsPlainWord}
 use Rattle.gm_arena.specs.declared.slot.Slot.{Slot}
 use Rattle.gm_arena.specs.ArenaAsMap.{as_map}
-use Rattle.gm_arena.specs.ArenaMap.{ArenaMap, IsLiveSlot, IsLiveName, name_at, alpha}
+use Rattle.gm_arena.specs.ArenaMap.{ArenaMap, IsLiveName, name_at, alpha}
 use Rattle.gm_plan.specs.Placed.{Placed, slot_at, turn_at}
 use Rattle.gm_plan.specs.Plans.{PlanOf, IsLeftCount, IsPlanned}
-use Rattle.gm_plan.proofs.PathLinks.{same_path}
+use Rattle.gm_plan.proofs.Distinct.{few_below}
+use Rattle.gm_theory.proofs.Candidates.{hook_left}
+use Rattle.gm_theory.proofs.RuleSteps.{word_below}
 use Rattle.gm_theory.proofs.Walks.{walk_unique}
 use Rattle.gm_walk.specs.Walks.{IsWord, IsLabelUpTo, along, names_of}
 use Rattle.gm_walk.proofs.WordLemmas.{plain_is_word}
 use Rattle.gm_match.specs.Cells.{AreCells}
-use Rattle.gm_match.specs.Layout.{AreMatchable, IsTurn, IsReachedBy, IsCandidateAt}
+use Rattle.gm_match.specs.Layout.{AreMatchable, AreRows, HaveFirst, IsFirstTo, IsTurn, IsCandidateAt, dart_at, stepped}
 use Rattle.gm_match.specs.Outcome.{name_of, place_of}
-use Rattle.gm_match.proofs.CellLemmas.{each_entry}
-use Rattle.gm_match.proofs.Costs.{few_below, turns_cost, candidate_cost}
-use Rattle.gm_match.proofs.Paths.{some_node}
+use Rattle.gm_match.proofs.Costs.{turns_cost, candidate_cost}
+use Rattle.gm_match.proofs.FirstTurns.{have_first, is_first}
 
 -- ---- the hook's word
 
-module _ (schema : Schema) (rule : Rule) (planned : IsPlanned schema rule) (h : ℕ) (first : first_hook rule ≡ Some h) where
+module _ (schema : Schema) (rule : Rule) (planned : IsPlanned schema rule) (has : 0 < length rule.hooks) where
+  abbrev hook : ℕ
+  hook = slice_index rule.hooks 0
+
+  first : first_hook rule ≡ Some hook
+  first = slice_get-get_or rule.hooks 0 0 has
+
+  pub some_node : 1 ≤ length rule.nodes
+  some_node = omega (arith, word_below rule Left hook (hook_left schema rule planned.in_range planned.incidence 0 hook first))
+
   letters_plain : IsPlainWord (hook_word rule)
-  letters_plain = rw first (planned.incidence.structured.plain 0 (slice_get_within rule.hooks 0 h first) h first)
+  letters_plain = rw first (planned.incidence.structured.plain 0 has hook first)
 
   hook_is_word : IsWord schema.dim (hook_word rule)
-  hook_is_word = plain_is_word schema.dim (hook_word rule) letters_plain (rw first (planned.in_range.words Left h))
+  hook_is_word = plain_is_word schema.dim (hook_word rule) letters_plain (rw first (planned.in_range.words Left hook))
 
   -- its labels differ, so it has no more than there are labels
   few_places : width rule ≤ schema.dim + 1
@@ -89,6 +100,12 @@ module _ (m : ArenaMap) (rule : Rule) (d : ℕ) (slots : List Slot) where
   walk_long : (word : List Letter) (walk : List ℕ) → word ≡ hook_word rule → IsWalk (along m word) (length word) d (names_of m slots) → IsWalk (along_hook (as_map m) rule) (width rule) d walk → length slots ≡ length walk
   walk_long word walk e ours other = sym names_long ∙ ap length (walk_unique (along_hook (as_map m) rule) (width rule) d (names_of m slots) walk (subst (λ w. IsWalk (along m w) (length w) d (names_of m slots)) e ours) other)
 
+  -- the turns that were made have a first one to each later position
+  pub firsts_of : (word : List Letter) (turns : List ℕ) → word ≡ hook_word rule → IsWalk (along m word) (length word) d (names_of m slots) → AreCells (IsTurn m word (names_of m slots)) (length slots) (length word) turns → HaveFirst turns (length slots) (width rule)
+  firsts_of word turns is_hook walk cells =
+      subst (λ w. HaveFirst turns (length slots) (length w)) is_hook
+      (subst (λ n. HaveFirst turns n (length word)) names_long (have_first m word d (names_of m slots) turns walk (subst (λ n. AreCells (IsTurn m word (names_of m slots)) n (length word) turns) (sym names_long) cells)))
+
   module _ (found : Placed) where
     -- what was made: the walk, and the turns along it
     pub record IsTurned (word : List Letter) : Type 0 where
@@ -96,56 +113,82 @@ module _ (m : ArenaMap) (rule : Rule) (d : ℕ) (slots : List Slot) where
       pub turns : AreCells (IsTurn m word (names_of m slots)) (length slots) (length word) found.turns
       pub places : found.places ≡ length word
 
-    module _ (nodes : ℕ) (counts : IsLeftCount rule nodes) (laid : AreCells (IsReachedBy m rule (names_of m slots)) (length slots) nodes found.slots) (positions : found.positions ≡ length slots) (long : found.positions * found.nodes ≡ length found.slots) where
-      nodes_are : 1 ≤ length slots → found.nodes ≡ nodes
-      nodes_are some = same_factor (length slots) found.nodes nodes some (ap (λ k. k * found.nodes) (sym positions) ∙ long ∙ sym laid.long)
+    module _ (hooks others : List ℕ) (is_hooks : hooks ≡ d ∷ others) (count : length hooks ≡ length rule.hooks) (nodes : ℕ) (counts : IsLeftCount rule nodes) (rows : AreRows m rule hooks (names_of m slots) found.turns nodes (length slots) found.slots) (positions : found.positions ≡ length slots) (long : found.positions * found.nodes ≡ length found.slots) (live : IsLiveName m d) (turned : IsTurned (hook_word rule)) where
+      some : 1 ≤ length slots
+      some = some_position (hook_word rule) turned.walk
 
-      module _ (live : IsLiveName m d) (turned : IsTurned (hook_word rule)) where
-        some : 1 ≤ length slots
-        some = some_position (hook_word rule) turned.walk
+      nodes_are : found.nodes ≡ nodes
+      nodes_are = same_factor (length slots) found.nodes nodes some (ap (λ k. k * found.nodes) (sym positions) ∙ long ∙ sym rows.long)
 
-        place_lies : (x p : ℕ) (path : List ℕ) → IsInstance rule (place_of m found) x p → IsPathTo rule x path → name_of m (slot_at found x p) ≡ follow (alpha m) path (slice_index (names_of m slots) p)
-        place_lies x p path at to = go (laid.each p x (subst (λ k. p < k) positions at.1) ((counts x).0 at.0))
-          where
-            go : (s : Slot) × (slice_get found.slots (p * nodes + x) ≡ Some s) × IsReachedBy m rule (names_of m slots) p x s → name_of m (slot_at found x p) ≡ follow (alpha m) path (slice_index (names_of m slots) p)
-            go (s, e, r) = ap (name_of m) (ap (λ n. slice_get found.slots (p * n + x)) (nodes_are some) ∙ e) ∙ r.leads ∙ ap (λ q. follow (alpha m) q (slice_index (names_of m slots) p)) (same_path rule x r.path path r.least to)
+      -- the slots are read by the number of the left nodes
+      lies : (x p : ℕ) → name_of m (slot_at found x p) ≡ dart_at m nodes found.slots x p
+      lies x p = ap (λ n. name_of m (slice_get found.slots (p * n + x))) nodes_are
 
-        turn_lies : (p l : ℕ) → p < length (names_of m slots) → l < width rule →
-            (turn_at found p l < length (names_of m slots)) × (slice_index (names_of m slots) (turn_at found p l) ≡ along_hook (as_map m) rule (slice_index (names_of m slots) p) l)
-        turn_lies p l b h = go (turned.turns.each p l (subst (λ k. p < k) names_long b) h)
-          where
-            go : (q : ℕ) × (slice_get found.turns (p * width rule + l) ≡ Some q) × IsTurn m (hook_word rule) (names_of m slots) p l q →
-                (turn_at found p l < length (names_of m slots)) × (slice_index (names_of m slots) (turn_at found p l) ≡ along_hook (as_map m) rule (slice_index (names_of m slots) p) l)
-            go (q, e, t) =
-                let at : turn_at found p l ≡ q = ap (λ n. slice_index found.turns (p * n + l)) turned.places ∙ get_or_from_slice_get found.turns (p * width rule + l) q 0 e in
-                (subst (λ r. r < length (names_of m slots)) (sym at) t.within, ap (slice_index (names_of m slots)) at ∙ t.leads)
+      turn_lies : (p l : ℕ) → p < length (names_of m slots) → l < width rule →
+          (turn_at found p l < length (names_of m slots)) × (slice_index (names_of m slots) (turn_at found p l) ≡ along_hook (as_map m) rule (slice_index (names_of m slots) p) l)
+      turn_lies p l b h = go (turned.turns.each p l (subst (λ k. p < k) names_long b) h)
+        where
+          go : (q : ℕ) × (slice_get found.turns (p * width rule + l) ≡ Some q) × IsTurn m (hook_word rule) (names_of m slots) p l q →
+              (turn_at found p l < length (names_of m slots)) × (slice_index (names_of m slots) (turn_at found p l) ≡ along_hook (as_map m) rule (slice_index (names_of m slots) p) l)
+          go (q, e, t) =
+              let at : turn_at found p l ≡ q = ap (λ n. slice_index found.turns (p * n + l)) turned.places ∙ get_or_from_slice_get found.turns (p * width rule + l) q 0 e in
+              (subst (λ r. r < length (names_of m slots)) (sym at) t.within, ap (slice_index (names_of m slots)) at ∙ t.leads)
 
-        least : {x : ℕ} → (s : Slot) × (slice_get found.slots (0 * nodes + x) ≡ Some s) × IsReachedBy m rule (names_of m slots) 0 x s → (path : List ℕ) × IsPathTo rule x path
-        least (s, e, r) = (r.path, r.least)
+      in_step : GoInStep (as_map m) rule (place_of m found)
+      in_step t h p q l later at after less turn = go (firsts_of (hook_word rule) found.turns refl turned.walk turned.turns p after (subst (λ k. p < k) positions less))
+        where
+          here : slice_index found.turns (q * width rule + l) ≡ p
+          here = ap (λ n. slice_index found.turns (q * n + l)) (sym turned.places) ∙ turn.turns
 
-        pub is_candidate : IsCandidateAt m rule d found
-        is_candidate = record {
-          laid = record {
-            slots = each_entry (IsReachedBy m rule (names_of m slots)) nodes (λ (s : Slot). IsLiveSlot m s.at) (length slots) found.slots laid (λ p x s r. r.live);
-            long = long;
-            nodes = subst (IsLeftCount rule) (sym (nodes_are some)) counts;
-            places = turned.places;
-          };
-          candidate = λ others count. record { count = count; walk = names_of m slots; positions = Walked d others (names_of m slots) live turned.walk (positions ∙ sym names_long) turn_lies; forced = place_lies };
-          paths = λ x left. least (laid.each 0 x some ((counts x).0 left));
-        }
+          none_before : (q' l' : ℕ) → IsPairBefore q' l' q l → l' < width rule → slice_index found.turns (q' * width rule + l') ≢ p
+          none_before q' l' before low e = turn.first q' l' before low (ap (λ n. slice_index found.turns (q' * n + l')) turned.places ∙ e)
+
+          stepped_at : (q l h : ℕ) → l < width rule → stepped m rule nodes found.slots (q * width rule + l) h ≡ alpha m (label_at (letters rule Left h) l) (dart_at m nodes found.slots h q)
+          stepped_at q l h low = rw (mod-mul-add q (width rule) l low, div-mul-add q (width rule) l low) refl
+
+          go : (k : ℕ) × (k < p * width rule) × IsFirstTo found.turns p k → name_of m (slot_at found h p) ≡ alpha m (label_at (letters rule Left h) l) (name_of m (slot_at found h q))
+          go (k, low, first) =
+              lies h p
+              ∙ rows.in_step t h p k later at (subst (λ n. p < n) positions less) low first
+              ∙ ap (λ j. stepped m rule nodes found.slots j h) (is_first found.turns (width rule) p q l k here turn.within none_before first)
+              ∙ stepped_at q l h turn.within
+              ∙ ap (alpha m (label_at (letters rule Left h) l)) (sym (lies h q))
+
+      candidate : IsCandidate (as_map m) rule hooks (place_of m found)
+      candidate = record {
+        count = count;
+        walk = names_of m slots;
+        positions = subst (λ hs. ArePositions (as_map m) rule (place_of m found) hs (names_of m slots)) (sym is_hooks) (Walked d others (names_of m slots) live turned.walk (positions ∙ sym names_long) turn_lies);
+        hooked = λ h p first less. lies h p ∙ rows.hooked h p first (subst (λ n. p < n) positions less);
+        at_darts = λ t h e at named. lies h 0 ∙ rows.at_darts t h e some at named;
+        in_step = in_step;
+        forced = λ x p hook path at to. lies x p ∙ rows.forced x p hook path (subst (λ n. p < n) positions at.1) to ∙ ap (follow (alpha m) path) (sym (lies hook p));
+      }
+
+      pub is_candidate : IsCandidateAt m rule hooks found
+      is_candidate = record {
+        laid = record { slots = rows.live; long = long; nodes = subst (IsLeftCount rule) (sym nodes_are) counts; places = turned.places };
+        candidate = candidate;
+      }
+
+-- ---- where it begins
+
+-- the slots of the darts have the first dart's name, and those of the others
+pub names_begin : (m : ArenaMap) (darts : List Slot) → 0 < length darts → (others : List ℕ) × (names_of m darts ≡ slice_index (names_of m darts) 0 ∷ others)
+names_begin m [] some = absurd (omega (arith, some))
+names_begin m (s ∷ darts) some = (names_of m darts, refl)
 
 -- ---- its cost
 
-module _ (m : ArenaMap) (plan : PlanOf) (able : AreMatchable m plan) (h : ℕ) (first : first_hook (rule_of plan.table) ≡ Some h) (word : List Letter) (is_hook : word ≡ hook_word (rule_of plan.table)) where
+module _ (m : ArenaMap) (plan : PlanOf) (able : AreMatchable m plan) (has : 0 < length (rule_of plan.table).hooks) (word : List Letter) (is_hook : word ≡ hook_word (rule_of plan.table)) where
   pub can_be_walked : IsWord m.schema.dim word
-  can_be_walked = rw (is_hook, able.schema) (hook_is_word plan.schema (rule_of plan.table) able.planned h first)
+  can_be_walked = rw (is_hook, able.schema) (hook_is_word plan.schema (rule_of plan.table) able.planned has)
 
   few : length word ≤ m.schema.dim + 1
-  few = rw (is_hook, able.schema) (few_places plan.schema (rule_of plan.table) able.planned h first)
+  few = rw (is_hook, able.schema) (few_places plan.schema (rule_of plan.table) able.planned has)
 
   some_nodes : 1 ≤ length (rule_of plan.table).nodes
-  some_nodes = some_node plan.schema (rule_of plan.table) able.planned h first
+  some_nodes = some_node plan.schema (rule_of plan.table) able.planned has
 
   module _ (d : ℕ) (slots : List Slot) (ours : IsWalk (along m word) (length word) d (names_of m slots)) (start walked turned : ℕ) (walking : walked ≤ start + 4 * (m.schema.dim + 1) * length slots) (turning : turned ≤ walked + length slots * length word) where
     pub turned_cost : (walk : List ℕ) → IsWalk (along_hook (as_map m) (rule_of plan.table)) (width (rule_of plan.table)) d walk → turned ≤ start + 6 * (m.schema.dim + 1) * (length (rule_of plan.table).nodes * length walk)

@@ -1,5 +1,5 @@
 -- What the parts of matching have made: the hook darts, and the slots and turns of the candidate.
-use Rattle.std.specs.Prelude.{◌≡◌, ℕ, ◌*◌, ◌<◌, List, ◌∷◌, length, Option, None, Some, MatchOption, slice_get, slice_index, IsTrue}
+use Rattle.std.specs.Prelude.{◌≡◌, ℕ, ◌+◌, ◌*◌, ◌/◌, ◌%◌, ◌<◌, List, length, None, Some, slice_get, slice_index}
 use Rattle.std.specs.FinMap.{get}
 use Rattle.std.specs.List.{Contains}
 use Rattle.gm_model.specs.declared.rule.Side.TheVariants.{Left}
@@ -7,17 +7,17 @@ use Rattle.gm_model.specs.declared.word.Letter.{Letter}
 use Rattle.gm_model.specs.Maps.{IsGeneralised}
 use Rattle.gm_model.specs.Matches.{IsCandidate, IsPathTo}
 use Rattle.gm_model.specs.Orbits.{follow}
-use Rattle.gm_model.specs.Rules.{Rule, rule_of, has_word, width}
+use Rattle.gm_model.specs.Rules.{Rule, rule_of, letters, label_at, first_hook, width}
 use Rattle.gm_arena.specs.declared.slot.Slot.{Slot}
 use Rattle.gm_arena.specs.ArenaAsMap.{as_map}
-use Rattle.gm_arena.specs.ArenaMap.{ArenaMap, IsAt, IsLiveSlot, IsLiveName, name_at, alpha}
+use Rattle.gm_arena.specs.ArenaMap.{ArenaMap, IsLiveName, alpha}
 use Rattle.gm_arena.specs.Lawful.{IsLawful}
 use Rattle.gm_plan.specs.Placed.{Placed}
 use Rattle.gm_plan.specs.Plans.{PlanOf, IsLeftCount, IsPlanned}
 use Rattle.gm_walk.specs.Walks.{AreLive, along, names_of}
 use Rattle.gm_match.specs.declared.fault.MatchFault.{MatchFault}
 use Rattle.gm_match.specs.declared.fault.MatchFault.TheVariants as faults
-use Rattle.gm_match.specs.Outcome.{place_of}
+use Rattle.gm_match.specs.Outcome.{name_of, place_of}
 
 -- a generalised map of the plan's schema, and a rule that has a plan
 pub record AreMatchable (m : ArenaMap) (plan : PlanOf) : Type 0 where
@@ -28,9 +28,10 @@ pub record AreMatchable (m : ArenaMap) (plan : PlanOf) : Type 0 where
 
 -- ---- hooks
 
--- the dart of the first hook is at the slot; there is none where there is no hook
-abbrev pub IsFirstDart : ArenaMap → List ℕ → Option Slot → Type 0
-IsFirstDart m hooks first = MatchOption first (length hooks ≡ 0) (λ s. (d : ℕ) × (slice_get hooks 0 ≡ Some d) × IsAt m s.at d)
+-- the slots are live, and those of the hook darts, in their order
+pub record AreHookSlots (m : ArenaMap) (hooks : List ℕ) (slots : List Slot) : Type 0 where
+  pub live : AreLive m slots
+  pub names : names_of m slots ≡ hooks
 
 -- the first hooks, so many of them, name live darts
 abbrev pub AreDarts : ArenaMap → List ℕ → ℕ → Type 0
@@ -51,31 +52,58 @@ pub record IsTurn (m : ArenaMap) (word : List Letter) (walk : List ℕ) (p l q :
   pub within : q < length walk
   pub leads : slice_index walk q ≡ along m word (slice_index walk p) l
 
+-- the first turns, so many of them, lead to positions before p
+abbrev pub LeadBefore : List ℕ → ℕ → ℕ → Type 0
+LeadBefore turns count p = (j : ℕ) → j < count → slice_index turns j < p
+
+-- the turn at k leads to p, and each turn before it to an earlier position
+pub record IsFirstTo (turns : List ℕ) (p k : ℕ) : Type 0 where
+  pub here : slice_get turns k ≡ Some p
+  pub before : LeadBefore turns k p
+
+-- each later position is first turned to from an earlier one
+abbrev pub HaveFirst : List ℕ → ℕ → ℕ → Type 0
+HaveFirst turns positions places = (p : ℕ) → 0 < p → p < positions → (k : ℕ) × (k < p * places) × IsFirstTo turns p k
+
 -- ---- slots
 
--- at the slot is the dart to which the least path to node x leads from d
-pub record IsReached (m : ArenaMap) (rule : Rule) (d x : ℕ) (slot : Slot) : Type 0 where
-  pub live : IsLiveSlot m slot.at
-  pub path : List ℕ
-  pub least : IsPathTo rule x path
-  pub leads : name_at m slot.at ≡ follow (alpha m) path d
+-- the dart that a row of slots has for node x
+abbrev pub dart_in : ArenaMap → List Slot → ℕ → ℕ
+dart_in m row x = name_of m (slice_get row x)
 
--- and so from place p of the walk
-abbrev pub IsReachedBy : ArenaMap → Rule → List ℕ → ℕ → ℕ → Slot → Type 0
-IsReachedBy m rule walk p x slot = IsReached m rule (slice_index walk p) x slot
+-- the dart that rows of so many slots have for node x at position p
+abbrev pub dart_at : ArenaMap → ℕ → List Slot → ℕ → ℕ → ℕ
+dart_at m nodes slots x p = name_of m (slice_get slots (p * nodes + x))
+
+-- the dart to which the turn at k leads the hook h by its own letter
+abbrev pub stepped : ArenaMap → Rule → ℕ → List Slot → ℕ → ℕ → ℕ
+stepped m rule nodes slots k h = alpha m (label_at (letters rule Left h) (k % width rule)) (dart_at m nodes slots h (k / width rule))
+
+-- a row of live slots, in which each left node lies where its least path leads from its hook
+pub record IsForcedRow (m : ArenaMap) (rule : Rule) (row : List Slot) : Type 0 where
+  pub long : length row ≡ 32
+  pub live : AreLive m row
+  pub forced : (x hook : ℕ) (path : List ℕ) → IsPathTo rule x hook path → dart_in m row x ≡ follow (alpha m) path (dart_in m row hook)
+
+-- The first rows, so many of them, are those of the candidate at these hook darts, by its walk and its turns.
+pub record AreRows (m : ArenaMap) (rule : Rule) (hooks walk turns : List ℕ) (nodes rows : ℕ) (slots : List Slot) : Type 0 where
+  pub long : rows * nodes ≡ length slots
+  pub live : AreLive m slots
+  pub hooked : (h p : ℕ) → first_hook rule ≡ Some h → p < rows → dart_at m nodes slots h p ≡ slice_index walk p
+  pub at_darts : (t h d : ℕ) → 0 < rows → slice_get rule.hooks t ≡ Some h → slice_get hooks t ≡ Some d → dart_at m nodes slots h 0 ≡ d
+  pub in_step : (t h p k : ℕ) → 0 < t → slice_get rule.hooks t ≡ Some h → p < rows → k < p * width rule → IsFirstTo turns p k → dart_at m nodes slots h p ≡ stepped m rule nodes slots k h
+  pub forced : (x p hook : ℕ) (path : List ℕ) → p < rows → IsPathTo rule x hook path → dart_at m nodes slots x p ≡ follow (alpha m) path (dart_at m nodes slots hook p)
 
 -- ---- instances
 
--- the instances have live slots for the left nodes, and turns at the places of the hook's word
+-- the instances have live slots for the left nodes, and turns at the places of the hooks' words
 pub record IsLaid (m : ArenaMap) (rule : Rule) (found : Placed) : Type 0 where
   pub slots : AreLive m found.slots
   pub long : found.positions * found.nodes ≡ length found.slots
   pub nodes : IsLeftCount rule found.nodes
   pub places : found.places ≡ width rule
 
--- the instances are those of the candidate from d
-pub record IsCandidateAt (m : ArenaMap) (rule : Rule) (d : ℕ) (found : Placed) : Type 0 where
+-- the instances are those of the candidate at the hook darts
+pub record IsCandidateAt (m : ArenaMap) (rule : Rule) (hooks : List ℕ) (found : Placed) : Type 0 where
   pub laid : IsLaid m rule found
-  pub candidate : (others : List ℕ) → length (d ∷ others) ≡ length rule.hooks → IsCandidate (as_map m) rule (d ∷ others) (place_of m found)
-  -- each left node has a least path
-  pub paths : (x : ℕ) → IsTrue (has_word rule Left x) → (path : List ℕ) × IsPathTo rule x path
+  pub candidate : IsCandidate (as_map m) rule hooks (place_of m found)

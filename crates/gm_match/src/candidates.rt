@@ -1,20 +1,20 @@
 ghost use Rattle.std.specs.Prelude.{◌≡◌, ℕ, List, ◌+◌, ◌*◌, ◌<◌, ◌≤◌, length, slice_get, slice_index, Some, IfOk};
 ghost use Rattle.std.specs.List.{Contains};
 ghost use Rattle.gm_arena.specs.ArenaAsMap.{as_map};
-ghost use Rattle.gm_arena.specs.ArenaMap.{IsLiveSlot, name_at};
 ghost use Rattle.gm_arena.specs.Lawful.{IsLawful};
 ghost use Rattle.gm_model.specs.Matches.{along_hook};
 ghost use Rattle.gm_model.specs.Orbits.{IsWalk};
-ghost use Rattle.gm_model.specs.Rules.{rule_of, first_hook, width};
+ghost use Rattle.gm_model.specs.Rules.{rule_of, width};
 ghost use Rattle.gm_plan.specs.Plans.{IsLeftCount};
 ghost use Rattle.gm_walk.specs.Lent.{slots_of};
 ghost use Rattle.gm_walk.specs.Room.{Fits};
 ghost use Rattle.gm_walk.specs.Walks.{IsWord, AreLive, names_of};
 ghost use Rattle.gm_match.specs.Cells.{AreCells, IsRow};
-ghost use Rattle.gm_match.specs.Layout.{AreMatchable, IsClosed, IsReached, IsReachedBy, IsTurn, IsCandidateAt};
+ghost use Rattle.gm_match.specs.Layout.{AreMatchable, AreRows, HaveFirst, IsClosed, IsTurn, IsCandidateAt, LeadBefore, IsFirstTo};
 
+use crate::rows::{first_row, later_row};
 use gm_arena::{Arena, Slot, Steps};
-use gm_model::{Letter, MOST_NODES, OutOfMemory, Word};
+use gm_model::{Letter, OutOfMemory, Word};
 use gm_plan::{Instances, Plan};
 use gm_walk::{Scratch, Walk, walk_word};
 use std::alloc::Global;
@@ -22,30 +22,31 @@ use std::sync::ledger::Ledger;
 
 const MOST_PLACES: usize = 8;
 
-/// The candidate from the dart of the first hook.
+/// The candidate from the darts of the hooks.
 pub(crate) fn candidate<L: Ledger>(
     alloc: Global,
     plan: &Plan<'_>,
     arena: &Arena,
-    from: Slot,
+    darts: &[Slot],
     scratch: &mut Scratch,
     steps: &mut Steps<L>,
 ) -> Result<Instances, OutOfMemory>
     requires matchable { AreMatchable arena.now plan.now }
-    requires hook { (h : ℕ) × (first_hook (rule_of plan.now.table) ≡ Some h) }
-    requires live { IsLiveSlot arena.now from.at }
+    requires some { 0 < length darts.now }
+    requires count { length darts.now ≡ length (rule_of plan.now.table).hooks }
+    requires live { AreLive arena.now darts.now }
     requires fits { Fits scratch.old arena.now }
-    ensures candidate { IfOk result (IsCandidateAt arena.now (rule_of plan.now.table) (name_at arena.now from.at)) }
+    ensures candidate { IfOk result (IsCandidateAt arena.now (rule_of plan.now.table) (names_of arena.now darts.now)) }
     ensures cost { let rule = rule_of plan.now.table in (walk : List ℕ)
-        → IsWalk (along_hook (as_map arena.now) rule) (width rule) (name_at arena.now from.at) walk
+        → IsWalk (along_hook (as_map arena.now) rule) (width rule) (slice_index (names_of arena.now darts.now) 0) walk
         → steps.new ≤ steps.old + 6 * (arena.now.schema.dim + 1) * (length rule.nodes * length walk) }
     ensures least { steps.old ≤ steps.new }
     ensures room { scratch.new.bound ≡ scratch.old.bound }
 {
     let word = plan.rule().hook_word().unwrap();
-    let walk = walk_word(arena, from, &word, scratch, steps);
+    let walk = walk_word(arena, darts[0], &word, scratch, steps);
     let turns = turns(alloc, arena, &walk, &word, steps)?;
-    let slots = slots(alloc, plan, arena, walk.slots(), steps)?;
+    let slots = slots(alloc, plan, arena, darts, walk.slots(), &turns, steps)?;
     let positions = walk.slots().len() as u32;
     Ok(Instances::new(slots, turns, positions, word.len()))
 }
@@ -102,48 +103,57 @@ fn turn<L: Ledger>(
     row
 }
 
-/// The slots of the left nodes, by position and node.
+/// The slots of the left nodes, by position and node. The turns are those of the walk.
 fn slots<L: Ledger>(
     alloc: Global,
     plan: &Plan<'_>,
     arena: &Arena,
+    darts: &[Slot],
     walk: &[Slot],
+    turns: &[u32],
     steps: &mut Steps<L>,
 ) -> Result<Vec<Slot>, OutOfMemory>
     requires matchable { AreMatchable arena.now plan.now }
-    requires hook { (h : ℕ) × (first_hook (rule_of plan.now.table) ≡ Some h) }
-    requires live { AreLive arena.now walk.now }
+    requires some { 0 < length darts.now }
+    requires count { length darts.now ≡ length (rule_of plan.now.table).hooks }
+    requires darts { AreLive arena.now darts.now }
+    requires some_position { 0 < length walk.now }
     requires few { length walk.now ≤ 4294967295 }
-    ensures slots { IfOk result (λ slots. (nodes : ℕ) × IsLeftCount (rule_of plan.now.table) nodes × AreCells (IsReachedBy arena.now (rule_of plan.now.table) (names_of arena.now walk.now)) (length walk.now) nodes slots.items) }
+    requires walk { AreLive arena.now walk.now }
+    requires starts { slice_index (names_of arena.now walk.now) 0 ≡ slice_index (names_of arena.now darts.now) 0 }
+    requires turns { HaveFirst turns.now (length walk.now) (width (rule_of plan.now.table)) }
+    ensures slots { IfOk result (λ slots. (nodes : ℕ) × IsLeftCount (rule_of plan.now.table) nodes
+        × AreRows arena.now (rule_of plan.now.table) (names_of arena.now darts.now) (names_of arena.now walk.now) turns.now nodes (length walk.now) slots.items) }
     ensures cost { steps.new + length walk.now ≤ steps.old + length walk.now * length (rule_of plan.now.table).nodes }
     ensures least { steps.old ≤ steps.new }
 {
     let nodes = plan.left_nodes() as usize;
     let mut slots = Vec::with_capacity(alloc, walk.len() * nodes)?;
-    for slot in walk {
-        let row = follow_paths(plan, arena, *slot, steps);
+    let row = first_row(plan, arena, darts, steps);
+    slots.extend_from_slice(&row[..nodes])?;
+    let mut turn = 0;
+    for position in 1..walk.len() {
+        turn = next_turn(plan, turns, turn, position as u32);
+        let row = later_row(plan, arena, walk[position], &slots, turn, steps);
         slots.extend_from_slice(&row[..nodes])?;
     }
     Ok(slots)
 }
 
-/// The slots to which the least paths lead from the hook's slot, by node.
-fn follow_paths<L: Ledger>(
-    plan: &Plan<'_>,
-    arena: &Arena,
-    from: Slot,
-    steps: &mut Steps<L>,
-) -> [Slot; MOST_NODES]
-    requires matchable { AreMatchable arena.now plan.now }
-    requires live { IsLiveSlot arena.now from.at }
-    ensures row { (nodes : ℕ) → IsLeftCount (rule_of plan.now.table) nodes → IsRow (IsReached arena.now (rule_of plan.now.table) (name_at arena.now from.at)) nodes result }
-    ensures len { length result ≡ 32 }
-    ensures cost { (h : ℕ) → first_hook (rule_of plan.now.table) ≡ Some h → steps.new < steps.old + length (rule_of plan.now.table).nodes }
-    ensures least { steps.old ≤ steps.new }
+/// The first turn to the position, where those before `from` lead to earlier positions. With one
+/// hook it isn't asked for, and not looked for.
+fn next_turn(plan: &Plan<'_>, turns: &[u32], from: usize, position: u32) -> usize
+    requires before { LeadBefore turns.now from position }
+    requires some { (k : ℕ) × IsFirstTo turns.now position k }
+    ensures before { LeadBefore turns.now result position }
+    ensures first { 1 < length (rule_of plan.now.table).hooks → IsFirstTo turns.now position result }
 {
-    let mut slots = [from; MOST_NODES];
-    for link in plan.paths() {
-        slots[link.to as usize] = arena.alpha(slots[link.from as usize], link.label, steps);
+    if plan.hooks() <= 1 {
+        return from;
     }
-    slots
+    let mut turn = from;
+    while turns[turn] != position {
+        turn += 1;
+    }
+    turn
 }

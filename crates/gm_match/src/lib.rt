@@ -1,7 +1,8 @@
 //! Matching: where a rule fits in a map, from the darts of its hooks.
 //!
-//! There is one candidate: the nodes lie where their least paths lead from the walk of the hook's
-//! dart. It is computed once, and then each left step is tested, and that no dart is taken twice.
+//! There is one candidate. The first hook lies along the walk from its dart, the other hooks go in
+//! step with it from theirs, and each node lies where its least path leads from its hook. The
+//! candidate is computed once, and then each left step is tested, and that no dart is taken twice.
 //! Time and steps go by what is matched, however large the map is.
 #![tactic(auto)]
 
@@ -11,6 +12,7 @@ mod darts;
 mod fault;
 mod matching;
 mod repeats;
+mod rows;
 
 pub use fault::MatchFault;
 pub use matching::find;

@@ -10,7 +10,7 @@ ghost use Rattle.gm_match.specs.Outcome.{application_of, IsAnswer, IsCause, HasP
 
 use crate::arcs::meet_steps;
 use crate::candidates::candidate;
-use crate::darts::first_dart;
+use crate::darts::hook_darts;
 use crate::fault::MatchFault;
 use crate::repeats::take_once;
 use gm_arena::{Arena, Steps};
@@ -49,11 +49,13 @@ pub fn find<L: Ledger>(
     ensures room { scratch.new.bound ≡ scratch.old.bound }
 {
     prove!(hooks.len() == plan.rule().hooks.as_slice().len());
-    let Some(from) = first_dart(arena, hooks, steps)? else {
+    let darts = hook_darts(arena, hooks, steps)?;
+    if hooks.is_empty() {
         return Ok(Instances::new(Vec::new(alloc), Vec::new(alloc), 1, 0));
-    };
-    prove!((from.at as usize) < arena.bound());
-    let found = candidate(alloc, plan, arena, from, scratch, steps)?;
+    }
+    prove!((darts[0].at as usize) < arena.bound());
+    let darts = &darts[..hooks.len()];
+    let found = candidate(alloc, plan, arena, darts, scratch, steps)?;
     meet_steps(plan, arena, &found, steps)?;
     take_once(&found, plan.left_nodes(), scratch)?;
     Ok(found)

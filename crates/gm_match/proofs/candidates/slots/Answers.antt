@@ -1,32 +1,95 @@
-use Rattle.std.proofs.Common.{◌+◌, ◌≤◌, length, get_or, sym, subst, arith}
-use Rattle.std.proofs.lemmas.Option.{slice_get-get_or}
-use Rattle.gm_model.specs.Rules.{rule_of}
+use Rattle.std.proofs.Common.{◌≡◌, ℕ, Some, ◌+◌, ◌*◌, ◌<◌, ◌≤◌, [], length, sym, subst, ap, ◌∙◌, arith}
+use Rattle.gm_model.specs.Rules.{rule_of, width}
+use Rattle.std.specs.List.{slice_get}
+use Rattle.gm_plan.specs.Plans.{IsLeftCount}
 use Rattle.gm_walk.specs.Walks.{names_of}
-use Rattle.gm_match.specs.Cells.{IsRow}
-use Rattle.gm_match.specs.Layout.{IsReached, IsReachedBy}
-use Rattle.gm_match.proofs.CellLemmas.{one_row}
+use Rattle.gm_walk.proofs.NameLemmas.{name_there}
+use Rattle.gm_match.specs.Layout.{AreRows, dart_in, stepped}
 use Rattle.gm_match.proofs.Costs.{rows_cost}
-use Rattle.gm_match.proofs.Paths.{some_node}
-use Rattle.gm_match.proofs.Turning.{name_in}
+use Rattle.gm_match.proofs.Growing.{first_next, later_next, no_rows, one_first, one_row}
+use Rattle.gm_match.proofs.Placing.{some_node}
+use Rattle.gm_match.proofs.Stepping.{same_count}
 use Rattle.gm_match.proofs.candidates.slots.Goals as goal
 
-pub loop-slot-preserved : goal.loop-slot-preserved
-loop-slot-preserved g c =
-    let i = c.loop-slot.invariant in
+pub loop-position-init : goal.loop-position-init
+loop-position-init g c =
     let m = c.args.arena.now in
+    let schema = c.args.plan.now.schema in
     let rule = rule_of c.args.plan.now.table in
-    let walk = c.args.walk.now in
-    let slot = get_or walk c.loop-slot.slot-index (record { at = 0 }) in
-    let here = slice_get-get_or walk c.loop-slot.slot-index (record { at = 0 }) (omega arith) in
-    let wide : c.left_nodes-nodes.result ≤ length c.follow_paths-row.result = omega (arith, c.follow_paths-row.ensures.len, c.left_nodes-nodes.ensures.most, c.requires.matchable.planned.within.nodes) in
-    let row = subst (λ d. IsRow (IsReached m rule d) c.left_nodes-nodes.result c.follow_paths-row.result) (sym (name_in m walk c.loop-slot.slot-index slot here)) (c.follow_paths-row.ensures.row c.left_nodes-nodes.result c.left_nodes-nodes.ensures.left) in
+    let planned = c.requires.matchable.planned in
+    let hooks = names_of m c.args.darts.now in
+    let walk = names_of m c.args.walk.now in
+    let turns = c.args.turns.now in
+    let nodes = c.left_nodes-nodes.result in
+    let counts = c.left_nodes-nodes.ensures.left in
+    let row = c.first_row-row.result in
+    let made = c.first_row-row.ensures in
+    let wide : nodes ≤ length row = omega (arith, made.row.long, c.left_nodes-nodes.ensures.most, planned.within.nodes) in
+    let none = no_rows m schema rule planned hooks walk turns nodes counts in
+    let next = first_next m schema rule planned hooks walk turns nodes counts row c.requires.starts made.darts in
     record {
-      cells = rw c.in_ok-extend_from_slice.ensures.items (one_row (IsReachedBy m rule (names_of m walk)) c.left_nodes-nodes.result c.loop-slot.slot-index c.loop-slot.slots.items c.follow_paths-row.result i.cells wide row);
-      cost = omega (arith, i.cost, c.follow_paths-row.ensures.cost c.requires.hook.0 c.requires.hook.1);
-      least = omega (arith, i.least, c.follow_paths-row.ensures.least);
+      rows = rw (c.in_ok-extend_from_slice.ensures.items, c.in_ok-slots.ensures.items) (one_row m schema rule planned hooks walk turns nodes counts 0 [] row none made.row wide next);
+      before = λ j less. absurd (omega (arith, less));
+      cost = omega (arith, made.cost, c.requires.some, c.requires.count);
+      least = made.least;
     }
 
-pub returns-in_err-extend_from_slice-clause-cost : goal.returns-in_err-extend_from_slice-clause-cost
-returns-in_err-extend_from_slice-clause-cost g c =
-    let some = some_node c.args.plan.now.schema (rule_of c.args.plan.now.table) c.requires.matchable.planned c.requires.hook.0 c.requires.hook.1 in
-    rows_cost _ _ (c.loop-slot.slot-index + 1) _ _ some (omega arith) (omega (arith, c.follow_paths-row.ensures.cost c.requires.hook.0 c.requires.hook.1, c.loop-slot.invariant.cost))
+pub next_turn-turn-requires-clause-some : goal.next_turn-turn-requires-clause-some
+next_turn-turn-requires-clause-some g c =
+    let first = c.requires.turns c.loop-position.position (omega (arith, c.loop-position.auto.position)) c.loop-position-test.true in
+    (first.0, first.2)
+
+pub later_row-row-requires-clause-turn : goal.later_row-row-requires-clause-turn
+later_row-row-requires-clause-turn g c = λ several count counts.
+    let rule = rule_of c.args.plan.now.table in
+    let p = c.loop-position.position in
+    let turns = c.args.turns.now in
+    let turn = c.next_turn-turn.result in
+    let first = c.requires.turns p (omega (arith, c.loop-position.auto.position)) c.loop-position-test.true in
+    let long = c.loop-position.invariant.rows.long ∙ ap length (sym c.deref.ensures.value) in (
+      p,
+      subst (λ n. p * n ≡ length c.deref.result.now) (same_count rule c.left_nodes-nodes.result count c.left_nodes-nodes.ensures.left counts) long,
+      subst (λ k. k < p * width rule) (one_first turns p first.0 turn first.2 (c.next_turn-turn.ensures.first several)) first.1,
+    )
+
+pub returns-in_err-extend_from_slice-2-clause-cost : goal.returns-in_err-extend_from_slice-2-clause-cost
+returns-in_err-extend_from_slice-2-clause-cost g c =
+    let some = some_node c.args.plan.now.schema (rule_of c.args.plan.now.table) c.requires.matchable.planned (omega (arith, c.requires.some, c.requires.count)) in
+    rows_cost _ _ (c.loop-position.position + 1) _ _ some (omega (arith, c.loop-position-test.true)) (omega (arith, c.later_row-row.ensures.cost, c.loop-position.invariant.cost))
+
+pub loop-position-preserved : goal.loop-position-preserved
+loop-position-preserved g c =
+    let m = c.args.arena.now in
+    let schema = c.args.plan.now.schema in
+    let rule = rule_of c.args.plan.now.table in
+    let planned = c.requires.matchable.planned in
+    let hooks = names_of m c.args.darts.now in
+    let walk = names_of m c.args.walk.now in
+    let turns = c.args.turns.now in
+    let nodes = c.left_nodes-nodes.result in
+    let counts = c.left_nodes-nodes.ensures.left in
+    let p = c.loop-position.position in
+    let turn = c.next_turn-turn.result in
+    let slots = c.loop-position.slots.items in
+    let row = c.later_row-row.result in
+    let made = c.later_row-row.ensures in
+    let i = c.loop-position.invariant in
+    let wide : nodes ≤ length row = omega (arith, made.row.long, c.left_nodes-nodes.ensures.most, planned.within.nodes) in
+    let along = sym (name_there m c.args.walk.now p (record { at = 0 }) c.loop-position-test.true) in
+    let next = later_next m schema rule planned hooks walk turns nodes counts p turn slots row _ (omega (arith, c.loop-position.auto.position)) c.next_turn-turn.ensures.first along made.first
+    (subst (λ xs. (t h count : ℕ) → 0 < t → slice_get rule.hooks t ≡ Some h → IsLeftCount rule count → dart_in m row h ≡ stepped m rule count xs turn h) c.deref.ensures.value made.later) in
+    record {
+      rows = rw c.in_ok-extend_from_slice-2.ensures.items (one_row m schema rule planned hooks walk turns nodes counts p slots row i.rows made.row wide next);
+      before = λ j less. let low = c.next_turn-turn.ensures.before j less in omega (arith, low);
+      cost = omega (arith, i.cost, made.cost);
+      least = omega (arith, i.least, made.least);
+    }
+
+pub returns-clause-slots : goal.returns-clause-slots
+returns-clause-slots g c =
+    let m = c.args.arena.now in
+    let end : c.loop-position.position ≡ length c.args.walk.now = omega (arith, c.loop-position.auto.position-end, c.loop-position-test.false, c.requires.some_position) in (
+      c.left_nodes-nodes.result,
+      c.left_nodes-nodes.ensures.left,
+      subst (λ n. AreRows m (rule_of c.args.plan.now.table) (names_of m c.args.darts.now) (names_of m c.args.walk.now) c.args.turns.now c.left_nodes-nodes.result n c.loop-position.slots.items) end c.loop-position.invariant.rows,
+    )

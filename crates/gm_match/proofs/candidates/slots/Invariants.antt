@@ -1,13 +1,13 @@
 use Rattle.std.proofs.Common.{◌+◌, ◌*◌, ◌≤◌, length}
 use Rattle.gm_model.specs.Rules.{rule_of}
 use Rattle.gm_walk.specs.Walks.{names_of}
-use Rattle.gm_match.specs.Cells.{AreCells}
-use Rattle.gm_match.specs.Layout.{IsReachedBy}
+use Rattle.gm_match.specs.Layout.{AreRows, LeadBefore}
 use Rattle.gm_match.proofs.candidates.slots.Given as goal
 
-abbrev pub invariant-loop-slot : goal.invariant-loop-slot
-invariant-loop-slot g l = record {
-  cells : AreCells (IsReachedBy l.arena (rule_of l.plan.table) (names_of l.arena l.walk)) l.slot-index l.nodes l.slots.items;
-  cost : l.steps + l.slot-index ≤ l.fn.steps + l.slot-index * length (rule_of l.plan.table).nodes;
+abbrev pub invariant-loop-position : goal.invariant-loop-position
+invariant-loop-position g l = record {
+  rows : AreRows l.arena (rule_of l.plan.table) (names_of l.arena l.darts) (names_of l.arena l.walk) l.turns l.nodes l.position l.slots.items;
+  before : LeadBefore l.turns l.turn l.position;
+  cost : l.steps + l.position ≤ l.fn.steps + l.position * length (rule_of l.plan.table).nodes;
   least : l.fn.steps ≤ l.steps;
 }

@@ -1,77 +1,97 @@
-use Rattle.std.proofs.Common.{◌≤◌, length, ap, ◌∙◌, arith}
+use Rattle.std.proofs.Common.{ℕ, ◌+◌, ◌*◌, ◌≤◌, List, length, sym, ap, subst, ◌∙◌, arith}
 use Rattle.std.proofs.lemmas.Result.{err_from_is_err_and}
-use Rattle.gm_model.specs.Rules.{rule_of}
-use Rattle.gm_match.proofs.Answering.{sound_of, begun_of, few_hooks, has_hook, no_items, none_named, slots_below, dart_cause, dart_missed, created, made_cost, tested_cost, step_cause, step_missed, twice_cause, twice_missed, one_node, answer}
-use Rattle.gm_match.proofs.Paths.{hook_left}
+use Rattle.std.specs.Prelude.{slice_index}
+use Rattle.gm_model.specs.Matches.{along_hook}
+use Rattle.gm_model.specs.Orbits.{IsWalk}
+use Rattle.gm_model.specs.Rules.{rule_of, width}
+use Rattle.gm_arena.specs.ArenaAsMap.{as_map}
+use Rattle.gm_plan.proofs.Hooks.{few_hooks}
+use Rattle.gm_match.specs.Layout.{IsCandidateAt}
+use Rattle.gm_match.proofs.Answering.{sound_of, begun_of, is_nil, not_nil, no_items, slots_below, dart_cause, dart_missed, missed_cost, created, made_cost, tested_cost, step_cause, step_missed, twice_cause, twice_missed, one_node, answer}
 use Rattle.gm_match.proofs.Stepping.{same_count}
 use Rattle.gm_match.proofs.matching.find.Goals as goal
 
-pub returns-in_err-from-clause-answer : goal.returns-in_err-from-clause-answer
-returns-in_err-from-clause-answer g c =
+pub hook_darts-requires : goal.hook_darts-requires
+hook_darts-requires g c =
+    let few = few_hooks c.args.plan.now.schema (rule_of c.args.plan.now.table) c.rule.ensures.planned in
+    omega (arith, few, c.requires.hooks, c.rule.ensures.planned.within.nodes)
+
+pub returns-in_err-darts-clause-answer : goal.returns-in_err-darts-clause-answer
+returns-in_err-darts-clause-answer g c =
     let m = c.args.arena.now in
     let rule = rule_of c.args.plan.now.table in
     let sound = sound_of m c.args.plan.now.schema rule c.requires.map c.requires.schema c.rule.ensures.planned in
     let p = err_from_is_err_and c.from_residual.result c.from_residual.ensures.1 in
-    rw (p.1, p.2) (dart_cause m rule sound c.args.hooks.now _ c.in_err-from.ensures.darts)
+    rw (p.1, p.2) (dart_cause m rule sound c.args.hooks.now _ c.in_err-darts.ensures.darts)
 
-pub returns-in_err-from-clause-none_missed : goal.returns-in_err-from-clause-none_missed
-returns-in_err-from-clause-none_missed g c =
+pub returns-in_err-darts-clause-none_missed : goal.returns-in_err-darts-clause-none_missed
+returns-in_err-darts-clause-none_missed g c =
     let m = c.args.arena.now in
     let rule = rule_of c.args.plan.now.table in
     let sound = sound_of m c.args.plan.now.schema rule c.requires.map c.requires.schema c.rule.ensures.planned in
-    let few : length c.args.hooks.now ≤ 1 = omega (arith, few_hooks m rule sound, c.requires.hooks) in
-    λ place matched. absurd (dart_missed m rule sound c.args.hooks.now few _ c.in_err-from.ensures.darts place matched)
+    λ place matched. absurd (dart_missed m rule sound c.args.hooks.now _ c.in_err-darts.ensures.darts place matched)
 
-pub returns-in_default-clause-answer : goal.returns-in_default-clause-answer
-returns-in_default-clause-answer g c =
+pub returns-in_err-darts-clause-cost : goal.returns-in_err-darts-clause-cost
+returns-in_err-darts-clause-cost g c =
     let m = c.args.arena.now in
     let rule = rule_of c.args.plan.now.table in
     let sound = sound_of m c.args.plan.now.schema rule c.requires.map c.requires.schema c.rule.ensures.planned in
-    let none = none_named m c.args.hooks.now c.in_ok-from.field-0 c.in_default.is c.in_ok-from.ensures.darts.0 in
-    let made = c.new-in_default-2.ensures in
-    created m rule sound c.args.hooks.now (no_items rule.hooks (omega (arith, c.requires.hooks))) (no_items c.args.hooks.now none) c.new-in_default-2.result (made.slots ∙ c.new.ensures.items) made.positions
-    (omega (arith, made.nodes, ap length c.new.ensures.items)) made.places
+    missed_cost m rule sound c.args.hooks.now _ c.in_err-darts.ensures.darts c.requires.hooks _ _ c.in_err-darts.ensures.cost
 
-pub candidate-requires-clause-hook : goal.candidate-requires-clause-hook
-candidate-requires-clause-hook g c =
+pub returns-then-is_empty-clause-answer : goal.returns-then-is_empty-clause-answer
+returns-then-is_empty-clause-answer g c =
     let m = c.args.arena.now in
     let rule = rule_of c.args.plan.now.table in
     let sound = sound_of m c.args.plan.now.schema rule c.requires.map c.requires.schema c.rule.ensures.planned in
-    let begun = begun_of m rule c.args.hooks.now c.in_ok-from.field-0 c.in-Some.from sound c.bound.ensures.lawful c.requires.hooks c.in-Some.is c.in_ok-from.ensures.darts in
-    has_hook m rule _ _ begun c.requires.hooks
+    let none = is_nil c.args.hooks.now c.is_empty.result c.is_empty.ensures c.if-is_empty.true in
+    let made = c.new-then-is_empty-2.ensures in
+    created m rule sound c.args.hooks.now (no_items rule.hooks (sym c.requires.hooks ∙ ap length none)) none c.new-then-is_empty-2.result (made.slots ∙ c.new.ensures.items) made.positions
+    (omega (arith, made.nodes, made.positions, ap length c.new.ensures.items)) made.places
 
 pub returns-in_err-found-clause-cost : goal.returns-in_err-found-clause-cost
 returns-in_err-found-clause-cost g c =
     let m = c.args.arena.now in
     let rule = rule_of c.args.plan.now.table in
     let sound = sound_of m c.args.plan.now.schema rule c.requires.map c.requires.schema c.rule.ensures.planned in
-    let begun = begun_of m rule c.args.hooks.now c.in_ok-from.field-0 c.in-Some.from sound c.bound.ensures.lawful c.requires.hooks c.in-Some.is c.in_ok-from.ensures.darts in
-    made_cost m rule _ _ begun _ _ _ c.in_ok-from.ensures.cost c.candidate.ensures.cost
+    let are = c.in_ok-darts.ensures.darts in
+    let begun = begun_of m rule c.args.hooks.now _ sound c.bound.ensures.lawful (not_nil c.args.hooks.now c.is_empty.result c.is_empty.ensures c.if-is_empty.false) c.requires.hooks are in
+    let make = subst (λ hs. (walk : List ℕ) → IsWalk (along_hook (as_map m) rule) (width rule) (slice_index hs 0) walk → c.candidate.new.steps ≤ c.hook_darts.new.steps + 6 * (m.schema.dim + 1) * (length rule.nodes * length walk)) are.names c.candidate.ensures.cost in
+    made_cost m rule _ begun _ _ _ c.in_ok-darts.ensures.cost make
 
 pub returns-in_err-meet_steps-clause-answer : goal.returns-in_err-meet_steps-clause-answer
 returns-in_err-meet_steps-clause-answer g c =
     let m = c.args.arena.now in
     let rule = rule_of c.args.plan.now.table in
     let sound = sound_of m c.args.plan.now.schema rule c.requires.map c.requires.schema c.rule.ensures.planned in
-    let begun = begun_of m rule c.args.hooks.now c.in_ok-from.field-0 c.in-Some.from sound c.bound.ensures.lawful c.requires.hooks c.in-Some.is c.in_ok-from.ensures.darts in
+    let are = c.in_ok-darts.ensures.darts in
+    let begun = begun_of m rule c.args.hooks.now _ sound c.bound.ensures.lawful (not_nil c.args.hooks.now c.is_empty.result c.is_empty.ensures c.if-is_empty.false) c.requires.hooks are in
+    let found = c.in_ok-found.found in
+    let at = subst (λ hs. IsCandidateAt m rule hs found) are.names c.in_ok-found.ensures.candidate in
     let p = err_from_is_err_and c.from_residual-in_err-meet_steps.result c.from_residual-in_err-meet_steps.ensures.1 in
-    rw (p.1, p.2) (step_cause m rule _ _ begun c.in_ok-found.found c.in_ok-found.ensures.candidate _ c.in_err-meet_steps.ensures.steps)
+    rw (p.1, p.2) (step_cause m rule _ begun found at _ c.in_err-meet_steps.ensures.steps)
 
 pub returns-in_err-meet_steps-clause-none_missed : goal.returns-in_err-meet_steps-clause-none_missed
 returns-in_err-meet_steps-clause-none_missed g c =
     let m = c.args.arena.now in
     let rule = rule_of c.args.plan.now.table in
     let sound = sound_of m c.args.plan.now.schema rule c.requires.map c.requires.schema c.rule.ensures.planned in
-    let begun = begun_of m rule c.args.hooks.now c.in_ok-from.field-0 c.in-Some.from sound c.bound.ensures.lawful c.requires.hooks c.in-Some.is c.in_ok-from.ensures.darts in
-    λ place matched. absurd (step_missed m rule _ _ begun c.in_ok-found.found c.in_ok-found.ensures.candidate _ c.in_err-meet_steps.ensures.steps place matched)
+    let are = c.in_ok-darts.ensures.darts in
+    let begun = begun_of m rule c.args.hooks.now _ sound c.bound.ensures.lawful (not_nil c.args.hooks.now c.is_empty.result c.is_empty.ensures c.if-is_empty.false) c.requires.hooks are in
+    let found = c.in_ok-found.found in
+    let at = subst (λ hs. IsCandidateAt m rule hs found) are.names c.in_ok-found.ensures.candidate in
+    λ place matched. absurd (step_missed m rule _ begun found at _ c.in_err-meet_steps.ensures.steps place matched)
 
 pub returns-in_err-meet_steps-clause-cost : goal.returns-in_err-meet_steps-clause-cost
 returns-in_err-meet_steps-clause-cost g c =
     let m = c.args.arena.now in
     let rule = rule_of c.args.plan.now.table in
     let sound = sound_of m c.args.plan.now.schema rule c.requires.map c.requires.schema c.rule.ensures.planned in
-    let begun = begun_of m rule c.args.hooks.now c.in_ok-from.field-0 c.in-Some.from sound c.bound.ensures.lawful c.requires.hooks c.in-Some.is c.in_ok-from.ensures.darts in
-    tested_cost m rule _ _ begun c.in_ok-found.found c.in_ok-found.ensures.candidate _ _ _ _ c.in_ok-from.ensures.cost c.candidate.ensures.cost c.meet_steps.ensures.cost
+    let are = c.in_ok-darts.ensures.darts in
+    let begun = begun_of m rule c.args.hooks.now _ sound c.bound.ensures.lawful (not_nil c.args.hooks.now c.is_empty.result c.is_empty.ensures c.if-is_empty.false) c.requires.hooks are in
+    let make = subst (λ hs. (walk : List ℕ) → IsWalk (along_hook (as_map m) rule) (width rule) (slice_index hs 0) walk → c.candidate.new.steps ≤ c.hook_darts.new.steps + 6 * (m.schema.dim + 1) * (length rule.nodes * length walk)) are.names c.candidate.ensures.cost in
+    let found = c.in_ok-found.found in
+    let at = subst (λ hs. IsCandidateAt m rule hs found) are.names c.in_ok-found.ensures.candidate in
+    tested_cost m rule _ begun found at _ _ _ _ c.in_ok-darts.ensures.cost make c.meet_steps.ensures.cost
 
 pub take_once-requires-clause-nodes : goal.take_once-requires-clause-nodes
 take_once-requires-clause-nodes g c =
@@ -86,47 +106,66 @@ take_once-requires-clause-alone g c =
     let m = c.args.arena.now in
     let rule = rule_of c.args.plan.now.table in
     let sound = sound_of m c.args.plan.now.schema rule c.requires.map c.requires.schema c.rule.ensures.planned in
-    let begun = begun_of m rule c.args.hooks.now c.in_ok-from.field-0 c.in-Some.from sound c.bound.ensures.lawful c.requires.hooks c.in-Some.is c.in_ok-from.ensures.darts in
-    let hook = has_hook m rule _ _ begun c.requires.hooks in
-    one_node m rule _ _ begun c.in_ok-found.found c.in_ok-found.ensures.candidate hook.0 hook.1 (hook_left c.args.plan.now.schema rule c.rule.ensures.planned hook.0 hook.1)
+    let are = c.in_ok-darts.ensures.darts in
+    let begun = begun_of m rule c.args.hooks.now _ sound c.bound.ensures.lawful (not_nil c.args.hooks.now c.is_empty.result c.is_empty.ensures c.if-is_empty.false) c.requires.hooks are in
+    let found = c.in_ok-found.found in
+    let at = subst (λ hs. IsCandidateAt m rule hs found) are.names c.in_ok-found.ensures.candidate in
+    one_node m rule _ begun found at
 
 pub returns-in_err-take_once-clause-answer : goal.returns-in_err-take_once-clause-answer
 returns-in_err-take_once-clause-answer g c =
     let m = c.args.arena.now in
     let rule = rule_of c.args.plan.now.table in
     let sound = sound_of m c.args.plan.now.schema rule c.requires.map c.requires.schema c.rule.ensures.planned in
-    let begun = begun_of m rule c.args.hooks.now c.in_ok-from.field-0 c.in-Some.from sound c.bound.ensures.lawful c.requires.hooks c.in-Some.is c.in_ok-from.ensures.darts in
+    let are = c.in_ok-darts.ensures.darts in
+    let begun = begun_of m rule c.args.hooks.now _ sound c.bound.ensures.lawful (not_nil c.args.hooks.now c.is_empty.result c.is_empty.ensures c.if-is_empty.false) c.requires.hooks are in
+    let found = c.in_ok-found.found in
+    let at = subst (λ hs. IsCandidateAt m rule hs found) are.names c.in_ok-found.ensures.candidate in
     let p = err_from_is_err_and c.from_residual-in_err-take_once.result c.from_residual-in_err-take_once.ensures.1 in
-    rw (p.1, p.2) (twice_cause m rule _ _ begun c.in_ok-found.found c.in_ok-found.ensures.candidate c.in_ok-meet_steps.ensures.steps _ c.in_err-take_once.ensures.once)
+    rw (p.1, p.2) (twice_cause m rule _ begun found at c.in_ok-meet_steps.ensures.steps _ c.in_err-take_once.ensures.once)
 
 pub returns-in_err-take_once-clause-none_missed : goal.returns-in_err-take_once-clause-none_missed
 returns-in_err-take_once-clause-none_missed g c =
     let m = c.args.arena.now in
     let rule = rule_of c.args.plan.now.table in
     let sound = sound_of m c.args.plan.now.schema rule c.requires.map c.requires.schema c.rule.ensures.planned in
-    let begun = begun_of m rule c.args.hooks.now c.in_ok-from.field-0 c.in-Some.from sound c.bound.ensures.lawful c.requires.hooks c.in-Some.is c.in_ok-from.ensures.darts in
-    λ place matched. absurd (twice_missed m rule _ _ begun c.in_ok-found.found c.in_ok-found.ensures.candidate _ c.in_err-take_once.ensures.once place matched)
+    let are = c.in_ok-darts.ensures.darts in
+    let begun = begun_of m rule c.args.hooks.now _ sound c.bound.ensures.lawful (not_nil c.args.hooks.now c.is_empty.result c.is_empty.ensures c.if-is_empty.false) c.requires.hooks are in
+    let found = c.in_ok-found.found in
+    let at = subst (λ hs. IsCandidateAt m rule hs found) are.names c.in_ok-found.ensures.candidate in
+    λ place matched. absurd (twice_missed m rule _ begun found at _ c.in_err-take_once.ensures.once place matched)
 
 pub returns-in_err-take_once-clause-cost : goal.returns-in_err-take_once-clause-cost
 returns-in_err-take_once-clause-cost g c =
     let m = c.args.arena.now in
     let rule = rule_of c.args.plan.now.table in
     let sound = sound_of m c.args.plan.now.schema rule c.requires.map c.requires.schema c.rule.ensures.planned in
-    let begun = begun_of m rule c.args.hooks.now c.in_ok-from.field-0 c.in-Some.from sound c.bound.ensures.lawful c.requires.hooks c.in-Some.is c.in_ok-from.ensures.darts in
-    tested_cost m rule _ _ begun c.in_ok-found.found c.in_ok-found.ensures.candidate _ _ _ _ c.in_ok-from.ensures.cost c.candidate.ensures.cost c.meet_steps.ensures.cost
+    let are = c.in_ok-darts.ensures.darts in
+    let begun = begun_of m rule c.args.hooks.now _ sound c.bound.ensures.lawful (not_nil c.args.hooks.now c.is_empty.result c.is_empty.ensures c.if-is_empty.false) c.requires.hooks are in
+    let make = subst (λ hs. (walk : List ℕ) → IsWalk (along_hook (as_map m) rule) (width rule) (slice_index hs 0) walk → c.candidate.new.steps ≤ c.hook_darts.new.steps + 6 * (m.schema.dim + 1) * (length rule.nodes * length walk)) are.names c.candidate.ensures.cost in
+    let found = c.in_ok-found.found in
+    let at = subst (λ hs. IsCandidateAt m rule hs found) are.names c.in_ok-found.ensures.candidate in
+    tested_cost m rule _ begun found at _ _ _ _ c.in_ok-darts.ensures.cost make c.meet_steps.ensures.cost
 
 pub returns-clause-answer : goal.returns-clause-answer
 returns-clause-answer g c =
     let m = c.args.arena.now in
     let rule = rule_of c.args.plan.now.table in
     let sound = sound_of m c.args.plan.now.schema rule c.requires.map c.requires.schema c.rule.ensures.planned in
-    let begun = begun_of m rule c.args.hooks.now c.in_ok-from.field-0 c.in-Some.from sound c.bound.ensures.lawful c.requires.hooks c.in-Some.is c.in_ok-from.ensures.darts in
-    answer m rule _ _ begun c.in_ok-found.found c.in_ok-found.ensures.candidate c.in_ok-meet_steps.ensures.steps c.in_ok-take_once.ensures.once
+    let are = c.in_ok-darts.ensures.darts in
+    let begun = begun_of m rule c.args.hooks.now _ sound c.bound.ensures.lawful (not_nil c.args.hooks.now c.is_empty.result c.is_empty.ensures c.if-is_empty.false) c.requires.hooks are in
+    let found = c.in_ok-found.found in
+    let at = subst (λ hs. IsCandidateAt m rule hs found) are.names c.in_ok-found.ensures.candidate in
+    answer m rule _ begun found at c.in_ok-meet_steps.ensures.steps c.in_ok-take_once.ensures.once
 
 pub returns-clause-cost : goal.returns-clause-cost
 returns-clause-cost g c =
     let m = c.args.arena.now in
     let rule = rule_of c.args.plan.now.table in
     let sound = sound_of m c.args.plan.now.schema rule c.requires.map c.requires.schema c.rule.ensures.planned in
-    let begun = begun_of m rule c.args.hooks.now c.in_ok-from.field-0 c.in-Some.from sound c.bound.ensures.lawful c.requires.hooks c.in-Some.is c.in_ok-from.ensures.darts in
-    tested_cost m rule _ _ begun c.in_ok-found.found c.in_ok-found.ensures.candidate _ _ _ _ c.in_ok-from.ensures.cost c.candidate.ensures.cost c.meet_steps.ensures.cost
+    let are = c.in_ok-darts.ensures.darts in
+    let begun = begun_of m rule c.args.hooks.now _ sound c.bound.ensures.lawful (not_nil c.args.hooks.now c.is_empty.result c.is_empty.ensures c.if-is_empty.false) c.requires.hooks are in
+    let make = subst (λ hs. (walk : List ℕ) → IsWalk (along_hook (as_map m) rule) (width rule) (slice_index hs 0) walk → c.candidate.new.steps ≤ c.hook_darts.new.steps + 6 * (m.schema.dim + 1) * (length rule.nodes * length walk)) are.names c.candidate.ensures.cost in
+    let found = c.in_ok-found.found in
+    let at = subst (λ hs. IsCandidateAt m rule hs found) are.names c.in_ok-found.ensures.candidate in
+    tested_cost m rule _ begun found at _ _ _ _ c.in_ok-darts.ensures.cost make c.meet_steps.ensures.cost

@@ -1,0 +1,65 @@
+use Rattle.std.proofs.Common.{◌<◌, inl, inr, get_or, length, refl, ap, ◌∙◌, arith, length-set}
+use Rattle.std.proofs.lemmas.Bool.{cases_eq}
+use Rattle.std.proofs.lemmas.List.Elements.{All-replicate, All-set}
+use Rattle.std.proofs.lemmas.Option.{slice_get_within}
+use Rattle.gm_arena.specs.declared.slot.Slot.{Slot}
+use Rattle.gm_arena.specs.ArenaMap.{IsLiveSlot}
+use Rattle.gm_model.specs.Rules.{rule_of}
+use Rattle.gm_match.specs.Layout.{stepped}
+use Rattle.gm_match.specs.Outcome.{name_of}
+use Rattle.gm_match.proofs.CellLemmas.{same_entry}
+use Rattle.gm_match.proofs.Growing.{one_hook, own_set, other_stays}
+use Rattle.gm_match.proofs.Hooks.{hook_there, hooks_long}
+use Rattle.gm_match.proofs.Paths.{hook_within}
+use Rattle.gm_match.proofs.rows.later_row.Goals as goal
+
+pub loop-index-init : goal.loop-index-init
+loop-index-init g c = record {
+  whole = refl;
+  live = All-replicate (λ (s : Slot). IsLiveSlot c.args.arena.now s.at) 32 c.args.first c.requires.first;
+  first = λ h at. ap (name_of c.args.arena.now) (same_entry 32 c.args.first h (hook_within c.args.plan.now.schema (rule_of c.args.plan.now.table) c.requires.matchable.planned 0 h at));
+  later = λ t h nodes some less at counts. absurd (omega (arith, some, less));
+  cost = omega arith;
+}
+
+pub step_hook-requires-clause-turn : goal.step_hook-requires-clause-turn
+step_hook-requires-clause-turn g c =
+    let long = hooks_long c.args.plan.now.table c.rule.result.now c.as_slice-hooks.result.now c.rule.ensures.rule c.as_slice-hooks.ensures in
+    c.requires.turn (omega (arith, long, c.loop-index-test.true, c.loop-index.auto.index))
+
+pub bounds-row-hook : goal.bounds-row-hook
+bounds-row-hook g c =
+    let long = hooks_long c.args.plan.now.table c.rule.result.now c.as_slice-hooks.result.now c.rule.ensures.rule c.as_slice-hooks.ensures in
+    let at = hook_there c.args.plan.now.table c.rule.result.now c.as_slice-hooks.result.now c.rule.ensures.rule c.as_slice-hooks.ensures c.loop-index.index (omega (arith, long, c.loop-index-test.true)) in
+    hook_within c.args.plan.now.schema (rule_of c.args.plan.now.table) c.requires.matchable.planned c.loop-index.index _ at
+
+pub loop-index-preserved : goal.loop-index-preserved
+loop-index-preserved g c =
+    let i = c.loop-index.invariant in
+    let m = c.args.arena.now in
+    let planned = c.requires.matchable.planned in
+    let rule = rule_of c.args.plan.now.table in
+    let hook = get_or c.as_slice-hooks.result.now c.loop-index.index 0 in
+    let long = hooks_long c.args.plan.now.table c.rule.result.now c.as_slice-hooks.result.now c.rule.ensures.rule c.as_slice-hooks.ensures in
+    let at = hook_there c.args.plan.now.table c.rule.result.now c.as_slice-hooks.result.now c.rule.ensures.rule c.as_slice-hooks.ensures c.loop-index.index (omega (arith, long, c.loop-index-test.true)) in
+    let within : hook < length c.loop-index.row = omega (arith, i.whole, hook_within c.args.plan.now.schema rule planned c.loop-index.index hook at) in
+    record {
+      whole = length-set _ _ _ ∙ i.whole;
+      live = All-set (λ (s : Slot). IsLiveSlot m s.at) c.loop-index.row hook c.step_hook.result c.step_hook.ensures.live i.live;
+      first = λ h first. other_stays m rule.hooks planned.in_range.hooks_differ c.loop-index.row c.loop-index.index hook at c.step_hook.result 0 h first (λ e. omega (arith, e, c.loop-index.auto.index)) ∙ i.first h first;
+      later = λ t h nodes some less there counts. elim (cases_eq t c.loop-index.index) [
+        | inl same ↦ own_set m rule.hooks planned.in_range.hooks_differ c.loop-index.row c.loop-index.index hook at c.step_hook.result within t h there same
+            ∙ c.step_hook.ensures.stepped nodes counts
+            ∙ ap (stepped m rule nodes c.args.slots.now c.args.turn) (one_hook rule.hooks c.loop-index.index t hook h at there same)
+        | inr apart ↦ other_stays m rule.hooks planned.in_range.hooks_differ c.loop-index.row c.loop-index.index hook at c.step_hook.result t h there apart ∙ i.later t h nodes some (omega (arith, less, apart)) there counts
+      ];
+      cost = omega (arith, i.cost, c.step_hook.ensures.cost);
+    }
+
+pub returns-clause-first : goal.returns-clause-first
+returns-clause-first g c = λ h at. c.follow_paths.ensures.hooks 0 h at ∙ c.loop-index.invariant.first h at
+
+pub returns-clause-later : goal.returns-clause-later
+returns-clause-later g c =
+    let long = hooks_long c.args.plan.now.table c.rule.result.now c.as_slice-hooks.result.now c.rule.ensures.rule c.as_slice-hooks.ensures in
+    λ t h nodes some at counts. c.follow_paths.ensures.hooks t h at ∙ c.loop-index.invariant.later t h nodes some (omega (arith, slice_get_within (rule_of c.args.plan.now.table).hooks t h at, long, c.loop-index-test.false)) at counts
