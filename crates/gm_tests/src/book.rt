@@ -28,7 +28,7 @@ a -1- b_2
 b_2 -0- c
 ";
 
-const PRINTED_WITH_TWO_HOOKS: &[u8] = b"book 2
+const PRINTED_SEWING: &[u8] = b"book 2
 dim 2
 rule sew
 left
@@ -117,6 +117,6 @@ fn a_book_is_printed(rt: HostRuntime) -> Result<(), Fail> {
 fn a_book_with_two_hooks_in_a_rule_is_printed(rt: HostRuntime) -> Result<(), Fail> {
     let alloc = rt.alloc();
     let book = sewing_book(&rt, alloc)?;
-    assert_eq!(rt; print_book(alloc, &book)?.as_slice(), PRINTED_WITH_TWO_HOOKS);
+    assert_eq!(rt; print_book(alloc, &book)?.as_slice(), PRINTED_SEWING);
     Ok(())
 }

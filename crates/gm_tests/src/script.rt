@@ -60,7 +60,8 @@ fn lines_are_read(rt: HostRuntime) -> Result<(), Fail> {
     let book = book(rt.alloc())?;
     let none = read_script(rt.alloc(), b" # no line\n", &book)?;
     assert_eq!(rt; none.lines.as_slice().len(), 0);
-    let text = b"apply T 007 # one\napply C with -3 true (1 -2)(0 0 -0)\n(0 255 9)apply T 16777215 apply S 5 3";
+    let text =
+        b"apply T 007 # one\napply C with -3 true (1 -2)(0 0 -0)\n(0 255 9)apply T 16777215 apply S 5 3";
     let script = read_script(rt.alloc(), text, &book)?;
     let [first, second, third, fourth] = script.lines.as_slice() else {
         return Err("not four lines".into());
