@@ -12,7 +12,7 @@ use Rattle.gm_arena.specs.ArenaMap.{ArenaMap}
 use Rattle.gm_theory.proofs.Walks.{contains_before, same_place}
 use Rattle.gm_walk.specs.Walks.{along}
 use Rattle.gm_match.specs.Cells.{AreCells}
-use Rattle.gm_match.specs.Layout.{HaveFirst, IsFirstTo, IsTurn}
+use Rattle.gm_match.specs.Layout.{HaveFirstTurns, IsFirstTo, IsTurn}
 
 -- earlier turns are those of earlier pairs of a position and a place
 pair_before : (k places q l : ℕ) → l < places → k < q * places + l → IsPairBefore (k / places) (k % places) q l
@@ -50,7 +50,7 @@ module _ (m : ArenaMap) (word : List Letter) (d : ℕ) (walk turns : List ℕ) (
       go : (v : ℕ) × (slice_get turns (q * length word + l) ≡ Some v) × IsTurn m word walk q l v → slice_get turns (q * length word + l) ≡ Some p
       go (v, at, turn) = at ∙ ap Some (same_place walk v p is_walk.distinct turn.within inside (turn.leads ∙ sym leads))
 
-  pub have_first : HaveFirst turns (length walk) (length word)
+  pub have_first : HaveFirstTurns turns (length walk) (length word)
   have_first p some inside = go (is_walk.least p some inside)
     where
       go : (q : ℕ) × (l : ℕ) × IsLeastStep (along m word) (length word) walk p q l → (k : ℕ) × (k < p * length word) × IsFirstTo turns p k

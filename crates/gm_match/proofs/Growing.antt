@@ -51,9 +51,6 @@ pub one_dart : (m : ArenaMap) (hooks : List ℕ) → HasNoRepeats hooks → (dar
     (t h : ℕ) → t < index + 1 → slice_get hooks t ≡ Some h → dart_in m (set row hook (get_or darts index (record { at = 0 }))) h ≡ slice_index (names_of m darts) t
 one_dart m hooks differ darts row index hook here room within placed t h below at = go (cases_eq t index)
   where
-    slot : Slot
-    slot = get_or darts index (record { at = 0 })
-
     go : (t ≡ index) ⊎ (t ≢ index) → dart_in m (set row hook (get_or darts index (record { at = 0 }))) h ≡ slice_index (names_of m darts) t
     go (inl same) = own_set m hooks differ row index hook here (get_or darts index (record { at = 0 })) room t h at same ∙ sym (name_there m darts index (record { at = 0 }) within) ∙ ap (slice_index (names_of m darts)) (sym same)
     go (inr apart) = other_stays m hooks differ row index hook here (get_or darts index (record { at = 0 })) t h at apart ∙ placed t h (omega (arith, below)) at
@@ -76,8 +73,8 @@ module _ (m : ArenaMap) (schema : Schema) (rule : Rule) (planned : IsPlanned sch
     pub at_darts : (t h d : ℕ) → rows ≡ 0 → slice_get rule.hooks t ≡ Some h → slice_get hooks t ≡ Some d → dart_in m row h ≡ d
     pub in_step : (t h k : ℕ) → 0 < t → slice_get rule.hooks t ≡ Some h → k < rows * width rule → IsFirstTo turns rows k → dart_in m row h ≡ stepped m rule nodes slots k h
 
-  pub no_rows : AreRows m rule hooks walk turns nodes 0 []
-  no_rows = record {
+  pub none_yet : AreRows m rule hooks walk turns nodes 0 []
+  none_yet = record {
     long = omega arith;
     live = λ k d h. absurd (omega (arith, h));
     hooked = λ h p first less. absurd (omega (arith, less));
@@ -105,8 +102,8 @@ module _ (m : ArenaMap) (schema : Schema) (rule : Rule) (planned : IsPlanned sch
     stepped_stays : (h k : ℕ) → h < nodes → k < rows * width rule → stepped m rule nodes (slots ++ take nodes row) k h ≡ stepped m rule nodes slots k h
     stepped_stays h k left less = ap (alpha m (label_at (letters rule Left h) (k % width rule))) (earlier h (k / width rule) left (row_below k rows (width rule) less))
 
-    pub one_row : IsNextRow rows slots row → AreRows m rule hooks walk turns nodes (rows + 1) (slots ++ take nodes row)
-    one_row fits = record {
+    pub one_more : IsNextRow rows slots row → AreRows m rule hooks walk turns nodes (rows + 1) (slots ++ take nodes row)
+    one_more fits = record {
       long = omega (arith, are.long, length-append slots (take nodes row), length-take-le nodes row wide);
       live = All-append (λ (s : Slot). IsLiveSlot m s.at) slots (take nodes row) are.live (All-take (λ (s : Slot). IsLiveSlot m s.at) nodes row next.live);
       hooked = λ h p first less. elim (cases_lt p rows) [

@@ -29,7 +29,7 @@ use Rattle.gm_theory.proofs.Walks.{walk_unique}
 use Rattle.gm_walk.specs.Walks.{IsWord, IsLabelUpTo, along, names_of}
 use Rattle.gm_walk.proofs.WordLemmas.{plain_is_word}
 use Rattle.gm_match.specs.Cells.{AreCells}
-use Rattle.gm_match.specs.Layout.{AreMatchable, AreRows, HaveFirst, IsFirstTo, IsTurn, IsCandidateAt, dart_at, stepped}
+use Rattle.gm_match.specs.Layout.{AreMatchable, AreRows, HaveFirstTurns, IsFirstTo, IsTurn, IsCandidateAt, dart_at, stepped}
 use Rattle.gm_match.specs.Outcome.{name_of, place_of}
 use Rattle.gm_match.proofs.Costs.{turns_cost, candidate_cost}
 use Rattle.gm_match.proofs.FirstTurns.{have_first, is_first}
@@ -101,10 +101,10 @@ module _ (m : ArenaMap) (rule : Rule) (d : ℕ) (slots : List Slot) where
   walk_long word walk e ours other = sym names_long ∙ ap length (walk_unique (along_hook (as_map m) rule) (width rule) d (names_of m slots) walk (subst (λ w. IsWalk (along m w) (length w) d (names_of m slots)) e ours) other)
 
   -- the turns that were made have a first one to each later position
-  pub firsts_of : (word : List Letter) (turns : List ℕ) → word ≡ hook_word rule → IsWalk (along m word) (length word) d (names_of m slots) → AreCells (IsTurn m word (names_of m slots)) (length slots) (length word) turns → HaveFirst turns (length slots) (width rule)
+  pub firsts_of : (word : List Letter) (turns : List ℕ) → word ≡ hook_word rule → IsWalk (along m word) (length word) d (names_of m slots) → AreCells (IsTurn m word (names_of m slots)) (length slots) (length word) turns → HaveFirstTurns turns (length slots) (width rule)
   firsts_of word turns is_hook walk cells =
-      subst (λ w. HaveFirst turns (length slots) (length w)) is_hook
-      (subst (λ n. HaveFirst turns n (length word)) names_long (have_first m word d (names_of m slots) turns walk (subst (λ n. AreCells (IsTurn m word (names_of m slots)) n (length word) turns) (sym names_long) cells)))
+      subst (λ w. HaveFirstTurns turns (length slots) (length w)) is_hook
+      (subst (λ n. HaveFirstTurns turns n (length word)) names_long (have_first m word d (names_of m slots) turns walk (subst (λ n. AreCells (IsTurn m word (names_of m slots)) n (length word) turns) (sym names_long) cells)))
 
   module _ (found : Placed) where
     -- what was made: the walk, and the turns along it

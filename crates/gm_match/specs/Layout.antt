@@ -62,8 +62,8 @@ pub record IsFirstTo (turns : List ℕ) (p k : ℕ) : Type 0 where
   pub before : LeadBefore turns k p
 
 -- each later position is first turned to from an earlier one
-abbrev pub HaveFirst : List ℕ → ℕ → ℕ → Type 0
-HaveFirst turns positions places = (p : ℕ) → 0 < p → p < positions → (k : ℕ) × (k < p * places) × IsFirstTo turns p k
+abbrev pub HaveFirstTurns : List ℕ → ℕ → ℕ → Type 0
+HaveFirstTurns turns positions places = (p : ℕ) → 0 < p → p < positions → (k : ℕ) × (k < p * places) × IsFirstTo turns p k
 
 -- ---- slots
 
@@ -74,6 +74,10 @@ dart_in m row x = name_of m (slice_get row x)
 -- the dart that rows of so many slots have for node x at position p
 abbrev pub dart_at : ArenaMap → ℕ → List Slot → ℕ → ℕ → ℕ
 dart_at m nodes slots x p = name_of m (slice_get slots (p * nodes + x))
+
+-- the rows of the slots have that of the position of the turn at k
+abbrev pub IsTurnAmong : Rule → List Slot → ℕ → Type 0
+IsTurnAmong rule slots k = (nodes : ℕ) → IsLeftCount rule nodes → (rows : ℕ) × (rows * nodes ≡ length slots) × (k < rows * width rule)
 
 -- the dart to which the turn at k leads the hook h by its own letter
 abbrev pub stepped : ArenaMap → Rule → ℕ → List Slot → ℕ → ℕ → ℕ

@@ -10,7 +10,7 @@ ghost use Rattle.gm_walk.specs.Lent.{slots_of};
 ghost use Rattle.gm_walk.specs.Room.{Fits};
 ghost use Rattle.gm_walk.specs.Walks.{IsWord, AreLive, names_of};
 ghost use Rattle.gm_match.specs.Cells.{AreCells, IsRow};
-ghost use Rattle.gm_match.specs.Layout.{AreMatchable, AreRows, HaveFirst, IsClosed, IsTurn, IsCandidateAt, LeadBefore, IsFirstTo};
+ghost use Rattle.gm_match.specs.Layout.{AreMatchable, AreRows, HaveFirstTurns, IsClosed, IsTurn, IsCandidateAt, LeadBefore, IsFirstTo};
 
 use crate::rows::{first_row, later_row};
 use gm_arena::{Arena, Slot, Steps};
@@ -121,7 +121,7 @@ fn slots<L: Ledger>(
     requires few { length walk.now ≤ 4294967295 }
     requires walk { AreLive arena.now walk.now }
     requires starts { slice_index (names_of arena.now walk.now) 0 ≡ slice_index (names_of arena.now darts.now) 0 }
-    requires turns { HaveFirst turns.now (length walk.now) (width (rule_of plan.now.table)) }
+    requires turns { HaveFirstTurns turns.now (length walk.now) (width (rule_of plan.now.table)) }
     ensures slots { IfOk result (λ slots. (nodes : ℕ) × IsLeftCount (rule_of plan.now.table) nodes
         × AreRows arena.now (rule_of plan.now.table) (names_of arena.now darts.now) (names_of arena.now walk.now) turns.now nodes (length walk.now) slots.items) }
     ensures cost { steps.new + length walk.now ≤ steps.old + length walk.now * length (rule_of plan.now.table).nodes }

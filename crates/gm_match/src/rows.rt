@@ -1,10 +1,10 @@
-ghost use Rattle.std.specs.Prelude.{◌≡◌, ℕ, ◌+◌, ◌*◌, ◌%◌, ◌<◌, ◌≤◌, length, slice_get, slice_index, Some};
+ghost use Rattle.std.specs.Prelude.{◌≡◌, ℕ, ◌+◌, ◌<◌, ◌≤◌, length, slice_get, slice_index, Some};
 ghost use Rattle.std.specs.List.{Contains};
 ghost use Rattle.gm_arena.specs.ArenaMap.{IsLiveSlot, name_at};
-ghost use Rattle.gm_model.specs.Rules.{rule_of, first_hook, width};
+ghost use Rattle.gm_model.specs.Rules.{rule_of, first_hook};
 ghost use Rattle.gm_plan.specs.Plans.{IsLeftCount};
 ghost use Rattle.gm_walk.specs.Walks.{AreLive, names_of};
-ghost use Rattle.gm_match.specs.Layout.{AreMatchable, IsForcedRow, dart_in, stepped};
+ghost use Rattle.gm_match.specs.Layout.{AreMatchable, IsForcedRow, IsTurnAmong, dart_in, stepped};
 
 use gm_arena::{Arena, Slot, Steps};
 use gm_model::{Letter, MOST_NODES, Side};
@@ -50,8 +50,7 @@ pub(crate) fn later_row<L: Ledger>(
     requires some { 0 < length (rule_of plan.now.table).hooks }
     requires first { IsLiveSlot arena.now first.at }
     requires slots { AreLive arena.now slots.now }
-    requires turn { 1 < length (rule_of plan.now.table).hooks → (nodes : ℕ) → IsLeftCount (rule_of plan.now.table) nodes
-        → (rows : ℕ) × (rows * nodes ≡ length slots.now) × (turn < rows * width (rule_of plan.now.table)) }
+    requires turn { 1 < length (rule_of plan.now.table).hooks → IsTurnAmong (rule_of plan.now.table) slots.now turn }
     ensures first { (h : ℕ) → first_hook (rule_of plan.now.table) ≡ Some h → dart_in arena.now result h ≡ name_at arena.now first.at }
     ensures later { (t h nodes : ℕ) → 0 < t → slice_get (rule_of plan.now.table).hooks t ≡ Some h → IsLeftCount (rule_of plan.now.table) nodes
         → dart_in arena.now result h ≡ stepped arena.now (rule_of plan.now.table) nodes slots.now turn h }
@@ -81,8 +80,7 @@ fn step_hook<L: Ledger>(
     requires matchable { AreMatchable arena.now plan.now }
     requires hook { Contains (rule_of plan.now.table).hooks hook }
     requires slots { AreLive arena.now slots.now }
-    requires turn { (nodes : ℕ) → IsLeftCount (rule_of plan.now.table) nodes
-        → (rows : ℕ) × (rows * nodes ≡ length slots.now) × (turn < rows * width (rule_of plan.now.table)) }
+    requires turn { IsTurnAmong (rule_of plan.now.table) slots.now turn }
     ensures live { IsLiveSlot arena.now result.at }
     ensures stepped { (nodes : ℕ) → IsLeftCount (rule_of plan.now.table) nodes
         → name_at arena.now result.at ≡ stepped arena.now (rule_of plan.now.table) nodes slots.now turn hook }

@@ -6,7 +6,7 @@ use Rattle.gm_walk.specs.Walks.{names_of}
 use Rattle.gm_walk.proofs.NameLemmas.{name_there}
 use Rattle.gm_match.specs.Layout.{AreRows, dart_in, stepped}
 use Rattle.gm_match.proofs.Costs.{rows_cost}
-use Rattle.gm_match.proofs.Growing.{first_next, later_next, no_rows, one_first, one_row}
+use Rattle.gm_match.proofs.Growing.{first_next, later_next, none_yet, one_first, one_more}
 use Rattle.gm_match.proofs.Placing.{some_node}
 use Rattle.gm_match.proofs.Stepping.{same_count}
 use Rattle.gm_match.proofs.candidates.slots.Goals as goal
@@ -25,10 +25,10 @@ loop-position-init g c =
     let row = c.first_row-row.result in
     let made = c.first_row-row.ensures in
     let wide : nodes ≤ length row = omega (arith, made.row.long, c.left_nodes-nodes.ensures.most, planned.within.nodes) in
-    let none = no_rows m schema rule planned hooks walk turns nodes counts in
+    let none = none_yet m schema rule planned hooks walk turns nodes counts in
     let next = first_next m schema rule planned hooks walk turns nodes counts row c.requires.starts made.darts in
     record {
-      rows = rw (c.in_ok-extend_from_slice.ensures.items, c.in_ok-slots.ensures.items) (one_row m schema rule planned hooks walk turns nodes counts 0 [] row none made.row wide next);
+      rows = rw (c.in_ok-extend_from_slice.ensures.items, c.in_ok-slots.ensures.items) (one_more m schema rule planned hooks walk turns nodes counts 0 [] row none made.row wide next);
       before = λ j less. absurd (omega (arith, less));
       cost = omega (arith, made.cost, c.requires.some, c.requires.count);
       least = made.least;
@@ -79,7 +79,7 @@ loop-position-preserved g c =
     let next = later_next m schema rule planned hooks walk turns nodes counts p turn slots row _ (omega (arith, c.loop-position.auto.position)) c.next_turn-turn.ensures.first along made.first
     (subst (λ xs. (t h count : ℕ) → 0 < t → slice_get rule.hooks t ≡ Some h → IsLeftCount rule count → dart_in m row h ≡ stepped m rule count xs turn h) c.deref.ensures.value made.later) in
     record {
-      rows = rw c.in_ok-extend_from_slice-2.ensures.items (one_row m schema rule planned hooks walk turns nodes counts p slots row i.rows made.row wide next);
+      rows = rw c.in_ok-extend_from_slice-2.ensures.items (one_more m schema rule planned hooks walk turns nodes counts p slots row i.rows made.row wide next);
       before = λ j less. let low = c.next_turn-turn.ensures.before j less in omega (arith, low);
       cost = omega (arith, i.cost, made.cost);
       least = omega (arith, i.least, made.least);
