@@ -1,6 +1,6 @@
 -- From the assignments of a table's node to those of the rule's.
-use Rattle.std.proofs.Common.{◌≡◌, ℕ, List, length, get_or, map, Option, Some, None, refl, sym, subst, ◌∙◌, ap}
-use Rattle.std.specs.List.{slice_get, Contains}
+use Rattle.std.proofs.Common.{◌≡◌, ℕ, List, map, Option, Some, None, refl, sym, subst, ◌∙◌, ap}
+use Rattle.std.specs.List.{slice_get}
 use Rattle.std.specs.Option.{option_map}
 use Rattle.std.proofs.lemmas.Option.{slice_get-map, slice_get-get_or, slice_get_within, get_or_from_slice_get}
 use Rattle.gm_model.specs.declared.rule.Set.{Set}
@@ -29,6 +29,6 @@ module _ (rule : Rule) (x : ℕ) (node : RuleNode) (sets : List Set) (here : sli
       let same : node' ≡ node = (let p : Some node' ≡ Some node = sym at ∙ here in cc) in
       let found : slice_get node'.sets k ≡ Some (record { embed = e; tree = tree }) = slice_get-get_or node'.sets k _ b ∙ ap Some is in
       let moved : option_map assignment_of (slice_get sets k) ≡ Some (record { embed = e; tree = tree }) =
-          sym (slice_get-map assignment_of sets k) ∙ ap (λ l. slice_get l k) (sym held) ∙ ap (λ (n : RuleNode). slice_get n.sets k) (sym same) ∙ found in
+      sym (slice_get-map assignment_of sets k) ∙ ap (λ l. slice_get l k) (sym held) ∙ ap (λ (n : RuleNode). slice_get n.sets k) (sym same) ∙ found in
       let s = some_mapped (slice_get sets k) (record { embed = e; tree = tree }) moved in
       (k, s.0, s.1, ap (λ (a : Assignment). a.embed) s.2)

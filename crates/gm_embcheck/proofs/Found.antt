@@ -1,12 +1,11 @@
 -- From what was found among the nodes of a component to where its value comes from, or to its first fault.
-use Rattle.std.proofs.Common.{◌≡◌, ℕ, ◌+◌, ◌<◌, ◌≤◌, ◌⊎◌, inl, inr, ◌↔◌, Bool, true, false, ◌&&◌, List, refl, sym, subst, ◌∙◌, arith}
-use Rattle.std.proofs.lemmas.Bool.{cases_lt, cases_order, true_from_ne_false}
-use Rattle.gm_model.specs.declared.rule.RuleFault.{RuleFault}
+use Rattle.std.proofs.Common.{◌≡◌, ℕ, ◌+◌, inl, inr, ◌↔◌, Bool, true, false, ◌&&◌, List, refl, sym, ◌∙◌, arith}
+use Rattle.std.proofs.lemmas.Bool.{cases_order, true_from_ne_false}
 use Rattle.gm_model.specs.declared.rule.RuleFault.TheVariants as faults
 use Rattle.gm_model.specs.declared.rule.Side.TheVariants.{Left, Right}
 use Rattle.gm_model.specs.Components.{IsTogether, WereTogether, IsUnassigned, IsKeeper, ComesFromOne, ComesAlong, IsInherited, HasSource, IsComponentFault, Twice, Sourceless, Merged, MergedAlong}
 use Rattle.gm_model.specs.Orbits.{Labels}
-use Rattle.gm_model.specs.Rules.{Rule, has_word, is_preserved, width}
+use Rattle.gm_model.specs.Rules.{Rule, has_word, width}
 use Rattle.gm_model.specs.Structure.{AreGood, IsFirstBad, IsJoined}
 use Rattle.gm_embcheck.specs.Bounds.{HasBounds}
 use Rattle.gm_embcheck.specs.Firsts.{HasNoneFrom, IsFirstFrom}

@@ -2,7 +2,6 @@
 use Rattle.std.proofs.Common.{◌≡◌, ℕ, ◌<◌, ◌≤◌, true, Option, List, [], Some, None, refl, arith}
 use Rattle.std.specs.List.{All, slice_get}
 use Rattle.std.specs.Option.{is_some, unwrap_or}
-
 use Rattle.std.proofs.lemmas.List.Elements.{All-from_recursion, All-weaker}
 use Rattle.std.proofs.lemmas.Option.{slice_get_within, get_or_from_slice_get}
 use Rattle.gm_model.specs.declared.rule.Link.{Link}
@@ -10,7 +9,7 @@ use Rattle.gm_model.specs.declared.rule.Side.{Side}
 use Rattle.gm_model.specs.declared.schema.Schema.{Schema}
 use Rattle.gm_model.specs.declared.word.Letter.{Letter}
 use Rattle.gm_model.specs.declared.word.Letter.TheVariants.{At}
-use Rattle.gm_model.specs.Rules.{Rule, has_word, word_at, letters, links_on, width}
+use Rattle.gm_model.specs.Rules.{Rule, has_word, word_at, letters, links_on}
 use Rattle.gm_model.specs.Structure.{IsInRange, IsWithinLimits, IsLinkInRange, HasIncidence}
 use Rattle.gm_model.proofs.Nodes.{node_below}
 use Rattle.gm_embcheck.specs.Bounds.{HasBounds}

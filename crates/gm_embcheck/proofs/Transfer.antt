@@ -27,15 +27,21 @@ module _ (rule : Rule) (e : ℕ) (o : Labels) (y x : ℕ) (together : IsTogether
     once = λ z w tz tw az aw. s.once z w (here_to_there z tz) (here_to_there w tw) az aw;
     source = elim s.source [
       | inl h ↦ inl (h.0, there_to_here h.0 h.1, h.2)
-      | inr h ↦ inr ((λ z t a. h.0 z (here_to_there z t) a), (h.1.0, record {
-        kept = record {
-          together = there_to_here h.1.0 h.1.1.kept.together;
-          preserved = h.1.1.kept.preserved;
-          least = λ z b t p. h.1.1.kept.least z b (here_to_there z t) p;
-        };
-        one = λ z t p. h.1.1.one z (here_to_there z t) p;
-        along = λ m z t l. h.1.1.along m z (here_to_there z t) l;
-      }))
+      | inr h ↦ inr (
+        (λ z t a. h.0 z (here_to_there z t) a),
+        (
+          h.1.0,
+          record {
+            kept = record {
+              together = there_to_here h.1.0 h.1.1.kept.together;
+              preserved = h.1.1.kept.preserved;
+              least = λ z b t p. h.1.1.kept.least z b (here_to_there z t) p;
+            };
+            one = λ z t p. h.1.1.one z (here_to_there z t) p;
+            along = λ m z t l. h.1.1.along m z (here_to_there z t) l;
+          },
+        ),
+      )
     ];
   }
 

@@ -31,6 +31,7 @@ pub fn check(schema: &Schema, rule: &RuleTable) -> Result<(), RuleFault>
         (λ _. HasSources schema.now (rule_of rule.now))
         (λ fault. IsEmbedFault schema.now (rule_of rule.now) fault) }
 {
+    // What `top` tells, that a dimension is at most 7, makes each label of the rule one of a mask.
     let _top = schema.dim.top();
     for (embed, declared) in schema.embeds.as_slice().iter().enumerate() {
         check_embedding(rule, embed as u8, declared.mask)?;

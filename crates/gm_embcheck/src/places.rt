@@ -33,13 +33,7 @@ pub fn first_uncovered(
 
 /// Whether a node of the left component has a left letter of the type at the place, where a node of
 /// the component has a right one.
-fn is_covered(
-    rule: &RuleTable,
-    mask: Mask,
-    component: &NodeSet,
-    left: &NodeSet,
-    place: u8,
-) -> bool
+fn is_covered(rule: &RuleTable, mask: Mask, component: &NodeSet, left: &NodeSet, place: u8) -> bool
     requires { HasBounds (rule_of rule.now) }
     ensures { IsTrue result ↔ IsCovered (rule_of rule.now) (has mask) component.now left.now place }
 {

@@ -1,8 +1,8 @@
-use Rattle.std.proofs.Common.{◌≡◌, ◌<◌, ◌≤◌, length, get_or, Some, slice_get, ap, sym, subst, ◌∙◌, below_more, arith}
+use Rattle.std.proofs.Common.{◌≡◌, ◌<◌, ◌≤◌, length, get_or, Some, ap, sym, ◌∙◌, below_more, arith}
 use Rattle.std.proofs.lemmas.Option.{slice_get-get_or, slice_get_within}
 use Rattle.std.proofs.lemmas.Result.{err_from_is_err_and}
 use Rattle.gm_model.specs.declared.schema.Embed.{Embed}
-use Rattle.gm_model.specs.Components.{IsEmbedFault, First}
+use Rattle.gm_model.specs.Components.{IsEmbedFault}
 use Rattle.gm_model.specs.Maps.{IsEmbedAt}
 use Rattle.gm_model.specs.Rules.{rule_of}
 use Rattle.gm_embcheck.proofs.InRange.{has_bounds}
@@ -24,7 +24,7 @@ returns-in_err-check_embedding c =
     let read : declared ≡ get_or schema.embeds e declared = c.declared-item.is ∙ ap (λ items. get_or items e declared) c.as_slice-declared-items.ensures in
     let here : IsEmbedAt schema e declared = slice_get-get_or schema.embeds e declared b ∙ ap Some (sym read) in
     let fault : IsEmbedFault schema (rule_of c.args.rule.now) c.in_err-check_embedding.field-0.0 =
-        embed_fault schema (rule_of c.args.rule.now) e declared here c.loop-embed.invariant c.in_err-check_embedding.field-0.0 c.in_err-check_embedding.ensures in
+    embed_fault schema (rule_of c.args.rule.now) e declared here c.loop-embed.invariant c.in_err-check_embedding.field-0.0 c.in_err-check_embedding.ensures in
     rw (p.1, p.2) fault
 
 pub loop-embed-preserved : goal.loop-embed-preserved

@@ -1,6 +1,5 @@
-use Rattle.std.proofs.Common.{◌≡◌, ℕ, ◌↔◌, inl, inr, true, false, length, List, ap, sym, subst, ◌∙◌, below_more, arith}
+use Rattle.std.proofs.Common.{◌≡◌, ℕ, ◌↔◌, true, false, List, ap, sym, subst, ◌∙◌, below_more, arith}
 use Rattle.std.specs.Option.{is_some}
-use Rattle.std.proofs.lemmas.Bool.{cases_lt}
 use Rattle.std.proofs.lemmas.Result.{err_from_is_err_and}
 use Rattle.gm_model.specs.declared.rule.Link.{Link}
 use Rattle.gm_model.specs.declared.rule.Side.TheVariants.{Right}
@@ -28,10 +27,13 @@ returns-in_err-check_component c =
     let x = c.loop-node.node in
     let on_right : has_word rule Right x ≡ true = ap is_some (sym c.word.ensures) ∙ sym c.is_some.ensures ∙ c.if-is_some.true in
     let reached : (y : ℕ) → IsIn c.component_of-component.result y ↔ IsJoined rule.right_links o x y =
-        subst (λ (links : List Link). (y : ℕ) → IsIn c.component_of-component.result y ↔ IsJoined links o x y) c.links.ensures c.component_of-component.ensures in
-    let leader : IsLeader rule o x = (on_right, (λ y b t.
-        let found : c.has_before.result ≡ true = c.has_before.ensures.1 (y, b, (reached y).1 (joined_back rule.right_links o y x t.1)) in
-        let f : c.has_before.result ≡ false = c.if-not-has_before.true in cc)) in
+    subst (λ (links : List Link). (y : ℕ) → IsIn c.component_of-component.result y ↔ IsJoined links o x y) c.links.ensures c.component_of-component.ensures in
+    let leader : IsLeader rule o x = (
+      on_right,
+      (λ y b t.
+          let found : c.has_before.result ≡ true = c.has_before.ensures.1 (y, b, (reached y).1 (joined_back rule.right_links o y x t.1)) in
+          let f : c.has_before.result ≡ false = c.if-not-has_before.true in cc),
+    ) in
     let fault : IsFirstComponentFault rule c.args.embed o c.in_err-check_component.field-0.0 = record {
       x = x;
       leader = leader;
@@ -49,7 +51,7 @@ loop-node-preserved c =
       | then-is_some+then-not-has_before+in_ok-check_component w ↦ (λ _. w.in_ok-check_component.ensures)
       | then-is_some+else-not-has_before w ↦ (λ on_right.
           let reached : (y : ℕ) → IsIn w.component_of-component.result y ↔ IsJoined rule.right_links o x y =
-              subst (λ (links : List Link). (y : ℕ) → IsIn w.component_of-component.result y ↔ IsJoined links o x y) w.links.ensures w.component_of-component.ensures in
+          subst (λ (links : List Link). (y : ℕ) → IsIn w.component_of-component.result y ↔ IsJoined links o x y) w.links.ensures w.component_of-component.ensures in
           let before = w.has_before.ensures.0 w.if-not-has_before.false in
           let joined = (reached before.0).0 before.2 in
           let there : has_word rule Right before.0 ≡ true = joined_word rule c.requires Right o x before.0 joined on_right in

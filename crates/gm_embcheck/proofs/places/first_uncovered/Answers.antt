@@ -1,4 +1,4 @@
-use Rattle.std.proofs.Common.{below_more, subst}
+use Rattle.std.proofs.Common.{below_more}
 use Rattle.gm_model.specs.Labels.{has}
 use Rattle.gm_model.specs.Rules.{rule_of}
 use Rattle.gm_embcheck.specs.NodeSets.{IsCovered}

@@ -18,7 +18,7 @@ returns-in-Some c =
     let o = has c.args.mask in
     let left = c.component_of-left.result in
     let reached : (y : ℕ) → IsIn left y ↔ IsJoined rule.left_links o c.args.keeper y =
-        subst (λ (links : List Link). (y : ℕ) → IsIn left y ↔ IsJoined links o c.args.keeper y) c.links.ensures c.component_of-left.ensures in
+    subst (λ (links : List Link). (y : ℕ) → IsIn left y ↔ IsJoined links o c.args.keeper y) c.links.ensures c.component_of-left.ensures in
     merged rule c.args.embed o c.args.node c.args.component.now c.requires.component c.requires.unassigned c.args.keeper c.requires.keeper left reached c.in-Some.other c.in-Some.ensures
 
 pub returns-in-Some-first_uncovered : goal.returns-in-Some-first_uncovered
@@ -28,7 +28,7 @@ returns-in-Some-first_uncovered c =
     let left = c.component_of-left.result in
     let nodes = c.args.component.now in
     let reached : (y : ℕ) → IsIn left y ↔ IsJoined rule.left_links o c.args.keeper y =
-        subst (λ (links : List Link). (y : ℕ) → IsIn left y ↔ IsJoined links o c.args.keeper y) c.links.ensures c.component_of-left.ensures in
+    subst (λ (links : List Link). (y : ℕ) → IsIn left y ↔ IsJoined links o c.args.keeper y) c.links.ensures c.component_of-left.ensures in
     let one = from_one rule c.args.embed o c.args.node nodes c.requires.component c.requires.unassigned c.args.keeper c.requires.keeper left reached c.in_default.ensures in
     merged_along rule c.args.embed o c.args.node nodes c.requires.component c.requires.unassigned c.args.keeper c.requires.keeper left reached c.in-Some-first_uncovered.place one c.in-Some-first_uncovered.ensures
 
@@ -39,6 +39,6 @@ returns-in-None c =
     let left = c.component_of-left.result in
     let nodes = c.args.component.now in
     let reached : (y : ℕ) → IsIn left y ↔ IsJoined rule.left_links o c.args.keeper y =
-        subst (λ (links : List Link). (y : ℕ) → IsIn left y ↔ IsJoined links o c.args.keeper y) c.links.ensures c.component_of-left.ensures in
+    subst (λ (links : List Link). (y : ℕ) → IsIn left y ↔ IsJoined links o c.args.keeper y) c.links.ensures c.component_of-left.ensures in
     let one = from_one rule c.args.embed o c.args.node nodes c.requires.component c.requires.unassigned c.args.keeper c.requires.keeper left reached c.in_default.ensures in
     all_inherited rule c.args.embed o c.args.node nodes c.requires.component c.requires.unassigned c.args.keeper c.requires.keeper left reached c.requires.bounds one c.in-None.ensures
