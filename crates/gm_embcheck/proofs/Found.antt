@@ -1,13 +1,15 @@
 -- From what was found among the nodes of a component to where its value comes from, or to its first fault.
-use Rattle.std.proofs.Common.{◌≡◌, ℕ, ◌+◌, inl, inr, ◌↔◌, Bool, true, false, ◌&&◌, List, refl, sym, ◌∙◌, arith}
+use Rattle.std.proofs.Common.{◌≡◌, ℕ, ◌+◌, ◌<◌, inl, inr, ◌↔◌, Bool, true, false, ◌&&◌, List, refl, sym, subst, ◌∙◌, arith}
 use Rattle.std.proofs.lemmas.Bool.{cases_order, true_from_ne_false}
+use Rattle.gm_model.specs.declared.rule.RuleFault.{RuleFault}
 use Rattle.gm_model.specs.declared.rule.RuleFault.TheVariants as faults
 use Rattle.gm_model.specs.declared.rule.Side.TheVariants.{Left, Right}
-use Rattle.gm_model.specs.Components.{IsTogether, WereTogether, IsUnassigned, IsKeeper, ComesFromOne, ComesAlong, IsInherited, HasSource, IsComponentFault, Twice, Sourceless, Merged, MergedAlong}
+use Rattle.gm_model.specs.Components.{IsTogether, WereTogether, IsAssigned, IsLeastTogether, IsUnassigned, IsKeeper, ComesFromOne, ComesAlong, IsInherited, HasSource, IsComponentFault, Twice, Sourceless, Merged, MergedAlong}
 use Rattle.gm_model.specs.Orbits.{Labels}
 use Rattle.gm_model.specs.Rules.{Rule, has_word, width}
 use Rattle.gm_model.specs.Structure.{AreGood, IsFirstBad, IsJoined}
 use Rattle.gm_embcheck.specs.Bounds.{HasBounds}
+use Rattle.gm_embcheck.specs.Faults.{IsSecondAssigned}
 use Rattle.gm_embcheck.specs.Firsts.{HasNoneFrom, IsFirstFrom}
 use Rattle.gm_embcheck.specs.NodeSets.{is_in, IsIn, IsAssignedIn, IsPreservedIn, IsPreservedOutside, IsCovered}
 
@@ -19,10 +21,17 @@ first_true false b h = h
 module _ (rule : Rule) (e : ℕ) (o : Labels) (x : ℕ) (nodes : List Bool) (same : (y : ℕ) → IsIn nodes y ↔ IsTogether rule o x y) where
   -- ---- assignments
 
-  pub twice : (first other : ℕ) → IsFirstFrom (IsAssignedIn rule e nodes) 0 first → IsFirstFrom (IsAssignedIn rule e nodes) (first + 1) other → IsComponentFault rule e o x (faults.SetTwice e first other)
-  twice first other f g = Twice first other
+  pub twice : (first : ℕ) (fault : RuleFault) → IsFirstFrom (IsAssignedIn rule e nodes) 0 first → IsSecondAssigned rule e nodes first fault → IsComponentFault rule e o x fault
+  twice first fault f h =
+      let second : IsLeastTogether rule o x (λ u. first < u) (IsAssigned rule e) h.other = record {
+        together = (same h.other).0 h.next.has.0;
+        above = omega (arith, h.next.from);
+        has = h.next.has.1;
+        least = λ z b t above a. h.next.before z (omega (arith, above)) b ((same z).1 t, a);
+      } in
+      subst (IsComponentFault rule e o x) (sym h.is) (Twice first h.other
       record { together = (same first).0 f.has.0; above = tt; has = f.has.1; least = λ z b t _ a. f.before z (omega arith) b ((same z).1 t, a) }
-      record { together = (same other).0 g.has.0; above = omega (arith, g.from); has = g.has.1; least = λ z b t above a. g.before z (omega (arith, above)) b ((same z).1 t, a) }
+      second)
 
   pub once : (first : ℕ) → IsFirstFrom (IsAssignedIn rule e nodes) 0 first → HasNoneFrom (IsAssignedIn rule e nodes) (first + 1) → HasSource rule e o x
   once first f none = record {

@@ -1,19 +1,19 @@
+use Rattle.std.proofs.lemmas.Result.{MatchResult-weaker}
 use Rattle.gm_model.specs.Labels.{has}
 use Rattle.gm_model.specs.Rules.{rule_of}
-use Rattle.gm_embcheck.proofs.Found.{twice, once, unassigned, sourceless}
+use Rattle.gm_embcheck.proofs.Found.{twice, once, unassigned}
 use Rattle.gm_embcheck.proofs.sources.check_component.Goals as goal
 
-pub returns-in-Some-first_assigned : goal.returns-in-Some-first_assigned
-returns-in-Some-first_assigned c =
-    twice (rule_of c.args.rule.now) c.args.embed (has c.args.mask) c.args.node c.args.component.now c.requires.component c.in-Some.first c.in-Some-first_assigned.other
-    c.in-Some.ensures.first c.in-Some-first_assigned.ensures.first
+pub check_unassigned-requires-clause-unassigned : goal.check_unassigned-requires-clause-unassigned
+check_unassigned-requires-clause-unassigned c =
+    unassigned (rule_of c.args.rule.now) c.args.embed (has c.args.mask) c.args.node c.args.component.now c.requires.component c.in-None.ensures.first
 
-pub returns-in-None : goal.returns-in-None
-returns-in-None c =
-    once (rule_of c.args.rule.now) c.args.embed (has c.args.mask) c.args.node c.args.component.now c.requires.component c.in-Some.first c.in-Some.ensures.first c.in-None.ensures.first
-
-pub returns-in-None-first_preserved : goal.returns-in-None-first_preserved
-returns-in-None-first_preserved c =
+pub returns-in-Some : goal.returns-in-Some
+returns-in-Some c =
     let rule = rule_of c.args.rule.now in
-    let free = unassigned rule c.args.embed (has c.args.mask) c.args.node c.args.component.now c.requires.component c.in_default.ensures.first in
-    sourceless rule c.args.embed (has c.args.mask) c.args.node c.args.component.now c.requires.component free c.in-None-first_preserved.ensures.first
+    let o = has c.args.mask in
+    let nodes = c.args.component.now in
+    let first = c.in-Some.ensures.first in
+    MatchResult-weaker c.check_only.result c.check_only.ensures
+    (λ _. once rule c.args.embed o c.args.node nodes c.requires.component c.in-Some.first first)
+    (λ fault. twice rule c.args.embed o c.args.node nodes c.requires.component c.in-Some.first fault first)
