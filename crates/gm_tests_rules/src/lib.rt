@@ -4,6 +4,8 @@
 #[cfg(test)]
 mod cycle;
 #[cfg(test)]
+mod embeddings;
+#[cfg(test)]
 mod examples;
 #[cfg(test)]
 mod incident;

@@ -1,0 +1,34 @@
+-- From the assignments of a table's node to those of the rule's.
+use Rattle.std.proofs.Common.{◌≡◌, ℕ, List, map, Option, Some, None, refl, sym, subst, ◌∙◌, ap}
+use Rattle.std.specs.List.{slice_get}
+use Rattle.std.specs.Option.{option_map}
+use Rattle.std.proofs.lemmas.Option.{slice_get-map, slice_get-get_or, slice_get_within, get_or_from_slice_get}
+use Rattle.gm_model.specs.declared.rule.Set.{Set}
+use Rattle.gm_model.specs.Components.{IsAssigned}
+use Rattle.gm_model.specs.Rules.{Rule, RuleNode, Assignment, assignment_of}
+use Rattle.gm_model.specs.Trees.{tree_of}
+
+-- an assignment of the list is to the embedding
+abbrev pub SetsEmbed : List Set → ℕ → Type 0
+SetsEmbed sets e = (k : ℕ) × (s : Set) × (slice_get sets k ≡ Some s) × (s.embed ≡ e)
+
+some_mapped : (found : Option Set) (a : Assignment) → option_map assignment_of found ≡ Some a → (s : Set) × (found ≡ Some s) × (assignment_of s ≡ a)
+some_mapped (Some s) a h = (s, refl, cc)
+some_mapped None a h = cc
+
+module _ (rule : Rule) (x : ℕ) (node : RuleNode) (sets : List Set) (here : slice_get rule.nodes x ≡ Some node) (held : node.sets ≡ map assignment_of sets) (e : ℕ) where
+  pub is_assigned : SetsEmbed sets e → IsAssigned rule e x
+  is_assigned h =
+      let s : Set = h.1 in
+      let at : slice_get node.sets h.0 ≡ Some (assignment_of s) = ap (λ l. slice_get l h.0) held ∙ slice_get-map assignment_of sets h.0 ∙ ap (option_map assignment_of) h.2 in
+      let found : slice_get node.sets h.0 ≡ Some (record { embed = e; tree = tree_of s.expr }) = subst (λ n. slice_get node.sets h.0 ≡ Some (record { embed = n; tree = tree_of s.expr })) h.3 at in
+      (tree_of s.expr, (node, here, (h.0, slice_get_within node.sets h.0 _ found, get_or_from_slice_get node.sets h.0 _ _ found)))
+
+  pub sets_embed : IsAssigned rule e x → SetsEmbed sets e
+  sets_embed (tree, (node', at, (k, b, is))) =
+      let same : node' ≡ node = (let p : Some node' ≡ Some node = sym at ∙ here in cc) in
+      let found : slice_get node'.sets k ≡ Some (record { embed = e; tree = tree }) = slice_get-get_or node'.sets k _ b ∙ ap Some is in
+      let moved : option_map assignment_of (slice_get sets k) ≡ Some (record { embed = e; tree = tree }) =
+      sym (slice_get-map assignment_of sets k) ∙ ap (λ l. slice_get l k) (sym held) ∙ ap (λ (n : RuleNode). slice_get n.sets k) (sym same) ∙ found in
+      let s = some_mapped (slice_get sets k) (record { embed = e; tree = tree }) moved in
+      (k, s.0, s.1, ap (λ (a : Assignment). a.embed) s.2)

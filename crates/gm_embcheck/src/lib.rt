@@ -1,0 +1,58 @@
+//! The embedding condition on a rule: the nodes of a right component share each value, so at most
+//! one of them assigns it, and where none does there is one left component to take it over from.
+#![tactic(auto)]
+
+ghost use Rattle.std.specs.Prelude.{◌≤◌, ℕ, length, IsTrue, MatchResult};
+ghost use Rattle.gm_model.specs.declared.rule.Side.TheVariants.{Right};
+ghost use Rattle.gm_model.specs.Components.{HasSource, HasSources, IsEmbedFault};
+ghost use Rattle.gm_model.specs.Labels.{has};
+ghost use Rattle.gm_model.specs.Rules.{rule_of, has_word};
+ghost use Rattle.gm_model.specs.Structure.{IsInRange, IsWithinLimits, HasIncidence};
+ghost use Rattle.gm_embcheck.specs.Bounds.{HasBounds};
+ghost use Rattle.gm_embcheck.specs.Faults.{IsFirstComponentFault};
+
+mod component;
+mod nodes;
+mod places;
+mod sources;
+
+use crate::component::{component_of, has_before};
+use crate::sources::check_component;
+use gm_model::{Mask, RuleFault, RuleTable, Schema, Side};
+
+/// Tests the right components of a rule, for each embedding and then by their least node, and
+/// answers the first fault in that order.
+pub fn check(schema: &Schema, rule: &RuleTable) -> Result<(), RuleFault>
+    requires embeds { length schema.now.embeds ≤ 8 }
+    requires in_range { IsInRange schema.now (rule_of rule.now) }
+    requires within { IsWithinLimits (rule_of rule.now) }
+    requires incidence { HasIncidence schema.now.dim (rule_of rule.now) }
+    ensures { MatchResult result
+        (λ _. HasSources schema.now (rule_of rule.now))
+        (λ fault. IsEmbedFault schema.now (rule_of rule.now) fault) }
+{
+    // What `top` tells, that a dimension is at most 7, makes each label of the rule one of a mask.
+    let _top = schema.dim.top();
+    for (embed, declared) in schema.embeds.as_slice().iter().enumerate() {
+        check_embedding(rule, embed as u8, declared.mask)?;
+    }
+    Ok(())
+}
+
+/// The first fault of the right components over the labels, by their least node.
+fn check_embedding(rule: &RuleTable, embed: u8, mask: Mask) -> Result<(), RuleFault>
+    requires { HasBounds (rule_of rule.now) }
+    ensures { MatchResult result
+        (λ _. (x : ℕ) → IsTrue (has_word (rule_of rule.now) Right x) → HasSource (rule_of rule.now) embed (has mask) x)
+        (λ fault. IsFirstComponentFault (rule_of rule.now) embed (has mask) fault) }
+{
+    for node in 0..rule.node_count() {
+        if rule.word(Side::Right, node).is_some() {
+            let component = component_of(rule.links(Side::Right), mask, node);
+            if !has_before(&component, node) {
+                check_component(rule, embed, mask, node, &component)?;
+            }
+        }
+    }
+    Ok(())
+}

@@ -1,0 +1,109 @@
+//! Where the value of a component comes from.
+ghost use Rattle.std.specs.Prelude.{◌+◌, ◌<◌, ◌≤◌, ℕ, ◌↔◌, length, MatchResult};
+ghost use Rattle.gm_model.specs.Components.{IsTogether, IsKeeper, IsUnassigned, IsInherited, HasSource, IsComponentFault};
+ghost use Rattle.gm_model.specs.Labels.{has};
+ghost use Rattle.gm_model.specs.Rules.{rule_of};
+ghost use Rattle.gm_embcheck.specs.Bounds.{HasBounds};
+ghost use Rattle.gm_embcheck.specs.Faults.{IsSecondAssigned};
+ghost use Rattle.gm_embcheck.specs.Firsts.{HasNoneFrom};
+ghost use Rattle.gm_embcheck.specs.NodeSets.{IsIn, IsAssignedIn};
+
+use crate::component::{NodeSet, component_of};
+use crate::nodes::{first_assigned, first_outside, first_preserved};
+use crate::places::first_uncovered;
+use gm_model::{Mask, RuleFault, RuleTable, Side};
+
+/// The first fault of the right component of the node, which is its least.
+pub fn check_component(
+    rule: &RuleTable,
+    embed: u8,
+    mask: Mask,
+    node: u8,
+    component: &NodeSet,
+) -> Result<(), RuleFault>
+    requires bounds { HasBounds (rule_of rule.now) }
+    requires component { (x : ℕ) → IsIn component.now x ↔ IsTogether (rule_of rule.now) (has mask) node x }
+    ensures { MatchResult result
+        (λ _. HasSource (rule_of rule.now) embed (has mask) node)
+        (λ fault. IsComponentFault (rule_of rule.now) embed (has mask) node fault) }
+{
+    match first_assigned(rule, embed, component, 0) {
+        Some(first) => check_only(rule, embed, component, first),
+        None => check_unassigned(rule, embed, mask, node, component),
+    }
+}
+
+/// The next node of the component with an assignment, after the first.
+fn check_only(rule: &RuleTable, embed: u8, component: &NodeSet, first: u8) -> Result<(), RuleFault>
+    requires nodes { length (rule_of rule.now).nodes ≤ 32 }
+    requires first { first < 32 }
+    ensures { MatchResult result
+        (λ _. HasNoneFrom (IsAssignedIn (rule_of rule.now) embed component.now) (first + 1))
+        (λ fault. IsSecondAssigned (rule_of rule.now) embed component.now first fault) }
+{
+    match first_assigned(rule, embed, component, first + 1) {
+        Some(other) => Err(RuleFault::SetTwice {
+            embed,
+            node: first,
+            other,
+        }),
+        None => Ok(()),
+    }
+}
+
+/// The first fault of the right component of the node, which has no assignment.
+fn check_unassigned(
+    rule: &RuleTable,
+    embed: u8,
+    mask: Mask,
+    node: u8,
+    component: &NodeSet,
+) -> Result<(), RuleFault>
+    requires bounds { HasBounds (rule_of rule.now) }
+    requires component { (x : ℕ) → IsIn component.now x ↔ IsTogether (rule_of rule.now) (has mask) node x }
+    requires unassigned { IsUnassigned (rule_of rule.now) embed (has mask) node }
+    ensures { MatchResult result
+        (λ _. HasSource (rule_of rule.now) embed (has mask) node)
+        (λ fault. IsComponentFault (rule_of rule.now) embed (has mask) node fault) }
+{
+    match first_preserved(rule, component) {
+        Some(keeper) => check_inherited(rule, embed, mask, node, component, keeper),
+        None => Err(RuleFault::NoValue { embed, node }),
+    }
+}
+
+/// The first fault of the right component of the node in taking over the value that its keeper had.
+fn check_inherited(
+    rule: &RuleTable,
+    embed: u8,
+    mask: Mask,
+    node: u8,
+    component: &NodeSet,
+    keeper: u8,
+) -> Result<(), RuleFault>
+    requires bounds { HasBounds (rule_of rule.now) }
+    requires component { (x : ℕ) → IsIn component.now x ↔ IsTogether (rule_of rule.now) (has mask) node x }
+    requires unassigned { IsUnassigned (rule_of rule.now) embed (has mask) node }
+    requires keeper { IsKeeper (rule_of rule.now) (has mask) node keeper }
+    requires below { keeper < 32 }
+    ensures { MatchResult result
+        (λ _. IsInherited (rule_of rule.now) (has mask) node keeper)
+        (λ fault. IsComponentFault (rule_of rule.now) embed (has mask) node fault) }
+{
+    let left = component_of(rule.links(Side::Left), mask, keeper);
+    if let Some(other) = first_outside(rule, component, &left) {
+        return Err(RuleFault::Merge {
+            embed,
+            node: keeper,
+            other,
+        });
+    }
+    match first_uncovered(rule, mask, component, &left) {
+        Some(place) => Err(RuleFault::MergeAlong {
+            embed,
+            node: keeper,
+            place,
+        }),
+        None => Ok(()),
+    }
+}
