@@ -5,5 +5,6 @@ pub mod Gaps
 pub mod Values
 pub mod Marks
 pub mod Machine
+pub mod Nested
 pub mod Printed
 pub mod Worked

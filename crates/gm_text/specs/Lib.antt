@@ -1,3 +1,4 @@
 pub mod Cursor
 pub mod Lexing
 pub mod Machine
+pub mod Nested
