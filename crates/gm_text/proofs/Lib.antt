@@ -6,5 +6,7 @@ pub mod Values
 pub mod Marks
 pub mod Machine
 pub mod Nested
+pub mod SchemaGrammar
+pub mod SchemaStanding
 pub mod Printed
 pub mod Worked

@@ -1,9 +1,10 @@
 -- A run through a grammar with another one within it comes apart at the end of the inner part, and is put together there.
-use Rattle.std.proofs.Common.{◌≡◌, ℕ, Bool, true, false, cond, List, [], ◌∷◌, ◌++◌, map, Option, Some, None, refl, sym, ap, subst, ◌∙◌}
+use Rattle.std.proofs.Common.{◌≡◌, ℕ, Bool, true, false, cond, List, [], ◌∷◌, ◌++◌, map, Option, Some, None, Result, Ok, Err, refl, sym, ap, subst, ◌∙◌}
 use Rattle.std.specs.Prelude.{IsTrue, is_some}
-use Rattle.gm_model.specs.Symbols.{Symbol}
+use Rattle.gm_model.specs.Symbols.{Symbol, Mark}
 use Rattle.gm_model.specs.Reading.{Part}
-use Rattle.gm_text.specs.Machine.{IsGrammar}
+use Rattle.gm_text.specs.Machine.{Stop, Ends, Passes, IsGrammar, limit_place, step, run}
+use Rattle.gm_text.proofs.Machine.{last_of, stepped, Refused, Limited, Moved}
 use Rattle.gm_text.specs.Nested.{Nested, Outside, Inside, Nesting, role_at, move_inside, move, IsApart, wrapped, LeadsInside, LeadsNested, IsNestedSentence, HasPieces}
 
 module _ {Outer Inner Role InnerRole What : Type 0} (nesting : Nesting Outer Inner Role InnerRole) (limit_of : Role → Symbol → Option What) (stands_before : Role → Bool) where
@@ -107,20 +108,83 @@ module _ {Outer Inner Role InnerRole What : Type 0} (nesting : Nesting Outer Inn
   led-append state middle last [] rest e led = subst (λ (s : Nested Outer Inner). Led s rest last) (sym e) led
   led-append state middle last (part ∷ parts) rest (place, next, is, moves, led) behind = (place, next, is, moves, led-append next middle last parts rest led behind)
 
+  -- ---- readings
+
+  abbrev Run : Nested Outer Inner → ℕ → List Mark → Result (Nested Outer Inner) (Stop (Nested Outer Inner) What)
+  Run state last marks = run limit_of stands_before (role_at nesting) (move nesting) state last marks
+
+  abbrev Step : Nested Outer Inner → ℕ → Mark → Result (Nested Outer Inner) (Stop (Nested Outer Inner) What)
+  Step state last mark = step limit_of stands_before (role_at nesting) (move nesting) state last mark
+
+  -- by the inner grammar alone
+  abbrev RunInside : Inner → ℕ → List Mark → Result Inner (Stop Inner What)
+  RunInside inner last marks = run (λ role. limit_of (nesting.wrap role)) (λ role. stands_before (nesting.wrap role)) nesting.inner_role nesting.inner_move inner last marks
+
+  abbrev StepInside : Inner → ℕ → Mark → Result Inner (Stop Inner What)
+  StepInside inner last mark = step (λ role. limit_of (nesting.wrap role)) (λ role. stands_before (nesting.wrap role)) nesting.inner_role nesting.inner_move inner last mark
+
+  abbrev place_inside : Inner → ℕ → Mark → ℕ
+  place_inside inner last mark = limit_place (λ role. limit_of (nesting.wrap role)) (λ role. stands_before (nesting.wrap role)) nesting.inner_role nesting.inner_move inner last mark
+
+  steps_inside : (inner next : Inner) (last : ℕ) (mark : Mark) → nesting.inner_move inner mark.symbol ≡ Some next → limit_of (nesting.wrap (nesting.inner_role inner mark.symbol mark.place)) mark.symbol ≡ None → Step (Inside inner) last mark ≡ Ok (Inside next)
+  steps_inside inner next last mark moves free = rw (moves, free) refl
+
+  passes_inside : (inner next : Inner) (what : What) (last : ℕ) (mark : Mark) → nesting.inner_move inner mark.symbol ≡ Some next → limit_of (nesting.wrap (nesting.inner_role inner mark.symbol mark.place)) mark.symbol ≡ Some what
+      → Step (Inside inner) last mark ≡ Err (Passes what (place_inside inner last mark))
+  passes_inside inner next what last mark moves limit = rw (moves, limit) refl
+
+  ends_inside : (inner : Inner) (last : ℕ) (mark : Mark) → nesting.inner_move inner mark.symbol ≡ None → nesting.is_whole inner ≡ false → Step (Inside inner) last mark ≡ Err (Ends (Inside inner) mark)
+  ends_inside inner last mark none part = rw (none, part) refl
+
+  -- over an inner part, before anything
+  pub run_inside : (inner to : Inner) (last : ℕ) (marks rest : List Mark) → RunInside inner last marks ≡ Ok to → Run (Inside inner) last (marks ++ rest) ≡ Run (Inside to) (last_of last marks) rest
+  run_inside inner to last [] rest e = let same : inner ≡ to = cc e in ap (λ (i : Inner). Run (Inside i) last rest) same
+  run_inside inner to last (mark ∷ marks) rest e =
+      elim (stepped (λ role. limit_of (nesting.wrap role)) (λ role. stands_before (nesting.wrap role)) nesting.inner_role nesting.inner_move inner last mark) [
+        | Refused moves is ↦ let no_way : Err (Ends inner mark) ≡ Ok to = rw is at e in absurd cc
+        | Limited next what moves limit is ↦ let no_way : Err (Passes what (place_inside inner last mark)) ≡ Ok to = rw is at e in absurd cc
+        | Moved next moves limit is ↦ rw (steps_inside inner next last mark moves limit) (run_inside next to mark.place marks rest (rw is at e))
+      ]
+
+  -- up to a mark with which an inner part that isn't whole can't go on
+  pub run_inside_ends : (inner stop : Inner) (last : ℕ) (marks : List Mark) (mark : Mark) → RunInside inner last marks ≡ Err (Ends stop mark) → nesting.is_whole stop ≡ false → Run (Inside inner) last marks ≡ Err (Ends (Inside stop) mark)
+  run_inside_ends inner stop last [] mark e part = absurd cc
+  run_inside_ends inner stop last (first ∷ marks) mark e part =
+      elim (stepped (λ role. limit_of (nesting.wrap role)) (λ role. stands_before (nesting.wrap role)) nesting.inner_role nesting.inner_move inner last first) [
+        | Refused moves is ↦
+            let same : Err (Ends inner first) ≡ Err (Ends stop mark) = rw is at e in
+            let at : inner ≡ stop = cc same in
+            let there : first ≡ mark = cc same in
+            rw (ends_inside inner last first moves (ap nesting.is_whole at ∙ part)) (ap (λ (i : Inner). Err (Ends (Inside i) first)) at ∙ ap (λ (m : Mark). Err (Ends (Inside stop) m)) there)
+        | Limited next what moves limit is ↦ let no_way : Err (Passes what (place_inside inner last first)) ≡ Err (Ends stop mark) = rw is at e in absurd cc
+        | Moved next moves limit is ↦ rw (steps_inside inner next last first moves limit) (run_inside_ends next stop first.place marks mark (rw is at e) part)
+      ]
+
+  pub run_inside_passes : (inner : Inner) (last : ℕ) (marks : List Mark) (what : What) (place : ℕ) → RunInside inner last marks ≡ Err (Passes what place) → Run (Inside inner) last marks ≡ Err (Passes what place)
+  run_inside_passes inner last [] what place e = absurd cc
+  run_inside_passes inner last (first ∷ marks) what place e =
+      elim (stepped (λ role. limit_of (nesting.wrap role)) (λ role. stands_before (nesting.wrap role)) nesting.inner_role nesting.inner_move inner last first) [
+        | Refused moves is ↦ let no_way : Err (Ends inner first) ≡ Err (Passes what place) = rw is at e in absurd cc
+        | Limited next some moves limit is ↦
+            let same : Err (Passes some (place_inside inner last first)) ≡ Err (Passes what place) = rw is at e in
+            rw (passes_inside inner next some last first moves limit) (let s : some ≡ what = cc same in let p : place_inside inner last first ≡ place = cc same in ap (λ (w : What). Err (Passes w (place_inside inner last first))) s ∙ ap (λ (k : ℕ). Err (Passes what k)) p)
+        | Moved next moves limit is ↦ rw (steps_inside inner next last first moves limit) (run_inside_passes next first.place marks what place (rw is at e))
+      ]
+
   -- ---- the grammar
 
-  module _ (IsFront : List (Part Role) → Inner → Type 0) (IsInner : Inner → List (Part InnerRole) → Inner → Type 0) (IsBack : Outer → List (Part Role) → Type 0) (first last : Outer) (apart : IsApart nesting) (pieces : HasPieces nesting limit_of stands_before IsFront IsInner IsBack first last) where
+  module _ (IsFront : List (Part Role) → Inner → Type 0) (IsInner : Inner → List (Part InnerRole) → Inner → Type 0) (IsBack : Outer → List (Part Role) → Type 0) (first : Nested Outer Inner) (last : Outer) (apart : IsApart nesting) (pieces : HasPieces nesting limit_of stands_before IsFront IsInner IsBack first last) where
     abbrev IsSentence : List (Part Role) → Type 0
     IsSentence parts = IsNestedSentence nesting limit_of stands_before IsFront IsInner IsBack parts
 
-    sentence_leads : (parts : List (Part Role)) → IsSentence parts → Led (Outside first) parts (Outside last)
+    sentence_leads : (parts : List (Part Role)) → IsSentence parts → Led first parts (Outside last)
     sentence_leads parts sentence =
         let inner = pieces.inner_leads sentence.entry sentence.last sentence.inner sentence.is_inner in
         let behind = joined apart sentence.entry sentence.last sentence.inner sentence.back last (pieces.more sentence.last) inner.0 inner.1 (pieces.back_leads (nesting.behind sentence.last) sentence.back sentence.is_back) in
-        subst (λ (ps : List (Part Role)). Led (Outside first) ps (Outside last)) (sym sentence.spelled)
-        (led-append (Outside first) (Inside sentence.entry) (Outside last) sentence.front (wraps sentence.inner ++ sentence.back) (pieces.front_leads sentence.front sentence.entry sentence.is_front) behind)
+        subst (λ (ps : List (Part Role)). Led first ps (Outside last)) (sym sentence.spelled)
+        (led-append first (Inside sentence.entry) (Outside last) sentence.front (wraps sentence.inner ++ sentence.back) (pieces.front_leads sentence.front sentence.entry sentence.is_front) behind)
 
-    led_sentence : (parts : List (Part Role)) → Led (Outside first) parts (Outside last) → IsSentence parts
+    led_sentence : (parts : List (Part Role)) → Led first parts (Outside last) → IsSentence parts
     led_sentence parts led =
         let (front, rest, entry, is_front, same, behind) = pieces.front parts led in
         let at = split entry rest last behind in
@@ -131,7 +195,7 @@ module _ {Outer Inner Role InnerRole What : Type 0} (nesting : Nesting Outer Inn
           last = at.whole;
           back = at.back;
           is_front = is_front;
-          is_inner = pieces.inner entry at.whole at.inside at.leads at.is_whole;
+          is_inner = pieces.inner front entry at.whole at.inside is_front at.leads at.is_whole;
           is_back = pieces.back (nesting.behind at.whole) at.back at.behind;
           spelled = same ∙ ap (λ (ps : List (Part Role)). front ++ ps) at.spelled;
         }
@@ -159,5 +223,5 @@ module _ {Outer Inner Role InnerRole What : Type 0} (nesting : Nesting Outer Inn
         go true e = rw e (pieces.inner_before inner symbol place other)
         go false e = rw e (pieces.outer_before (nesting.behind inner) symbol place other)
 
-    pub nested_grammar : IsGrammar limit_of stands_before (role_at nesting) (move nesting) IsSentence (Outside first) (Outside last)
+    pub nested_grammar : IsGrammar limit_of stands_before (role_at nesting) (move nesting) IsSentence first (Outside last)
     nested_grammar = record { leads = sentence_leads; sentence = led_sentence; goes_on = goes_on; limit = limit; before = before }

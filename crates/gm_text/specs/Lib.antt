@@ -2,3 +2,5 @@ pub mod Cursor
 pub mod Lexing
 pub mod Machine
 pub mod Nested
+pub mod SchemaText
+pub mod SchemaReading

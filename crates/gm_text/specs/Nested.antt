@@ -67,12 +67,12 @@ module _ {Outer Inner Role InnerRole : Type 0} (nesting : Nesting Outer Inner Ro
         pub spelled : parts ≡ front ++ (map wrapped inner ++ back)
 
       -- what each piece owes, with the first state of the whole and its last
-      pub record HasPieces (first last : Outer) : Type 0 where
-        pub front_leads : (parts : List (Part Role)) (inner : Inner) → IsFront parts inner → LeadsNested (Outside first) parts (Inside inner)
-        pub front : (parts : List (Part Role)) → LeadsNested (Outside first) parts (Outside last)
+      pub record HasPieces (first : Nested Outer Inner) (last : Outer) : Type 0 where
+        pub front_leads : (parts : List (Part Role)) (inner : Inner) → IsFront parts inner → LeadsNested first parts (Inside inner)
+        pub front : (parts : List (Part Role)) → LeadsNested first parts (Outside last)
             → (front rest : List (Part Role)) × (inner : Inner) × IsFront front inner × (parts ≡ front ++ rest) × LeadsNested (Inside inner) rest (Outside last)
         pub inner_leads : (inner last : Inner) (parts : List (Part InnerRole)) → IsInner inner parts last → LeadsInside inner parts last × IsTrue (nesting.is_whole last)
-        pub inner : (inner last : Inner) (parts : List (Part InnerRole)) → LeadsInside inner parts last → IsTrue (nesting.is_whole last) → IsInner inner parts last
+        pub inner : (front : List (Part Role)) (inner last : Inner) (parts : List (Part InnerRole)) → IsFront front inner → LeadsInside inner parts last → IsTrue (nesting.is_whole last) → IsInner inner parts last
         pub back_leads : (outer : Outer) (parts : List (Part Role)) → IsBack outer parts → LeadsNested (Outside outer) parts (Outside last)
         pub back : (outer : Outer) (parts : List (Part Role)) → LeadsNested (Outside outer) parts (Outside last) → IsBack outer parts
         -- something stands behind each inner part
