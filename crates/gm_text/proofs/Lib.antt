@@ -8,5 +8,10 @@ pub mod Machine
 pub mod Nested
 pub mod SchemaGrammar
 pub mod SchemaStanding
+pub mod SchemaTokens
+pub mod SchemaSteps
+pub mod SchemaMoves
+pub mod SchemaReaders
+pub mod SchemaWhole
 pub mod Printed
 pub mod Worked

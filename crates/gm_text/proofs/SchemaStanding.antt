@@ -22,7 +22,7 @@ pub record IsPlaceless {What : Type 0} (passed : Role → Symbol → Option What
   pub name : (names : List (List ℕ)) (symbol : Symbol) (place other : ℕ) → passed (NameAt names place) symbol ≡ passed (NameAt names other) symbol
   pub label : (n : ℕ) (mask : Mask) (symbol : Symbol) (place other : ℕ) → passed (LabelAt n mask place) symbol ≡ passed (LabelAt n mask other) symbol
 
-limit_placeless : IsPlaceless limit_of
+pub limit_placeless : IsPlaceless limit_of
 limit_placeless = record { name = name; label = label }
   where
     name : (names : List (List ℕ)) (symbol : Symbol) (place other : ℕ) → limit_of (NameAt names place) symbol ≡ limit_of (NameAt names other) symbol
@@ -41,7 +41,7 @@ limit_placeless = record { name = name; label = label }
     label n mask Stray place other = refl
     label n mask End place other = refl
 
-passed_placeless : IsPlaceless passed_of
+pub passed_placeless : IsPlaceless passed_of
 passed_placeless = record { name = name; label = label }
   where
     name : (names : List (List ℕ)) (symbol : Symbol) (place other : ℕ) → passed_of (NameAt names place) symbol ≡ passed_of (NameAt names other) symbol

@@ -4,3 +4,4 @@ pub mod Machine
 pub mod Nested
 pub mod SchemaText
 pub mod SchemaReading
+pub mod SchemaAnswers
