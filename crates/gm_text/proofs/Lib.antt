@@ -13,5 +13,6 @@ pub mod SchemaSteps
 pub mod SchemaMoves
 pub mod SchemaReaders
 pub mod SchemaWhole
+pub mod SchemaSound
 pub mod Printed
 pub mod Worked

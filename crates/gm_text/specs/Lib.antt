@@ -5,3 +5,4 @@ pub mod Nested
 pub mod SchemaText
 pub mod SchemaReading
 pub mod SchemaAnswers
+pub mod SchemaPrinting

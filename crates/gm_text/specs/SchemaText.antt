@@ -1,5 +1,5 @@
 -- How a dimension and the embeddings of a map are written: their grammar with its limits, the schema that a text stands for, and its canonical text.
-use Rattle.std.specs.Prelude.{◌≡◌, ◌≢◌, ℕ, ◌+◌, ◌^◌, Bool, false, true, ◌||◌, ◌==◌, nat_lt, if◌then◌else◌, List, [], ◌∷◌, ◌++◌, length, map, filter, Option, Some, None, codes, decimal}
+use Rattle.std.specs.Prelude.{◌≡◌, ◌≢◌, ℕ, zero, suc, ◌+◌, ◌^◌, Bool, false, true, ◌||◌, ◌==◌, nat_lt, if◌then◌else◌, List, [], ◌∷◌, ◌++◌, length, map, Option, Some, None, codes, decimal}
 use Rattle.std.specs.Int.Bits.{bit_or}
 use Rattle.std.specs.List.{flat_map, AllByRecursion}
 use Rattle.gm_model.specs.declared.limit.LimitKind.{LimitKind}
@@ -168,9 +168,13 @@ ArePlaced (mark ∷ marks) (part ∷ parts) = IsPlacedAt mark.place part.role ×
 
 -- ---- the canonical text
 
--- the labels that are in the mask, in ascending order
+-- the labels below the number that are in the mask, in ascending order
+abbrev pub labels_below : Mask → ℕ → List ℕ
+labels_below mask zero = []
+labels_below mask (suc k) = labels_below mask k ++ (if has mask k then k ∷ [] else [])
+
 abbrev pub labels_in : Mask → List ℕ
-labels_in mask = filter (has mask) (0 ∷ 1 ∷ 2 ∷ 3 ∷ 4 ∷ 5 ∷ 6 ∷ 7 ∷ [])
+labels_in mask = labels_below mask 8
 
 -- 1 2
 abbrev pub labels_text : List ℕ → List ℕ
@@ -179,7 +183,7 @@ labels_text (label ∷ labels) = decimal label ++ flat_map (λ other. 32 ∷ dec
 
 -- embed pos <1 2> vec3
 abbrev pub embed_line : Embed → List ℕ
-embed_line embed = codes "embed " ++ embed.name ++ codes " <" ++ labels_text (labels_in embed.mask) ++ codes "> " ++ kind_word embed.kind ++ codes "\n"
+embed_line embed = codes "embed " ++ (embed.name ++ (codes " <" ++ (labels_text (labels_in embed.mask) ++ (codes "> " ++ (kind_word embed.kind ++ codes "\n")))))
 
 abbrev pub canonical : Schema → List ℕ
-canonical schema = codes "dim " ++ decimal schema.dim ++ codes "\n" ++ flat_map embed_line schema.embeds
+canonical schema = codes "dim " ++ (decimal schema.dim ++ (codes "\n" ++ flat_map embed_line schema.embeds))
