@@ -14,5 +14,6 @@ pub mod SchemaMoves
 pub mod SchemaReaders
 pub mod SchemaWhole
 pub mod SchemaSound
+pub mod SchemaPrinted
 pub mod Printed
 pub mod Worked

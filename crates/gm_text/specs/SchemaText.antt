@@ -173,7 +173,7 @@ abbrev pub labels_below : Mask → ℕ → List ℕ
 labels_below mask zero = []
 labels_below mask (suc k) = labels_below mask k ++ (if has mask k then k ∷ [] else [])
 
-abbrev pub labels_in : Mask → List ℕ
+unfoldable pub labels_in : Mask → List ℕ
 labels_in mask = labels_below mask 8
 
 -- 1 2
