@@ -15,5 +15,6 @@ pub mod SchemaReaders
 pub mod SchemaWhole
 pub mod SchemaSound
 pub mod SchemaPrinted
+pub mod OneSchema
 pub mod Printed
 pub mod Worked

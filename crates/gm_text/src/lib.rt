@@ -8,6 +8,7 @@
 
 mod bytes;
 mod fault;
+mod laws;
 mod lexer;
 mod scan;
 mod schema_fault;
@@ -18,6 +19,7 @@ mod text;
 
 pub use fault::LexFault;
 pub use gm_model::{Token, TokenKind};
+pub use laws::{no_schema_at_a_fault, one_schema_at_most, one_schema_fault_at_most};
 pub use lexer::Lexer;
 pub use schema_fault::SchemaFault;
 pub use schema_printing::print_schema;
