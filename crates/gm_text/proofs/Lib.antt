@@ -16,5 +16,6 @@ pub mod SchemaWhole
 pub mod SchemaSound
 pub mod SchemaPrinted
 pub mod OneSchema
+pub mod WorkedNested
 pub mod Printed
 pub mod Worked

@@ -180,9 +180,25 @@ module _ {What : Type 0} (limit_of : Role → Symbol → Option What) where
       let behind = led_embeds n (declared ++ embed_of embed ∷ []) embeds good.1 in
       let free : is_among reserved name ≡ false = good.0.0 in
       let named : move (AtName n declared) (Word name) ≡ Some (AtOrbit n declared name) = rw free refl in
-      let close : Led (AtLabel n declared name orbit) (sign (codes ">") ∷ word Fixed (kind_word embed.kind) ∷ rest) last = (0, AtKind n declared name orbit, refl, refl, (0, AtEmbeds n (declared ++ embed_of embed ∷ []), refl, moves, behind)) in
-      (0, AtName n declared, refl, refl, (embed.name.place, AtOrbit n declared name, refl, named, (0, AtLabel n declared name no_labels, refl, refl,
-      led_labels n declared name no_labels embed.labels (sign (codes ">") ∷ word Fixed (kind_word embed.kind) ∷ rest) last close)))
+      let close : Led (AtLabel n declared name orbit) (sign (codes ">") ∷ word Fixed (kind_word embed.kind) ∷ rest) last = (0, AtKind n declared name orbit, refl, refl, (0, AtEmbeds n (declared ++ embed_of embed ∷ []), refl, moves, behind)) in (
+        0,
+        AtName n declared,
+        refl,
+        refl,
+        (
+          embed.name.place,
+          AtOrbit n declared name,
+          refl,
+          named,
+          (
+            0,
+            AtLabel n declared name no_labels,
+            refl,
+            refl,
+            led_labels n declared name no_labels embed.labels (sign (codes ">") ∷ word Fixed (kind_word embed.kind) ∷ rest) last close,
+          ),
+        ),
+      )
 
   pub led_form : (form : SchemaForm) → IsForm form → Led AtDim (spell form []) (AtEmbeds form.dim (map embed_of form.embeds))
   led_form form good =
@@ -284,13 +300,19 @@ module _ {What : Type 0} (limit_of : Role → Symbol → Option What) where
   goes_on (AtEmbeds n declared) = ([], AtEmbeds n declared, refl, refl)
   goes_on (AtName n declared) =
       let name = codes "e" in
-      let last = with_kind n declared name no_labels kinds.Int in
-      (word (NameAt (names_in declared) 0) name ∷ sign (codes "<") ∷ sign (codes ">") ∷ word Fixed (codes "int") ∷ [], last,
-      (0, AtOrbit n declared name, refl, refl, (0, AtLabel n declared name no_labels, refl, refl, (0, AtKind n declared name no_labels, refl, refl, (0, last, refl, refl, refl)))), refl)
+      let last = with_kind n declared name no_labels kinds.Int in (
+        word (NameAt (names_in declared) 0) name ∷ sign (codes "<") ∷ sign (codes ">") ∷ word Fixed (codes "int") ∷ [],
+        last,
+        (0, AtOrbit n declared name, refl, refl, (0, AtLabel n declared name no_labels, refl, refl, (0, AtKind n declared name no_labels, refl, refl, (0, last, refl, refl, refl)))),
+        refl,
+      )
   goes_on (AtOrbit n declared name) =
-      let last = with_kind n declared name no_labels kinds.Int in
-      (sign (codes "<") ∷ sign (codes ">") ∷ word Fixed (codes "int") ∷ [], last,
-      (0, AtLabel n declared name no_labels, refl, refl, (0, AtKind n declared name no_labels, refl, refl, (0, last, refl, refl, refl))), refl)
+      let last = with_kind n declared name no_labels kinds.Int in (
+        sign (codes "<") ∷ sign (codes ">") ∷ word Fixed (codes "int") ∷ [],
+        last,
+        (0, AtLabel n declared name no_labels, refl, refl, (0, AtKind n declared name no_labels, refl, refl, (0, last, refl, refl, refl))),
+        refl,
+      )
   goes_on (AtLabel n declared name mask) =
       let last = with_kind n declared name mask kinds.Int in
       (sign (codes ">") ∷ word Fixed (codes "int") ∷ [], last, (0, AtKind n declared name mask, refl, refl, (0, last, refl, refl, refl)), refl)

@@ -59,11 +59,7 @@ fn read_dim(lexer: &mut Lexer<'_>) -> Result<Dim, SchemaFault>
 }
 
 /// The name of an embedding behind those that are known, where a second declaration is judged.
-fn read_name(
-    lexer: &mut Lexer<'_>,
-    known: &[Embed],
-    strict: bool,
-) -> Result<Name, SchemaFault>
+fn read_name(lexer: &mut Lexer<'_>, known: &[Embed], strict: bool) -> Result<Name, SchemaFault>
     ensures reads { IfOk result (ReadsName strict known.now lexer.old lexer.new) }
     ensures stops { IfErr result (StopsAtName strict known.now lexer.old) }
 {
@@ -218,11 +214,7 @@ fn next_embed(
 }
 
 /// The embeddings up to where no further one begins.
-fn read_embeds(
-    alloc: Global,
-    lexer: &mut Lexer<'_>,
-    dim: Dim,
-) -> Result<Vec<Embed>, SchemaFault>
+fn read_embeds(alloc: Global, lexer: &mut Lexer<'_>, dim: Dim) -> Result<Vec<Embed>, SchemaFault>
     ensures reads { IfOk result (λ embeds. Reads true (states.AtEmbeds dim []) lexer.old lexer.new (states.AtEmbeds dim embeds.items)) }
     ensures next { IfOk result (λ embeds. EndsEmbeds lexer.new) }
     ensures stops { IfErr result (StopsOrLost true (states.AtEmbeds dim []) lexer.old) }

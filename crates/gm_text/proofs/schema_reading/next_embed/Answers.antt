@@ -22,8 +22,8 @@ returns-clause-reads c =
     let mark : Mark = record { symbol = Word (codes "embed"); place = c.in-Some.place } in
     let few : c.args.count < 8 = omega (arith, c.if-count-ge-MOST_EMBEDS.false) in
     λ declared count known.
-        reads_behind c.args.strict (AtEmbeds c.args.dim declared) (AtName c.args.dim declared) (AtEmbeds c.args.dim (declared ++ c.in_ok-embed.embed ∷ [])) c.args.lexer.now c.embed_word.new.lexer c.read_embed.new.lexer mark word.marks word.text (omega (arith, word.onward)) refl
-        (embed_free c.args.strict declared (omega (arith, count, few))) (c.in_ok-embed.ensures.reads declared known)
+    reads_behind c.args.strict (AtEmbeds c.args.dim declared) (AtName c.args.dim declared) (AtEmbeds c.args.dim (declared ++ c.in_ok-embed.embed ∷ [])) c.args.lexer.now c.embed_word.new.lexer c.read_embed.new.lexer mark word.marks word.text (omega (arith, word.onward)) refl
+    (embed_free c.args.strict declared (omega (arith, count, few))) (c.in_ok-embed.ensures.reads declared known)
 
 pub returns-clause-text : goal.returns-clause-text
 returns-clause-text c = (c.in_ok-embed.ensures.reads c.args.known.now (known_self c.args.strict c.args.known.now)).text ∙ c.in-Some.ensures.text

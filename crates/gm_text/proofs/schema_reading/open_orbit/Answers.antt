@@ -22,4 +22,4 @@ pub returns-clause-reads : goal.returns-clause-reads
 returns-clause-reads c =
     let is : symbol_at c.next_token.new.lexer.text c.in_ok-token.token ≡ Sign (codes "<") = c.reads_sign.ensures.0 c.if-not-reads_sign.false in
     λ strict n declared name.
-        reads_token strict (AtOrbit n declared name) (AtLabel n declared name no_labels) c.args.lexer.now c.next_token.new.lexer c.in_ok-token.token c.in_ok-token.ensures.next (ap (move (AtOrbit n declared name)) is) (fixed_free strict _)
+    reads_token strict (AtOrbit n declared name) (AtLabel n declared name no_labels) c.args.lexer.now c.next_token.new.lexer c.in_ok-token.token c.in_ok-token.ensures.next (ap (move (AtOrbit n declared name)) is) (fixed_free strict _)

@@ -17,6 +17,6 @@ returns-in_err-embeds-clause-stops c =
     rw (p.1, p.2) (lost_then true AtDim (AtEmbeds c.in_ok-dim.dim []) c.args.lexer.now c.read_dim.new.lexer c.in_err-embeds.field-0.0 (c.in_ok-dim.ensures.reads true) c.in_err-embeds.ensures.stops)
 
 pub returns-clause-reads : goal.returns-clause-reads
-returns-clause-reads c = 
+returns-clause-reads c =
     let all = subst (λ (embeds : List Embed). Reads true (AtEmbeds c.in_ok-dim.dim []) c.read_dim.new.lexer c.read_embeds.new.lexer (AtEmbeds c.in_ok-dim.dim embeds)) (sym c.new.ensures) c.in_ok-embeds.ensures.reads in
     reads_then true AtDim (AtEmbeds c.in_ok-dim.dim []) (AtEmbeds c.in_ok-dim.dim c.new.result) c.args.lexer.now c.read_dim.new.lexer c.read_embeds.new.lexer (c.in_ok-dim.ensures.reads true) all

@@ -31,5 +31,5 @@ returns-clause-reads c =
     let mask = c.in_ok-mask.mask in
     let kind = c.in_ok-kind.kind in
     λ declared known.
-        reads_then c.args.strict (AtName c.args.dim declared) (AtOrbit c.args.dim declared name) (with_kind c.args.dim declared name mask kind) c.args.lexer.now c.read_name.new.lexer c.read_kind.new.lexer (c.in_ok-name.ensures.reads c.args.dim declared known)
-        (reads_then c.args.strict (AtOrbit c.args.dim declared name) (AtKind c.args.dim declared name mask) (with_kind c.args.dim declared name mask kind) c.read_name.new.lexer c.read_orbit.new.lexer c.read_kind.new.lexer (c.in_ok-mask.ensures.reads declared name) (c.in_ok-kind.ensures.reads c.args.strict c.args.dim declared name mask))
+    reads_then c.args.strict (AtName c.args.dim declared) (AtOrbit c.args.dim declared name) (with_kind c.args.dim declared name mask kind) c.args.lexer.now c.read_name.new.lexer c.read_kind.new.lexer (c.in_ok-name.ensures.reads c.args.dim declared known)
+    (reads_then c.args.strict (AtOrbit c.args.dim declared name) (AtKind c.args.dim declared name mask) (with_kind c.args.dim declared name mask kind) c.read_name.new.lexer c.read_orbit.new.lexer c.read_kind.new.lexer (c.in_ok-mask.ensures.reads declared name) (c.in_ok-kind.ensures.reads c.args.strict c.args.dim declared name mask))

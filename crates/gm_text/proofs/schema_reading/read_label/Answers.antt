@@ -25,7 +25,7 @@ returns-then-ne-clause-stops c =
     let other : c.in_ok-token.token.kind ≢ tokens.Number = search rules in
     let no_end : symbol_at c.next_token.new.lexer.text c.in_ok-token.token ≢ Sign (codes ">") = λ e. let both : true ≡ false = sym (c.reads_sign.ensures.1 e) ∙ c.if-reads_sign.false in absurd cc in
     λ declared name.
-        stops_token c.args.strict (AtLabel c.args.dim declared name c.args.mask) c.args.lexer.now c.next_token.new.lexer c.in_ok-token.token refl c.in_ok-token.ensures.next (no_label c.args.dim declared name c.args.mask _ _ other no_end)
+    stops_token c.args.strict (AtLabel c.args.dim declared name c.args.mask) c.args.lexer.now c.next_token.new.lexer c.in_ok-token.token refl c.in_ok-token.ensures.next (no_label c.args.dim declared name c.args.mask _ _ other no_end)
 
 pub returns-clause-reads : goal.returns-clause-reads
 returns-clause-reads c =
@@ -36,4 +36,4 @@ returns-clause-reads c =
       | else-strict-via-else-strict w ↦ λ judges. let both : true ≡ false = sym judges ∙ w.if-strict.false in absurd cc
     ] in
     λ declared name.
-        label_read c.args.strict c.args.lexer.now c.next_token.new.lexer c.in_ok-token.token c.in_ok-token.ensures.next number c.value-value.result c.value-value.ensures c.args.dim declared name c.args.mask c.top.ensures.greatest low once
+    label_read c.args.strict c.args.lexer.now c.next_token.new.lexer c.in_ok-token.token c.in_ok-token.ensures.next number c.value-value.result c.value-value.ensures c.args.dim declared name c.args.mask c.top.ensures.greatest low once

@@ -29,12 +29,12 @@ loop-label-preserved c =
     let l = c.loop-label in
     let reads = subst (ReadsLabel c.args.strict c.args.dim l.mask l.lexer c.read_label.new.lexer) c.in-Some.is c.in_ok-label.ensures.reads in
     λ declared name.
-        reads_then c.args.strict (AtOrbit c.args.dim declared name) (AtLabel c.args.dim declared name l.mask) (AtLabel c.args.dim declared name c.with_label-mask.result) c.args.lexer.now l.lexer c.read_label.new.lexer (l.invariant declared name)
-        (subst (λ (m : Mask). Reads c.args.strict (AtLabel c.args.dim declared name l.mask) l.lexer c.read_label.new.lexer (AtLabel c.args.dim declared name m)) (sym c.with_label-mask.ensures) (reads declared name))
+    reads_then c.args.strict (AtOrbit c.args.dim declared name) (AtLabel c.args.dim declared name l.mask) (AtLabel c.args.dim declared name c.with_label-mask.result) c.args.lexer.now l.lexer c.read_label.new.lexer (l.invariant declared name)
+    (subst (λ (m : Mask). Reads c.args.strict (AtLabel c.args.dim declared name l.mask) l.lexer c.read_label.new.lexer (AtLabel c.args.dim declared name m)) (sym c.with_label-mask.ensures) (reads declared name))
 
 pub returns-clause-reads : goal.returns-clause-reads
 returns-clause-reads c =
     let l = c.loop-label in
     let reads = subst (ReadsLabel c.args.strict c.args.dim l.mask l.lexer c.read_label.new.lexer) c.in_default.is c.in_ok-label.ensures.reads in
     λ declared name.
-        reads_then c.args.strict (AtOrbit c.args.dim declared name) (AtLabel c.args.dim declared name l.mask) (AtKind c.args.dim declared name l.mask) c.args.lexer.now l.lexer c.read_label.new.lexer (l.invariant declared name) (reads declared name)
+    reads_then c.args.strict (AtOrbit c.args.dim declared name) (AtLabel c.args.dim declared name l.mask) (AtKind c.args.dim declared name l.mask) c.args.lexer.now l.lexer c.read_label.new.lexer (l.invariant declared name) (reads declared name)
