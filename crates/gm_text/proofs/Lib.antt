@@ -16,6 +16,8 @@ pub mod SchemaWhole
 pub mod SchemaSound
 pub mod SchemaPrinted
 pub mod OneSchema
+pub mod SchemaMasks
+pub mod SchemaAgain
 pub mod WorkedNested
 pub mod Printed
 pub mod Worked

@@ -51,7 +51,7 @@ not_reserved name free among = let both : true ≡ false = sym (list_any-from_Co
 
 -- ---- labels
 
-abbrev IsLow : ℕ → Mask → Type 0
+abbrev pub IsLow : ℕ → Mask → Type 0
 IsLow n mask = (i : ℕ) → IsTrue (has mask i) → i ≤ n
 
 low_none : (n : ℕ) → IsLow n no_labels
@@ -69,7 +69,7 @@ low_more n label mask low small i there = go (i == label) refl
 
 -- ---- what parts that pass nothing say
 
-nothing_passed : (what : Option LimitKind) (again : Bool) → passed_by what again ≡ None → (what ≡ None) × (again ≡ false)
+pub nothing_passed : (what : Option LimitKind) (again : Bool) → passed_by what again ≡ None → (what ≡ None) × (again ≡ false)
 nothing_passed None false e = (refl, refl)
 nothing_passed None true e = absurd cc
 nothing_passed (Some what) again e = absurd cc
@@ -90,24 +90,24 @@ labels_within n mask (form ∷ labels) rest low within =
 -- ---- embeddings
 
 pub record IsGood (n : ℕ) (embed : Embed) : Type 0 where
-  kind : embed.kind ≢ kinds.Bool
-  labels : IsLow n embed.mask
-  free : is_among reserved embed.name ≡ false
+  pub kind : embed.kind ≢ kinds.Bool
+  pub labels : IsLow n embed.mask
+  pub free : is_among reserved embed.name ≡ false
 
-abbrev IsNew : List Embed → Embed → Type 0
+abbrev pub IsNew : List Embed → Embed → Type 0
 IsNew declared embed = is_among (names_in declared) embed.name ≡ false
 
 -- each is new behind those before it
-abbrev AreNew : List Embed → List Embed → Type 0
+abbrev pub AreNew : List Embed → List Embed → Type 0
 AreNew declared [] = Unit {0}
 AreNew declared (embed ∷ embeds) = IsNew declared embed × AreNew (declared ++ embed ∷ []) embeds
 
-record IsSoundFrom (n : ℕ) (declared embeds : List Embed) : Type 0 where
-  good : AllByRecursion (IsGood n) embeds
-  new : AreNew declared embeds
-  few : length declared ≤ 8 → length declared + length embeds ≤ 8
+pub record IsSoundFrom (n : ℕ) (declared embeds : List Embed) : Type 0 where
+  pub good : AllByRecursion (IsGood n) embeds
+  pub new : AreNew declared embeds
+  pub few : length declared ≤ 8 → length declared + length embeds ≤ 8
 
-sound_from : (n : ℕ) (declared : List Embed) (embeds : List EmbedForm) → AllByRecursion IsEmbed embeds → AreWithin (spell_embeds n declared embeds []) → IsSoundFrom n declared (map embed_of embeds)
+pub sound_from : (n : ℕ) (declared : List Embed) (embeds : List EmbedForm) → AllByRecursion IsEmbed embeds → AreWithin (spell_embeds n declared embeds []) → IsSoundFrom n declared (map embed_of embeds)
 sound_from n declared [] good within = record { good = tt; new = tt; few = λ few. omega (arith, few) }
 sound_from n declared (embed ∷ embeds) good within =
     let few = within_limit 8 (length declared + 1) limits.Embeddings (nothing_passed _ _ within.0).0 in

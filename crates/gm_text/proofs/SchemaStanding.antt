@@ -172,7 +172,7 @@ module _ {What : Type 0} (passed : Role → Symbol → Option What) (placeless :
   label_limit n mask Stray place other = refl
   label_limit n mask End place other = refl
 
-  inner_limit : (state : State) (symbol : Symbol) (place other : ℕ) → passed (role_at state symbol place) symbol ≡ passed (role_at state symbol other) symbol
+  pub inner_limit : (state : State) (symbol : Symbol) (place other : ℕ) → passed (role_at state symbol place) symbol ≡ passed (role_at state symbol other) symbol
   inner_limit AtDim symbol place other = refl
   inner_limit AtTop symbol place other = refl
   inner_limit (AtEmbeds n declared) symbol place other = refl

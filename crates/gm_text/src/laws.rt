@@ -1,9 +1,11 @@
 //! What holds of the texts of schemas, whoever reads or prints them.
-ghost use Rattle.std.specs.Prelude.{◌≡◌, ◌≢◌, ℕ, List};
+ghost use Rattle.std.specs.Prelude.{◌≡◌, ◌≢◌, ◌++◌, ℕ, List};
 ghost use Rattle.gm_model.specs.declared.schema.Schema.{Schema};
 ghost use Rattle.gm_model.specs.Symbols.{Mark};
 ghost use Rattle.gm_text.specs.Cursor.{Cursor};
 ghost use Rattle.gm_text.specs.SchemaAnswers.{marks_left, IsSchemaRead, IsSchemaSkipped, IsSchemaFault, IsSkipFault};
+ghost use Rattle.gm_text.specs.SchemaPrinting.{AreParts, BeginNoEmbed, StandsBefore};
+ghost use Rattle.gm_text.specs.SchemaText.{canonical};
 ghost use Rattle.gm_text.specs.declared.schema_fault.SchemaFault.{SchemaFault};
 ghost use Rattle.gm_text.specs.declared.schema_fault.SchemaFault.TheVariants.{OutOfMemory};
 
@@ -23,4 +25,10 @@ pub fn one_schema_fault_at_most()
 pub fn no_schema_at_a_fault()
     ensures read { (old new : Cursor) (schema : Schema) (fault : SchemaFault) → fault ≢ OutOfMemory → IsSchemaRead old new schema → IsSchemaFault (marks_left old) fault → ⊥ }
     ensures skipped { (old new : Cursor) (n : ℕ) (fault : SchemaFault) → IsSchemaSkipped old new n → IsSkipFault (marks_left old) fault → ⊥ }
+{}
+
+/// The canonical text of a schema that was read is read as the same schema, whatever stands behind
+/// it that begins no embedding.
+pub fn a_printed_schema_is_read_again()
+    ensures { (old new : Cursor) (schema : Schema) (rest : List ℕ) → IsSchemaRead old new schema → AreParts schema.embeds → BeginNoEmbed rest → StandsBefore rest (canonical schema ++ rest) schema }
 {}
