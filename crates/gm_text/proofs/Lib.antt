@@ -2,6 +2,7 @@ pub mod Fronts
 pub mod Longest
 pub mod Items
 pub mod Gaps
+pub mod Lexemes
 pub mod Values
 pub mod Marks
 pub mod Machine

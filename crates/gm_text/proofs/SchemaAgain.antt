@@ -27,7 +27,7 @@ use Rattle.gm_text.proofs.Printed.{Stops, symbols_from, symbols_of-from, symbols
 use Rattle.gm_text.proofs.SchemaGrammar.{spell_before, led_form}
 use Rattle.gm_text.proofs.SchemaMasks.{label_form, label_forms, built, none_above, built_whole, with_last}
 use Rattle.gm_text.proofs.SchemaPrinted.{all_below}
-use Rattle.gm_text.proofs.SchemaSound.{IsGood, IsLow, IsNew, AreNew, sound_from, nothing_passed}
+use Rattle.gm_text.proofs.SchemaSound.{IsGood, IsLow, IsNew, AreNew, sound_from, dim_read, read_parts}
 use Rattle.gm_text.proofs.SchemaStanding.{IsPlaceless, passed_placeless, inner_limit, form_stands}
 
 -- ---- the form of a schema, at no places yet
@@ -232,22 +232,15 @@ first_mark : (marks : List Mark) (next : Symbol) (others : List Symbol) → symb
 first_mark [] next others same = absurd cc
 first_mark (mark ∷ marks) next others same = (mark, marks, refl, cc same)
 
-dim_low : (n : ℕ) → cond ((n == 0) || nat_lt 7 n) (Some limits.Dimension) None ≡ None → n ≤ 7
-dim_low n e = go ((n == 0) || nat_lt 7 n) refl e
-  where
-    go : (b : Bool) → ((n == 0) || nat_lt 7 n) ≡ b → cond b (Some limits.Dimension) None ≡ None → n ≤ 7
-    go true f e = absurd cc
-    go false f e = grind (arith, nat_tests, f)
-
-pub read_again : (old new : Cursor) (schema : Schema) (rest : List ℕ) → IsSchemaRead old new schema → AreParts schema.embeds → BeginNoEmbed rest → StandsBefore rest (canonical schema ++ rest) schema
-read_again old new schema rest read good (next, others, begins, other) =
+pub read_again : (old new : Cursor) (schema : Schema) (rest : List ℕ) → IsSchemaRead old new schema → BeginNoEmbed rest → StandsBefore rest (canonical schema ++ rest) schema
+read_again old new schema rest read (next, others, begins, other) =
     let n = schema.dim in
     let embeds = schema.embeds in
+    let good = read_parts old new schema read in
     let same_dim : n ≡ read.form.dim = ap (λ (s : Schema). s.dim) read.means in
     let same_list : embeds ≡ map embed_of read.form.embeds = ap (λ (s : Schema). s.embeds) read.means in
     let within = read.stands.within in
-    let dim_free = (nothing_passed _ _ within.1.0).0 in
-    let low : n ≤ 7 = subst (λ (m : ℕ). m ≤ 7) (sym same_dim) (dim_low read.form.dim dim_free) in
+    let low : n ≤ 7 = subst (λ (m : ℕ). m ≤ 7) (sym same_dim) (dim_read read.form within) in
     let sound = sound_from read.form.dim [] read.form.embeds read.stands.good within.1.1 in
     let are_good : AllByRecursion (IsGood n) embeds = subst (λ (m : ℕ). AllByRecursion (IsGood m) embeds) (sym same_dim) (subst (λ (es : List Embed). AllByRecursion (IsGood read.form.dim) es) (sym same_list) sound.good) in
     let are_new : AreNew [] embeds = subst (AreNew []) (sym same_list) sound.new in

@@ -7,7 +7,9 @@ use Rattle.std.specs.Int.Bits.{bit_or}
 use Rattle.std.specs.List.{list_any, AllByRecursion}
 use Rattle.std.specs.Str.{bytes_eq}
 use Rattle.std.proofs.lemmas.Bool.Decides.{nat_tests}
-use Rattle.std.proofs.lemmas.List.{length-append}
+use Rattle.std.proofs.lemmas.List.{length-append, map-append}
+use Rattle.std.proofs.lemmas.Nat.{or_lt}
+use Rattle.std.proofs.Math.Pow.{pow-lt}
 use Rattle.std.proofs.lemmas.Map.Views.{list_any-from_Contains}
 use Rattle.std.proofs.lemmas.Nat.Bits.{bit_at-zero, bit_at_or, bit_at-pow_other}
 use Rattle.std.proofs.lemmas.Slice.Eq.{bytes_eq-Decides}
@@ -20,11 +22,13 @@ use Rattle.gm_model.specs.declared.word.Mask.{Mask}
 use Rattle.gm_model.specs.Labels.{has}
 use Rattle.gm_model.specs.Maps.{IsSchema}
 use Rattle.gm_model.specs.Names.{reserved, IsReserved, is_among}
-use Rattle.gm_model.specs.Symbols.{Word, Numeral}
-use Rattle.gm_model.specs.Reading.{Part, IsWithin}
+use Rattle.gm_model.specs.Symbols.{Symbol, Word, Numeral, Mark, symbols}
+use Rattle.gm_model.specs.Reading.{Part, IsWithin, symbols_in}
 use Rattle.gm_text.specs.Cursor.{Cursor}
 use Rattle.gm_text.specs.SchemaText.{LabelForm, EmbedForm, SchemaForm, Role, Fixed, EmbedWord, NameAt, LabelAt, Passed, LimitOf, Again, passed_by, passed_of, no_labels, with_label, with_labels, embed_of, schema_of, names_in, kind_word, word, sign, spell_labels, spell_embeds, spell, IsEmbed, IsForm, IsSentence}
-use Rattle.gm_text.specs.SchemaAnswers.{IsSchemaRead}
+use Rattle.gm_text.specs.SchemaAnswers.{IsSchemaRead, marks_left}
+use Rattle.gm_text.specs.SchemaPrinting.{AreParts}
+use Rattle.gm_text.proofs.Lexemes.{IsSound, words_are_lexemes}
 
 abbrev AreWithin : List (Part Role) → Type 0
 AreWithin parts = IsWithin IsSentence passed_of parts
@@ -172,6 +176,51 @@ form_sound form good within =
       free = λ e embed at. not_reserved embed.name (good_at form.dim embeds sound.good e embed at).free;
       differ = differ_at [] embeds sound.new;
     }
+
+-- ---- each name is one, and a mask has bits for the labels 0 to 7
+
+abbrev AreSound : List (Part Role) → Type 0
+AreSound parts = AllByRecursion IsSound (symbols_in parts)
+
+small_labels : (n : ℕ) (mask : Mask) (labels : List LabelForm) (rest : List (Part Role)) → n ≤ 7 → mask.bits < 2 ^ 8 → AreWithin (spell_labels n mask labels rest) → AreSound (spell_labels n mask labels rest) → ((with_labels mask labels).bits < 2 ^ 8) × AreSound rest
+small_labels n mask [] rest top small within sound = (small, sound)
+small_labels n mask (form ∷ labels) rest top small within sound =
+    let low = within_limit n form.label limits.Label (nothing_passed _ _ within.0).0 in
+    let power = pow-lt {i = form.label} {j = 8} (omega (arith, low, top)) in
+    small_labels n (with_label mask form.label) labels rest top (or_lt 8 mask.bits (2 ^ form.label) small power) within.1 sound.1
+
+parts_from : (n : ℕ) (declared : List Embed) (embeds : List EmbedForm) → n ≤ 7 → AreWithin (spell_embeds n declared embeds []) → AreSound (spell_embeds n declared embeds []) → AreParts (map embed_of embeds)
+parts_from n declared [] top within sound = tt
+parts_from n declared (embed ∷ embeds) top within sound =
+    let rest = spell_embeds n (declared ++ embed_of embed ∷ []) embeds [] in
+    let behind = sign (codes ">") ∷ word Fixed (kind_word embed.kind) ∷ rest in
+    let short = within_limit 32 (length embed.name.name) limits.Name (nothing_passed _ _ within.1.0).0 in
+    let labels = labels_within n no_labels embed.labels behind (low_none n) within.1.1.1 in
+    let small = small_labels n no_labels embed.labels behind top (omega arith) within.1.1.1 sound.1.1.1 in
+    (((short, sound.1.0), small.0), parts_from n (declared ++ embed_of embed ∷ []) embeds top labels.1.1.1 small.1.1.1)
+
+all_front : (front back : List Symbol) → AllByRecursion IsSound (front ++ back) → AllByRecursion IsSound front
+all_front [] back all = tt
+all_front (symbol ∷ front) back all = (all.0, all_front front back all.1)
+
+dim_low : (n : ℕ) → cond ((n == 0) || nat_lt 7 n) (Some limits.Dimension) None ≡ None → n ≤ 7
+dim_low n e = go ((n == 0) || nat_lt 7 n) refl e
+  where
+    go : (b : Bool) → ((n == 0) || nat_lt 7 n) ≡ b → cond b (Some limits.Dimension) None ≡ None → n ≤ 7
+    go true f e = absurd cc
+    go false f e = grind (arith, nat_tests, f)
+
+pub dim_read : (form : SchemaForm) → AreWithin (spell form []) → form.dim ≤ 7
+dim_read form within = dim_low form.dim (nothing_passed _ _ within.1.0).0
+
+pub read_parts : (old new : Cursor) (schema : Schema) → IsSchemaRead old new schema → AreParts schema.embeds
+read_parts old new schema read =
+    let form = read.form in
+    let within = read.stands.within in
+    let all = subst (λ (ms : List Mark). AllByRecursion IsSound (symbols ms)) read.stands.split (words_are_lexemes old.text old.place) in
+    let front = all_front (symbols read.stands.before) (symbols (marks_left new)) (subst (AllByRecursion IsSound) (map-append (λ (mark : Mark). mark.symbol) read.stands.before (marks_left new)) all) in
+    let sound : AreSound (spell form []) = subst (AllByRecursion IsSound) read.stands.spelled front in
+    subst AreParts (sym (ap (λ (s : Schema). s.embeds) read.means)) (parts_from form.dim [] form.embeds (dim_read form within) within.1.1 sound.1.1)
 
 pub read_sound : (old new : Cursor) (schema : Schema) → IsSchemaRead old new schema → IsSchema schema
 read_sound old new schema read = subst IsSchema (sym read.means) (form_sound read.form read.stands.good read.stands.within)

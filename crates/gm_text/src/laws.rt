@@ -4,7 +4,7 @@ ghost use Rattle.gm_model.specs.declared.schema.Schema.{Schema};
 ghost use Rattle.gm_model.specs.Symbols.{Mark};
 ghost use Rattle.gm_text.specs.Cursor.{Cursor};
 ghost use Rattle.gm_text.specs.SchemaAnswers.{marks_left, IsSchemaRead, IsSchemaSkipped, IsSchemaFault, IsSkipFault};
-ghost use Rattle.gm_text.specs.SchemaPrinting.{AreParts, BeginNoEmbed, StandsBefore};
+ghost use Rattle.gm_text.specs.SchemaPrinting.{BeginNoEmbed, StandsBefore};
 ghost use Rattle.gm_text.specs.SchemaText.{canonical};
 ghost use Rattle.gm_text.specs.declared.schema_fault.SchemaFault.{SchemaFault};
 ghost use Rattle.gm_text.specs.declared.schema_fault.SchemaFault.TheVariants.{OutOfMemory};
@@ -30,5 +30,5 @@ pub fn no_schema_at_a_fault()
 /// The canonical text of a schema that was read is read as the same schema, whatever stands behind
 /// it that begins no embedding.
 pub fn a_printed_schema_is_read_again()
-    ensures { (old new : Cursor) (schema : Schema) (rest : List ℕ) → IsSchemaRead old new schema → AreParts schema.embeds → BeginNoEmbed rest → StandsBefore rest (canonical schema ++ rest) schema }
+    ensures { (old new : Cursor) (schema : Schema) (rest : List ℕ) → IsSchemaRead old new schema → BeginNoEmbed rest → StandsBefore rest (canonical schema ++ rest) schema }
 {}
