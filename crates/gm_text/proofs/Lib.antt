@@ -20,5 +20,6 @@ pub mod OneSchema
 pub mod SchemaMasks
 pub mod SchemaAgain
 pub mod WorkedNested
+pub mod WorkedSchema
 pub mod Printed
 pub mod Worked

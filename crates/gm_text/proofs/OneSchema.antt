@@ -1,7 +1,6 @@
 -- One schema at most stands before other marks, the marks have one first fault at most, and none where a schema stands.
-use Rattle.std.proofs.Common.{◌≡◌, ◌≢◌, ℕ, Bool, true, false, List, [], ◌∷◌, ◌++◌, map, Option, Some, None, Result, Ok, Err, refl, sym, ap, subst, ◌∙◌, codes}
+use Rattle.std.proofs.Common.{◌≡◌, ◌≢◌, ℕ, List, [], ◌∷◌, ◌++◌, map, Option, Some, None, Result, Ok, Err, refl, sym, ap, subst, ◌∙◌, codes}
 use Rattle.std.proofs.lemmas.List.{map-append}
-use Rattle.std.specs.List.{AllByRecursion}
 use Rattle.gm_model.specs.declared.limit.LimitKind.{LimitKind}
 use Rattle.gm_model.specs.declared.schema.Embed.{Embed}
 use Rattle.gm_model.specs.declared.schema.Schema.{Schema}
@@ -11,7 +10,7 @@ use Rattle.gm_text.specs.Cursor.{Cursor}
 use Rattle.gm_text.specs.Machine.{Stop, Ends, Passes, Leads, run}
 use Rattle.gm_text.specs.Nested.{Nested, Outside, Inside}
 use Rattle.gm_text.specs.Nested as nested
-use Rattle.gm_text.specs.SchemaText.{SchemaForm, Role, Fixed, Passed, LimitOf, Again, limit_of, passed_of, embed_of, schema_of, spell, beyond, IsSentence}
+use Rattle.gm_text.specs.SchemaText.{SchemaForm, Role, Fixed, LimitOf, Again, limit_of, passed_of, embed_of, schema_of, spell, beyond, IsSentence}
 use Rattle.gm_text.specs.SchemaReading.{State, AtDim, AtEmbeds, role_at, move, Around, AtRest, standing, never, Stands}
 use Rattle.gm_text.specs.SchemaAnswers.{marks_left, IsSchemaRead, IsSchemaSkipped, IsSchemaFault, IsSkipFault}
 use Rattle.gm_text.specs.declared.schema_fault.SchemaFault.{SchemaFault}

@@ -1,11 +1,9 @@
 -- The canonical text of a schema that was read is read as the same schema, before any bytes that begin no embedding.
-use Rattle.std.proofs.Common.{◌≡◌, ◌≢◌, ℕ, zero, suc, ◌+◌, ◌^◌, ◌<◌, ◌≤◌, Bool, true, false, cond, List, [], ◌∷◌, ◌++◌, length, map, Option, Some, None, Result, Ok, Err, refl, sym, ap, subst, ◌∙◌, append_assoc, codes, arith}
-use Rattle.std.specs.Prelude.{IsTrue, decimal, nat_lt, ◌==◌, ◌||◌}
+use Rattle.std.proofs.Common.{◌≡◌, ℕ, zero, suc, ◌+◌, ◌^◌, ◌<◌, ◌≤◌, Bool, true, false, cond, List, [], ◌∷◌, ◌++◌, length, map, Some, None, Ok, refl, sym, ap, subst, ◌∙◌, append_assoc, codes, arith}
+use Rattle.std.specs.Prelude.{decimal, nat_lt, ◌==◌}
 use Rattle.std.specs.List.{flat_map, AllByRecursion}
 use Rattle.std.proofs.lemmas.Bool.Decides.{nat_tests}
 use Rattle.std.proofs.lemmas.List.{append-nil, map-append, length-append}
-use Rattle.gm_model.specs.declared.limit.LimitKind.{LimitKind}
-use Rattle.gm_model.specs.declared.limit.LimitKind.TheVariants as limits
 use Rattle.gm_model.specs.declared.schema.Embed.{Embed}
 use Rattle.gm_model.specs.declared.schema.Schema.{Schema}
 use Rattle.gm_model.specs.declared.token.TokenKind.TheVariants as tokens
@@ -13,22 +11,21 @@ use Rattle.gm_model.specs.declared.value.Kind.{Kind}
 use Rattle.gm_model.specs.declared.value.Kind.TheVariants as kinds
 use Rattle.gm_model.specs.declared.word.Mask.{Mask}
 use Rattle.gm_model.specs.Labels.{has}
-use Rattle.gm_model.specs.Names.{IsName, is_among, reserved}
 use Rattle.gm_model.specs.Symbols.{Symbol, Word, Numeral, Sign, Mark, symbols, symbols_of, marks_of}
 use Rattle.gm_model.specs.Tokens.{is_digit, begins_two_byte_sign, IsLexeme}
 use Rattle.gm_model.specs.Reading.{Part, IsWithin, symbols_in}
 use Rattle.gm_text.specs.Cursor.{Cursor}
-use Rattle.gm_text.specs.Machine.{Stop, Leads, run}
-use Rattle.gm_text.specs.SchemaText.{LabelForm, EmbedForm, SchemaForm, Role, Fixed, Dimension, EmbedWord, NameAt, LabelAt, Passed, LimitOf, limit_of, is_again, passed_of, no_labels, with_label, with_labels, embed_of, schema_of, names_in, kind_word, word, number, sign, spell_labels, spell_embed, spell_embeds, spell, IsEmbed, IsForm, IsSentence, beyond, labels_below, labels_in, labels_text, embed_line, canonical}
+use Rattle.gm_text.specs.Machine.{Leads, run}
+use Rattle.gm_text.specs.SchemaText.{LabelForm, EmbedForm, SchemaForm, Role, Fixed, Dimension, EmbedWord, NameAt, LabelAt, passed_of, no_labels, with_label, with_labels, embed_of, names_in, kind_word, word, sign, spell_labels, spell_embed, spell_embeds, spell, IsEmbed, IsForm, IsSentence, beyond, labels_below, labels_in, labels_text, embed_line, canonical}
 use Rattle.gm_text.specs.SchemaReading.{State, AtDim, AtEmbeds, role_at, move, never}
 use Rattle.gm_text.specs.SchemaAnswers.{IsSchemaRead}
 use Rattle.gm_text.specs.SchemaPrinting.{AreParts, BeginNoEmbed, StandsBefore}
 use Rattle.gm_text.proofs.Printed.{Stops, symbols_from, symbols_of-from, symbols_from-blank, symbols_from-word_blank, symbols_from-decimal, symbols_from-decimal_blank, symbols_from-sign, IsLexeme-decimal}
 use Rattle.gm_text.proofs.SchemaGrammar.{spell_before, led_form}
-use Rattle.gm_text.proofs.SchemaMasks.{label_form, label_forms, built, none_above, built_whole, with_last}
+use Rattle.gm_text.proofs.SchemaMasks.{label_forms, built, none_above, built_whole}
 use Rattle.gm_text.proofs.SchemaPrinted.{all_below}
-use Rattle.gm_text.proofs.SchemaSound.{IsGood, IsLow, IsNew, AreNew, sound_from, dim_read, read_parts}
-use Rattle.gm_text.proofs.SchemaStanding.{IsPlaceless, passed_placeless, inner_limit, form_stands}
+use Rattle.gm_text.proofs.SchemaSound.{IsGood, IsLow, AreNew, sound_from, dim_read, read_parts}
+use Rattle.gm_text.proofs.SchemaStanding.{passed_placeless, inner_limit, form_stands}
 
 -- ---- the form of a schema, at no places yet
 

@@ -10,15 +10,12 @@ use Rattle.gm_model.specs.declared.schema.Embed.{Embed}
 use Rattle.gm_model.specs.declared.value.Kind.{Kind}
 use Rattle.gm_model.specs.declared.value.Kind.TheVariants as kinds
 use Rattle.gm_model.specs.declared.word.Mask.{Mask}
-use Rattle.gm_model.specs.Names.{Mention, reserved, is_among, IsFree}
+use Rattle.gm_model.specs.Names.{Mention, reserved, is_among}
 use Rattle.gm_model.specs.Symbols.{Symbol, Word, Numeral, Sign, Gone, Stray, End}
 use Rattle.gm_model.specs.Reading.{Part}
-use Rattle.gm_text.specs.Machine.{Leads, IsGrammar}
-use Rattle.gm_text.specs.Nested.{Nested, Outside, Inside, IsApart, HasPieces, IsNestedSentence, LeadsNested, wrapped}
-use Rattle.gm_text.specs.Nested as nested
-use Rattle.gm_text.specs.SchemaText.{LabelForm, EmbedForm, SchemaForm, Role, Fixed, Dimension, EmbedWord, NameAt, LabelAt, no_labels, with_label, with_labels, embed_of, names_in, kind_word, word, number, sign, spell_labels, spell_embed, spell_embeds, spell, IsEmbed, IsForm, beyond, IsSentence}
-use Rattle.gm_text.specs.SchemaReading.{State, AtDim, AtTop, AtEmbeds, AtName, AtOrbit, AtLabel, AtKind, role_at, kind_named, expect, with_kind, move, is_whole, Around, AtNext, AtRest, around_move, standing, never}
-use Rattle.gm_text.proofs.Nested.{nested_grammar}
+use Rattle.gm_text.specs.Machine.{Leads}
+use Rattle.gm_text.specs.SchemaText.{LabelForm, EmbedForm, SchemaForm, Role, Fixed, Dimension, EmbedWord, NameAt, LabelAt, no_labels, with_label, with_labels, embed_of, names_in, kind_word, word, number, sign, spell_labels, spell_embeds, spell, IsEmbed, IsForm}
+use Rattle.gm_text.specs.SchemaReading.{State, AtDim, AtTop, AtEmbeds, AtName, AtOrbit, AtLabel, AtKind, role_at, kind_named, expect, with_kind, move, is_whole, never}
 
 -- ---- spellings before something else
 

@@ -1,29 +1,18 @@
 -- Where a token leads that is what a state of a schema waits for, or isn't, and what it passes there.
-use Rattle.std.proofs.Common.{◌≡◌, ◌≢◌, ◌↔◌, ℕ, ◌+◌, ◌-◌, ◌^◌, ◌<◌, ◌≤◌, min, Bool, true, false, cond, List, [], ◌∷◌, ◌++◌, length, map, Option, Some, None, Ok, refl, sym, ap, subst, ◌∙◌, codes, arith}
-use Rattle.std.specs.Option.{option_map}
-use Rattle.std.specs.Prelude.{IsTrue, nat_lt, ◌==◌, ◌||◌}
-use Rattle.std.specs.List.{list_any}
+use Rattle.std.proofs.Common.{◌≡◌, ◌≢◌, ℕ, Bool, true, false, List, Some, None, refl, ap, codes}
 use Rattle.std.specs.Str.{bytes_eq}
 use Rattle.std.proofs.lemmas.Slice.Eq.{bytes_eq-Decides}
 use Rattle.gm_model.specs.declared.limit.LimitKind.{LimitKind}
-use Rattle.gm_model.specs.declared.limit.LimitKind.TheVariants as limits
 use Rattle.gm_model.specs.declared.schema.Embed.{Embed}
-use Rattle.gm_model.specs.declared.token.Token.{Token}
 use Rattle.gm_model.specs.declared.token.TokenKind.{TokenKind}
 use Rattle.gm_model.specs.declared.token.TokenKind.TheVariants as tokens
-use Rattle.gm_model.specs.declared.value.Kind.{Kind}
 use Rattle.gm_model.specs.declared.word.Mask.{Mask}
-use Rattle.gm_model.specs.Labels.{has}
-use Rattle.gm_model.specs.Names.{is_among, reserved}
 use Rattle.gm_model.specs.Symbols.{Symbol, Word, Numeral, Sign, Gone, Stray, End, symbol_of_kind}
-use Rattle.gm_text.specs.SchemaText.{Role, Fixed, Dimension, EmbedWord, NameAt, LabelAt, Passed, LimitOf, Again, limit_of, is_again, passed_by, passed_of, names_in, no_labels, with_label}
-use Rattle.gm_text.specs.SchemaReading.{State, AtDim, AtTop, AtEmbeds, AtName, AtOrbit, AtLabel, AtKind, role_at, label_role, kind_named, expect, with_kind, move}
-use Rattle.gm_text.specs.SchemaAnswers.{judged, IsKnown}
+use Rattle.gm_text.specs.SchemaText.{Role, Fixed, LimitOf, Again, limit_of, is_again, no_labels}
+use Rattle.gm_text.specs.SchemaReading.{State, AtDim, AtTop, AtName, AtOrbit, AtLabel, AtKind, expect, move}
+use Rattle.gm_text.specs.SchemaAnswers.{judged}
 
 -- ---- where it leads
-
-pub met : (wanted found : List ℕ) (to : State) → found ≡ wanted → expect wanted found to ≡ Some to
-met wanted found to e = let is : bytes_eq found wanted ≡ true = (bytes_eq-Decides found wanted).1 e in rw is refl
 
 unmet : (wanted found : List ℕ) (to : State) → (found ≡ wanted → ⊥) → expect wanted found to ≡ None
 unmet wanted found to other = go (bytes_eq found wanted) refl
@@ -89,9 +78,3 @@ passes_again role symbol limit again = rw (limit, again) refl
 pub passes_nothing : (strict : Bool) (role : Role) (symbol : Symbol) → limit_of role symbol ≡ None → (strict ≡ true → is_again role symbol ≡ false) → judged strict role symbol ≡ None
 passes_nothing true role symbol limit again = rw (limit, again refl) refl
 passes_nothing false role symbol limit again = rw limit refl
-
-if_true : {A : Type 0} (b : Bool) (one other : A) → b ≡ true → cond b one other ≡ one
-if_true b one other e = rw e refl
-
-if_false : {A : Type 0} (b : Bool) (one other : A) → b ≡ false → cond b one other ≡ other
-if_false b one other e = rw e refl

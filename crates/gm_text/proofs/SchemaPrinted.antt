@@ -18,21 +18,11 @@ labels_snoc (first ∷ labels) label =
     ap (λ (bytes : List ℕ). decimal first ++ bytes) (flat_map-append (λ other. 32 ∷ decimal other) labels (label ∷ []) ∙ ap (λ (bytes : List ℕ). flat_map (λ other. 32 ∷ decimal other) labels ++ bytes) (append-nil (32 ∷ decimal label)))
     ∙ sym (append_assoc (decimal first) (flat_map (λ other. 32 ∷ decimal other) labels) (32 ∷ decimal label))
 
-gap_snoc : (labels : List ℕ) (label : ℕ) → gap_behind (labels ++ label ∷ []) ≡ 32 ∷ []
-gap_snoc [] label = refl
-gap_snoc (first ∷ labels) label = refl
-
 pub below_has : (mask : Mask) (k : ℕ) → has mask k ≡ true → labels_below mask (k + 1) ≡ labels_below mask k ++ k ∷ []
 below_has mask k e = ap (labels_below mask) (add-one k) ∙ ap (λ (b : Bool). labels_below mask k ++ cond b (k ∷ []) []) e
 
-pub below_lacks : (mask : Mask) (k : ℕ) → has mask k ≡ false → labels_below mask (k + 1) ≡ labels_below mask k
-below_lacks mask k e = ap (labels_below mask) (add-one k) ∙ ap (λ (b : Bool). labels_below mask k ++ cond b (k ∷ []) []) e ∙ append-nil (labels_below mask k)
-
 pub more_text : (mask : Mask) (k : ℕ) → has mask k ≡ true → labels_text (labels_below mask (k + 1)) ≡ labels_text (labels_below mask k) ++ (gap_behind (labels_below mask k) ++ decimal k)
 more_text mask k e = ap labels_text (below_has mask k e) ∙ labels_snoc (labels_below mask k) k
-
-pub more_gap : (mask : Mask) (k : ℕ) → has mask k ≡ true → gap_behind (labels_below mask (k + 1)) ≡ 32 ∷ []
-more_gap mask k e = ap gap_behind (below_has mask k e) ∙ gap_snoc (labels_below mask k) k
 
 -- one more label, or none
 text_grows : (mask : Mask) (k : ℕ) → (more : List ℕ) × (labels_text (labels_below mask (suc k)) ≡ labels_text (labels_below mask k) ++ more)
@@ -81,9 +71,6 @@ cut_here old one other new (done, left, spelled, appended) = (done, left ++ othe
 pub cut_behind : (old between one other new : List ℕ) → between ≡ old ++ one → IsCut between other new → IsCut old (one ++ other) new
 cut_behind old between one other new is (done, left, spelled, appended) =
     (one ++ done, left, ap (λ (bytes : List ℕ). one ++ bytes) spelled ∙ sym (append_assoc one done left), appended ∙ ap (λ (bytes : List ℕ). bytes ++ done) is ∙ append_assoc old one done)
-
-pub done_behind : (old between one other new : List ℕ) → between ≡ old ++ one → new ≡ between ++ other → new ≡ old ++ (one ++ other)
-done_behind old between one other new is more = more ∙ ap (λ (bytes : List ℕ). bytes ++ other) is ∙ append_assoc old one other
 
 pub cut_none : (old text new : List ℕ) → new ≡ old → IsCut old text new
 cut_none old text new same = ([], text, refl, same ∙ sym (append-nil old))

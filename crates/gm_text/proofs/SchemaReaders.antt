@@ -1,7 +1,7 @@
 -- What each reader of a part of a schema comes to, by what it saw of the next token.
-use Rattle.std.proofs.Common.{◌≡◌, ◌≢◌, ℕ, ◌+◌, ◌-◌, ◌^◌, ◌<◌, ◌≤◌, min, Bool, true, false, cond, List, [], ◌∷◌, ◌++◌, length, map, Option, Some, None, refl, sym, ap, subst, ◌∙◌, codes, arith}
+use Rattle.std.proofs.Common.{◌≡◌, ℕ, ◌+◌, ◌-◌, ◌^◌, ◌<◌, ◌≤◌, min, Bool, true, false, cond, List, [], ◌∷◌, length, Option, Some, None, refl, ap, subst, ◌∙◌, codes, arith}
 use Rattle.std.specs.Option.{option_map}
-use Rattle.std.specs.Prelude.{IsTrue, nat_lt, ◌==◌, ◌||◌}
+use Rattle.std.specs.Prelude.{nat_lt, ◌==◌, ◌||◌}
 use Rattle.std.specs.List.{list_any}
 use Rattle.std.specs.Str.{bytes_eq}
 use Rattle.std.proofs.lemmas.Bool.Decides.{nat_tests}
@@ -16,8 +16,8 @@ use Rattle.gm_model.specs.Names.{IsName, is_among, reserved}
 use Rattle.gm_model.specs.Symbols.{Symbol, Word, Numeral, Sign, symbol_of_kind, value_of}
 use Rattle.gm_model.specs.Tokens.{IsLexeme, bytes_of}
 use Rattle.gm_text.specs.Cursor.{Cursor}
-use Rattle.gm_text.specs.SchemaText.{Role, Fixed, Dimension, EmbedWord, LimitOf, NameAt, LabelAt, limit_of, is_again, names_in, with_label}
-use Rattle.gm_text.specs.SchemaReading.{State, AtTop, AtEmbeds, AtName, AtOrbit, AtLabel, AtKind, role_at, label_role, kind_named, with_kind, move}
+use Rattle.gm_text.specs.SchemaText.{Role, Fixed, Dimension, EmbedWord, NameAt, LabelAt, limit_of, is_again, names_in, with_label}
+use Rattle.gm_text.specs.SchemaReading.{AtTop, AtEmbeds, AtName, AtOrbit, AtLabel, AtKind, label_role, kind_named, with_kind, move}
 use Rattle.gm_text.specs.SchemaAnswers.{judged, IsKnown, Reads, EndsIn, Stops, IsNext, symbol_at}
 use Rattle.gm_text.specs.declared.schema_fault.SchemaFault.TheVariants as faults
 use Rattle.gm_text.proofs.SchemaMoves.{passes_limit, passes_again, passes_nothing, fixed_free}
@@ -38,9 +38,6 @@ known_in false known declared name b is e has = absurd cc
 
 short_is : (n m : ℕ) → m ≤ n → nat_lt n m ≡ false
 short_is n m h = grind arith
-
-long_is : (n m : ℕ) → n < m → nat_lt n m ≡ true
-long_is n m h = grind arith
 
 module _ (strict : Bool) (known declared : List Embed) (is_known : IsKnown strict known declared) (n : ℕ) (old new : Cursor) (token : Token) (next : IsNext old token new) (kind : token.kind ≡ tokens.Name) where
   name : List ℕ
@@ -115,24 +112,6 @@ module _ (strict : Bool) (old new : Cursor) (token : Token) (next : IsNext old t
         reads_token strict (AtLabel n declared name mask) (AtLabel n declared name (with_label mask value)) old new token next (ap (move (AtLabel n declared name mask)) symbol)
         (ap (λ (r : Role). judged strict r (symbol_at new.text token)) role ∙ passes_nothing strict (LabelAt n mask token.start) (symbol_at new.text token) limit said)
 
-    pub label_again : value ≤ n → strict ≡ true → has mask value ≡ true → Stops strict (AtLabel n declared name mask) old (faults.Twice token.start)
-    label_again low judges again =
-        let symbol = small (omega (arith, low, top)) in
-        let role : label_role n mask (symbol_at new.text token) token.start ≡ LabelAt n mask token.start = ap (λ (s : Symbol). label_role n mask s token.start) symbol in
-        let limit : limit_of (LabelAt n mask token.start) (symbol_at new.text token) ≡ None = ap (limit_of (LabelAt n mask token.start)) symbol ∙ (rw (short_is n value low) refl) in
-        let said : is_again (LabelAt n mask token.start) (symbol_at new.text token) ≡ true = ap (is_again (LabelAt n mask token.start)) symbol ∙ again in
-        twice_token strict (AtLabel n declared name mask) (AtLabel n declared name (with_label mask value)) old new token next (ap (move (AtLabel n declared name mask)) symbol)
-        (ap (λ (r : Role). judged strict r (symbol_at new.text token)) role ∙ ap (λ (b : Bool). judged b (LabelAt n mask token.start) (symbol_at new.text token)) judges ∙ passes_again (LabelAt n mask token.start) (symbol_at new.text token) limit said)
-
-    pub label_high : n < value → Stops strict (AtLabel n declared name mask) old (faults.Limit limits.Label token.start)
-    label_high high =
-        let m = value_of (bytes_of new.text token) in
-        let above : n < m = omega (arith, is, high) in
-        let role : label_role n mask (symbol_at new.text token) token.start ≡ LabelAt n mask token.start = ap (λ (s : Symbol). label_role n mask s token.start) numeral_is in
-        let limit : limit_of (LabelAt n mask token.start) (symbol_at new.text token) ≡ Some limits.Label = ap (limit_of (LabelAt n mask token.start)) numeral_is ∙ (rw (long_is n m above) refl) in
-        limit_token strict (AtLabel n declared name mask) (AtLabel n declared name (with_label mask m)) old new token limits.Label next (ap (move (AtLabel n declared name mask)) numeral_is)
-        (ap (λ (r : Role). judged strict r (symbol_at new.text token)) role ∙ passes_limit strict (LabelAt n mask token.start) (symbol_at new.text token) limits.Label limit)
-
 pub label_ends : (strict : Bool) (n : ℕ) (declared : List Embed) (name : List ℕ) (mask : Mask) (old new : Cursor) (token : Token) → IsNext old token new → symbol_at new.text token ≡ Sign (codes ">") → Reads strict (AtLabel n declared name mask) old new (AtKind n declared name mask)
 label_ends strict n declared name mask old new token next symbol =
     let role : label_role n mask (symbol_at new.text token) token.start ≡ Fixed = ap (λ (s : Symbol). label_role n mask s token.start) symbol in
@@ -157,8 +136,3 @@ pub embed_free : (strict : Bool) (declared : List Embed) → length declared < 8
 embed_free strict declared few =
     let limit : limit_of (EmbedWord (length declared + 1)) (Word (codes "embed")) ≡ None = rw (short_is 8 (length declared + 1) (omega (arith, few))) refl in
     passes_nothing strict (EmbedWord (length declared + 1)) (Word (codes "embed")) limit (λ judges. refl)
-
-pub embed_many : (strict : Bool) (declared : List Embed) → 8 ≤ length declared → judged strict (EmbedWord (length declared + 1)) (Word (codes "embed")) ≡ Some (LimitOf limits.Embeddings)
-embed_many strict declared many =
-    let limit : limit_of (EmbedWord (length declared + 1)) (Word (codes "embed")) ≡ Some limits.Embeddings = rw (long_is 8 (length declared + 1) (omega (arith, many))) refl in
-    passes_limit strict (EmbedWord (length declared + 1)) (Word (codes "embed")) limits.Embeddings limit

@@ -4,7 +4,7 @@ use Rattle.std.specs.Prelude.{IsTrue, nat_lt, ◌==◌}
 use Rattle.std.specs.Cmp.{IsEquivalence}
 use Rattle.std.specs.Int.{bit_at}
 use Rattle.std.specs.Int.Bits.{bit_or}
-use Rattle.std.specs.List.{list_any, AllByRecursion}
+use Rattle.std.specs.List.{AllByRecursion}
 use Rattle.std.specs.Str.{bytes_eq}
 use Rattle.std.proofs.lemmas.Bool.Decides.{nat_tests}
 use Rattle.std.proofs.lemmas.List.{length-append, map-append}
@@ -22,10 +22,10 @@ use Rattle.gm_model.specs.declared.word.Mask.{Mask}
 use Rattle.gm_model.specs.Labels.{has}
 use Rattle.gm_model.specs.Maps.{IsSchema}
 use Rattle.gm_model.specs.Names.{reserved, IsReserved, is_among}
-use Rattle.gm_model.specs.Symbols.{Symbol, Word, Numeral, Mark, symbols}
+use Rattle.gm_model.specs.Symbols.{Symbol, Mark, symbols}
 use Rattle.gm_model.specs.Reading.{Part, IsWithin, symbols_in}
 use Rattle.gm_text.specs.Cursor.{Cursor}
-use Rattle.gm_text.specs.SchemaText.{LabelForm, EmbedForm, SchemaForm, Role, Fixed, EmbedWord, NameAt, LabelAt, Passed, LimitOf, Again, passed_by, passed_of, no_labels, with_label, with_labels, embed_of, schema_of, names_in, kind_word, word, sign, spell_labels, spell_embeds, spell, IsEmbed, IsForm, IsSentence}
+use Rattle.gm_text.specs.SchemaText.{LabelForm, EmbedForm, SchemaForm, Role, Fixed, passed_by, passed_of, no_labels, with_label, with_labels, embed_of, schema_of, names_in, kind_word, word, sign, spell_labels, spell_embeds, spell, IsEmbed, IsForm, IsSentence}
 use Rattle.gm_text.specs.SchemaAnswers.{IsSchemaRead, marks_left}
 use Rattle.gm_text.specs.SchemaPrinting.{AreParts}
 use Rattle.gm_text.proofs.Lexemes.{IsSound, words_are_lexemes}

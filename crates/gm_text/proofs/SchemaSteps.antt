@@ -1,12 +1,12 @@
 -- What one mark comes to where a schema is read, and how steps are put together.
-use Rattle.std.proofs.Common.{◌≡◌, ◌≢◌, ◌≤◌, ℕ, Bool, true, false, List, [], ◌∷◌, ◌++◌, Option, Some, None, Result, Ok, Err, refl, sym, ap, subst, ◌∙◌, append_assoc, arith}
+use Rattle.std.proofs.Common.{◌≡◌, ◌≤◌, ℕ, Bool, true, false, List, [], ◌∷◌, ◌++◌, Option, Some, None, Result, Ok, Err, refl, sym, ap, subst, ◌∙◌, append_assoc, arith}
 use Rattle.std.specs.Prelude.{IfOk, IfErr}
 use Rattle.gm_model.specs.declared.limit.LimitKind.{LimitKind}
 use Rattle.gm_model.specs.declared.schema.Embed.{Embed}
 use Rattle.gm_model.specs.Symbols.{Symbol, Stray, End, Mark}
 use Rattle.gm_text.specs.Cursor.{Cursor}
 use Rattle.gm_text.specs.Machine.{Stop, Ends, Passes}
-use Rattle.gm_text.specs.SchemaText.{Role, Passed, LimitOf, Again}
+use Rattle.gm_text.specs.SchemaText.{Passed, LimitOf, Again}
 use Rattle.gm_text.specs.SchemaReading.{State, AtDim, AtTop, AtEmbeds, AtName, AtOrbit, AtLabel, AtKind, role_at, move, is_whole}
 use Rattle.gm_text.specs.SchemaAnswers.{marks_left, judged, IsKnown, run_in, Reads, EndsIn, Stops, StopsOrLost, IsNext, IsNoToken, AtStray, AtEnd, IsNoneNext, symbol_at, mark_at}
 use Rattle.gm_text.specs.declared.schema_fault.SchemaFault.{SchemaFault}
@@ -108,9 +108,6 @@ run_over strict state to last (mark ∷ marks) rest e =
       | Off stop is ↦ let no_way : Err stop ≡ Ok to = sym (is marks) ∙ e in absurd cc
     ]
 
-pub reads_nothing : (strict : Bool) (state : State) (cursor : Cursor) → Reads strict state cursor cursor state
-reads_nothing strict state cursor = record { before = []; split = refl; runs = λ last. refl; text = refl; onward = omega arith }
-
 pub reads_then : (strict : Bool) (state middle to : State) (old between new : Cursor) → Reads strict state old between middle → Reads strict middle between new to → Reads strict state old new to
 reads_then strict state middle to old between new one two = record {
   before = one.before ++ two.before;
@@ -149,10 +146,6 @@ pub stops_behind : (strict : Bool) (state next : State) (old between : Cursor) (
 stops_behind strict state next old between fault mark marks text onward moves free stops =
     let one : Reads strict state old between next = record { before = mark ∷ []; split = marks; runs = one_read strict state next mark moves free; text = text; onward = onward } in
     stops_then strict state next old between fault one stops
-
-pub limit_mark : (strict : Bool) (state next : State) (old : Cursor) (mark : Mark) (rest : List Mark) (what : LimitKind) → marks_left old ≡ mark ∷ rest → move state mark.symbol ≡ Some next
-    → judged strict (role_at state mark.symbol mark.place) mark.symbol ≡ Some (LimitOf what) → Stops strict state old (faults.Limit what mark.place)
-limit_mark strict state next old mark rest what marks moves passes last = ap (run_in strict state last) marks ∙ passes_at strict state next mark rest (LimitOf what) moves passes last
 
 pub or_lost : (strict : Bool) (state : State) (old : Cursor) (fault : SchemaFault) → Stops strict state old fault → StopsOrLost strict state old fault
 or_lost strict state old (faults.Text place) stops = stops

@@ -1,9 +1,8 @@
 -- The marks where a lexer answers no token.
-use Rattle.std.proofs.Common.{◌≡◌, ℕ, List, [], ◌∷◌, length, Option, Some, None, Result, Ok, Err, refl, sym, ap, ◌∙◌}
-use Rattle.gm_model.specs.declared.token.Token.{Token}
+use Rattle.std.proofs.Common.{◌≡◌, ℕ, length, None, Ok, Err, refl, ap}
 use Rattle.gm_model.specs.Symbols.{Stray, End}
 use Rattle.gm_text.specs.Cursor.{Cursor}
-use Rattle.gm_text.specs.Lexing.{rest_of, items_read, after}
+use Rattle.gm_text.specs.Lexing.{rest_of, items_read}
 use Rattle.gm_text.specs.declared.fault.LexFault.{LexFault}
 use Rattle.gm_text.specs.declared.schema_fault.SchemaFault.TheVariants as faults
 use Rattle.gm_text.specs.SchemaAnswers.{AtStray, AtEnd, IsNoneNext}

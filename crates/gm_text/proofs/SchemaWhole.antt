@@ -1,16 +1,15 @@
 -- What reading a schema to its end answers: its form, or the first fault by the grammar.
-use Rattle.std.proofs.Common.{◌≡◌, ℕ, Bool, true, false, List, [], ◌∷◌, Option, Some, None, Result, Ok, Err, refl, sym, ap, subst, ◌∙◌}
-use Rattle.std.specs.Option.{option_map}
+use Rattle.std.proofs.Common.{◌≡◌, ℕ, true, false, List, [], ◌∷◌, Option, Some, None, Result, Ok, Err, refl, sym, ap, subst, ◌∙◌}
 use Rattle.gm_model.specs.declared.limit.LimitKind.{LimitKind}
 use Rattle.gm_model.specs.declared.schema.Embed.{Embed}
 use Rattle.gm_model.specs.declared.schema.Schema.{Schema}
-use Rattle.gm_model.specs.Symbols.{Symbol, Mark}
+use Rattle.gm_model.specs.Symbols.{Mark}
 use Rattle.gm_model.specs.Reading.{TextEndsAt}
 use Rattle.gm_text.specs.Cursor.{Cursor}
 use Rattle.gm_text.specs.Machine.{Stop, Ends, Passes, run}
-use Rattle.gm_text.specs.SchemaText.{Role, Passed, LimitOf, Again, limit_of, passed_of, IsSentence}
-use Rattle.gm_text.specs.SchemaReading.{State, AtDim, AtEmbeds, role_at, move, is_whole, never}
-use Rattle.gm_text.specs.SchemaAnswers.{marks_left, judged, run_in, Reads, EndsIn, Stops, StopsOrLost, EndsEmbeds, SkipsSchema, IsSchemaRead, IsSchemaSkipped, IsSchemaFault, IsSkipFault}
+use Rattle.gm_text.specs.SchemaText.{LimitOf, Again, limit_of, passed_of, IsSentence}
+use Rattle.gm_text.specs.SchemaReading.{State, AtDim, AtEmbeds, role_at, move, never}
+use Rattle.gm_text.specs.SchemaAnswers.{marks_left, run_in, Reads, EndsIn, Stops, StopsOrLost, EndsEmbeds, SkipsSchema, IsSchemaRead, IsSchemaSkipped, IsSchemaFault, IsSkipFault}
 use Rattle.gm_text.specs.declared.schema_fault.SchemaFault.{SchemaFault}
 use Rattle.gm_text.specs.declared.schema_fault.SchemaFault.TheVariants as faults
 use Rattle.gm_text.proofs.SchemaStanding.{limit_placeless, passed_placeless, ends_stand, passes_stand, form_stands}

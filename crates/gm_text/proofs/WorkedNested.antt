@@ -1,9 +1,9 @@
 -- A grammar with a schema within it, as an example: a word, a schema, and the end of the text, where the outer state knows the dimension that was read.
-use Rattle.std.proofs.Common.{◌≡◌, ℕ, List, [], ◌∷◌, Option, Some, None, Result, Ok, Err, refl, codes}
+use Rattle.std.proofs.Common.{◌≡◌, ℕ, List, [], Option, Some, None, Result, Ok, Err, refl, codes}
 use Rattle.std.specs.Str.{bytes_eq}
 use Rattle.std.specs.Prelude.{if◌then◌else◌}
 use Rattle.gm_model.specs.declared.limit.LimitKind.TheVariants as limits
-use Rattle.gm_model.specs.Symbols.{Symbol, Word, End, Mark, marks_of}
+use Rattle.gm_model.specs.Symbols.{Symbol, Word, End, marks_of}
 use Rattle.gm_text.specs.Machine.{Stop, Ends, Passes, run}
 use Rattle.gm_text.specs.Nested.{Nested, Outside, Inside, Nesting, role_at, move}
 use Rattle.gm_text.specs.SchemaText.{Role, Fixed, Passed, LimitOf, Again, passed_of}

@@ -11,7 +11,7 @@ use Rattle.gm_model.specs.Tokens.{IsLexeme, bytes_of}
 use Rattle.gm_text.specs.Cursor.{Cursor}
 use Rattle.gm_text.specs.Machine.{Stop, Ends, Passes, run}
 use Rattle.gm_text.specs.SchemaText.{SchemaForm, Role, Passed, LimitOf, Again, limit_of, passed_of, schema_of, with_label, IsSentence}
-use Rattle.gm_text.specs.SchemaReading.{State, AtDim, AtEmbeds, AtName, AtOrbit, AtLabel, AtKind, role_at, move, is_whole, with_kind, never, Stands}
+use Rattle.gm_text.specs.SchemaReading.{State, AtDim, AtEmbeds, AtName, AtOrbit, AtLabel, AtKind, role_at, move, is_whole, never, Stands}
 use Rattle.gm_text.specs.declared.schema_fault.SchemaFault.{SchemaFault}
 use Rattle.gm_text.specs.declared.schema_fault.SchemaFault.TheVariants as faults
 

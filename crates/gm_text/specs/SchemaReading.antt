@@ -1,5 +1,5 @@
 -- How the text of a schema is read, one symbol after another: what can stand next in which role, and which schema stands before other marks.
-use Rattle.std.specs.Prelude.{◌≡◌, ◌≢◌, ℕ, ◌+◌, Bool, true, false, if◌then◌else◌, List, [], ◌∷◌, ◌++◌, length, map, Option, Some, None, Result, codes}
+use Rattle.std.specs.Prelude.{◌≡◌, ◌≢◌, ℕ, ◌+◌, Bool, true, false, if◌then◌else◌, List, [], ◌∷◌, ◌++◌, length, Option, Some, None, codes}
 use Rattle.std.specs.Option.{option_map}
 use Rattle.std.specs.Str.{bytes_eq}
 use Rattle.gm_model.specs.declared.schema.Embed.{Embed}
@@ -10,8 +10,7 @@ use Rattle.gm_model.specs.Names.{reserved, is_among}
 use Rattle.gm_model.specs.Symbols.{Symbol, Word, Numeral, Sign, Mark, symbols}
 use Rattle.gm_model.specs.Reading.{IsWithin, symbols_in}
 use Rattle.gm_text.specs.SchemaText.{SchemaForm, Role, Fixed, Dimension, EmbedWord, NameAt, LabelAt, no_labels, with_label, names_in, spell, IsForm, IsSentence, ArePlaced}
-use Rattle.gm_text.specs.Nested.{Nested, Outside, Inside, Nesting}
-use Rattle.gm_text.specs.Nested as nested
+use Rattle.gm_text.specs.Nested.{Nested, Outside, Nesting}
 
 pub data State : Type 0 where
   -- before the word `dim`, and before the dimension

@@ -1,4 +1,3 @@
-use Rattle.std.proofs.Common.{◌++◌, [], ◌∷◌}
 use Rattle.std.proofs.lemmas.Result.{err_from_is_err_and}
 use Rattle.gm_text.specs.SchemaReading.{AtName, AtOrbit, AtKind, with_kind}
 use Rattle.gm_text.proofs.SchemaSteps.{reads_then, stops_then}

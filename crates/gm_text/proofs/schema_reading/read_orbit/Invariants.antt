@@ -1,4 +1,4 @@
-use Rattle.std.proofs.Common.{◌-◌, ◌≡◌, ℕ, List, length}
+use Rattle.std.proofs.Common.{◌-◌, ℕ, List, length}
 use Rattle.gm_model.specs.declared.schema.Embed.{Embed}
 use Rattle.gm_text.specs.SchemaReading.{AtOrbit, AtLabel}
 use Rattle.gm_text.specs.SchemaAnswers.{Reads}
