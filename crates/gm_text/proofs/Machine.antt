@@ -1,6 +1,7 @@
 -- Reading by states answers the one reading of the marks, or their one first fault.
 use Rattle.std.proofs.Common.{◌≡◌, ℕ, Bool, cond, List, [], ◌∷◌, ◌++◌, Option, Some, None, Result, Ok, Err, refl, sym, ap, subst, ◌∙◌, append_assoc}
 use Rattle.std.proofs.lemmas.List.{append-nil}
+use Rattle.std.specs.Option.{option_map}
 use Rattle.gm_model.specs.Symbols.{Symbol, Mark, symbols}
 use Rattle.gm_model.specs.Reading.{Part, symbols_in, last_place, Begins, IsWithin, IsReadAs, TextEndsAt, LimitStandsAt}
 use Rattle.gm_text.specs.Machine.{Stop, Ends, Passes, Leads, IsGrammar, limit_place, step, run}
@@ -303,3 +304,25 @@ module _ {Role State What : Type 0} (limit_of : Role → Symbol → Option What)
     begun marks parts same begins within =
         let front = passed first last parts begins.0 (grammar.leads (parts ++ begins.0) begins.1) in
         record { middle = front.middle; leads = front.front; runs = λ rest. goes_along first front.middle 0 marks rest parts front.front same within }
+
+-- ---- in other words for what is passed
+
+abbrev pub stop_as : {State What Other : Type 0} → (What → Other) → Result State (Stop State What) → Result State (Stop State Other)
+stop_as f (Ok state) = Ok state
+stop_as f (Err (Ends state mark)) = Err (Ends state mark)
+stop_as f (Err (Passes what place)) = Err (Passes (f what) place)
+
+module _ {Role State What Other : Type 0} (f : What → Other) (limit_of : Role → Symbol → Option What) (other_of : Role → Symbol → Option Other) (is : (role : Role) (symbol : Symbol) → other_of role symbol ≡ option_map f (limit_of role symbol)) (stands_before : Role → Bool) (role : State → Symbol → ℕ → Role) (move : State → Symbol → Option State) where
+  pub run_as : (state : State) (last : ℕ) (marks : List Mark) → run other_of stands_before role move state last marks ≡ stop_as f (run limit_of stands_before role move state last marks)
+  run_as state last [] = refl
+  run_as state last (mark ∷ marks) = go (λ next. run_as next mark.place marks) (move state mark.symbol) (limit_of (role state mark.symbol mark.place) mark.symbol) refl refl
+    where
+      other : (what : Option What) → limit_of (role state mark.symbol mark.place) mark.symbol ≡ what → other_of (role state mark.symbol mark.place) mark.symbol ≡ option_map f what
+      other what e = is (role state mark.symbol mark.place) mark.symbol ∙ ap (option_map f) e
+
+      go : ((next : State) → run other_of stands_before role move next mark.place marks ≡ stop_as f (run limit_of stands_before role move next mark.place marks)) → (to : Option State) (what : Option What)
+          → move state mark.symbol ≡ to → limit_of (role state mark.symbol mark.place) mark.symbol ≡ what
+          → run other_of stands_before role move state last (mark ∷ marks) ≡ stop_as f (run limit_of stands_before role move state last (mark ∷ marks))
+      go behind None what e g = rw e refl
+      go behind (Some next) None e g = rw (e, g, other None g) (behind next)
+      go behind (Some next) (Some what) e g = rw (e, g, other (Some what) g) refl
