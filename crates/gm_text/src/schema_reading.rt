@@ -1,20 +1,19 @@
 //! A schema read from a lexer, up to where no further embedding begins.
-ghost use Rattle.std.specs.Prelude.{◌≡◌, ◌≢◌, ◌<◌, ◌≤◌, ℕ, List, Bool, true, false, [], ◌∷◌, length, IfOk, IfErr, IfSome, OnErr, MatchOption};
+ghost use Rattle.std.specs.Prelude.{◌≡◌, ◌<◌, ◌≤◌, ℕ, List, Bool, true, false, [], length, IfOk, IfErr, IfSome, OnErr, MatchOption};
 ghost use Rattle.gm_model.specs.declared.schema.Embed.{Embed};
 ghost use Rattle.gm_model.specs.declared.word.Mask.{Mask};
 ghost use Rattle.gm_model.specs.declared.token.TokenKind.TheVariants.{Name, Number};
 ghost use Rattle.gm_model.specs.Maps.{IsSchema};
-ghost use Rattle.gm_model.specs.Symbols.{Word, Mark};
 ghost use Rattle.gm_text.specs.SchemaText.{no_labels};
 ghost use Rattle.gm_text.specs.SchemaReading as states;
-ghost use Rattle.gm_text.specs.SchemaAnswers.{IsToken, IsNext, IsSchemaRead, IsSchemaSkipped, IsSchemaFault, IsSkipFault, Reads, Stops, StopsOrLost, ReadsName, StopsAtName, ReadsLabel, StopsAtLabel, IsNoEmbedNext, IsEmbedNext, EndsEmbeds, SkipsEmbeds, SkipsSchema, ReadsDeclaration, StopsAtDeclaration, ReadsEmbed, StopsAtEmbed, marks_left};
+ghost use Rattle.gm_text.specs.SchemaAnswers.{IsSchemaRead, IsSchemaSkipped, IsSchemaFault, IsSkipFault, Reads, Stops, StopsOrLost, ReadsName, StopsAtName, ReadsLabel, StopsAtLabel, IsNoEmbedNext, IsEmbedNext, EndsEmbeds, SkipsEmbeds, SkipsSchema, ReadsDeclaration, StopsAtDeclaration, ReadsEmbed, StopsAtEmbed, marks_left};
 
 use crate::lexer::Lexer;
 use crate::schema_fault::SchemaFault;
 use crate::schema_words::{
     is_declared, is_reserved, kind_named, next_token, reads_sign, reads_word, value, with_label,
 };
-use gm_model::{Dim, Embed, Items, Kind, LimitKind, Mask, Name, Schema, Token, TokenKind};
+use gm_model::{Dim, Embed, Items, Kind, LimitKind, Mask, Name, Schema, TokenKind};
 use std::alloc::Global;
 
 const MOST_EMBEDS: usize = 8;

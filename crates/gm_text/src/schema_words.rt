@@ -1,5 +1,5 @@
 //! The words and signs that stand in a schema, and what a token is.
-ghost use Rattle.std.specs.Prelude.{◌≡◌, ◌↔◌, ◌<◌, ◌≤◌, ◌^◌, ◌-◌, min, length, bytes_eq, IsTrue, IfOk, IfErr};
+ghost use Rattle.std.specs.Prelude.{◌≡◌, ◌↔◌, ◌<◌, ◌≤◌, ◌^◌, ◌-◌, min, bytes_eq, IsTrue, IfOk, IfErr};
 ghost use Rattle.std.specs.List.{list_any};
 ghost use Rattle.gm_model.specs.declared.token.TokenKind.TheVariants.{Number};
 ghost use Rattle.gm_model.specs.Names.{is_among, reserved};
