@@ -270,6 +270,7 @@ pub fn read_schema(alloc: Global, lexer: &mut Lexer<'_>) -> Result<Schema, Schem
     ensures fault { IfErr result (IsSchemaFault (marks_left lexer.old)) }
     ensures runs { IfOk result (λ schema. Reads true states.AtDim lexer.old lexer.new (states.AtEmbeds schema.dim schema.embeds)) }
     ensures stops { IfErr result (StopsOrLost true states.AtDim lexer.old) }
+    ensures text { lexer.new.text ≡ lexer.old.text }
     ensures refused { OnErr result (lexer.new ≡ lexer.old) }
 {
     let mut ahead = lexer.fork();
@@ -286,6 +287,7 @@ pub fn skip_schema(lexer: &mut Lexer<'_>) -> Result<Dim, SchemaFault>
     ensures fault { IfErr result (IsSkipFault (marks_left lexer.old)) }
     ensures runs { IfOk result (SkipsSchema lexer.old lexer.new) }
     ensures stops { IfErr result (Stops false states.AtDim lexer.old) }
+    ensures text { lexer.new.text ≡ lexer.old.text }
     ensures refused { OnErr result (lexer.new ≡ lexer.old) }
 {
     let mut ahead = lexer.fork();

@@ -1,4 +1,4 @@
-use Rattle.std.proofs.Common.{true, subst}
+use Rattle.std.proofs.Common.{true, ap, subst, ◌∙◌}
 use Rattle.std.proofs.lemmas.Result.{err_from_is_err_and}
 use Rattle.gm_text.specs.Cursor.{Cursor}
 use Rattle.gm_text.specs.SchemaReading.{AtDim, AtEmbeds}
@@ -20,3 +20,6 @@ returns-clause-schema c =
 
 pub returns-clause-sound : goal.returns-clause-sound
 returns-clause-sound c = read_sound c.args.lexer.now c.read_ahead.new.lexer c.in_ok-schema.schema (returns-clause-schema c)
+
+pub returns-clause-text : goal.returns-clause-text
+returns-clause-text c = c.in_ok-schema.ensures.reads.text ∙ ap (λ cursor. cursor.text) c.fork-ahead.ensures

@@ -1,4 +1,4 @@
-use Rattle.std.proofs.Common.{false, subst}
+use Rattle.std.proofs.Common.{false, ap, subst, ◌∙◌}
 use Rattle.std.proofs.lemmas.Result.{err_from_is_err_and}
 use Rattle.gm_text.specs.Cursor.{Cursor}
 use Rattle.gm_text.specs.SchemaReading.{AtDim}
@@ -16,3 +16,6 @@ pub returns-clause-dim : goal.returns-clause-dim
 returns-clause-dim c =
     let skips = subst (λ (cursor : Cursor). SkipsSchema cursor c.skip_ahead.new.lexer c.in_ok-dim.dim) c.fork-ahead.ensures c.in_ok-dim.ensures.reads in
     skip_stands c.args.lexer.now c.skip_ahead.new.lexer c.in_ok-dim.dim skips c.in_ok-dim.ensures.next
+
+pub returns-clause-text : goal.returns-clause-text
+returns-clause-text c = c.in_ok-dim.ensures.reads.1.text ∙ ap (λ cursor. cursor.text) c.fork-ahead.ensures
