@@ -10,7 +10,7 @@ use Rattle.gm_script.specs.Reading.{State, At, Ended, move, role_at, never}
 use Rattle.gm_script.specs.declared.spot.Spot.TheVariants as spots
 use Rattle.gm_script.proofs.Grammar.{grammar}
 
-abbrev pub answer_to : List ℕ → Result State (Stop State)
+abbrev pub answer_to : List ℕ → Result State (Stop State LimitKind)
 answer_to text = run limit_of never role_at move (At spots.Start 0) 0 (marks_of text)
 
 pub written_runs : (text : List ℕ) (lines : List LineForm) → IsWritten text lines → answer_to text ≡ Ok Ended

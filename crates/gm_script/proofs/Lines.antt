@@ -76,10 +76,10 @@ module _ (text : List ℕ) where
 
   -- ---- as states do
 
-  abbrev Run : State → ℕ → List Item → Result State (machine.Stop State)
+  abbrev Run : State → ℕ → List Item → Result State (machine.Stop State LimitKind)
   Run state start items = run limit_of never role_at move state start (map (mark_of text) items)
 
-  abbrev pub Agrees : Result (List HeldLine) Stop → Result State (machine.Stop State) → Type 0
+  abbrev pub Agrees : Result (List HeldLine) Stop → Result State (machine.Stop State LimitKind) → Type 0
   Agrees (Ok lines) answer = answer ≡ Ok Ended
   Agrees (Err (Ends place)) answer = (state : State) × (mark : Mark) × (mark.place ≡ place) × (answer ≡ Err (machine.Ends state mark))
   Agrees (Err (Passes what place)) answer = answer ≡ Err (machine.Passes what place)

@@ -1,7 +1,7 @@
 -- Reading by states answers the one reading of the marks, or their one first fault.
 use Rattle.std.proofs.Common.{◌≡◌, ℕ, Bool, cond, List, [], ◌∷◌, ◌++◌, Option, Some, None, Result, Ok, Err, refl, sym, ap, subst, ◌∙◌, append_assoc}
 use Rattle.std.proofs.lemmas.List.{append-nil}
-use Rattle.gm_model.specs.declared.limit.LimitKind.{LimitKind}
+use Rattle.std.specs.Option.{option_map}
 use Rattle.gm_model.specs.Symbols.{Symbol, Mark, symbols}
 use Rattle.gm_model.specs.Reading.{Part, symbols_in, last_place, Begins, IsWithin, IsReadAs, TextEndsAt, LimitStandsAt}
 use Rattle.gm_text.specs.Machine.{Stop, Ends, Passes, Leads, IsGrammar, limit_place, step, run}
@@ -19,17 +19,17 @@ pub last_of-start : (marks : List Mark) → last_of 0 marks ≡ last_place marks
 last_of-start [] = refl
 last_of-start (mark ∷ marks) = last_of-place mark marks
 
-module _ {Role State : Type 0} (limit_of : Role → Symbol → Option LimitKind) (stands_before : Role → Bool) (role : State → Symbol → ℕ → Role) (move : State → Symbol → Option State) where
+module _ {Role State What : Type 0} (limit_of : Role → Symbol → Option What) (stands_before : Role → Bool) (role : State → Symbol → ℕ → Role) (move : State → Symbol → Option State) where
   abbrev Led : State → List (Part Role) → State → Type 0
   Led state parts last = Leads limit_of stands_before role move state parts last
 
-  abbrev Run : State → ℕ → List Mark → Result State (Stop State)
+  abbrev Run : State → ℕ → List Mark → Result State (Stop State What)
   Run state last marks = run limit_of stands_before role move state last marks
 
-  abbrev Step : State → ℕ → Mark → Result State (Stop State)
+  abbrev Step : State → ℕ → Mark → Result State (Stop State What)
   Step state last mark = step limit_of stands_before role move state last mark
 
-  abbrev limit_at : State → Mark → Option LimitKind
+  abbrev limit_at : State → Mark → Option What
   limit_at state mark = limit_of (role state mark.symbol mark.place) mark.symbol
 
   -- the part that a mark is in a state
@@ -50,14 +50,14 @@ module _ {Role State : Type 0} (limit_of : Role → Symbol → Option LimitKind)
 
   pub data Stepped (state : State) (last : ℕ) (mark : Mark) : Type 0 where
     Refused : move state mark.symbol ≡ None → Step state last mark ≡ Err (Ends state mark) → Stepped state last mark
-    Limited : (next : State) (what : LimitKind) → move state mark.symbol ≡ Some next → limit_at state mark ≡ Some what
+    Limited : (next : State) (what : What) → move state mark.symbol ≡ Some next → limit_at state mark ≡ Some what
         → Step state last mark ≡ Err (Passes what (limit_place limit_of stands_before role move state last mark)) → Stepped state last mark
     Moved : (next : State) → move state mark.symbol ≡ Some next → limit_at state mark ≡ None → Step state last mark ≡ Ok next → Stepped state last mark
 
   pub stepped : (state : State) (last : ℕ) (mark : Mark) → Stepped state last mark
   stepped state last mark = go (move state mark.symbol) (limit_at state mark) refl refl
     where
-      go : (moves : Option State) (limit : Option LimitKind) → move state mark.symbol ≡ moves → limit_at state mark ≡ limit → Stepped state last mark
+      go : (moves : Option State) (limit : Option What) → move state mark.symbol ≡ moves → limit_at state mark ≡ limit → Stepped state last mark
       go None limit e f = Refused e (rw e refl)
       go (Some next) (Some what) e f = Limited next what e f (rw (e, f) refl)
       go (Some next) None e f = Moved next e f (rw (e, f) refl)
@@ -108,7 +108,7 @@ module _ {Role State : Type 0} (limit_of : Role → Symbol → Option LimitKind)
     pub front : IsRead state last before
     pub refused : move last mark.symbol ≡ None
 
-  pub record IsPassing (state : State) (start : ℕ) (marks : List Mark) (what : LimitKind) (place : ℕ) : Type 0 where
+  pub record IsPassing (state : State) (start : ℕ) (marks : List Mark) (what : What) (place : ℕ) : Type 0 where
     pub before : List Mark
     pub mark : Mark
     pub after : List Mark
@@ -147,7 +147,7 @@ module _ {Role State : Type 0} (limit_of : Role → Symbol → Option LimitKind)
             record { before = first ∷ rest.before; after = rest.after; split = ap (λ (ms : List Mark). first ∷ ms) rest.split; front = more_read state next last first rest.before moves limit rest.front; refused = rest.refused }
       ]
 
-  pub run_passes : (state : State) (start : ℕ) (marks : List Mark) (what : LimitKind) (place : ℕ) → Run state start marks ≡ Err (Passes what place) → IsPassing state start marks what place
+  pub run_passes : (state : State) (start : ℕ) (marks : List Mark) (what : What) (place : ℕ) → Run state start marks ≡ Err (Passes what place) → IsPassing state start marks what place
   run_passes state start [] what place e = absurd cc
   run_passes state start (first ∷ marks) what place e =
       elim (stepped state start first) [
@@ -213,7 +213,7 @@ module _ {Role State : Type 0} (limit_of : Role → Symbol → Option LimitKind)
       ends = λ more same begins. refused_ends first stop ended.before mark ended.front.parts ended.front.along ended.refused more begins.0 same (grammar.leads (more ++ begins.0) begins.1);
     }
 
-    pub passing_is : (marks : List Mark) (what : LimitKind) (place : ℕ) → IsPassing first 0 marks what place → LimitStandsAt IsSentence limit_of stands_before marks what place
+    pub passing_is : (marks : List Mark) (what : What) (place : ℕ) → IsPassing first 0 marks what place → LimitStandsAt IsSentence limit_of stands_before marks what place
     passing_is marks what place passing = record {
       before = passing.before;
       mark = passing.mark;
@@ -274,7 +274,7 @@ module _ {Role State : Type 0} (limit_of : Role → Symbol → Option LimitKind)
           | Moved next moves limit step ↦ absurd (goes next moves)
         ]
 
-    pub passes_run : (marks : List Mark) (what : LimitKind) (place : ℕ) → LimitStandsAt IsSentence limit_of stands_before marks what place → Run first 0 marks ≡ Err (Passes what place)
+    pub passes_run : (marks : List Mark) (what : What) (place : ℕ) → LimitStandsAt IsSentence limit_of stands_before marks what place → Run first 0 marks ≡ Err (Passes what place)
     passes_run marks what place limit =
         let begins : Led first (limit.parts ++ (limit.part ∷ limit.begins.0)) last =
         subst (λ ps. Led first ps last) (append_assoc limit.parts (limit.part ∷ []) limit.begins.0) (grammar.leads ((limit.parts ++ limit.part ∷ []) ++ limit.begins.0) limit.begins.1) in
@@ -304,3 +304,25 @@ module _ {Role State : Type 0} (limit_of : Role → Symbol → Option LimitKind)
     begun marks parts same begins within =
         let front = passed first last parts begins.0 (grammar.leads (parts ++ begins.0) begins.1) in
         record { middle = front.middle; leads = front.front; runs = λ rest. goes_along first front.middle 0 marks rest parts front.front same within }
+
+-- ---- in other words for what is passed
+
+abbrev pub stop_as : {State What Other : Type 0} → (What → Other) → Result State (Stop State What) → Result State (Stop State Other)
+stop_as f (Ok state) = Ok state
+stop_as f (Err (Ends state mark)) = Err (Ends state mark)
+stop_as f (Err (Passes what place)) = Err (Passes (f what) place)
+
+module _ {Role State What Other : Type 0} (f : What → Other) (limit_of : Role → Symbol → Option What) (other_of : Role → Symbol → Option Other) (is : (role : Role) (symbol : Symbol) → other_of role symbol ≡ option_map f (limit_of role symbol)) (stands_before : Role → Bool) (role : State → Symbol → ℕ → Role) (move : State → Symbol → Option State) where
+  pub run_as : (state : State) (last : ℕ) (marks : List Mark) → run other_of stands_before role move state last marks ≡ stop_as f (run limit_of stands_before role move state last marks)
+  run_as state last [] = refl
+  run_as state last (mark ∷ marks) = go (λ next. run_as next mark.place marks) (move state mark.symbol) (limit_of (role state mark.symbol mark.place) mark.symbol) refl refl
+    where
+      other : (what : Option What) → limit_of (role state mark.symbol mark.place) mark.symbol ≡ what → other_of (role state mark.symbol mark.place) mark.symbol ≡ option_map f what
+      other what e = is (role state mark.symbol mark.place) mark.symbol ∙ ap (option_map f) e
+
+      go : ((next : State) → run other_of stands_before role move next mark.place marks ≡ stop_as f (run limit_of stands_before role move next mark.place marks)) → (to : Option State) (what : Option What)
+          → move state mark.symbol ≡ to → limit_of (role state mark.symbol mark.place) mark.symbol ≡ what
+          → run other_of stands_before role move state last (mark ∷ marks) ≡ stop_as f (run limit_of stands_before role move state last (mark ∷ marks))
+      go behind None what e g = rw e refl
+      go behind (Some next) None e g = rw (e, g, other None g) (behind next)
+      go behind (Some next) (Some what) e g = rw (e, g, other (Some what) g) refl

@@ -1,3 +1,8 @@
 pub mod Cursor
 pub mod Lexing
 pub mod Machine
+pub mod Nested
+pub mod SchemaText
+pub mod SchemaReading
+pub mod SchemaAnswers
+pub mod SchemaPrinting

@@ -1,15 +1,14 @@
 -- A grammar that is read by states, one symbol after another: to which state parts of a sentence lead, and what reading a text's marks answers.
 use Rattle.std.specs.Prelude.{◌≡◌, ℕ, Bool, if◌then◌else◌, List, [], ◌∷◌, Option, Some, None, Result, Ok, Err}
-use Rattle.gm_model.specs.declared.limit.LimitKind.{LimitKind}
 use Rattle.gm_model.specs.Symbols.{Symbol, Mark}
 use Rattle.gm_model.specs.Reading.{Part}
 
 -- why reading stops
-pub data Stop (State : Type 0) : Type 0 where
+pub data Stop (State What : Type 0) : Type 0 where
   -- in this state no text goes on with this mark
-  Ends : State → Mark → Stop State
+  Ends : State → Mark → Stop State What
   -- a limit is passed at this place
-  Passes : LimitKind → ℕ → Stop State
+  Passes : What → ℕ → Stop State What
 
 infixl 10 ◌>>=◌
 abbrev pub ◌>>=◌ : {A B E : Type 0} → Result A E → (A → Result B E) → Result B E
@@ -18,7 +17,7 @@ abbrev pub ◌>>=◌ : {A B E : Type 0} → Result A E → (A → Result B E) �
 
 -- A grammar by its states: the role that a symbol has in a state where it stands at a place, and the state behind it,
 -- or none where it can't follow.
-module _ {Role State : Type 0} (limit_of : Role → Symbol → Option LimitKind) (stands_before : Role → Bool) (role : State → Symbol → ℕ → Role) (move : State → Symbol → Option State) where
+module _ {Role State What : Type 0} (limit_of : Role → Symbol → Option What) (stands_before : Role → Bool) (role : State → Symbol → ℕ → Role) (move : State → Symbol → Option State) where
   -- the parts lead from the one state to the other
   abbrev pub Leads : State → List (Part Role) → State → Type 0
   Leads state [] last = state ≡ last
@@ -36,7 +35,7 @@ module _ {Role State : Type 0} (limit_of : Role → Symbol → Option LimitKind)
   -- ---- reading
 
   -- what one mark comes to, by the state behind it and the limit that it passes
-  abbrev pub taken : State → Mark → ℕ → Option State → Option LimitKind → Result State (Stop State)
+  abbrev pub taken : State → Mark → ℕ → Option State → Option What → Result State (Stop State What)
   taken state mark place None limit = Err (Ends state mark)
   taken state mark place (Some next) (Some what) = Err (Passes what place)
   taken state mark place (Some next) None = Ok next
@@ -45,10 +44,10 @@ module _ {Role State : Type 0} (limit_of : Role → Symbol → Option LimitKind)
   abbrev pub limit_place : State → ℕ → Mark → ℕ
   limit_place state last mark = if stands_before (role state mark.symbol mark.place) then last else mark.place
 
-  abbrev pub step : State → ℕ → Mark → Result State (Stop State)
+  abbrev pub step : State → ℕ → Mark → Result State (Stop State What)
   step state last mark = taken state mark (limit_place state last mark) (move state mark.symbol) (limit_of (role state mark.symbol mark.place) mark.symbol)
 
   -- all marks, behind one at the place `last`
-  abbrev pub run : State → ℕ → List Mark → Result State (Stop State)
+  abbrev pub run : State → ℕ → List Mark → Result State (Stop State What)
   run state last [] = Ok state
   run state last (mark ∷ marks) = step state last mark >>= λ next. run next mark.place marks

@@ -40,6 +40,16 @@ impl<'a> Lexer<'a> {
         }
     }
 
+    /// A further lexer of the text, at the same place.
+    pub fn fork(&self) -> Lexer<'a>
+        ensures { result ≡ self.now }
+    {
+        Lexer {
+            source: self.source,
+            at: self.at,
+        }
+    }
+
     /// The next token, which the lexer goes past, or `None` at the end of the text. `LexFault`
     /// comes where, after blanks and comments, no token stands; the lexer is then as before.
     pub fn next(&mut self) -> Result<Option<Token>, LexFault>

@@ -1,17 +1,30 @@
-//! The tokens of a text, and text that grows.
+//! The tokens of a text, text that grows, and the schema with which maps and books begin.
 //!
 //! Names, numbers, signs and `_` stand in a text between blanks and comments (`#` to the end of
 //! the line). A `Lexer` answers one token after another and copies nothing; a `Text` is written
-//! at its end.
+//! at its end. A schema, a dimension with its embeddings, is read from a lexer and printed to a
+//! text.
 #![tactic(auto)]
 
 mod bytes;
 mod fault;
+mod laws;
 mod lexer;
 mod scan;
+mod schema_fault;
+mod schema_printing;
+mod schema_reading;
+mod schema_words;
 mod text;
 
 pub use fault::LexFault;
 pub use gm_model::{Token, TokenKind};
+pub use laws::{
+    a_printed_schema_is_read_again, no_schema_at_a_fault, one_schema_at_most,
+    one_schema_fault_at_most,
+};
 pub use lexer::Lexer;
+pub use schema_fault::SchemaFault;
+pub use schema_printing::print_schema;
+pub use schema_reading::{read_schema, skip_schema};
 pub use text::Text;

@@ -1,0 +1,90 @@
+-- How the canonical text of a schema grows as it is printed.
+use Rattle.std.proofs.Common.{◌≡◌, ℕ, zero, suc, ◌+◌, ◌<◌, ◌≤◌, ◌-◌, Bool, true, false, cond, List, [], ◌∷◌, ◌++◌, length, take, drop, get_or, Result, Ok, Err, refl, sym, ap, subst, ◌∙◌, append_assoc, arith, add-one}
+use Rattle.std.proofs.lemmas.Grind.{flat_map-append}
+use Rattle.std.proofs.lemmas.List.{append-nil, drop_more, take-append-drop}
+use Rattle.std.specs.Prelude.{decimal, OnErr}
+use Rattle.std.specs.List.{flat_map}
+use Rattle.gm_model.specs.declared.schema.Embed.{Embed}
+use Rattle.gm_model.specs.declared.word.Mask.{Mask}
+use Rattle.gm_model.specs.Labels.{has}
+use Rattle.gm_text.specs.SchemaText.{labels_below, labels_in, labels_text, embed_line}
+use Rattle.gm_text.specs.SchemaPrinting.{IsCut, gap_behind}
+
+-- ---- labels
+
+labels_snoc : (labels : List ℕ) (label : ℕ) → labels_text (labels ++ label ∷ []) ≡ labels_text labels ++ (gap_behind labels ++ decimal label)
+labels_snoc [] label = append-nil (decimal label)
+labels_snoc (first ∷ labels) label =
+    ap (λ (bytes : List ℕ). decimal first ++ bytes) (flat_map-append (λ other. 32 ∷ decimal other) labels (label ∷ []) ∙ ap (λ (bytes : List ℕ). flat_map (λ other. 32 ∷ decimal other) labels ++ bytes) (append-nil (32 ∷ decimal label)))
+    ∙ sym (append_assoc (decimal first) (flat_map (λ other. 32 ∷ decimal other) labels) (32 ∷ decimal label))
+
+pub below_has : (mask : Mask) (k : ℕ) → has mask k ≡ true → labels_below mask (k + 1) ≡ labels_below mask k ++ k ∷ []
+below_has mask k e = ap (labels_below mask) (add-one k) ∙ ap (λ (b : Bool). labels_below mask k ++ cond b (k ∷ []) []) e
+
+pub more_text : (mask : Mask) (k : ℕ) → has mask k ≡ true → labels_text (labels_below mask (k + 1)) ≡ labels_text (labels_below mask k) ++ (gap_behind (labels_below mask k) ++ decimal k)
+more_text mask k e = ap labels_text (below_has mask k e) ∙ labels_snoc (labels_below mask k) k
+
+-- one more label, or none
+text_grows : (mask : Mask) (k : ℕ) → (more : List ℕ) × (labels_text (labels_below mask (suc k)) ≡ labels_text (labels_below mask k) ++ more)
+text_grows mask k = go (has mask k) refl
+  where
+    at : (b : Bool) → has mask k ≡ b → labels_below mask (suc k) ≡ labels_below mask k ++ cond b (k ∷ []) []
+    at b e = ap (λ (c : Bool). labels_below mask k ++ cond c (k ∷ []) []) e
+
+    go : (b : Bool) → has mask k ≡ b → (more : List ℕ) × (labels_text (labels_below mask (suc k)) ≡ labels_text (labels_below mask k) ++ more)
+    go true e = (gap_behind (labels_below mask k) ++ decimal k, ap labels_text (at true e) ∙ labels_snoc (labels_below mask k) k)
+    go false e = ([], ap labels_text (at false e ∙ append-nil (labels_below mask k)) ∙ sym (append-nil (labels_text (labels_below mask k))))
+
+grows_by : (mask : Mask) (k m : ℕ) → (more : List ℕ) × (labels_text (labels_below mask (m + k)) ≡ labels_text (labels_below mask k) ++ more)
+grows_by mask k zero = ([], ap (λ (n : ℕ). labels_text (labels_below mask n)) (let e : zero + k ≡ k = omega arith in e) ∙ sym (append-nil (labels_text (labels_below mask k))))
+grows_by mask k (suc m) =
+    let (less, is) = grows_by mask k m in
+    let (one, grown) = text_grows mask (m + k) in
+    let e : suc m + k ≡ suc (m + k) = omega arith in
+    (less ++ one, ap (λ (n : ℕ). labels_text (labels_below mask n)) e ∙ grown ∙ ap (λ (bytes : List ℕ). bytes ++ one) is ∙ append_assoc (labels_text (labels_below mask k)) less one)
+
+grows : (mask : Mask) (k m : ℕ) → k ≤ m → (more : List ℕ) × (labels_text (labels_below mask m) ≡ labels_text (labels_below mask k) ++ more)
+grows mask k m h =
+    let (more, is) = grows_by mask k (m - k) in
+    let e : m ≡ (m - k) + k = omega (arith, h) in
+    (more, ap (λ (n : ℕ). labels_text (labels_below mask n)) e ∙ is)
+
+-- a part of one label's text, behind the labels below it
+pub cut_labels : (mask : Mask) (k : ℕ) (old out new gap : List ℕ) → k < 8 → has mask k ≡ true → out ≡ old ++ labels_text (labels_below mask k) → gap ≡ gap_behind (labels_below mask k) → IsCut out (gap ++ decimal k) new → IsCut old (labels_text (labels_in mask)) new
+unfolding labels_in
+cut_labels mask k old out new gap low e so_far is_gap (done, left, spelled, appended) =
+    let (more, is) = grows mask (k + 1) 8 (omega (arith, low)) in
+    let front = labels_text (labels_below mask k) in
+    let one : labels_text (labels_below mask (k + 1)) ≡ front ++ (done ++ left) = more_text mask k e ∙ ap (λ (g : List ℕ). front ++ (g ++ decimal k)) (sym is_gap) ∙ ap (λ (bytes : List ℕ). front ++ bytes) spelled in
+    let all : labels_text (labels_in mask) ≡ (front ++ done) ++ (left ++ more) = is ∙ ap (λ (bytes : List ℕ). bytes ++ more) (one ∙ sym (append_assoc front done left)) ∙ append_assoc (front ++ done) left more in
+    (front ++ done, left ++ more, all, appended ∙ ap (λ (bytes : List ℕ). bytes ++ done) so_far ∙ append_assoc old front done)
+
+pub all_below : (mask : Mask) → labels_below mask 8 ≡ labels_in mask
+unfolding labels_in
+all_below mask = refl
+
+-- ---- pieces
+
+pub cut_here : (old one other new : List ℕ) → IsCut old one new → IsCut old (one ++ other) new
+cut_here old one other new (done, left, spelled, appended) = (done, left ++ other, ap (λ (bytes : List ℕ). bytes ++ other) spelled ∙ append_assoc done left other, appended)
+
+pub cut_behind : (old between one other new : List ℕ) → between ≡ old ++ one → IsCut between other new → IsCut old (one ++ other) new
+cut_behind old between one other new is (done, left, spelled, appended) =
+    (one ++ done, left, ap (λ (bytes : List ℕ). one ++ bytes) spelled ∙ sym (append_assoc one done left), appended ∙ ap (λ (bytes : List ℕ). bytes ++ done) is ∙ append_assoc old one done)
+
+pub cut_none : (old text new : List ℕ) → new ≡ old → IsCut old text new
+cut_none old text new same = ([], text, refl, same ∙ sym (append-nil old))
+
+pub on_err : {T E P Q : Type 0} (r : Result T E) → (P → Q) → OnErr r P → OnErr r Q
+on_err (Ok x) f p = p
+on_err (Err e) f p = f p
+
+-- ---- embeddings
+
+pub cut_embeds : (embeds : List Embed) (k : ℕ) (embed : Embed) (old out new : List ℕ) → k < length embeds → get_or embeds k embed ≡ embed → out ≡ old ++ flat_map embed_line (take k embeds) → IsCut out (embed_line embed) new → IsCut old (flat_map embed_line embeds) new
+cut_embeds embeds k embed old out new inside is so_far cut =
+    let here : drop k embeds ≡ embed ∷ drop (k + 1) embeds = drop_more embeds k embed inside ∙ ap (λ (e : Embed). e ∷ drop (k + 1) embeds) is in
+    let split : embeds ≡ take k embeds ++ (embed ∷ drop (k + 1) embeds) = sym (take-append-drop k embeds) ∙ ap (λ (es : List Embed). take k embeds ++ es) here in
+    let text : flat_map embed_line embeds ≡ flat_map embed_line (take k embeds) ++ (embed_line embed ++ flat_map embed_line (drop (k + 1) embeds)) = ap (flat_map embed_line) split ∙ flat_map-append embed_line (take k embeds) (embed ∷ drop (k + 1) embeds) in
+    subst (λ (t : List ℕ). IsCut old t new) (sym text)
+    (cut_behind old out (flat_map embed_line (take k embeds)) (embed_line embed ++ flat_map embed_line (drop (k + 1) embeds)) new so_far (cut_here out (embed_line embed) (flat_map embed_line (drop (k + 1) embeds)) new cut))

@@ -1,0 +1,34 @@
+-- What is printed where memory is wanting, what stands between labels, and when a schema stands before other bytes.
+use Rattle.std.specs.Prelude.{◌≡◌, ◌≢◌, ℕ, ◌^◌, ◌<◌, List, [], ◌∷◌, ◌++◌, codes}
+use Rattle.std.specs.List.{AllByRecursion}
+use Rattle.gm_model.specs.declared.schema.Embed.{Embed}
+use Rattle.gm_model.specs.declared.schema.Schema.{Schema}
+use Rattle.gm_model.specs.Names.{IsName}
+use Rattle.gm_model.specs.Symbols.{Symbol, Word, Mark, symbols, symbols_of, marks_of}
+use Rattle.gm_text.specs.SchemaText.{SchemaForm, passed_of, schema_of}
+use Rattle.gm_text.specs.SchemaReading.{Stands}
+
+-- a part of the text, from its beginning on, was appended
+abbrev pub IsCut : List ℕ → List ℕ → List ℕ → Type 0
+IsCut old text new = (done left : List ℕ) × (text ≡ done ++ left) × (new ≡ old ++ done)
+
+-- what stands before a further label
+abbrev pub gap_behind : List ℕ → List ℕ
+gap_behind [] = []
+gap_behind (label ∷ labels) = codes " "
+
+-- what the types of a schema's parts say: each name is one, and a mask has bits for the labels 0 to 7
+abbrev pub AreParts : List Embed → Type 0
+AreParts embeds = AllByRecursion (λ (embed : Embed). IsName embed.name × (embed.mask.bits < 2 ^ 8)) embeds
+
+-- no embedding begins with these bytes
+abbrev pub BeginNoEmbed : List ℕ → Type 0
+BeginNoEmbed bytes = (next : Symbol) × (others : List Symbol) × (symbols_of bytes ≡ next ∷ others) × (next ≢ Word (codes "embed"))
+
+-- the schema stands at the beginning of the text, before the marks of these bytes
+pub record StandsBefore (rest text : List ℕ) (schema : Schema) : Type 0 where
+  pub form : SchemaForm
+  pub after : List Mark
+  pub stands : Stands passed_of form (marks_of text) after
+  pub means : schema ≡ schema_of form
+  pub behind : symbols after ≡ symbols_of rest

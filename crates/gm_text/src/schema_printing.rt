@@ -1,0 +1,78 @@
+//! The canonical text of a schema.
+ghost use Rattle.std.specs.Prelude.{◌≡◌, ◌++◌, OnOk, OnErr, decimal};
+ghost use Rattle.std.specs.List.{flat_map};
+ghost use Rattle.gm_text.specs.SchemaText.{canonical, embed_line, kind_word, labels_in, labels_text};
+ghost use Rattle.gm_text.specs.SchemaPrinting.{IsCut};
+
+use crate::text::Text;
+use gm_model::{Embed, Kind, Mask, OutOfMemory, Schema};
+
+/// Appends the canonical text of the schema: a line for the dimension, and one for each embedding.
+/// After a refusal a part of it, from its beginning on, is appended.
+pub fn print_schema(out: &mut Text, schema: &Schema) -> Result<(), OutOfMemory>
+    ensures ok { OnOk result (out.new ≡ out.old ++ canonical schema.now) }
+    ensures err { OnErr result (IsCut out.old (canonical schema.now) out.new) }
+{
+    out.put(b"dim ")?;
+    out.number(u64::from(schema.dim.top()))?;
+    out.put(b"\n")?;
+    print_embeds(out, schema.embeds.as_slice())
+}
+
+fn print_embeds(out: &mut Text, embeds: &[Embed]) -> Result<(), OutOfMemory>
+    ensures ok { OnOk result (out.new ≡ out.old ++ flat_map embed_line embeds.now) }
+    ensures err { OnErr result (IsCut out.old (flat_map embed_line embeds.now) out.new) }
+{
+    for embed in embeds {
+        print_embed(out, embed)?;
+    }
+    Ok(())
+}
+
+fn print_embed(out: &mut Text, embed: &Embed) -> Result<(), OutOfMemory>
+    ensures ok { OnOk result (out.new ≡ out.old ++ embed_line embed.now) }
+    ensures err { OnErr result (IsCut out.old (embed_line embed.now) out.new) }
+{
+    out.put(b"embed ")?;
+    out.put(embed.name.bytes())?;
+    out.put(b" <")?;
+    print_labels(out, embed.mask)?;
+    out.put(b"> ")?;
+    out.put(kind_word(embed.kind))?;
+    out.put(b"\n")
+}
+
+/// The labels of the mask in ascending order, with one blank between.
+fn print_labels(out: &mut Text, mask: Mask) -> Result<(), OutOfMemory>
+    ensures ok { OnOk result (out.new ≡ out.old ++ labels_text (labels_in mask)) }
+    ensures err { OnErr result (IsCut out.old (labels_text (labels_in mask)) out.new) }
+{
+    let mut gap: &'static [u8] = b"";
+    for label in 0..8 {
+        if mask.has(label) {
+            print_label(out, gap, label)?;
+            gap = b" ";
+        }
+    }
+    Ok(())
+}
+
+fn print_label(out: &mut Text, gap: &[u8], label: u8) -> Result<(), OutOfMemory>
+    ensures ok { OnOk result (out.new ≡ out.old ++ (gap.now ++ decimal label)) }
+    ensures err { OnErr result (IsCut out.old (gap.now ++ decimal label) out.new) }
+{
+    out.put(gap)?;
+    out.number(u64::from(label))
+}
+
+fn kind_word(kind: Kind) -> &'static [u8]
+    ensures { result.now ≡ kind_word kind }
+{
+    match kind {
+        Kind::Int => b"int",
+        Kind::Bool => b"bool",
+        Kind::Vec2 => b"vec2",
+        Kind::Vec3 => b"vec3",
+        Kind::Rgb => b"rgb",
+    }
+}

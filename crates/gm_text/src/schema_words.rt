@@ -1,0 +1,99 @@
+//! The words and signs that stand in a schema, and what a token is.
+ghost use Rattle.std.specs.Prelude.{◌≡◌, ◌↔◌, ◌<◌, ◌≤◌, ◌^◌, ◌-◌, min, bytes_eq, IsTrue, IfOk, IfErr};
+ghost use Rattle.std.specs.List.{list_any};
+ghost use Rattle.gm_model.specs.declared.token.TokenKind.TheVariants.{Number};
+ghost use Rattle.gm_model.specs.Names.{is_among, reserved};
+ghost use Rattle.gm_model.specs.Symbols.{Word, Sign, value_of};
+ghost use Rattle.gm_model.specs.Tokens.{bytes_of};
+ghost use Rattle.gm_text.specs.SchemaText.{with_label};
+ghost use Rattle.gm_text.specs.SchemaReading as reading;
+ghost use Rattle.gm_text.specs.SchemaAnswers.{IsToken, IsNext, IsNoneNext, symbol_at};
+
+use crate::lexer::Lexer;
+use crate::schema_fault::SchemaFault;
+use gm_model::{Embed, Kind, Mask, Token, TokenKind};
+
+/// The words of the formats that no name can be.
+const RESERVED: [&[u8]; 19] = [
+    b"rule", b"left", b"right", b"hook", b"with", b"pre", b"and", b"or", b"not", b"if", b"then",
+    b"else", b"true", b"false", b"sum", b"count", b"min", b"max", b"same",
+];
+
+/// The next token, which the lexer goes past.
+pub(crate) fn next_token(lexer: &mut Lexer<'_>) -> Result<Token, SchemaFault>
+    ensures next { IfOk result (λ token. IsNext lexer.old token lexer.new) }
+    ensures none { IfErr result (IsNoneNext lexer.old) }
+{
+    match lexer.next() {
+        Ok(Some(token)) => Ok(token),
+        Ok(None) => Err(SchemaFault::Text {
+            place: lexer.place(),
+        }),
+        Err(fault) => Err(SchemaFault::Text { place: fault.place }),
+    }
+}
+
+pub(crate) fn reads_word(lexer: &Lexer<'_>, token: &Token, word: &[u8]) -> bool
+    requires { IsToken lexer.now.text token.now }
+    ensures { IsTrue result ↔ (symbol_at lexer.now.text token.now ≡ Word word.now) }
+{
+    token.kind == TokenKind::Name && lexer.text(token) == word
+}
+
+pub(crate) fn reads_sign(lexer: &Lexer<'_>, token: &Token, sign: &[u8]) -> bool
+    requires { IsToken lexer.now.text token.now }
+    ensures { IsTrue result ↔ (symbol_at lexer.now.text token.now ≡ Sign sign.now) }
+{
+    token.kind == TokenKind::Sign && lexer.text(token) == sign
+}
+
+/// The value of a number; the greatest `u64` stands for a number that is greater.
+pub(crate) fn value(lexer: &Lexer<'_>, token: &Token) -> u64
+    requires token { IsToken lexer.now.text token.now }
+    requires kind { token.now.kind ≡ Number }
+    ensures { result ≡ min (value_of (bytes_of lexer.now.text token.now)) (2 ^ 64 - 1) }
+{
+    lexer.number(token).unwrap_or(u64::MAX)
+}
+
+pub(crate) fn is_reserved(word: &[u8]) -> bool
+    ensures { result ≡ is_among reserved word.now }
+{
+    is_among(&RESERVED, word)
+}
+
+fn is_among(words: &[&[u8]], word: &[u8]) -> bool
+    ensures { result ≡ list_any (λ other. bytes_eq word.now other.now) words.now }
+{
+    words.iter().any(|other| word == *other)
+}
+
+/// Whether one of the embeddings has the name.
+pub(crate) fn is_declared(embeds: &[Embed], name: &[u8]) -> bool
+    ensures { result ≡ list_any (λ embed. bytes_eq name.now embed.name) embeds.now }
+{
+    embeds.iter().any(|embed| name == embed.name.bytes())
+}
+
+/// The kind of an embedding with the word.
+pub(crate) fn kind_named(word: &[u8]) -> Option<Kind>
+    ensures { result ≡ reading.kind_named word.now }
+{
+    match word {
+        b"int" => Some(Kind::Int),
+        b"vec2" => Some(Kind::Vec2),
+        b"vec3" => Some(Kind::Vec3),
+        b"rgb" => Some(Kind::Rgb),
+        _ => None,
+    }
+}
+
+/// The labels of the mask, and this one.
+pub(crate) fn with_label(mask: Mask, label: u8) -> Mask
+    requires { label ≤ 7 }
+    ensures { result ≡ with_label mask label }
+{
+    Mask {
+        bits: mask.bits | (1 << label),
+    }
+}
