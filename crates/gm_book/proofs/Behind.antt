@@ -61,7 +61,7 @@ behind_is_item text nodes rules current spot name word last found place plain la
     mark : Mark
     mark = record { symbol = Word found; place = place }
 
-    taken : State → ℕ → Option State → Option LimitKind → Result State (machine.Stop State)
+    taken : State → ℕ → Option State → Option LimitKind → Result State (machine.Stop State LimitKind)
     taken state where_passed next limit = machine.taken limit_of stands_before role_at move state mark where_passed next limit
 
     go : (next : Option State) (limit : Option LimitKind) (where_passed : ℕ)

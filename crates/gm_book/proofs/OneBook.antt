@@ -3,6 +3,7 @@ use Rattle.std.proofs.Common.{◌≡◌, ◌≢◌, ℕ, ◌+◌, Bool, true, fa
 use Rattle.std.proofs.lemmas.List.{append-nil}
 use Rattle.std.specs.List.{AllByRecursion}
 use Rattle.std.specs.Str.{bytes_eq}
+use Rattle.gm_model.specs.declared.limit.LimitKind.{LimitKind}
 use Rattle.gm_model.specs.declared.rule.Side.{Side}
 use Rattle.gm_model.specs.declared.rule.Side.TheVariants.{Left, Right}
 use Rattle.gm_model.specs.declared.schema.Embed.{Embed}
@@ -239,7 +240,7 @@ book_fault_of_name (TwiceAt place) = faults.Twice place
 book_fault_of_name (UnknownAt place) = faults.Unknown place
 
 module _ (text : List ℕ) where
-  abbrev Run : Result State (Stop State)
+  abbrev Run : Result State (Stop State LimitKind)
   Run = run AtFormat 0 (marks_of text)
 
   written_runs : (book : BookForm) → IsWritten text book → Run ≡ Ok AtEnd

@@ -10,7 +10,7 @@ use Rattle.gm_book.specs.declared.state.Heading.{Heading}
 use Rattle.gm_book.specs.Reading.{State, AtFormat, AtEnd, role_at, move, step, run, is_later, Nothing, Held, hold, held_behind}
 use Rattle.gm_book.specs.Standing.{Stand, first_stand, fault_of, settled, stepped, read_on, ◌>>=◌, IsFormRead, IsFormFault, Fails}
 
-abbrev taken : State → Mark → ℕ → Option State → Option LimitKind → Result State (machine.Stop State)
+abbrev taken : State → Mark → ℕ → Option State → Option LimitKind → Result State (machine.Stop State LimitKind)
 taken state mark place next limit = machine.taken limit_of stands_before role_at move state mark place next limit
 
 moved : (state : State) (mark : Mark) (place : ℕ) (found : Option State) (limit : Option LimitKind) (next : State) → taken state mark place found limit ≡ Ok next → found ≡ Some next
@@ -21,7 +21,7 @@ moved state mark place (Some found) None next is = cc
 abbrev behind : Stand → Mark → State → Stand
 behind stand mark next = record { state = next; last = mark.place; held = hold stand.state mark.symbol mark.place stand.held }
 
-after_step : (stand : Stand) (mark : Mark) (marks : List Mark) (next : State) (answer : Result State (machine.Stop State)) → step stand.state stand.last mark ≡ Ok next → run next mark.place marks ≡ answer
+after_step : (stand : Stand) (mark : Mark) (marks : List Mark) (next : State) (answer : Result State (machine.Stop State LimitKind)) → step stand.state stand.last mark ≡ Ok next → run next mark.place marks ≡ answer
     → run stand.state stand.last (mark ∷ marks) ≡ answer
 after_step stand mark marks next answer is on = rw is on
 
@@ -36,18 +36,18 @@ read_through stand [] last read =
     record { ends = ap (λ (s : Stand). Ok s.state) same; held = ap (λ (s : Stand). s.held) same }
 read_through stand (mark ∷ marks) last read = go (step stand.state stand.last mark) refl (λ next on. read_through (behind stand mark next) marks last on)
   where
-    go : (stop : Result State (machine.Stop State)) → step stand.state stand.last mark ≡ stop
+    go : (stop : Result State (machine.Stop State LimitKind)) → step stand.state stand.last mark ≡ stop
         → ((next : State) → read_on (behind stand mark next) marks ≡ Ok last → Through (behind stand mark next) marks last) → Through stand (mark ∷ marks) last
     go (Err stop) is onward =
-        let none : Err (fault_of stop) ≡ Ok last = subst (λ (r : Result State (machine.Stop State)). (settled stand mark r >>= λ next. read_on next marks) ≡ Ok last) is read in
+        let none : Err (fault_of stop) ≡ Ok last = subst (λ (r : Result State (machine.Stop State LimitKind)). (settled stand mark r >>= λ next. read_on next marks) ≡ Ok last) is read in
         absurd cc
     go (Ok next) is onward =
-        let on = subst (λ (r : Result State (machine.Stop State)). (settled stand mark r >>= λ next. read_on next marks) ≡ Ok last) is read in
+        let on = subst (λ (r : Result State (machine.Stop State LimitKind)). (settled stand mark r >>= λ next. read_on next marks) ≡ Ok last) is read in
         let through = onward next on in
         record { ends = rw is through.ends; held = rw (moved stand.state mark _ _ _ next is) through.held }
 
 pub record Stops (stand : Stand) (marks : List Mark) (fault : FormFault) : Type 0 where
-  pub stop : machine.Stop State
+  pub stop : machine.Stop State LimitKind
   pub stops : run stand.state stand.last marks ≡ Err stop
   pub says : fault_of stop ≡ fault
 
@@ -56,13 +56,13 @@ unfolding stepped
 read_stops stand [] fault read = absurd cc
 read_stops stand (mark ∷ marks) fault read = go (step stand.state stand.last mark) refl (λ next on. read_stops (behind stand mark next) marks fault on)
   where
-    go : (stop : Result State (machine.Stop State)) → step stand.state stand.last mark ≡ stop
+    go : (stop : Result State (machine.Stop State LimitKind)) → step stand.state stand.last mark ≡ stop
         → ((next : State) → read_on (behind stand mark next) marks ≡ Err fault → Stops (behind stand mark next) marks fault) → Stops stand (mark ∷ marks) fault
     go (Err stop) is onward =
-        let same : Err (fault_of stop) ≡ Err fault = subst (λ (r : Result State (machine.Stop State)). (settled stand mark r >>= λ next. read_on next marks) ≡ Err fault) is read in
+        let same : Err (fault_of stop) ≡ Err fault = subst (λ (r : Result State (machine.Stop State LimitKind)). (settled stand mark r >>= λ next. read_on next marks) ≡ Err fault) is read in
         record { stop = stop; stops = rw is refl; says = cc }
     go (Ok next) is onward =
-        let on = subst (λ (r : Result State (machine.Stop State)). (settled stand mark r >>= λ next. read_on next marks) ≡ Err fault) is read in
+        let on = subst (λ (r : Result State (machine.Stop State LimitKind)). (settled stand mark r >>= λ next. read_on next marks) ≡ Err fault) is read in
         let later = onward next on in
         record { stop = later.stop; stops = after_step stand mark marks next (Err later.stop) is later.stops; says = later.says }
 
@@ -86,7 +86,7 @@ says_fault text fault read = go stops.stop stops.stops stops.says
     stops : Stops first_stand (marks_of text) fault
     stops = read_stops first_stand (marks_of text) fault read
 
-    go : (stop : machine.Stop State) → run AtFormat 0 (marks_of text) ≡ Err stop → fault_of stop ≡ fault → IsFormFault text fault
+    go : (stop : machine.Stop State LimitKind) → run AtFormat 0 (marks_of text) ≡ Err stop → fault_of stop ≡ fault → IsFormFault text fault
     go (machine.Ends state mark) ends says = ended text state mark fault ends (is_later state mark.symbol) refl says
     go (machine.Passes what place) ends says = subst (IsFormFault text) says ends
 

@@ -2,6 +2,7 @@
 use Rattle.std.specs.Prelude.{ℕ, ◌+◌, Bool, true, false, not, ◌&&◌, ◌||◌, ◌==◌, if◌then◌else◌, List, [], ◌∷◌, ◌++◌, length, Option, Some, None, Result, codes}
 use Rattle.std.specs.Option.{option_map, option_map_or}
 use Rattle.std.specs.Str.{bytes_eq}
+use Rattle.gm_model.specs.declared.limit.LimitKind.{LimitKind}
 use Rattle.gm_model.specs.declared.rule.Side.{Side}
 use Rattle.gm_model.specs.declared.rule.Side.TheVariants.{Left, Right}
 use Rattle.gm_model.specs.declared.word.Letter.{Letter}
@@ -174,10 +175,10 @@ move (AtDash spot) (Sign sign) = expect (codes "-") sign (AtTo spot)
 move (AtTo spot) (Word word) = unless_reserved word (AtItem spot)
 move _ _ = None
 
-abbrev pub step : State → ℕ → Mark → Result State (machine.Stop State)
+abbrev pub step : State → ℕ → Mark → Result State (machine.Stop State LimitKind)
 step = machine.step limit_of stands_before role_at move
 
-abbrev pub run : State → ℕ → List Mark → Result State (machine.Stop State)
+abbrev pub run : State → ℕ → List Mark → Result State (machine.Stop State LimitKind)
 run = machine.run limit_of stands_before role_at move
 
 -- ---- what books don't have so far

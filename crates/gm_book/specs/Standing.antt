@@ -2,6 +2,7 @@
 use Rattle.std.specs.Prelude.{◌≡◌, ℕ, ◌<◌, ◌≤◌, Bool, true, false, if◌then◌else◌, List, [], ◌∷◌, length, map, Option, Some, None, Result, Ok, Err, IfOk}
 use Rattle.std.specs.List.{AllByRecursion}
 use Rattle.std.specs.Option.{option_map}
+use Rattle.gm_model.specs.declared.limit.LimitKind.{LimitKind}
 use Rattle.gm_model.specs.declared.token.Token.{Token}
 use Rattle.gm_model.specs.Tokens.{bytes_of, IsLexeme}
 use Rattle.gm_model.specs.Symbols.{Word, Numeral, Sign, Stray, End, Mark, symbol_of_kind, value_of, marks_at, marks_of}
@@ -28,11 +29,11 @@ pub record Stand : Type 0 where
 abbrev pub first_stand : Stand
 first_stand = record { state = AtFormat; last = 0; held = nothing_held }
 
-abbrev pub fault_of : Stop State → FormFault
+abbrev pub fault_of : Stop State LimitKind → FormFault
 fault_of (Ends state mark) = if is_later state mark.symbol then faults.NotBuilt mark.place else faults.Text mark.place
 fault_of (Passes what place) = faults.Limit what place
 
-abbrev pub settled : Stand → Mark → Result State (Stop State) → Result Stand FormFault
+abbrev pub settled : Stand → Mark → Result State (Stop State LimitKind) → Result Stand FormFault
 settled stand mark (Err stop) = Err (fault_of stop)
 settled stand mark (Ok next) = Ok (record {
   state = next;
