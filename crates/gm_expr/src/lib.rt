@@ -2,5 +2,7 @@
 #![tactic(auto)]
 
 mod kinds;
+mod levels;
+mod terms;
 
 pub use kinds::type_expr;
