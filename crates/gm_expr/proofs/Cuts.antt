@@ -8,27 +8,22 @@ pub on_err : {T E P : Type 0} (r : Result T E) → P → OnErr r P
 on_err (Ok x) p = tt
 on_err (Err e) p = p
 
--- within the first part
-pub cut_first : (before a rest after : List ℕ) → IsCutShort before a after → IsCutShort before (a ++ rest) after
-cut_first before a rest after cut = record {
-  front = cut.front;
-  rest = cut.rest ++ rest;
-  text_is = rw cut.text_is (append_assoc cut.front cut.rest rest);
-  after_is = cut.after_is;
-}
-
--- behind a part that is whole
-pub cut_later : (before a rest middle after : List ℕ) → middle ≡ before ++ a → IsCutShort middle rest after → IsCutShort before (a ++ rest) after
-cut_later before a rest middle after whole cut = record {
-  front = a ++ cut.front;
+-- within the part behind those that are done
+pub cut_behind : (before done : List ℕ) {middle part after : List ℕ} → middle ≡ before ++ done → IsCutShort middle part after → IsCutShort before (done ++ part) after
+cut_behind before done so_far cut = record {
+  front = done ++ cut.front;
   rest = cut.rest;
-  text_is = rw cut.text_is (sym (append_assoc a cut.front cut.rest));
-  after_is = rw (cut.after_is, whole) (append_assoc before a cut.front);
+  text_is = rw cut.text_is (sym (append_assoc done cut.front cut.rest));
+  after_is = rw (cut.after_is, so_far) (append_assoc before done cut.front);
 }
 
--- before the first byte
-pub cut_none : (before text after : List ℕ) → after ≡ before → IsCutShort before text after
-cut_none before text after same = record { front = []; rest = text; text_is = refl; after_is = search (rules, same) }
+-- before a part that isn't begun
+pub cut_before : {before text after : List ℕ} (rest : List ℕ) → IsCutShort before text after → IsCutShort before (text ++ rest) after
+cut_before rest cut = record { front = cut.front; rest = cut.rest ++ rest; text_is = rw cut.text_is (append_assoc cut.front cut.rest rest); after_is = cut.after_is }
+
+-- nothing is written
+pub cut_at_once : {before after : List ℕ} (text : List ℕ) → after ≡ before → IsCutShort before text after
+cut_at_once {before = before} text same = record { front = []; rest = text; text_is = refl; after_is = rw same (sym (append-nil before)) }
 
 -- all but the rest is written so far
 pub record IsSoFar (before text after rest : List ℕ) : Type 0 where

@@ -127,9 +127,12 @@ spaced lead (i ∷ labels) = (lead ++ decimal i) ++ spaced (codes " ") labels
 abbrev pub labels_text : List ℕ → List ℕ
 labels_text labels = spaced [] labels
 
+abbrev pub every_label : List ℕ
+every_label = 0 ∷ 1 ∷ 2 ∷ 3 ∷ 4 ∷ 5 ∷ 6 ∷ 7 ∷ []
+
 -- the labels of a mask, in ascending order
-abbrev pub labels_of : Mask → List ℕ
-labels_of mask = filter (has mask) (0 ∷ 1 ∷ 2 ∷ 3 ∷ 4 ∷ 5 ∷ 6 ∷ 7 ∷ [])
+unfoldable pub labels_of : Mask → List ℕ
+labels_of mask = filter (has mask) every_label
 
 -- <0 1 2>
 abbrev pub orbit_text : Mask → List ℕ

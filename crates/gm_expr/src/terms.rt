@@ -6,8 +6,8 @@ ghost use Rattle.gm_expr.specs.ExprText.{collector_text, count_text, embed_name,
 use gm_model::{DartTerm, Mask, OutOfMemory, RuleTable, Schema};
 use gm_text::Text;
 
-/// The greatest label that a mask can have.
-const LAST_LABEL: u8 = 7;
+/// How many labels a mask can have.
+const LABELS: u8 = 8;
 
 /// `@` and the label.
 fn print_step(out: &mut Text, label: u8) -> Result<(), OutOfMemory>
@@ -68,7 +68,7 @@ fn print_labels(out: &mut Text, mask: Mask) -> Result<(), OutOfMemory>
     ensures err { OnErr result (IsCutShort out.old (labels_text (labels_of mask)) out.new) }
 {
     let mut gap: &[u8] = b"";
-    for label in 0..=LAST_LABEL {
+    for label in 0..LABELS {
         if mask.has(label) {
             print_label(out, gap, label)?;
             gap = b" ";
