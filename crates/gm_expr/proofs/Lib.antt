@@ -1,2 +1,4 @@
 pub mod Cuts
 pub mod Labels
+pub mod Sizes
+mod Worked

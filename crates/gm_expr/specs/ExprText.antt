@@ -170,6 +170,10 @@ field_text embeds nodes term e = term_text nodes term ++ codes "." ++ embed_name
 abbrev pub collector_text : List Embed → List RuleNode → List ℕ → Mask → DartTerm → ℕ → List ℕ
 collector_text embeds nodes name mask term e = name ++ orbit_text mask ++ codes "(" ++ field_text embeds nodes term e ++ codes ")"
 
+-- three arguments behind a function's name and parenthesis
+abbrev pub triple_text : List ℕ → List ℕ → List ℕ → List ℕ → List ℕ
+triple_text head a b c = head ++ a ++ codes ", " ++ b ++ codes ", " ++ c ++ codes ")"
+
 -- over the embeddings of a schema, and the parameters and nodes of a rule
 module _ (embeds : List Embed) (params : List Param) (nodes : List RuleNode) where
   -- A number isn't below 0 where the expression was read.
@@ -187,8 +191,8 @@ module _ (embeds : List Embed) (params : List Param) (nodes : List RuleNode) whe
   tree_text (Binary op a b) = wrapped (least_on_left op) a (tree_text a) ++ sign_of op ++ wrapped (least_on_right op) b (tree_text b)
   tree_text (If c a b) = codes "if " ++ tree_text c ++ codes " then " ++ tree_text a ++ codes " else " ++ tree_text b
   tree_text (MakeVec2 a b) = codes "vec2(" ++ tree_text a ++ codes ", " ++ tree_text b ++ codes ")"
-  tree_text (MakeVec3 a b c) = codes "vec3(" ++ tree_text a ++ codes ", " ++ tree_text b ++ codes ", " ++ tree_text c ++ codes ")"
-  tree_text (MakeRgb a b c) = codes "rgb(" ++ tree_text a ++ codes ", " ++ tree_text b ++ codes ", " ++ tree_text c ++ codes ")"
+  tree_text (MakeVec3 a b c) = triple_text (codes "vec3(") (tree_text a) (tree_text b) (tree_text c)
+  tree_text (MakeRgb a b c) = triple_text (codes "rgb(") (tree_text a) (tree_text b) (tree_text c)
 
 -- the canonical text of an expression of the rule, over the schema
 abbrev pub expr_text : Schema → Rule → Tree → List ℕ

@@ -3,6 +3,8 @@
 
 mod kinds;
 mod levels;
+mod printing;
 mod terms;
 
 pub use kinds::type_expr;
+pub use printing::print_expr;
