@@ -1,5 +1,5 @@
 -- Texts that are written one part after another: how far they came where memory was wanting.
-use Rattle.std.proofs.Common.{◌≡◌, ℕ, List, [], ◌∷◌, ◌++◌, refl, append_assoc, append-nil, sym, rules}
+use Rattle.std.proofs.Common.{◌≡◌, ℕ, List, [], ◌++◌, refl, append_assoc, append-nil, sym, rules}
 use Rattle.std.specs.Prelude.{Result, Ok, Err, OnErr}
 use Rattle.gm_expr.specs.ExprText.{IsCutShort}
 
@@ -48,6 +48,3 @@ so_far_cut before text middle a rest after so_far cut = record {
   text_is = rw (so_far.text_is, cut.text_is) (search (rules, append_assoc));
   after_is = rw (cut.after_is, so_far.after_is) (append_assoc before so_far.front cut.front);
 }
-
-pub so_far_all : (before text after : List ℕ) → IsSoFar before text after [] → after ≡ before ++ text
-so_far_all before text after so_far = rw (so_far.text_is, so_far.after_is) (search rules)

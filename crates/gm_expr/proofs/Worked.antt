@@ -1,7 +1,6 @@
 -- Worked expressions: their canonical texts, by computation.
 use Rattle.std.proofs.Common.{◌≡◌, ℕ, List, [], ◌∷◌, Some, None, codes, refl, pos, arith}
 use Rattle.std.proofs.lemmas.Fmt.{decimal_digit}
-use Rattle.gm_model.specs.declared.expr.BinOp.{BinOp}
 use Rattle.gm_model.specs.declared.expr.BinOp.TheVariants.{Add, Sub, Mul, Div, Eq, Lt}
 use Rattle.gm_model.specs.declared.expr.DartTerm.{DartTerm}
 use Rattle.gm_model.specs.declared.expr.UnOp.TheVariants.{Neg, Not}
@@ -12,7 +11,7 @@ use Rattle.gm_model.specs.declared.value.Kind.{Kind}
 use Rattle.gm_model.specs.declared.word.Mask.{Mask}
 use Rattle.gm_model.specs.Rules.{RuleNode}
 use Rattle.gm_model.specs.Kinds.{tree_kind}
-use Rattle.gm_model.specs.Trees.{Tree, Number, Truth, Param as Parameter, Field, Same, Count, Sum, Unary, Binary, If, MakeVec3}
+use Rattle.gm_model.specs.Trees.{Tree, Number, Param as Parameter, Field, Same, Count, Sum, Unary, Binary, If}
 use Rattle.gm_expr.specs.ExprText.{labels_of, tree_text}
 
 abbrev face : Mask

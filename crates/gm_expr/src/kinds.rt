@@ -18,33 +18,33 @@ pub fn type_expr(schema: &Schema, params: &[Param], expr: &Expr) -> Option<Kind>
         Expr::Int(_) | Expr::Count(_, _) => Some(Kind::Int),
         Expr::Param(at) => param_kind(params, *at),
         Expr::Field(_, embed) => value_kind(schema.embeds.as_slice(), *embed),
-        Expr::Sum(_, _, embed) => of_sum(value_kind(schema.embeds.as_slice(), *embed)?),
+        Expr::Sum(_, _, embed) => kind_of_sum(value_kind(schema.embeds.as_slice(), *embed)?),
         Expr::Least(_, _, embed) | Expr::Greatest(_, _, embed) => {
-            of_extreme(value_kind(schema.embeds.as_slice(), *embed)?)
+            kind_of_extreme(value_kind(schema.embeds.as_slice(), *embed)?)
         }
-        Expr::Unary(op, part) => of_unary(*op, type_expr(schema, params, part)?),
-        Expr::Binary(op, left, right) => of_binary(
+        Expr::Unary(op, part) => kind_of_unary(*op, type_expr(schema, params, part)?),
+        Expr::Binary(op, left, right) => kind_of_binary(
             *op,
             type_expr(schema, params, left)?,
             type_expr(schema, params, right)?,
         ),
-        Expr::If(condition, yes, no) => of_choice(
+        Expr::If(condition, then, other) => kind_of_choice(
             type_expr(schema, params, condition)?,
-            type_expr(schema, params, yes)?,
-            type_expr(schema, params, no)?,
+            type_expr(schema, params, then)?,
+            type_expr(schema, params, other)?,
         ),
-        Expr::MakeVec2(x, y) => of_two(
+        Expr::MakeVec2(x, y) => kind_from_two(
             Kind::Vec2,
             type_expr(schema, params, x)?,
             type_expr(schema, params, y)?,
         ),
-        Expr::MakeVec3(x, y, z) => of_three(
+        Expr::MakeVec3(x, y, z) => kind_from_three(
             Kind::Vec3,
             type_expr(schema, params, x)?,
             type_expr(schema, params, y)?,
             type_expr(schema, params, z)?,
         ),
-        Expr::MakeRgb(red, green, blue) => of_three(
+        Expr::MakeRgb(red, green, blue) => kind_from_three(
             Kind::Rgb,
             type_expr(schema, params, red)?,
             type_expr(schema, params, green)?,
@@ -66,7 +66,7 @@ fn value_kind(embeds: &[Embed], embed: u8) -> Option<Kind>
 }
 
 /// Numbers, and vectors of numbers.
-fn of_numeric(kind: Kind) -> Option<Kind>
+fn numeric_kind(kind: Kind) -> Option<Kind>
     ensures { result ≡ numeric kind }
 {
     match kind {
@@ -76,16 +76,16 @@ fn of_numeric(kind: Kind) -> Option<Kind>
 }
 
 /// A sum of colours is a vector.
-fn of_sum(kind: Kind) -> Option<Kind>
+fn kind_of_sum(kind: Kind) -> Option<Kind>
     ensures { result ≡ sum_kind kind }
 {
     match kind {
         Kind::Rgb => Some(Kind::Vec3),
-        _ => of_numeric(kind),
+        _ => numeric_kind(kind),
     }
 }
 
-fn of_extreme(kind: Kind) -> Option<Kind>
+fn kind_of_extreme(kind: Kind) -> Option<Kind>
     ensures { result ≡ only_int kind }
 {
     match kind {
@@ -94,11 +94,11 @@ fn of_extreme(kind: Kind) -> Option<Kind>
     }
 }
 
-fn of_unary(op: UnOp, kind: Kind) -> Option<Kind>
+fn kind_of_unary(op: UnOp, kind: Kind) -> Option<Kind>
     ensures { result ≡ unary_kind op kind }
 {
     match (op, kind) {
-        (UnOp::Neg, _) => of_numeric(kind),
+        (UnOp::Neg, _) => numeric_kind(kind),
         (UnOp::Not, Kind::Bool) => Some(Kind::Bool),
         (UnOp::X | UnOp::Y, Kind::Vec2 | Kind::Vec3) => Some(Kind::Int),
         (UnOp::Z, Kind::Vec3) => Some(Kind::Int),
@@ -107,55 +107,55 @@ fn of_unary(op: UnOp, kind: Kind) -> Option<Kind>
     }
 }
 
-fn of_binary(op: BinOp, left: Kind, right: Kind) -> Option<Kind>
+fn kind_of_binary(op: BinOp, left: Kind, right: Kind) -> Option<Kind>
     ensures { result ≡ binary_kind op left right }
 {
     match op {
-        BinOp::Add | BinOp::Sub => of_numeric(of_both(left, right)?),
-        BinOp::Mul => of_product(left, right),
-        BinOp::Div => of_quotient(left, right),
-        BinOp::Rem => of_two(Kind::Int, left, right),
-        BinOp::Eq | BinOp::Ne => of_equality(left, right),
-        BinOp::Lt | BinOp::Le | BinOp::Gt | BinOp::Ge => of_two(Kind::Bool, left, right),
-        BinOp::And | BinOp::Or => of_logic(left, right),
+        BinOp::Add | BinOp::Sub => numeric_kind(common_kind(left, right)?),
+        BinOp::Mul => kind_of_product(left, right),
+        BinOp::Div => kind_of_quotient(left, right),
+        BinOp::Rem => kind_from_two(Kind::Int, left, right),
+        BinOp::Eq | BinOp::Ne => kind_of_equality(left, right),
+        BinOp::Lt | BinOp::Le | BinOp::Gt | BinOp::Ge => kind_from_two(Kind::Bool, left, right),
+        BinOp::And | BinOp::Or => kind_of_logic(left, right),
     }
 }
 
 /// The kind of both, where it is one.
-fn of_both(left: Kind, right: Kind) -> Option<Kind>
+fn common_kind(left: Kind, right: Kind) -> Option<Kind>
     ensures { result ≡ common left right }
 {
     if left == right { Some(left) } else { None }
 }
 
 /// A number by anything numeric, and a vector by a number.
-fn of_product(left: Kind, right: Kind) -> Option<Kind>
+fn kind_of_product(left: Kind, right: Kind) -> Option<Kind>
     ensures { result ≡ product_kind left right }
 {
     match (left, right) {
-        (Kind::Int, _) => of_numeric(right),
+        (Kind::Int, _) => numeric_kind(right),
         (Kind::Vec2 | Kind::Vec3, Kind::Int) => Some(left),
         _ => None,
     }
 }
 
-fn of_quotient(left: Kind, right: Kind) -> Option<Kind>
+fn kind_of_quotient(left: Kind, right: Kind) -> Option<Kind>
     ensures { result ≡ quotient_kind left right }
 {
     match right {
-        Kind::Int => of_numeric(left),
+        Kind::Int => numeric_kind(left),
         _ => None,
     }
 }
 
-fn of_equality(left: Kind, right: Kind) -> Option<Kind>
+fn kind_of_equality(left: Kind, right: Kind) -> Option<Kind>
     ensures { result ≡ option_map (λ _. Bool) (common left right) }
 {
-    of_both(left, right)?;
+    common_kind(left, right)?;
     Some(Kind::Bool)
 }
 
-fn of_logic(left: Kind, right: Kind) -> Option<Kind>
+fn kind_of_logic(left: Kind, right: Kind) -> Option<Kind>
     ensures { result ≡ of_bools left right }
 {
     match (left, right) {
@@ -164,8 +164,8 @@ fn of_logic(left: Kind, right: Kind) -> Option<Kind>
     }
 }
 
-/// The kind where both parts are numbers.
-fn of_two(kind: Kind, first: Kind, second: Kind) -> Option<Kind>
+/// This kind, where both parts are numbers.
+fn kind_from_two(kind: Kind, first: Kind, second: Kind) -> Option<Kind>
     ensures { result ≡ of_ints kind first second }
 {
     match (first, second) {
@@ -174,8 +174,8 @@ fn of_two(kind: Kind, first: Kind, second: Kind) -> Option<Kind>
     }
 }
 
-/// The kind where all three parts are numbers.
-fn of_three(kind: Kind, first: Kind, second: Kind, third: Kind) -> Option<Kind>
+/// This kind, where all three parts are numbers.
+fn kind_from_three(kind: Kind, first: Kind, second: Kind, third: Kind) -> Option<Kind>
     ensures { result ≡ triple_kind kind first second third }
 {
     match (first, second, third) {
@@ -184,11 +184,11 @@ fn of_three(kind: Kind, first: Kind, second: Kind, third: Kind) -> Option<Kind>
     }
 }
 
-fn of_choice(condition: Kind, yes: Kind, no: Kind) -> Option<Kind>
-    ensures { result ≡ choice_kind condition yes no }
+fn kind_of_choice(condition: Kind, then: Kind, other: Kind) -> Option<Kind>
+    ensures { result ≡ choice_kind condition then other }
 {
     match condition {
-        Kind::Bool => of_both(yes, no),
+        Kind::Bool => common_kind(then, other),
         _ => None,
     }
 }

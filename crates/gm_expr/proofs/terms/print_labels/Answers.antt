@@ -1,8 +1,7 @@
-use Rattle.std.proofs.Common.{◌≡◌, [], codes, true, false, refl, sym, subst, rules, arith}
+use Rattle.std.proofs.Common.{◌≡◌, true, false, arith}
 use Rattle.gm_model.specs.Labels.{has}
-use Rattle.gm_expr.specs.ExprText.{IsCutShort}
 use Rattle.gm_expr.proofs.Cuts.{on_err}
-use Rattle.gm_expr.proofs.Labels.{AreWritten, none_written, label_written, label_cut, label_passed}
+use Rattle.gm_expr.proofs.Labels.{none_written, label_written, label_cut, label_passed}
 use Rattle.gm_expr.proofs.terms.print_labels.Goals.{then-has+in_ok-print_label, else-has}
 use Rattle.gm_expr.proofs.terms.print_labels.Goals as goal
 
