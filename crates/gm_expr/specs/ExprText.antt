@@ -127,6 +127,10 @@ spaced lead (i ∷ labels) = (lead ++ decimal i) ++ spaced (codes " ") labels
 abbrev pub labels_text : List ℕ → List ℕ
 labels_text labels = spaced [] labels
 
+-- a label behind `lead`, where the mask has it
+abbrev pub label_text : Mask → List ℕ → ℕ → List ℕ
+label_text mask lead i = if has mask i then lead ++ decimal i else []
+
 abbrev pub every_label : List ℕ
 every_label = 0 ∷ 1 ∷ 2 ∷ 3 ∷ 4 ∷ 5 ∷ 6 ∷ 7 ∷ []
 

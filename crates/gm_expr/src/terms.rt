@@ -1,7 +1,8 @@
 //! The canonical text of orbits, of dart terms and of what is read at them.
-ghost use Rattle.std.specs.Prelude.{◌≡◌, ◌++◌, ◌<◌, codes, decimal, length, OnOk, OnErr};
+ghost use Rattle.std.specs.Prelude.{◌≡◌, ◌++◌, ◌<◌, codes, decimal, length, IfOk, OnOk, OnErr};
+ghost use Rattle.gm_model.specs.Labels.{has};
 ghost use Rattle.gm_model.specs.Rules.{name_at, rule_of};
-ghost use Rattle.gm_expr.specs.ExprText.{collector_text, count_text, embed_name, field_text, IsCutShort, IsFieldNamed, labels_of, labels_text, orbit_text, path_text, same_text, term_text};
+ghost use Rattle.gm_expr.specs.ExprText.{collector_text, count_text, embed_name, field_text, IsCutShort, IsFieldNamed, label_text, labels_of, labels_text, orbit_text, path_text, same_text, term_text};
 
 use gm_model::{DartTerm, Mask, OutOfMemory, RuleTable, Schema};
 use gm_text::Text;
@@ -53,13 +54,19 @@ fn print_term(out: &mut Text, rule: &RuleTable, term: &DartTerm) -> Result<(), O
     print_path(out, term.path.as_slice())
 }
 
-/// One blank, but none before the first label.
-fn print_label(out: &mut Text, gap: &[u8], label: u8) -> Result<(), OutOfMemory>
-    ensures ok { OnOk result (out.new ≡ out.old ++ (gap.now ++ decimal label)) }
-    ensures err { OnErr result (IsCutShort out.old (gap.now ++ decimal label) out.new) }
+/// The label behind the gap, where the set has it. Answers whether it has.
+fn print_label(out: &mut Text, mask: Mask, gap: &[u8], label: u8) -> Result<bool, OutOfMemory>
+    requires { label < 8 }
+    ensures ok { OnOk result (out.new ≡ out.old ++ label_text mask gap.now label) }
+    ensures has { IfOk result (λ there. there ≡ has mask label) }
+    ensures err { OnErr result (IsCutShort out.old (label_text mask gap.now label) out.new) }
 {
+    if !mask.has(label) {
+        return Ok(false);
+    }
     out.put(gap)?;
-    out.number(u64::from(label))
+    out.number(u64::from(label))?;
+    Ok(true)
 }
 
 /// The labels of the set in ascending order, with one blank between two.
@@ -69,8 +76,7 @@ fn print_labels(out: &mut Text, mask: Mask) -> Result<(), OutOfMemory>
 {
     let mut gap: &[u8] = b"";
     for label in 0..LABELS {
-        if mask.has(label) {
-            print_label(out, gap, label)?;
+        if print_label(out, mask, gap, label)? {
             gap = b" ";
         }
     }
