@@ -1,0 +1,50 @@
+-- Texts that are written one part after another: how far they came where memory was wanting.
+use Rattle.std.proofs.Common.{◌≡◌, ℕ, List, [], ◌++◌, refl, append_assoc, append-nil, sym, rules}
+use Rattle.std.specs.Prelude.{Result, Ok, Err, OnErr}
+use Rattle.gm_expr.specs.ExprText.{IsCutShort}
+
+-- what holds holds where there is an error
+pub on_err : {T E P : Type 0} (r : Result T E) → P → OnErr r P
+on_err (Ok x) p = tt
+on_err (Err e) p = p
+
+-- within the part behind those that are done
+pub cut_behind : (before done : List ℕ) {middle part after : List ℕ} → middle ≡ before ++ done → IsCutShort middle part after → IsCutShort before (done ++ part) after
+cut_behind before done so_far cut = record {
+  front = done ++ cut.front;
+  rest = cut.rest;
+  text_is = rw cut.text_is (sym (append_assoc done cut.front cut.rest));
+  after_is = rw (cut.after_is, so_far) (append_assoc before done cut.front);
+}
+
+-- before a part that isn't begun
+pub cut_before : {before text after : List ℕ} (rest : List ℕ) → IsCutShort before text after → IsCutShort before (text ++ rest) after
+cut_before rest cut = record { front = cut.front; rest = cut.rest ++ rest; text_is = rw cut.text_is (append_assoc cut.front cut.rest rest); after_is = cut.after_is }
+
+-- nothing is written
+pub cut_at_once : {before after : List ℕ} (text : List ℕ) → after ≡ before → IsCutShort before text after
+cut_at_once {before = before} text same = record { front = []; rest = text; text_is = refl; after_is = rw same (sym (append-nil before)) }
+
+-- all but the rest is written so far
+pub record IsSoFar (before text after rest : List ℕ) : Type 0 where
+  pub front : List ℕ
+  pub text_is : text ≡ front ++ rest
+  pub after_is : after ≡ before ++ front
+
+pub so_far_none : (before text : List ℕ) → IsSoFar before text before text
+so_far_none before text = record { front = []; text_is = refl; after_is = sym (append-nil before) }
+
+pub so_far_more : (before text middle a rest after : List ℕ) → IsSoFar before text middle (a ++ rest) → after ≡ middle ++ a → IsSoFar before text after rest
+so_far_more before text middle a rest after so_far more = record {
+  front = so_far.front ++ a;
+  text_is = rw so_far.text_is (sym (append_assoc so_far.front a rest));
+  after_is = rw (more, so_far.after_is) (append_assoc before so_far.front a);
+}
+
+pub so_far_cut : (before text middle a rest after : List ℕ) → IsSoFar before text middle (a ++ rest) → IsCutShort middle a after → IsCutShort before text after
+so_far_cut before text middle a rest after so_far cut = record {
+  front = so_far.front ++ cut.front;
+  rest = cut.rest ++ rest;
+  text_is = rw (so_far.text_is, cut.text_is) (search (rules, append_assoc));
+  after_is = rw (cut.after_is, so_far.after_is) (append_assoc before so_far.front cut.front);
+}

@@ -1,0 +1,237 @@
+-- How an expression is written: its one canonical text.
+use Rattle.std.specs.Prelude.{◌≡◌, ℕ, ◌<◌, Bool, true, false, nat_lt, if◌then◌else◌, List, [], ◌∷◌, ◌++◌, length, filter, codes, decimal, slice_get}
+use Rattle.std.specs.Fmt.{signed_decimal}
+use Rattle.std.specs.List.{flat_map}
+use Rattle.std.specs.Option.{option_map, unwrap_or}
+use Rattle.gm_model.specs.declared.expr.BinOp.{BinOp}
+use Rattle.gm_model.specs.declared.expr.BinOp.TheVariants as ops
+use Rattle.gm_model.specs.declared.expr.DartTerm.{DartTerm}
+use Rattle.gm_model.specs.declared.expr.UnOp.{UnOp}
+use Rattle.gm_model.specs.declared.expr.UnOp.TheVariants as unary
+use Rattle.gm_model.specs.declared.rule.Param.{Param}
+use Rattle.gm_model.specs.declared.schema.Embed.{Embed}
+use Rattle.gm_model.specs.declared.schema.Schema.{Schema}
+use Rattle.gm_model.specs.declared.word.Mask.{Mask}
+use Rattle.gm_model.specs.Labels.{has}
+use Rattle.gm_model.specs.Rules.{Rule, RuleNode, name_at}
+use Rattle.gm_model.specs.Trees.{Tree, Number, Truth, Param as Parameter, Field, Same, Count, Sum, Least, Greatest, Unary, Binary, If, MakeVec2, MakeVec3, MakeRgb}
+
+-- ---- levels
+
+-- `or` binds least, and then `and`, comparisons, sums and products
+abbrev pub binary_level : BinOp → ℕ
+binary_level ops.Or = 1
+binary_level ops.And = 2
+binary_level ops.Eq = 4
+binary_level ops.Ne = 4
+binary_level ops.Lt = 4
+binary_level ops.Le = 4
+binary_level ops.Gt = 4
+binary_level ops.Ge = 4
+binary_level ops.Add = 5
+binary_level ops.Sub = 5
+binary_level ops.Mul = 6
+binary_level ops.Div = 6
+binary_level ops.Rem = 6
+
+-- `not` between `and` and comparisons, `-` behind products; the others are functions
+abbrev pub unary_level : UnOp → ℕ
+unary_level unary.Not = 3
+unary_level unary.Neg = 7
+unary_level _ = 8
+
+-- how tightly the form of a tree binds
+abbrev pub level : Tree → ℕ
+level (If c a b) = 0
+level (Binary op a b) = binary_level op
+level (Unary op a) = unary_level op
+level _ = 8
+
+-- ---- the least level of each place
+
+-- what stands in parentheses of a function may be anything
+abbrev pub least_of_part : UnOp → ℕ
+least_of_part unary.Not = 3
+least_of_part unary.Neg = 7
+least_of_part _ = 0
+
+-- Chains go on to the left. A comparison is in no chain.
+abbrev pub least_on_left : BinOp → ℕ
+least_on_left ops.Or = 1
+least_on_left ops.And = 2
+least_on_left ops.Mul = 6
+least_on_left ops.Div = 6
+least_on_left ops.Rem = 6
+least_on_left _ = 5
+
+abbrev pub least_on_right : BinOp → ℕ
+least_on_right ops.Or = 2
+least_on_right ops.And = 3
+least_on_right ops.Add = 6
+least_on_right ops.Sub = 6
+least_on_right ops.Mul = 7
+least_on_right ops.Div = 7
+least_on_right ops.Rem = 7
+least_on_right _ = 5
+
+-- in parentheses exactly where the tree's level is below the least one of its place
+abbrev pub wrapped : ℕ → Tree → List ℕ → List ℕ
+wrapped least tree text = if nat_lt (level tree) least then codes "(" ++ text ++ codes ")" else text
+
+-- ---- signs
+
+abbrev pub sign_of : BinOp → List ℕ
+sign_of ops.Or = codes " or "
+sign_of ops.And = codes " and "
+sign_of ops.Eq = codes " == "
+sign_of ops.Ne = codes " != "
+sign_of ops.Lt = codes " < "
+sign_of ops.Le = codes " <= "
+sign_of ops.Gt = codes " > "
+sign_of ops.Ge = codes " >= "
+sign_of ops.Add = codes " + "
+sign_of ops.Sub = codes " - "
+sign_of ops.Mul = codes " * "
+sign_of ops.Div = codes " / "
+sign_of ops.Rem = codes " % "
+
+-- what stands before the part
+abbrev pub head_of : UnOp → List ℕ
+head_of unary.Neg = codes "-"
+head_of unary.Not = codes "not "
+head_of unary.X = codes "x("
+head_of unary.Y = codes "y("
+head_of unary.Z = codes "z("
+head_of unary.Red = codes "red("
+head_of unary.Green = codes "green("
+head_of unary.Blue = codes "blue("
+
+-- what stands behind it
+abbrev pub tail_of : UnOp → List ℕ
+tail_of unary.Neg = []
+tail_of unary.Not = []
+tail_of _ = codes ")"
+
+abbrev pub truth_text : Bool → List ℕ
+truth_text true = codes "true"
+truth_text false = codes "false"
+
+-- ---- orbits and dart terms
+
+-- each number behind a blank, and the first one behind `lead`
+abbrev pub spaced : List ℕ → List ℕ → List ℕ
+spaced lead [] = []
+spaced lead (i ∷ labels) = (lead ++ decimal i) ++ spaced (codes " ") labels
+
+-- 0 1 2
+abbrev pub labels_text : List ℕ → List ℕ
+labels_text labels = spaced [] labels
+
+-- a label behind `lead`, where the mask has it
+abbrev pub label_text : Mask → List ℕ → ℕ → List ℕ
+label_text mask lead i = if has mask i then lead ++ decimal i else []
+
+abbrev pub every_label : List ℕ
+every_label = 0 ∷ 1 ∷ 2 ∷ 3 ∷ 4 ∷ 5 ∷ 6 ∷ 7 ∷ []
+
+-- the labels of a mask, in ascending order
+unfoldable pub labels_of : Mask → List ℕ
+labels_of mask = filter (has mask) every_label
+
+-- <0 1 2>
+abbrev pub orbit_text : Mask → List ℕ
+orbit_text mask = codes "<" ++ labels_text (labels_of mask) ++ codes ">"
+
+abbrev pub param_name : List Param → ℕ → List ℕ
+param_name params k = unwrap_or (option_map (λ (param : Param). param.name) (slice_get params k)) []
+
+abbrev pub embed_name : List Embed → ℕ → List ℕ
+embed_name embeds e = unwrap_or (option_map (λ (embed : Embed). embed.name) (slice_get embeds e)) []
+
+-- @0@1
+abbrev pub path_text : List ℕ → List ℕ
+path_text path = flat_map (λ i. codes "@" ++ decimal i) path
+
+-- a@0@1
+abbrev pub term_text : List RuleNode → DartTerm → List ℕ
+term_text nodes term = name_at nodes term.node ++ path_text term.path
+
+-- ---- expressions
+
+-- same(a, b@0)
+abbrev pub same_text : List RuleNode → DartTerm → DartTerm → List ℕ
+same_text nodes d d' = codes "same(" ++ term_text nodes d ++ codes ", " ++ term_text nodes d' ++ codes ")"
+
+-- count<0 1>(a@0)
+abbrev pub count_text : List RuleNode → Mask → DartTerm → List ℕ
+count_text nodes mask term = codes "count" ++ orbit_text mask ++ codes "(" ++ term_text nodes term ++ codes ")"
+
+-- a@0.pos
+abbrev pub field_text : List Embed → List RuleNode → DartTerm → ℕ → List ℕ
+field_text embeds nodes term e = term_text nodes term ++ codes "." ++ embed_name embeds e
+
+-- sum<0 1>(a@0.pos)
+abbrev pub collector_text : List Embed → List RuleNode → List ℕ → Mask → DartTerm → ℕ → List ℕ
+collector_text embeds nodes name mask term e = name ++ orbit_text mask ++ codes "(" ++ field_text embeds nodes term e ++ codes ")"
+
+-- three arguments behind a function's name and parenthesis
+abbrev pub triple_text : List ℕ → List ℕ → List ℕ → List ℕ → List ℕ
+triple_text head a b c = head ++ a ++ codes ", " ++ b ++ codes ", " ++ c ++ codes ")"
+
+-- over the embeddings of a schema, and the parameters and nodes of a rule
+module _ (embeds : List Embed) (params : List Param) (nodes : List RuleNode) where
+  -- A number isn't below 0 where the expression was read.
+  abbrev pub tree_text : Tree → List ℕ
+  tree_text (Number n) = signed_decimal n
+  tree_text (Truth b) = truth_text b
+  tree_text (Parameter k) = param_name params k
+  tree_text (Field d e) = field_text embeds nodes d e
+  tree_text (Same d d') = same_text nodes d d'
+  tree_text (Count o d) = count_text nodes o d
+  tree_text (Sum o d e) = collector_text embeds nodes (codes "sum") o d e
+  tree_text (Least o d e) = collector_text embeds nodes (codes "min") o d e
+  tree_text (Greatest o d e) = collector_text embeds nodes (codes "max") o d e
+  tree_text (Unary op a) = head_of op ++ wrapped (least_of_part op) a (tree_text a) ++ tail_of op
+  tree_text (Binary op a b) = wrapped (least_on_left op) a (tree_text a) ++ sign_of op ++ wrapped (least_on_right op) b (tree_text b)
+  tree_text (If c a b) = codes "if " ++ tree_text c ++ codes " then " ++ tree_text a ++ codes " else " ++ tree_text b
+  tree_text (MakeVec2 a b) = codes "vec2(" ++ tree_text a ++ codes ", " ++ tree_text b ++ codes ")"
+  tree_text (MakeVec3 a b c) = triple_text (codes "vec3(") (tree_text a) (tree_text b) (tree_text c)
+  tree_text (MakeRgb a b c) = triple_text (codes "rgb(") (tree_text a) (tree_text b) (tree_text c)
+
+-- the canonical text of an expression of the rule, over the schema
+abbrev pub expr_text : Schema → Rule → Tree → List ℕ
+expr_text schema rule tree = tree_text schema.embeds rule.params rule.nodes tree
+
+-- ---- what can be written
+
+module _ (schema : Schema) (rule : Rule) where
+  abbrev pub IsTermNamed : DartTerm → Type 0
+  IsTermNamed term = term.node < length rule.nodes
+
+  abbrev pub IsFieldNamed : DartTerm → ℕ → Type 0
+  IsFieldNamed term e = (term.node < length rule.nodes) × (e < length schema.embeds)
+
+  -- each number of the tree that stands for a parameter, an embedding or a node is the number of one
+  abbrev pub IsNamed : Tree → Type 0
+  IsNamed (Number n) = Unit {0}
+  IsNamed (Truth b) = Unit {0}
+  IsNamed (Parameter k) = k < length rule.params
+  IsNamed (Field d e) = IsFieldNamed d e
+  IsNamed (Same d d') = IsTermNamed d × IsTermNamed d'
+  IsNamed (Count o d) = IsTermNamed d
+  IsNamed (Sum o d e) = IsFieldNamed d e
+  IsNamed (Least o d e) = IsFieldNamed d e
+  IsNamed (Greatest o d e) = IsFieldNamed d e
+  IsNamed (Unary op a) = IsNamed a
+  IsNamed (Binary op a b) = IsNamed a × IsNamed b
+  IsNamed (If c a b) = IsNamed c × IsNamed a × IsNamed b
+  IsNamed (MakeVec2 a b) = IsNamed a × IsNamed b
+  IsNamed (MakeVec3 a b c) = IsNamed a × IsNamed b × IsNamed c
+  IsNamed (MakeRgb a b c) = IsNamed a × IsNamed b × IsNamed c
+
+-- Memory was wanting within the text: behind what was there stands a front of it.
+pub record IsCutShort (before text after : List ℕ) : Type 0 where
+  pub front : List ℕ
+  pub rest : List ℕ
+  pub text_is : text ≡ front ++ rest
+  pub after_is : after ≡ before ++ front
