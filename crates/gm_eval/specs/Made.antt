@@ -1,0 +1,5 @@
+-- That no value is of a kind, or made by an operator.
+use Rattle.gm_model.specs.declared.value.Value.{Value}
+
+abbrev pub IsNone : (Value → Type 0) → Type 0
+IsNone P = (v : Value) → P v → ⊥

@@ -1,0 +1,9 @@
+//! The values of expressions: what an expression of a rule is worth where it is read in a map, or
+//! that it has no value there.
+//!
+//! Numbers are whole and never wrap: each form is reckoned exactly, and then tested against the
+//! range of its kind.
+#![tactic(auto)]
+
+mod numbers;
+mod operators;
