@@ -2,8 +2,11 @@
 //! that it has no value there.
 //!
 //! Numbers are whole and never wrap: each form is reckoned exactly, and then tested against the
-//! range of its kind.
+//! range of its kind. No call here takes memory.
 #![tactic(auto)]
 
+mod collectors;
 mod numbers;
 mod operators;
+mod reader;
+mod totals;
