@@ -1,3 +1,8 @@
 pub mod Floors
 pub mod Operated
 pub mod Terms
+pub mod OrbitWalks
+pub mod Costs
+pub mod Sums
+pub mod Ready
+pub mod Collected

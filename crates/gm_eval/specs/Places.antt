@@ -1,10 +1,10 @@
 -- Where expressions of a rule are read in an arena: at a position of matched slots, with values for the parameters.
-use Rattle.std.specs.Prelude.{ℕ, ◌<◌, List, IsTrue}
+use Rattle.std.specs.Prelude.{ℕ, ◌+◌, ◌*◌, ◌<◌, ◌≤◌, List, IsTrue}
 use Rattle.gm_model.specs.declared.rule.Side.TheVariants.{Left}
 use Rattle.gm_model.specs.declared.schema.Schema.{Schema}
 use Rattle.gm_model.specs.declared.value.Kind.{Kind}
 use Rattle.gm_model.specs.declared.value.Value.{Value}
-use Rattle.gm_model.specs.Expressions.{Reading}
+use Rattle.gm_model.specs.Expressions.{Reading, HasUnits}
 use Rattle.gm_model.specs.Kinds.{HasKind, AreGoodParams}
 use Rattle.gm_model.specs.Rules.{Rule, has_word}
 use Rattle.gm_model.specs.Trees.{Tree}
@@ -28,3 +28,7 @@ pub record IsTypedFor (schema : Schema) (nodes : ℕ) (params : List Value) (tre
   pub has_kind : HasKind schema rule tree kind
   pub good_params : AreGoodParams rule params
   pub nodes_among : (x : ℕ) → IsTrue (has_word rule Left x) → x < nodes
+
+-- from old to new there are at most 6(n + 1) steps for each unit of the reading
+abbrev pub IsWithinUnits : Reading → Tree → ℕ → ℕ → Type 0
+IsWithinUnits reading tree old new = (u : ℕ) → HasUnits reading tree u → new ≤ old + 6 * (reading.map.schema.dim + 1) * u
