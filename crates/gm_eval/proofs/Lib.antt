@@ -6,3 +6,4 @@ pub mod Costs
 pub mod Sums
 pub mod Ready
 pub mod Collected
+pub mod Parts

@@ -1,7 +1,9 @@
 -- What holds where expressions are read. No public clause cites this module.
-use Rattle.std.specs.Prelude.{ℕ, ◌<◌, ◌≤◌, All}
+use Rattle.std.specs.Prelude.{ℕ, ◌<◌, ◌≤◌, ℤ, Bool, All, Option, MatchOption}
 use Rattle.gm_model.specs.declared.expr.DartTerm.{DartTerm}
-use Rattle.gm_model.specs.Expressions.{Reading}
+use Rattle.gm_model.specs.declared.value.Value.{Value}
+use Rattle.gm_model.specs.declared.value.Value.TheVariants.{Int, Bool as Truth}
+use Rattle.gm_model.specs.Expressions.{Reading, HasValue, HasNoValue}
 use Rattle.gm_model.specs.Maps.{IsGeneralised}
 use Rattle.gm_model.specs.Trees.{Tree}
 use Rattle.gm_arena.specs.ArenaAsMap.{as_map}
@@ -28,3 +30,25 @@ pub record IsTermHere (reader : Reader) (term : DartTerm) : Type 0 where
 pub record IsReady (reader : Reader) (tree : Tree) : Type 0 where
   pub here : IsHere reader
   pub typed : IsTypedFor reader.arena.now.schema reader.found.now.nodes reader.params.now tree
+
+-- ---- answers
+
+-- the answer is the value there, and none where there is none
+abbrev pub IsValueThere : Reader → Tree → Option Value → Type 0
+IsValueThere reader tree result = MatchOption result (HasNoValue (reading_of reader) tree) (HasValue (reading_of reader) tree)
+
+-- the value there is this number
+abbrev pub IsInt : Reader → Tree → ℤ → Type 0
+IsInt reader tree x = HasValue (reading_of reader) tree (Int x)
+
+abbrev pub IsNumberThere : Reader → Tree → Option ℤ → Type 0
+IsNumberThere reader tree result = MatchOption result ((x : ℤ) → IsInt reader tree x → ⊥) (IsInt reader tree)
+
+abbrev pub IsTruthThere : Reader → Tree → Option Bool → Type 0
+IsTruthThere reader tree result = MatchOption result ((b : Bool) → HasValue (reading_of reader) tree (Truth b) → ⊥) (λ b. HasValue (reading_of reader) tree (Truth b))
+
+-- the answers are the numbers of three expressions there, and none where one of them is none
+abbrev pub AreNumbersThere : Reader → Tree → Tree → Tree → Option (ℤ × ℤ × ℤ) → Type 0
+AreNumbersThere reader a b c result =
+    MatchOption result ((x y z : ℤ) → IsInt reader a x → IsInt reader b y → IsInt reader c z → ⊥)
+    (λ xs. IsInt reader a xs.0 × IsInt reader b xs.1 × IsInt reader c xs.2)

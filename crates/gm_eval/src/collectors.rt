@@ -61,7 +61,7 @@ impl Reader<'_> {
     }
 
     /// The least of the embedding's numbers over the orbit of the term's dart, and the greatest.
-    pub(crate) fn extremes<L: Ledger>(
+    fn extremes<L: Ledger>(
         &self,
         mask: Mask,
         term: &DartTerm,
@@ -80,5 +80,43 @@ impl Reader<'_> {
         let from = self.slot(term, steps);
         let walk = walk_mask(self.arena, from, mask, scratch, steps);
         extremes(self.arena, from, walk.slots(), embed, steps)
+    }
+
+    /// The least of the embedding's numbers over the orbit of the term's dart.
+    pub(crate) fn least<L: Ledger>(
+        &self,
+        mask: Mask,
+        term: &DartTerm,
+        embed: u8,
+        scratch: &mut Scratch,
+        steps: &mut Steps<L>,
+    ) -> Value
+        requires ready { IsReady self.now (Least mask term.now embed) }
+        requires fits { Fits scratch.old self.now.arena.now }
+        ensures value { HasValue (reading_of self.now) (Least mask term.now embed) result }
+        ensures cost { IsWithinUnits (reading_of self.now) (Least mask term.now embed) steps.old steps.new }
+        ensures least { steps.old ≤ steps.new }
+        ensures room { scratch.new.bound ≡ scratch.old.bound }
+    {
+        Value::Int(self.extremes(mask, term, embed, scratch, steps).0)
+    }
+
+    /// The greatest of the embedding's numbers over the orbit of the term's dart.
+    pub(crate) fn greatest<L: Ledger>(
+        &self,
+        mask: Mask,
+        term: &DartTerm,
+        embed: u8,
+        scratch: &mut Scratch,
+        steps: &mut Steps<L>,
+    ) -> Value
+        requires ready { IsReady self.now (Greatest mask term.now embed) }
+        requires fits { Fits scratch.old self.now.arena.now }
+        ensures value { HasValue (reading_of self.now) (Greatest mask term.now embed) result }
+        ensures cost { IsWithinUnits (reading_of self.now) (Greatest mask term.now embed) steps.old steps.new }
+        ensures least { steps.old ≤ steps.new }
+        ensures room { scratch.new.bound ≡ scratch.old.bound }
+    {
+        Value::Int(self.extremes(mask, term, embed, scratch, steps).1)
     }
 }

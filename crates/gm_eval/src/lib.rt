@@ -6,7 +6,11 @@
 #![tactic(auto)]
 
 mod collectors;
+mod eval;
+mod forms;
 mod numbers;
 mod operators;
 mod reader;
 mod totals;
+
+pub use eval::evaluate;

@@ -113,14 +113,8 @@ fn added(left: Value, right: Value) -> Option<Value>
 {
     match (left, right) {
         (Value::Int(x), Value::Int(a)) => int(sum(x, a)),
-        (Value::Vec2(x, y), Value::Vec2(a, b)) => {
-            vec2(sum(x, a), sum(y, b))
-        }
-        (Value::Vec3(x, y, z), Value::Vec3(a, b, c)) => vec3(
-            sum(x, a),
-            sum(y, b),
-            sum(z, c),
-        ),
+        (Value::Vec2(x, y), Value::Vec2(a, b)) => { vec2(sum(x, a), sum(y, b)) }
+        (Value::Vec3(x, y, z), Value::Vec3(a, b, c)) => vec3(sum(x, a), sum(y, b), sum(z, c)),
         _ => unreachable!(),
     }
 }
@@ -131,9 +125,7 @@ fn subtracted(left: Value, right: Value) -> Option<Value>
 {
     match (left, right) {
         (Value::Int(x), Value::Int(a)) => int(difference(x, a)),
-        (Value::Vec2(x, y), Value::Vec2(a, b)) => {
-            vec2(difference(x, a), difference(y, b))
-        }
+        (Value::Vec2(x, y), Value::Vec2(a, b)) => { vec2(difference(x, a), difference(y, b)) }
         (Value::Vec3(x, y, z), Value::Vec3(a, b, c)) => vec3(
             difference(x, a),
             difference(y, b),

@@ -1,9 +1,11 @@
 //! Where expressions are read, and the darts that they name there.
 
-ghost use Rattle.std.specs.Prelude.{◌≡◌, ◌+◌, length};
+ghost use Rattle.std.specs.Prelude.{◌≡◌, ◌+◌, ◌≤◌, length};
 ghost use Rattle.gm_arena.specs.ArenaMap.{IsAt};
-ghost use Rattle.gm_model.specs.Expressions.{dart_at};
-ghost use Rattle.gm_eval.specs.Readers.{IsHere, IsTermHere, reading_of};
+ghost use Rattle.gm_model.specs.Expressions.{HasValue, dart_at};
+ghost use Rattle.gm_model.specs.Trees.{Field, Same};
+ghost use Rattle.gm_eval.specs.Places.{IsWithinUnits};
+ghost use Rattle.gm_eval.specs.Readers.{IsHere, IsReady, IsTermHere, reading_of};
 
 use gm_arena::{Arena, Slot, Steps};
 use gm_model::{DartTerm, Value};
@@ -32,5 +34,31 @@ impl Reader<'_> {
             slot = self.arena.alpha(slot, *label, steps);
         }
         slot
+    }
+
+    /// The value of the embedding at the dart that the term names.
+    pub(crate) fn field<L: Ledger>(&self, term: &DartTerm, embed: u8, steps: &mut Steps<L>) -> Value
+        requires ready { IsReady self.now (Field term.now embed) }
+        ensures value { HasValue (reading_of self.now) (Field term.now embed) result }
+        ensures cost { IsWithinUnits (reading_of self.now) (Field term.now embed) steps.old steps.new }
+        ensures least { steps.old ≤ steps.new }
+    {
+        let slot = self.slot(term, steps);
+        self.arena.value(slot, embed, steps)
+    }
+
+    /// Whether both terms name one dart, as a value.
+    pub(crate) fn same<L: Ledger>(
+        &self,
+        term: &DartTerm,
+        other: &DartTerm,
+        steps: &mut Steps<L>,
+    ) -> Value
+        requires ready { IsReady self.now (Same term.now other.now) }
+        ensures value { HasValue (reading_of self.now) (Same term.now other.now) result }
+        ensures cost { IsWithinUnits (reading_of self.now) (Same term.now other.now) steps.old steps.new }
+        ensures least { steps.old ≤ steps.new }
+    {
+        Value::Bool(self.slot(term, steps) == self.slot(other, steps))
     }
 }

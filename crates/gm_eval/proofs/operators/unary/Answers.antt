@@ -13,4 +13,3 @@ returns-in-Y c = by_either c.args.op ops.Y ops.Green c.args.part c.second.result
 
 pub returns-in-Z : goal.returns-in-Z
 returns-in-Z c = by_either c.args.op ops.Z ops.Blue c.args.part c.third.result c.in-Z.is c.third.ensures c.third.ensures
-
