@@ -1,8 +1,7 @@
 -- What is collected over an orbit, from the walk of its slots.
-use Rattle.std.proofs.Common.{◌≡◌, ℕ, zero, suc, ◌+◌, ◌-◌, ◌*◌, ◌<◌, ◌≤◌, ◌⊎◌, ℤ, pos, ◌≤ℤ◌, IsTrue, List, [], ◌∷◌, length, map, All, Contains, Option, Some, None, MatchOption, slice_get, refl, sym, ◌∙◌, ap, ap₂, subst, inl, inr, arith}
+use Rattle.std.proofs.Common.{◌≡◌, ℕ, ◌+◌, ◌-◌, ◌*◌, ◌<◌, ◌≤◌, ◌⊎◌, ℤ, pos, ◌≤ℤ◌, IsTrue, List, [], ◌∷◌, length, map, All, Contains, Option, Some, refl, sym, ◌∙◌, ap, subst, inl, inr, arith}
 use Rattle.std.specs.Int.{int_max, int_min}
 use Rattle.std.specs.List.{fold, AllByRecursion}
-use Rattle.std.specs.Option.{option_and_then}
 use Rattle.std.proofs.lemmas.Int.{fold-int_max_bounds, fold-int_max_reached, fold-int_min_bounds, fold-int_min_reached}
 use Rattle.std.proofs.lemmas.List.{length-map}
 use Rattle.std.proofs.lemmas.List.Elements.{recursion_from_All}
@@ -12,22 +11,21 @@ use Rattle.gm_model.specs.declared.value.Kind.TheVariants as kinds
 use Rattle.gm_model.specs.declared.value.Value.{Value}
 use Rattle.gm_model.specs.declared.value.Value.TheVariants as values
 use Rattle.gm_model.specs.declared.word.Mask.{Mask}
-use Rattle.gm_model.specs.Expressions.{HasValue, HasUnits, IsMade, IsCollected, IsFirstOf, components, dart_at, total}
+use Rattle.gm_model.specs.Expressions.{HasValue, IsMade, IsCollected, IsFirstOf, components, dart_at, total}
 use Rattle.gm_model.specs.Kinds.{sum_kind}
 use Rattle.gm_model.specs.Labels.{has}
 use Rattle.gm_model.specs.Orbits.{HasCount, IsListOf, IsWalk}
 use Rattle.gm_model.specs.Trees.{Count, Sum, Least, Greatest}
-use Rattle.gm_model.specs.Values.{IsValueOf, kind_of}
+use Rattle.gm_model.specs.Values.{kind_of}
 use Rattle.gm_arena.specs.declared.slot.Slot.{Slot}
 use Rattle.gm_arena.specs.ArenaAsMap.{value}
 use Rattle.gm_arena.specs.ArenaMap.{ArenaMap, IsAt, name_at}
 use Rattle.gm_arena.proofs.MapLemmas.{name_at-is}
 use Rattle.gm_walk.specs.Walks.{along, letters_of, names_of}
-use Rattle.gm_theory.proofs.Lists.{some_same, none_some}
+use Rattle.gm_theory.proofs.Lists.{some_same}
 use Rattle.gm_theory.proofs.ValuesLists.{IsIn, in_contained, contains_in, one_total}
-use Rattle.gm_theory.proofs.ValuesUnique.{one_count, int_same}
+use Rattle.gm_theory.proofs.ValuesUnique.{one_count}
 use Rattle.gm_eval.specs.declared.reader.Reader.{Reader}
-use Rattle.gm_eval.specs.Places.{IsWithinUnits}
 use Rattle.gm_eval.specs.Readers.{reading_of}
 use Rattle.gm_eval.specs.Sums.{part, part_at, parts_at, parts_for, sum_of}
 use Rattle.gm_eval.proofs.Costs.{walk_within}

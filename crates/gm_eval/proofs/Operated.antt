@@ -5,7 +5,6 @@ use Rattle.gm_model.specs.declared.expr.UnOp.{UnOp}
 use Rattle.gm_model.specs.declared.value.Value.{Value}
 use Rattle.gm_model.specs.declared.value.Value.TheVariants as values
 use Rattle.gm_model.specs.declared.expr.BinOp.TheVariants as ops
-use Rattle.gm_model.specs.declared.value.Kind.{Kind}
 use Rattle.gm_model.specs.declared.value.Kind.TheVariants as kinds
 use Rattle.gm_model.specs.Expressions.{IsUnary, IsBinary, IsTest, IsMade, IsScaled, IsQuotient, by_component, components, floor}
 use Rattle.gm_model.specs.Values.{kind_of}

@@ -1,5 +1,5 @@
 -- The value of a form from the values of its parts, and the units that its reading takes.
-use Rattle.std.proofs.Common.{◌≡◌, ℕ, ◌+◌, ◌*◌, ◌<◌, ◌≤◌, ◌⊎◌, ℤ, pos, Bool, true, false, List, [], ◌∷◌, length, map, IsSome, Option, Some, None, MatchOption, slice_get, refl, sym, ◌∙◌, ap, ap₂, subst, inl, inr, arith}
+use Rattle.std.proofs.Common.{◌≡◌, ℕ, ◌+◌, ◌*◌, ◌<◌, ◌≤◌, ◌⊎◌, ℤ, Bool, true, false, List, [], ◌∷◌, length, IsSome, Option, Some, None, refl, sym, ◌∙◌, ap, ap₂, subst, inl, inr, arith}
 use Rattle.std.specs.List.{AllZip}
 use Rattle.std.proofs.lemmas.List.{length-map}
 use Rattle.gm_model.specs.declared.expr.BinOp.{BinOp}
@@ -11,16 +11,15 @@ use Rattle.gm_model.specs.declared.value.Kind.TheVariants as kinds
 use Rattle.gm_model.specs.declared.value.Value.{Value}
 use Rattle.gm_model.specs.declared.value.Value.TheVariants as values
 use Rattle.gm_model.specs.Expressions.{Reading, HasValue, HasNoValue, HasUnits, IsMade, IsUnary, IsBinary}
-use Rattle.gm_model.specs.Kinds.{unary_kind, binary_kind, param_kinds, tree_kind, with_two}
-use Rattle.gm_model.specs.Trees.{Tree, Param, Unary, Binary, If, MakeVec2, MakeVec3, MakeRgb, tree_of}
+use Rattle.gm_model.specs.Kinds.{unary_kind, binary_kind, param_kinds, tree_kind}
+use Rattle.gm_model.specs.Trees.{Tree, Param, Unary, Binary, If, MakeVec2, MakeVec3, tree_of}
 use Rattle.gm_model.specs.Values.{IsValueOf, kind_of}
-use Rattle.gm_theory.proofs.OperatorsDecided.{number_or_not, truth_or_not}
 use Rattle.gm_theory.proofs.ReadingsDecided.{not_both_truths}
 use Rattle.gm_theory.proofs.ReadingsTyped.{then_some, of_two, typed}
-use Rattle.gm_theory.proofs.ValuesUnique.{one_value, int_same, bool_same}
+use Rattle.gm_theory.proofs.ValuesUnique.{one_value, int_same}
 use Rattle.gm_eval.specs.declared.reader.Reader.{Reader}
 use Rattle.gm_eval.specs.Places.{IsWithinUnits}
-use Rattle.gm_eval.specs.Readers.{IsReady, IsInt, AreNumbersThere, IsValueThere, reading_of}
+use Rattle.gm_eval.specs.Readers.{IsReady, IsInt, IsValueThere, reading_of}
 use Rattle.gm_eval.proofs.Costs.{both_within, one_within}
 use Rattle.gm_eval.proofs.Operated.{Found, found_as}
 use Rattle.gm_eval.proofs.Ready.{is_reading}

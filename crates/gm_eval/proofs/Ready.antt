@@ -1,6 +1,6 @@
 -- What follows where an expression can be read: for its terms, its masks and its embeddings, and for its parts.
-use Rattle.std.proofs.Common.{◌≡◌, ℕ, ◌<◌, ◌≤◌, Option, Some, None, IsTrue, List, slice_get, refl, sym, ◌∙◌, ap, subst, arith}
-use Rattle.std.specs.Option.{option_map, option_and_then}
+use Rattle.std.proofs.Common.{◌≡◌, ℕ, ◌≤◌, Option, Some, None, IsTrue, List, slice_get, refl, sym, ◌∙◌, ap, subst, arith}
+use Rattle.std.specs.Option.{option_map}
 use Rattle.std.proofs.lemmas.List.Elements.{All-from_recursion, recursion_from_All}
 use Rattle.gm_model.specs.declared.expr.DartTerm.{DartTerm}
 use Rattle.gm_model.specs.declared.schema.Embed.{Embed}
@@ -9,10 +9,9 @@ use Rattle.gm_model.specs.declared.value.Kind.TheVariants as kinds
 use Rattle.gm_model.specs.declared.word.Mask.{Mask}
 use Rattle.gm_model.specs.Kinds.{IsTermInRange, IsMaskInRange, embed_kind, only_int, param_kinds, sum_kind}
 use Rattle.gm_model.specs.Labels.{has}
-use Rattle.gm_model.specs.Maps.{IsEmbedAt}
 use Rattle.gm_model.specs.Trees.{Tree, Sum, Least}
 use Rattle.gm_model.specs.Values.{IsValueOf, kind_of}
-use Rattle.gm_arena.specs.ArenaAsMap.{as_map, value}
+use Rattle.gm_arena.specs.ArenaAsMap.{value}
 use Rattle.gm_arena.specs.ArenaMap.{IsAt, IsLiveSlot, name_at}
 use Rattle.gm_arena.proofs.ArenaIsMap.{is_map}
 use Rattle.gm_arena.proofs.MapLemmas.{IsLiveName-name_at, name_at-is}
@@ -25,7 +24,6 @@ use Rattle.gm_eval.proofs.Collected.{all_in}
 use Rattle.gm_theory.proofs.Lists.{some_same, none_some}
 use Rattle.gm_theory.specs.Readings.{IsReadingOf}
 use Rattle.gm_eval.specs.declared.reader.Reader.{Reader}
-use Rattle.gm_eval.specs.Places.{IsTypedFor}
 use Rattle.gm_eval.specs.Readers.{IsHere, IsTermHere, IsReady, reading_of}
 
 module _ (reader : Reader) (tree : Tree) (ready : IsReady reader tree) where

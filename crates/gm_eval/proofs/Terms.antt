@@ -1,12 +1,12 @@
 -- The dart of a term, from its node's slot along its path.
-use Rattle.std.proofs.Common.{◌≡◌, ℕ, ◌+◌, ◌*◌, ◌<◌, ◌≤◌, List, [], ◌∷◌, ◌++◌, length, take, get_or, Some, refl, sym, ◌∙◌, ap, subst, arith}
+use Rattle.std.proofs.Common.{◌≡◌, ℕ, ◌+◌, ◌*◌, ◌<◌, ◌≤◌, List, [], ◌∷◌, ◌++◌, length, take, get_or, Some, refl, sym, ◌∙◌, ap, subst}
 use Rattle.std.proofs.lemmas.List.{take_more, take_all}
 use Rattle.std.proofs.lemmas.Option.{get_or_from_slice_get}
 use Rattle.gm_model.specs.declared.expr.DartTerm.{DartTerm}
 use Rattle.gm_model.specs.Expressions.{dart_at}
 use Rattle.gm_model.specs.Orbits.{follow}
 use Rattle.gm_arena.specs.declared.slot.Slot.{Slot}
-use Rattle.gm_arena.specs.ArenaMap.{ArenaMap, IsAt, IsLiveSlot, alpha, name_at}
+use Rattle.gm_arena.specs.ArenaMap.{IsAt, alpha, name_at}
 use Rattle.gm_arena.proofs.MapLemmas.{IsAt-name_at, name_at-is}
 use Rattle.gm_plan.specs.InArena.{slot_number}
 use Rattle.gm_plan.specs.Placed.{Placed, slot_at}

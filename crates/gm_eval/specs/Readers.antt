@@ -1,5 +1,5 @@
 -- What holds where expressions are read. No public clause cites this module.
-use Rattle.std.specs.Prelude.{ℕ, ◌<◌, ◌≤◌, ℤ, Bool, All, Option, MatchOption}
+use Rattle.std.specs.Prelude.{◌<◌, ◌≤◌, ℤ, Bool, All, Option, MatchOption}
 use Rattle.gm_model.specs.declared.expr.DartTerm.{DartTerm}
 use Rattle.gm_model.specs.declared.value.Value.{Value}
 use Rattle.gm_model.specs.declared.value.Value.TheVariants.{Int, Bool as Truth}

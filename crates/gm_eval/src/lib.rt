@@ -6,11 +6,11 @@
 #![tactic(auto)]
 
 mod collectors;
-mod eval;
+mod evaluation;
 mod forms;
 mod numbers;
 mod operators;
 mod reader;
 mod totals;
 
-pub use eval::evaluate;
+pub use evaluation::eval;

@@ -1,6 +1,6 @@
-use Rattle.std.proofs.Common.{◌≡◌, ℤ, pos, ◌<ℤ◌, ◌-ℤ◌, neg_ℤ, rules, ap, ap₂, ◌∙◌, sym, arith}
+use Rattle.std.proofs.Common.{◌≡◌, pos, ◌<ℤ◌, neg_ℤ, ap₂, ◌∙◌, arith}
 use Rattle.std.specs.Int.{int_rem_euclid}
-use Rattle.std.proofs.lemmas.Int.{ints, to_z-of_z}
+use Rattle.std.proofs.lemmas.Int.{ints}
 use Rattle.gm_eval.proofs.Floors.{rest_below}
 use Rattle.gm_eval.proofs.numbers.remainder.Goals as goal
 

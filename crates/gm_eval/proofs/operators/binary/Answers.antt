@@ -1,6 +1,5 @@
-use Rattle.std.proofs.Common.{◌≡◌, int_lt, int_le, refl, subst, sym}
+use Rattle.std.proofs.Common.{int_lt, int_le}
 use Rattle.gm_model.specs.declared.expr.BinOp.TheVariants as ops
-use Rattle.gm_model.specs.Expressions.{IsBinary}
 use Rattle.gm_eval.proofs.Operated.{by_binary, turned, as_equal, as_different}
 use Rattle.gm_eval.proofs.operators.binary.Goals as goal
 

@@ -1,5 +1,5 @@
-use Rattle.std.proofs.Common.{◌≡◌, rules, arith}
-use Rattle.std.proofs.lemmas.Int.{ints, to_z-of_z}
+use Rattle.std.proofs.Common.{rules, arith}
+use Rattle.std.proofs.lemmas.Int.{ints}
 use Rattle.gm_eval.proofs.Operated.{found_quotient}
 use Rattle.gm_eval.proofs.operators.divided.Goals as goal
 

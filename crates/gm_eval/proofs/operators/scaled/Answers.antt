@@ -1,4 +1,4 @@
-use Rattle.std.proofs.Common.{◌≡◌, arith}
+use Rattle.std.proofs.Common.{arith}
 use Rattle.std.proofs.lemmas.Int.{to_z-of_z}
 use Rattle.gm_eval.proofs.Operated.{found_scaled, three}
 use Rattle.gm_eval.proofs.operators.scaled.Goals as goal

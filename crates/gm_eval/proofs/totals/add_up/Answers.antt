@@ -1,4 +1,4 @@
-use Rattle.std.proofs.Common.{◌≡◌, ◌<◌, FitsSigned, w64, get_or, rules, ap, ◌∙◌, arith}
+use Rattle.std.proofs.Common.{◌<◌, FitsSigned, w64, rules, ap, ◌∙◌, arith}
 use Rattle.gm_arena.specs.declared.slot.Slot.{Slot}
 use Rattle.gm_eval.specs.Sums.{part, part_at}
 use Rattle.gm_eval.proofs.Sums.{more_fits, small_more, sum_step}

@@ -1,6 +1,6 @@
 use Rattle.std.proofs.Common.{◌≡◌, get_or, ap, ◌∙◌, arith}
 use Rattle.std.specs.Int.{int_max, int_min}
-use Rattle.std.proofs.lemmas.Int.{ints, to_z-of_z}
+use Rattle.std.proofs.lemmas.Int.{to_z-of_z}
 use Rattle.gm_arena.specs.declared.slot.Slot.{Slot}
 use Rattle.gm_eval.specs.Sums.{part, part_at}
 use Rattle.gm_eval.proofs.Sums.{fold_step}

@@ -1,4 +1,4 @@
-use Rattle.std.proofs.Common.{◌≡◌, ℤ, pos, get_or, sym, ap, ap₂, subst, arith}
+use Rattle.std.proofs.Common.{pos, get_or, sym, ap, ap₂, subst, arith}
 use Rattle.std.proofs.lemmas.Int.{ints}
 use Rattle.std.proofs.lemmas.Option.{slice_get-get_or}
 use Rattle.gm_model.specs.declared.expr.Expr.{Expr}
@@ -7,7 +7,7 @@ use Rattle.gm_model.specs.declared.value.Value.TheVariants.{Int, Bool}
 use Rattle.gm_model.specs.Expressions.{HasValue}
 use Rattle.gm_model.specs.Trees.{Unary, Binary, MakeVec2, MakeVec3, MakeRgb, tree_of}
 use Rattle.gm_eval.specs.Readers.{IsReady, reading_of}
-use Rattle.gm_eval.proofs.Parts.{as_form, as_tree, binary_known, binary_there, chosen_there, chosen_within, first_within, front_within, no_other, none_there, other_there, other_within, pair_there, param_within, three_trees, three_within, triple_there, two_within, unary_known, unary_there}
+use Rattle.gm_eval.proofs.Parts.{as_form, as_tree, binary_known, binary_there, chosen_there, chosen_within, front_within, no_other, none_there, other_there, other_within, pair_there, param_within, three_trees, three_within, triple_there, two_within, unary_known, unary_there}
 use Rattle.gm_eval.proofs.reader.Reader.+value.Goals as goal
 
 -- ---- operators

@@ -1,4 +1,4 @@
-use Rattle.std.proofs.Common.{◌≡◌, length, List, ap, subst, sym, ◌∙◌, refl, arith}
+use Rattle.std.proofs.Common.{length, List, ap, ◌∙◌, refl, arith}
 use Rattle.gm_arena.specs.declared.slot.Slot.{Slot}
 use Rattle.std.specs.Int.{int_max, int_min}
 use Rattle.std.specs.List.{fold}

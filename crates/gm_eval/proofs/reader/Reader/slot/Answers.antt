@@ -1,4 +1,4 @@
-use Rattle.std.proofs.Common.{◌≡◌, ◌<◌, ◌≤◌, length, List, get_or, ℕ, ap, subst, arith}
+use Rattle.std.proofs.Common.{◌<◌, ◌≤◌, length, List, get_or, ℕ, ap, subst, arith}
 use Rattle.gm_walk.proofs.NameLemmas.{live_at}
 use Rattle.gm_eval.proofs.Terms.{begins, goes_on, ends}
 use Rattle.gm_eval.proofs.reader.Reader.slot.Goals as goal

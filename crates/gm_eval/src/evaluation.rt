@@ -17,7 +17,7 @@ use std::sync::ledger::Ledger;
 
 /// The value of the expression at a position, read in the map as it is; `None` exactly where it has
 /// no value there. It takes no memory.
-pub fn evaluate<L: Ledger>(
+pub fn eval<L: Ledger>(
     arena: &Arena,
     found: &Instances,
     position: u32,
