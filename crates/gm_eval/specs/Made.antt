@@ -1,4 +1,4 @@
--- That no value is of a kind, or made by an operator.
+-- That no value has what is asked of it.
 use Rattle.gm_model.specs.declared.value.Value.{Value}
 
 abbrev pub IsNone : (Value → Type 0) → Type 0

@@ -1,4 +1,4 @@
-//! The value of an expression, for its callers.
+//! The value of an expression where it is read, for callers.
 
 ghost use Rattle.std.specs.Prelude.{◌≡◌, ◌+◌, ◌*◌, ◌<◌, ◌≤◌, ℕ, MatchOption};
 ghost use Rattle.gm_arena.specs.ArenaAsMap.{as_map};

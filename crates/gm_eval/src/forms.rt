@@ -1,9 +1,7 @@
-//! The values of the forms of an expression that have parts, and of those that have none.
+//! The value of an expression, form by form, down its tree.
 
-ghost use Rattle.std.specs.Prelude.{◌≡◌, ◌≤◌, ℤ, MatchOption};
-ghost use Rattle.gm_model.specs.Expressions.{HasValue};
-ghost use Rattle.gm_model.specs.Trees.{Field, Same, Unary, Binary, If, MakeVec2, MakeVec3, MakeRgb, tree_of};
-ghost use Rattle.gm_model.specs.declared.value.Value.TheVariants.{Int, Bool};
+ghost use Rattle.std.specs.Prelude.{◌≡◌, ◌≤◌};
+ghost use Rattle.gm_model.specs.Trees.{Unary, Binary, If, MakeVec2, MakeVec3, MakeRgb, tree_of};
 ghost use Rattle.gm_walk.specs.Room.{Fits};
 ghost use Rattle.gm_eval.specs.Places.{IsWithinUnits};
 ghost use Rattle.gm_eval.specs.Readers.{AreNumbersThere, IsNumberThere, IsReady, IsTruthThere, IsValueThere, reading_of};
@@ -12,7 +10,7 @@ use crate::numbers::{rgb, vec2, vec3};
 use crate::operators::{binary, unary};
 use crate::reader::Reader;
 use gm_arena::Steps;
-use gm_model::{BinOp, DartTerm, Expr, UnOp, Value};
+use gm_model::{BinOp, Expr, UnOp, Value};
 use gm_walk::Scratch;
 use std::sync::ledger::Ledger;
 

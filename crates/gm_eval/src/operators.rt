@@ -1,7 +1,7 @@
 //! Operators on values, each by the table of kinds.
 
-ghost use Rattle.std.specs.Prelude.{◌≡◌, ◌≢◌, ◌↔◌, IsTrue, ◌+ℤ◌, ◌-ℤ◌, pos, map, IsSome, MatchOption, int_lt, int_le, ◌&&◌, ◌||◌, not};
-ghost use Rattle.gm_model.specs.Expressions.{IsUnary, IsBinary, IsComponent, IsScaled, IsProduct, IsQuotient, IsRemainder, IsTest, IsLogic, IsMade, by_component, components, floor};
+ghost use Rattle.std.specs.Prelude.{◌≡◌, ◌≢◌, ◌↔◌, IsTrue, pos, map, IsSome, MatchOption, int_lt, int_le, ◌&&◌, ◌||◌};
+ghost use Rattle.gm_model.specs.Expressions.{IsUnary, IsBinary, IsComponent, IsScaled, IsProduct, IsQuotient, IsRemainder, IsTest, IsLogic, IsMade, components, floor};
 ghost use Rattle.gm_model.specs.declared.expr.UnOp.TheVariants.{Neg, Not};
 ghost use Rattle.gm_model.specs.declared.expr.BinOp.TheVariants.{Add, Sub, Mul, Div};
 ghost use Rattle.gm_model.specs.Kinds.{numeric, unary_kind, binary_kind};
@@ -47,12 +47,14 @@ pub(crate) fn binary(op: BinOp, left: Value, right: Value) -> Option<Value>
     }
 }
 
+/// Whether the values are one.
 fn are_same(left: Value, right: Value) -> bool
     ensures { IsTrue result ↔ (left ≡ right) }
 {
     left == right
 }
 
+/// The opposite of each component.
 fn negated(part: Value) -> Option<Value>
     requires kind { IsSome (numeric (kind_of part)) }
     ensures { MatchOption result (IsNone (IsUnary Neg part)) (IsUnary Neg part) }
@@ -65,6 +67,7 @@ fn negated(part: Value) -> Option<Value>
     }
 }
 
+/// The other truth.
 fn inverted(part: Value) -> Option<Value>
     ensures { MatchOption result (IsNone (IsUnary Not part)) (IsUnary Not part) }
 {
@@ -107,6 +110,7 @@ fn third(part: Value) -> Option<Value>
     }
 }
 
+/// The sum, component by component.
 fn added(left: Value, right: Value) -> Option<Value>
     requires kind { IsSome (binary_kind Add (kind_of left) (kind_of right)) }
     ensures { MatchOption result (IsNone (IsBinary Add left right)) (IsBinary Add left right) }
@@ -119,6 +123,7 @@ fn added(left: Value, right: Value) -> Option<Value>
     }
 }
 
+/// The difference, component by component.
 fn subtracted(left: Value, right: Value) -> Option<Value>
     requires kind { IsSome (binary_kind Sub (kind_of left) (kind_of right)) }
     ensures { MatchOption result (IsNone (IsBinary Sub left right)) (IsBinary Sub left right) }
@@ -135,6 +140,7 @@ fn subtracted(left: Value, right: Value) -> Option<Value>
     }
 }
 
+/// A number times a number or each component, whichever comes first.
 fn multiplied(left: Value, right: Value) -> Option<Value>
     requires kind { IsSome (binary_kind Mul (kind_of left) (kind_of right)) }
     ensures { MatchOption result (IsNone (IsProduct left right)) (IsProduct left right) }
@@ -159,6 +165,7 @@ fn scaled(number: i64, value: Value) -> Option<Value>
     }
 }
 
+/// The quotient of each component, rounded down; none by 0.
 fn divided(left: Value, right: Value) -> Option<Value>
     requires kind { IsSome (binary_kind Div (kind_of left) (kind_of right)) }
     ensures { MatchOption result (IsNone (IsQuotient left right)) (IsQuotient left right) }
@@ -189,6 +196,7 @@ fn quotients(value: Value, divisor: i64) -> Option<Value>
     }
 }
 
+/// What the quotient rounded down leaves; none by 0.
 fn rest(left: Value, right: Value) -> Option<Value>
     ensures { MatchOption result (IsNone (IsRemainder left right)) (IsRemainder left right) }
 {
@@ -200,6 +208,7 @@ fn rest(left: Value, right: Value) -> Option<Value>
     }
 }
 
+/// Whether the first number is less.
 fn less(left: Value, right: Value) -> Option<Value>
     ensures { MatchOption result (IsNone (IsTest int_lt left right)) (IsTest int_lt left right) }
 {
@@ -209,6 +218,7 @@ fn less(left: Value, right: Value) -> Option<Value>
     }
 }
 
+/// Whether the first number is at most the second.
 fn at_most(left: Value, right: Value) -> Option<Value>
     ensures { MatchOption result (IsNone (IsTest int_le left right)) (IsTest int_le left right) }
 {
@@ -218,6 +228,7 @@ fn at_most(left: Value, right: Value) -> Option<Value>
     }
 }
 
+/// Whether both are true.
 fn both(left: Value, right: Value) -> Option<Value>
     ensures { MatchOption result (IsNone (IsLogic ◌&&◌ left right)) (IsLogic ◌&&◌ left right) }
 {
@@ -227,6 +238,7 @@ fn both(left: Value, right: Value) -> Option<Value>
     }
 }
 
+/// Whether one at least is true.
 fn either(left: Value, right: Value) -> Option<Value>
     ensures { MatchOption result (IsNone (IsLogic ◌||◌ left right)) (IsLogic ◌||◌ left right) }
 {
