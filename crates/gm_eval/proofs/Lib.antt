@@ -7,3 +7,4 @@ pub mod Sums
 pub mod Ready
 pub mod Collected
 pub mod Parts
+pub mod Matched
