@@ -1,0 +1,10 @@
+pub mod Floors
+pub mod Operated
+pub mod Terms
+pub mod OrbitWalks
+pub mod Costs
+pub mod Sums
+pub mod Ready
+pub mod Collected
+pub mod Parts
+pub mod Matched

@@ -1,0 +1,61 @@
+-- What an operator gives, from what is known of its arguments.
+use Rattle.std.proofs.Common.{◌≡◌, ◌∷◌, [], ap, ap₂, ◌∙◌, ◌≢◌, IsTrue, not, ◌↔◌, ◌⊎◌, ℤ, pos, ◌*ℤ◌, Bool, Option, Some, None, MatchOption, List, map, refl, sym, subst, inl, inr}
+use Rattle.gm_model.specs.declared.expr.BinOp.{BinOp}
+use Rattle.gm_model.specs.declared.expr.UnOp.{UnOp}
+use Rattle.gm_model.specs.declared.value.Value.{Value}
+use Rattle.gm_model.specs.declared.value.Value.TheVariants as values
+use Rattle.gm_model.specs.declared.expr.BinOp.TheVariants as ops
+use Rattle.gm_model.specs.declared.value.Kind.TheVariants as kinds
+use Rattle.gm_model.specs.Expressions.{IsUnary, IsBinary, IsTest, IsMade, IsScaled, IsQuotient, by_component, components, floor}
+use Rattle.gm_model.specs.Values.{kind_of}
+use Rattle.gm_theory.proofs.ValuesUnique.{int_same}
+use Rattle.gm_eval.specs.Made.{IsNone}
+
+abbrev pub Found : (Value → Type 0) → Option Value → Type 0
+Found P o = MatchOption o (IsNone P) P
+
+-- what has P has Q, and the other way round
+pub found_as : (P Q : Value → Type 0) (o : Option Value) → ((v : Value) → P v → Q v) → ((v : Value) → Q v → P v) → Found P o → Found Q o
+found_as P Q (Some v) there back h = there v h
+found_as P Q None there back h = λ v q. h v (back v q)
+
+pub by_unary : (op op' : UnOp) (a : Value) (o : Option Value) → op ≡ op' → Found (IsUnary op' a) o → Found (IsUnary op a) o
+by_unary op op' a o e h = subst (λ x. Found (IsUnary x a) o) (sym e) h
+
+pub by_binary : (op op' : BinOp) (a b : Value) (o : Option Value) → op ≡ op' → Found (IsBinary op' a b) o → Found (IsBinary op a b) o
+by_binary op op' a b o e h = subst (λ x. Found (IsBinary x a b) o) (sym e) h
+
+-- a test the other way round
+pub turned : (test : ℤ → ℤ → Bool) (a b : Value) (o : Option Value) → Found (IsTest test b a) o → Found (IsTest (λ x y. test y x) a b) o
+turned test a b o h = found_as (IsTest test b a) (IsTest (λ x y. test y x) a b) o (λ v (x, y, e, f, g). (y, x, f, e, g)) (λ v (x, y, e, f, g). (y, x, f, e, g)) h
+
+-- either operator means the same
+pub by_either : (op op' op'' : UnOp) (a : Value) (o : Option Value) → (op ≡ op') ⊎ (op ≡ op'') → Found (IsUnary op' a) o → Found (IsUnary op'' a) o → Found (IsUnary op a) o
+by_either op op' op'' a o (inl e) h k = by_unary op op' a o e h
+by_either op op' op'' a o (inr e) h k = by_unary op op'' a o e k
+
+pub three : (x y z x' y' z' : ℤ) → x ≡ x' → y ≡ y' → z ≡ z' → (x ∷ y ∷ z ∷ []) ≡ (x' ∷ y' ∷ z' ∷ [])
+three x y z x' y' z' e f g = ap₂ ◌∷◌ e (ap₂ ◌∷◌ f (ap (λ u. u ∷ []) g))
+
+pub found_scaled : (number : ℤ) (value : Value) (x y z : ℤ) (parts : List ℤ) (o : Option Value) → value ≡ values.Vec3 x y z → parts ≡ map (λ u. number *ℤ u) (x ∷ y ∷ z ∷ []) → Found (IsMade kinds.Vec3 parts) o → Found (IsScaled number value) o
+found_scaled number value x y z parts o e f h = subst (λ v. Found (IsScaled number v) o) (sym e) (subst (λ p. Found (IsMade kinds.Vec3 p) o) f h)
+
+-- quotients by the number that the divisor is
+pub found_quotient : (a b : Value) (y : ℤ) (o : Option Value) → b ≡ values.Int y → y ≢ pos 0 → Found (IsMade (kind_of a) (map (λ x. floor x y) (components a))) o → Found (IsQuotient a b) o
+found_quotient a b y o e n h = found_as (IsMade (kind_of a) (map (λ x. floor x y) (components a))) (IsQuotient a b) o (λ v m. (y, e, n, m)) back h
+  where
+    back : (v : Value) → IsQuotient a b v → IsMade (kind_of a) (map (λ x. floor x y) (components a)) v
+    back v (z, f, n', m) = subst (λ u. IsMade (kind_of a) (map (λ x. floor x u) (components a)) v) (int_same z y (sym f ∙ e)) m
+
+-- equality, and its opposite
+pub as_equal : (op : BinOp) (a b : Value) (r : Bool) → op ≡ ops.Eq → (IsTrue r ↔ (a ≡ b)) → IsBinary op a b (values.Bool r)
+as_equal op a b r e h = subst (λ x. IsBinary x a b (values.Bool r)) (sym e) (r, refl, h)
+
+pub as_different : (op : BinOp) (a b : Value) (r : Bool) → op ≡ ops.Ne → (IsTrue r ↔ (a ≡ b)) → IsBinary op a b (values.Bool (not r))
+as_different op a b r e h = subst (λ x. IsBinary x a b (values.Bool (not r))) (sym e) (r, refl, h)
+
+-- component by component
+pub found_by_three : (f : ℤ → ℤ → ℤ) (left right : Value) (x y z a b c : ℤ) (parts : List ℤ) (o : Option Value) → left ≡ values.Vec3 x y z → right ≡ values.Vec3 a b c → parts ≡ (f x a ∷ f y b ∷ f z c ∷ []) → Found (IsMade kinds.Vec3 parts) o → Found (IsMade (kind_of left) (by_component f (components left) (components right))) o
+found_by_three f left right x y z a b c parts o e g same h =
+    subst (λ v. Found (IsMade (kind_of v) (by_component f (components v) (components right))) o) (sym e)
+    (subst (λ w. Found (IsMade kinds.Vec3 (by_component f (x ∷ y ∷ z ∷ []) (components w))) o) (sym g) (subst (λ p. Found (IsMade kinds.Vec3 p) o) same h))

@@ -1,0 +1,183 @@
+-- The value of a form from the values of its parts, and the units that its reading takes.
+use Rattle.std.proofs.Common.{◌≡◌, ℕ, ◌+◌, ◌*◌, ◌<◌, ◌≤◌, ◌⊎◌, ℤ, Bool, true, false, List, [], ◌∷◌, length, IsSome, Option, Some, None, refl, sym, ◌∙◌, ap, ap₂, subst, inl, inr, arith}
+use Rattle.std.specs.List.{AllZip}
+use Rattle.std.proofs.lemmas.List.{length-map}
+use Rattle.gm_model.specs.declared.expr.BinOp.{BinOp}
+use Rattle.gm_model.specs.declared.expr.Expr.{Expr}
+use Rattle.gm_model.specs.declared.expr.UnOp.{UnOp}
+use Rattle.gm_model.specs.declared.rule.Param.{Param as ParamOf}
+use Rattle.gm_model.specs.declared.value.Kind.{Kind}
+use Rattle.gm_model.specs.declared.value.Kind.TheVariants as kinds
+use Rattle.gm_model.specs.declared.value.Value.{Value}
+use Rattle.gm_model.specs.declared.value.Value.TheVariants as values
+use Rattle.gm_model.specs.Expressions.{Reading, HasValue, HasNoValue, HasUnits, IsMade, IsUnary, IsBinary}
+use Rattle.gm_model.specs.Kinds.{unary_kind, binary_kind, param_kinds, tree_kind}
+use Rattle.gm_model.specs.Trees.{Tree, Param, Unary, Binary, If, MakeVec2, MakeVec3, tree_of}
+use Rattle.gm_model.specs.Values.{IsValueOf, kind_of}
+use Rattle.gm_theory.proofs.ReadingsDecided.{not_both_truths}
+use Rattle.gm_theory.proofs.ReadingsTyped.{then_some, of_two, typed}
+use Rattle.gm_theory.proofs.ValuesUnique.{one_value, int_same}
+use Rattle.gm_eval.specs.declared.reader.Reader.{Reader}
+use Rattle.gm_eval.specs.Places.{IsWithinUnits}
+use Rattle.gm_eval.specs.Readers.{IsReady, IsInt, IsValueThere, reading_of}
+use Rattle.gm_eval.proofs.Costs.{both_within, one_within}
+use Rattle.gm_eval.proofs.Operated.{Found, found_as}
+use Rattle.gm_eval.proofs.Ready.{is_reading}
+
+-- ---- kinds
+
+some : (o : Option Kind) (kind : Kind) → o ≡ Some kind → IsSome o
+some o kind e = rw e refl
+
+same_lengths : (kinds : List Kind) (values : List Value) → AllZip IsValueOf kinds values → length values ≡ length kinds
+same_lengths [] [] all = refl
+same_lengths [] (v ∷ values) all = absurd all
+same_lengths (k ∷ kinds) [] all = absurd all
+same_lengths (k ∷ kinds) (v ∷ values) all = let rest : length values ≡ length kinds = same_lengths kinds values all.1 in omega (arith, rest)
+
+-- a form of three parts
+pub three_trees : (form : Tree → Tree → Tree → Tree) (a b c a' b' c' : Expr) → a ≡ a' → b ≡ b' → c ≡ c' → form (tree_of a) (tree_of b) (tree_of c) ≡ form (tree_of a') (tree_of b') (tree_of c')
+three_trees form a b c a' b' c' e f g = λ i. form (tree_of (e i)) (tree_of (f i)) (tree_of (g i))
+
+module _ (reader : Reader) where
+  abbrev R : Reading
+  R = reading_of reader
+
+  abbrev kind_at : Tree → (tree : Tree) → IsReady reader tree → Option Kind
+  kind_at part tree ready = tree_kind reader.arena.now.schema.embeds (param_kinds ready.typed.rule.params) part
+
+  pub unary_known : (op : UnOp) (a : Tree) (x : Value) → IsReady reader (Unary op a) → HasValue R a x → IsSome (unary_kind op (kind_of x))
+  unary_known op a x ready h =
+      let t = ready.typed in
+      let p : (i : Kind) × (kind_at a (Unary op a) ready ≡ Some i) × (unary_kind op i ≡ Some t.kind) = then_some (unary_kind op) (kind_at a (Unary op a) ready) t.kind t.has_kind.kind_is in
+      let v : IsValueOf p.0 x = typed t.rule R (is_reading reader (Unary op a) ready) t.good_params a p.0 x t.has_kind.in_range p.1 h in
+      some (unary_kind op (kind_of x)) t.kind (ap (unary_kind op) v.kind_is ∙ p.2)
+
+  pub binary_known : (op : BinOp) (a b : Tree) (x y : Value) → IsReady reader (Binary op a b) → HasValue R a x → HasValue R b y → IsSome (binary_kind op (kind_of x) (kind_of y))
+  binary_known op a b x y ready h k =
+      let t = ready.typed in
+      let p : (i : Kind) × (j : Kind) × (kind_at a (Binary op a b) ready ≡ Some i) × (kind_at b (Binary op a b) ready ≡ Some j) × (binary_kind op i j ≡ Some t.kind) = of_two (binary_kind op) (kind_at a (Binary op a b) ready) (kind_at b (Binary op a b) ready) t.kind t.has_kind.kind_is in
+      let v : IsValueOf p.0 x = typed t.rule R (is_reading reader (Binary op a b) ready) t.good_params a p.0 x t.has_kind.in_range.0 p.2 h in
+      let w : IsValueOf p.1 y = typed t.rule R (is_reading reader (Binary op a b) ready) t.good_params b p.1 y t.has_kind.in_range.1 p.3 k in
+      some (binary_kind op (kind_of x) (kind_of y)) t.kind (ap₂ (binary_kind op) v.kind_is w.kind_is ∙ p.4)
+
+  pub param_within : (k : ℕ) → IsReady reader (Param k) → k < length reader.params.now
+  param_within k ready =
+      let t = ready.typed in
+      let same : length reader.params.now ≡ length (param_kinds t.rule.params) = same_lengths (param_kinds t.rule.params) reader.params.now t.good_params in
+      omega (arith, same, length-map t.rule.params (λ (param : ParamOf). param.kind), t.has_kind.in_range)
+
+  -- ---- values
+
+  one : (tree : Tree) (v w : Value) → HasValue R tree v → HasValue R tree w → v ≡ w
+  one tree v w h k = one_value R tree v w h k
+
+  one_int : (tree : Tree) (x y : ℤ) → IsInt reader tree x → IsInt reader tree y → x ≡ y
+  one_int tree x y h k = int_same x y (one tree (values.Int x) (values.Int y) h k)
+
+  pub unary_there : (op : UnOp) (a : Tree) (x : Value) (o : Option Value) → HasValue R a x → Found (IsUnary op x) o → IsValueThere reader (Unary op a) o
+  unary_there op a x o h found = found_as (IsUnary op x) (HasValue R (Unary op a)) o (λ v u. (x, h, u)) (λ v (y, k, u). subst (λ z. IsUnary op z v) (one a y x k h) u) found
+
+  pub binary_there : (op : BinOp) (a b : Tree) (x y : Value) (o : Option Value) → HasValue R a x → HasValue R b y → Found (IsBinary op x y) o → IsValueThere reader (Binary op a b) o
+  binary_there op a b x y o h k found = found_as (IsBinary op x y) (HasValue R (Binary op a b)) o (λ v u. (x, y, h, k, u)) back found
+    where
+      back : (v : Value) → HasValue R (Binary op a b) v → IsBinary op x y v
+      back v (x', y', h', k', u) = subst (λ z. IsBinary op z y v) (one a x' x h' h) (subst (λ z. IsBinary op x' z v) (one b y' y k' k) u)
+
+  pub chosen_there : (c a b : Tree) (truth : Bool) (o : Option Value) → truth ≡ true → HasValue R c (values.Bool truth) → IsValueThere reader a o → IsValueThere reader (If c a b) o
+  chosen_there c a b truth o e h found = found_as (HasValue R a) (HasValue R (If c a b)) o (λ v k. inl (yes_there, k)) back found
+    where
+      yes_there : HasValue R c (values.Bool true)
+      yes_there = subst (λ t. HasValue R c (values.Bool t)) e h
+
+      back : (v : Value) → HasValue R (If c a b) v → HasValue R a v
+      back v (inl (t, k)) = k
+      back v (inr (f, k)) = absurd (not_both_truths R c yes_there f)
+
+  pub other_there : (c a b : Tree) (truth : Bool) (o : Option Value) → truth ≡ false → HasValue R c (values.Bool truth) → IsValueThere reader b o → IsValueThere reader (If c a b) o
+  other_there c a b truth o e h found = found_as (HasValue R b) (HasValue R (If c a b)) o (λ v k. inr (no_there, k)) back found
+    where
+      no_there : HasValue R c (values.Bool false)
+      no_there = subst (λ t. HasValue R c (values.Bool t)) e h
+
+      back : (v : Value) → HasValue R (If c a b) v → HasValue R b v
+      back v (inl (t, k)) = absurd (not_both_truths R c t no_there)
+      back v (inr (f, k)) = k
+
+  pub pair_there : (a b : Tree) (x y x' y' : ℤ) (o : Option Value) → IsInt reader a x → IsInt reader b y → x' ≡ x → y' ≡ y → Found (IsMade kinds.Vec2 (x' ∷ y' ∷ [])) o → IsValueThere reader (MakeVec2 a b) o
+  pair_there a b x y x' y' o h k e f found = found_as (IsMade kinds.Vec2 (x' ∷ y' ∷ [])) (HasValue R (MakeVec2 a b)) o
+      (λ v made. (x, y, h, k, subst (λ parts. IsMade kinds.Vec2 parts v) (ap₂ (λ s t. s ∷ t ∷ []) e f) made)) back found
+    where
+      back : (v : Value) → HasValue R (MakeVec2 a b) v → IsMade kinds.Vec2 (x' ∷ y' ∷ []) v
+      back v (s, t, h', k', made) = subst (λ parts. IsMade kinds.Vec2 parts v) (ap₂ (λ s t. s ∷ t ∷ []) (one_int a s x h' h ∙ sym e) (one_int b t y k' k ∙ sym f)) made
+
+  abbrev IsTriple : Kind → Tree → Tree → Tree → Value → Type 0
+  IsTriple kind a b c v = (x : ℤ) × (y : ℤ) × (z : ℤ) × IsInt reader a x × IsInt reader b y × IsInt reader c z × IsMade kind (x ∷ y ∷ z ∷ []) v
+
+  pub triple_there : (kind : Kind) (a b c : Tree) (x y z x' y' z' : ℤ) (o : Option Value) → IsInt reader a x → IsInt reader b y → IsInt reader c z → x' ≡ x → y' ≡ y → z' ≡ z → Found (IsMade kind (x' ∷ y' ∷ z' ∷ [])) o → Found (IsTriple kind a b c) o
+  triple_there kind a b c x y z x' y' z' o h k l e f g found = found_as (IsMade kind (x' ∷ y' ∷ z' ∷ [])) (IsTriple kind a b c) o
+      (λ v made. (x, y, z, h, k, l, subst (λ parts. IsMade kind parts v) (λ i. e i ∷ f i ∷ g i ∷ []) made)) back found
+    where
+      back : (v : Value) → IsTriple kind a b c v → IsMade kind (x' ∷ y' ∷ z' ∷ []) v
+      back v (s, t, u, h', k', l', made) =
+          let e' : s ≡ x' = one_int a s x h' h ∙ sym e in
+          let f' : t ≡ y' = one_int b t y k' k ∙ sym f in
+          let g' : u ≡ z' = one_int c u z l' l ∙ sym g in
+          subst (λ parts. IsMade kind parts v) (λ i. e' i ∷ f' i ∷ g' i ∷ []) made
+
+  -- ---- units
+
+  -- the units of a choice, once the condition is known to hold, or not to
+  pub chosen_within : (c a b : Tree) (truth : Bool) (old mid new : ℕ) → truth ≡ true → HasValue R c (values.Bool truth) → IsWithinUnits R c old mid → IsWithinUnits R a mid new → IsWithinUnits R (If c a b) old new
+  chosen_within c a b truth old mid new e h first second u (s, t, us, side, sum) = subst (λ n. new ≤ old + 6 * (R.map.schema.dim + 1) * n) (sym sum) (go side)
+    where
+      yes_there : HasValue R c (values.Bool true)
+      yes_there = subst (λ t. HasValue R c (values.Bool t)) e h
+
+      go : (HasValue R c (values.Bool true) × HasUnits R a t) ⊎ (HasValue R c (values.Bool false) × HasUnits R b t) ⊎ (HasNoValue R c × (t ≡ 0)) → new ≤ old + 6 * (R.map.schema.dim + 1) * (s + t)
+      go (inl (k, ut)) = both_within R.map.schema.dim s t old mid new (first s us) (second t ut)
+      go (inr (inl (k, ut))) = absurd (not_both_truths R c yes_there k)
+      go (inr (inr (none, z))) = absurd (none (values.Bool true) yes_there)
+
+  pub other_within : (c a b : Tree) (truth : Bool) (old mid new : ℕ) → truth ≡ false → HasValue R c (values.Bool truth) → IsWithinUnits R c old mid → IsWithinUnits R b mid new → IsWithinUnits R (If c a b) old new
+  other_within c a b truth old mid new e h first second u (s, t, us, side, sum) = subst (λ n. new ≤ old + 6 * (R.map.schema.dim + 1) * n) (sym sum) (go side)
+    where
+      no_there : HasValue R c (values.Bool false)
+      no_there = subst (λ t. HasValue R c (values.Bool t)) e h
+
+      go : (HasValue R c (values.Bool true) × HasUnits R a t) ⊎ (HasValue R c (values.Bool false) × HasUnits R b t) ⊎ (HasNoValue R c × (t ≡ 0)) → new ≤ old + 6 * (R.map.schema.dim + 1) * (s + t)
+      go (inl (k, ut)) = absurd (not_both_truths R c k no_there)
+      go (inr (inl (k, ut))) = both_within R.map.schema.dim s t old mid new (first s us) (second t ut)
+      go (inr (inr (none, z))) = absurd (none (values.Bool false) no_there)
+
+  abbrev IsWithinBoth : Tree → Tree → ℕ → ℕ → Type 0
+  IsWithinBoth a b old new = (u : ℕ) → (s : ℕ) × (t : ℕ) × HasUnits R a s × HasUnits R b t × (u ≡ s + t) → new ≤ old + 6 * (R.map.schema.dim + 1) * u
+
+  pub two_within : (a b : Tree) (old mid new : ℕ) → IsWithinUnits R a old mid → IsWithinUnits R b mid new → IsWithinBoth a b old new
+  two_within a b old mid new first second u (s, t, us, ut, sum) = subst (λ n. new ≤ old + 6 * (R.map.schema.dim + 1) * n) (sym sum) (both_within R.map.schema.dim s t old mid new (first s us) (second t ut))
+
+  pub first_within : (a b : Tree) (old new : ℕ) → IsWithinUnits R a old new → IsWithinBoth a b old new
+  first_within a b old new first u (s, t, us, ut, sum) = subst (λ n. new ≤ old + 6 * (R.map.schema.dim + 1) * n) (sym sum) (one_within R.map.schema.dim s t old new (first s us))
+
+  pub three_within : (a b c : Tree) (old mid late new : ℕ) → IsWithinUnits R a old mid → IsWithinUnits R b mid late → IsWithinUnits R c late new → IsWithinUnits R (MakeVec3 a b c) old new
+  three_within a b c old mid late new first second third u (s, t, w, us, ut, uw, sum) =
+      subst (λ n. new ≤ old + 6 * (R.map.schema.dim + 1) * n) (sym sum) (both_within R.map.schema.dim (s + t) w old late new (both_within R.map.schema.dim s t old mid late (first s us) (second t ut)) (third w uw))
+
+  pub front_within : (a b c : Tree) (old mid new : ℕ) → IsWithinUnits R a old mid → IsWithinUnits R b mid new → IsWithinUnits R (MakeVec3 a b c) old new
+  front_within a b c old mid new first second u (s, t, w, us, ut, uw, sum) =
+      subst (λ n. new ≤ old + 6 * (R.map.schema.dim + 1) * n) (sym sum) (one_within R.map.schema.dim (s + t) w old new (both_within R.map.schema.dim s t old mid new (first s us) (second t ut)))
+
+  -- ---- the form that an expression has
+
+  pub as_form : (expr expr' : Expr) (o : Option Value) → expr ≡ expr' → IsValueThere reader (tree_of expr') o → IsValueThere reader (tree_of expr) o
+  as_form expr expr' o e h = subst (λ x. IsValueThere reader (tree_of x) o) (sym e) h
+
+  -- its parts were lent
+  pub as_tree : (expr : Expr) (tree tree' : Tree) (o : Option Value) → tree_of expr ≡ tree → tree ≡ tree' → IsValueThere reader tree' o → IsValueThere reader (tree_of expr) o
+  as_tree expr tree tree' o e f h = subst (λ x. IsValueThere reader x o) (sym (e ∙ f)) h
+
+  pub none_there : (tree : Tree) (o : Option Value) → o ≡ None → HasNoValue R tree → IsValueThere reader tree o
+  none_there tree o e none = subst (IsValueThere reader tree) (sym e) none
+
+  pub no_other : (tree : Tree) (v w : Value) → HasValue R tree v → HasValue R tree w → v ≡ w
+  no_other tree v w h k = one tree v w h k

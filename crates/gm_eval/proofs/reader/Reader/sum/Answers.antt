@@ -1,0 +1,37 @@
+use Rattle.std.proofs.Common.{◌≡◌, ◌<◌, ℕ, ℤ, length, List, Some, get_or, slice_get, ap, subst, sym, ◌∙◌, refl, arith}
+use Rattle.std.proofs.lemmas.Option.{slice_get-get_or}
+use Rattle.gm_arena.specs.declared.slot.Slot.{Slot}
+use Rattle.gm_model.specs.declared.schema.Embed.{Embed}
+use Rattle.gm_model.specs.declared.schema.Schema.{Schema}
+use Rattle.gm_eval.specs.Sums.{parts_at, sum_of}
+use Rattle.gm_walk.specs.Lent.{slots_of}
+use Rattle.gm_eval.proofs.Collected.{sum_found, within}
+use Rattle.gm_eval.proofs.Ready.{kind_at, kinds_at, mask_small, sum_kind_of}
+use Rattle.gm_eval.proofs.reader.Reader.sum.Goals as goal
+
+pub returns-clause-value : goal.returns-clause-value
+returns-clause-value g c =
+    let reader = c.args.self.now in
+    let m = reader.arena.now in
+    let e = c.args.embed in
+    let term = c.args.term.now in
+    let ready = c.requires.ready in
+    let few = mask_small reader _ ready c.args.mask ready.typed.has_kind.in_range.0 in
+    let embeds : c.as_slice.result.now ≡ m.schema.embeds = c.as_slice.ensures ∙ ap (λ (schema : Schema). schema.embeds) c.schema.ensures in
+    let embed : Embed = get_or c.as_slice.result.now e c.index-as_slice-embed.result in
+    let at : slice_get m.schema.embeds e ≡ Some embed = subst (λ (xs : List Embed). slice_get xs e ≡ Some embed) embeds (slice_get-get_or c.as_slice.result.now e c.index-as_slice-embed.result (subst (λ (xs : List Embed). e < length xs) (sym embeds) ready.typed.has_kind.in_range.2)) in
+    let sum = sum_kind_of reader c.args.mask term e ready embed at in
+    let slots = slots_of c.walk_mask-walk.result in
+    let same = c.slots.ensures.value in
+    let part_sum : ℕ → List Slot → ℤ = λ k xs. sum_of (parts_at m e k xs) in
+    sum_found reader c.args.mask term c.slot-from.result.at slots c.slot-from.ensures.slot few c.walk_mask-walk.ensures.walk e embed.kind (kinds_at reader ready.here e embed embed.kind at refl slots c.walk_mask-walk.ensures.live)
+    sum.0 c.add_up.result.x c.add_up.result.y c.add_up.result.z c.value.result (kind_at reader ready.here e embed embed.kind at refl c.slot-from.result.at _ c.slot-from.ensures.slot) sum.1
+    (c.add_up.ensures.x ∙ ap (part_sum 0) same) (c.add_up.ensures.y ∙ ap (part_sum 1) same) (c.add_up.ensures.z ∙ ap (part_sum 2) same) (c.value.ensures sum.0 sum.1)
+
+pub returns-clause-cost : goal.returns-clause-cost
+returns-clause-cost g c =
+    let reader = c.args.self.now in
+    let ready = c.requires.ready in
+    let few = mask_small reader _ ready c.args.mask ready.typed.has_kind.in_range.0 in
+    let same = ap (λ (slots : List Slot). length slots) c.slots.ensures.value in
+    within reader c.args.mask c.args.term.now c.slot-from.result.at (slots_of c.walk_mask-walk.result) c.slot-from.ensures.slot few c.walk_mask-walk.ensures.walk _ _ (omega (arith, c.slot-from.ensures.cost, c.walk_mask-walk.ensures.cost, c.add_up.ensures.cost, same))

@@ -1,0 +1,4 @@
+pub mod Made
+pub mod Places
+pub mod Readers
+pub mod Sums

@@ -1,0 +1,50 @@
+//! The value of an expression where it is read, for callers.
+
+ghost use Rattle.std.specs.Prelude.{◌≡◌, ◌+◌, ◌*◌, ◌<◌, ◌≤◌, ℕ, MatchOption};
+ghost use Rattle.gm_arena.specs.ArenaAsMap.{as_map};
+ghost use Rattle.gm_model.specs.Expressions.{HasValue, HasNoValue, HasUnits};
+ghost use Rattle.gm_model.specs.Maps.{IsGeneralised};
+ghost use Rattle.gm_model.specs.Trees.{tree_of};
+ghost use Rattle.gm_walk.specs.Room.{Fits};
+ghost use Rattle.gm_eval.specs.Places.{AreLiveAt, IsTypedFor, reading_in};
+
+use crate::reader::Reader;
+use gm_arena::{Arena, Steps};
+use gm_model::{Expr, MOST_DARTS, Value};
+use gm_plan::Instances;
+use gm_walk::Scratch;
+use std::sync::ledger::Ledger;
+
+/// The value of the expression at a position, read in the map as it is; `None` exactly where it has
+/// no value there. It takes no memory.
+pub fn eval<L: Ledger>(
+    arena: &Arena,
+    found: &Instances,
+    position: u32,
+    params: &[Value],
+    expr: &Expr,
+    scratch: &mut Scratch,
+    steps: &mut Steps<L>,
+) -> Option<Value>
+    requires generalised { IsGeneralised (as_map arena.now) }
+    requires position { position < found.now.positions }
+    requires live { AreLiveAt arena.now found.now position }
+    requires typed { IsTypedFor arena.now.schema found.now.nodes params.now (tree_of expr.now) }
+    requires fits { Fits scratch.old arena.now }
+    ensures value { let reading = reading_in arena.now found.now position params.now in
+        MatchOption result (HasNoValue reading (tree_of expr.now)) (HasValue reading (tree_of expr.now)) }
+    ensures cost { (u : ℕ) → HasUnits (reading_in arena.now found.now position params.now) (tree_of expr.now) u
+        → steps.new ≤ steps.old + 6 * (arena.now.schema.dim + 1) * u }
+    ensures least { steps.old ≤ steps.new }
+    ensures room { scratch.new.bound ≡ scratch.old.bound }
+{
+    // The arena tells here what its type keeps.
+    prove!(arena.count() <= MOST_DARTS);
+    let reader = Reader {
+        arena,
+        found,
+        position,
+        params,
+    };
+    reader.value(expr, scratch, steps)
+}

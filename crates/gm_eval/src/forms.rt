@@ -1,0 +1,251 @@
+//! The value of an expression, form by form, down its tree.
+
+ghost use Rattle.std.specs.Prelude.{◌≡◌, ◌≤◌};
+ghost use Rattle.gm_model.specs.Trees.{Unary, Binary, If, MakeVec2, MakeVec3, MakeRgb, tree_of};
+ghost use Rattle.gm_walk.specs.Room.{Fits};
+ghost use Rattle.gm_eval.specs.Places.{IsWithinUnits};
+ghost use Rattle.gm_eval.specs.Readers.{AreNumbersThere, IsNumberThere, IsReady, IsTruthThere, IsValueThere, reading_of};
+
+use crate::numbers::{rgb, vec2, vec3};
+use crate::operators::{binary, unary};
+use crate::reader::Reader;
+use gm_arena::Steps;
+use gm_model::{BinOp, Expr, UnOp, Value};
+use gm_walk::Scratch;
+use std::sync::ledger::Ledger;
+
+impl Reader<'_> {
+    /// The value of the expression; none where it has none.
+    #[cycle(value)]
+    pub(crate) fn value<L: Ledger>(
+        &self,
+        expr: &Expr,
+        scratch: &mut Scratch,
+        steps: &mut Steps<L>,
+    ) -> Option<Value>
+        requires ready { IsReady self.now (tree_of expr.now) }
+        requires fits { Fits scratch.old self.now.arena.now }
+        ensures value { IsValueThere self.now (tree_of expr.now) result }
+        ensures cost { IsWithinUnits (reading_of self.now) (tree_of expr.now) steps.old steps.new }
+        ensures least { steps.old ≤ steps.new }
+        ensures room { scratch.new.bound ≡ scratch.old.bound }
+    {
+        match expr {
+            Expr::Int(number) => Some(Value::Int(*number)),
+            Expr::Bool(truth) => Some(Value::Bool(*truth)),
+            Expr::Param(at) => Some(self.params[*at as usize]),
+            Expr::Field(term, embed) => Some(self.field(term, *embed, steps)),
+            Expr::Same(term, other) => Some(self.same(term, other, steps)),
+            Expr::Count(mask, term) => self.count(*mask, term, scratch, steps),
+            Expr::Sum(mask, term, embed) => self.sum(*mask, term, *embed, scratch, steps),
+            Expr::Least(mask, term, embed) => Some(self.least(*mask, term, *embed, scratch, steps)),
+            Expr::Greatest(mask, term, embed) => {
+                Some(self.greatest(*mask, term, *embed, scratch, steps))
+            }
+            Expr::Unary(op, part) => self.unary(*op, part, scratch, steps),
+            Expr::Binary(op, left, right) => self.binary(*op, left, right, scratch, steps),
+            Expr::If(condition, chosen, other) => {
+                self.choice(condition, chosen, other, scratch, steps)
+            }
+            Expr::MakeVec2(x, y) => self.pair(x, y, scratch, steps),
+            Expr::MakeVec3(x, y, z) => self.triple(x, y, z, scratch, steps),
+            Expr::MakeRgb(red, green, blue) => self.colour(red, green, blue, scratch, steps),
+        }
+    }
+
+    /// The value of an operator of one part.
+    #[cycle(value)]
+    fn unary<L: Ledger>(
+        &self,
+        op: UnOp,
+        part: &Expr,
+        scratch: &mut Scratch,
+        steps: &mut Steps<L>,
+    ) -> Option<Value>
+        requires ready { IsReady self.now (Unary op (tree_of part.now)) }
+        requires fits { Fits scratch.old self.now.arena.now }
+        ensures value { IsValueThere self.now (Unary op (tree_of part.now)) result }
+        ensures cost { IsWithinUnits (reading_of self.now) (Unary op (tree_of part.now)) steps.old steps.new }
+        ensures least { steps.old ≤ steps.new }
+        ensures room { scratch.new.bound ≡ scratch.old.bound }
+    {
+        let part = self.value(part, scratch, steps)?;
+        unary(op, part)
+    }
+
+    /// The value of an operator of two parts. Both are read.
+    #[cycle(value)]
+    fn binary<L: Ledger>(
+        &self,
+        op: BinOp,
+        left: &Expr,
+        right: &Expr,
+        scratch: &mut Scratch,
+        steps: &mut Steps<L>,
+    ) -> Option<Value>
+        requires ready { IsReady self.now (Binary op (tree_of left.now) (tree_of right.now)) }
+        requires fits { Fits scratch.old self.now.arena.now }
+        ensures value { IsValueThere self.now (Binary op (tree_of left.now) (tree_of right.now)) result }
+        ensures cost { IsWithinUnits (reading_of self.now) (Binary op (tree_of left.now) (tree_of right.now)) steps.old steps.new }
+        ensures least { steps.old ≤ steps.new }
+        ensures room { scratch.new.bound ≡ scratch.old.bound }
+    {
+        let left = self.value(left, scratch, steps)?;
+        let right = self.value(right, scratch, steps)?;
+        binary(op, left, right)
+    }
+
+    /// The value of the part that the condition chooses. The other is not read.
+    #[cycle(value)]
+    fn choice<L: Ledger>(
+        &self,
+        condition: &Expr,
+        chosen: &Expr,
+        other: &Expr,
+        scratch: &mut Scratch,
+        steps: &mut Steps<L>,
+    ) -> Option<Value>
+        requires ready { IsReady self.now (If (tree_of condition.now) (tree_of chosen.now) (tree_of other.now)) }
+        requires fits { Fits scratch.old self.now.arena.now }
+        ensures value { IsValueThere self.now (If (tree_of condition.now) (tree_of chosen.now) (tree_of other.now)) result }
+        ensures cost { IsWithinUnits (reading_of self.now) (If (tree_of condition.now) (tree_of chosen.now) (tree_of other.now)) steps.old steps.new }
+        ensures least { steps.old ≤ steps.new }
+        ensures room { scratch.new.bound ≡ scratch.old.bound }
+    {
+        if self.truth(condition, scratch, steps)? {
+            self.value(chosen, scratch, steps)
+        } else {
+            self.value(other, scratch, steps)
+        }
+    }
+
+    /// The vector of two numbers.
+    #[cycle(value)]
+    fn pair<L: Ledger>(
+        &self,
+        x: &Expr,
+        y: &Expr,
+        scratch: &mut Scratch,
+        steps: &mut Steps<L>,
+    ) -> Option<Value>
+        requires ready { IsReady self.now (MakeVec2 (tree_of x.now) (tree_of y.now)) }
+        requires fits { Fits scratch.old self.now.arena.now }
+        ensures value { IsValueThere self.now (MakeVec2 (tree_of x.now) (tree_of y.now)) result }
+        ensures cost { IsWithinUnits (reading_of self.now) (MakeVec2 (tree_of x.now) (tree_of y.now)) steps.old steps.new }
+        ensures least { steps.old ≤ steps.new }
+        ensures room { scratch.new.bound ≡ scratch.old.bound }
+    {
+        let x = self.number(x, scratch, steps)?;
+        let y = self.number(y, scratch, steps)?;
+        vec2(x as i128, y as i128)
+    }
+
+    /// The vector of three numbers.
+    #[cycle(value)]
+    fn triple<L: Ledger>(
+        &self,
+        x: &Expr,
+        y: &Expr,
+        z: &Expr,
+        scratch: &mut Scratch,
+        steps: &mut Steps<L>,
+    ) -> Option<Value>
+        requires ready { IsReady self.now (MakeVec3 (tree_of x.now) (tree_of y.now) (tree_of z.now)) }
+        requires fits { Fits scratch.old self.now.arena.now }
+        ensures value { IsValueThere self.now (MakeVec3 (tree_of x.now) (tree_of y.now) (tree_of z.now)) result }
+        ensures cost { IsWithinUnits (reading_of self.now) (MakeVec3 (tree_of x.now) (tree_of y.now) (tree_of z.now)) steps.old steps.new }
+        ensures least { steps.old ≤ steps.new }
+        ensures room { scratch.new.bound ≡ scratch.old.bound }
+    {
+        let (x, y, z) = self.numbers(x, y, z, scratch, steps)?;
+        vec3(x as i128, y as i128, z as i128)
+    }
+
+    /// The colour of three numbers.
+    #[cycle(value)]
+    fn colour<L: Ledger>(
+        &self,
+        red: &Expr,
+        green: &Expr,
+        blue: &Expr,
+        scratch: &mut Scratch,
+        steps: &mut Steps<L>,
+    ) -> Option<Value>
+        requires ready { IsReady self.now (MakeRgb (tree_of red.now) (tree_of green.now) (tree_of blue.now)) }
+        requires fits { Fits scratch.old self.now.arena.now }
+        ensures value { IsValueThere self.now (MakeRgb (tree_of red.now) (tree_of green.now) (tree_of blue.now)) result }
+        ensures cost { IsWithinUnits (reading_of self.now) (MakeRgb (tree_of red.now) (tree_of green.now) (tree_of blue.now)) steps.old steps.new }
+        ensures least { steps.old ≤ steps.new }
+        ensures room { scratch.new.bound ≡ scratch.old.bound }
+    {
+        let (red, green, blue) = self.numbers(red, green, blue, scratch, steps)?;
+        rgb(red, green, blue)
+    }
+
+    /// The number that the expression is; none where it is none.
+    #[cycle(value)]
+    fn number<L: Ledger>(
+        &self,
+        expr: &Expr,
+        scratch: &mut Scratch,
+        steps: &mut Steps<L>,
+    ) -> Option<i64>
+        requires ready { IsReady self.now (tree_of expr.now) }
+        requires fits { Fits scratch.old self.now.arena.now }
+        ensures value { IsNumberThere self.now (tree_of expr.now) result }
+        ensures cost { IsWithinUnits (reading_of self.now) (tree_of expr.now) steps.old steps.new }
+        ensures least { steps.old ≤ steps.new }
+        ensures room { scratch.new.bound ≡ scratch.old.bound }
+    {
+        match self.value(expr, scratch, steps)? {
+            Value::Int(number) => Some(number),
+            _ => None,
+        }
+    }
+
+    /// The truth that the expression is; none where it is none.
+    #[cycle(value)]
+    fn truth<L: Ledger>(
+        &self,
+        expr: &Expr,
+        scratch: &mut Scratch,
+        steps: &mut Steps<L>,
+    ) -> Option<bool>
+        requires ready { IsReady self.now (tree_of expr.now) }
+        requires fits { Fits scratch.old self.now.arena.now }
+        ensures value { IsTruthThere self.now (tree_of expr.now) result }
+        ensures cost { IsWithinUnits (reading_of self.now) (tree_of expr.now) steps.old steps.new }
+        ensures least { steps.old ≤ steps.new }
+        ensures room { scratch.new.bound ≡ scratch.old.bound }
+    {
+        match self.value(expr, scratch, steps)? {
+            Value::Bool(truth) => Some(truth),
+            _ => None,
+        }
+    }
+
+    /// The numbers that three expressions are; none where one of them is none.
+    #[cycle(value)]
+    fn numbers<L: Ledger>(
+        &self,
+        x: &Expr,
+        y: &Expr,
+        z: &Expr,
+        scratch: &mut Scratch,
+        steps: &mut Steps<L>,
+    ) -> Option<(i64, i64, i64)>
+        requires x { IsReady self.now (tree_of x.now) }
+        requires y { IsReady self.now (tree_of y.now) }
+        requires z { IsReady self.now (tree_of z.now) }
+        requires fits { Fits scratch.old self.now.arena.now }
+        ensures value { AreNumbersThere self.now (tree_of x.now) (tree_of y.now) (tree_of z.now) result }
+        ensures cost { IsWithinUnits (reading_of self.now) (MakeVec3 (tree_of x.now) (tree_of y.now) (tree_of z.now)) steps.old steps.new }
+        ensures least { steps.old ≤ steps.new }
+        ensures room { scratch.new.bound ≡ scratch.old.bound }
+    {
+        let x = self.number(x, scratch, steps)?;
+        let y = self.number(y, scratch, steps)?;
+        let z = self.number(z, scratch, steps)?;
+        Some((x, y, z))
+    }
+}
