@@ -33,7 +33,7 @@ pub fn check_component(
     }
 }
 
-/// The next node of the component with an assignment, after the first.
+/// The fault that a node of the component after the first one has an assignment too.
 fn check_only(rule: &RuleTable, embed: u8, component: &NodeSet, first: u8) -> Result<(), RuleFault>
     requires nodes { length (rule_of rule.now).nodes ≤ 32 }
     requires first { first < 32 }
