@@ -1,4 +1,5 @@
-//! Tests of maps: the arena that holds them, the walks through them, and the laws that they keep.
+//! Tests of maps: the arena that holds them, the walks through them, the laws that they keep, and
+//! the values of expressions in them.
 #![tactic(auto)]
 
 #[cfg(test)]
@@ -7,5 +8,7 @@ mod arena;
 mod laws;
 #[cfg(test)]
 mod schemas;
+#[cfg(test)]
+mod values;
 #[cfg(test)]
 mod walks;
