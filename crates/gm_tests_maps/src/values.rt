@@ -72,7 +72,9 @@ fn value_at<L: Ledger>(
 ) -> Result<Option<Value>, Fail> {
     assert!(rt; check_map(alloc, arena, steps).is_ok());
     let (left, op, right, _) = *row;
-    assert!(rt; takes_numbers(op));
+    if !takes_numbers(op) {
+        return Err(Fail::from("no operator on numbers"));
+    }
     let mut slots = Vec::new(alloc);
     slots.push(arena.slot_of(name, steps).ok_or("no dart")?)?;
     let found = Instances::new(slots, Vec::new(alloc), 1, 0);
