@@ -1,18 +1,26 @@
--- How far an arena has the rows of a text: which of its darts, and with which of their neighbours.
-use Rattle.std.specs.Prelude.{◌≡◌, ◌≢◌, ℕ, ◌+◌, ◌/◌, ◌<◌, ◌≤◌, List, [], length, All, Option, Some, None, is_some, MatchOption, slice_index}
+-- How far an arena has the darts of a text: which of them, and with which of their neighbours.
+use Rattle.std.specs.Prelude.{◌≡◌, ◌≢◌, ℕ, ◌+◌, ◌*◌, ◌/◌, ◌<◌, ◌≤◌, List, length, All, Option, Some, None, is_some, MatchOption, slice_index}
 use Rattle.std.specs.FinMap.{get}
+use Rattle.std.specs.List.{AllByRecursion}
+use Rattle.std.specs.Option.{option_map}
+use Rattle.gm_model.specs.declared.schema.Schema.{Schema}
+use Rattle.gm_model.specs.declared.value.Value.{Value}
 use Rattle.gm_model.specs.GMap.{Row, row_of, IsLive}
 use Rattle.gm_model.specs.GMap as written
 use Rattle.gm_model.specs.Limits.{most_darts, most_names}
 use Rattle.gm_model.specs.Orbits.{IsPairBefore}
-use Rattle.gm_mapfile.specs.MapFaults.{AreDistinct, IsLeastTwice, HaveTargets}
 use Rattle.gm_arena.specs.ArenaMap.{ArenaMap, Dart, IsAt, IsLiveName, alpha}
-use Rattle.gm_mapfile.specs.Rows.{IsNextLeast}
+use Rattle.gm_arena.specs.Lawful.{AreGoodValues}
+use Rattle.gm_mapfile.specs.MapText.{Version, First, Second, DartRow, IsNext, names, rows_of, dart_of}
+use Rattle.gm_mapfile.specs.MapFaults.{AreDistinct, IsLeastTwice, IsLeastNotBelow, AreBelow, HaveTargets}
+use Rattle.gm_mapfile.specs.Rows.{darts_in}
 
--- numbers that fit an arena: of so many lines, and each of them a name
-pub record AreInRoom (n : ℕ) (numbers : List ℕ) : Type 0 where
-  pub few : length numbers / (n + 2) ≤ most_darts
+-- numbers and values that fit an arena over the schema: of so many lines, each number a name, and each line's values good
+pub record AreInRoom (schema : Schema) (numbers : List ℕ) (values : List Value) : Type 0 where
+  pub few : length numbers / (schema.dim + 2) ≤ most_darts
   pub small : All (λ x. x < most_names) numbers
+  pub long : length values ≡ length numbers / (schema.dim + 2) * length schema.embeds
+  pub good : AllByRecursion (λ (dart : DartRow). AreGoodValues schema dart.values) (darts_in schema numbers values)
 
 -- each dart has one neighbour for each label from 0 to n
 abbrev pub AreWhole : ℕ → ArenaMap → Type 0
@@ -29,6 +37,19 @@ pub record IsFresh (m : ArenaMap) : Type 0 where
   pub count : m.count ≡ 0
   pub next : m.next ≡ 0
 
+-- the values of a dart, where there is one
+abbrev pub values_at : ArenaMap → ℕ → Option (List Value)
+values_at m d = option_map (λ (dart : Dart). dart.values) (get m.darts d)
+
+-- each dart has the values of its line
+abbrev pub AreValued : List DartRow → ArenaMap → Type 0
+AreValued darts m = (d : ℕ) → values_at m d ≡ option_map (λ (dart : DartRow). dart.values) (dart_of darts d)
+
+-- the next name is the least number above every name
+pub record IsNextLeast (m : ArenaMap) : Type 0 where
+  pub above : (name : ℕ) → IsLiveName m name → name < m.next
+  pub least : (bound : ℕ) → ((name : ℕ) → IsLiveName m name → name < bound) → m.next ≤ bound
+
 -- ---- darts without neighbours
 
 -- no name is had twice, or this is the least of those
@@ -36,12 +57,19 @@ abbrev pub IsTwice : ArenaMap → List Row → Option ℕ → Type 0
 IsTwice m rows twice = MatchOption twice (AreDistinct rows × (m.count ≡ length rows)) (IsLeastTwice rows)
 
 -- the arena has a dart of each name of the rows, and no other
+abbrev pub AreLive : List Row → ArenaMap → Type 0
+AreLive rows m = (d : ℕ) → is_some (get m.darts d) ≡ is_some (row_of rows d)
+
 pub record AreAdded (n : ℕ) (rows : List Row) (m : ArenaMap) (found : Option ℕ) : Type 0 where
-  pub live : (d : ℕ) → is_some (get m.darts d) ≡ is_some (row_of rows d)
+  pub live : AreLive rows m
   pub slots : AreSlotsLive m
   pub whole : AreWhole n m
   pub next : IsNextLeast m
   pub twice : IsTwice m rows found
+
+-- each name is below the number, or this is the least that isn't
+abbrev pub IsNotBelow : List Row → ℕ → Option ℕ → Type 0
+IsNotBelow rows next found = MatchOption found (AreBelow rows next) (IsLeastNotBelow rows next)
 
 -- ---- neighbours
 
@@ -49,6 +77,7 @@ pub record AreAdded (n : ℕ) (rows : List Row) (m : ArenaMap) (found : Option �
 pub record IsRelinked (n : ℕ) (old new : ArenaMap) : Type 0 where
   pub frame : new ≡ record old { darts = new.darts }
   pub live : (d : ℕ) → is_some (get new.darts d) ≡ is_some (get old.darts d)
+  pub values : (d : ℕ) → values_at new d ≡ values_at old d
   pub whole : AreWhole n new
 
 -- the neighbours of one dart along the labels below this one are these, and all darts
@@ -80,14 +109,14 @@ AreLinkedUnless n old new rows missing = MatchOption missing (AreLinked n old ne
 
 -- ---- the whole
 
--- the arena has the rows
-pub record IsHeld (n : ℕ) (rows : List Row) (m : ArenaMap) : Type 0 where
-  pub dim : m.schema.dim ≡ n
-  pub no_embeds : m.schema.embeds ≡ []
-  pub count : m.count ≡ length rows
-  pub next : IsNextLeast m
-  pub whole : AreWhole n m
-  pub live : (d : ℕ) → is_some (get m.darts d) ≡ is_some (row_of rows d)
-  pub alphas : (d i : ℕ) → i ≤ n → alpha m i d ≡ written.alpha rows i d
-  pub distinct : AreDistinct rows
-  pub targets : HaveTargets n rows
+-- the arena has the darts
+pub record IsHeld (version : Version) (schema : Schema) (darts : List DartRow) (m : ArenaMap) : Type 0 where
+  pub schema_is : m.schema ≡ schema
+  pub count : m.count ≡ length darts
+  pub next : IsNext version (names darts) m.next
+  pub whole : AreWhole schema.dim m
+  pub live : AreLive (rows_of darts) m
+  pub alphas : (d i : ℕ) → i ≤ schema.dim → alpha m i d ≡ written.alpha (rows_of darts) i d
+  pub values : AreValued darts m
+  pub distinct : AreDistinct (rows_of darts)
+  pub targets : HaveTargets schema.dim (rows_of darts)

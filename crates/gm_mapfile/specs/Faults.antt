@@ -1,39 +1,37 @@
 -- Which first fault of a text a reader's answer names.
-use Rattle.std.specs.Prelude.{ℕ, List, Option, Some, None, MatchOption}
-use Rattle.gm_model.specs.GMap.{Row, IsLive, alpha}
+use Rattle.std.specs.Prelude.{ℕ, ◌≡◌, List}
+use Rattle.gm_model.specs.declared.schema.Schema.{Schema}
 use Rattle.gm_model.specs.Breaches.{IsFirstWithoutTarget}
-use Rattle.gm_mapfile.specs.MapFaults.{TextFault, IsFirstFault, IsLeastTwice, AreDistinct}
-use Rattle.gm_mapfile.specs.MapFaults as first
+use Rattle.gm_model.specs.GMap.{IsLive, alpha}
 use Rattle.gm_laws.specs.declared.breach.MapBreach.{MapBreach}
 use Rattle.gm_laws.specs.declared.breach.MapBreach.TheVariants as breaches
+use Rattle.gm_mapfile.specs.MapText.{Version, First, Second, DartRow, rows_of}
+use Rattle.gm_mapfile.specs.MapFaults.{TextFault, IsFirstFault, IsLeastTwice, AreDistinct, IsLeastNotBelow, AreBelowStated}
+use Rattle.gm_mapfile.specs.MapFaults as first
 use Rattle.gm_mapfile.specs.declared.fault.MapFault.{MapFault}
 use Rattle.gm_mapfile.specs.declared.fault.MapFault.TheVariants as faults
 
--- an embedding can have no breach as long as none is read
-abbrev pub breach_of : MapBreach → Option TextFault
-breach_of (breaches.Involution dart label) = Some (first.OneWay dart label)
-breach_of (breaches.Cycle dart i j) = Some (first.Crossing dart i j)
-breach_of (breaches.Embedding embed dart other) = None
-
--- the fault of the text that is named; want of memory names none
-abbrev pub fault_of : MapFault → Option TextFault
-fault_of (faults.Text place) = Some (first.Ends place)
-fault_of (faults.Limit what place) = Some (first.Passes what place)
-fault_of (faults.Twice place) = None
-fault_of (faults.DartTwice dart) = Some (first.Twice dart)
-fault_of (faults.NoTarget dart label) = Some (first.NoTarget dart label)
-fault_of (faults.Breach breach) = breach_of breach
-fault_of (faults.NotBuilt place) = Some (first.NotBuilt place)
-fault_of faults.OutOfMemory = None
+-- the breach is the first fault of the text, where an embedding goes by its number
+abbrev pub IsBreachOf : List ℕ → MapBreach → Type 0
+IsBreachOf text (breaches.Involution dart label) = IsFirstFault text (first.OneWay dart label)
+IsBreachOf text (breaches.Cycle dart i j) = IsFirstFault text (first.Crossing dart i j)
+IsBreachOf text (breaches.Embedding embed dart other) = (name : List ℕ) × IsFirstFault text (first.Unshared embed name dart other)
 
 -- the fault is the first of the text, or memory was wanting
 abbrev pub IsFaultOf : List ℕ → MapFault → Type 0
+IsFaultOf text (faults.Text place) = IsFirstFault text (first.Ends place)
+IsFaultOf text (faults.Limit what place) = IsFirstFault text (first.Passes what place)
+IsFaultOf text (faults.Twice place) = IsFirstFault text (first.Again place)
+IsFaultOf text (faults.DartTwice dart) = IsFirstFault text (first.Twice dart)
+IsFaultOf text (faults.Next dart) = IsFirstFault text (first.NotBelow dart)
+IsFaultOf text (faults.NoTarget dart label) = IsFirstFault text (first.NoTarget dart label)
+IsFaultOf text (faults.Breach breach) = IsBreachOf text breach
 IsFaultOf text faults.OutOfMemory = Unit {0}
-IsFaultOf text fault = MatchOption (fault_of fault) ⊥ (IsFirstFault text)
 
--- rows of a dimension have this fault by their names, or memory was wanting
-abbrev pub IsNameFault : ℕ → List Row → MapFault → Type 0
-IsNameFault n rows faults.OutOfMemory = Unit {0}
-IsNameFault n rows (faults.DartTwice dart) = IsLeastTwice rows dart
-IsNameFault n rows (faults.NoTarget dart label) = AreDistinct rows × IsFirstWithoutTarget n (IsLive rows) (alpha rows) dart label
-IsNameFault n rows _ = ⊥
+-- listed darts have this fault by their names, or memory was wanting
+abbrev pub IsNameFault : Version → ℕ → List DartRow → MapFault → Type 0
+IsNameFault version n darts (faults.DartTwice dart) = IsLeastTwice (rows_of darts) dart
+IsNameFault (Second next) n darts (faults.Next dart) = AreDistinct (rows_of darts) × IsLeastNotBelow (rows_of darts) next dart
+IsNameFault version n darts (faults.NoTarget dart label) = AreDistinct (rows_of darts) × AreBelowStated version (rows_of darts) × IsFirstWithoutTarget n (IsLive (rows_of darts)) (alpha (rows_of darts)) dart label
+IsNameFault version n darts faults.OutOfMemory = Unit {0}
+IsNameFault version n darts _ = ⊥

@@ -1,8 +1,10 @@
 pub mod MapText
 pub mod MapFaults
-pub mod Reading
+pub mod Words
 pub mod Draft
+pub mod MapReading
 pub mod Rows
 pub mod Building
 pub mod Faults
 pub mod Answered
+pub mod Printing

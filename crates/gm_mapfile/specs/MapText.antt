@@ -1,32 +1,87 @@
--- How a map without embeddings is written: the grammar of its texts with their limits, the map that a text stands for, and its one canonical text.
-use Rattle.std.specs.Prelude.{◌≡◌, ℕ, ◌+◌, ◌||◌, ◌==◌, nat_lt, nat_le, if◌then◌else◌, List, [], ◌∷◌, ◌++◌, length, map, Option, Some, None, codes, decimal, IsPermutation}
+-- How a map is written: the grammar of its texts with their limits, the map that a text stands for, and its one canonical text.
+use Rattle.std.specs.Prelude.{◌≡◌, ◌≢◌, ℕ, ◌+◌, ◌<◌, ◌≤◌, Bool, true, false, ℤ, pos, neg_ℤ, nat_lt, nat_le, if◌then◌else◌, List, [], ◌∷◌, ◌++◌, length, map, All, Option, Some, None, is_some, slice_index_or, find, ◌==◌, codes, decimal, IsPermutation}
+use Rattle.std.specs.Fmt.{signed_decimal}
 use Rattle.std.specs.List.Sorted.{IsStrictlyIncreasing}
 use Rattle.std.specs.List.{flat_map, AllByRecursion}
+use Rattle.std.specs.Option.{option_map, option_map_or}
 use Rattle.gm_model.specs.declared.limit.LimitKind.{LimitKind}
 use Rattle.gm_model.specs.declared.limit.LimitKind.TheVariants as limits
+use Rattle.gm_model.specs.declared.schema.Embed.{Embed}
+use Rattle.gm_model.specs.declared.schema.Schema.{Schema}
+use Rattle.gm_model.specs.declared.value.Kind.{Kind}
+use Rattle.gm_model.specs.declared.value.Kind.TheVariants as kinds
+use Rattle.gm_model.specs.declared.value.Value.{Value}
+use Rattle.gm_model.specs.declared.value.Value.TheVariants as values
+use Rattle.gm_model.specs.Expressions.{IsMade}
+use Rattle.gm_model.specs.GMap.{Row, row_of, alpha}
 use Rattle.gm_model.specs.Limits.{most_darts, most_names}
-use Rattle.gm_model.specs.Symbols.{Symbol, Word, Numeral, End, marks_of}
-use Rattle.gm_model.specs.GMap.{Row, AreGMap}
-use Rattle.gm_model.specs.Reading.{Part, IsReadAs, TextEndsAt, LimitPassedAt}
+use Rattle.gm_model.specs.Maps.{Map, IsSound}
+use Rattle.gm_model.specs.Reading.{Part, IsReadAs, TextEndsAt, LimitStandsAt}
+use Rattle.gm_model.specs.Symbols.{Symbol, Word, Numeral, Sign, End, marks_of}
+use Rattle.gm_text.specs.SchemaReading.{never}
+use Rattle.gm_text.specs.SchemaText.{SchemaForm, Passed, LimitOf, Again, schema_of}
+use Rattle.gm_text.specs.SchemaText as schema
+use Rattle.gm_text.specs.ValueText.{Signed, integer, greatest, is_channel, spell_signed}
+use Rattle.gm_mapfile.specs.declared.version.MapVersion.{MapVersion}
+use Rattle.gm_mapfile.specs.declared.version.MapVersion.TheVariants as versions
+
+-- ---- what is written
+
+-- a dart: its name, its neighbours from label 0 on, and for each embedding the components of its value
+pub record DartForm : Type 0 where
+  pub name : ℕ
+  pub alphas : List ℕ
+  pub values : List (List Signed)
+
+-- the second version states the next name
+pub data Version : Type 0 where
+  First : Version
+  Second : ℕ → Version
+
+pub record MapForm : Type 0 where
+  pub version : Version
+  pub schema : SchemaForm
+  pub darts : List DartForm
 
 -- ---- the grammar
 
 -- what a symbol of a map's text is there for
 pub data Role : Type 0 where
-  -- a word of the format, its version, or the end
+  -- a word or sign of the format, its version, or the end
   Fixed : Role
-  Dimension : Role
+  -- what it is in the schema
+  InSchema : schema.Role → Role
+  -- the next name
+  NextName : Role
   -- how many darts there are
   Count : Role
   -- the name of a dart, its own or a neighbour's
   DartName : Role
+  -- a number of a value, and whether a minus stands before it
+  Size : Bool → Role
+  -- the same in a colour
+  Channel : Bool → Role
 
--- the limit that a symbol passes in a role
+-- the whole number that is written, behind a minus or without one
+abbrev pub signed : Bool → ℕ → ℤ
+signed minus n = integer (record { minus = minus; size = n })
+
+abbrev pub channel_limit : ℤ → Option LimitKind
+channel_limit n = if is_channel n then None else Some limits.Channel
+
+-- the limit that a symbol passes in a role; of two the one that stands first in the list of limits
 abbrev pub limit_of : Role → Symbol → Option LimitKind
-limit_of Dimension (Numeral n) = if (n == 0) || nat_lt 7 n then Some limits.Dimension else None
+limit_of NextName (Numeral n) = if nat_lt most_names n then Some limits.DartName else None
 limit_of Count (Numeral n) = if nat_lt most_darts n then Some limits.Darts else None
 limit_of DartName (Numeral n) = if nat_le most_names n then Some limits.DartName else None
+limit_of (Size minus) (Numeral n) = if nat_lt (greatest minus) n then Some limits.Integer else None
+limit_of (Channel minus) (Numeral n) = if nat_lt (greatest minus) n then Some limits.Integer else channel_limit (signed minus n)
 limit_of _ _ = None
+
+-- what a symbol passes: a limit, or that a name or a label was there before
+abbrev pub passed_of : Role → Symbol → Option Passed
+passed_of (InSchema role) symbol = schema.passed_of role symbol
+passed_of role symbol = option_map LimitOf (limit_of role symbol)
 
 abbrev pub word : List ℕ → Part Role
 word bytes = record { symbol = Word bytes; role = Fixed }
@@ -34,61 +89,230 @@ word bytes = record { symbol = Word bytes; role = Fixed }
 abbrev pub number : Role → ℕ → Part Role
 number role n = record { symbol = Numeral n; role = role }
 
+abbrev pub sign : List ℕ → Part Role
+sign bytes = record { symbol = Sign bytes; role = Fixed }
+
 abbrev pub the_end : Part Role
 the_end = record { symbol = End; role = Fixed }
 
--- a dart: its name, and its neighbours from label 0 on
-abbrev pub spelling_of_row : Row → List (Part Role)
-spelling_of_row row = number DartName row.name ∷ map (number DartName) row.alphas
+abbrev pub in_schema : Part schema.Role → Part Role
+in_schema part = record { symbol = part.symbol; role = InSchema part.role }
 
--- gmap 1 dim n darts k, and then the k darts
-abbrev pub spelling : ℕ → List Row → List (Part Role)
-spelling n rows =
-    word (codes "gmap") ∷ number Fixed 1 ∷ word (codes "dim") ∷ number Dimension n
-    ∷ word (codes "darts") ∷ number Count (length rows) ∷ (flat_map spelling_of_row rows ++ the_end ∷ [])
+-- how many numbers a value of the kind has
+abbrev pub width : Kind → ℕ
+width kinds.Int = 1
+width kinds.Bool = 0
+width kinds.Vec2 = 2
+width kinds.Vec3 = 3
+width kinds.Rgb = 3
 
--- each dart has one neighbour for each label from 0 to n
-abbrev pub AreShaped : ℕ → List Row → Type 0
-AreShaped n rows = AllByRecursion (λ (row : Row). length row.alphas ≡ n + 1) rows
+abbrev pub is_colour : Kind → Bool
+is_colour kinds.Rgb = true
+is_colour _ = false
+
+-- a number of a value, of a colour or not
+abbrev pub size_role : Bool → Bool → Role
+size_role colour minus = if colour then Channel minus else Size minus
+
+-- Each spelling takes what stands behind it.
+
+abbrev pub spell_names : List ℕ → List (Part Role) → List (Part Role)
+spell_names [] rest = rest
+spell_names (name ∷ names) rest = number DartName name ∷ spell_names names rest
+
+abbrev pub spell_components : Bool → List Signed → List (Part Role) → List (Part Role)
+spell_components colour [] rest = rest
+spell_components colour (x ∷ xs) rest = spell_signed Fixed (size_role colour) x (spell_components colour xs rest)
+
+-- 4, or (4 -1 0)
+abbrev pub spell_value : Kind → List Signed → List (Part Role) → List (Part Role)
+spell_value kinds.Int xs rest = spell_components false xs rest
+spell_value kind xs rest = sign (codes "(") ∷ spell_components (is_colour kind) xs (sign (codes ")") ∷ rest)
+
+abbrev pub spell_values : List Embed → List (List Signed) → List (Part Role) → List (Part Role)
+spell_values (embed ∷ embeds) (value ∷ values) rest = spell_value embed.kind value (spell_values embeds values rest)
+spell_values _ _ rest = rest
+
+abbrev pub spell_dart : List Embed → DartForm → List (Part Role) → List (Part Role)
+spell_dart embeds dart rest = number DartName dart.name ∷ spell_names dart.alphas (spell_values embeds dart.values rest)
+
+abbrev pub spell_darts : List Embed → List DartForm → List (Part Role) → List (Part Role)
+spell_darts embeds [] rest = rest
+spell_darts embeds (dart ∷ darts) rest = spell_dart embeds dart (spell_darts embeds darts rest)
+
+-- darts k, and then the k darts
+abbrev pub spell_listing : List Embed → List DartForm → List (Part Role)
+spell_listing embeds darts = word (codes "darts") ∷ number Count (length darts) ∷ spell_darts embeds darts (the_end ∷ [])
+
+abbrev pub spell_next : Version → List (Part Role) → List (Part Role)
+spell_next First rest = rest
+spell_next (Second next) rest = word (codes "next") ∷ number NextName next ∷ rest
+
+abbrev pub number_of : Version → ℕ
+number_of First = 1
+number_of (Second next) = 2
+
+abbrev pub embeds_of : MapForm → List Embed
+embeds_of form = (schema_of form.schema).embeds
+
+-- gmap 1 dim 2 embed .. darts .., or gmap 2 dim 2 embed .. next .. darts ..
+abbrev pub spelling : MapForm → List (Part Role)
+spelling form =
+    word (codes "gmap") ∷ number Fixed (number_of form.version)
+    ∷ (map in_schema (schema.spell form.schema []) ++ spell_next form.version (spell_listing (embeds_of form) form.darts))
+
+-- for each embedding so many numbers as its kind has
+abbrev pub AreWide : List Embed → List (List Signed) → Type 0
+AreWide [] [] = Unit {0}
+AreWide (embed ∷ embeds) (value ∷ values) = (length value ≡ width embed.kind) × AreWide embeds values
+AreWide _ _ = ⊥
+
+-- a dart has one neighbour for each label from 0 to n
+abbrev pub IsShaped : ℕ → List Embed → DartForm → Type 0
+IsShaped n embeds dart = (length dart.alphas ≡ n + 1) × AreWide embeds dart.values
+
+abbrev pub IsForm : MapForm → Type 0
+IsForm form = schema.IsForm form.schema × AllByRecursion (IsShaped form.schema.dim (embeds_of form)) form.darts
 
 abbrev pub IsSentence : List (Part Role) → Type 0
-IsSentence parts = (n : ℕ) × (rows : List Row) × AreShaped n rows × (parts ≡ spelling n rows)
+IsSentence parts = (form : MapForm) × IsForm form × (parts ≡ spelling form)
+
+-- the text is this form, and passes nothing
+pub record IsWritten (text : List ℕ) (form : MapForm) : Type 0 where
+  pub good : IsForm form
+  pub read : IsReadAs IsSentence passed_of (marks_of text) (spelling form)
+
+-- the first fault of a text by the grammar, its limits and its declarations
+abbrev pub IsTextFault : List ℕ → ℕ → Type 0
+IsTextFault text place = TextEndsAt IsSentence passed_of (marks_of text) place
+
+abbrev pub IsLimitFault : List ℕ → LimitKind → ℕ → Type 0
+IsLimitFault text what place = LimitStandsAt IsSentence passed_of (λ role. false) (marks_of text) (LimitOf what) place
+
+abbrev pub IsAgainFault : List ℕ → ℕ → Type 0
+IsAgainFault text place = LimitStandsAt IsSentence passed_of (λ role. false) (marks_of text) Again place
+
+-- ---- maps as lists of darts
+
+-- a dart with its neighbours from label 0 on, and its values by embedding
+pub record DartRow : Type 0 where
+  pub name : ℕ
+  pub alphas : List ℕ
+  pub values : List Value
+
+pub record ListedMap : Type 0 where
+  pub schema : Schema
+  pub darts : List DartRow
+  pub next : ℕ
+
+abbrev pub names : List DartRow → List ℕ
+names darts = map (λ (dart : DartRow). dart.name) darts
+
+-- without its values
+abbrev pub bare : DartRow → Row
+bare dart = record { name = dart.name; alphas = dart.alphas }
+
+abbrev pub rows_of : List DartRow → List Row
+rows_of darts = map bare darts
+
+-- the dart of a name: the first that has it
+abbrev pub dart_of : List DartRow → ℕ → Option DartRow
+dart_of darts d = find (λ (dart : DartRow). dart.name == d) darts
+
+abbrev pub value_in : List DartRow → ℕ → ℕ → Value
+value_in darts e d = option_map_or (λ (dart : DartRow). slice_index_or dart.values e (values.Int (pos 0))) (dart_of darts d) (values.Int (pos 0))
+
+-- the map, apart from how it is listed
+abbrev pub map_of : ListedMap → Map
+map_of listed = record {
+  schema = listed.schema;
+  live = λ d. is_some (row_of (rows_of listed.darts) d);
+  alpha = alpha (rows_of listed.darts);
+  value = value_in listed.darts;
+  next = listed.next;
+}
 
 -- ---- what a text stands for
 
--- the text lists these rows, in its order, and passes no limit
-pub record IsListed (text : List ℕ) (n : ℕ) (rows : List Row) : Type 0 where
-  pub shaped : AreShaped n rows
-  pub read : IsReadAs IsSentence limit_of (marks_of text) (spelling n rows)
+-- the value of each embedding has the components that are written
+abbrev pub AreMade : List Embed → List (List Signed) → List Value → Type 0
+AreMade [] [] [] = Unit {0}
+AreMade (embed ∷ embeds) (written ∷ others) (value ∷ values) = IsMade embed.kind (map integer written) value × AreMade embeds others values
+AreMade _ _ _ = ⊥
 
-abbrev pub names : List Row → List ℕ
-names rows = map (λ (row : Row). row.name) rows
+pub record IsRow (embeds : List Embed) (form : DartForm) (dart : DartRow) : Type 0 where
+  pub name_is : dart.name ≡ form.name
+  pub alphas_are : dart.alphas ≡ form.alphas
+  pub made : AreMade embeds form.values dart.values
 
--- the text stands for the map of dimension n with these darts, here in ascending order of their names
-pub record MapText (text : List ℕ) (n : ℕ) (darts : List Row) : Type 0 where
-  pub written : List Row
-  pub listed : IsListed text n written
-  pub same : IsPermutation written darts
-  pub ascending : IsStrictlyIncreasing (names darts)
-  pub lawful : AreGMap n darts
+abbrev pub AreRows : List Embed → List DartForm → List DartRow → Type 0
+AreRows embeds [] [] = Unit {0}
+AreRows embeds (form ∷ forms) (dart ∷ darts) = IsRow embeds form dart × AreRows embeds forms darts
+AreRows embeds _ _ = ⊥
+
+-- the text lists these darts, in its order, and passes nothing
+pub record IsListed (text : List ℕ) (version : Version) (schema : Schema) (darts : List DartRow) : Type 0 where
+  pub form : MapForm
+  pub written : IsWritten text form
+  pub version_is : form.version ≡ version
+  pub schema_is : schema ≡ schema_of form.schema
+  pub rows : AreRows schema.embeds form.darts darts
+
+-- the least number above all names
+pub record IsLeastAbove (names : List ℕ) (next : ℕ) : Type 0 where
+  pub above : All (λ name. name < next) names
+  pub least : (bound : ℕ) → All (λ name. name < bound) names → next ≤ bound
+
+-- the first version tells the next name by the greatest one
+abbrev pub IsNext : Version → List ℕ → ℕ → Type 0
+IsNext First names next = IsLeastAbove names next
+IsNext (Second stated) names next = next ≡ stated
+
+abbrev pub version_of : Version → MapVersion
+version_of First = versions.One
+version_of (Second next) = versions.Two
+
+-- the text in this version stands for the map with these darts, here in ascending order of their names
+pub record MapText (text : List ℕ) (version : MapVersion) (map : ListedMap) : Type 0 where
+  pub written : Version
+  pub darts : List DartRow
+  pub listed : IsListed text written map.schema darts
+  pub version_is : version ≡ version_of written
+  pub same : IsPermutation darts map.darts
+  pub ascending : IsStrictlyIncreasing (names map.darts)
+  pub next_is : IsNext written (names map.darts) map.next
+  pub sound : IsSound (map_of map)
 
 abbrev pub StandsForNoMap : List ℕ → Type 0
-StandsForNoMap text = (n : ℕ) (darts : List Row) → MapText text n darts → ⊥
-
--- the first fault of a text by the grammar and its limits
-abbrev pub IsTextFault : List ℕ → ℕ → Type 0
-IsTextFault text place = TextEndsAt IsSentence limit_of (marks_of text) place
-
-abbrev pub IsLimitFault : List ℕ → LimitKind → ℕ → Type 0
-IsLimitFault text what place = LimitPassedAt IsSentence limit_of (marks_of text) what place
+StandsForNoMap text = (version : MapVersion) (map : ListedMap) → MapText text version map → ⊥
 
 -- ---- the canonical text
 
--- 0 1 7 0
-abbrev pub line_of : Row → List ℕ
-line_of row = decimal row.name ++ flat_map (λ a. 32 ∷ decimal a) row.alphas ++ 10 ∷ []
+abbrev pub truth_text : Bool → List ℕ
+truth_text true = codes "true"
+truth_text false = codes "false"
 
--- of darts in ascending order
-abbrev pub canonical : ℕ → List Row → List ℕ
-canonical n darts =
-    codes "gmap 1\ndim " ++ decimal n ++ codes "\ndarts " ++ decimal (length darts) ++ codes "\n" ++ flat_map line_of darts
+-- 4, or (4 -1 0); a map has no truths
+abbrev pub value_text : Value → List ℕ
+value_text (values.Int x) = signed_decimal x
+value_text (values.Bool b) = truth_text b
+value_text (values.Vec2 x y) = codes "(" ++ (signed_decimal x ++ (codes " " ++ (signed_decimal y ++ codes ")")))
+value_text (values.Vec3 x y z) = codes "(" ++ (signed_decimal x ++ (codes " " ++ (signed_decimal y ++ (codes " " ++ (signed_decimal z ++ codes ")")))))
+value_text (values.Rgb r g b) = codes "(" ++ (decimal r ++ (codes " " ++ (decimal g ++ (codes " " ++ (decimal b ++ codes ")")))))
+
+-- 0 1 7 0 (4 -1 0)
+abbrev pub line_of : DartRow → List ℕ
+line_of dart = decimal dart.name ++ (flat_map (λ a. 32 ∷ decimal a) dart.alphas ++ (flat_map (λ v. 32 ∷ value_text v) dart.values ++ codes "\n"))
+
+abbrev pub head_line : MapVersion → List ℕ
+head_line versions.One = codes "gmap 1\n"
+head_line versions.Two = codes "gmap 2\n"
+
+abbrev pub next_line : MapVersion → ℕ → List ℕ
+next_line versions.One next = []
+next_line versions.Two next = codes "next " ++ (decimal next ++ codes "\n")
+
+-- of a map whose darts are in ascending order of their names
+abbrev pub canonical : MapVersion → ListedMap → List ℕ
+canonical version map =
+    head_line version ++ (schema.canonical map.schema ++ (next_line version map.next ++ (codes "darts " ++ (decimal (length map.darts) ++ (codes "\n" ++ flat_map line_of map.darts)))))

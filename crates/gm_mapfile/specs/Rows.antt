@@ -1,28 +1,33 @@
--- The rows of darts that an arena holds, and the rows of which numbers are the lines.
-use Rattle.std.specs.Prelude.{ℕ, zero, suc, ◌+◌, ◌/◌, ◌<◌, ◌≤◌, List, [], ◌∷◌, map, length, take, drop}
+-- The darts that an arena holds as a list, and the darts of which numbers and values are the lines.
+use Rattle.std.specs.Prelude.{ℕ, zero, suc, ◌+◌, ◌/◌, List, [], ◌∷◌, map, length, take, drop}
 use Rattle.std.specs.Option.{option_map_or}
 use Rattle.std.specs.FinMap.{entries, get}
+use Rattle.gm_model.specs.declared.schema.Schema.{Schema}
+use Rattle.gm_model.specs.declared.value.Value.{Value}
 use Rattle.gm_model.specs.GMap.{Row}
-use Rattle.gm_arena.specs.ArenaMap.{ArenaMap, Dart, IsLiveName}
+use Rattle.gm_arena.specs.ArenaMap.{ArenaMap, Dart}
+use Rattle.gm_mapfile.specs.MapText.{DartRow, ListedMap}
 
--- a dart without its values
-abbrev pub row_of_entry : ℕ × Dart → Row
-row_of_entry e = record { name = e.0; alphas = e.1.alphas }
+abbrev pub dart_of_entry : ℕ × Dart → DartRow
+dart_of_entry e = record { name = e.0; alphas = e.1.alphas; values = e.1.values }
 
--- the darts of an arena without their values, in ascending order of their names
-abbrev pub rows_of : ArenaMap → List Row
-rows_of m = map row_of_entry (entries m.darts)
+-- the darts of an arena, in ascending order of their names
+abbrev pub darts_of : ArenaMap → List DartRow
+darts_of m = map dart_of_entry (entries m.darts)
 
--- the dart of a name, without its values
-abbrev pub row_at : ArenaMap → ℕ → Row
-row_at m name = record { name = name; alphas = option_map_or (λ (dart : Dart). dart.alphas) (get m.darts name) [] }
+-- the map in an arena, its darts in ascending order of their names
+abbrev pub listed_of : ArenaMap → ListedMap
+listed_of m = record { schema = m.schema; darts = darts_of m; next = m.next }
 
--- the next name is the least number above every name
-pub record IsNextLeast (m : ArenaMap) : Type 0 where
-  pub above : (name : ℕ) → IsLiveName m name → name < m.next
-  pub least : (bound : ℕ) → ((name : ℕ) → IsLiveName m name → name < bound) → m.next ≤ bound
+-- the dart of a name
+abbrev pub dart_at : ArenaMap → ℕ → DartRow
+dart_at m name = record {
+  name = name;
+  alphas = option_map_or (λ (dart : Dart). dart.alphas) (get m.darts name) [];
+  values = option_map_or (λ (dart : Dart). dart.values) (get m.darts name) [];
+}
 
--- ---- rows written as numbers
+-- ---- darts written as numbers and values
 
 -- a line is a name and its neighbours
 abbrev pub row_in : List ℕ → Row
@@ -37,3 +42,16 @@ rows_from n (suc count) numbers = row_in (take (n + 2) numbers) ∷ rows_from n 
 -- the rows of all whole lines
 abbrev pub rows_in : ℕ → List ℕ → List Row
 rows_in n numbers = rows_from n (length numbers / (n + 2)) numbers
+
+-- the row with values
+abbrev pub valued : Row → List Value → DartRow
+valued row values = record { name = row.name; alphas = row.alphas; values = values }
+
+-- the darts of the rows, with w values each
+abbrev pub darts_from : ℕ → List Row → List Value → List DartRow
+darts_from w [] values = []
+darts_from w (row ∷ rows) values = valued row (take w values) ∷ darts_from w rows (drop w values)
+
+-- the darts of all whole lines
+abbrev pub darts_in : Schema → List ℕ → List Value → List DartRow
+darts_in schema numbers values = darts_from (length schema.embeds) (rows_in schema.dim numbers) values

@@ -1,50 +1,58 @@
 //! The arena of the darts that a text lists.
 //!
-//! The darts are added first, each free for every label, and then linked to their neighbours. No
-//! pass keeps the rows a second time, and each looks a name up in the arena.
+//! The darts are added first with their values, each free for every label, and then linked to their
+//! neighbours. No pass keeps the lines a second time, and each looks a name up in the arena.
 ghost use Rattle.gm_model.specs.Limits.{most_names};
-ghost use Rattle.std.specs.Prelude.{◌≡◌, ℕ, ◌+◌, ◌*◌, ◌/◌, ◌<◌, ◌≤◌, [], length, min, nat_lt, if◌then◌else◌, All, None, MatchOption, IfOk, IfErr};
-ghost use Rattle.gm_mapfile.specs.MapFaults.{AreDistinct};
+ghost use Rattle.gm_model.specs.Maps.{IsSchema};
+ghost use Rattle.std.specs.Prelude.{◌≡◌, ℕ, ◌+◌, ◌*◌, ◌/◌, ◌<◌, ◌≤◌, [], length, min, nat_lt, if◌then◌else◌, All, None, MatchOption, IfOk, IfErr, IfSome};
 ghost use Rattle.gm_arena.specs.ArenaMap.{IsLiveName};
-ghost use Rattle.gm_mapfile.specs.Rows.{rows_in};
+ghost use Rattle.gm_mapfile.specs.Draft.{version_in};
+ghost use Rattle.gm_mapfile.specs.Rows.{rows_in, darts_in};
 ghost use Rattle.gm_mapfile.specs.Faults.{IsNameFault};
-ghost use Rattle.gm_mapfile.specs.Building.{AreInRoom, AreSlotsLive, AreWhole, IsFresh, AreAdded, IsRelinked, IsDartLinked, IsLabelWithoutTarget, AreLinkedUnless, IsHeld};
+ghost use Rattle.gm_mapfile.specs.Building.{AreInRoom, AreSlotsLive, AreWhole, AreLive, AreValued, IsFresh, IsNextLeast, AreAdded, IsNotBelow, IsRelinked, IsDartLinked, IsLabelWithoutTarget, AreLinkedUnless, IsHeld};
 
 use crate::fault::MapFault;
 use crate::reading::Draft;
 use gm_arena::{Arena, Slot, Steps};
-use gm_model::{Items, Schema};
+use gm_model::Value;
 use std::alloc::Global;
 use std::sync::ledger::Ledger;
 
-/// The arena of the darts in the lines of the numbers, each linked to its neighbours. The fault is
-/// a name that two darts have, or a neighbour that is no dart.
+/// The arena of the darts in the lines of the draft, each linked to its neighbours. The fault is
+/// a name that two darts have, one that isn't below the next name where the text states it, or a
+/// neighbour that is no dart.
 pub(crate) fn build<L: Ledger>(
     alloc: Global,
     draft: Draft,
     steps: &mut Steps<L>,
 ) -> Result<Arena, MapFault>
-    requires { AreInRoom draft.dim draft.numbers.items }
-    ensures held { IfOk result (IsHeld draft.dim (rows_in draft.dim draft.numbers.items)) }
-    ensures fault { IfErr result (IsNameFault draft.dim (rows_in draft.dim draft.numbers.items)) }
-    ensures most { steps.new ≤ steps.old + (2 * draft.dim + 5) * length (rows_in draft.dim draft.numbers.items) }
+    requires schema { IsSchema draft.schema }
+    requires room { AreInRoom draft.schema draft.numbers.items draft.values.items }
+    requires next { IfSome draft.stated (λ next. next ≤ most_names) }
+    ensures held { IfOk result (IsHeld (version_in draft.stated) draft.schema (darts_in draft.schema draft.numbers.items draft.values.items)) }
+    ensures fault { IfErr result (IsNameFault (version_in draft.stated) draft.schema.dim (darts_in draft.schema draft.numbers.items draft.values.items)) }
+    ensures most { steps.new ≤ steps.old + (2 * draft.schema.dim + 5) * length (darts_in draft.schema draft.numbers.items draft.values.items) }
     ensures least { IfOk result (λ arena. steps.old + arena.count ≤ steps.new) }
 {
-    let numbers = draft.numbers.as_slice();
-    let width = draft.dim.top() as usize + 2;
-    let embeds = Items::new(Vec::new(alloc));
-    let mut arena = Arena::new(
-        alloc,
-        Schema {
-            dim: draft.dim,
-            embeds,
-        },
-    );
-    arena.reserve((numbers.len() / width) as u32, names_end(numbers))?;
-    if let Some(dart) = add_darts(&mut arena, numbers, steps) {
+    let Draft {
+        stated,
+        schema,
+        numbers,
+        values,
+    } = draft;
+    let width = schema.dim.top() as usize + 2;
+    let mut arena = Arena::new(alloc, schema);
+    arena.reserve((numbers.len() / width) as u32, names_end(&numbers))?;
+    if let Some(dart) = add_darts(&mut arena, &numbers, &values, steps) {
         return Err(MapFault::DartTwice { dart });
     }
-    if let Some((dart, label)) = link_darts(&mut arena, numbers, steps) {
+    if let Some(next) = stated {
+        if let Some(dart) = least_not_below(&arena, &numbers, next) {
+            return Err(MapFault::Next { dart });
+        }
+        arena.set_next(next);
+    }
+    if let Some((dart, label)) = link_darts(&mut arena, &numbers, steps) {
         return Err(MapFault::NoTarget { dart, label });
     }
     Ok(arena)
@@ -63,23 +71,30 @@ fn names_end(numbers: &[u32]) -> u32
     end
 }
 
-/// Adds the dart of each line, free for every label. The answer is the least name that two lines
-/// have.
-fn add_darts<L: Ledger>(arena: &mut Arena, numbers: &[u32], steps: &mut Steps<L>) -> Option<u32>
+/// Adds the dart of each line with its values, free for every label. The answer is the least name
+/// that two lines have.
+fn add_darts<L: Ledger>(
+    arena: &mut Arena,
+    numbers: &[u32],
+    values: &[Value],
+    steps: &mut Steps<L>,
+) -> Option<u32>
     requires fresh { IsFresh arena.old }
-    requires no_embeds { arena.old.schema.embeds ≡ [] }
-    requires room { length numbers.now / (arena.old.schema.dim + 2) ≤ arena.old.spare }
+    requires room { AreInRoom arena.old.schema numbers.now values.now }
+    requires spare { length numbers.now / (arena.old.schema.dim + 2) ≤ arena.old.spare }
     requires reserved { All (λ x. x < arena.old.reserved) numbers.now }
     ensures schema { arena.new.schema ≡ arena.old.schema }
     ensures added { AreAdded arena.old.schema.dim (rows_in arena.old.schema.dim numbers.now) arena.new result }
+    ensures values { AreValued (darts_in arena.old.schema numbers.now values.now) arena.new }
     ensures most { steps.new ≤ steps.old + 2 * length (rows_in arena.old.schema.dim numbers.now) }
     ensures least { steps.old + length (rows_in arena.old.schema.dim numbers.now) ≤ steps.new }
 {
+    let embeds = arena.schema().embeds.as_slice().len();
     let mut twice: Option<u32> = None;
-    for line in numbers.chunks_exact(arena.schema().dim.top() as usize + 2) {
+    for (at, line) in numbers.chunks_exact(arena.schema().dim.top() as usize + 2).enumerate() {
         let name = line[0];
         if arena.slot_of(name, steps).is_none() {
-            arena.add(name, &[], steps);
+            arena.add(name, &values[at * embeds..at * embeds + embeds], steps);
         } else {
             twice = Some(lesser(twice, name));
         }
@@ -95,6 +110,24 @@ fn lesser(found: Option<u32>, name: u32) -> u32
         Some(least) => least.min(name),
         None => name,
     }
+}
+
+/// The least name of a line that isn't below the number.
+fn least_not_below(arena: &Arena, numbers: &[u32], next: u32) -> Option<u32>
+    requires next { IsNextLeast arena.now }
+    requires live { AreLive (rows_in arena.now.schema.dim numbers.now) arena.now }
+    ensures { IsNotBelow (rows_in arena.now.schema.dim numbers.now) next result }
+{
+    if arena.next() <= next {
+        return None;
+    }
+    let mut least: Option<u32> = None;
+    for line in numbers.chunks_exact(arena.schema().dim.top() as usize + 2) {
+        if line[0] >= next {
+            least = Some(lesser(least, line[0]));
+        }
+    }
+    least
 }
 
 /// Links the dart of each line to its neighbours. The answer is the first dart and label whose

@@ -2,6 +2,7 @@ ghost use Rattle.std.specs.Prelude.{◌≡◌};
 
 use gm_laws::{LawFault, MapBreach};
 use gm_model::LimitKind;
+use gm_text::SchemaFault;
 use std::alloc::{AllocError, AllocFailed};
 use thiserror::Error;
 
@@ -14,21 +15,21 @@ pub enum MapFault {
     /// What stands at the place passes a limit.
     #[error("a limit is passed")]
     Limit { what: LimitKind, place: usize },
-    /// A name was declared before. No text has this fault before embeddings are read.
-    #[error("a name is declared twice")]
+    /// The name at the place was declared before, or the label mentioned before in its orbit.
+    #[error("a name or a label stands twice")]
     Twice { place: usize },
     /// The least name that two darts have.
     #[error("two darts have one name")]
     DartTwice { dart: u32 },
+    /// The least name that isn't below the next one that the text states.
+    #[error("a name isn't below the next one")]
+    Next { dart: u32 },
     /// The first dart and label whose neighbour is no dart.
     #[error("a neighbour is no dart")]
     NoTarget { dart: u32, label: u8 },
     /// The first breach of the laws of a map.
     #[error("a law of maps is broken")]
     Breach(MapBreach),
-    /// An embedding stands at the place, which is not read yet.
-    #[error("embeddings are not read yet")]
-    NotBuilt { place: usize },
     /// Memory was wanting, which says nothing of the text.
     #[error("out of memory")]
     OutOfMemory,
@@ -73,6 +74,21 @@ impl From<LawFault> for MapFault {
         match fault {
             LawFault::Breach(breach) => MapFault::Breach(breach),
             LawFault::OutOfMemory => MapFault::OutOfMemory,
+        }
+    }
+}
+
+impl From<SchemaFault> for MapFault {
+    ghost use Rattle.gm_mapfile.specs.Answered.{map_fault_of_text};
+
+    ghost from_gives = { λ fault given. given ≡ map_fault_of_text fault };
+
+    fn from(fault: SchemaFault) -> MapFault {
+        match fault {
+            SchemaFault::Text { place } => MapFault::Text { place },
+            SchemaFault::Limit { what, place } => MapFault::Limit { what, place },
+            SchemaFault::Twice { place } => MapFault::Twice { place },
+            SchemaFault::OutOfMemory => MapFault::OutOfMemory,
         }
     }
 }

@@ -1,4 +1,4 @@
-//! Maps without embeddings: their texts, read to an arena and printed from it.
+//! Maps as texts, in both versions: read to an arena and printed from it.
 #![tactic(auto)]
 
 mod building;
@@ -6,8 +6,12 @@ mod fault;
 mod laws;
 mod printing;
 mod reading;
+mod values;
+mod version;
+mod words;
 
 pub use fault::MapFault;
 pub use laws::{one_first_fault_at_most, one_map_at_most, what_is_printed_is_read_again};
 pub use printing::print_map;
-pub use reading::read_map;
+pub use reading::{MapRead, read_map};
+pub use version::MapVersion;

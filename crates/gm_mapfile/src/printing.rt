@@ -1,51 +1,57 @@
 //! The canonical text of a map.
-ghost use Rattle.std.specs.Prelude.{◌≡◌, ℕ, ◌+◌, ◌*◌, ◌≤◌, ◌++◌, [], length, OnOk, IfOk, codes, decimal};
+ghost use Rattle.std.specs.Prelude.{◌≡◌, ℕ, ◌+◌, ◌*◌, ◌≤◌, ◌∷◌, ◌++◌, length, OnOk, IfOk, codes, decimal};
+ghost use Rattle.std.specs.List.{flat_map};
+ghost use Rattle.std.specs.Fmt.{signed_decimal};
 ghost use Rattle.gm_model.specs.Limits.{most_darts};
-ghost use Rattle.gm_mapfile.specs.MapText.{canonical, line_of};
+ghost use Rattle.gm_text.specs.SchemaText as schema;
+ghost use Rattle.gm_mapfile.specs.MapText.{canonical, head_line, next_line, line_of, value_text, truth_text};
 ghost use Rattle.gm_arena.specs.ArenaMap.{IsLiveName};
 ghost use Rattle.gm_arena.specs.Lawful.{IsLawful};
-ghost use Rattle.gm_mapfile.specs.Rows.{rows_of, row_at};
+ghost use Rattle.gm_mapfile.specs.Rows.{listed_of, dart_at};
 
+use crate::version::MapVersion;
 use gm_arena::{Arena, Row, Steps};
-use gm_model::{Dim, OutOfMemory};
-use gm_text::Text;
+use gm_model::{OutOfMemory, Schema, Value};
+use gm_text::{Text, print_schema};
 use std::alloc::Global;
 use std::sync::ledger::Ledger;
 
-/// The canonical text of a map without embeddings, with one step or more for each dart: a line for
-/// each dart, in ascending order of their names. What the text of a map with embeddings is, is not
-/// promised, since its values are not printed.
+/// The canonical text of the map in the version, with one step or more for each dart: the schema,
+/// in the second version the next name, and a line for each dart in ascending order of their names.
 pub fn print_map<L: Ledger>(
     alloc: Global,
     arena: &Arena,
+    version: MapVersion,
     steps: &mut Steps<L>,
 ) -> Result<Vec<u8>, OutOfMemory>
-    ensures text { arena.now.schema.embeds ≡ [] → IfOk result (λ text. text.items ≡ canonical arena.now.schema.dim (rows_of arena.now)) }
+    ensures text { IfOk result (λ text. text.items ≡ canonical version (listed_of arena.now)) }
     ensures most { steps.new ≤ steps.old + 8 * ((arena.now.schema.dim + 1) * (arena.now.schema.dim + 1)) * (arena.now.count + 1) }
     ensures least { IfOk result (λ _. steps.old + arena.now.count ≤ steps.new) }
 {
     let names = arena.names(alloc, steps)?;
-    let count = arena.count();
-    let dim = arena.schema().dim;
-    let mut text = Text::with_capacity(alloc, room_for(dim, &names))?;
-    print_header(&mut text, dim, count)?;
+    let mut text = Text::with_capacity(alloc, room_for(arena.schema(), &names))?;
+    print_header(&mut text, arena, version)?;
     for name in &names {
         print_dart(&mut text, arena, *name, steps)?;
     }
     Ok(text.into_bytes())
 }
 
-/// As many bytes as the text has, or a few more: each name stands once for its dart and once for
-/// each label as a neighbour, with a blank or a line feed behind it.
-fn room_for(dim: Dim, names: &[u32]) -> usize
+/// As many bytes as the text has without values, or a few more: each name stands once for its dart
+/// and once for each label as a neighbour, with a blank or a line feed behind it. A value of small
+/// numbers takes no more than its share.
+fn room_for(schema: &Schema, names: &[u32]) -> usize
     requires { length names.now ≤ most_darts }
 {
-    let header = 32;
+    let header = 1024;
+    let share = 12;
     let mut column = 0;
     for name in names {
         column += digits_of(*name) + 1;
     }
-    header + column * (dim.top() as usize + 2)
+    header
+        + column * (schema.dim.top() as usize + 2)
+        + names.len() * schema.embeds.as_slice().len() * share
 }
 
 /// How many decimal digits a name has.
@@ -66,13 +72,21 @@ fn digits_of(name: u32) -> usize
     }
 }
 
-fn print_header(text: &mut Text, dim: Dim, count: u32) -> Result<(), OutOfMemory>
-    ensures { OnOk result (text.new ≡ text.old ++ (codes "gmap 1\ndim " ++ decimal dim ++ codes "\ndarts " ++ decimal count ++ codes "\n")) }
+fn print_header(text: &mut Text, arena: &Arena, version: MapVersion) -> Result<(), OutOfMemory>
+    ensures { OnOk result (text.new ≡ text.old ++ (head_line version ++ (schema.canonical arena.now.schema ++ (next_line version arena.now.next ++ (codes "darts " ++ (decimal arena.now.count ++ codes "\n")))))) }
 {
-    text.put(b"gmap 1\ndim ")?;
-    text.number(u64::from(dim.top()))?;
-    text.put(b"\ndarts ")?;
-    text.number(u64::from(count))?;
+    text.put(match version {
+        MapVersion::One => b"gmap 1\n",
+        MapVersion::Two => b"gmap 2\n",
+    })?;
+    print_schema(text, arena.schema())?;
+    if version == MapVersion::Two {
+        text.put(b"next ")?;
+        text.number(u64::from(arena.next()))?;
+        text.put(b"\n")?;
+    }
+    text.put(b"darts ")?;
+    text.number(u64::from(arena.count()))?;
     text.put(b"\n")
 }
 
@@ -84,16 +98,68 @@ fn print_dart<L: Ledger>(
 ) -> Result<(), OutOfMemory>
     requires lawful { IsLawful arena.now }
     requires live { IsLiveName arena.now name }
-    ensures line { OnOk result (text.new ≡ text.old ++ line_of (row_at arena.now name)) }
+    ensures line { OnOk result (text.new ≡ text.old ++ line_of (dart_at arena.now name)) }
     ensures most { steps.new ≤ steps.old + (arena.now.schema.dim + 3) }
     ensures least { steps.old ≤ steps.new }
 {
     let slot = arena.slot_of(name, steps).unwrap();
-    let Row { name, alphas, .. } = arena.row(slot, steps);
+    let Row {
+        name,
+        alphas,
+        values,
+    } = arena.row(slot, steps);
     text.number(u64::from(name))?;
     for neighbour in alphas {
         text.put(b" ")?;
         text.number(u64::from(arena.name_of(*neighbour, steps)))?;
     }
+    print_values(text, values)?;
     text.put(b"\n")
+}
+
+/// Each value behind a blank.
+fn print_values(text: &mut Text, values: &[Value]) -> Result<(), OutOfMemory>
+    ensures { OnOk result (text.new ≡ text.old ++ flat_map (λ v. 32 ∷ value_text v) values.now) }
+{
+    for value in values {
+        text.put(b" ")?;
+        print_value(text, *value)?;
+    }
+    Ok(())
+}
+
+fn print_value(text: &mut Text, value: Value) -> Result<(), OutOfMemory>
+    ensures { OnOk result (text.new ≡ text.old ++ value_text value) }
+{
+    match value {
+        Value::Int(x) => text.signed(x),
+        Value::Bool(truth) => text.put(if truth { b"true" } else { b"false" }),
+        Value::Vec2(x, y) => print_pair(text, x, y),
+        Value::Vec3(x, y, z) => print_triple(text, x, y, z),
+        Value::Rgb(red, green, blue) => {
+            print_triple(text, i64::from(red), i64::from(green), i64::from(blue))
+        }
+    }
+}
+
+fn print_pair(text: &mut Text, x: i64, y: i64) -> Result<(), OutOfMemory>
+    ensures { OnOk result (text.new ≡ text.old ++ (codes "(" ++ (signed_decimal x ++ (codes " " ++ (signed_decimal y ++ codes ")"))))) }
+{
+    text.put(b"(")?;
+    text.signed(x)?;
+    text.put(b" ")?;
+    text.signed(y)?;
+    text.put(b")")
+}
+
+fn print_triple(text: &mut Text, x: i64, y: i64, z: i64) -> Result<(), OutOfMemory>
+    ensures { OnOk result (text.new ≡ text.old ++ (codes "(" ++ (signed_decimal x ++ (codes " " ++ (signed_decimal y ++ (codes " " ++ (signed_decimal z ++ codes ")"))))))) }
+{
+    text.put(b"(")?;
+    text.signed(x)?;
+    text.put(b" ")?;
+    text.signed(y)?;
+    text.put(b" ")?;
+    text.signed(z)?;
+    text.put(b")")
 }

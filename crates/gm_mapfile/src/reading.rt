@@ -1,257 +1,250 @@
 //! The text of a map, read from left to right up to its first fault.
 //!
-//! `read_text` knows the grammar and its limits alone. Whether the darts that it lists are a map
-//! is tested afterwards.
-ghost use Rattle.std.specs.Prelude.{◌≡◌, ℕ, List, ◌+◌, ◌*◌, ◌<◌, ◌≤◌, [], length, IfOk, IfErr, MatchResult};
-ghost use Rattle.gm_model.specs.GMap.{Row};
-ghost use Rattle.gm_mapfile.specs.MapText.{Dimension, Count, DartName, MapText};
-ghost use Rattle.gm_model.specs.Limits.{most_darts};
-ghost use Rattle.gm_model.specs.Symbols.{marks_of};
-ghost use Rattle.gm_mapfile.specs.Draft.{IsDraft, IsFaultIn};
-ghost use Rattle.gm_mapfile.specs.Rows.{rows_of, IsNextLeast};
+//! `read_text` knows the grammar, its limits and the schema's declarations alone. Whether the darts
+//! that it lists are a map is tested afterwards.
+ghost use Rattle.std.specs.Prelude.{◌≡◌, ℕ, ◌+◌, ◌*◌, ◌≤◌, [], ◌∷◌, length, pos, replicate, Bool, IfOk, IfErr, IfSome, OnOk};
+ghost use Rattle.gm_model.specs.declared.schema.Schema.{Schema};
+ghost use Rattle.gm_model.specs.Limits.{most_darts, most_names};
+ghost use Rattle.gm_model.specs.Maps.{IsSchema, IsSound};
+ghost use Rattle.gm_arena.specs.ArenaAsMap.{as_map};
+ghost use Rattle.gm_text.specs.Nested.{Outside};
+ghost use Rattle.gm_mapfile.specs.MapText.{DartName, ListedMap, MapText};
+ghost use Rattle.gm_mapfile.specs.Draft.{IsDraft, IsFaultIn, version_in};
+ghost use Rattle.gm_mapfile.specs.Words.{IsEndNext, IsMoreNext};
+ghost use Rattle.gm_mapfile.specs.Rows.{listed_of};
 ghost use Rattle.gm_mapfile.specs.Faults.{IsFaultOf};
-ghost use Rattle.gm_mapfile.specs.Reading.{Gives, IsNext, HasNoToken, marks_left, TheWord, TheNumber, Any, wanted_at, darts_at, number_at, numbers_at, ended_at, draft_of};
+ghost use Rattle.gm_mapfile.specs.MapReading as states;
+ghost use Rattle.gm_mapfile.specs.MapReading.{start, into_schema, behind_schema, AtDarts, TheNumber, Reads, Stops, Takes, Misses, among, darts_wants, dart_wants, ReadsNames, ReadsDarts, ReadsMap};
+ghost use Rattle.gm_mapfile.specs.declared.version.MapVersion.{MapVersion};
 
 use crate::building::build;
 use crate::fault::MapFault;
+use crate::values::read_values;
+use crate::version::MapVersion;
+use crate::words::{Numeral, read_number, read_word};
 use gm_arena::{Arena, Steps};
 use gm_laws::check_map;
-use gm_model::{Dim, LimitKind, MOST_DARTS, MOST_NAMES};
-use gm_text::{Lexer, Token, TokenKind};
-use std::alloc::{AllocError, AllocFailed, Global};
+use gm_model::{Embed, LimitKind, MOST_DARTS, MOST_NAMES, Schema, Value};
+use gm_text::{Lexer, SchemaFault, read_schema};
+use std::alloc::Global;
 use std::sync::ledger::Ledger;
 
 /// The darts that a text lists, in its order, before any law of a map is tested.
 #[derive(Debug, Drop)]
 pub(crate) struct Draft {
-    pub dim: Dim,
+    /// The next name, which a text of the second version states.
+    pub stated: Option<u32>,
+    pub schema: Schema,
     /// For each dart its name, and then its neighbours from label 0 on.
     pub numbers: Vec<u32>,
+    /// For each dart its values, by embedding.
+    pub values: Vec<Value>,
 }
 
-/// Why a text lists no darts: its first fault from left to right, or want of memory.
-#[derive(Debug, Drop)]
-pub(crate) enum TextFault {
-    /// No text of a map goes on with what stands at the place.
-    Text { place: usize },
-    /// What stands at the place passes a limit.
-    Limit { what: LimitKind, place: usize },
-    /// An embedding stands at the place, which is not read yet.
-    NotBuilt { place: usize },
-    OutOfMemory,
+/// What stands before the darts.
+struct Head {
+    stated: Option<u32>,
+    schema: Schema,
+    count: usize,
 }
 
-impl From<AllocError> for TextFault {
-    ghost use Rattle.gm_mapfile.specs.declared.reading.TextFault.TheVariants as faults;
-
-    ghost from_gives = { λ _ fault. fault ≡ faults.OutOfMemory };
-
-    fn from(_error: AllocError) -> TextFault {
-        TextFault::OutOfMemory
-    }
+/// The lines of the darts.
+struct Lines {
+    numbers: Vec<u32>,
+    values: Vec<Value>,
 }
 
-impl<T: Drop> From<AllocFailed<T>> for TextFault {
-    ghost use Rattle.gm_mapfile.specs.declared.reading.TextFault.TheVariants as faults;
-
-    ghost from_gives = { λ _ fault. fault ≡ faults.OutOfMemory };
-
-    fn from(_error: AllocFailed<T>) -> TextFault {
-        TextFault::OutOfMemory
-    }
-}
-
-impl From<TextFault> for MapFault {
-    ghost use Rattle.gm_mapfile.specs.Answered.{map_fault_of_text};
-
-    ghost from_gives = { λ fault given. given ≡ map_fault_of_text fault };
-
-    fn from(fault: TextFault) -> MapFault {
-        match fault {
-            TextFault::Text { place } => MapFault::Text { place },
-            TextFault::Limit { what, place } => MapFault::Limit { what, place },
-            TextFault::NotBuilt { place } => MapFault::NotBuilt { place },
-            TextFault::OutOfMemory => MapFault::OutOfMemory,
-        }
-    }
-}
-
-/// A number of the text, and where it stands.
-struct Numeral {
-    /// The greatest `u64` stands for a number that is greater.
-    value: u64,
-    place: usize,
-}
-
-fn next_token(lexer: &mut Lexer<'_>) -> Result<Token, TextFault>
-    ensures text { lexer.new.text ≡ lexer.old.text }
-    ensures found { IfOk result (λ token. IsNext lexer.old token (marks_left lexer.new)) }
-    ensures none { IfErr result (HasNoToken lexer.old) }
+/// The format and its version: whether it is the second.
+fn read_format(lexer: &mut Lexer<'_>) -> Result<bool, SchemaFault>
+    ensures reads { IfOk result (λ second. Reads start lexer.old lexer.new (into_schema second)) }
+    ensures stops { IfErr result (Stops start lexer.old) }
 {
-    match lexer.next() {
-        Ok(Some(token)) => Ok(token),
-        Ok(None) => Err(TextFault::Text {
-            place: lexer.place(),
-        }),
-        Err(fault) => Err(TextFault::Text { place: fault.place }),
+    read_word(lexer, b"gmap")?;
+    let Numeral { value, place } = read_number(lexer)?;
+    match value {
+        1 => Ok(false),
+        2 => Ok(true),
+        _ => Err(SchemaFault::Text { place }),
     }
 }
 
-fn word(lexer: &mut Lexer<'_>, bytes: &[u8]) -> Result<(), TextFault>
-    ensures { Gives (λ _. (0, marks_left lexer.new)) result (wanted_at (TheWord bytes.now) (marks_left lexer.old)) }
+/// The next name, which the second version states behind the schema.
+fn read_next(lexer: &mut Lexer<'_>, second: bool) -> Result<Option<u32>, SchemaFault>
+    ensures reads { IfOk result (λ stated. (schema : Schema) → Reads (Outside (behind_schema second schema)) lexer.old lexer.new (Outside (AtDarts (record { version = version_in stated; schema = schema })))) }
+    ensures stops { IfErr result (λ fault. (schema : Schema) → Stops (Outside (behind_schema second schema)) lexer.old fault) }
+    ensures most { IfOk result (λ stated. IfSome stated (λ next. next ≤ most_names)) }
 {
-    let token = next_token(lexer)?;
-    if !matches!(token.kind, TokenKind::Name) || lexer.text(&token) != bytes {
-        return Err(TextFault::Text { place: token.start });
+    if !second {
+        return Ok(None);
     }
-    Ok(())
+    read_word(lexer, b"next")?;
+    let Numeral { value, place } = read_number(lexer)?;
+    if value > u64::from(MOST_NAMES) {
+        let what = LimitKind::DartName;
+        return Err(SchemaFault::Limit { what, place });
+    }
+    Ok(Some(value as u32))
 }
 
-fn number(lexer: &mut Lexer<'_>) -> Result<Numeral, TextFault>
-    ensures { Gives (λ numeral. (numeral.value, numeral.place, marks_left lexer.new)) result (number_at (marks_left lexer.old)) }
-{
-    let token = next_token(lexer)?;
-    if !matches!(token.kind, TokenKind::Number) {
-        return Err(TextFault::Text { place: token.start });
-    }
-    Ok(Numeral {
-        value: lexer.number(&token).unwrap_or(u64::MAX),
-        place: token.start,
-    })
-}
-
-fn version(lexer: &mut Lexer<'_>) -> Result<(), TextFault>
-    ensures { Gives (λ _. (1, marks_left lexer.new)) result (wanted_at (TheNumber 1) (marks_left lexer.old)) }
-{
-    let Numeral { value, place } = number(lexer)?;
-    if value != 1 {
-        return Err(TextFault::Text { place });
-    }
-    Ok(())
-}
-
-fn dimension(lexer: &mut Lexer<'_>) -> Result<Dim, TextFault>
-    ensures { Gives (λ dim. (dim, marks_left lexer.new)) result (wanted_at (Any Dimension) (marks_left lexer.old)) }
-{
-    let Numeral { value, place } = number(lexer)?;
-    let what = LimitKind::Dimension;
-    if value > 7 {
-        return Err(TextFault::Limit { what, place });
-    }
-    Dim::new(value as u8).ok_or(TextFault::Limit { what, place })
-}
-
-/// The word `darts`, which stands behind the dimension where no embedding does.
-fn darts_word(lexer: &mut Lexer<'_>) -> Result<(), TextFault>
-    ensures { Gives (λ _. (0, marks_left lexer.new)) result (darts_at (marks_left lexer.old)) }
-{
-    let token = next_token(lexer)?;
-    let place = token.start;
-    if !matches!(token.kind, TokenKind::Name) {
-        return Err(TextFault::Text { place });
-    }
-    let bytes = lexer.text(&token);
-    if bytes == b"embed".as_slice() {
-        return Err(TextFault::NotBuilt { place });
-    }
-    if bytes != b"darts".as_slice() {
-        return Err(TextFault::Text { place });
-    }
-    Ok(())
-}
-
-fn dart_count(lexer: &mut Lexer<'_>) -> Result<usize, TextFault>
-    ensures value { Gives (λ count. (count, marks_left lexer.new)) result (wanted_at (Any Count) (marks_left lexer.old)) }
+/// How many darts there are.
+fn read_count(lexer: &mut Lexer<'_>) -> Result<usize, SchemaFault>
+    ensures reads { IfOk result (λ count. (head : states.Head) → Reads (Outside (AtDarts head)) lexer.old lexer.new (among head [] (darts_wants head.schema count))) }
+    ensures stops { IfErr result (λ fault. (head : states.Head) → Stops (Outside (AtDarts head)) lexer.old fault) }
     ensures most { IfOk result (λ count. count ≤ most_darts) }
 {
-    let Numeral { value, place } = number(lexer)?;
+    read_word(lexer, b"darts")?;
+    let Numeral { value, place } = read_number(lexer)?;
     if value > u64::from(MOST_DARTS) {
         let what = LimitKind::Darts;
-        return Err(TextFault::Limit { what, place });
+        return Err(SchemaFault::Limit { what, place });
     }
     Ok(value as usize)
 }
 
-fn dart_name(lexer: &mut Lexer<'_>) -> Result<u32, TextFault>
-    ensures { Gives (λ name. (name, marks_left lexer.new)) result (wanted_at (Any DartName) (marks_left lexer.old)) }
+/// All that stands before the darts.
+fn read_head(alloc: Global, lexer: &mut Lexer<'_>) -> Result<Head, SchemaFault>
+    ensures reads { IfOk result (λ head. Reads start lexer.old lexer.new (among (record { version = version_in head.stated; schema = head.schema }) [] (darts_wants head.schema head.count))) }
+    ensures stops { IfErr result (Stops start lexer.old) }
+    ensures schema { IfOk result (λ head. IsSchema head.schema) }
+    ensures next { IfOk result (λ head. IfSome head.stated (λ next. next ≤ most_names)) }
+    ensures most { IfOk result (λ head. head.count ≤ most_darts) }
 {
-    let Numeral { value, place } = number(lexer)?;
+    let second = read_format(lexer)?;
+    let schema = read_schema(alloc, lexer)?;
+    let stated = read_next(lexer, second)?;
+    let count = read_count(lexer)?;
+    Ok(Head {
+        stated,
+        schema,
+        count,
+    })
+}
+
+fn read_name(lexer: &mut Lexer<'_>) -> Result<u32, SchemaFault>
+    ensures takes { IfOk result (λ name. Takes (TheNumber DartName ∷ []) (pos name ∷ []) lexer.old lexer.new) }
+    ensures misses { IfErr result (Misses (TheNumber DartName ∷ []) lexer.old) }
+{
+    let Numeral { value, place } = read_number(lexer)?;
     if value >= u64::from(MOST_NAMES) {
         let what = LimitKind::DartName;
-        return Err(TextFault::Limit { what, place });
+        return Err(SchemaFault::Limit { what, place });
     }
     Ok(value as u32)
 }
 
-fn dart_names(
-    alloc: Global,
+/// So many names, behind those before them.
+fn read_names(
     lexer: &mut Lexer<'_>,
     count: usize,
-    room: usize,
-) -> Result<Vec<u32>, TextFault>
-    ensures { Gives (λ names. (names.items, marks_left lexer.new)) result (numbers_at DartName count (marks_left lexer.old)) }
+    names: &mut Vec<u32>,
+) -> Result<(), SchemaFault>
+    ensures reads { OnOk result (ReadsNames count lexer.old lexer.new names.old.items names.new.items) }
+    ensures stops { IfErr result (Misses (replicate count (TheNumber DartName)) lexer.old) }
 {
-    let mut names = Vec::with_capacity(alloc, room)?;
     for _ in 0..count {
-        names.push(dart_name(lexer)?)?;
+        names.push(read_name(lexer)?)?;
     }
-    Ok(names)
+    Ok(())
 }
 
-fn end(lexer: &mut Lexer<'_>) -> Result<(), TextFault>
-    ensures { Gives (λ end. end) result (ended_at (marks_left lexer.old)) }
+/// The lines of so many darts. Where the header names more than the text can hold, no more room is
+/// taken than for what it holds: each number and each value has two bytes at least, with the blank
+/// behind it, but the last.
+fn read_darts(
+    alloc: Global,
+    lexer: &mut Lexer<'_>,
+    schema: &Schema,
+    count: usize,
+    bytes: usize,
+) -> Result<Lines, SchemaFault>
+    requires { count ≤ most_darts }
+    ensures reads { IfOk result (λ lines. ReadsDarts schema.now count lexer.old lexer.new lines.numbers.items lines.values.items) }
+    ensures stops { IfErr result (Misses (darts_wants schema.now count) lexer.old) }
+{
+    let embeds = schema.embeds.as_slice();
+    let width = schema.dim.top() as usize + 2;
+    let room = count.min(bytes / (2 * width) + 1);
+    let mut numbers = Vec::with_capacity(alloc, room * width)?;
+    let mut values = Vec::with_capacity(alloc, room * embeds.len())?;
+    for _ in 0..count {
+        read_names(lexer, width, &mut numbers)?;
+        read_values(lexer, embeds, &mut values)?;
+    }
+    Ok(Lines { numbers, values })
+}
+
+/// Nothing but the end.
+fn read_end(lexer: &mut Lexer<'_>) -> Result<(), SchemaFault>
+    ensures ends { OnOk result (IsEndNext lexer.old) }
+    ensures more { IfErr result (IsMoreNext lexer.old) }
 {
     match lexer.next() {
         Ok(None) => Ok(()),
-        Ok(Some(token)) => Err(TextFault::Text { place: token.start }),
-        Err(fault) => Err(TextFault::Text { place: fault.place }),
+        Ok(Some(token)) => Err(SchemaFault::Text { place: token.start }),
+        Err(fault) => Err(SchemaFault::Text { place: fault.place }),
     }
 }
 
-#[tactic(auto, unfolding(crate::specs::Reading::draft_of))]
-fn read_all(alloc: Global, bytes: &[u8]) -> Result<Draft, TextFault>
-    ensures { Gives (λ draft. (draft.dim, draft.numbers.items)) result (draft_of (marks_of bytes.now)) }
+fn read_all(alloc: Global, bytes: &[u8]) -> Result<Draft, SchemaFault>
+    ensures reads { IfOk result (λ draft. ReadsMap (record { text = bytes.now; place = 0 }) draft.stated draft.schema draft.numbers.items draft.values.items) }
+    ensures stops { IfErr result (Stops start (record { text = bytes.now; place = 0 })) }
+    ensures schema { IfOk result (λ draft. IsSchema draft.schema) }
+    ensures next { IfOk result (λ draft. IfSome draft.stated (λ next. next ≤ most_names)) }
 {
     let mut lexer = Lexer::new(bytes);
-    word(&mut lexer, b"gmap")?;
-    version(&mut lexer)?;
-    word(&mut lexer, b"dim")?;
-    let dim = dimension(&mut lexer)?;
-    darts_word(&mut lexer)?;
-    let count = dart_count(&mut lexer)?;
-    let wanted = count * (dim.top() as usize + 2);
-    // Each number but the last has at least two bytes with the blank behind it.
-    let room = wanted.min(bytes.len() / 2 + 1);
-    let numbers = dart_names(alloc, &mut lexer, wanted, room)?;
-    end(&mut lexer)?;
-    Ok(Draft { dim, numbers })
+    let Head {
+        stated,
+        schema,
+        count,
+    } = read_head(alloc, &mut lexer)?;
+    let Lines { numbers, values } = read_darts(alloc, &mut lexer, &schema, count, bytes.len())?;
+    read_end(&mut lexer)?;
+    Ok(Draft {
+        stated,
+        schema,
+        numbers,
+        values,
+    })
 }
 
 /// The darts that the text lists, or its first fault from left to right.
-pub(crate) fn read_text(alloc: Global, bytes: &[u8]) -> Result<Draft, TextFault>
-    ensures draft { IfOk result (λ draft. IsDraft bytes.now draft.dim draft.numbers.items) }
+pub(crate) fn read_text(alloc: Global, bytes: &[u8]) -> Result<Draft, SchemaFault>
+    ensures draft { IfOk result (λ draft. IsDraft bytes.now (version_in draft.stated) draft.schema draft.numbers.items draft.values.items) }
+    ensures schema { IfOk result (λ draft. IsSchema draft.schema) }
+    ensures next { IfOk result (λ draft. IfSome draft.stated (λ next. next ≤ most_names)) }
     ensures fault { IfErr result (IsFaultIn bytes.now) }
 {
     read_all(alloc, bytes)
 }
 
-/// The arena of the map that the text stands for, with one step or more for each dart. A fault is
-/// the first of the text: of its grammar and limits by place, then of its darts' names, and then
-/// of the laws of a map.
+/// A map that was read, and the version of its text.
+#[derive(Drop)]
+pub struct MapRead {
+    pub arena: Arena,
+    pub version: MapVersion,
+}
+
+/// The map that the text stands for, with one step or more for each dart. It is a generalised map,
+/// and each embedding has one value on each of its orbits. A fault is the first of the text: of its
+/// grammar, limits and declarations by place, then of its darts' names, and then of the laws of a
+/// map.
 pub fn read_map<L: Ledger>(
     alloc: Global,
     bytes: &[u8],
     steps: &mut Steps<L>,
-) -> Result<Arena, MapFault>
-    ensures map { IfOk result (λ arena. MapText bytes.now arena.schema.dim (rows_of arena)) }
-    ensures no_embeds { IfOk result (λ arena. arena.schema.embeds ≡ []) }
-    ensures next { IfOk result IsNextLeast }
+) -> Result<MapRead, MapFault>
+    ensures map { IfOk result (λ read. MapText bytes.now read.version (listed_of read.arena)) }
+    ensures sound { IfOk result (λ read. IsSound (as_map read.arena)) }
     ensures fault { IfErr result (IsFaultOf bytes.now) }
-    ensures most { (n : ℕ) (darts : List Row) → MapText bytes.now n darts → steps.new ≤ steps.old + 32 * ((n + 1) * (n + 1)) * (length darts + 1) }
-    ensures least { IfOk result (λ arena. steps.old + arena.count ≤ steps.new) }
+    ensures most { (version : MapVersion) (map : ListedMap) → MapText bytes.now version map → steps.new ≤ steps.old + 32 * ((map.schema.dim + 1) * (map.schema.dim + 1)) * (length map.darts + 1) }
+    ensures least { IfOk result (λ read. steps.old + read.arena.count ≤ steps.new) }
 {
     let draft = read_text(alloc, bytes)?;
+    let version = match draft.stated {
+        None => MapVersion::One,
+        Some(_) => MapVersion::Two,
+    };
     let arena = build(alloc, draft, steps)?;
     check_map(alloc, &arena, steps)?;
-    Ok(arena)
+    Ok(MapRead { arena, version })
 }

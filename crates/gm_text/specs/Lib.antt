@@ -2,6 +2,7 @@ pub mod Cursor
 pub mod Lexing
 pub mod Machine
 pub mod Nested
+pub mod ValueText
 pub mod SchemaText
 pub mod SchemaReading
 pub mod SchemaAnswers

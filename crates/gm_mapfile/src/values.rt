@@ -1,0 +1,154 @@
+//! The values of a dart, read from its line.
+ghost use Rattle.std.specs.Prelude.{◌≡◌, ◌<◌, ◌≤◌, [], ◌∷◌, codes, IsTrue, MatchOption, IfOk, IfErr, OnOk, OnErr};
+ghost use Rattle.gm_model.specs.declared.value.Kind.TheVariants as kinds;
+ghost use Rattle.gm_model.specs.Expressions.{components};
+ghost use Rattle.gm_model.specs.Values.{kind_of};
+ghost use Rattle.gm_text.specs.ValueText.{greatest, is_channel};
+ghost use Rattle.gm_mapfile.specs.MapText.{signed};
+ghost use Rattle.gm_mapfile.specs.Words.{IsSignedNext, IsNoSignedNext};
+ghost use Rattle.gm_mapfile.specs.MapReading.{Takes, Misses, TheSign, Component, value_wants, values_wants, ReadsValues};
+
+use crate::words::{Numeral, next_token, read_number, read_sign};
+use gm_model::{Embed, Kind, LimitKind, TokenKind, Value};
+use gm_text::{Lexer, SchemaFault};
+
+/// A number with a minus before it or without, and where the number stands.
+struct Signed {
+    minus: bool,
+    /// The greatest `u64` stands for a number that is greater.
+    size: u64,
+    place: usize,
+}
+
+fn read_signed(lexer: &mut Lexer<'_>) -> Result<Signed, SchemaFault>
+    ensures next { IfOk result (λ found. IsSignedNext lexer.old found.minus found.size found.place lexer.new) }
+    ensures none { IfErr result (IsNoSignedNext lexer.old) }
+{
+    let token = next_token(lexer)?;
+    let place = token.start;
+    match token.kind {
+        TokenKind::Number => Ok(Signed {
+            minus: false,
+            size: lexer.number(&token).unwrap_or(u64::MAX),
+            place,
+        }),
+        TokenKind::Sign if lexer.text(&token) == b"-".as_slice() => {
+            let Numeral { value, place } = read_number(lexer)?;
+            Ok(Signed {
+                minus: true,
+                size: value,
+                place,
+            })
+        }
+        _ => Err(SchemaFault::Text { place }),
+    }
+}
+
+/// The whole number, where it isn't too great.
+fn signed_value(minus: bool, size: u64) -> Option<i64>
+    ensures { MatchOption result (greatest minus < size) (λ n. (size ≤ greatest minus) × (n ≡ signed minus size)) }
+{
+    if minus {
+        0i64.checked_sub_unsigned(size)
+    } else {
+        i64::try_from(size).ok()
+    }
+}
+
+/// A component of a value, of a colour or not.
+fn read_component(lexer: &mut Lexer<'_>, colour: bool) -> Result<i64, SchemaFault>
+    ensures takes { IfOk result (λ n. Takes (Component colour ∷ []) (n ∷ []) lexer.old lexer.new) }
+    ensures channel { IfOk result (λ n. IsTrue colour → IsTrue (is_channel n)) }
+    ensures misses { IfErr result (Misses (Component colour ∷ []) lexer.old) }
+{
+    let Signed { minus, size, place } = read_signed(lexer)?;
+    let Some(value) = signed_value(minus, size) else {
+        let what = LimitKind::Integer;
+        return Err(SchemaFault::Limit { what, place });
+    };
+    if colour && (value < 0 || value > 255) {
+        let what = LimitKind::Channel;
+        return Err(SchemaFault::Limit { what, place });
+    }
+    Ok(value)
+}
+
+/// A sign around the components of a value.
+fn read_bracket(lexer: &mut Lexer<'_>, sign: &[u8]) -> Result<(), SchemaFault>
+    ensures takes { OnOk result (Takes (TheSign sign.now ∷ []) [] lexer.old lexer.new) }
+    ensures misses { IfErr result (Misses (TheSign sign.now ∷ []) lexer.old) }
+{
+    read_sign(lexer, sign)
+}
+
+/// Three components behind the sign before them, with the sign behind them.
+fn read_triple(lexer: &mut Lexer<'_>, colour: bool) -> Result<(i64, i64, i64), SchemaFault>
+    ensures takes { IfOk result (λ xs. Takes (TheSign (codes "(") ∷ Component colour ∷ Component colour ∷ Component colour ∷ TheSign (codes ")") ∷ []) (xs.0 ∷ xs.1 ∷ xs.2 ∷ []) lexer.old lexer.new) }
+    ensures channels { IfOk result (λ xs. IsTrue colour → IsTrue (is_channel xs.0) × IsTrue (is_channel xs.1) × IsTrue (is_channel xs.2)) }
+    ensures misses { IfErr result (Misses (TheSign (codes "(") ∷ Component colour ∷ Component colour ∷ Component colour ∷ TheSign (codes ")") ∷ []) lexer.old) }
+{
+    read_bracket(lexer, b"(")?;
+    let x = read_component(lexer, colour)?;
+    let y = read_component(lexer, colour)?;
+    let z = read_component(lexer, colour)?;
+    read_bracket(lexer, b")")?;
+    Ok((x, y, z))
+}
+
+fn read_pair(lexer: &mut Lexer<'_>) -> Result<Value, SchemaFault>
+    ensures takes { IfOk result (λ value. Takes (value_wants kinds.Vec2) (components value) lexer.old lexer.new) }
+    ensures kind { IfOk result (λ value. kind_of value ≡ kinds.Vec2) }
+    ensures misses { IfErr result (Misses (value_wants kinds.Vec2) lexer.old) }
+{
+    read_bracket(lexer, b"(")?;
+    let x = read_component(lexer, false)?;
+    let y = read_component(lexer, false)?;
+    read_bracket(lexer, b")")?;
+    Ok(Value::Vec2(x, y))
+}
+
+/// A truth has no components. No embedding is one of truths.
+fn read_truth(lexer: &mut Lexer<'_>) -> Result<Value, SchemaFault>
+    ensures takes { IfOk result (λ value. Takes (value_wants kinds.Bool) (components value) lexer.old lexer.new) }
+    ensures kind { IfOk result (λ value. kind_of value ≡ kinds.Bool) }
+    ensures misses { IfErr result (Misses (value_wants kinds.Bool) lexer.old) }
+{
+    read_bracket(lexer, b"(")?;
+    read_bracket(lexer, b")")?;
+    Ok(Value::Bool(false))
+}
+
+fn read_value(lexer: &mut Lexer<'_>, kind: Kind) -> Result<Value, SchemaFault>
+    ensures takes { IfOk result (λ value. Takes (value_wants kind) (components value) lexer.old lexer.new) }
+    ensures kind { IfOk result (λ value. kind_of value ≡ kind) }
+    ensures misses { IfErr result (Misses (value_wants kind) lexer.old) }
+{
+    match kind {
+        Kind::Int => Ok(Value::Int(read_component(lexer, false)?)),
+        Kind::Bool => read_truth(lexer),
+        Kind::Vec2 => read_pair(lexer),
+        Kind::Vec3 => {
+            let (x, y, z) = read_triple(lexer, false)?;
+            Ok(Value::Vec3(x, y, z))
+        }
+        Kind::Rgb => {
+            let (red, green, blue) = read_triple(lexer, true)?;
+            Ok(Value::Rgb(red as u8, green as u8, blue as u8))
+        }
+    }
+}
+
+/// A value of each embedding, behind those before them.
+pub(crate) fn read_values(
+    lexer: &mut Lexer<'_>,
+    embeds: &[Embed],
+    values: &mut Vec<Value>,
+) -> Result<(), SchemaFault>
+    ensures reads { OnOk result (ReadsValues embeds.now lexer.old lexer.new values.old.items values.new.items) }
+    ensures stops { IfErr result (Misses (values_wants embeds.now) lexer.old) }
+{
+    for embed in embeds {
+        values.push(read_value(lexer, embed.kind)?)?;
+    }
+    Ok(())
+}

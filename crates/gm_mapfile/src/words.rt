@@ -1,0 +1,67 @@
+//! The words and the numbers of a map's text, one token each.
+ghost use Rattle.std.specs.Prelude.{◌≡◌, ◌-◌, ◌^◌, min, IfOk, IfErr};
+ghost use Rattle.gm_model.specs.Symbols.{Word, Sign};
+ghost use Rattle.gm_text.specs.SchemaAnswers.{IsNext, IsNoneNext};
+ghost use Rattle.gm_mapfile.specs.Words.{StandsNext, IsNumberNext, IsOtherNext, IsNoNumberNext};
+
+use gm_text::{Lexer, SchemaFault, Token, TokenKind};
+
+/// A number of the text, and where it stands.
+pub(crate) struct Numeral {
+    /// The greatest `u64` stands for a number that is greater.
+    pub value: u64,
+    pub place: usize,
+}
+
+/// The next token, which the lexer goes past.
+pub(crate) fn next_token(lexer: &mut Lexer<'_>) -> Result<Token, SchemaFault>
+    ensures next { IfOk result (λ token. IsNext lexer.old token lexer.new) }
+    ensures none { IfErr result (IsNoneNext lexer.old) }
+{
+    match lexer.next() {
+        Ok(Some(token)) => Ok(token),
+        Ok(None) => Err(SchemaFault::Text {
+            place: lexer.place(),
+        }),
+        Err(fault) => Err(SchemaFault::Text { place: fault.place }),
+    }
+}
+
+/// A word of the format.
+pub(crate) fn read_word(lexer: &mut Lexer<'_>, word: &[u8]) -> Result<(), SchemaFault>
+    ensures next { IfOk result (λ _. StandsNext (Word word.now) lexer.old lexer.new) }
+    ensures other { IfErr result (IsOtherNext (Word word.now) lexer.old) }
+{
+    let token = next_token(lexer)?;
+    if token.kind != TokenKind::Name || lexer.text(&token) != word {
+        return Err(SchemaFault::Text { place: token.start });
+    }
+    Ok(())
+}
+
+/// A sign of the format.
+pub(crate) fn read_sign(lexer: &mut Lexer<'_>, sign: &[u8]) -> Result<(), SchemaFault>
+    ensures next { IfOk result (λ _. StandsNext (Sign sign.now) lexer.old lexer.new) }
+    ensures other { IfErr result (IsOtherNext (Sign sign.now) lexer.old) }
+{
+    let token = next_token(lexer)?;
+    if token.kind != TokenKind::Sign || lexer.text(&token) != sign {
+        return Err(SchemaFault::Text { place: token.start });
+    }
+    Ok(())
+}
+
+/// A number, whatever limit it passes.
+pub(crate) fn read_number(lexer: &mut Lexer<'_>) -> Result<Numeral, SchemaFault>
+    ensures next { IfOk result (λ found. IsNumberNext lexer.old found.value found.place lexer.new) }
+    ensures none { IfErr result (IsNoNumberNext lexer.old) }
+{
+    let token = next_token(lexer)?;
+    if token.kind != TokenKind::Number {
+        return Err(SchemaFault::Text { place: token.start });
+    }
+    Ok(Numeral {
+        value: lexer.number(&token).unwrap_or(u64::MAX),
+        place: token.start,
+    })
+}
