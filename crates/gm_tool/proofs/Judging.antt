@@ -1,49 +1,21 @@
 -- What a command puts on the bytes of its file, put together from the reader's answer and the printer's.
 use Rattle.std.proofs.Common.{◌≡◌, ℕ, List, ◌++◌, length, inl, inr, Result, Ok, Err, refl, sym, ap, ◌∙◌, subst}
 use Rattle.std.specs.Prelude.{codes}
-use Rattle.gm_laws.specs.declared.breach.MapBreach.TheVariants as breaches
-use Rattle.gm_mapfile.specs.declared.fault.MapFault.{MapFault}
-use Rattle.gm_mapfile.specs.declared.fault.MapFault.TheVariants as map
-use Rattle.gm_mapfile.specs.Faults as map_faults
 use Rattle.gm_book.specs.declared.fault.BookFault.{BookFault}
 use Rattle.gm_book.specs.declared.fault.BookFault.TheVariants as book
 use Rattle.gm_book.specs.Faults as book_faults
 use Rattle.gm_model.specs.declared.schema.Schema.{Schema}
 use Rattle.gm_book.specs.BookText.{BookText}
 use Rattle.gm_model.specs.Rules.{Rule}
-use Rattle.gm_tool.specs.Answer.{IsBad, IsOutput, BadMap, BadBook, TheMap, TheBook, role_of, refusal, most_bytes, Checked}
+use Rattle.gm_tool.specs.Answer.{IsBad, IsOutput, BadBook, TheMap, TheBook, role_of, refusal, most_bytes, Checked}
 use Rattle.gm_tool.specs.BookFaults.{AtEnds, AtPasses, AtNotBuilt, AtName}
 use Rattle.gm_tool.specs.Answer as answer
 use Rattle.gm_tool.specs.declared.refusal.NoText.{NoText}
 use Rattle.gm_tool.specs.declared.refusal.NoText.TheVariants as nothing
 use Rattle.gm_tool.specs.declared.reply.Reply.{Reply}
 use Rattle.gm_tool.specs.Checking.{check_status, counts_line}
-use Rattle.gm_tool.specs.FaultLines.{IsSaidOfMap, IsSaidOfBook, map_words, book_words}
-use Rattle.gm_tool.specs.Replies.{IsJudged, IsRefusal, IsBookRefusal, IsChecked, IsWithinLimit}
-
-pub map_is_said : (bytes : List ℕ) (fault : MapFault) → map_faults.IsFaultOf bytes fault → (fault ≡ map.OutOfMemory → ⊥) → IsSaidOfMap fault
-map_is_said bytes (map.Text place) h other = tt
-map_is_said bytes (map.Limit what place) h other = tt
-map_is_said bytes (map.NotBuilt place) h other = tt
-map_is_said bytes (map.DartTwice d) h other = tt
-map_is_said bytes (map.NoTarget d i) h other = tt
-map_is_said bytes (map.Breach (breaches.Involution d i)) h other = tt
-map_is_said bytes (map.Breach (breaches.Cycle d i j)) h other = tt
-map_is_said bytes (map.Breach (breaches.Embedding e d o)) h other = h
-map_is_said bytes (map.Twice place) h other = h
-map_is_said bytes map.OutOfMemory h other = other refl
-
-pub map_is_bad : (bytes : List ℕ) (fault : MapFault) → map_faults.IsFaultOf bytes fault → IsSaidOfMap fault → IsBad bytes TheMap (map_words fault)
-map_is_bad bytes (map.Text place) h said = BadMap _ h
-map_is_bad bytes (map.Limit what place) h said = BadMap _ h
-map_is_bad bytes (map.NotBuilt place) h said = BadMap _ h
-map_is_bad bytes (map.DartTwice d) h said = BadMap _ h
-map_is_bad bytes (map.NoTarget d i) h said = BadMap _ h
-map_is_bad bytes (map.Breach (breaches.Involution d i)) h said = BadMap _ h
-map_is_bad bytes (map.Breach (breaches.Cycle d i j)) h said = BadMap _ h
-map_is_bad bytes (map.Breach (breaches.Embedding e d o)) h said = absurd h
-map_is_bad bytes (map.Twice place) h said = absurd h
-map_is_bad bytes map.OutOfMemory h said = absurd said
+use Rattle.gm_tool.specs.FaultLines.{IsSaidOfBook, book_words}
+use Rattle.gm_tool.specs.Replies.{IsJudged, IsBadLine, IsMapRefusal, IsRefusal, IsBookRefusal, IsChecked, IsWithinLimit}
 
 -- a line that refuses, whichever the command
 pub refused_judged : (bytes : List ℕ) (command : answer.Command) (why : List ℕ) (reply : Result Reply NoText) → IsBad bytes (role_of command) why
@@ -53,11 +25,9 @@ refused_judged bytes command why (Err nothing.OutOfMemory) bad is = tt
 refused_judged bytes command why (Err (nothing.Refused other)) bad is = absurd cc
 
 -- whichever command reads the map
-pub map_judged : (bytes : List ℕ) (command : answer.Command) (fault : MapFault) (reply : Result Reply NoText) → TheMap ≡ role_of command → map_faults.IsFaultOf bytes fault → IsSaidOfMap fault
-    → IsRefusal (refusal (codes "MAP" ++ codes " " ++ map_words fault)) reply → IsJudged bytes command reply
-map_judged bytes command fault reply of h said is =
-    refused_judged bytes command (map_words fault) reply (subst (λ (r : answer.Role). IsBad bytes r (map_words fault)) of (map_is_bad bytes fault h said))
-    (subst (λ (r : answer.Role). IsRefusal (refusal (answer.role_word r ++ codes " " ++ map_words fault)) reply) of is)
+pub map_judged : (bytes : List ℕ) (command : answer.Command) (reply : Result Reply NoText) → TheMap ≡ role_of command → IsMapRefusal bytes reply → IsJudged bytes command reply
+map_judged bytes command (Ok reply) of is = inr (is.0, subst (λ (r : answer.Role). IsBadLine bytes r reply.text.items) of is.1)
+map_judged bytes command (Err none) of is = subst (λ (e : NoText). IsJudged bytes command (Err e)) (sym is) tt
 
 book_is_bad : (bytes : List ℕ) (fault : BookFault) → book_faults.IsFaultOf bytes fault → IsSaidOfBook fault → IsBad bytes TheBook (book_words fault)
 book_is_bad bytes (book.Text place) h said = BadBook _ (AtEnds place h)

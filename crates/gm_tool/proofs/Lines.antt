@@ -6,7 +6,7 @@ use Rattle.std.proofs.lemmas.List.Elements.{All-from_recursion, recursion_from_A
 use Rattle.gm_arena.specs.ArenaAsMap.{as_map}
 use Rattle.gm_arena.specs.ArenaMap.{ArenaMap}
 use Rattle.gm_arena.specs.Lawful.{IsLawful}
-use Rattle.gm_mapfile.specs.Rows.{rows_of}
+use Rattle.gm_mapfile.specs.Rows.{darts_of, listed_of}
 use Rattle.gm_mapfile.proofs.HeldRows.{held_ascending}
 use Rattle.gm_mapfile.proofs.Printed.{length_rows}
 use Rattle.gm_model.specs.declared.rule.Book.{Book}
@@ -15,7 +15,8 @@ use Rattle.gm_model.specs.declared.schema.Schema.{Schema}
 use Rattle.gm_model.specs.declared.script.Line.{Line}
 use Rattle.gm_model.specs.declared.script.Script.{Script}
 use Rattle.gm_model.specs.Maps.{IsGeneralised}
-use Rattle.gm_mapfile.specs.MapText.{AreShaped, canonical}
+use Rattle.gm_mapfile.specs.MapText.{ListedMap, map_of, canonical}
+use Rattle.gm_mapfile.specs.declared.version.MapVersion.{MapVersion}
 use Rattle.gm_model.specs.Reports.{report_text}
 use Rattle.gm_model.specs.Rules.{rule_of}
 use Rattle.gm_model.specs.Runs.{Outcome, IsRun}
@@ -28,13 +29,12 @@ use Rattle.gm_run.specs.Progress.{IsPlanFor, ArePlansFor, Agrees, rules_of}
 use Rattle.gm_tool.specs.MadeRuns.{CanRun, inputs_of, IsFitted, IsPrinted, IsRunOf, IsMapBytes, IsRunStatus}
 use Rattle.gm_tool.specs.Stops.{IsSoundStop}
 use Rattle.gm_tool.specs.declared.refusal.Refusal.TheVariants as refusals
-use Rattle.gm_tool.specs.MapOfRows.{map_of}
 use Rattle.gm_tool.specs.RunAnswer.{Inputs, Ran, IsRan, report_of, saved_of, run_status}
 use Rattle.gm_tool.specs.declared.refusal.NoText.TheVariants as nothing
 use Rattle.gm_tool.specs.declared.refusal.Stop.{Stop}
 use Rattle.gm_tool.specs.declared.refusal.Stop.TheVariants as stops
 use Rattle.gm_tool.specs.declared.running.Made.{Made}
-use Rattle.gm_tool.proofs.ArenaMaps.{as_rows, next_of, rows_shaped, text_of_arena}
+use Rattle.gm_tool.proofs.ArenaMaps.{as_listed, darts_whole, text_of_arena}
 
 -- a run is done with status 0 or 1
 status_is : (outcomes : List Outcome) → IsRunStatus (run_status outcomes)
@@ -76,63 +76,49 @@ module _ (m : ArenaMap) (book : Book) (script : Script) (plans : List PlanOf) (c
 
   -- ---- what a run answers
 
-  module _ (after : ArenaMap) (same_schema : after.schema ≡ m.schema) (lawful : IsLawful m) (lawful_after : IsLawful after) where
-    abbrev left : List Outcome → Ran
-    left outcomes = record { outcomes = outcomes; darts = rows_of after; next = after.next }
+  module _ (version : MapVersion) (after : ArenaMap) (same_schema : after.schema ≡ m.schema) (lawful_after : IsLawful after) where
+    abbrev inputs : Inputs
+    inputs = inputs_of version m book script
 
-    bare_after : after.schema.embeds ≡ []
-    bare_after = ap (λ (schema : Schema). schema.embeds) same_schema ∙ can.bare
+    abbrev pub left : List Outcome → Ran
+    left outcomes = record { outcomes = outcomes; map = listed_of after }
 
-    dim_after : after.schema.dim ≡ m.schema.dim
-    dim_after = ap (λ (schema : Schema). schema.dim) same_schema
-
-    after_rows : as_map after ≡ map_of m.schema.dim (rows_of after) after.next
-    after_rows = as_rows after lawful_after bare_after ∙ ap (λ n. map_of n (rows_of after) after.next) dim_after
-
-    is_ran : (outcomes : List Outcome) → IsRun (rules_of plans) (as_map m) script.lines outcomes (as_map after) → IsRan (inputs_of m book script) (left outcomes)
+    is_ran : (outcomes : List Outcome) → IsRun (rules_of plans) (as_map m) script.lines outcomes (as_map after) → IsRan inputs (left outcomes)
     is_ran outcomes h = record {
-      first = m.next;
-      first_is = next_of m can.next;
       run =
-          subst (λ x. IsRun (map rule_of book.rules) (map_of m.schema.dim (rows_of m) m.next) script.lines outcomes x) after_rows
-          (subst (λ x. IsRun (map rule_of book.rules) x script.lines outcomes (as_map after)) (as_rows m lawful can.bare)
+          subst (λ x. IsRun (map rule_of book.rules) (map_of (listed_of m)) script.lines outcomes x) (as_listed after)
+          (subst (λ x. IsRun (map rule_of book.rules) x script.lines outcomes (as_map after)) (as_listed m)
           (subst (λ rules. IsRun rules (as_map m) script.lines outcomes (as_map after)) same_rules h));
+      schema_is = same_schema;
       ascending = held_ascending after;
-      shaped = subst (λ n. AreShaped n (rows_of after)) dim_after (rows_shaped after lawful_after);
+      whole = darts_whole after lawful_after;
     }
 
     -- the report and the text of the map are those of the run
     pub run_made : (outcomes : List Outcome) (darts next : ℕ) (result : Result Made Stop) → IsRun (rules_of plans) (as_map m) script.lines outcomes (as_map after) → darts ≡ after.count → next ≡ after.next
-        → IsPrinted (run_status outcomes) (report_text book.schema (map rule_of book.rules) script.lines outcomes darts next) (canonical after.schema.dim (rows_of after)) result → IsRunOf (inputs_of m book script) result
+        → IsPrinted (run_status outcomes) (report_text book.schema (map rule_of book.rules) script.lines outcomes darts next) (canonical version (listed_of after)) result → IsRunOf inputs result
     run_made outcomes darts next result h counted named = made result
       where
-        report_is : report_text book.schema (map rule_of book.rules) script.lines outcomes darts next ≡ report_of (inputs_of m book script) (left outcomes)
+        report_is : report_text book.schema (map rule_of book.rules) script.lines outcomes darts next ≡ report_of inputs (left outcomes)
         report_is =
             ap (λ k. report_text book.schema (map rule_of book.rules) script.lines outcomes k next) (counted ∙ sym (length_rows after lawful_after))
-            ∙ ap (λ k. report_text book.schema (map rule_of book.rules) script.lines outcomes (length (rows_of after)) k) named
+            ∙ ap (λ k. report_text book.schema (map rule_of book.rules) script.lines outcomes (length (darts_of after)) k) named
 
-        map_is : canonical after.schema.dim (rows_of after) ≡ saved_of (inputs_of m book script) (left outcomes)
-        map_is = ap (λ n. canonical n (rows_of after)) dim_after
+        fitted : (r : Result Made Stop) → IsFitted (run_status outcomes) (report_text book.schema (map rule_of book.rules) script.lines outcomes darts next) (canonical version (listed_of after)) r
+            → (ran : Ran) × IsRan inputs ran × IsFitted (run_status ran.outcomes) (report_of inputs ran) (saved_of inputs ran) r
+        fitted r is = (left outcomes, is_ran outcomes h, subst (λ t. IsFitted (run_status outcomes) t (canonical version (listed_of after)) r) report_is is)
 
-        fitted : (r : Result Made Stop) → IsFitted (run_status outcomes) (report_text book.schema (map rule_of book.rules) script.lines outcomes darts next) (canonical after.schema.dim (rows_of after)) r
-            → (ran : Ran) × IsRan (inputs_of m book script) ran × IsFitted (run_status ran.outcomes) (report_of (inputs_of m book script) ran) (saved_of (inputs_of m book script) ran) r
-        fitted r is = (
-          left outcomes,
-          is_ran outcomes h,
-          subst (λ t. IsFitted (run_status outcomes) (report_of (inputs_of m book script) (left outcomes)) t r) map_is
-              (subst (λ t. IsFitted (run_status outcomes) t (canonical after.schema.dim (rows_of after)) r) report_is is),
-        )
-
-        made : (r : Result Made Stop) → IsPrinted (run_status outcomes) (report_text book.schema (map rule_of book.rules) script.lines outcomes darts next) (canonical after.schema.dim (rows_of after)) r → IsRunOf (inputs_of m book script) r
+        made : (r : Result Made Stop) → IsPrinted (run_status outcomes) (report_text book.schema (map rule_of book.rules) script.lines outcomes darts next) (canonical version (listed_of after)) r → IsRunOf inputs r
         made (Ok value) is = fitted (Ok value) is
         made (Err (stops.Bad line)) is = fitted (Err (stops.Bad line)) is
         made (Err (stops.NoText nothing.OutOfMemory)) is = tt
         made (Err (stops.NoText (nothing.Refused why))) is = fitted (Err (stops.NoText (nothing.Refused why))) is
 
--- the text of a map that is printed is that of a generalised map
-pub map_made : (m : ArenaMap) (status : ℕ) (report : List ℕ) (result : Result Made Stop) → IsLawful m → IsGeneralised (as_map m) → IsPrinted status report (canonical m.schema.dim (rows_of m)) result → IfOk result (λ made. IsMapBytes made.map.items)
-map_made m status report (Ok made) lawful gmap is = subst IsMapBytes (sym is.2) (m.schema.dim, rows_of m, refl, text_of_arena m lawful gmap)
-map_made m status report (Err stop) lawful gmap is = tt
+-- the text of a map that is printed stands for it
+pub map_made : (version : MapVersion) (m : ArenaMap) (status : ℕ) (report : List ℕ) (result : Result Made Stop) → IsLawful m → m.schema.embeds ≡ [] → IsGeneralised (as_map m) → IsPrinted status report (canonical version (listed_of m)) result
+    → IfOk result (λ made. IsMapBytes made.map.items)
+map_made version m status report (Ok made) lawful bare gmap is = subst IsMapBytes (sym is.2) (text_of_arena version m lawful bare gmap)
+map_made version m status report (Err stop) lawful bare gmap is = tt
 
 -- texts that are fitted are printed
 pub fitted_printed : (status : ℕ) (report map : List ℕ) (result : Result Made Stop) → IsFitted status report map result → IsPrinted status report map result

@@ -2,7 +2,7 @@
 use Rattle.std.proofs.Common.{◌≡◌, ℕ, List, [], inl, inr, Some, None, Result, Ok, Err, map, All, ap, subst}
 use Rattle.std.specs.Prelude.{IfSome, IfOk}
 use Rattle.gm_host.specs.Store.{Contents}
-use Rattle.gm_arena.specs.ArenaMap.{ArenaMap}
+use Rattle.gm_mapfile.specs.declared.reading.MapRead.{MapRead}
 use Rattle.gm_model.specs.declared.rule.Book.{Book}
 use Rattle.gm_model.specs.Acceptance.{IsAccepted}
 use Rattle.gm_model.specs.Rules.{rule_of}
@@ -45,28 +45,28 @@ module _ (named : RunNames) (fails : Type 0) (before after : ℕ) where
   abbrev pub CountsMade : Contents → Result Made Stop → Type 0
   CountsMade contents result = IfSome contents (λ files. UnlessNoMemoryToMake result (StopsInTime files named fails before after))
 
-  pub behind_map : (contents : Contents) (later : Type 0) (stop : Stop) → (later → fails) → after ≡ loads_after 1 before → IsFrom {A = ArenaMap} contents TheMap named.map IsReadMap IsBadMap later (Err stop)
+  pub behind_map : (contents : Contents) (later : Type 0) (stop : Stop) → (later → fails) → after ≡ loads_after 1 before → IsFrom {A = MapRead} contents TheMap named.map IsReadMap IsBadMap later (Err stop)
       → CountsMade contents (Err stop)
   behind_map None later stop up once h = tt
   behind_map (Some files) later stop up once h = fails_here files TheMap named.map IsBadMap later fails (StopsInTime files named fails before after) up (λ here. (1, BehindMap here, once)) stop h.0
 
-  pub behind_book : (contents : Contents) (m : ArenaMap) (one later : Type 0) (stop : Stop) → (later → fails) → after ≡ loads_after 2 before → IsFrom contents TheMap named.map IsReadMap IsBadMap one (Ok m)
+  pub behind_book : (contents : Contents) (m : MapRead) (one later : Type 0) (stop : Stop) → (later → fails) → after ≡ loads_after 2 before → IsFrom contents TheMap named.map IsReadMap IsBadMap one (Ok m)
       → IsFrom {A = Book} contents TheBook named.book IsReadBook IsBadBook later (Err stop) → CountsMade contents (Err stop)
   behind_book None m one later stop up twice f h = tt
   behind_book (Some files) m one later stop up twice (bytes, held, read) h =
-      fails_here files TheBook named.book IsBadBook later fails (StopsInTime files named fails before after) up (λ here. (2, BehindBook (known m m.schema []) (bytes, held, read.read) here, twice)) stop h.0
+      fails_here files TheBook named.book IsBadBook later fails (StopsInTime files named fails before after) up (λ here. (2, BehindBook (known m m.schema []) (bytes, held, read.stands) here, twice)) stop h.0
 
-  pub behind_rules : (contents : Contents) (m : ArenaMap) (book : Book) (one two : Type 0) (stop : Stop) → after ≡ loads_after 2 before → IsFrom contents TheMap named.map IsReadMap IsBadMap one (Ok m)
+  pub behind_rules : (contents : Contents) (m : MapRead) (book : Book) (one two : Type 0) (stop : Stop) → after ≡ loads_after 2 before → IsFrom contents TheMap named.map IsReadMap IsBadMap one (Ok m)
       → IsFrom contents TheBook named.book IsReadBook IsBadBook two (Ok book) → IsBadFor TheBook (IsFirstRefused book.schema (map rule_of book.rules)) stop → CountsMade contents (Err stop)
   behind_rules None m book one two stop twice f h bad = tt
   behind_rules (Some files) m book one two stop twice (bytes, held, read) (text, there, is) bad =
-      refused_here files named.book text book fails (StopsInTime files named fails before after) there is (λ here. (2, BehindBook (known m m.schema []) (bytes, held, read.read) here, twice)) stop bad
+      refused_here files named.book text book fails (StopsInTime files named fails before after) there is (λ here. (2, BehindBook (known m m.schema []) (bytes, held, read.stands) here, twice)) stop bad
 
-  pub behind_script : (contents : Contents) (m : ArenaMap) (book : Book) (one two : Type 0) (result : Result Made Stop) → after ≡ loads_after 3 before → IsFrom contents TheMap named.map IsReadMap IsBadMap one (Ok m)
+  pub behind_script : (contents : Contents) (m : MapRead) (book : Book) (one two : Type 0) (result : Result Made Stop) → after ≡ loads_after 3 before → IsFrom contents TheMap named.map IsReadMap IsBadMap one (Ok m)
       → IsFrom contents TheBook named.book IsReadBook IsBadBook two (Ok book) → All (IsAccepted book.schema) (map rule_of book.rules) → CountsMade contents result
   behind_script None m book one two result thrice f h accepted = tt
   behind_script (Some files) m book one two result thrice (bytes, held, read) (text, there, is) accepted =
-      always_made result (StopsInTime files named fails before after) (3, BehindScript (known m book.schema (map rule_of book.rules)) (bytes, held, read.read) (text, book.version, there, is, accepted), thrice)
+      always_made result (StopsInTime files named fails before after) (3, BehindScript (known m book.schema (map rule_of book.rules)) (bytes, held, read.stands) (text, book.version, there, is, accepted), thrice)
 
   -- ---- the reply
 

@@ -6,9 +6,10 @@ use Rattle.gm_model.specs.declared.script.Line.{Line}
 use Rattle.gm_model.specs.Acceptance.{IsAccepted}
 use Rattle.gm_book.specs.BookText.{BookText}
 use Rattle.gm_book.specs.BookText as books
-use Rattle.gm_model.specs.GMap.{Row, AreGMap}
+use Rattle.gm_model.specs.Maps.{IsGeneralised}
 use Rattle.gm_mapfile.specs.MapFaults.{fault_words}
-use Rattle.gm_mapfile.specs.MapText.{MapText, canonical}
+use Rattle.gm_mapfile.specs.MapText.{ListedMap, MapText, map_of, canonical}
+use Rattle.gm_mapfile.specs.declared.version.MapVersion.{MapVersion}
 use Rattle.gm_model.specs.Rules.{Rule}
 use Rattle.gm_book.proofs.OneBook.{one_book}
 use Rattle.gm_mapfile.proofs.OneFault.{one_fault, no_map_at_fault}
@@ -17,11 +18,9 @@ use Rattle.gm_script.specs.ScriptText.{ScriptText}
 use Rattle.gm_tool.specs.Answer.{Role, TheMap, TheBook, Command, role_of, IsBad, BadMap, BadBook, IsOutput, TellsCells, Shown, Printed, Checked, Counted}
 use Rattle.gm_tool.specs.BookFaults.{book_fault_words}
 use Rattle.gm_tool.specs.Checking.{AreLines, check_status, counts_line}
-use Rattle.gm_tool.specs.MapOfRows.{map_of, IsNextOf}
 use Rattle.gm_tool.specs.RunAnswer.{IsFirstRefused, IsBadBook, Unread, RuleRefused, IsBadScript}
 use Rattle.gm_tool.specs.ScriptFaults.{script_fault_words}
 use Rattle.gm_tool.proofs.OneCells.{one_telling}
-use Rattle.gm_tool.proofs.OneRan.{one_next}
 use Rattle.gm_tool.proofs.OneText.{one_book_fault, no_book_at, one_script_fault, no_script_at}
 use Rattle.gm_tool.proofs.OneVerdict.{one_lines, one_refused, none_refused}
 
@@ -31,17 +30,17 @@ pub one_bad : (bytes : List ℕ) (role : Role) (why other : List ℕ) → IsBad 
 one_bad bytes _ _ _ (BadMap fault a) (BadMap other b) = ap fault_words (one_fault bytes fault other a b)
 one_bad bytes _ _ _ (BadBook fault a) (BadBook other b) = ap book_fault_words (one_book_fault bytes fault other a b)
 
-pub no_bad_map : (bytes why : List ℕ) (n : ℕ) (darts : List Row) → IsBad bytes TheMap why → MapText bytes n darts → ⊥
-no_bad_map bytes _ n darts (BadMap fault is) stands = no_map_at_fault bytes fault is n darts stands
+pub no_bad_map : (bytes why : List ℕ) (version : MapVersion) (listed : ListedMap) → IsBad bytes TheMap why → MapText bytes version listed → ⊥
+no_bad_map bytes _ version listed (BadMap fault is) stands = no_map_at_fault bytes fault is version listed stands
 
 no_bad_book : (bytes why : List ℕ) (version : ℕ) (schema : Schema) (rules : List Rule) → IsBad bytes TheBook why → BookText bytes version schema rules → ⊥
 no_bad_book bytes _ version schema rules (BadBook fault is) stands = no_book_at bytes fault is version schema rules stands
 
 pub no_bad_output : (bytes why : List ℕ) (command : Command) (status : ℕ) (text : List ℕ) → IsBad bytes (role_of command) why → IsOutput bytes command status text → ⊥
-no_bad_output bytes why _ _ _ bad (Shown n darts stands) = no_bad_map bytes why n darts bad stands
+no_bad_output bytes why _ _ _ bad (Shown version listed stands) = no_bad_map bytes why version listed bad stands
 no_bad_output bytes why _ _ _ bad (Printed version schema rules stands) = no_bad_book bytes why version schema rules bad stands
 no_bad_output bytes why _ _ _ bad (Checked version schema rules refused lines stands are) = no_bad_book bytes why version schema rules bad stands
-no_bad_output bytes why _ _ _ bad (Counted n darts next _ stands first tells) = no_bad_map bytes why n darts bad stands
+no_bad_output bytes why _ _ _ bad (Counted version listed _ stands tells) = no_bad_map bytes why version listed bad stands
 
 -- ---- and what it puts
 
@@ -54,20 +53,17 @@ same_check schema schema' rules rules' refused refused' lines lines' (schemas, b
       ap₂ (λ (t : List ℕ) (k : ℕ). t ++ counts_line (length rules) k) same.1 same.0 ∙ ap (λ (rs : List Rule). lines' ++ counts_line (length rs) refused') books,
     )
 
-same_cells : (n m : ℕ) (darts others : List Row) (next next' : ℕ) (text text' : List ℕ) → (n ≡ m) × (darts ≡ others) → AreGMap n darts → IsNextOf darts next → IsNextOf others next' → TellsCells (map_of n darts next) text → TellsCells (map_of m others next') text' → text ≡ text'
-same_cells n m darts others next next' text text' (dims, rows) lawful first first' tells tells' =
-    let first_too : IsNextOf darts next' = subst (λ ds. IsNextOf ds next') (sym rows) first' in
-    let there : TellsCells (map_of n darts next') text' = subst (λ k. TellsCells (map_of k darts next') text') (sym dims) (subst (λ ds. TellsCells (map_of m ds next') text') (sym rows) tells') in
-    let here : TellsCells (map_of n darts next) text' = subst (λ k. TellsCells (map_of n darts k) text') (one_next darts next' next first_too first) there in
-    one_telling (map_of n darts next) lawful text text' tells here
+same_cells : (listed other : ListedMap) (text text' : List ℕ) → listed ≡ other → IsGeneralised (map_of listed) → TellsCells (map_of listed) text → TellsCells (map_of other) text' → text ≡ text'
+same_cells listed other text text' same lawful tells tells' = one_telling (map_of listed) lawful text text' tells (subst (λ (l : ListedMap). TellsCells (map_of l) text') (sym same) tells')
 
 pub one_output : (bytes : List ℕ) (command : Command) (status other : ℕ) (text others : List ℕ) → IsOutput bytes command status text → IsOutput bytes command other others → (status ≡ other) × (text ≡ others)
-one_output bytes _ _ _ _ _ (Shown n darts a) (Shown m others b) = let same = one_map bytes n m darts others a b in (refl, ap₂ (λ (k : ℕ) (rows : List Row). canonical k rows) same.0 same.1)
+one_output bytes _ _ _ _ _ (Shown version listed a) (Shown version' listed' b) = let same = one_map bytes version version' listed listed' a b in (refl, ap₂ (λ (v : MapVersion) (l : ListedMap). canonical v l) same.0 same.1)
 one_output bytes _ _ _ _ _ (Printed version schema rules a) (Printed version' schema' rules' b) =
     let same = one_book bytes version version' schema schema' rules rules' a b in (refl, ap₂ (λ (s : Schema) (rs : List Rule). books.canonical version s.dim rs) same.1 same.2 ∙ ap (λ (v : ℕ). books.canonical v schema'.dim rules') same.0)
 one_output bytes _ _ _ _ _ (Checked version schema rules refused lines a are) (Checked version' schema' rules' refused' lines' b are') =
     let same = one_book bytes version version' schema schema' rules rules' a b in same_check schema schema' rules rules' refused refused' lines lines' (same.1, same.2) are are'
-one_output bytes _ _ _ _ _ (Counted n darts next text a first tells) (Counted m others next' text' b first' tells') = (refl, same_cells n m darts others next next' text text' (one_map bytes n m darts others a b) a.lawful first first' tells tells')
+one_output bytes _ _ _ _ _ (Counted version listed text a tells) (Counted version' listed' text' b tells') =
+    (refl, same_cells listed listed' text text' (one_map bytes version version' listed listed' a b).1 a.sound.generalised tells tells')
 
 -- ---- for a run
 

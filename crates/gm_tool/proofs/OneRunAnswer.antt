@@ -16,9 +16,9 @@ use Rattle.gm_tool.proofs.OneRan.{one_ran}
 module _ (files : Files) (named : RunNames) where
   -- ---- the files say what is run
 
-  same_map : (a b : Inputs) → HasMap files named a → HasMap files named b → (a.dim ≡ b.dim) × (a.darts ≡ b.darts)
+  same_map : (a b : Inputs) → HasMap files named a → HasMap files named b → (a.version ≡ b.version) × (a.map ≡ b.map)
   same_map a b (bytes, held, stands) (other, there, stands') =
-      one_map bytes a.dim b.dim a.darts b.darts stands (subst (λ t. MapText t b.dim b.darts) (same_bytes files named.map other bytes there.0 held.0) stands')
+      one_map bytes a.version b.version a.map b.map stands (subst (λ t. MapText t b.version b.map) (same_bytes files named.map other bytes there.0 held.0) stands')
 
   same_book : (a b : Inputs) → HasBook files named a → HasBook files named b → (a.schema ≡ b.schema) × (a.rules ≡ b.rules)
   same_book a b (bytes, version, held, stands, accepted) (other, version', there, stands', accepted') =
@@ -31,14 +31,14 @@ module _ (files : Files) (named : RunNames) where
 
   pub same_inputs : (a b : Inputs) → HasMap files named a → HasMap files named b → HasBook files named a → HasBook files named b → HasScript files named a → HasScript files named b → a ≡ b
   same_inputs a b of_map to_map of_book to_book of_script to_script =
-      let maps : (a.dim ≡ b.dim) × (a.darts ≡ b.darts) = same_map a b of_map to_map in
+      let maps : (a.version ≡ b.version) × (a.map ≡ b.map) = same_map a b of_map to_map in
       let books : (a.schema ≡ b.schema) × (a.rules ≡ b.rules) = same_book a b of_book to_book in
       let lines : a.lines ≡ b.lines = same_script a b books.1 of_script to_script in
-      let dim : a.dim ≡ b.dim = maps.0 in
-      let darts : a.darts ≡ b.darts = maps.1 in
+      let version : a.version ≡ b.version = maps.0 in
+      let listed : a.map ≡ b.map = maps.1 in
       let schema : a.schema ≡ b.schema = books.0 in
       let rules : a.rules ≡ b.rules = books.1 in
-      λ k. record { dim = dim k; darts = darts k; schema = schema k; rules = rules k; lines = lines k }
+      λ k. record { version = version k; map = listed k; schema = schema k; rules = rules k; lines = lines k }
 
   -- ---- one answer where all files are good
 
@@ -65,7 +65,7 @@ module _ (files : Files) (named : RunNames) where
   one_at_end inputs the_map the_book one other (inl (never, e)) (inr (agree, rest)) = absurd (never agree)
   one_at_end inputs the_map the_book one other (inr (agree, rest)) (inl (never, f)) = absurd (never agree)
   one_at_end inputs the_map (bytes, version, held, stands, accepted) one other (inr (agree, (ran, is, made))) (inr (agree', (ran', is', made'))) =
-      let same : ran' ≡ ran = one_ran inputs the_map.2.lawful bytes version stands accepted agree ran' ran is' is in
+      let same : ran' ≡ ran = one_ran inputs the_map.2.sound bytes version stands accepted agree ran' ran is' is in
       one_made inputs ran one other made (subst (λ r. IsMade inputs r other) same made')
 
   -- ---- file by file
@@ -91,7 +91,7 @@ module _ (files : Files) (named : RunNames) where
 
   map_fails_not : (inputs : Inputs) (answer : Answer) → IsFailing files TheMap named.map IsBadMap answer → HasMap files named inputs → ⊥
   map_fails_not inputs answer fails (bytes, held, stands) =
-      no_failing_good files named.map TheMap IsBadMap (λ t. MapText t inputs.dim inputs.darts) (λ t why bad good. no_bad_map t why inputs.dim inputs.darts bad good) answer fails bytes held stands
+      no_failing_good files named.map TheMap IsBadMap (λ t. MapText t inputs.version inputs.map) (λ t why bad good. no_bad_map t why inputs.version inputs.map bad good) answer fails bytes held stands
 
   book_fails_not : (inputs : Inputs) (answer : Answer) → IsFailing files TheBook named.book IsBadBook answer → HasBook files named inputs → ⊥
   book_fails_not inputs answer fails (bytes, version, held, stands, accepted) =

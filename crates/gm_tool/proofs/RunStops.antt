@@ -3,8 +3,8 @@ use Rattle.std.proofs.Common.{◌≡◌, ◌⊎◌, ℕ, ◌≤◌, List, [], in
 use Rattle.std.specs.Prelude.{IfSome}
 use Rattle.gm_host.specs.Count.{Rises}
 use Rattle.gm_host.specs.Store.{Contents, Lacks}
-use Rattle.gm_arena.specs.ArenaMap.{ArenaMap}
-use Rattle.gm_mapfile.specs.Rows.{rows_of}
+use Rattle.gm_mapfile.specs.Rows.{listed_of}
+use Rattle.gm_mapfile.specs.declared.reading.MapRead.{MapRead}
 use Rattle.gm_model.specs.declared.rule.Book.{Book}
 use Rattle.gm_model.specs.declared.schema.Schema.{Schema}
 use Rattle.gm_model.specs.declared.script.Script.{Script}
@@ -62,60 +62,60 @@ module _ (named : RunNames) (load_fails : ℕ → Type 0) where
   rule_stop files inputs the_map bytes book held read (stops.NoText (nothing.Refused why)) h = absurd h
 
 -- the inputs, as far as they are known
-abbrev pub known : ArenaMap → Schema → List Rule → Inputs
-known m schema rules = record { dim = m.schema.dim; darts = rows_of m; schema = schema; rules = rules; lines = [] }
+abbrev pub known : MapRead → Schema → List Rule → Inputs
+known m schema rules = record { version = m.version; map = listed_of m.arena; schema = schema; rules = rules; lines = [] }
 
 -- ---- the exits of a run, wherever the store tells
 
 module _ (named : RunNames) (load_fails : ℕ → Type 0) where
-  pub at_map : (contents : Contents) (later : Type 0) (stop : Stop) → (later → load_fails 1) → IsFrom {A = ArenaMap} contents TheMap named.map IsReadMap IsBadMap later (Err stop) → IfSome contents (λ files. IsMade files named load_fails (Err stop))
+  pub at_map : (contents : Contents) (later : Type 0) (stop : Stop) → (later → load_fails 1) → IsFrom {A = MapRead} contents TheMap named.map IsReadMap IsBadMap later (Err stop) → IfSome contents (λ files. IsMade files named load_fails (Err stop))
   at_map None later stop up h = tt
   at_map (Some files) later stop up h = map_stop named load_fails files later up stop h.0
 
-  pub at_book : (contents : Contents) (m : ArenaMap) (one later : Type 0) (stop : Stop) → (later → load_fails 2) → IsFrom contents TheMap named.map IsReadMap IsBadMap one (Ok m)
+  pub at_book : (contents : Contents) (m : MapRead) (one later : Type 0) (stop : Stop) → (later → load_fails 2) → IsFrom contents TheMap named.map IsReadMap IsBadMap one (Ok m)
       → IsFrom {A = Book} contents TheBook named.book IsReadBook IsBadBook later (Err stop) → IfSome contents (λ files. IsMade files named load_fails (Err stop))
   at_book None m one later stop up f h = tt
-  at_book (Some files) m one later stop up (bytes, held, read) h = book_stop named load_fails files (known m m.schema []) (bytes, held, read.read) later up stop h.0
+  at_book (Some files) m one later stop up (bytes, held, read) h = book_stop named load_fails files (known m m.arena.schema []) (bytes, held, read.stands) later up stop h.0
 
-  pub at_rules : (contents : Contents) (m : ArenaMap) (book : Book) (one two : Type 0) (stop : Stop) → IsFrom contents TheMap named.map IsReadMap IsBadMap one (Ok m) → IsFrom contents TheBook named.book IsReadBook IsBadBook two (Ok book)
+  pub at_rules : (contents : Contents) (m : MapRead) (book : Book) (one two : Type 0) (stop : Stop) → IsFrom contents TheMap named.map IsReadMap IsBadMap one (Ok m) → IsFrom contents TheBook named.book IsReadBook IsBadBook two (Ok book)
       → IsBadFor TheBook (IsFirstRefused book.schema (map rule_of book.rules)) stop → IfSome contents (λ files. IsMade files named load_fails (Err stop))
   at_rules None m book one two stop h g bad = tt
-  at_rules (Some files) m book one two stop (bytes, held, read) (text, there, is) bad = rule_stop named load_fails files (known m m.schema []) (bytes, held, read.read) text book there is stop bad
+  at_rules (Some files) m book one two stop (bytes, held, read) (text, there, is) bad = rule_stop named load_fails files (known m m.arena.schema []) (bytes, held, read.stands) text book there is stop bad
 
-  pub at_script : (contents : Contents) (m : ArenaMap) (book : Book) (one two later : Type 0) (stop : Stop) → (later → load_fails 3) → IsFrom contents TheMap named.map IsReadMap IsBadMap one (Ok m)
+  pub at_script : (contents : Contents) (m : MapRead) (book : Book) (one two later : Type 0) (stop : Stop) → (later → load_fails 3) → IsFrom contents TheMap named.map IsReadMap IsBadMap one (Ok m)
       → IsFrom contents TheBook named.book IsReadBook IsBadBook two (Ok book) → All (IsAccepted book.schema) (map rule_of book.rules)
       → IsFrom {A = Script} contents TheScript named.script (IsReadScript (map rule_of book.rules)) (IsBadScript (map rule_of book.rules)) later (Err stop) → IfSome contents (λ files. IsMade files named load_fails (Err stop))
   at_script None m book one two later stop up f g accepted h = tt
   at_script (Some files) m book one two later stop up (bytes, held, read) (text, there, is) accepted h =
-      script_stop named load_fails files (known m book.schema (map rule_of book.rules)) (bytes, held, read.read) (text, book.version, there, is, accepted) later up stop h.0
+      script_stop named load_fails files (known m book.schema (map rule_of book.rules)) (bytes, held, read.stands) (text, book.version, there, is, accepted) later up stop h.0
 
   -- all three files are read
-  module _ (contents : Contents) (m : ArenaMap) (book : Book) (script : Script) (one two three : Type 0) (the_map : IsFrom contents TheMap named.map IsReadMap IsBadMap one (Ok m))
+  module _ (contents : Contents) (m : MapRead) (book : Book) (script : Script) (one two three : Type 0) (the_map : IsFrom contents TheMap named.map IsReadMap IsBadMap one (Ok m))
       (the_book : IsFrom contents TheBook named.book IsReadBook IsBadBook two (Ok book)) (accepted : All (IsAccepted book.schema) (map rule_of book.rules))
       (the_script : IsFrom contents TheScript named.script (IsReadScript (map rule_of book.rules)) (IsBadScript (map rule_of book.rules)) three (Ok script)) where
-    pub at_agreement : (Agree (inputs_of m book script) → ⊥) → IfSome contents (λ files. IsMade files named load_fails (Err (stops.NoText (nothing.Refused refusals.Agree))))
+    pub at_agreement : (Agree (inputs_of m.version m.arena book script) → ⊥) → IfSome contents (λ files. IsMade files named load_fails (Err (stops.NoText (nothing.Refused refusals.Agree))))
     at_agreement no_agreement = go contents the_map the_book the_script
       where
         go : (c : Contents) → IsFrom c TheMap named.map IsReadMap IsBadMap one (Ok m) → IsFrom c TheBook named.book IsReadBook IsBadBook two (Ok book)
             → IsFrom c TheScript named.script (IsReadScript (map rule_of book.rules)) (IsBadScript (map rule_of book.rules)) three (Ok script) → IfSome c (λ files. IsMade files named load_fails (Err (stops.NoText (nothing.Refused refusals.Agree))))
         go None f g h = tt
-        go (Some files) (bytes, held, read) (text, there, is) h = inl (Disagree (inputs_of m book script) (bytes, held, read.read) (text, book.version, there, is, accepted) h no_agreement refl)
+        go (Some files) (bytes, held, read) (text, there, is) h = inl (Disagree (inputs_of m.version m.arena book script) (bytes, held, read.stands) (text, book.version, there, is, accepted) h no_agreement refl)
 
-    pub at_end : Agree (inputs_of m book script) → (result : Result Made Stop) → IsRunOf (inputs_of m book script) result → IfSome contents (λ files. IsMade files named load_fails result)
+    pub at_end : Agree (inputs_of m.version m.arena book script) → (result : Result Made Stop) → IsRunOf (inputs_of m.version m.arena book script) result → IfSome contents (λ files. IsMade files named load_fails result)
     at_end agree result made = go contents the_map the_book the_script
       where
-        run : (files : Files) → HasMap files named (inputs_of m book script) → HasBook files named (inputs_of m book script) → HasScript files named (inputs_of m book script) → (r : Result Made Stop) → IsRunOf (inputs_of m book script) r → IsMade files named load_fails r
-        run files a b c (Ok value) (ran, is, fits) = (inputs_of m book script, ran, record { the_map = a; the_book = b; the_script = c; agree = agree; is_ran = is }, fits)
+        run : (files : Files) → HasMap files named (inputs_of m.version m.arena book script) → HasBook files named (inputs_of m.version m.arena book script) → HasScript files named (inputs_of m.version m.arena book script) → (r : Result Made Stop) → IsRunOf (inputs_of m.version m.arena book script) r → IsMade files named load_fails r
+        run files a b c (Ok value) (ran, is, fits) = (inputs_of m.version m.arena book script, ran, record { the_map = a; the_book = b; the_script = c; agree = agree; is_ran = is }, fits)
         run files a b c (Err (stops.NoText nothing.OutOfMemory)) h = tt
         run files a b c (Err (stops.NoText (nothing.Refused why))) (ran, is, (e, long)) =
             let same : why ≡ refusals.SizeOutput = cc in
-            inl (LongOutput (inputs_of m book script) ran (record { the_map = a; the_book = b; the_script = c; agree = agree; is_ran = is }) long (ap refusal_answer same))
+            inl (LongOutput (inputs_of m.version m.arena book script) ran (record { the_map = a; the_book = b; the_script = c; agree = agree; is_ran = is }) long (ap refusal_answer same))
         run files a b c (Err (stops.Bad line)) (ran, is, (e, long)) = absurd cc
 
         go : (c : Contents) → IsFrom c TheMap named.map IsReadMap IsBadMap one (Ok m) → IsFrom c TheBook named.book IsReadBook IsBadBook two (Ok book)
             → IsFrom c TheScript named.script (IsReadScript (map rule_of book.rules)) (IsBadScript (map rule_of book.rules)) three (Ok script) → IfSome c (λ files. IsMade files named load_fails result)
         go None f g h = tt
-        go (Some files) (bytes, held, read) (text, there, is) h = run files (bytes, held, read.read) (text, book.version, there, is, accepted) h result made
+        go (Some files) (bytes, held, read) (text, there, is) h = run files (bytes, held, read.stands) (text, book.version, there, is, accepted) h result made
 
 -- ---- causes
 

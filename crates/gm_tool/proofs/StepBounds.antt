@@ -14,14 +14,15 @@ use Rattle.gm_arena.specs.ArenaMap.{ArenaMap}
 use Rattle.gm_arena.specs.Lawful.{IsLawful}
 use Rattle.gm_host.specs.Store.{Contents, IsHeld}
 use Rattle.gm_mapfile.proofs.Printed.{length_rows}
-use Rattle.gm_mapfile.specs.Rows.{rows_of}
+use Rattle.gm_mapfile.specs.declared.reading.MapRead.{MapRead}
 use Rattle.gm_model.specs.declared.rule.Book.{Book}
 use Rattle.gm_model.specs.declared.schema.Schema.{Schema}
 use Rattle.gm_model.specs.declared.script.Script.{Script}
 use Rattle.gm_model.specs.Acceptance.{IsAccepted}
-use Rattle.gm_model.specs.GMap.{Row, row_of}
 use Rattle.gm_model.specs.Maps.{Map, IsDart}
-use Rattle.gm_mapfile.specs.MapText.{MapText, names}
+use Rattle.gm_mapfile.specs.MapText.{DartRow, ListedMap, MapText, map_of, names, rows_of, dart_of}
+use Rattle.gm_mapfile.specs.declared.version.MapVersion.{MapVersion}
+use Rattle.gm_model.specs.GMap.{row_of}
 use Rattle.gm_model.specs.Orbits.{HasCount}
 use Rattle.gm_model.specs.Rules.{rule_of}
 use Rattle.gm_model.specs.Runs.{Outcome, IsRun, IsRunBudget, changed_darts}
@@ -31,18 +32,16 @@ use Rattle.gm_run.specs.Progress.{rules_of}
 use Rattle.gm_theory.proofs.ValuesUnique.{one_count}
 use Rattle.gm_tool.specs.Answer.{Files, TheMap, TheBook, TheScript}
 use Rattle.gm_tool.specs.MadeRuns.{CanRun, inputs_of}
-use Rattle.gm_tool.specs.MapOfRows.{IsNextOf, map_of}
 use Rattle.gm_tool.specs.RunAnswer.{RunNames, Inputs, Ran, IsRan, IsGoodRun, HasMap, HasBook, HasScript, IsBadMap, IsBadBook, IsBadScript}
-use Rattle.gm_tool.specs.StepBounds.{HasBudget, IsMost, MostOf, IsLeast, LeastOf, WithinMost, AtLeast, ReadsWithin, RunsWithin, RunsAtLeast, reading, printing}
+use Rattle.gm_tool.specs.StepBounds.{HasBudget, IsMost, MostOf, IsLeast, LeastOf, WithinMost, AtLeast, BytesReadWithin, ReadsWithin, RunsWithin, RunsAtLeast, dim_of, darts_read, darts_left, printing}
 use Rattle.gm_tool.specs.Stops.{IsReadMap, IsReadBook, IsReadScript, IsFrom}
-use Rattle.gm_tool.proofs.ArenaMaps.{as_rows, next_of}
+use Rattle.gm_tool.proofs.ArenaMaps.{as_listed}
 use Rattle.gm_tool.proofs.Lines.{same_rules}
-use Rattle.gm_tool.proofs.OneRan.{one_next}
 use Rattle.gm_tool.proofs.OneRunAnswer.{same_inputs}
 
 -- ---- how many darts rows have
 
-row_named : (rows : List Row) (d : ℕ) → Contains (names rows) d → is_some (row_of rows d) ≡ true
+row_named : (rows : List DartRow) (d : ℕ) → Contains (names rows) d → is_some (row_of (rows_of rows) d) ≡ true
 row_named [] d (k, within, is) = absurd (omega arith)
 row_named (row ∷ rows) d (zero, within, is) = let here : eqb row.name d ≡ true = eq-eqb row.name d is in rw here refl
 row_named (row ∷ rows) d (suc k, within, is) =
@@ -52,68 +51,67 @@ row_named (row ∷ rows) d (suc k, within, is) =
       | inr other ↦ rw other rest
     ]
 
-name_held : (rows : List Row) (d : ℕ) → is_some (row_of rows d) ≡ true → Contains (names rows) d
+name_held : (rows : List DartRow) (d : ℕ) → is_some (row_of (rows_of rows) d) ≡ true → Contains (names rows) d
 name_held [] d live = absurd cc
 name_held (row ∷ rows) d live =
     elim (cases_Bool (eqb row.name d)) [
       | inl here ↦ (0, omega arith, eqb-true row.name d here)
-      | inr other ↦ let rest : is_some (row_of rows d) ≡ true = rw other at live in let at = name_held rows d rest in let within : suc at.0 < suc (length (names rows)) = omega (arith, at.1) in (suc at.0, within, at.2)
+      | inr other ↦ let rest : is_some (row_of (rows_of rows) d) ≡ true = rw other at live in let at = name_held rows d rest in let within : suc at.0 < suc (length (names rows)) = omega (arith, at.1) in (suc at.0, within, at.2)
     ]
 
 -- rows in ascending order are as many darts
-rows_counted : (rows : List Row) → IsStrictlyIncreasing (names rows) → HasCount (λ d. is_some (row_of rows d) ≡ true) (length rows)
-rows_counted rows up = (names rows, record { distinct = distinct; same = λ d. (row_named rows d, name_held rows d) }, length-map rows (λ (row : Row). row.name))
+rows_counted : (rows : List DartRow) → IsStrictlyIncreasing (names rows) → HasCount (λ d. is_some (row_of (rows_of rows) d) ≡ true) (length rows)
+rows_counted rows up = (names rows, record { distinct = distinct; same = λ d. (row_named rows d, name_held rows d) }, length-map rows (λ (row : DartRow). row.name))
   where
     distinct : (p q : ℕ) → p < q → q < length (names rows) → slice_index (names rows) p ≡ slice_index (names rows) q → ⊥
     distinct p q before within e = let l = AllPairs-from_increasing (names rows) up p q 0 before within in omega (arith, l, e)
 
 -- ---- what was read is what a good run is of
 
-module _ (files : Files) (named : RunNames) (m : ArenaMap) (book : Book) (script : Script) (the_map : HasMap files named (inputs_of m book script)) (the_book : HasBook files named (inputs_of m book script))
-    (the_script : HasScript files named (inputs_of m book script)) where
-  of_read : (inputs : Inputs) (ran : Ran) → IsGoodRun files named inputs ran → inputs ≡ inputs_of m book script
-  of_read inputs ran good = same_inputs files named inputs (inputs_of m book script) good.the_map the_map good.the_book the_book good.the_script the_script
+module _ (files : Files) (named : RunNames) (version : MapVersion) (m : ArenaMap) (book : Book) (script : Script) (the_map : HasMap files named (inputs_of version m book script)) (the_book : HasBook files named (inputs_of version m book script))
+    (the_script : HasScript files named (inputs_of version m book script)) where
+  of_read : (inputs : Inputs) (ran : Ran) → IsGoodRun files named inputs ran → inputs ≡ inputs_of version m book script
+  of_read inputs ran good = same_inputs files named inputs (inputs_of version m book script) good.the_map the_map good.the_book the_book good.the_script the_script
 
 -- ---- the lines
 
-module _ (m after : ArenaMap) (book : Book) (script : Script) (plans : List PlanOf) (can : CanRun m book script plans) (lawful : IsLawful m) where
-  -- a run of the inputs is one of the map in the arena
-  in_arena : (ran : Ran) (first : ℕ) → IsNextOf (rows_of m) first → map_of m.schema.dim (rows_of m) first ≡ as_map m
-  in_arena ran first is = ap (map_of m.schema.dim (rows_of m)) (one_next (rows_of m) first m.next is (next_of m can.next)) ∙ sym (as_rows m lawful can.bare)
+module _ (version : MapVersion) (m after : ArenaMap) (book : Book) (script : Script) (plans : List PlanOf) (can : CanRun m book script plans) (lawful : IsLawful m) where
+  abbrev inputs : Inputs
+  inputs = inputs_of version m book script
 
   pub lines_within : (start steps : ℕ)
       → ((outcomes : List Outcome) (end : Map) (most : ℕ) → IsRunBudget (rules_of plans) (as_map m) script.lines outcomes end most → steps ≤ start + most)
-      → (ran : Ran) (sum : ℕ) → HasBudget (inputs_of m book script) ran sum → steps ≤ start + sum
+      → (ran : Ran) (sum : ℕ) → HasBudget inputs ran sum → steps ≤ start + sum
   lines_within start steps within ran sum budget =
-      within ran.outcomes (map_of m.schema.dim ran.darts ran.next) sum
-      (subst (λ rules. IsRunBudget rules (as_map m) script.lines ran.outcomes (map_of m.schema.dim ran.darts ran.next) sum) (sym (same_rules m book script plans can))
-      (subst (λ x. IsRunBudget (map rule_of book.rules) x script.lines ran.outcomes (map_of m.schema.dim ran.darts ran.next) sum) (in_arena ran budget.first budget.first_is) budget.budget))
+      within ran.outcomes (map_of ran.map) sum
+      (subst (λ rules. IsRunBudget rules (as_map m) script.lines ran.outcomes (map_of ran.map) sum) (sym (same_rules m book script plans can))
+      (subst (λ x. IsRunBudget (map rule_of book.rules) x script.lines ran.outcomes (map_of ran.map) sum) (sym (as_listed m)) budget))
 
   module _ (lawful_after : IsLawful after) (outcomes : List Outcome)
       (only : (others : List Outcome) (end : Map) → IsRun (rules_of plans) (as_map m) script.lines others end → (others ≡ outcomes) × AreAlike end (as_map after)) where
-    of_ran : (ran : Ran) → IsRan (inputs_of m book script) ran → (ran.outcomes ≡ outcomes) × AreAlike (map_of m.schema.dim ran.darts ran.next) (as_map after)
+    of_ran : (ran : Ran) → IsRan inputs ran → (ran.outcomes ≡ outcomes) × AreAlike (map_of ran.map) (as_map after)
     of_ran ran is =
-        only ran.outcomes (map_of m.schema.dim ran.darts ran.next)
-        (subst (λ rules. IsRun rules (as_map m) script.lines ran.outcomes (map_of m.schema.dim ran.darts ran.next)) (sym (same_rules m book script plans can))
-        (subst (λ x. IsRun (map rule_of book.rules) x script.lines ran.outcomes (map_of m.schema.dim ran.darts ran.next)) (in_arena ran is.first is.first_is) is.run))
+        only ran.outcomes (map_of ran.map)
+        (subst (λ rules. IsRun rules (as_map m) script.lines ran.outcomes (map_of ran.map)) (sym (same_rules m book script plans can))
+        (subst (λ x. IsRun (map rule_of book.rules) x script.lines ran.outcomes (map_of ran.map)) (sym (as_listed m)) is.run))
 
     -- the map that is left has as many darts
-    left_counted : (ran : Ran) → IsRan (inputs_of m book script) ran → length ran.darts ≡ after.count
+    left_counted : (ran : Ran) → IsRan inputs ran → darts_left ran ≡ after.count
     left_counted ran is =
         let darts = (of_ran ran is).1.same.darts in
-        let own = rows_counted ran.darts is.ascending in
-        one_count (IsDart (as_map after)) (length ran.darts) after.count
+        let own = rows_counted ran.map.darts is.ascending in
+        one_count (IsDart (as_map after)) (darts_left ran) after.count
         (own.0, record { distinct = own.1.distinct; same = λ d. (λ c. (darts d).0 ((own.1.same d).0 c), λ live. (own.1.same d).1 ((darts d).1 live)) }, own.2) (darts_counted after lawful_after)
 
     pub printed_within : (start middle steps : ℕ) → ((others : List Outcome) (end : Map) (most : ℕ) → IsRunBudget (rules_of plans) (as_map m) script.lines others end most → middle ≤ start + most)
-        → after.schema ≡ m.schema → steps ≤ middle + printing after.schema.dim after.count → RunsWithin (inputs_of m book script) start steps
+        → after.schema ≡ m.schema → steps ≤ middle + printing after.schema.dim after.count → RunsWithin inputs start steps
     printed_within start middle steps within same printed ran sum is budget =
         let first = lines_within start middle within ran sum budget in
         let dims = ap (λ (schema : Schema). schema.dim) same in
-        let last : steps ≤ middle + printing m.schema.dim (length ran.darts) = rw (left_counted ran is) (subst (λ n. steps ≤ middle + printing n after.count) dims printed) in
+        let last : steps ≤ middle + printing m.schema.dim (darts_left ran) = rw (left_counted ran is) (subst (λ n. steps ≤ middle + printing n after.count) dims printed) in
         omega (arith, first, last)
 
-    pub printed_least : (start middle steps : ℕ) → start + changed_darts outcomes ≤ middle → middle + after.count ≤ steps → RunsAtLeast (inputs_of m book script) start steps
+    pub printed_least : (start middle steps : ℕ) → start + changed_darts outcomes ≤ middle → middle + after.count ≤ steps → RunsAtLeast inputs start steps
     printed_least start middle steps ran_least printed ran is =
         let changed = ap changed_darts (of_ran ran is).0 in
         let count = left_counted ran is in
@@ -121,7 +119,7 @@ module _ (m after : ArenaMap) (book : Book) (script : Script) (plans : List Plan
 
   -- a run that stops for want of memory prints nothing
   pub unprinted_within : (start steps : ℕ) → ((others : List Outcome) (end : Map) (most : ℕ) → IsRunBudget (rules_of plans) (as_map m) script.lines others end most → steps ≤ start + most)
-      → RunsWithin (inputs_of m book script) start steps
+      → RunsWithin inputs start steps
   unprinted_within start steps within ran sum is budget = let first = lines_within start steps within ran sum budget in omega (arith, first)
 
 -- ---- the files
@@ -143,16 +141,16 @@ handled s darts left sum start read after h k =
     omega (arith, h, k, low, high, one, two, three)
 
 -- what was loaded is what is read
-pub loaded_within : (contents : Contents) (name bytes : List ℕ) (before after : ℕ) → IsHeld contents name bytes → ((n : ℕ) (darts : List Row) → MapText bytes n darts → after ≤ before + reading n (length darts)) → ReadsWithin contents name before after
+pub loaded_within : (contents : Contents) (name bytes : List ℕ) (before after : ℕ) → IsHeld contents name bytes → BytesReadWithin bytes before after → ReadsWithin contents name before after
 loaded_within None name bytes before after held within = tt
-loaded_within (Some files) name bytes before after held within = λ other n darts there stands.
+loaded_within (Some files) name bytes before after held within = λ other there.
     let same : Some other ≡ Some bytes = sym there.0 ∙ held in
     let bytes_same : other ≡ bytes = cc same in
-    within n darts (subst (λ b. MapText b n darts) bytes_same stands)
+    subst (λ b. BytesReadWithin b before after) (sym bytes_same) within
 
 pub unread_within : (contents : Contents) (name : List ℕ) (before after : ℕ) → after ≡ before → ReadsWithin contents name before after
 unread_within None name before after same = tt
-unread_within (Some files) name before after same = λ other n darts there stands. omega (arith, same)
+unread_within (Some files) name before after same = λ other there version listed stands. omega (arith, same)
 
 module _ (named : RunNames) where
   -- a run that stops before its lines takes no more than reading its map
@@ -162,39 +160,42 @@ module _ (named : RunNames) where
     where
       each : (most : ℕ) → IsMost files named most → last ≤ before + most
       each _ (MostOf inputs ran sum good budget) =
-          let read = within good.the_map.0 inputs.dim inputs.darts good.the_map.1 good.the_map.2 in
-          reading_below ((inputs.dim + 1) * (inputs.dim + 1)) (length inputs.darts) (length ran.darts) sum before last (omega (arith, same, read))
+          let read = within good.the_map.0 good.the_map.1 inputs.version inputs.map good.the_map.2 in
+          reading_below ((dim_of inputs + 1) * (dim_of inputs + 1)) (darts_read inputs) (darts_left ran) sum before last (omega (arith, same, read))
 
-  module _ (m : ArenaMap) (book : Book) (script : Script) (one two three : Type 0) (accepted : All (IsAccepted book.schema) (map rule_of book.rules)) where
+  module _ (read : MapRead) (book : Book) (script : Script) (one two three : Type 0) (accepted : All (IsAccepted book.schema) (map rule_of book.rules)) where
+    abbrev inputs : Inputs
+    inputs = inputs_of read.version read.arena book script
+
     -- the files are those that were read
     abbrev pub AreRead : Contents → Type 0
-    AreRead contents = IfSome contents (λ files. HasMap files named (inputs_of m book script) × HasBook files named (inputs_of m book script) × HasScript files named (inputs_of m book script))
+    AreRead contents = IfSome contents (λ files. HasMap files named inputs × HasBook files named inputs × HasScript files named inputs)
 
-    pub are_read : (contents : Contents) → IsFrom contents TheMap named.map IsReadMap IsBadMap one (Ok m) → IsFrom contents TheBook named.book IsReadBook IsBadBook two (Ok book)
+    pub are_read : (contents : Contents) → IsFrom contents TheMap named.map IsReadMap IsBadMap one (Ok read) → IsFrom contents TheBook named.book IsReadBook IsBadBook two (Ok book)
         → IsFrom contents TheScript named.script (IsReadScript (map rule_of book.rules)) (IsBadScript (map rule_of book.rules)) three (Ok script) → AreRead contents
     are_read None a b c = tt
-    are_read (Some files) (bytes, held, is) (text, there, book_is) script_read = ((bytes, held, is.read), (text, book.version, there, book_is, accepted), script_read)
+    are_read (Some files) (bytes, held, is) (text, there, book_is) script_read = ((bytes, held, is.stands), (text, book.version, there, book_is, accepted), script_read)
 
-    pub ended_within : (contents : Contents) (start read after : ℕ) → AreRead contents → ReadsWithin contents named.map start read → RunsWithin (inputs_of m book script) read after → IfSome contents (λ files. WithinMost files named start after)
-    ended_within None start read after are reads runs = tt
-    ended_within (Some files) start read after (the_map, the_book, the_script) reads runs = each
+    pub ended_within : (contents : Contents) (start middle after : ℕ) → AreRead contents → ReadsWithin contents named.map start middle → RunsWithin inputs middle after → IfSome contents (λ files. WithinMost files named start after)
+    ended_within None start middle after are reads runs = tt
+    ended_within (Some files) start middle after (the_map, the_book, the_script) reads runs = each
       where
         each : (most : ℕ) → IsMost files named most → after ≤ start + most
-        each _ (MostOf inputs ran sum good budget) =
-            let same = of_read files named m book script the_map the_book the_script inputs ran good in
-            let low = reads good.the_map.0 inputs.dim inputs.darts good.the_map.1 good.the_map.2 in
-            let high : after ≤ read + sum + printing inputs.dim (length ran.darts) = subst (λ x. RunsWithin x read after) (sym same) runs ran sum good.is_ran budget in
-            handled ((inputs.dim + 1) * (inputs.dim + 1)) (length inputs.darts) (length ran.darts) sum start read after low high
+        each _ (MostOf others ran sum good budget) =
+            let same = of_read files named read.version read.arena book script the_map the_book the_script others ran good in
+            let low = reads good.the_map.0 good.the_map.1 others.version others.map good.the_map.2 in
+            let high : after ≤ middle + sum + printing (dim_of others) (darts_left ran) = subst (λ x. RunsWithin x middle after) (sym same) runs ran sum good.is_ran budget in
+            handled ((dim_of others + 1) * (dim_of others + 1)) (darts_read others) (darts_left ran) sum start middle after low high
 
-    pub ended_least : (contents : Contents) (start read after : ℕ) → IsLawful m → AreRead contents → start + m.count ≤ read → RunsAtLeast (inputs_of m book script) read after → IfSome contents (λ files. AtLeast files named start after)
-    ended_least None start read after lawful are reads runs = tt
-    ended_least (Some files) start read after lawful (the_map, the_book, the_script) reads runs = each
+    pub ended_least : (contents : Contents) (start middle after : ℕ) → IsLawful read.arena → AreRead contents → start + read.arena.count ≤ middle → RunsAtLeast inputs middle after → IfSome contents (λ files. AtLeast files named start after)
+    ended_least None start middle after lawful are reads runs = tt
+    ended_least (Some files) start middle after lawful (the_map, the_book, the_script) reads runs = each
       where
         each : (least : ℕ) → IsLeast files named least → start + least ≤ after
-        each _ (LeastOf inputs ran good) =
-            let same = of_read files named m book script the_map the_book the_script inputs ran good in
-            let low = subst (λ x. RunsAtLeast x read after) (sym same) runs ran good.is_ran in
-            let count = ap (λ (x : Inputs). length x.darts) same ∙ length_rows m lawful in
+        each _ (LeastOf others ran good) =
+            let same = of_read files named read.version read.arena book script the_map the_book the_script others ran good in
+            let low = subst (λ x. RunsAtLeast x middle after) (sym same) runs ran good.is_ran in
+            let count = ap darts_read same ∙ length_rows read.arena lawful in
             omega (arith, low, reads, count)
 
 pub if_done : {A E P Q : Type 0} → (P → Q) → (result : Result A E) → IfOk result (λ _. P) → IfOk result (λ _. Q)

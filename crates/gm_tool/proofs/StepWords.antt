@@ -2,19 +2,18 @@
 use Rattle.std.proofs.Common.{◌≡◌, ℕ, ◌+◌, ◌*◌, ◌≤◌, List, inl, inr, Some, None, Result, Ok, Err, length, sym, ap, subst, ◌∙◌, arith}
 use Rattle.std.specs.Prelude.{IfOk, IfSome}
 use Rattle.std.proofs.Math.Nat.{mul_assoc}
-use Rattle.gm_arena.specs.ArenaMap.{ArenaMap}
 use Rattle.gm_arena.specs.Lawful.{IsLawful}
 use Rattle.gm_host.specs.Store.{Contents, IsHeld}
 use Rattle.gm_mapfile.proofs.OneMap.{one_map}
 use Rattle.gm_mapfile.proofs.Printed.{length_rows}
-use Rattle.gm_mapfile.specs.MapText.{MapText}
-use Rattle.gm_mapfile.specs.Rows.{rows_of}
-use Rattle.gm_model.specs.GMap.{Row}
+use Rattle.gm_mapfile.specs.MapText.{ListedMap, MapText}
+use Rattle.gm_mapfile.specs.Rows.{listed_of}
+use Rattle.gm_mapfile.specs.declared.reading.MapRead.{MapRead}
 use Rattle.gm_tool.specs.Answer.{Asks}
 use Rattle.gm_tool.specs.Answer as answer
 use Rattle.gm_tool.specs.MadeRuns.{IsRunStatus}
 use Rattle.gm_tool.specs.RunAnswer.{RunNames, AsksRun}
-use Rattle.gm_tool.specs.StepBounds.{WithinMost, AtLeast, StaysWithin, TakesLeast, ShowsWithin, FileShowsWithin, ShowStaysWithin, reading, printing}
+use Rattle.gm_tool.specs.StepBounds.{WithinMost, AtLeast, StaysWithin, TakesLeast, ShowsWithin, FileShowsWithin, ShowStaysWithin, BytesReadWithin, printing}
 use Rattle.gm_tool.specs.declared.refusal.NoText.{NoText}
 use Rattle.gm_tool.specs.declared.reply.Reply.{Reply}
 use Rattle.gm_tool.proofs.Asking.{same_named}
@@ -58,20 +57,21 @@ module _ (words : List (List ℕ)) (none : (named : RunNames) → AsksRun words 
 
 -- ---- a map that is shown
 
-pub reads_shown : (bytes : List ℕ) (before after : ℕ) → ((n : ℕ) (darts : List Row) → MapText bytes n darts → after ≤ before + reading n (length darts)) → ShowsWithin bytes before after
-reads_shown bytes before after reads n darts stands = read_below ((n + 1) * (n + 1)) (length darts) before after (reads n darts stands)
+pub reads_shown : (bytes : List ℕ) (before after : ℕ) → BytesReadWithin bytes before after → ShowsWithin bytes before after
+reads_shown bytes before after reads version listed stands = read_below ((listed.schema.dim + 1) * (listed.schema.dim + 1)) (length listed.darts) before after (reads version listed stands)
 
-pub prints_shown : (bytes : List ℕ) (m : ArenaMap) (before middle after : ℕ) → IsLawful m → MapText bytes m.schema.dim (rows_of m)
-    → ((n : ℕ) (darts : List Row) → MapText bytes n darts → middle ≤ before + reading n (length darts)) → after ≤ middle + printing m.schema.dim m.count → ShowsWithin bytes before after
-prints_shown bytes m before middle after lawful is reads prints n darts stands =
-    let both : (m.schema.dim ≡ n) × (rows_of m ≡ darts) = one_map bytes m.schema.dim n (rows_of m) darts is stands in
-    let count : m.count ≡ length darts = sym (length_rows m lawful) ∙ ap length both.1 in
-    let printed : after ≤ middle + printing n (length darts) = subst (λ k. after ≤ middle + printing k (length darts)) both.0 (subst (λ k. after ≤ middle + printing m.schema.dim k) count prints) in
-    printed_below ((n + 1) * (n + 1)) (length darts) before middle after (reads n darts stands) printed
+pub prints_shown : (bytes : List ℕ) (read : MapRead) (before middle after : ℕ) → IsLawful read.arena → MapText bytes read.version (listed_of read.arena)
+    → BytesReadWithin bytes before middle → after ≤ middle + printing read.arena.schema.dim read.arena.count → ShowsWithin bytes before after
+prints_shown bytes read before middle after lawful is reads prints version listed stands =
+    let same : listed_of read.arena ≡ listed = (one_map bytes read.version version (listed_of read.arena) listed is stands).1 in
+    let count : read.arena.count ≡ length (listed_of read.arena).darts = sym (length_rows read.arena lawful) in
+    let printed : after ≤ middle + printing listed.schema.dim (length listed.darts) =
+    subst (λ (l : ListedMap). after ≤ middle + printing l.schema.dim (length l.darts)) same (subst (λ k. after ≤ middle + printing read.arena.schema.dim k) count prints) in
+    printed_below ((listed.schema.dim + 1) * (listed.schema.dim + 1)) (length listed.darts) before middle after (reads version listed stands) printed
 
 pub unloaded_shown : (contents : Contents) (name : List ℕ) (steps : ℕ) → FileShowsWithin contents name steps steps
 unloaded_shown None name steps = tt
-unloaded_shown (Some files) name steps = λ bytes held n darts stands. omega arith
+unloaded_shown (Some files) name steps = λ bytes held version listed stands. omega arith
 
 pub loaded_shown : (contents : Contents) (name bytes : List ℕ) (before after : ℕ) → IsHeld contents name bytes → ShowsWithin bytes before after → FileShowsWithin contents name before after
 loaded_shown None name bytes before after held shown = tt

@@ -6,8 +6,6 @@ use Rattle.gm_book.specs.declared.fault.BookFault.{BookFault}
 use Rattle.gm_book.specs.declared.fault.BookFault.TheVariants as book
 use Rattle.gm_book.specs.Faults as book_faults
 use Rattle.gm_host.specs.Store.{Contents, Lacks, IsHeld, IsLongerThan}
-use Rattle.gm_mapfile.specs.declared.fault.MapFault.{MapFault}
-use Rattle.gm_mapfile.specs.Faults as map_faults
 use Rattle.gm_model.specs.declared.rule.RuleFault.{RuleFault}
 use Rattle.gm_model.specs.declared.schema.Schema.{Schema}
 use Rattle.gm_model.specs.Acceptance.{IsFault}
@@ -23,9 +21,9 @@ use Rattle.gm_tool.specs.BookFaults as first_book
 use Rattle.gm_tool.specs.ScriptFaults as first_script
 use Rattle.gm_tool.specs.Books.{IsRuleWhy, IsRuleStop}
 use Rattle.gm_tool.specs.Checking.{rule_fault_words}
-use Rattle.gm_tool.specs.FaultLines.{IsSaidOfMap, IsSaidOfBook, IsSaidOfScript, map_words, book_words, script_words}
+use Rattle.gm_tool.specs.FaultLines.{IsSaidOfBook, IsSaidOfScript, book_words, script_words}
 use Rattle.gm_tool.specs.Refusals.{role_in, refusal_answer}
-use Rattle.gm_tool.specs.Replies.{IsLoading}
+use Rattle.gm_tool.specs.Replies.{IsBadLine, IsLoading}
 use Rattle.gm_tool.specs.RunAnswer.{IsBadMap, IsBadBook, IsBadScript, Unread, IsFailing, Missing, Long, Bad}
 use Rattle.gm_tool.specs.Stops.{IsStopWith, IsBadFor, IsRoleStop, IsSoundStop, IsFrom}
 use Rattle.gm_tool.specs.declared.refusal.NoText.{NoText}
@@ -34,7 +32,6 @@ use Rattle.gm_tool.specs.declared.refusal.Refusal.TheVariants as refusals
 use Rattle.gm_tool.specs.declared.refusal.Role.{Role}
 use Rattle.gm_tool.specs.declared.refusal.Stop.{Stop}
 use Rattle.gm_tool.specs.declared.refusal.Stop.TheVariants as stops
-use Rattle.gm_tool.proofs.Judging.{map_is_bad}
 
 -- ---- texts
 
@@ -45,14 +42,12 @@ stopped role IsWhy why (Ok line) stop h is = subst (IsBadFor role IsWhy) (sym is
 stopped role IsWhy why (Err e) stop h is = subst (IsBadFor role IsWhy) (sym is) tt
 
 module _ {E : Type 0} (bytes : List ℕ) (line : Result (Vec ℕ) E) (stop : Stop) where
-  pub map_stopped : (fault : MapFault) → map_faults.IsFaultOf bytes fault → IsSaidOfMap fault → IfOk line (λ text. text.items ≡ refusal (codes "MAP" ++ codes " " ++ map_words fault))
-      → IsStopWith line stop → IsBadFor TheMap (IsBadMap bytes) stop
-  map_stopped fault h said says is = stopped TheMap (IsBadMap bytes) (map_words fault) line stop (both line says) is
+  pub map_stopped : IfOk line (λ text. IsBadLine bytes TheMap text.items) → IsStopWith line stop → IsBadFor TheMap (IsBadMap bytes) stop
+  map_stopped says is = go line says is
     where
-      both : (l : Result (Vec ℕ) E) → IfOk l (λ text. text.items ≡ refusal (codes "MAP" ++ codes " " ++ map_words fault))
-          → IfOk l (λ text. IsBadMap bytes (map_words fault) × (text.items ≡ refusal (codes "MAP" ++ codes " " ++ map_words fault)))
-      both (Ok l) e = (map_is_bad bytes fault h said, e)
-      both (Err e) f = tt
+      go : (l : Result (Vec ℕ) E) → IfOk l (λ text. IsBadLine bytes TheMap text.items) → IsStopWith l stop → IsBadFor TheMap (IsBadMap bytes) stop
+      go (Ok text) (why, bad, same) e = subst (IsBadFor TheMap (IsBadMap bytes)) (sym e) (why, bad, same)
+      go (Err error) h e = subst (IsBadFor TheMap (IsBadMap bytes)) (sym e) tt
 
   book_unread : (fault : BookFault) → book_faults.IsFaultOf bytes fault → IsSaidOfBook fault → IsBadBook bytes (book_words fault)
   book_unread (book.Text place) h said = Unread (first_book.Ends place) (first_book.AtEnds place h) refl

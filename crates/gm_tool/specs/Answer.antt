@@ -8,13 +8,12 @@ use Rattle.gm_cells.specs.Colours.{IsOrientation}
 use Rattle.gm_model.specs.declared.schema.Schema.{Schema}
 use Rattle.gm_book.specs.BookText.{BookText}
 use Rattle.gm_book.specs.BookText as books
-use Rattle.gm_model.specs.GMap.{Row}
 use Rattle.gm_model.specs.Maps.{Map}
-use Rattle.gm_mapfile.specs.MapText.{MapText, canonical}
+use Rattle.gm_mapfile.specs.MapText.{ListedMap, MapText, map_of, canonical}
+use Rattle.gm_mapfile.specs.declared.version.MapVersion.{MapVersion}
 use Rattle.gm_mapfile.specs.MapFaults.{TextFault, IsFirstFault, fault_words}
 use Rattle.gm_model.specs.Rules.{Rule}
 use Rattle.gm_tool.specs.BookFaults.{BookTextFault, IsFirstBookFault, book_fault_words}
-use Rattle.gm_tool.specs.MapOfRows.{map_of, IsNextOf}
 use Rattle.gm_tool.specs.Checking.{AreLines, counts_line, check_status}
 
 -- the most bytes of a file that is read or of a text that is put
@@ -93,15 +92,15 @@ pub record TellsCells (map : Map) (text : List ℕ) : Type 0 where
 
 -- the command on these bytes has this status and puts this text, however long
 pub data IsOutput (bytes : List ℕ) : Command → ℕ → List ℕ → Type 0 where
-  -- the canonical text of the map
-  Shown : (n : ℕ) (darts : List Row) → MapText bytes n darts → IsOutput bytes Show 0 (canonical n darts)
+  -- the canonical text of the map, in the version that it is read in
+  Shown : (version : MapVersion) (map : ListedMap) → MapText bytes version map → IsOutput bytes Show 0 (canonical version map)
   -- the canonical text of the book in its version, whether its rules are accepted or not
   Printed : (version : ℕ) (schema : Schema) (rules : List Rule) → BookText bytes version schema rules → IsOutput bytes Book 0 (books.canonical version schema.dim rules)
   -- a line for each rule of the book, and a last one that counts
   Checked : (version : ℕ) (schema : Schema) (rules : List Rule) (refused : ℕ) (lines : List ℕ) → BookText bytes version schema rules → AreLines schema rules refused lines
       → IsOutput bytes Check (check_status refused) (lines ++ counts_line (length rules) refused)
   -- the numbers and the orientation of the map
-  Counted : (n : ℕ) (darts : List Row) (next : ℕ) (text : List ℕ) → MapText bytes n darts → IsNextOf darts next → TellsCells (map_of n darts next) text → IsOutput bytes Cells 0 text
+  Counted : (version : MapVersion) (map : ListedMap) (text : List ℕ) → MapText bytes version map → TellsCells (map_of map) text → IsOutput bytes Cells 0 text
 
 -- a line that refuses
 abbrev pub refusal : List ℕ → List ℕ

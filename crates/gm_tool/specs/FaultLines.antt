@@ -1,9 +1,10 @@
 -- The words that say which fault a reader answered.
-use Rattle.std.specs.Prelude.{ℕ, List, []}
-use Rattle.gm_laws.specs.declared.breach.MapBreach.{MapBreach}
-use Rattle.gm_laws.specs.declared.breach.MapBreach.TheVariants as breaches
-use Rattle.gm_mapfile.specs.declared.fault.MapFault.{MapFault}
-use Rattle.gm_mapfile.specs.declared.fault.MapFault.TheVariants as map
+use Rattle.std.specs.Prelude.{◌≡◌, ◌≢◌, ℕ, ◌<◌, List, [], ◌++◌, length}
+use Rattle.gm_model.specs.declared.schema.Embed.{Embed}
+use Rattle.gm_model.specs.declared.schema.Schema.{Schema}
+use Rattle.gm_model.specs.Maps.{IsEmbedAt}
+use Rattle.gm_model.specs.Symbols.{Mark, Stray, End}
+use Rattle.gm_mapfile.specs.MapText.{Version, DartRow, IsListed}
 use Rattle.gm_book.specs.declared.fault.BookFault.{BookFault}
 use Rattle.gm_book.specs.declared.fault.BookFault.TheVariants as book
 use Rattle.gm_book.specs.BookText.{TwiceAt, UnknownAt}
@@ -14,40 +15,23 @@ use Rattle.gm_tool.specs.ScriptFaults.{script_fault_words}
 use Rattle.gm_tool.specs.ScriptFaults as script_faults
 use Rattle.gm_tool.specs.BookFaults.{book_fault_words}
 use Rattle.gm_tool.specs.BookFaults as book_faults
-use Rattle.gm_mapfile.specs.MapFaults.{fault_words}
-use Rattle.gm_mapfile.specs.MapFaults as map_faults
+use Rattle.gm_tool.specs.Answer.{IsBad, TheMap}
 
--- the breach is said by a line: maps have no embeddings so far
-abbrev pub IsSaidOfBreach : MapBreach → Type 0
-IsSaidOfBreach (breaches.Involution d i) = Unit {0}
-IsSaidOfBreach (breaches.Cycle d i j) = Unit {0}
-IsSaidOfBreach (breaches.Embedding e d o) = ⊥
+-- words that say why the bytes stand for no map are put behind the text
+abbrev pub PutsMapFault : List ℕ → List ℕ → List ℕ → Type 0
+PutsMapFault bytes old new = (why : List ℕ) × IsBad bytes TheMap why × (new ≡ old ++ why)
 
-abbrev pub breach_words : MapBreach → List ℕ
-breach_words (breaches.Involution d i) = fault_words (map_faults.OneWay d i)
-breach_words (breaches.Cycle d i j) = fault_words (map_faults.Crossing d i j)
-breach_words (breaches.Embedding e d o) = []
+-- the mark of a token, and not of the end or of a byte that no token begins with
+abbrev pub IsTokenMark : Mark → Type 0
+IsTokenMark mark = (mark.symbol ≢ Stray) × (mark.symbol ≢ End)
 
--- the fault is said by a line
-abbrev pub IsSaidOfMap : MapFault → Type 0
-IsSaidOfMap (map.Text place) = Unit {0}
-IsSaidOfMap (map.Limit what place) = Unit {0}
-IsSaidOfMap (map.NotBuilt place) = Unit {0}
-IsSaidOfMap (map.DartTwice d) = Unit {0}
-IsSaidOfMap (map.NoTarget d i) = Unit {0}
-IsSaidOfMap (map.Breach breach) = IsSaidOfBreach breach
-IsSaidOfMap (map.Twice place) = ⊥
-IsSaidOfMap map.OutOfMemory = ⊥
+-- the text lists darts over a schema that has an embedding of this number
+abbrev pub HasEmbed : List ℕ → ℕ → Type 0
+HasEmbed bytes e = (version : Version) × (schema : Schema) × (darts : List DartRow) × IsListed bytes version schema darts × (e < length schema.embeds)
 
-abbrev pub map_words : MapFault → List ℕ
-map_words (map.Text place) = fault_words (map_faults.Ends place)
-map_words (map.Limit what place) = fault_words (map_faults.Passes what place)
-map_words (map.NotBuilt place) = fault_words (map_faults.NotBuilt place)
-map_words (map.DartTwice d) = fault_words (map_faults.Twice d)
-map_words (map.NoTarget d i) = fault_words (map_faults.NoTarget d i)
-map_words (map.Breach breach) = breach_words breach
-map_words (map.Twice place) = []
-map_words map.OutOfMemory = []
+-- this is its name
+abbrev pub IsEmbedName : List ℕ → ℕ → List ℕ → Type 0
+IsEmbedName bytes e name = (version : Version) (schema : Schema) (darts : List DartRow) (embed : Embed) → IsListed bytes version schema darts → IsEmbedAt schema e embed → name ≡ embed.name
 
 -- the fault is said by a line
 abbrev pub IsSaidOfBook : BookFault → Type 0

@@ -1,6 +1,5 @@
 pub mod BookFaults
 pub mod Checking
-pub mod MapOfRows
 pub mod Answer
 pub mod ScriptFaults
 pub mod RunAnswer

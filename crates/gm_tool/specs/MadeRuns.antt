@@ -5,13 +5,13 @@ use Rattle.gm_host.specs.Count.{counted}
 use Rattle.gm_host.specs.Saves.{IsSaved, IsSavedInPart}
 use Rattle.gm_arena.specs.ArenaAsMap.{as_map}
 use Rattle.gm_arena.specs.ArenaMap.{ArenaMap}
-use Rattle.gm_mapfile.specs.Rows.{rows_of, IsNextLeast}
+use Rattle.gm_mapfile.specs.Rows.{listed_of}
 use Rattle.gm_model.specs.declared.rule.Book.{Book}
 use Rattle.gm_model.specs.declared.rule.RuleTable.{RuleTable}
 use Rattle.gm_model.specs.declared.script.Script.{Script}
-use Rattle.gm_model.specs.GMap.{Row}
-use Rattle.gm_model.specs.Maps.{IsGeneralised}
-use Rattle.gm_mapfile.specs.MapText.{MapText, canonical}
+use Rattle.gm_model.specs.Maps.{IsSound}
+use Rattle.gm_mapfile.specs.MapText.{ListedMap, MapText, canonical}
+use Rattle.gm_mapfile.specs.declared.version.MapVersion.{MapVersion}
 use Rattle.gm_model.specs.Rules.{rule_of}
 use Rattle.gm_script.specs.ScriptText.{ScriptText}
 use Rattle.gm_plan.specs.Plans.{PlanOf, plan_of}
@@ -34,13 +34,12 @@ names_of files = record { map = files.map.now; book = files.book.now; script = f
 
 -- ---- the lines are applied
 
-abbrev pub inputs_of : ArenaMap → Book → Script → Inputs
-inputs_of m book script = record { dim = m.schema.dim; darts = rows_of m; schema = book.schema; rules = map rule_of book.rules; lines = script.lines }
+abbrev pub inputs_of : MapVersion → ArenaMap → Book → Script → Inputs
+inputs_of version m book script = record { version = version; map = listed_of m; schema = book.schema; rules = map rule_of book.rules; lines = script.lines }
 
 -- what was read can be run
 pub record CanRun (m : ArenaMap) (book : Book) (script : Script) (plans : List PlanOf) : Type 0 where
-  pub generalised : IsGeneralised (as_map m)
-  pub next : IsNextLeast m
+  pub sound : IsSound (as_map m)
   pub bare : m.schema.embeds ≡ []
   pub agree : m.schema ≡ book.schema
   pub plans_are : plans ≡ map (plan_of book.schema) book.rules
@@ -63,9 +62,9 @@ abbrev pub IsRunOf : Inputs → Result Made Stop → Type 0
 IsRunOf inputs (Err (stops.NoText nothing.OutOfMemory)) = Unit {0}
 IsRunOf inputs made = (ran : Ran) × IsRan inputs ran × IsFitted (run_status ran.outcomes) (report_of inputs ran) (saved_of inputs ran) made
 
--- the bytes are the canonical text of a generalised map
+-- the bytes are the canonical text of a map, which it stands for: a generalised map with one value on each embedding orbit
 abbrev pub IsMapBytes : List ℕ → Type 0
-IsMapBytes bytes = (n : ℕ) × (darts : List Row) × (bytes ≡ canonical n darts) × MapText bytes n darts
+IsMapBytes bytes = (version : MapVersion) × (listed : ListedMap) × (bytes ≡ canonical version listed) × MapText bytes version listed
 
 -- ---- the files
 
@@ -104,7 +103,7 @@ LoadsAtMostThrice before after = (after ≡ before) ⊎ ((after ≡ counted befo
 abbrev pub IsRunStatus : ℕ → Type 0
 IsRunStatus status = (status ≡ 0) ⊎ (status ≡ 1)
 
--- where the store tells, it holds the canonical text of a generalised map under the name
+-- where the store tells, it holds the canonical text of a map under the name
 abbrev pub HoldsMap : Contents → List ℕ → Type 0
 HoldsMap contents name = IfSome contents (λ files. (bytes : List ℕ) × (files name ≡ Some bytes) × IsMapBytes bytes)
 

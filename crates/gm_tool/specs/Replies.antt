@@ -7,7 +7,7 @@ use Rattle.gm_host.specs.declared.fault.LoadFault.TheVariants as faults
 use Rattle.gm_book.specs.declared.fault.BookFault.{BookFault}
 use Rattle.gm_model.specs.declared.schema.Schema.{Schema}
 use Rattle.gm_model.specs.Rules.{Rule}
-use Rattle.gm_tool.specs.Answer.{most_bytes, role_of, role_word, refusal, IsBad, IsOutput}
+use Rattle.gm_tool.specs.Answer.{most_bytes, TheMap, role_of, role_word, refusal, IsBad, IsOutput}
 use Rattle.gm_tool.specs.Answer as answer
 use Rattle.gm_tool.specs.Checking.{AreLines, counts_line, check_status}
 use Rattle.gm_tool.specs.FaultLines.{IsSaidOfBook, book_words}
@@ -69,6 +69,11 @@ IsWithinLimit status text (Err none) = (none ≡ nothing.Refused SizeOutput) × 
 abbrev pub IsRefusal : List ℕ → Result Reply NoText → Type 0
 IsRefusal line (Ok reply) = (reply.status ≡ 4) × (reply.text.items ≡ line)
 IsRefusal line (Err none) = none ≡ nothing.OutOfMemory
+
+-- the line that says why the bytes stand for no map, with status 4; want of memory says nothing of them
+abbrev pub IsMapRefusal : List ℕ → Result Reply NoText → Type 0
+IsMapRefusal bytes (Ok reply) = (reply.status ≡ 4) × IsBadLine bytes TheMap reply.text.items
+IsMapRefusal bytes (Err none) = none ≡ nothing.OutOfMemory
 
 -- the line that refuses the book with this fault; want of memory says nothing of the book
 abbrev pub IsBookRefusal : BookFault → Result Reply NoText → Type 0

@@ -1,13 +1,15 @@
 -- What a run of a script answers to the names of its files: the status, the report, and the map that is saved.
 use Rattle.std.specs.Prelude.{◌≡◌, ◌⊎◌, ℕ, ◌<◌, ◌≤◌, List, [], ◌∷◌, ◌++◌, length, Some, None, All, codes, slice_get}
+use Rattle.std.specs.List.{AllByRecursion}
 use Rattle.std.specs.List.Sorted.{IsStrictlyIncreasing}
 use Rattle.gm_model.specs.declared.rule.RuleFault.{RuleFault}
 use Rattle.gm_model.specs.declared.schema.Schema.{Schema}
 use Rattle.gm_model.specs.declared.script.Line.{Line}
 use Rattle.gm_model.specs.Acceptance.{IsAccepted, IsFault}
 use Rattle.gm_book.specs.BookText.{BookText}
-use Rattle.gm_model.specs.GMap.{Row}
-use Rattle.gm_mapfile.specs.MapText.{MapText, AreShaped, canonical, names}
+use Rattle.gm_mapfile.specs.MapReading.{IsWhole}
+use Rattle.gm_mapfile.specs.MapText.{ListedMap, MapText, map_of, canonical, names}
+use Rattle.gm_mapfile.specs.declared.version.MapVersion.{MapVersion}
 use Rattle.gm_model.specs.Reports.{report_text}
 use Rattle.gm_model.specs.Rules.{Rule}
 use Rattle.gm_model.specs.Runs.{Outcome, IsRun}
@@ -16,7 +18,6 @@ use Rattle.gm_script.specs.ScriptText.{ScriptText}
 use Rattle.gm_tool.specs.Answer.{most_bytes, Files, Answer, answers, Role, TheMap, TheBook, TheScript, role_word, refusal, HasFile, IsBad}
 use Rattle.gm_tool.specs.BookFaults.{BookTextFault, IsFirstBookFault, book_fault_words}
 use Rattle.gm_tool.specs.Checking.{rule_fault_words}
-use Rattle.gm_tool.specs.MapOfRows.{bare_schema, map_of, IsNextOf}
 use Rattle.gm_tool.specs.ScriptFaults.{ScriptTextFault, IsFirstScriptFault, script_fault_words}
 
 -- the files that are read, and the name under which the map is saved
@@ -61,15 +62,15 @@ IsBadScript rules bytes why = (fault : ScriptTextFault) × IsFirstScriptFault by
 -- ---- the files that are good
 
 pub record Inputs : Type 0 where
-  pub dim : ℕ
-  pub darts : List Row
+  pub version : MapVersion
+  pub map : ListedMap
   pub schema : Schema
   pub rules : List Rule
   pub lines : List Line
 
 module _ (files : Files) (named : RunNames) (inputs : Inputs) where
   abbrev pub HasMap : Type 0
-  HasMap = (bytes : List ℕ) × HasFile files named.map bytes × MapText bytes inputs.dim inputs.darts
+  HasMap = (bytes : List ℕ) × HasFile files named.map bytes × MapText bytes inputs.version inputs.map
 
   -- each rule is accepted
   abbrev pub HasBook : Type 0
@@ -78,30 +79,28 @@ module _ (files : Files) (named : RunNames) (inputs : Inputs) where
   abbrev pub HasScript : Type 0
   HasScript = (bytes : List ℕ) × HasFile files named.script bytes × ScriptText bytes inputs.rules inputs.lines
 
--- the map and the book are of one dimension, with the same embeddings
+-- the map and the book are of one dimension, with the same embeddings in the same order
 abbrev pub Agree : Inputs → Type 0
-Agree inputs = bare_schema inputs.dim ≡ inputs.schema
+Agree inputs = inputs.map.schema ≡ inputs.schema
 
 -- ---- the run
 
--- the outcomes of the lines, the darts after them, in ascending order of their names, and the next name
+-- the outcomes of the lines, and the map after them, its darts in ascending order of their names
 pub record Ran : Type 0 where
   pub outcomes : List Outcome
-  pub darts : List Row
-  pub next : ℕ
+  pub map : ListedMap
 
 pub record IsRan (inputs : Inputs) (ran : Ran) : Type 0 where
-  pub first : ℕ
-  pub first_is : IsNextOf inputs.darts first
-  pub run : IsRun inputs.rules (map_of inputs.dim inputs.darts first) inputs.lines ran.outcomes (map_of inputs.dim ran.darts ran.next)
-  pub ascending : IsStrictlyIncreasing (names ran.darts)
-  pub shaped : AreShaped inputs.dim ran.darts
+  pub run : IsRun inputs.rules (map_of inputs.map) inputs.lines ran.outcomes (map_of ran.map)
+  pub schema_is : ran.map.schema ≡ inputs.map.schema
+  pub ascending : IsStrictlyIncreasing (names ran.map.darts)
+  pub whole : AllByRecursion (IsWhole ran.map.schema) ran.map.darts
 
 abbrev pub report_of : Inputs → Ran → List ℕ
-report_of inputs ran = report_text inputs.schema inputs.rules inputs.lines ran.outcomes (length ran.darts) ran.next
+report_of inputs ran = report_text inputs.schema inputs.rules inputs.lines ran.outcomes (length ran.map.darts) ran.map.next
 
 abbrev pub saved_of : Inputs → Ran → List ℕ
-saved_of inputs ran = canonical inputs.dim ran.darts
+saved_of inputs ran = canonical inputs.version ran.map
 
 -- 1 where a line was refused
 abbrev pub run_status : List Outcome → ℕ

@@ -1,19 +1,25 @@
 -- How many steps a run of the program takes: the most, and the least; and the most of a map that is shown.
 use Rattle.std.specs.Prelude.{ℕ, ◌+◌, ◌*◌, ◌≤◌, List, length, IfSome}
 use Rattle.gm_host.specs.Store.{Contents}
-use Rattle.gm_model.specs.GMap.{Row}
-use Rattle.gm_mapfile.specs.MapText.{MapText}
+use Rattle.gm_mapfile.specs.MapText.{ListedMap, MapText, map_of}
+use Rattle.gm_mapfile.specs.declared.version.MapVersion.{MapVersion}
 use Rattle.gm_model.specs.Runs.{IsRunBudget, changed_darts}
 use Rattle.gm_tool.specs.Answer.{Files, HasFile, Asks, Show}
 use Rattle.gm_tool.specs.MadeRuns.{IsRunStatus}
-use Rattle.gm_tool.specs.MapOfRows.{IsNextOf, map_of}
 use Rattle.gm_tool.specs.RunAnswer.{RunNames, AsksRun, Inputs, Ran, IsRan, IsGoodRun}
 
 -- the sum of the budgets of the lines, each at the map that it is applied to
-pub record HasBudget (inputs : Inputs) (ran : Ran) (sum : ℕ) : Type 0 where
-  pub first : ℕ
-  pub first_is : IsNextOf inputs.darts first
-  pub budget : IsRunBudget inputs.rules (map_of inputs.dim inputs.darts first) inputs.lines ran.outcomes (map_of inputs.dim ran.darts ran.next) sum
+abbrev pub HasBudget : Inputs → Ran → ℕ → Type 0
+HasBudget inputs ran sum = IsRunBudget inputs.rules (map_of inputs.map) inputs.lines ran.outcomes (map_of ran.map) sum
+
+abbrev pub dim_of : Inputs → ℕ
+dim_of inputs = inputs.map.schema.dim
+
+abbrev pub darts_read : Inputs → ℕ
+darts_read inputs = length inputs.map.darts
+
+abbrev pub darts_left : Ran → ℕ
+darts_left ran = length ran.map.darts
 
 -- what a map of so many darts takes to be read, and what it takes to be printed
 abbrev pub reading : ℕ → ℕ → ℕ
@@ -35,11 +41,11 @@ handling n darts left = 64 * ((n + 1) * (n + 1)) * (darts + left + 1)
 module _ (files : Files) (named : RunNames) where
   -- the most steps that a run of these files takes: the budgets of its lines, and the handling of its darts
   pub data IsMost : ℕ → Type 0 where
-    MostOf : (inputs : Inputs) (ran : Ran) (sum : ℕ) → IsGoodRun files named inputs ran → HasBudget inputs ran sum → IsMost (sum + handling inputs.dim (length inputs.darts) (length ran.darts))
+    MostOf : (inputs : Inputs) (ran : Ran) (sum : ℕ) → IsGoodRun files named inputs ran → HasBudget inputs ran sum → IsMost (sum + handling (dim_of inputs) (darts_read inputs) (darts_left ran))
 
   -- the least: one for each dart that a line added or removed, for each that is read, and for each that is saved
   pub data IsLeast : ℕ → Type 0 where
-    LeastOf : (inputs : Inputs) (ran : Ran) → IsGoodRun files named inputs ran → IsLeast (changed_darts ran.outcomes + length inputs.darts + length ran.darts)
+    LeastOf : (inputs : Inputs) (ran : Ran) → IsGoodRun files named inputs ran → IsLeast (changed_darts ran.outcomes + darts_read inputs + darts_left ran)
 
   -- no more steps than the most of the run, where the files have one
   abbrev pub WithinMost : ℕ → ℕ → Type 0
@@ -61,7 +67,7 @@ TakesLeast words contents status before after = IfSome contents (λ files. (name
 
 -- where the bytes stand for a map, no more steps than reading and printing it
 abbrev pub ShowsWithin : List ℕ → ℕ → ℕ → Type 0
-ShowsWithin bytes before after = (n : ℕ) (darts : List Row) → MapText bytes n darts → after ≤ before + showing n (length darts)
+ShowsWithin bytes before after = (version : MapVersion) (map : ListedMap) → MapText bytes version map → after ≤ before + showing map.schema.dim (length map.darts)
 
 -- where the store tells, the same of the file of that name
 abbrev pub FileShowsWithin : Contents → List ℕ → ℕ → ℕ → Type 0
@@ -73,15 +79,18 @@ ShowStaysWithin words contents before after = (name : List ℕ) → Asks words S
 
 -- ---- the parts of a run
 
--- where the store tells a file of the name that stands for a map, no more steps than reading it
+-- where the bytes stand for a map, no more steps than reading it
+abbrev pub BytesReadWithin : List ℕ → ℕ → ℕ → Type 0
+BytesReadWithin bytes before after = (version : MapVersion) (map : ListedMap) → MapText bytes version map → after ≤ before + reading map.schema.dim (length map.darts)
+
+-- where the store tells, the same of the file of that name
 abbrev pub ReadsWithin : Contents → List ℕ → ℕ → ℕ → Type 0
-ReadsWithin contents name before after =
-    IfSome contents (λ files. (bytes : List ℕ) (n : ℕ) (darts : List Row) → HasFile files name bytes → MapText bytes n darts → after ≤ before + reading n (length darts))
+ReadsWithin contents name before after = IfSome contents (λ files. (bytes : List ℕ) → HasFile files name bytes → BytesReadWithin bytes before after)
 
 -- no more steps than the budgets of the lines, and than printing the map that they leave
 abbrev pub RunsWithin : Inputs → ℕ → ℕ → Type 0
-RunsWithin inputs before after = (ran : Ran) (sum : ℕ) → IsRan inputs ran → HasBudget inputs ran sum → after ≤ before + sum + printing inputs.dim (length ran.darts)
+RunsWithin inputs before after = (ran : Ran) (sum : ℕ) → IsRan inputs ran → HasBudget inputs ran sum → after ≤ before + sum + printing (dim_of inputs) (darts_left ran)
 
 -- a step for each dart that a line added or removed, and for each that is left
 abbrev pub RunsAtLeast : Inputs → ℕ → ℕ → Type 0
-RunsAtLeast inputs before after = (ran : Ran) → IsRan inputs ran → before + changed_darts ran.outcomes + length ran.darts ≤ after
+RunsAtLeast inputs before after = (ran : Ran) → IsRan inputs ran → before + changed_darts ran.outcomes + darts_left ran ≤ after

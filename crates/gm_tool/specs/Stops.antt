@@ -2,12 +2,14 @@
 use Rattle.std.specs.Prelude.{◌≡◌, ◌⊎◌, ℕ, List, [], ◌++◌, map, Result, Ok, Err, IfSome, codes}
 use Rattle.std.specs.Global.{Vec}
 use Rattle.gm_host.specs.Store.{Contents, Lacks}
-use Rattle.gm_arena.specs.ArenaMap.{ArenaMap}
-use Rattle.gm_mapfile.specs.Rows.{rows_of, IsNextLeast}
+use Rattle.gm_arena.specs.ArenaAsMap.{as_map}
+use Rattle.gm_mapfile.specs.Rows.{listed_of}
 use Rattle.gm_model.specs.declared.rule.Book.{Book}
 use Rattle.gm_model.specs.declared.script.Script.{Script}
 use Rattle.gm_book.specs.BookText.{BookText}
 use Rattle.gm_mapfile.specs.MapText.{MapText}
+use Rattle.gm_mapfile.specs.declared.reading.MapRead.{MapRead}
+use Rattle.gm_model.specs.Maps.{IsSound}
 use Rattle.gm_model.specs.Rules.{Rule, rule_of}
 use Rattle.gm_script.specs.ScriptText.{ScriptText}
 use Rattle.gm_tool.specs.Answer.{Files, answers, refusal, Role, role_word, HasFile}
@@ -46,10 +48,9 @@ IsSoundStop _ P = Unit {0}
 -- ---- the three files
 
 -- the arena has the map of the bytes
-pub record IsReadMap (bytes : List ℕ) (m : ArenaMap) : Type 0 where
-  pub read : MapText bytes m.schema.dim (rows_of m)
-  pub bare : m.schema.embeds ≡ []
-  pub next : IsNextLeast m
+pub record IsReadMap (bytes : List ℕ) (read : MapRead) : Type 0 where
+  pub stands : MapText bytes read.version (listed_of read.arena)
+  pub sound : IsSound (as_map read.arena)
 
 abbrev pub IsReadBook : List ℕ → Book → Type 0
 IsReadBook bytes book = BookText bytes book.version book.schema (map rule_of book.rules)

@@ -9,7 +9,7 @@ use crate::refusal::NoText;
 use crate::reply::{Reply, reply_within_limit};
 use gm_arena::{Arena, Steps};
 use gm_cells::{count, orient, print_cells};
-use gm_mapfile::{MapFault, read_map};
+use gm_mapfile::read_map;
 use gm_model::{MOST_DARTS, OutOfMemory};
 use gm_walk::Scratch;
 use std::alloc::Global;
@@ -24,13 +24,11 @@ pub fn cells<L: Ledger>(
 ) -> Result<Reply, NoText>
     ensures { IsJudged bytes.items Cells result }
 {
-    let read = read_map(alloc, bytes.as_slice(), steps);
-    drop(bytes);
-    let arena = match read {
-        Ok(arena) => arena,
-        Err(MapFault::OutOfMemory) => return Err(NoText::OutOfMemory),
-        Err(fault) => return refused(alloc, fault),
+    let arena = match read_map(alloc, bytes.as_slice(), steps) {
+        Ok(read) => read.arena,
+        Err(fault) => return refused(alloc, bytes.as_slice(), fault),
     };
+    drop(bytes);
     prove!(arena.count() <= MOST_DARTS);
     let text = text_of(alloc, &arena, steps)?;
     reply_within_limit(0, text)

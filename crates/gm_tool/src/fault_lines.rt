@@ -1,54 +1,103 @@
 //! The lines that say why a file's text stands for nothing.
 
-ghost use Rattle.std.specs.Prelude.{◌≡◌, ◌++◌, IfOk, OnOk, codes, decimal};
-ghost use Rattle.gm_tool.specs.Answer.{refusal};
+ghost use Rattle.std.specs.Prelude.{◌≡◌, ◌∷◌, ◌++◌, List, IfOk, OnOk, codes, decimal};
+ghost use Rattle.gm_tool.specs.Answer.{TheMap, refusal};
+ghost use Rattle.gm_tool.specs.Replies.{IsBadLine};
 ghost use Rattle.gm_mapfile.specs.MapFaults.{limit_word};
-ghost use Rattle.gm_tool.specs.FaultLines.{IsSaidOfBook, IsSaidOfMap, IsSaidOfBreach, IsSaidOfScript, book_words, map_words, breach_words, script_words};
+ghost use Rattle.gm_mapfile.specs.Faults.{IsFaultOf, IsBreachOf};
+ghost use Rattle.gm_model.specs.Symbols.{Mark};
+ghost use Rattle.gm_text.specs.SchemaAnswers.{marks_left};
+ghost use Rattle.gm_tool.specs.FaultLines.{IsSaidOfBook, IsSaidOfScript, book_words, script_words, PutsMapFault, HasEmbed, IsEmbedName, IsTokenMark};
 
 use gm_book::BookFault;
 use gm_laws::MapBreach;
 use gm_mapfile::MapFault;
-use gm_model::{LimitKind, OutOfMemory};
+use gm_model::{LimitKind, Name, OutOfMemory};
 use gm_script::ScriptFault;
-use gm_text::Text;
+use gm_text::{Lexer, Text, read_schema};
 use std::alloc::Global;
 
-/// The line that refuses a map, with its line end.
-pub fn map_line(alloc: Global, fault: MapFault) -> Result<Vec<u8>, OutOfMemory>
-    requires { IsSaidOfMap fault }
-    ensures { IfOk result (λ line. line.items ≡ refusal (codes "MAP" ++ codes " " ++ map_words fault)) }
+/// The line that refuses a map, with its line end. There is none for want of memory.
+pub fn map_line(alloc: Global, bytes: &[u8], fault: MapFault) -> Result<Vec<u8>, OutOfMemory>
+    requires { IsFaultOf bytes.now fault }
+    ensures { IfOk result (λ line. IsBadLine bytes.now TheMap line.items) }
 {
     let mut text = Text::new(alloc);
     text.put(b"refused MAP ")?;
-    put_map_fault(&mut text, fault)?;
+    put_map_fault(alloc, &mut text, bytes, fault)?;
     text.put(b"\n")?;
     Ok(text.into_bytes())
 }
 
-fn put_map_fault(text: &mut Text, fault: MapFault) -> Result<(), OutOfMemory>
-    requires { IsSaidOfMap fault }
-    ensures { OnOk result (text.new ≡ text.old ++ map_words fault) }
+fn put_map_fault(
+    alloc: Global,
+    text: &mut Text,
+    bytes: &[u8],
+    fault: MapFault,
+) -> Result<(), OutOfMemory>
+    requires { IsFaultOf bytes.now fault }
+    ensures { OnOk result (PutsMapFault bytes.now text.old text.new) }
 {
     match fault {
         MapFault::Text { place } => put_at(text, b"text ", place as u64),
         MapFault::Limit { what, place } => put_limit(text, what, place),
-        MapFault::NotBuilt { place } => put_at(text, b"not-built ", place as u64),
+        MapFault::Twice { place } => put_at(text, b"twice ", place as u64),
         MapFault::DartTwice { dart } => put_at(text, b"dart-twice ", u64::from(dart)),
+        MapFault::Next { dart } => put_at(text, b"next dart ", u64::from(dart)),
         MapFault::NoTarget { dart, label } => put_label(text, b"no-target dart ", dart, label),
-        MapFault::Breach(breach) => put_breach(text, breach),
-        MapFault::Twice { .. } | MapFault::OutOfMemory => unreachable!(),
+        MapFault::Breach(breach) => put_breach(alloc, text, bytes, breach),
+        MapFault::OutOfMemory => Err(OutOfMemory),
     }
 }
 
-fn put_breach(text: &mut Text, breach: MapBreach) -> Result<(), OutOfMemory>
-    requires { IsSaidOfBreach breach }
-    ensures { OnOk result (text.new ≡ text.old ++ breach_words breach) }
+fn put_breach(
+    alloc: Global,
+    text: &mut Text,
+    bytes: &[u8],
+    breach: MapBreach,
+) -> Result<(), OutOfMemory>
+    requires { IsBreachOf bytes.now breach }
+    ensures { OnOk result (PutsMapFault bytes.now text.old text.new) }
 {
     match breach {
         MapBreach::Involution { dart, label } => put_label(text, b"involution dart ", dart, label),
         MapBreach::Cycle { dart, i, j } => put_crossing(text, dart, i, j),
-        MapBreach::Embedding { .. } => unreachable!(),
+        MapBreach::Embedding { embed, dart, other } => {
+            let name = embed_name(alloc, bytes, embed)?;
+            put_change(text, name.bytes(), dart, other)
+        }
     }
+}
+
+/// The name of the embedding with the number, read again, since the reader answers its number alone.
+fn embed_name(alloc: Global, bytes: &[u8], embed: u8) -> Result<Name, OutOfMemory>
+    requires { HasEmbed bytes.now embed }
+    ensures { IfOk result (IsEmbedName bytes.now embed) }
+{
+    let mut lexer = Lexer::new(bytes);
+    skip_token(&mut lexer);
+    skip_token(&mut lexer);
+    match read_schema(alloc, &mut lexer) {
+        Ok(schema) => Ok(schema.embeds.as_slice()[usize::from(embed)].name),
+        Err(_) => Err(OutOfMemory),
+    }
+}
+
+/// Goes past the next token, where there is one.
+fn skip_token(lexer: &mut Lexer<'_>)
+    ensures text { lexer.new.text ≡ lexer.old.text }
+    ensures past { (mark : Mark) (rest : List Mark) → IsTokenMark mark → marks_left lexer.old ≡ mark ∷ rest → marks_left lexer.new ≡ rest }
+{
+    let _ = lexer.next();
+}
+
+fn put_change(text: &mut Text, name: &[u8], dart: u32, other: u32) -> Result<(), OutOfMemory>
+    ensures { OnOk result (text.new ≡ text.old ++ (codes "embedding " ++ name.now ++ codes " darts " ++ decimal dart ++ codes " " ++ decimal other)) }
+{
+    text.put(b"embedding ")?;
+    text.put(name)?;
+    put_at(text, b" darts ", u64::from(dart))?;
+    put_at(text, b" ", u64::from(other))
 }
 
 /// The line that refuses a book, with its line end. There is none for want of memory.

@@ -1,18 +1,17 @@
-ghost use Rattle.std.specs.Prelude.{ℕ, List, ◌+◌, ◌≤◌, ◌++◌, length, IfOk, IfErr, codes};
-ghost use Rattle.gm_model.specs.GMap.{Row};
-ghost use Rattle.gm_mapfile.specs.MapText.{MapText};
-ghost use Rattle.gm_tool.specs.Answer.{Show, TheMap, refusal};
-ghost use Rattle.gm_tool.specs.FaultLines.{IsSaidOfMap, map_words};
-ghost use Rattle.gm_tool.specs.Replies.{IsJudged, IsRefusal};
+ghost use Rattle.std.specs.Prelude.{ℕ, ◌+◌, ◌≤◌, IfOk, IfErr};
+ghost use Rattle.gm_mapfile.specs.Faults.{IsFaultOf};
+ghost use Rattle.gm_tool.specs.Answer as answer;
+ghost use Rattle.gm_tool.specs.Answer.{Show, TheMap};
+ghost use Rattle.gm_tool.specs.Replies.{IsJudged, IsMapRefusal};
 ghost use Rattle.gm_tool.specs.RunAnswer.{IsBadMap};
-ghost use Rattle.gm_tool.specs.StepBounds.{reading, ShowsWithin};
+ghost use Rattle.gm_tool.specs.StepBounds.{BytesReadWithin, ShowsWithin};
 ghost use Rattle.gm_tool.specs.Stops.{IsReadMap, IsBadFor};
 
 use crate::fault_lines::map_line;
 use crate::refusal::{NoText, Stop};
 use crate::reply::{Reply, reply_within_limit};
-use gm_arena::{Arena, Steps};
-use gm_mapfile::{MapFault, print_map, read_map};
+use gm_arena::Steps;
+use gm_mapfile::{MapFault, MapRead, print_map, read_map};
 use gm_model::MOST_DARTS;
 use std::alloc::Global;
 use std::sync::ledger::Ledger;
@@ -23,37 +22,34 @@ pub fn show<L: Ledger>(alloc: Global, bytes: Vec<u8>, steps: &mut Steps<L>) -> R
     ensures judged { IsJudged bytes.items Show result }
     ensures most { ShowsWithin bytes.items steps.old steps.new }
 {
-    let read = read_map(alloc, bytes.as_slice(), steps);
-    drop(bytes);
-    let arena = match read {
-        Ok(arena) => arena,
-        Err(MapFault::OutOfMemory) => return Err(NoText::OutOfMemory),
-        Err(fault) => return refused(alloc, fault),
+    let MapRead { arena, version } = match read_map(alloc, bytes.as_slice(), steps) {
+        Ok(read) => read,
+        Err(fault) => return refused(alloc, bytes.as_slice(), fault),
     };
+    drop(bytes);
     prove!(arena.count() <= MOST_DARTS);
-    let text = print_map(alloc, &arena, steps)?;
+    let text = print_map(alloc, &arena, version, steps)?;
     reply_within_limit(0, text)
 }
 
 /// The line that refuses the text of a map.
-pub fn refused(alloc: Global, fault: MapFault) -> Result<Reply, NoText>
-    requires { IsSaidOfMap fault }
-    ensures { IsRefusal (refusal (codes "MAP" ++ codes " " ++ map_words fault)) result }
+pub fn refused(alloc: Global, bytes: &[u8], fault: MapFault) -> Result<Reply, NoText>
+    requires { IsFaultOf bytes.now fault }
+    ensures { IsMapRefusal bytes.now result }
 {
-    let text = map_line(alloc, fault)?;
+    let text = map_line(alloc, bytes, fault)?;
     Ok(Reply { status: 4, text })
 }
 
 /// The map that a file's text stands for, or the line that refuses it.
-pub fn read<L: Ledger>(alloc: Global, bytes: &[u8], steps: &mut Steps<L>) -> Result<Arena, Stop>
+pub fn read<L: Ledger>(alloc: Global, bytes: &[u8], steps: &mut Steps<L>) -> Result<MapRead, Stop>
     ensures map { IfOk result (IsReadMap bytes.now) }
     ensures stop { IfErr result (IsBadFor TheMap (IsBadMap bytes.now)) }
-    ensures most { (n : ℕ) (darts : List Row) → MapText bytes.now n darts → steps.new ≤ steps.old + reading n (length darts) }
-    ensures least { IfOk result (λ arena. steps.old + arena.count ≤ steps.new) }
+    ensures most { BytesReadWithin bytes.now steps.old steps.new }
+    ensures least { IfOk result (λ read. steps.old + read.arena.count ≤ steps.new) }
 {
     match read_map(alloc, bytes, steps) {
-        Ok(arena) => Ok(arena),
-        Err(MapFault::OutOfMemory) => Err(Stop::NoText(NoText::OutOfMemory)),
-        Err(fault) => Err(Stop::because(map_line(alloc, fault))),
+        Ok(read) => Ok(read),
+        Err(fault) => Err(Stop::because(map_line(alloc, bytes, fault))),
     }
 }

@@ -1,4 +1,4 @@
-ghost use Rattle.std.specs.Prelude.{◌≡◌, ◌==◌, ◌+◌, ◌≤◌, ◌⊎◌, ℕ, [], IfOk, IfErr, IfSome, IsErrOf, List, map, not};
+ghost use Rattle.std.specs.Prelude.{◌≡◌, ◌↔◌, ◌+◌, ◌≤◌, ◌⊎◌, ℕ, IfOk, IfErr, IfSome, IsErrOf, IsTrue, List, map, not};
 ghost use Rattle.gm_host.specs.Count.{counted, Rises};
 ghost use Rattle.gm_model.specs.Rules.{rule_of};
 ghost use Rattle.gm_tool.specs.Answer.{TheMap, TheBook, TheScript};
@@ -10,7 +10,7 @@ ghost use Rattle.gm_tool.specs.declared.refusal.NoText.TheVariants as nothing;
 ghost use Rattle.gm_tool.specs.StepBounds.{ReadsWithin, RunsWithin, RunsAtLeast, WithinMost, AtLeast, printing};
 ghost use Rattle.gm_tool.specs.Stops.{IsFrom, IsReadMap, IsReadBook, IsReadScript, IsSoundStop};
 ghost use Rattle.gm_arena.specs.Lawful.{IsLawful};
-ghost use Rattle.gm_mapfile.specs.Rows.{rows_of};
+ghost use Rattle.gm_mapfile.specs.Rows.{listed_of};
 ghost use Rattle.gm_mapfile.specs.MapText.{canonical};
 ghost use Rattle.gm_model.specs.Reports.{report_text};
 ghost use Rattle.gm_model.specs.Runs.{is_done};
@@ -25,8 +25,8 @@ use crate::reply::{MOST_BYTES, Reply};
 use crate::{book, map, script};
 use gm_arena::{Arena, Steps};
 use gm_host::{SaveFault, Store};
-use gm_mapfile::print_map;
-use gm_model::{Book, MOST_DARTS, Script};
+use gm_mapfile::{MapRead, MapVersion, print_map};
+use gm_model::{Book, MOST_DARTS, Schema, Script};
 use gm_plan::Plan;
 use gm_run::{Outcome, Report, print_report};
 use std::alloc::Global;
@@ -45,15 +45,15 @@ fn load_map<S: Store, L: Ledger>(
     name: &str,
     store: &mut S,
     steps: &mut Steps<L>,
-) -> Result<Arena, Stop>
+) -> Result<MapRead, Stop>
     ensures held { S.holds store.new ≡ S.holds store.old }
     ensures no_save_fault { S.save_faults store.new ≡ S.save_faults store.old }
     ensures faults_never_fall { S.load_faults store.old ≤ S.load_faults store.new }
     ensures once { S.loads store.new ≡ counted (S.loads store.old) }
-    ensures read { IfOk result (λ arena. (bytes : List ℕ) × IsReadMap bytes arena) }
+    ensures read { IfOk result (λ read. (bytes : List ℕ) × IsReadMap bytes read) }
     ensures from { IsFrom (S.holds store.old) TheMap name.now IsReadMap IsBadMap (Rises (S.load_faults store.old) (S.load_faults store.new)) result }
     ensures most { ReadsWithin (S.holds store.old) name.now steps.old steps.new }
-    ensures least { IfOk result (λ arena. steps.old + arena.count ≤ steps.new) }
+    ensures least { IfOk result (λ read. steps.old + read.arena.count ≤ steps.new) }
 {
     let bytes = load_file(alloc, name, Role::Map, store)?;
     map::read(alloc, bytes.as_slice(), steps)
@@ -122,27 +122,27 @@ fn within_limit(status: u8, report: Vec<u8>, map: Vec<u8>) -> Result<Made, Stop>
     })
 }
 
-/// The report of the lines, and the text of the map that they left.
+/// The report of the lines, and the text of the map that they left, in the version.
 fn printed<L: Ledger>(
     alloc: Global,
     book: &Book,
     script: &Script,
     report: &Report,
     arena: &Arena,
+    version: MapVersion,
     steps: &mut Steps<L>,
 ) -> Result<Made, Stop>
-    requires bare { arena.now.schema.embeds ≡ [] }
     requires printable { CanBePrinted book.now.schema (map rule_of book.now.rules) script.now.lines report.now.lines }
     ensures lawful { IsLawful arena.now }
     ensures texts { IsPrinted (run_status (map outcome_of report.now.lines))
         (report_text book.now.schema (map rule_of book.now.rules) script.now.lines (map outcome_of report.now.lines) report.now.darts report.now.next)
-        (canonical arena.now.schema.dim (rows_of arena.now)) result }
+        (canonical version (listed_of arena.now)) result }
     ensures most { steps.new ≤ steps.old + printing arena.now.schema.dim arena.now.count }
     ensures least { IfOk result (λ _. steps.old + arena.now.count ≤ steps.new) }
 {
     prove!(arena.count() <= MOST_DARTS);
     let text = print_report(alloc, book, script, report)?;
-    let map = print_map(alloc, arena, steps)?;
+    let map = print_map(alloc, arena, version, steps)?;
     within_limit(status_of(report.lines.as_slice()), text, map)
 }
 
@@ -153,25 +153,26 @@ fn applied<L: Ledger>(
     book: &Book,
     script: &Script,
     arena: &mut Arena,
+    version: MapVersion,
     steps: &mut Steps<L>,
 ) -> Result<Made, Stop>
     requires { CanRun arena.old book.now script.now plans.now }
-    ensures run { IsRunOf (inputs_of arena.old book.now script.now) result }
+    ensures run { IsRunOf (inputs_of version arena.old book.now script.now) result }
     ensures map { IfOk result (λ made. IsMapBytes made.map.items) }
     ensures lawful { IsLawful arena.old }
-    ensures most { RunsWithin (inputs_of arena.old book.now script.now) steps.old steps.new }
-    ensures least { IfOk result (λ _. RunsAtLeast (inputs_of arena.old book.now script.now) steps.old steps.new) }
+    ensures most { RunsWithin (inputs_of version arena.old book.now script.now) steps.old steps.new }
+    ensures least { IfOk result (λ _. RunsAtLeast (inputs_of version arena.old book.now script.now) steps.old steps.new) }
 {
     prove!(arena.count() <= MOST_DARTS);
     let report = gm_run::run(alloc, plans, script, arena, steps)?;
-    printed(alloc, book, script, &report, arena, steps)
+    printed(alloc, book, script, &report, arena, version, steps)
 }
 
-/// The map and the book are of one dimension. Neither has embeddings so far.
-fn agree(arena: &Arena, book: &Book) -> bool
-    ensures { result ≡ (arena.now.schema.dim == book.now.schema.dim) }
+/// The map and the book are of one dimension, with the same embeddings in the same order.
+fn agree(map: &Schema, book: &Schema) -> bool
+    ensures { IsTrue result ↔ (map.now ≡ book.now) }
 {
-    arena.schema().dim.top() == book.schema.dim.top()
+    map.dim == book.dim && map.embeds.as_slice() == book.embeds.as_slice()
 }
 
 /// What is saved and put of the run, which loads its files and saves nothing.
@@ -192,14 +193,22 @@ fn prepared<S: Store, L: Ledger>(
     ensures least { IfOk result (λ _. IfSome (S.holds store.old) (λ held. AtLeast held (names_of files.entry) steps.old steps.new)) }
     ensures sound { IfErr result (λ stop. IsSoundStop stop (Rises (S.load_faults store.old) (S.load_faults store.new) ⊎ LacksInput (S.holds store.old) (names_of files.entry))) }
 {
-    let mut arena = load_map(alloc, files.map, store, steps)?;
+    let mut map = load_map(alloc, files.map, store, steps)?;
     let book = load_book(alloc, files.book, store)?;
     let plans = plans_of(alloc, &book)?;
     let script = load_script(alloc, files.script, &book, store)?;
-    if !agree(&arena, &book) {
+    if !agree(map.arena.schema(), &book.schema) {
         return Err(Stop::NoText(NoText::Refused(Refusal::Agree)));
     }
-    applied(alloc, plans.as_slice(), &book, &script, &mut arena, steps)
+    applied(
+        alloc,
+        plans.as_slice(),
+        &book,
+        &script,
+        &mut map.arena,
+        map.version,
+        steps,
+    )
 }
 
 fn saved<S: Store>(out: &str, made: Made, store: &mut S) -> Result<Reply, NoText>

@@ -10,31 +10,28 @@ run-requires-clause-plans g c = plans_fit c.args.arena.now c.args.book.now c.arg
 pub run-requires-clause-lines : goal.run-requires-clause-lines
 run-requires-clause-lines g c = lines_fit c.args.arena.now c.args.book.now c.args.script.now c.args.plans.now c.requires
 
-pub printed-requires-clause-bare : goal.printed-requires-clause-bare
-printed-requires-clause-bare g c = ap (λ s. s.embeds) c.run.ensures.schema ∙ c.requires.bare
-
 pub printed-requires-clause-printable : goal.printed-requires-clause-printable
 printed-requires-clause-printable g c = printable c.args.arena.now c.args.book.now c.args.script.now c.args.plans.now c.requires c.in_ok-report.report.lines c.in_ok-report.ensures.printable
 
 pub returns-clause-run : goal.returns-clause-run
 returns-clause-run g c =
-    run_made c.args.arena.now c.args.book.now c.args.script.now c.args.plans.now c.requires c.run.new.arena c.run.ensures.schema c.count.ensures.lawful c.printed.ensures.lawful
+    run_made c.args.arena.now c.args.book.now c.args.script.now c.args.plans.now c.requires c.args.version c.run.new.arena c.run.ensures.schema c.printed.ensures.lawful
     (map outcome_of c.in_ok-report.report.lines) c.in_ok-report.report.darts c.in_ok-report.report.next c.printed.result c.in_ok-report.ensures.run c.in_ok-report.ensures.darts.0 c.in_ok-report.ensures.next c.printed.ensures.texts
 
 pub returns-clause-map : goal.returns-clause-map
-returns-clause-map g c = map_made c.run.new.arena _ _ c.printed.result c.printed.ensures.lawful c.run.ensures.generalised c.printed.ensures.texts
+returns-clause-map g c = map_made c.args.version c.run.new.arena _ _ c.printed.result c.printed.ensures.lawful (ap (λ s. s.embeds) c.run.ensures.schema ∙ c.requires.bare) c.run.ensures.generalised c.printed.ensures.texts
 
 pub returns-in_err-report-clause-most : goal.returns-in_err-report-clause-most
 returns-in_err-report-clause-most g c =
-    unprinted_within c.args.arena.now c.run.new.arena c.args.book.now c.args.script.now c.args.plans.now c.requires c.count.ensures.lawful _ _ c.run.ensures.most
+    unprinted_within c.args.version c.args.arena.now c.run.new.arena c.args.book.now c.args.script.now c.args.plans.now c.requires c.count.ensures.lawful _ _ c.run.ensures.most
 
 pub returns-clause-most : goal.returns-clause-most
 returns-clause-most g c =
-    printed_within c.args.arena.now c.run.new.arena c.args.book.now c.args.script.now c.args.plans.now c.requires c.count.ensures.lawful c.printed.ensures.lawful
+    printed_within c.args.version c.args.arena.now c.run.new.arena c.args.book.now c.args.script.now c.args.plans.now c.requires c.count.ensures.lawful c.printed.ensures.lawful
     (map outcome_of c.in_ok-report.report.lines) c.in_ok-report.ensures.only _ _ _ c.run.ensures.most c.run.ensures.schema c.printed.ensures.most
 
 pub returns-clause-least : goal.returns-clause-least
 returns-clause-least g c =
     if_done
-    (printed_least c.args.arena.now c.run.new.arena c.args.book.now c.args.script.now c.args.plans.now c.requires c.count.ensures.lawful c.printed.ensures.lawful
+    (printed_least c.args.version c.args.arena.now c.run.new.arena c.args.book.now c.args.script.now c.args.plans.now c.requires c.count.ensures.lawful c.printed.ensures.lawful
     (map outcome_of c.in_ok-report.report.lines) c.in_ok-report.ensures.only _ _ _ c.in_ok-report.ensures.least) c.printed.result c.printed.ensures.least
