@@ -4,7 +4,8 @@ use Rattle.std.specs.List.{AllByRecursion}
 use Rattle.gm_model.specs.Names.{reserved, Mention, IsFree, is_among}
 use Rattle.gm_model.specs.Symbols.{Symbol, Word, Numeral, Sign}
 use Rattle.gm_model.specs.Reading.{Part}
-use Rattle.gm_script.specs.ScriptText.{Signed, ValueForm, Plain, Truth, Pair, Triple, LineForm, Role, Fixed, ApplyAt, RuleAt, Hook, Size, word, number, sign, the_end, spell_signed, spell_value, spell_values, spell_params, spell_line, spell_lines, spelling, IsForm}
+use Rattle.gm_script.specs.ScriptText.{ValueForm, Plain, Truth, Pair, Triple, LineForm, Role, Fixed, ApplyAt, RuleAt, Hook, Size, word, number, sign, the_end, spell_signed, spell_value, spell_values, spell_params, spell_line, spell_lines, spelling, IsForm}
+use Rattle.gm_text.specs.ValueText.{Signed}
 use Rattle.gm_script.specs.Reading.{sight_of, next_spot, can_end, is_minus, lines_at, role_in}
 use Rattle.gm_script.specs.declared.sight.Sight.{Sight}
 use Rattle.gm_script.specs.declared.sight.Sight.TheVariants as sights

@@ -6,7 +6,8 @@ use Rattle.gm_model.specs.declared.token.Token.{Token}
 use Rattle.gm_model.specs.declared.value.Value.{Value}
 use Rattle.gm_model.specs.Tokens.{bytes_of}
 use Rattle.gm_model.specs.Symbols.{Symbol, Word, Numeral, Sign}
-use Rattle.gm_script.specs.ScriptText.{ValueForm, Plain, Truth, Pair, Triple, LineForm, Signed, integer}
+use Rattle.gm_script.specs.ScriptText.{ValueForm, Plain, Truth, Pair, Triple, LineForm}
+use Rattle.gm_text.specs.ValueText.{Signed, integer}
 use Rattle.gm_script.specs.Reading.{HeldLine, Held, number_limit, limit_in, next_spot, sight_of, lines_at, hold, hold_apply, hold_number, hold_vector, new_line, closed}
 use Rattle.gm_script.specs.Lines.{value_held, IsInText, IsHeldLine, AreHeld}
 use Rattle.gm_script.specs.declared.sight.Sight.{Sight}

@@ -6,7 +6,8 @@ use Rattle.std.specs.Str.{bytes_eq}
 use Rattle.gm_model.specs.Names.{reserved, is_among}
 use Rattle.gm_model.specs.Symbols.{Word}
 use Rattle.gm_model.specs.Reading.{Part}
-use Rattle.gm_script.specs.ScriptText.{Signed, ValueForm, Plain, Truth, Pair, Triple, LineForm, Role, Fixed, ApplyAt, RuleAt, Hook, Size, limit_of, word, number, sign, the_end, spell_signed, spell_value, spell_values, spell_params, spell_line, spell_lines, spelling, IsForm, IsSentence}
+use Rattle.gm_script.specs.ScriptText.{ValueForm, Plain, Truth, Pair, Triple, LineForm, Role, Fixed, ApplyAt, RuleAt, Hook, Size, limit_of, word, number, sign, the_end, spell_signed, spell_value, spell_values, spell_params, spell_line, spell_lines, spelling, IsForm, IsSentence}
+use Rattle.gm_text.specs.ValueText.{Signed}
 use Rattle.gm_text.specs.Machine.{Leads}
 use Rattle.gm_script.specs.Reading.{State, At, Ended, can_end, move, role_at, never, next_name, sight_of_word}
 use Rattle.gm_script.specs.declared.sight.Sight.{Sight}

@@ -4,7 +4,8 @@ use Rattle.std.specs.Prelude.{nat_le, nat_lt}
 use Rattle.std.proofs.lemmas.Bool.Decides.{nat_tests}
 use Rattle.gm_model.specs.declared.limit.LimitKind.{LimitKind}
 use Rattle.gm_model.specs.Symbols.{Symbol, Word, Numeral, Sign}
-use Rattle.gm_script.specs.ScriptText.{limit_of, greatest}
+use Rattle.gm_script.specs.ScriptText.{limit_of}
+use Rattle.gm_text.specs.ValueText.{greatest}
 use Rattle.gm_script.specs.Reading.{number_limit, limit_in, next_spot, sight_of, role_in, lines_at, hold, Held}
 use Rattle.gm_model.specs.declared.token.Token.{Token}
 use Rattle.gm_script.specs.declared.sight.Sight.{Sight}

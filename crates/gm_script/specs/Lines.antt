@@ -4,7 +4,8 @@ use Rattle.gm_model.specs.declared.token.Token.{Token}
 use Rattle.gm_model.specs.declared.value.Value.{Value}
 use Rattle.gm_model.specs.declared.value.Value.TheVariants as values
 use Rattle.gm_model.specs.Tokens.{bytes_of}
-use Rattle.gm_script.specs.ScriptText.{ValueForm, Plain, Truth, Pair, Triple, LineForm, integer, IsWritten, IsTextFault, IsLimitFault}
+use Rattle.gm_script.specs.ScriptText.{ValueForm, Plain, Truth, Pair, Triple, LineForm, IsWritten, IsTextFault, IsLimitFault}
+use Rattle.gm_text.specs.ValueText.{integer}
 use Rattle.gm_script.specs.declared.reader.TextFault.{TextFault}
 use Rattle.gm_script.specs.declared.reader.TextFault.TheVariants as faults
 use Rattle.gm_script.specs.Reading.{HeldLine}

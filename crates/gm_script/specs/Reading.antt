@@ -12,7 +12,8 @@ use Rattle.gm_model.specs.Limits.{most_names}
 use Rattle.gm_model.specs.Names.{reserved, is_among}
 use Rattle.gm_model.specs.Tokens.{Item, Lexed, StrayAt, EndAt, items_of, bytes_of, IsLexeme}
 use Rattle.gm_model.specs.Symbols.{Symbol, Word, Numeral, Sign, End, symbol_of_kind}
-use Rattle.gm_script.specs.ScriptText.{Role, Fixed, ApplyAt, RuleAt, Hook, Size, greatest}
+use Rattle.gm_script.specs.ScriptText.{Role, Fixed, ApplyAt, RuleAt, Hook, Size}
+use Rattle.gm_text.specs.ValueText.{greatest}
 use Rattle.gm_text.specs.Cursor.{Cursor}
 use Rattle.gm_text.specs.Lexing.{rest_of}
 use Rattle.gm_script.specs.declared.sight.Sight.{Sight}

@@ -1,5 +1,5 @@
 -- How a script is written: the grammar of its texts with their limits, and the lines that a text stands for under a book of rules, or the first fault in which it disagrees with the book.
-use Rattle.std.specs.Prelude.{◌≡◌, ◌≢◌, ℕ, ◌+◌, ◌-◌, ◌^◌, Bool, true, false, ◌&&◌, nat_lt, nat_le, if◌then◌else◌, ℤ, pos, neg_ℤ, int_le, nat_abs, List, [], ◌∷◌, ◌++◌, length, map, take, Option, Some, None, codes, slice_get}
+use Rattle.std.specs.Prelude.{◌≡◌, ◌≢◌, ℕ, ◌+◌, ◌^◌, Bool, true, false, ◌&&◌, nat_lt, nat_le, if◌then◌else◌, ℤ, pos, neg_ℤ, int_le, nat_abs, List, [], ◌∷◌, ◌++◌, length, map, take, Option, Some, None, codes, slice_get}
 use Rattle.std.specs.List.{position, AllByRecursion}
 use Rattle.std.specs.Str.{bytes_eq}
 use Rattle.gm_model.specs.declared.limit.LimitKind.{LimitKind}
@@ -15,13 +15,10 @@ use Rattle.gm_model.specs.Symbols.{Symbol, Word, Numeral, Sign, End, Mark, marks
 use Rattle.gm_model.specs.Rules.{Rule}
 use Rattle.gm_model.specs.Reading.{Part, IsReadAs, TextEndsAt, LimitPassedAt}
 use Rattle.gm_model.specs.Names.{Mention, IsFree}
+use Rattle.gm_text.specs.ValueText.{Signed, integer, greatest, is_channel}
+use Rattle.gm_text.specs.ValueText as numbers
 
 -- ---- what is written in a script
-
--- a number, and whether a minus stands before it
-pub record Signed : Type 0 where
-  pub minus : Bool
-  pub size : ℕ
 
 -- a value, before its kind is known
 pub data ValueForm : Type 0 where
@@ -54,10 +51,6 @@ pub data Role : Type 0 where
   -- a number of a value, and whether a minus stands before it
   Size : Bool → Role
 
--- the greatest number of a value
-abbrev pub greatest : Bool → ℕ
-greatest minus = if minus then 2 ^ 63 else 2 ^ 63 - 1
-
 -- the limit that a symbol passes in a role
 abbrev pub limit_of : Role → Symbol → Option LimitKind
 limit_of (ApplyAt k place) (Word word) = if nat_lt 100000 k then Some limits.Lines else None
@@ -81,7 +74,7 @@ the_end = record { symbol = End; role = Fixed }
 -- Each spelling takes what stands behind it.
 
 abbrev pub spell_signed : Signed → List (Part Role) → List (Part Role)
-spell_signed x rest = if x.minus then sign (codes "-") ∷ number (Size true) x.size ∷ rest else number (Size false) x.size ∷ rest
+spell_signed x rest = numbers.spell_signed Fixed Size x rest
 
 -- 3, or true, or (1 2), or (1 2 3)
 abbrev pub spell_value : ValueForm → List (Part Role) → List (Part Role)
@@ -152,13 +145,6 @@ IsLimitFault text what place = LimitPassedAt IsSentence limit_of (marks_of text)
 -- The index of the rule with the name, of rules with one name the first. An index has 16 bits, which is more than the rules of any book's text need.
 unfoldable pub index_of : List Rule → List ℕ → Option ℕ
 index_of rules name = position (λ (rule : Rule). bytes_eq name rule.name) (take (2 ^ 16) rules)
-
-abbrev pub integer : Signed → ℤ
-integer x = if x.minus then neg_ℤ (pos x.size) else pos x.size
-
--- whether it is a component of a colour
-abbrev pub is_channel : ℤ → Bool
-is_channel n = int_le (pos 0) n && int_le n (pos 255)
 
 -- the colour of these components
 abbrev pub colour : ℤ → ℤ → ℤ → Option Value

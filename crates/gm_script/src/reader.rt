@@ -1,6 +1,6 @@
 //! What a script says so far, as its tokens are read one after another.
 ghost use Rattle.std.specs.Prelude.{◌≡◌, ◌-◌, ◌<◌, ◌≤◌, OnOk, IfErr, if◌then◌else◌};
-ghost use Rattle.gm_script.specs.ScriptText as script;
+ghost use Rattle.gm_text.specs.ValueText as numbers;
 ghost use Rattle.gm_script.specs.Reading as reading;
 ghost use Rattle.gm_script.specs.Reading.{Gives};
 
@@ -294,13 +294,13 @@ fn number_limit(spot: Spot, n: u64) -> Option<LimitKind>
 
 /// The greatest number of a value.
 fn greatest(minus: bool) -> u64
-    ensures { result ≡ script.greatest minus }
+    ensures { result ≡ numbers.greatest minus }
 {
     if minus { 1 << 63 } else { (1 << 63) - 1 }
 }
 
 fn signed(minus: bool, size: u64) -> i64
-    requires { size ≤ script.greatest minus }
+    requires { size ≤ numbers.greatest minus }
     ensures { result ≡ reading.signed minus size }
 {
     let wide = size as i128;

@@ -1,5 +1,6 @@
 //! The values of a line, once the kinds of its rule's parameters are known.
 ghost use Rattle.std.specs.Prelude.{◌≡◌, None, Some, MatchOption};
+ghost use Rattle.gm_text.specs.ValueText as numbers;
 ghost use Rattle.gm_script.specs.ScriptText as script;
 ghost use Rattle.gm_script.specs.Comparing.{value_for, params_for};
 
@@ -42,7 +43,7 @@ fn colour(r: i64, g: i64, b: i64) -> Option<Value>
 }
 
 fn is_channel(n: i64) -> bool
-    ensures { result ≡ script.is_channel n }
+    ensures { result ≡ numbers.is_channel n }
 {
     0 <= n && n <= 255
 }
