@@ -3,7 +3,7 @@ ghost use Rattle.std.specs.Prelude.{◌≡◌, ◌<◌};
 
 use gm_arena::Steps;
 use gm_laws::MapBreach;
-use gm_mapfile::{MapFault, print_map, read_map};
+use gm_mapfile::{MapFault, MapVersion, print_map, read_map};
 use gm_model::LimitKind;
 use std::alloc::Global;
 use std::marker::Brand;
@@ -37,7 +37,141 @@ darts 2
 40 3 40
 ";
 
+const QUAD_WITH_POINTS: &[u8] = b"gmap 1
+dim 2
+embed pos <1 2> vec3
+darts 8
+0 1 7 0 (0 0 0)
+1 0 2 1 (4 0 0)
+2 3 1 2 (4 0 0)
+3 2 4 3 (4 4 0)
+4 5 3 4 (4 4 0)
+5 4 6 5 (0 4 0)
+6 7 5 6 (0 4 0)
+7 6 0 7 (0 0 0)
+";
+
+const EACH_KIND: &[u8] = b"gmap 2
+dim 1
+embed w <> int
+embed v <0> vec2
+embed p <0 1> vec3
+embed c <1> rgb
+next 5
+darts 1
+3 3 3 -9223372036854775808 (1 -2) (0 0 9223372036854775807) (0 255 0)
+";
+
+const EIGHT: &[u8] = b"gmap 2
+dim 7
+embed a <> int
+embed b <0> int
+embed c <7> int
+embed d <0 1 2 3 4 5 6 7> int
+embed e <> int
+embed f <> int
+embed g <> int
+embed a2345678901234567890123456789012 <> int
+next 16777216
+darts 0
+";
+
+/// A text, the text that is printed of it in the version that it has, its version, and the map's
+/// dimension, number of darts and next name.
+type Case = (&'static [u8], &'static [u8], MapVersion, u8, u32, u32);
+
 fn check_texts<L: Ledger>(
+    rt: &impl Abort,
+    alloc: Global,
+    handle: &HostRuntime,
+    blank: Blank,
+    cases: &[Case],
+) -> Result<(), Fail>
+    requires name { blank.name ≡ L.name }
+    requires parts { blank.parts ≡ L.parts }
+    requires some { 0 < blank.parts }
+{
+    let mut steps: Steps<L> = Steps::start(handle, blank);
+    for (text, canonical, version, dim, count, next) in cases {
+        let read = read_map(alloc, *text, &mut steps)?;
+        assert_eq!(rt; read.version, *version);
+        assert_eq!(rt; read.arena.schema().dim.top(), *dim);
+        assert_eq!(rt; read.arena.count(), *count);
+        assert_eq!(rt; read.arena.next(), *next);
+        let printed = print_map(alloc, &read.arena, read.version, &mut steps)?;
+        assert_eq!(rt; printed.as_slice(), *canonical);
+    }
+    Ok(())
+}
+
+#[test]
+fn a_map_is_read_and_printed(rt: HostRuntime) -> Result<(), Fail> {
+    let cases: [Case; 6] = [
+        (SQUARE, SQUARE, MapVersion::One, 2, 8, 8),
+        (SQUARE_IN_DISORDER, SQUARE, MapVersion::One, 2, 8, 8),
+        (
+            b"gmap 1 dim 1 darts 2 40 3 40 3 40 3",
+            FAR_PAIR,
+            MapVersion::One,
+            1,
+            2,
+            41,
+        ),
+        (
+            b"gmap 1 dim 7 darts 0",
+            b"gmap 1\ndim 7\ndarts 0\n",
+            MapVersion::One,
+            7,
+            0,
+            0,
+        ),
+        (
+            b"gmap 002 dim 1 next 7 darts 1 3 3 3",
+            b"gmap 2\ndim 1\nnext 7\ndarts 1\n3 3 3\n",
+            MapVersion::Two,
+            1,
+            1,
+            7,
+        ),
+        (
+            b"gmap 2 dim 1 next 0 darts 0",
+            b"gmap 2\ndim 1\nnext 0\ndarts 0\n",
+            MapVersion::Two,
+            1,
+            0,
+            0,
+        ),
+    ];
+    check_texts::<Brand>(&rt, rt.alloc(), &rt, Blank::new(1), &cases)
+}
+
+#[test]
+fn a_map_with_values_is_read_and_printed(rt: HostRuntime) -> Result<(), Fail> {
+    let cases: [Case; 4] = [
+        (
+            QUAD_WITH_POINTS,
+            QUAD_WITH_POINTS,
+            MapVersion::One,
+            2,
+            8,
+            8,
+        ),
+        (EACH_KIND, EACH_KIND, MapVersion::Two, 1, 1, 5),
+        (EIGHT, EIGHT, MapVersion::Two, 7, 0, 16_777_216),
+        (
+            b"gmap 1 dim 2 embed embed <2 01> vec3 darts 1 0 0 0 0 (-0 - 07 1)# ",
+            b"gmap 1\ndim 2\nembed embed <1 2> vec3\ndarts 1\n0 0 0 0 (0 -7 1)\n",
+            MapVersion::One,
+            2,
+            1,
+            1,
+        ),
+    ];
+    check_texts::<Brand>(&rt, rt.alloc(), &rt, Blank::new(1), &cases)
+}
+
+/// The map is read in the one version and printed in the other.
+fn check_migration<L: Ledger>(
     rt: &impl Abort,
     alloc: Global,
     handle: &HostRuntime,
@@ -48,32 +182,46 @@ fn check_texts<L: Ledger>(
     requires some { 0 < blank.parts }
 {
     let mut steps: Steps<L> = Steps::start(handle, blank);
-    let texts: [(&[u8], &[u8], u8, u32, u32); 4] = [
-        (SQUARE, SQUARE, 2, 8, 8),
-        (SQUARE_IN_DISORDER, SQUARE, 2, 8, 8),
-        (b"gmap 1 dim 1 darts 2 40 3 40 3 40 3", FAR_PAIR, 1, 2, 41),
-        (
-            b"gmap 1 dim 7 darts 0",
-            b"gmap 1\ndim 7\ndarts 0\n",
-            7,
-            0,
-            0,
-        ),
-    ];
-    for (text, canonical, dim, count, next) in texts {
-        let arena = read_map(alloc, text, &mut steps)?;
-        assert_eq!(rt; arena.schema().dim.top(), dim);
-        assert_eq!(rt; arena.count(), count);
-        assert_eq!(rt; arena.next(), next);
-        let printed = print_map(alloc, &arena, &mut steps)?;
-        assert_eq!(rt; printed.as_slice(), canonical);
+    let first = read_map(alloc, FAR_PAIR, &mut steps)?;
+    let second = print_map(alloc, &first.arena, MapVersion::Two, &mut steps)?;
+    assert_eq!(rt; second.as_slice(), b"gmap 2\ndim 1\nnext 41\ndarts 2\n3 40 3\n40 3 40\n".as_slice());
+    let again = read_map(alloc, second.as_slice(), &mut steps)?;
+    let back = print_map(alloc, &again.arena, MapVersion::One, &mut steps)?;
+    assert_eq!(rt; back.as_slice(), FAR_PAIR);
+    Ok(())
+}
+
+#[test]
+fn a_map_is_printed_in_the_other_version(rt: HostRuntime) -> Result<(), Fail> {
+    check_migration::<Brand>(&rt, rt.alloc(), &rt, Blank::new(1))
+}
+
+/// Each text that a text begins with, but for its last byte, ends too early, at its end or at the
+/// token that is cut.
+fn check_cuts<L: Ledger>(
+    rt: &impl Abort,
+    alloc: Global,
+    handle: &HostRuntime,
+    blank: Blank,
+) -> Result<(), Fail>
+    requires name { blank.name ≡ L.name }
+    requires parts { blank.parts ≡ L.parts }
+    requires some { 0 < blank.parts }
+{
+    let mut steps: Steps<L> = Steps::start(handle, blank);
+    for cut in 0..QUAD_WITH_POINTS.len() - 1 {
+        let Err(MapFault::Text { place }) = read_map(alloc, &QUAD_WITH_POINTS[..cut], &mut steps)
+        else {
+            return Err("no early end".into());
+        };
+        assert!(rt; place <= cut);
     }
     Ok(())
 }
 
 #[test]
-fn a_map_is_read_and_printed(rt: HostRuntime) -> Result<(), Fail> {
-    check_texts::<Brand>(&rt, rt.alloc(), &rt, Blank::new(1))
+fn a_text_that_is_cut_is_refused(rt: HostRuntime) -> Result<(), Fail> {
+    check_cuts::<Brand>(&rt, rt.alloc(), &rt, Blank::new(1))
 }
 
 fn check_faults<L: Ledger>(
@@ -103,7 +251,7 @@ fn limit(what: LimitKind, place: usize) -> MapFault {
 
 #[test]
 fn the_first_fault_of_the_text_is_answered(rt: HostRuntime) -> Result<(), Fail> {
-    let cases: [(&[u8], MapFault); 20] = [
+    let cases: [(&[u8], MapFault); 21] = [
         (b"", MapFault::Text { place: 0 }),
         (b"Gmap 1", MapFault::Text { place: 0 }),
         (b"gmap 1", MapFault::Text { place: 6 }),
@@ -143,8 +291,9 @@ fn the_first_fault_of_the_text_is_answered(rt: HostRuntime) -> Result<(), Fail> 
         ),
         (
             b"gmap 1 dim 2 # none\n embed ?",
-            MapFault::NotBuilt { place: 21 },
+            MapFault::Text { place: 27 },
         ),
+        (b"gmap 3 dim 2", MapFault::Text { place: 5 }),
         (b"gmap 1 dim 2 darts 0 embed", MapFault::Text { place: 21 }),
         (b"gmap 1 embed dim 2", MapFault::Text { place: 7 }),
         (b"gmap 1 dim 2 embeds", MapFault::Text { place: 13 }),
@@ -198,6 +347,156 @@ fn the_first_fault_of_the_darts_is_answered(rt: HostRuntime) -> Result<(), Fail>
                 i: 1,
                 j: 3,
             }),
+        ),
+    ];
+    check_faults::<Brand>(&rt, rt.alloc(), &rt, Blank::new(1), &cases)
+}
+
+#[test]
+fn the_first_fault_of_a_schema_is_answered(rt: HostRuntime) -> Result<(), Fail> {
+    let cases: [(&[u8], MapFault); 12] = [
+        (
+            b"gmap 1 dim 2 embed a <3> int",
+            limit(LimitKind::Label, 22),
+        ),
+        (
+            b"gmap 1 dim 2 embed a <1 1> int x",
+            MapFault::Twice { place: 24 },
+        ),
+        (
+            b"gmap 1 dim 1 embed a <0 2 0> int",
+            limit(LimitKind::Label, 24),
+        ),
+        (
+            b"gmap 1 dim 2 embed a <> int embed a <> rgb ?",
+            MapFault::Twice { place: 34 },
+        ),
+        (
+            b"gmap 1 dim 2 embed a23456789012345678901234567890123 <> int",
+            limit(LimitKind::Name, 19),
+        ),
+        (
+            b"gmap 1 dim 2 embed count <> int",
+            MapFault::Text { place: 19 },
+        ),
+        (
+            b"gmap 1 dim 2 embed a <> bool",
+            MapFault::Text { place: 24 },
+        ),
+        (
+            b"gmap 1 dim 1 embed a <> int embed b <> int embed c <> int embed d <> int embed e <> int embed f <> int embed g <> int embed h <> int embed a",
+            limit(LimitKind::Embeddings, 133),
+        ),
+        (
+            b"gmap 1 dim 1 next 3 darts 0",
+            MapFault::Text { place: 13 },
+        ),
+        (b"gmap 2 dim 1 darts 0", MapFault::Text { place: 13 }),
+        (
+            b"gmap 2 dim 1 next 16777217 darts 0",
+            limit(LimitKind::DartName, 18),
+        ),
+        (
+            b"gmap 2 dim 1 next 3 embed a <> int darts 0",
+            MapFault::Text { place: 20 },
+        ),
+    ];
+    check_faults::<Brand>(&rt, rt.alloc(), &rt, Blank::new(1), &cases)
+}
+
+#[test]
+fn the_first_fault_of_a_value_is_answered(rt: HostRuntime) -> Result<(), Fail> {
+    let cases: [(&[u8], MapFault); 11] = [
+        (
+            b"gmap 1 dim 1 embed w <> int darts 1 0 0 0 9223372036854775808",
+            limit(LimitKind::Integer, 42),
+        ),
+        (
+            b"gmap 1 dim 1 embed w <> int darts 1 0 0 0 -9223372036854775809",
+            limit(LimitKind::Integer, 43),
+        ),
+        (
+            b"gmap 1 dim 1 embed w <> int darts 1 0 0 0 --1",
+            MapFault::Text { place: 43 },
+        ),
+        (
+            b"gmap 1 dim 1 embed w <> int darts 1 0 0 0 (1)",
+            MapFault::Text { place: 42 },
+        ),
+        (
+            b"gmap 1 dim 1 embed w <> vec2 darts 1 0 0 0 (1 2 3)",
+            MapFault::Text { place: 48 },
+        ),
+        (
+            b"gmap 1 dim 1 embed w <> vec3 darts 1 0 0 0 (1 2)",
+            MapFault::Text { place: 47 },
+        ),
+        (
+            b"gmap 1 dim 1 embed w <> rgb darts 1 0 0 0 (0 256 0)",
+            limit(LimitKind::Channel, 45),
+        ),
+        (
+            b"gmap 1 dim 1 embed w <> rgb darts 1 0 0 0 (0 -1 0)",
+            limit(LimitKind::Channel, 46),
+        ),
+        (
+            b"gmap 1 dim 1 embed w <> rgb darts 1 0 0 0 (0 99999999999999999999 0)",
+            limit(LimitKind::Integer, 45),
+        ),
+        (
+            b"gmap 1 dim 1 embed w <> int darts 1 0 0 0",
+            MapFault::Text { place: 41 },
+        ),
+        (
+            b"gmap 1 dim 1 embed w <> int darts 1 0 0 0 true",
+            MapFault::Text { place: 42 },
+        ),
+    ];
+    check_faults::<Brand>(&rt, rt.alloc(), &rt, Blank::new(1), &cases)
+}
+
+#[test]
+fn the_next_name_and_the_values_of_orbits_are_tested(rt: HostRuntime) -> Result<(), Fail> {
+    let cases: [(&[u8], MapFault); 8] = [
+        (
+            b"gmap 2 dim 1 next 3 darts 1 3 3 3",
+            MapFault::Next { dart: 3 },
+        ),
+        (
+            b"gmap 2 dim 1 next 3 darts 3 9 9 9 2 8 8 4 4 4",
+            MapFault::Next { dart: 4 },
+        ),
+        (
+            b"gmap 2 dim 1 next 3 darts 2 9 9 9 9 9 9",
+            MapFault::DartTwice { dart: 9 },
+        ),
+        (
+            b"gmap 2 dim 1 next 4 darts 1 3 9 3",
+            MapFault::NoTarget { dart: 3, label: 0 },
+        ),
+        (
+            b"gmap 1 dim 1 embed w <1> int darts 2 0 0 1 5 1 1 0 6",
+            MapFault::Breach(MapBreach::Embedding {
+                embed: 0,
+                dart: 0,
+                other: 1,
+            }),
+        ),
+        (
+            b"gmap 1 dim 1 embed u <> int embed w <0> rgb darts 2 1 0 1 5 (1 2 3) 0 1 0 6 (1 2 4)",
+            MapFault::Breach(MapBreach::Embedding {
+                embed: 1,
+                dart: 0,
+                other: 1,
+            }),
+        ),
+        (
+            b"gmap 1 dim 1 embed w <1> int darts 2 0 0 1 5 1 1 1 6",
+            MapFault::Breach(MapBreach::Involution { dart: 0, label: 1 }),
+        ),
+        (
+            b"gmap 1 dim 1 embed w <0> int darts 3 0 1 0 4 1 0 1 4 2 2 2 5 7",
+            MapFault::Text { place: 61 },
         ),
     ];
     check_faults::<Brand>(&rt, rt.alloc(), &rt, Blank::new(1), &cases)

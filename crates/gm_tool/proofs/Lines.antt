@@ -7,8 +7,8 @@ use Rattle.gm_arena.specs.ArenaAsMap.{as_map}
 use Rattle.gm_arena.specs.ArenaMap.{ArenaMap}
 use Rattle.gm_arena.specs.Lawful.{IsLawful}
 use Rattle.gm_mapfile.specs.Rows.{darts_of, listed_of}
-use Rattle.gm_mapfile.proofs.HeldRows.{held_ascending}
-use Rattle.gm_mapfile.proofs.Printed.{length_rows}
+use Rattle.gm_mapfile.proofs.ArenaDarts.{darts_ascending}
+use Rattle.gm_mapfile.proofs.Printed.{darts_counted}
 use Rattle.gm_model.specs.declared.rule.Book.{Book}
 use Rattle.gm_model.specs.declared.rule.RuleTable.{RuleTable}
 use Rattle.gm_model.specs.declared.schema.Schema.{Schema}
@@ -34,7 +34,8 @@ use Rattle.gm_tool.specs.declared.refusal.NoText.TheVariants as nothing
 use Rattle.gm_tool.specs.declared.refusal.Stop.{Stop}
 use Rattle.gm_tool.specs.declared.refusal.Stop.TheVariants as stops
 use Rattle.gm_tool.specs.declared.running.Made.{Made}
-use Rattle.gm_tool.proofs.ArenaMaps.{as_listed, darts_whole, text_of_arena}
+use Rattle.gm_mapfile.proofs.SoundRows.{same_map}
+use Rattle.gm_tool.proofs.ArenaMaps.{darts_whole, text_of_arena}
 
 -- a run is done with status 0 or 1
 status_is : (outcomes : List Outcome) → IsRunStatus (run_status outcomes)
@@ -86,11 +87,11 @@ module _ (m : ArenaMap) (book : Book) (script : Script) (plans : List PlanOf) (c
     is_ran : (outcomes : List Outcome) → IsRun (rules_of plans) (as_map m) script.lines outcomes (as_map after) → IsRan inputs (left outcomes)
     is_ran outcomes h = record {
       run =
-          subst (λ x. IsRun (map rule_of book.rules) (map_of (listed_of m)) script.lines outcomes x) (as_listed after)
-          (subst (λ x. IsRun (map rule_of book.rules) x script.lines outcomes (as_map after)) (as_listed m)
+          subst (λ x. IsRun (map rule_of book.rules) (map_of (listed_of m)) script.lines outcomes x) (same_map after)
+          (subst (λ x. IsRun (map rule_of book.rules) x script.lines outcomes (as_map after)) (same_map m)
           (subst (λ rules. IsRun rules (as_map m) script.lines outcomes (as_map after)) same_rules h));
       schema_is = same_schema;
-      ascending = held_ascending after;
+      ascending = darts_ascending after;
       whole = darts_whole after lawful_after;
     }
 
@@ -101,7 +102,7 @@ module _ (m : ArenaMap) (book : Book) (script : Script) (plans : List PlanOf) (c
       where
         report_is : report_text book.schema (map rule_of book.rules) script.lines outcomes darts next ≡ report_of inputs (left outcomes)
         report_is =
-            ap (λ k. report_text book.schema (map rule_of book.rules) script.lines outcomes k next) (counted ∙ sym (length_rows after lawful_after))
+            ap (λ k. report_text book.schema (map rule_of book.rules) script.lines outcomes k next) (counted ∙ sym (darts_counted after lawful_after))
             ∙ ap (λ k. report_text book.schema (map rule_of book.rules) script.lines outcomes (length (darts_of after)) k) named
 
         fitted : (r : Result Made Stop) → IsFitted (run_status outcomes) (report_text book.schema (map rule_of book.rules) script.lines outcomes darts next) (canonical version (listed_of after)) r

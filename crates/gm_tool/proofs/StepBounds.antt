@@ -13,7 +13,7 @@ use Rattle.gm_arena.specs.ArenaAsMap.{as_map}
 use Rattle.gm_arena.specs.ArenaMap.{ArenaMap}
 use Rattle.gm_arena.specs.Lawful.{IsLawful}
 use Rattle.gm_host.specs.Store.{Contents, IsHeld}
-use Rattle.gm_mapfile.proofs.Printed.{length_rows}
+use Rattle.gm_mapfile.proofs.Printed as printed_darts
 use Rattle.gm_mapfile.specs.declared.reading.MapRead.{MapRead}
 use Rattle.gm_model.specs.declared.rule.Book.{Book}
 use Rattle.gm_model.specs.declared.schema.Schema.{Schema}
@@ -35,7 +35,7 @@ use Rattle.gm_tool.specs.MadeRuns.{CanRun, inputs_of}
 use Rattle.gm_tool.specs.RunAnswer.{RunNames, Inputs, Ran, IsRan, IsGoodRun, HasMap, HasBook, HasScript, IsBadMap, IsBadBook, IsBadScript}
 use Rattle.gm_tool.specs.StepBounds.{HasBudget, IsMost, MostOf, IsLeast, LeastOf, WithinMost, AtLeast, BytesReadWithin, ReadsWithin, RunsWithin, RunsAtLeast, dim_of, darts_read, darts_left, printing}
 use Rattle.gm_tool.specs.Stops.{IsReadMap, IsReadBook, IsReadScript, IsFrom}
-use Rattle.gm_tool.proofs.ArenaMaps.{as_listed}
+use Rattle.gm_mapfile.proofs.SoundRows.{same_map}
 use Rattle.gm_tool.proofs.Lines.{same_rules}
 use Rattle.gm_tool.proofs.OneRunAnswer.{same_inputs}
 
@@ -85,7 +85,7 @@ module _ (version : MapVersion) (m after : ArenaMap) (book : Book) (script : Scr
   lines_within start steps within ran sum budget =
       within ran.outcomes (map_of ran.map) sum
       (subst (λ rules. IsRunBudget rules (as_map m) script.lines ran.outcomes (map_of ran.map) sum) (sym (same_rules m book script plans can))
-      (subst (λ x. IsRunBudget (map rule_of book.rules) x script.lines ran.outcomes (map_of ran.map) sum) (sym (as_listed m)) budget))
+      (subst (λ x. IsRunBudget (map rule_of book.rules) x script.lines ran.outcomes (map_of ran.map) sum) (sym (same_map m)) budget))
 
   module _ (lawful_after : IsLawful after) (outcomes : List Outcome)
       (only : (others : List Outcome) (end : Map) → IsRun (rules_of plans) (as_map m) script.lines others end → (others ≡ outcomes) × AreAlike end (as_map after)) where
@@ -93,7 +93,7 @@ module _ (version : MapVersion) (m after : ArenaMap) (book : Book) (script : Scr
     of_ran ran is =
         only ran.outcomes (map_of ran.map)
         (subst (λ rules. IsRun rules (as_map m) script.lines ran.outcomes (map_of ran.map)) (sym (same_rules m book script plans can))
-        (subst (λ x. IsRun (map rule_of book.rules) x script.lines ran.outcomes (map_of ran.map)) (sym (as_listed m)) is.run))
+        (subst (λ x. IsRun (map rule_of book.rules) x script.lines ran.outcomes (map_of ran.map)) (sym (same_map m)) is.run))
 
     -- the map that is left has as many darts
     left_counted : (ran : Ran) → IsRan inputs ran → darts_left ran ≡ after.count
@@ -195,7 +195,7 @@ module _ (named : RunNames) where
         each _ (LeastOf others ran good) =
             let same = of_read files named read.version read.arena book script the_map the_book the_script others ran good in
             let low = subst (λ x. RunsAtLeast x middle after) (sym same) runs ran good.is_ran in
-            let count = ap darts_read same ∙ length_rows read.arena lawful in
+            let count = ap darts_read same ∙ printed_darts.darts_counted read.arena lawful in
             omega (arith, low, reads, count)
 
 pub if_done : {A E P Q : Type 0} → (P → Q) → (result : Result A E) → IfOk result (λ _. P) → IfOk result (λ _. Q)

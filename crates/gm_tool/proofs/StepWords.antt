@@ -5,7 +5,7 @@ use Rattle.std.proofs.Math.Nat.{mul_assoc}
 use Rattle.gm_arena.specs.Lawful.{IsLawful}
 use Rattle.gm_host.specs.Store.{Contents, IsHeld}
 use Rattle.gm_mapfile.proofs.OneMap.{one_map}
-use Rattle.gm_mapfile.proofs.Printed.{length_rows}
+use Rattle.gm_mapfile.proofs.Printed.{darts_counted}
 use Rattle.gm_mapfile.specs.MapText.{ListedMap, MapText}
 use Rattle.gm_mapfile.specs.Rows.{listed_of}
 use Rattle.gm_mapfile.specs.declared.reading.MapRead.{MapRead}
@@ -64,7 +64,7 @@ pub prints_shown : (bytes : List ℕ) (read : MapRead) (before middle after : �
     → BytesReadWithin bytes before middle → after ≤ middle + printing read.arena.schema.dim read.arena.count → ShowsWithin bytes before after
 prints_shown bytes read before middle after lawful is reads prints version listed stands =
     let same : listed_of read.arena ≡ listed = (one_map bytes read.version version (listed_of read.arena) listed is stands).1 in
-    let count : read.arena.count ≡ length (listed_of read.arena).darts = sym (length_rows read.arena lawful) in
+    let count : read.arena.count ≡ length (listed_of read.arena).darts = sym (darts_counted read.arena lawful) in
     let printed : after ≤ middle + printing listed.schema.dim (length listed.darts) =
     subst (λ (l : ListedMap). after ≤ middle + printing l.schema.dim (length l.darts)) same (subst (λ k. after ≤ middle + printing read.arena.schema.dim k) count prints) in
     printed_below ((listed.schema.dim + 1) * (listed.schema.dim + 1)) (length listed.darts) before middle after (reads version listed stands) printed
