@@ -10,8 +10,9 @@ use Rattle.gm_tool.specs.Endings.{IsEnding, Whole, LoadFailed, SaveFailed, IsSto
 use Rattle.gm_tool.specs.MadeRuns.{IsRunText, IsSoundReply, HasCause, LacksInput, HoldsMap, IsRunStatus}
 use Rattle.gm_tool.specs.Program.{IsCommand, IsRunCommand, Usage, OfFile, OfRun}
 use Rattle.gm_tool.specs.RunAnswer.{RunNames, AsksRun}
-use Rattle.gm_tool.specs.Checking.{check_status}
+use Rattle.gm_lines.specs.Checking.{check_status}
 use Rattle.gm_tool.specs.Answer as answer
+use Rattle.gm_lines.specs.Refusing as refusing
 use Rattle.gm_tool.specs.declared.refusal.NoText.{NoText}
 use Rattle.gm_tool.specs.declared.refusal.NoText.TheVariants as nothing
 use Rattle.gm_tool.specs.declared.refusal.Refusal.TheVariants as refusals
@@ -54,11 +55,11 @@ no_file_is contents name role fails (faults.TooLong seen) absent failed long = (
 no_file_is contents name role fails faults.OutOfMemory absent failed long = tt
 
 module _ (command : answer.Command) (name : List ℕ) (role : Role) (of : role_in role ≡ role_of command) (fails : Type 0) (load_fails : ℕ → Type 0) (up : fails → load_fails 1) (save_fails : Type 0) where
-  load_words : (other : Role) → other ≡ role → refusal_answer (refusals.Load other) ≡ answers 3 (answer.refusal (codes "load " ++ answer.role_word (role_of command)))
-  load_words other e = ap (λ (r : answer.Role). answers 3 (answer.refusal (codes "load " ++ answer.role_word r))) (ap role_in e ∙ of)
+  load_words : (other : Role) → other ≡ role → refusal_answer (refusals.Load other) ≡ answers 3 (refusing.refusal (codes "load " ++ refusing.role_word (role_of command)))
+  load_words other e = ap (λ (r : refusing.Role). answers 3 (refusing.refusal (codes "load " ++ refusing.role_word r))) (ap role_in e ∙ of)
 
-  size_words : (other : Role) → other ≡ role → refusal_answer (refusals.Size other) ≡ answers 8 (answer.refusal (codes "size " ++ answer.role_word (role_of command)))
-  size_words other e = ap (λ (r : answer.Role). answers 8 (answer.refusal (codes "size " ++ answer.role_word r))) (ap role_in e ∙ of)
+  size_words : (other : Role) → other ≡ role → refusal_answer (refusals.Size other) ≡ answers 8 (refusing.refusal (codes "size " ++ refusing.role_word (role_of command)))
+  size_words other e = ap (λ (r : refusing.Role). answers 8 (refusing.refusal (codes "size " ++ refusing.role_word r))) (ap role_in e ∙ of)
 
   module _ (files : Files) (after : Contents) (same : after ≡ Some files) where
     -- the defined answer
@@ -110,10 +111,10 @@ checked_status refused = either (refused == 0)
     either false = inr (inl refl)
 
 output_status : (bytes : List ℕ) (command : answer.Command) (status : ℕ) (text : List ℕ) → IsOutput bytes command status text → IsReplyStatus status
-output_status bytes command status text (Shown n darts h) = inl refl
+output_status bytes command status text (Shown version listed h) = inl refl
 output_status bytes command status text (Printed version schema rules h) = inl refl
 output_status bytes command status text (Checked version schema rules refused lines h is) = checked_status refused
-output_status bytes command status text (Counted n darts next _ h first is) = inl refl
+output_status bytes command status text (Counted version listed _ h is) = inl refl
 
 -- the statuses of what is judged
 pub judged_status : (bytes : List ℕ) (command : answer.Command) (reply : Result Reply NoText) → IsJudged bytes command reply → IfOk reply (λ r. IsReplyStatus r.status)
@@ -143,10 +144,10 @@ judged_is_sound bytes command (Err (nothing.Refused refusals.Agree)) P Q h = tt
 judged_is_sound bytes command (Err (nothing.Refused refusals.Save)) P Q h = absurd h
 
 output_refuses : (bytes : List ℕ) (command : answer.Command) (status : ℕ) (text : List ℕ) → IsOutput bytes command status text → status ≡ 1 → command ≡ answer.Check
-output_refuses bytes command status text (Shown n darts h) one = absurd cc
+output_refuses bytes command status text (Shown version listed h) one = absurd cc
 output_refuses bytes command status text (Printed version schema rules h) one = absurd cc
 output_refuses bytes command status text (Checked version schema rules refused lines h is) one = refl
-output_refuses bytes command status text (Counted n darts next _ h first is) one = absurd cc
+output_refuses bytes command status text (Counted version listed _ h is) one = absurd cc
 
 -- only a check answers that a rule is refused
 pub judged_refuses : (bytes : List ℕ) (command : answer.Command) (reply : Result Reply NoText) → IsJudged bytes command reply → IfOk reply (λ r. r.status ≡ 1 → command ≡ answer.Check)

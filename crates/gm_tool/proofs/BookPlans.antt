@@ -12,7 +12,7 @@ use Rattle.gm_model.specs.declared.schema.Schema.{Schema}
 use Rattle.gm_model.specs.Acceptance.{IsAccepted}
 use Rattle.gm_model.specs.Rules.{Rule, rule_of}
 use Rattle.gm_plan.specs.Plans.{PlanOf, plan_of}
-use Rattle.gm_tool.specs.Answer.{TheBook}
+use Rattle.gm_lines.specs.Refusing.{TheBook}
 use Rattle.gm_tool.specs.Books.{IsRuleStop}
 use Rattle.gm_tool.specs.RunAnswer.{IsFirstRefused}
 use Rattle.gm_tool.specs.Stops.{IsBadFor}

@@ -7,26 +7,28 @@ use Rattle.gm_book.specs.Faults as book_faults
 use Rattle.gm_model.specs.declared.schema.Schema.{Schema}
 use Rattle.gm_book.specs.BookText.{BookText}
 use Rattle.gm_model.specs.Rules.{Rule}
-use Rattle.gm_tool.specs.Answer.{IsBad, IsOutput, BadBook, TheMap, TheBook, role_of, refusal, most_bytes, Checked}
-use Rattle.gm_tool.specs.BookFaults.{AtEnds, AtPasses, AtNotBuilt, AtName}
+use Rattle.gm_tool.specs.Answer.{IsOutput, role_of, most_bytes, Checked}
+use Rattle.gm_lines.specs.Refusing.{IsBad, BadBook, TheMap, TheBook, refusal, IsBadLine}
+use Rattle.gm_lines.specs.BookFaults.{AtEnds, AtPasses, AtNotBuilt, AtName}
 use Rattle.gm_tool.specs.Answer as answer
+use Rattle.gm_lines.specs.Refusing as refusing
 use Rattle.gm_tool.specs.declared.refusal.NoText.{NoText}
 use Rattle.gm_tool.specs.declared.refusal.NoText.TheVariants as nothing
 use Rattle.gm_tool.specs.declared.reply.Reply.{Reply}
-use Rattle.gm_tool.specs.Checking.{check_status, counts_line}
-use Rattle.gm_tool.specs.FaultLines.{IsSaidOfBook, book_words}
-use Rattle.gm_tool.specs.Replies.{IsJudged, IsBadLine, IsMapRefusal, IsRefusal, IsBookRefusal, IsChecked, IsWithinLimit}
+use Rattle.gm_lines.specs.Checking.{check_status, counts_line}
+use Rattle.gm_lines.specs.FaultLines.{IsSaidOfBook, book_words}
+use Rattle.gm_tool.specs.Replies.{IsJudged, IsMapRefusal, IsRefusal, IsBookRefusal, IsChecked, IsWithinLimit}
 
 -- a line that refuses, whichever the command
 pub refused_judged : (bytes : List ℕ) (command : answer.Command) (why : List ℕ) (reply : Result Reply NoText) → IsBad bytes (role_of command) why
-    → IsRefusal (refusal (answer.role_word (role_of command) ++ codes " " ++ why)) reply → IsJudged bytes command reply
+    → IsRefusal (refusal (refusing.role_word (role_of command) ++ codes " " ++ why)) reply → IsJudged bytes command reply
 refused_judged bytes command why (Ok reply) bad is = inr (is.0, (why, bad, is.1))
 refused_judged bytes command why (Err nothing.OutOfMemory) bad is = tt
 refused_judged bytes command why (Err (nothing.Refused other)) bad is = absurd cc
 
 -- whichever command reads the map
 pub map_judged : (bytes : List ℕ) (command : answer.Command) (reply : Result Reply NoText) → TheMap ≡ role_of command → IsMapRefusal bytes reply → IsJudged bytes command reply
-map_judged bytes command (Ok reply) of is = inr (is.0, subst (λ (r : answer.Role). IsBadLine bytes r reply.text.items) of is.1)
+map_judged bytes command (Ok reply) of is = inr (is.0, subst (λ (r : refusing.Role). IsBadLine bytes r reply.text.items) of is.1)
 map_judged bytes command (Err none) of is = subst (λ (e : NoText). IsJudged bytes command (Err e)) (sym is) tt
 
 book_is_bad : (bytes : List ℕ) (fault : BookFault) → book_faults.IsFaultOf bytes fault → IsSaidOfBook fault → IsBad bytes TheBook (book_words fault)
@@ -45,8 +47,8 @@ book_judged bytes command fault (Ok reply) of h is =
       is.1,
       (
         book_words fault,
-        subst (λ (r : answer.Role). IsBad bytes r (book_words fault)) of (book_is_bad bytes fault h is.0),
-        is.2 ∙ ap (λ (r : answer.Role). refusal (answer.role_word r ++ codes " " ++ book_words fault)) of,
+        subst (λ (r : refusing.Role). IsBad bytes r (book_words fault)) of (book_is_bad bytes fault h is.0),
+        is.2 ∙ ap (λ (r : refusing.Role). refusal (refusing.role_word r ++ codes " " ++ book_words fault)) of,
       ),
     )
 book_judged bytes command fault (Err none) of h is = subst (λ (e : NoText). IsJudged bytes command (Err e)) (sym is) tt

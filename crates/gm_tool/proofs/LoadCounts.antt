@@ -6,7 +6,8 @@ use Rattle.gm_mapfile.specs.declared.reading.MapRead.{MapRead}
 use Rattle.gm_model.specs.declared.rule.Book.{Book}
 use Rattle.gm_model.specs.Acceptance.{IsAccepted}
 use Rattle.gm_model.specs.Rules.{rule_of}
-use Rattle.gm_tool.specs.Answer.{Files, answers, Role, TheMap, TheBook, HasFile}
+use Rattle.gm_tool.specs.Answer.{Files, answers, HasFile}
+use Rattle.gm_lines.specs.Refusing.{Role, TheMap, TheBook}
 use Rattle.gm_tool.specs.Loads.{loads_after, FailsHere, StopsInTime, CountsLoads, UnlessNoMemory, UnlessNoMemoryToMake, BehindMap, BehindBook, BehindScript}
 use Rattle.gm_tool.specs.Refusals.{refusal_answer}
 use Rattle.gm_tool.specs.RunAnswer.{RunNames, AsksRun, IsBadMap, IsBadBook, IsFirstRefused, RuleRefused, Bad}

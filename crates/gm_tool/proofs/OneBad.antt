@@ -15,11 +15,12 @@ use Rattle.gm_book.proofs.OneBook.{one_book}
 use Rattle.gm_mapfile.proofs.OneFault.{one_fault, no_map_at_fault}
 use Rattle.gm_mapfile.proofs.OneMap.{one_map}
 use Rattle.gm_script.specs.ScriptText.{ScriptText}
-use Rattle.gm_tool.specs.Answer.{Role, TheMap, TheBook, Command, role_of, IsBad, BadMap, BadBook, IsOutput, TellsCells, Shown, Printed, Checked, Counted}
-use Rattle.gm_tool.specs.BookFaults.{book_fault_words}
-use Rattle.gm_tool.specs.Checking.{AreLines, check_status, counts_line}
+use Rattle.gm_tool.specs.Answer.{Command, role_of, IsOutput, TellsCells, Shown, Printed, Checked, Counted}
+use Rattle.gm_lines.specs.Refusing.{Role, TheMap, TheBook, IsBad, BadMap, BadBook}
+use Rattle.gm_lines.specs.BookFaults.{book_fault_words}
+use Rattle.gm_lines.specs.Checking.{AreLines, check_status, counts_line}
 use Rattle.gm_tool.specs.RunAnswer.{IsFirstRefused, IsBadBook, Unread, RuleRefused, IsBadScript}
-use Rattle.gm_tool.specs.ScriptFaults.{script_fault_words}
+use Rattle.gm_lines.specs.ScriptFaults.{script_fault_words}
 use Rattle.gm_tool.proofs.OneCells.{one_telling}
 use Rattle.gm_tool.proofs.OneText.{one_book_fault, no_book_at, one_script_fault, no_script_at}
 use Rattle.gm_tool.proofs.OneVerdict.{one_lines, one_refused, none_refused}

@@ -1,7 +1,8 @@
 -- A file that fails is refused in one way, and a command on one file has one answer.
 use Rattle.std.proofs.Common.{◌≡◌, ◌⊎◌, ℕ, ◌<◌, ◌≤◌, List, ◌++◌, inl, inr, Some, None, length, codes, sym, ap, subst, ◌∙◌, arith}
 use Rattle.std.proofs.lemmas.Option.{same_Some}
-use Rattle.gm_tool.specs.Answer.{most_bytes, Files, Answer, answers, Role, role_word, Command, role_of, IsBad, IsOutput, refusal, HasFile, IsFileAnswer, NoFile, LongFile, BadFile, LongOutput, Done}
+use Rattle.gm_tool.specs.Answer.{most_bytes, Files, Answer, answers, Command, role_of, IsOutput, HasFile, IsFileAnswer, NoFile, LongFile, BadFile, LongOutput, Done}
+use Rattle.gm_lines.specs.Refusing.{Role, role_word, IsBad, refusal}
 use Rattle.gm_tool.specs.RunAnswer.{IsFailing, Missing, Long, Bad}
 use Rattle.gm_tool.proofs.OneBad.{one_bad, no_bad_output, one_output}
 

@@ -7,7 +7,8 @@ use Rattle.gm_book.proofs.OneBook.{one_book}
 use Rattle.gm_mapfile.proofs.OneMap.{one_map}
 use Rattle.gm_script.specs.ScriptText.{ScriptText}
 use Rattle.gm_script.proofs.OneScript.{one_script}
-use Rattle.gm_tool.specs.Answer.{most_bytes, Files, Answer, answers, TheMap, TheBook, TheScript, refusal}
+use Rattle.gm_tool.specs.Answer.{most_bytes, Files, Answer, answers}
+use Rattle.gm_lines.specs.Refusing.{TheMap, TheBook, TheScript, refusal}
 use Rattle.gm_tool.specs.RunAnswer.{RunNames, Inputs, Ran, HasMap, HasBook, HasScript, Agree, IsFailing, IsBadMap, IsBadBook, IsBadScript, IsRan, IsRunAnswer, MapFails, BookFails, ScriptFails, Disagree, LongOutput, Done, report_of, saved_of, run_status}
 use Rattle.gm_tool.proofs.OneBad.{one_bad, no_bad_map, one_bad_book, no_bad_good_book, one_bad_script, no_bad_script}
 use Rattle.gm_tool.proofs.OneFile.{same_bytes, one_failing, no_failing_good}

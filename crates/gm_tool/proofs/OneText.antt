@@ -10,10 +10,10 @@ use Rattle.gm_book.proofs.OneBook.{one_fault, no_book}
 use Rattle.gm_script.specs.ScriptText.{StandsForNoScript}
 use Rattle.gm_script.proofs.FirstFault.{one_text_fault, one_limit_fault, text_or_limit, no_lines_at_text, no_lines_at_limit}
 use Rattle.gm_script.proofs.OneScript.{one_disagreement, no_script_at_disagreement}
-use Rattle.gm_tool.specs.BookFaults as books
-use Rattle.gm_tool.specs.BookFaults.{BookTextFault, IsFirstBookFault}
-use Rattle.gm_tool.specs.ScriptFaults as scripts
-use Rattle.gm_tool.specs.ScriptFaults.{ScriptTextFault, IsFirstScriptFault}
+use Rattle.gm_lines.specs.BookFaults as books
+use Rattle.gm_lines.specs.BookFaults.{BookTextFault, IsFirstBookFault}
+use Rattle.gm_lines.specs.ScriptFaults as scripts
+use Rattle.gm_lines.specs.ScriptFaults.{ScriptTextFault, IsFirstScriptFault}
 
 -- ---- books
 

@@ -10,7 +10,7 @@ use Rattle.gm_model.specs.Acceptance.{IsAccepted, IsFault}
 use Rattle.gm_model.specs.Rules.{Rule}
 use Rattle.gm_plan.proofs.OneFault.{one_fault}
 use Rattle.gm_theory.proofs.NoFault.{accepted_no_fault}
-use Rattle.gm_tool.specs.Checking.{IsVerdict, AreLines, NoRules, NextRule, refusals, rule_line, rule_fault_words}
+use Rattle.gm_lines.specs.Checking.{IsVerdict, AreLines, NoRules, NextRule, refusals, rule_line, rule_fault_words}
 use Rattle.gm_tool.specs.RunAnswer.{IsFirstRefused}
 
 -- ---- the lines of a check

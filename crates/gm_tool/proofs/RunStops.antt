@@ -10,7 +10,8 @@ use Rattle.gm_model.specs.declared.schema.Schema.{Schema}
 use Rattle.gm_model.specs.declared.script.Script.{Script}
 use Rattle.gm_model.specs.Acceptance.{IsAccepted}
 use Rattle.gm_model.specs.Rules.{Rule, rule_of}
-use Rattle.gm_tool.specs.Answer.{Files, answers, TheMap, TheBook, TheScript, HasFile}
+use Rattle.gm_tool.specs.Answer.{Files, answers, HasFile}
+use Rattle.gm_lines.specs.Refusing.{TheMap, TheBook, TheScript}
 use Rattle.gm_tool.specs.MadeRuns.{inputs_of, IsRunOf, IsMade, IsStopOf, LacksInput}
 use Rattle.gm_tool.specs.Refusals.{refusal_answer}
 use Rattle.gm_tool.specs.RunAnswer.{RunNames, Inputs, HasMap, HasBook, HasScript, Agree, IsBadMap, IsBadBook, IsBadScript, IsFirstRefused, RuleRefused, Bad, MapFails, BookFails, ScriptFails, Disagree, LongOutput}

@@ -30,7 +30,8 @@ use Rattle.gm_plan.specs.Plans.{PlanOf}
 use Rattle.gm_run.specs.Alike.{AreAlike}
 use Rattle.gm_run.specs.Progress.{rules_of}
 use Rattle.gm_theory.proofs.ValuesUnique.{one_count}
-use Rattle.gm_tool.specs.Answer.{Files, TheMap, TheBook, TheScript}
+use Rattle.gm_tool.specs.Answer.{Files}
+use Rattle.gm_lines.specs.Refusing.{TheMap, TheBook, TheScript}
 use Rattle.gm_tool.specs.MadeRuns.{CanRun, inputs_of}
 use Rattle.gm_tool.specs.RunAnswer.{RunNames, Inputs, Ran, IsRan, IsGoodRun, HasMap, HasBook, HasScript, IsBadMap, IsBadBook, IsBadScript}
 use Rattle.gm_tool.specs.StepBounds.{HasBudget, IsMost, MostOf, IsLeast, LeastOf, WithinMost, AtLeast, BytesReadWithin, ReadsWithin, RunsWithin, RunsAtLeast, dim_of, darts_read, darts_left, printing}

@@ -15,15 +15,17 @@ use Rattle.gm_plan.specs.Refusals.{IsRefusal, Faulty}
 use Rattle.gm_script.specs.declared.fault.ScriptFault.{ScriptFault}
 use Rattle.gm_script.specs.declared.fault.ScriptFault.TheVariants as script
 use Rattle.gm_script.specs.Faults as script_faults
-use Rattle.gm_tool.specs.Answer.{Files, answers, most_bytes, TheMap, TheBook, TheScript, role_word, refusal}
+use Rattle.gm_tool.specs.Answer.{Files, answers, most_bytes}
+use Rattle.gm_lines.specs.Refusing.{TheMap, TheBook, TheScript, role_word, refusal, IsBadLine}
 use Rattle.gm_tool.specs.Answer as answer
-use Rattle.gm_tool.specs.BookFaults as first_book
-use Rattle.gm_tool.specs.ScriptFaults as first_script
+use Rattle.gm_lines.specs.Refusing as refusing
+use Rattle.gm_lines.specs.BookFaults as first_book
+use Rattle.gm_lines.specs.ScriptFaults as first_script
 use Rattle.gm_tool.specs.Books.{IsRuleWhy, IsRuleStop}
-use Rattle.gm_tool.specs.Checking.{rule_fault_words}
-use Rattle.gm_tool.specs.FaultLines.{IsSaidOfBook, IsSaidOfScript, book_words, script_words}
+use Rattle.gm_lines.specs.Checking.{rule_fault_words}
+use Rattle.gm_lines.specs.FaultLines.{IsSaidOfBook, IsSaidOfScript, book_words, script_words}
 use Rattle.gm_tool.specs.Refusals.{role_in, refusal_answer}
-use Rattle.gm_tool.specs.Replies.{IsBadLine, IsLoading}
+use Rattle.gm_tool.specs.Replies.{IsLoading}
 use Rattle.gm_tool.specs.RunAnswer.{IsBadMap, IsBadBook, IsBadScript, Unread, IsFailing, Missing, Long, Bad}
 use Rattle.gm_tool.specs.Stops.{IsStopWith, IsBadFor, IsRoleStop, IsSoundStop, IsFrom}
 use Rattle.gm_tool.specs.declared.refusal.NoText.{NoText}
@@ -36,7 +38,7 @@ use Rattle.gm_tool.specs.declared.refusal.Stop.TheVariants as stops
 -- ---- texts
 
 -- the line of a text that can't be read
-stopped : {E : Type 0} (role : answer.Role) (IsWhy : List ℕ → Type 0) (why : List ℕ) (line : Result (Vec ℕ) E) (stop : Stop)
+stopped : {E : Type 0} (role : refusing.Role) (IsWhy : List ℕ → Type 0) (why : List ℕ) (line : Result (Vec ℕ) E) (stop : Stop)
     → IfOk line (λ text. IsWhy why × (text.items ≡ refusal (role_word role ++ codes " " ++ why))) → IsStopWith line stop → IsBadFor role IsWhy stop
 stopped role IsWhy why (Ok line) stop h is = subst (IsBadFor role IsWhy) (sym is) (why, h.0, h.1)
 stopped role IsWhy why (Err e) stop h is = subst (IsBadFor role IsWhy) (sym is) tt
@@ -99,7 +101,7 @@ rule_stopped {E = E} schema rule fault line stop h says is = stopped TheBook (Is
     both (Err e) f = tt
 
 -- a text that can't be run is no fault of the store
-pub bad_is_sound : (role : answer.Role) (IsWhy : List ℕ → Type 0) (P : Type 0) (stop : Stop) → IsBadFor role IsWhy stop → IsSoundStop stop P
+pub bad_is_sound : (role : refusing.Role) (IsWhy : List ℕ → Type 0) (P : Type 0) (stop : Stop) → IsBadFor role IsWhy stop → IsSoundStop stop P
 bad_is_sound role IsWhy P (stops.Bad line) h = tt
 bad_is_sound role IsWhy P (stops.NoText nothing.OutOfMemory) h = tt
 bad_is_sound role IsWhy P (stops.NoText (nothing.Refused why)) h = absurd h
@@ -117,7 +119,7 @@ sound_to P Q f (stops.NoText (nothing.Refused refusals.Save)) h = h
 
 -- ---- files
 
-module _ {A : Type 0} (role : answer.Role) (name : List ℕ) (IsReadAs : List ℕ → A → Type 0) (IsBadText : List ℕ → List ℕ → Type 0) (fails : Type 0) where
+module _ {A : Type 0} (role : refusing.Role) (name : List ℕ) (IsReadAs : List ℕ → A → Type 0) (IsBadText : List ℕ → List ℕ → Type 0) (fails : Type 0) where
   failing_stop : (files : Files) (of : Role) → role_in of ≡ role → (none : NoText) → IsLoading (Some files) name of fails (Err none) → IsRoleStop files role name IsBadText fails (stops.NoText none)
   failing_stop files of e nothing.OutOfMemory h = tt
   failing_stop files of e (nothing.Refused (refusals.Load other)) (same, inl failed) = inr (failed, ap (λ r. answers 3 (refusal (codes "load " ++ role_word r))) (ap role_in same ∙ e))

@@ -13,8 +13,9 @@ use Rattle.gm_model.specs.Rules.{Rule, rule_of, has_word}
 use Rattle.gm_model.specs.Squares.{IsSquareFault, OpenSquare, IsFirstOpenSquare}
 use Rattle.gm_model.specs.Structure.{IsIncidenceFault, OfStructure, OfArcs, IsStructureFault, BadHooks, BadHookWord, BadLength, Unconnected, AtNode, IsNodeArcFault, TwiceLeft, TwiceRight, Missing, Differs}
 use Rattle.gm_model.proofs.Nodes.{node_below}
-use Rattle.gm_tool.specs.Books.{IsCheckable, SpeaksOf, IsSayable}
-use Rattle.gm_tool.specs.Checking.{IsVerdict, AreLines, NoRules, NextRule, refusals, rule_line}
+use Rattle.gm_tool.specs.Books.{IsCheckable}
+use Rattle.gm_lines.specs.Speaking.{SpeaksOf, IsSayable}
+use Rattle.gm_lines.specs.Checking.{IsVerdict, AreLines, NoRules, NextRule, refusals, rule_line}
 use Rattle.gm_tool.proofs.ReadBooks.{no_item}
 
 -- ---- what a fault speaks of

@@ -11,10 +11,9 @@ use Rattle.gm_book.specs.BookText as books
 use Rattle.gm_model.specs.Maps.{Map}
 use Rattle.gm_mapfile.specs.MapText.{ListedMap, MapText, map_of, canonical}
 use Rattle.gm_mapfile.specs.declared.version.MapVersion.{MapVersion}
-use Rattle.gm_mapfile.specs.MapFaults.{TextFault, IsFirstFault, fault_words}
 use Rattle.gm_model.specs.Rules.{Rule}
-use Rattle.gm_tool.specs.BookFaults.{BookTextFault, IsFirstBookFault, book_fault_words}
-use Rattle.gm_tool.specs.Checking.{AreLines, counts_line, check_status}
+use Rattle.gm_lines.specs.Refusing.{Role, TheMap, TheBook, role_word, refusal, IsBad}
+use Rattle.gm_lines.specs.Checking.{AreLines, counts_line, check_status}
 
 -- the most bytes of a file that is read or of a text that is put
 abbrev pub most_bytes : ℕ
@@ -39,17 +38,6 @@ abbrev pub answers : ℕ → List ℕ → Answer
 answers status text = record { status = status; text = text; saved = None }
 
 -- ---- commands
-
--- what a file is for
-pub data Role : Type 0 where
-  TheMap : Role
-  TheBook : Role
-  TheScript : Role
-
-abbrev pub role_word : Role → List ℕ
-role_word TheMap = codes "MAP"
-role_word TheBook = codes "BOOK"
-role_word TheScript = codes "SCRIPT"
 
 -- the commands on one file
 pub data Command : Type 0 where
@@ -77,11 +65,6 @@ Asks words command name = words ≡ command_word command ∷ name ∷ []
 
 -- ---- what is put
 
--- the bytes stand for nothing in the role, and these words say why
-pub data IsBad (bytes : List ℕ) : Role → List ℕ → Type 0 where
-  BadMap : (fault : TextFault) → IsFirstFault bytes fault → IsBad bytes TheMap (fault_words fault)
-  BadBook : (fault : BookTextFault) → IsFirstBookFault bytes fault → IsBad bytes TheBook (book_fault_words fault)
-
 -- the text is that of the map's numbers of cells, and of its orientation
 pub record TellsCells (map : Map) (text : List ℕ) : Type 0 where
   pub counts : Counts
@@ -101,10 +84,6 @@ pub data IsOutput (bytes : List ℕ) : Command → ℕ → List ℕ → Type 0 w
       → IsOutput bytes Check (check_status refused) (lines ++ counts_line (length rules) refused)
   -- the numbers and the orientation of the map
   Counted : (version : MapVersion) (map : ListedMap) (text : List ℕ) → MapText bytes version map → TellsCells (map_of map) text → IsOutput bytes Cells 0 text
-
--- a line that refuses
-abbrev pub refusal : List ℕ → List ℕ
-refusal words = codes "refused " ++ words ++ codes "\n"
 
 -- the file of a name is held with these bytes, and not too long
 abbrev pub HasFile : Files → List ℕ → List ℕ → Type 0

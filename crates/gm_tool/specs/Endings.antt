@@ -2,7 +2,8 @@
 use Rattle.std.specs.Prelude.{◌≡◌, ℕ, List, Option, Some, None, Result, Ok, Err, codes}
 use Rattle.gm_host.specs.Store.{Contents}
 use Rattle.gm_host.specs.Saves.{IsSaved, IsSavedInPart}
-use Rattle.gm_tool.specs.Answer.{Files, Answer, answers, Saved, refusal}
+use Rattle.gm_tool.specs.Answer.{Files, Answer, answers, Saved}
+use Rattle.gm_lines.specs.Refusing.{refusal}
 use Rattle.gm_tool.specs.Refusals.{status_of, line_of}
 use Rattle.gm_tool.specs.declared.refusal.NoText.{NoText}
 use Rattle.gm_tool.specs.declared.refusal.NoText.TheVariants as nothing

@@ -1,11 +1,7 @@
-pub mod BookFaults
-pub mod Checking
 pub mod Answer
-pub mod ScriptFaults
 pub mod RunAnswer
 pub mod Program
 pub mod Refusals
-pub mod FaultLines
 pub mod Books
 pub mod Loads
 pub mod Endings

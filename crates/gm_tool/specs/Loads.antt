@@ -2,7 +2,8 @@
 use Rattle.std.specs.Prelude.{◌≡◌, ◌⊎◌, ℕ, zero, suc, List, Result, Err, IfSome}
 use Rattle.gm_host.specs.Count.{counted, Rises}
 use Rattle.gm_host.specs.Store.{Contents}
-use Rattle.gm_tool.specs.Answer.{Files, Answer, Role, TheMap, TheBook}
+use Rattle.gm_tool.specs.Answer.{Files, Answer}
+use Rattle.gm_lines.specs.Refusing.{Role, TheMap, TheBook}
 use Rattle.gm_tool.specs.RunAnswer.{RunNames, AsksRun, Inputs, HasMap, HasBook, IsFailing, IsBadMap, IsBadBook}
 use Rattle.gm_tool.specs.declared.refusal.NoText.{NoText}
 use Rattle.gm_tool.specs.declared.refusal.NoText.TheVariants as nothing

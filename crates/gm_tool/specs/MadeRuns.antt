@@ -15,8 +15,10 @@ use Rattle.gm_mapfile.specs.declared.version.MapVersion.{MapVersion}
 use Rattle.gm_model.specs.Rules.{rule_of}
 use Rattle.gm_script.specs.ScriptText.{ScriptText}
 use Rattle.gm_plan.specs.Plans.{PlanOf, plan_of}
-use Rattle.gm_tool.specs.Answer.{most_bytes, Files, Answer, answers, refusal, role_word}
+use Rattle.gm_tool.specs.Answer.{most_bytes, Files, Answer, answers}
+use Rattle.gm_lines.specs.Refusing.{refusal, role_word}
 use Rattle.gm_tool.specs.Answer as answer
+use Rattle.gm_lines.specs.Refusing as refusing
 use Rattle.gm_tool.specs.Endings.{IsTextOf}
 use Rattle.gm_tool.specs.Refusals.{refusal_answer}
 use Rattle.gm_tool.specs.RunAnswer.{RunNames, Inputs, Ran, IsRan, IsGoodRun, IsRunAnswer, PassesTo, report_of, saved_of, run_status}
@@ -69,14 +71,14 @@ IsMapBytes bytes = (version : MapVersion) × (listed : ListedMap) × (bytes ≡ 
 -- ---- the files
 
 -- which load of a run is that of the role's file, counted from 1
-abbrev pub load_of : answer.Role → ℕ
-load_of answer.TheMap = 1
-load_of answer.TheBook = 2
-load_of answer.TheScript = 3
+abbrev pub load_of : refusing.Role → ℕ
+load_of refusing.TheMap = 1
+load_of refusing.TheBook = 2
+load_of refusing.TheScript = 3
 
 -- no file before that of this role fails, and the load of its file did; `load_fails` says so of a load by its number
 abbrev pub IsRunLoadFailure : Files → RunNames → (ℕ → Type 0) → Answer → Type 0
-IsRunLoadFailure files named load_fails given = (role : answer.Role) × load_fails (load_of role) × PassesTo files named role × (given ≡ answers 3 (refusal (codes "load " ++ role_word role)))
+IsRunLoadFailure files named load_fails given = (role : refusing.Role) × load_fails (load_of role) × PassesTo files named role × (given ≡ answers 3 (refusal (codes "load " ++ role_word role)))
 
 -- the run stops as its answer says, or for a load that failed, or for want of memory
 abbrev pub IsStopOf : Files → RunNames → (ℕ → Type 0) → Stop → Type 0

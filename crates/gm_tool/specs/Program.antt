@@ -1,6 +1,7 @@
 -- What the program answers to its words and files: the status, the text put, and the bytes saved.
 use Rattle.std.specs.Prelude.{◌≡◌, ◌⊎◌, ℕ, List, codes}
-use Rattle.gm_tool.specs.Answer.{Files, Answer, answers, Command, Asks, refusal, IsFileAnswer}
+use Rattle.gm_tool.specs.Answer.{Files, Answer, answers, Command, Asks, IsFileAnswer}
+use Rattle.gm_lines.specs.Refusing.{refusal}
 use Rattle.gm_tool.specs.RunAnswer.{RunNames, AsksRun, IsRunAnswer}
 
 -- the words are a command on one file

@@ -1,7 +1,9 @@
 -- The commands, roles and refusals of the program as the definition of its answer sees them.
 use Rattle.std.specs.Prelude.{◌≡◌, ℕ, List, ◌++◌, codes}
-use Rattle.gm_tool.specs.Answer.{Answer, answers, role_word, refusal, command_word}
+use Rattle.gm_tool.specs.Answer.{Answer, answers, command_word}
+use Rattle.gm_lines.specs.Refusing.{role_word, refusal}
 use Rattle.gm_tool.specs.Answer as answer
+use Rattle.gm_lines.specs.Refusing as refusing
 use Rattle.gm_tool.specs.declared.command.Command.{Command}
 use Rattle.gm_tool.specs.declared.command.Command.TheVariants as commands
 use Rattle.gm_tool.specs.declared.refusal.Refusal.{Refusal}
@@ -19,10 +21,10 @@ command_in commands.Cells = answer.Cells
 abbrev pub IsNoCommandWord : List ℕ → Type 0
 IsNoCommandWord word = (command : answer.Command) → word ≡ command_word command → ⊥
 
-abbrev pub role_in : Role → answer.Role
-role_in roles.Map = answer.TheMap
-role_in roles.Book = answer.TheBook
-role_in roles.Script = answer.TheScript
+abbrev pub role_in : Role → refusing.Role
+role_in roles.Map = refusing.TheMap
+role_in roles.Book = refusing.TheBook
+role_in roles.Script = refusing.TheScript
 
 abbrev pub status_of : Refusal → ℕ
 status_of Usage = 2

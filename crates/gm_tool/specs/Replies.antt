@@ -7,10 +7,11 @@ use Rattle.gm_host.specs.declared.fault.LoadFault.TheVariants as faults
 use Rattle.gm_book.specs.declared.fault.BookFault.{BookFault}
 use Rattle.gm_model.specs.declared.schema.Schema.{Schema}
 use Rattle.gm_model.specs.Rules.{Rule}
-use Rattle.gm_tool.specs.Answer.{most_bytes, TheMap, role_of, role_word, refusal, IsBad, IsOutput}
+use Rattle.gm_tool.specs.Answer.{most_bytes, role_of, IsOutput}
+use Rattle.gm_lines.specs.Refusing.{TheMap, role_word, refusal, IsBad}
 use Rattle.gm_tool.specs.Answer as answer
-use Rattle.gm_tool.specs.Checking.{AreLines, counts_line, check_status}
-use Rattle.gm_tool.specs.FaultLines.{IsSaidOfBook, book_words}
+use Rattle.gm_lines.specs.Checking.{AreLines, counts_line, check_status}
+use Rattle.gm_lines.specs.FaultLines.{IsSaidOfBook, book_words}
 use Rattle.gm_tool.specs.declared.refusal.NoText.{NoText}
 use Rattle.gm_tool.specs.declared.refusal.NoText.TheVariants as nothing
 use Rattle.gm_tool.specs.declared.refusal.Refusal.TheVariants.{Usage, Load, Size, SizeOutput, Agree, Save}
@@ -43,10 +44,6 @@ no_file_for role (faults.TooLong seen) = nothing.Refused (Size role)
 no_file_for role faults.OutOfMemory = nothing.OutOfMemory
 
 -- ---- judging
-
--- the line that says why the bytes stand for nothing in the role
-abbrev pub IsBadLine : List ℕ → answer.Role → List ℕ → Type 0
-IsBadLine bytes role line = (why : List ℕ) × IsBad bytes role why × (line ≡ refusal (role_word role ++ codes " " ++ why))
 
 -- what the command puts on the bytes: its output, which is not too long, or the line that refuses them
 abbrev pub IsJudged : List ℕ → answer.Command → Result Reply NoText → Type 0

@@ -15,10 +15,11 @@ use Rattle.gm_model.specs.Rules.{Rule}
 use Rattle.gm_model.specs.Runs.{Outcome, IsRun}
 use Rattle.gm_model.specs.Runs as runs
 use Rattle.gm_script.specs.ScriptText.{ScriptText}
-use Rattle.gm_tool.specs.Answer.{most_bytes, Files, Answer, answers, Role, TheMap, TheBook, TheScript, role_word, refusal, HasFile, IsBad}
-use Rattle.gm_tool.specs.BookFaults.{BookTextFault, IsFirstBookFault, book_fault_words}
-use Rattle.gm_tool.specs.Checking.{rule_fault_words}
-use Rattle.gm_tool.specs.ScriptFaults.{ScriptTextFault, IsFirstScriptFault, script_fault_words}
+use Rattle.gm_tool.specs.Answer.{most_bytes, Files, Answer, answers, HasFile}
+use Rattle.gm_lines.specs.Refusing.{Role, TheMap, TheBook, TheScript, role_word, refusal, IsBad}
+use Rattle.gm_lines.specs.BookFaults.{BookTextFault, IsFirstBookFault, book_fault_words}
+use Rattle.gm_lines.specs.Checking.{rule_fault_words}
+use Rattle.gm_lines.specs.ScriptFaults.{ScriptTextFault, IsFirstScriptFault, script_fault_words}
 
 -- the files that are read, and the name under which the map is saved
 pub record RunNames : Type 0 where

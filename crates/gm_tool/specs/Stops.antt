@@ -12,7 +12,8 @@ use Rattle.gm_mapfile.specs.declared.reading.MapRead.{MapRead}
 use Rattle.gm_model.specs.Maps.{IsSound}
 use Rattle.gm_model.specs.Rules.{Rule, rule_of}
 use Rattle.gm_script.specs.ScriptText.{ScriptText}
-use Rattle.gm_tool.specs.Answer.{Files, answers, refusal, Role, role_word, HasFile}
+use Rattle.gm_tool.specs.Answer.{Files, answers, HasFile}
+use Rattle.gm_lines.specs.Refusing.{refusal, Role, role_word}
 use Rattle.gm_tool.specs.Refusals.{refusal_answer}
 use Rattle.gm_tool.specs.RunAnswer.{IsFailing}
 use Rattle.gm_tool.specs.declared.refusal.NoText.TheVariants as nothing

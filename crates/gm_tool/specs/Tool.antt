@@ -1,7 +1,8 @@
 -- What a run of the program leaves: its status, what was written, and what its files and output did.
 use Rattle.std.specs.Prelude.{◌≡◌, ◌⊎◌, ℕ, List, ◌++◌, map, take, Option, Some, Result, codes, String, string_bytes}
 use Rattle.std.specs.Global.{Global}
-use Rattle.gm_tool.specs.Answer.{Answer, answers, Files, Asks, role_of, role_word, refusal, IsFileAnswer}
+use Rattle.gm_tool.specs.Answer.{Answer, answers, Files, Asks, role_of, IsFileAnswer}
+use Rattle.gm_lines.specs.Refusing.{role_word, refusal}
 use Rattle.gm_tool.specs.Answer as answer
 use Rattle.gm_tool.specs.Endings.{IsEnding, IsTextOf}
 use Rattle.gm_tool.specs.MadeRuns.{IsRunLoadFailure, LacksInput, HoldsMap}

@@ -3,14 +3,14 @@ ghost use Rattle.gm_model.specs.Acceptance.{IsAccepted, IsFault};
 ghost use Rattle.gm_model.specs.Rules.{rule_of};
 ghost use Rattle.gm_tool.specs.Answer.{Check};
 ghost use Rattle.gm_tool.specs.Books.{IsCheckable};
-ghost use Rattle.gm_tool.specs.Checking.{AreLines, IsVerdict, refusals, counts_line, check_status};
+ghost use Rattle.gm_lines.specs.Checking.{AreLines, IsVerdict, refusals, counts_line, check_status};
 ghost use Rattle.gm_tool.specs.Replies.{IsJudged, IsChecked};
 
 use crate::book::refused;
-use crate::fault_lines::put_at;
+use gm_lines::put_at;
 use crate::refusal::NoText;
 use crate::reply::{Reply, reply_within_limit};
-use crate::rule_lines::put_rule;
+use gm_lines::put_rule;
 use gm_book::read_book;
 use gm_model::{Book, OutOfMemory, RuleFault, RuleTable, Schema};
 use gm_text::Text;

@@ -6,14 +6,12 @@ mod book;
 mod cells;
 mod check;
 mod command;
-mod fault_lines;
 mod laws;
 mod load;
 mod map;
 mod program;
 mod refusal;
 mod reply;
-mod rule_lines;
 mod running;
 mod script;
 

@@ -1,13 +1,14 @@
 ghost use Rattle.std.specs.Prelude.{ℕ, ◌+◌, ◌≤◌, IfOk, IfErr};
 ghost use Rattle.gm_mapfile.specs.Faults.{IsFaultOf};
 ghost use Rattle.gm_tool.specs.Answer as answer;
-ghost use Rattle.gm_tool.specs.Answer.{Show, TheMap};
+ghost use Rattle.gm_tool.specs.Answer.{Show};
+ghost use Rattle.gm_lines.specs.Refusing.{TheMap};
 ghost use Rattle.gm_tool.specs.Replies.{IsJudged, IsMapRefusal};
 ghost use Rattle.gm_tool.specs.RunAnswer.{IsBadMap};
 ghost use Rattle.gm_tool.specs.StepBounds.{BytesReadWithin, ShowsWithin};
 ghost use Rattle.gm_tool.specs.Stops.{IsReadMap, IsBadFor};
 
-use crate::fault_lines::map_line;
+use gm_lines::map_line;
 use crate::refusal::{NoText, Stop};
 use crate::reply::{Reply, reply_within_limit};
 use gm_arena::Steps;

@@ -1,7 +1,7 @@
 ghost use Rattle.std.specs.Prelude.{◌≡◌, ◌↔◌, ◌+◌, ◌≤◌, ◌⊎◌, ℕ, IfOk, IfErr, IfSome, IsErrOf, IsTrue, List, map, not};
 ghost use Rattle.gm_host.specs.Count.{counted, Rises};
 ghost use Rattle.gm_model.specs.Rules.{rule_of};
-ghost use Rattle.gm_tool.specs.Answer.{TheMap, TheBook, TheScript};
+ghost use Rattle.gm_lines.specs.Refusing.{TheMap, TheBook, TheScript};
 ghost use Rattle.gm_tool.specs.Loads.{FailsAt, StopsInTime, UnlessNoMemory, UnlessNoMemoryToMake};
 ghost use Rattle.gm_tool.specs.MadeRuns.{names_of, inputs_of, CanRun, IsFitted, IsPrinted, IsRunOf, IsMapBytes, IsMade, LacksInput, LoadsAtMostThrice, IsRunStatus, HoldsMap, IsRunText, IsSaving, IsSoundReply};
 ghost use Rattle.gm_tool.specs.Tool.{IsReplyStatus};

@@ -1,10 +1,10 @@
 ghost use Rattle.std.specs.Prelude.{IfOk, IfErr, map};
 ghost use Rattle.gm_model.specs.Rules.{rule_of};
-ghost use Rattle.gm_tool.specs.Answer.{TheScript};
+ghost use Rattle.gm_lines.specs.Refusing.{TheScript};
 ghost use Rattle.gm_tool.specs.RunAnswer.{IsBadScript};
 ghost use Rattle.gm_tool.specs.Stops.{IsReadScript, IsBadFor};
 
-use crate::fault_lines::script_line;
+use gm_lines::script_line;
 use crate::refusal::Stop;
 use gm_model::{Book, Script};
 use gm_script::read_script;

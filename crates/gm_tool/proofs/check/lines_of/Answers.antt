@@ -1,6 +1,6 @@
 use Rattle.std.proofs.Common.{rules, subst, ◌+◌, take, map, sym}
 use Rattle.gm_model.specs.Rules.{rule_of}
-use Rattle.gm_tool.specs.Checking.{AreLines, NoRules}
+use Rattle.gm_lines.specs.Checking.{AreLines, NoRules}
 use Rattle.gm_tool.proofs.Verdicts.{verdict_sayable, more_lines, refused_below, at_most_one}
 use Rattle.gm_tool.proofs.check.lines_of.Goals as goal
 

@@ -1,6 +1,6 @@
 use Rattle.std.proofs.Common.{refl}
 use Rattle.std.proofs.lemmas.Result.{err_from_is_err_and}
-use Rattle.gm_tool.specs.Answer.{TheBook}
+use Rattle.gm_lines.specs.Refusing.{TheBook}
 use Rattle.gm_tool.specs.RunAnswer.{IsBadBook}
 use Rattle.gm_tool.specs.Stops.{IsReadBook}
 use Rattle.gm_tool.specs.declared.refusal.Role.TheVariants as roles

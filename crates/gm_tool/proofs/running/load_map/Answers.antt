@@ -1,6 +1,6 @@
 use Rattle.std.proofs.Common.{refl}
 use Rattle.std.proofs.lemmas.Result.{err_from_is_err_and}
-use Rattle.gm_tool.specs.Answer.{TheMap}
+use Rattle.gm_lines.specs.Refusing.{TheMap}
 use Rattle.gm_tool.specs.RunAnswer.{IsBadMap}
 use Rattle.gm_tool.specs.Stops.{IsReadMap}
 use Rattle.gm_tool.specs.declared.refusal.Role.TheVariants as roles

@@ -2,7 +2,7 @@ use Rattle.std.proofs.Common.{Err, rules, refl, map, ap, ◌∙◌}
 use Rattle.std.proofs.lemmas.Result.{err_from_is_err_and}
 use Rattle.gm_host.specs.Count.{counted, Rises}
 use Rattle.gm_model.specs.Rules.{rule_of}
-use Rattle.gm_tool.specs.Answer.{TheBook}
+use Rattle.gm_lines.specs.Refusing.{TheBook}
 use Rattle.gm_tool.specs.Loads.{FailsAt}
 use Rattle.gm_tool.specs.MadeRuns.{names_of}
 use Rattle.gm_tool.specs.RunAnswer.{IsFirstRefused}

@@ -11,11 +11,11 @@ use Rattle.gm_book.specs.BookText.{TwiceAt, UnknownAt}
 use Rattle.gm_script.specs.ScriptText.{UnknownRuleAt, HookCountAt, ParamsAt}
 use Rattle.gm_script.specs.declared.fault.ScriptFault.{ScriptFault}
 use Rattle.gm_script.specs.declared.fault.ScriptFault.TheVariants as script
-use Rattle.gm_tool.specs.ScriptFaults.{script_fault_words}
-use Rattle.gm_tool.specs.ScriptFaults as script_faults
-use Rattle.gm_tool.specs.BookFaults.{book_fault_words}
-use Rattle.gm_tool.specs.BookFaults as book_faults
-use Rattle.gm_tool.specs.Answer.{IsBad, TheMap}
+use Rattle.gm_lines.specs.ScriptFaults.{script_fault_words}
+use Rattle.gm_lines.specs.ScriptFaults as script_faults
+use Rattle.gm_lines.specs.BookFaults.{book_fault_words}
+use Rattle.gm_lines.specs.BookFaults as book_faults
+use Rattle.gm_lines.specs.Refusing.{IsBad, TheMap}
 
 -- words that say why the bytes stand for no map are put behind the text
 abbrev pub PutsMapFault : List ℕ → List ℕ → List ℕ → Type 0

@@ -1,13 +1,12 @@
 //! The lines that say why a file's text stands for nothing.
 
 ghost use Rattle.std.specs.Prelude.{◌≡◌, ◌∷◌, ◌++◌, List, IfOk, OnOk, codes, decimal};
-ghost use Rattle.gm_tool.specs.Answer.{TheMap, refusal};
-ghost use Rattle.gm_tool.specs.Replies.{IsBadLine};
+ghost use Rattle.gm_lines.specs.Refusing.{TheMap, refusal, IsBadLine};
 ghost use Rattle.gm_mapfile.specs.MapFaults.{limit_word};
 ghost use Rattle.gm_mapfile.specs.Faults.{IsFaultOf, IsBreachOf};
 ghost use Rattle.gm_model.specs.Symbols.{Mark};
 ghost use Rattle.gm_text.specs.SchemaAnswers.{marks_left};
-ghost use Rattle.gm_tool.specs.FaultLines.{IsSaidOfBook, IsSaidOfScript, book_words, script_words, PutsMapFault, HasEmbed, IsEmbedName, IsTokenMark};
+ghost use Rattle.gm_lines.specs.FaultLines.{IsSaidOfBook, IsSaidOfScript, book_words, script_words, PutsMapFault, HasEmbed, IsEmbedName, IsTokenMark};
 
 use gm_book::BookFault;
 use gm_laws::MapBreach;
