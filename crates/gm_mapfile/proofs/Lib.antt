@@ -2,3 +2,4 @@ pub mod GoodListing
 pub mod MapMoves
 pub mod MapLed
 pub mod MapPaths
+pub mod MapGrammar
