@@ -3,3 +3,4 @@ pub mod MapMoves
 pub mod MapLed
 pub mod MapPaths
 pub mod MapGrammar
+pub mod MapStates
