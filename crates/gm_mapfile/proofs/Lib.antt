@@ -4,3 +4,5 @@ pub mod MapLed
 pub mod MapPaths
 pub mod MapGrammar
 pub mod MapStates
+pub mod DartNumbers
+pub mod OneListing
