@@ -6,3 +6,4 @@ pub mod MapGrammar
 pub mod MapStates
 pub mod DartNumbers
 pub mod OneListing
+pub mod MapWithin
