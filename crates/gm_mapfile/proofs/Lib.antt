@@ -7,3 +7,6 @@ pub mod MapStates
 pub mod DartNumbers
 pub mod OneListing
 pub mod MapWithin
+pub mod MapRows
+pub mod FormWithin
+pub mod MapReadings
