@@ -213,6 +213,10 @@ dim_low n e = go ((n == 0) || nat_lt 7 n) refl e
 pub dim_read : (form : SchemaForm) → AreWithin (spell form []) → form.dim ≤ 7
 dim_read form within = dim_low form.dim (nothing_passed _ _ within.1.0).0
 
+-- where each word among its symbols is a lexeme
+pub form_parts : (form : SchemaForm) → AreWithin (spell form []) → AreSound (spell form []) → AreParts (map embed_of form.embeds)
+form_parts form within sound = parts_from form.dim [] form.embeds (dim_read form within) within.1.1 sound.1.1
+
 pub read_parts : (old new : Cursor) (schema : Schema) → IsSchemaRead old new schema → AreParts schema.embeds
 read_parts old new schema read =
     let form = read.form in
@@ -220,7 +224,7 @@ read_parts old new schema read =
     let all = subst (λ (ms : List Mark). AllByRecursion IsSound (symbols ms)) read.stands.split (words_are_lexemes old.text old.place) in
     let front = all_front (symbols read.stands.before) (symbols (marks_left new)) (subst (AllByRecursion IsSound) (map-append (λ (mark : Mark). mark.symbol) read.stands.before (marks_left new)) all) in
     let sound : AreSound (spell form []) = subst (AllByRecursion IsSound) read.stands.spelled front in
-    subst AreParts (sym (ap (λ (s : Schema). s.embeds) read.means)) (parts_from form.dim [] form.embeds (dim_read form within) within.1.1 sound.1.1)
+    subst AreParts (sym (ap (λ (s : Schema). s.embeds) read.means)) (form_parts form within sound)
 
 pub read_sound : (old new : Cursor) (schema : Schema) → IsSchemaRead old new schema → IsSchema schema
 read_sound old new schema read = subst IsSchema (sym read.means) (form_sound read.form read.stands.good read.stands.within)
