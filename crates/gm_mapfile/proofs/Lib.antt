@@ -10,3 +10,4 @@ pub mod MapWithin
 pub mod MapRows
 pub mod FormWithin
 pub mod MapReadings
+pub mod Listed
