@@ -11,3 +11,10 @@ pub mod MapRows
 pub mod FormWithin
 pub mod MapReadings
 pub mod Listed
+pub mod Named
+pub mod Darts
+pub mod Ascending
+pub mod Permuted
+pub mod Moved
+pub mod OneMap
+pub mod OneFault
