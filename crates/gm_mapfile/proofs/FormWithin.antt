@@ -1,18 +1,16 @@
 -- What a map's form within its limits is: its schema passes nothing, and neither do its next name, its count and its darts.
-use Rattle.std.proofs.Common.{◌≡◌, ℕ, ◌<◌, ◌≤◌, Bool, true, false, cond, List, [], ◌∷◌, ◌++◌, length, map, Option, Some, None, refl, sym, ap, subst, ◌∙◌, arith}
+use Rattle.std.proofs.Common.{◌≡◌, ℕ, ◌≤◌, Bool, true, false, cond, List, [], ◌∷◌, ◌++◌, length, map, Some, None, refl, arith}
 use Rattle.std.specs.Prelude.{nat_lt}
 use Rattle.std.specs.List.{AllByRecursion}
 use Rattle.std.specs.Option.{option_map}
 use Rattle.std.proofs.lemmas.Bool.Decides.{nat_tests}
 use Rattle.gm_model.specs.declared.limit.LimitKind.{LimitKind}
 use Rattle.gm_model.specs.declared.limit.LimitKind.TheVariants as limits
-use Rattle.gm_model.specs.declared.schema.Embed.{Embed}
 use Rattle.gm_model.specs.Limits.{most_darts, most_names}
 use Rattle.gm_model.specs.Reading.{Part, IsWithin}
-use Rattle.gm_model.specs.Symbols.{Numeral}
-use Rattle.gm_text.specs.SchemaText.{Passed, LimitOf}
+use Rattle.gm_text.specs.SchemaText.{LimitOf}
 use Rattle.gm_text.specs.SchemaText as text
-use Rattle.gm_mapfile.specs.MapText.{Version, First, Second, DartForm, MapForm, Role, NextName, Count, passed_of, the_end, in_schema, spell_darts, spell_listing, spell_next, embeds_of, spelling}
+use Rattle.gm_mapfile.specs.MapText.{Version, First, Second, MapForm, Role, passed_of, the_end, in_schema, spell_listing, spell_next, embeds_of, spelling}
 use Rattle.gm_mapfile.proofs.GoodListing.{IsStatedSmall}
 use Rattle.gm_mapfile.proofs.MapWithin.{AreWithin, IsGoodForm, darts_within}
 

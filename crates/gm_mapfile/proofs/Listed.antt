@@ -1,10 +1,9 @@
 -- What a text that lists darts owes by its grammar and its limits: a schema, whole darts, and numbers within the limits.
-use Rattle.std.proofs.Common.{◌≡◌, ◌||◌, ℕ, suc, ◌<◌, ◌≤◌, Bool, true, false, cond, List, [], ◌∷◌, ◌++◌, length, map, Option, Some, None, All, refl, sym, ap, ap₂, subst, ◌∙◌, arith}
+use Rattle.std.proofs.Common.{◌≡◌, ◌||◌, ℕ, suc, ◌<◌, ◌≤◌, Bool, true, false, cond, List, [], ◌∷◌, ◌++◌, length, map, Some, None, All, refl, sym, ap, ap₂, subst, ◌∙◌, arith}
 use Rattle.std.specs.Prelude.{nat_lt, ◌==◌}
 use Rattle.std.specs.List.{AllByRecursion}
 use Rattle.std.proofs.lemmas.Bool.Decides.{nat_tests}
 use Rattle.std.proofs.lemmas.List.Elements.{All-nil, All-cons}
-use Rattle.gm_model.specs.declared.limit.LimitKind.{LimitKind}
 use Rattle.gm_model.specs.declared.limit.LimitKind.TheVariants as limits
 use Rattle.gm_model.specs.declared.schema.Embed.{Embed}
 use Rattle.gm_model.specs.declared.schema.Schema.{Schema}
@@ -13,9 +12,9 @@ use Rattle.gm_model.specs.declared.value.Value.{Value}
 use Rattle.gm_model.specs.Limits.{most_darts, most_names}
 use Rattle.gm_model.specs.Maps.{IsSchema}
 use Rattle.gm_model.specs.Reading.{Part, IsWithin, symbols_in}
-use Rattle.gm_model.specs.Values.{kind_of, IsInValueRange}
+use Rattle.gm_model.specs.Values.{IsInValueRange}
 use Rattle.gm_text.specs.SchemaPrinting.{AreParts}
-use Rattle.gm_text.specs.SchemaText.{SchemaForm, schema_of}
+use Rattle.gm_text.specs.SchemaText.{SchemaForm}
 use Rattle.gm_text.specs.SchemaText as schemas
 use Rattle.gm_text.specs.ValueText.{Signed}
 use Rattle.gm_text.proofs.Lexemes.{IsSound, words_are_lexemes}

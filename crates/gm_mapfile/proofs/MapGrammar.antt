@@ -4,10 +4,10 @@ use Rattle.std.specs.Prelude.{IsTrue}
 use Rattle.std.specs.List.{AllByRecursion}
 use Rattle.gm_model.specs.declared.schema.Embed.{Embed}
 use Rattle.gm_model.specs.declared.schema.Schema.{Schema}
-use Rattle.gm_model.specs.Symbols.{Symbol, Word, Numeral, Sign, Gone, Stray, End}
+use Rattle.gm_model.specs.Symbols.{Symbol, Word, Numeral}
 use Rattle.gm_model.specs.Reading.{Part}
 use Rattle.gm_text.specs.Machine.{Leads, IsGrammar}
-use Rattle.gm_text.specs.Nested.{Nested, Outside, Inside, IsApart, HasPieces, IsNestedSentence, LeadsInside, wrapped}
+use Rattle.gm_text.specs.Nested.{Outside, Inside, IsApart, HasPieces, IsNestedSentence, LeadsInside, wrapped}
 use Rattle.gm_text.specs.Nested as nested
 use Rattle.gm_text.specs.SchemaReading as schema
 use Rattle.gm_text.specs.SchemaText.{SchemaForm, embed_of, schema_of}
@@ -17,7 +17,7 @@ use Rattle.gm_text.proofs.SchemaGrammar.{led_form, form_is}
 use Rattle.gm_text.proofs.SchemaGrammar as schemas
 use Rattle.gm_text.proofs.SchemaStanding.{passed_placeless}
 use Rattle.gm_text.proofs.SchemaStanding as standing
-use Rattle.gm_mapfile.specs.MapText.{DartForm, Version, First, Second, MapForm, Role, Fixed, InSchema, NextName, Count, DartName, passed_of, word, number, sign, the_end, in_schema, spell_darts, spell_listing, spell_next, number_of, embeds_of, spelling, IsShaped, IsForm, IsSentence}
+use Rattle.gm_mapfile.specs.MapText.{DartForm, Version, First, Second, MapForm, Role, Fixed, InSchema, NextName, Count, passed_of, word, number, sign, the_end, in_schema, spell_darts, spell_listing, spell_next, number_of, embeds_of, IsShaped, IsForm, IsSentence}
 use Rattle.gm_mapfile.specs.MapReading.{Want, TheNumber, Component, TheSign, Head, State, AtFormat, AtVersion, AtNext, AtNextName, AtDarts, AtCount, AtNumbers, Done, Within, Whole, behind_schema, behind_state, number_in, outer_role, outer_move, into_schema, move_within, nesting, never, start, among}
 use Rattle.gm_mapfile.proofs.MapMoves.{format_moved, version_number, version_moved, word_behind, next_moved, name_moved, behind_moved, sign_moves}
 use Rattle.gm_mapfile.proofs.MapLed.{Led, all_form_numbers, led_darts}
@@ -301,9 +301,12 @@ of_nested parts sentence =
     let rest = spell_next back.version (spell_listing (embeds_of form) back.darts) in
     let inside : map (wrapped nesting) sentence.inner ++ sentence.back ≡ map in_schema (text.spell is.form []) ++ rest =
     ap (λ (ps : List (Part text.Role)). map in_schema ps ++ sentence.back) is.spelled ∙ ap (λ (ps : List (Part Role)). map in_schema (text.spell is.form []) ++ ps) back.spelled in
-    let before : sentence.front ≡ word (codes "gmap") ∷ number Fixed (number_of back.version) ∷ [] = front ∙ ap (λ (k : ℕ). word (codes "gmap") ∷ number Fixed k ∷ []) (sym back.second_is) in
-    (form, (is.good, back.shaped), sentence.spelled ∙ ap (λ (ps : List (Part Role)). ps ++ (map (wrapped nesting) sentence.inner ++ sentence.back)) before
-    ∙ ap (λ (ps : List (Part Role)). word (codes "gmap") ∷ number Fixed (number_of back.version) ∷ ps) inside)
+    let before : sentence.front ≡ word (codes "gmap") ∷ number Fixed (number_of back.version) ∷ [] = front ∙ ap (λ (k : ℕ). word (codes "gmap") ∷ number Fixed k ∷ []) (sym back.second_is) in (
+      form,
+      (is.good, back.shaped),
+      sentence.spelled ∙ ap (λ (ps : List (Part Role)). ps ++ (map (wrapped nesting) sentence.inner ++ sentence.back)) before
+          ∙ ap (λ (ps : List (Part Role)). word (codes "gmap") ∷ number Fixed (number_of back.version) ∷ ps) inside,
+    )
 
 pub map_grammar : IsGrammar passed_of never (nested.role_at nesting) (nested.move nesting) IsSentence start (Outside Done)
 map_grammar =

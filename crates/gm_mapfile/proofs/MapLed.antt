@@ -1,5 +1,5 @@
 -- What a map's form is spelled as leads through the states, and the numbers of its darts are taken on the way.
-use Rattle.std.proofs.Common.{◌≡◌, ℕ, zero, suc, ◌+◌, Bool, true, false, ℤ, pos, List, [], ◌∷◌, ◌++◌, length, map, replicate, Option, Some, None, refl, sym, ap, subst, ◌∙◌, append_assoc, codes, arith}
+use Rattle.std.proofs.Common.{◌≡◌, ℕ, ◌+◌, Bool, true, false, ℤ, pos, List, [], ◌∷◌, ◌++◌, length, map, replicate, refl, sym, ap, subst, ◌∙◌, append_assoc, codes, arith}
 use Rattle.std.proofs.lemmas.List.{append-nil}
 use Rattle.std.specs.List.{flat_map, AllByRecursion}
 use Rattle.gm_model.specs.declared.schema.Embed.{Embed}
@@ -10,7 +10,7 @@ use Rattle.gm_model.specs.Reading.{Part}
 use Rattle.gm_text.specs.Machine.{Leads}
 use Rattle.gm_text.specs.Nested as nested
 use Rattle.gm_text.specs.ValueText.{Signed, integer, spell_signed}
-use Rattle.gm_mapfile.specs.MapText.{DartForm, Role, Fixed, DartName, passed_of, signed, sign, width, is_colour, size_role, spell_names, spell_components, spell_value, spell_values, spell_dart, spell_darts, AreWide, IsShaped}
+use Rattle.gm_mapfile.specs.MapText.{DartForm, Role, Fixed, DartName, passed_of, signed, sign, width, size_role, spell_names, spell_components, spell_value, spell_values, spell_dart, spell_darts, AreWide, IsShaped}
 use Rattle.gm_mapfile.specs.MapReading.{Want, TheNumber, Component, TheSign, value_wants, values_wants, dart_wants, darts_wants, Head, Whole, number_in, nesting, never, among}
 use Rattle.gm_mapfile.proofs.MapMoves.{sign_moves}
 
@@ -67,9 +67,13 @@ module _ (head : Head) where
       let close : From (taken ++ map integer xs) (TheSign (codes ")") ∷ wants) (sign (codes ")") ∷ rest) last = (0, among head (taken ++ map integer xs) wants, refl, sign_moves head (taken ++ map integer xs) (codes ")") wants, led) in
       let inner = led_components colour taken (TheSign (codes ")") ∷ wants) xs (sign (codes ")") ∷ rest) last close in
       let same : replicate (length xs) (Component colour) ++ TheSign (codes ")") ∷ wants ≡ (replicate count (Component colour) ++ TheSign (codes ")") ∷ []) ++ wants =
-      ap (λ (k : ℕ). replicate k (Component colour) ++ TheSign (codes ")") ∷ wants) long ∙ sym (append_assoc (replicate count (Component colour)) (TheSign (codes ")") ∷ []) wants) in
-      (0, among head taken ((replicate count (Component colour) ++ TheSign (codes ")") ∷ []) ++ wants), refl, sign_moves head taken (codes "(") _,
-        wanted_as taken (replicate (length xs) (Component colour) ++ TheSign (codes ")") ∷ wants) ((replicate count (Component colour) ++ TheSign (codes ")") ∷ []) ++ wants) (spell_components colour xs (sign (codes ")") ∷ rest)) last same inner)
+      ap (λ (k : ℕ). replicate k (Component colour) ++ TheSign (codes ")") ∷ wants) long ∙ sym (append_assoc (replicate count (Component colour)) (TheSign (codes ")") ∷ []) wants) in (
+        0,
+        among head taken ((replicate count (Component colour) ++ TheSign (codes ")") ∷ []) ++ wants),
+        refl,
+        sign_moves head taken (codes "(") _,
+        wanted_as taken (replicate (length xs) (Component colour) ++ TheSign (codes ")") ∷ wants) ((replicate count (Component colour) ++ TheSign (codes ")") ∷ []) ++ wants) (spell_components colour xs (sign (codes ")") ∷ rest)) last same inner,
+      )
 
   led_value : (kind : Kind) (taken : List ℤ) (wants : List Want) (xs : List Signed) (rest : List (Part Role)) (last : Whole) → length xs ≡ width kind → From (taken ++ map integer xs) wants rest last
       → From taken (value_wants kind ++ wants) (spell_value kind xs rest) last

@@ -1,13 +1,13 @@
 -- What a symbol of a map's text leads to, state by state.
-use Rattle.std.proofs.Common.{◌≡◌, ℕ, Bool, true, false, cond, eqb, ℤ, pos, List, [], ◌∷◌, ◌++◌, Option, Some, None, refl, sym, ap, subst, ◌∙◌, codes}
+use Rattle.std.proofs.Common.{◌≡◌, ℕ, Bool, true, false, cond, eqb, ℤ, pos, List, [], ◌∷◌, ◌++◌, Some, None, refl, sym, ap, codes}
 use Rattle.std.specs.Str.{bytes_eq}
 use Rattle.std.proofs.lemmas.Bool.{eqb-true}
 use Rattle.std.proofs.lemmas.Slice.Eq.{bytes_eq-Decides}
 use Rattle.gm_model.specs.declared.schema.Schema.{Schema}
 use Rattle.gm_model.specs.Symbols.{Symbol, Word, Numeral, Sign, Gone, Stray, End}
-use Rattle.gm_text.specs.Nested.{Outside, Inside}
-use Rattle.gm_mapfile.specs.MapText.{First, Second, Role, Fixed, size_role}
-use Rattle.gm_mapfile.specs.MapReading.{Want, TheNumber, Component, TheSign, Head, State, AtFormat, AtVersion, AtNext, AtNextName, AtDarts, AtCount, AtNumbers, Done, Whole, darts_wants, behind_schema, expect, into_schema, move_version, number_in, move_wants, outer_move, among}
+use Rattle.gm_text.specs.Nested.{Outside}
+use Rattle.gm_mapfile.specs.MapText.{First, Second, Role, size_role}
+use Rattle.gm_mapfile.specs.MapReading.{Want, TheNumber, Component, TheSign, Head, State, AtFormat, AtVersion, AtNext, AtNextName, AtDarts, AtCount, AtNumbers, Done, Whole, darts_wants, behind_schema, expect, into_schema, number_in, move_wants, outer_move, among}
 
 expected : (wanted found : List ℕ) (to : State) (next : Whole) → expect wanted found to ≡ Some next → (found ≡ wanted) × (next ≡ Outside to)
 expected wanted found to next moves = go (bytes_eq found wanted) refl moves

@@ -1,6 +1,6 @@
 -- Each path through the states of a map's darts is the spelling of forms.
-use Rattle.std.proofs.Common.{◌≡◌, ℕ, zero, suc, ◌+◌, Bool, true, false, ℤ, pos, List, [], ◌∷◌, ◌++◌, length, map, replicate, Option, Some, None, refl, sym, ap, subst, ◌∙◌, append_assoc, codes, arith}
-use Rattle.std.specs.List.{flat_map, AllByRecursion}
+use Rattle.std.proofs.Common.{◌≡◌, ℕ, zero, suc, ◌+◌, Bool, true, false, ℤ, pos, List, [], ◌∷◌, ◌++◌, length, replicate, refl, sym, ap, subst, ◌∙◌, append_assoc, codes, arith}
+use Rattle.std.specs.List.{AllByRecursion}
 use Rattle.gm_model.specs.declared.schema.Embed.{Embed}
 use Rattle.gm_model.specs.declared.schema.Schema.{Schema}
 use Rattle.gm_model.specs.declared.value.Kind.{Kind}
@@ -8,9 +8,9 @@ use Rattle.gm_model.specs.declared.value.Kind.TheVariants as kinds
 use Rattle.gm_model.specs.Symbols.{Symbol, Word, Numeral, Sign, End}
 use Rattle.gm_model.specs.Reading.{Part}
 use Rattle.gm_text.specs.Nested.{Outside}
-use Rattle.gm_text.specs.ValueText.{Signed, integer, spell_signed}
-use Rattle.gm_mapfile.specs.MapText.{DartForm, Role, Fixed, DartName, Count, number, sign, word, the_end, width, is_colour, size_role, spell_names, spell_components, spell_value, spell_values, spell_dart, spell_darts, spell_listing, AreWide, IsShaped}
-use Rattle.gm_mapfile.specs.MapReading.{Want, TheNumber, Component, TheSign, value_wants, values_wants, dart_wants, darts_wants, Head, AtDarts, AtCount, Done, Whole, role_of_want, number_in, among}
+use Rattle.gm_text.specs.ValueText.{Signed, spell_signed}
+use Rattle.gm_mapfile.specs.MapText.{DartForm, Role, Fixed, DartName, Count, number, sign, word, the_end, width, size_role, spell_names, spell_components, spell_value, spell_values, spell_dart, spell_darts, spell_listing, AreWide, IsShaped}
+use Rattle.gm_mapfile.specs.MapReading.{Want, TheNumber, Component, TheSign, value_wants, values_wants, dart_wants, darts_wants, Head, AtDarts, AtCount, Done, Whole, number_in, among}
 use Rattle.gm_mapfile.proofs.MapMoves.{end_moved, number_moved, component_moved, AtNumber, AtMinus, sign_moved, darts_moved, count_moved}
 use Rattle.gm_mapfile.proofs.MapLed.{Led}
 
@@ -154,15 +154,15 @@ module _ (head : Head) where
   bracketed_is : (colour : Bool) (count : ℕ) (taken : List ℤ) (wants : List Want) (parts : List (Part Role))
       → ToEnd taken (TheSign (codes "(") ∷ (replicate count (Component colour) ++ TheSign (codes ")") ∷ []) ++ wants) parts → IsBracketedFirst colour count wants parts
   bracketed_is colour count taken wants parts led =
-      let open_ = sign_is (codes "(") taken ((replicate count (Component colour) ++ TheSign (codes ")") ∷ []) ++ wants) parts led in
-      let inner = components_are colour count taken (TheSign (codes ")") ∷ wants) open_.rest
-      (subst (λ (ws : List Want). ToEnd taken ws open_.rest) (append_assoc (replicate count (Component colour)) (TheSign (codes ")") ∷ []) wants) open_.behind) in
+      let opening = sign_is (codes "(") taken ((replicate count (Component colour) ++ TheSign (codes ")") ∷ []) ++ wants) parts led in
+      let inner = components_are colour count taken (TheSign (codes ")") ∷ wants) opening.rest
+      (subst (λ (ws : List Want). ToEnd taken ws opening.rest) (append_assoc (replicate count (Component colour)) (TheSign (codes ")") ∷ []) wants) opening.behind) in
       let close = sign_is (codes ")") inner.behind.0 wants inner.rest inner.behind.1 in
       record {
         xs = inner.xs;
         long = inner.long;
         rest = close.rest;
-        spelled = open_.spelled ∙ ap (λ (ps : List (Part Role)). sign (codes "(") ∷ ps) (inner.spelled ∙ ap (λ (ps : List (Part Role)). spell_components colour inner.xs ps) close.spelled);
+        spelled = opening.spelled ∙ ap (λ (ps : List (Part Role)). sign (codes "(") ∷ ps) (inner.spelled ∙ ap (λ (ps : List (Part Role)). spell_components colour inner.xs ps) close.spelled);
         behind = (inner.behind.0, close.behind);
       }
 

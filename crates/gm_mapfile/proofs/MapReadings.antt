@@ -1,30 +1,28 @@
 -- A reading that came to the end of a text is its listing, and one that stopped names the text's first fault.
-use Rattle.std.proofs.Common.{◌≡◌, ℕ, ℤ, List, [], ◌∷◌, ◌++◌, length, map, Option, Some, None, Result, Ok, Err, refl, sym, ap, subst, ◌∙◌}
+use Rattle.std.proofs.Common.{◌≡◌, ℕ, ℤ, List, [], ◌∷◌, ◌++◌, Option, Err, refl, sym, ap, subst, ◌∙◌}
 use Rattle.std.proofs.lemmas.List.{map-append}
 use Rattle.std.specs.List.{AllByRecursion}
-use Rattle.gm_model.specs.declared.limit.LimitKind.{LimitKind}
 use Rattle.gm_model.specs.declared.schema.Schema.{Schema}
 use Rattle.gm_model.specs.declared.value.Value.{Value}
 use Rattle.gm_model.specs.Maps.{IsSchema}
 use Rattle.gm_model.specs.Symbols.{Symbol, Mark, symbols, marks_of}
-use Rattle.gm_model.specs.Reading.{Part, IsWithin, IsReadAs, TextEndsAt, LimitStandsAt, symbols_in}
-use Rattle.gm_text.specs.Machine.{Stop, Ends, Passes, Leads}
+use Rattle.gm_model.specs.Reading.{Part, TextEndsAt, LimitStandsAt, symbols_in}
+use Rattle.gm_text.specs.Machine.{Passes}
 use Rattle.gm_text.specs.Nested.{Outside}
 use Rattle.gm_text.specs.Nested as nested
 use Rattle.gm_text.specs.SchemaText.{Passed, LimitOf, Again, schema_of}
-use Rattle.gm_text.specs.SchemaText as text
 use Rattle.gm_text.specs.declared.schema_fault.SchemaFault.{SchemaFault}
 use Rattle.gm_text.specs.declared.schema_fault.SchemaFault.TheVariants as faults
 use Rattle.gm_text.proofs.Machine.{run_reads, run_ends, run_passes, along_leads, along_spelled, ended_is, passing_is}
 use Rattle.gm_mapfile.specs.Draft.{version_in, IsDraft, IsFaultIn}
-use Rattle.gm_mapfile.specs.MapText.{Version, MapForm, DartForm, Role, NextName, Count, passed_of, number, the_end, in_schema, spell_next, spell_darts, embeds_of, spelling, IsForm, IsSentence, IsWritten, IsListed, AreRows, IsShaped}
+use Rattle.gm_mapfile.specs.MapText.{Role, passed_of, the_end, spelling, IsSentence, IsListed, AreRows}
 use Rattle.gm_mapfile.specs.MapReading.{Head, Done, Whole, nesting, never, start, run_from, Stops, among, all_numbers, IsWhole, ReadsMap}
 use Rattle.gm_mapfile.proofs.MapLed.{Led, all_form_numbers}
 use Rattle.gm_mapfile.proofs.MapGrammar.{head_of, map_grammar}
 use Rattle.gm_mapfile.proofs.MapStates.{led_to_end, alike}
 use Rattle.gm_mapfile.proofs.MapRows.{declared_numbers, rows_are}
 use Rattle.gm_mapfile.proofs.FormWithin.{form_good}
-use Rattle.gm_mapfile.proofs.MapWithin.{AreWithin, IsGoodForm}
+use Rattle.gm_mapfile.proofs.MapWithin.{AreWithin}
 
 -- ---- the whole text
 

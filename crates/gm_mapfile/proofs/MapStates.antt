@@ -1,5 +1,5 @@
 -- The symbols of a map's text lead to one state, so they tell the version, the schema and the numbers of the darts.
-use Rattle.std.proofs.Common.{◌≡◌, ℕ, Bool, true, false, ℤ, List, [], ◌∷◌, ◌++◌, length, map, Option, Some, None, refl, sym, ap, subst, ◌∙◌, append_assoc, codes}
+use Rattle.std.proofs.Common.{◌≡◌, ℕ, Bool, true, false, ℤ, List, [], ◌∷◌, ◌++◌, length, map, Some, refl, sym, ap, subst, ◌∙◌, append_assoc, codes}
 use Rattle.std.proofs.lemmas.List.{map-append, append_cancel_right}
 use Rattle.gm_model.specs.declared.schema.Embed.{Embed}
 use Rattle.gm_model.specs.declared.value.Kind.{Kind}
@@ -9,7 +9,7 @@ use Rattle.gm_model.specs.Reading.{Part, symbols_in}
 use Rattle.gm_text.specs.Nested as nested
 use Rattle.gm_text.specs.SchemaText as text
 use Rattle.gm_text.specs.ValueText.{Signed, spell_signed}
-use Rattle.gm_mapfile.specs.MapText.{DartForm, Version, First, Second, MapForm, Role, Fixed, NextName, Count, DartName, word, number, sign, the_end, in_schema, is_colour, size_role, spell_names, spell_components, spell_value, spell_values, spell_dart, spell_darts, spell_next, number_of, embeds_of, spelling, IsForm}
+use Rattle.gm_mapfile.specs.MapText.{DartForm, Version, First, Second, MapForm, Role, Fixed, Count, DartName, word, number, sign, the_end, in_schema, size_role, spell_names, spell_components, spell_value, spell_values, spell_dart, spell_darts, spell_next, number_of, embeds_of, spelling, IsForm}
 use Rattle.gm_mapfile.specs.MapReading.{Head, Whole, nesting, start, among}
 use Rattle.gm_mapfile.proofs.MapLed.{Led, all_form_numbers}
 use Rattle.gm_mapfile.proofs.MapGrammar.{head_of, spell_listing_to, spell_to, led_map}

@@ -1,11 +1,10 @@
 -- What parts that pass nothing say of a map's darts: small names, and numbers in the range of their values.
-use Rattle.std.proofs.Common.{◌≡◌, ◌≢◌, ℕ, zero, suc, ◌+◌, ◌<◌, ◌≤◌, ◌^◌, ◌&&◌, Bool, true, false, cond, ℤ, pos, FitsSigned, w64, List, [], ◌∷◌, ◌++◌, length, map, Option, Some, None, refl, sym, ap, subst, ◌∙◌, arith, codes}
+use Rattle.std.proofs.Common.{◌≡◌, ℕ, zero, suc, ◌<◌, ◌≤◌, ◌^◌, Bool, true, false, cond, ℤ, pos, FitsSigned, w64, List, [], ◌∷◌, map, Some, None, refl, arith, codes}
 use Rattle.std.specs.Prelude.{IsTrue, nat_lt, nat_le, int_le}
-use Rattle.std.specs.List.{flat_map, AllByRecursion}
+use Rattle.std.specs.List.{AllByRecursion}
 use Rattle.std.specs.Option.{option_map}
 use Rattle.std.proofs.lemmas.Bool.Decides.{nat_tests}
 use Rattle.std.proofs.lemmas.Bool.{and_parts}
-use Rattle.gm_model.specs.declared.limit.LimitKind.{LimitKind}
 use Rattle.gm_model.specs.declared.limit.LimitKind.TheVariants as limits
 use Rattle.gm_model.specs.declared.schema.Embed.{Embed}
 use Rattle.gm_model.specs.declared.value.Kind.{Kind}
@@ -13,13 +12,13 @@ use Rattle.gm_model.specs.declared.value.Kind.TheVariants as kinds
 use Rattle.gm_model.specs.declared.value.Value.{Value}
 use Rattle.gm_model.specs.declared.value.Value.TheVariants as values
 use Rattle.gm_model.specs.Expressions.{components}
-use Rattle.gm_model.specs.Limits.{most_darts, most_names}
+use Rattle.gm_model.specs.Limits.{most_names}
 use Rattle.gm_model.specs.Reading.{Part, IsWithin}
 use Rattle.gm_model.specs.Symbols.{Numeral}
 use Rattle.gm_model.specs.Values.{kind_of, IsInValueRange}
-use Rattle.gm_text.specs.SchemaText.{Passed, LimitOf}
+use Rattle.gm_text.specs.SchemaText.{LimitOf}
 use Rattle.gm_text.specs.ValueText.{Signed, integer, greatest, is_channel, spell_signed}
-use Rattle.gm_mapfile.specs.MapText.{DartForm, Role, Fixed, DartName, passed_of, channel_limit, signed, sign, is_colour, size_role, spell_names, spell_components, spell_value, spell_values, spell_dart, spell_darts, IsSentence}
+use Rattle.gm_mapfile.specs.MapText.{DartForm, Role, Fixed, DartName, passed_of, signed, sign, is_colour, size_role, spell_names, spell_components, spell_value, spell_values, spell_darts, IsSentence}
 
 abbrev pub AreWithin : List (Part Role) → Type 0
 AreWithin parts = IsWithin IsSentence passed_of parts

@@ -1,5 +1,5 @@
 -- A text has one first fault at most, of whatever kind, and a text that has one stands for no map.
-use Rattle.std.proofs.Common.{◌≡◌, ℕ, zero, suc, ◌<◌, ◌≤◌, ◌⊎◌, List, [], ◌∷◌, Option, Some, None, Result, Ok, Err, inl, inr, refl, sym, ap, ap₂, subst, ◌∙◌, arith}
+use Rattle.std.proofs.Common.{◌≡◌, ℕ, zero, suc, ◌<◌, ◌⊎◌, List, [], ◌∷◌, Option, Some, None, Result, Ok, Err, inl, inr, refl, sym, ap, ap₂, subst, ◌∙◌, arith}
 use Rattle.std.proofs.lemmas.Bool.{cases_order}
 use Rattle.gm_model.specs.declared.limit.LimitKind.{LimitKind}
 use Rattle.gm_model.specs.declared.schema.Embed.{Embed}
@@ -9,9 +9,8 @@ use Rattle.gm_model.specs.Breaches.{IsTripleBefore, IsFirstWithoutTarget, IsFirs
 use Rattle.gm_model.specs.GMap.{Row, IsLive, alpha, IsGMap}
 use Rattle.gm_model.specs.Maps.{IsEmbedAt}
 use Rattle.gm_model.specs.Orbits.{IsPairBefore}
-use Rattle.gm_model.specs.Symbols.{Mark, marks_of}
+use Rattle.gm_model.specs.Symbols.{marks_of}
 use Rattle.gm_text.specs.Machine.{Stop, Ends, Passes}
-use Rattle.gm_text.specs.Machine as machine
 use Rattle.gm_text.specs.Nested.{Outside}
 use Rattle.gm_text.specs.Nested as nested
 use Rattle.gm_text.specs.SchemaText.{Passed, LimitOf}
@@ -275,12 +274,12 @@ module _ (version : Version) (schema : Schema) (darts : List DartRow) where
 -- ---- the laws hold of a map
 
 -- whatever its darts are listed as
-record IsLawful (next : ℕ) (schema : Schema) (Live : ℕ → Type 0) (neighbour : ℕ → ℕ → ℕ) (value : ℕ → ℕ → Value) : Type 0 where
+record KeepsLaws (next : ℕ) (schema : Schema) (Live : ℕ → Type 0) (neighbour : ℕ → ℕ → ℕ) (value : ℕ → ℕ → Value) : Type 0 where
   below : (d : ℕ) → Live d → d < next
   generalised : IsGMap schema.dim Live neighbour
   shared : AreShared schema.dim Live neighbour schema value
 
-map_lawful : (text : List ℕ) (version : MapVersion) (map : ListedMap) → MapText text version map → IsLawful map.next map.schema (IsLive (rows_of map.darts)) (alpha (rows_of map.darts)) (value_in map.darts)
+map_lawful : (text : List ℕ) (version : MapVersion) (map : ListedMap) → MapText text version map → KeepsLaws map.next map.schema (IsLive (rows_of map.darts)) (alpha (rows_of map.darts)) (value_in map.darts)
 map_lawful text version map stands = record {
   below = stands.sound.is_map.below;
   generalised = stands.sound.generalised;
@@ -294,7 +293,7 @@ stated_below (Second stated) xs next rows is below = subst (AreBelow rows) is be
 map_laws : (text : List ℕ) (version : MapVersion) (map : ListedMap) → (stands : MapText text version map) → Laws stands.written map.schema stands.darts 6
 map_laws text version map stands =
     let ordered : AreDistinct (rows_of map.darts) = distinct_ascending map.darts stands.ascending in
-    let lawful = of_look_ups stands.darts map.darts (same_moved stands.darts map.darts stands.same ordered) (IsLawful map.next map.schema) (map_lawful text version map stands) in
+    let lawful = of_look_ups stands.darts map.darts (same_moved stands.darts map.darts stands.same ordered) (KeepsLaws map.next map.schema) (map_lawful text version map stands) in
     let distinct = distinct_moved stands.darts map.darts stands.same ordered in
     let below = stated_below stands.written (names map.darts) map.next (rows_of stands.darts) stands.next_is lawful.below in
     ((((((tt, distinct), below), lawful.generalised.stays), lawful.generalised.back), lawful.generalised.commutes), lawful.shared)

@@ -1,10 +1,8 @@
 -- A text lists the darts of one map at most, in one version.
-use Rattle.std.proofs.Common.{◌≡◌, ℕ, ℤ, List, refl, sym, ap, subst, ◌∙◌}
+use Rattle.std.proofs.Common.{◌≡◌, ℕ, List, sym, ap, subst, ◌∙◌}
 use Rattle.std.specs.List.{AllByRecursion}
-use Rattle.gm_model.specs.declared.schema.Embed.{Embed}
 use Rattle.gm_model.specs.declared.schema.Schema.{Schema}
-use Rattle.gm_text.specs.SchemaText.{schema_of}
-use Rattle.gm_mapfile.specs.MapText.{Version, DartForm, DartRow, IsShaped, AreRows, IsListed}
+use Rattle.gm_mapfile.specs.MapText.{Version, DartRow, IsShaped, AreRows, IsListed}
 use Rattle.gm_mapfile.specs.MapReading.{Head}
 use Rattle.gm_mapfile.proofs.DartNumbers.{same_darts}
 use Rattle.gm_mapfile.proofs.MapStates.{same_forms}

@@ -1,9 +1,8 @@
 -- A text stands for one map at most, in one version.
-use Rattle.std.proofs.Common.{◌≡◌, ℕ, ◌<◌, ◌≤◌, List, All, refl, sym, ap, subst, ◌∙◌, arith}
+use Rattle.std.proofs.Common.{◌≡◌, ℕ, List, sym, ap, subst, ◌∙◌, arith}
 use Rattle.std.specs.Prelude.{IsPermutation}
 use Rattle.std.proofs.lemmas.List.Sorted.{IsPermutation-sym, IsPermutation-trans}
-use Rattle.gm_model.specs.declared.schema.Schema.{Schema}
-use Rattle.gm_mapfile.specs.MapText.{Version, First, Second, DartRow, ListedMap, names, IsLeastAbove, IsNext, version_of, MapText}
+use Rattle.gm_mapfile.specs.MapText.{Version, First, Second, DartRow, ListedMap, names, IsNext, version_of, MapText}
 use Rattle.gm_mapfile.specs.declared.version.MapVersion.{MapVersion}
 use Rattle.gm_mapfile.proofs.Ascending.{same_ascending}
 use Rattle.gm_mapfile.proofs.OneListing.{one_listing}
