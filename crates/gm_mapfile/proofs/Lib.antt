@@ -1,1 +1,3 @@
 pub mod GoodListing
+pub mod Joined
+pub mod WordTokens
