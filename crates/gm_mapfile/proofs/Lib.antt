@@ -1,3 +1,4 @@
 pub mod GoodListing
 pub mod Joined
 pub mod WordTokens
+pub mod MapSteps

@@ -1,0 +1,12 @@
+use Rattle.std.proofs.Common.{rules, ◌≡◌, ◌≢◌, arith}
+use Rattle.std.proofs.lemmas.Result.{err_from_is_err_and}
+use Rattle.gm_mapfile.proofs.MapSteps.{name_takes, name_limit, name_lacks}
+use Rattle.gm_mapfile.proofs.reading.read_name.Goals as goal
+
+pub returns-in_err-value-clause-misses : goal.returns-in_err-value-clause-misses
+returns-in_err-value-clause-misses c =
+    let p = err_from_is_err_and c.from_residual.result c.from_residual.ensures.1 in
+    rw (p.1, p.2) (name_lacks c.args.lexer.now c.in_err-value.field-0.0 c.in_err-value.ensures.none)
+
+pub returns-clause-takes : goal.returns-clause-takes
+returns-clause-takes c = ?
