@@ -2,3 +2,4 @@ pub mod GoodListing
 pub mod Joined
 pub mod WordTokens
 pub mod MapSteps
+pub mod ValueSteps

@@ -46,10 +46,10 @@ stops_no_number state old fault none (mark, rest, marks, other, says) = rw says 
 
 -- ---- words
 
-met : (wanted : List ℕ) (to : State) → expect wanted wanted to ≡ Some (Outside to)
+pub met : (wanted : List ℕ) (to : State) → expect wanted wanted to ≡ Some (Outside to)
 met wanted to = let is : bytes_eq wanted wanted ≡ true = (bytes_eq-Decides wanted wanted).1 refl in rw is refl
 
-unmet : (wanted found : List ℕ) (to : State) → found ≢ wanted → expect wanted found to ≡ None
+pub unmet : (wanted found : List ℕ) (to : State) → found ≢ wanted → expect wanted found to ≡ None
 unmet wanted found to other = go (bytes_eq found wanted) refl
   where
     go : (b : Bool) → bytes_eq found wanted ≡ b → expect wanted found to ≡ None
@@ -113,7 +113,7 @@ above n value least is more = let far : least < n = omega (arith, is, more) in g
 at_least : (n value least : ℕ) → value ≡ min n (2 ^ 64 - 1) → least ≤ value → nat_le least n ≡ true
 at_least n value least is more = let far : least ≤ n = omega (arith, is, more) in grind (arith, nat_tests, far)
 
-not_above : (n least : ℕ) → n ≤ least → nat_lt least n ≡ false
+pub not_above : (n least : ℕ) → n ≤ least → nat_lt least n ≡ false
 not_above n least h = grind (arith, nat_tests, h)
 
 not_at_least : (n least : ℕ) → n < least → nat_le least n ≡ false
