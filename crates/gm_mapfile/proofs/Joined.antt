@@ -1,5 +1,6 @@
 -- How readings are put together: over what was read, on to what is read or to the first fault.
 use Rattle.std.proofs.Common.{◌≡◌, ℕ, ℤ, List, [], ◌∷◌, ◌++◌, Option, Some, None, Result, Ok, Err, refl, sym, ap, subst, ◌∙◌, append_assoc}
+use Rattle.std.specs.Prelude.{IfOk, IfErr, OnOk}
 use Rattle.std.proofs.lemmas.List.{append-nil}
 use Rattle.gm_model.specs.declared.limit.LimitKind.{LimitKind}
 use Rattle.gm_model.specs.Symbols.{Symbol, Mark}
@@ -99,3 +100,13 @@ misses_first ws vs old fault one head taken wants = rw (append_assoc ws vs wants
 pub misses_then : (ws vs : List Want) (xs : List ℤ) (old between : Cursor) (fault : SchemaFault) → Takes ws xs old between → Misses vs between fault → Misses (ws ++ vs) old fault
 misses_then ws vs xs old between fault one two head taken wants =
     rw (append_assoc ws vs wants) (stops_then (among head taken (ws ++ (vs ++ wants))) (among head (taken ++ xs) (vs ++ wants)) old between fault (one head taken (vs ++ wants)) (two head (taken ++ xs) wants))
+
+-- ---- what is said of an answer
+
+pub on_ok : {T E : Type 0} {P : T → Type 0} {Q : Type 0} (r : Result T E) → ((x : T) → P x → Q) → IfOk r P → OnOk r Q
+on_ok (Ok x) f p = f x p
+on_ok (Err e) f p = p
+
+pub if_err : {T E : Type 0} {P Q : E → Type 0} (r : Result T E) → ((e : E) → P e → Q e) → IfErr r P → IfErr r Q
+if_err (Ok x) f p = p
+if_err (Err e) f p = f e p
