@@ -3,3 +3,4 @@ pub mod Joined
 pub mod WordTokens
 pub mod MapSteps
 pub mod ValueSteps
+pub mod DartReads
