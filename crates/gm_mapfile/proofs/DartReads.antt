@@ -1,8 +1,8 @@
 -- Reading the names of a line, its values and the lines of darts one after the other, as loops do.
-use Rattle.std.proofs.Common.{◌≡◌, ℕ, zero, suc, ◌+◌, ◌-◌, ◌<◌, ℤ, pos, List, [], ◌∷◌, ◌++◌, length, map, replicate, refl, sym, ap, ap₂, subst, ◌∙◌, append_assoc, length-append, arith}
+use Rattle.std.proofs.Common.{◌≡◌, ℕ, zero, suc, ◌+◌, ◌-◌, ◌<◌, ℤ, pos, List, [], ◌∷◌, ◌++◌, length, map, replicate, take, drop, get_or, refl, sym, ap, ap₂, subst, ◌∙◌, append_assoc, length-append, take-suc, drop-cons, arith}
 use Rattle.std.specs.List.{flat_map, AllByRecursion}
 use Rattle.std.proofs.lemmas.Grind.{flat_map-append}
-use Rattle.std.proofs.lemmas.List.{append-nil, map-append, replicate-append-replicate}
+use Rattle.std.proofs.lemmas.List.{append-nil, map-append, replicate-append-replicate, take-append-drop}
 use Rattle.gm_model.specs.declared.schema.Embed.{Embed}
 use Rattle.gm_model.specs.declared.schema.Schema.{Schema}
 use Rattle.gm_model.specs.declared.value.Kind.{Kind}
@@ -78,6 +78,15 @@ pub values_stop : (embeds rest : List Embed) (embed : Embed) (old between : Curs
 values_stop embeds rest embed old between before values fault (more, is, kinds, takes) misses =
     misses_as (values_wants embeds ++ (value_wants embed.kind ++ values_wants rest)) (values_wants (embeds ++ embed ∷ rest)) old fault (sym (flat_map-append wants_of embeds (embed ∷ rest)))
     (misses_then (values_wants embeds) (value_wants embed.kind ++ values_wants rest) (flat_map components more) old between fault takes (misses_first (value_wants embed.kind) (values_wants rest) between fault misses))
+
+pub taken_to : (embeds : List Embed) (k : ℕ) (embed : Embed) → k < length embeds → embed ≡ get_or embeds k embed → take k embeds ++ embed ∷ [] ≡ take (k + 1) embeds
+taken_to embeds k embed lt is =
+    let one : suc k ≡ k + 1 = omega arith in
+    ap (λ (e : Embed). take k embeds ++ e ∷ []) is ∙ sym (take-suc embeds k embed lt) ∙ ap (λ (n : ℕ). take n embeds) one
+
+pub taken_at : (embeds : List Embed) (k : ℕ) (embed : Embed) → k < length embeds → embed ≡ get_or embeds k embed → take k embeds ++ embed ∷ drop (suc k) embeds ≡ embeds
+taken_at embeds k embed lt is =
+    ap (λ (e : Embed). take k embeds ++ e ∷ drop (suc k) embeds) is ∙ ap (λ (es : List Embed). take k embeds ++ es) (sym (drop-cons embeds k embed lt)) ∙ take-append-drop k embeds
 
 -- ---- lines
 

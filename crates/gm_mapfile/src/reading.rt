@@ -157,7 +157,8 @@ fn read_darts(
     count: usize,
     bytes: usize,
 ) -> Result<Lines, SchemaFault>
-    requires { count ≤ most_darts }
+    requires schema { IsSchema schema.now }
+    requires few { count ≤ most_darts }
     ensures reads { IfOk result (λ lines. ReadsDarts schema.now count lexer.old lexer.new lines.numbers.items lines.values.items) }
     ensures stops { IfErr result (Misses (darts_wants schema.now count) lexer.old) }
 {
