@@ -34,8 +34,8 @@ behind_any last state (mark ∷ marks) = refl
 
 pub data Came (state : Whole) (mark : Mark) : Type 0 where
   Ended : move_at state mark.symbol ≡ None → ((rest : List Mark) → run_from state (mark ∷ rest) ≡ Err (Ends state mark)) → Came state mark
-  Passed_by : (what : Passed) → ((rest : List Mark) → run_from state (mark ∷ rest) ≡ Err (Passes what mark.place)) → Came state mark
-  Went : (next : Whole) → ((rest : List Mark) → run_from state (mark ∷ rest) ≡ run_from next rest) → Came state mark
+  Passed_by : (next : Whole) (what : Passed) → move_at state mark.symbol ≡ Some next → limit_at state mark.symbol mark.place ≡ Some what → ((rest : List Mark) → run_from state (mark ∷ rest) ≡ Err (Passes what mark.place)) → Came state mark
+  Went : (next : Whole) → move_at state mark.symbol ≡ Some next → limit_at state mark.symbol mark.place ≡ None → ((rest : List Mark) → run_from state (mark ∷ rest) ≡ run_from next rest) → Came state mark
 
 pub went : (state next : Whole) (mark : Mark) → move_at state mark.symbol ≡ Some next → limit_at state mark.symbol mark.place ≡ None → (rest : List Mark) → run_from state (mark ∷ rest) ≡ run_from next rest
 went state next mark moves free rest = rw (moves, free) (behind_any mark.place next rest)
@@ -51,8 +51,8 @@ came state mark = go (move_at state mark.symbol) (limit_at state mark.symbol mar
   where
     go : (to : Option Whole) (what : Option Passed) → move_at state mark.symbol ≡ to → limit_at state mark.symbol mark.place ≡ what → Came state mark
     go None what e f = Ended e (ended state mark e)
-    go (Some next) (Some what) e f = Passed_by what (passed_by state next what mark e f)
-    go (Some next) None e f = Went next (went state next mark e f)
+    go (Some next) (Some what) e f = Passed_by next what e f (passed_by state next what mark e f)
+    go (Some next) None e f = Went next e f (went state next mark e f)
 
 -- ---- one after another
 
@@ -61,8 +61,8 @@ run_over state to [] rest e = let same : state ≡ to = cc e in ap (λ (s : Whol
 run_over state to (mark ∷ marks) rest e =
     elim (came state mark) [
       | Ended none is ↦ let no_way : Err (Ends state mark) ≡ Ok to = sym (is marks) ∙ e in absurd cc
-      | Passed_by what is ↦ let no_way : Err (Passes what mark.place) ≡ Ok to = sym (is marks) ∙ e in absurd cc
-      | Went next is ↦ is (marks ++ rest) ∙ run_over next to marks rest (sym (is marks) ∙ e)
+      | Passed_by next what moves limit is ↦ let no_way : Err (Passes what mark.place) ≡ Ok to = sym (is marks) ∙ e in absurd cc
+      | Went next moves free is ↦ is (marks ++ rest) ∙ run_over next to marks rest (sym (is marks) ∙ e)
     ]
 
 pub reads_nothing : (state : Whole) (old : Cursor) → Reads state old old state

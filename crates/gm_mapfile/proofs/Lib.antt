@@ -4,3 +4,4 @@ pub mod WordTokens
 pub mod MapSteps
 pub mod ValueSteps
 pub mod DartReads
+pub mod SchemaInside
