@@ -5,3 +5,4 @@ pub mod MapSteps
 pub mod ValueSteps
 pub mod DartReads
 pub mod SchemaInside
+pub mod WholeText
