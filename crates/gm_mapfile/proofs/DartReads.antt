@@ -11,7 +11,7 @@ use Rattle.gm_model.specs.Expressions.{components}
 use Rattle.gm_model.specs.Values.{kind_of}
 use Rattle.gm_text.specs.Cursor.{Cursor}
 use Rattle.gm_text.specs.declared.schema_fault.SchemaFault.{SchemaFault}
-use Rattle.gm_mapfile.specs.Draft.{line_in, numbers_of, values_of}
+use Rattle.gm_mapfile.specs.Draft.{line_in}
 use Rattle.gm_mapfile.specs.MapText.{DartRow, DartName}
 use Rattle.gm_mapfile.specs.MapReading.{Want, TheNumber, value_wants, values_wants, dart_wants, darts_wants, Takes, Misses, numbers_in, all_numbers, AreOfKinds, IsWhole, ReadsNames, ReadsValues, ReadsDarts}
 use Rattle.gm_mapfile.proofs.Joined.{takes_nothing, takes_then, misses_first, misses_then}
@@ -29,22 +29,18 @@ left k count lt = omega (arith, lt)
 
 -- ---- names
 
-a_name : Want
-a_name = TheNumber DartName
-
 pub names_none : (old : Cursor) (before : List ℕ) → ReadsNames 0 old old before before
 names_none old before = ([], sym (append-nil before), refl, takes_nothing old)
 
 pub names_more : (count : ℕ) (old between new : Cursor) (before names : List ℕ) (name : ℕ) → ReadsNames count old between before names → Takes (TheNumber DartName ∷ []) (pos name ∷ []) between new → ReadsNames (count + 1) old new before (names ++ name ∷ [])
-names_more count old between new before names name (more, is, long, takes) one =
-    (
-      more ++ name ∷ [],
-      ap (λ (ns : List ℕ). ns ++ name ∷ []) is ∙ append_assoc before more (name ∷ []),
-      length-append more (name ∷ []) ∙ ap (λ (k : ℕ). k + 1) long,
-      takes_as (replicate count (TheNumber DartName) ++ TheNumber DartName ∷ []) (replicate (count + 1) (TheNumber DartName)) (map pos more ++ pos name ∷ []) (map pos (more ++ name ∷ [])) old new
+names_more count old between new before names name (more, is, long, takes) one = (
+  more ++ name ∷ [],
+  ap (λ (ns : List ℕ). ns ++ name ∷ []) is ∙ append_assoc before more (name ∷ []),
+  length-append more (name ∷ []) ∙ ap (λ (k : ℕ). k + 1) long,
+  takes_as (replicate count (TheNumber DartName) ++ TheNumber DartName ∷ []) (replicate (count + 1) (TheNumber DartName)) (map pos more ++ pos name ∷ []) (map pos (more ++ name ∷ [])) old new
       (replicate-append-replicate count 1 (TheNumber DartName)) (sym (map-append pos more (name ∷ [])))
       (takes_then (replicate count (TheNumber DartName)) (TheNumber DartName ∷ []) (map pos more) (pos name ∷ []) old between new takes one),
-    )
+)
 
 pub names_stop : (count k : ℕ) (old between : Cursor) (before names : List ℕ) (fault : SchemaFault) → k < count → ReadsNames k old between before names → Misses (TheNumber DartName ∷ []) between fault → Misses (replicate count (TheNumber DartName)) old fault
 names_stop count k old between before names fault lt (more, is, long, takes) misses =
@@ -63,16 +59,15 @@ values_none old before = ([], sym (append-nil before), refl, takes_nothing old)
 
 pub values_more : (embeds : List Embed) (embed : Embed) (old between new : Cursor) (before values : List Value) (value : Value) → ReadsValues embeds old between before values
     → Takes (value_wants embed.kind) (components value) between new → kind_of value ≡ embed.kind → ReadsValues (embeds ++ embed ∷ []) old new before (values ++ value ∷ [])
-values_more embeds embed old between new before values value (more, is, kinds, takes) one kind =
-    (
-      more ++ value ∷ [],
-      ap (λ (vs : List Value). vs ++ value ∷ []) is ∙ append_assoc before more (value ∷ []),
-      map-append kind_of more (value ∷ []) ∙ ap₂ (λ (ks : List Kind) (k : Kind). ks ++ k ∷ []) kinds kind ∙ sym (map-append (λ (e : Embed). e.kind) embeds (embed ∷ [])),
-      takes_as (values_wants embeds ++ value_wants embed.kind) (values_wants (embeds ++ embed ∷ [])) (flat_map components more ++ components value) (flat_map components (more ++ value ∷ [])) old new
+values_more embeds embed old between new before values value (more, is, kinds, takes) one kind = (
+  more ++ value ∷ [],
+  ap (λ (vs : List Value). vs ++ value ∷ []) is ∙ append_assoc before more (value ∷ []),
+  map-append kind_of more (value ∷ []) ∙ ap₂ (λ (ks : List Kind) (k : Kind). ks ++ k ∷ []) kinds kind ∙ sym (map-append (λ (e : Embed). e.kind) embeds (embed ∷ [])),
+  takes_as (values_wants embeds ++ value_wants embed.kind) (values_wants (embeds ++ embed ∷ [])) (flat_map components more ++ components value) (flat_map components (more ++ value ∷ [])) old new
       (ap (λ (ws : List Want). values_wants embeds ++ ws) (sym (append-nil (value_wants embed.kind))) ∙ sym (flat_map-append wants_of embeds (embed ∷ [])))
       (ap (λ (xs : List ℤ). flat_map components more ++ xs) (sym (append-nil (components value))) ∙ sym (flat_map-append components more (value ∷ [])))
       (takes_then (values_wants embeds) (value_wants embed.kind) (flat_map components more) (components value) old between new takes one),
-    )
+)
 
 pub values_stop : (embeds rest : List Embed) (embed : Embed) (old between : Cursor) (before values : List Value) (fault : SchemaFault) → ReadsValues embeds old between before values → Misses (value_wants embed.kind) between fault → Misses (values_wants (embeds ++ embed ∷ rest)) old fault
 values_stop embeds rest embed old between before values fault (more, is, kinds, takes) misses =

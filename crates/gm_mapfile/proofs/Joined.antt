@@ -1,18 +1,17 @@
 -- How readings are put together: over what was read, on to what is read or to the first fault.
-use Rattle.std.proofs.Common.{◌≡◌, ℕ, ℤ, List, [], ◌∷◌, ◌++◌, Option, Some, None, Result, Ok, Err, refl, sym, ap, subst, ◌∙◌, append_assoc}
+use Rattle.std.proofs.Common.{◌≡◌, ℕ, ℤ, List, [], ◌∷◌, ◌++◌, Option, Some, None, Result, Ok, Err, refl, sym, ap, ◌∙◌, append_assoc}
 use Rattle.std.specs.Prelude.{IfOk, IfErr, OnOk}
 use Rattle.std.proofs.lemmas.List.{append-nil}
-use Rattle.gm_model.specs.declared.limit.LimitKind.{LimitKind}
 use Rattle.gm_model.specs.Symbols.{Symbol, Mark}
 use Rattle.gm_text.specs.Cursor.{Cursor}
 use Rattle.gm_text.specs.Machine.{Stop, Ends, Passes, run}
 use Rattle.gm_text.specs.Nested as nested
 use Rattle.gm_text.specs.SchemaAnswers.{marks_left}
-use Rattle.gm_text.specs.SchemaText.{Passed, LimitOf, Again}
+use Rattle.gm_text.specs.SchemaText.{Passed}
 use Rattle.gm_text.specs.declared.schema_fault.SchemaFault.{SchemaFault}
 use Rattle.gm_text.specs.declared.schema_fault.SchemaFault.TheVariants as faults
 use Rattle.gm_mapfile.specs.MapText.{passed_of}
-use Rattle.gm_mapfile.specs.MapReading.{Whole, Head, Want, nesting, never, run_from, Reads, EndsAt, Stops, among, Takes, Misses}
+use Rattle.gm_mapfile.specs.MapReading.{Whole, Want, nesting, never, run_from, Reads, Stops, among, Takes, Misses}
 
 abbrev pub move_at : Whole → Symbol → Option Whole
 move_at state symbol = nested.move nesting state symbol

@@ -1,25 +1,21 @@
 -- What one symbol comes to where a map's text is read, in each state that waits for it.
-use Rattle.std.proofs.Common.{◌≡◌, ◌≢◌, ℕ, ◌+◌, ◌-◌, ◌^◌, ◌<◌, ◌≤◌, min, Bool, true, false, cond, ℤ, pos, List, [], ◌∷◌, ◌++◌, Option, Some, None, Ok, refl, sym, ap, subst, ◌∙◌, codes, arith}
-use Rattle.std.specs.Prelude.{nat_lt, nat_le, ◌==◌, IsTrue}
+use Rattle.std.proofs.Common.{◌≡◌, ◌≢◌, ℕ, ◌-◌, ◌^◌, ◌<◌, ◌≤◌, min, Bool, true, false, ℤ, pos, List, [], ◌∷◌, ◌++◌, Some, None, refl, sym, ap, subst, ◌∙◌, codes, arith}
+use Rattle.std.specs.Prelude.{nat_lt, nat_le, ◌==◌}
 use Rattle.std.specs.Str.{bytes_eq}
 use Rattle.std.proofs.lemmas.Bool.Decides.{nat_tests}
 use Rattle.std.proofs.lemmas.Slice.Eq.{bytes_eq-Decides}
-use Rattle.gm_model.specs.declared.limit.LimitKind.{LimitKind}
-use Rattle.gm_model.specs.declared.limit.LimitKind.TheVariants as limits
 use Rattle.gm_model.specs.declared.schema.Schema.{Schema}
 use Rattle.gm_model.specs.Limits.{most_darts, most_names}
 use Rattle.gm_model.specs.Symbols.{Symbol, Word, Numeral, Sign, Gone, Stray, End, Mark}
 use Rattle.gm_text.specs.Cursor.{Cursor}
 use Rattle.gm_text.specs.Nested.{Outside}
 use Rattle.gm_text.specs.SchemaAnswers.{marks_left}
-use Rattle.gm_text.specs.SchemaText.{LimitOf}
-use Rattle.gm_text.specs.ValueText.{greatest, is_channel}
 use Rattle.gm_text.specs.declared.schema_fault.SchemaFault.{SchemaFault}
 use Rattle.gm_text.specs.declared.schema_fault.SchemaFault.TheVariants as faults
-use Rattle.gm_mapfile.specs.MapText.{Role, DartName, Second, signed, size_role}
-use Rattle.gm_mapfile.specs.MapReading.{Whole, State, AtFormat, AtVersion, AtNext, AtNextName, AtDarts, AtCount, Head, Want, TheNumber, Component, TheSign, start, into_schema, expect, outer_move, move_wants, move_version, darts_wants, run_from, Reads, EndsAt, Stops, among, Takes, Misses, number_in}
-use Rattle.gm_mapfile.specs.Words.{IsMarkNext, StandsNext, IsNumberNext, IsOtherNext, IsNoNumberNext, minus_sign, signed_marks, IsSignedNext, IsNoSignedNext, AtFirst, BehindMinus}
-use Rattle.gm_mapfile.proofs.Joined.{move_at, limit_at, went, passed_by, ended, run_over, reads_then, stops_then}
+use Rattle.gm_mapfile.specs.MapText.{DartName, Second}
+use Rattle.gm_mapfile.specs.MapReading.{Whole, State, AtVersion, AtNext, AtNextName, AtDarts, AtCount, Head, Want, TheNumber, start, into_schema, expect, move_version, darts_wants, run_from, Reads, EndsAt, Stops, among, Takes, Misses}
+use Rattle.gm_mapfile.specs.Words.{IsMarkNext, StandsNext, IsNumberNext, IsOtherNext, IsNoNumberNext}
+use Rattle.gm_mapfile.proofs.Joined.{move_at, limit_at, went, ended}
 
 -- ---- one mark
 
@@ -32,10 +28,6 @@ reads_mark state next symbol place old new is moves free = record {
 
 pub stops_mark : (state : Whole) (old : Cursor) (mark : Mark) (rest : List Mark) → marks_left old ≡ mark ∷ rest → move_at state mark.symbol ≡ None → EndsAt state old mark.place
 stops_mark state old mark rest marks none = (state, mark, refl, ap (run_from state) marks ∙ ended state mark none rest)
-
-pub limit_mark : (state next : Whole) (symbol : Symbol) (place : ℕ) (what : LimitKind) (old new : Cursor) → IsMarkNext symbol place old new → move_at state symbol ≡ Some next → limit_at state symbol place ≡ Some (LimitOf what) → Stops state old (faults.Limit what place)
-limit_mark state next symbol place what old new is moves limit =
-    ap (run_from state) is ∙ passed_by state next (LimitOf what) (record { symbol = symbol; place = place }) moves limit (marks_left new)
 
 -- where it isn't the one symbol that can stand there
 pub stops_other : (state : Whole) (symbol : Symbol) (old : Cursor) (fault : SchemaFault) → ((other : Symbol) → other ≢ symbol → move_at state other ≡ None) → IsOtherNext symbol old fault → Stops state old fault
@@ -106,13 +98,6 @@ module _ (old : Cursor) (fault : SchemaFault) where
 exact : (n value : ℕ) → value ≡ min n (2 ^ 64 - 1) → value < 2 ^ 64 - 1 → n ≡ value
 exact n value is small = omega (arith, is, small)
 
--- a limit that the greatest `u64` passes is passed by the number too
-above : (n value least : ℕ) → value ≡ min n (2 ^ 64 - 1) → least < value → nat_lt least n ≡ true
-above n value least is more = let far : least < n = omega (arith, is, more) in grind (arith, nat_tests, far)
-
-at_least : (n value least : ℕ) → value ≡ min n (2 ^ 64 - 1) → least ≤ value → nat_le least n ≡ true
-at_least n value least is more = let far : least ≤ n = omega (arith, is, more) in grind (arith, nat_tests, far)
-
 pub not_above : (n least : ℕ) → n ≤ least → nat_lt least n ≡ false
 not_above n least h = grind (arith, nat_tests, h)
 
@@ -176,11 +161,6 @@ module _ (old : Cursor) (value place : ℕ) (new : Cursor) (is : IsNumberNext ol
       subst (λ (k : ℕ). Reads (Outside (AtNextName schema)) old new (Outside (AtDarts (record { version = Second k; schema = schema })))) same
       (reads_mark (Outside (AtNextName schema)) next (Numeral is.0) place old new is.2 refl (rw limit refl))
 
-  pub next_name_limit : (schema : Schema) → most_names < value → Stops (Outside (AtNextName schema)) old (faults.Limit limits.DartName place)
-  next_name_limit schema great =
-      let next = Outside (AtDarts (record { version = Second is.0; schema = schema })) in
-      limit_mark (Outside (AtNextName schema)) next (Numeral is.0) place limits.DartName old new is.2 refl (rw (above is.0 value most_names is.1 great) refl)
-
   pub count_reads : (head : Head) → value ≤ most_darts → Reads (Outside (AtCount head)) old new (among head [] (darts_wants head.schema value))
   count_reads head small =
       let same = exact is.0 value is.1 (omega (arith, small)) in
@@ -188,20 +168,12 @@ module _ (old : Cursor) (value place : ℕ) (new : Cursor) (is : IsNumberNext ol
       subst (λ (k : ℕ). Reads (Outside (AtCount head)) old new (among head [] (darts_wants head.schema k))) same
       (reads_mark (Outside (AtCount head)) (among head [] (darts_wants head.schema is.0)) (Numeral is.0) place old new is.2 refl (rw limit refl))
 
-  pub count_limit : (head : Head) → most_darts < value → Stops (Outside (AtCount head)) old (faults.Limit limits.Darts place)
-  count_limit head great =
-      limit_mark (Outside (AtCount head)) (among head [] (darts_wants head.schema is.0)) (Numeral is.0) place limits.Darts old new is.2 refl (rw (above is.0 value most_darts is.1 great) refl)
-
   pub name_takes : value < most_names → Takes (TheNumber DartName ∷ []) (pos value ∷ []) old new
   name_takes small head taken wants =
       let same = exact is.0 value is.1 (omega (arith, small)) in
       let limit : nat_le most_names is.0 ≡ false = not_at_least is.0 most_names (omega (arith, same, small)) in
       subst (λ (k : ℕ). Reads (among head taken (TheNumber DartName ∷ wants)) old new (among head (taken ++ pos k ∷ []) wants)) same
       (reads_mark (among head taken (TheNumber DartName ∷ wants)) (among head (taken ++ pos is.0 ∷ []) wants) (Numeral is.0) place old new is.2 refl (rw limit refl))
-
-  pub name_limit : most_names ≤ value → Misses (TheNumber DartName ∷ []) old (faults.Limit limits.DartName place)
-  name_limit great head taken wants =
-      limit_mark (among head taken (TheNumber DartName ∷ wants)) (among head (taken ++ pos is.0 ∷ []) wants) (Numeral is.0) place limits.DartName old new is.2 refl (rw (at_least is.0 value most_names is.1 great) refl)
 
 module _ (old : Cursor) (fault : SchemaFault) (none : IsNoNumberNext old fault) where
   pub version_lacks : Stops (Outside AtVersion) old fault

@@ -16,9 +16,8 @@ use Rattle.gm_text.specs.SchemaReading as schema
 use Rattle.gm_text.specs.SchemaText.{Passed, LimitOf, Again}
 use Rattle.gm_text.specs.declared.schema_fault.SchemaFault.{SchemaFault}
 use Rattle.gm_text.specs.declared.schema_fault.SchemaFault.TheVariants as faults
-use Rattle.gm_text.proofs.Machine.{last_of}
 use Rattle.gm_text.proofs.Nested.{run_inside, run_inside_ends, run_inside_passes}
-use Rattle.gm_mapfile.specs.MapText.{Role, InSchema, passed_of}
+use Rattle.gm_mapfile.specs.MapText.{Role, passed_of}
 use Rattle.gm_mapfile.specs.MapReading.{Whole, Within, Head, Want, among, behind_schema, into_schema, move_within, nesting, never, run_from, Reads, EndsAt, Stops}
 use Rattle.gm_mapfile.proofs.Joined.{move_at, limit_at, came, Ended, Passed_by, Went, went, passed_by, ended}
 
@@ -88,9 +87,6 @@ abbrev pub at_end : Bool → Schema → Whole
 at_end second schema' = Inside (within second (schema.AtEmbeds schema'.dim schema'.embeds))
 
 module _ (second : Bool) (schema' : Schema) where
-  abbrev behind : Whole
-  behind = Outside (behind_schema second schema')
-
   none_inside : (symbol : Symbol) → symbol ≢ Word (codes "embed") → nesting.inner_move (within second (schema.AtEmbeds schema'.dim schema'.embeds)) symbol ≡ None
   none_inside symbol other = ap (move_within second) (no_embed schema'.dim schema'.embeds symbol other)
 

@@ -1,13 +1,7 @@
 -- What the signs and numbers of a dart's values come to, where they are wanted, and the end behind all darts.
-use Rattle.std.proofs.Common.{◌≡◌, ◌≢◌, ℕ, ◌-◌, ◌^◌, ◌<◌, ◌≤◌, min, Bool, true, false, cond, ℤ, pos, List, [], ◌∷◌, ◌++◌, length, map, Option, Some, None, Ok, Err, refl, sym, ap, subst, ◌∙◌, codes, arith}
+use Rattle.std.proofs.Common.{◌≡◌, ◌≢◌, ℕ, ◌-◌, ◌^◌, ◌<◌, ◌≤◌, min, Bool, true, false, ℤ, pos, List, [], ◌∷◌, ◌++◌, length, map, Some, None, Ok, Err, refl, sym, ap, ◌∙◌, codes, arith}
 use Rattle.std.specs.Prelude.{nat_lt}
-use Rattle.std.specs.Str.{bytes_eq}
-use Rattle.std.proofs.lemmas.Bool.Decides.{nat_tests}
 use Rattle.std.proofs.lemmas.List.{append-nil}
-use Rattle.std.proofs.lemmas.Slice.Eq.{bytes_eq-Decides}
-use Rattle.gm_model.specs.declared.limit.LimitKind.{LimitKind}
-use Rattle.gm_model.specs.declared.limit.LimitKind.TheVariants as limits
-use Rattle.gm_model.specs.declared.schema.Schema.{Schema}
 use Rattle.gm_model.specs.declared.token.Token.{Token}
 use Rattle.gm_model.specs.declared.token.TokenKind.{TokenKind}
 use Rattle.gm_model.specs.declared.token.TokenKind.TheVariants as tokens
@@ -15,18 +9,15 @@ use Rattle.gm_model.specs.Symbols.{Symbol, Word, Numeral, Sign, Gone, Stray, End
 use Rattle.gm_model.specs.Tokens.{bytes_of}
 use Rattle.gm_text.specs.Cursor.{Cursor}
 use Rattle.gm_text.specs.Lexing.{rest_of, items_read}
-use Rattle.gm_text.specs.Machine.{Passes}
 use Rattle.gm_text.specs.declared.fault.LexFault.{LexFault}
-use Rattle.gm_text.specs.Nested.{Outside}
 use Rattle.gm_text.specs.SchemaAnswers.{marks_left}
-use Rattle.gm_text.specs.SchemaText.{Passed, LimitOf}
 use Rattle.gm_text.specs.ValueText.{greatest, is_channel}
 use Rattle.gm_text.specs.declared.schema_fault.SchemaFault.{SchemaFault}
 use Rattle.gm_text.specs.declared.schema_fault.SchemaFault.TheVariants as faults
 use Rattle.gm_mapfile.specs.MapText.{Role, signed, size_role, passed_of}
-use Rattle.gm_mapfile.specs.MapReading.{Whole, State, AtNumbers, Head, Want, TheNumber, Component, TheSign, expect, run_from, Reads, EndsAt, Stops, among, Takes, Misses, number_in}
-use Rattle.gm_mapfile.specs.Words.{IsMarkNext, StandsNext, IsOtherNext, minus_sign, signed_marks, IsSignedNext, IsNoSignedNext, AtFirst, BehindMinus, IsEndNext, IsMoreNext}
-use Rattle.gm_mapfile.proofs.Joined.{move_at, limit_at, went, passed_by, ended}
+use Rattle.gm_mapfile.specs.MapReading.{AtNumbers, Head, Want, TheNumber, Component, TheSign, run_from, Stops, among, Takes, Misses, number_in}
+use Rattle.gm_mapfile.specs.Words.{StandsNext, IsOtherNext, minus_sign, signed_marks, IsSignedNext, IsNoSignedNext, AtFirst, BehindMinus, IsEndNext, IsMoreNext}
+use Rattle.gm_mapfile.proofs.Joined.{move_at, went, ended}
 use Rattle.gm_mapfile.proofs.MapSteps.{met, unmet, reads_mark, stops_mark, stops_other, not_above}
 
 -- ---- signs
@@ -56,13 +47,6 @@ size_free : (colour minus : Bool) (n : ℕ) → nat_lt (greatest minus) n ≡ fa
 size_free true minus n small channel = rw (small, channel refl) refl
 size_free false minus n small channel = rw small refl
 
-size_great : (colour minus : Bool) (n : ℕ) → nat_lt (greatest minus) n ≡ true → passed_of (size_role colour minus) (Numeral n) ≡ Some (LimitOf limits.Integer)
-size_great true minus n great = rw great refl
-size_great false minus n great = rw great refl
-
-size_no_channel : (minus : Bool) (n : ℕ) → nat_lt (greatest minus) n ≡ false → is_channel (signed minus n) ≡ false → passed_of (size_role true minus) (Numeral n) ≡ Some (LimitOf limits.Channel)
-size_no_channel minus n small other = rw (small, other) refl
-
 greatest_small : (minus : Bool) → greatest minus < 2 ^ 64 - 1
 greatest_small true = omega arith
 greatest_small false = omega arith
@@ -70,16 +54,10 @@ greatest_small false = omega arith
 exact_size : (minus : Bool) (n size : ℕ) → size ≡ min n (2 ^ 64 - 1) → size ≤ greatest minus → n ≡ size
 exact_size minus n size is small = omega (arith, is, small, greatest_small minus)
 
-above_size : (minus : Bool) (n size : ℕ) → size ≡ min n (2 ^ 64 - 1) → greatest minus < size → nat_lt (greatest minus) n ≡ true
-above_size minus n size is great = let far : greatest minus < n = omega (arith, is, great) in grind (arith, nat_tests, far)
-
 minus_goes : (head : Head) (taken : List ℤ) (wants : List Want) (colour : Bool) → move_at (among head taken (Component colour ∷ wants)) minus_sign ≡ Some (among head taken (TheNumber (size_role colour true) ∷ wants))
 minus_goes head taken wants colour = met (codes "-") (AtNumbers head taken (TheNumber (size_role colour true) ∷ wants))
 
 module _ (colour : Bool) (head : Head) (taken : List ℤ) (wants : List Want) where
-  here : Whole
-  here = among head taken (Component colour ∷ wants)
-
   over_minus : (at : ℕ) (rest : List Mark) → run_from (among head taken (Component colour ∷ wants)) (record { symbol = minus_sign; place = at } ∷ rest) ≡ run_from (among head taken (TheNumber (size_role colour true) ∷ wants)) rest
   over_minus at rest = went (among head taken (Component colour ∷ wants)) (among head taken (TheNumber (size_role colour true) ∷ wants)) (record { symbol = minus_sign; place = at }) (minus_goes head taken wants colour) refl rest
 
@@ -91,13 +69,6 @@ module _ (colour : Bool) (head : Head) (taken : List ℤ) (wants : List Want) wh
       ∙ went (among head taken (TheNumber (size_role colour true) ∷ wants)) to (record { symbol = Numeral n; place = place }) refl free rest
       ∙ ap (λ (x : ℤ). run_from (among head (taken ++ x ∷ []) wants) rest) (size_in colour true n)
   over_size false at n place rest free = went (among head taken (Component colour ∷ wants)) (among head (taken ++ pos n ∷ []) wants) (record { symbol = Numeral n; place = place }) refl free rest
-
-  at_size : (minus : Bool) (at n place : ℕ) (rest : List Mark) (what : Passed) → passed_of (size_role colour minus) (Numeral n) ≡ Some what
-      → run_from (among head taken (Component colour ∷ wants)) (signed_marks minus at n place rest) ≡ Err (Passes what place)
-  at_size true at n place rest what limit =
-      let to = among head (taken ++ number_in (size_role colour true) n ∷ []) wants in
-      over_minus at (record { symbol = Numeral n; place = place } ∷ rest) ∙ passed_by (among head taken (TheNumber (size_role colour true) ∷ wants)) to what (record { symbol = Numeral n; place = place }) refl limit rest
-  at_size false at n place rest what limit = passed_by (among head taken (Component colour ∷ wants)) (among head (taken ++ pos n ∷ []) wants) what (record { symbol = Numeral n; place = place }) refl limit rest
 
   no_component : (other : Symbol) → ((n : ℕ) → other ≢ Numeral n) → other ≢ minus_sign → move_at (among head taken (Component colour ∷ wants)) other ≡ None
   no_component (Numeral n) number sign = absurd (number n refl)
@@ -126,9 +97,6 @@ module _ (colour : Bool) (head : Head) (taken : List ℤ) (wants : List Want) wh
 pub component_lacks : (colour : Bool) (old : Cursor) (fault : SchemaFault) → IsNoSignedNext old fault → Misses (Component colour ∷ []) old fault
 component_lacks colour old fault none head taken wants = lacks_size colour head taken wants old fault none
 
-before_number : Bool → ℕ → ℕ → ℕ → List Mark
-before_number minus at n place = signed_marks minus at n place []
-
 marks_split : (minus : Bool) (at n place : ℕ) (rest : List Mark) → signed_marks minus at n place rest ≡ signed_marks minus at n place [] ++ rest
 marks_split true at n place rest = refl
 marks_split false at n place rest = refl
@@ -145,20 +113,6 @@ module _ (colour : Bool) (old : Cursor) (minus : Bool) (size place : ℕ) (new :
         split = marks ∙ marks_split minus at n place (marks_left new);
         runs = over_size colour head taken wants minus at n place [] free ∙ ap (λ (x : ℤ). Ok (among head (taken ++ x ∷ []) wants)) (sym known);
       }
-
-  passes_size : (what : LimitKind) → passed_of (size_role colour minus) (Numeral is.0) ≡ Some (LimitOf what) → Misses (Component colour ∷ []) old (faults.Limit what place)
-  passes_size what limit head taken wants =
-      ap (run_from (among head taken (Component colour ∷ wants))) is.3 ∙ at_size colour head taken wants minus is.1 is.0 place (marks_left new) (LimitOf what) limit
-
-  pub component_great : greatest minus < size → Misses (Component colour ∷ []) old (faults.Limit limits.Integer place)
-  component_great great = passes_size limits.Integer (size_great colour minus is.0 (above_size minus is.0 size is.2 great))
-
-  pub component_no_channel : (value : ℤ) → colour ≡ true → size ≤ greatest minus → value ≡ signed minus size → is_channel value ≡ false → Misses (Component colour ∷ []) old (faults.Limit limits.Channel place)
-  component_no_channel value e small same other =
-      let exact : is.0 ≡ size = exact_size minus is.0 size is.2 small in
-      let known : value ≡ signed minus is.0 = same ∙ ap (signed minus) (sym exact) in
-      let limit = size_no_channel minus is.0 (not_above is.0 (greatest minus) (omega (arith, exact, small))) (ap is_channel (sym known) ∙ other) in
-      passes_size limits.Channel (ap (λ (b : Bool). passed_of (size_role b minus) (Numeral is.0)) e ∙ limit)
 
 -- ---- the end
 

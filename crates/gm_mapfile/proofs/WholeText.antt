@@ -1,5 +1,5 @@
 -- The readings of the head, the lines and the end of a map's text as the reading of the whole.
-use Rattle.std.proofs.Common.{◌≡◌, ℕ, List, [], ◌∷◌, ◌++◌, Option, refl, ap, subst, ◌∙◌}
+use Rattle.std.proofs.Common.{ℕ, List, [], ◌++◌, Option, refl, ap, subst, ◌∙◌}
 use Rattle.std.proofs.lemmas.List.{append-nil}
 use Rattle.gm_model.specs.declared.schema.Schema.{Schema}
 use Rattle.gm_model.specs.declared.value.Value.{Value}
@@ -13,7 +13,6 @@ use Rattle.gm_mapfile.proofs.Joined.{reads_then, stops_then}
 use Rattle.gm_mapfile.proofs.ValueSteps.{more_stops}
 
 module _ (stated : Option ℕ) (schema : Schema) (count : ℕ) (old between : Cursor) where
-
   module _ (reads : Reads start old between (among (record { version = version_in stated; schema = schema }) [] (darts_wants schema count))) where
     pub darts_stop : (fault : SchemaFault) → Misses (darts_wants schema count) between fault → Stops start old fault
     darts_stop fault misses =

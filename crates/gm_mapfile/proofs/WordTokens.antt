@@ -1,17 +1,17 @@
 -- What stands next before a lexer, by the token that it answers.
-use Rattle.std.proofs.Common.{◌≡◌, ◌≢◌, ℕ, ◌-◌, ◌^◌, ◌≤◌, min, true, false, List, [], ◌∷◌, Option, Some, None, refl, sym, ap, subst, ◌∙◌, arith}
+use Rattle.std.proofs.Common.{◌≡◌, ◌≢◌, ℕ, ◌-◌, ◌^◌, ◌≤◌, min, true, false, List, [], ◌∷◌, Option, Some, None, refl, ap, ◌∙◌, arith}
 use Rattle.std.specs.Prelude.{MatchOption}
 use Rattle.std.specs.Option.{unwrap_or}
 use Rattle.gm_model.specs.declared.token.Token.{Token}
 use Rattle.gm_model.specs.declared.token.TokenKind.{TokenKind}
 use Rattle.gm_model.specs.declared.token.TokenKind.TheVariants as tokens
-use Rattle.gm_model.specs.Symbols.{Symbol, Word, Numeral, Sign, Gone, Stray, End, Mark, symbol_of_kind, value_of}
+use Rattle.gm_model.specs.Symbols.{Symbol, Word, Numeral, Sign, Mark, symbol_of_kind, value_of}
 use Rattle.gm_model.specs.Tokens.{bytes_of}
 use Rattle.gm_text.specs.Cursor.{Cursor}
 use Rattle.gm_text.specs.SchemaAnswers.{marks_left, symbol_at, mark_at, IsNext, IsNoToken, AtStray, AtEnd, IsNoneNext}
 use Rattle.gm_text.specs.declared.schema_fault.SchemaFault.{SchemaFault}
 use Rattle.gm_text.specs.declared.schema_fault.SchemaFault.TheVariants as faults
-use Rattle.gm_mapfile.specs.Words.{IsMarkNext, StandsNext, IsNumberNext, IsOtherNext, IsNoNumberNext, minus_sign, signed_marks, IsSignedNext, IsNoSignedNext, AtFirst, BehindMinus}
+use Rattle.gm_mapfile.specs.Words.{IsMarkNext, StandsNext, IsNumberNext, IsOtherNext, IsNoNumberNext, minus_sign, IsSignedNext, IsNoSignedNext, AtFirst, BehindMinus}
 
 -- ---- symbols
 
@@ -45,22 +45,7 @@ no_token_sign symbol none bytes = elim none as (λ (s : Symbol) (_ : IsNoToken s
   | AtEnd ↦ λ e. absurd cc
 ]
 
-no_token_word : (symbol : Symbol) → IsNoToken symbol → (bytes : List ℕ) → symbol ≢ Word bytes
-no_token_word symbol none bytes = elim none as (λ (s : Symbol) (_ : IsNoToken s). s ≢ Word bytes) [
-  | AtStray ↦ λ e. absurd cc
-  | AtEnd ↦ λ e. absurd cc
-]
-
 -- ---- where no token stands
-
-pub none_word : (old : Cursor) (fault : SchemaFault) (bytes : List ℕ) → IsNoneNext old fault → IsOtherNext (Word bytes) old fault
-none_word old fault bytes is = (is.mark, [], is.marks, no_token_word is.mark.symbol is.none bytes, is.says)
-
-pub none_sign : (old : Cursor) (fault : SchemaFault) (bytes : List ℕ) → IsNoneNext old fault → IsOtherNext (Sign bytes) old fault
-none_sign old fault bytes is = (is.mark, [], is.marks, no_token_sign is.mark.symbol is.none bytes, is.says)
-
-pub none_number : (old : Cursor) (fault : SchemaFault) → IsNoneNext old fault → IsNoNumberNext old fault
-none_number old fault is = (is.mark, [], is.marks, no_token_numeral is.mark.symbol is.none, is.says)
 
 pub none_signed : (old : Cursor) (fault : SchemaFault) → IsNoneNext old fault → IsNoSignedNext old fault
 none_signed old fault is = AtFirst is.mark [] is.marks (no_token_numeral is.mark.symbol is.none) (no_token_sign is.mark.symbol is.none _) is.says

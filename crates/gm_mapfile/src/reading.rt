@@ -133,11 +133,7 @@ fn read_name(lexer: &mut Lexer<'_>) -> Result<u32, SchemaFault>
 }
 
 /// So many names, behind those before them.
-fn read_names(
-    lexer: &mut Lexer<'_>,
-    count: usize,
-    names: &mut Vec<u32>,
-) -> Result<(), SchemaFault>
+fn read_names(lexer: &mut Lexer<'_>, count: usize, names: &mut Vec<u32>) -> Result<(), SchemaFault>
     ensures reads { OnOk result (ReadsNames count lexer.old lexer.new names.old.items names.new.items) }
     ensures stops { IfErr result (Misses (replicate count (TheNumber DartName)) lexer.old) }
 {

@@ -1,8 +1,5 @@
-use Rattle.std.proofs.Common.{[], subst}
 use Rattle.std.proofs.lemmas.Result.{err_from_is_err_and}
 use Rattle.gm_text.specs.Cursor.{Cursor}
-use Rattle.gm_mapfile.specs.Draft.{version_in}
-use Rattle.gm_mapfile.specs.MapReading.{start, among, darts_wants, Reads}
 use Rattle.gm_mapfile.proofs.WholeText.{darts_stop, end_stop, map_reads}
 use Rattle.gm_mapfile.proofs.reading.read_all.Goals as goal
 

@@ -1,4 +1,4 @@
-use Rattle.std.proofs.Common.{◌≡◌, ℕ, ◌+◌, List, replicate, subst}
+use Rattle.std.proofs.Common.{ℕ, ◌+◌, List, replicate, subst}
 use Rattle.std.proofs.lemmas.Result.{err_from_is_err_and}
 use Rattle.gm_model.specs.declared.schema.Embed.{Embed}
 use Rattle.gm_mapfile.specs.MapText.{DartName}

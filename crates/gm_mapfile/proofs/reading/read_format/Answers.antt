@@ -1,4 +1,4 @@
-use Rattle.std.proofs.Common.{rules, ◌≡◌, ◌≢◌, true, false}
+use Rattle.std.proofs.Common.{rules, true, false}
 use Rattle.std.proofs.lemmas.Result.{err_from_is_err_and}
 use Rattle.gm_text.specs.Nested.{Outside}
 use Rattle.gm_text.specs.declared.schema_fault.SchemaFault.TheVariants as faults

@@ -1,7 +1,6 @@
 use Rattle.std.proofs.Common.{rules, ◌≡◌, ◌≢◌, codes, arith}
 use Rattle.std.proofs.lemmas.Result.{err_from_is_err_and}
 use Rattle.gm_model.specs.declared.token.TokenKind.TheVariants as tokens
-use Rattle.gm_model.specs.Symbols.{Sign}
 use Rattle.gm_model.specs.Tokens.{bytes_of}
 use Rattle.gm_mapfile.proofs.WordTokens.{sign_symbol, none_signed, number_stands, sign_stands, no_signed, plain_next, minus_next, minus_lacks}
 use Rattle.gm_mapfile.proofs.values.read_signed.Goals as goal

@@ -1,4 +1,4 @@
-use Rattle.std.proofs.Common.{rules, ◌≡◌, [], ◌∷◌, false, to_z, of_z, codes}
+use Rattle.std.proofs.Common.{rules, ◌≡◌, [], ◌∷◌, to_z, of_z, codes}
 use Rattle.std.specs.Int.{w64}
 use Rattle.std.proofs.lemmas.Result.{err_from_is_err_and}
 use Rattle.gm_mapfile.specs.MapReading.{Component, TheSign}

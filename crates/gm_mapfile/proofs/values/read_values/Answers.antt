@@ -1,4 +1,4 @@
-use Rattle.std.proofs.Common.{◌≡◌, ◌+◌, List, [], ◌∷◌, ◌++◌, suc, take, drop, subst, sym, ◌∙◌, arith}
+use Rattle.std.proofs.Common.{◌+◌, List, [], ◌∷◌, ◌++◌, suc, take, drop, subst, sym, arith}
 use Rattle.std.proofs.lemmas.List.{take_all}
 use Rattle.std.proofs.lemmas.Result.{err_from_is_err_and}
 use Rattle.gm_model.specs.declared.schema.Embed.{Embed}
@@ -29,7 +29,7 @@ loop-embed-preserved c =
     let value = c.in_ok-read_value.field-0 in
     let more = values_more (take k embeds) embed c.args.lexer.now c.loop-embed.lexer c.read_value.new.lexer c.args.values.now.items c.loop-embed.values.items value c.loop-embed.invariant c.in_ok-read_value.ensures.takes c.in_ok-read_value.ensures.kind in
     let all = subst (λ (es : List Embed). ReadsValues es c.args.lexer.now c.read_value.new.lexer c.args.values.now.items (c.loop-embed.values.items ++ value ∷ [])) (taken_to embeds k embed c.loop-embed-test.true c.embed-item.is) more in
-    subst (λ (values : List Value). ReadsValues (take (k + 1) embeds) c.args.lexer.now c.read_value.new.lexer c.args.values.now.items values) (sym c.in_ok-push.ensures.items) all
+    subst (λ (values : List Value). ReadsValues (take (k + 1) embeds) c.args.lexer.now c.read_value.new.lexer c.args.values.now.items values) (sym {A = List Value} c.in_ok-push.ensures.items) all
 
 pub returns-clause-reads : goal.returns-clause-reads
 returns-clause-reads c =

@@ -1,5 +1,4 @@
 use Rattle.std.proofs.Common.{rules, ◌≡◌, ◌≢◌}
-use Rattle.std.proofs.lemmas.Result.{err_from_is_err_and}
 use Rattle.gm_model.specs.declared.token.TokenKind.TheVariants as tokens
 use Rattle.gm_model.specs.Symbols.{Sign}
 use Rattle.gm_model.specs.Tokens.{bytes_of}
