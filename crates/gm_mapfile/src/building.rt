@@ -91,10 +91,7 @@ fn add_darts<L: Ledger>(
 {
     let embeds = arena.schema().embeds.as_slice().len();
     let mut twice: Option<u32> = None;
-    for (at, line) in numbers
-        .chunks_exact(arena.schema().dim.top() as usize + 2)
-        .enumerate()
-    {
+    for (at, line) in numbers.chunks_exact(arena.schema().dim.top() as usize + 2).enumerate() {
         let name = line[0];
         if arena.slot_of(name, steps).is_none() {
             arena.add(name, &values[at * embeds..at * embeds + embeds], steps);
