@@ -18,3 +18,10 @@ pub mod Permuted
 pub mod Moved
 pub mod OneMap
 pub mod OneFault
+pub mod Joined
+pub mod WordTokens
+pub mod MapSteps
+pub mod ValueSteps
+pub mod DartReads
+pub mod SchemaInside
+pub mod WholeText

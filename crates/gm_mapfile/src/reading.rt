@@ -133,11 +133,7 @@ fn read_name(lexer: &mut Lexer<'_>) -> Result<u32, SchemaFault>
 }
 
 /// So many names, behind those before them.
-fn read_names(
-    lexer: &mut Lexer<'_>,
-    count: usize,
-    names: &mut Vec<u32>,
-) -> Result<(), SchemaFault>
+fn read_names(lexer: &mut Lexer<'_>, count: usize, names: &mut Vec<u32>) -> Result<(), SchemaFault>
     ensures reads { OnOk result (ReadsNames count lexer.old lexer.new names.old.items names.new.items) }
     ensures stops { IfErr result (Misses (replicate count (TheNumber DartName)) lexer.old) }
 {
@@ -157,7 +153,8 @@ fn read_darts(
     count: usize,
     bytes: usize,
 ) -> Result<Lines, SchemaFault>
-    requires { count ≤ most_darts }
+    requires schema { IsSchema schema.now }
+    requires few { count ≤ most_darts }
     ensures reads { IfOk result (λ lines. ReadsDarts schema.now count lexer.old lexer.new lines.numbers.items lines.values.items) }
     ensures stops { IfErr result (Misses (darts_wants schema.now count) lexer.old) }
 {

@@ -1,0 +1,45 @@
+use Rattle.std.proofs.Common.{rules, ◌≡◌, ◌≢◌, codes, arith}
+use Rattle.std.proofs.lemmas.Result.{err_from_is_err_and}
+use Rattle.gm_model.specs.declared.token.TokenKind.TheVariants as tokens
+use Rattle.gm_model.specs.Tokens.{bytes_of}
+use Rattle.gm_mapfile.proofs.WordTokens.{sign_symbol, none_signed, number_stands, sign_stands, no_signed, plain_next, minus_next, minus_lacks}
+use Rattle.gm_mapfile.proofs.values.read_signed.Goals as goal
+
+pub returns-in_err-token-clause-none : goal.returns-in_err-token-clause-none
+returns-in_err-token-clause-none c =
+    let p = err_from_is_err_and c.from_residual.result c.from_residual.ensures.1 in
+    rw (p.1, p.2) (none_signed c.args.lexer.now c.in_err-token.field-0.0 c.in_err-token.ensures.none)
+
+pub returns-in_err-value-in-Sign-clause-none : goal.returns-in_err-value-in-Sign-clause-none
+returns-in_err-value-in-Sign-clause-none c =
+    let p = err_from_is_err_and c.from_residual-in_err-value-in-Sign.result c.from_residual-in_err-value-in-Sign.ensures.1 in
+    let is : bytes_of c.next_token.new.lexer.text c.in_ok-token.token ≡ codes "-" = search rules in
+    let fault = c.in_err-value-in-Sign.field-0.0 in
+    let token = c.in_ok-token.token in
+    let there = c.next_token.new.lexer in
+    rw (p.1, p.2) (minus_lacks c.args.lexer.now there token.start fault (sign_stands c.args.lexer.now there token c.in_ok-token.ensures.next (codes "-") c.in-Sign.is is) c.in_err-value-in-Sign.ensures.none)
+
+pub returns-in-Number-clause-next : goal.returns-in-Number-clause-next
+returns-in-Number-clause-next c =
+    let token = c.in_ok-token.token in
+    plain_next c.args.lexer.now c.next_token.new.lexer c.unwrap_or.result token.start
+    (number_stands c.args.lexer.now c.next_token.new.lexer token c.in_ok-token.ensures.next c.in-Number.is c.number.result c.number.ensures c.unwrap_or.result c.unwrap_or.ensures (omega (arith, c.unwrap_or.type_inv)))
+
+pub returns-in_ok-value-in-Sign-clause-next : goal.returns-in_ok-value-in-Sign-clause-next
+returns-in_ok-value-in-Sign-clause-next c =
+    let is : bytes_of c.next_token.new.lexer.text c.in_ok-token.token ≡ codes "-" = search rules in
+    let token = c.in_ok-token.token in
+    let there = c.next_token.new.lexer in
+    minus_next c.args.lexer.now there c.read_number.new.lexer token.start c.in_ok-value-in-Sign.field-0.value c.in_ok-value-in-Sign.field-0.place (sign_stands c.args.lexer.now there token c.in_ok-token.ensures.next (codes "-") c.in-Sign.is is) c.in_ok-value-in-Sign.ensures.next
+
+pub returns-in_default-clause-none : goal.returns-in_default-clause-none
+returns-in_default-clause-none c =
+    let number : c.in_ok-token.token.kind ≢ tokens.Number = search rules in
+    let other : bytes_of c.next_token.new.lexer.text c.in_ok-token.token ≢ codes "-" = search rules in
+    no_signed c.args.lexer.now c.next_token.new.lexer c.in_ok-token.token c.in_ok-token.ensures.next number (λ e. other (sign_symbol c.in_ok-token.token.kind (bytes_of c.next_token.new.lexer.text c.in_ok-token.token) (codes "-") e).1)
+
+pub returns-in_default-2-clause-none : goal.returns-in_default-2-clause-none
+returns-in_default-2-clause-none c =
+    let number : c.in_ok-token.token.kind ≢ tokens.Number = search rules in
+    let other : c.in_ok-token.token.kind ≢ tokens.Sign = search rules in
+    no_signed c.args.lexer.now c.next_token.new.lexer c.in_ok-token.token c.in_ok-token.ensures.next number (λ e. other (sign_symbol c.in_ok-token.token.kind (bytes_of c.next_token.new.lexer.text c.in_ok-token.token) (codes "-") e).0)

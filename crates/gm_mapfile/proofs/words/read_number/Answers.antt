@@ -1,0 +1,14 @@
+use Rattle.std.proofs.Common.{rules, ◌≡◌, ◌≢◌, arith}
+use Rattle.gm_model.specs.declared.token.TokenKind.TheVariants as tokens
+use Rattle.gm_mapfile.proofs.WordTokens.{no_number, number_stands}
+use Rattle.gm_mapfile.proofs.words.read_number.Goals as goal
+
+pub returns-then-ne-clause-none : goal.returns-then-ne-clause-none
+returns-then-ne-clause-none c =
+    let other : c.in_ok-token.token.kind ≢ tokens.Number = search rules in
+    no_number c.args.lexer.now c.next_token.new.lexer c.in_ok-token.token c.in_ok-token.ensures.next other
+
+pub returns-clause-next : goal.returns-clause-next
+returns-clause-next c =
+    let kind : c.in_ok-token.token.kind ≡ tokens.Number = search rules in
+    number_stands c.args.lexer.now c.next_token.new.lexer c.in_ok-token.token c.in_ok-token.ensures.next kind c.number.result c.number.ensures c.unwrap_or.result c.unwrap_or.ensures (omega (arith, c.unwrap_or.type_inv))

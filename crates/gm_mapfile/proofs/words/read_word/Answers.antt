@@ -1,0 +1,22 @@
+use Rattle.std.proofs.Common.{rules, ◌≡◌, ◌≢◌}
+use Rattle.gm_model.specs.declared.token.TokenKind.TheVariants as tokens
+use Rattle.gm_model.specs.Symbols.{Word}
+use Rattle.gm_model.specs.Tokens.{bytes_of}
+use Rattle.gm_mapfile.proofs.WordTokens.{word_symbol, is_other, word_stands}
+use Rattle.gm_mapfile.proofs.words.read_word.Goals.{then-ne-via-then-ne, then-ne-via-else-ne+then-ne-2}
+use Rattle.gm_mapfile.proofs.words.read_word.Goals as goal
+
+pub returns-then-ne-clause-other : goal.returns-then-ne-clause-other
+returns-then-ne-clause-other c =
+    is_other c.args.lexer.now c.next_token.new.lexer c.in_ok-token.token c.in_ok-token.ensures.next (Word c.args.word.now) (λ e.
+    let said = word_symbol c.in_ok-token.token.kind (bytes_of c.next_token.new.lexer.text c.in_ok-token.token) c.args.word.now e in
+    elim c.then-ne.branch [
+      | then-ne-via-then-ne w ↦ let other : c.in_ok-token.token.kind ≢ tokens.Name = search rules in absurd (other said.0)
+      | then-ne-via-else-ne+then-ne-2 w ↦ let other : bytes_of c.next_token.new.lexer.text c.in_ok-token.token ≢ c.args.word.now = search rules in absurd (other said.1)
+    ])
+
+pub returns-clause-next : goal.returns-clause-next
+returns-clause-next c =
+    let kind : c.in_ok-token.token.kind ≡ tokens.Name = search rules in
+    let is : bytes_of c.next_token.new.lexer.text c.in_ok-token.token ≡ c.args.word.now = search rules in
+    word_stands c.args.lexer.now c.next_token.new.lexer c.in_ok-token.token c.in_ok-token.ensures.next c.args.word.now kind is
