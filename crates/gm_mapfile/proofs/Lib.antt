@@ -1,1 +1,2 @@
 pub mod GoodListing
+pub mod Printed
