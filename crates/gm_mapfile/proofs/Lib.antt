@@ -1,2 +1,4 @@
 pub mod GoodListing
 pub mod Printed
+pub mod ArenaDarts
+pub mod SoundRows

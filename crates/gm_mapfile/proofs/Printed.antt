@@ -2,22 +2,25 @@
 use Rattle.std.proofs.Common.{◌≡◌, ℕ, zero, suc, eqb, ◌+◌, ◌*◌, ◌<◌, ◌≤◌, true, Bool, List, [], ◌∷◌, ◌++◌, length, take, drop, get_or, map, Option, Some, None, is_some, Result, Ok, Err, codes, refl, sym, ap, subst, ◌∙◌, arith}
 use Rattle.std.specs.Prelude.{decimal, OnOk}
 use Rattle.std.specs.Option.{option_map, option_map_or}
-use Rattle.std.specs.List.{flat_map}
+use Rattle.std.specs.List.{find, flat_map}
+use Rattle.std.specs.List.Sorted.{IsStrictlyIncreasing}
 use Rattle.std.specs.FinMap.{get, keys, entries, len-entries}
 use Rattle.std.proofs.lemmas.Grind.{flat_map-append}
+use Rattle.std.proofs.lemmas.Bool.{ne_eqb, eq-eqb}
 use Rattle.std.proofs.lemmas.Nat.{mul-le}
 use Rattle.std.proofs.lemmas.List.{get_or-map, length-map, take_more, append-nil, append_assoc, length-drop, nil_from_length, take-append-drop}
+use Rattle.std.proofs.lemmas.List.Kept.{AllPairs-from_increasing}
+use Rattle.std.proofs.lemmas.List.Recursion.{found_at}
 use Rattle.gm_model.specs.declared.value.Value.{Value}
-use Rattle.gm_model.specs.declared.value.Value.TheVariants.{Int}
 use Rattle.gm_text.specs.SchemaText as schema
 use Rattle.gm_arena.specs.ArenaMap.{ArenaMap, Dart, IsAt, IsLiveName, name_at}
 use Rattle.gm_arena.specs.declared.slot.Slot.{Slot}
 use Rattle.gm_arena.specs.Lawful.{IsLawful}
-use Rattle.gm_arena.proofs.Keys.{live}
 use Rattle.gm_arena.proofs.MapLemmas.{name_at-is}
-use Rattle.gm_mapfile.specs.MapText.{DartRow, names, line_of, value_text, head_line, next_line, canonical}
+use Rattle.gm_mapfile.specs.MapText.{DartRow, names, dart_of, line_of, value_text, head_line, next_line, canonical}
 use Rattle.gm_mapfile.specs.Rows.{dart_of_entry, darts_of, listed_of, dart_at}
 use Rattle.gm_mapfile.specs.declared.version.MapVersion.{MapVersion}
+use Rattle.gm_mapfile.proofs.ArenaDarts.{dart_with, dart_of_arena, darts_ascending, names_of_arena}
 
 -- ---- one piece of text behind another
 
@@ -72,3 +75,81 @@ keys_counted m lawful = length-map (entries m.darts) (λ e. e.0) ∙ (sym (len-e
 
 pub darts_counted : (m : ArenaMap) → IsLawful m → length (darts_of m) ≡ m.count
 darts_counted m lawful = length-map (entries m.darts) dart_of_entry ∙ (sym (len-entries m.darts) ∙ sym lawful.counted)
+
+abbrev pub nobody : DartRow
+nobody = record { name = 0; alphas = []; values = [] }
+
+-- the dart of a name in ascending order is the one at its place
+dart_of_place : (darts : List DartRow) → IsStrictlyIncreasing (names darts) → (k : ℕ) → k < length darts → dart_of darts (get_or (names darts) k 0) ≡ Some (get_or darts k nobody)
+dart_of_place darts up k within =
+    let x = get_or (names darts) k 0 in
+    let at : x ≡ (get_or darts k nobody).name = get_or-map (λ (dart : DartRow). dart.name) darts k nobody 0 within in
+    let pairs = AllPairs-from_increasing (names darts) up in
+    found_at (find (λ (dart : DartRow). eqb dart.name x)) (λ (dart : DartRow). eqb dart.name x) (λ dart. Some dart) None refl (λ _ _. refl) darts k nobody within
+    (λ j below. ne_eqb _ _ (λ same.
+    let at_j : get_or (names darts) j 0 ≡ (get_or darts j nobody).name = get_or-map (λ (dart : DartRow). dart.name) darts j nobody 0 (omega arith) in
+    let lt : get_or (names darts) j 0 < x = pairs j k 0 below (omega (arith, length-map darts (λ (dart : DartRow). dart.name), within)) in
+    omega (arith, at_j, same, lt)))
+    (eq-eqb _ _ (sym at))
+
+same_some : {A : Type 0} (x y : A) → Some x ≡ Some y → x ≡ y
+same_some x y e = cc
+
+from_found : (m : ArenaMap) (x : ℕ) (r : DartRow) → option_map (dart_with x) (get m.darts x) ≡ Some r → (dart_at m x ≡ r) × IsLiveName m x
+from_found m x r found = go (get m.darts x) refl
+  where
+    go : (o : Option Dart) → get m.darts x ≡ o → (dart_at m x ≡ r) × IsLiveName m x
+    go None is = let none : None ≡ Some r = rw is at found in absurd cc
+    go (Some dart) is =
+        let some : Some (dart_with x dart) ≡ Some r = rw is at found in
+        (dart_at-is m x dart is ∙ same_some (dart_with x dart) r some, ap is_some is)
+
+-- the dart of the name at a place
+pub dart_at_place : (m : ArenaMap) (k : ℕ) → k < length (darts_of m) → (dart_at m (get_or (keys m.darts) k 0) ≡ get_or (darts_of m) k nobody) × IsLiveName m (get_or (keys m.darts) k 0)
+dart_at_place m k within =
+    let x = get_or (keys m.darts) k 0 in
+    let same : get_or (names (darts_of m)) k 0 ≡ x = ap (λ ns. get_or ns k 0) (names_of_arena m) in
+    let found : dart_of (darts_of m) x ≡ Some (get_or (darts_of m) k nobody) = subst (λ y. dart_of (darts_of m) y ≡ Some (get_or (darts_of m) k nobody)) same (dart_of_place (darts_of m) (darts_ascending m) k within) in
+    from_found m x (get_or (darts_of m) k nobody) (sym (dart_of_arena m x) ∙ found)
+
+-- one line more
+pub lines_with : (m : ArenaMap) (k : ℕ) (front text after : List ℕ) → k < length (darts_of m) → text ≡ front ++ flat_map line_of (take k (darts_of m)) → after ≡ text ++ line_of (dart_at m (get_or (keys m.darts) k 0))
+    → after ≡ front ++ flat_map line_of (take (k + 1) (darts_of m))
+lines_with m k front text after within before last =
+    let darts = darts_of m in
+    let dart : line_of (dart_at m (get_or (keys m.darts) k 0)) ≡ flat_map line_of (get_or darts k nobody ∷ []) = ap line_of (dart_at_place m k within).0 ∙ sym (append-nil (line_of (get_or darts k nobody))) in
+    let more : flat_map line_of (take (k + 1) darts) ≡ flat_map line_of (take k darts) ++ flat_map line_of (get_or darts k nobody ∷ []) =
+    ap (flat_map line_of) (take_more darts k nobody within) ∙ flat_map-append line_of (take k darts) (get_or darts k nobody ∷ []) in
+    last ∙ (ap (λ xs. xs ++ line_of (dart_at m (get_or (keys m.darts) k 0))) before
+    ∙ (append_assoc front (flat_map line_of (take k darts)) (line_of (dart_at m (get_or (keys m.darts) k 0)))
+    ∙ ap (λ xs. front ++ xs) (ap (λ xs. flat_map line_of (take k darts) ++ xs) dart ∙ sym more)))
+
+-- the steps of so many darts
+pub printed_within : (n count before k after : ℕ) → k ≤ count → after ≤ before + count + (n + 3) * k → after ≤ before + 8 * ((n + 1) * (n + 1)) * (count + 1)
+printed_within n count before k after few h =
+    let square : n + 1 ≤ (n + 1) * (n + 1) = omega (arith, mul-le 1 (n + 1) (n + 1) (n + 1) (omega arith) (omega arith)) in
+    let each : n + 4 ≤ 8 * ((n + 1) * (n + 1)) = omega (arith, square) in
+    let all : (n + 3) * k ≤ (n + 3) * count = mul-le (n + 3) k (n + 3) count (omega arith) few in
+    let more : (n + 4) * count ≡ (n + 3) * count + count = omega arith in
+    omega (arith, h, all, more, mul-le (n + 4) count (8 * ((n + 1) * (n + 1))) (count + 1) each (omega arith))
+
+-- so many steps for each of one dart more
+pub steps_with : (each before start after count : ℕ) → start ≤ before + each * count → after ≤ start + each → after ≤ before + each * (count + 1)
+steps_with each before start after count first last =
+    let product : each * (count + 1) ≡ each * count + each = omega arith in
+    omega (arith, product, first, last)
+
+-- ---- the whole text
+
+abbrev pub header : MapVersion → ArenaMap → List ℕ
+header version m = head_line version ++ (schema.canonical m.schema ++ (next_line version m.next ++ (codes "darts " ++ (decimal m.count ++ codes "\n"))))
+
+pub whole_text : (version : MapVersion) (m : ArenaMap) (k : ℕ) (text : List ℕ) → IsLawful m → length (darts_of m) ≤ k → text ≡ header version m ++ flat_map line_of (take k (darts_of m)) → text ≡ canonical version (listed_of m)
+whole_text version m k text lawful long is =
+    let lines = flat_map line_of (darts_of m) in
+    is ∙ (ap (λ darts. header version m ++ flat_map line_of darts) (whole_taken (darts_of m) k long)
+    ∙ (regroup (head_line version) (schema.canonical m.schema) (next_line version m.next) (codes "darts ") (decimal m.count) (codes "\n") lines
+    ∙ ap (λ n. head_line version ++ (schema.canonical m.schema ++ (next_line version m.next ++ (codes "darts " ++ (decimal n ++ (codes "\n" ++ lines)))))) (sym (darts_counted m lawful))))
+  where
+    regroup : (a b c d e f g : List ℕ) → (a ++ (b ++ (c ++ (d ++ (e ++ f))))) ++ g ≡ a ++ (b ++ (c ++ (d ++ (e ++ (f ++ g)))))
+    regroup a b c d e f g = simp append_assoc
