@@ -2,3 +2,5 @@ pub mod GoodListing
 pub mod Printed
 pub mod ArenaDarts
 pub mod SoundRows
+pub mod SchemaForms
+pub mod Spelled
