@@ -4,3 +4,5 @@ pub mod ArenaDarts
 pub mod SoundRows
 pub mod SchemaForms
 pub mod Spelled
+pub mod Passing
+pub mod Again

@@ -179,7 +179,7 @@ length_forms : (darts : List DartRow) → length (map dart_form darts) ≡ lengt
 length_forms [] = refl
 length_forms (dart ∷ darts) = ap suc (length_forms darts)
 
-abbrev listing_text : List DartRow → List ℕ
+abbrev pub listing_text : List DartRow → List ℕ
 listing_text darts = codes "darts " ++ (decimal (length darts) ++ (codes "\n" ++ flat_map line_of darts))
 
 pub listing_symbols : (embeds : List Embed) (darts : List DartRow) → length darts < 2 ^ 64 → AllByRecursion (IsFitting embeds) darts → symbols_from (listing_text darts) ≡ symbols_in (spell_listing embeds (map dart_form darts))
