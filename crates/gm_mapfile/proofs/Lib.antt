@@ -6,3 +6,4 @@ pub mod SchemaForms
 pub mod Spelled
 pub mod Passing
 pub mod Again
+pub mod Printable
