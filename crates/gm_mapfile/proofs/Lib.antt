@@ -7,3 +7,4 @@ pub mod Spelled
 pub mod Passing
 pub mod Again
 pub mod Printable
+pub mod Worked
