@@ -67,10 +67,15 @@ module _ (version : MapVersion) (listed : ListedMap) (printable : IsPrintable li
       (next_symbols version listed.next tail (listing listed.schema.embeds) small (listing_symbols listed.schema.embeds listed.darts few fit)))
 
   within_with : IsWithin IsSentence passed_of (word (codes "gmap") ∷ number Fixed (number_of (written_in version listed.next)) ∷ (map in_schema (schema.spell (schema_form listed.schema) []) ++ spell_next (written_in version listed.next) (listing listed.schema.embeds)))
-  within_with =
-      (refl, (refl, passes_in (schema.spell (schema_form listed.schema) []) (spell_next (written_in version listed.next) (listing listed.schema.embeds))
-      (form_passes listed.schema printable.schema printable.parts printable.dim.0 printable.dim.1)
-      (next_passes version listed.next (listing listed.schema.embeds) printable.next (listing_passes listed.schema.embeds listed.darts counted fit))))
+  within_with = (
+    refl,
+    (
+      refl,
+      passes_in (schema.spell (schema_form listed.schema) []) (spell_next (written_in version listed.next) (listing listed.schema.embeds))
+          (form_passes listed.schema printable.schema printable.parts printable.dim.0 printable.dim.1)
+          (next_passes version listed.next (listing listed.schema.embeds) printable.next (listing_passes listed.schema.embeds listed.darts counted fit)),
+    ),
+  )
 
   -- the spelling, by the embeddings that the form means
   at_embeds : (P : List (Part Role) → Type 0) → P (word (codes "gmap") ∷ number Fixed (number_of (written_in version listed.next)) ∷ (map in_schema (schema.spell (schema_form listed.schema) []) ++ spell_next (written_in version listed.next) (listing listed.schema.embeds))) → P (spelling (map_form version listed))

@@ -8,3 +8,4 @@ pub mod Passing
 pub mod Again
 pub mod Printable
 pub mod Worked
+pub mod WorkedMap

@@ -47,8 +47,8 @@ module _ (m : ArenaMap) (lawful : IsLawful m) where
 
   pub darts_printable : AllByRecursion (IsPrintableDart (listed_of m)) (darts_of m)
   darts_printable = recursion_from_All (IsPrintableDart (listed_of m)) (darts_of m) (λ k d within.
-    let at = dart_at_place m k within in
-    subst (IsPrintableDart (listed_of m)) (at.0 ∙ get_or_default (darts_of m) k nobody d within) (printable_live (get_or (keys m.darts) k 0) at.1))
+      let at = dart_at_place m k within in
+      subst (IsPrintableDart (listed_of m)) (at.0 ∙ get_or_default (darts_of m) k nobody d within) (printable_live (get_or (keys m.darts) k 0) at.1))
 
 pub arena_printable : (m : ArenaMap) → IsLawful m → AreParts m.schema.embeds → IsSound (as_map m) → IsPrintable (listed_of m)
 arena_printable m lawful parts sound = record {

@@ -10,22 +10,22 @@ use Rattle.gm_mapfile.specs.MapText.{DartRow, ListedMap, canonical}
 use Rattle.gm_mapfile.specs.declared.version.MapVersion.TheVariants as versions
 
 -- an embedding over the labels 1 and 2
-abbrev positions : Embed
+abbrev pub positions : Embed
 positions = record { name = codes "pos"; mask = record { bits = 6 }; kind = kinds.Vec3 }
 
-abbrev schema : Schema
+abbrev pub schema : Schema
 schema = record { dim = 2; embeds = positions ∷ [] }
 
-abbrev corner : DartRow
+abbrev pub corner : DartRow
 corner = record { name = 0; alphas = 0 ∷ 0 ∷ 0 ∷ []; values = Vec3 (pos 4) (negsuc 0) (pos 0) ∷ [] }
 
-abbrev sample : ListedMap
+abbrev pub sample : ListedMap
 sample = record { schema = schema; darts = corner ∷ []; next = 5 }
 
-in_first : canonical versions.One sample ≡ codes "gmap 1\ndim 2\nembed pos <1 2> vec3\ndarts 1\n0 0 0 0 (4 -1 0)\n"
+pub in_first : canonical versions.One sample ≡ codes "gmap 1\ndim 2\nembed pos <1 2> vec3\ndarts 1\n0 0 0 0 (4 -1 0)\n"
 unfolding labels_in
 in_first = rw (decimal_digit 2 (omega arith), decimal_digit 1 (omega arith), decimal_digit 0 (omega arith), decimal_digit 4 (omega arith)) refl
 
-in_second : canonical versions.Two sample ≡ codes "gmap 2\ndim 2\nembed pos <1 2> vec3\nnext 5\ndarts 1\n0 0 0 0 (4 -1 0)\n"
+pub in_second : canonical versions.Two sample ≡ codes "gmap 2\ndim 2\nembed pos <1 2> vec3\nnext 5\ndarts 1\n0 0 0 0 (4 -1 0)\n"
 unfolding labels_in
 in_second = rw (decimal_digit 2 (omega arith), decimal_digit 1 (omega arith), decimal_digit 5 (omega arith), decimal_digit 0 (omega arith), decimal_digit 4 (omega arith)) refl
