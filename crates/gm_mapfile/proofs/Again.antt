@@ -1,6 +1,6 @@
 -- What is printed is read again: the canonical text of a map, in either version, stands for it.
-use Rattle.std.proofs.Common.{◌≡◌, ℕ, zero, suc, ◌+◌, ◌^◌, ◌<◌, ◌≤◌, eqb, Bool, true, false, List, [], ◌∷◌, ◌++◌, length, get_or, map, Some, None, is_some, inl, inr, refl, sym, ap, subst, ◌∙◌, codes, arith}
-use Rattle.std.specs.Prelude.{All, IsPermutation}
+use Rattle.std.proofs.Common.{◌≡◌, ℕ, zero, suc, ◌+◌, ◌^◌, ◌<◌, ◌≤◌, eqb, true, List, [], ◌∷◌, ◌++◌, length, map, is_some, inl, inr, refl, sym, ap, subst, ◌∙◌, codes, arith}
+use Rattle.std.specs.Prelude.{IsPermutation}
 use Rattle.std.specs.List.{AllByRecursion}
 use Rattle.std.specs.List.Sorted.{IsStrictlyIncreasing}
 use Rattle.std.proofs.lemmas.Bool.{cases_Bool, eqb-true}
@@ -12,13 +12,13 @@ use Rattle.gm_model.specs.declared.schema.Schema.{Schema}
 use Rattle.gm_model.specs.GMap.{row_of}
 use Rattle.gm_model.specs.Limits.{most_darts, most_names}
 use Rattle.gm_model.specs.Maps.{IsSound}
-use Rattle.gm_model.specs.Reading.{Part, IsReadAs, IsWithin, symbols_in}
-use Rattle.gm_model.specs.Symbols.{Symbol, Word, Numeral, symbols_of, marks_of}
+use Rattle.gm_model.specs.Reading.{Part, IsWithin, symbols_in}
+use Rattle.gm_model.specs.Symbols.{Symbol, Word, Numeral}
 use Rattle.gm_text.specs.SchemaText as schema
 use Rattle.gm_text.proofs.Printed.{symbols_from, symbols_of-from}
 use Rattle.gm_text.proofs.SchemaAgain.{schema_form, same_embeds}
 use Rattle.gm_arena.specs.Lawful.{AreGoodValues}
-use Rattle.gm_mapfile.specs.MapText.{Version, First, Second, Role, Fixed, passed_of, word, number, in_schema, number_of, spell_next, spell_listing, spelling, embeds_of, IsShaped, IsForm, IsSentence, IsWritten, DartRow, ListedMap, names, rows_of, map_of, AreRows, IsListed, IsLeastAbove, IsNext, version_of, MapText, head_line, next_line, canonical}
+use Rattle.gm_mapfile.specs.MapText.{Version, First, Second, Role, Fixed, passed_of, word, number, in_schema, number_of, spell_next, spell_listing, spelling, embeds_of, IsShaped, IsForm, IsSentence, DartRow, ListedMap, names, rows_of, map_of, IsListed, IsLeastAbove, IsNext, MapText, next_line, canonical}
 use Rattle.gm_mapfile.specs.MapReading.{IsWhole}
 use Rattle.gm_mapfile.specs.Printing.{behind_last, renumbered, IsPrintableDart, IsPrintable}
 use Rattle.gm_mapfile.specs.declared.version.MapVersion.{MapVersion}
@@ -40,9 +40,6 @@ moved P xs ys same all = recursion_from_All P ys (All-permutation P xs ys same (
 -- ---- the canonical text lists the darts
 
 module _ (version : MapVersion) (listed : ListedMap) (printable : IsPrintable listed) where
-  embeds : List Embed
-  embeds = listed.schema.embeds
-
   fit : AllByRecursion (IsFitting listed.schema.embeds) listed.darts
   fit = each listed.darts (λ dart one. ((one.name_small, one.alphas_small), good_fitting listed.schema dart.values printable.schema one.values)) printable.darts
 
@@ -55,7 +52,13 @@ module _ (version : MapVersion) (listed : ListedMap) (printable : IsPrintable li
   abbrev listing : List Embed → List (Part Role)
   listing es = spell_listing es (map dart_form listed.darts)
 
-  spelled_with : symbols_from (canonical version listed) ≡ symbols_in (word (codes "gmap") ∷ number Fixed (number_of (written_in version listed.next)) ∷ (map in_schema (schema.spell (schema_form listed.schema) []) ++ spell_next (written_in version listed.next) (listing listed.schema.embeds)))
+  -- the spelling, where the darts' values go by these embeddings
+  abbrev spelled_by : List Embed → List (Part Role)
+  spelled_by es =
+      word (codes "gmap") ∷ number Fixed (number_of (written_in version listed.next))
+      ∷ (map in_schema (schema.spell (schema_form listed.schema) []) ++ spell_next (written_in version listed.next) (listing es))
+
+  spelled_with : symbols_from (canonical version listed) ≡ symbols_in (spelled_by listed.schema.embeds)
   spelled_with =
       let tail = listing_text listed.darts in
       let behind = next_line version listed.next ++ tail in
@@ -66,7 +69,7 @@ module _ (version : MapVersion) (listed : ListedMap) (printable : IsPrintable li
       (schema_symbols listed.schema behind (spell_next (written_in version listed.next) (listing listed.schema.embeds)) printable.dim.1 printable.parts
       (next_symbols version listed.next tail (listing listed.schema.embeds) small (listing_symbols listed.schema.embeds listed.darts few fit)))
 
-  within_with : IsWithin IsSentence passed_of (word (codes "gmap") ∷ number Fixed (number_of (written_in version listed.next)) ∷ (map in_schema (schema.spell (schema_form listed.schema) []) ++ spell_next (written_in version listed.next) (listing listed.schema.embeds)))
+  within_with : IsWithin IsSentence passed_of (spelled_by listed.schema.embeds)
   within_with = (
     refl,
     (
@@ -77,9 +80,9 @@ module _ (version : MapVersion) (listed : ListedMap) (printable : IsPrintable li
     ),
   )
 
-  -- the spelling, by the embeddings that the form means
-  at_embeds : (P : List (Part Role) → Type 0) → P (word (codes "gmap") ∷ number Fixed (number_of (written_in version listed.next)) ∷ (map in_schema (schema.spell (schema_form listed.schema) []) ++ spell_next (written_in version listed.next) (listing listed.schema.embeds))) → P (spelling (map_form version listed))
-  at_embeds P h = subst (λ (es : List Embed). P (word (codes "gmap") ∷ number Fixed (number_of (written_in version listed.next)) ∷ (map in_schema (schema.spell (schema_form listed.schema) []) ++ spell_next (written_in version listed.next) (listing es)))) (sym same) h
+  -- the form's own embeddings are the schema's
+  at_embeds : (P : List (Part Role) → Type 0) → P (spelled_by listed.schema.embeds) → P (spelling (map_form version listed))
+  at_embeds P h = subst (λ (es : List Embed). P (spelled_by es)) (sym same) h
 
   good : IsForm (map_form version listed)
   good =

@@ -1,6 +1,6 @@
 -- The darts that an arena holds, as a list: what a look-up finds there, and that their names ascend.
-use Rattle.std.proofs.Common.{◌≡◌, ℕ, zero, suc, ◌+◌, ◌<◌, eqb, Bool, true, false, ◌&&◌, T, List, [], ◌∷◌, length, get_or, map, Option, Some, None, is_some, inl, inr, refl, sym, ap, subst, ◌∙◌, arith}
-use Rattle.std.specs.Option.{option_map, option_map_or}
+use Rattle.std.proofs.Common.{◌≡◌, ℕ, zero, suc, ◌+◌, ◌<◌, eqb, Bool, true, false, ◌&&◌, T, List, [], ◌∷◌, get_or, map, Some, inl, inr, refl, sym, ap, subst, ◌∙◌, arith}
+use Rattle.std.specs.Option.{option_map}
 use Rattle.std.specs.Ordering.{nat_cmp, is_lt, eq_by_cmp}
 use Rattle.std.specs.Cmp.{nat_cmp_is, unsigned_tied}
 use Rattle.std.specs.FinMap.{get, keys, entries, find, is_sorted, get-entries, entries_sorted}
@@ -8,7 +8,7 @@ use Rattle.std.specs.FinMap.Entries.{below_all}
 use Rattle.std.specs.List.Sorted.{IsStrictlyIncreasing}
 use Rattle.std.specs.declared.cmp.Ordering.TheVariants.{Equal, Greater}
 use Rattle.std.proofs.lemmas.Bool.{cases_Bool, cases_order, eqb-true, eq-eqb, ne_eqb, eqb-false}
-use Rattle.gm_model.specs.GMap.{Row, row_of}
+use Rattle.gm_model.specs.GMap.{row_of}
 use Rattle.gm_arena.specs.ArenaMap.{ArenaMap, Dart}
 use Rattle.gm_mapfile.specs.MapText.{DartRow, names, bare, rows_of, dart_of}
 use Rattle.gm_mapfile.specs.Rows.{dart_of_entry, darts_of}

@@ -1,5 +1,5 @@
 -- The form of a printed map is good, passes nothing, and means the map.
-use Rattle.std.proofs.Common.{◌≡◌, ◌≢◌, ℕ, zero, suc, ◌+◌, ◌-◌, ◌^◌, ◌<◌, ◌≤◌, eqb, ltb, leb, Bool, true, false, ℤ, pos, negsuc, List, [], ◌∷◌, length, map, slice_get, Some, None, refl, sym, ap, subst, ◌∙◌, add-one, arith}
+use Rattle.std.proofs.Common.{◌≡◌, ◌≢◌, ℕ, zero, suc, ◌-◌, ◌^◌, ◌<◌, ◌≤◌, ltb, leb, Bool, true, false, ℤ, pos, negsuc, List, [], ◌∷◌, length, map, slice_get, Some, None, refl, sym, ap, subst, ◌∙◌, arith}
 use Rattle.std.specs.List.{AllByRecursion}
 use lib.Signed.{mag}
 use Rattle.std.proofs.lemmas.Bool.{le-ltb, lt-leb, le-leb}
@@ -10,15 +10,15 @@ use Rattle.gm_model.specs.declared.value.Kind.{Kind}
 use Rattle.gm_model.specs.declared.value.Kind.TheVariants as kinds
 use Rattle.gm_model.specs.declared.value.Value.{Value}
 use Rattle.gm_model.specs.declared.value.Value.TheVariants as values
-use Rattle.gm_model.specs.Expressions.{components, IsMade}
+use Rattle.gm_model.specs.Expressions.{components}
 use Rattle.gm_model.specs.Limits.{most_darts, most_names}
 use Rattle.gm_model.specs.Maps.{IsSchema}
 use Rattle.gm_model.specs.Reading.{Part, IsWithin}
-use Rattle.gm_model.specs.Symbols.{Symbol, Numeral}
-use Rattle.gm_model.specs.Values.{kind_of, IsInValueRange, IsValueOf}
+use Rattle.gm_model.specs.Symbols.{Numeral}
+use Rattle.gm_model.specs.Values.{kind_of, IsInValueRange}
 use Rattle.gm_text.specs.ValueText.{integer, greatest, spell_signed}
 use Rattle.gm_arena.specs.Lawful.{AreGoodValues}
-use Rattle.gm_mapfile.specs.MapText.{Role, Fixed, NextName, Count, DartName, Size, Channel, size_role, passed_of, number, the_end, width, is_colour, spell_names, spell_components, spell_value, spell_values, spell_dart, spell_darts, spell_listing, spell_next, AreWide, IsShaped, IsSentence, DartRow, AreMade, IsRow, AreRows}
+use Rattle.gm_mapfile.specs.MapText.{Role, Fixed, NextName, Count, DartName, Size, Channel, size_role, passed_of, the_end, width, spell_names, spell_value, spell_values, spell_darts, spell_listing, spell_next, AreWide, IsShaped, IsSentence, DartRow, AreMade, AreRows}
 use Rattle.gm_mapfile.specs.declared.version.MapVersion.{MapVersion}
 use Rattle.gm_mapfile.specs.declared.version.MapVersion.TheVariants as versions
 use Rattle.gm_mapfile.proofs.Spelled.{signed_of, parts_of, dart_form, written_in, AreFitting, IsFitting}

@@ -1,6 +1,5 @@
 -- What a lawful arena holds within the limits can be printed, if its map is sound.
-use Rattle.std.proofs.Common.{◌≡◌, ℕ, suc, ◌+◌, ◌<◌, ◌≤◌, true, List, length, get_or, Option, Some, None, is_some, refl, sym, ap, subst, ◌∙◌, arith}
-use Rattle.std.specs.Prelude.{All}
+use Rattle.std.proofs.Common.{◌≡◌, ℕ, ◌<◌, true, get_or, Option, Some, None, is_some, refl, sym, ap, subst, ◌∙◌, arith}
 use Rattle.std.specs.FinMap.{get, keys}
 use Rattle.std.specs.List.{AllByRecursion}
 use Rattle.std.proofs.lemmas.Bool.{false≢true}
@@ -12,7 +11,6 @@ use Rattle.gm_text.specs.SchemaPrinting.{AreParts}
 use Rattle.gm_arena.specs.ArenaAsMap.{as_map}
 use Rattle.gm_arena.specs.ArenaMap.{ArenaMap, Dart, IsLiveName}
 use Rattle.gm_arena.specs.Lawful.{IsLawful}
-use Rattle.gm_mapfile.specs.MapText.{DartRow}
 use Rattle.gm_mapfile.specs.Printing.{IsPrintableDart, IsPrintable}
 use Rattle.gm_mapfile.specs.Rows.{dart_of_entry, darts_of, listed_of, dart_at}
 use Rattle.gm_mapfile.proofs.ArenaDarts.{darts_ascending}

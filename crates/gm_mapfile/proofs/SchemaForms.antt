@@ -1,6 +1,5 @@
 -- The form of a schema in a map's text: it is good, passes nothing, means the schema, and has the symbols of the schema's canonical text.
-use Rattle.std.proofs.Common.{◌≡◌, ◌≢◌, ℕ, zero, suc, ◌+◌, ◌<◌, ◌≤◌, ◌||◌, Bool, true, false, eqb, ltb, List, [], ◌∷◌, ◌++◌, length, map, slice_get, Option, Some, None, refl, sym, ap, subst, ◌∙◌, arith}
-use Rattle.std.specs.Prelude.{nat_lt, ◌==◌}
+use Rattle.std.proofs.Common.{◌≡◌, ℕ, zero, suc, ◌+◌, ◌<◌, ◌≤◌, ◌||◌, Bool, true, false, eqb, ltb, List, [], ◌∷◌, ◌++◌, map, slice_get, Some, None, refl, sym, ap, ◌∙◌, arith}
 use Rattle.std.specs.List.{AllByRecursion}
 use Rattle.std.specs.Str.{bytes_eq}
 use Rattle.std.proofs.lemmas.Bool.{le-ltb, ne_eqb}
@@ -9,14 +8,14 @@ use Rattle.std.proofs.lemmas.Map.Views.{Contains-from_any}
 use Rattle.std.proofs.lemmas.Slice.Eq.{bytes_eq-Decides}
 use Rattle.gm_model.specs.declared.schema.Embed.{Embed}
 use Rattle.gm_model.specs.declared.schema.Schema.{Schema}
-use Rattle.gm_model.specs.Maps.{IsSchema, IsEmbedAt}
+use Rattle.gm_model.specs.Maps.{IsSchema}
 use Rattle.gm_model.specs.Names.{reserved, IsReserved, is_among}
 use Rattle.gm_model.specs.Reading.{Part, IsWithin, symbols_in}
 use Rattle.gm_model.specs.Symbols.{Symbol, Numeral}
 use Rattle.gm_text.specs.SchemaPrinting.{AreParts}
 use Rattle.gm_text.specs.SchemaText as schema
 use Rattle.gm_text.proofs.Printed.{symbols_from}
-use Rattle.gm_text.proofs.SchemaAgain.{form_of, forms_of, schema_form, same_embeds, embeds_pass, canonical_symbols}
+use Rattle.gm_text.proofs.SchemaAgain.{forms_of, schema_form, same_embeds, embeds_pass, canonical_symbols}
 use Rattle.gm_text.proofs.SchemaGrammar.{spell_before}
 use Rattle.gm_text.proofs.SchemaSound.{IsGood, IsNew, AreNew}
 use Rattle.gm_mapfile.specs.MapText.{Role, passed_of, in_schema, IsSentence}

@@ -1,16 +1,15 @@
 -- The listed darts of an arena are its map, so what is sound as the one is sound as the other.
-use Rattle.std.proofs.Common.{◌≡◌, ℕ, List, get_or, map, Option, Some, None, is_some, refl, sym, ap, subst, ◌∙◌, pos, slice_index_or}
+use Rattle.std.proofs.Common.{◌≡◌, ℕ, Option, Some, None, is_some, refl, sym, ap, subst, ◌∙◌, pos, slice_index_or}
 use Rattle.std.specs.Option.{option_map, option_map_or}
 use Rattle.std.specs.FinMap.{get}
-use Rattle.gm_model.specs.declared.value.Value.{Value}
 use Rattle.gm_model.specs.declared.value.Value.TheVariants.{Int}
 use Rattle.gm_model.specs.GMap.{Row, row_of}
 use Rattle.gm_model.specs.GMap as written
-use Rattle.gm_model.specs.Maps.{Map, IsSound}
+use Rattle.gm_model.specs.Maps.{IsSound}
 use Rattle.gm_arena.specs.ArenaAsMap.{as_map, value}
 use Rattle.gm_arena.specs.ArenaMap.{ArenaMap, Dart, alpha}
 use Rattle.gm_arena.specs.Lawful.{IsLawful}
-use Rattle.gm_mapfile.specs.MapText.{DartRow, bare, rows_of, dart_of, value_in, map_of}
+use Rattle.gm_mapfile.specs.MapText.{DartRow, bare, rows_of, value_in, map_of}
 use Rattle.gm_mapfile.specs.Rows.{darts_of, listed_of}
 use Rattle.gm_mapfile.proofs.ArenaDarts.{dart_with, dart_of_arena, row_of_dart}
 

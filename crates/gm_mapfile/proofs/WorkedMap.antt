@@ -1,7 +1,5 @@
 -- A worked text, in both versions: it stands for a map of one dart with a value, whose neighbours are itself.
-use Rattle.std.proofs.Common.{◌≡◌, ◌≢◌, ℕ, zero, suc, ◌+◌, ◌<◌, ◌≤◌, eqb, false, true, pos, negsuc, List, [], ◌∷◌, length, slice_get, Some, inl, inr, refl, sym, ap, subst, ◌∙◌, codes, arith}
-use Rattle.std.specs.Prelude.{IsTrue}
-use Rattle.std.specs.List.{AllByRecursion}
+use Rattle.std.proofs.Common.{◌≡◌, ℕ, zero, suc, ◌<◌, eqb, false, true, pos, negsuc, List, [], ◌∷◌, inl, inr, refl, sym, ap, subst, ◌∙◌, codes, arith}
 use Rattle.std.proofs.lemmas.Bool.{cases_Bool, eqb-true}
 use Rattle.std.proofs.lemmas.List.Elements.{All-from_recursion}
 use Rattle.gm_model.specs.declared.schema.Embed.{Embed}
@@ -13,7 +11,7 @@ use Rattle.gm_model.specs.Values.{IsInValueRange, IsValueOf}
 use Rattle.gm_text.proofs.SchemaSound.{form_sound}
 use Rattle.gm_arena.specs.Lawful.{AreGoodValues}
 use Rattle.gm_mapfile.specs.MapText.{map_of, MapText}
-use Rattle.gm_mapfile.specs.Printing.{renumbered, IsPrintable}
+use Rattle.gm_mapfile.specs.Printing.{IsPrintable}
 use Rattle.gm_mapfile.specs.declared.version.MapVersion.TheVariants as versions
 use Rattle.gm_mapfile.proofs.Again.{printed}
 use Rattle.gm_mapfile.proofs.Worked.{positions, schema, corner, sample, in_first, in_second}
