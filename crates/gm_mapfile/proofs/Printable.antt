@@ -11,8 +11,11 @@ use Rattle.gm_text.specs.SchemaPrinting.{AreParts}
 use Rattle.gm_arena.specs.ArenaAsMap.{as_map}
 use Rattle.gm_arena.specs.ArenaMap.{ArenaMap, Dart, IsLiveName}
 use Rattle.gm_arena.specs.Lawful.{IsLawful}
-use Rattle.gm_mapfile.specs.Printing.{IsPrintableDart, IsPrintable}
+use Rattle.gm_mapfile.specs.MapText.{MapText, canonical}
+use Rattle.gm_mapfile.specs.Printing.{renumbered, IsPrintableDart, IsPrintable}
 use Rattle.gm_mapfile.specs.Rows.{dart_of_entry, darts_of, listed_of, dart_at}
+use Rattle.gm_mapfile.specs.declared.version.MapVersion.{MapVersion}
+use Rattle.gm_mapfile.proofs.Again.{printed}
 use Rattle.gm_mapfile.proofs.ArenaDarts.{darts_ascending}
 use Rattle.gm_mapfile.proofs.Printed.{nobody, dart_at-is, dart_at_place, darts_counted}
 use Rattle.gm_mapfile.proofs.SoundRows.{as_listed}
@@ -59,3 +62,7 @@ arena_printable m lawful parts sound = record {
   next = lawful.few_names;
   sound = as_listed m lawful sound;
 }
+
+-- so its canonical text, in either version, stands for it
+pub arena_printed : (version : MapVersion) (m : ArenaMap) → IsLawful m → AreParts m.schema.embeds → IsSound (as_map m) → MapText (canonical version (listed_of m)) version (renumbered version (listed_of m))
+arena_printed version m lawful parts sound = printed version (listed_of m) (arena_printable m lawful parts sound)
