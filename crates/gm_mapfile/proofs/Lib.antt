@@ -25,3 +25,13 @@ pub mod ValueSteps
 pub mod DartReads
 pub mod SchemaInside
 pub mod WholeText
+pub mod Printed
+pub mod ArenaDarts
+pub mod SoundRows
+pub mod SchemaForms
+pub mod Spelled
+pub mod Passing
+pub mod Again
+pub mod Printable
+pub mod Worked
+pub mod WorkedMap

@@ -1,8 +1,8 @@
 //! The canonical text of a map.
-ghost use Rattle.std.specs.Prelude.{◌≡◌, ℕ, ◌+◌, ◌*◌, ◌≤◌, ◌∷◌, ◌++◌, length, OnOk, IfOk, codes, decimal};
+ghost use Rattle.std.specs.Prelude.{◌≡◌, ℕ, ◌+◌, ◌*◌, ◌≤◌, ◌∷◌, ◌++◌, OnOk, IfOk, codes, decimal};
 ghost use Rattle.std.specs.List.{flat_map};
 ghost use Rattle.std.specs.Fmt.{signed_decimal};
-ghost use Rattle.gm_model.specs.Limits.{most_darts};
+ghost use Rattle.std.specs.FinMap.{keys};
 ghost use Rattle.gm_text.specs.SchemaText as schema;
 ghost use Rattle.gm_mapfile.specs.MapText.{canonical, head_line, next_line, line_of, value_text, truth_text};
 ghost use Rattle.gm_arena.specs.ArenaMap.{IsLiveName};
@@ -11,7 +11,7 @@ ghost use Rattle.gm_mapfile.specs.Rows.{listed_of, dart_at};
 
 use crate::version::MapVersion;
 use gm_arena::{Arena, Row, Steps};
-use gm_model::{OutOfMemory, Schema, Value};
+use gm_model::{OutOfMemory, Value};
 use gm_text::{Text, print_schema};
 use std::alloc::Global;
 use std::sync::ledger::Ledger;
@@ -29,7 +29,7 @@ pub fn print_map<L: Ledger>(
     ensures least { IfOk result (λ _. steps.old + arena.now.count ≤ steps.new) }
 {
     let names = arena.names(alloc, steps)?;
-    let mut text = Text::with_capacity(alloc, room_for(arena.schema(), &names))?;
+    let mut text = Text::with_capacity(alloc, room_for(arena, &names))?;
     print_header(&mut text, arena, version)?;
     for name in &names {
         print_dart(&mut text, arena, *name, steps)?;
@@ -40,18 +40,19 @@ pub fn print_map<L: Ledger>(
 /// As many bytes as the text has without values, or a few more: each name stands once for its dart
 /// and once for each label as a neighbour, with a blank or a line feed behind it. A value of small
 /// numbers takes no more than its share.
-fn room_for(schema: &Schema, names: &[u32]) -> usize
-    requires { length names.now ≤ most_darts }
+fn room_for(arena: &Arena, names: &[u32]) -> usize
+    requires { names.now ≡ keys arena.now.darts }
+    ensures { IsLawful arena.now }
 {
     let header = 1024;
     let share = 12;
+    let schema = arena.schema();
+    let values = arena.count() as usize * schema.embeds.as_slice().len();
     let mut column = 0;
     for name in names {
         column += digits_of(*name) + 1;
     }
-    header
-        + column * (schema.dim.top() as usize + 2)
-        + names.len() * schema.embeds.as_slice().len() * share
+    header + column * (schema.dim.top() as usize + 2) + values * share
 }
 
 /// How many decimal digits a name has.

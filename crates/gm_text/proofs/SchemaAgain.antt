@@ -29,13 +29,13 @@ use Rattle.gm_text.proofs.SchemaStanding.{passed_placeless, inner_limit, form_st
 
 -- ---- the form of a schema, at no places yet
 
-abbrev form_of : Embed → EmbedForm
+abbrev pub form_of : Embed → EmbedForm
 form_of embed = record { name = record { name = embed.name; place = 0 }; labels = label_forms (labels_below embed.mask 8); kind = embed.kind }
 
-abbrev forms_of : List Embed → List EmbedForm
+abbrev pub forms_of : List Embed → List EmbedForm
 forms_of embeds = map form_of embeds
 
-same_embeds : (embeds : List Embed) → AreParts embeds → map embed_of (forms_of embeds) ≡ embeds
+pub same_embeds : (embeds : List Embed) → AreParts embeds → map embed_of (forms_of embeds) ≡ embeds
 same_embeds [] parts = refl
 same_embeds (embed ∷ embeds) parts =
     let mask = built_whole embed.mask parts.0.1 in
@@ -78,7 +78,7 @@ labels_pass n mask (form ∷ forms) rest all within =
     let free : passed_of (LabelAt n mask form.place) (Numeral form.label) ≡ None = rw (low_is n form.label all.0, all.1) refl in
     (free, labels_pass n (with_label mask form.label) forms rest all.2 within)
 
-embeds_pass : (n : ℕ) (declared embeds : List Embed) → AreParts embeds → AllByRecursion (IsGood n) embeds → AreNew declared embeds → length declared + length embeds ≤ 8 → AreWithin (spell_embeds n declared (forms_of embeds) [])
+pub embeds_pass : (n : ℕ) (declared embeds : List Embed) → AreParts embeds → AllByRecursion (IsGood n) embeds → AreNew declared embeds → length declared + length embeds ≤ 8 → AreWithin (spell_embeds n declared (forms_of embeds) [])
 embeds_pass n declared [] parts good new few = tt
 embeds_pass n declared (embed ∷ embeds) parts good new few =
     let mask = built_whole embed.mask parts.0.1 in
@@ -174,7 +174,7 @@ lines_symbols n declared (embed ∷ embeds) more parts good rest =
     ∙ line_symbols n declared embed (flat_map embed_line embeds ++ more) (spell_embeds n (declared ++ embed_of (form_of embed) ∷ []) (forms_of embeds) parts) good.0.0.1
     (lines_symbols n (declared ++ embed_of (form_of embed) ∷ []) embeds more parts good.1 rest)
 
-abbrev schema_form : Schema → SchemaForm
+abbrev pub schema_form : Schema → SchemaForm
 schema_form schema = record { dim = schema.dim; embeds = forms_of schema.embeds }
 
 -- before any bytes

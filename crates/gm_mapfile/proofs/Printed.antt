@@ -1,0 +1,155 @@
+-- The darts of an arena by place, as they are printed.
+use Rattle.std.proofs.Common.{◌≡◌, ℕ, eqb, ◌+◌, ◌*◌, ◌<◌, ◌≤◌, List, [], ◌∷◌, ◌++◌, length, take, drop, get_or, map, Option, Some, None, is_some, Result, Ok, Err, codes, refl, sym, ap, subst, ◌∙◌, arith}
+use Rattle.std.specs.Prelude.{decimal, OnOk}
+use Rattle.std.specs.Option.{option_map, option_map_or}
+use Rattle.std.specs.List.{find, flat_map}
+use Rattle.std.specs.List.Sorted.{IsStrictlyIncreasing}
+use Rattle.std.specs.FinMap.{get, keys, entries, len-entries}
+use Rattle.std.proofs.lemmas.Grind.{flat_map-append}
+use Rattle.std.proofs.lemmas.Bool.{ne_eqb, eq-eqb}
+use Rattle.std.proofs.lemmas.Nat.{mul-le}
+use Rattle.std.proofs.lemmas.List.{get_or-map, length-map, take_more, append-nil, append_assoc, length-drop, nil_from_length, take-append-drop}
+use Rattle.std.proofs.lemmas.List.Kept.{AllPairs-from_increasing}
+use Rattle.std.proofs.lemmas.List.Recursion.{found_at}
+use Rattle.gm_model.specs.declared.value.Value.{Value}
+use Rattle.gm_text.specs.SchemaText as schema
+use Rattle.gm_arena.specs.ArenaMap.{ArenaMap, Dart, IsAt, IsLiveName, name_at}
+use Rattle.gm_arena.specs.declared.slot.Slot.{Slot}
+use Rattle.gm_arena.specs.Lawful.{IsLawful}
+use Rattle.gm_arena.proofs.MapLemmas.{name_at-is}
+use Rattle.gm_mapfile.specs.MapText.{DartRow, names, dart_of, line_of, head_line, next_line, canonical}
+use Rattle.gm_mapfile.specs.Rows.{dart_of_entry, darts_of, listed_of, dart_at}
+use Rattle.gm_mapfile.specs.declared.version.MapVersion.{MapVersion}
+use Rattle.gm_mapfile.proofs.ArenaDarts.{dart_with, dart_of_arena, darts_ascending, names_of_arena}
+
+-- ---- one piece of text behind another
+
+pub ok_then : {T E : Type 0} {P Q : Type 0} (r : Result T E) → OnOk r P → (P → Q) → OnOk r Q
+ok_then (Ok x) h f = f h
+ok_then (Err x) h f = tt
+
+-- three numbers in parentheses
+pub three : (text x y z t1 t2 t3 t4 t5 t6 t7 : List ℕ) → t1 ≡ text ++ 40 ∷ [] → t2 ≡ t1 ++ x → t3 ≡ t2 ++ 32 ∷ [] → t4 ≡ t3 ++ y → t5 ≡ t4 ++ 32 ∷ [] → t6 ≡ t5 ++ z → t7 ≡ t6 ++ 41 ∷ []
+    → t7 ≡ text ++ 40 ∷ (x ++ 32 ∷ (y ++ 32 ∷ (z ++ 41 ∷ [])))
+three text x y z t1 t2 t3 t4 t5 t6 t7 e1 e2 e3 e4 e5 e6 e7 = rw (e7, e6, e5, e4, e3, e2, e1) (simp append_assoc)
+
+-- one more, with a blank before it
+pub one_more : {A : Type 0} (spell : A → List ℕ) (xs : List A) (k : ℕ) (x : A) (front text put after : List ℕ) → k < length xs → text ≡ front ++ flat_map (λ a. 32 ∷ spell a) (take k xs) → put ≡ text ++ 32 ∷ [] → after ≡ put ++ spell (get_or xs k x)
+    → after ≡ front ++ flat_map (λ a. 32 ∷ spell a) (take (k + 1) xs)
+one_more {A} spell xs k x front text put after within before blank last =
+    let each : A → List ℕ = λ a. 32 ∷ spell a in
+    let this = get_or xs k x in
+    let one : flat_map each (this ∷ []) ≡ 32 ∷ spell this = append-nil (32 ∷ spell this) in
+    let more : flat_map each (take (k + 1) xs) ≡ flat_map each (take k xs) ++ 32 ∷ spell this =
+    ap (flat_map each) (take_more xs k x within) ∙ (flat_map-append each (take k xs) (this ∷ []) ∙ ap (λ ys. flat_map each (take k xs) ++ ys) one) in
+    last ∙ (ap (λ t. t ++ spell this) blank ∙ (append_assoc text (32 ∷ []) (spell this) ∙ (ap (λ t. t ++ 32 ∷ spell this) before
+    ∙ (append_assoc front (flat_map each (take k xs)) (32 ∷ spell this) ∙ ap (λ ys. front ++ ys) (sym more)))))
+
+pub whole_taken : {A : Type 0} (xs : List A) (k : ℕ) → length xs ≤ k → take k xs ≡ xs
+whole_taken xs k long = sym (append-nil (take k xs)) ∙ (ap (λ ys. take k xs ++ ys) (sym (nil_from_length (drop k xs) (omega (arith, length-drop k xs)))) ∙ take-append-drop k xs)
+
+-- ---- a dart's line
+
+-- the number that the code finds for a neighbour is its name
+pub neighbour_with : (m : ArenaMap) (slots : List Slot) (k name : ℕ) (d : Slot) (front text put after : List ℕ) → k < length slots → IsAt m (get_or slots k d).at name
+    → text ≡ front ++ flat_map (λ a. 32 ∷ decimal a) (take k (map (λ (s : Slot). name_at m s.at) slots)) → put ≡ text ++ 32 ∷ [] → after ≡ put ++ decimal name
+    → after ≡ front ++ flat_map (λ a. 32 ∷ decimal a) (take (k + 1) (map (λ (s : Slot). name_at m s.at) slots))
+neighbour_with m slots k name d front text put after within at before blank last =
+    let f : Slot → ℕ = λ (s : Slot). name_at m s.at in
+    let here : get_or (map f slots) k 0 ≡ name = get_or-map f slots k d 0 within ∙ name_at-is m (get_or slots k d).at name at in
+    one_more decimal (map f slots) k 0 front text put after (omega (arith, length-map slots f, within)) before blank (last ∙ ap (λ n. put ++ decimal n) (sym here))
+
+-- a dart has a neighbour for each label
+pub slots_long : (m : ArenaMap) (name : ℕ) (slots : List Slot) (values : List Value) → IsLawful m → get m.darts name ≡ Some (record { alphas = map (λ (s : Slot). name_at m s.at) slots; values = values }) → length slots ≡ m.schema.dim + 1
+slots_long m name slots values lawful there = sym (length-map slots (λ (s : Slot). name_at m s.at)) ∙ (lawful.dart name _ there).whole
+
+pub dart_at-is : (m : ArenaMap) (name : ℕ) (dart : Dart) → get m.darts name ≡ Some dart → dart_at m name ≡ dart_of_entry (name, dart)
+dart_at-is m name dart there =
+    ap (λ o. let row : DartRow = record { name = name; alphas = option_map_or (λ (d : Dart). d.alphas) o []; values = option_map_or (λ (d : Dart). d.values) o [] } in row) there
+
+-- ---- the darts by place
+
+-- the names of an arena are as many as its darts
+pub keys_counted : (m : ArenaMap) → IsLawful m → length (keys m.darts) ≡ m.count
+keys_counted m lawful = length-map (entries m.darts) (λ e. e.0) ∙ (sym (len-entries m.darts) ∙ sym lawful.counted)
+
+pub darts_counted : (m : ArenaMap) → IsLawful m → length (darts_of m) ≡ m.count
+darts_counted m lawful = length-map (entries m.darts) dart_of_entry ∙ (sym (len-entries m.darts) ∙ sym lawful.counted)
+
+abbrev pub nobody : DartRow
+nobody = record { name = 0; alphas = []; values = [] }
+
+-- the dart of a name in ascending order is the one at its place
+dart_of_place : (darts : List DartRow) → IsStrictlyIncreasing (names darts) → (k : ℕ) → k < length darts → dart_of darts (get_or (names darts) k 0) ≡ Some (get_or darts k nobody)
+dart_of_place darts up k within =
+    let x = get_or (names darts) k 0 in
+    let at : x ≡ (get_or darts k nobody).name = get_or-map (λ (dart : DartRow). dart.name) darts k nobody 0 within in
+    let pairs = AllPairs-from_increasing (names darts) up in
+    found_at (find (λ (dart : DartRow). eqb dart.name x)) (λ (dart : DartRow). eqb dart.name x) (λ dart. Some dart) None refl (λ _ _. refl) darts k nobody within
+    (λ j below. ne_eqb _ _ (λ same.
+    let at_j : get_or (names darts) j 0 ≡ (get_or darts j nobody).name = get_or-map (λ (dart : DartRow). dart.name) darts j nobody 0 (omega arith) in
+    let lt : get_or (names darts) j 0 < x = pairs j k 0 below (omega (arith, length-map darts (λ (dart : DartRow). dart.name), within)) in
+    omega (arith, at_j, same, lt)))
+    (eq-eqb _ _ (sym at))
+
+same_some : {A : Type 0} (x y : A) → Some x ≡ Some y → x ≡ y
+same_some x y e = cc
+
+from_found : (m : ArenaMap) (x : ℕ) (r : DartRow) → option_map (dart_with x) (get m.darts x) ≡ Some r → (dart_at m x ≡ r) × IsLiveName m x
+from_found m x r found = go (get m.darts x) refl
+  where
+    go : (o : Option Dart) → get m.darts x ≡ o → (dart_at m x ≡ r) × IsLiveName m x
+    go None is = let none : None ≡ Some r = rw is at found in absurd cc
+    go (Some dart) is =
+        let some : Some (dart_with x dart) ≡ Some r = rw is at found in
+        (dart_at-is m x dart is ∙ same_some (dart_with x dart) r some, ap is_some is)
+
+-- the dart of the name at a place
+pub dart_at_place : (m : ArenaMap) (k : ℕ) → k < length (darts_of m) → (dart_at m (get_or (keys m.darts) k 0) ≡ get_or (darts_of m) k nobody) × IsLiveName m (get_or (keys m.darts) k 0)
+dart_at_place m k within =
+    let x = get_or (keys m.darts) k 0 in
+    let same : get_or (names (darts_of m)) k 0 ≡ x = ap (λ ns. get_or ns k 0) (names_of_arena m) in
+    let found : dart_of (darts_of m) x ≡ Some (get_or (darts_of m) k nobody) = subst (λ y. dart_of (darts_of m) y ≡ Some (get_or (darts_of m) k nobody)) same (dart_of_place (darts_of m) (darts_ascending m) k within) in
+    from_found m x (get_or (darts_of m) k nobody) (sym (dart_of_arena m x) ∙ found)
+
+-- one line more
+pub lines_with : (m : ArenaMap) (k : ℕ) (front text after : List ℕ) → k < length (darts_of m) → text ≡ front ++ flat_map line_of (take k (darts_of m)) → after ≡ text ++ line_of (dart_at m (get_or (keys m.darts) k 0))
+    → after ≡ front ++ flat_map line_of (take (k + 1) (darts_of m))
+lines_with m k front text after within before last =
+    let darts = darts_of m in
+    let dart : line_of (dart_at m (get_or (keys m.darts) k 0)) ≡ flat_map line_of (get_or darts k nobody ∷ []) = ap line_of (dart_at_place m k within).0 ∙ sym (append-nil (line_of (get_or darts k nobody))) in
+    let more : flat_map line_of (take (k + 1) darts) ≡ flat_map line_of (take k darts) ++ flat_map line_of (get_or darts k nobody ∷ []) =
+    ap (flat_map line_of) (take_more darts k nobody within) ∙ flat_map-append line_of (take k darts) (get_or darts k nobody ∷ []) in
+    last ∙ (ap (λ xs. xs ++ line_of (dart_at m (get_or (keys m.darts) k 0))) before
+    ∙ (append_assoc front (flat_map line_of (take k darts)) (line_of (dart_at m (get_or (keys m.darts) k 0)))
+    ∙ ap (λ xs. front ++ xs) (ap (λ xs. flat_map line_of (take k darts) ++ xs) dart ∙ sym more)))
+
+-- the steps of so many darts
+pub printed_within : (n count before k after : ℕ) → k ≤ count → after ≤ before + count + (n + 3) * k → after ≤ before + 8 * ((n + 1) * (n + 1)) * (count + 1)
+printed_within n count before k after few h =
+    let square : n + 1 ≤ (n + 1) * (n + 1) = omega (arith, mul-le 1 (n + 1) (n + 1) (n + 1) (omega arith) (omega arith)) in
+    let each : n + 4 ≤ 8 * ((n + 1) * (n + 1)) = omega (arith, square) in
+    let all : (n + 3) * k ≤ (n + 3) * count = mul-le (n + 3) k (n + 3) count (omega arith) few in
+    let more : (n + 4) * count ≡ (n + 3) * count + count = omega arith in
+    omega (arith, h, all, more, mul-le (n + 4) count (8 * ((n + 1) * (n + 1))) (count + 1) each (omega arith))
+
+-- so many steps for each of one dart more
+pub steps_with : (each before start after count : ℕ) → start ≤ before + each * count → after ≤ start + each → after ≤ before + each * (count + 1)
+steps_with each before start after count first last =
+    let product : each * (count + 1) ≡ each * count + each = omega arith in
+    omega (arith, product, first, last)
+
+-- ---- the whole text
+
+abbrev pub header : MapVersion → ArenaMap → List ℕ
+header version m = head_line version ++ (schema.canonical m.schema ++ (next_line version m.next ++ (codes "darts " ++ (decimal m.count ++ codes "\n"))))
+
+pub whole_text : (version : MapVersion) (m : ArenaMap) (k : ℕ) (text : List ℕ) → IsLawful m → length (darts_of m) ≤ k → text ≡ header version m ++ flat_map line_of (take k (darts_of m)) → text ≡ canonical version (listed_of m)
+whole_text version m k text lawful long is =
+    let lines = flat_map line_of (darts_of m) in
+    is ∙ (ap (λ darts. header version m ++ flat_map line_of darts) (whole_taken (darts_of m) k long)
+    ∙ (regroup (head_line version) (schema.canonical m.schema) (next_line version m.next) (codes "darts ") (decimal m.count) (codes "\n") lines
+    ∙ ap (λ n. head_line version ++ (schema.canonical m.schema ++ (next_line version m.next ++ (codes "darts " ++ (decimal n ++ (codes "\n" ++ lines)))))) (sym (darts_counted m lawful))))
+  where
+    regroup : (a b c d e f g : List ℕ) → (a ++ (b ++ (c ++ (d ++ (e ++ f))))) ++ g ≡ a ++ (b ++ (c ++ (d ++ (e ++ (f ++ g)))))
+    regroup a b c d e f g = simp append_assoc
