@@ -11,6 +11,7 @@ pub mod MapRows
 pub mod FormWithin
 pub mod MapReadings
 pub mod Listed
+pub mod SchemaThere
 pub mod Named
 pub mod Darts
 pub mod Ascending

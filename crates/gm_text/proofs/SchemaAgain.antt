@@ -225,17 +225,32 @@ beyond_symbols [] = refl
 beyond_symbols (symbol ∷ others) = ap (λ (ss : List Symbol). symbol ∷ ss) (beyond_symbols others)
 
 -- the first of marks with these symbols
-first_mark : (marks : List Mark) (next : Symbol) (others : List Symbol) → symbols marks ≡ next ∷ others → (mark : Mark) × (rest : List Mark) × (marks ≡ mark ∷ rest) × (mark.symbol ≡ next)
+pub first_mark : (marks : List Mark) (next : Symbol) (others : List Symbol) → symbols marks ≡ next ∷ others → (mark : Mark) × (rest : List Mark) × (marks ≡ mark ∷ rest) × (mark.symbol ≡ next)
 first_mark [] next others same = absurd cc
 first_mark (mark ∷ marks) next others same = (mark, marks, refl, cc same)
 
--- the schema stands before the marks of bytes
-pub record StandsAgain (form : SchemaForm) (marks : List Mark) (rest : List ℕ) : Type 0 where
+-- the schema of the form stands before marks with these symbols
+pub record StandsSpelled (form : SchemaForm) (marks : List Mark) (behind : List Symbol) : Type 0 where
   pub again : SchemaForm
   pub after : List Mark
   pub stands : Stands passed_of again marks after
   pub means : schema_of form ≡ schema_of again
-  pub behind : symbols after ≡ symbols_from rest
+  pub behind_is : symbols after ≡ behind
+
+-- a form that passes nothing is read from marks of its spelling, before anything that begins no embedding
+pub spelled_stands : (form : SchemaForm) (marks : List Mark) (behind : List Symbol) → IsForm form → AreWithin (spell form []) → symbols marks ≡ symbols_in (spell form []) ++ behind
+    → (next : Symbol) (others : List Symbol) → behind ≡ next ∷ others → next ≢ Word (codes "embed") → StandsSpelled form marks behind
+spelled_stands form marks behind form_is within spelled next others begins other =
+    let split = apart marks (symbols_in (spell form [])) behind spelled in
+    let (mark, more, is, symbol) = first_mark split.after next others (split.two ∙ begins) in
+    let led = led_form passed_of form form_is in
+    let runs = run_led AtDim (AtEmbeds form.dim (map embed_of form.embeds)) (spell form []) split.before 0 led split.one within in
+    let stands = form_stands passed_of passed_placeless marks split.before split.after mark more form.dim (map embed_of form.embeds) runs split.split is (λ e. other (sym symbol ∙ e)) in
+    record { again = stands.form; after = split.after; stands = stands.stands; means = stands.means; behind_is = split.two }
+
+-- the schema stands before the marks of bytes
+abbrev pub StandsAgain : SchemaForm → List Mark → List ℕ → Type 0
+StandsAgain form marks rest = StandsSpelled form marks (symbols_from rest)
 
 -- a form that passes nothing and whose names are tokens is read again from marks of its schema's canonical text
 pub form_again : (form : SchemaForm) (marks : List Mark) (rest : List ℕ) → IsForm form → AreWithin (spell form []) → AreParts (schema_of form).embeds → symbols marks ≡ symbols_from (canonical (schema_of form) ++ rest)
@@ -254,17 +269,13 @@ form_again form marks rest form_is within good spelled next others begins other 
     let all : symbols marks ≡ symbols_in (spell again []) ++ symbols_from rest =
     spelled ∙ canonical_symbols schema rest parts low good (sym (beyond_symbols (symbols_from rest))) ∙ ap symbols_in (sym (spell_before again parts))
     ∙ map-append (λ (part : Part Role). part.symbol) (spell again []) parts ∙ ap (λ (ss : List Symbol). symbols_in (spell again []) ++ ss) (beyond_symbols (symbols_from rest)) in
-    let split = apart marks (symbols_in (spell again [])) (symbols_from rest) all in
-    let (mark, more, is, symbol) = first_mark split.after next others (split.two ∙ begins) in
-    let led = led_form passed_of again again_good in
-    let runs = run_led AtDim (AtEmbeds n (map embed_of again.embeds)) (spell again []) split.before 0 led split.one again_within in
-    let stands = form_stands passed_of passed_placeless marks split.before split.after mark more n (map embed_of again.embeds) runs split.split is (λ e. other (sym symbol ∙ e)) in
+    let stands = spelled_stands again marks (symbols_from rest) again_good again_within all next others begins other in
     record {
-      again = stands.form;
-      after = split.after;
+      again = stands.again;
+      after = stands.after;
       stands = stands.stands;
       means = ap (λ (es : List Embed). let s : Schema = record { dim = n; embeds = es } in s) (sym (same_embeds embeds good)) ∙ stands.means;
-      behind = split.two;
+      behind_is = stands.behind_is;
     }
   where
     forms_good : (n : ℕ) (embeds : List Embed) → AllByRecursion (IsGood n) embeds → AllByRecursion IsEmbed (forms_of embeds)
@@ -277,4 +288,4 @@ read_again old new schema rest read (next, others, begins, other) =
     let good = subst (λ (s : Schema). AreParts s.embeds) read.means (read_parts old new schema read) in
     let again = form_again read.form (marks_of text) rest read.stands.good read.stands.within good (symbols_of-from text) next others (sym (symbols_of-from rest) ∙ begins) other in
     subst (λ (s : Schema). StandsBefore rest (canonical s ++ rest) s) (sym read.means)
-    (record { form = again.again; after = again.after; stands = again.stands; means = again.means; behind = again.behind ∙ sym (symbols_of-from rest) })
+    (record { form = again.again; after = again.after; stands = again.stands; means = again.means; behind = again.behind_is ∙ sym (symbols_of-from rest) })
