@@ -1,1 +1,12 @@
 pub mod GoodListing
+pub mod Named
+pub mod Darts
+pub mod Ascending
+pub mod Permuted
+pub mod Moved
+pub mod Chunks
+pub mod Adding
+pub mod AddedDarts
+pub mod NextName
+pub mod Linking
+pub mod LinkedLine

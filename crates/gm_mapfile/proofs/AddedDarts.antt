@@ -1,0 +1,74 @@
+-- One line more: its dart is added with its values, or its name is there already.
+use Rattle.std.proofs.Common.{◌≡◌, ℕ, ◌+◌, ◌*◌, ◌/◌, ◌<◌, ◌≤◌, min, true, List, [], ◌∷◌, ◌++◌, length, take, drop, Option, Some, None, is_some, inl, inr, refl, sym, ap, subst, ◌∙◌, arith}
+use Rattle.std.specs.Prelude.{MatchOption}
+use Rattle.std.specs.FinMap.{get}
+use Rattle.std.specs.Option.{option_map}
+use Rattle.std.proofs.lemmas.Bool.{cases_eq}
+use Rattle.std.proofs.lemmas.List.{length-drop}
+use Rattle.gm_model.specs.declared.value.Value.{Value}
+use Rattle.gm_model.specs.GMap.{Row}
+use Rattle.gm_arena.specs.ArenaMap.{ArenaMap, Dart}
+use Rattle.gm_arena.specs.Edits.{with_dart}
+use Rattle.gm_arena.proofs.MapLemmas.{get-with_dart_same, get-with_dart_other}
+use Rattle.gm_mapfile.specs.MapText.{DartRow, bare, rows_of, dart_of}
+use Rattle.gm_mapfile.specs.Building.{IsFresh, IsNextLeast, AreAdded, AreValued}
+use Rattle.gm_mapfile.proofs.Adding.{none_added, none_next, next_more, added_more, added_again}
+use Rattle.gm_mapfile.proofs.Darts.{rows_append, live_dart, dart_of_push_new, dart_of_push_other, dart_of_push_again}
+use Rattle.gm_mapfile.proofs.Named.{none_of}
+
+-- the arena has the darts, free for every label, with their values
+pub record HasDarts (n : ℕ) (darts : List DartRow) (m : ArenaMap) (found : Option ℕ) : Type 0 where
+  pub added : AreAdded n (rows_of darts) m found
+  pub valued : AreValued darts m
+  pub next : IsNextLeast m
+
+-- before the first
+pub has_none : (n : ℕ) (m : ArenaMap) → IsFresh m → HasDarts n [] m None
+has_none n m fresh = record { added = none_added n m fresh; valued = λ d. rw (fresh.none d) refl; next = none_next m fresh }
+
+abbrev pub values_in : Option Dart → Option (List Value)
+values_in o = option_map (λ (dart : Dart). dart.values) o
+
+abbrev pub written_values : Option DartRow → Option (List Value)
+written_values o = option_map (λ (dart : DartRow). dart.values) o
+
+module _ (n : ℕ) (darts : List DartRow) (dart : DartRow) (m : ArenaMap) (found : Option ℕ) (has : HasDarts n darts m found) where
+  pushed : (m' : ArenaMap) (o : Option ℕ) → AreAdded n (rows_of darts ++ bare dart ∷ []) m' o → AreAdded n (rows_of (darts ++ dart ∷ [])) m' o
+  pushed m' o added = subst (λ rows. AreAdded n rows m' o) (sym (rows_append darts (dart ∷ []))) added
+
+  same_live : is_some (dart_of darts dart.name) ≡ is_some (get m.darts dart.name)
+  same_live = sym (has.added.live dart.name ∙ live_dart darts dart.name)
+
+  has_more : (slot : ℕ) → m.schema.dim ≡ n → get m.darts dart.name ≡ None → HasDarts n (darts ++ dart ∷ []) (with_dart m slot dart.name dart.values) found
+  has_more slot dim new_name =
+      let none : dart_of darts dart.name ≡ None = none_of _ (same_live ∙ ap is_some new_name) in
+      record {
+        added = pushed (with_dart m slot dart.name dart.values) found (added_more n (rows_of darts) (bare dart) m found has.added slot dart.values dim new_name);
+        valued = λ d. elim (cases_eq d dart.name) [
+          | inl e ↦ rw e (ap values_in (get-with_dart_same m slot dart.name dart.values) ∙ sym (ap written_values (dart_of_push_new darts dart none)))
+          | inr apart ↦ ap values_in (get-with_dart_other m slot dart.name dart.values d apart) ∙ (has.valued d ∙ sym (ap written_values (dart_of_push_other darts dart d apart)))
+        ];
+        next = next_more m slot dart.name dart.values has.next;
+      }
+
+  has_again : (t : ℕ) → is_some (get m.darts dart.name) ≡ true → MatchOption found (t ≡ dart.name) (λ least. t ≡ min least dart.name) → HasDarts n (darts ++ dart ∷ []) m (Some t)
+  has_again t there is = record {
+    added = pushed m (Some t) (added_again n (rows_of darts) (bare dart) m found has.added t there is);
+    valued = λ d. has.valued d ∙ sym (ap written_values (dart_of_push_again darts dart d (same_live ∙ there)));
+    next = has.next;
+  }
+
+  -- the same by the name and the values that the code reads
+  pub has_more_named : (slot name : ℕ) (values : List Value) → m.schema.dim ≡ n → dart.name ≡ name → dart.values ≡ values → get m.darts name ≡ None → HasDarts n (darts ++ dart ∷ []) (with_dart m slot name values) found
+  has_more_named slot name values dim same own =
+      subst (λ k. get m.darts k ≡ None → HasDarts n (darts ++ dart ∷ []) (with_dart m slot k values) found) same
+      (subst (λ vs. get m.darts dart.name ≡ None → HasDarts n (darts ++ dart ∷ []) (with_dart m slot dart.name vs) found) own (has_more slot dim))
+
+  pub has_again_named : (name t : ℕ) → dart.name ≡ name → is_some (get m.darts name) ≡ true → MatchOption found (t ≡ name) (λ least. t ≡ min least name) → HasDarts n (darts ++ dart ∷ []) m (Some t)
+  has_again_named name t same = subst (λ k. is_some (get m.darts k) ≡ true → MatchOption found (t ≡ k) (λ least. t ≡ min least k) → HasDarts n (darts ++ dart ∷ []) m (Some t)) same (has_again t)
+
+-- ---- the values that are left
+
+-- behind a line a line's values are gone
+pub room_more : (k w : ℕ) (values : List Value) → length values ≡ (k + 1) * w → (w ≤ length values) × (length (drop w values) ≡ k * w)
+room_more k w values long = (omega (arith, long), omega (arith, long, length-drop w values))
