@@ -1,18 +1,23 @@
 -- One line more: its dart is added with its values, or its name is there already.
-use Rattle.std.proofs.Common.{◌≡◌, ℕ, ◌+◌, ◌*◌, ◌/◌, ◌<◌, ◌≤◌, min, true, List, [], ◌∷◌, ◌++◌, length, take, drop, Option, Some, None, is_some, inl, inr, refl, sym, ap, subst, ◌∙◌, arith}
+use Rattle.std.proofs.Common.{◌≡◌, ℕ, ◌+◌, ◌-◌, ◌*◌, ◌/◌, ◌<◌, ◌≤◌, min, true, List, [], ◌∷◌, ◌++◌, length, take, drop, Option, Some, None, is_some, inl, inr, refl, sym, ap, subst, ◌∙◌, arith}
 use Rattle.std.specs.Prelude.{MatchOption}
 use Rattle.std.specs.FinMap.{get}
+use Rattle.std.specs.List.{AllByRecursion}
 use Rattle.std.specs.Option.{option_map}
 use Rattle.std.proofs.lemmas.Bool.{cases_eq}
 use Rattle.std.proofs.lemmas.List.{length-drop}
+use Rattle.gm_model.specs.declared.schema.Schema.{Schema}
 use Rattle.gm_model.specs.declared.value.Value.{Value}
 use Rattle.gm_model.specs.GMap.{Row}
 use Rattle.gm_arena.specs.ArenaMap.{ArenaMap, Dart}
 use Rattle.gm_arena.specs.Edits.{with_dart}
+use Rattle.gm_arena.specs.Lawful.{AreGoodValues}
 use Rattle.gm_arena.proofs.MapLemmas.{get-with_dart_same, get-with_dart_other}
 use Rattle.gm_mapfile.specs.MapText.{DartRow, bare, rows_of, dart_of}
 use Rattle.gm_mapfile.specs.Building.{IsFresh, IsNextLeast, AreAdded, AreValued}
 use Rattle.gm_mapfile.proofs.Adding.{none_added, none_next, next_more, added_more, added_again}
+use Rattle.gm_mapfile.specs.Rows.{row_in, valued, darts_in}
+use Rattle.gm_mapfile.proofs.Chunks.{lines_more, next_among, darts_line}
 use Rattle.gm_mapfile.proofs.Darts.{rows_append, live_dart, dart_of_push_new, dart_of_push_other, dart_of_push_again}
 use Rattle.gm_mapfile.proofs.Named.{none_of}
 
@@ -67,8 +72,38 @@ module _ (n : ℕ) (darts : List DartRow) (dart : DartRow) (m : ArenaMap) (found
   pub has_again_named : (name t : ℕ) → dart.name ≡ name → is_some (get m.darts name) ≡ true → MatchOption found (t ≡ name) (λ least. t ≡ min least name) → HasDarts n (darts ++ dart ∷ []) m (Some t)
   has_again_named name t same = subst (λ k. is_some (get m.darts k) ≡ true → MatchOption found (t ≡ k) (λ least. t ≡ min least k) → HasDarts n (darts ++ dart ∷ []) m (Some t)) same (has_again t)
 
--- ---- the values that are left
+-- ---- one line, and what is left behind it
 
--- behind a line a line's values are gone
-pub room_more : (k w : ℕ) (values : List Value) → length values ≡ (k + 1) * w → (w ≤ length values) × (length (drop w values) ≡ k * w)
-room_more k w values long = (omega (arith, long), omega (arith, long, length-drop w values))
+abbrev pub AreGood : Schema → List DartRow → Type 0
+AreGood schema darts = AllByRecursion (λ (dart : DartRow). AreGoodValues schema dart.values) darts
+
+module _ (schema : Schema) (all line rest : List ℕ) (values others : List Value) (cut : all ≡ line ++ rest) (wide : length line ≡ schema.dim + 2) (left : others ≡ drop (length schema.embeds) values) where
+  abbrev pub own : DartRow
+  own = valued (row_in line) (take (length schema.embeds) values)
+
+  line_and_left : darts_in schema all values ≡ own ∷ darts_in schema rest others
+  line_and_left = darts_line schema all line rest values cut wide ∙ ap (λ vs. own ∷ darts_in schema rest vs) (sym left)
+
+  pub line_split : (front whole : List DartRow) → front ++ darts_in schema all values ≡ whole → (front ++ own ∷ []) ++ darts_in schema rest others ≡ whole
+  line_split front whole so_far = next_among front whole (darts_in schema all values) (darts_in schema rest others) own so_far line_and_left
+
+  pub line_good : AreGood schema (darts_in schema all values) → AreGoodValues schema own.values × AreGood schema (darts_in schema rest others)
+  line_good good = subst (AreGood schema) line_and_left good
+
+  lines : length all / (schema.dim + 2) ≡ length rest / (schema.dim + 2) + 1
+  lines = ap (λ xs. length xs / (schema.dim + 2)) cut ∙ (lines_more schema.dim line rest wide ∙ omega arith)
+
+  pub line_spare : (spare : ℕ) → length all / (schema.dim + 2) ≤ spare → (0 < spare) × (length rest / (schema.dim + 2) ≤ spare - 1)
+  line_spare spare room = (omega (arith, lines, room), omega (arith, lines, room))
+
+  pub line_long : length values ≡ length all / (schema.dim + 2) * length schema.embeds → length others ≡ length rest / (schema.dim + 2) * length schema.embeds
+  line_long long =
+      let more : length values ≡ (length rest / (schema.dim + 2) + 1) * length schema.embeds = long ∙ ap (λ k. k * length schema.embeds) lines in
+      ap length left ∙ omega (arith, more, length-drop (length schema.embeds) values)
+
+-- a line's values are there
+pub line_values : (schema : Schema) (all line rest : List ℕ) (values : List Value) → all ≡ line ++ rest → length line ≡ schema.dim + 2 → length values ≡ length all / (schema.dim + 2) * length schema.embeds → length schema.embeds ≤ length values
+line_values schema all line rest values cut wide long =
+    let lines : length all / (schema.dim + 2) ≡ length rest / (schema.dim + 2) + 1 = ap (λ xs. length xs / (schema.dim + 2)) cut ∙ (lines_more schema.dim line rest wide ∙ omega arith) in
+    let more : length values ≡ (length rest / (schema.dim + 2) + 1) * length schema.embeds = long ∙ ap (λ k. k * length schema.embeds) lines in
+    omega (arith, more)

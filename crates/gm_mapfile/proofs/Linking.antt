@@ -22,9 +22,12 @@ values-turned label to (Some dart) = refl
 
 -- ---- one neighbour more
 
+pub none_relinked : (n : ℕ) (m : ArenaMap) → AreWhole n m → IsRelinked n m m
+none_relinked n m whole = record { frame = refl; live = λ d. refl; values = λ d. refl; whole = whole }
+
 pub none_linked : (n : ℕ) (m : ArenaMap) (name : ℕ) (neighbours : List ℕ) → AreWhole n m → IsDartLinked n m m name neighbours 0
 none_linked n m name neighbours whole = record {
-  relinked = record { frame = refl; live = λ d. refl; values = λ d. refl; whole = whole };
+  relinked = none_relinked n m whole;
   others = λ d i apart. refl;
   linked = λ i lt. absurd (omega arith);
   targets = λ i lt. absurd (omega arith);
