@@ -17,7 +17,7 @@ use Rattle.gm_mapfile.specs.MapText.{DartRow, bare, rows_of, dart_of}
 use Rattle.gm_mapfile.specs.Building.{IsFresh, IsNextLeast, AreAdded, AreValued}
 use Rattle.gm_mapfile.proofs.Adding.{none_added, none_next, next_more, added_more, added_again}
 use Rattle.gm_mapfile.specs.Rows.{row_in, valued, darts_in}
-use Rattle.gm_mapfile.proofs.Chunks.{lines_more, next_among, darts_line}
+use Rattle.gm_mapfile.proofs.Chunks.{lines_cut, next_among, darts_line}
 use Rattle.gm_mapfile.proofs.Darts.{rows_append, live_dart, dart_of_push_new, dart_of_push_other, dart_of_push_again}
 use Rattle.gm_mapfile.proofs.Named.{none_of}
 
@@ -91,7 +91,7 @@ module _ (schema : Schema) (all line rest : List ℕ) (values others : List Valu
   line_good good = subst (AreGood schema) line_and_left good
 
   lines : length all / (schema.dim + 2) ≡ length rest / (schema.dim + 2) + 1
-  lines = ap (λ xs. length xs / (schema.dim + 2)) cut ∙ (lines_more schema.dim line rest wide ∙ omega arith)
+  lines = lines_cut schema.dim all line rest cut wide
 
   pub line_spare : (spare : ℕ) → length all / (schema.dim + 2) ≤ spare → (0 < spare) × (length rest / (schema.dim + 2) ≤ spare - 1)
   line_spare spare room = (omega (arith, lines, room), omega (arith, lines, room))
@@ -104,6 +104,5 @@ module _ (schema : Schema) (all line rest : List ℕ) (values others : List Valu
 -- a line's values are there
 pub line_values : (schema : Schema) (all line rest : List ℕ) (values : List Value) → all ≡ line ++ rest → length line ≡ schema.dim + 2 → length values ≡ length all / (schema.dim + 2) * length schema.embeds → length schema.embeds ≤ length values
 line_values schema all line rest values cut wide long =
-    let lines : length all / (schema.dim + 2) ≡ length rest / (schema.dim + 2) + 1 = ap (λ xs. length xs / (schema.dim + 2)) cut ∙ (lines_more schema.dim line rest wide ∙ omega arith) in
-    let more : length values ≡ (length rest / (schema.dim + 2) + 1) * length schema.embeds = long ∙ ap (λ k. k * length schema.embeds) lines in
+    let more : length values ≡ (length rest / (schema.dim + 2) + 1) * length schema.embeds = long ∙ ap (λ k. k * length schema.embeds) (lines_cut schema.dim all line rest cut wide) in
     omega (arith, more)

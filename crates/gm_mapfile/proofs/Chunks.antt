@@ -24,6 +24,9 @@ lines_more n line rest long =
     let some : 0 < n + 2 = omega arith in
     ap (λ k. k / (n + 2)) (length-append line rest ∙ ap (λ k. k + length rest) long) ∙ (add-div_left (length rest) {k = n + 2} some ∙ omega arith)
 
+pub lines_cut : (n : ℕ) (all line rest : List ℕ) → all ≡ line ++ rest → length line ≡ n + 2 → length all / (n + 2) ≡ length rest / (n + 2) + 1
+lines_cut n all line rest cut long = ap (λ xs. length xs / (n + 2)) cut ∙ (lines_more n line rest long ∙ omega arith)
+
 pub lines_none : (n : ℕ) (rest : List ℕ) → length rest < n + 2 → length rest / (n + 2) ≡ 0
 lines_none n rest short = div-eq_of_lt {n = length rest} {m = n + 2} short
 

@@ -10,3 +10,7 @@ pub mod AddedDarts
 pub mod NextName
 pub mod Linking
 pub mod LinkedLine
+pub mod HeldRows
+pub mod NamesOf
+pub mod Whole
+pub mod Built

@@ -41,16 +41,17 @@ pub(crate) fn build<L: Ledger>(
         numbers,
         values,
     } = draft;
+    let (numbers, values) = (numbers.as_slice(), values.as_slice());
     let width = schema.dim.top() as usize + 2;
     let mut arena = Arena::new(alloc, schema);
-    arena.reserve((numbers.len() / width) as u32, names_end(&numbers))?;
-    if let Some(dart) = add_darts(&mut arena, &numbers, &values, steps) {
+    arena.reserve((numbers.len() / width) as u32, names_end(numbers))?;
+    if let Some(dart) = add_darts(&mut arena, numbers, values, steps) {
         return Err(MapFault::DartTwice { dart });
     }
-    if let Some(dart) = set_stated(&mut arena, &numbers, stated) {
+    if let Some(dart) = set_stated(&mut arena, numbers, stated) {
         return Err(MapFault::Next { dart });
     }
-    if let Some((dart, label)) = link_darts(&mut arena, &numbers, steps) {
+    if let Some((dart, label)) = link_darts(&mut arena, numbers, steps) {
         return Err(MapFault::NoTarget { dart, label });
     }
     Ok(arena)
