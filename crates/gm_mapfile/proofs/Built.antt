@@ -69,8 +69,8 @@ module _ (schema : Schema) (numbers xs : List ℕ) (values vs : List Value) (num
         pub steps_of : (before middle after : ℕ) → middle ≤ before + 2 * length (rows_in start.schema.dim xs) → after ≤ middle + (2 * set.schema.dim + 3) * length (rows_in set.schema.dim xs) → after ≤ before + (2 * schema.dim + 5) * length darts
         steps_of before middle after = steps_linked start.schema set.schema before middle after start_is same_schema
 
-        pub many_of : (before middle after count : ℕ) (new : ArenaMap) → IsHeld version schema darts new → before + length (rows_in start.schema.dim xs) ≤ middle → middle ≤ after → before + new.count ≤ after
-        many_of before middle after count new held first second = omega (arith, many start.schema start_is, held.count, first, second)
+        pub many_of : (before middle after : ℕ) (new : ArenaMap) → IsHeld version schema darts new → before + length (rows_in start.schema.dim xs) ≤ middle → middle ≤ after → before + new.count ≤ after
+        many_of before middle after new held first second = omega (arith, many start.schema start_is, held.count, first, second)
 
     pub not_below_of : (version : Version) (d : ℕ) → AreAdded start.schema.dim (rows_in start.schema.dim xs) old None → IsLeastNotBelowStated version (rows_in old.schema.dim xs) d → IsNameFault version schema.dim darts (faults.Next d)
     not_below_of First d added least = absurd least
