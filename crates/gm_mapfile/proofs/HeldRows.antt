@@ -1,7 +1,6 @@
 -- The darts that an arena holds are those of its map, in ascending order of their names.
 use Rattle.std.proofs.Common.{◌≡◌, ℕ, zero, suc, ◌+◌, ◌<◌, ◌≤◌, Bool, true, false, ◌&&◌, T, eqb, List, [], ◌∷◌, length, get_or, map, Option, Some, None, is_some, inl, inr, refl, sym, ap, subst, ◌∙◌, arith, pos}
 use Rattle.std.specs.Prelude.{IsPermutation, slice_index_or}
-use Rattle.std.specs.List.{AllByRecursion}
 use Rattle.std.specs.Option.{option_map, option_map_or}
 use Rattle.std.specs.Ordering.{nat_cmp, is_lt, eq_by_cmp}
 use Rattle.std.specs.Cmp.{nat_cmp_is, unsigned_tied}
@@ -21,6 +20,7 @@ use Rattle.gm_arena.specs.ArenaMap.{ArenaMap, Dart, IsLiveName, alpha}
 use Rattle.gm_mapfile.specs.MapText.{Version, DartRow, bare, names, rows_of, dart_of, value_in, map_of}
 use Rattle.gm_mapfile.specs.Rows.{dart_of_entry, darts_of, listed_of}
 use Rattle.gm_mapfile.specs.Building.{IsHeld}
+use Rattle.gm_mapfile.proofs.Chunks.{AreLong}
 use Rattle.gm_mapfile.proofs.Darts.{row_of_dart, live_dart, is_some-map, shape_found}
 use Rattle.gm_mapfile.proofs.Permuted.{split_found, same_permuted, distinct_ascending}
 
@@ -77,10 +77,7 @@ held_ascending m = rising (entries m.darts) (entries_sorted m.darts)
 
 -- ---- the darts
 
-abbrev pub AreLong : Schema → List DartRow → Type 0
-AreLong schema darts = AllByRecursion (λ (dart : DartRow). length dart.alphas ≡ schema.dim + 1) darts
-
-module _ (version : Version) (schema : Schema) (darts : List DartRow) (m : ArenaMap) (held : IsHeld version schema darts m) (long : AreLong schema darts) where
+module _ (version : Version) (schema : Schema) (darts : List DartRow) (m : ArenaMap) (held : IsHeld version schema darts m) (long : AreLong schema.dim darts) where
   same_alphas : (d : ℕ) (r : DartRow) (dart : Dart) → dart_of darts d ≡ Some r → get m.darts d ≡ Some dart → r.alphas ≡ dart.alphas
   same_alphas d r dart is there =
       let wide : length r.alphas ≡ schema.dim + 1 = shape_found (λ (x : DartRow). length x.alphas ≡ schema.dim + 1) darts d r long is in

@@ -14,3 +14,4 @@ pub mod HeldRows
 pub mod NamesOf
 pub mod Whole
 pub mod Built
+pub mod ReadMap
