@@ -8,7 +8,6 @@ use Rattle.std.proofs.lemmas.Bool.{cases_eq}
 use Rattle.std.proofs.lemmas.List.{length-drop}
 use Rattle.gm_model.specs.declared.schema.Schema.{Schema}
 use Rattle.gm_model.specs.declared.value.Value.{Value}
-use Rattle.gm_model.specs.GMap.{Row}
 use Rattle.gm_arena.specs.ArenaMap.{ArenaMap, Dart}
 use Rattle.gm_arena.specs.Edits.{with_dart}
 use Rattle.gm_arena.specs.Lawful.{AreGoodValues}

@@ -1,5 +1,5 @@
 -- The darts that an arena holds are those of its map, in ascending order of their names.
-use Rattle.std.proofs.Common.{◌≡◌, ℕ, zero, suc, ◌+◌, ◌<◌, ◌≤◌, Bool, true, false, ◌&&◌, T, eqb, List, [], ◌∷◌, length, get_or, map, Option, Some, None, is_some, inl, inr, refl, sym, ap, subst, ◌∙◌, arith, pos}
+use Rattle.std.proofs.Common.{◌≡◌, ℕ, zero, suc, ◌+◌, ◌<◌, Bool, true, false, ◌&&◌, T, eqb, List, [], ◌∷◌, length, get_or, map, Option, Some, None, is_some, inl, inr, refl, sym, ap, subst, ◌∙◌, arith, pos}
 use Rattle.std.specs.Prelude.{IsPermutation, slice_index_or}
 use Rattle.std.specs.Option.{option_map, option_map_or}
 use Rattle.std.specs.Ordering.{nat_cmp, is_lt, eq_by_cmp}
@@ -94,7 +94,7 @@ module _ (version : Version) (schema : Schema) (darts : List DartRow) (m : Arena
   same_values : (d : ℕ) (r : DartRow) (dart : Dart) → dart_of darts d ≡ Some r → get m.darts d ≡ Some dart → r.values ≡ dart.values
   same_values d r dart is there =
       let both : Some dart.values ≡ Some r.values =
-          sym (ap (option_map (λ (x : Dart). x.values)) there) ∙ (held.values d ∙ ap (option_map (λ (x : DartRow). x.values)) is) in
+      sym (ap (option_map (λ (x : Dart). x.values)) there) ∙ (held.values d ∙ ap (option_map (λ (x : DartRow). x.values)) is) in
       cc both
 
   same_dart : (d : ℕ) (r : DartRow) (dart : Dart) → dart_of darts d ≡ Some r → get m.darts d ≡ Some dart → r ≡ row_with d dart

@@ -1,9 +1,9 @@
 -- The least name that isn't below a number, one row more.
-use Rattle.std.proofs.Common.{◌≡◌, ◌≢◌, ℕ, ◌+◌, ◌<◌, ◌≤◌, min, true, false, List, [], ◌∷◌, ◌++◌, Option, Some, None, is_some, ◌⊎◌, inl, inr, refl, sym, ap, subst, ◌∙◌, arith}
+use Rattle.std.proofs.Common.{◌≡◌, ℕ, ◌+◌, ◌<◌, ◌≤◌, min, List, [], ◌∷◌, ◌++◌, Option, Some, None, is_some, ◌⊎◌, inl, inr, sym, ap, subst, ◌∙◌, arith}
 use Rattle.std.specs.Prelude.{MatchOption}
 use Rattle.std.proofs.lemmas.Bool.{cases_eq, cases_lt}
-use Rattle.gm_model.specs.GMap.{Row, row_of, IsLive}
-use Rattle.gm_mapfile.specs.MapFaults.{IsLeastNotBelow, AreBelow}
+use Rattle.gm_model.specs.GMap.{Row, IsLive}
+use Rattle.gm_mapfile.specs.MapFaults.{IsLeastNotBelow}
 use Rattle.gm_mapfile.specs.Building.{IsNotBelow}
 use Rattle.gm_mapfile.proofs.Named.{row_of_push_other, live_push}
 

@@ -23,10 +23,10 @@ use Rattle.gm_laws.specs.declared.breach.MapBreach.TheVariants as breaches
 use Rattle.gm_mapfile.specs.declared.fault.MapFault.{MapFault}
 use Rattle.gm_mapfile.specs.declared.fault.MapFault.TheVariants as faults
 use Rattle.gm_mapfile.specs.declared.version.MapVersion.{MapVersion}
-use Rattle.gm_mapfile.specs.MapText.{Version, First, Second, DartRow, ListedMap, IsListed, IsNext, MapText, names, rows_of, dart_of, map_of, version_of}
+use Rattle.gm_mapfile.specs.MapText.{Version, First, Second, DartRow, ListedMap, IsListed, IsNext, MapText, names, rows_of, dart_of, version_of}
 use Rattle.gm_mapfile.specs.MapFaults as first
 use Rattle.gm_mapfile.specs.Answered.{map_fault_of_text, map_fault_of_laws}
-use Rattle.gm_mapfile.specs.Draft.{line_in, numbers_of, values_of, IsDraft, IsFaultIn}
+use Rattle.gm_mapfile.specs.Draft.{numbers_of, IsDraft, IsFaultIn}
 use Rattle.gm_mapfile.specs.Rows.{darts_in, darts_of, listed_of}
 use Rattle.gm_mapfile.specs.Faults.{IsFaultOf, IsNameFault}
 use Rattle.gm_mapfile.specs.Building.{AreInRoom, IsHeld}
@@ -153,15 +153,17 @@ module _ (text : List ℕ) (version : Version) (schema : Schema) (numbers : List
 
     unshared_of : IsLawful m → (e d other l : ℕ) → IsFirstUnshared m.schema.dim (IsLiveName m) (alpha m) m.schema (value m) e d l → other ≡ alpha m l d → (name : List ℕ) × first.IsFirstFault text (first.Unshared e name d other)
     unshared_of lawful e d other l h is =
-        let at : IsFirstUnshared schema.dim (IsLiveName m) (alpha m) schema (value m) e d l = subst (λ (s : Schema). IsFirstUnshared s.dim (IsLiveName m) (alpha m) s (value m) e d l) held.schema_is h in
-        (at.embed.name, first.AtUnshared version schema cut e at.embed.name d other (joined lawful) (record {
-          embed = at.embed;
-          embed_at = at.embed_at;
-          name_is = refl;
-          label = l;
-          other_is = is ∙ sym (alpha_each m cut found_in l d);
-          first = of_rows m cut found_in (λ live a v. IsFirstUnshared schema.dim live a schema v e d l) at;
-        }))
+        let at : IsFirstUnshared schema.dim (IsLiveName m) (alpha m) schema (value m) e d l = subst (λ (s : Schema). IsFirstUnshared s.dim (IsLiveName m) (alpha m) s (value m) e d l) held.schema_is h in (
+          at.embed.name,
+          first.AtUnshared version schema cut e at.embed.name d other (joined lawful) (record {
+            embed = at.embed;
+            embed_at = at.embed_at;
+            name_is = refl;
+            label = l;
+            other_is = is ∙ sym (alpha_each m cut found_in l d);
+            first = of_rows m cut found_in (λ live a v. IsFirstUnshared schema.dim live a schema v e d l) at;
+          }),
+        )
 
     pub law_fault_of : IsLawful m → (fault : LawFault) → IsFault m fault → IsFaultOf text (map_fault_of_laws fault)
     law_fault_of lawful laws.OutOfMemory h = tt

@@ -1,5 +1,5 @@
 -- What the arena holds once all darts are added, its next name is set, and all are linked.
-use Rattle.std.proofs.Common.{◌≡◌, ℕ, ◌<◌, ◌≤◌, All, List, [], ◌∷◌, length, get_or, Option, Some, None, is_some, refl, sym, ap, subst, ◌∙◌, arith}
+use Rattle.std.proofs.Common.{◌≡◌, ℕ, ◌<◌, ◌≤◌, List, get_or, Option, Some, None, is_some, refl, sym, ap, subst, ◌∙◌}
 use Rattle.std.specs.Option.{option_map_or}
 use Rattle.std.specs.Ordering.{nat_cmp}
 use Rattle.std.specs.FinMap.{get, get-empty}
@@ -7,7 +7,7 @@ use Rattle.gm_model.specs.declared.schema.Schema.{Schema}
 use Rattle.gm_model.specs.GMap.{Row, row_of, IsLive}
 use Rattle.gm_model.specs.GMap as written
 use Rattle.gm_model.specs.Breaches.{IsFirstWithoutTarget}
-use Rattle.gm_arena.specs.ArenaMap.{ArenaMap, Dart, IsLiveName, alpha}
+use Rattle.gm_arena.specs.ArenaMap.{ArenaMap, Dart, alpha}
 use Rattle.gm_arena.specs.Edits.{empty_map}
 use Rattle.gm_mapfile.specs.MapText.{Version, First, Second, DartRow, IsNext, IsLeastAbove, names, rows_of}
 use Rattle.gm_mapfile.specs.MapFaults.{AreDistinct}

@@ -12,7 +12,7 @@ use Rattle.gm_model.specs.Orbits.{IsPairBefore}
 use Rattle.gm_arena.specs.ArenaMap.{ArenaMap, Dart, IsAt, IsLiveName, alpha}
 use Rattle.gm_arena.specs.Lawful.{AreGoodValues}
 use Rattle.gm_mapfile.specs.MapText.{Version, First, Second, DartRow, IsNext, names, rows_of, dart_of}
-use Rattle.gm_mapfile.specs.MapFaults.{AreDistinct, IsLeastTwice, IsLeastNotBelow, AreBelow, AreBelowStated, HaveTargets}
+use Rattle.gm_mapfile.specs.MapFaults.{AreDistinct, IsLeastTwice, IsLeastNotBelow, AreBelow, HaveTargets}
 use Rattle.gm_mapfile.specs.Rows.{darts_in}
 
 -- numbers and values that fit an arena over the schema: of so many lines, each number a name, and each line's values good

@@ -4,7 +4,7 @@
 //! neighbours. No pass keeps the lines a second time, and each looks a name up in the arena.
 ghost use Rattle.gm_model.specs.Limits.{most_names};
 ghost use Rattle.gm_model.specs.Maps.{IsSchema};
-ghost use Rattle.std.specs.Prelude.{◌≡◌, ℕ, ◌+◌, ◌*◌, ◌/◌, ◌<◌, ◌≤◌, [], length, min, nat_lt, if◌then◌else◌, All, None, MatchOption, IfOk, IfErr, IfSome};
+ghost use Rattle.std.specs.Prelude.{◌≡◌, ◌+◌, ◌*◌, ◌/◌, ◌<◌, ◌≤◌, length, min, nat_lt, if◌then◌else◌, All, None, MatchOption, IfOk, IfErr, IfSome};
 ghost use Rattle.gm_arena.specs.ArenaMap.{IsLiveName};
 ghost use Rattle.gm_mapfile.specs.Draft.{version_in};
 ghost use Rattle.gm_mapfile.specs.MapFaults.{AreBelowStated};

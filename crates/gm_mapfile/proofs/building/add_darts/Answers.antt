@@ -1,16 +1,15 @@
-use Rattle.std.proofs.Common.{◌≡◌, not, ◌+◌, ◌*◌, ◌/◌, ◌≤◌, slice_index, ◌∷◌, [], ◌++◌, length, take, drop, None, refl, sym, ap, subst, ◌∙◌, arith}
+use Rattle.std.proofs.Common.{◌≡◌, not, ◌+◌, slice_index, ◌∷◌, [], ◌++◌, length, take, drop, None, refl, sym, ap, subst, ◌∙◌, arith}
 use Rattle.std.proofs.lemmas.List.{length_push}
 use Rattle.std.specs.FinMap.{get}
-use Rattle.std.specs.List.{AllByRecursion}
 use Rattle.std.specs.Slice.Iter.{chunks_exact_rest}
 use Rattle.gm_arena.specs.ArenaMap.{ArenaMap, IsAt}
 use Rattle.gm_arena.specs.Lawful.{AreGoodValues}
 use Rattle.gm_arena.specs.declared.slot.Slot.{Slot}
 use Rattle.gm_model.specs.declared.schema.Schema.{Schema}
-use Rattle.gm_mapfile.specs.MapText.{DartRow, rows_of}
-use Rattle.gm_mapfile.specs.Rows.{row_in, rows_in, valued, darts_in}
+use Rattle.gm_mapfile.specs.MapText.{rows_of}
+use Rattle.gm_mapfile.specs.Rows.{row_in, valued, darts_in}
 use Rattle.gm_mapfile.specs.Building.{AreAdded, AreValued}
-use Rattle.gm_mapfile.proofs.Chunks.{lines_more, below_first, below_rest, name_of_line, next_among, none_left, darts_line, darts_end, rows_of_darts_in, length_darts_in}
+use Rattle.gm_mapfile.proofs.Chunks.{below_first, below_rest, name_of_line, none_left, darts_end, rows_of_darts_in, length_darts_in}
 use Rattle.gm_mapfile.proofs.Adding.{answered_none, answered_some}
 use Rattle.gm_mapfile.proofs.AddedDarts.{HasDarts, has_none, has_more_named, has_again_named, line_split, line_good, line_spare, line_long, line_values}
 use Rattle.gm_mapfile.proofs.building.add_darts.Goals as goal

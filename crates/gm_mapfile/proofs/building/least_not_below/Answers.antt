@@ -1,4 +1,4 @@
-use Rattle.std.proofs.Common.{◌≡◌, ◌∷◌, [], ◌++◌, subst, ◌∙◌, arith}
+use Rattle.std.proofs.Common.{◌∷◌, [], ◌++◌, subst, ◌∙◌, arith}
 use Rattle.gm_mapfile.specs.Building.{IsNotBelow}
 use Rattle.gm_mapfile.specs.Rows.{row_in, rows_in}
 use Rattle.gm_mapfile.proofs.Chunks.{one_more, no_more, name_of_line}
