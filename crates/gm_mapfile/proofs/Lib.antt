@@ -36,3 +36,14 @@ pub mod Again
 pub mod Printable
 pub mod Worked
 pub mod WorkedMap
+pub mod Chunks
+pub mod Adding
+pub mod AddedDarts
+pub mod NextName
+pub mod Linking
+pub mod LinkedLine
+pub mod HeldRows
+pub mod NamesOf
+pub mod Whole
+pub mod Built
+pub mod ReadMap

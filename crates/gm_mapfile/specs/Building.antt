@@ -64,12 +64,23 @@ pub record AreAdded (n : ℕ) (rows : List Row) (m : ArenaMap) (found : Option �
   pub live : AreLive rows m
   pub slots : AreSlotsLive m
   pub whole : AreWhole n m
-  pub next : IsNextLeast m
   pub twice : IsTwice m rows found
+
+-- ---- the next name
 
 -- each name is below the number, or this is the least that isn't
 abbrev pub IsNotBelow : List Row → ℕ → Option ℕ → Type 0
 IsNotBelow rows next found = MatchOption found (AreBelow rows next) (IsLeastNotBelow rows next)
+
+-- this is the least name that isn't below the next one that the text states
+abbrev pub IsLeastNotBelowStated : Version → List Row → ℕ → Type 0
+IsLeastNotBelowStated First rows d = ⊥
+IsLeastNotBelowStated (Second next) rows d = IsLeastNotBelow rows next d
+
+-- the next name is the stated one, or as before where none is stated
+abbrev pub IsNextSet : Version → ArenaMap → ArenaMap → Type 0
+IsNextSet First old new = new ≡ old
+IsNextSet (Second next) old new = new ≡ record old { next = next }
 
 -- ---- neighbours
 

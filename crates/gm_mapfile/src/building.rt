@@ -4,12 +4,13 @@
 //! neighbours. No pass keeps the lines a second time, and each looks a name up in the arena.
 ghost use Rattle.gm_model.specs.Limits.{most_names};
 ghost use Rattle.gm_model.specs.Maps.{IsSchema};
-ghost use Rattle.std.specs.Prelude.{◌≡◌, ℕ, ◌+◌, ◌*◌, ◌/◌, ◌<◌, ◌≤◌, [], length, min, nat_lt, if◌then◌else◌, All, None, MatchOption, IfOk, IfErr, IfSome};
+ghost use Rattle.std.specs.Prelude.{◌≡◌, ◌+◌, ◌*◌, ◌/◌, ◌<◌, ◌≤◌, length, min, nat_lt, if◌then◌else◌, All, None, MatchOption, IfOk, IfErr, IfSome};
 ghost use Rattle.gm_arena.specs.ArenaMap.{IsLiveName};
 ghost use Rattle.gm_mapfile.specs.Draft.{version_in};
+ghost use Rattle.gm_mapfile.specs.MapFaults.{AreBelowStated};
 ghost use Rattle.gm_mapfile.specs.Rows.{rows_in, darts_in};
 ghost use Rattle.gm_mapfile.specs.Faults.{IsNameFault};
-ghost use Rattle.gm_mapfile.specs.Building.{AreInRoom, AreSlotsLive, AreWhole, AreLive, AreValued, IsFresh, IsNextLeast, AreAdded, IsNotBelow, IsRelinked, IsDartLinked, IsLabelWithoutTarget, AreLinkedUnless, IsHeld};
+ghost use Rattle.gm_mapfile.specs.Building.{AreInRoom, AreSlotsLive, AreWhole, AreLive, AreValued, IsFresh, IsNextLeast, AreAdded, IsNotBelow, IsLeastNotBelowStated, IsNextSet, IsRelinked, IsDartLinked, IsLabelWithoutTarget, AreLinkedUnless, IsHeld};
 
 use crate::fault::MapFault;
 use crate::reading::Draft;
@@ -40,19 +41,17 @@ pub(crate) fn build<L: Ledger>(
         numbers,
         values,
     } = draft;
+    let (numbers, values) = (numbers.as_slice(), values.as_slice());
     let width = schema.dim.top() as usize + 2;
     let mut arena = Arena::new(alloc, schema);
-    arena.reserve((numbers.len() / width) as u32, names_end(&numbers))?;
-    if let Some(dart) = add_darts(&mut arena, &numbers, &values, steps) {
+    arena.reserve((numbers.len() / width) as u32, names_end(numbers))?;
+    if let Some(dart) = add_darts(&mut arena, numbers, values, steps) {
         return Err(MapFault::DartTwice { dart });
     }
-    if let Some(next) = stated {
-        if let Some(dart) = least_not_below(&arena, &numbers, next) {
-            return Err(MapFault::Next { dart });
-        }
-        arena.set_next(next);
+    if let Some(dart) = set_stated(&mut arena, numbers, stated) {
+        return Err(MapFault::Next { dart });
     }
-    if let Some((dart, label)) = link_darts(&mut arena, &numbers, steps) {
+    if let Some((dart, label)) = link_darts(&mut arena, numbers, steps) {
         return Err(MapFault::NoTarget { dart, label });
     }
     Ok(arena)
@@ -86,15 +85,19 @@ fn add_darts<L: Ledger>(
     ensures schema { arena.new.schema ≡ arena.old.schema }
     ensures added { AreAdded arena.old.schema.dim (rows_in arena.old.schema.dim numbers.now) arena.new result }
     ensures values { AreValued (darts_in arena.old.schema numbers.now values.now) arena.new }
+    ensures next { IsNextLeast arena.new }
     ensures most { steps.new ≤ steps.old + 2 * length (rows_in arena.old.schema.dim numbers.now) }
     ensures least { steps.old + length (rows_in arena.old.schema.dim numbers.now) ≤ steps.new }
 {
     let embeds = arena.schema().embeds.as_slice().len();
+    let mut rest = values;
     let mut twice: Option<u32> = None;
-    for (at, line) in numbers.chunks_exact(arena.schema().dim.top() as usize + 2).enumerate() {
+    for line in numbers.chunks_exact(arena.schema().dim.top() as usize + 2) {
         let name = line[0];
+        let (own, others) = rest.split_at(embeds);
+        rest = others;
         if arena.slot_of(name, steps).is_none() {
-            arena.add(name, &values[at * embeds..at * embeds + embeds], steps);
+            arena.add(name, own, steps);
         } else {
             twice = Some(lesser(twice, name));
         }
@@ -110,6 +113,23 @@ fn lesser(found: Option<u32>, name: u32) -> u32
         Some(least) => least.min(name),
         None => name,
     }
+}
+
+/// Sets the next name, where the text states one. The answer is the least name of a line that
+/// isn't below it, and then the arena is left as it was.
+fn set_stated(arena: &mut Arena, numbers: &[u32], stated: Option<u32>) -> Option<u32>
+    requires next { IsNextLeast arena.old }
+    requires live { AreLive (rows_in arena.old.schema.dim numbers.now) arena.old }
+    requires most { IfSome stated (λ next. next ≤ most_names) }
+    ensures below { MatchOption result (AreBelowStated (version_in stated) (rows_in arena.old.schema.dim numbers.now)) (IsLeastNotBelowStated (version_in stated) (rows_in arena.old.schema.dim numbers.now)) }
+    ensures set { MatchOption result (IsNextSet (version_in stated) arena.old arena.new) (λ _. arena.new ≡ arena.old) }
+{
+    let next = stated?;
+    let least = least_not_below(arena, numbers, next);
+    if least.is_none() {
+        arena.set_next(next);
+    }
+    least
 }
 
 /// The least name of a line that isn't below the number.

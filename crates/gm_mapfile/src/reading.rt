@@ -8,7 +8,7 @@ ghost use Rattle.gm_model.specs.Limits.{most_darts, most_names};
 ghost use Rattle.gm_model.specs.Maps.{IsSchema, IsSound};
 ghost use Rattle.gm_arena.specs.ArenaAsMap.{as_map};
 ghost use Rattle.gm_text.specs.Nested.{Outside};
-ghost use Rattle.gm_mapfile.specs.MapText.{DartName, ListedMap, MapText};
+ghost use Rattle.gm_mapfile.specs.MapText.{DartName, ListedMap, MapText, version_of};
 ghost use Rattle.gm_mapfile.specs.Draft.{IsDraft, IsFaultIn, version_in};
 ghost use Rattle.gm_mapfile.specs.Words.{IsEndNext, IsMoreNext};
 ghost use Rattle.gm_mapfile.specs.Rows.{listed_of};
@@ -214,6 +214,16 @@ pub(crate) fn read_text(alloc: Global, bytes: &[u8]) -> Result<Draft, SchemaFaul
     read_all(alloc, bytes)
 }
 
+/// The second version states the next name.
+fn version_told(stated: Option<u32>) -> MapVersion
+    ensures { result ≡ version_of (version_in stated) }
+{
+    match stated {
+        None => MapVersion::One,
+        Some(_) => MapVersion::Two,
+    }
+}
+
 /// A map that was read, and the version of its text.
 #[derive(Drop)]
 pub struct MapRead {
@@ -237,11 +247,9 @@ pub fn read_map<L: Ledger>(
     ensures least { IfOk result (λ read. steps.old + read.arena.count ≤ steps.new) }
 {
     let draft = read_text(alloc, bytes)?;
-    let version = match draft.stated {
-        None => MapVersion::One,
-        Some(_) => MapVersion::Two,
-    };
+    let version = version_told(draft.stated);
     let arena = build(alloc, draft, steps)?;
+    prove!(arena.next() <= MOST_NAMES);
     check_map(alloc, &arena, steps)?;
     Ok(MapRead { arena, version })
 }

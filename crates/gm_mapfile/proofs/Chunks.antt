@@ -1,0 +1,157 @@
+-- The rows of numbers, line by line, and the darts of numbers and values.
+use Rattle.std.proofs.Common.{◌≡◌, ℕ, suc, ◌+◌, ◌*◌, ◌/◌, ◌<◌, List, [], ◌∷◌, ◌++◌, length, take, drop, get_or, All, refl, sym, ap, ap₂, subst, ◌∙◌, arith}
+use Rattle.std.proofs.Math.Nat.{add-div_left, div-eq_of_lt}
+use Rattle.std.proofs.Math.Seq.{take-append_seam, drop-append_seam}
+use Rattle.std.specs.List.{AllByRecursion}
+use Rattle.std.proofs.lemmas.List.{length-map, length-append, append_assoc, append-nil, get_or_append_left, get_or-append-add}
+use Rattle.gm_model.specs.declared.schema.Embed.{Embed}
+use Rattle.gm_model.specs.declared.schema.Schema.{Schema}
+use Rattle.gm_model.specs.declared.value.Value.{Value}
+use Rattle.gm_model.specs.GMap.{Row}
+use Rattle.gm_model.specs.Values.{kind_of}
+use Rattle.gm_mapfile.specs.MapText.{DartRow, bare, rows_of}
+use Rattle.gm_mapfile.specs.MapReading.{AreOfKinds, IsWhole}
+use Rattle.gm_mapfile.specs.Draft.{line_in, numbers_of, values_of}
+use Rattle.gm_mapfile.specs.Rows.{row_in, rows_from, rows_in, valued, darts_from, darts_in}
+
+-- each dart has so many neighbours
+abbrev pub AreLong : ℕ → List DartRow → Type 0
+AreLong n darts = AllByRecursion (λ (dart : DartRow). length dart.alphas ≡ n + 1) darts
+
+-- how many whole lines there are
+pub lines_more : (n : ℕ) (line rest : List ℕ) → length line ≡ n + 2 → length (line ++ rest) / (n + 2) ≡ suc (length rest / (n + 2))
+lines_more n line rest long =
+    let some : 0 < n + 2 = omega arith in
+    ap (λ k. k / (n + 2)) (length-append line rest ∙ ap (λ k. k + length rest) long) ∙ (add-div_left (length rest) {k = n + 2} some ∙ omega arith)
+
+pub lines_cut : (n : ℕ) (all line rest : List ℕ) → all ≡ line ++ rest → length line ≡ n + 2 → length all / (n + 2) ≡ length rest / (n + 2) + 1
+lines_cut n all line rest cut long = ap (λ xs. length xs / (n + 2)) cut ∙ (lines_more n line rest long ∙ omega arith)
+
+pub lines_none : (n : ℕ) (rest : List ℕ) → length rest < n + 2 → length rest / (n + 2) ≡ 0
+lines_none n rest short = div-eq_of_lt {n = length rest} {m = n + 2} short
+
+-- one line and the rows of the rest
+pub rows_line : (n : ℕ) (line rest : List ℕ) → length line ≡ n + 2 → rows_in n (line ++ rest) ≡ row_in line ∷ rows_in n rest
+rows_line n line rest long =
+    let front : take (n + 2) (line ++ rest) ≡ line = ap (λ k. take k (line ++ rest)) (sym long) ∙ take-append_seam line rest in
+    let back : drop (n + 2) (line ++ rest) ≡ rest = ap (λ k. drop k (line ++ rest)) (sym long) ∙ drop-append_seam line rest in
+    ap (λ k. rows_from n k (line ++ rest)) (lines_more n line rest long)
+    ∙ ap₂ (λ l r. row_in l ∷ rows_from n (length rest / (n + 2)) r) front back
+
+pub rows_end : (n : ℕ) (rest : List ℕ) → length rest < n + 2 → rows_in n rest ≡ []
+rows_end n rest short = ap (λ k. rows_from n k rest) (lines_none n rest short)
+
+-- rows are those of their lines
+pub rows_of_lines : (n : ℕ) (darts : List DartRow) → AreLong n darts → rows_in n (numbers_of darts) ≡ rows_of darts
+rows_of_lines n [] long = rows_end n [] (omega arith)
+rows_of_lines n (dart ∷ darts) long =
+    let alphas : length dart.alphas ≡ n + 1 = long.0 in
+    rows_line n (line_in dart) (numbers_of darts) (omega (arith, alphas)) ∙ ap (λ rows. bare dart ∷ rows) (rows_of_lines n darts long.1)
+
+pub lines_of_rows : (n : ℕ) (darts : List DartRow) → AreLong n darts → length (numbers_of darts) / (n + 2) ≡ length darts
+lines_of_rows n [] long = lines_none n [] (omega arith)
+lines_of_rows n (dart ∷ darts) long =
+    let alphas : length dart.alphas ≡ n + 1 = long.0 in
+    lines_more n (line_in dart) (numbers_of darts) (omega (arith, alphas)) ∙ ap suc (lines_of_rows n darts long.1)
+
+-- ---- in front of the rest
+
+pub next_among : {A : Type 0} (front whole all rest : List A) (x : A) → front ++ all ≡ whole → all ≡ x ∷ rest → (front ++ x ∷ []) ++ rest ≡ whole
+next_among front whole all rest x so_far split = append_assoc front (x ∷ []) rest ∙ (ap (λ xs. front ++ xs) (sym split) ∙ so_far)
+
+pub none_left : {A : Type 0} (front whole all : List A) → front ++ all ≡ whole → all ≡ [] → front ≡ whole
+none_left front whole all so_far end = sym (append-nil front) ∙ (ap (λ xs. front ++ xs) (sym end) ∙ so_far)
+
+-- one row more
+pub one_more : (n : ℕ) (front whole : List Row) (all line rest : List ℕ) → front ++ rows_in n all ≡ whole → all ≡ line ++ rest → length line ≡ n + 2 → (front ++ row_in line ∷ []) ++ rows_in n rest ≡ whole
+one_more n front whole all line rest so_far split long = next_among front whole (rows_in n all) (rows_in n rest) (row_in line) so_far (ap (rows_in n) split ∙ rows_line n line rest long)
+
+pub no_more : (n : ℕ) (front whole : List Row) (rest : List ℕ) → front ++ rows_in n rest ≡ whole → length rest < n + 2 → front ≡ whole
+no_more n front whole rest so_far short = none_left front whole (rows_in n rest) so_far (rows_end n rest short)
+
+-- ---- one line
+
+pub name_of_line : (line : List ℕ) → (row_in line).name ≡ get_or line 0 0
+name_of_line [] = refl
+name_of_line (name ∷ alphas) = refl
+
+pub alphas_of_line : (line : List ℕ) → (row_in line).alphas ≡ drop 1 line
+alphas_of_line [] = refl
+alphas_of_line (name ∷ alphas) = refl
+
+-- numbers below a bound are so in the first line and behind it
+pub below_first : (bound : ℕ) (all line rest : List ℕ) → All (λ x. x < bound) all → all ≡ line ++ rest → 0 < length line → get_or line 0 0 < bound
+below_first bound all line rest below split some =
+    let within : 0 < length all = omega (arith, ap length split, length-append line rest) in
+    subst (λ x. x < bound) (ap (λ xs. get_or xs 0 0) split ∙ get_or_append_left line rest 0 0 some) (below 0 0 within)
+
+pub below_rest : (bound : ℕ) (all line rest : List ℕ) → All (λ x. x < bound) all → all ≡ line ++ rest → All (λ x. x < bound) rest
+below_rest bound all line rest below split k d lt =
+    let within : length line + k < length all = omega (arith, ap length split, length-append line rest) in
+    subst (λ x. x < bound) (ap (λ xs. get_or xs (length line + k) d) split ∙ get_or-append-add line rest k d) (below (length line + k) d within)
+
+-- one row between the front and the rest
+pub between : (n : ℕ) (front whole : List Row) (all line rest : List ℕ) → front ++ rows_in n all ≡ whole → all ≡ line ++ rest → length line ≡ n + 2 → front ++ row_in line ∷ rows_in n rest ≡ whole
+between n front whole all line rest so_far split long = ap (λ rs. front ++ rs) (sym (rows_line n line rest long) ∙ ap (rows_in n) (sym split)) ∙ so_far
+
+pub alphas_long : (n : ℕ) (line : List ℕ) → length line ≡ n + 2 → length (row_in line).alphas ≡ n + 1
+alphas_long n [] long = absurd (omega (arith, long))
+alphas_long n (name ∷ alphas) long = omega (arith, long)
+
+-- ---- darts with their values
+
+pub rows_of_valued : (w : ℕ) (rows : List Row) (values : List Value) → rows_of (darts_from w rows values) ≡ rows
+rows_of_valued w [] values = refl
+rows_of_valued w (row ∷ rows) values = ap (λ (others : List Row). row ∷ others) (rows_of_valued w rows (drop w values))
+
+pub rows_of_darts_in : (schema : Schema) (numbers : List ℕ) (values : List Value) → rows_of (darts_in schema numbers values) ≡ rows_in schema.dim numbers
+rows_of_darts_in schema numbers values = rows_of_valued (length schema.embeds) (rows_in schema.dim numbers) values
+
+pub length_darts_in : (schema : Schema) (numbers : List ℕ) (values : List Value) → length (darts_in schema numbers values) ≡ length (rows_in schema.dim numbers)
+length_darts_in schema numbers values = sym (length-map (darts_in schema numbers values) bare) ∙ ap length (rows_of_darts_in schema numbers values)
+
+-- one line and the darts of the rest
+pub darts_line : (schema : Schema) (all line rest : List ℕ) (values : List Value) → all ≡ line ++ rest → length line ≡ schema.dim + 2
+    → darts_in schema all values ≡ valued (row_in line) (take (length schema.embeds) values) ∷ darts_in schema rest (drop (length schema.embeds) values)
+darts_line schema all line rest values split long = ap (λ rows. darts_from (length schema.embeds) rows values) (ap (rows_in schema.dim) split ∙ rows_line schema.dim line rest long)
+
+pub darts_end : (schema : Schema) (rest : List ℕ) (values : List Value) → length rest < schema.dim + 2 → darts_in schema rest values ≡ []
+darts_end schema rest values short = ap (λ rows. darts_from (length schema.embeds) rows values) (rows_end schema.dim rest short)
+
+-- darts of one width are those of their rows and values
+abbrev pub AreWide : ℕ → List DartRow → Type 0
+AreWide w darts = AllByRecursion (λ (dart : DartRow). length dart.values ≡ w) darts
+
+darts_of_values : (w : ℕ) (darts : List DartRow) → AreWide w darts → darts_from w (rows_of darts) (values_of darts) ≡ darts
+darts_of_values w [] wide = refl
+darts_of_values w (dart ∷ darts) wide =
+    let front : take w (dart.values ++ values_of darts) ≡ dart.values = ap (λ k. take k (dart.values ++ values_of darts)) (sym wide.0) ∙ take-append_seam dart.values (values_of darts) in
+    let back : drop w (dart.values ++ values_of darts) ≡ values_of darts = ap (λ k. drop k (dart.values ++ values_of darts)) (sym wide.0) ∙ drop-append_seam dart.values (values_of darts) in
+    ap₂ (λ v vs. valued (bare dart) v ∷ darts_from w (rows_of darts) vs) front back ∙ ap (λ others. dart ∷ others) (darts_of_values w darts wide.1)
+
+length_values_of : (w : ℕ) (darts : List DartRow) → AreWide w darts → length (values_of darts) ≡ length darts * w
+length_values_of w [] wide = omega arith
+length_values_of w (dart ∷ darts) wide = omega (arith, length-append dart.values (values_of darts), wide.0, length_values_of w darts wide.1)
+
+module _ (schema : Schema) where
+  wide_of_kinds : (values : List Value) → AreOfKinds schema.embeds values → length values ≡ length schema.embeds
+  wide_of_kinds values kinds = sym (length-map values kind_of) ∙ (ap length kinds ∙ length-map schema.embeds (λ (embed : Embed). embed.kind))
+
+  pub long_of_whole : (darts : List DartRow) → AllByRecursion (IsWhole schema) darts → AreLong schema.dim darts
+  long_of_whole [] whole = tt
+  long_of_whole (dart ∷ darts) whole = (whole.0.0, long_of_whole darts whole.1)
+
+  wide_of_whole : (darts : List DartRow) → AllByRecursion (IsWhole schema) darts → AreWide (length schema.embeds) darts
+  wide_of_whole [] whole = tt
+  wide_of_whole (dart ∷ darts) whole = (wide_of_kinds dart.values whole.0.1, wide_of_whole darts whole.1)
+
+  -- whole darts are those of their numbers and values
+  pub darts_of_lines : (darts : List DartRow) → AllByRecursion (IsWhole schema) darts → darts_in schema (numbers_of darts) (values_of darts) ≡ darts
+  darts_of_lines darts whole =
+      ap (λ rows. darts_from (length schema.embeds) rows (values_of darts)) (rows_of_lines schema.dim darts (long_of_whole darts whole))
+      ∙ darts_of_values (length schema.embeds) darts (wide_of_whole darts whole)
+
+  pub values_of_lines : (darts : List DartRow) → AllByRecursion (IsWhole schema) darts → length (values_of darts) ≡ length (numbers_of darts) / (schema.dim + 2) * length schema.embeds
+  values_of_lines darts whole =
+      length_values_of (length schema.embeds) darts (wide_of_whole darts whole)
+      ∙ ap (λ k. k * length schema.embeds) (sym (lines_of_rows schema.dim darts (long_of_whole darts whole)))
