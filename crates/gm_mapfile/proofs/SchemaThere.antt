@@ -32,7 +32,7 @@ inside_symbols (part ∷ parts) = ap (λ (ss : List Symbol). part.symbol ∷ ss)
 behind_mark : (mark : Mark) (marks : List Mark) (symbol : Symbol) (others : List Symbol) → symbols (mark ∷ marks) ≡ symbol ∷ others → symbols marks ≡ others
 behind_mark mark marks symbol others same = cc same
 
-first_letter : Symbol → ℕ
+abbrev first_letter : Symbol → ℕ
 first_letter (Word (letter ∷ letters)) = letter
 first_letter symbol = 0
 
