@@ -1,8 +1,8 @@
 -- Words that say why bytes stand for no map, put behind a text.
-use Rattle.std.proofs.Common.{◌≡◌, ℕ, ◌<◌, List, [], ◌∷◌, ◌++◌, length, Option, Some, Result, Ok, Err, codes, sym, ap, subst, ◌∙◌}
+use Rattle.std.proofs.Common.{◌≡◌, ℕ, ◌<◌, List, [], ◌∷◌, ◌++◌, length, get_or, Option, Some, Result, Ok, Err, codes, sym, ap, subst, ◌∙◌}
 use Rattle.std.specs.Option.{option_map_or}
 use Rattle.std.specs.Prelude.{OnOk, decimal, slice_get}
-use Rattle.std.proofs.lemmas.Option.{slice_get_within}
+use Rattle.std.proofs.lemmas.Option.{slice_get_within, slice_get-get_or}
 use Rattle.gm_laws.specs.declared.breach.MapBreach.TheVariants as breaches
 use Rattle.gm_mapfile.specs.Faults.{IsBreachOf}
 use Rattle.gm_mapfile.specs.MapFaults.{TextFault, Unshared, IsFirstFault, AtUnshared, fault_words}
@@ -64,7 +64,8 @@ module _ (bytes : List ℕ) (one two new : Cursor) (schema : Schema) (past : (ma
   pub name_within : (e : ℕ) → HasEmbed bytes e → e < length schema.embeds
   name_within e (version, listed, darts, lists, within) = subst (λ (s : Schema). e < length s.embeds) (same_schema version listed darts lists) within
 
-  pub name_there : (e : ℕ) (embed : Embed) → IsEmbedAt schema e embed → IsEmbedName bytes e embed.name
-  name_there e embed at version listed darts other lists there =
-      let same : Some embed ≡ Some other = sym at ∙ subst (λ (s : Schema). slice_get s.embeds e ≡ Some other) (same_schema version listed darts lists) there in
+  pub name_there : (e : ℕ) (default : Embed) → HasEmbed bytes e → IsEmbedName bytes e (get_or schema.embeds e default).name
+  name_there e default has version listed darts other lists there =
+      let at : slice_get schema.embeds e ≡ Some (get_or schema.embeds e default) = slice_get-get_or schema.embeds e default (name_within e has) in
+      let same : Some (get_or schema.embeds e default) ≡ Some other = sym at ∙ subst (λ (s : Schema). slice_get s.embeds e ≡ Some other) (same_schema version listed darts lists) there in
       ap (λ (o : Option Embed). option_map_or (λ (x : Embed). x.name) o []) same
