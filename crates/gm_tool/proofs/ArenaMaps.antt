@@ -9,7 +9,7 @@ use Rattle.gm_arena.specs.ArenaAsMap.{as_map}
 use Rattle.gm_arena.specs.ArenaMap.{ArenaMap, Dart}
 use Rattle.gm_arena.specs.Lawful.{IsLawful}
 use Rattle.gm_arena.proofs.ArenaIsMap.{is_map}
-use Rattle.gm_mapfile.proofs.Again.{arena_printable, printed}
+use Rattle.gm_mapfile.proofs.Printable.{arena_printed}
 use Rattle.gm_mapfile.proofs.Printed.{nobody, dart_at-is, dart_at_place}
 use Rattle.gm_mapfile.proofs.SoundRows.{same_map}
 use Rattle.gm_mapfile.specs.MapReading.{IsWhole}
@@ -47,12 +47,12 @@ bare_sound m lawful bare gmap = record {
   embedded = λ e embed at. absurd (none e embed (rw bare at at));
 }
   where
-    none : (e : ℕ) (embed : Embed) → slice_get {A = Embed} [] e ≡ Some embed → ⊥
+    none : (e : ℕ) (embed : Embed) → slice_get {X = Embed} [] e ≡ Some embed → ⊥
     none e embed h = absurd cc
 
 -- the canonical text in either version stands for the map, whose next name the first version tells by the names
 pub text_of_arena : (version : MapVersion) (m : ArenaMap) → IsLawful m → m.schema.embeds ≡ [] → IsGeneralised (as_map m) → IsMapBytes (canonical version (listed_of m))
-text_of_arena version m lawful bare gmap = (version, renumbered version (listed_of m), same version, printed version (listed_of m) (arena_printable m lawful (subst AreParts (sym bare) tt) (bare_sound m lawful bare gmap)))
+text_of_arena version m lawful bare gmap = (version, renumbered version (listed_of m), same version, arena_printed version m lawful (subst AreParts (sym bare) tt) (bare_sound m lawful bare gmap))
   where
     same : (v : MapVersion) → canonical v (listed_of m) ≡ canonical v (renumbered v (listed_of m))
     same versions.One = refl

@@ -55,13 +55,13 @@ module _ (named : RunNames) (fails : Type 0) (before after : ℕ) where
       → IsFrom {A = Book} contents TheBook named.book IsReadBook IsBadBook later (Err stop) → CountsMade contents (Err stop)
   behind_book None m one later stop up twice f h = tt
   behind_book (Some files) m one later stop up twice (bytes, held, read) h =
-      fails_here files TheBook named.book IsBadBook later fails (StopsInTime files named fails before after) up (λ here. (2, BehindBook (known m m.schema []) (bytes, held, read.stands) here, twice)) stop h.0
+      fails_here files TheBook named.book IsBadBook later fails (StopsInTime files named fails before after) up (λ here. (2, BehindBook (known m m.arena.schema []) (bytes, held, read.stands) here, twice)) stop h.0
 
   pub behind_rules : (contents : Contents) (m : MapRead) (book : Book) (one two : Type 0) (stop : Stop) → after ≡ loads_after 2 before → IsFrom contents TheMap named.map IsReadMap IsBadMap one (Ok m)
       → IsFrom contents TheBook named.book IsReadBook IsBadBook two (Ok book) → IsBadFor TheBook (IsFirstRefused book.schema (map rule_of book.rules)) stop → CountsMade contents (Err stop)
   behind_rules None m book one two stop twice f h bad = tt
   behind_rules (Some files) m book one two stop twice (bytes, held, read) (text, there, is) bad =
-      refused_here files named.book text book fails (StopsInTime files named fails before after) there is (λ here. (2, BehindBook (known m m.schema []) (bytes, held, read.stands) here, twice)) stop bad
+      refused_here files named.book text book fails (StopsInTime files named fails before after) there is (λ here. (2, BehindBook (known m m.arena.schema []) (bytes, held, read.stands) here, twice)) stop bad
 
   pub behind_script : (contents : Contents) (m : MapRead) (book : Book) (one two : Type 0) (result : Result Made Stop) → after ≡ loads_after 3 before → IsFrom contents TheMap named.map IsReadMap IsBadMap one (Ok m)
       → IsFrom contents TheBook named.book IsReadBook IsBadBook two (Ok book) → All (IsAccepted book.schema) (map rule_of book.rules) → CountsMade contents result

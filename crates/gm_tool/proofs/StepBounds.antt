@@ -165,19 +165,19 @@ module _ (named : RunNames) where
           reading_below ((dim_of inputs + 1) * (dim_of inputs + 1)) (darts_read inputs) (darts_left ran) sum before last (omega (arith, same, read))
 
   module _ (read : MapRead) (book : Book) (script : Script) (one two three : Type 0) (accepted : All (IsAccepted book.schema) (map rule_of book.rules)) where
-    abbrev inputs : Inputs
-    inputs = inputs_of read.version read.arena book script
+    abbrev read_inputs : Inputs
+    read_inputs = inputs_of read.version read.arena book script
 
     -- the files are those that were read
     abbrev pub AreRead : Contents → Type 0
-    AreRead contents = IfSome contents (λ files. HasMap files named inputs × HasBook files named inputs × HasScript files named inputs)
+    AreRead contents = IfSome contents (λ files. HasMap files named read_inputs × HasBook files named read_inputs × HasScript files named read_inputs)
 
     pub are_read : (contents : Contents) → IsFrom contents TheMap named.map IsReadMap IsBadMap one (Ok read) → IsFrom contents TheBook named.book IsReadBook IsBadBook two (Ok book)
         → IsFrom contents TheScript named.script (IsReadScript (map rule_of book.rules)) (IsBadScript (map rule_of book.rules)) three (Ok script) → AreRead contents
     are_read None a b c = tt
     are_read (Some files) (bytes, held, is) (text, there, book_is) script_read = ((bytes, held, is.stands), (text, book.version, there, book_is, accepted), script_read)
 
-    pub ended_within : (contents : Contents) (start middle after : ℕ) → AreRead contents → ReadsWithin contents named.map start middle → RunsWithin inputs middle after → IfSome contents (λ files. WithinMost files named start after)
+    pub ended_within : (contents : Contents) (start middle after : ℕ) → AreRead contents → ReadsWithin contents named.map start middle → RunsWithin read_inputs middle after → IfSome contents (λ files. WithinMost files named start after)
     ended_within None start middle after are reads runs = tt
     ended_within (Some files) start middle after (the_map, the_book, the_script) reads runs = each
       where
@@ -188,7 +188,7 @@ module _ (named : RunNames) where
             let high : after ≤ middle + sum + printing (dim_of others) (darts_left ran) = subst (λ x. RunsWithin x middle after) (sym same) runs ran sum good.is_ran budget in
             handled ((dim_of others + 1) * (dim_of others + 1)) (darts_read others) (darts_left ran) sum start middle after low high
 
-    pub ended_least : (contents : Contents) (start middle after : ℕ) → IsLawful read.arena → AreRead contents → start + read.arena.count ≤ middle → RunsAtLeast inputs middle after → IfSome contents (λ files. AtLeast files named start after)
+    pub ended_least : (contents : Contents) (start middle after : ℕ) → IsLawful read.arena → AreRead contents → start + read.arena.count ≤ middle → RunsAtLeast read_inputs middle after → IfSome contents (λ files. AtLeast files named start after)
     ended_least None start middle after lawful are reads runs = tt
     ended_least (Some files) start middle after lawful (the_map, the_book, the_script) reads runs = each
       where

@@ -24,13 +24,13 @@ pub fn cells<L: Ledger>(
 ) -> Result<Reply, NoText>
     ensures { IsJudged bytes.items Cells result }
 {
-    let arena = match read_map(alloc, bytes.as_slice(), steps) {
-        Ok(read) => read.arena,
+    let read = match read_map(alloc, bytes.as_slice(), steps) {
+        Ok(read) => read,
         Err(fault) => return refused(alloc, bytes.as_slice(), fault),
     };
     drop(bytes);
-    prove!(arena.count() <= MOST_DARTS);
-    let text = text_of(alloc, &arena, steps)?;
+    prove!(read.arena.count() <= MOST_DARTS);
+    let text = text_of(alloc, &read.arena, steps)?;
     reply_within_limit(0, text)
 }
 

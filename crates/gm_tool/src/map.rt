@@ -23,13 +23,13 @@ pub fn show<L: Ledger>(alloc: Global, bytes: Vec<u8>, steps: &mut Steps<L>) -> R
     ensures judged { IsJudged bytes.items Show result }
     ensures most { ShowsWithin bytes.items steps.old steps.new }
 {
-    let MapRead { arena, version } = match read_map(alloc, bytes.as_slice(), steps) {
+    let read = match read_map(alloc, bytes.as_slice(), steps) {
         Ok(read) => read,
         Err(fault) => return refused(alloc, bytes.as_slice(), fault),
     };
     drop(bytes);
-    prove!(arena.count() <= MOST_DARTS);
-    let text = print_map(alloc, &arena, version, steps)?;
+    prove!(read.arena.count() <= MOST_DARTS);
+    let text = print_map(alloc, &read.arena, read.version, steps)?;
     reply_within_limit(0, text)
 }
 

@@ -26,7 +26,7 @@ use crate::{book, map, script};
 use gm_arena::{Arena, Steps};
 use gm_host::{SaveFault, Store};
 use gm_mapfile::{MapRead, MapVersion, print_map};
-use gm_model::{Book, MOST_DARTS, Schema, Script};
+use gm_model::{Book, Embed, MOST_DARTS, Schema, Script};
 use gm_plan::Plan;
 use gm_run::{Outcome, Report, print_report};
 use std::alloc::Global;
@@ -172,7 +172,30 @@ fn applied<L: Ledger>(
 fn agree(map: &Schema, book: &Schema) -> bool
     ensures { IsTrue result ↔ (map.now ≡ book.now) }
 {
-    map.dim == book.dim && map.embeds.as_slice() == book.embeds.as_slice()
+    map.dim.top() == book.dim.top()
+        && same_embeds(map.embeds.as_slice(), book.embeds.as_slice())
+}
+
+fn same_embeds(embeds: &[Embed], others: &[Embed]) -> bool
+    ensures { IsTrue result ↔ (embeds.now ≡ others.now) }
+{
+    if embeds.len() != others.len() {
+        return false;
+    }
+    for at in 0..embeds.len() {
+        if !same_embed(&embeds[at], &others[at]) {
+            return false;
+        }
+    }
+    true
+}
+
+fn same_embed(embed: &Embed, other: &Embed) -> bool
+    ensures { IsTrue result ↔ (embed.now ≡ other.now) }
+{
+    embed.name.bytes() == other.name.bytes()
+        && embed.mask.bits == other.mask.bits
+        && embed.kind == other.kind
 }
 
 /// What is saved and put of the run, which loads its files and saves nothing.

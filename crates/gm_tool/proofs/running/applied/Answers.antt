@@ -10,8 +10,8 @@ run-requires-clause-plans g c = plans_fit c.args.arena.now c.args.book.now c.arg
 pub run-requires-clause-lines : goal.run-requires-clause-lines
 run-requires-clause-lines g c = lines_fit c.args.arena.now c.args.book.now c.args.script.now c.args.plans.now c.requires
 
-pub printed-requires-clause-printable : goal.printed-requires-clause-printable
-printed-requires-clause-printable g c = printable c.args.arena.now c.args.book.now c.args.script.now c.args.plans.now c.requires c.in_ok-report.report.lines c.in_ok-report.ensures.printable
+pub printed-requires : goal.printed-requires
+printed-requires g c = record { printable = printable c.args.arena.now c.args.book.now c.args.script.now c.args.plans.now c.requires c.in_ok-report.report.lines c.in_ok-report.ensures.printable }
 
 pub returns-clause-run : goal.returns-clause-run
 returns-clause-run g c =

@@ -9,7 +9,7 @@ use Rattle.gm_tool.specs.RunAnswer.{IsFirstRefused}
 use Rattle.gm_tool.specs.declared.refusal.NoText.TheVariants as nothing
 use Rattle.gm_tool.specs.declared.refusal.Refusal.TheVariants as refusals
 use Rattle.gm_tool.specs.declared.refusal.Stop.TheVariants as stops
-use Rattle.gm_tool.proofs.Agreeing.{can_run, agreed, not_agreed}
+use Rattle.gm_tool.proofs.Agreeing.{can_run}
 use Rattle.gm_tool.proofs.Lines.{run_is_sound, run_is_done}
 use Rattle.gm_tool.proofs.LoadCounts.{behind_map, behind_book, behind_rules, behind_script}
 use Rattle.gm_tool.proofs.ReadBooks.{checkable_rules}
@@ -57,7 +57,7 @@ pub returns-clause-made : goal.returns-clause-made
 returns-clause-made g c =
     at_end (names_of c.args.files) (FailsAt (g.S.Store.load_faults c.args.store.now) (g.S.Store.load_faults c.load_script.new.store) (g.S.Store.loads c.args.store.now) (g.S.Store.loads c.load_script.new.store)) (g.S.Store.holds c.args.store.now) c.in_ok-map.map c.in_ok-book.book c.in_ok-script.script (Unit {0}) (Unit {0}) (Unit {0}) c.in_ok-map.ensures.from (rw c.load_map.ensures.held at c.in_ok-book.ensures.from)
     c.in_ok-plans.ensures.accepted (rw (c.load_book.ensures.held, c.load_map.ensures.held) at c.in_ok-script.ensures.from)
-    (agreed c.in_ok-map.map c.in_ok-book.book c.in_ok-script.script c.in_ok-book.ensures.read (search rules)) c.applied.result c.applied.ensures.run
+    (search rules) c.applied.result c.applied.ensures.run
 
 pub returns-clause-sound : goal.returns-clause-sound
 returns-clause-sound g c = run_is_sound _ c.applied.result _ c.applied.ensures.run
@@ -91,7 +91,7 @@ pub returns-then-not-agree-clause-made : goal.returns-then-not-agree-clause-made
 returns-then-not-agree-clause-made g c =
     at_agreement (names_of c.args.files) (FailsAt (g.S.Store.load_faults c.args.store.now) (g.S.Store.load_faults c.load_script.new.store) (g.S.Store.loads c.args.store.now) (g.S.Store.loads c.load_script.new.store)) (g.S.Store.holds c.args.store.now) c.in_ok-map.map c.in_ok-book.book c.in_ok-script.script (Unit {0}) (Unit {0}) (Unit {0}) c.in_ok-map.ensures.from
     (rw c.load_map.ensures.held at c.in_ok-book.ensures.from) c.in_ok-plans.ensures.accepted (rw (c.load_book.ensures.held, c.load_map.ensures.held) at c.in_ok-script.ensures.from)
-    (not_agreed c.in_ok-map.map c.in_ok-book.book c.in_ok-script.script (search rules))
+    (search rules)
 
 pub returns-in_err-map-clause-most : goal.returns-in_err-map-clause-most
 returns-in_err-map-clause-most g c = stopped_within (names_of c.args.files) (g.S.Store.holds c.args.store.now) _ _ _ refl c.in_err-map.ensures.most

@@ -14,4 +14,4 @@ returns-in_err-map-clause-texts g c =
 
 pub returns-clause-texts : goal.returns-clause-texts
 returns-clause-texts g c =
-    fitted_printed _ _ _ c.within_limit.result (rw (c.status_of.ensures, c.as_slice.ensures, c.in_ok-text.ensures, c.in_ok-map.ensures.text c.requires.bare) at c.within_limit.ensures)
+    fitted_printed _ _ _ c.within_limit.result (rw (c.status_of.ensures, c.as_slice.ensures, c.in_ok-text.ensures, c.in_ok-map.ensures.text) at c.within_limit.ensures)
