@@ -10,7 +10,6 @@ use Rattle.gm_mapfile.specs.MapText.{Version, DartRow, IsListed}
 use Rattle.gm_mapfile.proofs.SchemaThere.{schema_there}
 use Rattle.gm_model.specs.declared.schema.Embed.{Embed}
 use Rattle.gm_model.specs.declared.schema.Schema.{Schema}
-use Rattle.gm_model.specs.Maps.{IsEmbedAt}
 use Rattle.gm_model.specs.Symbols.{Mark, Word, Numeral, Stray, End, marks_of}
 use Rattle.gm_text.specs.Cursor.{Cursor}
 use Rattle.gm_text.specs.SchemaAnswers.{marks_left, IsSchemaRead}

@@ -10,7 +10,7 @@ use Rattle.gm_model.specs.Limits.{most_darts, most_names}
 use Rattle.gm_model.specs.Reading.{Part, IsWithin}
 use Rattle.gm_text.specs.SchemaText.{LimitOf}
 use Rattle.gm_text.specs.SchemaText as text
-use Rattle.gm_mapfile.specs.MapText.{Version, First, Second, MapForm, Role, passed_of, the_end, in_schema, spell_listing, spell_next, embeds_of, spelling}
+use Rattle.gm_mapfile.specs.MapText.{Version, First, Second, MapForm, Role, the_end, in_schema, spell_listing, spell_next, embeds_of, spelling}
 use Rattle.gm_mapfile.proofs.GoodListing.{IsStatedSmall}
 use Rattle.gm_mapfile.proofs.MapWithin.{AreWithin, IsGoodForm, darts_within}
 

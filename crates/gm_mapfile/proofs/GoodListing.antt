@@ -1,5 +1,5 @@
 -- What holds of the darts that a text lists, by its grammar and its limits alone.
-use Rattle.std.proofs.Common.{ℕ, ◌<◌, ◌≤◌, List, length}
+use Rattle.std.proofs.Common.{◌<◌, ◌≤◌, List, length}
 use Rattle.std.specs.List.{AllByRecursion}
 use Rattle.gm_model.specs.declared.schema.Schema.{Schema}
 use Rattle.gm_model.specs.Limits.{most_darts, most_names}

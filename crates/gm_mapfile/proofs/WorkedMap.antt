@@ -1,5 +1,5 @@
 -- A worked text, in both versions: it stands for a map of one dart with a value, whose neighbours are itself.
-use Rattle.std.proofs.Common.{◌≡◌, ℕ, zero, suc, ◌<◌, eqb, false, true, pos, negsuc, List, [], ◌∷◌, inl, inr, refl, sym, ap, subst, ◌∙◌, codes, arith}
+use Rattle.std.proofs.Common.{◌≡◌, ℕ, zero, suc, eqb, false, true, pos, negsuc, List, [], ◌∷◌, inl, inr, refl, sym, ap, subst, ◌∙◌, codes, arith}
 use Rattle.std.proofs.lemmas.Bool.{cases_Bool, eqb-true}
 use Rattle.std.proofs.lemmas.List.Elements.{All-from_recursion}
 use Rattle.gm_model.specs.declared.schema.Embed.{Embed}

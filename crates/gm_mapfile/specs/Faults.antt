@@ -1,11 +1,10 @@
 -- Which first fault of a text a reader's answer names.
-use Rattle.std.specs.Prelude.{ℕ, ◌≡◌, List}
-use Rattle.gm_model.specs.declared.schema.Schema.{Schema}
+use Rattle.std.specs.Prelude.{ℕ, List}
 use Rattle.gm_model.specs.Breaches.{IsFirstWithoutTarget}
 use Rattle.gm_model.specs.GMap.{IsLive, alpha}
 use Rattle.gm_laws.specs.declared.breach.MapBreach.{MapBreach}
 use Rattle.gm_laws.specs.declared.breach.MapBreach.TheVariants as breaches
-use Rattle.gm_mapfile.specs.MapText.{Version, First, Second, DartRow, rows_of}
+use Rattle.gm_mapfile.specs.MapText.{Version, Second, DartRow, rows_of}
 use Rattle.gm_mapfile.specs.MapFaults.{TextFault, IsFirstFault, IsLeastTwice, AreDistinct, IsLeastNotBelow, AreBelowStated}
 use Rattle.gm_mapfile.specs.MapFaults as first
 use Rattle.gm_mapfile.specs.declared.fault.MapFault.{MapFault}

@@ -1,5 +1,5 @@
 -- How a map is written: the grammar of its texts with their limits, the map that a text stands for, and its one canonical text.
-use Rattle.std.specs.Prelude.{◌≡◌, ◌≢◌, ℕ, ◌+◌, ◌<◌, ◌≤◌, Bool, true, false, ℤ, pos, neg_ℤ, nat_lt, nat_le, if◌then◌else◌, List, [], ◌∷◌, ◌++◌, length, map, All, Option, Some, None, is_some, slice_index_or, find, ◌==◌, codes, decimal, IsPermutation}
+use Rattle.std.specs.Prelude.{◌≡◌, ℕ, ◌+◌, ◌<◌, ◌≤◌, Bool, true, false, ℤ, pos, nat_lt, nat_le, if◌then◌else◌, List, [], ◌∷◌, ◌++◌, length, map, All, Option, Some, None, is_some, slice_index_or, find, ◌==◌, codes, decimal, IsPermutation}
 use Rattle.std.specs.Fmt.{signed_decimal}
 use Rattle.std.specs.List.Sorted.{IsStrictlyIncreasing}
 use Rattle.std.specs.List.{flat_map, AllByRecursion}
@@ -18,7 +18,6 @@ use Rattle.gm_model.specs.Limits.{most_darts, most_names}
 use Rattle.gm_model.specs.Maps.{Map, IsSound}
 use Rattle.gm_model.specs.Reading.{Part, IsReadAs, TextEndsAt, LimitStandsAt}
 use Rattle.gm_model.specs.Symbols.{Symbol, Word, Numeral, Sign, End, marks_of}
-use Rattle.gm_text.specs.SchemaReading.{never}
 use Rattle.gm_text.specs.SchemaText.{SchemaForm, Passed, LimitOf, Again, schema_of}
 use Rattle.gm_text.specs.SchemaText as schema
 use Rattle.gm_text.specs.ValueText.{Signed, integer, greatest, is_channel, spell_signed}

@@ -13,7 +13,7 @@ use Rattle.gm_mapfile.proofs.Printable.{arena_printed}
 use Rattle.gm_mapfile.proofs.Printed.{nobody, dart_at-is, dart_at_place}
 use Rattle.gm_mapfile.proofs.SoundRows.{same_map}
 use Rattle.gm_mapfile.specs.MapReading.{IsWhole}
-use Rattle.gm_mapfile.specs.MapText.{MapText, map_of, canonical}
+use Rattle.gm_mapfile.specs.MapText.{MapText, canonical}
 use Rattle.gm_mapfile.specs.Printing.{renumbered}
 use Rattle.gm_mapfile.specs.Rows.{darts_of, listed_of, dart_at}
 use Rattle.gm_mapfile.specs.declared.version.MapVersion.{MapVersion}

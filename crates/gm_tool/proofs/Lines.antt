@@ -15,7 +15,7 @@ use Rattle.gm_model.specs.declared.schema.Schema.{Schema}
 use Rattle.gm_model.specs.declared.script.Line.{Line}
 use Rattle.gm_model.specs.declared.script.Script.{Script}
 use Rattle.gm_model.specs.Maps.{IsGeneralised}
-use Rattle.gm_mapfile.specs.MapText.{ListedMap, map_of, canonical}
+use Rattle.gm_mapfile.specs.MapText.{map_of, canonical}
 use Rattle.gm_mapfile.specs.declared.version.MapVersion.{MapVersion}
 use Rattle.gm_model.specs.Reports.{report_text}
 use Rattle.gm_model.specs.Rules.{rule_of}

@@ -1,9 +1,8 @@
 -- A script has one run: the same outcomes, and the same map after it.
-use Rattle.std.proofs.Common.{◌≡◌, ℕ, List, All, refl, sym, subst, ◌∙◌}
+use Rattle.std.proofs.Common.{◌≡◌, ℕ, List, All}
 use Rattle.gm_book.specs.BookText.{BookText}
 use Rattle.gm_book.proofs.Printable.{printable_from_text}
-use Rattle.gm_mapfile.specs.MapText.{DartRow, ListedMap, map_of}
-use Rattle.gm_model.specs.declared.schema.Schema.{Schema}
+use Rattle.gm_mapfile.specs.MapText.{map_of}
 use Rattle.gm_model.specs.Acceptance.{IsAccepted}
 use Rattle.gm_model.specs.Maps.{IsSound}
 use Rattle.gm_run.specs.Alike.{AreAlike}

@@ -17,7 +17,6 @@ use Rattle.gm_script.specs.declared.fault.ScriptFault.TheVariants as script
 use Rattle.gm_script.specs.Faults as script_faults
 use Rattle.gm_tool.specs.Answer.{Files, answers, most_bytes}
 use Rattle.gm_lines.specs.Refusing.{TheMap, TheBook, TheScript, role_word, refusal, IsBadLine}
-use Rattle.gm_tool.specs.Answer as answer
 use Rattle.gm_lines.specs.Refusing as refusing
 use Rattle.gm_lines.specs.BookFaults as first_book
 use Rattle.gm_lines.specs.ScriptFaults as first_script

@@ -17,7 +17,6 @@ use Rattle.gm_script.specs.ScriptText.{ScriptText}
 use Rattle.gm_plan.specs.Plans.{PlanOf, plan_of}
 use Rattle.gm_tool.specs.Answer.{most_bytes, Files, Answer, answers}
 use Rattle.gm_lines.specs.Refusing.{refusal, role_word}
-use Rattle.gm_tool.specs.Answer as answer
 use Rattle.gm_lines.specs.Refusing as refusing
 use Rattle.gm_tool.specs.Endings.{IsTextOf}
 use Rattle.gm_tool.specs.Refusals.{refusal_answer}

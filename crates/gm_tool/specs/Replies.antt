@@ -8,7 +8,7 @@ use Rattle.gm_book.specs.declared.fault.BookFault.{BookFault}
 use Rattle.gm_model.specs.declared.schema.Schema.{Schema}
 use Rattle.gm_model.specs.Rules.{Rule}
 use Rattle.gm_tool.specs.Answer.{most_bytes, role_of, IsOutput}
-use Rattle.gm_lines.specs.Refusing.{TheMap, role_word, refusal, IsBad, IsBadLine}
+use Rattle.gm_lines.specs.Refusing.{TheMap, refusal, IsBadLine}
 use Rattle.gm_tool.specs.Answer as answer
 use Rattle.gm_lines.specs.Checking.{AreLines, counts_line, check_status}
 use Rattle.gm_lines.specs.FaultLines.{IsSaidOfBook, book_words}
