@@ -148,14 +148,7 @@ fn a_map_is_read_and_printed(rt: HostRuntime) -> Result<(), Fail> {
 #[test]
 fn a_map_with_values_is_read_and_printed(rt: HostRuntime) -> Result<(), Fail> {
     let cases: [Case; 4] = [
-        (
-            QUAD_WITH_POINTS,
-            QUAD_WITH_POINTS,
-            MapVersion::One,
-            2,
-            8,
-            8,
-        ),
+        (QUAD_WITH_POINTS, QUAD_WITH_POINTS, MapVersion::One, 2, 8, 8),
         (EACH_KIND, EACH_KIND, MapVersion::Two, 1, 1, 5),
         (EIGHT, EIGHT, MapVersion::Two, 7, 0, 16_777_216),
         (
@@ -184,7 +177,10 @@ fn check_migration<L: Ledger>(
     let mut steps: Steps<L> = Steps::start(handle, blank);
     let first = read_map(alloc, FAR_PAIR, &mut steps)?;
     let second = print_map(alloc, &first.arena, MapVersion::Two, &mut steps)?;
-    assert_eq!(rt; second.as_slice(), b"gmap 2\ndim 1\nnext 41\ndarts 2\n3 40 3\n40 3 40\n".as_slice());
+    assert_eq!(rt;
+        second.as_slice(),
+        b"gmap 2\ndim 1\nnext 41\ndarts 2\n3 40 3\n40 3 40\n".as_slice()
+    );
     let again = read_map(alloc, second.as_slice(), &mut steps)?;
     let back = print_map(alloc, &again.arena, MapVersion::One, &mut steps)?;
     assert_eq!(rt; back.as_slice(), FAR_PAIR);
@@ -355,10 +351,7 @@ fn the_first_fault_of_the_darts_is_answered(rt: HostRuntime) -> Result<(), Fail>
 #[test]
 fn the_first_fault_of_a_schema_is_answered(rt: HostRuntime) -> Result<(), Fail> {
     let cases: [(&[u8], MapFault); 12] = [
-        (
-            b"gmap 1 dim 2 embed a <3> int",
-            limit(LimitKind::Label, 22),
-        ),
+        (b"gmap 1 dim 2 embed a <3> int", limit(LimitKind::Label, 22)),
         (
             b"gmap 1 dim 2 embed a <1 1> int x",
             MapFault::Twice { place: 24 },
@@ -387,10 +380,7 @@ fn the_first_fault_of_a_schema_is_answered(rt: HostRuntime) -> Result<(), Fail> 
             b"gmap 1 dim 1 embed a <> int embed b <> int embed c <> int embed d <> int embed e <> int embed f <> int embed g <> int embed h <> int embed a",
             limit(LimitKind::Embeddings, 133),
         ),
-        (
-            b"gmap 1 dim 1 next 3 darts 0",
-            MapFault::Text { place: 13 },
-        ),
+        (b"gmap 1 dim 1 next 3 darts 0", MapFault::Text { place: 13 }),
         (b"gmap 2 dim 1 darts 0", MapFault::Text { place: 13 }),
         (
             b"gmap 2 dim 1 next 16777217 darts 0",

@@ -11,6 +11,9 @@ use std::test::Fail;
 pub(crate) const SQUARE: &str =
     "gmap 1\ndim 2\ndarts 8\n0 1 7 0\n1 0 2 1\n2 3 1 2\n3 2 4 3\n4 5 3 4\n5 4 6 5\n6 7 5 6\n7 6 0 7\n";
 
+const POINTS: &str =
+    "gmap 1\ndim 2\nembed pos <1 2> vec3\ndarts 8\n0 1 7 0 (0 0 0)\n1 0 2 1 (4 0 0)\n2 3 1 2 (4 0 0)\n3 2 4 3 (4 4 0)\n4 5 3 4 (4 4 0)\n5 4 6 5 (0 4 0)\n6 7 5 6 (0 4 0)\n7 6 0 7 (0 0 0)\n";
+
 pub(crate) const EMPTY: &str = "gmap 1\ndim 2\ndarts 0\n";
 
 const DROP: &str = "book 1\ndim 2\nrule drop\nleft\na <0 1> hook\na -2- a\nright\n";
@@ -74,7 +77,7 @@ fn expect_each(
     Ok(())
 }
 
-const MAPS: [Case; 18] = [
+const MAPS: [Case; 25] = [
     Case {
         text: SQUARE,
         status: 0,
@@ -151,9 +154,44 @@ const MAPS: [Case; 18] = [
         put: "refused MAP text 21\n",
     },
     Case {
-        text: "gmap 1 dim 2 embed pos <1 2> vec3 darts 0",
+        text: "gmap 1 dim 2 embed pos <2 1> vec3 darts 0",
+        status: 0,
+        put: "gmap 1\ndim 2\nembed pos <1 2> vec3\ndarts 0\n",
+    },
+    Case {
+        text: POINTS,
+        status: 0,
+        put: POINTS,
+    },
+    Case {
+        text: "gmap 2 dim 1 embed w <0> int next 9 darts 2 1 0 1 -5 0 1 0 -5",
+        status: 0,
+        put: "gmap 2\ndim 1\nembed w <0> int\nnext 9\ndarts 2\n0 1 0 -5\n1 0 1 -5\n",
+    },
+    Case {
+        text: "gmap 2 dim 1 next 3 darts 1 3 3 3",
         status: 4,
-        put: "refused MAP not-built 13\n",
+        put: "refused MAP next dart 3\n",
+    },
+    Case {
+        text: "gmap 2 dim 1 next 16777217 darts 0",
+        status: 4,
+        put: "refused MAP limit dart-name 18\n",
+    },
+    Case {
+        text: "gmap 1 dim 2 embed a <1 1> int x",
+        status: 4,
+        put: "refused MAP twice 24\n",
+    },
+    Case {
+        text: "# the points of an edge\ngmap 1 dim 1 embed w <> int embed pos <1> vec2 darts 2 0 0 1 1 (3 0) 1 1 0 2 (4 0)",
+        status: 4,
+        put: "refused MAP embedding pos darts 0 1\n",
+    },
+    Case {
+        text: "gmap 1 dim 1 embed c <> rgb darts 1 0 0 0 (0 0 256)",
+        status: 4,
+        put: "refused MAP limit channel 47\n",
     },
     Case {
         text: "gmap 1 embed",

@@ -68,7 +68,14 @@ fn run_each(rt: &impl Abort, host: &HostRuntime, cases: &[Run]) -> Result<(), Fa
     Ok(())
 }
 
-const RUNS: [Run; 12] = [
+const RUNS: [Run; 13] = [
+    // The second version states the next name, which is that of the first new dart.
+    Run {
+        texts: ["gmap 2 dim 2 next 8 darts 0", PAIR, "apply pair"],
+        status: 0,
+        put: "1 pair done added 2 removed 0\napplied 1 refused 0 darts 2 next 10\n",
+        saved: Some("gmap 2\ndim 2\nnext 10\ndarts 2\n8 9 8 8\n9 8 9 9\n"),
+    },
     Run {
         texts: [SQUARE, T, "apply T 0"],
         status: 0,
@@ -164,7 +171,7 @@ fn scripts_run(rt: HostRuntime) -> Result<(), Fail> {
     run_each(&rt, &rt, &RUNS)
 }
 
-const NO_RUNS: [Run; 9] = [
+const NO_RUNS: [Run; 10] = [
     Run {
         texts: ["gmap 1 dim 2 darts 1", "", ""],
         status: 4,
@@ -215,6 +222,12 @@ const NO_RUNS: [Run; 9] = [
         texts: [SQUARE, T, "apply T 16777216"],
         status: 4,
         put: "refused SCRIPT limit dart-name 8\n",
+        saved: None,
+    },
+    Run {
+        texts: ["gmap 1 dim 2 embed pos <1 2> vec3 darts 0", T, ""],
+        status: 4,
+        put: "refused agree\n",
         saved: None,
     },
     Run {
