@@ -7,7 +7,9 @@ pub mod Values
 pub mod Marks
 pub mod Machine
 pub mod Nested
+pub mod Carried
 pub mod SchemaGrammar
+pub mod SchemaSpelled
 pub mod SchemaStanding
 pub mod SchemaTokens
 pub mod SchemaSteps

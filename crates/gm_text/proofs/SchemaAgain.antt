@@ -1,5 +1,5 @@
 -- The canonical text of a schema that was read is read as the same schema, before any bytes that begin no embedding.
-use Rattle.std.proofs.Common.{◌≡◌, ℕ, zero, suc, ◌+◌, ◌^◌, ◌<◌, ◌≤◌, Bool, true, false, cond, List, [], ◌∷◌, ◌++◌, length, map, Some, None, Ok, refl, sym, ap, subst, ◌∙◌, append_assoc, codes, arith}
+use Rattle.std.proofs.Common.{◌≡◌, ◌≢◌, ℕ, zero, suc, ◌+◌, ◌^◌, ◌<◌, ◌≤◌, Bool, true, false, cond, List, [], ◌∷◌, ◌++◌, length, map, Some, None, Ok, refl, sym, ap, subst, ◌∙◌, append_assoc, codes, arith}
 use Rattle.std.specs.Prelude.{decimal, nat_lt, ◌==◌}
 use Rattle.std.specs.List.{flat_map, AllByRecursion}
 use Rattle.std.proofs.lemmas.Bool.Decides.{nat_tests}
@@ -16,8 +16,8 @@ use Rattle.gm_model.specs.Tokens.{is_digit, begins_two_byte_sign, IsLexeme}
 use Rattle.gm_model.specs.Reading.{Part, IsWithin, symbols_in}
 use Rattle.gm_text.specs.Cursor.{Cursor}
 use Rattle.gm_text.specs.Machine.{Leads, run}
-use Rattle.gm_text.specs.SchemaText.{LabelForm, EmbedForm, SchemaForm, Role, Fixed, Dimension, EmbedWord, NameAt, LabelAt, passed_of, no_labels, with_label, with_labels, embed_of, names_in, kind_word, word, sign, spell_labels, spell_embed, spell_embeds, spell, IsEmbed, IsForm, IsSentence, beyond, labels_below, labels_in, labels_text, embed_line, canonical}
-use Rattle.gm_text.specs.SchemaReading.{State, AtDim, AtEmbeds, role_at, move, never}
+use Rattle.gm_text.specs.SchemaText.{LabelForm, EmbedForm, SchemaForm, Role, Fixed, Dimension, EmbedWord, NameAt, LabelAt, passed_of, no_labels, with_label, with_labels, embed_of, names_in, kind_word, schema_of, word, sign, spell_labels, spell_embed, spell_embeds, spell, IsEmbed, IsForm, IsSentence, beyond, labels_below, labels_in, labels_text, embed_line, canonical}
+use Rattle.gm_text.specs.SchemaReading.{State, AtDim, AtEmbeds, role_at, move, never, Stands}
 use Rattle.gm_text.specs.SchemaAnswers.{IsSchemaRead}
 use Rattle.gm_text.specs.SchemaPrinting.{AreParts, BeginNoEmbed, StandsBefore}
 use Rattle.gm_text.proofs.Printed.{Stops, symbols_from, symbols_of-from, symbols_from-blank, symbols_from-word_blank, symbols_from-decimal, symbols_from-decimal_blank, symbols_from-sign, IsLexeme-decimal}
@@ -229,42 +229,52 @@ first_mark : (marks : List Mark) (next : Symbol) (others : List Symbol) → symb
 first_mark [] next others same = absurd cc
 first_mark (mark ∷ marks) next others same = (mark, marks, refl, cc same)
 
-pub read_again : (old new : Cursor) (schema : Schema) (rest : List ℕ) → IsSchemaRead old new schema → BeginNoEmbed rest → StandsBefore rest (canonical schema ++ rest) schema
-read_again old new schema rest read (next, others, begins, other) =
+-- the schema stands before the marks of bytes
+pub record StandsAgain (form : SchemaForm) (marks : List Mark) (rest : List ℕ) : Type 0 where
+  pub again : SchemaForm
+  pub after : List Mark
+  pub stands : Stands passed_of again marks after
+  pub means : schema_of form ≡ schema_of again
+  pub behind : symbols after ≡ symbols_from rest
+
+-- a form that passes nothing and whose names are tokens is read again from marks of its schema's canonical text
+pub form_again : (form : SchemaForm) (marks : List Mark) (rest : List ℕ) → IsForm form → AreWithin (spell form []) → AreParts (schema_of form).embeds → symbols marks ≡ symbols_from (canonical (schema_of form) ++ rest)
+    → (next : Symbol) (others : List Symbol) → symbols_from rest ≡ next ∷ others → next ≢ Word (codes "embed") → StandsAgain form marks rest
+form_again form marks rest form_is within good spelled next others begins other =
+    let schema = schema_of form in
     let n = schema.dim in
     let embeds = schema.embeds in
-    let good = read_parts old new schema read in
-    let same_dim : n ≡ read.form.dim = ap (λ (s : Schema). s.dim) read.means in
-    let same_list : embeds ≡ map embed_of read.form.embeds = ap (λ (s : Schema). s.embeds) read.means in
-    let within = read.stands.within in
-    let low : n ≤ 7 = subst (λ (m : ℕ). m ≤ 7) (sym same_dim) (dim_read read.form within) in
-    let sound = sound_from read.form.dim [] read.form.embeds read.stands.good within.1.1 in
-    let are_good : AllByRecursion (IsGood n) embeds = subst (λ (m : ℕ). AllByRecursion (IsGood m) embeds) (sym same_dim) (subst (λ (es : List Embed). AllByRecursion (IsGood read.form.dim) es) (sym same_list) sound.good) in
-    let are_new : AreNew [] embeds = subst (AreNew []) (sym same_list) sound.new in
-    let few : length {A = Embed} [] + length embeds ≤ 8 = subst (λ (es : List Embed). length {A = Embed} [] + length es ≤ 8) (sym same_list) (sound.few (omega arith)) in
-    let form = schema_form schema in
-    let form_good : IsForm form = forms_good n embeds are_good in
-    let dim_passes : passed_of Dimension (Numeral n) ≡ None = subst (λ (m : ℕ). passed_of Dimension (Numeral m) ≡ None) (sym same_dim) within.1.0 in
-    let form_within : AreWithin (spell form []) = (refl, (dim_passes, embeds_pass n [] embeds good are_good are_new few)) in
+    let low : n ≤ 7 = dim_read form within in
+    let sound = sound_from form.dim [] form.embeds form_is within.1.1 in
+    let few : length {A = Embed} [] + length embeds ≤ 8 = sound.few (omega arith) in
+    let again = schema_form schema in
+    let again_good : IsForm again = forms_good n embeds sound.good in
+    let again_within : AreWithin (spell again []) = (refl, (within.1.0, embeds_pass n [] embeds good sound.good sound.new few)) in
     let parts = map beyond (symbols_from rest) in
-    let text = canonical schema ++ rest in
-    let all : symbols_of text ≡ symbols_in (spell form []) ++ symbols_from rest =
-    symbols_of-from text ∙ canonical_symbols schema rest parts low good (sym (beyond_symbols (symbols_from rest))) ∙ ap symbols_in (sym (spell_before form parts))
-    ∙ map-append (λ (part : Part Role). part.symbol) (spell form []) parts ∙ ap (λ (ss : List Symbol). symbols_in (spell form []) ++ ss) (beyond_symbols (symbols_from rest)) in
-    let split = apart (marks_of text) (symbols_in (spell form [])) (symbols_from rest) all in
-    let behind = split.two ∙ sym (symbols_of-from rest) in
-    let (mark, more, is, symbol) = first_mark split.after next others (behind ∙ begins) in
-    let led = led_form passed_of form form_good in
-    let runs = run_led AtDim (AtEmbeds n (map embed_of form.embeds)) (spell form []) split.before 0 led split.one form_within in
-    let stands = form_stands passed_of passed_placeless (marks_of text) split.before split.after mark more n (map embed_of form.embeds) runs split.split is (λ e. other (sym symbol ∙ e)) in
+    let all : symbols marks ≡ symbols_in (spell again []) ++ symbols_from rest =
+    spelled ∙ canonical_symbols schema rest parts low good (sym (beyond_symbols (symbols_from rest))) ∙ ap symbols_in (sym (spell_before again parts))
+    ∙ map-append (λ (part : Part Role). part.symbol) (spell again []) parts ∙ ap (λ (ss : List Symbol). symbols_in (spell again []) ++ ss) (beyond_symbols (symbols_from rest)) in
+    let split = apart marks (symbols_in (spell again [])) (symbols_from rest) all in
+    let (mark, more, is, symbol) = first_mark split.after next others (split.two ∙ begins) in
+    let led = led_form passed_of again again_good in
+    let runs = run_led AtDim (AtEmbeds n (map embed_of again.embeds)) (spell again []) split.before 0 led split.one again_within in
+    let stands = form_stands passed_of passed_placeless marks split.before split.after mark more n (map embed_of again.embeds) runs split.split is (λ e. other (sym symbol ∙ e)) in
     record {
-      form = stands.form;
+      again = stands.form;
       after = split.after;
       stands = stands.stands;
       means = ap (λ (es : List Embed). let s : Schema = record { dim = n; embeds = es } in s) (sym (same_embeds embeds good)) ∙ stands.means;
-      behind = behind;
+      behind = split.two;
     }
   where
     forms_good : (n : ℕ) (embeds : List Embed) → AllByRecursion (IsGood n) embeds → AllByRecursion IsEmbed (forms_of embeds)
     forms_good n [] all = tt
     forms_good n (embed ∷ embeds) all = ((all.0.free, all.0.kind), forms_good n embeds all.1)
+
+pub read_again : (old new : Cursor) (schema : Schema) (rest : List ℕ) → IsSchemaRead old new schema → BeginNoEmbed rest → StandsBefore rest (canonical schema ++ rest) schema
+read_again old new schema rest read (next, others, begins, other) =
+    let text = canonical (schema_of read.form) ++ rest in
+    let good = subst (λ (s : Schema). AreParts s.embeds) read.means (read_parts old new schema read) in
+    let again = form_again read.form (marks_of text) rest read.stands.good read.stands.within good (symbols_of-from text) next others (sym (symbols_of-from rest) ∙ begins) other in
+    subst (λ (s : Schema). StandsBefore rest (canonical s ++ rest) s) (sym read.means)
+    (record { form = again.again; after = again.after; stands = again.stands; means = again.means; behind = again.behind ∙ sym (symbols_of-from rest) })

@@ -179,7 +179,7 @@ form_sound form good within =
 
 -- ---- each name is one, and a mask has bits for the labels 0 to 7
 
-abbrev AreSound : List (Part Role) → Type 0
+abbrev pub AreSound : List (Part Role) → Type 0
 AreSound parts = AllByRecursion IsSound (symbols_in parts)
 
 small_labels : (n : ℕ) (mask : Mask) (labels : List LabelForm) (rest : List (Part Role)) → n ≤ 7 → mask.bits < 2 ^ 8 → AreWithin (spell_labels n mask labels rest) → AreSound (spell_labels n mask labels rest) → ((with_labels mask labels).bits < 2 ^ 8) × AreSound rest
@@ -213,6 +213,10 @@ dim_low n e = go ((n == 0) || nat_lt 7 n) refl e
 pub dim_read : (form : SchemaForm) → AreWithin (spell form []) → form.dim ≤ 7
 dim_read form within = dim_low form.dim (nothing_passed _ _ within.1.0).0
 
+-- the names of a form whose symbols are tokens' are such
+pub form_parts : (form : SchemaForm) → AreWithin (spell form []) → AreSound (spell form []) → AreParts (schema_of form).embeds
+form_parts form within sound = parts_from form.dim [] form.embeds (dim_read form within) within.1.1 sound.1.1
+
 pub read_parts : (old new : Cursor) (schema : Schema) → IsSchemaRead old new schema → AreParts schema.embeds
 read_parts old new schema read =
     let form = read.form in
@@ -220,7 +224,7 @@ read_parts old new schema read =
     let all = subst (λ (ms : List Mark). AllByRecursion IsSound (symbols ms)) read.stands.split (words_are_lexemes old.text old.place) in
     let front = all_front (symbols read.stands.before) (symbols (marks_left new)) (subst (AllByRecursion IsSound) (map-append (λ (mark : Mark). mark.symbol) read.stands.before (marks_left new)) all) in
     let sound : AreSound (spell form []) = subst (AllByRecursion IsSound) read.stands.spelled front in
-    subst AreParts (sym (ap (λ (s : Schema). s.embeds) read.means)) (parts_from form.dim [] form.embeds (dim_read form within) within.1.1 sound.1.1)
+    subst AreParts (sym (ap (λ (s : Schema). s.embeds) read.means)) (form_parts form within sound)
 
 pub read_sound : (old new : Cursor) (schema : Schema) → IsSchemaRead old new schema → IsSchema schema
 read_sound old new schema read = subst IsSchema (sym read.means) (form_sound read.form read.stands.good read.stands.within)

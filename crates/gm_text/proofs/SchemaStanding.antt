@@ -265,7 +265,7 @@ module _ {What : Type 0} (passed : Role → Symbol → Option What) (placeless :
   placed_label n mask Stray place = tt
   placed_label n mask End place = tt
 
-  placed_role : (state : State) (symbol : Symbol) (place : ℕ) → IsPlacedAt place (role_at state symbol place)
+  pub placed_role : (state : State) (symbol : Symbol) (place : ℕ) → IsPlacedAt place (role_at state symbol place)
   placed_role AtDim symbol place = tt
   placed_role AtTop symbol place = tt
   placed_role (AtEmbeds n declared) symbol place = tt
@@ -274,7 +274,7 @@ module _ {What : Type 0} (passed : Role → Symbol → Option What) (placeless :
   placed_role (AtLabel n declared name mask) symbol place = placed_label n mask symbol place
   placed_role (AtKind n declared name mask) symbol place = tt
 
-  placed_along : (state last : State) (marks : List Mark) (parts : List (Part Role)) → Along passed never role_at move state marks parts last → ArePlaced marks parts
+  pub placed_along : (state last : State) (marks : List Mark) (parts : List (Part Role)) → Along passed never role_at move state marks parts last → ArePlaced marks parts
   placed_along state last [] parts along = tt
   placed_along state last (mark ∷ marks) [] along = tt
   placed_along state last (mark ∷ marks) (part ∷ parts) (next, is, moves, along) = rw is (placed_role state mark.symbol mark.place, placed_along next last marks parts along)

@@ -33,18 +33,18 @@ read_stands old new n embeds reads (next, others, behind, ends) =
 
 -- ---- where limits alone are
 
-abbrev run_limits : State → ℕ → List Mark → Result State (Stop State LimitKind)
+abbrev pub run_limits : State → ℕ → List Mark → Result State (Stop State LimitKind)
 run_limits state last marks = run limit_of never role_at move state last marks
 
-limits_run : (state : State) (last : ℕ) (marks : List Mark) → run_in false state last marks ≡ stop_as LimitOf (run_limits state last marks)
+pub limits_run : (state : State) (last : ℕ) (marks : List Mark) → run_in false state last marks ≡ stop_as LimitOf (run_limits state last marks)
 limits_run state last marks = run_as LimitOf limit_of (judged false) (λ role symbol. refl) never role_at move state last marks
 
-limits_ok : (answer : Result State (Stop State LimitKind)) (to : State) → stop_as LimitOf answer ≡ Ok to → answer ≡ Ok to
+pub limits_ok : (answer : Result State (Stop State LimitKind)) (to : State) → stop_as LimitOf answer ≡ Ok to → answer ≡ Ok to
 limits_ok (Ok state) to e = let same : state ≡ to = cc e in ap Ok same
 limits_ok (Err (Ends state mark)) to e = absurd cc
 limits_ok (Err (Passes what place)) to e = absurd cc
 
-limits_end : (answer : Result State (Stop State LimitKind)) (stop : State) (at : Mark) → stop_as LimitOf answer ≡ Err (Ends stop at) → answer ≡ Err (Ends stop at)
+pub limits_end : (answer : Result State (Stop State LimitKind)) (stop : State) (at : Mark) → stop_as LimitOf answer ≡ Err (Ends stop at) → answer ≡ Err (Ends stop at)
 limits_end (Ok state) stop at e = absurd cc
 limits_end (Err (Ends state mark)) stop at e =
     let s : state ≡ stop = cc e in
@@ -52,7 +52,7 @@ limits_end (Err (Ends state mark)) stop at e =
     ap (λ (x : State). Err (Ends x mark)) s ∙ ap (λ (x : Mark). Err (Ends stop x)) m
 limits_end (Err (Passes what place)) stop at e = absurd cc
 
-limits_pass : (answer : Result State (Stop State LimitKind)) (what : LimitKind) (place : ℕ) → stop_as LimitOf answer ≡ Err (Passes (LimitOf what) place) → answer ≡ Err (Passes what place)
+pub limits_pass : (answer : Result State (Stop State LimitKind)) (what : LimitKind) (place : ℕ) → stop_as LimitOf answer ≡ Err (Passes (LimitOf what) place) → answer ≡ Err (Passes what place)
 limits_pass (Ok state) what place e = absurd cc
 limits_pass (Err (Ends state mark)) what place e = absurd cc
 limits_pass (Err (Passes some at)) what place e =
@@ -60,7 +60,7 @@ limits_pass (Err (Passes some at)) what place e =
     let p : at ≡ place = cc e in
     ap (λ (x : LimitKind). Err (Passes x at)) w ∙ ap (λ (x : ℕ). Err (Passes what x)) p
 
-never_again : (answer : Result State (Stop State LimitKind)) (place : ℕ) → stop_as LimitOf answer ≡ Err (Passes Again place) → ⊥
+pub never_again : (answer : Result State (Stop State LimitKind)) (place : ℕ) → stop_as LimitOf answer ≡ Err (Passes Again place) → ⊥
 never_again (Ok state) place e = absurd cc
 never_again (Err (Ends state mark)) place e = absurd cc
 never_again (Err (Passes some at)) place e = absurd cc
