@@ -6,6 +6,7 @@ use Rattle.gm_model.specs.declared.rule.Side.TheVariants.{Left, Right}
 use Rattle.gm_model.specs.declared.schema.Schema.{Schema}
 use Rattle.gm_model.specs.declared.word.Letter.TheVariants.{At, Gone}
 use Rattle.gm_model.specs.Rules.{Rule, RuleNode, links_on}
+use Rattle.gm_text.specs.SchemaText.{SchemaForm}
 use Rattle.gm_book.specs.BookText.{BookText, canonical}
 use Rattle.std.specs.List.{AllByRecursion}
 use Rattle.gm_book.proofs.CanonicalForm.{IsWritable, IsGoodLink}
@@ -32,10 +33,13 @@ split = record {
 abbrev plane : Schema
 plane = record { dim = 2; embeds = [] }
 
+abbrev flat : SchemaForm
+flat = record { dim = 2; embeds = [] }
+
 split_text : List ℕ
 split_text = codes "book 1\ndim 2\nrule split\nleft\na <0 1> hook\na -2- a\nright\na <0 _>\nb_2 <_ 2>\na -1- b_2\n"
 
-split_is_printed : canonical 1 2 (split ∷ []) ≡ split_text
+split_is_printed : canonical 1 plane (split ∷ []) ≡ split_text
 unfolding split_text
 split_is_printed = rw (decimal_digit 0 (omega arith), decimal_digit 1 (omega arith), decimal_digit 2 (omega arith)) refl
 
@@ -70,7 +74,7 @@ split_is_writable = record {
 
 split_is_read : BookText split_text 1 plane (split ∷ [])
 split_is_read = subst (λ text. BookText text 1 plane (split ∷ [])) split_is_printed
-    (written_again 1 plane (split ∷ []) refl (record { known = inl refl; hooks = (λ one. omega arith, tt); some = omega arith; low = omega arith; few = omega arith; each = (split_is_writable, tt); differ = (refl, tt) }))
+    (written_again 1 flat (split ∷ []) tt (refl, (refl, tt)) tt (record { known = inl refl; hooks = (λ one. omega arith, tt); some = omega arith; low = omega arith; few = omega arith; each = (split_is_writable, tt); differ = (refl, tt) }))
 
 -- ---- two hooks
 
@@ -92,7 +96,7 @@ sew = record {
 sew_text : List ℕ
 sew_text = codes "book 2\ndim 2\nrule sew\nleft\na <0> hook\nb <0> hook\nright\na <0>\nb <0>\na -2- b\n"
 
-sew_is_printed : canonical 2 2 (sew ∷ []) ≡ sew_text
+sew_is_printed : canonical 2 plane (sew ∷ []) ≡ sew_text
 unfolding sew_text
 sew_is_printed = rw (decimal_digit 0 (omega arith), decimal_digit 2 (omega arith)) refl
 
@@ -127,4 +131,4 @@ sew_is_writable = record {
 
 sew_is_read : BookText sew_text 2 plane (sew ∷ [])
 sew_is_read = subst (λ text. BookText text 2 plane (sew ∷ [])) sew_is_printed
-    (written_again 2 plane (sew ∷ []) refl (record { known = inr refl; hooks = (λ one. absurd (omega (arith, one)), tt); some = omega arith; low = omega arith; few = omega arith; each = (sew_is_writable, tt); differ = (refl, tt) }))
+    (written_again 2 flat (sew ∷ []) tt (refl, (refl, tt)) tt (record { known = inr refl; hooks = (λ one. absurd (omega (arith, one)), tt); some = omega arith; low = omega arith; few = omega arith; each = (sew_is_writable, tt); differ = (refl, tt) }))
