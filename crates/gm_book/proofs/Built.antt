@@ -1,5 +1,5 @@
 -- What the pass over the names of the rules says of the whole.
-use Rattle.std.proofs.Common.{ℕ, ◌≤◌, List, [], ◌∷◌, length, map, Some, None}
+use Rattle.std.proofs.Common.{ℕ, ◌≤◌, List, [], ◌∷◌, length, Some, None}
 use Rattle.std.specs.List.{AllByRecursion}
 use Rattle.gm_book.specs.BookText.{IsFaultInRules, place_of, TwiceAt, UnknownAt, IsSentence, limit_of, spell_rules, the_end, nodes_of}
 use Rattle.gm_book.specs.BookText as text

@@ -1,6 +1,6 @@
 -- Canonical text as lines, and its symbols: those of the canonical form.
-use Rattle.std.proofs.Common.{◌≡◌, ℕ, ◌+◌, ◌≤◌, Bool, true, false, not, eqb, List, [], ◌∷◌, ◌++◌, map, filter, Option, Some, None, is_some, refl, sym, ap, subst, ◌∙◌, append_assoc, codes, arith}
-use Rattle.std.specs.Prelude.{decimal, slice_get}
+use Rattle.std.proofs.Common.{◌≡◌, ℕ, ◌+◌, ◌≤◌, Bool, true, false, not, eqb, List, [], ◌∷◌, ◌++◌, map, filter, Option, Some, None, is_some, refl, sym, ap, subst, ◌∙◌, append_assoc, codes}
+use Rattle.std.specs.Prelude.{slice_get}
 use Rattle.std.specs.List.{flat_map, list_any, AllByRecursion}
 use Rattle.std.proofs.lemmas.Grind.{flat_map-append}
 use Rattle.std.proofs.lemmas.List.{append-nil}
@@ -10,12 +10,12 @@ use Rattle.gm_model.specs.declared.word.Letter.{Letter}
 use Rattle.gm_model.specs.declared.rule.Link.{Link}
 use Rattle.gm_model.specs.declared.rule.Side.{Side}
 use Rattle.gm_model.specs.declared.rule.Side.TheVariants.{Left, Right}
-use Rattle.gm_model.specs.Symbols.{Symbol, Word, Numeral, Mark}
+use Rattle.gm_model.specs.Symbols.{Symbol, Word, Mark}
 use Rattle.gm_model.specs.Reading.{Part, symbols_in}
 use Rattle.gm_model.specs.Rules.{Rule, RuleNode, has_word, word_on, links_on, name_at}
 use Rattle.gm_book.specs.BookText.{Role, Fixed, the_end, word, no_count, counted, count_across, left_lines, right_line, right_lines, link_line, rule_lines, spell_items, spell_rule, spell_rules}
 use Rattle.gm_text.proofs.Printed.{symbols_from, symbols_from-end, symbols_from-word_blank}
-use Rattle.gm_book.proofs.CanonicalForm.{Line, NodeLine, text_of, node_lines, line_before, tie, hook_on, lines_of, form_at, forms_at, left_marks, right_marks, behind, behind_lines, IsGoodName, IsGoodLine, IsGoodNode, IsGoodLink, IsGoodWordIfAny, IsWritable}
+use Rattle.gm_book.proofs.CanonicalForm.{Line, NodeLine, text_of, node_lines, line_before, tie, hook_on, lines_of, form_at, forms_at, left_marks, right_marks, behind_lines, IsGoodName, IsGoodLine, IsGoodNode, IsGoodLink, IsGoodWordIfAny, IsWritable}
 use Rattle.gm_book.proofs.CanonicalSymbols.{lines_symbols}
 
 pub element_at : {X : Type 0} (P : X → Type 0) (xs : List X) → AllByRecursion P xs → (k : ℕ) (x : X) → slice_get xs k ≡ Some x → P x

@@ -21,7 +21,7 @@ use Rattle.gm_text.proofs.SchemaGrammar as schema_grammar
 use Rattle.gm_text.proofs.SchemaStanding.{limit_placeless}
 use Rattle.gm_text.proofs.SchemaStanding as schema_standing
 use Rattle.gm_book.specs.declared.state.Heading.{Heading}
-use Rattle.gm_book.specs.BookText.{BookForm, RuleForm, Role, Fixed, InSchema, limit_of, stands_before, word, number, the_end, spell_rules, spelling, IsForm, IsSentence}
+use Rattle.gm_book.specs.BookText.{BookForm, Role, Fixed, InSchema, limit_of, stands_before, word, number, the_end, spell_rules, spelling, IsSentence}
 use Rattle.gm_book.specs.Reading.{State, AtRules, AtName, AtEnd, heading_at, Outer, AtFormat, AtVersion, InRules, Header, header_at, Whole, is_version, outer_role, in_rules, outer_move, heading_in, book_nesting, role_at, move}
 use Rattle.gm_book.proofs.Grammar.{same_limit, same_before, has_marks}
 use Rattle.gm_book.proofs.Leading.{at_header, led_rules, goes_on}
@@ -232,10 +232,10 @@ pieces = record {
       let at = fronted parts (in_rules AtEnd) (λ e. absurd cc) (λ e. absurd cc) led in
       (front_of at.version, at.rest, header_at at.version schema.AtDim, (at.version, at.known, refl, refl), at.split, at.leads);
   inner_leads = λ inner last parts (version, form, good, at, spelled, to). (
-      subst (λ (h : Header). LedInside h parts last) (sym at) (subst (λ (ps : List (Part schemas.Role)). LedInside (header_at version schema.AtDim) ps last) (sym spelled)
-      (subst (λ (h : Header). LedInside (header_at version schema.AtDim) (spell form []) h) (sym to) (form_leads version form good))),
-      subst (λ (h : Header). IsTrue (schema.is_whole h.state)) (sym to) refl,
-    );
+    subst (λ (h : Header). LedInside h parts last) (sym at) (subst (λ (ps : List (Part schemas.Role)). LedInside (header_at version schema.AtDim) ps last) (sym spelled)
+        (subst (λ (h : Header). LedInside (header_at version schema.AtDim) (spell form []) h) (sym to) (form_leads version form good))),
+    subst (λ (h : Header). IsTrue (schema.is_whole h.state)) (sym to) refl,
+  );
   inner = λ front inner last parts at led whole.
       let is = inner_is at.0 parts last (subst (λ (h : Header). LedInside h parts last) at.3 led) whole in
       (is.0, is.1, is.2, at.3 ∙ is.3, is.4, is.5);

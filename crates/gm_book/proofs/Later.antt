@@ -17,8 +17,8 @@ use Rattle.gm_text.specs.SchemaText.{SchemaForm, spell}
 use Rattle.gm_text.specs.SchemaReading as schema
 use Rattle.gm_text.proofs.Machine.{last_of, IsEnded, along_leads, along_spelled, run_ends, ended_is, led_begins, begun}
 use Rattle.gm_book.specs.declared.state.Heading.{Heading}
-use Rattle.gm_book.specs.BookText.{Role, Fixed, InSchema, RuleWord, WordEnd, limit_of, stands_before, in_schema, header, word, sign, the_end, IsSentence, IsLater, Parameters, Assignment, Precondition, IsNotBuilt, IsTextFault}
-use Rattle.gm_book.specs.Reading.{Spot, State, AtRules, AtName, AtLeft, AtItem, AtSign, AtLetter, AtBehind, AtLabel, AtDash, AtTo, AtEnd, left_spot, with_hook, closing, is_hook, expect, unless_reserved, item_move, behind_move, end_move, closed, move, Outer, AtFormat, AtVersion, InRules, Header, header_at, Whole, in_rules, outer_move, heading_in, rules_role, book_nesting, run_whole, is_later, is_later_in}
+use Rattle.gm_book.specs.BookText.{Role, Fixed, InSchema, WordEnd, limit_of, stands_before, in_schema, header, word, sign, the_end, IsSentence, IsLater, Parameters, Assignment, Precondition, IsNotBuilt, IsTextFault}
+use Rattle.gm_book.specs.Reading.{Spot, State, AtRules, AtName, AtLeft, AtItem, AtSign, AtLetter, AtBehind, AtLabel, AtDash, AtTo, AtEnd, left_spot, with_hook, closing, is_hook, expect, unless_reserved, item_move, behind_move, end_move, closed, move, AtFormat, AtVersion, InRules, Header, header_at, Whole, in_rules, outer_move, heading_in, rules_role, book_nesting, run_whole, is_later_in}
 use Rattle.gm_book.proofs.Spelling.{expected, free_word}
 use Rattle.gm_book.proofs.Header.{LedWhole, front_of, fronted, format_moved, version_moved, the_part, inner_is, book_grammar}
 

@@ -11,6 +11,7 @@ pub mod Later
 pub mod RulesHeld
 pub mod SchemaNames
 pub mod Whole
+pub mod HeadRead
 pub mod OneBook
 pub mod Among
 pub mod Built

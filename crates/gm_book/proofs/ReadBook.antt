@@ -1,5 +1,5 @@
 -- What the passes of the reader of a book's text say of the whole.
-use Rattle.std.proofs.Common.{◌≡◌, ◌≢◌, ℕ, ◌≤◌, Bool, true, false, List, [], ◌∷◌, ◌++◌, map, length, All, Result, Ok, Err, refl, sym, ap, subst, ◌∙◌, codes}
+use Rattle.std.proofs.Common.{◌≡◌, ℕ, ◌≤◌, true, false, List, [], ◌∷◌, map, length, All, Result, Ok, Err, sym, ap, subst, ◌∙◌}
 use Rattle.std.proofs.lemmas.List.Elements.{All-head, All-tail}
 use Rattle.std.specs.Prelude.{IfOk, IfErr}
 use Rattle.std.specs.List.{AllByRecursion}
@@ -7,15 +7,15 @@ use Rattle.gm_model.specs.declared.limit.LimitKind.{LimitKind}
 use Rattle.gm_model.specs.declared.rule.Book.{Book}
 use Rattle.gm_model.specs.declared.rule.RuleTable.{RuleTable}
 use Rattle.gm_model.specs.declared.schema.Schema.{Schema}
-use Rattle.gm_model.specs.Rules.{Rule, rule_of}
+use Rattle.gm_model.specs.Rules.{rule_of}
 use Rattle.gm_model.specs.Maps.{IsSchema}
 use Rattle.gm_model.specs.Reading.{Part, IsWithin, symbols_in}
 use Rattle.gm_model.specs.Structure.{IsInRange, IsWithinLimits}
-use Rattle.gm_model.specs.Symbols.{Word, Mark, marks_of}
+use Rattle.gm_model.specs.Symbols.{Mark, marks_of}
 use Rattle.gm_text.specs.Cursor.{Cursor}
 use Rattle.gm_text.specs.Machine.{Stop, Ends, Passes}
 use Rattle.gm_text.specs.Nested.{Outside, Inside}
-use Rattle.gm_text.specs.SchemaText.{SchemaForm, passed_of, limit_of as schema_limit, schema_of, spell}
+use Rattle.gm_text.specs.SchemaText.{passed_of, limit_of as schema_limit, spell}
 use Rattle.gm_text.specs.SchemaReading as schema
 use Rattle.gm_text.specs.SchemaReading.{Stands}
 use Rattle.gm_text.specs.SchemaAnswers.{marks_left, SkipsSchema, IsSchemaSkipped, IsSchemaRead, Stops, StopsOrLost}
@@ -23,7 +23,7 @@ use Rattle.gm_text.specs.declared.schema_fault.SchemaFault.{SchemaFault}
 use Rattle.gm_text.specs.declared.schema_fault.SchemaFault.TheVariants as schema_faults
 use Rattle.gm_text.proofs.Machine.{run_reads, run_passes, passing_is, along_spelled}
 use Rattle.gm_text.proofs.OneSchema.{one_skipped}
-use Rattle.gm_book.specs.BookText.{RuleForm, BookForm, Role, limit_of, stands_before, the_end, spell_rules, IsSentence, ArePlaced, IsWritten, IsTextFault, IsLimitFault, IsNotBuilt, NameFault, TwiceAt, UnknownAt, place_of, IsFaultInRules, IsNameFault, SchemaTwice, RulesFault, IsFirstNameFault, rule_in, BookText, nodes_of}
+use Rattle.gm_book.specs.BookText.{RuleForm, BookForm, Role, limit_of, stands_before, IsSentence, ArePlaced, IsWritten, IsTextFault, IsLimitFault, IsNotBuilt, NameFault, TwiceAt, UnknownAt, place_of, IsNameFault, SchemaTwice, RulesFault, rule_in, BookText, nodes_of}
 use Rattle.gm_book.specs.declared.fault.BookFault.{BookFault}
 use Rattle.gm_book.specs.declared.fault.BookFault.TheVariants as faults
 use Rattle.gm_book.specs.declared.form_fault.FormFault.{FormFault}

@@ -398,7 +398,7 @@ read_again whole version schema rules stands =
     let form = book.schema in
     let good = book_good book stands.written.form (read_fit whole (spelling book) stands.written.read.spelled stands.written.read.within) in
     let within = passes_nothing (spell form []) good.within (λ part among again.
-      let (place, here) = again_placed part.role part.symbol again in stands.sound (TwiceAt place) (SchemaTwice place part among again here)) in
+    let (place, here) = again_placed part.role part.symbol again in stands.sound (TwiceAt place) (SchemaTwice place part among again here)) in
     let names = form_parts form within good.sound in
     let writable = subst (λ n. AreWritable version n rules) (ap (λ (s : Schema). s.dim) stands.means) (writable_from_text whole version schema rules stands) in
     subst (λ (s : Schema). BookText (canonical version s rules) version s rules) (sym stands.means) (written_again version form rules stands.written.form.1 within names writable)

@@ -1,5 +1,5 @@
 -- A schema that passes no limit is read up to its first name or label that is there again, or to its end.
-use Rattle.std.proofs.Common.{◌≡◌, ◌≢◌, ℕ, Bool, true, false, List, [], ◌∷◌, ◌++◌, map, Option, Some, None, Result, Ok, Err, refl, sym, ap, subst, ◌∙◌, codes}
+use Rattle.std.proofs.Common.{◌≡◌, ◌≢◌, ℕ, Bool, true, false, List, [], ◌∷◌, ◌++◌, map, None, Result, Err, refl, sym, ap, subst, ◌∙◌, codes}
 use Rattle.std.proofs.lemmas.Slice.Eq.{bytes_eq-Decides}
 use Rattle.std.specs.Str.{bytes_eq}
 use Rattle.gm_model.specs.declared.limit.LimitKind.{LimitKind}
@@ -8,10 +8,10 @@ use Rattle.gm_model.specs.declared.word.Mask.{Mask}
 use Rattle.gm_model.specs.Symbols.{Symbol, Word, Numeral, Sign, Gone, Stray, End, Mark, symbols}
 use Rattle.gm_model.specs.Reading.{Part, IsWithin, symbols_in}
 use Rattle.gm_text.specs.Cursor.{Cursor}
-use Rattle.gm_text.specs.Machine.{Stop, Ends, Passes, Leads, run}
-use Rattle.gm_text.specs.SchemaText.{SchemaForm, Role, NameAt, LabelAt, Passed, LimitOf, Again, limit_of, is_again, passed_of, embed_of, names_in, spell, IsSentence, IsPlacedAt, ArePlaced}
+use Rattle.gm_text.specs.Machine.{Stop, Ends, Passes, Leads}
+use Rattle.gm_text.specs.SchemaText.{SchemaForm, Role, NameAt, LabelAt, Passed, LimitOf, Again, limit_of, is_again, embed_of, names_in, spell, IsSentence, IsPlacedAt, ArePlaced}
 use Rattle.gm_text.specs.SchemaReading.{State, AtDim, AtTop, AtEmbeds, AtName, AtOrbit, AtLabel, AtKind, role_at, label_role, move, is_whole, never, Stands}
-use Rattle.gm_text.specs.SchemaAnswers.{marks_left, run_in, EndsIn, StopsOrLost}
+use Rattle.gm_text.specs.SchemaAnswers.{marks_left, run_in, StopsOrLost}
 use Rattle.gm_text.specs.declared.schema_fault.SchemaFault.{SchemaFault}
 use Rattle.gm_text.specs.declared.schema_fault.SchemaFault.TheVariants as faults
 use Rattle.gm_text.proofs.Machine.{Along, part_at}

@@ -1,6 +1,5 @@
 -- A run over a whole book is one over its version, its schema and its rules behind one another.
-use Rattle.std.proofs.Common.{◌≡◌, ◌≢◌, ℕ, Bool, true, false, cond, List, [], ◌∷◌, ◌++◌, Option, Some, None, Result, Ok, Err, refl, sym, ap, subst, ◌∙◌, codes}
-use Rattle.std.specs.Option.{option_map}
+use Rattle.std.proofs.Common.{◌≡◌, ◌≢◌, ℕ, Bool, false, cond, List, ◌∷◌, Option, Some, None, Result, Ok, Err, refl, sym, ap, subst, ◌∙◌, codes}
 use Rattle.gm_model.specs.declared.limit.LimitKind.{LimitKind}
 use Rattle.gm_model.specs.declared.schema.Embed.{Embed}
 use Rattle.gm_model.specs.Symbols.{Symbol, Word, Numeral, Sign, Gone, Stray, End, Mark}
@@ -9,13 +8,12 @@ use Rattle.gm_text.specs.Machine.{Stop, Ends, Passes, limit_place}
 use Rattle.gm_text.specs.Machine as machine
 use Rattle.gm_text.specs.Nested.{Outside, Inside}
 use Rattle.gm_text.specs.Nested as nested
-use Rattle.gm_text.specs.SchemaText.{LimitOf}
 use Rattle.gm_text.specs.SchemaReading as schema
-use Rattle.gm_text.specs.SchemaAnswers.{marks_left, run_in, SkipsSchema, Stops}
+use Rattle.gm_text.specs.SchemaAnswers.{marks_left, SkipsSchema, Stops}
 use Rattle.gm_text.specs.declared.schema_fault.SchemaFault.{SchemaFault}
 use Rattle.gm_text.specs.declared.schema_fault.SchemaFault.TheVariants as faults
 use Rattle.gm_text.proofs.Carried.{carried, run_carried}
-use Rattle.gm_text.proofs.Machine.{last_of, Refused, Limited, Moved, stepped}
+use Rattle.gm_text.proofs.Machine.{last_of}
 use Rattle.gm_text.proofs.Nested.{run_inside, run_inside_ends, run_inside_passes}
 use Rattle.gm_text.proofs.SchemaWhole.{run_limits, limits_run, limits_ok, limits_end, limits_pass, never_again}
 use Rattle.gm_book.specs.BookText.{Role, InSchema, limit_of, stands_before}

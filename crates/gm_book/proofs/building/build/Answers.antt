@@ -1,4 +1,4 @@
-use Rattle.std.proofs.Common.{◌≡◌, List, sym, subst, ap}
+use Rattle.std.proofs.Common.{List, sym, subst}
 use Rattle.gm_book.specs.declared.form.RuleForm.{RuleForm}
 use Rattle.gm_book.specs.Building.{HasNoFaultInRules, IsFaultOfNames}
 use Rattle.gm_book.specs.FirstNameFault.{IsLeastFault}
