@@ -8,7 +8,6 @@ use Rattle.gm_model.specs.declared.rule.Book.{Book}
 use Rattle.gm_model.specs.declared.rule.RuleTable.{RuleTable}
 use Rattle.gm_model.specs.declared.schema.Schema.{Schema}
 use Rattle.gm_model.specs.Rules.{rule_of}
-use Rattle.gm_model.specs.Maps.{IsSchema}
 use Rattle.gm_model.specs.Reading.{Part, IsWithin, symbols_in}
 use Rattle.gm_model.specs.Structure.{IsInRange, IsWithinLimits}
 use Rattle.gm_model.specs.Symbols.{Mark, marks_of}
@@ -189,10 +188,6 @@ module _ (text : List ℕ) where
           pub answer_faults : (result : Result Book BookFault) → IfErr result (IsFaultOfNames rules) → IfErr result (IsFaultOf text)
           answer_faults (Ok made) h = tt
           answer_faults (Err fault) h = name_fault fault h
-
-pub answer_schema : (declared : Schema) (result : Result Book BookFault) → IsSchema declared → IfOk result (λ made. made.schema ≡ declared) → IfOk result (λ made. IsSchema made.schema)
-answer_schema declared (Ok made) sound same = subst IsSchema (sym same) sound
-answer_schema declared (Err fault) sound same = tt
 
 -- ---- what is read is in range
 

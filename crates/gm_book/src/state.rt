@@ -6,7 +6,7 @@ use crate::tally::Tally;
 use gm_model::{Dim, Side, Word};
 use gm_text::Token;
 
-/// What the header of a book says.
+/// What the rules need of a book's header.
 #[derive(Clone, Copy)]
 pub(crate) struct Heading {
     pub version: u8,
