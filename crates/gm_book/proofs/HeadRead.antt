@@ -13,7 +13,8 @@ use Rattle.gm_text.specs.Nested.{Outside}
 use Rattle.gm_book.specs.declared.form_fault.FormFault.{FormFault}
 use Rattle.gm_book.specs.declared.form_fault.FormFault.TheVariants as faults
 use Rattle.gm_book.specs.Reading.{Outer, AtFormat, AtVersion, is_version, outer_move, run_whole, is_later_in}
-use Rattle.gm_book.specs.Standing.{IsNext, IsHeaded, BeginsBook, IsVersioned, EndsAt, IsHeadFault, marks_left, mark_of}
+use Rattle.gm_text.specs.SchemaAnswers.{marks_left}
+use Rattle.gm_book.specs.Standing.{IsNext, IsHeaded, BeginsBook, IsVersioned, EndsAt, IsHeadFault, mark_of}
 
 -- ---- no text of a book goes on
 

@@ -10,7 +10,8 @@ use Rattle.gm_book.specs.declared.form_fault.FormFault.{FormFault}
 use Rattle.gm_book.specs.declared.form_fault.FormFault.TheVariants as faults
 use Rattle.gm_book.specs.declared.state.State.{State as CodeState}
 use Rattle.gm_book.specs.Reading.{State, AtRules, AtName, AtLeft, AtItem, AtSign, AtLetter, AtBehind, AtLabel, AtDash, AtTo, AtEnd, Held}
-use Rattle.gm_book.specs.Standing.{Stand, stepped, read_on, ◌>>=◌, Fails, IsNext, IsStateIn, IsDraftIn, MovesFrom, stand_of, mark_of, marks_left}
+use Rattle.gm_text.specs.SchemaAnswers.{marks_left}
+use Rattle.gm_book.specs.Standing.{Stand, stepped, read_on, ◌>>=◌, Fails, IsNext, IsStateIn, IsDraftIn, MovesFrom, stand_of, mark_of}
 
 -- ---- tokens
 

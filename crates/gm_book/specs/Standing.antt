@@ -1,14 +1,15 @@
 -- Where the reader of a book's rules stands, what each mark comes to there, what the code holds of it, and what reading answers.
-use Rattle.std.specs.Prelude.{◌≡◌, ℕ, ◌<◌, ◌≤◌, Bool, true, false, if◌then◌else◌, List, [], ◌∷◌, length, map, Option, Some, None, Result, Ok, Err, IfOk, codes}
+use Rattle.std.specs.Prelude.{◌≡◌, ℕ, ◌<◌, Bool, true, false, if◌then◌else◌, List, [], ◌∷◌, length, map, Option, Some, None, Result, Ok, Err, IfOk, codes}
 use Rattle.std.specs.List.{AllByRecursion}
 use Rattle.std.specs.Option.{option_map}
 use Rattle.gm_model.specs.declared.limit.LimitKind.{LimitKind}
 use Rattle.gm_model.specs.declared.token.Token.{Token}
-use Rattle.gm_model.specs.Tokens.{bytes_of, IsLexeme}
-use Rattle.gm_model.specs.Symbols.{Word, Numeral, Sign, Stray, End, Mark, symbol_of_kind, value_of, marks_at}
+use Rattle.gm_model.specs.Tokens.{bytes_of}
+use Rattle.gm_model.specs.Symbols.{Word, Numeral, Sign, Stray, End, Mark, symbol_of_kind, value_of}
 use Rattle.gm_book.specs.BookText.{NodeItem, RuleForm}
 use Rattle.gm_text.specs.Cursor.{Cursor}
 use Rattle.gm_text.specs.Machine.{Stop, Ends, Passes}
+use Rattle.gm_text.specs.SchemaAnswers.{IsToken, marks_left}
 use Rattle.gm_book.specs.declared.form.RuleForm.{RuleForm as CodeRule}
 use Rattle.gm_book.specs.declared.form_fault.FormFault.{FormFault}
 use Rattle.gm_book.specs.declared.form_fault.FormFault.TheVariants as faults
@@ -161,12 +162,6 @@ EndsFrom text nodes draft state place result new_draft =
 
 -- ---- tokens
 
--- the token is one that a lexer answers
-pub record IsToken (text : List ℕ) (token : Token) : Type 0 where
-  pub order : token.start < token.end
-  pub within : token.end ≤ length text
-  pub lexeme : IsLexeme token.kind (bytes_of text token)
-
 abbrev pub mark_of : List ℕ → Token → Mark
 mark_of text token = record { symbol = symbol_of_kind token.kind (bytes_of text token); place = token.start }
 
@@ -178,10 +173,6 @@ number_mark text token = record { symbol = Numeral (value_of (bytes_of text toke
 
 abbrev pub sign_mark : List ℕ → Token → Mark
 sign_mark text token = record { symbol = Sign (bytes_of text token); place = token.start }
-
--- the marks that a lexer has before it
-abbrev pub marks_left : Cursor → List Mark
-marks_left cursor = marks_at cursor.text cursor.place
 
 -- what a lexer answers, and how it goes on; a byte that no token begins with is a fault
 abbrev pub IsNext : Cursor → Result (Option Token) FormFault → Cursor → Type 0
@@ -196,7 +187,7 @@ IsNext cursor (Err _) rest = ⊥
 abbrev pub BeginsBook : List Mark → List Mark → Type 0
 BeginsBook marks rest = (place : ℕ) × (marks ≡ record { symbol = Word (codes "book"); place = place } ∷ rest)
 
--- the same with a version of the format
+-- a version of the format stands there, and then these marks
 pub record IsVersioned (marks : List Mark) (version : ℕ) (rest : List Mark) : Type 0 where
   pub place : ℕ
   pub split : marks ≡ record { symbol = Numeral version; place = place } ∷ rest

@@ -5,7 +5,8 @@ ghost use Rattle.gm_model.specs.Tokens.{bytes_of};
 ghost use Rattle.gm_model.specs.declared.token.TokenKind.TheVariants.{Number};
 ghost use Rattle.gm_text.specs.Nested.{Outside};
 ghost use Rattle.gm_book.specs.Reading.{AtFormat, AtVersion};
-ghost use Rattle.gm_book.specs.Standing.{IsToken, IsNext, IsHeaded, BeginsBook, IsVersioned, IsHeadFault, marks_left};
+ghost use Rattle.gm_text.specs.SchemaAnswers.{IsToken, marks_left};
+ghost use Rattle.gm_book.specs.Standing.{IsNext, IsHeaded, BeginsBook, IsVersioned, IsHeadFault};
 
 use crate::form_fault::FormFault;
 use crate::words::reads;

@@ -5,7 +5,8 @@ ghost use Rattle.gm_model.specs.declared.rule.Side.TheVariants.{Left, Right};
 ghost use Rattle.gm_model.specs.declared.token.TokenKind.TheVariants.{Name};
 ghost use Rattle.gm_book.specs.declared.state.State.TheVariants as states;
 ghost use Rattle.gm_book.specs.Forms.{IsIn, IsRuleIn};
-ghost use Rattle.gm_book.specs.Standing.{IsToken, IsStateIn, IsDraftIn, Leads, StaysIn, Moves, KeepsIn, MovesFrom, EndsFrom, mark_of, word_mark, sign_mark};
+ghost use Rattle.gm_text.specs.SchemaAnswers.{IsToken};
+ghost use Rattle.gm_book.specs.Standing.{IsStateIn, IsDraftIn, Leads, StaysIn, Moves, KeepsIn, MovesFrom, EndsFrom, mark_of, word_mark, sign_mark};
 
 use crate::draft::Draft;
 use crate::form::Item;

@@ -7,7 +7,8 @@ ghost use Rattle.gm_model.specs.Rules.{rule_of};
 ghost use Rattle.gm_model.specs.Structure.{IsInRange, IsWithinLimits};
 ghost use Rattle.gm_book.specs.Faults.{IsFaultOf};
 ghost use Rattle.gm_book.specs.Forms.{forms_of, AreRulesIn};
-ghost use Rattle.gm_book.specs.Standing.{Gives, rules_stand, end_stand, read_on, marks_left, AreRulesRead, IsRulesFault};
+ghost use Rattle.gm_text.specs.SchemaAnswers.{marks_left};
+ghost use Rattle.gm_book.specs.Standing.{Gives, rules_stand, end_stand, read_on, AreRulesRead, IsRulesFault};
 
 use crate::building::build;
 use crate::fault::BookFault;

@@ -6,7 +6,8 @@ ghost use Rattle.gm_model.specs.Symbols.{Gone};
 ghost use Rattle.gm_model.specs.Tokens.{bytes_of};
 ghost use Rattle.gm_book.specs.declared.state.State.TheVariants as states;
 ghost use Rattle.gm_book.specs.Forms.{IsIn};
-ghost use Rattle.gm_book.specs.Standing.{IsToken, Leads, StaysIn, Gives, stand_in, stepped, number_mark, sign_mark};
+ghost use Rattle.gm_text.specs.SchemaAnswers.{IsToken};
+ghost use Rattle.gm_book.specs.Standing.{Leads, StaysIn, Gives, stand_in, stepped, number_mark, sign_mark};
 
 use crate::form_fault::FormFault;
 use crate::headers::value;

@@ -2,7 +2,8 @@ use Rattle.std.proofs.lemmas.Result.{IfErr-weaker}
 use Rattle.gm_text.specs.Nested.{Outside}
 use Rattle.gm_book.specs.declared.form_fault.FormFault.{FormFault}
 use Rattle.gm_book.specs.Reading.{AtFormat, AtVersion}
-use Rattle.gm_book.specs.Standing.{IsHeadFault, marks_left}
+use Rattle.gm_text.specs.SchemaAnswers.{marks_left}
+use Rattle.gm_book.specs.Standing.{IsHeadFault}
 use Rattle.gm_book.proofs.HeadRead.{fault_behind}
 use Rattle.gm_book.proofs.headers.read_version.Goals as goal
 

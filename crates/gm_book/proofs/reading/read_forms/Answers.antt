@@ -1,5 +1,6 @@
 use Rattle.std.proofs.lemmas.Result.{err_from_is_err_and}
-use Rattle.gm_book.specs.Standing.{marks_left, rules_of, current_of}
+use Rattle.gm_text.specs.SchemaAnswers.{marks_left}
+use Rattle.gm_book.specs.Standing.{rules_of, current_of}
 use Rattle.gm_book.proofs.Run.{are_rules_read, is_rules_fault}
 use Rattle.gm_book.proofs.reading.read_forms.Goals as goal
 

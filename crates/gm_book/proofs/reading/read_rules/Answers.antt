@@ -1,7 +1,8 @@
 use Rattle.std.proofs.Common.{◌∙◌, Option, Ok, subst}
 use Rattle.std.proofs.lemmas.Result.{err_from_is_err_and}
 use Rattle.gm_model.specs.declared.token.Token.{Token}
-use Rattle.gm_book.specs.Standing.{IsNext, rules_stand, stand_of, read_on, marks_left}
+use Rattle.gm_text.specs.SchemaAnswers.{marks_left}
+use Rattle.gm_book.specs.Standing.{IsNext, rules_stand, stand_of, read_on}
 use Rattle.gm_book.proofs.Onward.{goes_on, stops_here, keeps_on, stray_stops}
 use Rattle.gm_book.proofs.reading.read_rules.Goals as goal
 

@@ -1,5 +1,6 @@
 use Rattle.std.proofs.Common.{◌≡◌, ◌-◌, length}
-use Rattle.gm_book.specs.Standing.{IsStateIn, IsDraftIn, rules_stand, stand_of, read_on, marks_left}
+use Rattle.gm_text.specs.SchemaAnswers.{marks_left}
+use Rattle.gm_book.specs.Standing.{IsStateIn, IsDraftIn, rules_stand, stand_of, read_on}
 use Rattle.gm_book.proofs.reading.read_rules.Given as goal
 
 abbrev pub invariant-loop-token : goal.invariant-loop-token
