@@ -14,7 +14,6 @@ use Rattle.gm_book.specs.BookText.{Item, NodeItem, LinkItem, RuleForm, limit_of,
 use Rattle.gm_text.specs.Machine as machine
 use Rattle.gm_book.specs.declared.draft.Draft.{Draft}
 use Rattle.gm_book.specs.declared.form_fault.FormFault.{FormFault}
-use Rattle.gm_book.specs.declared.state.Heading.{Heading}
 use Rattle.gm_book.specs.declared.state.Spot.{Spot as CodeSpot}
 use Rattle.gm_book.specs.declared.state.State.{State as CodeState}
 use Rattle.gm_book.specs.declared.state.State.TheVariants as code
@@ -113,7 +112,7 @@ to_moves text nodes old put spot from label to free short rules current last = r
 
 -- ---- at the end
 
-pub ends_at : (text : List ℕ) (nodes : List (List ℕ)) (draft : Draft) (place : ℕ) (result : Result Heading FormFault) (new : Draft) {state known : CodeState}
+pub ends_at : {X : Type 0} (text : List ℕ) (nodes : List (List ℕ)) (draft : Draft) (place : ℕ) (result : Result X FormFault) (new : Draft) {state known : CodeState}
     → state ≡ known → EndsFrom text nodes draft known place result new → EndsFrom text nodes draft state place result new
 ends_at text nodes draft place result new is ends = subst (λ (s : CodeState). EndsFrom text nodes draft s place result new) (sym is) ends
 
@@ -124,11 +123,11 @@ unfolding stepped
 end_is_item text nodes rules current spot name word last place Left is = rw is refl
 end_is_item text nodes rules current spot name word last place Right is = rw is refl
 
-pub behind_ends : (text : List ℕ) (nodes : List (List ℕ)) (old put : Draft) (spot : CodeSpot) (name : Token) (word : List Letter) (place : ℕ) (result : Result Heading FormFault) (new : Draft)
+pub behind_ends : {X : Type 0} (text : List ℕ) (nodes : List (List ℕ)) (old put : Draft) (spot : CodeSpot) (name : Token) (word : List Letter) (place : ℕ) (result : Result X FormFault) (new : Draft)
     → rules_of text put ≡ rules_of text old → current_of text put ≡ option_map (with_item spot.side (NodeItem (mention_of text name) word false)) (current_of text old)
     → EndsFrom text nodes put (code.Item spot) place result new → EndsFrom text nodes old (code.Behind spot name word) place result new
-behind_ends text nodes old put spot name word place result new rules current ends last =
+behind_ends {X} text nodes old put spot name word place result new rules current ends last =
     let same = end_is_item text nodes (rules_of text old) (current_of text old) spot name word last place spot.side refl in
     let there = ap (λ (rs : List RuleForm). stepped (stand_in text nodes rs (current_of text put) (code.Item spot) last) (record { symbol = End; place = place })) rules in
     let here = ap (λ (c : Option RuleForm). stepped (stand_in text nodes (rules_of text old) c (code.Item spot) last) (record { symbol = End; place = place })) current in
-    subst (λ step. Gives (λ (heading : Heading). end_stand text new heading place) result step) (there ∙ here ∙ sym same) (ends last)
+    subst (λ step. Gives (λ (x : X). end_stand text new place) result step) (there ∙ here ∙ sym same) (ends last)

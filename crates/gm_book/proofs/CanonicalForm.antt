@@ -10,7 +10,7 @@ use Rattle.gm_model.specs.declared.rule.Side.TheVariants.{Left, Right}
 use Rattle.gm_model.specs.Symbols.{Mark}
 use Rattle.gm_model.specs.Names.{reserved, IsName, Mention, is_among}
 use Rattle.gm_model.specs.Rules.{Rule, RuleNode, word_on, links_on, has_word, name_at}
-use Rattle.gm_book.specs.BookText.{Item, NodeItem, LinkItem, RuleForm, BookForm, node_line}
+use Rattle.gm_book.specs.BookText.{Item, NodeItem, LinkItem, RuleForm, node_line}
 
 -- ---- lines
 
@@ -96,9 +96,6 @@ form_at marks rule = record {
 abbrev pub forms_at : List Mark → List Rule → List RuleForm
 forms_at marks [] = []
 forms_at marks (rule ∷ rules) = form_at marks rule ∷ forms_at (behind_lines (lines_of rule Right) (right_marks rule marks)) rules
-
-abbrev pub book_at : List Mark → ℕ → ℕ → List Rule → BookForm
-book_at marks version n rules = record { version = version; dim = n; rules = forms_at (behind (behind (behind (behind marks)))) rules }
 
 -- ---- what a text can hold
 

@@ -1,7 +1,7 @@
 -- The canonical form is one, and passes no limit.
-use Rattle.std.proofs.Common.{◌≡◌, ℕ, ◌+◌, ◌<◌, ◌≤◌, Bool, true, false, eqb, ltb, List, [], ◌∷◌, length, map, Option, Some, None, ◌⊎◌, inl, inr, refl, ap, ◌∙◌, arith}
+use Rattle.std.proofs.Common.{◌≡◌, ℕ, ◌+◌, ◌≤◌, Bool, true, false, ltb, List, [], ◌∷◌, length, map, Option, Some, None, inl, inr, refl, ap, ◌∙◌, arith}
 use Rattle.std.specs.List.{AllByRecursion}
-use Rattle.std.proofs.lemmas.Bool.{le-ltb, ne_eqb, cases_Bool}
+use Rattle.std.proofs.lemmas.Bool.{le-ltb, cases_Bool}
 use Rattle.std.proofs.lemmas.List.{length-append, length-map}
 use Rattle.gm_model.specs.declared.word.Letter.{Letter}
 use Rattle.gm_model.specs.declared.word.Letter.TheVariants as letters
@@ -11,9 +11,9 @@ use Rattle.gm_model.specs.declared.rule.Side.TheVariants.{Left, Right}
 use Rattle.gm_model.specs.Symbols.{Mark}
 use Rattle.gm_model.specs.Reading.{Part, IsWithin}
 use Rattle.gm_model.specs.Rules.{Rule, RuleNode, word_on}
-use Rattle.gm_book.specs.BookText.{Item, NodeItem, LinkItem, RuleForm, hook_count, nodes_of, hooks_in, rule_in, Role, Count, no_count, count_after, count_across, counted, with_name, the_end, limit_of, spell_letters, spell_hook, spell_item, spell_items, spell_rule, spell_rules, spelling, IsItem, IsRule, IsForm, IsSentence}
+use Rattle.gm_book.specs.BookText.{Item, NodeItem, LinkItem, RuleForm, hook_count, nodes_of, hooks_in, rule_in, Role, Count, no_count, count_after, count_across, counted, with_name, the_end, limit_of, spell_letters, spell_hook, spell_item, spell_items, spell_rule, spell_rules, IsItem, IsRule, IsSentence}
 use Rattle.gm_model.specs.Names.{is_among}
-use Rattle.gm_book.proofs.CanonicalForm.{Line, NodeLine, LinkLine, behind, behind_line, behind_lines, node_lines, line_before, tie, hook_on, item_at, items_at, lines_of, left_marks, right_marks, form_at, forms_at, book_at, node_names, IsGoodLetter, IsGoodLine, IsWritable}
+use Rattle.gm_book.proofs.CanonicalForm.{Line, NodeLine, LinkLine, behind_line, behind_lines, node_lines, line_before, tie, hook_on, item_at, items_at, lines_of, left_marks, right_marks, form_at, forms_at, node_names, IsGoodLetter, IsGoodLine, IsWritable}
 use Rattle.gm_book.proofs.CanonicalText.{good_lines}
 use Rattle.gm_book.proofs.CanonicalRule.{rule_same, counted_seen, seen_after, names_on, side_names, left_seen, both_seen}
 
@@ -73,12 +73,9 @@ form_is_rule version n rule marks few ok = (
 abbrev pub HasFewHooks : ℕ → Rule → Type 0
 HasFewHooks version rule = version ≡ 1 → length rule.hooks ≤ 1
 
-forms_are_rules : (version n : ℕ) (rules : List Rule) (marks : List Mark) → AllByRecursion (HasFewHooks version) rules → AllByRecursion (IsWritable n) rules → AllByRecursion (IsRule version) (forms_at marks rules)
+pub forms_are_rules : (version n : ℕ) (rules : List Rule) (marks : List Mark) → AllByRecursion (HasFewHooks version) rules → AllByRecursion (IsWritable n) rules → AllByRecursion (IsRule version) (forms_at marks rules)
 forms_are_rules version n [] marks few ok = tt
 forms_are_rules version n (rule ∷ rules) marks few ok = (form_is_rule version n rule marks few.0 ok.0, forms_are_rules version n rules (behind_lines (lines_of rule Right) (right_marks rule marks)) few.1 ok.1)
-
-pub book_is_form : (version n : ℕ) (rules : List Rule) (marks : List Mark) → (version ≡ 1) ⊎ (version ≡ 2) → AllByRecursion (HasFewHooks version) rules → AllByRecursion (IsWritable n) rules → IsForm (book_at marks version n rules)
-book_is_form version n rules marks known few ok = (known, forms_are_rules version n rules (behind (behind (behind (behind marks)))) few ok)
 
 -- ---- how many there are
 
@@ -187,13 +184,7 @@ module _ (n : ℕ) where
         ),
       )
 
-  rules_within : (k : ℕ) (rules : List Rule) (marks : List Mark) → k + length rules ≤ 256 → AllByRecursion (IsWritable n) rules → IsIn (spell_rules n k (forms_at marks rules) (the_end ∷ []))
+  pub rules_within : (k : ℕ) (rules : List Rule) (marks : List Mark) → k + length rules ≤ 256 → AllByRecursion (IsWritable n) rules → IsIn (spell_rules n k (forms_at marks rules) (the_end ∷ []))
   rules_within k [] marks few ok = (refl, tt)
   rules_within k (rule ∷ rules) marks few ok =
       rule_within (k + 1) rule marks _ (omega (arith, few)) ok.0 (rules_within (k + 1) rules (behind_lines (lines_of rule Right) (right_marks rule marks)) (omega (arith, few)) ok.1)
-
-  pub book_within : (version : ℕ) (rules : List Rule) (marks : List Mark) → 0 < n → n ≤ 7 → length rules ≤ 256 → AllByRecursion (IsWritable n) rules → IsIn (spelling (book_at marks version n rules))
-  book_within version rules marks some low few ok =
-      let not_zero : eqb n 0 ≡ false = ne_eqb n 0 (λ e. omega (arith, some, e)) in
-      let top : ltb 7 n ≡ false = le-ltb 7 n low in
-      (refl, (refl, (refl, (rw (not_zero, top) refl, rules_within 0 rules (behind (behind (behind (behind marks)))) (omega (arith, few)) ok))))

@@ -11,8 +11,8 @@ use Rattle.gm_model.specs.declared.rule.Side.TheVariants.{Left, Right}
 use Rattle.gm_model.specs.Symbols.{Mark}
 use Rattle.gm_model.specs.Rules.{Rule, RuleNode, has_word, word_on, links_on, name_at}
 use Rattle.gm_model.specs.Names.{Mention, is_among}
-use Rattle.gm_book.specs.BookText.{RuleForm, names_of, nodes_in, ends_in, items_on, IsAgain, IsStranger, NameFault, IsNameFault, RuleTwice, NodeTwice, NodeUnknown}
-use Rattle.gm_book.proofs.CanonicalForm.{NodeLine, behind, behind_line, behind_lines, node_lines, line_before, tie, hook_on, items_at, lines_of, left_marks, right_marks, form_at, forms_at, book_at, AreNew, node_names, IsGoodLink, IsWritable}
+use Rattle.gm_book.specs.BookText.{RuleForm, names_of, nodes_in, ends_in, items_on, IsAgain, IsStranger, NameFault, IsFaultInRules, RuleTwice, NodeTwice, NodeUnknown}
+use Rattle.gm_book.proofs.CanonicalForm.{NodeLine, behind_line, behind_lines, node_lines, line_before, tie, hook_on, items_at, lines_of, left_marks, right_marks, form_at, forms_at, AreNew, node_names, IsGoodLink, IsWritable}
 use Rattle.gm_book.proofs.CanonicalRule.{names_on, name_before, on_append, side_names}
 use Rattle.gm_book.proofs.DifferentNames.{among_last, among_neither, fewer_seen, new_behind, split_there}
 
@@ -111,10 +111,7 @@ form_names : (rules : List Rule) (marks : List Mark) → names_of (map (λ (form
 form_names [] marks = refl
 form_names (rule ∷ rules) marks = ap (λ names. rule.name ∷ names) (form_names rules (behind_lines (lines_of rule Right) (right_marks rule marks)))
 
-pub book_faultless : (version n : ℕ) (rules : List Rule) (marks : List Mark) → AllByRecursion (IsWritable n) rules → AreNew [] (rule_names rules) → (fault : NameFault) → IsNameFault (book_at marks version n rules) fault → ⊥
-book_faultless version n rules marks ok differ _ (RuleTwice place again) =
-    no_again _ place (subst (AreNew []) (sym (form_names rules (behind (behind (behind (behind marks)))))) differ) again
-book_faultless version n rules marks ok differ _ (NodeTwice form side place has again) =
-    (contained HasNoFault _ form (forms_faultless n rules (behind (behind (behind (behind marks)))) ok) has).twice side place again
-book_faultless version n rules marks ok differ _ (NodeUnknown form side place has stranger) =
-    (contained HasNoFault _ form (forms_faultless n rules (behind (behind (behind (behind marks)))) ok) has).stranger side place stranger
+pub rules_faultless : (n : ℕ) (rules : List Rule) (marks : List Mark) → AllByRecursion (IsWritable n) rules → AreNew [] (rule_names rules) → (fault : NameFault) → IsFaultInRules (forms_at marks rules) fault → ⊥
+rules_faultless n rules marks ok differ _ (RuleTwice place again) = no_again _ place (subst (AreNew []) (sym (form_names rules marks)) differ) again
+rules_faultless n rules marks ok differ _ (NodeTwice form side place has again) = (contained HasNoFault _ form (forms_faultless n rules marks ok) has).twice side place again
+rules_faultless n rules marks ok differ _ (NodeUnknown form side place has stranger) = (contained HasNoFault _ form (forms_faultless n rules marks ok) has).stranger side place stranger

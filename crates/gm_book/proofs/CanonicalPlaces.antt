@@ -7,8 +7,8 @@ use Rattle.gm_model.specs.declared.rule.Side.TheVariants.{Left, Right}
 use Rattle.gm_model.specs.Symbols.{Mark}
 use Rattle.gm_model.specs.Reading.{Part}
 use Rattle.gm_model.specs.Rules.{Rule}
-use Rattle.gm_book.specs.BookText.{Role, LetterAt, Count, no_count, count_after, count_across, counted, letter, the_end, spell_letters, spell_hook, spell_item, spell_items, spell_rule, spell_rules, spelling, IsPlacedAt, ArePlaced}
-use Rattle.gm_book.proofs.CanonicalForm.{Line, NodeLine, LinkLine, behind, place_in, behind_letters, behind_hook, behind_line, behind_lines, item_at, items_at, lines_of, left_marks, right_marks, form_at, forms_at, book_at}
+use Rattle.gm_book.specs.BookText.{Role, LetterAt, Count, no_count, count_after, count_across, counted, letter, the_end, spell_letters, spell_hook, spell_item, spell_items, spell_rule, spell_rules, IsPlacedAt, ArePlaced}
+use Rattle.gm_book.proofs.CanonicalForm.{Line, NodeLine, LinkLine, behind, place_in, behind_letters, behind_hook, behind_line, behind_lines, item_at, items_at, lines_of, left_marks, right_marks, form_at, forms_at}
 
 -- one part more in front
 first : (marks : List Mark) (part : Part Role) (parts : List (Part Role)) → IsPlacedAt (place_in marks) part.role → ArePlaced (behind marks) parts → ArePlaced marks (part ∷ parts)
@@ -45,14 +45,10 @@ module _ (n : ℕ) where
       first marks _ _ tt (first (behind marks) _ _ refl (first (behind (behind marks)) _ _ tt (lines_placed Left (lines_of rule Left) no_count (left_marks marks) _
       (first (behind_lines (lines_of rule Left) (left_marks marks)) _ _ tt (lines_placed Right (lines_of rule Right) (count_across (counted no_count (form_at marks rule).left)) (right_marks rule marks) parts later)))))
 
-  rules_placed : (k : ℕ) (rules : List Rule) (marks : List Mark) → ArePlaced marks (spell_rules n k (forms_at marks rules) (the_end ∷ []))
+  pub rules_placed : (k : ℕ) (rules : List Rule) (marks : List Mark) → ArePlaced marks (spell_rules n k (forms_at marks rules) (the_end ∷ []))
   rules_placed k [] marks = first marks the_end [] tt (none (behind marks))
     where
       none : (marks : List Mark) → ArePlaced marks []
       none [] = tt
       none (mark ∷ marks) = tt
   rules_placed k (rule ∷ rules) marks = rule_placed (k + 1) rule marks _ (rules_placed (k + 1) rules (behind_lines (lines_of rule Right) (right_marks rule marks)))
-
-  pub book_placed : (version : ℕ) (rules : List Rule) (marks : List Mark) → ArePlaced marks (spelling (book_at marks version n rules))
-  book_placed version rules marks =
-      first marks _ _ tt (first (behind marks) _ _ tt (first (behind (behind marks)) _ _ tt (first (behind (behind (behind marks))) _ _ tt (rules_placed 0 rules (behind (behind (behind (behind marks))))))))

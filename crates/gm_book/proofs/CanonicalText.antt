@@ -1,6 +1,6 @@
 -- Canonical text as lines, and its symbols: those of the canonical form.
-use Rattle.std.proofs.Common.{◌≡◌, ℕ, ◌+◌, ◌≤◌, Bool, true, false, not, eqb, List, [], ◌∷◌, ◌++◌, map, filter, Option, Some, None, is_some, refl, sym, ap, subst, ◌∙◌, append_assoc, codes, arith}
-use Rattle.std.specs.Prelude.{decimal, slice_get}
+use Rattle.std.proofs.Common.{◌≡◌, ℕ, ◌+◌, ◌≤◌, Bool, true, false, not, eqb, List, [], ◌∷◌, ◌++◌, map, filter, Option, Some, None, is_some, refl, sym, ap, subst, ◌∙◌, append_assoc, codes}
+use Rattle.std.specs.Prelude.{slice_get}
 use Rattle.std.specs.List.{flat_map, list_any, AllByRecursion}
 use Rattle.std.proofs.lemmas.Grind.{flat_map-append}
 use Rattle.std.proofs.lemmas.List.{append-nil}
@@ -10,12 +10,12 @@ use Rattle.gm_model.specs.declared.word.Letter.{Letter}
 use Rattle.gm_model.specs.declared.rule.Link.{Link}
 use Rattle.gm_model.specs.declared.rule.Side.{Side}
 use Rattle.gm_model.specs.declared.rule.Side.TheVariants.{Left, Right}
-use Rattle.gm_model.specs.Symbols.{Symbol, Word, Numeral, Mark}
+use Rattle.gm_model.specs.Symbols.{Symbol, Word, Mark}
 use Rattle.gm_model.specs.Reading.{Part, symbols_in}
 use Rattle.gm_model.specs.Rules.{Rule, RuleNode, has_word, word_on, links_on, name_at}
-use Rattle.gm_book.specs.BookText.{Role, Fixed, the_end, word, no_count, counted, count_across, left_lines, right_line, right_lines, link_line, rule_lines, canonical, spell_items, spell_rule, spell_rules, spelling}
-use Rattle.gm_text.proofs.Printed.{symbols_from, symbols_from-end, symbols_from-word_blank, symbols_from-decimal_blank}
-use Rattle.gm_book.proofs.CanonicalForm.{Line, NodeLine, text_of, node_lines, line_before, tie, hook_on, lines_of, form_at, forms_at, book_at, left_marks, right_marks, behind, behind_lines, IsGoodName, IsGoodLine, IsGoodNode, IsGoodLink, IsGoodWordIfAny, IsWritable}
+use Rattle.gm_book.specs.BookText.{Role, Fixed, the_end, word, no_count, counted, count_across, left_lines, right_line, right_lines, link_line, rule_lines, spell_items, spell_rule, spell_rules}
+use Rattle.gm_text.proofs.Printed.{symbols_from, symbols_from-end, symbols_from-word_blank}
+use Rattle.gm_book.proofs.CanonicalForm.{Line, NodeLine, text_of, node_lines, line_before, tie, hook_on, lines_of, form_at, forms_at, left_marks, right_marks, behind_lines, IsGoodName, IsGoodLine, IsGoodNode, IsGoodLink, IsGoodWordIfAny, IsWritable}
 use Rattle.gm_book.proofs.CanonicalSymbols.{lines_symbols}
 
 pub element_at : {X : Type 0} (P : X → Type 0) (xs : List X) → AllByRecursion P xs → (k : ℕ) (x : X) → slice_get xs k ≡ Some x → P x
@@ -152,20 +152,7 @@ module _ (n : ℕ) where
         (ap (λ bytes. symbols_from (bytes ++ (codes "right\n" ++ (right ++ more)))) (left_side rule)
         ∙ lines_symbols n low Left (lines_of rule Left) no_count (left_marks marks) (codes "right\n" ++ (right ++ more)) _ (good_lines rule Left ok) behind_left)))
 
-    rules_symbols : (k : ℕ) (rules : List Rule) (marks : List Mark) → AllByRecursion (IsWritable n) rules → symbols_from (flat_map rule_lines rules) ≡ symbols_in (spell_rules n k (forms_at marks rules) (the_end ∷ []))
+    pub rules_symbols : (k : ℕ) (rules : List Rule) (marks : List Mark) → AllByRecursion (IsWritable n) rules → symbols_from (flat_map rule_lines rules) ≡ symbols_in (spell_rules n k (forms_at marks rules) (the_end ∷ []))
     rules_symbols k [] marks ok = symbols_from-end
     rules_symbols k (rule ∷ rules) marks ok =
         rule_symbols (k + 1) rule marks (flat_map rule_lines rules) _ ok.0 (rules_symbols (k + 1) rules (behind_lines (lines_of rule Right) (right_marks rule marks)) ok.1)
-
-    pub canonical_symbols : (version : ℕ) (rules : List Rule) (marks : List Mark) → version ≤ 2 → AllByRecursion (IsWritable n) rules → symbols_from (canonical version n rules) ≡ symbols_in (spelling (book_at marks version n rules))
-    canonical_symbols version rules marks small ok =
-        let rest : List ℕ = flat_map rule_lines rules in
-        let regrouped : canonical version n rules ≡ codes "book " ++ (decimal version ++ 10 ∷ (codes "dim " ++ (decimal n ++ 10 ∷ rest))) = simp append_assoc in
-        ap symbols_from regrouped
-        ∙ symbols_from-word_blank (codes "book") 32 (decimal version ++ 10 ∷ (codes "dim " ++ (decimal n ++ 10 ∷ rest))) (refl, refl) refl
-        ∙ ap (λ (s : List Symbol). Word (codes "book") ∷ s)
-        (symbols_from-decimal_blank version 10 (codes "dim " ++ (decimal n ++ 10 ∷ rest)) (omega (arith, small)) refl
-        ∙ ap (λ (s : List Symbol). Numeral version ∷ s)
-        (symbols_from-word_blank (codes "dim") 32 (decimal n ++ 10 ∷ rest) (refl, refl) refl
-        ∙ ap (λ (s : List Symbol). Word (codes "dim") ∷ s)
-        (symbols_from-decimal_blank n 10 rest (omega (arith, low)) refl ∙ ap (λ (s : List Symbol). Numeral n ∷ s) (rules_symbols 0 rules (behind (behind (behind (behind marks)))) ok))))

@@ -1,4 +1,4 @@
--- Where the spelling of a form passes no limit, the parts of its rules don't.
+-- Where the spelling of rules passes no limit, their parts don't.
 use Rattle.std.proofs.Common.{◌≡◌, ℕ, ◌+◌, ◌≤◌, Bool, true, false, ltb, if◌then◌else◌, List, [], ◌∷◌, length, Option, Some, None, refl, sym, ap, subst, ◌∙◌, arith}
 use Rattle.std.proofs.lemmas.Bool.{ltb-false}
 use Rattle.std.specs.List.{AllByRecursion}
@@ -7,7 +7,7 @@ use Rattle.gm_model.specs.declared.rule.Side.{Side}
 use Rattle.gm_model.specs.declared.rule.Side.TheVariants.{Left, Right}
 use Rattle.gm_model.specs.declared.word.Letter.{Letter}
 use Rattle.gm_model.specs.declared.word.Letter.TheVariants.{At, Gone}
-use Rattle.gm_book.specs.BookText.{Item, NodeItem, LinkItem, RuleForm, BookForm, Count, Role, with_name, counted, count_after, count_across, no_count, nodes_of, limit_of, spell_letters, spell_hook, spell_items, spell_rule, spell_rules, spelling, IsSentence}
+use Rattle.gm_book.specs.BookText.{Item, NodeItem, LinkItem, RuleForm, Count, Role, with_name, counted, count_after, count_across, no_count, nodes_of, limit_of, spell_letters, spell_hook, spell_items, spell_rule, spell_rules, IsSentence}
 use Rattle.gm_model.specs.Reading.{Part, IsWithin}
 use Rattle.gm_model.specs.Structure.{HasLabelsUpTo}
 use Rattle.gm_book.proofs.RuleNames.{names_counted}
@@ -89,5 +89,5 @@ rules_within : (n k : ℕ) (rules : List RuleForm) (rest : List (Part Role)) →
 rules_within n k [] rest h = tt
 rules_within n k (rule ∷ rules) rest h = let first = rule_within n (k + 1) rule _ h in (first.0, rules_within n (k + 1) rules rest first.1)
 
-pub all_fitting : (book : BookForm) → IsWithin IsSentence limit_of (spelling book) → AllByRecursion (IsFitting book.dim) book.rules
-all_fitting book h = rules_within book.dim 0 book.rules _ h.1.1.1.1
+pub all_fitting : (n : ℕ) (rules : List RuleForm) (rest : List (Part Role)) → IsWithin IsSentence limit_of (spell_rules n 0 rules rest) → AllByRecursion (IsFitting n) rules
+all_fitting n rules rest h = rules_within n 0 rules rest h

@@ -1,17 +1,14 @@
--- The states are the grammar of books: a reading of a text by them is a book, an end is where no text goes on, and a passed limit is the first.
-use Rattle.std.proofs.Common.{◌≡◌, ℕ, Bool, true, false, List, [], ◌∷◌, None, Ok, Err, refl, ap, subst, codes}
+-- Where a symbol stands in the rules has no part in what it passes, and a name has the place of its mark.
+use Rattle.std.proofs.Common.{◌≡◌, ℕ, Bool, true, false, List, [], ◌∷◌, refl, ap, codes}
 use Rattle.std.specs.Str.{bytes_eq}
-use Rattle.gm_model.specs.declared.limit.LimitKind.{LimitKind}
 use Rattle.gm_model.specs.declared.rule.Side.{Side}
 use Rattle.gm_model.specs.declared.rule.Side.TheVariants.{Left, Right}
-use Rattle.gm_model.specs.Symbols.{Symbol, Word, Numeral, Sign, Gone, Stray, End, Mark, marks_of}
-use Rattle.gm_model.specs.Reading.{Part, IsReadAs}
-use Rattle.gm_book.specs.BookText.{BookForm, Role, NameAt, limit_of, stands_before, IsSentence, IsPlacedAt, ArePlaced, IsWritten, IsLimitFault}
-use Rattle.gm_text.specs.Machine.{Passes, IsGrammar}
-use Rattle.gm_text.proofs.Machine.{Along, run_reads, run_passes, read_is, passing_is}
-use Rattle.gm_book.specs.Reading.{Spot, State, AtFormat, AtVersion, AtDim, AtTop, AtRules, AtName, AtLeft, AtItem, AtSign, AtLetter, AtBehind, AtLabel, AtDash, AtTo, AtEnd, heading_at, closing, closing_role, is_hook, item_role, role_at, move, run, nothing_held, held_behind}
-use Rattle.gm_book.proofs.Leading.{Led, sentence_leads, goes_on}
-use Rattle.gm_book.proofs.Spelling.{along_book}
+use Rattle.gm_model.specs.Symbols.{Symbol, Word, Numeral, Sign, Gone, Stray, End, Mark}
+use Rattle.gm_model.specs.Reading.{Part}
+use Rattle.gm_book.specs.BookText.{Role, NameAt, limit_of, stands_before, IsPlacedAt, ArePlaced}
+use Rattle.gm_text.proofs.Machine.{Along}
+use Rattle.gm_book.specs.Reading.{Spot, State, AtRules, AtName, AtLeft, AtItem, AtSign, AtLetter, AtBehind, AtLabel, AtDash, AtTo, AtEnd, closing, closing_role, is_hook, item_role, role_at, move}
+use Rattle.gm_book.proofs.Leading.{Led}
 
 -- ---- where a symbol stands
 
@@ -35,11 +32,7 @@ same_name_limit Gone place other = refl
 same_name_limit Stray place other = refl
 same_name_limit End place other = refl
 
-same_limit : (state : State) (symbol : Symbol) (place other : ℕ) → limit_of (role_at state symbol place) symbol ≡ limit_of (role_at state symbol other) symbol
-same_limit AtFormat symbol place other = refl
-same_limit AtVersion symbol place other = refl
-same_limit (AtDim v) symbol place other = refl
-same_limit (AtTop v) symbol place other = refl
+pub same_limit : (state : State) (symbol : Symbol) (place other : ℕ) → limit_of (role_at state symbol place) symbol ≡ limit_of (role_at state symbol other) symbol
 same_limit (AtRules n) symbol place other = refl
 same_limit (AtName n k) symbol place other = same_name_limit symbol place other
 same_limit (AtLeft n k) symbol place other = refl
@@ -73,11 +66,7 @@ same_item_before spot Gone place other = refl
 same_item_before spot Stray place other = refl
 same_item_before spot End place other = refl
 
-same_before : (state : State) (symbol : Symbol) (place other : ℕ) → stands_before (role_at state symbol place) ≡ stands_before (role_at state symbol other)
-same_before AtFormat symbol place other = refl
-same_before AtVersion symbol place other = refl
-same_before (AtDim v) symbol place other = refl
-same_before (AtTop v) symbol place other = refl
+pub same_before : (state : State) (symbol : Symbol) (place other : ℕ) → stands_before (role_at state symbol place) ≡ stands_before (role_at state symbol other)
 same_before (AtRules n) symbol place other = refl
 same_before (AtName n k) symbol place other = refl
 same_before (AtLeft n k) symbol place other = refl
@@ -116,11 +105,7 @@ placed_item spot Stray place = tt
 placed_item spot End place = tt
 
 -- a name has the place of its mark
-placed_role : (state : State) (symbol : Symbol) (place : ℕ) → IsPlacedAt place (role_at state symbol place)
-placed_role AtFormat symbol place = tt
-placed_role AtVersion symbol place = tt
-placed_role (AtDim v) symbol place = tt
-placed_role (AtTop v) symbol place = tt
+pub placed_role : (state : State) (symbol : Symbol) (place : ℕ) → IsPlacedAt place (role_at state symbol place)
 placed_role (AtRules n) (Word w) place = tt
 placed_role (AtRules n) (Numeral m) place = tt
 placed_role (AtRules n) (Sign s) place = tt
@@ -161,56 +146,20 @@ placed_role (AtDash spot) symbol place = tt
 placed_role (AtTo spot) symbol place = refl
 placed_role AtEnd symbol place = tt
 
-placed_along : (state last : State) (marks : List Mark) (parts : List (Part Role)) → Along limit_of stands_before role_at move state marks parts last → ArePlaced marks parts
+pub placed_along : (state last : State) (marks : List Mark) (parts : List (Part Role)) → Along limit_of stands_before role_at move state marks parts last → ArePlaced marks parts
 placed_along state last [] parts along = tt
 placed_along state last (mark ∷ marks) [] along = tt
 placed_along state last (mark ∷ marks) (part ∷ parts) (next, is, moves, along) = rw is (placed_role state mark.symbol mark.place, placed_along next last marks parts along)
 
--- ---- the grammar
-
 -- marks at the places that the parts lead by
-record HasMarks (state : State) (parts : List (Part Role)) : Type 0 where
-  marks : List Mark
-  along : Along limit_of stands_before role_at move state marks parts AtEnd
+pub record HasMarks (state : State) (parts : List (Part Role)) : Type 0 where
+  pub marks : List Mark
+  pub along : Along limit_of stands_before role_at move state marks parts AtEnd
 
-has_marks : (state : State) (parts : List (Part Role)) → Led state parts → HasMarks state parts
+pub has_marks : (state : State) (parts : List (Part Role)) → Led state parts → HasMarks state parts
 has_marks state [] e = record { marks = []; along = e }
 has_marks state (part ∷ parts) (place, next, is, moves, led) =
     let rest = has_marks next parts led in
     let mark : Mark = record { symbol = part.symbol; place = place } in
     let same : part ≡ record { symbol = part.symbol; role = role_at state part.symbol place } = ap (λ (r : Role). let p : Part Role = record { symbol = part.symbol; role = r } in p) is in
     record { marks = mark ∷ rest.marks; along = (next, same, moves, rest.along) }
-
-led_sentence : (parts : List (Part Role)) → Led AtFormat parts → IsSentence parts
-led_sentence parts led =
-    let has = has_marks AtFormat parts led in
-    let is = along_book has.marks parts has.along in
-    (is.book, is.good, is.same)
-
-pub book_grammar : IsGrammar limit_of stands_before role_at move IsSentence AtFormat AtEnd
-book_grammar = record { leads = sentence_leads; sentence = led_sentence; goes_on = goes_on; limit = same_limit; before = same_before }
-
--- ---- a reading is a book
-
-pub record IsReading (text : List ℕ) : Type 0 where
-  pub book : BookForm
-  pub written : IsWritten text book
-  pub held : held_behind AtFormat (marks_of text) nothing_held ≡ record { heading = heading_at book.version book.dim; rules = book.rules; current = None; part = nothing_held.part }
-
-pub reading_is : (text : List ℕ) → run AtFormat 0 (marks_of text) ≡ Ok AtEnd → IsReading text
-reading_is text e =
-    let read = run_reads limit_of stands_before role_at move AtFormat AtEnd 0 (marks_of text) e in
-    let is = along_book (marks_of text) read.parts read.along in
-    let as_parts : IsReadAs IsSentence limit_of (marks_of text) read.parts = read_is limit_of stands_before role_at move IsSentence AtFormat AtEnd book_grammar (marks_of text) read in
-    record {
-      book = is.book;
-      written = record {
-        form = is.good;
-        read = subst (IsReadAs IsSentence limit_of (marks_of text)) is.same as_parts;
-        placed = subst (ArePlaced (marks_of text)) is.same (placed_along AtFormat AtEnd (marks_of text) read.parts read.along);
-      };
-      held = is.held;
-    }
-
-pub limit_is : (text : List ℕ) (what : LimitKind) (place : ℕ) → run AtFormat 0 (marks_of text) ≡ Err (Passes what place) → IsLimitFault text what place
-limit_is text what place e = passing_is limit_of stands_before role_at move IsSentence AtFormat AtEnd book_grammar (marks_of text) what place (run_passes limit_of stands_before role_at move AtFormat 0 (marks_of text) what place e)

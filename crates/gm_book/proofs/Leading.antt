@@ -1,5 +1,5 @@
--- Each text of a book leads through the states to the end, and each state can be gone on from.
-use Rattle.std.proofs.Common.{◌≡◌, ℕ, ◌+◌, ◌≤◌, ◌==◌, Bool, true, false, ◌||◌, ◌⊎◌, inl, inr, List, [], ◌∷◌, length, Some, None, refl, sym, ap, ◌∙◌, codes, arith}
+-- The rules of a book lead through the states to the end, and each state can be gone on from.
+use Rattle.std.proofs.Common.{◌≡◌, ℕ, ◌+◌, ◌≤◌, ◌==◌, Bool, true, false, ◌||◌, List, [], ◌∷◌, length, Some, None, refl, sym, ap, ◌∙◌, codes, arith}
 use Rattle.std.proofs.lemmas.Bool.{eqb-true}
 use Rattle.std.proofs.lemmas.Slice.Eq.{bytes_eq-Decides}
 use Rattle.std.specs.List.{AllByRecursion}
@@ -11,10 +11,10 @@ use Rattle.gm_model.specs.declared.word.Letter.TheVariants as letters
 use Rattle.gm_model.specs.Names.{reserved, Mention, is_among, IsFree}
 use Rattle.gm_model.specs.Symbols.{Symbol, Word, Numeral, Sign, Gone, Stray, End}
 use Rattle.gm_model.specs.Reading.{Part}
-use Rattle.gm_book.specs.BookText.{Item, NodeItem, LinkItem, RuleForm, Count, no_count, count_after, counted, count_across, with_name, hook_count, Role, Fixed, RuleWord, NameAt, WordEnd, NodeSign, limit_of, stands_before, word, sign, named, the_end, spell_letters, spell_hook, spell_item, spell_items, spell_rules, IsItem, IsRule, IsSentence}
+use Rattle.gm_book.specs.BookText.{Item, NodeItem, LinkItem, RuleForm, Count, no_count, count_after, counted, count_across, with_name, hook_count, Role, Fixed, RuleWord, NameAt, WordEnd, NodeSign, limit_of, stands_before, word, sign, named, the_end, spell_letters, spell_hook, spell_item, spell_items, spell_rules, IsItem, IsRule}
 use Rattle.gm_text.specs.Machine.{Leads}
 use Rattle.gm_book.specs.declared.state.Heading.{Heading}
-use Rattle.gm_book.specs.Reading.{Spot, State, AtFormat, AtVersion, AtDim, AtTop, AtRules, AtName, AtLeft, AtItem, AtSign, AtLetter, AtBehind, AtLabel, AtDash, AtTo, AtEnd, heading_at, left_spot, with_node, with_link, with_hook, closing, takes_hook, is_hook_on, is_hook, item_role, role_at, item_move, is_version, move}
+use Rattle.gm_book.specs.Reading.{Spot, State, AtRules, AtName, AtLeft, AtItem, AtSign, AtLetter, AtBehind, AtLabel, AtDash, AtTo, AtEnd, left_spot, with_node, with_link, with_hook, closing, takes_hook, is_hook_on, is_hook, item_role, role_at, item_move, move}
 
 abbrev pub Led : State → List (Part Role) → Type 0
 Led state parts = Leads limit_of stands_before role_at move state parts AtEnd
@@ -186,19 +186,19 @@ led_items h k side count hooked (item ∷ items) rest good taken led =
 -- ---- rules
 
 -- where a rule can begin behind so many, and the book can end
-record CanEnd (state : State) (h : Heading) (k : ℕ) : Type 0 where
+pub record CanEnd (state : State) (h : Heading) (k : ℕ) : Type 0 where
   rule_role : role_at state (Word (codes "rule")) 0 ≡ RuleWord (k + 1)
   rule_move : move state (Word (codes "rule")) ≡ Some (AtName h (k + 1))
   end_role : role_at state End 0 ≡ Fixed
   end_move : move state End ≡ Some AtEnd
 
-at_header : (h : Heading) → CanEnd (AtRules h) h 0
+pub at_header : (h : Heading) → CanEnd (AtRules h) h 0
 at_header h = record { rule_role = refl; rule_move = refl; end_role = refl; end_move = refl }
 
 at_right : (h : Heading) (k : ℕ) (count : Count) (hooked : Bool) → CanEnd (AtItem (spot_at h k Right count hooked)) h k
 at_right h k count hooked = record { rule_role = refl; rule_move = refl; end_role = refl; end_move = refl }
 
-led_rules : (state : State) (h : Heading) (k : ℕ) (rules : List RuleForm) → CanEnd state h k → AllByRecursion (IsRule h.version) rules → Led state (spell_rules h.dim k rules (the_end ∷ []))
+pub led_rules : (state : State) (h : Heading) (k : ℕ) (rules : List RuleForm) → CanEnd state h k → AllByRecursion (IsRule h.version) rules → Led state (spell_rules h.dim k rules (the_end ∷ []))
 led_rules state h k [] can good = (0, AtEnd, sym can.end_role, can.end_move, refl)
 led_rules state h k (rule ∷ rules) can ((free, left, right, few), good) =
     let across = count_across (counted no_count rule.left) in
@@ -231,16 +231,6 @@ led_rules state h k (rule ∷ rules) can ((free, left, right, few), good) =
         ),
       ),
     )
-
-pub known_version : (version : ℕ) → (version ≡ 1) ⊎ (version ≡ 2) → is_version version ≡ true
-known_version version (inl one) = rw one refl
-known_version version (inr two) = rw two refl
-
-pub sentence_leads : (parts : List (Part Role)) → IsSentence parts → Led AtFormat parts
-sentence_leads parts (book, good, is) =
-    let h = heading_at book.version book.dim in
-    let known = known_version book.version good.0 in
-    rw is (0, AtVersion, refl, refl, (0, AtDim book.version, refl, rw known refl, (0, AtTop book.version, refl, refl, (0, AtRules h, refl, refl, led_rules (AtRules h) h 0 book.rules (at_header h) good.1))))
 
 -- ---- going on
 
@@ -282,20 +272,7 @@ rules_go_on h = more (AtRules h) AtEnd End refl ([], refl)
 left_goes_on : (h : Heading) (k : ℕ) → (rest : List (Part Role)) × Led (AtLeft h k) rest
 left_goes_on h k = more (AtLeft h k) (AtItem (left_spot h k)) (Word (codes "left")) refl (item_goes_on h k Left no_count false)
 
-top_goes_on : (version : ℕ) → (rest : List (Part Role)) × Led (AtTop version) rest
-top_goes_on version = more (AtTop version) (AtRules (heading_at version 1)) (Numeral 1) refl (rules_go_on (heading_at version 1))
-
-dim_goes_on : (version : ℕ) → (rest : List (Part Role)) × Led (AtDim version) rest
-dim_goes_on version = more (AtDim version) (AtTop version) (Word (codes "dim")) refl (top_goes_on version)
-
-version_goes_on : (rest : List (Part Role)) × Led AtVersion rest
-version_goes_on = more AtVersion (AtDim 1) (Numeral 1) refl (dim_goes_on 1)
-
 pub goes_on : (state : State) → (rest : List (Part Role)) × Led state rest
-goes_on AtFormat = more AtFormat AtVersion (Word (codes "book")) refl version_goes_on
-goes_on AtVersion = version_goes_on
-goes_on (AtDim version) = dim_goes_on version
-goes_on (AtTop version) = top_goes_on version
 goes_on (AtRules h) = rules_go_on h
 goes_on (AtName h k) = more (AtName h k) (AtLeft h k) (Word (codes "a")) refl (left_goes_on h k)
 goes_on (AtLeft h k) = left_goes_on h k

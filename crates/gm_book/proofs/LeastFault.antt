@@ -5,7 +5,7 @@ use Rattle.std.specs.List.{Contains}
 use Rattle.gm_model.specs.declared.rule.Side.{Side}
 use Rattle.gm_model.specs.declared.rule.Side.TheVariants.{Left, Right}
 use Rattle.gm_model.specs.Names.{Mention, is_among}
-use Rattle.gm_book.specs.BookText.{Item, NodeItem, LinkItem, RuleForm, BookForm, with_name, names_of, nodes_in, ends_in, items_on, IsAgain, IsStranger, IsNameFault, RuleTwice, NodeTwice, NodeUnknown}
+use Rattle.gm_book.specs.BookText.{Item, NodeItem, LinkItem, RuleForm, with_name, names_of, nodes_in, ends_in, items_on, IsAgain, IsStranger, IsFaultInRules, RuleTwice, NodeTwice, NodeUnknown}
 use Rattle.gm_book.specs.BookText as text
 use Rattle.gm_book.specs.declared.names.NameFault.{NameFault}
 use Rattle.gm_book.specs.declared.names.NameFault.TheVariants.{Twice, Unknown}
@@ -203,25 +203,25 @@ side_in : (rule : RuleForm) (side : Side) (f : NameFault) → SideFault (items_o
 side_in rule Left f h = inl h
 side_in rule Right f h = inr h
 
-module _ (book : BookForm) where
-  fault_from : (g : text.NameFault) → IsNameFault book g → (f : NameFault) → g ≡ fault_of f → FaultBehind [] book.rules f
-  fault_from _ (RuleTwice place again) f e = inl (again_from (rule_names book.rules) place f again e)
+module _ (rules : List RuleForm) where
+  fault_from : (g : text.NameFault) → IsFaultInRules rules g → (f : NameFault) → g ≡ fault_of f → FaultBehind [] rules f
+  fault_from _ (RuleTwice place again) f e = inl (again_from (rule_names rules) place f again e)
   fault_from _ (NodeTwice rule side place among again) f e = inr (rule, among, side_in rule side f (inl (again_from (nodes_in (items_on rule side)) place f again e)))
   fault_from _ (NodeUnknown rule side place among stranger) f e = inr (rule, among, side_in rule side f (inr (unknown_from (items_on rule side) place f stranger e)))
 
-  side_fault : (rule : RuleForm) (side : Side) (f : NameFault) → Contains book.rules rule → SideFault (items_on rule side) f → IsNameFault book (fault_of f)
+  side_fault : (rule : RuleForm) (side : Side) (f : NameFault) → Contains rules rule → SideFault (items_on rule side) f → IsFaultInRules rules (fault_of f)
   side_fault rule side f among (inl h) =
       let again = again_of (nodes_in (items_on rule side)) f h in
-      subst (λ g. IsNameFault book (fault_of g)) again.2 (NodeTwice rule side again.0 among again.1)
+      subst (λ g. IsFaultInRules rules (fault_of g)) again.2 (NodeTwice rule side again.0 among again.1)
   side_fault rule side f among (inr (m, end, (here, stranger))) =
-      subst (λ g. IsNameFault book (fault_of g)) here (NodeUnknown rule side m.place among (record { mention = m; among = end; here = refl; stranger = sym (among_items (items_on rule side) [] m.name) ∙ stranger }))
+      subst (λ g. IsFaultInRules rules (fault_of g)) here (NodeUnknown rule side m.place among (record { mention = m; among = end; here = refl; stranger = sym (among_items (items_on rule side) [] m.name) ∙ stranger }))
 
-  fault_to : (f : NameFault) → FaultBehind [] book.rules f → IsNameFault book (fault_of f)
-  fault_to f (inl h) = let again = again_of (rule_names book.rules) f h in subst (λ g. IsNameFault book (fault_of g)) again.2 (RuleTwice again.0 again.1)
+  fault_to : (f : NameFault) → FaultBehind [] rules f → IsFaultInRules rules (fault_of f)
+  fault_to f (inl h) = let again = again_of (rule_names rules) f h in subst (λ g. IsFaultInRules rules (fault_of g)) again.2 (RuleTwice again.0 again.1)
   fault_to f (inr (rule, among, inl h)) = side_fault rule Left f among h
   fault_to f (inr (rule, among, inr h)) = side_fault rule Right f among h
 
-  pub is_least_fault : (fault : Option NameFault) → fault ≡ least_in [] book.rules → IsLeastFault book fault
+  pub is_least_fault : (fault : Option NameFault) → fault ≡ least_in [] rules → IsLeastFault rules fault
   is_least_fault fault e =
-      least_same {P = FaultBehind [] book.rules} {R = λ f. IsNameFault book (fault_of f)} (λ f h. fault_from (fault_of f) h f refl) fault_to fault
-      (subst (IsLeast (FaultBehind [] book.rules)) (sym e) (rules_are_least book.rules []))
+      least_same {P = FaultBehind [] rules} {R = λ f. IsFaultInRules rules (fault_of f)} (λ f h. fault_from (fault_of f) h f refl) fault_to fault
+      (subst (IsLeast (FaultBehind [] rules)) (sym e) (rules_are_least rules []))

@@ -6,7 +6,12 @@ pub mod Taking
 pub mod Leading
 pub mod Spelling
 pub mod Grammar
+pub mod Header
 pub mod Later
+pub mod RulesHeld
+pub mod SchemaNames
+pub mod Whole
+pub mod HeadRead
 pub mod OneBook
 pub mod Among
 pub mod Built
@@ -25,6 +30,7 @@ pub mod CanonicalRule
 pub mod CanonicalPlaces
 pub mod CanonicalLimits
 pub mod CanonicalNames
+pub mod Written
 pub mod CanonicalBook
 pub mod ReadLimits
 pub mod ReadRules

@@ -1,181 +1,71 @@
 -- A text is written as at most one book, and has at most one first fault, and then no book.
-use Rattle.std.proofs.Common.{◌≡◌, ◌≢◌, ℕ, ◌+◌, Bool, true, false, ◌||◌, List, [], ◌∷◌, ◌++◌, map, Some, Result, Ok, Err, refl, sym, ap, subst, ◌∙◌, codes, append_assoc, if◌then◌else◌, ◌≤◌, arith}
-use Rattle.std.proofs.lemmas.List.{append-nil}
-use Rattle.std.specs.List.{AllByRecursion}
+use Rattle.std.proofs.Common.{◌≡◌, ◌≢◌, ℕ, Bool, true, false, List, [], ◌∷◌, ◌++◌, map, Option, Some, Result, Ok, Err, refl, sym, ap, subst, ◌∙◌, ◌≤◌, arith}
+use Rattle.std.specs.Prelude.{is_some}
 use Rattle.std.specs.Str.{bytes_eq}
 use Rattle.gm_model.specs.declared.limit.LimitKind.{LimitKind}
-use Rattle.gm_model.specs.declared.rule.Side.{Side}
-use Rattle.gm_model.specs.declared.rule.Side.TheVariants.{Left, Right}
-use Rattle.gm_model.specs.declared.schema.Embed.{Embed}
 use Rattle.gm_model.specs.declared.schema.Schema.{Schema}
-use Rattle.gm_model.specs.declared.word.Letter.{Letter}
-use Rattle.gm_model.specs.declared.word.Letter.TheVariants as letters
 use Rattle.gm_model.specs.Rules.{Rule}
-use Rattle.gm_model.specs.Symbols.{Symbol, Word, Mark, symbols, marks_of}
+use Rattle.gm_model.specs.Symbols.{Symbol, Word, Numeral, Mark, symbols, marks_of}
 use Rattle.gm_model.specs.Reading.{symbols_in}
 use Rattle.gm_model.specs.Reading as reading
-use Rattle.gm_model.specs.Names.{Mention}
-use Rattle.gm_book.specs.BookText.{Item, NodeItem, LinkItem, RuleForm, BookForm, Count, no_count, count_after, counted, count_across, Role, Fixed, NameAt, WordEnd, limit_of, stands_before, word, sign, named, the_end, spell_letters, spell_hook, spell_item, spell_items, spell_rules, spelling, IsItem, IsRule, IsForm, IsSentence, IsPlacedAt, ArePlaced, IsWritten, rule_in, BookText, StandsForNoBook, IsNotBuilt, IsTextFault, NameFault, TwiceAt, UnknownAt, place_of, IsNameFault, IsFirstNameFault}
 use Rattle.gm_text.specs.Machine.{Stop, Ends, Passes}
+use Rattle.gm_text.specs.Nested.{Outside, Inside}
+use Rattle.gm_text.specs.Nested as nested
+use Rattle.gm_text.specs.SchemaText as schemas
+use Rattle.gm_text.specs.SchemaText.{SchemaForm, schema_of, spell}
 use Rattle.gm_text.proofs.Machine.{Along, part_at, reading_runs, ends_run, passes_run}
+use Rattle.gm_text.proofs.SchemaSpelled.{same_form}
+use Rattle.gm_book.specs.BookText.{RuleForm, BookForm, Role, InSchema, NameAt, in_schema, limit_of, stands_before, the_end, spell_rules, spelling, IsSentence, IsPlacedAt, ArePlaced, IsWritten, rule_in, BookText, StandsForNoBook, IsNotBuilt, IsTextFault, NameFault, TwiceAt, UnknownAt, place_of, IsNameFault, IsFirstNameFault}
 use Rattle.gm_book.specs.declared.fault.BookFault.{BookFault}
 use Rattle.gm_book.specs.declared.fault.BookFault.TheVariants as faults
 use Rattle.gm_book.specs.Faults.{IsFaultOf}
-use Rattle.gm_book.specs.declared.state.Heading.{Heading}
-use Rattle.gm_book.specs.Reading.{Spot, State, AtFormat, AtRules, AtName, AtItem, AtLetter, AtBehind, AtTo, AtEnd, heading_at, with_node, with_hook, closing, takes_hook, is_hook_on, is_hook, role_at, move, Part, Nothing, Lettered, Held, nothing_held, hook_last, held_behind, run, is_later}
-use Rattle.gm_book.proofs.Grammar.{book_grammar}
+use Rattle.gm_book.specs.Reading.{State, AtRules, AtName, AtItem, AtBehind, AtTo, AtEnd, heading_at, closing, is_hook, AtFormat, AtVersion, InRules, Whole, in_rules, book_nesting, Held, nothing_held, held_behind, run_whole, is_later_in}
+use Rattle.gm_book.specs.Reading as rules
+use Rattle.gm_book.proofs.Header.{LedWhole, book_grammar}
 use Rattle.gm_book.proofs.Later.{not_built_is, not_built_ends}
-use Rattle.gm_book.proofs.Leading.{Led, spot_at, hooked_by, hooked_in, IsTaken, AreTaken, left_taken, right_taken, known_version, free_closes, free_hook, hook_side, link_free, sentence_leads}
 use Rattle.gm_book.proofs.NamePlaces.{twice_or_unknown}
-use Rattle.gm_book.proofs.Spelling.{Parts, within, behind, put, hook_put}
+use Rattle.gm_book.proofs.RulesHeld.{marks_for, header_held}
+use Rattle.gm_book.proofs.SchemaNames as schema_names
+use Rattle.gm_book.proofs.Spelling.{Parts}
 
--- ---- the marks of parts: a name stands where its mention says
+abbrev role_at : Whole → Symbol → ℕ → Role
+role_at = nested.role_at book_nesting
 
-abbrev role_place : Role → ℕ
-role_place (NameAt place) = place
-role_place _ = 0
+abbrev move_on : Whole → Symbol → Option Whole
+move_on = nested.move book_nesting
 
-abbrev marks_for : Parts → List Mark
-marks_for parts = map (λ (part : reading.Part Role). let m : Mark = record { symbol = part.symbol; place = role_place part.role } in m) parts
+-- ---- one list of parts
 
--- what is held at the end behind a state
-abbrev Leaves : State → Parts → Held → Held → Type 0
-Leaves state parts held last = held_behind state (marks_for parts) held ≡ last
-
-letters_held : (spot : Spot) (k : ℕ) (word front : List Letter) (rest : Parts) (heading : Heading) (before : List RuleForm) (rule : RuleForm) (name : Mention) (last : Held)
-    → ((j : ℕ) → Leaves (AtLetter spot j) rest (within heading before rule (Lettered name (front ++ word))) last) → Leaves (AtLetter spot k) (spell_letters spot.heading.dim k word rest) (within heading before rule (Lettered name front)) last
-letters_held spot k [] front rest heading before rule name last ends = ap (λ (w : List Letter). held_behind (AtLetter spot k) (marks_for rest) (within heading before rule (Lettered name w))) (sym (append-nil front)) ∙ ends k
-letters_held spot k (letters.At i ∷ word) front rest heading before rule name last ends =
-    letters_held spot (k + 1) word (front ++ letters.At i ∷ []) rest heading before rule name last (λ j. ap (λ (w : List Letter). held_behind (AtLetter spot j) (marks_for rest) (within heading before rule (Lettered name w))) (append_assoc front (letters.At i ∷ []) word) ∙ ends j)
-letters_held spot k (letters.Gone ∷ word) front rest heading before rule name last ends =
-    letters_held spot (k + 1) word (front ++ letters.Gone ∷ []) rest heading before rule name last (λ j. ap (λ (w : List Letter). held_behind (AtLetter spot j) (marks_for rest) (within heading before rule (Lettered name w))) (append_assoc front (letters.Gone ∷ []) word) ∙ ends j)
-
--- ---- items
-
--- no hook stands at the front
-abbrev HasNoHook : Side → Parts → Type 0
-HasNoHook side [] = Unit {0}
-HasNoHook side (part ∷ parts) = (takes : Bool) (w : List ℕ) → part.symbol ≡ Word w → is_hook_on side takes w ≡ false
-
-behind_same : (spot : Spot) (rest : Parts) (held : Held) → HasNoHook spot.side rest → held_behind (AtBehind spot) (marks_for rest) held ≡ held_behind (AtItem spot) (marks_for rest) held
-behind_same spot [] held plain = refl
-behind_same spot (part ∷ parts) held plain = go part.symbol refl
+-- where a role in the rules says a place, it is the place of the mark
+moved_in_rules : (state : State) (symbol : Symbol) (place other : ℕ) → IsPlacedAt other (rules.role_at state symbol place) → rules.role_at state symbol place ≡ rules.role_at state symbol other
+moved_in_rules (AtName n k) symbol place other at = ap NameAt at
+moved_in_rules (AtTo spot) symbol place other at = ap NameAt at
+moved_in_rules (AtItem spot) (Word w) place other at = go (bytes_eq w (closing spot.side)) refl
   where
-    go : (symbol : Symbol) → part.symbol ≡ symbol → held_behind (AtBehind spot) (marks_for (part ∷ parts)) held ≡ held_behind (AtItem spot) (marks_for (part ∷ parts)) held
-    go (Word w) e = rw (e, plain (takes_hook spot.heading.version spot.hooked) w e) refl
-    go symbol e = rw e refl
-
-free_item : (side : Side) (item : Item) (n : ℕ) (count : Count) (rest : Parts) → IsItem side item → HasNoHook side (spell_item n side count item rest)
-free_item side (NodeItem node letters hook) n count rest good = λ takes w e. let same : node.name ≡ w = cc e in rw (← same) (free_hook side takes node.name (hook_side side node letters hook good).0)
-free_item side (LinkItem from label to) n count rest good = λ takes w e. let same : from.name ≡ w = cc e in rw (← same) (free_hook side takes from.name (link_free side from to label good).0)
-
-item_held : (h : Heading) (k : ℕ) (side : Side) (count : Count) (hook_before : Bool) (item : Item) (rest : Parts) (heading : Heading) (before : List RuleForm) (rule : RuleForm) (part : Part) (last : Held) → IsItem side item → IsTaken h.version hook_before item → HasNoHook side rest
-    → Leaves (AtItem (spot_at h k side (count_after count item) (hooked_by hook_before item))) rest (within heading before (put side item rule) Nothing) last → Leaves (AtItem (spot_at h k side count hook_before)) (spell_item h.dim side count item rest) (within heading before rule part) last
-item_held h k side count hook_before (NodeItem node letters hook) rest heading before rule part last good taken plain ends =
-    let is = hook_side side node letters hook good in
-    let spot = with_node (spot_at h k side count hook_before) node.name in
-    let behind_word : Leaves (AtBehind spot) (spell_hook hook rest) (within heading before (put side (NodeItem node letters false) rule) Nothing) last = hooked hook is.1 taken (hook_put side node letters hook rule is.1) ends in
-    rw (free_closes side node.name is.0, is.0) (letters_held spot 0 letters [] (sign (WordEnd side) (codes ">") ∷ spell_hook hook rest) heading before rule node last (λ j. behind_word))
-  where
-    hooked : (set : Bool) → (set ≡ true → side ≡ Left) → (set ≡ true → takes_hook h.version hook_before ≡ true)
-        → (if set then hook_last (put side (NodeItem node letters false) rule) else put side (NodeItem node letters false) rule) ≡ put side (NodeItem node letters hook) rule
-        → Leaves (AtItem (spot_at h k side (count_after count (NodeItem node letters hook)) (set || hook_before))) rest (within heading before (put side (NodeItem node letters hook) rule) Nothing) last
-        → Leaves (AtBehind (with_node (spot_at h k side count hook_before) node.name)) (spell_hook set rest) (within heading before (put side (NodeItem node letters false) rule) Nothing) last
-    hooked false on takes same ends =
-        behind_same (with_node (spot_at h k side count hook_before) node.name) rest (within heading before (put side (NodeItem node letters false) rule) Nothing) plain
-        ∙ ap (λ (r : RuleForm). held_behind (AtItem (with_node (spot_at h k side count hook_before) node.name)) (marks_for rest) (within heading before r Nothing)) same ∙ ends
-    hooked true on takes same ends =
-        let left : side ≡ Left = on refl in
-        let put_hook : held_behind (AtBehind (with_node (spot_at h k side count hook_before) node.name)) (marks_for (spell_hook true rest)) (within heading before (put side (NodeItem node letters false) rule) Nothing)
-        ≡ held_behind (AtItem (with_hook (with_node (spot_at h k side count hook_before) node.name))) (marks_for rest) (within heading before (hook_last (put side (NodeItem node letters false) rule)) Nothing) = rw (left, takes refl) refl in
-        put_hook ∙ ap (λ (r : RuleForm). held_behind (AtItem (with_hook (with_node (spot_at h k side count hook_before) node.name))) (marks_for rest) (within heading before r Nothing)) same ∙ ends
-item_held h k side count hook_before (LinkItem from label to) rest heading before rule part last good taken plain ends =
-    let is = link_free side from to label good in
-    rw (free_closes side from.name is.0, is.0, is.1) ends
-
-abbrev put_all : Side → List Item → RuleForm → RuleForm
-put_all side [] rule = rule
-put_all side (item ∷ items) rule = put_all side items (put side item rule)
-
-items_held : (h : Heading) (k : ℕ) (side : Side) (count : Count) (hook_before : Bool) (items : List Item) (rest : Parts) (heading : Heading) (before : List RuleForm) (rule : RuleForm) (part : Part) (last : Held) → AllByRecursion (IsItem side) items → AreTaken h.version hook_before items → HasNoHook side rest
-    → ((p : Part) → Leaves (AtItem (spot_at h k side (counted count items) (hooked_in hook_before items))) rest (within heading before (put_all side items rule) p) last) → Leaves (AtItem (spot_at h k side count hook_before)) (spell_items h.dim side count items rest) (within heading before rule part) last
-items_held h k side count hook_before [] rest heading before rule part last good taken plain ends = ends part
-items_held h k side count hook_before (item ∷ items) rest heading before rule part last good taken plain ends =
-    item_held h k side count hook_before item (spell_items h.dim side (count_after count item) items rest) heading before rule part last good.0 taken.0 (next items good.1)
-    (items_held h k side (count_after count item) (hooked_by hook_before item) items rest heading before (put side item rule) Nothing last good.1 taken.1 plain ends)
-  where
-    next : (items : List Item) → AllByRecursion (IsItem side) items → HasNoHook side (spell_items h.dim side (count_after count item) items rest)
-    next [] good = plain
-    next (item' ∷ items) good = free_item side item' h.dim (count_after count item) (spell_items h.dim side (count_after (count_after count item) item') items rest) good.0
-
-put_left : (items : List Item) (rule : RuleForm) → put_all Left items rule ≡ record { name = rule.name; left = rule.left ++ items; right = rule.right }
-put_left [] rule = ap (λ (left : List Item). let r : RuleForm = record { name = rule.name; left = left; right = rule.right } in r) (sym (append-nil rule.left))
-put_left (item ∷ items) rule = put_left items (put Left item rule) ∙ ap (λ (left : List Item). let r : RuleForm = record { name = rule.name; left = left; right = rule.right } in r) (append_assoc rule.left (item ∷ []) items)
-
-put_right : (items : List Item) (rule : RuleForm) → put_all Right items rule ≡ record { name = rule.name; left = rule.left; right = rule.right ++ items }
-put_right [] rule = ap (λ (right : List Item). let r : RuleForm = record { name = rule.name; left = rule.left; right = right } in r) (sym (append-nil rule.right))
-put_right (item ∷ items) rule = put_right items (put Right item rule) ∙ ap (λ (right : List Item). let r : RuleForm = record { name = rule.name; left = rule.left; right = right } in r) (append_assoc rule.right (item ∷ []) items)
-
--- ---- rules
-
-rule_held : (h : Heading) (k : ℕ) (before : List RuleForm) (rule : RuleForm) (rules : List RuleForm) → IsRule h.version rule
-    → ((count : Count) (hook_before : Bool) (part : Part) → Leaves (AtItem (spot_at h k Right count hook_before)) (spell_rules h.dim k rules (the_end ∷ [])) (within h before rule part) (behind h (before ++ rule ∷ rules)))
-    → Leaves (AtName h k) (named rule.name ∷ word Fixed (codes "left") ∷ spell_items h.dim Left no_count rule.left (word Fixed (codes "right") ∷ spell_items h.dim Right (count_across (counted no_count rule.left)) rule.right (spell_rules h.dim k rules (the_end ∷ [])))) (behind h before) (behind h (before ++ rule ∷ rules))
-rule_held h k before rule rules (free, left, right, few) later =
-    let across = count_across (counted no_count rule.left) in
-    let hook_left = hooked_in false rule.left in
-    let hook_right = hooked_in hook_left rule.right in
-    let rest = spell_rules h.dim k rules (the_end ∷ []) in
-    let empty : RuleForm = record { name = rule.name; left = []; right = [] } in
-    let lefts : RuleForm = record { name = rule.name; left = rule.left; right = [] } in
-    let last = behind h (before ++ rule ∷ rules) in
-    let on_right : (p : Part) → Leaves (AtItem (spot_at h k Right (counted across rule.right) hook_right)) rest (within h before (put_all Right rule.right lefts) p) last = λ p.
-    ap (λ (r : RuleForm). held_behind (AtItem (spot_at h k Right (counted across rule.right) hook_right)) (marks_for rest) (within h before r p)) (put_right rule.right lefts) ∙ later (counted across rule.right) hook_right p in
-    let right_part : (p : Part) → Leaves (AtItem (spot_at h k Right across hook_left)) (spell_items h.dim Right across rule.right rest) (within h before lefts p) last = λ p.
-    items_held h k Right across hook_left rule.right rest h before lefts p last right (right_taken h.version hook_left rule.right right) (plain_rules rules) on_right in
-    let on_left : (p : Part) → Leaves (AtItem (spot_at h k Left (counted no_count rule.left) hook_left)) (word Fixed (codes "right") ∷ spell_items h.dim Right across rule.right rest) (within h before (put_all Left rule.left empty) p) last = λ p.
-    ap (λ (r : RuleForm). held_behind (AtItem (spot_at h k Left (counted no_count rule.left) hook_left)) (marks_for (word Fixed (codes "right") ∷ spell_items h.dim Right across rule.right rest)) (within h before r p)) (put_left rule.left empty) ∙ right_part p in
-    rw free (items_held h k Left no_count false rule.left (word Fixed (codes "right") ∷ spell_items h.dim Right across rule.right rest) h before empty Nothing last left (left_taken h.version rule.left few)
-    (λ takes w e. let same : codes "right" ≡ w = cc e in rw (← same) refl) on_left)
-  where
-    plain_rules : (rules : List RuleForm) → HasNoHook Right (spell_rules h.dim k rules (the_end ∷ []))
-    plain_rules [] = λ takes w e. refl
-    plain_rules (r ∷ rs) = λ takes w e. refl
-
-rules_held : (h : Heading) (k : ℕ) (count : Count) (hook_before : Bool) (before : List RuleForm) (rule : RuleForm) (part : Part) (rules : List RuleForm) → AllByRecursion (IsRule h.version) rules
-    → Leaves (AtItem (spot_at h k Right count hook_before)) (spell_rules h.dim k rules (the_end ∷ [])) (within h before rule part) (behind h (before ++ rule ∷ rules))
-rules_held h k count hook_before before rule part [] good = refl
-rules_held h k count hook_before before rule part (next ∷ rules) good =
-    rule_held h (k + 1) (before ++ rule ∷ []) next rules good.0 (λ c b p. rules_held h (k + 1) c b (before ++ rule ∷ []) next p rules good.1) ∙ ap (λ (rs : List RuleForm). behind h rs) (append_assoc before (rule ∷ []) (next ∷ rules))
-
-header_held : (h : Heading) (rules : List RuleForm) → AllByRecursion (IsRule h.version) rules → Leaves (AtRules h) (spell_rules h.dim 0 rules (the_end ∷ [])) (behind h []) (behind h rules)
-header_held h [] good = refl
-header_held h (rule ∷ rules) good = rule_held h 1 [] rule rules good.0 (λ c b p. rules_held h 1 c b [] rule p rules good.1)
-
-book_held : (book : BookForm) → IsForm book → held_behind AtFormat (marks_for (spelling book)) nothing_held ≡ behind (heading_at book.version book.dim) book.rules
-book_held book good = rw (known_version book.version good.0) (header_held (heading_at book.version book.dim) book.rules good.1)
-
--- ---- one book
-
--- where a role says a place, it is the place of the mark
-moved_role : (state : State) (symbol : Symbol) (place other : ℕ) → IsPlacedAt other (role_at state symbol place) → role_at state symbol place ≡ role_at state symbol other
-moved_role (AtName n k) symbol place other at = ap NameAt at
-moved_role (AtTo spot) symbol place other at = ap NameAt at
-moved_role (AtItem spot) (Word w) place other at = go (bytes_eq w (closing spot.side)) refl
-  where
-    go : (b : Bool) → bytes_eq w (closing spot.side) ≡ b → role_at (AtItem spot) (Word w) place ≡ role_at (AtItem spot) (Word w) other
+    go : (b : Bool) → bytes_eq w (closing spot.side) ≡ b → rules.role_at (AtItem spot) (Word w) place ≡ rules.role_at (AtItem spot) (Word w) other
     go true e = rw e refl
     go false e = rw e (ap NameAt (rw e at at))
-moved_role (AtBehind spot) (Word w) place other at = go (is_hook spot w) refl (bytes_eq w (closing spot.side)) refl
+moved_in_rules (AtBehind spot) (Word w) place other at = go (is_hook spot w) refl (bytes_eq w (closing spot.side)) refl
   where
-    go : (h : Bool) → is_hook spot w ≡ h → (b : Bool) → bytes_eq w (closing spot.side) ≡ b → role_at (AtBehind spot) (Word w) place ≡ role_at (AtBehind spot) (Word w) other
+    go : (h : Bool) → is_hook spot w ≡ h → (b : Bool) → bytes_eq w (closing spot.side) ≡ b → rules.role_at (AtBehind spot) (Word w) place ≡ rules.role_at (AtBehind spot) (Word w) other
     go true f b e = rw f refl
     go false f true e = rw (f, e) refl
     go false f false e = rw (f, e) (ap NameAt (rw (f, e) at at))
-moved_role state symbol place other at = refl
+moved_in_rules state symbol place other at = refl
+
+-- and so in a whole book
+moved_role : (state : Whole) (symbol : Symbol) (place other : ℕ) → IsPlacedAt other (role_at state symbol place) → role_at state symbol place ≡ role_at state symbol other
+moved_role (Outside AtFormat) symbol place other at = refl
+moved_role (Outside AtVersion) symbol place other at = refl
+moved_role (Outside (InRules state)) symbol place other at = moved_in_rules state symbol place other at
+moved_role (Inside inner) symbol place other at = go (is_some (book_nesting.inner_move inner symbol)) refl
+  where
+    go : (b : Bool) → is_some (book_nesting.inner_move inner symbol) ≡ b → role_at (Inside inner) symbol place ≡ role_at (Inside inner) symbol other
+    go true e = rw e (ap InSchema (schema_names.moved_role inner.state symbol place other (rw e at at)))
+    go false e = rw e refl
 
 -- marks of a sentence's symbols at its places are its parts along the states
-led_along : (state : State) (marks : List Mark) (parts : Parts) → Led state parts → symbols marks ≡ symbols_in parts → ArePlaced marks parts → Along limit_of stands_before role_at move state marks parts AtEnd
+led_along : (state : Whole) (marks : List Mark) (parts : Parts) → LedWhole state parts (in_rules AtEnd) → symbols marks ≡ symbols_in parts → ArePlaced marks parts → Along limit_of stands_before role_at move_on state marks parts (in_rules AtEnd)
 led_along state [] [] e same placed = e
 led_along state [] (part ∷ parts) led same placed = absurd cc
 led_along state (mark ∷ marks) [] led same placed = absurd cc
@@ -183,12 +73,12 @@ led_along state (mark ∷ marks) (part ∷ parts) (place, next, is, moves, led) 
     let head : mark.symbol ≡ part.symbol = cc same in
     let tail : symbols marks ≡ symbols_in parts = cc same in
     let role : part.role ≡ role_at state part.symbol mark.place = is ∙ moved_role state part.symbol place mark.place (subst (IsPlacedAt mark.place) is here) in
-    let part_is : part ≡ part_at limit_of stands_before role_at move state mark =
+    let part_is : part ≡ part_at limit_of stands_before role_at move_on state mark =
     ap (λ (r : Role). let p : reading.Part Role = record { symbol = part.symbol; role = r } in p) role
     ∙ ap (λ (s : Symbol). let p : reading.Part Role = record { symbol = s; role = role_at state s mark.place } in p) (sym head) in
-    (next, part_is, ap (move state) head ∙ moves, led_along next marks parts led tail placed)
+    (next, part_is, ap (move_on state) head ∙ moves, led_along next marks parts led tail placed)
 
-one_along : (state last last' : State) (marks : List Mark) (one other : Parts) → Along limit_of stands_before role_at move state marks one last → Along limit_of stands_before role_at move state marks other last' → one ≡ other
+one_along : (state last last' : Whole) (marks : List Mark) (one other : Parts) → Along limit_of stands_before role_at move_on state marks one last → Along limit_of stands_before role_at move_on state marks other last' → one ≡ other
 one_along state last last' [] [] [] e f = refl
 one_along state last last' [] [] (q ∷ other) e f = absurd f
 one_along state last last' [] (p ∷ one) other e f = absurd e
@@ -197,31 +87,88 @@ one_along state last last' (mark ∷ marks) (p ∷ one) [] e f = absurd f
 one_along state last last' (mark ∷ marks) (p ∷ one) (q ∷ other) (next, is, moves, along) (next', is', moves', along') =
     let both : Some next ≡ Some next' = sym moves ∙ moves' in
     let same : next' ≡ next = cc both in
-    let rest = one_along next last last' marks one other along (subst (λ s. Along limit_of stands_before role_at move s marks other last') same along') in
+    let rest = one_along next last last' marks one other along (subst (λ s. Along limit_of stands_before role_at move_on s marks other last') same along') in
     ap (λ (p : reading.Part Role). p ∷ one) (is ∙ sym is') ∙ ap (λ (ps : Parts). q ∷ ps) rest
 
-written_along : (text : List ℕ) (book : BookForm) → IsWritten text book → Along limit_of stands_before role_at move AtFormat (marks_of text) (spelling book) AtEnd
-written_along text book written = led_along AtFormat (marks_of text) (spelling book) (sentence_leads (spelling book) written.read.sentence) written.read.spelled written.placed
+written_along : (text : List ℕ) (book : BookForm) → IsWritten text book → Along limit_of stands_before role_at move_on (Outside AtFormat) (marks_of text) (spelling book) (in_rules AtEnd)
+written_along text book written = led_along (Outside AtFormat) (marks_of text) (spelling book) (book_grammar.leads (spelling book) written.read.sentence) written.read.spelled written.placed
+
+-- ---- one book
+
+-- the parts of the schema at the front, and those behind them
+abbrev before_rest : Symbol → Role → List (reading.Part schemas.Role) → List (reading.Part schemas.Role)
+before_rest symbol (InSchema role) rest = record { symbol = symbol; role = role } ∷ rest
+before_rest symbol _ rest = []
+
+abbrev inside : Parts → List (reading.Part schemas.Role)
+inside [] = []
+inside (part ∷ parts) = before_rest part.symbol part.role (inside parts)
+
+-- the rest where the part is one of the schema
+abbrev either_rest : Role → Parts → Parts → Parts
+either_rest (InSchema role) rest parts = rest
+either_rest _ rest parts = parts
+
+abbrev behind : Parts → Parts
+behind [] = []
+behind (part ∷ parts) = either_rest part.role (behind parts) (part ∷ parts)
+
+-- rules begin with no part of a schema
+inside_rules : (n : ℕ) (forms : List RuleForm) → inside (spell_rules n 0 forms (the_end ∷ [])) ≡ []
+inside_rules n [] = refl
+inside_rules n (form ∷ forms) = refl
+
+behind_rules : (n : ℕ) (forms : List RuleForm) → behind (spell_rules n 0 forms (the_end ∷ [])) ≡ spell_rules n 0 forms (the_end ∷ [])
+behind_rules n [] = refl
+behind_rules n (form ∷ forms) = refl
+
+inside_is : (parts : List (reading.Part schemas.Role)) (rest : Parts) → inside rest ≡ [] → inside (map in_schema parts ++ rest) ≡ parts
+inside_is [] rest none = none
+inside_is (part ∷ parts) rest none = ap (λ (ps : List (reading.Part schemas.Role)). part ∷ ps) (inside_is parts rest none)
+
+behind_is : (parts : List (reading.Part schemas.Role)) (rest : Parts) → behind rest ≡ rest → behind (map in_schema parts ++ rest) ≡ rest
+behind_is [] rest same = same
+behind_is (part ∷ parts) rest same = behind_is parts rest same
 
 pub one_written : (text : List ℕ) (one other : BookForm) → IsWritten text one → IsWritten text other → one ≡ other
 one_written text one other w v =
-    let same : spelling one ≡ spelling other = one_along AtFormat AtEnd AtEnd (marks_of text) (spelling one) (spelling other) (written_along text one w) (written_along text other v) in
-    let held : behind (heading_at one.version one.dim) one.rules ≡ behind (heading_at other.version other.dim) other.rules =
-    sym (book_held one w.form) ∙ ap (λ (ps : Parts). held_behind AtFormat (marks_for ps) nothing_held) same ∙ book_held other v.form in
-    let versions : one.version ≡ other.version = ap (λ (h : Held). h.heading.version) held in
-    let dims : one.dim ≡ other.dim = ap (λ (h : Held). h.heading.dim) held in
-    let rules : one.rules ≡ other.rules = ap (λ (h : Held). h.rules) held in
-    ap (λ (v : ℕ). let b : BookForm = record { version = v; dim = one.dim; rules = one.rules } in b) versions ∙ ap (λ (n : ℕ). let b : BookForm = record { version = other.version; dim = n; rules = one.rules } in b) dims
-    ∙ ap (λ (rs : List RuleForm). let b : BookForm = record { version = other.version; dim = other.dim; rules = rs } in b) rules
+    let same : spelling one ≡ spelling other = one_along (Outside AtFormat) (in_rules AtEnd) (in_rules AtEnd) (marks_of text) (spelling one) (spelling other) (written_along text one w) (written_along text other v) in
+    let rest_one = spell_rules one.schema.dim 0 one.rules (the_end ∷ []) in
+    let rest_two = spell_rules other.schema.dim 0 other.rules (the_end ∷ []) in
+    let version : one.version ≡ other.version = ap version_in same in
+    let tail : map in_schema (spell one.schema []) ++ rest_one ≡ map in_schema (spell other.schema []) ++ rest_two = ap tail_of same in
+    let spelled : spell one.schema [] ≡ spell other.schema [] =
+    sym (inside_is (spell one.schema []) rest_one (inside_rules one.schema.dim one.rules)) ∙ ap inside tail ∙ inside_is (spell other.schema []) rest_two (inside_rules other.schema.dim other.rules) in
+    let schema : one.schema ≡ other.schema = same_form one.schema other.schema w.form.1 v.form.1 spelled in
+    let rests : rest_one ≡ rest_two = sym (behind_is (spell one.schema []) rest_one (behind_rules one.schema.dim one.rules)) ∙ ap behind tail ∙ behind_is (spell other.schema []) rest_two (behind_rules other.schema.dim other.rules) in
+    let held_one = header_held (heading_at one.version one.schema.dim) one.rules w.form.2 in
+    let held_two = header_held (heading_at other.version other.schema.dim) other.rules v.form.2 in
+    let from : held_behind (AtRules (heading_at one.version one.schema.dim)) (marks_for rest_one) nothing_held ≡ held_behind (AtRules (heading_at other.version other.schema.dim)) (marks_for rest_two) nothing_held =
+    ap (λ (u : ℕ). held_behind (AtRules (heading_at u one.schema.dim)) (marks_for rest_one) nothing_held) version
+    ∙ ap (λ (f : SchemaForm). held_behind (AtRules (heading_at other.version f.dim)) (marks_for rest_one) nothing_held) schema
+    ∙ ap (λ (ps : Parts). held_behind (AtRules (heading_at other.version other.schema.dim)) (marks_for ps) nothing_held) rests in
+    let forms : one.rules ≡ other.rules = ap (λ (h : Held). h.rules) (sym held_one ∙ from ∙ held_two) in
+    ap (λ (u : ℕ). let b : BookForm = record { version = u; schema = one.schema; rules = one.rules } in b) version ∙ ap (λ (f : SchemaForm). let b : BookForm = record { version = other.version; schema = f; rules = one.rules } in b) schema
+    ∙ ap (λ (rs : List RuleForm). let b : BookForm = record { version = other.version; schema = other.schema; rules = rs } in b) forms
+  where
+    numeral_in : Symbol → ℕ
+    numeral_in (Numeral n) = n
+    numeral_in symbol = 0
+
+    version_in : Parts → ℕ
+    version_in (first ∷ second ∷ parts) = numeral_in second.symbol
+    version_in parts = 0
+
+    tail_of : Parts → Parts
+    tail_of (first ∷ second ∷ parts) = parts
+    tail_of parts = []
 
 -- two books that a text stands for
 pub one_book : (text : List ℕ) (version version' : ℕ) (schema schema' : Schema) (rules rules' : List Rule) → BookText text version schema rules → BookText text version' schema' rules' → (version ≡ version') × (schema ≡ schema') × (rules ≡ rules')
 one_book text version version' schema schema' rules rules' one other =
-    let same : one.book ≡ other.book = one_written text one.book other.book one.written other.written in
-    let dims : schema.dim ≡ schema'.dim = one.dim ∙ ap (λ (b : BookForm). b.dim) same ∙ sym other.dim in
-    let embeds : schema.embeds ≡ schema'.embeds = one.embeds ∙ sym other.embeds in (
+    let same : one.book ≡ other.book = one_written text one.book other.book one.written other.written in (
       one.versions ∙ ap (λ (b : BookForm). b.version) same ∙ sym other.versions,
-      ap (λ (n : ℕ). let s : Schema = record { dim = n; embeds = schema.embeds } in s) dims ∙ ap (λ (es : List Embed). let s : Schema = record { dim = schema'.dim; embeds = es } in s) embeds,
+      one.means ∙ ap (λ (b : BookForm). schema_of b.schema) same ∙ sym other.means,
       one.same ∙ ap (λ (b : BookForm). map rule_in b.rules) same ∙ sym other.same,
     )
 
@@ -240,33 +187,33 @@ book_fault_of_name (TwiceAt place) = faults.Twice place
 book_fault_of_name (UnknownAt place) = faults.Unknown place
 
 module _ (text : List ℕ) where
-  abbrev Run : Result State (Stop State LimitKind)
-  Run = run AtFormat 0 (marks_of text)
+  abbrev Run : Result Whole (Stop Whole LimitKind)
+  Run = run_whole (Outside AtFormat) 0 (marks_of text)
 
-  written_runs : (book : BookForm) → IsWritten text book → Run ≡ Ok AtEnd
-  written_runs book written = reading_runs limit_of stands_before role_at move IsSentence AtFormat AtEnd book_grammar (marks_of text) (spelling book) written.read
+  written_runs : (book : BookForm) → IsWritten text book → Run ≡ Ok (in_rules AtEnd)
+  written_runs book written = reading_runs limit_of stands_before role_at move_on IsSentence (Outside AtFormat) (in_rules AtEnd) book_grammar (marks_of text) (spelling book) written.read
 
   -- what reading by the states answers where the text has the fault
   abbrev Answers : BookFault → Type 0
-  Answers (faults.Text place) = (state : State) × (mark : Mark) × (mark.place ≡ place) × (Run ≡ Err (Ends state mark)) × (is_later state mark.symbol ≡ false)
+  Answers (faults.Text place) = (state : Whole) × (mark : Mark) × (mark.place ≡ place) × (Run ≡ Err (Ends state mark)) × (is_later_in state mark.symbol ≡ false)
   Answers (faults.Limit what place) = Run ≡ Err (Passes what place)
-  Answers (faults.NotBuilt place) = (state : State) × (mark : Mark) × (mark.place ≡ place) × (Run ≡ Err (Ends state mark)) × (is_later state mark.symbol ≡ true)
-  Answers (faults.Twice place) = Run ≡ Ok AtEnd
-  Answers (faults.Unknown place) = Run ≡ Ok AtEnd
+  Answers (faults.NotBuilt place) = (state : Whole) × (mark : Mark) × (mark.place ≡ place) × (Run ≡ Err (Ends state mark)) × (is_later_in state mark.symbol ≡ true)
+  Answers (faults.Twice place) = Run ≡ Ok (in_rules AtEnd)
+  Answers (faults.Unknown place) = Run ≡ Ok (in_rules AtEnd)
   Answers faults.OutOfMemory = Unit {0}
 
   text_answers : (place : ℕ) → IsTextFault text place → Answers (faults.Text place)
   text_answers place fault =
-      let at = ends_run limit_of stands_before role_at move IsSentence AtFormat AtEnd book_grammar (marks_of text) place fault.ends in
-      go at (is_later at.0 at.1.symbol) refl
+      let at = ends_run limit_of stands_before role_at move_on IsSentence (Outside AtFormat) (in_rules AtEnd) book_grammar (marks_of text) place fault.ends in
+      go at (is_later_in at.0 at.1.symbol) refl
     where
-      go : (at : (state : State) × (mark : Mark) × (mark.place ≡ place) × (Run ≡ Err (Ends state mark))) → (b : Bool) → is_later at.0 at.1.symbol ≡ b → Answers (faults.Text place)
+      go : (at : (state : Whole) × (mark : Mark) × (mark.place ≡ place) × (Run ≡ Err (Ends state mark))) → (b : Bool) → is_later_in at.0 at.1.symbol ≡ b → Answers (faults.Text place)
       go at false e = (at.0, at.1, at.2, at.3, e)
       go at true e = absurd (fault.never (subst (IsNotBuilt text) at.2 (not_built_is text at.0 at.1 at.3 e)))
 
   answers : (fault : BookFault) → IsFaultOf text fault → Answers fault
   answers (faults.Text place) fault = text_answers place fault
-  answers (faults.Limit what place) fault = passes_run limit_of stands_before role_at move IsSentence AtFormat AtEnd book_grammar (marks_of text) what place fault
+  answers (faults.Limit what place) fault = passes_run limit_of stands_before role_at move_on IsSentence (Outside AtFormat) (in_rules AtEnd) book_grammar (marks_of text) what place fault
   answers (faults.NotBuilt place) fault = not_built_ends text place fault
   answers (faults.Twice place) fault = written_runs fault.book fault.written
   answers (faults.Unknown place) fault = written_runs fault.book fault.written
@@ -275,33 +222,33 @@ module _ (text : List ℕ) where
   pub no_book : (fault : BookFault) → fault ≢ faults.OutOfMemory → IsFaultOf text fault → StandsForNoBook text
   no_book fault memory is version schema rules stands = go fault memory is (answers fault is)
     where
-      runs : Run ≡ Ok AtEnd
+      runs : Run ≡ Ok (in_rules AtEnd)
       runs = written_runs stands.book stands.written
 
       go : (fault : BookFault) → fault ≢ faults.OutOfMemory → IsFaultOf text fault → Answers fault → ⊥
-      go (faults.Text place) memory is (state, mark, here, ends, later) = let both : Ok AtEnd ≡ Err (Ends state mark) = sym runs ∙ ends in absurd cc
-      go (faults.Limit what place) memory is passes = let both : Ok AtEnd ≡ Err (Passes what place) = sym runs ∙ passes in absurd cc
-      go (faults.NotBuilt place) memory is (state, mark, here, ends, later) = let both : Ok AtEnd ≡ Err (Ends state mark) = sym runs ∙ ends in absurd cc
+      go (faults.Text place) memory is (state, mark, here, ends, later) = let both : Ok (in_rules AtEnd) ≡ Err (Ends state mark) = sym runs ∙ ends in absurd cc
+      go (faults.Limit what place) memory is passes = let both : Ok (in_rules AtEnd) ≡ Err (Passes what place) = sym runs ∙ passes in absurd cc
+      go (faults.NotBuilt place) memory is (state, mark, here, ends, later) = let both : Ok (in_rules AtEnd) ≡ Err (Ends state mark) = sym runs ∙ ends in absurd cc
       go (faults.Twice place) memory is other = stands.sound (TwiceAt place) (subst (λ (b : BookForm). IsNameFault b (TwiceAt place)) (one_written text is.book stands.book is.written stands.written) is.found)
       go (faults.Unknown place) memory is other = stands.sound (UnknownAt place) (subst (λ (b : BookForm). IsNameFault b (UnknownAt place)) (one_written text is.book stands.book is.written stands.written) is.found)
       go faults.OutOfMemory memory is other = memory refl
 
   -- a text without a fault of its grammar
-  reads_whole : (fault other : BookFault) → IsOfGrammar fault → Answers fault → Run ≡ Ok AtEnd → ⊥
-  reads_whole (faults.Text place) other of (state, mark, here, ends, later) runs = let both : Ok AtEnd ≡ Err (Ends state mark) = sym runs ∙ ends in absurd cc
-  reads_whole (faults.Limit what place) other of passes runs = let both : Ok AtEnd ≡ Err (Passes what place) = sym runs ∙ passes in absurd cc
-  reads_whole (faults.NotBuilt place) other of (state, mark, here, ends, later) runs = let both : Ok AtEnd ≡ Err (Ends state mark) = sym runs ∙ ends in absurd cc
+  reads_whole : (fault other : BookFault) → IsOfGrammar fault → Answers fault → Run ≡ Ok (in_rules AtEnd) → ⊥
+  reads_whole (faults.Text place) other of (state, mark, here, ends, later) runs = let both : Ok (in_rules AtEnd) ≡ Err (Ends state mark) = sym runs ∙ ends in absurd cc
+  reads_whole (faults.Limit what place) other of passes runs = let both : Ok (in_rules AtEnd) ≡ Err (Passes what place) = sym runs ∙ passes in absurd cc
+  reads_whole (faults.NotBuilt place) other of (state, mark, here, ends, later) runs = let both : Ok (in_rules AtEnd) ≡ Err (Ends state mark) = sym runs ∙ ends in absurd cc
   reads_whole (faults.Twice place) other of answers runs = of
   reads_whole (faults.Unknown place) other of answers runs = of
   reads_whole faults.OutOfMemory other of answers runs = of
 
   -- the same state and mark
-  same_end : (state state' : State) (mark mark' : Mark) → Run ≡ Err (Ends state mark) → Run ≡ Err (Ends state' mark') → (is_later state mark.symbol ≡ is_later state' mark'.symbol) × (mark.place ≡ mark'.place)
+  same_end : (state state' : Whole) (mark mark' : Mark) → Run ≡ Err (Ends state mark) → Run ≡ Err (Ends state' mark') → (is_later_in state mark.symbol ≡ is_later_in state' mark'.symbol) × (mark.place ≡ mark'.place)
   same_end state state' mark mark' e f =
       let both : Err (Ends state mark) ≡ Err (Ends state' mark') = sym e ∙ f in
       let one : state ≡ state' = cc both in
       let here : mark ≡ mark' = cc both in
-      (ap (λ (s : State). is_later s mark.symbol) one ∙ ap (λ (m : Mark). is_later state' m.symbol) here, ap (λ (m : Mark). m.place) here)
+      (ap (λ (s : Whole). is_later_in s mark.symbol) one ∙ ap (λ (m : Mark). is_later_in state' m.symbol) here, ap (λ (m : Mark). m.place) here)
 
   one_answer : (one other : BookFault) → IsOfGrammar one → other ≢ faults.OutOfMemory → Answers one → Answers other → one ≡ other
   one_answer one (faults.Twice place) of memory a runs = absurd (reads_whole one one of a runs)

@@ -9,8 +9,9 @@ use Rattle.gm_book.specs.declared.draft.Draft.{Draft}
 use Rattle.gm_book.specs.declared.form_fault.FormFault.{FormFault}
 use Rattle.gm_book.specs.declared.form_fault.FormFault.TheVariants as faults
 use Rattle.gm_book.specs.declared.state.State.{State as CodeState}
-use Rattle.gm_book.specs.Reading.{State, AtFormat, AtVersion, AtDim, AtTop, AtRules, AtName, AtLeft, AtItem, AtSign, AtLetter, AtBehind, AtLabel, AtDash, AtTo, AtEnd, Held}
-use Rattle.gm_book.specs.Standing.{Stand, stepped, read_on, ◌>>=◌, Fails, IsNext, IsStateIn, IsDraftIn, MovesFrom, stand_of, mark_of, marks_left}
+use Rattle.gm_book.specs.Reading.{State, AtRules, AtName, AtLeft, AtItem, AtSign, AtLetter, AtBehind, AtLabel, AtDash, AtTo, AtEnd, Held}
+use Rattle.gm_text.specs.SchemaAnswers.{marks_left}
+use Rattle.gm_book.specs.Standing.{Stand, stepped, read_on, ◌>>=◌, Fails, IsNext, IsStateIn, IsDraftIn, MovesFrom, stand_of, mark_of}
 
 -- ---- tokens
 
@@ -31,10 +32,6 @@ next_is cursor rest found moved span longest answer =
 -- no state goes on with a stray byte
 stray_is_fault : (state : State) (last place : ℕ) (held : Held) → stepped (record { state = state; last = last; held = held }) (record { symbol = Stray; place = place }) ≡ Err (faults.Text place)
 unfolding stepped
-stray_is_fault AtFormat last place held = refl
-stray_is_fault AtVersion last place held = refl
-stray_is_fault (AtDim version) last place held = refl
-stray_is_fault (AtTop version) last place held = refl
 stray_is_fault (AtRules n) last place held = refl
 stray_is_fault (AtName n k) last place held = refl
 stray_is_fault (AtLeft n k) last place held = refl

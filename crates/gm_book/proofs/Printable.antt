@@ -35,9 +35,8 @@ names_its_nodes schema rule range = record {
 plain_in : (form : RuleForm) → IsPlain (rule_in form)
 plain_in form = record { params = refl; sets = All-map (λ (node : RuleNode). node.sets ≡ []) (node_in form) (nodes_of form) (λ k d inside. refl); pre = refl }
 
-pub printable_from_text : (text : List ℕ) (version : ℕ) (schema : Schema) (rules : List Rule) → BookText text version schema rules → CanBePrinted schema rules
+pub printable_from_text : (text : List ℕ) (version : ℕ) (schema : Schema) (rules : List Rule) → BookText text version schema rules → CanBePrinted rules
 printable_from_text text version schema rules stands = record {
   numbers = λ k d inside. names_its_nodes schema (get_or rules k d) (range_from_text text version schema rules stands k d inside).0;
-  embeds = stands.embeds;
   plain = subst (All IsPlain) (sym stands.same) (All-map IsPlain rule_in stands.book.rules (λ k d inside. plain_in (get_or stands.book.rules k d)));
 }

@@ -1,59 +1,195 @@
 -- What the passes of the reader of a book's text say of the whole.
-use Rattle.std.proofs.Common.{◌≡◌, ℕ, List, [], ◌∷◌, map, All, Result, Ok, Err, sym, ap, subst, ◌∙◌}
+use Rattle.std.proofs.Common.{◌≡◌, ℕ, ◌≤◌, true, false, List, [], ◌∷◌, map, length, All, Result, Ok, Err, sym, ap, subst, ◌∙◌}
 use Rattle.std.proofs.lemmas.List.Elements.{All-head, All-tail}
 use Rattle.std.specs.Prelude.{IfOk, IfErr}
 use Rattle.std.specs.List.{AllByRecursion}
+use Rattle.gm_model.specs.declared.limit.LimitKind.{LimitKind}
 use Rattle.gm_model.specs.declared.rule.Book.{Book}
 use Rattle.gm_model.specs.declared.rule.RuleTable.{RuleTable}
 use Rattle.gm_model.specs.declared.schema.Schema.{Schema}
-use Rattle.gm_model.specs.Reading.{IsWithin}
-use Rattle.gm_model.specs.Rules.{Rule, rule_of}
+use Rattle.gm_model.specs.Rules.{rule_of}
+use Rattle.gm_model.specs.Reading.{Part, IsWithin, symbols_in}
 use Rattle.gm_model.specs.Structure.{IsInRange, IsWithinLimits}
-use Rattle.gm_book.specs.BookText.{RuleForm, BookForm, IsSentence, limit_of, spelling, IsWritten, IsTextFault, IsNotBuilt, rule_in, BookText}
+use Rattle.gm_model.specs.Symbols.{Mark, marks_of}
+use Rattle.gm_text.specs.Cursor.{Cursor}
+use Rattle.gm_text.specs.Machine.{Stop, Ends, Passes}
+use Rattle.gm_text.specs.Nested.{Outside, Inside}
+use Rattle.gm_text.specs.SchemaText.{passed_of, limit_of as schema_limit, spell}
+use Rattle.gm_text.specs.SchemaReading as schema
+use Rattle.gm_text.specs.SchemaReading.{Stands}
+use Rattle.gm_text.specs.SchemaAnswers.{marks_left, SkipsSchema, IsSchemaSkipped, IsSchemaRead, Stops, StopsOrLost}
+use Rattle.gm_text.specs.declared.schema_fault.SchemaFault.{SchemaFault}
+use Rattle.gm_text.specs.declared.schema_fault.SchemaFault.TheVariants as schema_faults
+use Rattle.gm_text.proofs.Machine.{run_reads, run_passes, passing_is, along_spelled}
+use Rattle.gm_text.proofs.OneSchema.{one_skipped}
+use Rattle.gm_book.specs.BookText.{RuleForm, BookForm, Role, limit_of, stands_before, IsSentence, ArePlaced, IsWritten, IsTextFault, IsLimitFault, IsNotBuilt, NameFault, TwiceAt, UnknownAt, place_of, IsNameFault, SchemaTwice, RulesFault, rule_in, BookText, nodes_of}
 use Rattle.gm_book.specs.declared.fault.BookFault.{BookFault}
 use Rattle.gm_book.specs.declared.fault.BookFault.TheVariants as faults
 use Rattle.gm_book.specs.declared.form_fault.FormFault.{FormFault}
 use Rattle.gm_book.specs.declared.form_fault.FormFault.TheVariants as forms
-use Rattle.gm_book.specs.Building.{HasNoNameFault, IsFaultOfNames}
-use Rattle.gm_book.specs.Faults.{IsFaultOf, book_fault_of_form}
-use Rattle.gm_book.specs.declared.state.Heading.{Heading}
-use Rattle.gm_book.specs.Reading.{Held, heading_at}
-use Rattle.gm_book.specs.Standing.{IsFormRead, IsFormFault}
-use Rattle.gm_book.proofs.Grammar.{reading_is, limit_is}
+use Rattle.gm_book.specs.declared.form.RuleForm.{RuleForm as CodeRule}
+use Rattle.gm_book.specs.Building.{HasNoFaultInRules, IsFirstInRules, IsFaultOfNames}
+use Rattle.gm_book.specs.Faults.{IsFaultOf, book_fault_of_form, book_fault_of_schema}
+use Rattle.gm_book.specs.Forms.{forms_of, rule_form_of}
+use Rattle.gm_book.specs.Reading.{State, AtRules, AtEnd, heading_at, AtFormat, header_at, Whole, in_rules, Held, book_nesting, role_at, move, run, run_whole, is_later, is_later_in}
+use Rattle.gm_book.specs.Standing.{IsHeaded, IsHeadFault, AreRulesRead, IsRulesFault}
+use Rattle.gm_book.proofs.Built.{all_few}
+use Rattle.gm_book.proofs.CanonicalBook.{passes_free, none_again}
+use Rattle.gm_book.proofs.Grammar.{placed_along}
+use Rattle.gm_book.proofs.Header.{book_grammar}
 use Rattle.gm_book.proofs.Later.{not_built_is, text_fault_is}
+use Rattle.gm_book.proofs.NamePlaces.{schema_is_first, first_is_fault}
 use Rattle.gm_book.proofs.ReadRange.{range_from_text}
+use Rattle.gm_book.proofs.SchemaNames.{IsFaultOfSchema, schema_fault}
+use Rattle.gm_book.proofs.Spelling.{along_rules}
+use Rattle.gm_book.proofs.Whole.{head_runs, schema_runs, Answers, schema_stops, IsSame, behind_schema}
+use Rattle.gm_book.proofs.Written.{AreThere, written_from}
+use Rattle.gm_text.specs.Nested as nested
 
-pub form_written : (text : List ℕ) (form : BookForm) → IsFormRead text form → IsWritten text form
-form_written text form read =
-    let is = reading_is text read.ends in
-    let headings : heading_at is.book.version is.book.dim ≡ heading_at form.version form.dim = sym (ap (λ (h : Held). h.heading) is.held) ∙ read.heading in
-    let version : is.book.version ≡ form.version = ap (λ (h : Heading). h.version) headings in
-    let dim : is.book.dim ≡ form.dim = ap (λ (h : Heading). h.dim) headings in
-    let rules : is.book.rules ≡ form.rules = sym (ap (λ (h : Held). h.rules) is.held) ∙ read.rules in
-    let same : is.book ≡ form =
-    ap (λ (v : ℕ). let b : BookForm = record { version = v; dim = is.book.dim; rules = is.book.rules } in b) version ∙ ap (λ (n : ℕ). let b : BookForm = record { version = form.version; dim = n; rules = is.book.rules } in b) dim
-    ∙ ap (λ (rs : List RuleForm). let b : BookForm = record { version = form.version; dim = form.dim; rules = rs } in b) rules in
-    subst (IsWritten text) same is.written
+-- ---- the rules
 
-pub form_within : (text : List ℕ) (form : BookForm) → IsFormRead text form → IsWithin IsSentence limit_of (spelling form)
-form_within text form read = (form_written text form read).read.within
+-- what the machine goes through are rules that are written there
+pub rules_there : (version n : ℕ) (marks : List Mark) (rules : List RuleForm) → AreRulesRead (heading_at version n) marks rules → AreThere version n rules marks
+rules_there version n marks rules read =
+    let first = AtRules (heading_at version n) in
+    let parts = run_reads limit_of stands_before role_at move first AtEnd 0 marks read.ends in
+    let is = along_rules (heading_at version n) marks parts.parts parts.along in
+    let same : is.rules ≡ rules = sym (ap (λ (h : Held). h.rules) is.held) ∙ read.held in
+    let placed = placed_along first AtEnd marks parts.parts parts.along in
+    let spelled = along_spelled limit_of stands_before role_at move first AtEnd marks parts.parts parts.along in
+    let there : AreThere version n is.rules marks = record {
+      good = is.rules_good;
+      spelled = spelled ∙ ap (λ (ps : List (Part Role)). symbols_in ps) is.same;
+      within = subst (λ (ps : List (Part Role)). IsWithin IsSentence limit_of ps) is.same parts.within;
+      placed = subst (λ (ps : List (Part Role)). ArePlaced marks ps) is.same placed;
+    } in
+    subst (λ rs. AreThere version n rs marks) same there
 
-pub form_fault : (text : List ℕ) (fault : FormFault) → IsFormFault text fault → IsFaultOf text (book_fault_of_form fault)
-form_fault text (forms.Text place) (state, mark, runs, here, later) = subst (IsTextFault text) here (text_fault_is text state mark runs later)
-form_fault text (forms.NotBuilt place) (state, mark, runs, here, later) = subst (IsNotBuilt text) here (not_built_is text state mark runs later)
-form_fault text (forms.Limit what place) runs = limit_is text what place runs
-form_fault text forms.OutOfMemory h = tt
+pub few_there : (text : List ℕ) (version n : ℕ) (marks : List Mark) (rules : List CodeRule) → AreRulesRead (heading_at version n) marks (forms_of text rules) → AllByRecursion (λ rule. length (nodes_of (rule_form_of text rule)) ≤ 32) rules
+few_there text version n marks rules read = all_few text n rules (rules_there version n marks (forms_of text rules) read).within
 
-pub name_fault : (text : List ℕ) (form : BookForm) (fault : BookFault) → IsFormRead text form → IsFaultOfNames form fault → IsFaultOf text fault
-name_fault text form (faults.Text place) read h = absurd h
-name_fault text form (faults.Limit what place) read h = absurd h
-name_fault text form (faults.NotBuilt place) read h = absurd h
-name_fault text form (faults.Twice place) read h = record { book = form; written = form_written text form read; found = h.found; first = h.first }
-name_fault text form (faults.Unknown place) read h = record { book = form; written = form_written text form read; found = h.found; first = h.first }
-name_fault text form faults.OutOfMemory read h = tt
+-- ---- faults of the grammar
 
-pub book_stands : (text : List ℕ) (form : BookForm) (version : ℕ) (schema : Schema) (rules : List Rule) → IsFormRead text form → HasNoNameFault form → version ≡ form.version → schema.dim ≡ form.dim → schema.embeds ≡ [] → rules ≡ map rule_in form.rules → BookText text version schema rules
-book_stands text form version schema rules read sound versions dim embeds same = record { book = form; written = form_written text form read; sound = sound; versions = versions; dim = dim; embeds = embeds; same = same }
+module _ (text : List ℕ) where
+  abbrev Run : Result Whole (Stop Whole LimitKind)
+  Run = run_whole (Outside AtFormat) 0 (marks_of text)
+
+  limit_is : (what : LimitKind) (place : ℕ) → Run ≡ Err (Passes what place) → IsLimitFault text what place
+  limit_is what place e =
+      passing_is limit_of stands_before (nested.role_at book_nesting) (nested.move book_nesting) IsSentence (Outside AtFormat) (in_rules AtEnd) book_grammar (marks_of text) what place
+      (run_passes limit_of stands_before (nested.role_at book_nesting) (nested.move book_nesting) (Outside AtFormat) 0 (marks_of text) what place e)
+
+  ends_here : (state : Whole) (mark : Mark) (place : ℕ) → Run ≡ Err (Ends state mark) → mark.place ≡ place → is_later_in state mark.symbol ≡ false → IsTextFault text place
+  ends_here state mark place e here plain = subst (IsTextFault text) here (text_fault_is text state mark e plain)
+
+  later_here : (state : Whole) (mark : Mark) (place : ℕ) → Run ≡ Err (Ends state mark) → mark.place ≡ place → is_later_in state mark.symbol ≡ true → IsNotBuilt text place
+  later_here state mark place e here later = subst (IsNotBuilt text) here (not_built_is text state mark e later)
+
+  pub head_fault : (fault : FormFault) → IsHeadFault (Outside AtFormat) (marks_of text) fault → IsFaultOf text (book_fault_of_form fault)
+  head_fault (forms.Text place) fault = let (state, mark, runs, here, plain) = fault 0 in ends_here state mark place runs here plain
+  head_fault (forms.Limit what place) fault = absurd fault
+  head_fault (forms.NotBuilt place) fault = absurd fault
+  head_fault forms.OutOfMemory fault = absurd fault
+
+  module _ (version : ℕ) (old : Cursor) (headed : IsHeaded (marks_of text) version (marks_left old)) where
+    head : (last : ℕ) × (Run ≡ run_whole (Inside (header_at version schema.AtDim)) last (marks_left old))
+    head = head_runs (marks_of text) (marks_left old) version headed
+
+    -- where the schema passes a limit, or no schema goes on
+    pub skip_fault : (fault : SchemaFault) → Stops false schema.AtDim old fault → IsFaultOf text (book_fault_of_schema fault)
+    skip_fault fault stops = go fault head.0 head.1 (schema_stops version old head.0 fault stops)
+      where
+        go : (fault : SchemaFault) (last : ℕ) → Run ≡ run_whole (Inside (header_at version schema.AtDim)) last (marks_left old) → Answers version old last fault → IsFaultOf text (book_fault_of_schema fault)
+        go (schema_faults.Text place) last same (state, mark, runs, here, plain) = ends_here state mark place (same ∙ runs) here plain
+        go (schema_faults.Limit what place) last same runs = limit_is what place (same ∙ runs)
+        go (schema_faults.Twice place) last same none = absurd none
+        go schema_faults.OutOfMemory last same none = absurd none
+
+    module _ (new : Cursor) (n : ℕ) (skips : SkipsSchema old new n) (skipped : IsSchemaSkipped old new n) where
+      abbrev Rules : Result State (Stop State LimitKind)
+      Rules = run (AtRules (heading_at version n)) 0 (marks_left new)
+
+      -- the rules are read as they are within the whole
+      same_run : IsSame Rules Run
+      same_run =
+          let (last, from) = head in
+          let (behind, runs) = schema_runs version old new n last skips in
+          let next = skipped.stands.next in
+          let others = skipped.stands.others in
+          let there = behind_schema version n skips.0 behind next others skipped.stands.ends in
+          let at : IsSame Rules (run_whole (Inside (header_at version (schema.AtEmbeds n skips.0))) behind (marks_left new)) =
+          subst (λ (ms : List Mark). IsSame (run (AtRules (heading_at version n)) 0 ms) (run_whole (Inside (header_at version (schema.AtEmbeds n skips.0))) behind ms)) (sym skipped.stands.behind) there in
+          subst (IsSame Rules) (sym (from ∙ runs)) at
+
+      ended_there : (state : State) (mark : Mark) → Rules ≡ Err (Ends state mark) → (whole : Whole) × (Run ≡ Err (Ends whole mark)) × (is_later_in whole mark.symbol ≡ is_later state mark.symbol)
+      ended_there state mark e = subst (λ (answer : Result State (Stop State LimitKind)). IsSame answer Run) e same_run
+
+      passed_there : (what : LimitKind) (place : ℕ) → Rules ≡ Err (Passes what place) → Run ≡ Err (Passes what place)
+      passed_there what place e = subst (λ (answer : Result State (Stop State LimitKind)). IsSame answer Run) e same_run
+
+      pub rules_fault : (fault : FormFault) → IsRulesFault (heading_at version n) (marks_left new) fault → IsFaultOf text (book_fault_of_form fault)
+      rules_fault (forms.Text place) (state, mark, runs, here, plain) = let (whole, ends, same) = ended_there state mark runs in ends_here whole mark place ends here (same ∙ plain)
+      rules_fault (forms.NotBuilt place) (state, mark, runs, here, later) = let (whole, ends, same) = ended_there state mark runs in later_here whole mark place ends here (same ∙ later)
+      rules_fault (forms.Limit what place) runs = limit_is what place (passed_there what place runs)
+      rules_fault forms.OutOfMemory h = tt
+
+      -- ---- faults of the schema's names
+
+      module _ (rules : List RuleForm) (there : AreThere version n rules (marks_left new)) where
+        abbrev skipped_book : BookForm
+        skipped_book = record { version = version; schema = skipped.form; rules = rules }
+
+        skipped_written : IsWritten text skipped_book
+        skipped_written = written_from schema_limit (λ role symbol e. e) text version skipped.form rules (marks_left old) (marks_left new) headed skipped.stands (subst (λ (m : ℕ). AreThere version m rules (marks_left new)) skipped.means there)
+
+        pub names_in_schema : (again : Cursor) (fault : SchemaFault) → again ≡ old → StopsOrLost true schema.AtDim again fault → IsFaultOf text (book_fault_of_schema fault)
+        names_in_schema again fault same stops = go fault (schema_fault skipped.form (marks_left old) (marks_left new) skipped.stands again fault (ap marks_left same) stops)
+          where
+            go : (fault : SchemaFault) → IsFaultOfSchema skipped.form (marks_left old) (marks_left new) skipped.stands fault → IsFaultOf text (book_fault_of_schema fault)
+            go (schema_faults.Text place) none = absurd none
+            go (schema_faults.Limit what place) none = absurd none
+            go (schema_faults.Twice place) first = record { book = skipped_book; written = skipped_written; found = first_is_fault skipped_book place first; first = schema_is_first text skipped_book place skipped_written first }
+            go schema_faults.OutOfMemory lost = tt
+
+        -- ---- the book
+
+        module _ (declared : Schema) (behind : Cursor) (read : IsSchemaRead old behind declared) where
+          abbrev book : BookForm
+          book = record { version = version; schema = read.form; rules = rules }
+
+          written : IsWritten text book
+          written =
+              let same = one_skipped old behind new declared n read skipped in
+              let stands = subst (λ (ms : List Mark). Stands passed_of read.form (marks_left old) ms) same.1 read.stands in
+              let dim : n ≡ read.form.dim = sym same.0 ∙ ap (λ (s : Schema). s.dim) read.means in
+              written_from passed_of passes_free text version read.form rules (marks_left old) (marks_left new) headed stands (subst (λ (m : ℕ). AreThere version m rules (marks_left new)) dim there)
+
+          faultless : HasNoFaultInRules rules → (fault : NameFault) → IsNameFault book fault → ⊥
+          faultless sound _ (SchemaTwice place part among again here) = none_again (spell read.form []) read.stands.within part among again
+          faultless sound fault (RulesFault _ found) = sound fault found
+
+          first_of_all : (fault : NameFault) → IsFirstInRules rules fault → (other : NameFault) → IsNameFault book other → place_of fault ≤ place_of other
+          first_of_all fault first _ (SchemaTwice place part among again here) = absurd (none_again (spell read.form []) read.stands.within part among again)
+          first_of_all fault first other (RulesFault _ found) = first.first other found
+
+          name_fault : (fault : BookFault) → IsFaultOfNames rules fault → IsFaultOf text fault
+          name_fault (faults.Twice place) first = record { book = book; written = written; found = RulesFault (TwiceAt place) first.found; first = first_of_all (TwiceAt place) first }
+          name_fault (faults.Unknown place) first = record { book = book; written = written; found = RulesFault (UnknownAt place) first.found; first = first_of_all (UnknownAt place) first }
+          name_fault faults.OutOfMemory lost = tt
+          name_fault (faults.Text place) none = absurd none
+          name_fault (faults.Limit what place) none = absurd none
+          name_fault (faults.NotBuilt place) none = absurd none
+
+          pub answer_stands : (result : Result Book BookFault) → IfOk result (λ made. made.version ≡ version) → IfOk result (λ made. made.schema ≡ declared) → IfOk result (λ made. map rule_of made.rules ≡ map rule_in rules) → IfOk result (λ _. HasNoFaultInRules rules)
+              → IfOk result (λ made. BookText text made.version made.schema (map rule_of made.rules))
+          answer_stands (Ok made) versions schemas same sound = record { book = book; written = written; sound = faultless sound; versions = versions; means = schemas ∙ read.means; same = same }
+          answer_stands (Err fault) versions schemas same sound = tt
+
+          pub answer_faults : (result : Result Book BookFault) → IfErr result (IsFaultOfNames rules) → IfErr result (IsFaultOf text)
+          answer_faults (Ok made) h = tt
+          answer_faults (Err fault) h = name_fault fault h
+
+-- ---- what is read is in range
 
 range_of_tables : (schema : Schema) (tables : List RuleTable) → All (λ rule. IsInRange schema rule × IsWithinLimits rule) (map rule_of tables) → AllByRecursion (λ table. IsInRange schema (rule_of table)) tables × AllByRecursion (λ table. IsWithinLimits (rule_of table)) tables
 range_of_tables schema [] all = (tt, tt)
@@ -64,18 +200,6 @@ range_of_tables schema (table ∷ tables) all =
 
 pub tables_in_range : (text : List ℕ) (version : ℕ) (schema : Schema) (tables : List RuleTable) → BookText text version schema (map rule_of tables) → AllByRecursion (λ table. IsInRange schema (rule_of table)) tables × AllByRecursion (λ table. IsWithinLimits (rule_of table)) tables
 tables_in_range text version schema tables stands = range_of_tables schema tables (range_from_text text version schema (map rule_of tables) stands)
-
--- ---- the answer of the passes over the form's names
-
-module _ (text : List ℕ) (form : BookForm) (read : IsFormRead text form) where
-  pub answer_stands : (result : Result Book BookFault) → IfOk result (λ book. book.version ≡ form.version) → IfOk result (λ book. book.schema.dim ≡ form.dim) → IfOk result (λ book. book.schema.embeds ≡ []) → IfOk result (λ book. map rule_of book.rules ≡ map rule_in form.rules) → IfOk result (λ _. HasNoNameFault form)
-      → IfOk result (λ book. BookText text book.version book.schema (map rule_of book.rules))
-  answer_stands (Ok book) version dim embeds rules sound = book_stands text form book.version book.schema (map rule_of book.rules) read sound version dim embeds rules
-  answer_stands (Err fault) version dim embeds rules sound = tt
-
-  pub answer_faults : (result : Result Book BookFault) → IfErr result (IsFaultOfNames form) → IfErr result (IsFaultOf text)
-  answer_faults (Ok book) h = tt
-  answer_faults (Err fault) h = name_fault text form fault read h
 
 pub answer_in_range : (text : List ℕ) (result : Result Book BookFault) → IfOk result (λ book. BookText text book.version book.schema (map rule_of book.rules)) → IfOk result (λ book. AllByRecursion (λ rule. IsInRange book.schema (rule_of rule)) book.rules)
 answer_in_range text (Ok book) stands = (tables_in_range text book.version book.schema book.rules stands).0

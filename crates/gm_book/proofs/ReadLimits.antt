@@ -1,54 +1,24 @@
 -- What a text holds is in the limits, and its names are tokens.
-use Rattle.std.proofs.Common.{◌≡◌, ℕ, zero, suc, ◌+◌, ◌-◌, ◌<◌, ◌≤◌, Bool, true, false, cond, eqb, ltb, ◌||◌, List, [], ◌∷◌, length, take, drop, map, Option, Some, None, inl, inr, refl, sym, ap, subst, ◌∙◌, arith, add-one}
+use Rattle.std.proofs.Common.{◌≡◌, ℕ, ◌+◌, ◌<◌, ◌≤◌, Bool, true, false, cond, eqb, ltb, ◌||◌, List, [], ◌∷◌, ◌++◌, length, map, Option, Some, None, inl, inr, refl, subst, arith}
 use Rattle.std.specs.List.{AllByRecursion}
 use Rattle.std.proofs.lemmas.Bool.{ltb-false, or_parts, eqb-false, cases_lt}
-use Rattle.std.proofs.lemmas.List.{drop-drop}
 use Rattle.gm_model.specs.declared.limit.LimitKind.{LimitKind}
-use Rattle.gm_model.specs.declared.token.TokenKind.{TokenKind}
 use Rattle.gm_model.specs.declared.token.TokenKind.TheVariants as kinds
 use Rattle.gm_model.specs.declared.word.Letter.{Letter}
 use Rattle.gm_model.specs.declared.word.Letter.TheVariants as letters
 use Rattle.gm_model.specs.declared.rule.Side.{Side}
 use Rattle.gm_model.specs.declared.rule.Side.TheVariants.{Left, Right}
-use Rattle.gm_model.specs.Tokens.{Item, Front, Gap, Lexeme, Stray, front_of, size_of, item_before, items_from, IsLexeme}
-use Rattle.gm_model.specs.Symbols.{Symbol, Word, symbol_of_kind, mark_of, symbols, symbols_of}
+use Rattle.gm_model.specs.Tokens.{IsLexeme}
+use Rattle.gm_model.specs.Symbols.{symbols_of}
 use Rattle.gm_model.specs.Reading.{Part, symbols_in, IsWithin}
 use Rattle.gm_model.specs.Names.{reserved, is_among}
-use Rattle.gm_book.specs.BookText.{NodeItem, LinkItem, RuleForm, BookForm, Role, Count, no_count, count_after, count_across, counted, with_name, the_end, limit_of, spell_letters, spell_hook, spell_item, spell_items, spell_rule, spell_rules, spelling, IsItem, IsRule, IsForm, IsSentence}
+use Rattle.gm_text.specs.SchemaText as schemas
+use Rattle.gm_text.specs.SchemaText.{spell}
+use Rattle.gm_text.proofs.Lexemes.{IsSound, words_are_lexemes}
+use Rattle.gm_book.specs.BookText.{NodeItem, LinkItem, RuleForm, BookForm, Role, Count, no_count, count_after, count_across, counted, with_name, the_end, in_schema, limit_of, spell_letters, spell_hook, spell_item, spell_items, spell_rule, spell_rules, spelling, IsItem, IsRule, IsForm, IsSentence}
 use Rattle.gm_book.specs.BookText as text
-use Rattle.gm_text.proofs.Longest.{IsLongest-front_of}
 use Rattle.gm_book.proofs.CanonicalForm.{IsGoodName, IsGoodLetter, IsGoodWord}
 use Rattle.gm_book.proofs.CanonicalLimits.{AreFew}
-
--- ---- words are tokens
-
-abbrev pub IsSound : Symbol → Type 0
-IsSound (Word name) = IsLexeme kinds.Name name
-IsSound _ = Unit {0}
-
-sound_of_kind : (kind : TokenKind) (bytes : List ℕ) → IsLexeme kind bytes → IsSound (symbol_of_kind kind bytes)
-sound_of_kind kinds.Name bytes lexeme = lexeme
-sound_of_kind kinds.Number bytes lexeme = tt
-sound_of_kind kinds.Gone bytes lexeme = tt
-sound_of_kind kinds.Sign bytes lexeme = tt
-
-sound_before : (whole : List ℕ) (b : ℕ) (bytes : List ℕ) (place : ℕ) (front : Front) (items : List Item) → drop place whole ≡ b ∷ bytes → front_of b bytes ≡ front
-    → AllByRecursion IsSound (symbols (map (mark_of whole) items)) → AllByRecursion IsSound (symbols (map (mark_of whole) (item_before place front items)))
-sound_before whole b bytes place (Gap size) items there is later = later
-sound_before whole b bytes place (Lexeme kind size) items there is later =
-    let e : place + size - place ≡ size = omega arith in
-    let lexeme : IsLexeme kind (take (place + size - place) (drop place whole)) = rw (e, there) (IsLongest-front_of b bytes kind size is).lexeme in
-    (sound_of_kind kind (take (place + size - place) (drop place whole)) lexeme, later)
-sound_before whole b bytes place Stray items there is later = (tt, tt)
-
-sound_from : (whole bytes : List ℕ) (place taken : ℕ) → drop place whole ≡ bytes → AllByRecursion IsSound (symbols (map (mark_of whole) (items_from place taken bytes)))
-sound_from whole [] place taken there = (tt, tt)
-sound_from whole (b ∷ bytes) place (suc taken) there =
-    let next : drop (suc place) whole ≡ bytes = ap (λ (p : ℕ). drop p whole) (sym (add-one place)) ∙ sym (drop-drop 1 place whole) ∙ ap (drop 1) there in
-    sound_from whole bytes (suc place) taken next
-sound_from whole (b ∷ bytes) place zero there =
-    let next : drop (suc place) whole ≡ bytes = ap (λ (p : ℕ). drop p whole) (sym (add-one place)) ∙ sym (drop-drop 1 place whole) ∙ ap (drop 1) there in
-    sound_before whole b bytes place (front_of b bytes) _ there refl (sound_from whole bytes (suc place) (size_of (front_of b bytes) - 1) next)
 
 -- ---- parts that are sound, and pass no limit
 
@@ -64,7 +34,7 @@ both_fit [] sound within = tt
 both_fit (part ∷ parts) sound within = (record { sound = sound.0; within = within.0 }, both_fit parts sound.1 within.1)
 
 pub read_fit : (whole : List ℕ) (parts : List (Part Role)) → symbols_of whole ≡ symbols_in parts → IsWithin IsSentence limit_of parts → AreFit parts
-read_fit whole parts spelled within = both_fit parts (subst (AllByRecursion IsSound) spelled (sound_from whole whole 0 0 refl)) within
+read_fit whole parts spelled within = both_fit parts (subst (AllByRecursion IsSound) spelled (words_are_lexemes whole 0)) within
 
 not_passed : {A : Type 0} (b : Bool) (what : A) (other : Option A) → cond b (Some what) other ≡ None → (b ≡ false) × (other ≡ None)
 not_passed true what other e = absurd cc
@@ -157,19 +127,30 @@ module _ (n : ℕ) where
       let later = forms_good version (k + 1) forms first.1 are.1 first.2 in
       ((first.0, later.0), omega (arith, later.1))
 
+-- the parts of the schema, and of the rules behind it
+parts_behind : (parts : List (Part schemas.Role)) (rest : List (Part Role)) → AreFit (map in_schema parts ++ rest) → AllByRecursion IsSound (symbols_in parts) × IsWithin schemas.IsSentence schemas.limit_of parts × AreFit rest
+parts_behind [] rest fit = (tt, tt, fit)
+parts_behind (part ∷ parts) rest fit = let behind = parts_behind parts rest fit.1 in ((fit.0.sound, behind.0), (fit.0.within, behind.1), behind.2)
+
 pub record IsReadableBook (book : BookForm) : Type 0 where
-  pub some : 0 < book.dim
-  pub low : book.dim ≤ 7
+  pub sound : AllByRecursion IsSound (symbols_in (spell book.schema []))
+  pub within : IsWithin schemas.IsSentence schemas.limit_of (spell book.schema [])
+  pub some : 0 < book.schema.dim
+  pub low : book.schema.dim ≤ 7
   pub few : length book.rules ≤ 256
-  pub each : AllByRecursion (IsReadable book.dim) book.rules
+  pub each : AllByRecursion (IsReadable book.schema.dim) book.rules
 
 pub book_good : (book : BookForm) → IsForm book → AreFit (spelling book) → IsReadableBook book
 book_good book is fit =
-    let top = or_parts (eqb book.dim 0) (ltb 7 book.dim) (not_passed (eqb book.dim 0 || ltb 7 book.dim) _ _ fit.1.1.1.0.within).0 in
-    let rules = forms_good book.dim book.version 0 book.rules (omega arith) is.1 fit.1.1.1.1 in
+    let n = book.schema.dim in
+    let behind = parts_behind (spell book.schema []) (spell_rules n 0 book.rules (the_end ∷ [])) fit.1.1 in
+    let top = or_parts (eqb n 0) (ltb 7 n) (not_passed (eqb n 0 || ltb 7 n) _ _ behind.1.1.0).0 in
+    let rules = forms_good n book.version 0 book.rules (omega arith) is.2 behind.2 in
     record {
-      some = elim (cases_lt 0 book.dim) [ inl lt ↦ lt | inr le ↦ absurd (eqb-false book.dim 0 top.0 (omega arith)) ];
-      low = ltb-false 7 book.dim top.1;
+      sound = behind.0;
+      within = behind.1;
+      some = elim (cases_lt 0 n) [ inl lt ↦ lt | inr le ↦ absurd (eqb-false n 0 top.0 (omega arith)) ];
+      low = ltb-false 7 n top.1;
       few = omega (arith, rules.1);
       each = rules.0;
     }

@@ -1,5 +1,5 @@
 -- The rules that a text stands for can be written.
-use Rattle.std.proofs.Common.{◌≡◌, ℕ, suc, ◌+◌, ◌<◌, ◌≤◌, Bool, true, false, ◌&&◌, eqb, List, [], ◌∷◌, ◌++◌, length, get_or, map, All, Some, is_some, inl, inr, refl, sym, ap, subst, ◌∙◌, append_assoc, arith}
+use Rattle.std.proofs.Common.{◌≡◌, ℕ, suc, ◌+◌, ◌<◌, ◌≤◌, Bool, true, false, ◌&&◌, eqb, List, [], ◌∷◌, ◌++◌, length, get_or, map, All, Some, None, is_some, inl, inr, refl, sym, ap, subst, ◌∙◌, append_assoc, arith}
 use Rattle.std.specs.Prelude.{slice_get}
 use Rattle.std.specs.Str.{bytes_eq}
 use Rattle.std.specs.List.{list_any, position_or_len, AllByRecursion, Contains}
@@ -13,13 +13,19 @@ use Rattle.gm_model.specs.declared.rule.Side.TheVariants.{Left, Right}
 use Rattle.gm_model.specs.declared.schema.Schema.{Schema}
 use Rattle.gm_model.specs.Rules.{Rule, RuleNode, has_word, word_on, links_on}
 use Rattle.gm_model.specs.Names.{Mention, is_among}
-use Rattle.gm_book.specs.BookText.{Item, NodeItem, LinkItem, RuleForm, BookForm, Count, no_count, count_after, count_across, counted, with_name, names_of, nodes_in, ends_in, items_on, nodes_of, word_in, number_of, links_in, hooks_in, node_in, rule_in, IsAgain, IsStranger, NameFault, IsNameFault, TwiceAt, UnknownAt, RuleTwice, NodeTwice, NodeUnknown, IsRule, IsForm, BookText, spelling, canonical}
+use Rattle.gm_model.specs.Reading.{Part, IsWithin}
+use Rattle.gm_model.specs.Symbols.{Symbol}
+use Rattle.gm_text.specs.SchemaText as schemas
+use Rattle.gm_text.specs.SchemaText.{spell, is_again, passed_of}
+use Rattle.gm_text.proofs.SchemaSound.{form_parts}
+use Rattle.gm_book.specs.BookText.{Item, NodeItem, LinkItem, RuleForm, BookForm, Count, no_count, count_after, count_across, counted, with_name, names_of, nodes_in, ends_in, items_on, nodes_of, word_in, number_of, links_in, hooks_in, node_in, rule_in, IsAgain, IsStranger, NameFault, IsNameFault, TwiceAt, UnknownAt, RuleTwice, NodeTwice, NodeUnknown, SchemaTwice, RulesFault, IsRule, IsForm, BookText, spelling, canonical}
 use Rattle.gm_book.proofs.CanonicalForm.{AreNew, number_if, numbers_where, node_names, hook_on, IsGoodName, IsGoodWordIfAny, IsGoodNode, IsGoodLink, IsWritable}
 use Rattle.gm_book.proofs.CanonicalLimits.{HasFewHooks, as_many_hooks}
 use Rattle.gm_book.proofs.CanonicalText.{each}
 use Rattle.gm_book.proofs.CanonicalRule.{seen_after, counted_seen, seen_new}
 use Rattle.gm_book.proofs.CanonicalNames.{rule_names, HasNoFault}
 use Rattle.gm_book.proofs.CanonicalBook.{AreWritable, written_again}
+use Rattle.gm_book.proofs.Contained.{contains_here, contains_behind}
 use Rattle.gm_book.proofs.DifferentNames.{among_front, among_last, among_neither, new_append, number_behind}
 use Rattle.gm_book.proofs.ReadLimits.{IsGoodItem, IsReadable, IsReadableBook, read_fit, book_good}
 
@@ -340,8 +346,8 @@ faultless_forms book sound = recursion_from_All HasNoFault book.rules (λ k d in
     let form = get_or book.rules k d in
     let has : Contains book.rules form = (k, inside, get_or_from_slice_get book.rules k form form (slice_get-get_or book.rules k d inside)) in
     record {
-      twice = λ side place again. sound (TwiceAt place) (NodeTwice form side place has again);
-      stranger = λ side place found. sound (UnknownAt place) (NodeUnknown form side place has found);
+      twice = λ side place again. sound (TwiceAt place) (RulesFault (TwiceAt place) (NodeTwice form side place has again));
+      stranger = λ side place found. sound (UnknownAt place) (RulesFault (UnknownAt place) (NodeUnknown form side place has found));
     })
 
 names_of_rules : (forms : List RuleForm) → rule_names (map rule_in forms) ≡ names_of (map (λ (form : RuleForm). form.name) forms)
@@ -352,27 +358,50 @@ few_hooks : (version : ℕ) (forms : List RuleForm) → AllByRecursion (IsRule v
 few_hooks version [] are = tt
 few_hooks version (form ∷ forms) are = (λ one. omega (arith, are.0.3 one, as_many_hooks form), few_hooks version forms are.1)
 
-book_writable : (book : BookForm) → IsForm book → IsReadableBook book → ((fault : NameFault) → IsNameFault book fault → ⊥) → AreWritable book.version book.dim (map rule_in book.rules)
+book_writable : (book : BookForm) → IsForm book → IsReadableBook book → ((fault : NameFault) → IsNameFault book fault → ⊥) → AreWritable book.version book.schema.dim (map rule_in book.rules)
 book_writable book is ok sound = record {
   known = is.0;
-  hooks = few_hooks book.version book.rules is.1;
+  hooks = few_hooks book.version book.rules is.2;
   some = ok.some;
   low = ok.low;
   few = omega (arith, length-map book.rules rule_in, ok.few);
-  each = rules_writable book.dim book.rules ok.each (faultless_forms book sound);
-  differ = subst (AreNew []) (sym (names_of_rules book.rules)) (new_mentions [] (map (λ (form : RuleForm). form.name) book.rules) (λ place again. sound (TwiceAt place) (RuleTwice place again)));
+  each = rules_writable book.schema.dim book.rules ok.each (faultless_forms book sound);
+  differ = subst (AreNew []) (sym (names_of_rules book.rules)) (new_mentions [] (map (λ (form : RuleForm). form.name) book.rules) (λ place again. sound (TwiceAt place) (RulesFault (TwiceAt place) (RuleTwice place again))));
 }
 
 pub writable_from_text : (whole : List ℕ) (version : ℕ) (schema : Schema) (rules : List Rule) → BookText whole version schema rules → AreWritable version schema.dim rules
 writable_from_text whole version schema rules stands =
     let book = stands.book in
     let good = book_good book stands.written.form (read_fit whole (spelling stands.book) stands.written.read.spelled stands.written.read.within) in
-    let of_form = subst (AreWritable book.version book.dim) (sym stands.same) (book_writable book stands.written.form good stands.sound) in
-    subst (λ n. AreWritable version n rules) (sym stands.dim) (subst (λ v. AreWritable v book.dim rules) (sym stands.versions) of_form)
+    let of_form = subst (AreWritable book.version book.schema.dim) (sym stands.same) (book_writable book stands.written.form good stands.sound) in
+    subst (λ n. AreWritable version n rules) (sym (ap (λ (s : Schema). s.dim) stands.means)) (subst (λ v. AreWritable v book.schema.dim rules) (sym stands.versions) of_form)
+
+-- a schema without a fault of its names passes nothing
+passes_nothing : (parts : List (Part schemas.Role)) → IsWithin schemas.IsSentence schemas.limit_of parts → ((part : Part schemas.Role) → Contains parts part → is_again part.role part.symbol ≡ true → ⊥) → IsWithin schemas.IsSentence passed_of parts
+passes_nothing [] within never = tt
+passes_nothing (part ∷ parts) within never = (go (is_again part.role part.symbol) refl, passes_nothing parts within.1 (λ other among. never other (contains_behind part parts other among)))
+  where
+    go : (b : Bool) → is_again part.role part.symbol ≡ b → passed_of part.role part.symbol ≡ None
+    go true e = absurd (never part (contains_here part parts) e)
+    go false e = rw (within.0, e) refl
+
+-- each part that is there again is at some place
+again_placed : (role : schemas.Role) (symbol : Symbol) → is_again role symbol ≡ true → (place : ℕ) × schemas.IsPlacedAt place role
+again_placed (schemas.NameAt names at) symbol again = (at, refl)
+again_placed (schemas.LabelAt n mask at) symbol again = (at, refl)
+again_placed role symbol again = absurd cc
 
 -- the canonical text of what a text stands for stands for it
-pub read_again : (whole : List ℕ) (version : ℕ) (schema : Schema) (rules : List Rule) → BookText whole version schema rules → BookText (canonical version schema.dim rules) version schema rules
-read_again whole version schema rules stands = written_again version schema rules stands.embeds (writable_from_text whole version schema rules stands)
+pub read_again : (whole : List ℕ) (version : ℕ) (schema : Schema) (rules : List Rule) → BookText whole version schema rules → BookText (canonical version schema rules) version schema rules
+read_again whole version schema rules stands =
+    let book = stands.book in
+    let form = book.schema in
+    let good = book_good book stands.written.form (read_fit whole (spelling book) stands.written.read.spelled stands.written.read.within) in
+    let within = passes_nothing (spell form []) good.within (λ part among again.
+    let (place, here) = again_placed part.role part.symbol again in stands.sound (TwiceAt place) (SchemaTwice place part among again here)) in
+    let names = form_parts form within good.sound in
+    let writable = subst (λ n. AreWritable version n rules) (ap (λ (s : Schema). s.dim) stands.means) (writable_from_text whole version schema rules stands) in
+    subst (λ (s : Schema). BookText (canonical version s rules) version s rules) (sym stands.means) (written_again version form rules stands.written.form.1 within names writable)
 
 pub one_hook_at_most : (whole : List ℕ) (schema : Schema) (rules : List Rule) → BookText whole 1 schema rules → All (λ (rule : Rule). length rule.hooks ≤ 1) rules
 one_hook_at_most whole schema rules stands =

@@ -1,14 +1,14 @@
 -- What reading mark by mark says of the machine's run: its last state and what is held, or why it stops.
 use Rattle.std.proofs.Common.{◌≡◌, ℕ, Bool, true, false, cond, List, [], ◌∷◌, Option, Some, None, Result, Ok, Err, refl, ap, subst}
 use Rattle.gm_model.specs.declared.limit.LimitKind.{LimitKind}
-use Rattle.gm_model.specs.Symbols.{Mark, marks_of}
+use Rattle.gm_model.specs.Symbols.{Mark}
 use Rattle.gm_book.specs.BookText.{RuleForm, limit_of, stands_before}
 use Rattle.gm_text.specs.Machine as machine
 use Rattle.gm_book.specs.declared.form_fault.FormFault.{FormFault}
 use Rattle.gm_book.specs.declared.form_fault.FormFault.TheVariants as faults
 use Rattle.gm_book.specs.declared.state.Heading.{Heading}
-use Rattle.gm_book.specs.Reading.{State, AtFormat, AtEnd, role_at, move, step, run, is_later, Nothing, Held, hold, held_behind}
-use Rattle.gm_book.specs.Standing.{Stand, first_stand, fault_of, settled, stepped, read_on, ◌>>=◌, IsFormRead, IsFormFault, Fails}
+use Rattle.gm_book.specs.Reading.{State, AtRules, AtEnd, role_at, move, step, run, is_later, Nothing, Held, hold, held_behind}
+use Rattle.gm_book.specs.Standing.{Stand, rules_stand, fault_of, settled, stepped, read_on, ◌>>=◌, AreRulesRead, IsRulesFault, Fails}
 
 abbrev taken : State → Mark → ℕ → Option State → Option LimitKind → Result State (machine.Stop State LimitKind)
 taken state mark place next limit = machine.taken limit_of stands_before role_at move state mark place next limit
@@ -66,32 +66,31 @@ read_stops stand (mark ∷ marks) fault read = go (step stand.state stand.last m
         let later = onward next on in
         record { stop = later.stop; stops = after_step stand mark marks next (Err later.stop) is later.stops; says = later.says }
 
--- ---- a text
+-- ---- the rules
 
-ended : (text : List ℕ) (state : State) (mark : Mark) (fault : FormFault) → run AtFormat 0 (marks_of text) ≡ Err (machine.Ends state mark) → (later : Bool) → is_later state mark.symbol ≡ later
-    → cond later (faults.NotBuilt mark.place) (faults.Text mark.place) ≡ fault → IsFormFault text fault
-ended text state mark fault stops true later says = subst (IsFormFault text) says (state, mark, stops, refl, later)
-ended text state mark fault stops false later says = subst (IsFormFault text) says (state, mark, stops, refl, later)
+ended : (heading : Heading) (marks : List Mark) (state : State) (mark : Mark) (fault : FormFault) → run (AtRules heading) 0 marks ≡ Err (machine.Ends state mark) → (later : Bool) → is_later state mark.symbol ≡ later
+    → cond later (faults.NotBuilt mark.place) (faults.Text mark.place) ≡ fault → IsRulesFault heading marks fault
+ended heading marks state mark fault stops true later says = subst (IsRulesFault heading marks) says (state, mark, stops, refl, later)
+ended heading marks state mark fault stops false later says = subst (IsRulesFault heading marks) says (state, mark, stops, refl, later)
 
-pub is_form_read : (text : List ℕ) (heading : Heading) (last : ℕ) (rules : List RuleForm) (current : Option RuleForm)
-    → read_on first_stand (marks_of text) ≡ Ok (record { state = AtEnd; last = last; held = record { heading = heading; rules = rules; current = current; part = Nothing } })
-    → IsFormRead text (record { version = heading.version; dim = heading.dim; rules = rules })
-is_form_read text heading last rules current read =
-    let through = read_through first_stand (marks_of text) _ read in
-    record { ends = through.ends; heading = ap (λ (held : Held). held.heading) through.held; rules = ap (λ (held : Held). held.rules) through.held }
+pub are_rules_read : (heading : Heading) (marks : List Mark) (last : ℕ) (rules : List RuleForm) (current : Option RuleForm)
+    → read_on (rules_stand heading) marks ≡ Ok (record { state = AtEnd; last = last; held = record { rules = rules; current = current; part = Nothing } }) → AreRulesRead heading marks rules
+are_rules_read heading marks last rules current read =
+    let through = read_through (rules_stand heading) marks _ read in
+    record { ends = through.ends; held = ap (λ (held : Held). held.rules) through.held }
 
-says_fault : (text : List ℕ) (fault : FormFault) → read_on first_stand (marks_of text) ≡ Err fault → IsFormFault text fault
-says_fault text fault read = go stops.stop stops.stops stops.says
+says_fault : (heading : Heading) (marks : List Mark) (fault : FormFault) → read_on (rules_stand heading) marks ≡ Err fault → IsRulesFault heading marks fault
+says_fault heading marks fault read = go stops.stop stops.stops stops.says
   where
-    stops : Stops first_stand (marks_of text) fault
-    stops = read_stops first_stand (marks_of text) fault read
+    stops : Stops (rules_stand heading) marks fault
+    stops = read_stops (rules_stand heading) marks fault read
 
-    go : (stop : machine.Stop State LimitKind) → run AtFormat 0 (marks_of text) ≡ Err stop → fault_of stop ≡ fault → IsFormFault text fault
-    go (machine.Ends state mark) ends says = ended text state mark fault ends (is_later state mark.symbol) refl says
-    go (machine.Passes what place) ends says = subst (IsFormFault text) says ends
+    go : (stop : machine.Stop State LimitKind) → run (AtRules heading) 0 marks ≡ Err stop → fault_of stop ≡ fault → IsRulesFault heading marks fault
+    go (machine.Ends state mark) ends says = ended heading marks state mark fault ends (is_later state mark.symbol) refl says
+    go (machine.Passes what place) ends says = subst (IsRulesFault heading marks) says ends
 
-pub is_form_fault : (text : List ℕ) (fault : FormFault) → Fails fault (read_on first_stand (marks_of text)) → IsFormFault text fault
-is_form_fault text (faults.Text place) read = says_fault text (faults.Text place) read
-is_form_fault text (faults.Limit what place) read = says_fault text (faults.Limit what place) read
-is_form_fault text (faults.NotBuilt place) read = says_fault text (faults.NotBuilt place) read
-is_form_fault text faults.OutOfMemory read = tt
+pub is_rules_fault : (heading : Heading) (marks : List Mark) (fault : FormFault) → Fails fault (read_on (rules_stand heading) marks) → IsRulesFault heading marks fault
+is_rules_fault heading marks (faults.Text place) read = says_fault heading marks (faults.Text place) read
+is_rules_fault heading marks (faults.Limit what place) read = says_fault heading marks (faults.Limit what place) read
+is_rules_fault heading marks (faults.NotBuilt place) read = says_fault heading marks (faults.NotBuilt place) read
+is_rules_fault heading marks faults.OutOfMemory read = tt

@@ -1,6 +1,6 @@
--- What leads through the states to the end is the text of a book, and that book is what is held.
-use Rattle.std.proofs.Common.{◌≡◌, ℕ, ◌+◌, Bool, true, false, List, [], ◌∷◌, ◌++◌, length, Some, None, refl, sym, ap, subst, ◌∙◌, codes, append_assoc, ◌==◌, ◌||◌, ◌⊎◌, inl, inr, if◌then◌else◌}
-use Rattle.std.proofs.lemmas.Bool.{eqb-true, and_parts}
+-- What leads through the states to the end are rules, and these are what is held.
+use Rattle.std.proofs.Common.{◌≡◌, ℕ, ◌+◌, Bool, true, false, List, [], ◌∷◌, ◌++◌, length, Some, None, refl, sym, ap, subst, ◌∙◌, codes, append_assoc, ◌||◌, if◌then◌else◌}
+use Rattle.std.proofs.lemmas.Bool.{and_parts}
 use Rattle.std.proofs.lemmas.List.{append-nil}
 use Rattle.std.proofs.lemmas.Slice.Eq.{bytes_eq-Decides}
 use Rattle.std.specs.List.{AllByRecursion}
@@ -12,10 +12,10 @@ use Rattle.gm_model.specs.declared.word.Letter.TheVariants as letters
 use Rattle.gm_model.specs.Names.{reserved, Mention, is_among, IsFree}
 use Rattle.gm_model.specs.Symbols.{Symbol, Word, Numeral, Sign, Gone, End, Mark}
 use Rattle.gm_model.specs.Reading as reading
-use Rattle.gm_book.specs.BookText.{Item, NodeItem, LinkItem, RuleForm, BookForm, Count, count_after, counted, count_across, with_name, Role, Fixed, Dimension, RuleWord, NameAt, LetterAt, WordEnd, NodeSign, LinkSign, LabelAt, limit_of, stands_before, word, number, sign, named, the_end, spell_letters, spell_hook, spell_item, spell_items, spell_rule, spell_rules, spelling, IsItem, IsRule, IsForm}
+use Rattle.gm_book.specs.BookText.{Item, NodeItem, LinkItem, RuleForm, Count, count_after, counted, count_across, with_name, Role, Fixed, RuleWord, NameAt, LetterAt, WordEnd, NodeSign, LinkSign, LabelAt, limit_of, stands_before, word, number, sign, named, the_end, spell_letters, spell_hook, spell_item, spell_items, spell_rule, spell_rules, IsItem, IsRule}
 use Rattle.gm_text.proofs.Machine.{Along}
 use Rattle.gm_book.specs.declared.state.Heading.{Heading}
-use Rattle.gm_book.specs.Reading.{Spot, State, AtFormat, AtVersion, AtDim, AtTop, AtRules, AtName, AtLeft, AtItem, AtSign, AtLetter, AtBehind, AtLabel, AtDash, AtTo, AtEnd, heading_at, left_spot, right_spot, with_node, with_link, closing, takes_hook, is_hook, is_version, role_at, expect, item_move, behind_move, unless_reserved, end_move, closed, move, Part, Nothing, Named, Lettered, Linked, Labelled, Held, nothing_held, mention_at, with_item, hooked, hook_last, held_behind}
+use Rattle.gm_book.specs.Reading.{Spot, State, AtRules, AtName, AtLeft, AtItem, AtSign, AtLetter, AtBehind, AtLabel, AtDash, AtTo, AtEnd, left_spot, right_spot, with_node, with_link, closing, takes_hook, is_hook, role_at, expect, item_move, behind_move, unless_reserved, end_move, closed, move, Part, Nothing, Named, Lettered, Linked, Labelled, Held, nothing_held, mention_at, with_item, hooked, hook_last, held_behind}
 use Rattle.gm_book.proofs.Leading.{spot_at, hooked_by, IsTaken, AreTaken, taken_left}
 
 abbrev pub Parts : Type 0
@@ -23,11 +23,11 @@ Parts = List (reading.Part Role)
 
 -- ---- what is held within a rule, and behind rules
 
-abbrev pub within : Heading → List RuleForm → RuleForm → Part → Held
-within heading before rule part = record { heading = heading; rules = before; current = Some rule; part = part }
+abbrev pub within : List RuleForm → RuleForm → Part → Held
+within before rule part = record { rules = before; current = Some rule; part = part }
 
-abbrev pub behind : Heading → List RuleForm → Held
-behind heading rules = record { heading = heading; rules = rules; current = None; part = Nothing }
+abbrev pub behind : List RuleForm → Held
+behind rules = record { rules = rules; current = None; part = Nothing }
 
 -- the rule with more items
 abbrev pub grown : RuleForm → List Item → List Item → RuleForm
@@ -84,7 +84,7 @@ put side item rule = with_item side item rule
 record AfterItems (spot : Spot) (marks : List Mark) (parts : Parts) : Type 0 where
   items : ItemsAt spot
   same : parts ≡ spelled spot items
-  held : (heading : Heading) (before : List RuleForm) (rule : RuleForm) (part : Part) → held_behind (AtItem spot) marks (within heading before rule part) ≡ behind heading (before ++ all spot.side rule items)
+  held : (before : List RuleForm) (rule : RuleForm) (part : Part) → held_behind (AtItem spot) marks (within before rule part) ≡ behind (before ++ all spot.side rule items)
 
 record AfterBehind (spot : Spot) (marks : List Mark) (parts : Parts) : Type 0 where
   hook : Bool
@@ -92,7 +92,7 @@ record AfterBehind (spot : Spot) (marks : List Mark) (parts : Parts) : Type 0 wh
   taken : hook ≡ true → takes_hook spot.heading.version spot.hooked ≡ true
   items : ItemsAt (hooked_at hook spot)
   same : parts ≡ spell_hook hook (spelled (hooked_at hook spot) items)
-  held : (heading : Heading) (before : List RuleForm) (rule : RuleForm) (part : Part) → held_behind (AtBehind spot) marks (within heading before rule part) ≡ behind heading (before ++ all spot.side (if hook then hook_last rule else rule) items)
+  held : (before : List RuleForm) (rule : RuleForm) (part : Part) → held_behind (AtBehind spot) marks (within before rule part) ≡ behind (before ++ all spot.side (if hook then hook_last rule else rule) items)
 
 record AfterLetter (spot : Spot) (k : ℕ) (marks : List Mark) (parts : Parts) : Type 0 where
   letters : List Letter
@@ -101,24 +101,24 @@ record AfterLetter (spot : Spot) (k : ℕ) (marks : List Mark) (parts : Parts) :
   taken : hook ≡ true → takes_hook spot.heading.version spot.hooked ≡ true
   items : ItemsAt (hooked_at hook spot)
   same : parts ≡ spell_letters spot.heading.dim k letters (sign (WordEnd spot.side) (codes ">") ∷ spell_hook hook (spelled (hooked_at hook spot) items))
-  held : (heading : Heading) (before : List RuleForm) (rule : RuleForm) (name : Mention) (word : List Letter) → held_behind (AtLetter spot k) marks (within heading before rule (Lettered name word))
-      ≡ behind heading (before ++ all spot.side (put spot.side (NodeItem name (word ++ letters) hook) rule) items)
+  held : (before : List RuleForm) (rule : RuleForm) (name : Mention) (word : List Letter) → held_behind (AtLetter spot k) marks (within before rule (Lettered name word))
+      ≡ behind (before ++ all spot.side (put spot.side (NodeItem name (word ++ letters) hook) rule) items)
 
 record AfterTo (spot : Spot) (marks : List Mark) (parts : Parts) : Type 0 where
   to : Mention
   free : IsFree to
   items : ItemsAt spot
   same : parts ≡ named to ∷ spelled spot items
-  held : (heading : Heading) (before : List RuleForm) (rule : RuleForm) (from : Mention) (label : ℕ) → held_behind (AtTo spot) marks (within heading before rule (Labelled from label))
-      ≡ behind heading (before ++ all spot.side (put spot.side (LinkItem from label to) rule) items)
+  held : (before : List RuleForm) (rule : RuleForm) (from : Mention) (label : ℕ) → held_behind (AtTo spot) marks (within before rule (Labelled from label))
+      ≡ behind (before ++ all spot.side (put spot.side (LinkItem from label to) rule) items)
 
 record AfterDash (spot : Spot) (marks : List Mark) (parts : Parts) : Type 0 where
   to : Mention
   free : IsFree to
   items : ItemsAt spot
   same : parts ≡ sign Fixed (codes "-") ∷ named to ∷ spelled spot items
-  held : (heading : Heading) (before : List RuleForm) (rule : RuleForm) (from : Mention) (label : ℕ) → held_behind (AtDash spot) marks (within heading before rule (Labelled from label))
-      ≡ behind heading (before ++ all spot.side (put spot.side (LinkItem from label to) rule) items)
+  held : (before : List RuleForm) (rule : RuleForm) (from : Mention) (label : ℕ) → held_behind (AtDash spot) marks (within before rule (Labelled from label))
+      ≡ behind (before ++ all spot.side (put spot.side (LinkItem from label to) rule) items)
 
 record AfterLabel (spot : Spot) (marks : List Mark) (parts : Parts) : Type 0 where
   label : ℕ
@@ -126,8 +126,8 @@ record AfterLabel (spot : Spot) (marks : List Mark) (parts : Parts) : Type 0 whe
   free : IsFree to
   items : ItemsAt spot
   same : parts ≡ number (LabelAt spot.heading.dim) label ∷ sign Fixed (codes "-") ∷ named to ∷ spelled spot items
-  held : (heading : Heading) (before : List RuleForm) (rule : RuleForm) (from : Mention) → held_behind (AtLabel spot) marks (within heading before rule (Linked from))
-      ≡ behind heading (before ++ all spot.side (put spot.side (LinkItem from label to) rule) items)
+  held : (before : List RuleForm) (rule : RuleForm) (from : Mention) → held_behind (AtLabel spot) marks (within before rule (Linked from))
+      ≡ behind (before ++ all spot.side (put spot.side (LinkItem from label to) rule) items)
 
 -- behind an item's first name
 record AfterName (spot : Spot) (name : List ℕ) (marks : List Mark) (parts : Parts) : Type 0 where
@@ -136,8 +136,8 @@ record AfterName (spot : Spot) (name : List ℕ) (marks : List Mark) (parts : Pa
   taken : (from : Mention) → IsTaken spot.heading.version spot.hooked (item from)
   items : (from : Mention) → ItemsAt (after_item spot (item from))
   same : (from : Mention) → from.name ≡ name → named from ∷ parts ≡ spell_item spot.heading.dim spot.side spot.count (item from) (spelled (after_item spot (item from)) (items from))
-  held : (heading : Heading) (before : List RuleForm) (rule : RuleForm) (from : Mention) → held_behind (AtSign spot name) marks (within heading before rule (Named from))
-      ≡ behind heading (before ++ all spot.side (put spot.side (item from) rule) (items from))
+  held : (before : List RuleForm) (rule : RuleForm) (from : Mention) → held_behind (AtSign spot name) marks (within before rule (Named from))
+      ≡ behind (before ++ all spot.side (put spot.side (item from) rule) (items from))
 
 record AfterRule (h : Heading) (k : ℕ) (marks : List Mark) (parts : Parts) : Type 0 where
   rule : RuleForm
@@ -145,52 +145,21 @@ record AfterRule (h : Heading) (k : ℕ) (marks : List Mark) (parts : Parts) : T
   rule_good : IsRule h.version rule
   rules_good : AllByRecursion (IsRule h.version) rules
   same : word (RuleWord k) (codes "rule") ∷ parts ≡ spell_rule h.dim k rule (spell_rules h.dim k rules (the_end ∷ []))
-  held : (heading : Heading) (before : List RuleForm) → held_behind (AtName h k) marks (behind heading before) ≡ behind heading (before ++ rule ∷ rules)
+  held : (before : List RuleForm) → held_behind (AtName h k) marks (behind before) ≡ behind (before ++ rule ∷ rules)
 
-record AfterHeader (h : Heading) (marks : List Mark) (parts : Parts) : Type 0 where
-  rules : List RuleForm
-  rules_good : AllByRecursion (IsRule h.version) rules
-  same : parts ≡ spell_rules h.dim 0 rules (the_end ∷ [])
-  held : held_behind (AtRules h) marks (behind h []) ≡ behind h rules
+pub record AfterHeader (h : Heading) (marks : List Mark) (parts : Parts) : Type 0 where
+  pub rules : List RuleForm
+  pub rules_good : AllByRecursion (IsRule h.version) rules
+  pub same : parts ≡ spell_rules h.dim 0 rules (the_end ∷ [])
+  pub held : held_behind (AtRules h) marks nothing_held ≡ behind rules
 
 -- `left`, and then the items
 record AfterLeft (h : Heading) (k : ℕ) (marks : List Mark) (parts : Parts) : Type 0 where
   items : ItemsAt (left_spot h k)
   same : parts ≡ word Fixed (codes "left") ∷ spelled (left_spot h k) items
-  held : (heading : Heading) (before : List RuleForm) (rule : RuleForm) (part : Part) → held_behind (AtLeft h k) marks (within heading before rule part) ≡ behind heading (before ++ all Left rule items)
-
--- the book whose text, without these parts at its front, stands there
-record AfterStart (state : State) (front : ℕ → ℕ → Parts → Parts) (marks : List Mark) (parts : Parts) : Type 0 where
-  book : BookForm
-  good : IsForm book
-  same : parts ≡ front book.version book.dim (spell_rules book.dim 0 book.rules (the_end ∷ []))
-  held : held_behind state marks nothing_held ≡ behind (heading_at book.version book.dim) book.rules
-
--- the same behind the version
-record AfterVersion (version : ℕ) (state : State) (front : ℕ → Parts → Parts) (marks : List Mark) (parts : Parts) : Type 0 where
-  dim : ℕ
-  rules : List RuleForm
-  rules_good : AllByRecursion (IsRule version) rules
-  same : parts ≡ front dim (spell_rules dim 0 rules (the_end ∷ []))
-  held : held_behind state marks nothing_held ≡ behind (heading_at version dim) rules
-
-abbrev from_top : ℕ → Parts → Parts
-from_top n rest = number Dimension n ∷ rest
-
-abbrev from_dim : ℕ → Parts → Parts
-from_dim n rest = word Fixed (codes "dim") ∷ from_top n rest
-
-abbrev from_version : ℕ → ℕ → Parts → Parts
-from_version version n rest = number Fixed version ∷ from_dim n rest
-
-abbrev from_format : ℕ → ℕ → Parts → Parts
-from_format version n rest = word Fixed (codes "book") ∷ from_version version n rest
+  held : (before : List RuleForm) (rule : RuleForm) (part : Part) → held_behind (AtLeft h k) marks (within before rule part) ≡ behind (before ++ all Left rule items)
 
 abbrev After : State → List Mark → Parts → Type 0
-After AtFormat marks parts = AfterStart AtFormat from_format marks parts
-After AtVersion marks parts = AfterStart AtVersion from_version marks parts
-After (AtDim v) marks parts = AfterVersion v (AtDim v) from_dim marks parts
-After (AtTop v) marks parts = AfterVersion v (AtTop v) from_top marks parts
 After (AtRules h) marks parts = AfterHeader h marks parts
 After (AtName h k) marks parts = AfterRule h k marks parts
 After (AtLeft h k) marks parts = AfterLeft h k marks parts
@@ -274,48 +243,11 @@ hook_put Right name word true rule on = let other : Right ≡ Left = on refl in 
 
 -- ---- one mark
 
-format : (w : List ℕ) (place : ℕ) (marks : List Mark) (parts : Parts) (next : State) → expect (codes "book") w AtVersion ≡ Some next → After next marks parts → After AtFormat (mark_at (Word w) place ∷ marks) (part_in AtFormat (Word w) place ∷ parts)
-format w place marks parts next moves rest =
-    let e = expected (codes "book") w AtVersion next moves in
-    let behind : After AtVersion marks parts = subst (λ s. After s marks parts) (sym e.1) rest in
-    rw e.0 (record { book = behind.book; good = behind.good; same = ap (λ (ps : Parts). word Fixed (codes "book") ∷ ps) behind.same; held = behind.held })
-
-version_known : (v : ℕ) → is_version v ≡ true → (v ≡ 1) ⊎ (v ≡ 2)
-version_known v known = go (v == 1) refl
-  where
-    go : (b : Bool) → (v == 1) ≡ b → (v ≡ 1) ⊎ (v ≡ 2)
-    go true is = inl (eqb-true v 1 is)
-    go false is = inr (eqb-true v 2 (rw is at known))
-
-version : (v place : ℕ) (marks : List Mark) (parts : Parts) (next : State) → move AtVersion (Numeral v) ≡ Some next → After next marks parts → After AtVersion (mark_at (Numeral v) place ∷ marks) (part_in AtVersion (Numeral v) place ∷ parts)
-version v place marks parts next moves rest = go (is_version v) refl
-  where
-    go : (b : Bool) → is_version v ≡ b → After AtVersion (mark_at (Numeral v) place ∷ marks) (part_in AtVersion (Numeral v) place ∷ parts)
-    go false is = let one : None ≡ Some next = rw is at moves in absurd cc
-    go true is =
-        let one : Some (AtDim v) ≡ Some next = rw is at moves in
-        let e : AtDim v ≡ next = cc one in
-        let behind : After (AtDim v) marks parts = subst (λ s. After s marks parts) (sym e) rest in
-        let book : BookForm = record { version = v; dim = behind.dim; rules = behind.rules } in
-        record { book = book; good = (version_known v is, behind.rules_good); same = ap (λ (ps : Parts). number Fixed v ∷ ps) behind.same; held = rw is behind.held }
-
-dim : (v : ℕ) (w : List ℕ) (place : ℕ) (marks : List Mark) (parts : Parts) (next : State) → expect (codes "dim") w (AtTop v) ≡ Some next → After next marks parts → After (AtDim v) (mark_at (Word w) place ∷ marks) (part_in (AtDim v) (Word w) place ∷ parts)
-dim v w place marks parts next moves rest =
-    let e = expected (codes "dim") w (AtTop v) next moves in
-    let behind : After (AtTop v) marks parts = subst (λ s. After s marks parts) (sym e.1) rest in
-    rw e.0 (record { dim = behind.dim; rules = behind.rules; rules_good = behind.rules_good; same = ap (λ (ps : Parts). word Fixed (codes "dim") ∷ ps) behind.same; held = behind.held })
-
-top : (v n place : ℕ) (marks : List Mark) (parts : Parts) (next : State) → Some (AtRules (heading_at v n)) ≡ Some next → After next marks parts → After (AtTop v) (mark_at (Numeral n) place ∷ marks) (part_in (AtTop v) (Numeral n) place ∷ parts)
-top v n place marks parts next moves rest =
-    let e : AtRules (heading_at v n) ≡ next = cc moves in
-    let behind : After (AtRules (heading_at v n)) marks parts = subst (λ s. After s marks parts) (sym e) rest in
-    record { dim = n; rules = behind.rules; rules_good = behind.rules_good; same = ap (λ (ps : Parts). number Dimension n ∷ ps) behind.same; held = behind.held }
-
 first_rule : (h : Heading) (w : List ℕ) (place : ℕ) (marks : List Mark) (parts : Parts) (next : State) → expect (codes "rule") w (AtName h 1) ≡ Some next → After next marks parts → After (AtRules h) (mark_at (Word w) place ∷ marks) (part_in (AtRules h) (Word w) place ∷ parts)
 first_rule h w place marks parts next moves rest =
     let e = expected (codes "rule") w (AtName h 1) next moves in
     let behind : After (AtName h 1) marks parts = subst (λ s. After s marks parts) (sym e.1) rest in
-    rw e.0 (record { rules = behind.rule ∷ behind.rules; rules_good = (behind.rule_good, behind.rules_good); same = behind.same; held = behind.held h [] })
+    rw e.0 (record { rules = behind.rule ∷ behind.rules; rules_good = (behind.rule_good, behind.rules_good); same = behind.same; held = behind.held [] })
 
 no_rules : (h : Heading) (place : ℕ) (marks : List Mark) (parts : Parts) (next : State) → Some AtEnd ≡ Some next → After next marks parts → After (AtRules h) (mark_at End place ∷ marks) (part_in (AtRules h) End place ∷ parts)
 no_rules h place marks parts next moves rest =
@@ -335,7 +267,7 @@ rule_name h k w place marks parts next moves rest =
       rule_good = (e.0, behind.items.left_good, behind.items.right_good, taken_left h.version behind.items.left behind.items.taken);
       rules_good = behind.items.rules_good;
       same = ap (λ (ps : Parts). word (RuleWord k) (codes "rule") ∷ named name ∷ ps) behind.same;
-      held = λ heading before. rw e.0 (behind.held heading before (record { name = name; left = []; right = [] }) Nothing);
+      held = λ before. rw e.0 (behind.held before (record { name = name; left = []; right = [] }) Nothing);
     }
 
 left_word : (h : Heading) (k : ℕ) (w : List ℕ) (place : ℕ) (marks : List Mark) (parts : Parts) (next : State) → expect (codes "left") w (AtItem (left_spot h k)) ≡ Some next → After next marks parts → After (AtLeft h k) (mark_at (Word w) place ∷ marks) (part_in (AtLeft h k) (Word w) place ∷ parts)
@@ -352,8 +284,8 @@ right_word h k count hook_before w place marks parts e behind =
     rw e (record {
       items = items;
       same = ap (λ (ps : Parts). word Fixed (codes "right") ∷ ps) behind.same;
-      held = λ heading before rule part. behind.held heading before rule part
-          ∙ ap (λ (left : List Item). let r : RuleForm = record { name = rule.name; left = rule.left ++ left; right = rule.right ++ behind.items.right } in let h : Held = record { heading = heading; rules = before ++ r ∷ behind.items.rules; current = None; part = Nothing } in h) behind.items.on;
+      held = λ before rule part. behind.held before rule part
+          ∙ ap (λ (left : List Item). let r : RuleForm = record { name = rule.name; left = rule.left ++ left; right = rule.right ++ behind.items.right } in let h : Held = record { rules = before ++ r ∷ behind.items.rules; current = None; part = Nothing } in h) behind.items.on;
     })
 
 -- nothing more stands on either side
@@ -371,8 +303,8 @@ next_rule h k count hook_before w place marks parts e behind =
     rw e (record {
       items = nothing_more h.version hook_before (behind.rule ∷ behind.rules) (behind.rule_good, behind.rules_good);
       same = behind.same;
-      held = λ heading before rule part. behind.held heading (before ++ rule ∷ [])
-          ∙ ap (λ (rules : List RuleForm). let h : Held = record { heading = heading; rules = rules; current = None; part = Nothing } in h)
+      held = λ before rule part. behind.held (before ++ rule ∷ [])
+          ∙ ap (λ (rules : List RuleForm). let h : Held = record { rules = rules; current = None; part = Nothing } in h)
           (append_assoc before (rule ∷ []) (behind.rule ∷ behind.rules) ∙ ap (λ (r : RuleForm). before ++ r ∷ behind.rule ∷ behind.rules) (grown_nothing rule));
     })
 
@@ -385,7 +317,7 @@ item_end h k Right count hook_before place marks parts next moves rest =
     rw (behind.0, behind.1) (record {
       items = nothing_more h.version hook_before [] tt;
       same = refl;
-      held = λ heading before rule part. ap (λ (r : RuleForm). let h : Held = record { heading = heading; rules = before ++ r ∷ []; current = None; part = Nothing } in h) (grown_nothing rule);
+      held = λ before rule part. ap (λ (r : RuleForm). let h : Held = record { rules = before ++ r ∷ []; current = None; part = Nothing } in h) (grown_nothing rule);
     })
 
 item_name : (h : Heading) (k : ℕ) (side : Side) (count : Count) (hook_before : Bool) (w : List ℕ) (place : ℕ) (marks : List Mark) (parts : Parts) (next : State) → bytes_eq w (closing side) ≡ false → unless_reserved w (AtSign (spot_at h k side count hook_before) w) ≡ Some next → After next marks parts
@@ -402,7 +334,7 @@ item_name h k side count hook_before w place marks parts next other moves rest =
     rw (other) (record {
       items = add h.version hook_before side item good taken items;
       same = behind.same name refl ∙ sym (spelled_add h k side count hook_before item good taken items);
-      held = λ heading before rule part. rw (other, e.0) (behind.held heading before rule name ∙ ap (λ (rules : List RuleForm). let h : Held = record { heading = heading; rules = before ++ rules; current = None; part = Nothing } in h) (all_put h.version hook_before side item good taken rule items));
+      held = λ before rule part. rw (other, e.0) (behind.held before rule name ∙ ap (λ (rules : List RuleForm). let h : Held = record { rules = before ++ rules; current = None; part = Nothing } in h) (all_put h.version hook_before side item good taken rule items));
     })
 
 item_word : (h : Heading) (k : ℕ) (side : Side) (count : Count) (hook_before : Bool) (w : List ℕ) (place : ℕ) (marks : List Mark) (parts : Parts) (next : State) → item_move (spot_at h k side count hook_before) w ≡ Some next → After next marks parts
@@ -442,7 +374,7 @@ node_sign spot name place marks parts behind = record {
   taken = λ from. behind.taken;
   items = λ from. behind.items;
   same = λ from e. rw e (ap (λ (ps : Parts). word (NameAt from.place) name ∷ sign (NodeSign (length (with_name spot.count.nodes name))) (codes "<") ∷ ps) behind.same);
-  held = λ heading before rule from. behind.held heading before rule from [];
+  held = λ before rule from. behind.held before rule from [];
 }
 
 link_sign : (spot : Spot) (name : List ℕ) (place : ℕ) (marks : List Mark) (parts : Parts) → After (AtLabel (with_link spot)) marks parts → After (AtSign spot name) (mark_at (Sign (codes "-")) place ∷ marks) (part_in (AtSign spot name) (Sign (codes "-")) place ∷ parts)
@@ -452,7 +384,7 @@ link_sign spot name place marks parts behind = record {
   taken = λ from. tt;
   items = λ from. behind.items;
   same = λ from e. ap (λ (ps : Parts). named from ∷ sign (LinkSign (spot.count.links + 1)) (codes "-") ∷ ps) behind.same;
-  held = λ heading before rule from. behind.held heading before rule from;
+  held = λ before rule from. behind.held before rule from;
 }
 
 item_sign : (spot : Spot) (name s : List ℕ) (place : ℕ) (marks : List Mark) (parts : Parts) (next : State) → move (AtSign spot name) (Sign s) ≡ Some next → After next marks parts
@@ -470,14 +402,14 @@ item_sign spot name s place marks parts next moves rest = go (bytes_eq s (codes 
         rw ((bytes_eq-Decides s (codes "-")).0 f) (link_sign spot name place marks parts (subst (λ s. After s marks parts) (sym e) rest))
     go false is false f = let one : None ≡ Some next = rw (is, f) at moves in absurd cc
 
-abbrev behind' : {version : ℕ} {hook_before : Bool} → Heading → List RuleForm → (side : Side) → Item → RuleForm → Items version hook_before side → Held
-behind' heading before side item rule items = behind heading (before ++ all side (put side item rule) items)
+abbrev behind' : {version : ℕ} {hook_before : Bool} → List RuleForm → (side : Side) → Item → RuleForm → Items version hook_before side → Held
+behind' before side item rule items = behind (before ++ all side (put side item rule) items)
 
 -- the node with a word that goes on with these letters
-letters_append : (side : Side) (name : Mention) (front behind : List Letter) (x : Letter) (hook : Bool) (heading : Heading) (before : List RuleForm) (rule : RuleForm) {version : ℕ} {hook_before : Bool} (items : Items version hook_before side)
-    → behind' heading before side (NodeItem name ((front ++ x ∷ []) ++ behind) hook) rule items ≡ behind' heading before side (NodeItem name (front ++ x ∷ behind) hook) rule items
-letters_append side name front behind x hook heading before rule items =
-    ap (λ (word : List Letter). behind' heading before side (NodeItem name word hook) rule items) (append_assoc front (x ∷ []) behind)
+letters_append : (side : Side) (name : Mention) (front behind : List Letter) (x : Letter) (hook : Bool) (before : List RuleForm) (rule : RuleForm) {version : ℕ} {hook_before : Bool} (items : Items version hook_before side)
+    → behind' before side (NodeItem name ((front ++ x ∷ []) ++ behind) hook) rule items ≡ behind' before side (NodeItem name (front ++ x ∷ behind) hook) rule items
+letters_append side name front behind x hook before rule items =
+    ap (λ (word : List Letter). behind' before side (NodeItem name word hook) rule items) (append_assoc front (x ∷ []) behind)
 
 numbered : (spot : Spot) (k i place : ℕ) (marks : List Mark) (parts : Parts) → After (AtLetter spot (k + 1)) marks parts
     → After (AtLetter spot k) (mark_at (Numeral i) place ∷ marks) (part_in (AtLetter spot k) (Numeral i) place ∷ parts)
@@ -489,7 +421,7 @@ numbered spot k i place marks parts behind =
       taken = behind.taken;
       items = behind.items;
       same = ap (λ (ps : Parts). number (LetterAt spot.heading.dim (k + 1)) i ∷ ps) behind.same;
-      held = λ heading before rule name word. behind.held heading before rule name (word ++ letters.At i ∷ []) ∙ letters_append spot.side name word behind.letters (letters.At i) behind.hook heading before rule behind.items;
+      held = λ before rule name word. behind.held before rule name (word ++ letters.At i ∷ []) ∙ letters_append spot.side name word behind.letters (letters.At i) behind.hook before rule behind.items;
     }
 
 unused : (spot : Spot) (k place : ℕ) (marks : List Mark) (parts : Parts) → After (AtLetter spot (k + 1)) marks parts
@@ -502,7 +434,7 @@ unused spot k place marks parts behind =
       taken = behind.taken;
       items = behind.items;
       same = ap (λ (ps : Parts). let p : reading.Part Role = record { symbol = Gone; role = LetterAt spot.heading.dim (k + 1) } in p ∷ ps) behind.same;
-      held = λ heading before rule name word. behind.held heading before rule name (word ++ letters.Gone ∷ []) ∙ letters_append spot.side name word behind.letters letters.Gone behind.hook heading before rule behind.items;
+      held = λ before rule name word. behind.held before rule name (word ++ letters.Gone ∷ []) ∙ letters_append spot.side name word behind.letters letters.Gone behind.hook before rule behind.items;
     }
 
 word_end : (spot : Spot) (k : ℕ) (s : List ℕ) (place : ℕ) (marks : List Mark) (parts : Parts) (next : State) → expect (codes ">") s (AtBehind spot) ≡ Some next → After next marks parts
@@ -517,8 +449,8 @@ word_end spot k s place marks parts next moves rest =
       taken = behind.taken;
       items = behind.items;
       same = ap (λ (ps : Parts). sign (WordEnd spot.side) (codes ">") ∷ ps) behind.same;
-      held = λ heading before rule name word. behind.held heading before (put spot.side (NodeItem name word false) rule) Nothing
-          ∙ ap (λ (r : RuleForm). let h : Held = record { heading = heading; rules = before ++ all spot.side r behind.items; current = None; part = Nothing } in h)
+      held = λ before rule name word. behind.held before (put spot.side (NodeItem name word false) rule) Nothing
+          ∙ ap (λ (r : RuleForm). let h : Held = record { rules = before ++ all spot.side r behind.items; current = None; part = Nothing } in h)
           (hook_put spot.side name word behind.hook rule behind.hook_on ∙ ap (λ (w : List Letter). put spot.side (NodeItem name w behind.hook) rule) (sym (append-nil word)));
     })
 
@@ -531,7 +463,7 @@ hook_word h k count hook_before w place marks parts e takes behind =
       taken = λ is. takes;
       items = behind.items;
       same = ap (λ (ps : Parts). word Fixed (codes "hook") ∷ ps) behind.same;
-      held = λ heading before rule part. rw takes (behind.held heading before (hook_last rule) part);
+      held = λ before rule part. rw takes (behind.held before (hook_last rule) part);
     })
 
 behind_word : (h : Heading) (k : ℕ) (side : Side) (count : Count) (hook_before : Bool) (w : List ℕ) (place : ℕ) (marks : List Mark) (parts : Parts) (next : State) → behind_move (spot_at h k side count hook_before) w ≡ Some next → After next marks parts
@@ -541,7 +473,7 @@ behind_word h k side count hook_before w place marks parts next moves rest = go 
     go : (s : Side) → side ≡ s → (b : Bool) → is_hook (spot_at h k side count hook_before) w ≡ b → After (AtBehind (spot_at h k side count hook_before)) (mark_at (Word w) place ∷ marks) (part_in (AtBehind (spot_at h k side count hook_before)) (Word w) place ∷ parts)
     go s f false is =
         let item : After (AtItem (spot_at h k side count hook_before)) (mark_at (Word w) place ∷ marks) (part_in (AtItem (spot_at h k side count hook_before)) (Word w) place ∷ parts) = item_word h k side count hook_before w place marks parts next (rw is at moves) rest in
-        rw is (record { hook = false; hook_on = λ set. absurd cc; taken = λ set. absurd cc; items = item.items; same = item.same; held = λ heading before rule part. rw is (item.held heading before rule part) })
+        rw is (record { hook = false; hook_on = λ set. absurd cc; taken = λ set. absurd cc; items = item.items; same = item.same; held = λ before rule part. rw is (item.held before rule part) })
     go Left f true is =
         let one : Some (AtItem (spot_at h k side count true)) ≡ Some next = rw is at moves in
         let e : AtItem (spot_at h k side count true) ≡ next = cc one in
@@ -562,7 +494,7 @@ link_label : (spot : Spot) (i place : ℕ) (marks : List Mark) (parts : Parts) (
 link_label spot i place marks parts next moves rest =
     let e : AtDash spot ≡ next = cc moves in
     let behind : After (AtDash spot) marks parts = subst (λ s. After s marks parts) (sym e) rest in
-    record { label = i; to = behind.to; free = behind.free; items = behind.items; same = ap (λ (ps : Parts). number (LabelAt spot.heading.dim) i ∷ ps) behind.same; held = λ heading before rule from. behind.held heading before rule from i }
+    record { label = i; to = behind.to; free = behind.free; items = behind.items; same = ap (λ (ps : Parts). number (LabelAt spot.heading.dim) i ∷ ps) behind.same; held = λ before rule from. behind.held before rule from i }
 
 link_dash : (spot : Spot) (s : List ℕ) (place : ℕ) (marks : List Mark) (parts : Parts) (next : State) → expect (codes "-") s (AtTo spot) ≡ Some next → After next marks parts
     → After (AtDash spot) (mark_at (Sign s) place ∷ marks) (part_in (AtDash spot) (Sign s) place ∷ parts)
@@ -581,7 +513,7 @@ link_to spot w place marks parts next moves rest =
       free = e.0;
       items = behind.items;
       same = ap (λ (ps : Parts). named (mention_at w place) ∷ ps) behind.same;
-      held = λ heading before rule from label. rw e.0 (behind.held heading before (put spot.side (LinkItem from label (mention_at w place)) rule) Nothing);
+      held = λ before rule from label. rw e.0 (behind.held before (put spot.side (LinkItem from label (mention_at w place)) rule) Nothing);
     }
 
 -- ---- all marks
@@ -590,10 +522,6 @@ moved_to : (state next : State) (marks : List Mark) (parts : Parts) → Some sta
 moved_to state next marks parts moves rest = let e : state ≡ next = cc moves in subst (λ s. After s marks parts) (sym e) rest
 
 step_is : (state : State) (symbol : Symbol) (place : ℕ) (marks : List Mark) (parts : Parts) (next : State) → move state symbol ≡ Some next → After next marks parts → After state (mark_at symbol place ∷ marks) (part_in state symbol place ∷ parts)
-step_is AtFormat (Word w) place marks parts next moves rest = format w place marks parts next moves rest
-step_is AtVersion (Numeral v) place marks parts next moves rest = version v place marks parts next moves rest
-step_is (AtDim v) (Word w) place marks parts next moves rest = dim v w place marks parts next moves rest
-step_is (AtTop v) (Numeral n) place marks parts next moves rest = top v n place marks parts next moves rest
 step_is (AtRules h) (Word w) place marks parts next moves rest = first_rule h w place marks parts next moves rest
 step_is (AtRules h) End place marks parts next moves rest = no_rules h place marks parts next moves rest
 step_is (AtName h k) (Word w) place marks parts next moves rest = rule_name h k w place marks parts next moves rest
@@ -617,14 +545,6 @@ after_is state [] (part ∷ parts) e = absurd e
 after_is state (mark ∷ marks) [] e = absurd e
 after_is state (mark ∷ marks) (part ∷ parts) (next, is, moves, along) = rw is (step_is state mark.symbol mark.place marks parts next moves (after_is next marks parts along))
 
--- the book whose text the marks are
-pub record IsBook (marks : List Mark) (parts : Parts) : Type 0 where
-  pub book : BookForm
-  pub good : IsForm book
-  pub same : parts ≡ spelling book
-  pub held : held_behind AtFormat marks nothing_held ≡ record { heading = heading_at book.version book.dim; rules = book.rules; current = None; part = Nothing }
-
-pub along_book : (marks : List Mark) (parts : Parts) → Along limit_of stands_before role_at move AtFormat marks parts AtEnd → IsBook marks parts
-along_book marks parts along =
-    let after = after_is AtFormat marks parts along in
-    record { book = after.book; good = after.good; same = after.same; held = after.held }
+-- the rules that the marks are
+pub along_rules : (h : Heading) (marks : List Mark) (parts : Parts) → Along limit_of stands_before role_at move (AtRules h) marks parts AtEnd → AfterHeader h marks parts
+along_rules h marks parts along = after_is (AtRules h) marks parts along

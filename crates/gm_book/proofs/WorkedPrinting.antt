@@ -1,4 +1,4 @@
--- Two worked books, one of each version: their canonical texts, by computation, and that these texts stand for them.
+-- Three worked books, of both versions and with an embedding: their canonical texts, by computation, and that these texts stand for them.
 use Rattle.std.proofs.Common.{◌≡◌, ℕ, ◌≤◌, List, [], ◌∷◌, length, Some, None, inl, inr, codes, refl, subst, arith}
 use Rattle.std.proofs.lemmas.Fmt.{decimal_digit}
 use Rattle.gm_model.specs.declared.rule.Side.{Side}
@@ -6,6 +6,8 @@ use Rattle.gm_model.specs.declared.rule.Side.TheVariants.{Left, Right}
 use Rattle.gm_model.specs.declared.schema.Schema.{Schema}
 use Rattle.gm_model.specs.declared.word.Letter.TheVariants.{At, Gone}
 use Rattle.gm_model.specs.Rules.{Rule, RuleNode, links_on}
+use Rattle.gm_model.specs.declared.value.Kind.TheVariants.{Vec2}
+use Rattle.gm_text.specs.SchemaText.{SchemaForm, labels_in}
 use Rattle.gm_book.specs.BookText.{BookText, canonical}
 use Rattle.std.specs.List.{AllByRecursion}
 use Rattle.gm_book.proofs.CanonicalForm.{IsWritable, IsGoodLink}
@@ -32,10 +34,13 @@ split = record {
 abbrev plane : Schema
 plane = record { dim = 2; embeds = [] }
 
+abbrev flat : SchemaForm
+flat = record { dim = 2; embeds = [] }
+
 split_text : List ℕ
 split_text = codes "book 1\ndim 2\nrule split\nleft\na <0 1> hook\na -2- a\nright\na <0 _>\nb_2 <_ 2>\na -1- b_2\n"
 
-split_is_printed : canonical 1 2 (split ∷ []) ≡ split_text
+split_is_printed : canonical 1 plane (split ∷ []) ≡ split_text
 unfolding split_text
 split_is_printed = rw (decimal_digit 0 (omega arith), decimal_digit 1 (omega arith), decimal_digit 2 (omega arith)) refl
 
@@ -70,7 +75,7 @@ split_is_writable = record {
 
 split_is_read : BookText split_text 1 plane (split ∷ [])
 split_is_read = subst (λ text. BookText text 1 plane (split ∷ [])) split_is_printed
-    (written_again 1 plane (split ∷ []) refl (record { known = inl refl; hooks = (λ one. omega arith, tt); some = omega arith; low = omega arith; few = omega arith; each = (split_is_writable, tt); differ = (refl, tt) }))
+    (written_again 1 flat (split ∷ []) tt (refl, (refl, tt)) tt (record { known = inl refl; hooks = (λ one. omega arith, tt); some = omega arith; low = omega arith; few = omega arith; each = (split_is_writable, tt); differ = (refl, tt) }))
 
 -- ---- two hooks
 
@@ -92,7 +97,7 @@ sew = record {
 sew_text : List ℕ
 sew_text = codes "book 2\ndim 2\nrule sew\nleft\na <0> hook\nb <0> hook\nright\na <0>\nb <0>\na -2- b\n"
 
-sew_is_printed : canonical 2 2 (sew ∷ []) ≡ sew_text
+sew_is_printed : canonical 2 plane (sew ∷ []) ≡ sew_text
 unfolding sew_text
 sew_is_printed = rw (decimal_digit 0 (omega arith), decimal_digit 2 (omega arith)) refl
 
@@ -127,4 +132,28 @@ sew_is_writable = record {
 
 sew_is_read : BookText sew_text 2 plane (sew ∷ [])
 sew_is_read = subst (λ text. BookText text 2 plane (sew ∷ [])) sew_is_printed
-    (written_again 2 plane (sew ∷ []) refl (record { known = inr refl; hooks = (λ one. absurd (omega (arith, one)), tt); some = omega arith; low = omega arith; few = omega arith; each = (sew_is_writable, tt); differ = (refl, tt) }))
+    (written_again 2 flat (sew ∷ []) tt (refl, (refl, tt)) tt (record { known = inr refl; hooks = (λ one. absurd (omega (arith, one)), tt); some = omega arith; low = omega arith; few = omega arith; each = (sew_is_writable, tt); differ = (refl, tt) }))
+
+-- ---- an embedding
+
+-- each vertex of the plane has a position
+abbrev points : Schema
+points = record { dim = 2; embeds = record { name = codes "pos"; mask = record { bits = 6 }; kind = Vec2 } ∷ [] }
+
+abbrev points_form : SchemaForm
+points_form = record {
+  dim = 2;
+  embeds = record { name = record { name = codes "pos"; place = 0 }; labels = record { label = 1; place = 0 } ∷ record { label = 2; place = 0 } ∷ []; kind = Vec2 } ∷ [];
+}
+
+points_text : List ℕ
+points_text = codes "book 2\ndim 2\nembed pos <1 2> vec2\nrule sew\nleft\na <0> hook\nb <0> hook\nright\na <0>\nb <0>\na -2- b\n"
+
+points_are_printed : canonical 2 points (sew ∷ []) ≡ points_text
+unfolding points_text labels_in
+points_are_printed = rw (decimal_digit 0 (omega arith), decimal_digit 1 (omega arith), decimal_digit 2 (omega arith)) refl
+
+points_are_read : BookText points_text 2 points (sew ∷ [])
+points_are_read = subst (λ text. BookText text 2 points (sew ∷ [])) points_are_printed
+    (written_again 2 points_form (sew ∷ []) ((refl, λ e. absurd cc), tt) (refl, (refl, (refl, (refl, (refl, (refl, (refl, (refl, (refl, tt))))))))) (((omega arith, (refl, refl)), omega arith), tt)
+    (record { known = inr refl; hooks = (λ one. absurd (omega (arith, one)), tt); some = omega arith; low = omega arith; few = omega arith; each = (sew_is_writable, tt); differ = (refl, tt) }))

@@ -1,5 +1,5 @@
--- How a book of rules without embeddings, parameters, assignments and preconditions is written: the grammar of its texts with their limits and faults, the rules that a text stands for, and their one canonical text.
-use Rattle.std.specs.Prelude.{◌≡◌, ◌≢◌, ℕ, ◌+◌, ◌≤◌, ◌⊎◌, Bool, true, false, not, ◌||◌, ◌==◌, nat_eq, nat_lt, if◌then◌else◌, List, [], ◌∷◌, ◌++◌, length, map, filter, Option, Some, None, is_some, codes, decimal, IsTrue}
+-- How a book of rules without parameters, assignments and preconditions is written: the grammar of its texts with their limits and faults, the schema and the rules that a text stands for, and their one canonical text.
+use Rattle.std.specs.Prelude.{◌≡◌, ◌≢◌, ℕ, ◌+◌, ◌≤◌, ◌⊎◌, Bool, true, false, not, nat_eq, nat_lt, if◌then◌else◌, List, [], ◌∷◌, ◌++◌, length, map, filter, Option, Some, None, is_some, codes, decimal, IsTrue}
 use Rattle.std.specs.List.{flat_map, list_any, position_or_len, AllByRecursion, Contains}
 use Rattle.std.specs.Str.{bytes_eq}
 use Rattle.gm_model.specs.declared.limit.LimitKind.{LimitKind}
@@ -14,6 +14,8 @@ use Rattle.gm_model.specs.Symbols.{Symbol, Word, Numeral, Sign, Gone, End, Mark,
 use Rattle.gm_model.specs.Names.{Mention, IsFree, is_among}
 use Rattle.gm_model.specs.Rules.{Rule, RuleNode, name_at}
 use Rattle.gm_model.specs.Reading.{Part, Begins, IsWithin, IsReadAs, TextEndsAt, LimitStandsAt, symbols_in}
+use Rattle.gm_text.specs.SchemaText as schemas
+use Rattle.gm_text.specs.SchemaText.{SchemaForm, schema_of, spell, is_again}
 
 -- ---- what is written in a book
 
@@ -32,7 +34,7 @@ pub record RuleForm : Type 0 where
 
 pub record BookForm : Type 0 where
   pub version : ℕ
-  pub dim : ℕ
+  pub schema : SchemaForm
   pub rules : List RuleForm
 
 abbrev pub items_on : RuleForm → Side → List Item
@@ -92,7 +94,8 @@ count_across count = record { nodes = count.nodes; links = 0 }
 pub data Role : Type 0 where
   -- a word or sign of the format, its version, or the end
   Fixed : Role
-  Dimension : Role
+  -- a role within the schema
+  InSchema : schemas.Role → Role
   -- the word `rule` of the rule with this ordinal
   RuleWord : ℕ → Role
   -- a name, at this place
@@ -108,9 +111,9 @@ pub data Role : Type 0 where
   -- the label of a link; labels go up to the number
   LabelAt : ℕ → Role
 
--- the limit that a symbol passes in a role; of two the one that stands first in the list of limits
+-- The limit that a symbol passes in a role; of two the one that stands first in the list of limits. A name that is declared again passes none.
 abbrev pub limit_of : Role → Symbol → Option LimitKind
-limit_of Dimension (Numeral n) = if (n == 0) || nat_lt 7 n then Some limits.Dimension else None
+limit_of (InSchema role) symbol = schemas.limit_of role symbol
 limit_of (LabelAt n) (Numeral i) = if nat_lt n i then Some limits.Label else None
 limit_of (LetterAt n k) (Numeral i) = if nat_lt n i then Some limits.Label else (if nat_lt 8 k then Some limits.Word else None)
 limit_of (LetterAt n k) Gone = if nat_lt 8 k then Some limits.Word else None
@@ -179,12 +182,16 @@ abbrev pub spell_rules : ℕ → ℕ → List RuleForm → List (Part Role) → 
 spell_rules n k [] rest = rest
 spell_rules n k (rule ∷ rules) rest = spell_rule n (k + 1) rule (spell_rules n (k + 1) rules rest)
 
--- book 2 dim 3
-abbrev pub header : ℕ → ℕ → List (Part Role) → List (Part Role)
-header version n rest = word Fixed (codes "book") ∷ number Fixed version ∷ word Fixed (codes "dim") ∷ number Dimension n ∷ rest
+-- a part of the schema as one of the book
+abbrev pub in_schema : Part schemas.Role → Part Role
+in_schema part = record { symbol = part.symbol; role = InSchema part.role }
+
+-- book 2 dim 3 embed ..
+abbrev pub header : ℕ → SchemaForm → List (Part Role) → List (Part Role)
+header version schema rest = word Fixed (codes "book") ∷ number Fixed version ∷ (map in_schema (spell schema []) ++ rest)
 
 abbrev pub spelling : BookForm → List (Part Role)
-spelling book = header book.version book.dim (spell_rules book.dim 0 book.rules (the_end ∷ []))
+spelling book = header book.version book.schema (spell_rules book.schema.dim 0 book.rules (the_end ∷ []))
 
 -- only a left node can be a hook
 abbrev pub IsItem : Side → Item → Type 0
@@ -197,7 +204,7 @@ abbrev pub IsRule : ℕ → RuleForm → Type 0
 IsRule version rule = IsFree rule.name × AllByRecursion (IsItem Left) rule.left × AllByRecursion (IsItem Right) rule.right × (version ≡ 1 → hook_count rule.left ≤ 1)
 
 abbrev pub IsForm : BookForm → Type 0
-IsForm book = ((book.version ≡ 1) ⊎ (book.version ≡ 2)) × AllByRecursion (IsRule book.version) book.rules
+IsForm book = ((book.version ≡ 1) ⊎ (book.version ≡ 2)) × schemas.IsForm book.schema × AllByRecursion (IsRule book.version) book.rules
 
 abbrev pub IsSentence : List (Part Role) → Type 0
 IsSentence parts = (book : BookForm) × IsForm book × (parts ≡ spelling book)
@@ -206,9 +213,10 @@ IsSentence parts = (book : BookForm) × IsForm book × (parts ≡ spelling book)
 
 abbrev pub IsPlacedAt : ℕ → Role → Type 0
 IsPlacedAt place (NameAt named) = named ≡ place
+IsPlacedAt place (InSchema role) = schemas.IsPlacedAt place role
 IsPlacedAt place _ = Unit {0}
 
--- each name has the place of its mark
+-- each name, and each label of an orbit, has the place of its mark
 abbrev pub ArePlaced : List Mark → List (Part Role) → Type 0
 ArePlaced [] parts = Unit {0}
 ArePlaced (mark ∷ marks) [] = Unit {0}
@@ -222,14 +230,12 @@ pub record IsWritten (text : List ℕ) (book : BookForm) : Type 0 where
 
 -- Behind these parts the symbol begins what books don't have so far.
 pub data IsLater (parts : List (Part Role)) : Symbol → Type 0 where
-  -- embeddings, directly behind the header
-  Embeddings : (version n : ℕ) → parts ≡ header version n [] → IsLater parts (Word (codes "embed"))
   -- parameters, directly behind a rule's name, where else `left` stands
   Parameters : Begins IsSentence limit_of (parts ++ word Fixed (codes "left") ∷ []) → IsLater parts (Sign (codes "("))
   -- an assignment, directly behind a right node
   Assignment : (front : List (Part Role)) → parts ≡ front ++ sign (WordEnd Right) (codes ">") ∷ [] → IsLater parts (Word (codes "with"))
   -- a precondition, where a rule can end
-  Precondition : IsSentence (parts ++ the_end ∷ []) → ((version n : ℕ) → parts ≢ header version n []) → IsLater parts (Word (codes "pre"))
+  Precondition : IsSentence (parts ++ the_end ∷ []) → ((version : ℕ) (schema : SchemaForm) → parts ≢ header version schema []) → IsLater parts (Word (codes "pre"))
 
 -- Up to this place the text goes on as some sentence does, and passes no limit. There begins what books don't have so far.
 pub record IsNotBuilt (text : List ℕ) (place : ℕ) : Type 0 where
@@ -270,7 +276,7 @@ pub record IsStranger (items : List Item) (place : ℕ) : Type 0 where
   pub here : mention.place ≡ place
   pub stranger : is_among (names_of (nodes_in items)) mention.name ≡ false
 
--- two rules of one name; or on one side of one rule two nodes of one name, or a link with a name that is no node
+-- a name that is declared again or a label that is mentioned again in its orbit, or a name that stands for nothing
 pub data NameFault : Type 0 where
   TwiceAt : ℕ → NameFault
   UnknownAt : ℕ → NameFault
@@ -279,10 +285,16 @@ abbrev pub place_of : NameFault → ℕ
 place_of (TwiceAt place) = place
 place_of (UnknownAt place) = place
 
+-- two rules of one name; or on one side of one rule two nodes of one name, or a link with a name that is no node
+pub data IsFaultInRules (rules : List RuleForm) : NameFault → Type 0 where
+  RuleTwice : (place : ℕ) → IsAgain (map (λ (rule : RuleForm). rule.name) rules) place → IsFaultInRules rules (TwiceAt place)
+  NodeTwice : (rule : RuleForm) (side : Side) (place : ℕ) → Contains rules rule → IsAgain (nodes_in (items_on rule side)) place → IsFaultInRules rules (TwiceAt place)
+  NodeUnknown : (rule : RuleForm) (side : Side) (place : ℕ) → Contains rules rule → IsStranger (items_on rule side) place → IsFaultInRules rules (UnknownAt place)
+
+-- two embeddings of one name or a label twice in one orbit, or such a fault in the rules
 pub data IsNameFault (book : BookForm) : NameFault → Type 0 where
-  RuleTwice : (place : ℕ) → IsAgain (map (λ (rule : RuleForm). rule.name) book.rules) place → IsNameFault book (TwiceAt place)
-  NodeTwice : (rule : RuleForm) (side : Side) (place : ℕ) → Contains book.rules rule → IsAgain (nodes_in (items_on rule side)) place → IsNameFault book (TwiceAt place)
-  NodeUnknown : (rule : RuleForm) (side : Side) (place : ℕ) → Contains book.rules rule → IsStranger (items_on rule side) place → IsNameFault book (UnknownAt place)
+  SchemaTwice : (place : ℕ) (part : Part schemas.Role) → Contains (spell book.schema []) part → IsTrue (is_again part.role part.symbol) → schemas.IsPlacedAt place part.role → IsNameFault book (TwiceAt place)
+  RulesFault : (fault : NameFault) → IsFaultInRules book.rules fault → IsNameFault book fault
 
 -- The text is read whole before its names are. Of their faults the one at the least place counts.
 pub record IsFirstNameFault (text : List ℕ) (fault : NameFault) : Type 0 where
@@ -333,14 +345,13 @@ rule_in rule = record {
   pre = None;
 }
 
--- the text is one of this version, and stands for these rules over the schema
+-- the text is one of this version, and stands for the schema and these rules over it
 pub record BookText (text : List ℕ) (version : ℕ) (schema : Schema) (rules : List Rule) : Type 0 where
   pub book : BookForm
   pub written : IsWritten text book
   pub sound : (fault : NameFault) → IsNameFault book fault → ⊥
   pub versions : version ≡ book.version
-  pub dim : schema.dim ≡ book.dim
-  pub embeds : schema.embeds ≡ []
+  pub means : schema ≡ schema_of book.schema
   pub same : rules ≡ map rule_in book.rules
 
 abbrev pub StandsForNoBook : List ℕ → Type 0
@@ -395,5 +406,5 @@ rule_lines rule =
     codes "rule " ++ rule.name ++ codes "\nleft\n" ++ left_lines rule.hooks 0 rule.nodes ++ flat_map (link_line rule.nodes) rule.left_links
     ++ codes "right\n" ++ right_lines rule.nodes ++ flat_map (link_line rule.nodes) rule.right_links
 
-abbrev pub canonical : ℕ → ℕ → List Rule → List ℕ
-canonical version n rules = codes "book " ++ decimal version ++ codes "\ndim " ++ decimal n ++ codes "\n" ++ flat_map rule_lines rules
+abbrev pub canonical : ℕ → Schema → List Rule → List ℕ
+canonical version schema rules = codes "book " ++ decimal version ++ codes "\n" ++ schemas.canonical schema ++ flat_map rule_lines rules

@@ -5,6 +5,8 @@ use Rattle.gm_book.specs.declared.fault.BookFault.{BookFault}
 use Rattle.gm_book.specs.declared.fault.BookFault.TheVariants as faults
 use Rattle.gm_book.specs.declared.form_fault.FormFault.{FormFault}
 use Rattle.gm_book.specs.declared.form_fault.FormFault.TheVariants as forms
+use Rattle.gm_text.specs.declared.schema_fault.SchemaFault.{SchemaFault}
+use Rattle.gm_text.specs.declared.schema_fault.SchemaFault.TheVariants as schemas
 
 -- the fault is the first of the text, or memory was wanting
 abbrev pub IsFaultOf : List ℕ → BookFault → Type 0
@@ -30,3 +32,10 @@ book_fault_of_form (forms.Text place) = faults.Text place
 book_fault_of_form (forms.Limit what place) = faults.Limit what place
 book_fault_of_form (forms.NotBuilt place) = faults.NotBuilt place
 book_fault_of_form forms.OutOfMemory = faults.OutOfMemory
+
+-- a fault of the schema as one of the book
+abbrev pub book_fault_of_schema : SchemaFault → BookFault
+book_fault_of_schema (schemas.Text place) = faults.Text place
+book_fault_of_schema (schemas.Limit what place) = faults.Limit what place
+book_fault_of_schema (schemas.Twice place) = faults.Twice place
+book_fault_of_schema schemas.OutOfMemory = faults.OutOfMemory

@@ -1,7 +1,7 @@
--- The fault of a form's names that stands first, and the least fault of each of its parts.
+-- The fault of the rules' names that stands first, and the least fault of each of their parts.
 use Rattle.std.specs.Prelude.{ℕ, ◌≤◌, nat_lt, if◌then◌else◌, List, [], ◌∷◌, Option, Some, None}
 use Rattle.gm_model.specs.Names.{Mention, is_among}
-use Rattle.gm_book.specs.BookText.{Item, NodeItem, LinkItem, RuleForm, BookForm, IsNameFault, with_name}
+use Rattle.gm_book.specs.BookText.{Item, NodeItem, LinkItem, RuleForm, IsFaultInRules, with_name}
 use Rattle.gm_book.specs.BookText as text
 use Rattle.gm_book.specs.declared.names.NameFault.{NameFault}
 use Rattle.gm_book.specs.declared.names.NameFault.TheVariants.{Twice, Unknown}
@@ -19,8 +19,8 @@ abbrev pub IsLeast : (NameFault → Type 0) → Option NameFault → Type 0
 IsLeast IsFault None = (fault : NameFault) → IsFault fault → ⊥
 IsLeast IsFault (Some least) = IsFault least × ((fault : NameFault) → IsFault fault → place_at least ≤ place_at fault)
 
-abbrev pub IsLeastFault : BookForm → Option NameFault → Type 0
-IsLeastFault book = IsLeast (λ fault. IsNameFault book (fault_of fault))
+abbrev pub IsLeastFault : List RuleForm → Option NameFault → Type 0
+IsLeastFault rules = IsLeast (λ fault. IsFaultInRules rules (fault_of fault))
 
 -- ---- the least fault of each part
 

@@ -2,7 +2,6 @@
 use Rattle.std.specs.Prelude.{◌≡◌, ℕ, ◌<◌, Bool, true, false, not, All, List, [], length, Option, None, Some, is_some}
 use Rattle.gm_model.specs.declared.word.Letter.{Letter}
 use Rattle.gm_model.specs.declared.rule.Link.{Link}
-use Rattle.gm_model.specs.declared.schema.Schema.{Schema}
 use Rattle.gm_model.specs.Rules.{Rule, RuleNode}
 use Rattle.gm_book.specs.BookText.{node_line}
 
@@ -22,10 +21,9 @@ pub record IsPlain (rule : Rule) : Type 0 where
   pub sets : All (λ (node : RuleNode). node.sets ≡ []) rule.nodes
   pub pre : rule.pre ≡ None
 
--- The rules can be printed over the schema. Embeddings, parameters, assignments and preconditions come later.
-pub record CanBePrinted (schema : Schema) (rules : List Rule) : Type 0 where
+-- The rules can be printed. Parameters, assignments and preconditions come later.
+pub record CanBePrinted (rules : List Rule) : Type 0 where
   pub numbers : All NamesItsNodes rules
-  pub embeds : schema.embeds ≡ []
   pub plain : All IsPlain rules
 
 -- the line of a left node, and nothing of another

@@ -1,4 +1,4 @@
--- How a book's text is read, one symbol after another: what can stand next in which role, what is held of what was read, and where something begins that books don't have so far.
+-- How a book's text is read, one symbol after another: what can stand next in which role, what is held of its rules, and where something begins that books don't have so far.
 use Rattle.std.specs.Prelude.{ℕ, ◌+◌, Bool, true, false, not, ◌&&◌, ◌||◌, ◌==◌, if◌then◌else◌, List, [], ◌∷◌, ◌++◌, length, Option, Some, None, Result, codes}
 use Rattle.std.specs.Option.{option_map, option_map_or}
 use Rattle.std.specs.Str.{bytes_eq}
@@ -9,11 +9,15 @@ use Rattle.gm_model.specs.declared.word.Letter.{Letter}
 use Rattle.gm_model.specs.declared.word.Letter.TheVariants as letters
 use Rattle.gm_model.specs.Names.{reserved, Mention, is_among}
 use Rattle.gm_model.specs.Symbols.{Symbol, Word, Numeral, Sign, Gone, End, Mark}
-use Rattle.gm_book.specs.BookText.{Item, NodeItem, LinkItem, RuleForm, Count, no_count, count_across, with_name, Role, Fixed, Dimension, RuleWord, NameAt, NodeSign, LinkSign, LetterAt, WordEnd, LabelAt, limit_of, stands_before}
+use Rattle.gm_book.specs.BookText.{Item, NodeItem, LinkItem, RuleForm, Count, no_count, count_across, with_name, Role, Fixed, InSchema, RuleWord, NameAt, NodeSign, LinkSign, LetterAt, WordEnd, LabelAt, limit_of, stands_before}
 use Rattle.gm_book.specs.declared.state.Heading.{Heading}
 use Rattle.gm_text.specs.Machine as machine
+use Rattle.gm_text.specs.Nested.{Nested, Outside, Inside, Nesting}
+use Rattle.gm_text.specs.Nested as nested
+use Rattle.gm_text.specs.SchemaText as schemas
+use Rattle.gm_text.specs.SchemaReading as schema
 
--- ---- states
+-- ---- states in the rules
 
 -- where in a side of a rule reading is: the heading, how many rules have begun, the side, how much there is so far, and whether the rule has a hook so far
 pub record Spot : Type 0 where
@@ -24,12 +28,7 @@ pub record Spot : Type 0 where
   pub hooked : Bool
 
 pub data State : Type 0 where
-  -- before the word `book`, the version, the word `dim`, the dimension; the version is known behind it
-  AtFormat : State
-  AtVersion : State
-  AtDim : ℕ → State
-  AtTop : ℕ → State
-  -- behind the header
+  -- behind the header, which is of this version and dimension
   AtRules : Heading → State
   -- before the name of the rule with this ordinal, and behind it
   AtName : Heading → ℕ → State
@@ -111,7 +110,6 @@ rules_role _ = Fixed
 
 -- the role of a symbol that stands at a place
 abbrev pub role_at : State → Symbol → ℕ → Role
-role_at (AtTop version) symbol place = Dimension
 role_at (AtRules heading) symbol place = rules_role symbol
 role_at (AtName heading k) symbol place = NameAt place
 role_at (AtItem spot) symbol place = item_role spot symbol place
@@ -149,15 +147,8 @@ abbrev pub end_move : Side → Option State
 end_move Left = None
 end_move Right = Some AtEnd
 
-abbrev pub is_version : ℕ → Bool
-is_version version = (version == 1) || (version == 2)
-
 -- the state behind a symbol, where it can stand
 abbrev pub move : State → Symbol → Option State
-move AtFormat (Word word) = expect (codes "book") word AtVersion
-move AtVersion (Numeral version) = if is_version version then Some (AtDim version) else None
-move (AtDim version) (Word word) = expect (codes "dim") word (AtTop version)
-move (AtTop version) (Numeral n) = Some (AtRules (heading_at version n))
 move (AtRules heading) (Word word) = expect (codes "rule") word (AtName heading 1)
 move (AtRules heading) End = Some AtEnd
 move (AtName heading k) (Word word) = unless_reserved word (AtLeft heading k)
@@ -181,15 +172,73 @@ step = machine.step limit_of stands_before role_at move
 abbrev pub run : State → ℕ → List Mark → Result State (machine.Stop State LimitKind)
 run = machine.run limit_of stands_before role_at move
 
+-- ---- a whole book
+
+-- the version is known behind it
+pub data Outer : Type 0 where
+  -- before the word `book`, and before the version
+  AtFormat : Outer
+  AtVersion : Outer
+  InRules : State → Outer
+
+-- where in the schema reading is, in a book of this version
+pub record Header : Type 0 where
+  pub version : ℕ
+  pub state : schema.State
+
+abbrev pub header_at : ℕ → schema.State → Header
+header_at version state = record { version = version; state = state }
+
+abbrev pub Whole : Type 0
+Whole = Nested Outer Header
+
+abbrev pub is_version : ℕ → Bool
+is_version version = (version == 1) || (version == 2)
+
+abbrev pub outer_role : Outer → Symbol → ℕ → Role
+outer_role (InRules state) symbol place = role_at state symbol place
+outer_role _ symbol place = Fixed
+
+abbrev pub in_rules : State → Whole
+in_rules state = Outside (InRules state)
+
+abbrev pub outer_move : Outer → Symbol → Option Whole
+outer_move AtFormat (Word word) = if bytes_eq word (codes "book") then Some (Outside AtVersion) else None
+outer_move AtVersion (Numeral version) = if is_version version then Some (Inside (header_at version schema.AtDim)) else None
+outer_move (InRules state) symbol = option_map in_rules (move state symbol)
+outer_move _ _ = None
+
+-- the dimension, where the schema can end
+abbrev pub dim_in : schema.State → ℕ
+dim_in (schema.AtEmbeds n declared) = n
+dim_in _ = 0
+
+abbrev pub heading_in : Header → Heading
+heading_in header = heading_at header.version (dim_in header.state)
+
+-- Behind the version stands the schema, and behind it the rules.
+abbrev pub book_nesting : Nesting Outer Header Role schemas.Role
+book_nesting = record {
+  outer_role = outer_role;
+  outer_move = outer_move;
+  inner_role = λ header symbol place. schema.role_at header.state symbol place;
+  inner_move = λ header symbol. option_map (header_at header.version) (schema.move header.state symbol);
+  wrap = InSchema;
+  is_whole = λ header. schema.is_whole header.state;
+  behind = λ header. InRules (AtRules (heading_in header));
+}
+
+abbrev pub run_whole : Whole → ℕ → List Mark → Result Whole (machine.Stop Whole LimitKind)
+run_whole = machine.run limit_of stands_before (nested.role_at book_nesting) (nested.move book_nesting)
+
 -- ---- what books don't have so far
 
 abbrev pub is_later_behind_items : Side → List ℕ → Bool
 is_later_behind_items Left word = false
 is_later_behind_items Right word = bytes_eq word (codes "pre")
 
--- the symbol begins an embedding, parameters, an assignment or a precondition
+-- the symbol begins parameters, an assignment or a precondition
 abbrev pub is_later : State → Symbol → Bool
-is_later (AtRules heading) (Word word) = bytes_eq word (codes "embed")
 is_later (AtLeft heading k) (Sign sign) = bytes_eq sign (codes "(")
 is_later (AtItem spot) (Word word) = is_later_behind_items spot.side word
 is_later (AtBehind spot) (Word word) = is_later_behind spot.side
@@ -198,6 +247,10 @@ is_later (AtBehind spot) (Word word) = is_later_behind spot.side
     is_later_behind Left = false
     is_later_behind Right = if bytes_eq word (codes "with") then true else bytes_eq word (codes "pre")
 is_later _ _ = false
+
+abbrev pub is_later_in : Whole → Symbol → Bool
+is_later_in (Outside (InRules state)) symbol = is_later state symbol
+is_later_in _ symbol = false
 
 -- ---- what is held
 
@@ -213,7 +266,6 @@ pub data Part : Type 0 where
   Labelled : Mention → ℕ → Part
 
 pub record Held : Type 0 where
-  pub heading : Heading
   -- the rules that are read whole
   pub rules : List RuleForm
   -- the rule that is read
@@ -221,7 +273,7 @@ pub record Held : Type 0 where
   pub part : Part
 
 abbrev pub nothing_held : Held
-nothing_held = record { heading = heading_at 0 0; rules = []; current = None; part = Nothing }
+nothing_held = record { rules = []; current = None; part = Nothing }
 
 abbrev pub mention_at : List ℕ → ℕ → Mention
 mention_at name place = record { name = name; place = place }
@@ -281,7 +333,6 @@ hold_link side to held part = held
 
 -- what is held behind a symbol that stands at a place
 abbrev pub hold : State → Symbol → ℕ → Held → Held
-hold (AtTop version) (Numeral n) place held = record held { heading = heading_at version n }
 hold (AtName heading k) (Word word) place held = open_rule (mention_at word place) held
 hold (AtItem spot) (Word word) place held = hold_item spot word place held
 hold (AtItem spot) End place held = close_rule held

@@ -1,14 +1,15 @@
--- Where the reader of a book's text stands, what each mark comes to there, and what the code holds of it.
-use Rattle.std.specs.Prelude.{◌≡◌, ℕ, ◌<◌, ◌≤◌, Bool, true, false, if◌then◌else◌, List, [], ◌∷◌, length, map, Option, Some, None, Result, Ok, Err, IfOk}
+-- Where the reader of a book's rules stands, what each mark comes to there, what the code holds of it, and what reading answers.
+use Rattle.std.specs.Prelude.{◌≡◌, ℕ, ◌<◌, Bool, true, false, if◌then◌else◌, List, [], ◌∷◌, length, map, Option, Some, None, Result, Ok, Err, IfOk, codes}
 use Rattle.std.specs.List.{AllByRecursion}
 use Rattle.std.specs.Option.{option_map}
 use Rattle.gm_model.specs.declared.limit.LimitKind.{LimitKind}
 use Rattle.gm_model.specs.declared.token.Token.{Token}
-use Rattle.gm_model.specs.Tokens.{bytes_of, IsLexeme}
-use Rattle.gm_model.specs.Symbols.{Word, Numeral, Sign, Stray, End, Mark, symbol_of_kind, value_of, marks_at, marks_of}
-use Rattle.gm_book.specs.BookText.{NodeItem, RuleForm, BookForm}
+use Rattle.gm_model.specs.Tokens.{bytes_of}
+use Rattle.gm_model.specs.Symbols.{Word, Numeral, Sign, Stray, End, Mark, symbol_of_kind, value_of}
+use Rattle.gm_book.specs.BookText.{NodeItem, RuleForm}
 use Rattle.gm_text.specs.Cursor.{Cursor}
 use Rattle.gm_text.specs.Machine.{Stop, Ends, Passes}
+use Rattle.gm_text.specs.SchemaAnswers.{IsToken, marks_left}
 use Rattle.gm_book.specs.declared.form.RuleForm.{RuleForm as CodeRule}
 use Rattle.gm_book.specs.declared.form_fault.FormFault.{FormFault}
 use Rattle.gm_book.specs.declared.form_fault.FormFault.TheVariants as faults
@@ -18,7 +19,7 @@ use Rattle.gm_book.specs.declared.state.Spot.{Spot as CodeSpot}
 use Rattle.gm_book.specs.declared.state.State.{State as CodeState}
 use Rattle.gm_book.specs.declared.state.State.TheVariants as code
 use Rattle.gm_book.specs.Forms.{mention_of, rule_form_of, IsIn, IsRuleIn}
-use Rattle.gm_book.specs.Reading.{Spot, State, AtFormat, AtVersion, AtDim, AtTop, AtRules, AtName, AtLeft, AtItem, AtSign, AtLetter, AtBehind, AtLabel, AtDash, AtTo, AtEnd, heading_at, step, run, is_later, Part, Nothing, Named, Lettered, Linked, Labelled, Held, nothing_held, put_item, hold, held_behind}
+use Rattle.gm_book.specs.Reading.{Spot, State, AtRules, AtName, AtLeft, AtItem, AtSign, AtLetter, AtBehind, AtLabel, AtDash, AtTo, AtEnd, Whole, is_version, step, run, run_whole, is_later, is_later_in, Part, Nothing, Named, Lettered, Linked, Labelled, Held, nothing_held, put_item, hold, held_behind}
 
 -- the state, the place of the mark before, and what is held
 pub record Stand : Type 0 where
@@ -26,8 +27,9 @@ pub record Stand : Type 0 where
   pub last : ℕ
   pub held : Held
 
-abbrev pub first_stand : Stand
-first_stand = record { state = AtFormat; last = 0; held = nothing_held }
+-- behind the header
+abbrev pub rules_stand : Heading → Stand
+rules_stand heading = record { state = AtRules heading; last = 0; held = nothing_held }
 
 abbrev pub fault_of : Stop State LimitKind → FormFault
 fault_of (Ends state mark) = if is_later state mark.symbol then faults.NotBuilt mark.place else faults.Text mark.place
@@ -61,10 +63,6 @@ abbrev pub spot_of : List (List ℕ) → CodeSpot → Spot
 spot_of nodes spot = record { heading = spot.heading; rules = spot.rules; side = spot.side; count = record { nodes = nodes; links = spot.links }; hooked = spot.hooked }
 
 abbrev pub state_of : List ℕ → List (List ℕ) → CodeState → State
-state_of text nodes code.Format = AtFormat
-state_of text nodes code.Version = AtVersion
-state_of text nodes (code.DimWord version) = AtDim version
-state_of text nodes (code.Dimension version) = AtTop version
 state_of text nodes (code.Rules heading) = AtRules heading
 state_of text nodes (code.Name heading rules) = AtName heading rules
 state_of text nodes (code.Left heading rules) = AtLeft heading rules
@@ -76,23 +74,6 @@ state_of text nodes (code.Label spot from) = AtLabel (spot_of nodes spot)
 state_of text nodes (code.Dash spot from label) = AtDash (spot_of nodes spot)
 state_of text nodes (code.To spot from label) = AtTo (spot_of nodes spot)
 
--- the heading, which is not held before it is read whole
-abbrev pub heading_of : CodeState → Heading
-heading_of code.Format = heading_at 0 0
-heading_of code.Version = heading_at 0 0
-heading_of (code.DimWord version) = heading_at 0 0
-heading_of (code.Dimension version) = heading_at 0 0
-heading_of (code.Rules heading) = heading
-heading_of (code.Name heading rules) = heading
-heading_of (code.Left heading rules) = heading
-heading_of (code.Item spot) = spot.heading
-heading_of (code.Sign spot name) = spot.heading
-heading_of (code.Letter spot name word) = spot.heading
-heading_of (code.Behind spot name word) = spot.heading
-heading_of (code.Label spot from) = spot.heading
-heading_of (code.Dash spot from label) = spot.heading
-heading_of (code.To spot from label) = spot.heading
-
 abbrev pub part_of : List ℕ → CodeState → Part
 part_of text (code.Sign spot name) = Named (mention_of text name)
 part_of text (code.Letter spot name word) = Lettered (mention_of text name) word
@@ -103,8 +84,8 @@ part_of text state = Nothing
 
 -- The node behind whose word reading is joins its side only once it is known whether it is a hook.
 abbrev pub held_in : List ℕ → List RuleForm → Option RuleForm → CodeState → Held
-held_in text rules current (code.Behind spot name word) = put_item spot.side (NodeItem (mention_of text name) word false) (record { heading = spot.heading; rules = rules; current = current; part = Nothing })
-held_in text rules current state = record { heading = heading_of state; rules = rules; current = current; part = part_of text state }
+held_in text rules current (code.Behind spot name word) = put_item spot.side (NodeItem (mention_of text name) word false) (record { rules = rules; current = current; part = Nothing })
+held_in text rules current state = record { rules = rules; current = current; part = part_of text state }
 
 -- the names counted as nodes, the rules read whole and the one that is read stand beside the state
 abbrev pub stand_in : List ℕ → List (List ℕ) → List RuleForm → Option RuleForm → CodeState → ℕ → Stand
@@ -171,21 +152,15 @@ abbrev pub KeepsIn : List ℕ → Draft → CodeState → Result CodeState FormF
 KeepsIn text draft state result new_draft = IsStateIn text state → IsDraftIn text draft → IfOk result (λ next. IsStateIn text next × IsDraftIn text new_draft)
 
 -- behind the end
-abbrev pub end_stand : List ℕ → Draft → Heading → ℕ → Stand
-end_stand text draft heading last = record { state = AtEnd; last = last; held = record { heading = heading; rules = rules_of text draft; current = current_of text draft; part = Nothing } }
+abbrev pub end_stand : List ℕ → Draft → ℕ → Stand
+end_stand text draft last = record { state = AtEnd; last = last; held = record { rules = rules_of text draft; current = current_of text draft; part = Nothing } }
 
--- the answer is the heading, where the book can end at the place
-abbrev pub EndsFrom : List ℕ → List (List ℕ) → Draft → CodeState → ℕ → Result Heading FormFault → Draft → Type 0
+-- the book can end at the place
+abbrev pub EndsFrom : {X : Type 0} → List ℕ → List (List ℕ) → Draft → CodeState → ℕ → Result X FormFault → Draft → Type 0
 EndsFrom text nodes draft state place result new_draft =
-    (last : ℕ) → Gives (λ heading. end_stand text new_draft heading place) result (stepped (stand_of text nodes draft state last) (record { symbol = End; place = place }))
+    (last : ℕ) → Gives (λ _. end_stand text new_draft place) result (stepped (stand_of text nodes draft state last) (record { symbol = End; place = place }))
 
 -- ---- tokens
-
--- the token is one that a lexer answers
-pub record IsToken (text : List ℕ) (token : Token) : Type 0 where
-  pub order : token.start < token.end
-  pub within : token.end ≤ length text
-  pub lexeme : IsLexeme token.kind (bytes_of text token)
 
 abbrev pub mark_of : List ℕ → Token → Mark
 mark_of text token = record { symbol = symbol_of_kind token.kind (bytes_of text token); place = token.start }
@@ -199,10 +174,6 @@ number_mark text token = record { symbol = Numeral (value_of (bytes_of text toke
 abbrev pub sign_mark : List ℕ → Token → Mark
 sign_mark text token = record { symbol = Sign (bytes_of text token); place = token.start }
 
--- the marks that a lexer has before it
-abbrev pub marks_left : Cursor → List Mark
-marks_left cursor = marks_at cursor.text cursor.place
-
 -- what a lexer answers, and how it goes on; a byte that no token begins with is a fault
 abbrev pub IsNext : Cursor → Result (Option Token) FormFault → Cursor → Type 0
 IsNext cursor (Ok (Some token)) rest = IsToken cursor.text token × (marks_left cursor ≡ mark_of cursor.text token ∷ marks_left rest) × (cursor.place < token.end) × (rest.place ≡ token.end)
@@ -212,18 +183,43 @@ IsNext cursor (Err _) rest = ⊥
 
 -- ---- what reading a text answers
 
--- the machine goes through all marks of the text, and this is held behind them
-pub record IsFormRead (text : List ℕ) (form : BookForm) : Type 0 where
-  pub ends : run AtFormat 0 (marks_of text) ≡ Ok AtEnd
-  pub heading : (held_behind AtFormat (marks_of text) nothing_held).heading ≡ heading_at form.version form.dim
-  pub rules : (held_behind AtFormat (marks_of text) nothing_held).rules ≡ form.rules
+-- the word `book` stands there, and then these marks
+abbrev pub BeginsBook : List Mark → List Mark → Type 0
+BeginsBook marks rest = (place : ℕ) × (marks ≡ record { symbol = Word (codes "book"); place = place } ∷ rest)
 
--- the machine ends at the place, where something begins that books don't have so far, or where nothing does
-abbrev pub EndsAt : List ℕ → ℕ → Bool → Type 0
-EndsAt text place later = (state : State) × (mark : Mark) × (run AtFormat 0 (marks_of text) ≡ Err (Ends state mark)) × (mark.place ≡ place) × (is_later state mark.symbol ≡ later)
+-- a version of the format stands there, and then these marks
+pub record IsVersioned (marks : List Mark) (version : ℕ) (rest : List Mark) : Type 0 where
+  pub place : ℕ
+  pub split : marks ≡ record { symbol = Numeral version; place = place } ∷ rest
+  pub known : is_version version ≡ true
 
-abbrev pub IsFormFault : List ℕ → FormFault → Type 0
-IsFormFault text (faults.Text place) = EndsAt text place false
-IsFormFault text (faults.NotBuilt place) = EndsAt text place true
-IsFormFault text (faults.Limit what place) = run AtFormat 0 (marks_of text) ≡ Err (Passes what place)
-IsFormFault text faults.OutOfMemory = Unit {0}
+-- the word `book` and the version stand there, and then these marks
+pub record IsHeaded (marks : List Mark) (version : ℕ) (rest : List Mark) : Type 0 where
+  pub first : ℕ
+  pub second : ℕ
+  pub split : marks ≡ record { symbol = Word (codes "book"); place = first } ∷ record { symbol = Numeral version; place = second } ∷ rest
+  pub known : is_version version ≡ true
+
+-- from the state on, reading ends at the place, where something begins that books don't have so far, or where nothing does
+abbrev pub EndsAt : Whole → List Mark → ℕ → Bool → Type 0
+EndsAt from marks place later = (last : ℕ) → (state : Whole) × (mark : Mark) × (run_whole from last marks ≡ Err (Ends state mark)) × (mark.place ≡ place) × (is_later_in state mark.symbol ≡ later)
+
+-- before the schema no text of a book goes on, and the fault says where
+abbrev pub IsHeadFault : Whole → List Mark → FormFault → Type 0
+IsHeadFault from marks (faults.Text place) = EndsAt from marks place false
+IsHeadFault from marks _ = ⊥
+
+-- the machine goes through all marks of the rules, and these are held behind them
+pub record AreRulesRead (heading : Heading) (marks : List Mark) (rules : List RuleForm) : Type 0 where
+  pub ends : run (AtRules heading) 0 marks ≡ Ok AtEnd
+  pub held : (held_behind (AtRules heading) marks nothing_held).rules ≡ rules
+
+-- the same in the rules alone
+abbrev pub EndsInRules : Heading → List Mark → ℕ → Bool → Type 0
+EndsInRules heading marks place later = (state : State) × (mark : Mark) × (run (AtRules heading) 0 marks ≡ Err (Ends state mark)) × (mark.place ≡ place) × (is_later state mark.symbol ≡ later)
+
+abbrev pub IsRulesFault : Heading → List Mark → FormFault → Type 0
+IsRulesFault heading marks (faults.Text place) = EndsInRules heading marks place false
+IsRulesFault heading marks (faults.NotBuilt place) = EndsInRules heading marks place true
+IsRulesFault heading marks (faults.Limit what place) = run (AtRules heading) 0 marks ≡ Err (Passes what place)
+IsRulesFault heading marks faults.OutOfMemory = Unit {0}

@@ -1,14 +1,13 @@
-//! The book of a form that is written in a text.
-ghost use Rattle.std.specs.Prelude.{◌≡◌, ◌≤◌, [], length, map, IfOk, IfErr};
+//! The book of a schema and of rules that are written in a text.
+ghost use Rattle.std.specs.Prelude.{◌≡◌, ◌≤◌, length, map, IfOk, IfErr};
 ghost use Rattle.std.specs.List.{AllByRecursion};
-ghost use Rattle.gm_book.specs.BookText.{IsSentence, limit_of, spelling, nodes_of, rule_in, IsNameFault};
-ghost use Rattle.gm_model.specs.Reading.{IsWithin};
+ghost use Rattle.gm_book.specs.BookText.{nodes_of, rule_in};
 ghost use Rattle.gm_model.specs.Rules.{rule_of};
-ghost use Rattle.gm_book.specs.Building.{HasNoNameFault, IsFaultOfNames};
-ghost use Rattle.gm_book.specs.Forms.{IsRuleIn, IsFormIn, rule_form_of, form_of};
+ghost use Rattle.gm_book.specs.Building.{HasNoFaultInRules, IsFaultOfNames};
+ghost use Rattle.gm_book.specs.Forms.{IsRuleIn, AreRulesIn, rule_form_of, forms_of};
 
 use crate::fault::BookFault;
-use crate::form::{Form, RuleForm};
+use crate::form::RuleForm;
 use crate::names::name_fault;
 use crate::table::table;
 use gm_model::{Book, Items, OutOfMemory, RuleTable, Schema};
@@ -26,28 +25,29 @@ fn tables(alloc: Global, text: &[u8], rules: &[RuleForm]) -> Result<Vec<RuleTabl
     Ok(tables)
 }
 
-/// The book of the form, whose spelling is the text's and passes no limit. A fault is the first of
-/// its names.
-pub(crate) fn build(alloc: Global, text: &[u8], form: Form) -> Result<Book, BookFault>
-    requires names { IsFormIn text.now form }
-    requires within { IsWithin IsSentence limit_of (spelling (form_of text.now form)) }
-    ensures version { IfOk result (λ book. book.version ≡ form.heading.version) }
-    ensures dim { IfOk result (λ book. book.schema.dim ≡ form.heading.dim) }
-    ensures embeds { IfOk result (λ book. book.schema.embeds ≡ []) }
-    ensures rules { IfOk result (λ book. map rule_of book.rules ≡ map rule_in (form_of text.now form).rules) }
-    ensures sound { IfOk result (λ _. HasNoNameFault (form_of text.now form)) }
-    ensures fault { IfErr result (IsFaultOfNames (form_of text.now form)) }
+/// The book of the rules over the schema. A fault is the first of the rules' names.
+pub(crate) fn build(
+    alloc: Global,
+    text: &[u8],
+    version: u8,
+    schema: Schema,
+    forms: Vec<RuleForm>,
+) -> Result<Book, BookFault>
+    requires names { AreRulesIn text.now forms.items }
+    requires few { AllByRecursion (λ rule. length (nodes_of (rule_form_of text.now rule)) ≤ 32) forms.items }
+    ensures version { IfOk result (λ book. book.version ≡ version) }
+    ensures schema { IfOk result (λ book. book.schema ≡ schema) }
+    ensures rules { IfOk result (λ book. map rule_of book.rules ≡ map rule_in (forms_of text.now forms.items)) }
+    ensures sound { IfOk result (λ _. HasNoFaultInRules (forms_of text.now forms.items)) }
+    ensures fault { IfErr result (IsFaultOfNames (forms_of text.now forms.items)) }
 {
-    if let Some(fault) = name_fault(alloc, text, &form)? {
+    if let Some(fault) = name_fault(alloc, text, &forms)? {
         return Err(BookFault::from(fault));
     }
-    let rules = tables(alloc, text, form.rules.as_slice())?;
+    let rules = tables(alloc, text, &forms)?;
     Ok(Book {
-        version: form.heading.version,
-        schema: Schema {
-            dim: form.heading.dim,
-            embeds: Items::new(Vec::new(alloc)),
-        },
+        version,
+        schema,
         rules: Items::new(rules),
     })
 }

@@ -3,6 +3,7 @@ ghost use Rattle.std.specs.Prelude.{◌≡◌};
 use crate::form_fault::FormFault;
 use crate::names::NameFault;
 use gm_model::{LimitKind, OutOfMemory};
+use gm_text::SchemaFault;
 use std::alloc::{AllocError, AllocFailed};
 use thiserror::Error;
 
@@ -15,7 +16,8 @@ pub enum BookFault {
     /// What stands at the place passes a limit.
     #[error("a limit is passed")]
     Limit { what: LimitKind, place: usize },
-    /// A rule has the name of an earlier rule, or a node that of an earlier node of its side.
+    /// An embedding has the name of an earlier embedding, a rule that of an earlier rule, or a node
+    /// that of an earlier node of its side; or a label is mentioned again in its orbit.
     #[error("a name is given twice")]
     Twice { place: usize },
     /// A link names no node of its side.
@@ -83,6 +85,21 @@ impl From<FormFault> for BookFault {
             FormFault::Limit { what, place } => BookFault::Limit { what, place },
             FormFault::NotBuilt { place } => BookFault::NotBuilt { place },
             FormFault::OutOfMemory => BookFault::OutOfMemory,
+        }
+    }
+}
+
+impl From<SchemaFault> for BookFault {
+    ghost use Rattle.gm_book.specs.Faults.{book_fault_of_schema};
+
+    ghost from_gives = { λ fault given. given ≡ book_fault_of_schema fault };
+
+    fn from(fault: SchemaFault) -> BookFault {
+        match fault {
+            SchemaFault::Text { place } => BookFault::Text { place },
+            SchemaFault::Limit { what, place } => BookFault::Limit { what, place },
+            SchemaFault::Twice { place } => BookFault::Twice { place },
+            SchemaFault::OutOfMemory => BookFault::OutOfMemory,
         }
     }
 }

@@ -1,6 +1,5 @@
 //! What is written in a book, before its names are looked up. Names are tokens of the text.
 
-use crate::state::Heading;
 use gm_model::Word;
 use gm_text::Token;
 
@@ -17,11 +16,4 @@ pub(crate) struct RuleForm {
     pub name: Token,
     pub left: Vec<Item>,
     pub right: Vec<Item>,
-}
-
-/// A book as it is written.
-#[derive(Drop)]
-pub(crate) struct Form {
-    pub heading: Heading,
-    pub rules: Vec<RuleForm>,
 }

@@ -1,16 +1,27 @@
-//! Moves in the header of a book.
-ghost use Rattle.std.specs.Prelude.{◌≡◌, ◌^◌, ◌-◌, min};
+//! The word `book` and the version, with which a book begins.
+ghost use Rattle.std.specs.Prelude.{◌≡◌, ◌^◌, ◌-◌, min, IfOk, IfErr};
 ghost use Rattle.gm_model.specs.Symbols.{value_of};
 ghost use Rattle.gm_model.specs.Tokens.{bytes_of};
 ghost use Rattle.gm_model.specs.declared.token.TokenKind.TheVariants.{Number};
-ghost use Rattle.gm_book.specs.declared.state.State.TheVariants as states;
-ghost use Rattle.gm_book.specs.Standing.{IsToken, Leads, StaysIn, word_mark, number_mark};
+ghost use Rattle.gm_text.specs.Nested.{Outside};
+ghost use Rattle.gm_book.specs.Reading.{AtFormat, AtVersion};
+ghost use Rattle.gm_text.specs.SchemaAnswers.{IsToken, marks_left};
+ghost use Rattle.gm_book.specs.Standing.{IsNext, IsHeaded, BeginsBook, IsVersioned, IsHeadFault};
 
 use crate::form_fault::FormFault;
-use crate::state::{Heading, State};
 use crate::words::reads;
-use gm_model::{Dim, LimitKind};
-use gm_text::{Lexer, Token};
+use gm_text::{Lexer, Token, TokenKind};
+
+/// The next token, which the lexer goes past, or `None` at the end of the text.
+pub(crate) fn next_token(lexer: &mut Lexer<'_>) -> Result<Option<Token>, FormFault>
+    ensures text { lexer.new.text ≡ lexer.old.text }
+    ensures next { IsNext lexer.old result lexer.new }
+{
+    match lexer.next() {
+        Ok(found) => Ok(found),
+        Err(fault) => Err(FormFault::Text { place: fault.place }),
+    }
+}
 
 /// The value of a number; the greatest `u64` stands for a number that is greater.
 pub(crate) fn value(lexer: &Lexer<'_>, token: Token) -> u64
@@ -21,59 +32,49 @@ pub(crate) fn value(lexer: &Lexer<'_>, token: Token) -> u64
     lexer.number(&token).unwrap_or(u64::MAX)
 }
 
-#[tactic(auto, unfolding(crate::specs::Standing::stepped))]
-pub(crate) fn at_format(lexer: &Lexer<'_>, token: Token) -> Result<State, FormFault>
-    requires { IsToken lexer.now.text token }
-    ensures leads { Leads lexer.now.text states.Format (word_mark lexer.now.text token) result }
-    ensures within { StaysIn lexer.now.text states.Format result }
+fn read_format(lexer: &mut Lexer<'_>) -> Result<(), FormFault>
+    ensures text { lexer.new.text ≡ lexer.old.text }
+    ensures read { IfOk result (λ _. BeginsBook (marks_left lexer.old) (marks_left lexer.new)) }
+    ensures fault { IfErr result (IsHeadFault (Outside AtFormat) (marks_left lexer.old)) }
 {
-    if !reads(lexer, token, b"book") {
+    let Some(token) = next_token(lexer)? else {
+        return Err(FormFault::Text {
+            place: lexer.place(),
+        });
+    };
+    if token.kind != TokenKind::Name || !reads(lexer, token, b"book") {
         return Err(FormFault::Text { place: token.start });
     }
-    Ok(State::Version)
+    Ok(())
 }
 
-#[tactic(auto, unfolding(crate::specs::Standing::stepped))]
-pub(crate) fn at_version(lexer: &Lexer<'_>, token: Token) -> Result<State, FormFault>
-    requires token { IsToken lexer.now.text token }
-    requires kind { token.kind ≡ Number }
-    ensures leads { Leads lexer.now.text states.Version (number_mark lexer.now.text token) result }
-    ensures within { StaysIn lexer.now.text states.Version result }
+fn read_number(lexer: &mut Lexer<'_>) -> Result<u8, FormFault>
+    ensures text { lexer.new.text ≡ lexer.old.text }
+    ensures read { IfOk result (λ version. IsVersioned (marks_left lexer.old) version (marks_left lexer.new)) }
+    ensures fault { IfErr result (IsHeadFault (Outside AtVersion) (marks_left lexer.old)) }
 {
+    let Some(token) = next_token(lexer)? else {
+        return Err(FormFault::Text {
+            place: lexer.place(),
+        });
+    };
+    let place = token.start;
+    if token.kind != TokenKind::Number {
+        return Err(FormFault::Text { place });
+    }
     let version = value(lexer, token);
     if version != 1 && version != 2 {
-        return Err(FormFault::Text { place: token.start });
+        return Err(FormFault::Text { place });
     }
-    Ok(State::DimWord(version as u8))
+    Ok(version as u8)
 }
 
-#[tactic(auto, unfolding(crate::specs::Standing::stepped))]
-pub(crate) fn at_dim_word(lexer: &Lexer<'_>, token: Token, version: u8) -> Result<State, FormFault>
-    requires { IsToken lexer.now.text token }
-    ensures leads { Leads lexer.now.text (states.DimWord version) (word_mark lexer.now.text token) result }
-    ensures within { StaysIn lexer.now.text (states.DimWord version) result }
+/// The version of a book. The lexer goes past it, up to the schema.
+pub(crate) fn read_version(lexer: &mut Lexer<'_>) -> Result<u8, FormFault>
+    ensures text { lexer.new.text ≡ lexer.old.text }
+    ensures read { IfOk result (λ version. IsHeaded (marks_left lexer.old) version (marks_left lexer.new)) }
+    ensures fault { IfErr result (IsHeadFault (Outside AtFormat) (marks_left lexer.old)) }
 {
-    if !reads(lexer, token, b"dim") {
-        return Err(FormFault::Text { place: token.start });
-    }
-    Ok(State::Dimension(version))
-}
-
-#[tactic(auto, unfolding(crate::specs::Standing::stepped))]
-pub(crate) fn at_dimension(lexer: &Lexer<'_>, token: Token, version: u8) -> Result<State, FormFault>
-    requires token { IsToken lexer.now.text token }
-    requires kind { token.kind ≡ Number }
-    ensures leads { Leads lexer.now.text (states.Dimension version) (number_mark lexer.now.text token) result }
-    ensures within { StaysIn lexer.now.text (states.Dimension version) result }
-{
-    let value = value(lexer, token);
-    let what = LimitKind::Dimension;
-    let place = token.start;
-    if value > 7 {
-        return Err(FormFault::Limit { what, place });
-    }
-    match Dim::new(value as u8) {
-        Some(dim) => Ok(State::Rules(Heading { version, dim })),
-        None => Err(FormFault::Limit { what, place }),
-    }
+    read_format(lexer)?;
+    read_number(lexer)
 }

@@ -25,9 +25,10 @@ pub fn no_book_at_a_fault()
     ensures { (text : List ℕ) (fault : BookFault) → fault ≢ OutOfMemory → IsFaultOf text fault → StandsForNoBook text }
 {}
 
-/// The canonical text of the rules that a text stands for, in its version, stands for them too.
+/// The canonical text of the schema and the rules that a text stands for, in its version, stands for
+/// them too.
 pub fn what_is_printed_is_read_again()
-    ensures { (text : List ℕ) (version : ℕ) (schema : Schema) (rules : List Rule) → BookText text version schema rules → BookText (canonical version schema.dim rules) version schema rules }
+    ensures { (text : List ℕ) (version : ℕ) (schema : Schema) (rules : List Rule) → BookText text version schema rules → BookText (canonical version schema rules) version schema rules }
 {}
 
 /// In version 1 a rule that a text stands for has one hook at most.

@@ -1,4 +1,5 @@
-//! The text of a rule book: its rules read by name, and the one canonical text printed.
+//! The text of a rule book: its schema and its rules read by name, and the one canonical text
+//! printed.
 #![tactic(auto)]
 
 mod building;

@@ -1,4 +1,4 @@
-//! The first fault of the names of a form.
+//! The first fault of the names of rules.
 //!
 //! The least place counts. So no pass ends the others, and each answers its own least fault.
 ghost use Rattle.std.specs.Prelude.{◌≡◌, [], not, map, IfOk, OnOk};
@@ -6,18 +6,18 @@ ghost use Rattle.std.specs.List.{AllByRecursion};
 ghost use Rattle.gm_model.specs.Names.{is_among};
 ghost use Rattle.gm_book.specs.BookText.{with_name};
 ghost use Rattle.gm_model.specs.Tokens.{bytes_of};
-ghost use Rattle.gm_book.specs.Forms.{IsIn, IsItemIn, IsRuleIn, IsFormIn, mention_of, item_of, rule_form_of, form_of};
+ghost use Rattle.gm_book.specs.Forms.{IsIn, IsItemIn, IsRuleIn, AreRulesIn, mention_of, item_of, rule_form_of, forms_of};
 ghost use Rattle.gm_book.specs.Held.{names_held};
 ghost use Rattle.gm_book.specs.FirstNameFault.{least_of, again_at, place_at, with_item, again_in, with_items, least_again, unknown_at, unknown_in, least_unknown, side_least, rule_least, least_in, IsLeastFault};
 
-use crate::form::{Form, Item, RuleForm};
+use crate::form::{Item, RuleForm};
 use crate::key::NameKey;
 use gm_model::OutOfMemory;
 use gm_text::Token;
 use indexmap::IndexSet;
 use std::alloc::Global;
 
-/// A fault of the names of a form, and where it stands.
+/// A fault of the rules' names, and where it stands.
 #[derive(Clone, Copy)]
 pub(crate) enum NameFault {
     /// A rule has the name of an earlier rule, or a node that of an earlier node of its side.
@@ -200,14 +200,14 @@ fn first_fault(
     Ok(fault)
 }
 
-/// The fault of the form's names that stands first in the text, where there is one.
+/// The fault of the rules' names that stands first in the text, where there is one.
 pub(crate) fn name_fault(
     alloc: Global,
     text: &[u8],
-    form: &Form,
+    rules: &[RuleForm],
 ) -> Result<Option<NameFault>, OutOfMemory>
-    requires { IsFormIn text.now form.now }
-    ensures { IfOk result (IsLeastFault (form_of text.now form.now)) }
+    requires { AreRulesIn text.now rules.now }
+    ensures { IfOk result (IsLeastFault (forms_of text.now rules.now)) }
 {
-    first_fault(alloc, text, form.rules.as_slice())
+    first_fault(alloc, text, rules)
 }

@@ -2,35 +2,35 @@
 ghost use Rattle.std.specs.Prelude.{◌≡◌, ◌++◌, ◌∷◌, ◌<◌, ◌==◌, if◌then◌else◌, [], length, nat_eq, All, OnOk, IfOk, map, filter, codes, decimal};
 ghost use Rattle.std.specs.List.{flat_map, list_any};
 ghost use Rattle.gm_model.specs.Rules.{rule_of, node_of, name_at};
+ghost use Rattle.gm_text.specs.SchemaText as schemas;
 ghost use Rattle.gm_book.specs.BookText.{canonical, rule_lines, left_lines, right_line, right_lines, link_line, node_line, letters_text, letter_text};
 ghost use Rattle.gm_book.specs.Printing.{CanBePrinted, NamesItsNodes, AreEndsNodes, left_line, is_left};
 
-use gm_model::{Book, Dim, Letter, Link, Name, Node, OutOfMemory, RuleTable, Word};
-use gm_text::Text;
+use gm_model::{Book, Letter, Link, Name, Node, OutOfMemory, RuleTable, Schema, Word};
+use gm_text::{Text, print_schema};
 use std::alloc::Global;
 
 /// The canonical text of the book, in its version. What a reader answers can be printed. Books
-/// with embeddings, parameters, assignments or preconditions can't be read or printed so far.
+/// with parameters, assignments or preconditions can't be read or printed so far.
 pub fn print_book(alloc: Global, book: &Book) -> Result<Vec<u8>, OutOfMemory>
-    requires { CanBePrinted book.now.schema (map rule_of book.now.rules) }
-    ensures { IfOk result (λ text. text.items ≡ canonical book.now.version book.now.schema.dim (map rule_of book.now.rules)) }
+    requires { CanBePrinted (map rule_of book.now.rules) }
+    ensures { IfOk result (λ text. text.items ≡ canonical book.now.version book.now.schema (map rule_of book.now.rules)) }
 {
     let mut text = Text::new(alloc);
-    print_header(&mut text, book.version, book.schema.dim)?;
+    print_header(&mut text, book.version, &book.schema)?;
     for rule in book.rules.as_slice() {
         print_rule(&mut text, rule)?;
     }
     Ok(text.into_bytes())
 }
 
-fn print_header(text: &mut Text, version: u8, dim: Dim) -> Result<(), OutOfMemory>
-    ensures { OnOk result (text.new ≡ text.old ++ (codes "book " ++ decimal version ++ codes "\ndim " ++ decimal dim ++ codes "\n")) }
+fn print_header(text: &mut Text, version: u8, schema: &Schema) -> Result<(), OutOfMemory>
+    ensures { OnOk result (text.new ≡ text.old ++ (codes "book " ++ decimal version ++ codes "\n" ++ schemas.canonical schema.now)) }
 {
     text.put(b"book ")?;
     text.number(u64::from(version))?;
-    text.put(b"\ndim ")?;
-    text.number(u64::from(dim.top()))?;
-    text.put(b"\n")
+    text.put(b"\n")?;
+    print_schema(text, schema)
 }
 
 fn print_rule(text: &mut Text, rule: &RuleTable) -> Result<(), OutOfMemory>

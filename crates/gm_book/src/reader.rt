@@ -5,12 +5,12 @@ ghost use Rattle.gm_model.specs.declared.rule.Side.TheVariants.{Left, Right};
 ghost use Rattle.gm_model.specs.declared.token.TokenKind.TheVariants.{Name};
 ghost use Rattle.gm_book.specs.declared.state.State.TheVariants as states;
 ghost use Rattle.gm_book.specs.Forms.{IsIn, IsRuleIn};
-ghost use Rattle.gm_book.specs.Standing.{IsToken, IsStateIn, IsDraftIn, Leads, StaysIn, Moves, KeepsIn, MovesFrom, EndsFrom, mark_of, word_mark, sign_mark};
+ghost use Rattle.gm_text.specs.SchemaAnswers.{IsToken};
+ghost use Rattle.gm_book.specs.Standing.{IsStateIn, IsDraftIn, Leads, StaysIn, Moves, KeepsIn, MovesFrom, EndsFrom, mark_of, word_mark, sign_mark};
 
 use crate::draft::Draft;
 use crate::form::Item;
 use crate::form_fault::FormFault;
-use crate::headers::{at_dim_word, at_format};
 use crate::nodes::Nodes;
 use crate::signs::{at_dash, at_number, at_parameters, at_sign, at_word_end, gone};
 use crate::state::{Heading, Spot, State};
@@ -40,12 +40,8 @@ pub(crate) fn at_rules(
     ensures leads { Leads lexer.now.text (states.Rules heading) (word_mark lexer.now.text token) result }
     ensures within { StaysIn lexer.now.text (states.Rules heading) result }
 {
-    let place = token.start;
-    if reads(lexer, token, b"embed") {
-        return Err(FormFault::NotBuilt { place });
-    }
     if !reads(lexer, token, b"rule") {
-        return Err(FormFault::Text { place });
+        return Err(FormFault::Text { place: token.start });
     }
     Ok(State::Name(heading, Tally::one()))
 }
@@ -278,20 +274,15 @@ impl<'a> Reader<'a> {
         ensures within { KeepsIn lexer.now.text self.old.draft state result self.new.draft }
     {
         match state {
-            State::Format => at_format(lexer, token),
-            State::DimWord(version) => at_dim_word(lexer, token, version),
             State::Rules(heading) => at_rules(lexer, token, heading),
             State::Name(heading, rules) => self.at_name(alloc, lexer, token, heading, rules),
             State::Left(heading, rules) => self.at_left(lexer, token, heading, rules),
             State::Item(spot) => self.at_item(lexer, token, spot),
             State::Behind(spot, name, word) => self.at_behind(lexer, token, spot, name, word),
             State::To(spot, from, label) => self.at_to(lexer, token, spot, from, label),
-            State::Version
-            | State::Dimension(_)
-            | State::Sign(..)
-            | State::Letter(..)
-            | State::Label(..)
-            | State::Dash(..) => Err(FormFault::Text { place: token.start }),
+            State::Sign(..) | State::Letter(..) | State::Label(..) | State::Dash(..) => {
+                Err(FormFault::Text { place: token.start })
+            }
         }
     }
 
@@ -359,14 +350,14 @@ impl<'a> Reader<'a> {
         }
     }
 
-    /// What the header says, where the book can end.
+    /// The book's end, where it can end.
     #[tactic(auto, unfolding(crate::specs::Standing::stepped))]
-    pub fn end(&mut self, state: State, place: usize) -> Result<Heading, FormFault>
+    pub fn end(&mut self, state: State, place: usize) -> Result<(), FormFault>
         ensures within { (text : List ℕ) → IsDraftIn text self.old.draft → IsStateIn text state → IfOk result (λ _. AllByRecursion (IsRuleIn text) self.new.draft.rules.items) }
         ensures ends { (text : List ℕ) → EndsFrom text self.old.nodes self.old.draft state place result self.new.draft }
     {
         match state {
-            State::Rules(heading) => Ok(heading),
+            State::Rules(_) => Ok(()),
             State::Item(spot) => self.end_item(spot, place),
             State::Behind(spot, name, word) => self.end_behind(spot, name, word, place),
             _ => Err(FormFault::Text { place }),
@@ -374,7 +365,7 @@ impl<'a> Reader<'a> {
     }
 
     #[tactic(auto, unfolding(crate::specs::Standing::stepped))]
-    fn end_item(&mut self, spot: Spot, place: usize) -> Result<Heading, FormFault>
+    fn end_item(&mut self, spot: Spot, place: usize) -> Result<(), FormFault>
         ensures within { (text : List ℕ) → IsDraftIn text self.old.draft → IfOk result (λ _. AllByRecursion (IsRuleIn text) self.new.draft.rules.items) }
         ensures ends { (text : List ℕ) → EndsFrom text self.old.nodes self.old.draft (states.Item spot) place result self.new.draft }
     {
@@ -382,7 +373,7 @@ impl<'a> Reader<'a> {
             Side::Left => Err(FormFault::Text { place }),
             Side::Right => {
                 self.draft.close()?;
-                Ok(spot.heading)
+                Ok(())
             }
         }
     }
@@ -393,7 +384,7 @@ impl<'a> Reader<'a> {
         name: Token,
         word: Word,
         place: usize,
-    ) -> Result<Heading, FormFault>
+    ) -> Result<(), FormFault>
         ensures within { (text : List ℕ) → IsDraftIn text self.old.draft → IsIn text name → IfOk result (λ _. AllByRecursion (IsRuleIn text) self.new.draft.rules.items) }
         ensures ends { (text : List ℕ) → EndsFrom text self.old.nodes self.old.draft (states.Behind spot name word) place result self.new.draft }
     {

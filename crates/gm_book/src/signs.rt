@@ -6,10 +6,11 @@ ghost use Rattle.gm_model.specs.Symbols.{Gone};
 ghost use Rattle.gm_model.specs.Tokens.{bytes_of};
 ghost use Rattle.gm_book.specs.declared.state.State.TheVariants as states;
 ghost use Rattle.gm_book.specs.Forms.{IsIn};
-ghost use Rattle.gm_book.specs.Standing.{IsToken, Leads, StaysIn, Gives, stand_in, stepped, number_mark, sign_mark};
+ghost use Rattle.gm_text.specs.SchemaAnswers.{IsToken};
+ghost use Rattle.gm_book.specs.Standing.{Leads, StaysIn, Gives, stand_in, stepped, number_mark, sign_mark};
 
 use crate::form_fault::FormFault;
-use crate::headers::{at_dimension, at_version, value};
+use crate::headers::value;
 use crate::letters::{no_letters, with_letter};
 use crate::nodes::Nodes;
 use crate::state::{Heading, Spot, State};
@@ -206,8 +207,6 @@ pub(crate) fn at_number(lexer: &Lexer<'_>, token: Token, state: State) -> Result
     ensures within { StaysIn lexer.now.text state result }
 {
     match state {
-        State::Version => at_version(lexer, token),
-        State::Dimension(version) => at_dimension(lexer, token, version),
         State::Letter(spot, name, word) => at_letter(lexer, token, spot, name, word),
         State::Label(spot, from) => at_label(lexer, token, spot, from),
         _ => Err(FormFault::Text { place: token.start }),

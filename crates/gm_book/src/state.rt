@@ -1,4 +1,4 @@
-//! Where in a book's text reading is, and what of an item is read so far.
+//! Where in a book's rules reading is, and what of an item is read so far.
 ghost use Rattle.std.specs.Prelude.{◌≡◌, ◌≤◌};
 ghost use Rattle.gm_book.specs.Reading.{takes_hook};
 
@@ -6,7 +6,7 @@ use crate::tally::Tally;
 use gm_model::{Dim, Side, Word};
 use gm_text::Token;
 
-/// What the header of a book says.
+/// What the rules need of a book's header.
 #[derive(Clone, Copy)]
 pub(crate) struct Heading {
     pub version: u8,
@@ -45,12 +45,6 @@ impl Spot {
 
 #[derive(Clone, Copy)]
 pub(crate) enum State {
-    /// Before the word `book`, the version, the word `dim`, the dimension. The version is known
-    /// behind it.
-    Format,
-    Version,
-    DimWord(u8),
-    Dimension(u8),
     /// Behind the header.
     Rules(Heading),
     /// Before the name of the rule with this ordinal, and behind it.

@@ -3,7 +3,7 @@ ghost use Rattle.std.specs.Prelude.{◌≡◌, bytes_eq};
 ghost use Rattle.std.specs.List.{list_any};
 ghost use Rattle.gm_model.specs.Names.{is_among, reserved};
 ghost use Rattle.gm_model.specs.Tokens.{bytes_of};
-ghost use Rattle.gm_book.specs.Standing.{IsToken};
+ghost use Rattle.gm_text.specs.SchemaAnswers.{IsToken};
 
 use gm_text::{Lexer, Token};
 

@@ -1,24 +1,22 @@
-use Rattle.std.proofs.Common.{sym, subst, length, ◌≤◌}
-use Rattle.std.specs.List.{AllByRecursion}
-use Rattle.gm_book.specs.BookText.{nodes_of}
-use Rattle.gm_book.specs.Building.{HasNoNameFault, IsFaultOfNames}
+use Rattle.std.proofs.Common.{List, sym, subst}
+use Rattle.gm_book.specs.declared.form.RuleForm.{RuleForm}
+use Rattle.gm_book.specs.Building.{HasNoFaultInRules, IsFaultOfNames}
 use Rattle.gm_book.specs.FirstNameFault.{IsLeastFault}
-use Rattle.gm_book.specs.Forms.{form_of, rule_form_of}
-use Rattle.gm_book.proofs.Built.{no_fault, first_fault, all_few}
+use Rattle.gm_book.specs.Forms.{forms_of}
+use Rattle.gm_book.proofs.Built.{no_fault, first_fault}
 use Rattle.gm_book.proofs.building.build.Goals as goal
 
 pub returns-in-Some-clause-fault : goal.returns-in-Some-clause-fault
 returns-in-Some-clause-fault c =
-    let book = form_of c.args.text.now c.args.form in
-    subst (IsFaultOfNames book) (sym c.from.ensures) (first_fault book c.in-Some.fault (subst (IsLeastFault book) c.in-Some.is c.in_ok-fault.ensures))
+    let rules = forms_of c.args.text.now c.deref.result.now in
+    let found = subst (IsFaultOfNames rules) (sym c.from.ensures) (first_fault rules c.in-Some.fault (subst (IsLeastFault rules) c.in-Some.is c.in_ok-fault.ensures)) in
+    subst (λ (forms : List RuleForm). IsFaultOfNames (forms_of c.args.text.now forms) c.from.result) c.deref.ensures.value found
 
-pub tables-requires-clause-few : goal.tables-requires-clause-few
-tables-requires-clause-few c =
-    subst (AllByRecursion (λ rule. length (nodes_of (rule_form_of c.args.text.now rule)) ≤ 32)) (sym c.as_slice.ensures.value) (all_few c.args.text.now c.args.form c.requires.within)
-
-module _ (c : goal.After-drop-form-2) where
-  sound : HasNoNameFault (form_of c.args.text.now c.args.form)
-  sound = let book = form_of c.args.text.now c.args.form in no_fault book (subst (IsLeastFault book) c.in_default.is c.in_ok-fault.ensures)
+module _ (c : goal.After-drop-forms-2) where
+  sound : HasNoFaultInRules (forms_of c.args.text.now c.args.forms.items)
+  sound =
+      let rules = forms_of c.args.text.now c.deref.result.now in
+      subst (λ (forms : List RuleForm). HasNoFaultInRules (forms_of c.args.text.now forms)) c.deref.ensures.value (no_fault rules (subst (IsLeastFault rules) c.in_default.is c.in_ok-fault.ensures))
 
 pub returns-clause-sound : goal.returns-clause-sound
 returns-clause-sound c = sound c

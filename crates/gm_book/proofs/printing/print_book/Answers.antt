@@ -2,6 +2,7 @@ use Rattle.std.proofs.Common.{◌≡◌, ◌++◌, ◌<◌, length, get_or, map,
 use Rattle.std.specs.Prelude.{decimal}
 use Rattle.std.proofs.lemmas.List.{get_or-map, length-map}
 use Rattle.gm_model.specs.Rules.{rule_of}
+use Rattle.gm_text.specs.SchemaText as schemas
 use Rattle.gm_book.specs.BookText.{rule_lines}
 use Rattle.gm_book.specs.Printing.{NamesItsNodes}
 use Rattle.gm_book.proofs.Lines.{mapped_more}
@@ -20,5 +21,5 @@ loop-rule-preserved c =
     let same : c.as_slice-rule-items.result.now ≡ c.args.book.now.rules = c.as_slice-rule-items.ensures in
     let within : c.loop-rule.rule-index < length c.args.book.now.rules = omega (arith, c.loop-rule-test.true, ap length same) in
     let here : c.rule-item.result ≡ get_or c.args.book.now.rules c.loop-rule.rule-index c.rule-item.result = c.rule-item.is ∙ ap (λ rs. get_or rs c.loop-rule.rule-index c.rule-item.result) same in
-    mapped_more rule_of rule_lines c.args.book.now.rules c.loop-rule.rule-index c.rule-item.result (codes "book " ++ decimal c.args.book.now.version ++ codes "\ndim " ++ decimal c.args.book.now.schema.dim ++ codes "\n") c.loop-rule.text c.print_rule.new.text within c.loop-rule.invariant
+    mapped_more rule_of rule_lines c.args.book.now.rules c.loop-rule.rule-index c.rule-item.result (codes "book " ++ decimal c.args.book.now.version ++ codes "\n" ++ schemas.canonical c.args.book.now.schema) c.loop-rule.text c.print_rule.new.text within c.loop-rule.invariant
     (c.in_ok-print_rule.ensures ∙ ap (λ r. c.loop-rule.text ++ rule_lines (rule_of r)) here)

@@ -1,18 +1,82 @@
+use Rattle.std.proofs.Common.{ℕ, List, ap, subst, ◌∙◌}
 use Rattle.std.proofs.lemmas.Result.{err_from_is_err_and}
-use Rattle.gm_book.specs.Forms.{form_of}
-use Rattle.gm_book.proofs.ReadBook.{form_within, form_fault, answer_stands, answer_in_range, answer_within_limits, answer_faults}
+use Rattle.gm_model.specs.Symbols.{Mark}
+use Rattle.gm_text.specs.Cursor.{Cursor}
+use Rattle.gm_text.specs.Nested.{Outside}
+use Rattle.gm_text.specs.SchemaAnswers.{marks_left, IsSchemaRead}
+use Rattle.gm_book.specs.Forms.{forms_of}
+use Rattle.gm_book.specs.Reading.{AtFormat, heading_at}
+use Rattle.gm_book.specs.Standing.{IsHeaded, IsHeadFault, AreRulesRead}
+use Rattle.gm_book.proofs.ReadBook.{rules_there, few_there, head_fault, skip_fault, rules_fault, names_in_schema, answer_stands, answer_faults, answer_in_range, answer_within_limits}
 use Rattle.gm_book.proofs.reading.read_book.Goals as goal
 
-pub returns-in_err-form-clause-fault : goal.returns-in_err-form-clause-fault
-returns-in_err-form-clause-fault c =
+pub returns-in_err-version-clause-fault : goal.returns-in_err-version-clause-fault
+returns-in_err-version-clause-fault c =
     let p = err_from_is_err_and c.from_residual.result c.from_residual.ensures.1 in
-    rw (p.1, p.2) (form_fault c.args.bytes.now c.in_err-form.field-0.0 c.in_err-form.ensures.fault)
+    let fault = c.in_err-version.field-0.0 in
+    rw (p.1, p.2) (head_fault c.args.bytes.now fault (subst (λ (ms : List Mark). IsHeadFault (Outside AtFormat) ms fault) (ap marks_left c.new-lexer.ensures) c.in_err-version.ensures.fault))
 
-pub build-requires-clause-within : goal.build-requires-clause-within
-build-requires-clause-within c = form_within c.args.bytes.now (form_of c.args.bytes.now c.in_ok-form.form) c.in_ok-form.ensures.form
+pub returns-in_err-dim-clause-fault : goal.returns-in_err-dim-clause-fault
+returns-in_err-dim-clause-fault c =
+    let p = err_from_is_err_and c.from_residual-in_err-dim.result c.from_residual-in_err-dim.ensures.1 in
+    let text = c.args.bytes.now in
+    let version = c.in_ok-version.version in
+    let old = c.read_version.new.lexer in
+    let headed = subst (λ (ms : List Mark). IsHeaded ms version (marks_left old)) (ap marks_left c.new-lexer.ensures) c.in_ok-version.ensures.read in
+    rw (p.1, p.2) (skip_fault text version old headed c.in_err-dim.field-0.0 c.in_err-dim.ensures.stops)
+
+pub returns-in_err-forms-clause-fault : goal.returns-in_err-forms-clause-fault
+returns-in_err-forms-clause-fault c =
+    let p = err_from_is_err_and c.from_residual-in_err-forms.result c.from_residual-in_err-forms.ensures.1 in
+    let text = c.args.bytes.now in
+    let version = c.in_ok-version.version in
+    let old = c.read_version.new.lexer in
+    let headed = subst (λ (ms : List Mark). IsHeaded ms version (marks_left old)) (ap marks_left c.new-lexer.ensures) c.in_ok-version.ensures.read in
+    let new = c.skip_schema.new.lexer in
+    let n = c.in_ok-dim.dim in
+    rw (p.1, p.2) (rules_fault text version old headed new n c.in_ok-dim.ensures.runs c.in_ok-dim.ensures.dim c.in_err-forms.field-0.0 c.in_err-forms.ensures.fault)
+
+pub returns-in_err-schema-clause-fault : goal.returns-in_err-schema-clause-fault
+returns-in_err-schema-clause-fault c =
+    let p = err_from_is_err_and c.from_residual-in_err-schema.result c.from_residual-in_err-schema.ensures.1 in
+    let text = c.args.bytes.now in
+    let version = c.in_ok-version.version in
+    let old = c.read_version.new.lexer in
+    let headed = subst (λ (ms : List Mark). IsHeaded ms version (marks_left old)) (ap marks_left c.new-lexer.ensures) c.in_ok-version.ensures.read in
+    let new = c.skip_schema.new.lexer in
+    let n = c.in_ok-dim.dim in
+    let same = c.in_ok-dim.ensures.text ∙ c.in_ok-version.ensures.text ∙ ap (λ (cursor : Cursor). cursor.text) c.new-lexer.ensures in
+    let forms = c.in_ok-forms.forms.items in
+    let read = subst (λ (t : List ℕ). AreRulesRead (heading_at version n) (marks_left new) (forms_of t forms)) same c.in_ok-forms.ensures.forms in
+    let there = rules_there version n (marks_left new) (forms_of text forms) read in
+    rw (p.1, p.2) (names_in_schema text version old headed new n c.in_ok-dim.ensures.runs c.in_ok-dim.ensures.dim (forms_of text forms) there c.fork-again.result c.in_err-schema.field-0.0 c.fork-again.ensures c.in_err-schema.ensures.stops)
+
+pub build-requires-clause-few : goal.build-requires-clause-few
+build-requires-clause-few c =
+    let text = c.args.bytes.now in
+    let version = c.in_ok-version.version in
+    let new = c.skip_schema.new.lexer in
+    let n = c.in_ok-dim.dim in
+    let same = c.in_ok-dim.ensures.text ∙ c.in_ok-version.ensures.text ∙ ap (λ (cursor : Cursor). cursor.text) c.new-lexer.ensures in
+    let forms = c.in_ok-forms.forms.items in
+    let read = subst (λ (t : List ℕ). AreRulesRead (heading_at version n) (marks_left new) (forms_of t forms)) same c.in_ok-forms.ensures.forms in
+    few_there text version n (marks_left new) forms read
 
 pub returns-clause-book : goal.returns-clause-book
-returns-clause-book c = answer_stands c.args.bytes.now (form_of c.args.bytes.now c.in_ok-form.form) c.in_ok-form.ensures.form c.build.result c.build.ensures.version c.build.ensures.dim c.build.ensures.embeds c.build.ensures.rules c.build.ensures.sound
+returns-clause-book c =
+    let text = c.args.bytes.now in
+    let version = c.in_ok-version.version in
+    let old = c.read_version.new.lexer in
+    let headed = subst (λ (ms : List Mark). IsHeaded ms version (marks_left old)) (ap marks_left c.new-lexer.ensures) c.in_ok-version.ensures.read in
+    let new = c.skip_schema.new.lexer in
+    let n = c.in_ok-dim.dim in
+    let same = c.in_ok-dim.ensures.text ∙ c.in_ok-version.ensures.text ∙ ap (λ (cursor : Cursor). cursor.text) c.new-lexer.ensures in
+    let forms = c.in_ok-forms.forms.items in
+    let read = subst (λ (t : List ℕ). AreRulesRead (heading_at version n) (marks_left new) (forms_of t forms)) same c.in_ok-forms.ensures.forms in
+    let there = rules_there version n (marks_left new) (forms_of text forms) read in
+    let declared = c.in_ok-schema.schema in
+    let found = subst (λ (cursor : Cursor). IsSchemaRead cursor c.read_schema.new.lexer declared) c.fork-again.ensures c.in_ok-schema.ensures.schema in
+    answer_stands text version old headed new n c.in_ok-dim.ensures.runs c.in_ok-dim.ensures.dim (forms_of text forms) there declared c.read_schema.new.lexer found c.build.result c.build.ensures.version c.build.ensures.schema c.build.ensures.rules c.build.ensures.sound
 
 pub returns-clause-in_range : goal.returns-clause-in_range
 returns-clause-in_range c = answer_in_range c.args.bytes.now c.build.result (returns-clause-book c)
@@ -21,4 +85,17 @@ pub returns-clause-limits : goal.returns-clause-limits
 returns-clause-limits c = answer_within_limits c.args.bytes.now c.build.result (returns-clause-book c)
 
 pub returns-clause-fault : goal.returns-clause-fault
-returns-clause-fault c = answer_faults c.args.bytes.now (form_of c.args.bytes.now c.in_ok-form.form) c.in_ok-form.ensures.form c.build.result c.build.ensures.fault
+returns-clause-fault c =
+    let text = c.args.bytes.now in
+    let version = c.in_ok-version.version in
+    let old = c.read_version.new.lexer in
+    let headed = subst (λ (ms : List Mark). IsHeaded ms version (marks_left old)) (ap marks_left c.new-lexer.ensures) c.in_ok-version.ensures.read in
+    let new = c.skip_schema.new.lexer in
+    let n = c.in_ok-dim.dim in
+    let same = c.in_ok-dim.ensures.text ∙ c.in_ok-version.ensures.text ∙ ap (λ (cursor : Cursor). cursor.text) c.new-lexer.ensures in
+    let forms = c.in_ok-forms.forms.items in
+    let read = subst (λ (t : List ℕ). AreRulesRead (heading_at version n) (marks_left new) (forms_of t forms)) same c.in_ok-forms.ensures.forms in
+    let there = rules_there version n (marks_left new) (forms_of text forms) read in
+    let declared = c.in_ok-schema.schema in
+    let found = subst (λ (cursor : Cursor). IsSchemaRead cursor c.read_schema.new.lexer declared) c.fork-again.ensures c.in_ok-schema.ensures.schema in
+    answer_faults text version old headed new n c.in_ok-dim.ensures.runs c.in_ok-dim.ensures.dim (forms_of text forms) there declared c.read_schema.new.lexer found c.build.result c.build.ensures.fault

@@ -1,12 +1,13 @@
 use Rattle.std.proofs.Common.{◌≡◌, ◌-◌, length}
-use Rattle.gm_book.specs.Standing.{IsStateIn, IsDraftIn, first_stand, stand_of, read_on, marks_left}
+use Rattle.gm_text.specs.SchemaAnswers.{marks_left}
+use Rattle.gm_book.specs.Standing.{IsStateIn, IsDraftIn, rules_stand, stand_of, read_on}
 use Rattle.gm_book.proofs.reading.read_rules.Given as goal
 
 abbrev pub invariant-loop-token : goal.invariant-loop-token
 invariant-loop-token l =
     let text = l.fn.lexer.text in
     (l.lexer.text ≡ text)
-    × (read_on (stand_of text l.reader.nodes l.reader.draft l.state l.last) (marks_left l.lexer) ≡ read_on first_stand (marks_left l.fn.lexer))
+    × (read_on (stand_of text l.reader.nodes l.reader.draft l.state l.last) (marks_left l.lexer) ≡ read_on (rules_stand l.fn.heading) (marks_left l.fn.lexer))
     × IsStateIn text l.state × IsDraftIn text l.reader.draft
 
 abbrev pub decreases-loop-token : goal.decreases-loop-token

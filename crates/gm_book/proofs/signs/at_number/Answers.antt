@@ -2,18 +2,6 @@ use Rattle.gm_book.specs.Standing.{number_mark}
 use Rattle.gm_book.proofs.Behind.{leads_at, stays_in_at}
 use Rattle.gm_book.proofs.signs.at_number.Goals as goal
 
-pub returns-in-Version-clause-leads : goal.returns-in-Version-clause-leads
-returns-in-Version-clause-leads c = leads_at c.args.lexer.now.text (number_mark c.args.lexer.now.text c.args.token) c.at_version.result c.in-Version.is c.at_version.ensures.leads
-
-pub returns-in-Version-clause-within : goal.returns-in-Version-clause-within
-returns-in-Version-clause-within c = stays_in_at c.args.lexer.now.text c.at_version.result c.in-Version.is c.at_version.ensures.within
-
-pub returns-in-Dimension-clause-leads : goal.returns-in-Dimension-clause-leads
-returns-in-Dimension-clause-leads c = leads_at c.args.lexer.now.text (number_mark c.args.lexer.now.text c.args.token) c.at_dimension.result c.in-Dimension.is c.at_dimension.ensures.leads
-
-pub returns-in-Dimension-clause-within : goal.returns-in-Dimension-clause-within
-returns-in-Dimension-clause-within c = stays_in_at c.args.lexer.now.text c.at_dimension.result c.in-Dimension.is c.at_dimension.ensures.within
-
 pub returns-in-Letter-clause-leads : goal.returns-in-Letter-clause-leads
 returns-in-Letter-clause-leads c = leads_at c.args.lexer.now.text (number_mark c.args.lexer.now.text c.args.token) c.at_letter.result c.in-Letter.is c.at_letter.ensures.leads
 

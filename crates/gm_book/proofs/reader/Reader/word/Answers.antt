@@ -2,18 +2,6 @@ use Rattle.gm_book.specs.Standing.{word_mark}
 use Rattle.gm_book.proofs.Behind.{moves_at, stays_at, keeps_in_at, stays_keeps_at}
 use Rattle.gm_book.proofs.reader.Reader.word.Goals as goal
 
-pub returns-in-Format-clause-moves : goal.returns-in-Format-clause-moves
-returns-in-Format-clause-moves c = stays_at c.args.lexer.now.text c.args.self.now.nodes c.args.self.now.draft (word_mark c.args.lexer.now.text c.args.token) c.at_format.result c.in-Format.is c.at_format.ensures.leads
-
-pub returns-in-Format-clause-within : goal.returns-in-Format-clause-within
-returns-in-Format-clause-within c = stays_keeps_at c.args.lexer.now.text c.args.self.now.draft c.at_format.result c.in-Format.is c.at_format.ensures.within
-
-pub returns-in-DimWord-clause-moves : goal.returns-in-DimWord-clause-moves
-returns-in-DimWord-clause-moves c = stays_at c.args.lexer.now.text c.args.self.now.nodes c.args.self.now.draft (word_mark c.args.lexer.now.text c.args.token) c.at_dim_word.result c.in-DimWord.is c.at_dim_word.ensures.leads
-
-pub returns-in-DimWord-clause-within : goal.returns-in-DimWord-clause-within
-returns-in-DimWord-clause-within c = stays_keeps_at c.args.lexer.now.text c.args.self.now.draft c.at_dim_word.result c.in-DimWord.is c.at_dim_word.ensures.within
-
 pub returns-in-Rules-clause-moves : goal.returns-in-Rules-clause-moves
 returns-in-Rules-clause-moves c = stays_at c.args.lexer.now.text c.args.self.now.nodes c.args.self.now.draft (word_mark c.args.lexer.now.text c.args.token) c.at_rules.result c.in-Rules.is c.at_rules.ensures.leads
 
