@@ -105,7 +105,7 @@ written_again version form rules good within names ok =
     let dim : n ≡ again.again.dim = ap (λ (s : Schema). s.dim) again.means in
     let there : AreThere version n (forms_at again.after rules) again.after = record {
       good = forms_are_rules version n rules again.after ok.hooks ok.each;
-      spelled = again.behind ∙ rules_symbols n ok.low 0 rules again.after ok.each;
+      spelled = again.behind_is ∙ rules_symbols n ok.low 0 rules again.after ok.each;
       within = rules_within n 0 rules again.after (omega (arith, ok.few)) ok.each;
       placed = rules_placed n 0 rules again.after;
     } in

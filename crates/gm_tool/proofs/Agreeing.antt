@@ -2,6 +2,7 @@
 use Rattle.std.proofs.Common.{◌≡◌, ℕ, ◌+◌, ◌<◌, ◌≤◌, List, length, get_or, map, All, None, inl, inr, sym, ap, ◌∙◌, arith}
 use Rattle.std.proofs.lemmas.Bool.{cases_eq}
 use Rattle.std.proofs.lemmas.List.{same_lists, get_or_default}
+use Rattle.gm_mapfile.proofs.Listed.{listed_good}
 use Rattle.gm_mapfile.specs.declared.reading.MapRead.{MapRead}
 use Rattle.gm_model.specs.declared.rule.Book.{Book}
 use Rattle.gm_model.specs.declared.rule.RuleTable.{RuleTable}
@@ -12,6 +13,7 @@ use Rattle.gm_model.specs.Rules.{Rule, rule_of}
 use Rattle.gm_book.proofs.Printable.{printable_from_text}
 use Rattle.gm_plan.specs.Plans.{PlanOf, plan_of}
 use Rattle.gm_tool.specs.MadeRuns.{CanRun}
+use Rattle.gm_tool.specs.Runnable.{IsRunnable}
 use Rattle.gm_tool.specs.Stops.{IsReadMap, IsReadBook, IsReadScript}
 use Rattle.gm_tool.proofs.ReadBooks.{unmap}
 
@@ -40,11 +42,12 @@ module _ (read : MapRead) (book : Book) (script : Script) where
   plain_rules bytes is = unmap (λ (rule : Rule). rule.pre ≡ None) rule_of book.rules (λ k d b. ((printable_from_text bytes book.version book.schema (map rule_of book.rules) is).plain k d b).pre)
 
   pub can_run : (plans : List PlanOf) (of_map_file : (bytes : List ℕ) × IsReadMap bytes read) (of_book : (bytes : List ℕ) × IsReadBook bytes book) (of_script : (bytes : List ℕ) × IsReadScript (map rule_of book.rules) bytes script)
-      → plans ≡ map (plan_of book.schema) book.rules → read.arena.schema ≡ book.schema → CanRun read.arena book script plans
-  can_run plans of_map_file of_book of_script planned same = record {
+      → plans ≡ map (plan_of book.schema) book.rules → All (IsRunnable book.schema) (map rule_of book.rules) → read.arena.schema ≡ book.schema → CanRun read.arena book script plans
+  can_run plans of_map_file of_book of_script planned runnable same = record {
     sound = of_map_file.1.sound;
-    bare = ap (λ (schema : Schema). schema.embeds) same ∙ of_book.1.embeds;
+    parts = let stands = of_map_file.1.stands in (listed_good of_map_file.0 stands.written read.arena.schema stands.darts stands.listed).parts;
     agree = same;
+    runnable = runnable;
     plans_are = planned;
     plain = plain_rules of_book.0 of_book.1;
     text = of_script.0;

@@ -40,7 +40,7 @@ darts_whole m lawful = recursion_from_All (IsWhole m.schema) (darts_of m) (λ k 
     whole name (Some dart) is live = let lawful_dart = lawful.dart name dart is in subst (IsWhole m.schema) (sym (dart_at-is m name dart is)) (lawful_dart.whole, lawful_dart.valued.kinds)
 
 -- a generalised map without embeddings is sound
-bare_sound : (m : ArenaMap) → IsLawful m → m.schema.embeds ≡ [] → IsGeneralised (as_map m) → IsSound (as_map m)
+pub bare_sound : (m : ArenaMap) → IsLawful m → m.schema.embeds ≡ [] → IsGeneralised (as_map m) → IsSound (as_map m)
 bare_sound m lawful bare gmap = record {
   is_map = is_map m lawful;
   generalised = gmap;
@@ -51,8 +51,8 @@ bare_sound m lawful bare gmap = record {
     none e embed h = absurd cc
 
 -- the canonical text in either version stands for the map, whose next name the first version tells by the names
-pub text_of_arena : (version : MapVersion) (m : ArenaMap) → IsLawful m → m.schema.embeds ≡ [] → IsGeneralised (as_map m) → IsMapBytes (canonical version (listed_of m))
-text_of_arena version m lawful bare gmap = (version, renumbered version (listed_of m), same version, arena_printed version m lawful (subst AreParts (sym bare) tt) (bare_sound m lawful bare gmap))
+pub text_of_arena : (version : MapVersion) (m : ArenaMap) → IsLawful m → AreParts m.schema.embeds → IsSound (as_map m) → IsMapBytes (canonical version (listed_of m))
+text_of_arena version m lawful parts sound = (version, renumbered version (listed_of m), same version, arena_printed version m lawful parts sound)
   where
     same : (v : MapVersion) → canonical v (listed_of m) ≡ canonical v (renumbered v (listed_of m))
     same versions.One = refl

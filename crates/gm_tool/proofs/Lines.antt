@@ -1,5 +1,5 @@
 -- The plans of a book that was read and the lines of its script are those that a run takes, and what a run answers is the run of what was read.
-use Rattle.std.proofs.Common.{◌≡◌, ℕ, List, [], ◌∷◌, inl, inr, None, Result, Ok, Err, length, map, All, refl, sym, ap, subst, ◌∙◌}
+use Rattle.std.proofs.Common.{◌≡◌, ℕ, List, [], ◌∷◌, inl, inr, Some, None, Result, Ok, Err, length, map, All, refl, sym, ap, subst, ◌∙◌, arith}
 use Rattle.std.specs.Prelude.{slice_get, IfOk, IfErr}
 use Rattle.std.specs.List.{AllByRecursion}
 use Rattle.std.proofs.lemmas.List.Elements.{All-from_recursion, recursion_from_All}
@@ -14,13 +14,15 @@ use Rattle.gm_model.specs.declared.rule.RuleTable.{RuleTable}
 use Rattle.gm_model.specs.declared.schema.Schema.{Schema}
 use Rattle.gm_model.specs.declared.script.Line.{Line}
 use Rattle.gm_model.specs.declared.script.Script.{Script}
-use Rattle.gm_model.specs.Maps.{IsGeneralised}
+use Rattle.gm_model.specs.Maps.{Map, IsGeneralised, IsSound}
 use Rattle.gm_mapfile.specs.MapText.{map_of, canonical}
 use Rattle.gm_mapfile.specs.declared.version.MapVersion.{MapVersion}
 use Rattle.gm_model.specs.Reports.{report_text}
-use Rattle.gm_model.specs.Rules.{rule_of}
+use Rattle.gm_model.specs.Rules.{Rule, rule_of}
 use Rattle.gm_model.specs.Runs.{Outcome, IsRun}
 use Rattle.gm_model.specs.Runs as runs
+use Rattle.gm_text.specs.SchemaPrinting.{AreParts}
+use Rattle.gm_tool.specs.Runnable.{IsRunnable}
 use Rattle.gm_script.specs.ScriptText.{LineForm, AreLines, IsLine}
 use Rattle.gm_plan.specs.Plans.{PlanOf, plan_of}
 use Rattle.gm_run.specs.declared.outcome.Outcome as answers
@@ -35,7 +37,7 @@ use Rattle.gm_tool.specs.declared.refusal.Stop.{Stop}
 use Rattle.gm_tool.specs.declared.refusal.Stop.TheVariants as stops
 use Rattle.gm_tool.specs.declared.running.Made.{Made}
 use Rattle.gm_mapfile.proofs.SoundRows.{same_map}
-use Rattle.gm_tool.proofs.ArenaMaps.{darts_whole, text_of_arena}
+use Rattle.gm_tool.proofs.ArenaMaps.{bare_sound, darts_whole, text_of_arena}
 
 -- a run is done with status 0 or 1
 status_is : (outcomes : List Outcome) → IsRunStatus (run_status outcomes)
@@ -54,11 +56,12 @@ module _ (m : ArenaMap) (book : Book) (script : Script) (plans : List PlanOf) (c
   -- ---- what a run needs
 
   pub plans_fit : ArePlansFor m.schema plans
-  plans_fit = subst (All (IsPlanFor m.schema)) (sym can.plans_are) (All-from_recursion (IsPlanFor m.schema) (map (plan_of book.schema) book.rules) (each book.rules (recursion_from_All (λ (table : RuleTable). (rule_of table).pre ≡ None) book.rules can.plain)))
+  plans_fit = subst (All (IsPlanFor m.schema)) (sym can.plans_are)
+      (All-from_recursion (IsPlanFor m.schema) (map (plan_of book.schema) book.rules) (each book.rules (recursion_from_All (λ (table : RuleTable). (rule_of table).pre ≡ None) book.rules can.plain) (recursion_from_All (IsRunnable book.schema) (map rule_of book.rules) can.runnable)))
     where
-      each : (tables : List RuleTable) → AllByRecursion (λ (table : RuleTable). (rule_of table).pre ≡ None) tables → AllByRecursion (IsPlanFor m.schema) (map (plan_of book.schema) tables)
-      each [] h = tt
-      each (table ∷ tables) h = (record { same = can.agree; no_embeds = ap (λ (schema : Schema). schema.embeds) (sym can.agree) ∙ can.bare; no_pre = h.0 }, each tables h.1)
+      each : (tables : List RuleTable) → AllByRecursion (λ (table : RuleTable). (rule_of table).pre ≡ None) tables → AllByRecursion (IsRunnable book.schema) (map rule_of tables) → AllByRecursion (IsPlanFor m.schema) (map (plan_of book.schema) tables)
+      each [] h runs = tt
+      each (table ∷ tables) h runs = (record { same = can.agree; no_embeds = runs.0.bare; no_pre = h.0 }, each tables h.1 runs.1)
 
   line_fits : (form : LineForm) (line : Line) → IsLine (map rule_of book.rules) form line → Agrees (rules_of plans) line
   line_fits form line h = (h.rule, ap (λ rules. slice_get rules line.rule) same_rules ∙ h.named.there, ap length h.hooks ∙ h.count)
@@ -115,11 +118,47 @@ module _ (m : ArenaMap) (book : Book) (script : Script) (plans : List PlanOf) (c
         made (Err (stops.NoText nothing.OutOfMemory)) is = tt
         made (Err (stops.NoText (nothing.Refused why))) is = fitted (Err (stops.NoText (nothing.Refused why))) is
 
+-- ---- the map that is left
+
+-- a script without rules has no lines
+none_lines : (forms : List LineForm) (lines : List Line) → AreLines [] forms lines → lines ≡ []
+none_lines [] [] h = refl
+none_lines [] (line ∷ lines) h = absurd h
+none_lines (form ∷ forms) [] h = absurd h
+none_lines (form ∷ forms) (line ∷ lines) h = absurd (none_some h.0.rule h.0.named.there)
+  where
+    none_some : (rule : Rule) → slice_get {X = Rule} [] line.rule ≡ Some rule → ⊥
+    none_some rule e = absurd cc
+
+-- and a run of none leaves the map
+pub none_run : (rules : List Rule) (before : Map) (lines : List Line) (outcomes : List Outcome) (after : Map) → lines ≡ [] → IsRun rules before lines outcomes after → (outcomes ≡ []) × (after ≡ before)
+none_run rules before lines outcomes after none run = go outcomes (subst (λ ls. IsRun rules before ls outcomes after) none run)
+  where
+    go : (os : List Outcome) → IsRun rules before [] os after → (os ≡ []) × (after ≡ before)
+    go [] h = (refl, h)
+    go (o ∷ os) h = absurd h
+
+pub unruled_lines : (rules : List Rule) (forms : List LineForm) (lines : List Line) → rules ≡ [] → AreLines rules forms lines → lines ≡ []
+unruled_lines rules forms lines none are = none_lines forms lines (subst (λ rs. AreLines rs forms lines) none are)
+
+module _ (m : ArenaMap) (book : Book) (script : Script) (plans : List PlanOf) (can : CanRun m book script plans) (after : ArenaMap) (lawful : IsLawful after) (same : after.schema ≡ m.schema) (gmap : IsGeneralised (as_map after))
+    (outcomes : List Outcome) (run : IsRun (rules_of plans) (as_map m) script.lines outcomes (as_map after)) where
+  -- no rule was there to apply, or no embedding to be kept
+  pub left_sound : IsSound (as_map after)
+  left_sound = go (map rule_of book.rules) refl
+    where
+      go : (rules : List Rule) → map rule_of book.rules ≡ rules → IsSound (as_map after)
+      go [] none = subst IsSound (sym (none_run (rules_of plans) (as_map m) script.lines outcomes (as_map after) (unruled_lines (map rule_of book.rules) can.lines.forms script.lines none can.lines.same) run).1) can.sound
+      go (rule ∷ rules) some =
+          let all : All (IsRunnable book.schema) (rule ∷ rules) = subst (All (IsRunnable book.schema)) some can.runnable in
+          let bare : book.schema.embeds ≡ [] = (all 0 rule (omega arith)).bare in
+          bare_sound after lawful (ap (λ (schema : Schema). schema.embeds) (same ∙ can.agree) ∙ bare) gmap
+
 -- the text of a map that is printed stands for it
-pub map_made : (version : MapVersion) (m : ArenaMap) (status : ℕ) (report : List ℕ) (result : Result Made Stop) → IsLawful m → m.schema.embeds ≡ [] → IsGeneralised (as_map m) → IsPrinted status report (canonical version (listed_of m)) result
+pub map_made : (version : MapVersion) (m : ArenaMap) (status : ℕ) (report : List ℕ) (result : Result Made Stop) → IsLawful m → AreParts m.schema.embeds → IsSound (as_map m) → IsPrinted status report (canonical version (listed_of m)) result
     → IfOk result (λ made. IsMapBytes made.map.items)
-map_made version m status report (Ok made) lawful bare gmap is = subst IsMapBytes (sym is.2) (text_of_arena version m lawful bare gmap)
-map_made version m status report (Err stop) lawful bare gmap is = tt
+map_made version m status report (Ok made) lawful parts sound is = subst IsMapBytes (sym is.2) (text_of_arena version m lawful parts sound)
+map_made version m status report (Err stop) lawful parts sound is = tt
 
 -- texts that are fitted are printed
 pub fitted_printed : (status : ℕ) (report map : List ℕ) (result : Result Made Stop) → IsFitted status report map result → IsPrinted status report map result

@@ -3,7 +3,7 @@ use Rattle.std.proofs.Common.{◌≡◌, ℕ, List, ◌++◌, length, All, refl,
 use Rattle.std.proofs.Math.Path.{ap₂}
 use Rattle.gm_model.specs.declared.schema.Schema.{Schema}
 use Rattle.gm_model.specs.declared.script.Line.{Line}
-use Rattle.gm_model.specs.Acceptance.{IsAccepted}
+use Rattle.gm_tool.specs.Runnable.{IsRunnable}
 use Rattle.gm_book.specs.BookText.{BookText}
 use Rattle.gm_book.specs.BookText as books
 use Rattle.gm_model.specs.Maps.{IsGeneralised}
@@ -60,7 +60,7 @@ same_cells listed other text text' same lawful tells tells' = one_telling (map_o
 pub one_output : (bytes : List ℕ) (command : Command) (status other : ℕ) (text others : List ℕ) → IsOutput bytes command status text → IsOutput bytes command other others → (status ≡ other) × (text ≡ others)
 one_output bytes _ _ _ _ _ (Shown version listed a) (Shown version' listed' b) = let same = one_map bytes version version' listed listed' a b in (refl, ap₂ (λ (v : MapVersion) (l : ListedMap). canonical v l) same.0 same.1)
 one_output bytes _ _ _ _ _ (Printed version schema rules a) (Printed version' schema' rules' b) =
-    let same = one_book bytes version version' schema schema' rules rules' a b in (refl, ap₂ (λ (s : Schema) (rs : List Rule). books.canonical version s.dim rs) same.1 same.2 ∙ ap (λ (v : ℕ). books.canonical v schema'.dim rules') same.0)
+    let same = one_book bytes version version' schema schema' rules rules' a b in (refl, ap₂ (λ (s : Schema) (rs : List Rule). books.canonical version s rs) same.1 same.2 ∙ ap (λ (v : ℕ). books.canonical v schema' rules') same.0)
 one_output bytes _ _ _ _ _ (Checked version schema rules refused lines a are) (Checked version' schema' rules' refused' lines' b are') =
     let same = one_book bytes version version' schema schema' rules rules' a b in same_check schema schema' rules rules' refused refused' lines lines' (same.1, same.2) are are'
 one_output bytes _ _ _ _ _ (Counted version listed text a tells) (Counted version' listed' text' b tells') =
@@ -76,7 +76,7 @@ one_bad_book bytes why other (RuleRefused version schema rules a first) (RuleRef
     let same = one_book bytes version version' schema schema' rules rules' a b in
     one_refused schema rules why other first (subst (λ s. IsFirstRefused s rules other) (sym same.1) (subst (λ rs. IsFirstRefused schema' rs other) (sym same.2) first'))
 
-pub no_bad_good_book : (bytes why : List ℕ) (version : ℕ) (schema : Schema) (rules : List Rule) → IsBadBook bytes why → BookText bytes version schema rules → All (IsAccepted schema) rules → ⊥
+pub no_bad_good_book : (bytes why : List ℕ) (version : ℕ) (schema : Schema) (rules : List Rule) → IsBadBook bytes why → BookText bytes version schema rules → All (IsRunnable schema) rules → ⊥
 no_bad_good_book bytes why version schema rules (Unread fault a e) stands accepted = no_book_at bytes fault a version schema rules stands
 no_bad_good_book bytes why version schema rules (RuleRefused version' schema' rules' a first) stands accepted =
     let same = one_book bytes version version' schema schema' rules rules' stands a in

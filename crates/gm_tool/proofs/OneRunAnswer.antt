@@ -61,12 +61,12 @@ module _ (files : Files) (named : RunNames) where
   abbrev AtEnd : Inputs → Answer → Type 0
   AtEnd inputs answer = ((Agree inputs → ⊥) × (answer ≡ answers 4 (refusal (codes "agree")))) ⊎ (Agree inputs × ((ran : Ran) × IsRan inputs ran × IsMade inputs ran answer))
 
-  one_at_end : (inputs : Inputs) → HasMap files named inputs → HasBook files named inputs → (one other : Answer) → AtEnd inputs one → AtEnd inputs other → one ≡ other
-  one_at_end inputs the_map the_book one other (inl (never, e)) (inl (never', f)) = e ∙ sym f
-  one_at_end inputs the_map the_book one other (inl (never, e)) (inr (agree, rest)) = absurd (never agree)
-  one_at_end inputs the_map the_book one other (inr (agree, rest)) (inl (never, f)) = absurd (never agree)
-  one_at_end inputs the_map (bytes, version, held, stands, accepted) one other (inr (agree, (ran, is, made))) (inr (agree', (ran', is', made'))) =
-      let same : ran' ≡ ran = one_ran inputs the_map.2.sound bytes version stands accepted agree ran' ran is' is in
+  one_at_end : (inputs : Inputs) → HasMap files named inputs → HasBook files named inputs → HasScript files named inputs → (one other : Answer) → AtEnd inputs one → AtEnd inputs other → one ≡ other
+  one_at_end inputs the_map the_book the_script one other (inl (never, e)) (inl (never', f)) = e ∙ sym f
+  one_at_end inputs the_map the_book the_script one other (inl (never, e)) (inr (agree, rest)) = absurd (never agree)
+  one_at_end inputs the_map the_book the_script one other (inr (agree, rest)) (inl (never, f)) = absurd (never agree)
+  one_at_end inputs the_map (bytes, version, held, stands, runnable) (script, script_held, lines) one other (inr (agree, (ran, is, made))) (inr (agree', (ran', is', made'))) =
+      let same : ran' ≡ ran = one_ran inputs the_map.2.sound bytes version stands runnable script lines agree ran' ran is' is in
       one_made inputs ran one other made (subst (λ r. IsMade inputs r other) same made')
 
   -- ---- file by file
@@ -112,7 +112,7 @@ module _ (files : Files) (named : RunNames) where
     one_at_script of_book to_book (inr (of_script, rest)) (inl g) = absurd (script_fails_not a b.rules other (sym (same_book a b of_book to_book).1) g of_script)
     one_at_script of_book to_book (inr (of_script, rest)) (inr (to_script, rest')) =
         let same : b ≡ a = sym (same_inputs a b of_map to_map of_book to_book of_script to_script) in
-        one_at_end a of_map of_book one other rest (subst (λ i. AtEnd i other) same rest')
+        one_at_end a of_map of_book of_script one other rest (subst (λ i. AtEnd i other) same rest')
 
     one_at_book : AtBook a one → AtBook b other → one ≡ other
     one_at_book (inl f) (inl g) = one_failing files named.book TheBook IsBadBook (λ bytes why more bad worse. one_bad_book bytes why more bad worse) one other f g

@@ -1,22 +1,27 @@
 -- What a rule that is checked is said to be, and the lines of rules one after the other.
-use Rattle.std.proofs.Common.{◌≡◌, ℕ, ◌+◌, ◌<◌, ◌≤◌, Bool, true, false, List, [], ◌∷◌, ◌++◌, length, map, take, get_or, Option, Some, None, refl, sym, ap, ◌∙◌, subst, append_assoc, arith}
+use Rattle.std.proofs.Common.{◌≡◌, ℕ, ◌+◌, ◌<◌, ◌≤◌, Bool, true, false, ◌&&◌, List, [], ◌∷◌, ◌++◌, length, map, take, get_or, Option, Some, None, Result, Ok, Err, MatchResult, refl, sym, ap, ◌∙◌, subst, append_assoc, arith}
 use Rattle.std.proofs.lemmas.List.{append-nil, take_more, map-append, length-map, length-take}
 use Rattle.std.proofs.lemmas.List.Elements.{All-from_recursion}
 use Rattle.std.proofs.lemmas.Option.{slice_get_within, get_or_from_slice_get}
 use Rattle.gm_model.specs.declared.rule.RuleFault.{RuleFault}
 use Rattle.gm_model.specs.declared.schema.Schema.{Schema}
 use Rattle.gm_model.specs.declared.rule.Side.TheVariants.{Left, Right}
-use Rattle.gm_model.specs.Acceptance.{IsFault, Incidence, Cycle, Embedding}
-use Rattle.gm_model.specs.Components.{First}
+use Rattle.gm_model.specs.Acceptance.{IsAccepted, IsFault, Incidence, Cycle, Embedding}
+use Rattle.gm_model.specs.Components.{First, HasSources, IsEmbedFault, IsAssigned, IsComponentFault, Twice, Sourceless, Merged, MergedAlong}
+use Rattle.gm_model.specs.Maps.{type_of}
+use Rattle.gm_model.specs.Orbits.{Labels}
 use Rattle.gm_model.specs.declared.rule.RuleTable.{RuleTable}
-use Rattle.gm_model.specs.Rules.{Rule, rule_of, has_word}
-use Rattle.gm_model.specs.Squares.{IsSquareFault, OpenSquare, IsFirstOpenSquare}
-use Rattle.gm_model.specs.Structure.{IsIncidenceFault, OfStructure, OfArcs, IsStructureFault, BadHooks, BadHookWord, BadLength, Unconnected, AtNode, IsNodeArcFault, TwiceLeft, TwiceRight, Missing, Differs}
+use Rattle.gm_model.specs.Rules.{Rule, rule_of, has_word, is_preserved}
+use Rattle.gm_model.specs.Squares.{HasSquares, IsSquareFault, OpenSquare, IsFirstOpenSquare}
+use Rattle.gm_model.specs.Structure.{HasIncidence, IsIncidenceFault, OfStructure, OfArcs, IsStructureFault, BadHooks, BadHookWord, BadLength, Unconnected, AtNode, IsNodeArcFault, TwiceLeft, TwiceRight, Missing, Differs}
 use Rattle.gm_model.proofs.Nodes.{node_below}
 use Rattle.gm_tool.specs.Books.{IsCheckable}
 use Rattle.gm_lines.specs.Speaking.{SpeaksOf, IsSayable}
 use Rattle.gm_lines.specs.Checking.{IsVerdict, AreLines, NoRules, NextRule, refusals, rule_line}
-use Rattle.gm_tool.proofs.ReadBooks.{no_item}
+
+first_true : (a b : Bool) → (a && b) ≡ true → a ≡ true
+first_true true b e = refl
+first_true false b e = absurd cc
 
 -- ---- what a fault speaks of
 
@@ -49,14 +54,37 @@ module _ (schema : Schema) (rule : Rule) (able : IsCheckable schema rule) where
   square_speaks : (fault : RuleFault) → IsSquareFault schema.dim rule fault → SpeaksOf (length rule.nodes) (length schema.embeds) fault
   square_speaks fault (OpenSquare x i j first) = node_below rule Right x (right_node x i j first)
 
+  assigned_below : (e x : ℕ) → IsAssigned rule e x → x < length rule.nodes
+  assigned_below e x assigned = slice_get_within rule.nodes x assigned.1.0 assigned.1.1
+
+  preserved_below : (x : ℕ) → is_preserved rule x ≡ true → x < length rule.nodes
+  preserved_below x both = node_below rule Left x (first_true (has_word rule Left x) (has_word rule Right x) both)
+
+  component_speaks : (e : ℕ) (o : Labels) (x : ℕ) (fault : RuleFault) → e < length schema.embeds → x < length rule.nodes → IsComponentFault rule e o x fault → SpeaksOf (length rule.nodes) (length schema.embeds) fault
+  component_speaks e o x fault within b (Twice y z first second) = (within, assigned_below e y first.has, assigned_below e z second.has)
+  component_speaks e o x fault within b (Sourceless free new) = (within, b)
+  component_speaks e o x fault within b (Merged keeper y free kept other) = (within, preserved_below keeper kept.preserved, preserved_below y other.has)
+  component_speaks e o x fault within b (MergedAlong keeper m free kept one along) = (within, preserved_below keeper kept.preserved)
+
   pub fault_speaks : (fault : RuleFault) → IsFault schema rule fault → SpeaksOf (length rule.nodes) (length schema.embeds) fault
   fault_speaks fault (Incidence h) = incidence_speaks fault h
   fault_speaks fault (Cycle incidence h) = square_speaks fault h
-  fault_speaks fault (Embedding incidence squares (First e embed x h)) = absurd (no_item schema.embeds e embed able.bare h.embed_at)
+  fault_speaks fault (Embedding incidence squares (First e embed x h)) = component_speaks e (type_of embed) x fault (slice_get_within schema.embeds e embed h.embed_at) (node_below rule Right x h.leader.0) h.here
 
   pub verdict_sayable : (verdict : Option RuleFault) → IsVerdict schema rule verdict → IsSayable schema rule verdict
   verdict_sayable None h = tt
   verdict_sayable (Some fault) h = fault_speaks fault h
+
+  pub checked_sources : {A : Type 0} → HasIncidence schema.dim rule → HasSquares schema.dim rule → (verdict : Result A RuleFault) → MatchResult verdict (λ _. HasSources schema rule) (λ fault. IsEmbedFault schema rule fault)
+      → MatchResult verdict (λ _. IsAccepted schema rule) (λ fault. IsFault schema rule fault)
+  checked_sources incidence squares (Ok done) sources = record {
+    in_range = able.in_range;
+    typed = able.typed;
+    incidence = incidence;
+    squares = squares;
+    sources = sources
+  }
+  checked_sources incidence squares (Err fault) h = Embedding incidence squares h
 
 -- ---- lines
 

@@ -78,7 +78,7 @@ pub data IsOutput (bytes : List ℕ) : Command → ℕ → List ℕ → Type 0 w
   -- the canonical text of the map, in the version that it is read in
   Shown : (version : MapVersion) (map : ListedMap) → MapText bytes version map → IsOutput bytes Show 0 (canonical version map)
   -- the canonical text of the book in its version, whether its rules are accepted or not
-  Printed : (version : ℕ) (schema : Schema) (rules : List Rule) → BookText bytes version schema rules → IsOutput bytes Book 0 (books.canonical version schema.dim rules)
+  Printed : (version : ℕ) (schema : Schema) (rules : List Rule) → BookText bytes version schema rules → IsOutput bytes Book 0 (books.canonical version schema rules)
   -- a line for each rule of the book, and a last one that counts
   Checked : (version : ℕ) (schema : Schema) (rules : List Rule) (refused : ℕ) (lines : List ℕ) → BookText bytes version schema rules → AreLines schema rules refused lines
       → IsOutput bytes Check (check_status refused) (lines ++ counts_line (length rules) refused)

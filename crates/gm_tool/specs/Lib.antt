@@ -1,4 +1,5 @@
 pub mod Answer
+pub mod Runnable
 pub mod RunAnswer
 pub mod Program
 pub mod Refusals

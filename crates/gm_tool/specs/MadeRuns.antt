@@ -14,6 +14,8 @@ use Rattle.gm_mapfile.specs.MapText.{ListedMap, MapText, canonical}
 use Rattle.gm_mapfile.specs.declared.version.MapVersion.{MapVersion}
 use Rattle.gm_model.specs.Rules.{rule_of}
 use Rattle.gm_script.specs.ScriptText.{ScriptText}
+use Rattle.gm_text.specs.SchemaPrinting.{AreParts}
+use Rattle.gm_tool.specs.Runnable.{IsRunnable}
 use Rattle.gm_plan.specs.Plans.{PlanOf, plan_of}
 use Rattle.gm_tool.specs.Answer.{most_bytes, Files, Answer, answers}
 use Rattle.gm_lines.specs.Refusing.{refusal, role_word}
@@ -41,8 +43,9 @@ inputs_of version m book script = record { version = version; map = listed_of m;
 -- what was read can be run
 pub record CanRun (m : ArenaMap) (book : Book) (script : Script) (plans : List PlanOf) : Type 0 where
   pub sound : IsSound (as_map m)
-  pub bare : m.schema.embeds ≡ []
+  pub parts : AreParts m.schema.embeds
   pub agree : m.schema ≡ book.schema
+  pub runnable : All (IsRunnable book.schema) (map rule_of book.rules)
   pub plans_are : plans ≡ map (plan_of book.schema) book.rules
   pub plain : All (λ (rule : RuleTable). (rule_of rule).pre ≡ None) book.rules
   pub text : List ℕ

@@ -7,11 +7,10 @@ ghost use Rattle.gm_lines.specs.Checking.{AreLines, IsVerdict, refusals, counts_
 ghost use Rattle.gm_tool.specs.Replies.{IsJudged, IsChecked};
 
 use crate::book::refused;
-use gm_lines::put_at;
 use crate::refusal::NoText;
 use crate::reply::{Reply, reply_within_limit};
-use gm_lines::put_rule;
 use gm_book::read_book;
+use gm_lines::{put_at, put_rule};
 use gm_model::{Book, OutOfMemory, RuleFault, RuleTable, Schema};
 use gm_text::Text;
 use std::alloc::Global;
@@ -56,7 +55,8 @@ fn lines_of(
     Ok((text, refused))
 }
 
-fn first_fault(schema: &Schema, rule: &RuleTable) -> Option<RuleFault>
+/// The rule's first fault, where it has one.
+pub fn first_fault(schema: &Schema, rule: &RuleTable) -> Option<RuleFault>
     requires { IsCheckable schema.now (rule_of rule.now) }
     ensures { IsVerdict schema.now (rule_of rule.now) result }
 {
@@ -71,7 +71,8 @@ fn check_rule(schema: &Schema, rule: &RuleTable) -> Result<(), RuleFault>
         (λ fault. IsFault schema.now (rule_of rule.now) fault) }
 {
     gm_incident::check(schema, rule)?;
-    gm_cycle::check(schema, rule)
+    gm_cycle::check(schema, rule)?;
+    gm_embcheck::check(schema, rule)
 }
 
 fn refusals_of(fault: Option<RuleFault>) -> usize

@@ -1,5 +1,6 @@
 ghost use Rattle.std.specs.Prelude.{◌≡◌, ◌↔◌, ◌+◌, ◌≤◌, ◌⊎◌, ℕ, IfOk, IfErr, IfSome, IsErrOf, IsTrue, List, map, not};
 ghost use Rattle.gm_host.specs.Count.{counted, Rises};
+ghost use Rattle.gm_model.specs.Maps.{IsSchema};
 ghost use Rattle.gm_model.specs.Rules.{rule_of};
 ghost use Rattle.gm_lines.specs.Refusing.{TheMap, TheBook, TheScript};
 ghost use Rattle.gm_tool.specs.Loads.{FailsAt, StopsInTime, UnlessNoMemory, UnlessNoMemoryToMake};
@@ -65,6 +66,7 @@ fn load_book<S: Store>(alloc: Global, name: &str, store: &mut S) -> Result<Book,
     ensures faults_never_fall { S.load_faults store.old ≤ S.load_faults store.new }
     ensures once { S.loads store.new ≡ counted (S.loads store.old) }
     ensures read { IfOk result (λ book. (bytes : List ℕ) × IsReadBook bytes book) }
+    ensures declared { IfOk result (λ book. IsSchema book.schema) }
     ensures from { IsFrom (S.holds store.old) TheBook name.now IsReadBook IsBadBook (Rises (S.load_faults store.old) (S.load_faults store.new)) result }
 {
     let bytes = load_file(alloc, name, Role::Book, store)?;
@@ -172,8 +174,7 @@ fn applied<L: Ledger>(
 fn agree(map: &Schema, book: &Schema) -> bool
     ensures { IsTrue result ↔ (map.now ≡ book.now) }
 {
-    map.dim.top() == book.dim.top()
-        && same_embeds(map.embeds.as_slice(), book.embeds.as_slice())
+    map.dim.top() == book.dim.top() && same_embeds(map.embeds.as_slice(), book.embeds.as_slice())
 }
 
 fn same_embeds(embeds: &[Embed], others: &[Embed]) -> bool

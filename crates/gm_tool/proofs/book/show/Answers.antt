@@ -12,7 +12,7 @@ print_book-requires c = printable_from_text c.args.bytes.now c.in-Ok.book.versio
 pub returns-in_ok-text-in-Ok : goal.returns-in_ok-text-in-Ok
 returns-in_ok-text-in-Ok c =
     let rules = map rule_of c.in-Ok.book.rules in
-    let output : IsOutput c.args.bytes.now Book 0 (canonical c.in-Ok.book.version c.in-Ok.book.schema.dim rules) = Printed c.in-Ok.book.version c.in-Ok.book.schema rules c.in-Ok.ensures.book in
+    let output : IsOutput c.args.bytes.now Book 0 (canonical c.in-Ok.book.version c.in-Ok.book.schema rules) = Printed c.in-Ok.book.version c.in-Ok.book.schema rules c.in-Ok.ensures.book in
     output_judged c.args.bytes.now Book 0 c.in_ok-text-in-Ok.text.items c.reply_within_limit.result
     (subst (λ (t : List ℕ). IsOutput c.args.bytes.now Book 0 t) (sym c.in_ok-text-in-Ok.ensures) output) c.reply_within_limit.ensures
 
