@@ -1,5 +1,6 @@
 pub mod Answer
 pub mod RunAnswer
+pub mod Migrating
 pub mod Program
 pub mod Refusals
 pub mod Books
