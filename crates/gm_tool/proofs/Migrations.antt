@@ -1,5 +1,5 @@
 -- What a migration puts and saves, and why it stops.
-use Rattle.std.proofs.Common.{◌≡◌, ◌⊎◌, ℕ, List, inl, inr, Some, None, Result, Ok, Err, ◌++◌, refl, sym, ap, subst, ◌∙◌, append_assoc}
+use Rattle.std.proofs.Common.{◌≡◌, ℕ, List, inl, inr, Some, None, Result, Ok, Err, ◌++◌, refl, sym, ap, subst, append_assoc}
 use Rattle.std.specs.Prelude.{IfSome}
 use Rattle.gm_host.specs.Store.{Contents}
 use Rattle.gm_lines.specs.Refusing.{TheMap}

@@ -139,8 +139,8 @@ fn put_whole<O: Sink>(out: &mut O, bytes: &[u8], status: u8) -> u8
 /// `check BOOK` a line for each rule of the book and one that counts. `cells MAP` puts the numbers of
 /// the map's cells, components and free darts, and its two colours or an odd walk. `run MAP BOOK SCRIPT OUT`
 /// applies the lines of the script to the map, saves the map as OUT, which may be MAP, and puts a
-/// report. `migrate MAP OUT` saves the map as OUT in the second version of the format, and puts one
-/// line. All that is put goes out by one put: the text, with status 0, or 1 where a rule isn't
+/// report. `migrate MAP OUT` saves the map as OUT, which may be MAP, in the second version of the
+/// format, and puts a line with the number of its darts and its next name. All that is put goes out by one put: the text, with status 0, or 1 where a rule isn't
 /// accepted or a line is refused, or the one line of a refusal. Status 2 is for words that are no
 /// command, 3 for a file that can't be loaded, 4 for a text that stands for nothing, a rule that
 /// isn't accepted in a run, or a map and a book that don't agree, 8 for a file or a text past
@@ -163,7 +163,7 @@ pub fn tool<S: Store, O: Sink, L: Ledger>(
     ensures map { IsRunStatus result → HoldsSavedMap (words_of words.now) (S.holds store.new) }
 
     // The steps of a run, where the store tells: at most so many whatever is answered, and at least
-    // so many where it is done.
+    // so many where it is done; and the most of a map that is shown or migrated.
     ensures most { StaysWithin (words_of words.now) (S.holds store.old) steps.old steps.new }
     ensures least { TakesLeast (words_of words.now) (S.holds store.old) result steps.old steps.new }
     ensures show_most { ShowStaysWithin (words_of words.now) (S.holds store.old) steps.old steps.new }

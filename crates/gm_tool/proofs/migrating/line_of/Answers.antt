@@ -1,4 +1,4 @@
-use Rattle.std.proofs.Common.{ℕ, List, ◌++◌, codes, decimal, length, sym, ap, ◌∙◌}
+use Rattle.std.proofs.Common.{codes, decimal, length, sym}
 use Rattle.gm_mapfile.specs.Rows.{darts_of}
 use Rattle.gm_mapfile.proofs.Printed.{darts_counted}
 use Rattle.gm_tool.proofs.Migrations.{joined}
