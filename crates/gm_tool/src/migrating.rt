@@ -1,3 +1,4 @@
+//! The migration of a map to the second version of the format.
 ghost use Rattle.std.specs.Prelude.{◌≡◌, ◌+◌, ◌≤◌, ◌⊎◌, IfOk, IfSome, IsErrOf};
 ghost use Rattle.gm_arena.specs.Lawful.{IsLawful};
 ghost use Rattle.gm_host.specs.Count.{counted, Rises};
