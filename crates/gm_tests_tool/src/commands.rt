@@ -121,7 +121,7 @@ const MAPS: [Case; 25] = [
     Case {
         text: "gmap 2 dim 2 darts 0",
         status: 4,
-        put: "refused MAP text 5\n",
+        put: "refused MAP text 13\n",
     },
     Case {
         text: "gmap 1 dim 1 darts 2 5 5 5 5 5 5",

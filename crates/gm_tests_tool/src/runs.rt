@@ -244,7 +244,7 @@ fn files_that_do_not_run(rt: HostRuntime) -> Result<(), Fail> {
 }
 
 /// What fails: a load by its number, or the first save or put, which keeps some bytes or none.
-enum Failure {
+pub(crate) enum Failure {
     Nothing,
     Load(u32),
     Save(Option<usize>),
@@ -252,13 +252,13 @@ enum Failure {
 }
 
 /// A line over the texts of [`DONE`], what fails, and what the file then holds.
-struct Trial<'a> {
-    line: &'a str,
-    failure: Failure,
-    status: u8,
-    put: &'a str,
-    file: &'a str,
-    holds: Option<&'a str>,
+pub(crate) struct Trial<'a> {
+    pub(crate) line: &'a str,
+    pub(crate) failure: Failure,
+    pub(crate) status: u8,
+    pub(crate) put: &'a str,
+    pub(crate) file: &'a str,
+    pub(crate) holds: Option<&'a str>,
 }
 
 fn expect_trial(rt: &impl Abort, host: &HostRuntime, trial: &Trial) -> Result<(), Fail> {
@@ -280,7 +280,7 @@ fn expect_trial(rt: &impl Abort, host: &HostRuntime, trial: &Trial) -> Result<()
     Ok(())
 }
 
-fn try_each(rt: &impl Abort, host: &HostRuntime, trials: &[Trial]) -> Result<(), Fail> {
+pub(crate) fn try_each(rt: &impl Abort, host: &HostRuntime, trials: &[Trial]) -> Result<(), Fail> {
     for trial in trials {
         expect_trial(rt, host, trial)?;
     }

@@ -8,7 +8,8 @@ use Rattle.gm_host.specs.declared.fault.LoadFault.TheVariants as faults
 use Rattle.gm_tool.specs.Answer.{most_bytes, Answer, answers, Files, IsFileAnswer, Asks, IsOutput, role_of, NoFile, LongFile, BadFile, LongOutput, Done, Shown, Printed, Checked, Counted}
 use Rattle.gm_tool.specs.Endings.{IsEnding, Whole, LoadFailed, SaveFailed, IsStored, IsTextOf}
 use Rattle.gm_tool.specs.MadeRuns.{IsRunText, IsSoundReply, HasCause, LacksInput, HoldsMap, IsRunStatus}
-use Rattle.gm_tool.specs.Program.{IsCommand, IsRunCommand, Usage, OfFile, OfRun}
+use Rattle.gm_tool.specs.Migrating.{MigrateNames, AsksMigrate, IsMigrateText, IsMigrateStatus}
+use Rattle.gm_tool.specs.Program.{IsCommand, IsRunCommand, Usage, OfFile, OfRun, OfMigrate}
 use Rattle.gm_tool.specs.RunAnswer.{RunNames, AsksRun}
 use Rattle.gm_lines.specs.Checking.{check_status}
 use Rattle.gm_tool.specs.Answer as answer
@@ -179,6 +180,11 @@ module _ (words : List (List ℕ)) (load_fails : ℕ → Type 0) (save_fails : T
   run_text None named asks h = tt
   run_text (Some files) named asks h = text_to (λ given is. OfRun named asks is) (λ given is. tool.OfRun named asks is) files save_fails after reply h
 
+  pub migrate_text : (contents : Contents) (named : MigrateNames) → AsksMigrate words named → IfSome contents (λ files. IsMigrateText files named load_fails save_fails after reply)
+      → IfSome contents (λ files. IsText words files load_fails save_fails after reply)
+  migrate_text None named asks h = tt
+  migrate_text (Some files) named asks h = text_to (λ given is. OfMigrate named asks is) (λ given is. tool.OfMigrate named asks is) files save_fails after reply h
+
 pub usage_text : (words : List (List ℕ)) (load_fails : ℕ → Type 0) (save_fails : Type 0) (contents : Contents) → (IsCommand words → ⊥) → IfSome contents (λ files. IsText words files load_fails save_fails contents (Err (nothing.Refused refusals.Usage)))
 usage_text words load_fails save_fails None none = tt
 usage_text words load_fails save_fails (Some files) none = Whole (refusal_answer refusals.Usage) (Usage none refl) refl refl refl
@@ -211,7 +217,10 @@ module _ (words : List (List ℕ)) (contents : Contents) (fails Q : Type 0) (rep
   file_lacks command name asks h = cause_of _ Q _ (λ either. elim either [ inl f ↦ inl f | inr l ↦ inr (inl (command, name, asks, l)) ]) reply h
 
   pub run_lacks : (named : RunNames) → AsksRun words named → IsSoundReply reply (fails ⊎ LacksInput contents named) Q → HasCause reply (fails ⊎ LacksFile words contents) Q
-  run_lacks named asks h = cause_of _ Q _ (λ either. elim either [ inl f ↦ inl f | inr l ↦ inr (inr (named, asks, l)) ]) reply h
+  run_lacks named asks h = cause_of _ Q _ (λ either. elim either [ inl f ↦ inl f | inr l ↦ inr (inr (inl (named, asks, l))) ]) reply h
+
+  pub migrate_lacks : (named : MigrateNames) → AsksMigrate words named → IsSoundReply reply (fails ⊎ Lacks contents named.map) Q → HasCause reply (fails ⊎ LacksFile words contents) Q
+  migrate_lacks named asks h = cause_of _ Q _ (λ either. elim either [ inl f ↦ inl f | inr l ↦ inr (inr (inr (named, asks, l))) ]) reply h
 
 -- a command on one file is refused for a rule under check alone
 pub file_refused : (words : List (List ℕ)) (command : answer.Command) (name : List ℕ) (R : Type 0) → Asks words command name → (reply : Result Reply NoText) → IfOk reply (λ r. r.status ≡ 1 → command ≡ answer.Check)
@@ -219,9 +228,15 @@ pub file_refused : (words : List (List ℕ)) (command : answer.Command) (name : 
 file_refused words command name R asks (Ok reply) h = λ one. inl (name, subst (λ c. Asks words c name) (h one) asks)
 file_refused words command name R asks (Err none) h = tt
 
--- no words are both
+-- no words are two of the commands
 pub file_is_no_run : (words : List (List ℕ)) (command : answer.Command) (name : List ℕ) (named : RunNames) → Asks words command name → AsksRun words named → ⊥
 file_is_no_run words command name named asks runs = let e : length words ≡ 2 = ap length asks in let f : length words ≡ 5 = ap length runs in omega (arith, e, f)
+
+pub file_is_no_migrate : (words : List (List ℕ)) (command : answer.Command) (name : List ℕ) (named : MigrateNames) → Asks words command name → AsksMigrate words named → ⊥
+file_is_no_migrate words command name named asks migrates = let e : length words ≡ 2 = ap length asks in let f : length words ≡ 3 = ap length migrates in omega (arith, e, f)
+
+pub run_is_no_migrate : (words : List (List ℕ)) (named : RunNames) (other : MigrateNames) → AsksRun words named → AsksMigrate words other → ⊥
+run_is_no_migrate words named other runs migrates = let e : length words ≡ 5 = ap length runs in let f : length words ≡ 3 = ap length migrates in omega (arith, e, f)
 
 -- the files of a run are those that its words name
 pub same_named : (words : List (List ℕ)) (one other : RunNames) → AsksRun words one → AsksRun words other → one ≡ other
@@ -233,13 +248,51 @@ same_named words one other a b =
     let out : one.out ≡ other.out = cc both in
     λ k. record { map = map k; book = book k; script = script k; out = out k }
 
+-- and so are those of a migration
+pub same_migrated : (words : List (List ℕ)) (one other : MigrateNames) → AsksMigrate words one → AsksMigrate words other → one ≡ other
+same_migrated words one other a b =
+    let both : ◌≡◌ {A = List (List ℕ)} (codes "migrate" ∷ one.map ∷ one.out ∷ []) (codes "migrate" ∷ other.map ∷ other.out ∷ []) = sym a ∙ b in
+    let map : one.map ≡ other.map = cc both in
+    let out : one.out ≡ other.out = cc both in
+    λ k. record { map = map k; out = out k }
+
 -- a run is refused for a line
 pub run_refused : (words : List (List ℕ)) (named : RunNames) → AsksRun words named → (reply : Result Reply NoText) → IfOk reply (λ r. r.status ≡ 1 → IsCheck words ⊎ IsRunCommand words)
 run_refused words named asks (Ok reply) = λ one. inr (named, asks)
 run_refused words named asks (Err none) = tt
 
+-- a migration never is
+pub migrate_refused : (P : Type 0) (reply : Result Reply NoText) → IfOk reply (λ r. IsMigrateStatus r.status) → IfOk reply (λ r. r.status ≡ 1 → P)
+migrate_refused P (Ok reply) (inl zero) = λ one. absurd (let f : ◌≡◌ {A = ℕ} 0 1 = sym zero ∙ one in cc)
+migrate_refused P (Ok reply) (inr four) = λ one. absurd (let f : ◌≡◌ {A = ℕ} 4 1 = sym four ∙ one in cc)
+migrate_refused P (Err none) h = tt
+
+pub migrate_status : (reply : Result Reply NoText) → IfOk reply (λ r. IsMigrateStatus r.status) → IfOk reply (λ r. IsReplyStatus r.status)
+migrate_status (Ok reply) (inl zero) = inl zero
+migrate_status (Ok reply) (inr four) = inr (inr four)
+migrate_status (Err none) h = tt
+
 -- the map is held under the name that the words give
 pub run_holds : (words : List (List ℕ)) (named : RunNames) (contents : Contents) → AsksRun words named → (reply : Result Reply NoText) → IfOk reply (λ r. IsRunStatus r.status → HoldsMap contents named.out)
     → IfOk reply (λ r. IsRunStatus r.status → HoldsSavedMap words contents)
-run_holds words named contents asks (Ok reply) h = λ run other asks_too. subst (λ (n : RunNames). HoldsMap contents n.out) (same_named words named other asks asks_too) (h run)
+run_holds words named contents asks (Ok reply) h = λ run. (
+  λ other asks_too. subst (λ (n : RunNames). HoldsMap contents n.out) (same_named words named other asks asks_too) (h run),
+  λ other asks_too. absurd (run_is_no_migrate words named other asks asks_too),
+)
 run_holds words named contents asks (Err none) h = tt
+
+pub migrate_holds : (words : List (List ℕ)) (named : MigrateNames) (contents : Contents) → AsksMigrate words named → (reply : Result Reply NoText) → IfOk reply (λ r. IsRunStatus r.status → HoldsMap contents named.out)
+    → IfOk reply (λ r. IsRunStatus r.status → HoldsSavedMap words contents)
+migrate_holds words named contents asks (Ok reply) h = λ run. (
+  λ other asks_too. absurd (run_is_no_migrate words other named asks_too asks),
+  λ other asks_too. subst (λ (n : MigrateNames). HoldsMap contents n.out) (same_migrated words named other asks asks_too) (h run),
+)
+migrate_holds words named contents asks (Err none) h = tt
+
+-- a command on one file saves none
+pub file_holds : (words : List (List ℕ)) (command : answer.Command) (name : List ℕ) (contents : Contents) → Asks words command name → (reply : Result Reply NoText) → IfOk reply (λ r. IsRunStatus r.status → HoldsSavedMap words contents)
+file_holds words command name contents asks (Ok reply) = λ status. (
+  λ named runs. absurd (file_is_no_run words command name named asks runs),
+  λ named migrates. absurd (file_is_no_migrate words command name named asks migrates),
+)
+file_holds words command name contents asks (Err none) = tt

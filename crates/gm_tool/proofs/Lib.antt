@@ -11,6 +11,7 @@ mod RunStops
 mod Agreeing
 mod LoadCounts
 mod Saving
+mod Migrations
 mod StepBounds
 mod StepWords
 mod Putting
@@ -22,4 +23,5 @@ mod OneFile
 mod SameRows
 mod OneRan
 mod OneRunAnswer
+mod OneMigration
 mod OneAnswer

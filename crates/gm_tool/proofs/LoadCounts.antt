@@ -11,7 +11,7 @@ use Rattle.gm_lines.specs.Refusing.{Role, TheMap, TheBook}
 use Rattle.gm_tool.specs.Loads.{loads_after, FailsHere, StopsInTime, CountsLoads, UnlessNoMemory, UnlessNoMemoryToMake, BehindMap, BehindBook, BehindScript}
 use Rattle.gm_tool.specs.Refusals.{refusal_answer}
 use Rattle.gm_tool.specs.RunAnswer.{RunNames, AsksRun, IsBadMap, IsBadBook, IsFirstRefused, RuleRefused, Bad}
-use Rattle.gm_tool.specs.Stops.{IsBadFor, IsRoleStop, IsReadMap, IsReadBook, IsFrom}
+use Rattle.gm_tool.specs.Stops.{IsBadFor, IsRoleStop, IsReadMap, IsReadBook, IsFrom, reply_of}
 use Rattle.gm_tool.specs.declared.refusal.NoText.{NoText}
 use Rattle.gm_tool.specs.declared.refusal.NoText.TheVariants as nothing
 use Rattle.gm_tool.specs.declared.refusal.Stop.{Stop}
@@ -80,10 +80,11 @@ module _ (named : RunNames) (fails : Type 0) (before after : ℕ) where
   counts_saved (Some files) made (Err nothing.OutOfMemory) h = tt
   counts_saved (Some files) made (Err (nothing.Refused why)) h = h
 
-  pub counts_stopped : (contents : Contents) (none : NoText) → CountsMade contents (Err (stops.NoText none)) → CountsReply contents (Err none)
-  counts_stopped None none h = tt
-  counts_stopped (Some files) nothing.OutOfMemory h = tt
-  counts_stopped (Some files) (nothing.Refused why) h = h
+  pub counts_stopped : (contents : Contents) (stop : Stop) → CountsMade contents (Err stop) → CountsReply contents (reply_of stop)
+  counts_stopped None stop h = tt
+  counts_stopped (Some files) (stops.Bad line) h = h
+  counts_stopped (Some files) (stops.NoText nothing.OutOfMemory) h = tt
+  counts_stopped (Some files) (stops.NoText (nothing.Refused why)) h = h
 
 -- ---- the words
 

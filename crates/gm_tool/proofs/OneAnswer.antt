@@ -2,10 +2,12 @@
 use Rattle.std.proofs.Common.{◌≡◌, ℕ, true, false, List, [], ◌∷◌, inl, inr, refl, sym, ap, subst, ◌∙◌, codes}
 use Rattle.std.specs.Str.{bytes_eq}
 use Rattle.gm_tool.specs.Answer.{Files, Answer, Command, Show, Book, Check, Cells, command_word, Asks, IsFileAnswer}
-use Rattle.gm_tool.specs.Program.{IsAnswer, Usage, OfFile, OfRun}
+use Rattle.gm_tool.specs.Migrating.{IsMigrateAnswer}
+use Rattle.gm_tool.specs.Program.{IsAnswer, Usage, OfFile, OfRun, OfMigrate}
 use Rattle.gm_tool.specs.RunAnswer.{IsRunAnswer}
-use Rattle.gm_tool.proofs.Asking.{file_is_no_run, same_named}
+use Rattle.gm_tool.proofs.Asking.{file_is_no_run, file_is_no_migrate, run_is_no_migrate, same_named, same_migrated}
 use Rattle.gm_tool.proofs.OneFile.{one_file_answer}
+use Rattle.gm_tool.proofs.OneMigration.{one_migrate_answer}
 use Rattle.gm_tool.proofs.OneRunAnswer.{one_run_answer}
 
 -- ---- the words say what is asked
@@ -43,13 +45,21 @@ asked_once words command other name named a b =
 pub one_answer : (words : List (List ℕ)) (files : Files) (one other : Answer) → IsAnswer words files one → IsAnswer words files other → one ≡ other
 one_answer words files one other (Usage never e) (Usage never' f) = e ∙ sym f
 one_answer words files one other (Usage never e) (OfFile command name asks is) = absurd (never (inl (command, name, asks)))
-one_answer words files one other (Usage never e) (OfRun named asks is) = absurd (never (inr (named, asks)))
+one_answer words files one other (Usage never e) (OfRun named asks is) = absurd (never (inr (inl (named, asks))))
+one_answer words files one other (Usage never e) (OfMigrate named asks is) = absurd (never (inr (inr (named, asks))))
 one_answer words files one other (OfFile command name asks is) (Usage never f) = absurd (never (inl (command, name, asks)))
 one_answer words files one other (OfFile command name asks is) (OfFile command' name' asks' is') =
     let same = asked_once words command command' name name' asks asks' in
     one_file_answer files command name one other is (subst (λ c. IsFileAnswer files c name other) (sym same.0) (subst (λ n. IsFileAnswer files command' n other) (sym same.1) is'))
 one_answer words files one other (OfFile command name asks is) (OfRun named asks' is') = absurd (file_is_no_run words command name named asks asks')
-one_answer words files one other (OfRun named asks is) (Usage never f) = absurd (never (inr (named, asks)))
+one_answer words files one other (OfFile command name asks is) (OfMigrate named asks' is') = absurd (file_is_no_migrate words command name named asks asks')
+one_answer words files one other (OfRun named asks is) (Usage never f) = absurd (never (inr (inl (named, asks))))
 one_answer words files one other (OfRun named asks is) (OfFile command name asks' is') = absurd (file_is_no_run words command name named asks' asks)
 one_answer words files one other (OfRun named asks is) (OfRun named' asks' is') =
     one_run_answer files named one other is (subst (λ n. IsRunAnswer files n other) (sym (same_named words named named' asks asks')) is')
+one_answer words files one other (OfRun named asks is) (OfMigrate named' asks' is') = absurd (run_is_no_migrate words named named' asks asks')
+one_answer words files one other (OfMigrate named asks is) (Usage never f) = absurd (never (inr (inr (named, asks))))
+one_answer words files one other (OfMigrate named asks is) (OfFile command name asks' is') = absurd (file_is_no_migrate words command name named asks' asks)
+one_answer words files one other (OfMigrate named asks is) (OfRun named' asks' is') = absurd (run_is_no_migrate words named' named asks' asks)
+one_answer words files one other (OfMigrate named asks is) (OfMigrate named' asks' is') =
+    one_migrate_answer files named one other is (subst (λ n. IsMigrateAnswer files n other) (sym (same_migrated words named named' asks asks')) is')

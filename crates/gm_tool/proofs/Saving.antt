@@ -1,65 +1,57 @@
 -- What a save leaves, and what is put after it.
 use Rattle.std.proofs.Common.{◌≡◌, ℕ, List, inl, inr, Some, None, Result, Ok, Err, refl, sym, subst, ◌∙◌}
 use Rattle.std.specs.Prelude.{IfSome, IfOk, IsErrOf}
-use Rattle.std.specs.Global.{Vec}
 use Rattle.gm_host.specs.Store.{Contents}
 use Rattle.gm_host.specs.Saves.{IsSaved, IsSavedInPart}
 use Rattle.gm_tool.specs.Answer.{Files, Answer, answers, Saved}
-use Rattle.gm_tool.specs.Endings.{Whole, LoadFailed, SaveFailed}
-use Rattle.gm_tool.specs.MadeRuns.{IsMade, IsStopOf, IsFitted, IsSaving, IsRunText, IsRunStatus, IsMapBytes, HoldsMap, IsSoundReply}
+use Rattle.gm_tool.specs.Endings.{Whole, LoadFailed, SaveFailed, IsTextOf}
+use Rattle.gm_tool.specs.MadeRuns.{IsMade, IsStopOf, IsRunLoadFailure, IsSaving, IsRunText, IsRunStatus, IsMapBytes, HoldsMap, IsSoundReply}
 use Rattle.gm_tool.specs.Refusals.{refusal_answer}
-use Rattle.gm_tool.specs.RunAnswer.{RunNames, Inputs, Ran, IsGoodRun, IsRunAnswer, Done, report_of, saved_of, run_status}
-use Rattle.gm_tool.specs.Stops.{IsSoundStop}
+use Rattle.gm_tool.specs.RunAnswer.{RunNames, IsRunAnswer, Done, report_of, saved_of, run_status}
+use Rattle.gm_tool.specs.Stops.{IsSoundStop, reply_of}
 use Rattle.gm_tool.specs.Tool.{IsReplyStatus}
 use Rattle.gm_tool.specs.declared.refusal.NoText.{NoText}
 use Rattle.gm_tool.specs.declared.refusal.NoText.TheVariants as nothing
 use Rattle.gm_tool.specs.declared.refusal.Refusal.TheVariants as refusals
+use Rattle.gm_tool.specs.declared.refusal.Stop.{Stop}
 use Rattle.gm_tool.specs.declared.refusal.Stop.TheVariants as stops
 use Rattle.gm_tool.specs.declared.reply.Reply.{Reply}
 use Rattle.gm_tool.specs.declared.running.Made.{Made}
 
+-- what was made is saved, or saved in part, or not at all
+module _ (D L : Answer → Type 0) (save_fails : Type 0) (files : Files) (after : Contents) (made : Made) (status : ℕ) (text : List ℕ) (wanted : Saved) where
+  abbrev whole : Answer
+  whole = record { status = status; text = text; saved = Some wanted }
+
+  pub saved_text : D whole → made.status ≡ status → made.report.items ≡ text → made.map.items ≡ wanted.bytes → (reply : Result Reply NoText) → IsSaving (Some files) wanted.name made save_fails after reply → IsTextOf files D L save_fails after reply
+  saved_text defined as_told as_put as_kept (Ok reply) (s, t, stored) = Whole whole defined (s ∙ as_told) (t ∙ as_put) (subst (λ b. IsSaved (Some files) wanted.name b after) as_kept stored)
+  saved_text defined as_told as_put as_kept (Err nothing.OutOfMemory) h = h
+  saved_text defined as_told as_put as_kept (Err (nothing.Refused refusals.Save)) (fails, kept) = SaveFailed fails whole wanted defined refl refl refl (subst (λ b. IsSavedInPart (Some files) wanted.name b after) as_kept kept)
+  saved_text defined as_told as_put as_kept (Err (nothing.Refused refusals.Usage)) h = absurd h
+  saved_text defined as_told as_put as_kept (Err (nothing.Refused (refusals.Load role))) h = absurd h
+  saved_text defined as_told as_put as_kept (Err (nothing.Refused (refusals.Size role))) h = absurd h
+  saved_text defined as_told as_put as_kept (Err (nothing.Refused refusals.SizeOutput)) h = absurd h
+  saved_text defined as_told as_put as_kept (Err (nothing.Refused refusals.Agree)) h = absurd h
+
 module _ (named : RunNames) (load_fails : ℕ → Type 0) (save_fails : Type 0) where
-  module _ (files : Files) (after : Contents) (made : Made) (inputs : Inputs) (ran : Ran) (good : IsGoodRun files named inputs ran) (fits : IsFitted (run_status ran.outcomes) (report_of inputs ran) (saved_of inputs ran) (Ok made)) where
-    abbrev wanted : Saved
-    wanted = record { name = named.out; bytes = saved_of inputs ran }
-
-    abbrev whole : Answer
-    whole = record { status = run_status ran.outcomes; text = report_of inputs ran; saved = Some wanted }
-
-    defined : IsRunAnswer files named whole
-    defined = Done inputs ran good fits.3 fits.4 refl
-
-    saved_text : (reply : Result Reply NoText) → IsSaving (Some files) named.out made save_fails after reply → IsRunText files named load_fails save_fails after reply
-    saved_text (Ok reply) (s, t, stored) = Whole whole defined (s ∙ fits.0) (t ∙ fits.1) (subst (λ b. IsSaved (Some files) named.out b after) fits.2 stored)
-    saved_text (Err nothing.OutOfMemory) h = h
-    saved_text (Err (nothing.Refused refusals.Save)) (fails, kept) = SaveFailed fails whole wanted defined refl refl refl (subst (λ b. IsSavedInPart (Some files) named.out b after) fits.2 kept)
-    saved_text (Err (nothing.Refused refusals.Usage)) h = absurd h
-    saved_text (Err (nothing.Refused (refusals.Load role))) h = absurd h
-    saved_text (Err (nothing.Refused (refusals.Size role))) h = absurd h
-    saved_text (Err (nothing.Refused refusals.SizeOutput)) h = absurd h
-    saved_text (Err (nothing.Refused refusals.Agree)) h = absurd h
-
   -- the report of a run that was made, saved or not
   pub text_saved : (contents after : Contents) (made : Made) (reply : Result Reply NoText) → IfSome contents (λ files. IsMade files named load_fails (Ok made)) → IsSaving contents named.out made save_fails after reply
       → IfSome contents (λ files. IsRunText files named load_fails save_fails after reply)
   text_saved None after made reply h saving = tt
-  text_saved (Some files) after made reply (inputs, ran, good, fits) saving = saved_text files after made inputs ran good fits reply saving
+  text_saved (Some files) after made reply (inputs, ran, good, fits) saving =
+      saved_text (IsRunAnswer files named) (IsRunLoadFailure files named load_fails) save_fails files after made (run_status ran.outcomes) (report_of inputs ran) (record { name = named.out; bytes = saved_of inputs ran })
+      (Done inputs ran good fits.3 fits.4 refl) fits.0 fits.1 fits.2 reply saving
 
   -- a run that stopped
-  pub bad_text : (contents after : Contents) → after ≡ contents → (text : Vec ℕ) → IfSome contents (λ files. IsMade files named load_fails (Err (stops.Bad text)))
-      → IfSome contents (λ files. IsRunText files named load_fails save_fails after (Ok (record { status = 4; text = text })))
-  bad_text None after same text h = tt
-  bad_text (Some files) after same text h = Whole (answers 4 text.items) h refl refl same
+  stop_text : (files : Files) (after : Contents) → after ≡ Some files → (stop : Stop) → IsStopOf files named load_fails stop → IsRunText files named load_fails save_fails after (reply_of stop)
+  stop_text files after same (stops.Bad text) h = Whole (answers 4 text.items) h refl refl same
+  stop_text files after same (stops.NoText nothing.OutOfMemory) h = same
+  stop_text files after same (stops.NoText (nothing.Refused why)) (inl h) = Whole (refusal_answer why) h refl refl same
+  stop_text files after same (stops.NoText (nothing.Refused why)) (inr h) = LoadFailed h same
 
-  none_text : (files : Files) (after : Contents) → after ≡ Some files → (none : NoText) → IsStopOf files named load_fails (stops.NoText none) → IsRunText files named load_fails save_fails after (Err none)
-  none_text files after same nothing.OutOfMemory h = same
-  none_text files after same (nothing.Refused why) (inl h) = Whole (refusal_answer why) h refl refl same
-  none_text files after same (nothing.Refused why) (inr h) = LoadFailed h same
-
-  pub stopped_text : (contents after : Contents) → after ≡ contents → (none : NoText) → IfSome contents (λ files. IsMade files named load_fails (Err (stops.NoText none)))
-      → IfSome contents (λ files. IsRunText files named load_fails save_fails after (Err none))
-  stopped_text None after same none h = tt
-  stopped_text (Some files) after same none h = none_text files after same none h
+  pub stopped_text : (contents after : Contents) → after ≡ contents → (stop : Stop) → IfSome contents (λ files. IsMade files named load_fails (Err stop)) → IfSome contents (λ files. IsRunText files named load_fails save_fails after (reply_of stop))
+  stopped_text None after same stop h = tt
+  stopped_text (Some files) after same stop h = stop_text files after same stop h
 
 -- ---- whatever the store tells
 
@@ -94,11 +86,26 @@ module _ (contents after : Contents) (out : List ℕ) (made : Made) (fails : Typ
   saving_is_sound (Err (nothing.Refused refusals.SizeOutput)) P h = absurd h
   saving_is_sound (Err (nothing.Refused refusals.Agree)) P h = absurd h
 
-pub stop_is_sound : (none : NoText) (P Q : Type 0) → IsSoundStop (stops.NoText none) P → IsSoundReply (Err none) P Q
-stop_is_sound nothing.OutOfMemory P Q h = tt
-stop_is_sound (nothing.Refused (refusals.Load role)) P Q h = h
-stop_is_sound (nothing.Refused (refusals.Size role)) P Q h = tt
-stop_is_sound (nothing.Refused refusals.SizeOutput) P Q h = tt
-stop_is_sound (nothing.Refused refusals.Agree) P Q h = tt
-stop_is_sound (nothing.Refused refusals.Usage) P Q h = absurd h
-stop_is_sound (nothing.Refused refusals.Save) P Q h = absurd h
+-- ---- a stop
+
+pub stop_is_sound : (stop : Stop) (P Q : Type 0) → IsSoundStop stop P → IsSoundReply (reply_of stop) P Q
+stop_is_sound (stops.Bad line) P Q h = tt
+stop_is_sound (stops.NoText nothing.OutOfMemory) P Q h = tt
+stop_is_sound (stops.NoText (nothing.Refused (refusals.Load role))) P Q h = h
+stop_is_sound (stops.NoText (nothing.Refused (refusals.Size role))) P Q h = tt
+stop_is_sound (stops.NoText (nothing.Refused refusals.SizeOutput)) P Q h = tt
+stop_is_sound (stops.NoText (nothing.Refused refusals.Agree)) P Q h = tt
+stop_is_sound (stops.NoText (nothing.Refused refusals.Usage)) P Q h = absurd h
+stop_is_sound (stops.NoText (nothing.Refused refusals.Save)) P Q h = absurd h
+
+-- its status is 4, which is none of a run that is done
+pub stop_status : (IsOne : ℕ → Type 0) → IsOne 4 → (stop : Stop) → IfOk (reply_of stop) (λ r. IsOne r.status)
+stop_status IsOne four (stops.Bad line) = four
+stop_status IsOne four (stops.NoText none) = tt
+
+pub four_is_no_run : IsRunStatus 4 → ⊥
+four_is_no_run (inl e) = let f : ◌≡◌ {A = ℕ} 4 0 = e in cc
+four_is_no_run (inr e) = let f : ◌≡◌ {A = ℕ} 4 1 = e in cc
+
+pub stop_is_no_run : (P : Type 0) (stop : Stop) → IfOk (reply_of stop) (λ r. IsRunStatus r.status → P)
+stop_is_no_run P stop = stop_status (λ status. IsRunStatus status → P) (λ run. absurd (four_is_no_run run)) stop

@@ -9,15 +9,21 @@ use Rattle.gm_mapfile.proofs.Printed.{darts_counted}
 use Rattle.gm_mapfile.specs.MapText.{ListedMap, MapText}
 use Rattle.gm_mapfile.specs.Rows.{listed_of}
 use Rattle.gm_mapfile.specs.declared.reading.MapRead.{MapRead}
+use Rattle.gm_lines.specs.Refusing.{TheMap}
 use Rattle.gm_tool.specs.Answer.{Asks}
 use Rattle.gm_tool.specs.Answer as answer
 use Rattle.gm_tool.specs.MadeRuns.{IsRunStatus}
-use Rattle.gm_tool.specs.RunAnswer.{RunNames, AsksRun}
-use Rattle.gm_tool.specs.StepBounds.{WithinMost, AtLeast, StaysWithin, TakesLeast, ShowsWithin, FileShowsWithin, ShowStaysWithin, BytesReadWithin, printing}
+use Rattle.gm_tool.specs.Migrating.{MigrateNames, AsksMigrate}
+use Rattle.gm_tool.specs.RunAnswer.{RunNames, AsksRun, IsBadMap}
+use Rattle.gm_tool.specs.StepBounds.{WithinMost, AtLeast, StaysWithin, TakesLeast, ShowsWithin, FileShowsWithin, ShowStaysWithin, MigrateStaysWithin, BytesReadWithin, ReadsWithin, printing}
+use Rattle.gm_tool.specs.Stops.{IsReadMap, IsFrom, reply_of}
 use Rattle.gm_tool.specs.declared.refusal.NoText.{NoText}
+use Rattle.gm_tool.specs.declared.refusal.Stop.{Stop}
 use Rattle.gm_tool.specs.declared.reply.Reply.{Reply}
-use Rattle.gm_tool.proofs.Asking.{same_named}
+use Rattle.gm_tool.proofs.Asking.{same_named, same_migrated}
 use Rattle.gm_tool.proofs.OneAnswer.{asked_once}
+use Rattle.gm_tool.proofs.OneFile.{same_bytes}
+use Rattle.gm_tool.proofs.Saving.{stop_status, four_is_no_run}
 
 read_below : (s darts before after : ℕ) → after ≤ before + 32 * s * (darts + 1) → after ≤ before + 40 * s * (darts + 1)
 read_below s darts before after h =
@@ -89,6 +95,24 @@ file_shown words contents command name before after asks shown other asks_too =
 pub none_shown : (words : List (List ℕ)) (contents : Contents) (before after : ℕ) → ((command : answer.Command) (name : List ℕ) → Asks words command name → ⊥) → ShowStaysWithin words contents before after
 none_shown words contents before after none name asks = absurd (none answer.Show name asks)
 
+-- ---- a map that is migrated
+
+pub read_shown : (contents : Contents) (name : List ℕ) (before after : ℕ) → ReadsWithin contents name before after → FileShowsWithin contents name before after
+read_shown None name before after reads = tt
+read_shown (Some files) name before after reads = λ bytes held. reads_shown bytes before after (reads bytes held)
+
+pub printed_shown : (contents : Contents) (name : List ℕ) (fails : Type 0) (read : MapRead) (before middle after : ℕ) → IsLawful read.arena → IsFrom contents TheMap name IsReadMap IsBadMap fails (Ok read)
+    → ReadsWithin contents name before middle → after ≤ middle + printing read.arena.schema.dim read.arena.count → FileShowsWithin contents name before after
+printed_shown None name fails read before middle after lawful is reads prints = tt
+printed_shown (Some files) name fails read before middle after lawful (bytes, held, is) reads prints = λ other there.
+    subst (λ b. ShowsWithin b before after) (same_bytes files name bytes other held.0 there.0) (prints_shown bytes read before middle after lawful is.stands (reads bytes held) prints)
+
+pub migrated_within : (words : List (List ℕ)) (named : MigrateNames) (contents : Contents) (before after : ℕ) → AsksMigrate words named → FileShowsWithin contents named.map before after → MigrateStaysWithin words contents before after
+migrated_within words named contents before after asks shown other asks_too = subst (λ (n : MigrateNames). FileShowsWithin contents n.map before after) (same_migrated words named other asks asks_too) shown
+
+pub none_migrated : (words : List (List ℕ)) (contents : Contents) (before after : ℕ) → ((named : MigrateNames) → AsksMigrate words named → ⊥) → MigrateStaysWithin words contents before after
+none_migrated words contents before after none named asks = absurd (none named asks)
+
 -- ---- the status
 
 -- of a report that was made and saved
@@ -98,14 +122,13 @@ least_saved None named before after (Ok reply) h = tt
 least_saved (Some files) named before after (Ok reply) h = λ run. h
 least_saved contents named before after (Err none) h = tt
 
--- of a text that stands for nothing
-pub least_bad : (contents : Contents) (named : RunNames) (before after : ℕ) → IfSome contents (λ files. IsRunStatus 4 → AtLeast files named before after)
-least_bad None named before after = tt
-least_bad (Some files) named before after = λ run. absurd (four run)
+-- of a stop
+pub least_stopped : (contents : Contents) (named : RunNames) (before after : ℕ) (stop : Stop) → IfOk (reply_of stop) (λ r. IfSome contents (λ files. IsRunStatus r.status → AtLeast files named before after))
+least_stopped contents named before after stop = stop_status (λ status. IfSome contents (λ files. IsRunStatus status → AtLeast files named before after)) (four contents) stop
   where
-    four : IsRunStatus 4 → ⊥
-    four (inl e) = let f : ◌≡◌ {A = ℕ} 4 0 = e in cc
-    four (inr e) = let f : ◌≡◌ {A = ℕ} 4 1 = e in cc
+    four : (c : Contents) → IfSome c (λ files. IsRunStatus 4 → AtLeast files named before after)
+    four None = tt
+    four (Some files) = λ run. absurd (four_is_no_run run)
 
 -- of what is put
 pub least_put : (words : List (List ℕ)) (contents : Contents) (given status before after : ℕ) → (IsRunStatus status → IsRunStatus given) → TakesLeast words contents given before after → TakesLeast words contents status before after

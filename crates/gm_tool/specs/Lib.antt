@@ -1,6 +1,7 @@
 pub mod Answer
 pub mod Runnable
 pub mod RunAnswer
+pub mod Migrating
 pub mod Program
 pub mod Refusals
 pub mod Books

@@ -2,6 +2,7 @@
 use Rattle.std.specs.Prelude.{◌≡◌, ◌⊎◌, ℕ, List, codes}
 use Rattle.gm_tool.specs.Answer.{Files, Answer, answers, Command, Asks, IsFileAnswer}
 use Rattle.gm_lines.specs.Refusing.{refusal}
+use Rattle.gm_tool.specs.Migrating.{MigrateNames, AsksMigrate, IsMigrateAnswer}
 use Rattle.gm_tool.specs.RunAnswer.{RunNames, AsksRun, IsRunAnswer}
 
 -- the words are a command on one file
@@ -11,11 +12,23 @@ IsFileCommand words = (command : Command) × (name : List ℕ) × Asks words com
 abbrev pub IsRunCommand : List (List ℕ) → Type 0
 IsRunCommand words = (named : RunNames) × AsksRun words named
 
+abbrev pub IsMigrateCommand : List (List ℕ) → Type 0
+IsMigrateCommand words = (named : MigrateNames) × AsksMigrate words named
+
+-- the words are a command that saves
+abbrev pub IsSavingCommand : List (List ℕ) → Type 0
+IsSavingCommand words = IsRunCommand words ⊎ IsMigrateCommand words
+
+-- the words are a command that reads one file
+abbrev pub ReadsOneFile : List (List ℕ) → Type 0
+ReadsOneFile words = IsFileCommand words ⊎ IsMigrateCommand words
+
 -- the words are a command with its number of words
 abbrev pub IsCommand : List (List ℕ) → Type 0
-IsCommand words = IsFileCommand words ⊎ IsRunCommand words
+IsCommand words = IsFileCommand words ⊎ IsSavingCommand words
 
 pub data IsAnswer (words : List (List ℕ)) (files : Files) (answer : Answer) : Type 0 where
   Usage : (IsCommand words → ⊥) → answer ≡ answers 2 (refusal (codes "usage")) → IsAnswer words files answer
   OfFile : (command : Command) (name : List ℕ) → Asks words command name → IsFileAnswer files command name answer → IsAnswer words files answer
   OfRun : (named : RunNames) → AsksRun words named → IsRunAnswer files named answer → IsAnswer words files answer
+  OfMigrate : (named : MigrateNames) → AsksMigrate words named → IsMigrateAnswer files named answer → IsAnswer words files answer

@@ -1,4 +1,4 @@
--- How many steps a run of the program takes: the most, and the least; and the most of a map that is shown.
+-- How many steps a run of the program takes: the most, and the least; and the most of a map that is shown or migrated.
 use Rattle.std.specs.Prelude.{ℕ, ◌+◌, ◌*◌, ◌≤◌, List, length, IfSome}
 use Rattle.gm_host.specs.Store.{Contents}
 use Rattle.gm_mapfile.specs.MapText.{ListedMap, MapText, map_of}
@@ -6,6 +6,7 @@ use Rattle.gm_mapfile.specs.declared.version.MapVersion.{MapVersion}
 use Rattle.gm_model.specs.Runs.{IsRunBudget, changed_darts}
 use Rattle.gm_tool.specs.Answer.{Files, HasFile, Asks, Show}
 use Rattle.gm_tool.specs.MadeRuns.{IsRunStatus}
+use Rattle.gm_tool.specs.Migrating.{MigrateNames, AsksMigrate}
 use Rattle.gm_tool.specs.RunAnswer.{RunNames, AsksRun, Inputs, Ran, IsRan, IsGoodRun}
 
 -- the sum of the budgets of the lines, each at the map that it is applied to
@@ -76,6 +77,10 @@ FileShowsWithin contents name before after = IfSome contents (λ files. (bytes :
 -- and where the words are `show` and that name
 abbrev pub ShowStaysWithin : List (List ℕ) → Contents → ℕ → ℕ → Type 0
 ShowStaysWithin words contents before after = (name : List ℕ) → Asks words Show name → FileShowsWithin contents name before after
+
+-- and no more to migrate it
+abbrev pub MigrateStaysWithin : List (List ℕ) → Contents → ℕ → ℕ → Type 0
+MigrateStaysWithin words contents before after = (named : MigrateNames) → AsksMigrate words named → FileShowsWithin contents named.map before after
 
 -- ---- the parts of a run
 

@@ -16,10 +16,12 @@ use Rattle.gm_tool.specs.Answer.{Files, answers, HasFile}
 use Rattle.gm_lines.specs.Refusing.{refusal, Role, role_word}
 use Rattle.gm_tool.specs.Refusals.{refusal_answer}
 use Rattle.gm_tool.specs.RunAnswer.{IsFailing}
+use Rattle.gm_tool.specs.declared.refusal.NoText as none_of
 use Rattle.gm_tool.specs.declared.refusal.NoText.TheVariants as nothing
 use Rattle.gm_tool.specs.declared.refusal.Refusal.TheVariants.{Usage, Load, Save}
 use Rattle.gm_tool.specs.declared.refusal.Stop.{Stop}
 use Rattle.gm_tool.specs.declared.refusal.Stop.TheVariants.{Bad, NoText}
+use Rattle.gm_tool.specs.declared.reply.Reply.{Reply}
 
 -- a line that was made, or want of memory
 abbrev pub IsStopWith : {E : Type 0} → Result (Vec ℕ) E → Stop → Type 0
@@ -45,6 +47,11 @@ IsSoundStop (NoText (nothing.Refused (Load role))) P = P
 IsSoundStop (NoText (nothing.Refused Usage)) P = ⊥
 IsSoundStop (NoText (nothing.Refused Save)) P = ⊥
 IsSoundStop _ P = Unit {0}
+
+-- a text that can't be run has its line put with status 4
+abbrev pub reply_of : Stop → Result Reply none_of.NoText
+reply_of (Bad line) = Ok (record { status = 4; text = line })
+reply_of (NoText none) = Err none
 
 -- ---- the three files
 

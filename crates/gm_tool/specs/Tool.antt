@@ -6,6 +6,7 @@ use Rattle.gm_lines.specs.Refusing.{role_word, refusal}
 use Rattle.gm_tool.specs.Answer as answer
 use Rattle.gm_tool.specs.Endings.{IsEnding, IsTextOf}
 use Rattle.gm_tool.specs.MadeRuns.{IsRunLoadFailure, LacksInput, HoldsMap}
+use Rattle.gm_tool.specs.Migrating.{MigrateNames, AsksMigrate, IsMigrateLoadFailure}
 use Rattle.gm_tool.specs.Program.{IsAnswer}
 use Rattle.gm_tool.specs.RunAnswer.{RunNames, AsksRun}
 use Rattle.gm_host.specs.Store.{Contents, Lacks}
@@ -32,6 +33,7 @@ IsFileText files command name load_fails save_fails after reply = IsTextOf files
 pub data IsLoadFailure (words : List (List ℕ)) (files : Files) (load_fails : ℕ → Type 0) (given : Answer) : Type 0 where
   OfFile : (command : answer.Command) (name : List ℕ) → Asks words command name → IsFileLoadFailure command load_fails given → IsLoadFailure words files load_fails given
   OfRun : (named : RunNames) → AsksRun words named → IsRunLoadFailure files named load_fails given → IsLoadFailure words files load_fails given
+  OfMigrate : (named : MigrateNames) → AsksMigrate words named → IsMigrateLoadFailure load_fails given → IsLoadFailure words files load_fails given
 
 -- the text to put is that of the words' answer or of a fault of the store, and the store holds what it then holds
 abbrev pub IsText : List (List ℕ) → Files → (ℕ → Type 0) → Type 0 → Contents → Result Reply NoText → Type 0
@@ -62,11 +64,12 @@ LeavesWhereTold words _ later load_fails save_fails put_fails _ status after = U
 -- the words ask for a file that the store tells it does not hold
 abbrev pub LacksFile : List (List ℕ) → Contents → Type 0
 LacksFile words contents =
-    ((command : answer.Command) × (name : List ℕ) × Asks words command name × Lacks contents name) ⊎ ((named : RunNames) × AsksRun words named × LacksInput contents named)
+    ((command : answer.Command) × (name : List ℕ) × Asks words command name × Lacks contents name)
+    ⊎ (((named : RunNames) × AsksRun words named × LacksInput contents named) ⊎ ((named : MigrateNames) × AsksMigrate words named × Lacks contents named.map))
 
--- where the words are a run and the store tells, the store holds the canonical text of a generalised map under the name to save under
+-- where the words are a command that saves and the store tells, the store holds the canonical text of a generalised map under the name to save under
 abbrev pub HoldsSavedMap : List (List ℕ) → Contents → Type 0
-HoldsSavedMap words contents = (named : RunNames) → AsksRun words named → HoldsMap contents named.out
+HoldsSavedMap words contents = ((named : RunNames) → AsksRun words named → HoldsMap contents named.out) × ((named : MigrateNames) → AsksMigrate words named → HoldsMap contents named.out)
 
 -- bytes are put whole with the status given; or the sink failed, and some first bytes are; or memory was wanting, and none are
 abbrev pub IsPut : Option (List ℕ) → Option (List ℕ) → Type 0 → List ℕ → ℕ → ℕ → Type 0

@@ -1,7 +1,8 @@
 ghost use Rattle.std.specs.Prelude.{MatchOption, ◌≡◌};
 ghost use Rattle.gm_tool.specs.Answer.{Asks, command_word};
 ghost use Rattle.gm_tool.specs.MadeRuns.{names_of};
-ghost use Rattle.gm_tool.specs.Program.{IsFileCommand, IsRunCommand};
+ghost use Rattle.gm_tool.specs.Migrating.{AsksMigrate, migrate_names_of};
+ghost use Rattle.gm_tool.specs.Program.{IsFileCommand, IsRunCommand, IsMigrateCommand};
 ghost use Rattle.gm_tool.specs.RunAnswer.{AsksRun};
 ghost use Rattle.gm_tool.specs.Refusals.{command_in, IsNoCommandWord};
 ghost use Rattle.gm_tool.specs.Tool.{words_of};
@@ -25,6 +26,13 @@ pub struct RunFiles<'w> {
     pub map: &'w str,
     pub book: &'w str,
     pub script: &'w str,
+    pub out: &'w str,
+}
+
+/// The file that a migration reads, and the one under which it saves, by name.
+#[derive(Clone, Copy, Debug, PartialEq, Eq)]
+pub struct MigrateFiles<'w> {
+    pub map: &'w str,
     pub out: &'w str,
 }
 
@@ -54,6 +62,23 @@ pub fn run_of(words: &[String]) -> Option<RunFiles<'_>>
             map: map.as_str(),
             book: book.as_str(),
             script: script.as_str(),
+            out: out.as_str(),
+        }),
+        _ => None,
+    }
+}
+
+/// The files of `migrate MAP OUT`, or `None` where the words are anything else.
+pub fn migrate_of(words: &[String]) -> Option<MigrateFiles<'_>>
+    ensures { MatchOption result (IsMigrateCommand (words_of words.now) → ⊥)
+        (λ files. AsksMigrate (words_of words.now) (migrate_names_of files)) }
+{
+    let [word, map, out] = words else {
+        return None;
+    };
+    match word.as_str() {
+        "migrate" => Some(MigrateFiles {
+            map: map.as_str(),
             out: out.as_str(),
         }),
         _ => None,

@@ -9,6 +9,7 @@ mod command;
 mod laws;
 mod load;
 mod map;
+mod migrating;
 mod program;
 mod refusal;
 mod reply;

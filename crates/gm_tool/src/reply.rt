@@ -1,6 +1,8 @@
+ghost use Rattle.std.specs.Prelude.{◌≡◌};
 ghost use Rattle.gm_tool.specs.Replies.{IsWithinLimit};
+ghost use Rattle.gm_tool.specs.Stops.{reply_of};
 
-use crate::refusal::{NoText, Refusal};
+use crate::refusal::{NoText, Refusal, Stop};
 
 /// The most bytes of a file that is read or of a text that is put.
 pub const MOST_BYTES: usize = 268_435_456;
@@ -20,4 +22,14 @@ pub fn reply_within_limit(status: u8, text: Vec<u8>) -> Result<Reply, NoText>
         return Err(NoText::Refused(Refusal::SizeOutput));
     }
     Ok(Reply { status, text })
+}
+
+/// What is put of a stop before anything is saved.
+pub fn stopped(stop: Stop) -> Result<Reply, NoText>
+    ensures { result ≡ reply_of stop }
+{
+    match stop {
+        Stop::Bad(text) => Ok(Reply { status: 4, text }),
+        Stop::NoText(none) => Err(none),
+    }
 }

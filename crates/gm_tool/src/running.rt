@@ -22,7 +22,7 @@ use crate::book::plans_of;
 use crate::command::RunFiles;
 use crate::load::load_file;
 use crate::refusal::{NoText, Refusal, Role, Stop};
-use crate::reply::{MOST_BYTES, Reply};
+use crate::reply::{MOST_BYTES, Reply, stopped};
 use crate::{book, map, script};
 use gm_arena::{Arena, Steps};
 use gm_host::{SaveFault, Store};
@@ -33,7 +33,7 @@ use gm_run::{Outcome, Report, print_report};
 use std::alloc::Global;
 use std::sync::ledger::Ledger;
 
-/// What is saved and put of a run, with the status where that goes well.
+/// What is saved and put, with the status where that goes well.
 #[derive(Debug, Drop)]
 pub struct Made {
     pub status: u8,
@@ -41,7 +41,8 @@ pub struct Made {
     pub map: Vec<u8>,
 }
 
-fn load_map<S: Store, L: Ledger>(
+/// The map in the file of this name, or why there is none.
+pub fn load_map<S: Store, L: Ledger>(
     alloc: Global,
     name: &str,
     store: &mut S,
@@ -235,7 +236,8 @@ fn prepared<S: Store, L: Ledger>(
     )
 }
 
-fn saved<S: Store>(out: &str, made: Made, store: &mut S) -> Result<Reply, NoText>
+/// Saves the map, and answers the text to put.
+pub fn saved<S: Store>(out: &str, made: Made, store: &mut S) -> Result<Reply, NoText>
     ensures no_load { S.loads store.new ≡ S.loads store.old }
     ensures no_load_fault { S.load_faults store.new ≡ S.load_faults store.old }
     ensures no_save_fault { IfOk result (λ _. S.save_faults store.new ≡ S.save_faults store.old) }
@@ -276,7 +278,6 @@ pub fn answer<S: Store, L: Ledger>(
 {
     match prepared(alloc, files, store, steps) {
         Ok(made) => saved(files.out, made, store),
-        Err(Stop::Bad(text)) => Ok(Reply { status: 4, text }),
-        Err(Stop::NoText(none)) => Err(none),
+        Err(stop) => stopped(stop),
     }
 }

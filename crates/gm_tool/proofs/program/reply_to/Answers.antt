@@ -1,13 +1,14 @@
 use Rattle.std.proofs.Common.{Err, inl, inr}
 use Rattle.gm_host.specs.Count.{Rises}
 use Rattle.gm_tool.specs.MadeRuns.{names_of}
+use Rattle.gm_tool.specs.Migrating.{migrate_names_of}
 use Rattle.gm_tool.specs.Refusals.{command_in}
 use Rattle.gm_tool.specs.Tool.{words_of}
 use Rattle.gm_tool.specs.declared.refusal.NoText.TheVariants as nothing
 use Rattle.gm_tool.specs.declared.refusal.Refusal.TheVariants as refusals
 use Rattle.gm_tool.proofs.LoadCounts.{counts_of, counts_none, always}
-use Rattle.gm_tool.proofs.StepWords.{within_of, least_of, within_none, least_none, file_shown, none_shown}
-use Rattle.gm_tool.proofs.Asking.{file_is_no_run, file_text, run_text, usage_text, file_lacks, run_lacks, file_refused, run_refused, run_holds}
+use Rattle.gm_tool.proofs.StepWords.{within_of, least_of, within_none, least_none, file_shown, none_shown, migrated_within, none_migrated}
+use Rattle.gm_tool.proofs.Asking.{file_is_no_run, file_is_no_migrate, run_is_no_migrate, file_text, run_text, migrate_text, usage_text, file_lacks, run_lacks, migrate_lacks, file_refused, run_refused, migrate_refused, migrate_status, file_holds, run_holds, migrate_holds}
 use Rattle.gm_tool.proofs.program.reply_to.Goals as goal
 
 pub returns-in-Some-clause-text : goal.returns-in-Some-clause-text
@@ -16,7 +17,7 @@ returns-in-Some-clause-text g c =
 
 pub returns-clause-text : goal.returns-clause-text
 returns-clause-text g c =
-    run_text (words_of c.args.words.now) _ _ _ c.answer.result (g.S.Store.holds c.args.store.now) (names_of c.in-Some-run_of.files) c.in-Some-run_of.ensures c.answer.ensures.text
+    run_text (words_of c.args.words.now) _ _ _ c.answer-2.result (g.S.Store.holds c.args.store.now) (names_of c.in-Some-run_of.files) c.in-Some-run_of.ensures c.answer-2.ensures.text
 
 pub returns-in-Some-clause-cause : goal.returns-in-Some-clause-cause
 returns-in-Some-clause-cause g c =
@@ -24,7 +25,7 @@ returns-in-Some-clause-cause g c =
 
 pub returns-clause-cause : goal.returns-clause-cause
 returns-clause-cause g c =
-    run_lacks (words_of c.args.words.now) (g.S.Store.holds c.args.store.now) _ _ c.answer.result (names_of c.in-Some-run_of.files) c.in-Some-run_of.ensures c.answer.ensures.sound
+    run_lacks (words_of c.args.words.now) (g.S.Store.holds c.args.store.now) _ _ c.answer-2.result (names_of c.in-Some-run_of.files) c.in-Some-run_of.ensures c.answer-2.ensures.sound
 
 pub returns-in-Some-clause-refused : goal.returns-in-Some-clause-refused
 returns-in-Some-clause-refused g c =
@@ -32,25 +33,25 @@ returns-in-Some-clause-refused g c =
 
 pub returns-in_default-run_of-clause-text : goal.returns-in_default-run_of-clause-text
 returns-in_default-run_of-clause-text g c =
-    usage_text (words_of c.args.words.now) _ _ (g.S.Store.holds c.args.store.now) (λ either. elim either [ inl file ↦ c.in_default.ensures file | inr run ↦ c.in_default-run_of.ensures run ])
+    usage_text (words_of c.args.words.now) _ _ (g.S.Store.holds c.args.store.now) (λ either. elim either [ inl file ↦ c.in_default.ensures file | inr saves ↦ elim saves [ inl run ↦ c.in_default-run_of.ensures run | inr migrate ↦ c.in_default-migrate_of.ensures migrate ] ])
 
 pub returns-clause-held : goal.returns-clause-held
-returns-clause-held g c none = absurd (none (names_of c.in-Some-run_of.files, c.in-Some-run_of.ensures))
+returns-clause-held g c none = absurd (none (inl (names_of c.in-Some-run_of.files, c.in-Some-run_of.ensures)))
 
 pub returns-clause-no_save_fault : goal.returns-clause-no_save_fault
-returns-clause-no_save_fault g c none = absurd (none (names_of c.in-Some-run_of.files, c.in-Some-run_of.ensures))
+returns-clause-no_save_fault g c none = absurd (none (inl (names_of c.in-Some-run_of.files, c.in-Some-run_of.ensures)))
 
 pub returns-clause-none_loaded : goal.returns-clause-none_loaded
-returns-clause-none_loaded g c none = absurd (none (inr (names_of c.in-Some-run_of.files, c.in-Some-run_of.ensures)))
+returns-clause-none_loaded g c none = absurd (none (inr (inl (names_of c.in-Some-run_of.files, c.in-Some-run_of.ensures))))
 
 pub returns-clause-no_command : goal.returns-clause-no_command
-returns-clause-no_command g c none = absurd (none (inr (names_of c.in-Some-run_of.files, c.in-Some-run_of.ensures)))
+returns-clause-no_command g c none = absurd (none (inr (inl (names_of c.in-Some-run_of.files, c.in-Some-run_of.ensures))))
 
 pub returns-clause-refused : goal.returns-clause-refused
-returns-clause-refused g c = run_refused (words_of c.args.words.now) (names_of c.in-Some-run_of.files) c.in-Some-run_of.ensures c.answer.result
+returns-clause-refused g c = run_refused (words_of c.args.words.now) (names_of c.in-Some-run_of.files) c.in-Some-run_of.ensures c.answer-2.result
 
 pub returns-clause-map : goal.returns-clause-map
-returns-clause-map g c = run_holds (words_of c.args.words.now) (names_of c.in-Some-run_of.files) _ c.in-Some-run_of.ensures c.answer.result c.answer.ensures.map
+returns-clause-map g c = run_holds (words_of c.args.words.now) (names_of c.in-Some-run_of.files) _ c.in-Some-run_of.ensures c.answer-2.result c.answer-2.ensures.map
 
 pub returns-in-Some-clause-most : goal.returns-in-Some-clause-most
 returns-in-Some-clause-most g c =
@@ -64,10 +65,10 @@ pub returns-in_default-run_of-clause-most : goal.returns-in_default-run_of-claus
 returns-in_default-run_of-clause-most g c = within_none (words_of c.args.words.now) (λ named asks. c.in_default-run_of.ensures (named, asks)) _ _ (g.S.Store.holds c.args.store.now)
 
 pub returns-clause-most : goal.returns-clause-most
-returns-clause-most g c = within_of (words_of c.args.words.now) (names_of c.in-Some-run_of.files) c.in-Some-run_of.ensures _ _ (g.S.Store.holds c.args.store.now) c.answer.ensures.most
+returns-clause-most g c = within_of (words_of c.args.words.now) (names_of c.in-Some-run_of.files) c.in-Some-run_of.ensures _ _ (g.S.Store.holds c.args.store.now) c.answer-2.ensures.most
 
 pub returns-clause-least : goal.returns-clause-least
-returns-clause-least g c = least_of (words_of c.args.words.now) (names_of c.in-Some-run_of.files) c.in-Some-run_of.ensures _ _ (g.S.Store.holds c.args.store.now) c.answer.result c.answer.ensures.least
+returns-clause-least g c = least_of (words_of c.args.words.now) (names_of c.in-Some-run_of.files) c.in-Some-run_of.ensures _ _ (g.S.Store.holds c.args.store.now) c.answer-2.result c.answer-2.ensures.least
 
 pub returns-in-Some-clause-show_most : goal.returns-in-Some-clause-show_most
 returns-in-Some-clause-show_most g c =
@@ -92,7 +93,67 @@ returns-in_default-run_of-clause-counted_loads g c =
 
 pub returns-clause-counted_loads : goal.returns-clause-counted_loads
 returns-clause-counted_loads g c =
-    counts_of (words_of c.args.words.now) (Rises (g.S.Store.load_faults c.args.store.now) (g.S.Store.load_faults c.answer.new.store)) (g.S.Store.loads c.args.store.now) (g.S.Store.loads c.answer.new.store) (names_of c.in-Some-run_of.files) c.in-Some-run_of.ensures (g.S.Store.holds c.args.store.now) c.answer.result c.answer.ensures.counted_loads
+    counts_of (words_of c.args.words.now) (Rises (g.S.Store.load_faults c.args.store.now) (g.S.Store.load_faults c.answer-2.new.store)) (g.S.Store.loads c.args.store.now) (g.S.Store.loads c.answer-2.new.store) (names_of c.in-Some-run_of.files) c.in-Some-run_of.ensures (g.S.Store.holds c.args.store.now) c.answer-2.result c.answer-2.ensures.counted_loads
 
 pub returns-in-Some-clause-none_failed : goal.returns-in-Some-clause-none_failed
 returns-in-Some-clause-none_failed g c = always c.reply_on.ensures.no_save_fault c.reply_on.result
+
+pub returns-in-Some-migrate_of-clause-text : goal.returns-in-Some-migrate_of-clause-text
+returns-in-Some-migrate_of-clause-text g c =
+    migrate_text (words_of c.args.words.now) _ _ _ c.answer.result (g.S.Store.holds c.args.store.now) (migrate_names_of c.in-Some-migrate_of.files) c.in-Some-migrate_of.ensures c.answer.ensures.text
+
+pub returns-in-Some-migrate_of-clause-cause : goal.returns-in-Some-migrate_of-clause-cause
+returns-in-Some-migrate_of-clause-cause g c =
+    migrate_lacks (words_of c.args.words.now) (g.S.Store.holds c.args.store.now) _ _ c.answer.result (migrate_names_of c.in-Some-migrate_of.files) c.in-Some-migrate_of.ensures c.answer.ensures.sound
+
+pub returns-in-Some-migrate_of-clause-statuses : goal.returns-in-Some-migrate_of-clause-statuses
+returns-in-Some-migrate_of-clause-statuses g c = migrate_status c.answer.result c.answer.ensures.statuses
+
+pub returns-in-Some-migrate_of-clause-refused : goal.returns-in-Some-migrate_of-clause-refused
+returns-in-Some-migrate_of-clause-refused g c = migrate_refused _ c.answer.result c.answer.ensures.statuses
+
+pub returns-in-Some-migrate_of-clause-map : goal.returns-in-Some-migrate_of-clause-map
+returns-in-Some-migrate_of-clause-map g c = migrate_holds (words_of c.args.words.now) (migrate_names_of c.in-Some-migrate_of.files) _ c.in-Some-migrate_of.ensures c.answer.result c.answer.ensures.map
+
+pub returns-in-Some-migrate_of-clause-held : goal.returns-in-Some-migrate_of-clause-held
+returns-in-Some-migrate_of-clause-held g c none = absurd (none (inr (migrate_names_of c.in-Some-migrate_of.files, c.in-Some-migrate_of.ensures)))
+
+pub returns-in-Some-migrate_of-clause-no_save_fault : goal.returns-in-Some-migrate_of-clause-no_save_fault
+returns-in-Some-migrate_of-clause-no_save_fault g c none = absurd (none (inr (migrate_names_of c.in-Some-migrate_of.files, c.in-Some-migrate_of.ensures)))
+
+pub returns-in-Some-migrate_of-clause-none_loaded : goal.returns-in-Some-migrate_of-clause-none_loaded
+returns-in-Some-migrate_of-clause-none_loaded g c none = absurd (none (inr (inr (migrate_names_of c.in-Some-migrate_of.files, c.in-Some-migrate_of.ensures))))
+
+pub returns-in-Some-migrate_of-clause-no_command : goal.returns-in-Some-migrate_of-clause-no_command
+returns-in-Some-migrate_of-clause-no_command g c none = absurd (none (inr (inr (migrate_names_of c.in-Some-migrate_of.files, c.in-Some-migrate_of.ensures))))
+
+pub returns-in-Some-migrate_of-clause-most : goal.returns-in-Some-migrate_of-clause-most
+returns-in-Some-migrate_of-clause-most g c = within_none (words_of c.args.words.now) (λ named asks. run_is_no_migrate (words_of c.args.words.now) named (migrate_names_of c.in-Some-migrate_of.files) asks c.in-Some-migrate_of.ensures) _ _ (g.S.Store.holds c.args.store.now)
+
+pub returns-in-Some-migrate_of-clause-least : goal.returns-in-Some-migrate_of-clause-least
+returns-in-Some-migrate_of-clause-least g c = least_none (words_of c.args.words.now) (λ named asks. run_is_no_migrate (words_of c.args.words.now) named (migrate_names_of c.in-Some-migrate_of.files) asks c.in-Some-migrate_of.ensures) _ _ (g.S.Store.holds c.args.store.now) c.answer.result
+
+pub returns-in-Some-migrate_of-clause-show_most : goal.returns-in-Some-migrate_of-clause-show_most
+returns-in-Some-migrate_of-clause-show_most g c =
+    none_shown (words_of c.args.words.now) (g.S.Store.holds c.args.store.now) _ _ (λ command name asks. file_is_no_migrate (words_of c.args.words.now) command name (migrate_names_of c.in-Some-migrate_of.files) asks c.in-Some-migrate_of.ensures)
+
+pub returns-in-Some-migrate_of-clause-migrate_most : goal.returns-in-Some-migrate_of-clause-migrate_most
+returns-in-Some-migrate_of-clause-migrate_most g c = migrated_within (words_of c.args.words.now) (migrate_names_of c.in-Some-migrate_of.files) (g.S.Store.holds c.args.store.now) _ _ c.in-Some-migrate_of.ensures c.answer.ensures.most
+
+pub returns-in-Some-migrate_of-clause-counted_loads : goal.returns-in-Some-migrate_of-clause-counted_loads
+returns-in-Some-migrate_of-clause-counted_loads g c =
+    counts_none (words_of c.args.words.now) (Rises (g.S.Store.load_faults c.args.store.now) (g.S.Store.load_faults c.answer.new.store)) (g.S.Store.loads c.args.store.now) (g.S.Store.loads c.answer.new.store) (λ named asks. run_is_no_migrate (words_of c.args.words.now) named (migrate_names_of c.in-Some-migrate_of.files) asks c.in-Some-migrate_of.ensures) (g.S.Store.holds c.args.store.now) c.answer.result
+
+pub returns-in-Some-clause-map : goal.returns-in-Some-clause-map
+returns-in-Some-clause-map g c = file_holds (words_of c.args.words.now) (command_in c.in-Some.command) c.in-Some.file.now _ c.in-Some.ensures c.reply_on.result
+
+pub returns-in-Some-clause-migrate_most : goal.returns-in-Some-clause-migrate_most
+returns-in-Some-clause-migrate_most g c =
+    none_migrated (words_of c.args.words.now) (g.S.Store.holds c.args.store.now) _ _ (λ named asks. file_is_no_migrate (words_of c.args.words.now) (command_in c.in-Some.command) c.in-Some.file.now named c.in-Some.ensures asks)
+
+pub returns-in_default-run_of-clause-migrate_most : goal.returns-in_default-run_of-clause-migrate_most
+returns-in_default-run_of-clause-migrate_most g c = none_migrated (words_of c.args.words.now) (g.S.Store.holds c.args.store.now) _ _ (λ named asks. c.in_default-migrate_of.ensures (named, asks))
+
+pub returns-clause-migrate_most : goal.returns-clause-migrate_most
+returns-clause-migrate_most g c =
+    none_migrated (words_of c.args.words.now) (g.S.Store.holds c.args.store.now) _ _ (λ named asks. run_is_no_migrate (words_of c.args.words.now) (names_of c.in-Some-run_of.files) named c.in-Some-run_of.ensures asks)

@@ -1,0 +1,56 @@
+use Rattle.std.proofs.Common.{inr, refl}
+use Rattle.std.proofs.lemmas.Result.{err_from_is_err_and}
+use Rattle.gm_host.specs.Count.{Rises}
+use Rattle.gm_tool.specs.Loads.{FailsAt}
+use Rattle.gm_tool.specs.Migrating.{migrate_names_of, IsMigrateStatus}
+use Rattle.gm_tool.specs.Stops.{reply_of}
+use Rattle.gm_tool.proofs.LoadCounts.{always}
+use Rattle.gm_tool.proofs.Migrations.{stopped_migration, unmade_migration, saved_migration, migrated_bytes}
+use Rattle.gm_tool.proofs.Saving.{map_saved, stop_is_sound, stop_status, stop_is_no_run}
+use Rattle.gm_tool.proofs.StepWords.{read_shown, printed_shown}
+use Rattle.gm_tool.proofs.migrating.answer.Goals as goal
+
+pub returns-in_err-made-clause-text : goal.returns-in_err-made-clause-text
+returns-in_err-made-clause-text g c =
+    let p = err_from_is_err_and c.from_residual.result c.from_residual.ensures.1 in
+    rw (p.1, p.2)
+    (unmade_migration (migrate_names_of c.args.files) (FailsAt (g.S.Store.load_faults c.args.store.now) (g.S.Store.load_faults c.load_map.new.store) (g.S.Store.loads c.args.store.now) (g.S.Store.loads c.load_map.new.store)) (Rises (g.S.Store.load_faults c.args.store.now) (g.S.Store.load_faults c.load_map.new.store)) (Rises (g.S.Store.save_faults c.args.store.now) (g.S.Store.save_faults c.load_map.new.store))
+    (g.S.Store.holds c.args.store.now) c.in-Ok.read _ c.load_map.ensures.held c.in_err-made.field-0.0 c.in-Ok.ensures.from c.in_err-made.ensures.made)
+
+pub returns-clause-text : goal.returns-clause-text
+returns-clause-text g c =
+    rw (c.saved.ensures.no_load_fault, c.saved.ensures.no_load)
+    (saved_migration (migrate_names_of c.args.files) (FailsAt (g.S.Store.load_faults c.args.store.now) (g.S.Store.load_faults c.load_map.new.store) (g.S.Store.loads c.args.store.now) (g.S.Store.loads c.load_map.new.store)) (Rises (g.S.Store.load_faults c.args.store.now) (g.S.Store.load_faults c.load_map.new.store)) (Rises (g.S.Store.save_faults c.args.store.now) (g.S.Store.save_faults c.saved.new.store))
+    (g.S.Store.holds c.args.store.now) c.in-Ok.read _ c.in_ok-made.made c.saved.result c.in-Ok.ensures.from c.in_ok-made.ensures.made (rw (c.load_map.ensures.held, c.load_map.ensures.no_save_fault) at c.saved.ensures.saved))
+
+pub returns-clause-map : goal.returns-clause-map
+returns-clause-map g c = map_saved _ _ c.args.files.out.now c.in_ok-made.made _ c.saved.result (migrated_bytes c.in-Ok.read c.in_ok-made.made c.in-Ok.ensures.read c.in_ok-made.ensures.made) c.saved.ensures.saved
+
+pub returns-in_err-made-clause-most : goal.returns-in_err-made-clause-most
+returns-in_err-made-clause-most g c =
+    printed_shown (g.S.Store.holds c.args.store.now) c.args.files.map.now (Rises (g.S.Store.load_faults c.args.store.now) (g.S.Store.load_faults c.load_map.new.store)) c.in-Ok.read _ _ _ c.prepared.ensures.lawful c.in-Ok.ensures.from c.load_map.ensures.most c.prepared.ensures.most
+
+pub returns-clause-most : goal.returns-clause-most
+returns-clause-most g c =
+    printed_shown (g.S.Store.holds c.args.store.now) c.args.files.map.now (Rises (g.S.Store.load_faults c.args.store.now) (g.S.Store.load_faults c.load_map.new.store)) c.in-Ok.read _ _ _ c.prepared.ensures.lawful c.in-Ok.ensures.from c.load_map.ensures.most c.prepared.ensures.most
+
+pub returns-in-Err-clause-text : goal.returns-in-Err-clause-text
+returns-in-Err-clause-text g c =
+    rw c.stopped.ensures
+    (stopped_migration (migrate_names_of c.args.files) (FailsAt (g.S.Store.load_faults c.args.store.now) (g.S.Store.load_faults c.load_map.new.store) (g.S.Store.loads c.args.store.now) (g.S.Store.loads c.load_map.new.store)) (Rises (g.S.Store.load_faults c.args.store.now) (g.S.Store.load_faults c.load_map.new.store)) (Rises (g.S.Store.save_faults c.args.store.now) (g.S.Store.save_faults c.load_map.new.store))
+    (g.S.Store.holds c.args.store.now) _ c.load_map.ensures.held c.in-Err.stop (λ rises. (rises, c.load_map.ensures.once)) c.in-Err.ensures.from)
+
+pub returns-in-Err-clause-statuses : goal.returns-in-Err-clause-statuses
+returns-in-Err-clause-statuses g c = rw c.stopped.ensures (stop_status IsMigrateStatus (inr refl) c.in-Err.stop)
+
+pub returns-in-Err-clause-sound : goal.returns-in-Err-clause-sound
+returns-in-Err-clause-sound g c = rw c.stopped.ensures (stop_is_sound c.in-Err.stop _ _ c.in-Err.ensures.from.1)
+
+pub returns-in-Err-clause-map : goal.returns-in-Err-clause-map
+returns-in-Err-clause-map g c = rw c.stopped.ensures (stop_is_no_run _ c.in-Err.stop)
+
+pub returns-in-Err-clause-most : goal.returns-in-Err-clause-most
+returns-in-Err-clause-most g c = read_shown (g.S.Store.holds c.args.store.now) c.args.files.map.now _ _ c.load_map.ensures.most
+
+pub returns-in-Err-clause-no_save_fault : goal.returns-in-Err-clause-no_save_fault
+returns-in-Err-clause-no_save_fault g c = rw c.stopped.ensures (always c.load_map.ensures.no_save_fault (reply_of c.in-Err.stop))
