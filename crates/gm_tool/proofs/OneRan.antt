@@ -1,5 +1,5 @@
 -- A script has one run: the same outcomes, and the same map after it.
-use Rattle.std.proofs.Common.{◌≡◌, ℕ, ◌<◌, List, [], ◌∷◌, All, length, refl, sym, subst, ◌∙◌, arith}
+use Rattle.std.proofs.Common.{◌≡◌, ℕ, List, [], ◌∷◌, All, refl, sym, subst, ◌∙◌, arith}
 use Rattle.gm_book.specs.BookText.{BookText}
 use Rattle.gm_book.proofs.Printable.{printable_from_text}
 use Rattle.gm_mapfile.specs.MapText.{map_of}

@@ -82,7 +82,7 @@ module _ (schema : Schema) (rule : Rule) (able : IsCheckable schema rule) where
     typed = able.typed;
     incidence = incidence;
     squares = squares;
-    sources = sources
+    sources = sources;
   }
   checked_sources incidence squares (Err fault) h = Embedding incidence squares h
 

@@ -1,5 +1,5 @@
 -- What a run makes of its files before anything is saved, and what is left when the map is saved.
-use Rattle.std.specs.Prelude.{◌≡◌, ◌⊎◌, ℕ, ◌<◌, ◌≤◌, List, [], ◌++◌, length, map, All, Some, None, Result, Ok, Err, IfSome, codes}
+use Rattle.std.specs.Prelude.{◌≡◌, ◌⊎◌, ℕ, ◌<◌, ◌≤◌, List, ◌++◌, length, map, All, Some, None, Result, Ok, Err, IfSome, codes}
 use Rattle.gm_host.specs.Store.{Contents, Lacks}
 use Rattle.gm_host.specs.Count.{counted}
 use Rattle.gm_host.specs.Saves.{IsSaved, IsSavedInPart}

@@ -1,5 +1,5 @@
 use Rattle.std.proofs.lemmas.Result.{err_from_is_err_and}
-use Rattle.gm_model.specs.Acceptance.{Incidence, Cycle}
+use Rattle.gm_model.specs.Acceptance.{Incidence}
 use Rattle.gm_model.specs.Rules.{rule_of}
 use Rattle.gm_tool.proofs.Verdicts.{checked_sources}
 use Rattle.gm_tool.proofs.check.check_rule.Goals as goal

@@ -1,4 +1,4 @@
-use Rattle.std.proofs.Common.{map, ap, ◌∙◌}
+use Rattle.std.proofs.Common.{map}
 use Rattle.gm_run.specs.Lines.{outcome_of}
 use Rattle.gm_tool.proofs.Lines.{plans_fit, lines_fit, printable, run_made, left_sound, map_made}
 use Rattle.gm_tool.proofs.StepBounds.{unprinted_within, printed_within, printed_least, if_done}
