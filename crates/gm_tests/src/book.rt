@@ -76,7 +76,7 @@ fn has_no_params(rule: &RuleTable) -> bool
 }
 
 fn book(rt: &impl Abort, alloc: Global) -> Result<Book, Fail>
-    ensures { IfOk result (λ book. CanBePrinted book.schema (map rule_of book.rules)) }
+    ensures { IfOk result (λ book. CanBePrinted (map rule_of book.rules)) }
 {
     let schema = schema(alloc, 2)?;
     let first = rule(alloc, "drop", &DROP)?;
@@ -92,7 +92,7 @@ fn book(rt: &impl Abort, alloc: Global) -> Result<Book, Fail>
 }
 
 fn sewing_book(rt: &impl Abort, alloc: Global) -> Result<Book, Fail>
-    ensures { IfOk result (λ book. CanBePrinted book.schema (map rule_of book.rules)) }
+    ensures { IfOk result (λ book. CanBePrinted (map rule_of book.rules)) }
 {
     let schema = schema(alloc, 2)?;
     let sew = rule(alloc, "sew", &SEW)?;

@@ -450,8 +450,18 @@ const NO_BOOKS: [Case; 28] = [
     },
     Case {
         text: "book 1 dim 2 embed pos <1 2> vec3 rule r left right",
+        status: 0,
+        put: "rule r accepted\nrules 1 refused 0\n",
+    },
+    Case {
+        text: "book 1 dim 2 embed pos <1 2> vec3 embed pos <0> int rule r left right",
         status: 4,
-        put: "refused BOOK not-built 13\n",
+        put: "refused BOOK twice 40\n",
+    },
+    Case {
+        text: "book 1 dim 2 embed pos <1 1> vec3 rule r left right",
+        status: 4,
+        put: "refused BOOK twice 26\n",
     },
     Case {
         text: "book 1 dim 2 rule r left a <0 1> hook right a <0 1> pre count<0 1>(a)",
