@@ -9,11 +9,10 @@ ghost use Rattle.gm_tool.specs.Replies.{IsJudged, IsBookRefusal};
 ghost use Rattle.gm_tool.specs.RunAnswer.{IsBadBook, IsFirstRefused};
 ghost use Rattle.gm_tool.specs.Stops.{IsReadBook, IsBadFor};
 
-use gm_lines::book_line;
 use crate::refusal::{NoText, Stop};
 use crate::reply::{Reply, reply_within_limit};
-use gm_lines::refused_rule_line;
 use gm_book::{BookFault, print_book, read_book};
+use gm_lines::{book_line, refused_rule_line};
 use gm_model::{Book, RuleTable, Schema};
 use gm_plan::{Plan, PlanFault, compile};
 use std::alloc::Global;

@@ -7,11 +7,10 @@ ghost use Rattle.gm_lines.specs.Checking.{AreLines, IsVerdict, refusals, counts_
 ghost use Rattle.gm_tool.specs.Replies.{IsJudged, IsChecked};
 
 use crate::book::refused;
-use gm_lines::put_at;
 use crate::refusal::NoText;
 use crate::reply::{Reply, reply_within_limit};
-use gm_lines::put_rule;
 use gm_book::read_book;
+use gm_lines::{put_at, put_rule};
 use gm_model::{Book, OutOfMemory, RuleFault, RuleTable, Schema};
 use gm_text::Text;
 use std::alloc::Global;

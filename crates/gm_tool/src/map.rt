@@ -8,10 +8,10 @@ ghost use Rattle.gm_tool.specs.RunAnswer.{IsBadMap};
 ghost use Rattle.gm_tool.specs.StepBounds.{BytesReadWithin, ShowsWithin};
 ghost use Rattle.gm_tool.specs.Stops.{IsReadMap, IsBadFor};
 
-use gm_lines::map_line;
 use crate::refusal::{NoText, Stop};
 use crate::reply::{Reply, reply_within_limit};
 use gm_arena::Steps;
+use gm_lines::map_line;
 use gm_mapfile::{MapFault, MapRead, print_map, read_map};
 use gm_model::MOST_DARTS;
 use std::alloc::Global;

@@ -172,8 +172,7 @@ fn applied<L: Ledger>(
 fn agree(map: &Schema, book: &Schema) -> bool
     ensures { IsTrue result ↔ (map.now ≡ book.now) }
 {
-    map.dim.top() == book.dim.top()
-        && same_embeds(map.embeds.as_slice(), book.embeds.as_slice())
+    map.dim.top() == book.dim.top() && same_embeds(map.embeds.as_slice(), book.embeds.as_slice())
 }
 
 fn same_embeds(embeds: &[Embed], others: &[Embed]) -> bool

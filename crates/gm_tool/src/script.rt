@@ -4,8 +4,8 @@ ghost use Rattle.gm_lines.specs.Refusing.{TheScript};
 ghost use Rattle.gm_tool.specs.RunAnswer.{IsBadScript};
 ghost use Rattle.gm_tool.specs.Stops.{IsReadScript, IsBadFor};
 
-use gm_lines::script_line;
 use crate::refusal::Stop;
+use gm_lines::script_line;
 use gm_model::{Book, Script};
 use gm_script::read_script;
 use std::alloc::Global;
