@@ -284,7 +284,12 @@ fn words_that_are_no_command(rt: HostRuntime) -> Result<(), Fail> {
     expect_each(&rt, &rt, &NO_COMMANDS, &USAGE)
 }
 
-const BOOKS: [Case; 11] = [
+const BOOKS: [Case; 12] = [
+    Case {
+        text: "book 1 dim 2 embed pos <2 1> vec3 embed w <> int rule keep left a <0 1> hook right a <0 1>",
+        status: 0,
+        put: "book 1\ndim 2\nembed pos <1 2> vec3\nembed w <> int\nrule keep\nleft\na <0 1> hook\nright\na <0 1>\n",
+    },
     Case {
         text: "book 1 dim 2 rule drop left a -2- a a <0 1> hook right",
         status: 0,
@@ -347,7 +352,7 @@ fn books_printed(rt: HostRuntime) -> Result<(), Fail> {
     expect_each(&rt, &rt, &["book BOOK"], &BOOKS)
 }
 
-const NO_BOOKS: [Case; 28] = [
+const NO_BOOKS: [Case; 29] = [
     Case {
         text: "",
         status: 4,
@@ -449,11 +454,6 @@ const NO_BOOKS: [Case; 28] = [
         put: "refused BOOK text 77\n",
     },
     Case {
-        text: "book 1 dim 2 embed pos <1 2> vec3 rule r left right",
-        status: 0,
-        put: "rule r accepted\nrules 1 refused 0\n",
-    },
-    Case {
         text: "book 1 dim 2 embed pos <1 2> vec3 embed pos <0> int rule r left right",
         status: 4,
         put: "refused BOOK twice 40\n",
@@ -507,7 +507,7 @@ fn texts_of_no_book(rt: HostRuntime) -> Result<(), Fail> {
 
 /// Books of one rule at most, and then of more: each rule has its line, whatever the lines before it
 /// say.
-const CHECKS: [Case; 23] = [
+const CHECKS: [Case; 25] = [
     Case {
         text: "book 1 dim 2",
         status: 0,
@@ -622,6 +622,16 @@ const CHECKS: [Case; 23] = [
         text: "book 1 dim 2 rule a left a <0 1> right rule b left a <0 1> hook right a <0 1> rule c left a <0 1> hook right rule T left a <0 1> hook right a <0 _> b <_ _> c <1 2> a -1- b b -0- c rule d left right",
         status: 1,
         put: "rule a refused hooks\nrule b accepted\nrule c refused arc-missing a 2\nrule T refused arc-missing b 2\nrule d accepted\nrules 5 refused 3\n",
+    },
+    Case {
+        text: "book 1 dim 2 embed pos <1 2> vec3 rule r left right",
+        status: 0,
+        put: "rule r accepted\nrules 1 refused 0\n",
+    },
+    Case {
+        text: "book 2 dim 2 embed pos <1 2> vec2 embed paint <0 1> rgb rule triangulate left a <0 1> hook right a <0 _> b <_ 2> c <1 2> a -1- b b -0- c rule sew left a <0> hook b <0> hook a -2- a b -2- b right a <0> b <0> a -2- b rule unsew left a <0> hook b <0> a -2- b right a <0> b <0> a -2- a b -2- b",
+        status: 1,
+        put: "rule triangulate refused no-value pos c\nrule sew refused merge pos a b\nrule unsew accepted\nrules 3 refused 2\n",
     },
 ];
 

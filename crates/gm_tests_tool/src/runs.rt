@@ -68,7 +68,17 @@ fn run_each(rt: &impl Abort, host: &HostRuntime, cases: &[Run]) -> Result<(), Fa
     Ok(())
 }
 
-const RUNS: [Run; 13] = [
+const RUNS: [Run; 14] = [
+    Run {
+        texts: [
+            "gmap 2 dim 1 embed v <0> int next 4 darts 1 0 0 0 -5",
+            "book 1 dim 1 embed v <0> int",
+            "",
+        ],
+        status: 0,
+        put: "applied 0 refused 0 darts 1 next 4\n",
+        saved: Some("gmap 2\ndim 1\nembed v <0> int\nnext 4\ndarts 1\n0 0 0 -5\n"),
+    },
     // The second version states the next name, which is that of the first new dart.
     Run {
         texts: ["gmap 2 dim 2 next 8 darts 0", PAIR, "apply pair"],
@@ -171,7 +181,7 @@ fn scripts_run(rt: HostRuntime) -> Result<(), Fail> {
     run_each(&rt, &rt, &RUNS)
 }
 
-const NO_RUNS: [Run; 10] = [
+const NO_RUNS: [Run; 13] = [
     Run {
         texts: ["gmap 1 dim 2 darts 1", "", ""],
         status: 4,
@@ -222,6 +232,36 @@ const NO_RUNS: [Run; 10] = [
         texts: [SQUARE, T, "apply T 16777216"],
         status: 4,
         put: "refused SCRIPT limit dart-name 8\n",
+        saved: None,
+    },
+    Run {
+        texts: [
+            "gmap 1 dim 1 embed v <0> int darts 1 0 0 0 5",
+            "book 1 dim 1 embed v <0> int rule drop left a <0 1> hook right",
+            "",
+        ],
+        status: 4,
+        put: "refused BOOK rule drop not-built\n",
+        saved: None,
+    },
+    Run {
+        texts: [
+            "gmap 1 dim 1 embed v <0> int darts 0",
+            "book 1 dim 1 embed v <0> int rule new left right a <> a -0- a a -1- a",
+            "",
+        ],
+        status: 4,
+        put: "refused BOOK rule new no-value v a\n",
+        saved: None,
+    },
+    Run {
+        texts: [
+            "gmap 1 dim 1 embed v <0> int darts 0",
+            "book 1 dim 1 embed v <1> int",
+            "",
+        ],
+        status: 4,
+        put: "refused agree\n",
         saved: None,
     },
     Run {
