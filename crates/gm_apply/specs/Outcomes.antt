@@ -1,6 +1,6 @@
 -- Which outcome of an application an answer names.
 use Rattle.std.specs.Prelude.{◌≡◌, ℕ, ◌+◌, ◌-◌, ◌*◌, ◌≤◌, max}
-use Rattle.gm_model.specs.Applications.{Application, Cause, IsRefused, IsReady, more}
+use Rattle.gm_model.specs.Applications.{Application, IsRefused, IsReady, more}
 use Rattle.gm_model.specs.Applications as causes
 use Rattle.gm_model.specs.Matches.{Placement}
 use Rattle.gm_model.specs.Orbits.{HasCount}

@@ -1,22 +1,22 @@
-ghost use Rattle.std.specs.Prelude.{◌≡◌, ◌≢◌, ℕ, ◌+◌, ◌-◌, ◌*◌, ◌≤◌, [], None, length, max, List, IfErr, IfOk, MatchResult};
+ghost use Rattle.std.specs.Prelude.{◌≡◌, ◌≢◌, ℕ, ◌+◌, ◌-◌, ◌≤◌, length, max, List, IfErr, IfOk, MatchResult};
 ghost use Rattle.gm_model.specs.declared.value.Value.{Value};
-ghost use Rattle.gm_model.specs.Applications.{IsBudget, IsDone};
+ghost use Rattle.gm_model.specs.Applications.{IsBudget, IsDone, MeetsPre};
+ghost use Rattle.gm_model.specs.Kinds.{AreGoodParams};
 ghost use Rattle.gm_model.specs.Limits.{most_darts};
-ghost use Rattle.gm_model.specs.Maps.{IsGeneralised};
+ghost use Rattle.gm_model.specs.Maps.{IsSound};
 ghost use Rattle.gm_model.specs.Rules.{rule_of};
 ghost use Rattle.gm_arena.specs.ArenaAsMap.{as_map};
 ghost use Rattle.gm_match.specs.Outcome.{application_of, IsAnswer};
-ghost use Rattle.gm_pending.specs.EditLists.{HasSameRows, AreEditsOf};
-ghost use Rattle.gm_pending.specs.Results.{pending_of};
-ghost use Rattle.gm_plan.specs.InArena.{AreMatched, placement_in};
+ghost use Rattle.gm_pending.specs.EditLists.{HasSameRows};
+ghost use Rattle.gm_plan.specs.InArena.{placement_in};
 ghost use Rattle.gm_apply.specs.declared.refusal.Refusal.TheVariants as refusals;
 ghost use Rattle.gm_apply.specs.Outcomes.{HasRoom, IsRefusedFor, StaysInRoom};
 
+use crate::reading::Reading;
 use crate::refusal::Refusal;
 use gm_arena::{Arena, Steps};
 use gm_match::find;
-use gm_model::{MOST_DARTS, MOST_NAMES, OutOfMemory, Value};
-use gm_pending::{Edits, Pending};
+use gm_model::{MOST_DARTS, MOST_NAMES, Value};
 use gm_plan::{Instances, Plan};
 use gm_walk::Scratch;
 use std::alloc::Global;
@@ -29,9 +29,10 @@ pub struct Applied {
     pub removed: u32,
 }
 
-/// Applies the plan's rule to the map, at the darts that the hooks name.
+/// Applies the plan's rule to the map, at the darts that the hooks name, with these values for its
+/// parameters.
 ///
-/// The arena is a generalised map again, whatever the answer is, and after a refusal the same one.
+/// The arena has a sound map again, whatever the answer is, and after a refusal the same one.
 /// Where memory was wanting, its spare and reserved names may have risen, but not past what the
 /// result takes. The scratch may have grown.
 pub fn apply<L: Ledger>(
@@ -43,15 +44,14 @@ pub fn apply<L: Ledger>(
     scratch: &mut Scratch,
     steps: &mut Steps<L>,
 ) -> Result<Applied, Refusal>
-    requires generalised { IsGeneralised (as_map arena.old) }
+    requires sound { IsSound (as_map arena.old) }
     requires schema { arena.old.schema ≡ plan.now.schema }
-    requires no_embeds { plan.now.schema.embeds ≡ [] }
-    requires no_pre { (rule_of plan.now.table).pre ≡ None }
     requires hooks { length hooks.now ≡ length (rule_of plan.now.table).hooks }
+    requires params { AreGoodParams (rule_of plan.now.table) params.now }
     ensures outcome { let app = application_of arena.old (rule_of plan.now.table) hooks.now params.now in MatchResult result
         (λ applied. IsDone app (as_map arena.new) applied.added applied.removed)
         (λ refusal. IsRefusedFor app refusal × HasSameRows arena.old arena.new) }
-    ensures generalised { IsGeneralised (as_map arena.new) }
+    ensures sound { IsSound (as_map arena.new) }
     ensures schema { arena.new.schema ≡ arena.old.schema }
     ensures most { (most : ℕ) → IsBudget (application_of arena.old (rule_of plan.now.table) hooks.now params.now) most → steps.new ≤ steps.old + most }
     ensures least { IfOk result (λ applied. steps.old + applied.added + applied.removed ≤ steps.new) }
@@ -64,21 +64,32 @@ pub fn apply<L: Ledger>(
     ensures spare_stays { arena.old.count + arena.old.spare ≤ arena.new.count + arena.new.spare }
     ensures reserved_stays { arena.old.reserved ≤ arena.new.reserved }
 {
+    // The plan tells here that its rule is accepted, and the arena what it keeps.
+    prove!(plan.rule().hooks.as_slice().len() == hooks.len());
+    prove!(arena.count() <= MOST_DARTS);
     scratch.fit(arena)?;
     let found = find(alloc, plan, arena, hooks, scratch, steps)?;
+    let reading = Reading {
+        plan,
+        found: &found,
+        arena,
+        params,
+    };
+    reading.meet_pre(scratch, steps)?;
     let applied = room(plan, arena, &found)?;
+    let edits = reading.edits(alloc, scratch, steps)?;
     let more = applied.added.saturating_sub(applied.removed);
     arena.reserve(more, arena.next() + applied.added)?;
-    edits(alloc, plan, arena, &found, steps)?.commit(arena, steps);
+    edits.commit(arena, steps);
     Ok(applied)
 }
 
 /// How many darts the application adds and removes, where the map has room for the result.
 fn room(plan: &Plan<'_>, arena: &Arena, found: &Instances) -> Result<Applied, Refusal>
     requires schema { arena.now.schema ≡ plan.now.schema }
-    requires no_pre { (rule_of plan.now.table).pre ≡ None }
     requires found { (hooks : List ℕ) × IsAnswer arena.now (rule_of plan.now.table) hooks found.now }
     ensures room { (hooks : List ℕ) (params : List Value) → IsAnswer arena.now (rule_of plan.now.table) hooks found.now →
+        MeetsPre (application_of arena.now (rule_of plan.now.table) hooks params) (placement_in arena.now found.now) →
         let app = application_of arena.now (rule_of plan.now.table) hooks params in MatchResult result
         (λ applied. HasRoom app (placement_in arena.now found.now) applied.added applied.removed)
         (IsRefusedFor app) }
@@ -103,22 +114,4 @@ fn room(plan: &Plan<'_>, arena: &Arena, found: &Instances) -> Result<Applied, Re
         added: more as u32,
         removed: removed as u32,
     })
-}
-
-/// The edits that make the result. The arena is only read.
-fn edits<'a, L: Ledger>(
-    alloc: Global,
-    plan: &'a Plan<'a>,
-    arena: &Arena,
-    found: &'a Instances,
-    steps: &mut Steps<L>,
-) -> Result<Edits<'a>, OutOfMemory>
-    requires schema { arena.now.schema ≡ plan.now.schema }
-    requires no_embeds { plan.now.schema.embeds ≡ [] }
-    requires generalised { IsGeneralised (as_map arena.now) }
-    requires matched { (hooks : List ℕ) × AreMatched arena.now (rule_of plan.now.table) hooks found.now }
-    ensures edits { IfOk result (AreEditsOf (pending_of arena.now plan.now.table found.now)) }
-    ensures no_step { steps.new ≡ steps.old }
-{
-    Pending::build(alloc, plan, arena, found, steps)?.into_edits(steps)
 }

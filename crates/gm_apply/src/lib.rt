@@ -3,7 +3,9 @@
 #![tactic(auto)]
 
 mod application;
+mod reading;
 mod refusal;
+mod values;
 
 pub use application::{Applied, apply};
 pub use refusal::Refusal;

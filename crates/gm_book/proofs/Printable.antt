@@ -9,7 +9,7 @@ use Rattle.gm_model.specs.declared.rule.Side.TheVariants.{Left, Right}
 use Rattle.gm_model.specs.declared.schema.Schema.{Schema}
 use Rattle.gm_model.specs.Rules.{Rule, RuleNode, has_word, links_on}
 use Rattle.gm_model.specs.Structure.{IsInRange, IsLinkInRange}
-use Rattle.gm_book.specs.BookText.{RuleForm, BookText, rule_in, node_in, nodes_of}
+use Rattle.gm_forms.specs.BookText.{RuleForm, BookText, rule_in, node_in, nodes_of}
 use Rattle.gm_book.proofs.ReadRange.{range_from_text}
 use Rattle.gm_book.specs.Printing.{AreEndsNodes, NamesItsNodes, IsPlain, CanBePrinted}
 
@@ -33,7 +33,7 @@ names_its_nodes schema rule range = record {
 }
 
 plain_in : (form : RuleForm) → IsPlain (rule_in form)
-plain_in form = record { params = refl; sets = All-map (λ (node : RuleNode). node.sets ≡ []) (node_in form) (nodes_of form) (λ k d inside. refl); pre = refl }
+plain_in form = record { sets = All-map (λ (node : RuleNode). node.sets ≡ []) (node_in form) (nodes_of form) (λ k d inside. refl); pre = refl }
 
 pub printable_from_text : (text : List ℕ) (version : ℕ) (schema : Schema) (rules : List Rule) → BookText text version schema rules → CanBePrinted rules
 printable_from_text text version schema rules stands = record {

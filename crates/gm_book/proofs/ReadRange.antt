@@ -13,7 +13,7 @@ use Rattle.gm_model.specs.declared.rule.Side.TheVariants.{Left, Right}
 use Rattle.gm_model.specs.declared.schema.Schema.{Schema}
 use Rattle.gm_model.specs.Rules.{Rule, RuleNode, Assignment, has_word, word_on, letters, links_on}
 use Rattle.gm_model.specs.Structure.{HasLabelsUpTo, IsLinkInRange, IsInRange, IsWithinLimits}
-use Rattle.gm_book.specs.BookText.{BookText}
+use Rattle.gm_forms.specs.BookText.{BookText}
 use Rattle.gm_book.proofs.CanonicalForm.{IsGoodLetter, IsGoodWordIfAny, IsGoodNode, IsGoodLink, IsWritable, numbers_where, number_if, hook_on}
 use Rattle.gm_book.proofs.CanonicalText.{element_at, each}
 use Rattle.gm_book.proofs.ReadRules.{writable_from_text}
@@ -165,7 +165,7 @@ module _ (schema : Schema) (rule : Rule) (ok : IsWritable schema.dim rule) where
   }
 
   pub writable_within : IsWithinLimits rule
-  writable_within = record { nodes = ok.few_nodes; left_links = ok.few_links Left; right_links = ok.few_links Right; params = omega (arith, ap length ok.params) }
+  writable_within = record { nodes = ok.few_nodes; left_links = ok.few_links Left; right_links = ok.few_links Right; params = ok.few_params }
 
 -- ---- a book
 

@@ -8,7 +8,7 @@ use Rattle.gm_model.specs.declared.word.Letter.TheVariants.{At, Gone}
 use Rattle.gm_model.specs.Rules.{Rule, RuleNode, links_on}
 use Rattle.gm_model.specs.declared.value.Kind.TheVariants.{Vec2}
 use Rattle.gm_text.specs.SchemaText.{SchemaForm, labels_in}
-use Rattle.gm_book.specs.BookText.{BookText, canonical}
+use Rattle.gm_forms.specs.BookText.{BookText, canonical}
 use Rattle.std.specs.List.{AllByRecursion}
 use Rattle.gm_book.proofs.CanonicalForm.{IsWritable, IsGoodLink}
 use Rattle.gm_book.proofs.CanonicalBook.{written_again}
@@ -69,7 +69,9 @@ split_is_writable = record {
   links = split_links;
   few_links = few_links;
   hooks = refl;
-  params = refl;
+  params = tt;
+  params_differ = tt;
+  few_params = omega arith;
   pre = refl;
 }
 
@@ -126,7 +128,9 @@ sew_is_writable = record {
   links = sew_links;
   few_links = few_in_sew;
   hooks = refl;
-  params = refl;
+  params = tt;
+  params_differ = tt;
+  few_params = omega arith;
   pre = refl;
 }
 

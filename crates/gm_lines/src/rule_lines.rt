@@ -47,17 +47,6 @@ pub fn refused_rule_line(
     Ok(text.into_bytes())
 }
 
-/// The line that refuses a book for its first rule that isn't run yet, with its line end.
-pub fn rule_not_built_line(alloc: Global, rule: &RuleTable) -> Result<Vec<u8>, OutOfMemory>
-    ensures { IfOk result (λ line. line.items ≡ refusal (codes "BOOK" ++ codes " " ++ (codes "rule " ++ (rule_of rule.now).name ++ codes " not-built"))) }
-{
-    let mut text = Text::new(alloc);
-    text.put(b"refused BOOK rule ")?;
-    text.put(rule.name.bytes())?;
-    text.put(b" not-built\n")?;
-    Ok(text.into_bytes())
-}
-
 fn put_verdict(
     text: &mut Text,
     schema: &Schema,

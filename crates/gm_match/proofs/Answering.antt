@@ -70,8 +70,8 @@ pub record IsSound (m : ArenaMap) (rule : Rule) : Type 0 where
 pub sound_of : (m : ArenaMap) (schema : Schema) (rule : Rule) → IsGeneralised (as_map m) → m.schema ≡ schema → IsPlanned schema rule → IsSound m rule
 sound_of m schema rule generalised same planned = record {
   generalised = generalised;
-  in_range = subst (λ s. IsInRange s rule) (sym same) planned.in_range;
-  incidence = subst (λ (s : Schema). HasIncidence s.dim rule) (sym same) planned.incidence;
+  in_range = subst (λ s. IsInRange s rule) (sym same) planned.accepted.in_range;
+  incidence = subst (λ (s : Schema). HasIncidence s.dim rule) (sym same) planned.accepted.incidence;
   few = few_hooks schema rule planned;
 }
 

@@ -84,7 +84,7 @@ module _ (m : ArenaMap) (schema : Schema) (rule : Rule) (planned : IsPlanned sch
   }
 
   hook_below : (t h : ℕ) → slice_get rule.hooks t ≡ Some h → h < nodes
-  hook_below t h at = (counts h).0 (hook_left schema rule planned.in_range planned.incidence t h at)
+  hook_below t h at = (counts h).0 (hook_left schema rule planned.accepted.in_range planned.accepted.incidence t h at)
 
   module _ (rows : ℕ) (slots row : List Slot) (are : AreRows m rule hooks walk turns nodes rows slots) (next : IsForcedRow m rule row) (wide : nodes ≤ length row) where
     earlier : (x p : ℕ) → x < nodes → p < rows → dart_at m nodes (slots ++ take nodes row) x p ≡ dart_at m nodes slots x p

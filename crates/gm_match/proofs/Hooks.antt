@@ -54,8 +54,8 @@ turning schema rule planned h c word is_word turn nodes slots counts (rows, whol
   long = long;
   some = rw long some;
   place = rw long (mod-lt turn some);
-  letter = rw long (subst (λ w. slice_get w (turn % width rule) ≡ Some (At (label_at (letters rule Left h) (turn % width rule)))) is_word (hook_letter schema rule planned.in_range planned.incidence c.0 h at (turn % width rule) (mod-lt turn some)));
-  low = letter_low schema rule planned.in_range planned.incidence c.0 h at (turn % width rule);
+  letter = rw long (subst (λ w. slice_get w (turn % width rule) ≡ Some (At (label_at (letters rule Left h) (turn % width rule)))) is_word (hook_letter schema rule planned.accepted.in_range planned.accepted.incidence c.0 h at (turn % width rule) (mod-lt turn some)));
+  low = letter_low schema rule planned.accepted.in_range planned.accepted.incidence c.0 h at (turn % width rule);
   within = rw long (omega (arith, whole, mul-add-lt (turn / width rule) nodes h rows (row_below turn rows (width rule) less) ((counts h).0 left)));
 }
   where
@@ -63,10 +63,10 @@ turning schema rule planned h c word is_word turn nodes slots counts (rows, whol
     at = contained_at rule.hooks h c
 
     left : IsTrue (has_word rule Left h)
-    left = hook_left schema rule planned.in_range planned.incidence c.0 h at
+    left = hook_left schema rule planned.accepted.in_range planned.accepted.incidence c.0 h at
 
     some : 0 < width rule
     some = some_place turn rows (width rule) less
 
     long : length word ≡ width rule
-    long = ap length (sym is_word) ∙ planned.incidence.structured.widths h (word_below rule Left h left) Left left
+    long = ap length (sym is_word) ∙ planned.accepted.incidence.structured.widths h (word_below rule Left h left) Left left

@@ -50,14 +50,14 @@ module _ (m : ArenaMap) (row : List Slot) (i : ℕ) (slot : Slot) where
 module _ (schema : Schema) (rule : Rule) (planned : IsPlanned schema rule) where
   lead_left : (x : ℕ) (path : List ℕ) (y : ℕ) → Leads rule.left_links x path y → IsTrue (has_word rule Left x) → IsTrue (has_word rule Left y)
   lead_left x [] y e left = subst (λ z. IsTrue (has_word rule Left z)) e left
-  lead_left x (i ∷ path) y (z, linked, leads) left = lead_left z path y leads (linked_in_range schema rule planned.in_range planned.incidence Left x i z linked).1
+  lead_left x (i ∷ path) y (z, linked, leads) left = lead_left z path y leads (linked_in_range schema rule planned.accepted.in_range planned.accepted.incidence Left x i z linked).1
 
   -- a path leads to a left node
   pub path_left : (x h : ℕ) (path : List ℕ) → IsPathTo rule x h path → IsTrue (has_word rule Left x)
-  path_left x h path to = lead_left h path x to.leads (hook_left schema rule planned.in_range planned.incidence to.index h to.hook_at)
+  path_left x h path to = lead_left h path x to.leads (hook_left schema rule planned.accepted.in_range planned.accepted.incidence to.index h to.hook_at)
 
   pub hook_within : (t h : ℕ) → slice_get rule.hooks t ≡ Some h → h < 32
-  hook_within t h at = omega (arith, word_below rule Left h (hook_left schema rule planned.in_range planned.incidence t h at), planned.within.nodes)
+  hook_within t h at = omega (arith, word_below rule Left h (hook_left schema rule planned.accepted.in_range planned.accepted.incidence t h at), planned.within.nodes)
 
   module _ (links : List Link) (are : ArePaths rule links) where
     -- a link joins left nodes, with a label of the map
@@ -75,7 +75,7 @@ module _ (schema : Schema) (rule : Rule) (planned : IsPlanned schema rule) where
       to_within = omega (arith, word_below rule Left link.to (path_left link.to last.hook (last.front ++ link.label ∷ []) last.to_end), planned.within.nodes)
 
       pub low_label : link.label ≤ schema.dim
-      low_label = (linked_in_range schema rule planned.in_range planned.incidence Left end.0 link.label link.to end.1).2
+      low_label = (linked_in_range schema rule planned.accepted.in_range planned.accepted.incidence Left end.0 link.label link.to end.1).2
 
     -- a hook or a link for each left node
     pub few_links : length rule.hooks + length links ≤ length rule.nodes
@@ -91,7 +91,7 @@ module _ (schema : Schema) (rule : Rule) (planned : IsPlanned schema rule) where
       AreReached t row = (x : ℕ) → Contains (path_nodes rule (take t links)) x → (h : ℕ) (path : List ℕ) → IsPathTo rule x h path → dart_in m row x ≡ follow (alpha m) path (dart_in m old h)
 
       pub hooks_reached : AreReached 0 old
-      hooks_reached x c h path to = go (same_path rule x h x path [] to (hook_path rule planned.in_range.hooks_differ hooked.0 x (contained_at rule.hooks x hooked)))
+      hooks_reached x c h path to = go (same_path rule x h x path [] to (hook_path rule planned.accepted.in_range.hooks_differ hooked.0 x (contained_at rule.hooks x hooked)))
         where
           hooked : Contains rule.hooks x
           hooked = subst (λ xs. Contains xs x) (append-nil rule.hooks) c
@@ -138,7 +138,7 @@ module _ (schema : Schema) (rule : Rule) (planned : IsPlanned schema rule) where
         lies x h path to = reached x (subst (λ ls. Contains (path_nodes rule ls) x) (sym (take_all t links end_at)) ((are.nodes.same x).1 (path_left x h path to))) h path to
 
         pub hooks_stay : (k h : ℕ) → slice_get rule.hooks k ≡ Some h → dart_in m row h ≡ dart_in m old h
-        hooks_stay k h at = lies h h [] (hook_path rule planned.in_range.hooks_differ k h at)
+        hooks_stay k h at = lies h h [] (hook_path rule planned.accepted.in_range.hooks_differ k h at)
 
         -- and each node lies where its path leads from its hook
         pub all_forced : (x h : ℕ) (path : List ℕ) → IsPathTo rule x h path → dart_in m row x ≡ follow (alpha m) path (dart_in m row h)

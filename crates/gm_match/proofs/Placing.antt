@@ -44,13 +44,13 @@ module _ (schema : Schema) (rule : Rule) (planned : IsPlanned schema rule) (has 
   first = slice_get-get_or rule.hooks 0 0 has
 
   pub some_node : 1 ≤ length rule.nodes
-  some_node = omega (arith, word_below rule Left hook (hook_left schema rule planned.in_range planned.incidence 0 hook first))
+  some_node = omega (arith, word_below rule Left hook (hook_left schema rule planned.accepted.in_range planned.accepted.incidence 0 hook first))
 
   letters_plain : IsPlainWord (hook_word rule)
-  letters_plain = rw first (planned.incidence.structured.plain 0 has hook first)
+  letters_plain = rw first (planned.accepted.incidence.structured.plain 0 has hook first)
 
   hook_is_word : IsWord schema.dim (hook_word rule)
-  hook_is_word = plain_is_word schema.dim (hook_word rule) letters_plain (rw first (planned.in_range.words Left hook))
+  hook_is_word = plain_is_word schema.dim (hook_word rule) letters_plain (rw first (planned.accepted.in_range.words Left hook))
 
   -- its labels differ, so it has no more than there are labels
   few_places : width rule ≤ schema.dim + 1

@@ -66,10 +66,10 @@ module _ (m : ArenaMap) (plan : PlanOf) (able : AreMatchable m plan) (found : Pl
   label_below i h = subst (λ (s : Schema). i ≤ s.dim) able.schema h
 
   pub other_below : (x i y : ℕ) → i ≤ m.schema.dim → step (rule_of plan.table) Left x i ≡ Exp y → y < found.nodes
-  other_below x i y h e = (laid.nodes y).0 (step_back plan.schema (rule_of plan.table) able.planned.in_range able.planned.incidence Left x i y (label_below i h) e).0
+  other_below x i y h e = (laid.nodes y).0 (step_back plan.schema (rule_of plan.table) able.planned.accepted.in_range able.planned.accepted.incidence Left x i y (label_below i h) e).0
 
   pub place_below : (x i k : ℕ) → x < found.nodes → step (rule_of plan.table) Left x i ≡ Imp k → k < found.places
-  place_below x i k h e = subst (λ w. k < w) (sym laid.places) (step_within plan.schema (rule_of plan.table) able.planned.in_range able.planned.incidence Left x i k ((laid.nodes x).1 h) e)
+  place_below x i k h e = subst (λ w. k < w) (sym laid.places) (step_within plan.schema (rule_of plan.table) able.planned.accepted.in_range able.planned.accepted.incidence Left x i k ((laid.nodes x).1 h) e)
 
 -- a rule has one number of left nodes
 pub same_count : (rule : Rule) (a b : ℕ) → IsLeftCount rule a → IsLeftCount rule b → a ≡ b

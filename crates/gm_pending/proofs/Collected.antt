@@ -18,7 +18,7 @@ use Rattle.gm_pending.specs.declared.edits.Arc.{Arc}
 use Rattle.gm_pending.specs.declared.edits.End.TheVariants.{Old}
 use Rattle.gm_pending.specs.declared.rewrite.Arcs.TheVariants.{Freed, Made}
 use Rattle.gm_pending.specs.Collected.{as_list, concat_below, slot_in, rewrite_of, end_of, labels, freed_by, freed_at, made_by, made_at, removed_at, removed_of, removed_in, arcs_of, arcs_in, all_arcs, all_removed}
-use Rattle.gm_pending.specs.EditLists.{EditLists, AreArcs, AreDistinct, AreRemoved, AreEditsOf, IsOldEnd, IsResultEnd, IsFreed, end_name}
+use Rattle.gm_pending.specs.EditLists.{EditLists, AreAddedValues, AreArcs, AreDistinct, AreNewValues, AreRemoved, AreEditsOf, IsOldEnd, IsResultEnd, IsFreed, end_name}
 use Rattle.gm_pending.specs.Results.{PendingOf, IsPrepared, IsRightInstance, rule_in, scene_in}
 use Rattle.gm_pending.proofs.Concat.{concat_contains, contains_concat, list_contains, contains_list, length_concat, length_same, length_list, distinct_concat, distinct_list}
 use Rattle.gm_pending.proofs.Ends.{right_end}
@@ -280,7 +280,7 @@ module _ (app : PendingOf) (prepared : IsPrepared app) where
       go (inl r) earlier = rw r (omega (arith, earlier))
       go (inr a) earlier = rw a (omega (arith, earlier))
 
-  few_added : (x : ℕ) → added_before (rule_in app) x ≤ x
+  pub few_added : (x : ℕ) → added_before (rule_in app) x ≤ x
   few_added zero = omega arith
   few_added (suc x) = go (true_or_false (is_added (rule_in app) x)) (few_added x)
     where
@@ -300,9 +300,11 @@ module _ (app : PendingOf) (prepared : IsPrepared app) where
       (most (λ x p i. as_list (made_at (rewrite_of app) x p i)) (λ x p i. length_list (made_at (rewrite_of app) x p i)))
       (removed_count count) is (few_removed count) (few_added count)
 
-  pub are_edits : (edits : EditLists) → edits.freed ≡ all_arcs (rewrite_of app) Freed → edits.removed ≡ all_removed (rewrite_of app) → edits.arcs ≡ all_arcs (rewrite_of app) Made → edits.added ≡ app.placed.positions * added_nodes (rule_in app) → AreEditsOf app edits
-  are_edits edits freed removed arcs added = record {
+  pub are_edits : (edits : EditLists) → AreAddedValues app edits.added edits.added_values → AreNewValues app edits.values → edits.freed ≡ all_arcs (rewrite_of app) Freed → edits.removed ≡ all_removed (rewrite_of app) → edits.arcs ≡ all_arcs (rewrite_of app) Made → edits.added ≡ app.placed.positions * added_nodes (rule_in app) → AreEditsOf app edits
+  are_edits edits added_values values freed removed arcs added = record {
     prepared = prepared;
+    added_values = added_values;
+    values = values;
     freed = rw freed are_freed;
     removed = rw removed are_removed;
     arcs = rw arcs are_made;

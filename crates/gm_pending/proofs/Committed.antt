@@ -1,17 +1,26 @@
 -- The stages of a commit make the result: what each needs is there, and what the last leaves is the unfolding.
-use Rattle.std.proofs.Common.{◌≡◌, ℕ, ◌+◌, ◌-◌, ◌*◌, ◌<◌, ◌≤◌, ◌⊎◌, not, List, [], length, get_or, unwrap_or, None, is_some, IsTrue, refl, sym, ap, ◌∙◌, subst, inl, inr, arith, mul_comm}
+use Rattle.std.proofs.Common.{◌≡◌, ℕ, ◌+◌, ◌-◌, ◌*◌, ◌<◌, ◌≤◌, ◌⊎◌, not, List, [], length, get_or, slice_get, unwrap_or, Some, None, is_some, IsTrue, refl, sym, ap, ◌∙◌, subst, inl, inr, arith, mul_comm, pos}
 use Rattle.std.specs.FinMap.{get}
 use Rattle.std.specs.List.{Contains}
+use Rattle.std.specs.Option.{option_map}
 use Rattle.std.proofs.lemmas.Bool.{false≢true}
+use Rattle.std.proofs.lemmas.Option.{same_Some, slice_get_within}
 use Rattle.gm_model.specs.declared.rule.Side.TheVariants.{Left, Right}
-use Rattle.gm_model.specs.Maps.{IsDart}
-use Rattle.gm_model.specs.Rules.{has_word}
-use Rattle.gm_model.specs.Unfolding.{Scene, IsGone, IsDartAfter, IsCutAt, IsMadeArc, IsArcAfter, added_before, added_nodes}
+use Rattle.gm_model.specs.declared.schema.Embed.{Embed}
+use Rattle.gm_model.specs.declared.schema.Schema.{Schema}
+use Rattle.gm_model.specs.declared.value.Value.{Value}
+use Rattle.gm_model.specs.declared.value.Value.TheVariants.{Int}
+use Rattle.gm_model.specs.Maps.{IsDart, IsEmbedAt, type_of}
+use Rattle.gm_model.specs.NewValues.{IsUndecided, Kept}
+use Rattle.gm_model.specs.Rules.{has_word, is_added}
+use Rattle.gm_model.specs.Unfolding.{Scene, IsGone, IsDartAfter, IsCutAt, IsMadeArc, IsArcAfter, IsUnfolding, added_before, added_nodes}
 use Rattle.gm_arena.specs.declared.slot.Slot.{Slot}
-use Rattle.gm_arena.specs.ArenaAsMap.{as_map}
-use Rattle.gm_arena.specs.ArenaMap.{ArenaMap, IsAt, IsLiveName, name_at, alpha}
+use Rattle.gm_arena.specs.ArenaAsMap.{as_map, value}
+use Rattle.gm_arena.specs.ArenaMap.{ArenaMap, Dart, IsAt, IsLiveName, name_at, alpha}
 use Rattle.gm_arena.specs.Edits.{IsAlone}
-use Rattle.gm_arena.proofs.InsideLemmas.{is_some_at}
+use Rattle.gm_arena.specs.Inside.{part_of}
+use Rattle.gm_arena.proofs.InsideLemmas.{is_some_at, part_long, some_from_map}
+use Rattle.gm_arena.proofs.ValueLemmas.{length-values}
 use Rattle.gm_arena.proofs.MapLemmas.{name_at-is, IsAt-name_at, IsLiveName-name_at, name_below, alpha-alike}
 use Rattle.gm_theory.proofs.Arcs.{cut_back, gone_cut, arc_from, one_arc}
 use Rattle.gm_theory.proofs.NewNames.{new_name}
@@ -20,13 +29,17 @@ use Rattle.gm_theory.proofs.RuleSteps.{word_below}
 use Rattle.gm_pending.specs.declared.edits.Arc.{Arc}
 use Rattle.gm_pending.specs.declared.edits.End.{End}
 use Rattle.gm_pending.specs.declared.edits.End.TheVariants.{Old, New}
-use Rattle.gm_pending.specs.Results.{PendingOf, rule_in, place_in, scene_in}
-use Rattle.gm_pending.specs.EditLists.{EditLists, AreEditsOf, IsOldEnd, IsResultEnd, IsResultOf, end_name}
-use Rattle.gm_pending.specs.Written.{AreWhole, IsWritable, IsLiveEnd, CanRemove, IsExtended, end_at, with_arcs, without_darts}
+use Rattle.gm_pending.specs.declared.edits.ValueAt.{ValueAt}
+use Rattle.gm_pending.specs.Results.{PendingOf, IsUnfoldedIn, IsValueIn, rule_in, place_in, scene_in}
+use Rattle.gm_pending.specs.EditLists.{EditLists, AreEditsOf, IsOldEnd, IsResultEnd, IsResultOf, added_value, end_name}
+use Rattle.gm_pending.specs.Written.{AreWhole, IsWritable, IsLiveEnd, IsSettable, CanRemove, IsExtended, end_at, values_at, with_arcs, with_values, without_darts}
 use Rattle.gm_pending.proofs.Law.{law}
 use Rattle.gm_pending.proofs.Made.{unmade_kept}
+use Rattle.gm_pending.proofs.NewValues.{part_entry, typed}
 use Rattle.gm_pending.proofs.Numbers.{numbered, number_below}
-use Rattle.gm_pending.proofs.WithArcs.{arcs_frame, arcs_live, arcs_whole, arcs_written, AreWritable, IsWrittenOrKept}
+use Rattle.gm_pending.proofs.WithArcs.{arcs_frame, arcs_live, arcs_values, arcs_whole, arcs_written, AreWritable, IsWrittenOrKept}
+use Rattle.gm_pending.proofs.WithValues.{AreFitting, AreWide, IsSetOrKept, value_alike, value_among, value_is, values_alpha, values_frame, values_live, values_set}
+use Rattle.gm_theory.specs.Theorem.{Unfolded}
 use Rattle.gm_pending.proofs.WithoutDarts.{IsUnnamed, can_remove, dart_stays, dart_goes, slot_stays, without_whole, more_room}
 
 module _ (app : PendingOf) (edits : EditLists) (ok : AreEditsOf app edits) (spare reserved : ℕ) where
@@ -136,8 +149,8 @@ module _ (app : PendingOf) (edits : EditLists) (ok : AreEditsOf app edits) (spar
       slot_stays edits.removed freed slot (λ other among e. stays (subst (λ n. IsGone scene (name_at app.map n)) e (ok.removed.gone other among)))
       ∙ ap (λ slots. get slots slot) freed_slots
 
-  pub fewer_embeds : fewer.schema.embeds ≡ []
-  fewer_embeds = ap (λ s. s.embeds) ((more_room edits.removed freed).schema ∙ freed_schema) ∙ ok.prepared.no_embeds
+  pub fewer_schema : fewer.schema ≡ app.map.schema
+  fewer_schema = (more_room edits.removed freed).schema ∙ freed_schema
 
   pub fewer_next : fewer.next ≡ app.map.next
   fewer_next = (more_room edits.removed freed).next ∙ ap (λ (m : ArenaMap). m.next) (arcs_frame (end_at before []) edits.freed before)
@@ -153,7 +166,7 @@ module _ (app : PendingOf) (edits : EditLists) (ok : AreEditsOf app edits) (spar
 
   -- ---- the darts that are added, and the arcs that are made
 
-  module _ (made : List Slot) (more : ArenaMap) (extended : IsExtended fewer made more) (long : length made ≡ edits.added) where
+  module _ (made : List Slot) (more : ArenaMap) (extended : IsExtended fewer edits.added_values made more) (long : length made ≡ edits.added) where
     numbers : edits.added ≡ app.placed.positions * added_nodes (rule_in app)
     numbers = ok.added_is
 
@@ -188,7 +201,7 @@ module _ (app : PendingOf) (edits : EditLists) (ok : AreEditsOf app edits) (spar
         ((below, is_some_at _ _ at), name ∙ ap (λ n. n + number) fewer_next, rw name (extended.made_live number below))
 
     more_schema : more.schema ≡ app.map.schema
-    more_schema = extended.schema ∙ (more_room edits.removed freed).schema ∙ freed_schema
+    more_schema = extended.schema ∙ fewer_schema
 
     pub can_link : (arc : Arc) → Contains edits.arcs arc → IsWritable more made arc
     can_link arc among = record {
@@ -234,19 +247,19 @@ module _ (app : PendingOf) (edits : EditLists) (ok : AreEditsOf app edits) (spar
                 let there = ok.arcs.all d i e arc in
                 unwritten there.0 there.1 ((result_end there.0.from (ok.arcs.ends there.0 there.1).0).1 ∙ there.2) there.3
 
-    pub linked_next : linked.next ≡ app.map.next + edits.added
+    linked_next : linked.next ≡ app.map.next + edits.added
     linked_next = ap (λ (m : ArenaMap). m.next) (arcs_frame (end_at more made) edits.arcs more) ∙ extended.next ∙ omega (arith, fewer_next, long)
 
-    pub linked_count : linked.count ≡ app.map.count - length edits.removed + edits.added
+    linked_count : linked.count ≡ app.map.count - length edits.removed + edits.added
     linked_count = omega (arith, ap (λ (m : ArenaMap). m.count) (arcs_frame (end_at more made) edits.arcs more), extended.count, long, fewer_count)
 
-    pub linked_spare : linked.spare + edits.added ≡ spare + length edits.removed
+    linked_spare : linked.spare + edits.added ≡ spare + length edits.removed
     linked_spare = omega (arith, ap (λ (m : ArenaMap). m.spare) (arcs_frame (end_at more made) edits.arcs more), extended.spare, long, fewer_spare)
 
-    pub linked_reserved : linked.reserved ≡ reserved
+    linked_reserved : linked.reserved ≡ reserved
     linked_reserved = ap (λ (m : ArenaMap). m.reserved) (arcs_frame (end_at more made) edits.arcs more) ∙ extended.reserved ∙ fewer_reserved
 
-    pub linked_schema : linked.schema ≡ app.map.schema
+    linked_schema : linked.schema ≡ app.map.schema
     linked_schema = ap (λ (m : ArenaMap). m.schema) (arcs_frame (end_at more made) edits.arcs more) ∙ more_schema
 
     to_dart : (d : ℕ) → IsDart (as_map linked) d → IsDartAfter scene d
@@ -255,12 +268,140 @@ module _ (app : PendingOf) (edits : EditLists) (ok : AreEditsOf app edits) (spar
     from_dart : (d : ℕ) → IsDartAfter scene d → IsDart (as_map linked) d
     from_dart d after = linked_live d ∙ more_live d after
 
-    pub committed : IsResultOf app linked
-    committed = record {
+    linked_unfolded : IsUnfolding scene (IsDart (as_map linked)) (alpha linked) linked.next
+    linked_unfolded = record {
       darts = λ d. (to_dart d, from_dart d);
       arcs = λ d i e h. (
         λ there. subst (IsArcAfter scene d i) there.1 (linked_arc d i (to_dart d there.0) h),
         λ arc. let after = arc_from scene _ _ _ (law app ok.prepared) d i e arc in (from_dart d after, one_arc scene _ _ _ (law app ok.prepared) d i (alpha linked i d) e (linked_arc d i after h) arc),
       );
       next_is = linked_next ∙ ap (λ n. app.map.next + n) numbers;
+    }
+
+    -- ---- the values
+
+    abbrev pub valued : ArenaMap
+    valued = with_values linked edits.values
+
+    width : length fewer.schema.embeds ≡ length app.map.schema.embeds
+    width = ap (λ (s : Schema). length s.embeds) fewer_schema
+
+    linked_values : (d : ℕ) → values_at linked d ≡ values_at more d
+    linked_values = arcs_values (end_at more made) edits.arcs more
+
+    -- a dart that stays has its old values so far
+    stayed_values : (d : ℕ) → IsTrue (scene.live d) → (IsGone scene d → ⊥) → values_at linked d ≡ values_at app.map d
+    stayed_values d live stays =
+        let low : d < fewer.next = rw fewer_next (name_below app.map d ok.prepared.lawful live) in
+        linked_values d
+        ∙ ap (option_map (λ (dart : Dart). dart.values)) (extended.darts d low ∙ fewer_dart d stays)
+        ∙ arcs_values (end_at before []) edits.freed before d
+
+    -- an added dart has those that were given
+    added_values : (number : ℕ) → number < edits.added → values_at linked (app.map.next + number) ≡ Some (part_of (length app.map.schema.embeds) edits.added_values number)
+    added_values number low = rw (← fewer_next, ← width) (linked_values (fewer.next + number) ∙ extended.valued number (omega (arith, long)))
+
+    -- a dart of the result by its number, where it is added
+    numbered_dart : (x p d : ℕ) → IsTrue (is_added (rule_in app) x) → p < app.placed.positions → d ≡ scene.name_of x p → (number : ℕ) × (number < edits.added) × (app.map.next + number ≡ d)
+    numbered_dart x p d a b e =
+        let right : IsTrue (has_word (rule_in app) Right x) = (both_true (not (has_word (rule_in app) Left x)) (has_word (rule_in app) Right x) a).1 in
+        let below : added_before (rule_in app) x * app.placed.positions + p < edits.added = rw numbers (number_below (rule_in app) app.placed.positions x p a (word_below (rule_in app) Right x right) b) in
+        (added_before (rule_in app) x * app.placed.positions + p, below, omega (arith, e, new_name (as_map app.map) (rule_in app) (place_in app) x p a))
+
+    linked_wide : AreWide linked
+    linked_wide d values is = rw linked_schema (go (then_dart d (ap is_some there.1)))
+      where
+        there : (dart : Dart) × (get more.darts d ≡ Some dart) × (values ≡ dart.values)
+        there = some_from_map (λ (dart : Dart). dart.values) (get more.darts d) values (sym (linked_values d) ∙ is)
+
+        go : IsDartAfter scene d → length values ≡ length app.map.schema.embeds
+        go (inl (live, stays)) =
+            let was = some_from_map (λ (dart : Dart). dart.values) (get app.map.darts d) values (sym (stayed_values d live stays) ∙ is) in
+            ap (λ (list : List Value). length list) was.2 ∙ length-values app.map.schema was.0.values (ok.prepared.lawful.dart d was.0 was.1).valued
+        go (inr (x, p, a, b, e)) =
+            let at = numbered_dart x p d a b e in
+            let own : values ≡ part_of (length app.map.schema.embeds) edits.added_values at.0 = same_Some _ _ (sym is ∙ subst (λ c. values_at linked c ≡ Some (part_of (length app.map.schema.embeds) edits.added_values at.0)) at.2 (added_values at.0 at.1)) in
+            ap (λ (list : List Value). length list) own ∙ part_long (length app.map.schema.embeds) edits.added_values edits.added at.0 at.1 (omega (arith, ok.added_values.long))
+
+    linked_slots : linked.slots ≡ more.slots
+    linked_slots = ap (λ (m : ArenaMap). m.slots) (arcs_frame (end_at more made) edits.arcs more)
+
+    linked_name : (slot : Slot) → IsResultEnd app (Old slot) → name_at linked slot.at ≡ name_at app.map slot.at
+    linked_name slot stays = ap (λ slots. unwrap_or (get slots slot.at) 0) linked_slots ∙ (result_end (Old slot) stays).1
+
+    pub can_set : (at : ValueAt) → Contains edits.values at → IsSettable linked at
+    can_set at among =
+        let new = ok.values.new at among in
+        record {
+          live = rw linked_slots (result_end (Old at.slot) new.stays).0.1;
+          embed = new.embed;
+          embed_at = rw linked_schema new.embed_at;
+          value = typed app ok.prepared at.embed (name_at app.map at.slot.at) new.embed at.value new.embed_at new.value;
+        }
+
+    fitting : AreFitting linked edits.values
+    fitting at among =
+        let new = ok.values.new at among in
+        let end = result_end (Old at.slot) new.stays in
+        (rw (linked_name at.slot new.stays, ← end.1) (linked_live (name_at more at.slot.at) ∙ end.2), rw linked_schema (slice_get_within app.map.schema.embeds at.embed new.embed new.embed_at))
+
+    value_in : (e d : ℕ) (embed : Embed) → IsEmbedAt app.map.schema e embed → IsDartAfter scene d → IsValueIn app e embed d (value valued e d)
+    value_in e d embed embed_at after = go (values_set edits.values linked linked_wide fitting e d)
+      where
+        moved : (k c : ℕ) (other : Embed) (v : Value) → IsEmbedAt app.map.schema k other → k ≡ e → c ≡ d → value valued e d ≡ v → IsValueIn app k other c v → IsValueIn app e embed d (value valued e d)
+        moved k c other v other_at number name same is =
+            let one : other ≡ embed = same_Some other embed (sym other_at ∙ ap (slice_get app.map.schema.embeds) number ∙ embed_at) in
+            subst (IsValueIn app e embed d) (sym same) (subst (λ b. IsValueIn app e embed b v) name (subst (λ m. IsValueIn app e m c v) one (subst (λ j. IsValueIn app j other c v) number is)))
+
+        go : IsSetOrKept linked edits.values e d (value valued e d) → IsValueIn app e embed d (value valued e d)
+        go (inl s) =
+            let new = ok.values.new s.at s.among in
+            moved s.at.embed (name_at app.map s.at.slot.at) new.embed s.at.value new.embed_at s.embed (sym (linked_name s.at.slot new.stays) ∙ s.name) s.value new.value
+        go (inr (unset, same)) = kept after
+          where
+            kept : IsDartAfter scene d → IsValueIn app e embed d (value valued e d)
+            kept (inl (live, stays)) = subst (IsValueIn app e embed d) (sym (same ∙ value_alike app.map linked e d (stayed_values d live stays))) (λ result unfolds. Kept (undecided result unfolds) live refl)
+              where
+                undecided : (result : Unfolded) → IsUnfoldedIn app result → IsUndecided (as_map app.map) (rule_in app) (place_in app) result.alpha e (type_of embed) d
+                undecided result unfolds x p assigned lies =
+                    let there = ok.values.all result unfolds e d embed embed_at live ((unfolds.darts d).1 (inl (live, stays)), (x, p, assigned, lies)) in
+                    unset there.0 there.1 there.2.0 (linked_name there.0.slot (ok.values.new there.0 there.1).stays ∙ there.2.1)
+            kept (inr (x, p, a, b, name)) =
+                let at = numbered_dart x p d a b name in
+                let is : value linked e (app.map.next + at.0) ≡ added_value app.map.schema edits.added_values at.0 e =
+                value_is linked e (app.map.next + at.0) ∙ ap (value_among e) (added_values at.0 at.1) ∙ part_entry (length app.map.schema.embeds) edits.added_values at.0 e (Int (pos 0)) (slice_get_within app.map.schema.embeds e embed embed_at) in
+                moved e (app.map.next + at.0) embed (added_value app.map.schema edits.added_values at.0 e) embed_at refl at.2 (same ∙ ap (value linked e) (sym at.2) ∙ is) (ok.added_values.given at.0 e embed at.1 embed_at)
+
+    -- ---- the result
+
+    abbrev frame : valued ≡ record linked { darts = valued.darts }
+    frame = values_frame edits.values linked
+
+    valued_unfolded : IsUnfolding scene (IsDart (as_map valued)) (alpha valued) valued.next
+    valued_unfolded = record {
+      darts = λ d. (λ live. (linked_unfolded.darts d).0 (sym (values_live edits.values linked d) ∙ live), λ after. values_live edits.values linked d ∙ (linked_unfolded.darts d).1 after);
+      arcs = λ d i e h. (
+        λ there. (linked_unfolded.arcs d i e h).0 (sym (values_live edits.values linked d) ∙ there.0, sym (values_alpha edits.values linked i d) ∙ there.1),
+        λ arc. let there = (linked_unfolded.arcs d i e h).1 arc in (values_live edits.values linked d ∙ there.0, values_alpha edits.values linked i d ∙ there.1),
+      );
+      next_is = ap (λ (m : ArenaMap). m.next) frame ∙ linked_unfolded.next_is;
+    }
+
+    pub valued_schema : valued.schema ≡ app.map.schema
+    valued_schema = ap (λ (m : ArenaMap). m.schema) frame ∙ linked_schema
+
+    pub valued_count : valued.count ≡ app.map.count - length edits.removed + edits.added
+    valued_count = ap (λ (m : ArenaMap). m.count) frame ∙ linked_count
+
+    pub valued_spare : valued.spare + edits.added ≡ spare + length edits.removed
+    valued_spare = ap (λ (m : ArenaMap). m.spare + edits.added) frame ∙ linked_spare
+
+    pub valued_reserved : valued.reserved ≡ reserved
+    valued_reserved = ap (λ (m : ArenaMap). m.reserved) frame ∙ linked_reserved
+
+    pub committed : IsResultOf app valued
+    committed = record {
+      schema = valued_schema;
+      unfolded = valued_unfolded;
+      values = λ e d embed at live. value_in e d embed at ((valued_unfolded.darts d).0 live);
     }

@@ -32,8 +32,8 @@ module _ (app : PendingOf) (prepared : IsPrepared app) where
       go (inl l) = absurd (let below : x < app.placed.nodes = (prepared.matched.nodes x).0 l in omega arith)
       go (inr a) = a
 
-  other_added : (x : ℕ) → app.placed.nodes ≤ x → x < length (rule_in app).nodes → IsTrue (is_added (rule_in app) x)
-  other_added x h b = elim (prepared.planned.in_range.some_word x b) [
+  pub other_added : (x : ℕ) → app.placed.nodes ≤ x → x < length (rule_in app).nodes → IsTrue (is_added (rule_in app) x)
+  other_added x h b = elim (prepared.planned.accepted.in_range.some_word x b) [
     | inl l ↦ not_both (has_word (rule_in app) Left x) l (not_left x h)
     | inr r ↦ and_true (not (has_word (rule_in app) Left x)) (has_word (rule_in app) Right x) (true_not (has_word (rule_in app) Left x) (not_left x h)) r
   ]

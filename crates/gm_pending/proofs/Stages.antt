@@ -1,5 +1,5 @@
 -- The stages of a commit, over an arena that has the rows of an application's map.
-use Rattle.std.proofs.Common.{◌≡◌, ◌+◌, ◌-◌, ◌≤◌, List, [], length, sym, ap, ◌∙◌, subst, arith}
+use Rattle.std.proofs.Common.{◌≡◌, ℕ, ◌+◌, ◌-◌, ◌*◌, ◌<◌, ◌≤◌, List, [], length, sym, ap, ◌∙◌, subst, arith}
 use Rattle.std.specs.List.{Contains}
 use Rattle.gm_model.specs.declared.schema.Schema.{Schema}
 use Rattle.gm_model.specs.GMap.{IsGMap}
@@ -7,13 +7,26 @@ use Rattle.gm_model.specs.Maps.{IsDart, IsGeneralised}
 use Rattle.gm_arena.specs.declared.slot.Slot.{Slot}
 use Rattle.gm_arena.specs.ArenaAsMap.{as_map}
 use Rattle.gm_arena.specs.ArenaMap.{ArenaMap, alpha}
+use Rattle.gm_arena.specs.Inside.{part_of}
+use Rattle.gm_arena.specs.Lawful.{AreGoodValues}
 use Rattle.gm_theory.proofs.Results.{unfolding_generalised}
 use Rattle.gm_pending.specs.declared.edits.Arc.{Arc}
+use Rattle.gm_pending.specs.declared.edits.ValueAt.{ValueAt}
 use Rattle.gm_pending.specs.Results.{PendingOf, scene_in}
 use Rattle.gm_pending.specs.EditLists.{EditLists, HasSameRows, AreEditsOf, IsResultOf}
-use Rattle.gm_pending.specs.Written.{IsWritable, CanRemove, IsExtended, end_at, with_arcs, without_darts}
+use Rattle.gm_pending.specs.Written.{IsWritable, IsSettable, CanRemove, IsExtended, end_at, with_arcs, with_values, without_darts}
 use Rattle.gm_pending.proofs.Committed
 use Rattle.gm_pending.proofs.Law.{law}
+use Rattle.gm_pending.proofs.NewValues.{added_good}
+
+-- the arena has the result, and as much room as it had before with that of the removed darts and without that of the added ones
+pub record IsCommitted (app : PendingOf) (edits : EditLists) (start m : ArenaMap) : Type 0 where
+  pub result : IsResultOf app m
+  pub generalised : IsGeneralised (as_map m)
+  pub schema : m.schema ≡ start.schema
+  pub count : m.count ≡ start.count - length edits.removed + edits.added
+  pub spare : m.spare + edits.added ≡ start.spare + length edits.removed
+  pub reserved : m.reserved ≡ start.reserved
 
 module _ (app : PendingOf) (edits : EditLists) (start : ArenaMap) (same : HasSameRows app.map start) (ok : AreEditsOf app edits) where
   pub freeing : (arc : Arc) → Contains edits.freed arc → IsWritable start [] arc
@@ -30,8 +43,14 @@ module _ (app : PendingOf) (edits : EditLists) (start : ArenaMap) (same : HasSam
       fewer : m2 ≡ Committed.fewer app edits ok start.spare start.reserved
       fewer = is_fewer ∙ ap (λ m. without_darts m edits.removed) freed
 
-      pub adding_embeds : m2.schema.embeds ≡ []
-      adding_embeds = ap (λ (m : ArenaMap). m.schema.embeds) fewer ∙ Committed.fewer_embeds app edits ok start.spare start.reserved
+      adding_schema : m2.schema ≡ app.map.schema
+      adding_schema = ap (λ (m : ArenaMap). m.schema) fewer ∙ Committed.fewer_schema app edits ok start.spare start.reserved
+
+      pub adding_long : length edits.added_values ≡ edits.added * length m2.schema.embeds
+      adding_long = rw adding_schema ok.added_values.long
+
+      pub adding_values : (number : ℕ) → number < edits.added → AreGoodValues m2.schema (part_of (length m2.schema.embeds) edits.added_values number)
+      adding_values number low = rw adding_schema (added_good app ok.prepared edits.added edits.added_values ok.added_values number low)
 
       pub adding_names : start.next + edits.added ≤ start.reserved → m2.next + edits.added ≤ m2.reserved
       adding_names h = omega (
@@ -46,34 +65,36 @@ module _ (app : PendingOf) (edits : EditLists) (start : ArenaMap) (same : HasSam
       pub adding_room : edits.added ≤ start.spare + length edits.removed → edits.added ≤ m2.spare
       adding_room h = omega (arith, ap (λ (m : ArenaMap). m.spare) fewer, Committed.fewer_spare app edits ok start.spare start.reserved)
 
-      module _ (made : List Slot) (m3 : ArenaMap) (is_more : IsExtended m2 made m3) (long : length made ≡ edits.added) where
-        extended : IsExtended (Committed.fewer app edits ok start.spare start.reserved) made m3
-        extended = subst (λ m. IsExtended m made m3) fewer is_more
+      module _ (made : List Slot) (m3 : ArenaMap) (is_more : IsExtended m2 edits.added_values made m3) (long : length made ≡ edits.added) where
+        extended : IsExtended (Committed.fewer app edits ok start.spare start.reserved) edits.added_values made m3
+        extended = subst (λ m. IsExtended m edits.added_values made m3) fewer is_more
 
         pub linking : (arc : Arc) → Contains edits.arcs arc → IsWritable m3 made arc
         linking = Committed.can_link app edits ok start.spare start.reserved made m3 extended long
 
         module _ (m4 : ArenaMap) (is_linked : m4 ≡ with_arcs (end_at m3 made) m3 edits.arcs) where
-          pub result : IsResultOf app m4
-          result = subst (IsResultOf app) (sym is_linked) (Committed.committed app edits ok start.spare start.reserved made m3 extended long)
+          linked : m4 ≡ Committed.linked app edits ok start.spare start.reserved made m3 extended long
+          linked = is_linked
 
-          result_schema : m4.schema ≡ app.map.schema
-          result_schema = ap (λ (m : ArenaMap). m.schema) is_linked ∙ Committed.linked_schema app edits ok start.spare start.reserved made m3 extended long
+          pub setting : (at : ValueAt) → Contains edits.values at → IsSettable m4 at
+          setting at among = subst (λ m. IsSettable m at) (sym linked) (Committed.can_set app edits ok start.spare start.reserved made m3 extended long at among)
 
-          pub same_schema : m4.schema ≡ start.schema
-          same_schema = result_schema ∙ sym (ap (λ (m : ArenaMap). m.schema) same)
+          module _ (m5 : ArenaMap) (is_valued : m5 ≡ with_values m4 edits.values) where
+            valued : m5 ≡ Committed.valued app edits ok start.spare start.reserved made m3 extended long
+            valued = is_valued ∙ ap (λ m. with_values m edits.values) linked
 
-          pub result_generalised : IsGeneralised (as_map m4)
-          result_generalised = subst (λ (s : Schema). IsGMap s.dim (IsDart (as_map m4)) (alpha m4)) (sym result_schema)
-              (unfolding_generalised (scene_in app) _ _ _ (law app ok.prepared) (IsDart (as_map m4)) (alpha m4) m4.next result)
+            result : IsResultOf app m5
+            result = subst (IsResultOf app) (sym valued) (Committed.committed app edits ok start.spare start.reserved made m3 extended long)
 
-          pub result_count : m4.count ≡ start.count - length edits.removed + edits.added
-          result_count =
-              ap (λ (m : ArenaMap). m.count) is_linked ∙ Committed.linked_count app edits ok start.spare start.reserved made m3 extended long
-              ∙ sym (ap (λ (m : ArenaMap). m.count - length edits.removed + edits.added) same)
-
-          pub result_spare : m4.spare + edits.added ≡ start.spare + length edits.removed
-          result_spare = ap (λ (m : ArenaMap). m.spare + edits.added) is_linked ∙ Committed.linked_spare app edits ok start.spare start.reserved made m3 extended long
-
-          pub result_reserved : m4.reserved ≡ start.reserved
-          result_reserved = ap (λ (m : ArenaMap). m.reserved) is_linked ∙ Committed.linked_reserved app edits ok start.spare start.reserved made m3 extended long
+            pub committed : IsCommitted app edits start m5
+            committed = record {
+              result = result;
+              generalised = subst (λ (s : Schema). IsGMap s.dim (IsDart (as_map m5)) (alpha m5)) (sym result.schema)
+                  (unfolding_generalised (scene_in app) _ _ _ (law app ok.prepared) (IsDart (as_map m5)) (alpha m5) m5.next result.unfolded);
+              schema = result.schema ∙ sym (ap (λ (m : ArenaMap). m.schema) same);
+              count =
+                  ap (λ (m : ArenaMap). m.count) valued ∙ Committed.valued_count app edits ok start.spare start.reserved made m3 extended long
+                  ∙ sym (ap (λ (m : ArenaMap). m.count - length edits.removed + edits.added) same);
+              spare = ap (λ (m : ArenaMap). m.spare + edits.added) valued ∙ Committed.valued_spare app edits ok start.spare start.reserved made m3 extended long;
+              reserved = ap (λ (m : ArenaMap). m.reserved) valued ∙ Committed.valued_reserved app edits ok start.spare start.reserved made m3 extended long;
+            }

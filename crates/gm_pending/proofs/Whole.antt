@@ -11,7 +11,7 @@ use Rattle.gm_arena.specs.Edits.{with_alpha, without_dart, turned}
 use Rattle.gm_arena.specs.Lawful.{IsLawful}
 use Rattle.gm_arena.proofs.InsideLemmas.{some_of, some_from_map}
 use Rattle.gm_arena.proofs.MapLemmas.{get-with_alpha_same, get-with_alpha_other, get-without_dart_same, get-without_dart_other}
-use Rattle.gm_pending.specs.Written.{AreWhole}
+use Rattle.gm_pending.specs.Written.{AreWhole, values_at}
 
 -- ---- lists
 
@@ -42,7 +42,7 @@ module _ {A : Type 0} where
 pub lawful_whole : (m : ArenaMap) → IsLawful m → AreWhole m
 lawful_whole m lawful name dart is = (lawful.dart name dart is).whole
 
-is_some-map : {A B : Type 0} (f : A → B) (o : Option A) → is_some (option_map f o) ≡ is_some o
+pub is_some-map : {A B : Type 0} (f : A → B) (o : Option A) → is_some (option_map f o) ≡ is_some o
 is_some-map f None = refl
 is_some-map f (Some x) = refl
 
@@ -52,6 +52,16 @@ module _ (m : ArenaMap) (name label to : ℕ) where
     | inl e ↦ rw e (ap is_some (get-with_alpha_same m name label to) ∙ is_some-map (λ dart. turned dart label to) (get m.darts name))
     | inr apart ↦ ap is_some (get-with_alpha_other m name label to d apart)
   ]
+
+  pub values_turned : (d : ℕ) → values_at (with_alpha m name label to) d ≡ values_at m d
+  values_turned d = elim (cases_eq d name) [
+    | inl e ↦ rw e (ap (option_map (λ (dart : Dart). dart.values)) (get-with_alpha_same m name label to) ∙ same (get m.darts name))
+    | inr apart ↦ ap (option_map (λ (dart : Dart). dart.values)) (get-with_alpha_other m name label to d apart)
+  ]
+    where
+      same : (o : Option Dart) → option_map (λ (dart : Dart). dart.values) (option_map (λ dart. turned dart label to) o) ≡ option_map (λ (dart : Dart). dart.values) o
+      same None = refl
+      same (Some dart) = refl
 
   pub whole_turned : AreWhole m → AreWhole (with_alpha m name label to)
   whole_turned whole d dart is = elim (cases_eq d name) [

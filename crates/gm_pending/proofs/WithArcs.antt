@@ -8,8 +8,8 @@ use Rattle.gm_arena.specs.Edits.{with_alpha}
 use Rattle.gm_arena.proofs.MapLemmas.{alpha-with_alpha_other, alpha-with_alpha_label}
 use Rattle.gm_pending.specs.declared.edits.Arc.{Arc}
 use Rattle.gm_pending.specs.declared.edits.End.{End}
-use Rattle.gm_pending.specs.Written.{AreWhole, with_arcs}
-use Rattle.gm_pending.proofs.Whole.{live_turned, whole_turned, alpha_turned, contains_first, contains_later, contains_either, contains_none}
+use Rattle.gm_pending.specs.Written.{AreWhole, values_at, with_arcs}
+use Rattle.gm_pending.proofs.Whole.{live_turned, values_turned, whole_turned, alpha_turned, contains_first, contains_later, contains_either, contains_none}
 
 module _ (name : End → ℕ) where
   -- nothing but the darts is written
@@ -24,6 +24,10 @@ module _ (name : End → ℕ) where
   pub arcs_whole : (arcs : List Arc) (m : ArenaMap) → AreWhole m → AreWhole (with_arcs name m arcs)
   arcs_whole [] m whole = whole
   arcs_whole (arc ∷ arcs) m whole = arcs_whole arcs (with_alpha m (name arc.from) arc.label (name arc.to)) (whole_turned m (name arc.from) arc.label (name arc.to) whole)
+
+  pub arcs_values : (arcs : List Arc) (m : ArenaMap) (d : ℕ) → values_at (with_arcs name m arcs) d ≡ values_at m d
+  arcs_values [] m d = refl
+  arcs_values (arc ∷ arcs) m d = arcs_values arcs (with_alpha m (name arc.from) arc.label (name arc.to)) d ∙ values_turned m (name arc.from) arc.label (name arc.to) d
 
   -- an arc of the list begins at d with label i, and leads to e
   pub record IsWrittenAt (arcs : List Arc) (d i e : ℕ) : Type 0 where

@@ -1,7 +1,12 @@
 -- Which changes of an arena make the result of an application of it.
-use Rattle.std.specs.Prelude.{◌≡◌, ◌≢◌, ℕ, ◌+◌, ◌*◌, ◌<◌, ◌≤◌, List, [], ◌∷◌, length}
+use Rattle.std.specs.Prelude.{◌≡◌, ◌≢◌, ℕ, ◌+◌, ◌*◌, ◌<◌, ◌≤◌, List, [], ◌∷◌, length, sum, Some, slice_get, slice_index_or, pos}
 use Rattle.std.specs.List.{Contains}
-use Rattle.gm_model.specs.Maps.{IsDart}
+use Rattle.gm_model.specs.declared.schema.Embed.{Embed}
+use Rattle.gm_model.specs.declared.schema.Schema.{Schema}
+use Rattle.gm_model.specs.declared.value.Value.{Value}
+use Rattle.gm_model.specs.declared.value.Value.TheVariants.{Int}
+use Rattle.gm_model.specs.Maps.{IsDart, IsEmbedAt}
+use Rattle.gm_model.specs.Orbits.{HasCount}
 use Rattle.gm_model.specs.Unfolding.{IsGone, IsCutAt, IsMadeArc, IsUnfolding, added_nodes}
 use Rattle.gm_arena.specs.declared.slot.Slot.{Slot}
 use Rattle.gm_arena.specs.ArenaAsMap.{as_map}
@@ -10,7 +15,9 @@ use Rattle.gm_plan.specs.Counts.{removed_nodes}
 use Rattle.gm_pending.specs.declared.edits.Arc.{Arc}
 use Rattle.gm_pending.specs.declared.edits.End.{End}
 use Rattle.gm_pending.specs.declared.edits.End.TheVariants.{Old, New}
-use Rattle.gm_pending.specs.Results.{PendingOf, IsPrepared, rule_in, scene_in}
+use Rattle.gm_pending.specs.declared.edits.ValueAt.{ValueAt}
+use Rattle.gm_pending.specs.Results.{PendingOf, IsPrepared, AreAllGiven, IsReachedIn, IsUnfoldedIn, IsValueIn, rule_in, scene_in}
+use Rattle.gm_theory.specs.Theorem.{Unfolded}
 
 -- what contracts see of edits
 pub record EditLists : Type 0 where
@@ -20,11 +27,19 @@ pub record EditLists : Type 0 where
   pub removed : List Slot
   -- how many darts are added
   pub added : ℕ
+  -- their values: those of one dart after those of another, one for each embedding
+  pub added_values : List Value
   -- the arcs that are made
   pub arcs : List Arc
+  -- the values that are set at darts that stay
+  pub values : List ValueAt
 
-abbrev pub edit_lists : List Arc → List Slot → ℕ → List Arc → EditLists
-edit_lists freed removed added arcs = record { freed = freed; removed = removed; added = added; arcs = arcs }
+abbrev pub edit_lists : List Arc → List Slot → ℕ → List Value → List Arc → List ValueAt → EditLists
+edit_lists freed removed added added_values arcs values = record { freed = freed; removed = removed; added = added; added_values = added_values; arcs = arcs; values = values }
+
+-- the value of the added dart of this number, of an embedding
+abbrev pub added_value : Schema → List Value → ℕ → ℕ → Value
+added_value schema values number e = slice_index_or values (number * length schema.embeds + e) (Int (pos 0))
 
 -- no slot comes twice
 abbrev pub AreDistinct : List Slot → Type 0
@@ -65,12 +80,51 @@ module _ (app : PendingOf) where
     pub all : (d : ℕ) → IsGone (scene_in app) d → (slot : Slot) × Contains slots slot × (name_at app.map slot.at ≡ d)
     pub distinct : AreDistinct slots
 
+  -- ---- values
+
+  -- each embedding was asked for, and each of its deciding instances has a value
+  abbrev pub AllGiven : Type 0
+  AllGiven = (e : ℕ) → e < length app.map.schema.embeds → AreAllGiven app e
+
+  -- Over the embeddings, so many darts in all are in orbits with an assigned instance.
+  pub record IsReachedSumIn (count : ℕ) : Type 0 where
+    pub result : Unfolded
+    pub unfolded : IsUnfoldedIn app result
+    pub counts : List ℕ
+    pub each : length counts ≡ length app.map.schema.embeds
+    pub counts_are : (e c : ℕ) (embed : Embed) → slice_get counts e ≡ Some c → IsEmbedAt app.map.schema e embed → HasCount (IsReachedIn app result e embed) c
+    pub sum_is : count ≡ sum counts
+
+  -- each of so many added darts has its value of each embedding
+  pub record AreAddedValues (added : ℕ) (values : List Value) : Type 0 where
+    pub long : length values ≡ added * length app.map.schema.embeds
+    pub given : (number e : ℕ) (embed : Embed) → number < added → IsEmbedAt app.map.schema e embed → IsValueIn app e embed (app.map.next + number) (added_value app.map.schema values number e)
+
+  -- it is the value of a dart that stays, in an orbit with an assigned instance
+  pub record IsNewValue (at : ValueAt) : Type 0 where
+    pub embed : Embed
+    pub embed_at : IsEmbedAt app.map.schema at.embed embed
+    pub stays : IsResultEnd (Old at.slot)
+    pub reached : (result : Unfolded) → IsUnfoldedIn app result → IsReachedIn app result at.embed embed (name_at app.map at.slot.at)
+    pub value : IsValueIn app at.embed embed (name_at app.map at.slot.at) at.value
+
+  abbrev pub IsValueOfDart : ValueAt → ℕ → ℕ → Type 0
+  IsValueOfDart at e d = (at.embed ≡ e) × (name_at app.map at.slot.at ≡ d)
+
+  -- the list has a value for each old dart that stays, in such an orbit, and no other
+  pub record AreNewValues (values : List ValueAt) : Type 0 where
+    pub new : (at : ValueAt) → Contains values at → IsNewValue at
+    pub all : (result : Unfolded) → IsUnfoldedIn app result → (e d : ℕ) (embed : Embed) → IsEmbedAt app.map.schema e embed → IsDart (as_map app.map) d → IsReachedIn app result e embed d → (at : ValueAt) × Contains values at × IsValueOfDart at e d
+    pub few : (count : ℕ) → IsReachedSumIn count → length values ≤ count
+
   -- the edits make the result of the application of its map, in few steps
   pub record AreEditsOf (edits : EditLists) : Type 0 where
     pub prepared : IsPrepared app
     pub freed : AreArcs IsOldEnd IsFreed edits.freed
     pub removed : AreRemoved edits.removed
     pub arcs : AreArcs IsResultEnd (IsMadeArc (scene_in app)) edits.arcs
+    pub added_values : AreAddedValues edits.added edits.added_values
+    pub values : AreNewValues edits.values
     pub added_is : edits.added ≡ app.placed.positions * added_nodes (rule_in app)
     pub removed_is : length edits.removed ≡ app.placed.positions * removed_nodes (rule_in app)
     pub few : length edits.freed + length edits.removed + edits.added + length edits.arcs ≤ 4 * ((app.map.schema.dim + 1) * (length (rule_in app).nodes * app.placed.positions))
@@ -79,9 +133,11 @@ module _ (app : PendingOf) where
 abbrev pub HasSameRows : ArenaMap → ArenaMap → Type 0
 HasSameRows m n = n ≡ record m { spare = n.spare; reserved = n.reserved }
 
--- the arena has the result of the application
-abbrev pub IsResultOf : PendingOf → ArenaMap → Type 0
-IsResultOf app m = IsUnfolding (scene_in app) (IsDart (as_map m)) (as_map m).alpha m.next
+-- the arena has the darts and arcs of the result of the application, and their values
+pub record IsResultOf (app : PendingOf) (m : ArenaMap) : Type 0 where
+  pub schema : m.schema ≡ app.map.schema
+  pub unfolded : IsUnfolding (scene_in app) (IsDart (as_map m)) (as_map m).alpha m.next
+  pub values : (e d : ℕ) (embed : Embed) → IsEmbedAt app.map.schema e embed → IsDart (as_map m) d → IsValueIn app e embed d ((as_map m).value e d)
 
 -- the edits are those of an application of this arena's map
 abbrev pub AreEditsHere : ArenaMap → EditLists → Type 0

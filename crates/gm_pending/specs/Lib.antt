@@ -1,5 +1,10 @@
+pub mod Answered
 pub mod Collected
 pub mod EditLists
+pub mod Gathered
 pub mod Lookup
+pub mod Marks
+pub mod Reached
 pub mod Results
+pub mod Sources
 pub mod Written

@@ -1,12 +1,19 @@
 -- What the stages of a commit leave of an arena's map. No public clause cites this module.
-use Rattle.std.specs.Prelude.{◌≡◌, ℕ, ◌+◌, ◌<◌, ◌≤◌, ◌⊎◌, List, [], ◌∷◌, length, Some, slice_index_or}
+use Rattle.std.specs.Prelude.{◌≡◌, ℕ, ◌+◌, ◌<◌, ◌≤◌, ◌⊎◌, List, [], ◌∷◌, length, Option, Some, slice_index_or}
 use Rattle.std.specs.FinMap.{get}
+use Rattle.std.specs.Option.{option_map}
+use Rattle.gm_model.specs.declared.schema.Embed.{Embed}
+use Rattle.gm_model.specs.declared.value.Value.{Value}
+use Rattle.gm_model.specs.Maps.{IsEmbedAt}
+use Rattle.gm_model.specs.Values.{IsValueOf}
 use Rattle.gm_arena.specs.declared.slot.Slot.{Slot}
 use Rattle.gm_arena.specs.ArenaMap.{ArenaMap, Dart, IsAt, IsLiveSlot, IsLiveName, name_at}
-use Rattle.gm_arena.specs.Edits.{IsAlone, with_alpha, without_dart}
+use Rattle.gm_arena.specs.Inside.{part_of}
+use Rattle.gm_arena.specs.Edits.{IsAlone, with_alpha, with_value, without_dart}
 use Rattle.gm_pending.specs.declared.edits.Arc.{Arc}
 use Rattle.gm_pending.specs.declared.edits.End.{End}
 use Rattle.gm_pending.specs.declared.edits.End.TheVariants.{Old, New}
+use Rattle.gm_pending.specs.declared.edits.ValueAt.{ValueAt}
 
 -- each dart has a neighbour for each label
 abbrev pub AreWhole : ArenaMap → Type 0
@@ -55,8 +62,12 @@ CanRemove m (slot ∷ slots) = IsLiveSlot m slot.at × IsAlone m (name_at m slot
 
 -- ---- darts more
 
--- darts of the names from the next one on were added, at these slots
-pub record IsExtended (old : ArenaMap) (made : List Slot) (new : ArenaMap) : Type 0 where
+-- the values of a live dart
+abbrev pub values_at : ArenaMap → ℕ → Option (List Value)
+values_at m d = option_map (λ (dart : Dart). dart.values) (get m.darts d)
+
+-- darts of the names from the next one on were added, at these slots and with these values
+pub record IsExtended (old : ArenaMap) (values : List Value) (made : List Slot) (new : ArenaMap) : Type 0 where
   pub schema : new.schema ≡ old.schema
   pub reserved : new.reserved ≡ old.reserved
   pub next : new.next ≡ old.next + length made
@@ -66,5 +77,19 @@ pub record IsExtended (old : ArenaMap) (made : List Slot) (new : ArenaMap) : Typ
   pub slots : (slot name : ℕ) → IsAt old slot name → IsAt new slot name
   pub made_at : (number : ℕ) → number < length made → IsAt new (slice_index_or made number (record { at = 0 })).at (old.next + number)
   pub made_live : (number : ℕ) → number < length made → IsLiveName new (old.next + number)
+  pub valued : (number : ℕ) → number < length made → values_at new (old.next + number) ≡ Some (part_of (length old.schema.embeds) values number)
   pub only : (d : ℕ) → IsLiveName new d → IsLiveName old d ⊎ ((number : ℕ) × (number < length made) × (d ≡ old.next + number))
   pub whole : AreWhole old → AreWhole new
+
+-- ---- values
+
+-- with these values, a later one in the place of an earlier one
+abbrev pub with_values : ArenaMap → List ValueAt → ArenaMap
+with_values m [] = m
+with_values m (at ∷ values) = with_values (with_value m (name_at m at.slot.at) at.embed at.value) values
+
+pub record IsSettable (m : ArenaMap) (at : ValueAt) : Type 0 where
+  pub live : IsLiveSlot m at.slot.at
+  pub embed : Embed
+  pub embed_at : IsEmbedAt m.schema at.embed embed
+  pub value : IsValueOf embed.kind at.value

@@ -4,22 +4,27 @@ ghost use Rattle.std.specs.List.{Contains};
 ghost use Rattle.std.specs.Vec.{vec_capacity};
 ghost use Rattle.gm_model.specs.Maps.{IsGeneralised};
 ghost use Rattle.gm_arena.specs.ArenaAsMap.{as_map};
+ghost use Rattle.gm_arena.specs.Inside.{part_of};
+ghost use Rattle.gm_arena.specs.Lawful.{AreGoodValues};
 ghost use Rattle.gm_pending.specs.declared.edits.Arc.{Arc};
+ghost use Rattle.gm_pending.specs.declared.edits.ValueAt.{ValueAt};
 ghost use Rattle.gm_pending.specs.Collected.{as_list, rule_at, arcs_of, arcs_in, all_arcs, removed_in, all_removed};
-ghost use Rattle.gm_pending.specs.EditLists.{AreEditsHere, AreEditsOf, HasSameRows, IsResultOf};
+ghost use Rattle.gm_pending.specs.EditLists.{AreEditsHere, AreEditsOf, HasSameRows, IsReachedSumIn, IsResultOf};
 ghost use Rattle.gm_pending.specs.Results.{PendingOf, rule_in};
-ghost use Rattle.gm_pending.specs.Written.{HasSlot, IsWritable, CanRemove, IsExtended, slot_of, end_at, with_arcs, without_darts};
+ghost use Rattle.gm_pending.specs.Written.{HasSlot, IsWritable, IsSettable, CanRemove, IsExtended, slot_of, end_at, with_arcs, with_values, without_darts};
 
-use crate::edits::{Arc, Edits, End};
+use crate::edits::{Arc, Edits, End, ValueAt};
 use crate::rewrite::{Arcs, Rewrite};
 use gm_arena::{Arena, Slot, Steps};
+use gm_model::Value;
 use std::sync::ledger::Ledger;
 
 impl Edits<'_> {
     /// Makes the arena the result. It can't be refused, and takes no memory.
     ///
     /// The darts that go leave before the new ones come, so that a full map can be rewritten: first
-    /// the arcs of left steps are freed, then darts are removed, then added, then linked.
+    /// the arcs of left steps are freed, then darts are removed, then added, then linked. The values
+    /// of old darts come last.
     pub fn commit<L: Ledger>(self, arena: &mut Arena, steps: &mut Steps<L>)
         requires edits { AreEditsHere arena.old self }
         requires names { arena.old.next + self.added ≤ arena.old.reserved }
@@ -30,18 +35,21 @@ impl Edits<'_> {
         ensures count { arena.new.count ≡ arena.old.count - length self.entry.removed + self.entry.added }
         ensures spare { arena.new.spare + self.entry.added ≡ arena.old.spare + length self.entry.removed }
         ensures reserved { arena.new.reserved ≡ arena.old.reserved }
-        ensures most { (app : PendingOf) → AreEditsOf app self.entry → steps.new ≤ steps.old + 4 * (app.map.schema.dim + 1) * (length (rule_in app).nodes * app.placed.positions + 1) }
+        ensures most { (app : PendingOf) (reached : ℕ) → AreEditsOf app self.entry → IsReachedSumIn app reached → steps.new ≤ steps.old + 4 * (app.map.schema.dim + 1) * (length (rule_in app).nodes * app.placed.positions + reached + 1) }
         ensures least { steps.old + self.entry.added + length self.entry.removed ≤ steps.new }
     {
         let Edits {
             rewrite,
             added,
+            added_values,
+            values,
             mut made,
         } = self;
         rewrite.write(Arcs::Freed, &[], arena, steps);
         rewrite.remove(arena, steps);
-        add_darts(arena, added, &mut made, steps);
+        add_darts(arena, added, &added_values, &mut made, steps);
         rewrite.write(Arcs::Made, &made, arena, steps);
+        set_values(&values, arena, steps);
     }
 }
 
@@ -140,19 +148,39 @@ fn remove_dart<L: Ledger>(slot: Option<Slot>, arena: &mut Arena, steps: &mut Ste
     }
 }
 
-/// Adds so many darts, and puts their slots into the room that `made` has.
-fn add_darts<L: Ledger>(arena: &mut Arena, added: usize, made: &mut Vec<Slot>, steps: &mut Steps<L>)
-    requires embeds { arena.old.schema.embeds ≡ [] }
+/// Adds so many darts with their values, and puts their slots into the room that `made` has.
+fn add_darts<L: Ledger>(
+    arena: &mut Arena,
+    added: usize,
+    values: &[Value],
+    made: &mut Vec<Slot>,
+    steps: &mut Steps<L>,
+)
+    requires long { length values.now ≡ added * length arena.old.schema.embeds }
+    requires values { (number : ℕ) → number < added → AreGoodValues arena.old.schema (part_of (length arena.old.schema.embeds) values.now number) }
     requires names { arena.old.next + added ≤ arena.old.reserved }
     requires room { added ≤ arena.old.spare }
     requires none { made.old.items ≡ [] }
     requires capacity { added ≤ vec_capacity made.old }
-    ensures map { IsExtended arena.old made.new.items arena.new }
+    ensures map { IsExtended arena.old values.now made.new.items arena.new }
     ensures made { length made.new.items ≡ added }
     ensures cost { steps.new ≡ steps.old + added }
 {
-    for _ in 0..added {
-        made.push_reserved(arena.add(arena.next(), &[], steps));
+    let width = arena.schema().embeds.as_slice().len();
+    for number in 0..added {
+        let own = &values[number * width..number * width + width];
+        made.push_reserved(arena.add(arena.next(), own, steps));
+    }
+}
+
+/// Sets the values one after another.
+fn set_values<L: Ledger>(values: &[ValueAt], arena: &mut Arena, steps: &mut Steps<L>)
+    requires { (at : ValueAt) → Contains values.now at → IsSettable arena.old at }
+    ensures map { arena.new ≡ with_values arena.old values.now }
+    ensures cost { steps.new ≡ steps.old + length values.now }
+{
+    for entry in values {
+        arena.set_value(entry.slot, entry.embed, entry.value, steps);
     }
 }
 

@@ -1,6 +1,14 @@
+ghost use Rattle.std.specs.Prelude.{◌≡◌, ℕ, ◌+◌, ◌*◌, ◌≤◌, length, IfOk};
+ghost use Rattle.gm_pending.specs.Collected.{rewrite_of};
+ghost use Rattle.gm_pending.specs.EditLists.{AllGiven, AreEditsOf, IsReachedSumIn};
+ghost use Rattle.gm_pending.specs.Results.{rule_in};
+
+use crate::pending::Pending;
 use crate::rewrite::Rewrite;
-use gm_arena::Slot;
+use gm_arena::{Slot, Steps};
+use gm_model::{OutOfMemory, Value};
 use std::marker::Model;
+use std::sync::ledger::Ledger;
 
 /// A dart of a result, as edits name it.
 #[derive(Clone, Copy, Debug, PartialEq, Eq)]
@@ -19,12 +27,25 @@ pub(crate) struct Arc {
     pub(crate) to: End,
 }
 
+/// That the dart at the slot has the value of the embedding.
+#[derive(Clone, Copy, Debug, PartialEq, Eq)]
+pub(crate) struct ValueAt {
+    pub(crate) slot: Slot,
+    pub(crate) embed: u8,
+    pub(crate) value: Value,
+}
+
 /// The changes that make an application's result of its arena. They hold all the memory that the
 /// commit needs.
 #[derive(Drop)]
 pub struct Edits<'a> {
     pub(crate) rewrite: Rewrite<'a>,
     pub(crate) added: usize,
+    /// The values of the new darts: those of one dart after those of another, by their number, one
+    /// for each embedding.
+    pub(crate) added_values: Vec<Value>,
+    /// The values that darts of the old map get.
+    pub(crate) values: Vec<ValueAt>,
     /// Room for the slots of the new darts, by their number.
     pub(crate) made: Vec<Slot>,
 }
@@ -38,7 +59,39 @@ impl<'a> Model for Edits<'a> {
 
     ghost Value = { EditLists };
 
-    ghost view = { λ e. edit_lists (all_arcs e.rewrite Freed) (all_removed e.rewrite) e.added (all_arcs e.rewrite Made) };
+    ghost view = { λ e. edit_lists (all_arcs e.rewrite Freed) (all_removed e.rewrite) e.added e.added_values.items (all_arcs e.rewrite Made) e.values.items };
 
     ghost invariant = { λ e. (e.made.items ≡ []) × (e.added ≤ vec_capacity e.made) };
+}
+
+impl<'a> Pending<'a, '_> {
+    /// The changes that make the arena the result. Each embedding was asked for, and each of its
+    /// deciding instances has a value.
+    pub fn into_edits<L: Ledger>(self, steps: &mut Steps<L>) -> Result<Edits<'a>, OutOfMemory>
+        requires given { AllGiven self }
+        ensures edits { IfOk result (λ edits. AreEditsOf self.entry edits) }
+        ensures cost { (reached : ℕ) → IsReachedSumIn self.entry reached → steps.new ≤ steps.old + 6 * (self.entry.map.schema.dim + 1) * (length (rule_in self.entry).nodes * self.entry.placed.positions + reached + 1) }
+        ensures least { steps.old ≤ steps.new }
+    {
+        let added = self.plan.added() as usize * self.found.positions() as usize;
+        let made = Vec::with_capacity(self.alloc, added)?;
+        let added_values = self.added_values(added, steps)?;
+        let values = self.new_values(steps)?;
+        Ok(Edits {
+            rewrite: self.rewrite(),
+            added,
+            added_values,
+            values,
+            made,
+        })
+    }
+
+    fn rewrite(&self) -> Rewrite<'a>
+        ensures { result ≡ rewrite_of self.now }
+    {
+        Rewrite {
+            plan: self.plan,
+            found: self.found,
+        }
+    }
 }

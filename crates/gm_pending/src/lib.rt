@@ -2,12 +2,20 @@
 //! can't be refused.
 #![tactic(auto)]
 
+mod asked;
+mod assigned;
 mod at;
 mod commit;
+mod component;
+mod decider;
+mod deciding;
 mod edits;
+mod gathering;
 mod lookup;
+mod marks;
 mod pending;
 mod rewrite;
+mod values;
 
 pub use at::At;
 pub use edits::Edits;

@@ -1,9 +1,60 @@
-ghost use Rattle.std.specs.Prelude.{◌≡◌, ◌≢◌, ℕ, ◌<◌, ◌≤◌, MatchOption};
+//! Which instance lies at a slot.
+ghost use Rattle.std.specs.Prelude.{◌≡◌, ◌≢◌, ℕ, ◌+◌, ◌<◌, MatchOption, IfOk, OnOk};
 ghost use Rattle.gm_plan.specs.InArena.{slot_number};
-ghost use Rattle.gm_pending.specs.Lookup.{IsWithin, IsAtSlot};
+ghost use Rattle.gm_pending.specs.Lookup.{IsWithin, IsAtSlot, IsLookupUpTo, IsLookup};
 
 use gm_arena::Slot;
+use gm_model::OutOfMemory;
 use gm_plan::Instances;
+use std::alloc::Global;
+use std::collections::BTreeMap;
+
+/// The left nodes and positions by the slots at which they lie. It is made once where many darts
+/// are looked up.
+#[derive(Drop)]
+pub(crate) struct Lookup {
+    instances: BTreeMap<u32, (u8, u32)>,
+}
+
+impl Lookup {
+    /// The instances of so many left nodes.
+    pub(crate) fn build(alloc: Global, found: &Instances, nodes: u8) -> Result<Lookup, OutOfMemory>
+        requires { nodes ≡ found.now.nodes }
+        ensures { IfOk result (λ lookup. IsLookup found.now lookup.instances) }
+    {
+        let mut instances = BTreeMap::new(alloc);
+        for node in 0..nodes {
+            add_node(&mut instances, found, node)?;
+        }
+        Ok(Lookup { instances })
+    }
+
+    /// The left node and the position that lie at the slot; none where no instance does.
+    pub(crate) fn find(&self, found: &Instances, slot: Slot) -> Option<(u8, u32)>
+        requires { IsLookup found.now self.now.instances }
+        ensures { MatchOption result
+            ((x p : ℕ) → IsWithin found.now x p → slot_number found.now x p ≢ slot.at)
+            (λ i. IsAtSlot found.now slot.at i.0 i.1) }
+    {
+        self.instances.get(&slot.at).copied()
+    }
+}
+
+/// Adds the instances of a node.
+fn add_node(
+    instances: &mut BTreeMap<u32, (u8, u32)>,
+    found: &Instances,
+    node: u8,
+) -> Result<(), OutOfMemory>
+    requires node { node < found.now.nodes }
+    requires earlier { IsLookupUpTo found.now instances.old node 0 }
+    ensures { OnOk result (IsLookupUpTo found.now instances.new (node + 1) 0) }
+{
+    for position in 0..found.positions() {
+        instances.insert(found.slot(node, position).at, (node, position))?;
+    }
+    Ok(())
+}
 
 /// The left node and the position that lie at the slot; none where no instance does.
 ///

@@ -1,10 +1,10 @@
-ghost use Rattle.std.specs.Prelude.{◌≡◌, ◌≢◌, ℕ, ◌+◌, ◌*◌, ◌<◌, ◌≤◌, List, [], length, Some, MatchOption, IfOk, IsTrue};
+ghost use Rattle.std.specs.Prelude.{◌≡◌, ◌≢◌, ℕ, ◌+◌, ◌<◌, ◌≤◌, List, length, Some, None, MatchOption, ◌↔◌, IfOk, IsTrue};
 
+use crate::asked::{Answers, none_asked};
+use crate::assigned::assigns;
 use crate::at::At;
-use crate::edits::Edits;
-use crate::lookup::instance_at;
-use crate::rewrite::Rewrite;
-use gm_arena::{Arena, Steps};
+use crate::lookup::{Lookup, instance_at};
+use gm_arena::{Arena, Slot, Steps};
 use gm_model::{MOST_DARTS, OutOfMemory, Side, Step};
 use gm_plan::{Instances, Plan};
 use std::alloc::Global;
@@ -14,10 +14,13 @@ use std::sync::ledger::Ledger;
 /// An application that nothing is written of yet. It answers for the result.
 #[derive(Drop)]
 pub struct Pending<'a, 'm> {
-    plan: &'a Plan<'a>,
-    arena: &'m Arena,
-    found: &'a Instances,
-    alloc: Global,
+    pub(crate) plan: &'a Plan<'a>,
+    pub(crate) arena: &'m Arena,
+    pub(crate) found: &'a Instances,
+    pub(crate) alloc: Global,
+    /// The instances by their slots, where they are looked up more than once.
+    pub(crate) lookup: Option<Lookup>,
+    pub(crate) asked: Answers,
 }
 
 impl<'a, 'm> Model for Pending<'a, 'm> {
@@ -25,28 +28,30 @@ impl<'a, 'm> Model for Pending<'a, 'm> {
     ghost use Rattle.std.specs.Prelude.{◌≡◌};
     ghost use Rattle.gm_model.specs.contracts.expr.Expr as expr_block;
     ghost use Rattle.gm_arena.specs.ArenaMap.{arena_code};
-    ghost use Rattle.gm_pending.specs.Results.{PendingOf, IsPrepared, pending_of};
+    ghost use Rattle.gm_pending.specs.contracts.decider.Decider as decider_block;
+    ghost use Rattle.gm_pending.specs.Results.{PendingOf, IsPrepared};
+    ghost use Rattle.gm_pending.specs.Answered.{pending_as, AreAnswers, IsLookedUp};
 
     ghost Value = { PendingOf };
 
-    ghost coded = { Prim.hlevel (arena_code, expr_block.the_row.coded, codes) };
+    ghost coded = { Prim.hlevel (arena_code, expr_block.the_row.coded, decider_block.the_row.coded, codes) };
 
-    ghost view = { λ a. pending_of a.arena.now a.plan.now.table a.found.now };
+    ghost view = { λ a. pending_as a.arena.now a.plan.now.table a.found.now a.asked.items };
 
-    ghost invariant = { λ a. IsPrepared (pending_of a.arena.now a.plan.now.table a.found.now) × (a.arena.now.schema ≡ a.plan.now.schema) };
+    ghost invariant = { λ a. IsPrepared (pending_as a.arena.now a.plan.now.table a.found.now a.asked.items) × (a.arena.now.schema ≡ a.plan.now.schema) × AreAnswers (pending_as a.arena.now a.plan.now.table a.found.now a.asked.items) a.asked.items × IsLookedUp a.found.now a.lookup };
 }
 
 impl<'a, 'm> Pending<'a, 'm> {
-    ghost use Rattle.gm_model.specs.Maps.{IsGeneralised};
+    ghost use Rattle.gm_model.specs.Components.{IsAssigned};
+    ghost use Rattle.gm_model.specs.Maps.{IsSound};
     ghost use Rattle.gm_model.specs.Rules.{rule_of};
-    ghost use Rattle.gm_model.specs.Unfolding.{IsArcAfter, IsMadeArc, IsGone};
+    ghost use Rattle.gm_model.specs.Unfolding.{IsArcAfter, IsMadeArc};
     ghost use Rattle.gm_arena.specs.ArenaAsMap.{as_map};
-    ghost use Rattle.gm_plan.specs.InArena.{AreMatched};
-    ghost use Rattle.gm_pending.specs.Collected.{rewrite_of};
-    ghost use Rattle.gm_pending.specs.EditLists.{AreEditsOf};
-    ghost use Rattle.gm_pending.specs.Results.{pending_of, scene_in, rule_in, name_of, IsResultDart, IsRightInstance};
+    ghost use Rattle.gm_plan.specs.InArena.{AreMatched, slot_number};
+    ghost use Rattle.gm_pending.specs.Lookup.{IsWithin, IsAtSlot};
+    ghost use Rattle.gm_pending.specs.Results.{IsPrepared, pending_of, scene_in, rule_in, name_of, IsResultDart, IsRightInstance};
 
-    /// Takes the match of a rule in a generalised map without embeddings. It counts no step.
+    /// Takes the match of a rule in a sound map. It counts no step.
     pub fn build<L: Ledger>(
         alloc: Global,
         plan: &'a Plan<'a>,
@@ -55,8 +60,7 @@ impl<'a, 'm> Pending<'a, 'm> {
         steps: &mut Steps<L>,
     ) -> Result<Pending<'a, 'm>, OutOfMemory>
         requires schema { arena.now.schema ≡ plan.now.schema }
-        requires no_embeds { plan.now.schema.embeds ≡ [] }
-        requires generalised { IsGeneralised (as_map arena.now) }
+        requires sound { IsSound (as_map arena.now) }
         requires matched { (hooks : List ℕ) × AreMatched arena.now (rule_of plan.now.table) hooks found.now }
         ensures pending { IfOk result (λ pending. pending ≡ pending_of arena.now plan.now.table found.now) }
         ensures no_step { steps.new ≡ steps.old }
@@ -69,30 +73,9 @@ impl<'a, 'm> Pending<'a, 'm> {
             arena,
             found,
             alloc,
+            lookup: None,
+            asked: none_asked(arena.schema().embeds.as_slice().len()),
         })
-    }
-
-    /// The changes that make the arena the result. It counts no step.
-    pub fn into_edits<L: Ledger>(self, steps: &mut Steps<L>) -> Result<Edits<'a>, OutOfMemory>
-        ensures edits { IfOk result (λ edits. AreEditsOf self.entry edits) }
-        ensures no_step { steps.new ≡ steps.old }
-    {
-        let added = self.plan.added() as usize * self.found.positions() as usize;
-        let made = Vec::with_capacity(self.alloc, added)?;
-        Ok(Edits {
-            rewrite: self.rewrite(),
-            added,
-            made,
-        })
-    }
-
-    fn rewrite(&self) -> Rewrite<'a>
-        ensures { result ≡ rewrite_of self.now }
-    {
-        Rewrite {
-            plan: self.plan,
-            found: self.found,
-        }
     }
 
     /// The neighbour of a dart of the result along a label.
@@ -102,6 +85,7 @@ impl<'a, 'm> Pending<'a, 'm> {
         ensures arc { IsArcAfter (scene_in self.now) (name_of self.now at) label (name_of self.now result) }
         ensures dart { IsResultDart self.now result }
         ensures cost { steps.new ≤ steps.old + 1 }
+        ensures least { steps.old ≤ steps.new }
     {
         if let Some(to) = self.made(at, label) {
             return to;
@@ -137,13 +121,69 @@ impl<'a, 'm> Pending<'a, 'm> {
             (λ i. IsRightInstance self.now i.0 i.1 × (name_of self.now at ≡ (scene_in self.now).name_of i.0 i.1)) }
     {
         match at {
-            At::Old(slot) => instance_at(self.found, self.plan.left_nodes(), slot),
+            At::Old(slot) => self.left_instance(slot),
             At::New { node, position } => Some((node, position)),
         }
     }
 
+    /// The left node and the position that lie at the slot; none where no instance does.
+    fn left_instance(&self, slot: Slot) -> Option<(u8, u32)>
+        ensures prepared { IsPrepared self.now }
+        ensures instance { MatchOption result
+            ((x p : ℕ) → IsWithin self.now.placed x p → slot_number self.now.placed x p ≢ slot.at)
+            (λ i. IsAtSlot self.now.placed slot.at i.0 i.1) }
+    {
+        match &self.lookup {
+            Some(lookup) => lookup.find(self.found, slot),
+            None => instance_at(self.found, self.plan.left_nodes(), slot),
+        }
+    }
+
+    /// The number of labels.
+    pub(crate) fn labels(&self) -> u8
+        ensures labels { result ≡ self.now.map.schema.dim + 1 }
+        ensures most { result ≤ 8 }
+        ensures prepared { IsPrepared self.now }
+    {
+        self.arena.schema().dim.top() + 1
+    }
+
+    /// The number of positions.
+    pub(crate) fn positions(&self) -> u32
+        ensures positions { result ≡ self.now.placed.positions }
+        ensures prepared { IsPrepared self.now }
+    {
+        self.found.positions()
+    }
+
+    /// The number of nodes.
+    pub(crate) fn nodes(&self) -> u8
+        ensures nodes { result ≡ length (rule_in self.now).nodes }
+        ensures prepared { IsPrepared self.now }
+    {
+        self.plan.rule().node_count()
+    }
+
+    /// Whether the node has an assignment to the embedding.
+    pub(crate) fn assigns(&self, embed: u8, node: u8) -> bool
+        requires { node < length (rule_in self.now).nodes }
+        ensures { IsTrue result ↔ IsAssigned (rule_in self.now) embed node }
+    {
+        assigns(self.plan.rule(), embed, node)
+    }
+
+    /// Whether some node has an assignment to the embedding.
+    pub(crate) fn assigns_any(&self, embed: u8) -> bool {
+        for node in 0..self.plan.rule().node_count() {
+            if assigns(self.plan.rule(), embed, node) {
+                return true;
+            }
+        }
+        false
+    }
+
     /// The dart of a right node at a position.
-    fn place(&self, node: u8, position: u32) -> At
+    pub(crate) fn place(&self, node: u8, position: u32) -> At
         requires { IsRightInstance self.now node position }
         ensures name { name_of self.now result ≡ (scene_in self.now).name_of node position }
         ensures dart { IsResultDart self.now result }

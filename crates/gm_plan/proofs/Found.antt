@@ -26,7 +26,7 @@ use Rattle.gm_theory.proofs.ValuesReadOff.{step_linked}
 
 module _ (schema : Schema) (rule : Rule) (planned : IsPlanned schema rule) where
   in_range : (x i y : ℕ) → IsLinked rule.left_links x i y → IsTrue (has_word rule Left x) × IsTrue (has_word rule Left y) × (i ≤ schema.dim)
-  in_range = linked_in_range schema rule planned.in_range planned.incidence Left
+  in_range = linked_in_range schema rule planned.accepted.in_range planned.accepted.incidence Left
 
   -- ---- paths followed back
 
@@ -40,7 +40,7 @@ module _ (schema : Schema) (rule : Rule) (planned : IsPlanned schema rule) where
   same_start (i ∷ path) x z y (v, e, there) (w, f, there') = go (same_start path v w y there there')
     where
       go : v ≡ w → x ≡ z
-      go same = same_end x z (sym (linked_step schema rule planned.in_range planned.incidence Left v i x (linked_back x i v e)) ∙ rw same (linked_step schema rule planned.in_range planned.incidence Left w i z (linked_back z i w f)))
+      go same = same_end x z (sym (linked_step schema rule planned.accepted.in_range planned.accepted.incidence Left v i x (linked_back x i v e)) ∙ rw same (linked_step schema rule planned.accepted.in_range planned.accepted.incidence Left w i z (linked_back z i w f)))
 
   module _ (top : schema.dim ≤ 7) (rows : List (List Step)) (are : AreSteps rule Left (length rule.nodes) rows) where
     -- ---- steps and links
@@ -64,7 +64,7 @@ module _ (schema : Schema) (rule : Rule) (planned : IsPlanned schema rule) where
     lead_steps x [] y l = l
     lead_steps x (i ∷ path) y (z, e, l) =
         let range : IsTrue (has_word rule Left x) × IsTrue (has_word rule Left z) × (i ≤ schema.dim) = in_range x i z e in
-        (z, row_step_is rule Left (length rule.nodes) rows are x i (word_below rule Left x range.0) (omega (arith, range.2)) ∙ linked_step schema rule planned.in_range planned.incidence Left x i z e, lead_steps z path y l)
+        (z, row_step_is rule Left (length rule.nodes) rows are x i (word_below rule Left x range.0) (omega (arith, range.2)) ∙ linked_step schema rule planned.accepted.in_range planned.accepted.incidence Left x i z e, lead_steps z path y l)
 
     lead_word : (x : ℕ) (path : List ℕ) (y : ℕ) → Leads rule.left_links x path y → IsTrue (has_word rule Left x) → IsTrue (has_word rule Left y)
     lead_word x [] y l h = subst (λ w. IsTrue (has_word rule Left w)) l h
@@ -107,7 +107,7 @@ module _ (schema : Schema) (rule : Rule) (planned : IsPlanned schema rule) where
                 go (s, f, m) = at_most_not_smaller (h.way s) other m (rw (some_same s t (sym f ∙ e)) smaller)
             least u g other at other_there (inr (same, before)) =
                 let hooks : g ≡ hook = same_start (h.way t) g hook x (subst (λ path. Leads rule.left_links g path x) same other_there) there in
-                planned.in_range.hooks_differ u c.0 before c.1 (get_or_from_slice_get rule.hooks u g 0 at ∙ hooks ∙ sym (get_or_from_slice_get rule.hooks c.0 hook 0 (contained_at rule.hooks hook c)))
+                planned.accepted.in_range.hooks_differ u c.0 before c.1 (get_or_from_slice_get rule.hooks u g 0 at ∙ hooks ∙ sym (get_or_from_slice_get rule.hooks c.0 hook 0 (contained_at rule.hooks hook c)))
 
         ends : (link : Link) → IsRankedLink (row_step rows) rank h.way link → IsLastLink rule link
         ends link r = go (h.search.leads link.from r.before r.from_rank)
@@ -122,7 +122,7 @@ module _ (schema : Schema) (rule : Rule) (planned : IsPlanned schema rule) where
             }
 
         left_found : (x : ℕ) → IsTrue (has_word rule Left x) → Contains (found_nodes rule.hooks links) x
-        left_found x w = joined (planned.incidence.structured.connected x (word_below rule Left x w) w)
+        left_found x w = joined (planned.accepted.incidence.structured.connected x (word_below rule Left x w) w)
           where
             joined : (g : ℕ) × Contains rule.hooks g × IsJoined rule.left_links any_label g x → Contains (found_nodes rule.hooks links) x
             joined (g, c, (path, o, there)) = let r : (s : ℕ) × (rank x ≡ Some s) × IsAtMost (h.way s) path = reached c.0 g path x (contained_at rule.hooks g c) there in (h.search.ranked x).1 (r.0, r.1)

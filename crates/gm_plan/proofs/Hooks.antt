@@ -11,10 +11,10 @@ use Rattle.gm_theory.proofs.RuleSteps.{word_below}
 
 module _ (schema : Schema) (rule : Rule) (planned : IsPlanned schema rule) where
   pub hook_left : (h : ℕ) → Contains rule.hooks h → IsTrue (has_word rule Left h)
-  hook_left h c = contains_has (λ x. IsTrue (has_word rule Left x)) rule.hooks h planned.in_range.hooks c
+  hook_left h c = contains_has (λ x. IsTrue (has_word rule Left x)) rule.hooks h planned.accepted.in_range.hooks c
 
   pub hook_below : (h : ℕ) → Contains rule.hooks h → h < length rule.nodes
   hook_below h c = word_below rule Left h (hook_left h c)
 
   pub few_hooks : length rule.hooks ≤ length rule.nodes
-  few_hooks = few_below rule.hooks (length rule.nodes) planned.in_range.hooks_differ hook_below
+  few_hooks = few_below rule.hooks (length rule.nodes) planned.accepted.in_range.hooks_differ hook_below

@@ -1,4 +1,3 @@
-pub mod Accepted
 pub mod Distinct
 pub mod Extended
 pub mod Found

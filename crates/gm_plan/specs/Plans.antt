@@ -7,10 +7,9 @@ use Rattle.gm_model.specs.declared.rule.Side.{Side}
 use Rattle.gm_model.specs.declared.rule.Side.TheVariants.{Left, Right}
 use Rattle.gm_model.specs.declared.schema.Schema.{Schema}
 use Rattle.gm_model.specs.declared.step.Step.{Step}
-use Rattle.gm_model.specs.Kinds.{IsTyped}
+use Rattle.gm_model.specs.Acceptance.{IsAccepted}
 use Rattle.gm_model.specs.Rules.{Rule, has_word, step}
-use Rattle.gm_model.specs.Squares.{HasSquares}
-use Rattle.gm_model.specs.Structure.{IsInRange, IsWithinLimits, HasIncidence}
+use Rattle.gm_model.specs.Structure.{IsWithinLimits}
 use Rattle.gm_model.specs.Unfolding.{added_nodes}
 use Rattle.gm_plan.specs.Counts.{removed_nodes}
 use Rattle.gm_plan.specs.Paths.{ArePaths}
@@ -23,13 +22,10 @@ pub record PlanOf : Type 0 where
 abbrev pub plan_of : Schema → RuleTable → PlanOf
 plan_of schema table = record { schema = schema; table = table }
 
--- the rule is in range and typed, and meets the conditions on structure, arcs and squares
+-- the rule is accepted, and within the limits on its parts
 pub record IsPlanned (schema : Schema) (rule : Rule) : Type 0 where
-  pub in_range : IsInRange schema rule
+  pub accepted : IsAccepted schema rule
   pub within : IsWithinLimits rule
-  pub typed : IsTyped schema rule
-  pub incidence : HasIncidence schema.dim rule
-  pub squares : HasSquares schema.dim rule
 
 -- ---- the tables
 

@@ -1,4 +1,4 @@
-ghost use Rattle.std.specs.Prelude.{◌≡◌, MatchResult};
+ghost use Rattle.std.specs.Prelude.{◌≡◌, ◌≤◌, MatchResult, length};
 ghost use Rattle.gm_model.specs.Rules.{rule_of};
 ghost use Rattle.gm_model.specs.Kinds.{IsTyped};
 ghost use Rattle.gm_model.specs.Structure.{IsInRange, IsWithinLimits};
@@ -41,13 +41,14 @@ impl From<OutOfMemory> for PlanFault {
 
 /// The plan of a rule for maps of the schema.
 ///
-/// The rule's structure is tested first, then its incident arcs, and then its squares. `Rule` has
-/// the first fault. Where the rule has none, memory may be wanting for the tables.
+/// The rule's structure is tested first, then its incident arcs, its squares, and its embeddings.
+/// `Rule` has the first fault. Where the rule has none, memory may be wanting for the tables.
 pub fn compile<'b>(
     alloc: Global,
     schema: &'b Schema,
     rule: &'b RuleTable,
 ) -> Result<Plan<'b>, PlanFault>
+    requires embeds { length schema.now.embeds ≤ 8 }
     requires in_range { IsInRange schema.now (rule_of rule.now) }
     requires within { IsWithinLimits (rule_of rule.now) }
     requires typed { IsTyped schema.now (rule_of rule.now) }
@@ -57,5 +58,6 @@ pub fn compile<'b>(
 {
     gm_incident::check(schema, rule)?;
     gm_cycle::check(schema, rule)?;
+    gm_embcheck::check(schema, rule)?;
     Ok(Plan::new(alloc, schema, rule)?)
 }

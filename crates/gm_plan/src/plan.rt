@@ -7,9 +7,8 @@ use gm_model::{Link, OutOfMemory, RuleTable, Schema, Side, Step};
 use std::alloc::Global;
 use std::marker::Model;
 
-/// A rule that is ready to be applied to maps of the schema: it is in range and typed, it meets
-/// the conditions on structure, arcs and squares, and what an application asks of it again and
-/// again is in tables.
+/// A rule that is ready to be applied to maps of the schema: it is accepted, and what an
+/// application asks of it again and again is in tables.
 ///
 /// A node goes by its index in the rule, where the left nodes come first.
 #[derive(Drop)]

@@ -1,90 +1,41 @@
 -- How a run goes on from line to line.
-use Rattle.std.proofs.Common.{◌≡◌, ◌≢◌, ℕ, ◌+◌, ◌<◌, ◌≤◌, List, [], ◌∷◌, ◌++◌, map, take, drop, length, IsTrue, get_or, None, Some, inl, refl, sym, ap, subst, ap₂, ◌∙◌, Result, Ok, Err, arith}
+use Rattle.std.proofs.Common.{◌≡◌, ◌≢◌, ℕ, ◌+◌, ◌<◌, ◌≤◌, List, [], ◌∷◌, ◌++◌, map, take, drop, length, get_or, Some, refl, sym, ap, subst, ap₂, ◌∙◌, Result, Ok, Err, arith}
 use Rattle.std.specs.Prelude.{slice_get, MatchResult}
 use Rattle.std.specs.Option.{option_map}
-use Rattle.std.specs.List.{Contains}
 use Rattle.std.proofs.lemmas.List.{take_more, take_all, take-append-drop, drop_more, map-append, length-map}
 use Rattle.std.proofs.lemmas.List.Elements.{All-push}
-use Rattle.std.proofs.lemmas.Option.{slice_get_within, slice_get-get_or, slice_get-map, get_or_from_slice_get, same_Some}
-use Rattle.gm_model.specs.declared.schema.Embed.{Embed}
+use Rattle.std.proofs.lemmas.Option.{slice_get_within, slice_get-get_or, slice_get-map, same_Some}
 use Rattle.gm_model.specs.declared.memory.OutOfMemory.{OutOfMemory}
 use Rattle.gm_model.specs.declared.schema.Schema.{Schema}
 use Rattle.gm_model.specs.declared.script.Line.{Line}
 use Rattle.gm_model.specs.declared.value.Value.{Value}
-use Rattle.gm_model.specs.Applications.{Application, Cause, IsDone, IsRefused, NoHookDart, BrokenStep, Repeated, ValuelessPre, FalsePre, NoRoom, NoNames, Valueless, IsBudget, Of, IsWork, NoHookDarts, NoMatch, NotReady, Ready, IsStaying, IsUnfolded, IsReachedSum, IsReadSum}
-use Rattle.gm_model.specs.Maps.{Map, IsDart, IsEmbedAt, IsGeneralised}
+use Rattle.gm_model.specs.Acceptance.{IsAccepted}
+use Rattle.gm_model.specs.Applications.{Application, IsDone, IsRefused, IsBudget}
+use Rattle.gm_model.specs.Kinds.{AreGoodParams}
+use Rattle.gm_model.specs.Maps.{Map, IsSound}
 use Rattle.gm_model.specs.Rules.{Rule, rule_of}
 use Rattle.gm_model.specs.Runs.{IsOutcome, IsLineOutcome, IsLineBudget, IsRun, IsRunBudget, changed_darts}
 use Rattle.gm_model.specs.Runs as runs
-use Rattle.gm_model.specs.Unfolding.{IsUnfolding, scene_of}
 use Rattle.gm_apply.specs.Outcomes.{IsRefusedFor}
 use Rattle.gm_apply.specs.declared.application.Applied.{Applied}
 use Rattle.gm_apply.specs.declared.refusal.Refusal.{Refusal}
 use Rattle.gm_apply.specs.declared.refusal.Refusal.TheVariants as refusals
 use Rattle.gm_arena.specs.ArenaAsMap.{as_map}
 use Rattle.gm_arena.specs.ArenaMap.{ArenaMap}
+use Rattle.gm_arena.specs.Lawful.{IsLawful}
 use Rattle.gm_match.specs.Outcome as matches
 use Rattle.gm_pending.specs.EditLists.{HasSameRows}
 use Rattle.gm_plan.specs.Plans.{PlanOf, IsPlanned}
-use Rattle.gm_theory.proofs.ValuesUnique.{one_count}
+use Rattle.gm_theory.specs.Outcomes.{IsGoodLine}
+use Rattle.gm_theory.proofs.BudgetsFound.{applications_have_budgets}
 use Rattle.gm_run.specs.declared.outcome.Outcome.{Outcome}
 use Rattle.gm_run.specs.declared.outcome.Outcome.TheVariants as outcomes
 use Rattle.gm_run.specs.Lines.{cause_of, outcome_of}
 use Rattle.gm_run.specs.Alike.{AreAlike}
-use Rattle.gm_run.specs.Progress.{rules_of, IsPlanFor, ArePlansFor, Agrees, IsDecided, HasLine, HasRun, IsStopped, IsCutShort}
-use Rattle.gm_run.proofs.AlikeLemmas.{alike_self}
+use Rattle.gm_run.specs.Progress.{rules_of, IsPlanFor, ArePlansFor, IsDecided, HasLine, HasRun, IsStopped, IsCutShort}
+use Rattle.gm_run.proofs.AlikeLemmas.{Suits, alike_self}
 use Rattle.gm_run.proofs.Determined.{determined}
 use Rattle.gm_run.proofs.OnlyRun.{IsDetermined, only_more, within_more}
-
--- ---- a budget for each application that has an outcome
-
-contained : (xs : List ℕ) (k d : ℕ) → slice_get xs k ≡ Some d → Contains xs d
-contained xs k d at = (k, slice_get_within xs k d at, get_or_from_slice_get xs k d d at)
-
-module _ (app : Application) (no_embeds : app.map.schema.embeds ≡ []) (no_pre : app.rule.pre ≡ None) where
-  none_at : (e : ℕ) (embed : Embed) → IsEmbedAt app.map.schema e embed → ⊥
-  none_at e embed at = let none : None ≡ Some embed = sym (ap (λ embeds. slice_get embeds e) no_embeds) ∙ at in absurd cc
-
-  work_done : (after : Map) (added removed : ℕ) → IsDone app after added removed → (k : ℕ) × IsWork app k 0 0
-  work_done after added removed done =
-      (done.place.positions, Ready done.place after.live after.alpha 0 0 0 done.ready unfolded reached (inl (no_pre, refl)) read)
-    where
-      unfolded : IsUnfolded app done.place (λ d. IsTrue (after.live d)) after.alpha
-      unfolded = subst (λ n. IsUnfolding (scene_of app.map app.rule done.place) (IsDart after) after.alpha n) done.result_is.unfolded.next_is done.result_is.unfolded
-
-      reached : IsReachedSum app done.place (λ d. IsTrue (after.live d)) after.alpha 0
-      reached = record {
-        counts = [];
-        each = sym (ap length no_embeds);
-        counts_are = λ e c embed is at. absurd (none_at e embed at);
-        sum_is = refl;
-      }
-
-      read : IsReadSum app done.place (λ d. IsTrue (after.live d)) after.alpha 0
-      read = record {
-        read = [];
-        ordered = λ k l a b before is other. let none : None ≡ Some a = is in absurd cc;
-        same = λ decider. (λ c. absurd (omega (arith, c.1)), λ h. absurd (none_at decider.embed h.0.embed h.0.embed_at));
-        units = [];
-        units_are = tt;
-        sum_is = refl;
-      }
-
-  work_refused : (cause : Cause) → IsRefused app cause → (k : ℕ) × IsWork app k 0 0
-  work_refused cause (NoHookDart index d at dead before) = (1, NoHookDarts (λ darts. dead (darts d (contained app.hooks index d at))))
-  work_refused cause (BrokenStep place x p i darts candidate first) = (place.positions, NoMatch place darts candidate (λ found. first.broken (found.steps x p i first.instance first.label)))
-  work_refused cause (Repeated place x p y q darts candidate steps first) = (place.positions, NoMatch place darts candidate (λ found. found.distinct x p y q first.here))
-  work_refused cause (ValuelessPre place tree found is none) = let both : None ≡ Some tree = sym no_pre ∙ is in absurd cc
-  work_refused cause (FalsePre place tree found is value) = let both : None ≡ Some tree = sym no_pre ∙ is in absurd cc
-  work_refused cause (NoRoom place live found pre counted full) =
-      (place.positions, NotReady place 0 found (λ ready. let same = one_count (IsStaying app place) ready.live live ready.live_is counted in let fit = ready.darts_fit in absurd (omega (arith, same, fit, full))) (inl (no_pre, refl)))
-  work_refused cause (NoNames place live found pre counted fits full) =
-      (place.positions, NotReady place 0 found (λ ready. let fit = ready.names_fit in absurd (omega (arith, fit, full))) (inl (no_pre, refl)))
-  work_refused cause (Valueless place live alpha decider ready unfolded first) = absurd (none_at decider.embed first.here.embed first.here.embed_at)
-
-  pub budget_of : (outcome : runs.Outcome) (after : Map) → IsOutcome app outcome after → (most : ℕ) × IsBudget app most
-  budget_of (runs.Done added removed) after done = let work = work_done after added removed done in (_, Of work.0 0 0 work.1)
-  budget_of (runs.Refused cause) after refused = let work = work_refused cause refused.0 in (_, Of work.0 0 0 work.1)
 
 -- ---- one line
 
@@ -107,24 +58,23 @@ outcome_here rules before after line rule outcome is h = subst (λ r. IsOutcome 
 budget_here : (rules : List Rule) (before : Map) (line : Line) (rule : Rule) (most : ℕ) → slice_get rules line.rule ≡ Some rule → IsLineBudget rules before line most → IsBudget (runs.application_of before rule line) most
 budget_here rules before line rule most is budget = subst (λ r. IsBudget (runs.application_of before r line) most) (same_Some budget.rule rule (sym budget.rule_is ∙ is)) budget.budget
 
-module _ (rules : List Rule) (m n : ArenaMap) (line : Line) (rule : Rule) (rule_is : slice_get rules line.rule ≡ Some rule) (no_embeds : m.schema.embeds ≡ []) (no_pre : rule.pre ≡ None) (start steps : ℕ)
+module _ (rules : List Rule) (m n : ArenaMap) (line : Line) (rule : Rule) (rule_is : slice_get rules line.rule ≡ Some rule) (start steps : ℕ)
+    (budget : (most : ℕ) × IsBudget (matches.application_of m rule line.hooks line.params) most)
     (one : IsDetermined (matches.application_of m rule line.hooks line.params)) (within : (most : ℕ) → IsBudget (matches.application_of m rule line.hooks line.params) most → steps ≤ start + most) where
   within_alike : (other : Map) → AreAlike other (as_map m) → (most : ℕ) → IsLineBudget rules other line most → steps ≤ start + most
-  within_alike other alike most budget = within most (one.budget other alike most (budget_here rules other line rule most rule_is budget))
+  within_alike other alike most given = within most (one.budget other alike most (budget_here rules other line rule most rule_is given))
 
   has_line : (outcome : Outcome) → IsDecided outcome → IsOutcome (matches.application_of m rule line.hooks line.params) (outcome_of outcome) (as_map n) → start + changed_darts (outcome_of outcome ∷ []) ≤ steps
       → HasLine rules (as_map m) line outcome (as_map n) start steps
-  has_line outcome decided is least =
-      let budget = budget_of (matches.application_of m rule line.hooks line.params) no_embeds no_pre (outcome_of outcome) (as_map n) is in
-      record {
-        is = record { rule = rule; rule_is = rule_is; outcome_is = is };
-        decided = decided;
-        most = budget.0;
-        budget = record { rule = rule; rule_is = rule_is; budget = budget.1 };
-        only = λ other alike o end h. one.only other alike o (outcome_of outcome) end (as_map n) (outcome_here rules other end line rule o rule_is h) is;
-        within = within_alike;
-        least = least;
-      }
+  has_line outcome decided is least = record {
+    is = record { rule = rule; rule_is = rule_is; outcome_is = is };
+    decided = decided;
+    most = budget.0;
+    budget = record { rule = rule; rule_is = rule_is; budget = budget.1 };
+    only = λ other alike o end h. one.only other alike o (outcome_of outcome) end (as_map n) (outcome_here rules other end line rule o rule_is h) is;
+    within = within_alike;
+    least = least;
+  }
 
   pub has_done : (applied : Applied) → IsDone (matches.application_of m rule line.hooks line.params) (as_map n) applied.added applied.removed → start + applied.added + applied.removed ≤ steps
       → HasLine rules (as_map m) line (outcomes.Done applied) (as_map n) start steps
@@ -143,27 +93,45 @@ module _ (rules : List Rule) (m n : ArenaMap) (line : Line) (rule : Rule) (rule_
 
 -- ---- the line's plan
 
-module _ (plans : List PlanOf) (m n : ArenaMap) (line : Line) (plan : PlanOf) (all_for : ArePlansFor m.schema plans) (agrees : Agrees (rules_of plans) line) (is : plan ≡ get_or plans line.rule plan)
-    (hooks : List ℕ) (params : List Value) (same_hooks : hooks ≡ line.hooks) (same_params : params ≡ line.params) (start steps : ℕ)
-    (generalised : IsGeneralised (as_map m)) (planned : IsPlanned plan.schema (rule_of plan.table))
-    (within : (most : ℕ) → IsBudget (matches.application_of m (rule_of plan.table) hooks params) most → steps ≤ start + most) where
+module _ (plans : List PlanOf) (line : Line) (plan : PlanOf) (good : IsGoodLine (rules_of plans) line) (is : plan ≡ get_or plans line.rule plan) where
   named : line.rule < length plans
-  named = omega (arith, slice_get_within (rules_of plans) line.rule agrees.0 agrees.1, length-map plans (λ (p : PlanOf). rule_of p.table))
+  named = omega (arith, slice_get_within (rules_of plans) line.rule good.rule good.rule_is, length-map plans (λ (p : PlanOf). rule_of p.table))
 
   rule_is : slice_get (rules_of plans) line.rule ≡ Some (rule_of plan.table)
   rule_is = slice_get-map (λ (p : PlanOf). rule_of p.table) plans line.rule ∙ ap (option_map (λ (p : PlanOf). rule_of p.table)) (slice_get-get_or plans line.rule plan named ∙ ap Some (sym is))
 
-  plan_for : IsPlanFor m.schema plan
-  plan_for = subst (IsPlanFor m.schema) (sym is) (all_for line.rule plan named)
+  same_rule : good.rule ≡ rule_of plan.table
+  same_rule = same_Some good.rule (rule_of plan.table) (sym good.rule_is ∙ rule_is)
 
-  no_embeds_here : m.schema.embeds ≡ []
-  no_embeds_here = ap (λ (schema : Schema). schema.embeds) plan_for.same ∙ plan_for.no_embeds
+  -- the line has a dart's name for each hook of the plan's rule, and a value for each parameter
+  pub hooks_fit : (hooks : List ℕ) → hooks ≡ line.hooks → length hooks ≡ length (rule_of plan.table).hooks
+  hooks_fit hooks same = ap length same ∙ good.hooks ∙ ap (λ (r : Rule). length r.hooks) same_rule
+
+  pub params_fit : (params : List Value) → params ≡ line.params → AreGoodParams (rule_of plan.table) params
+  params_fit params same = subst (AreGoodParams (rule_of plan.table)) (sym same) (subst (λ (r : Rule). AreGoodParams r line.params) same_rule good.params)
+
+module _ (plans : List PlanOf) (m n : ArenaMap) (line : Line) (plan : PlanOf) (all_for : ArePlansFor m.schema plans) (good : IsGoodLine (rules_of plans) line) (is : plan ≡ get_or plans line.rule plan)
+    (hooks : List ℕ) (params : List Value) (same_hooks : hooks ≡ line.hooks) (same_params : params ≡ line.params) (start steps : ℕ)
+    (lawful : IsLawful m) (sound : IsSound (as_map m)) (planned : IsPlanned plan.schema (rule_of plan.table))
+    (within : (most : ℕ) → IsBudget (matches.application_of m (rule_of plan.table) hooks params) most → steps ≤ start + most) where
+  plan_for : IsPlanFor m.schema plan
+  plan_for = subst (IsPlanFor m.schema) (sym is) (all_for line.rule plan (named plans line plan good is))
+
+  suits : Suits (rule_of plan.table) (as_map m)
+  suits = record {
+    of_schema = lawful.schema;
+    sound = sound;
+    accepted = subst (λ (s : Schema). IsAccepted s (rule_of plan.table)) (sym plan_for) planned.accepted;
+  }
 
   same_app : matches.application_of m (rule_of plan.table) hooks params ≡ matches.application_of m (rule_of plan.table) line.hooks line.params
   same_app = ap₂ (matches.application_of m (rule_of plan.table)) same_hooks same_params
 
   one_here : IsDetermined (matches.application_of m (rule_of plan.table) line.hooks line.params)
-  one_here = determined plan.schema (rule_of plan.table) line.hooks line.params (as_map m) plan_for.no_embeds plan_for.no_pre planned.in_range planned.incidence plan_for.same generalised
+  one_here = determined (rule_of plan.table) line.hooks line.params (as_map m) suits
+
+  budget_there : (most : ℕ) × IsBudget (matches.application_of m (rule_of plan.table) line.hooks line.params) most
+  budget_there = subst (λ app. (most : ℕ) × IsBudget app most) same_app (applications_have_budgets (matches.application_of m (rule_of plan.table) hooks params) suits.of_schema sound suits.accepted (hooks_fit plans line plan good is hooks same_hooks) (params_fit plans line plan good is params same_params))
 
   within_here : (most : ℕ) → IsBudget (matches.application_of m (rule_of plan.table) line.hooks line.params) most → steps ≤ start + most
   within_here most budget = within most (subst (λ app. IsBudget app most) (sym same_app) budget)
@@ -171,7 +139,7 @@ module _ (plans : List PlanOf) (m n : ArenaMap) (line : Line) (plan : PlanOf) (a
   pub line_done : (applied : Applied) → IsDone (matches.application_of m (rule_of plan.table) hooks params) (as_map n) applied.added applied.removed → start + applied.added + applied.removed ≤ steps
       → HasLine (rules_of plans) (as_map m) line (outcomes.Done applied) (as_map n) start steps
   line_done applied done least =
-      has_done (rules_of plans) m n line (rule_of plan.table) rule_is no_embeds_here plan_for.no_pre start steps one_here within_here applied
+      has_done (rules_of plans) m n line (rule_of plan.table) (rule_is plans line plan good is) start steps budget_there one_here within_here applied
       (subst (λ app. IsDone app (as_map n) applied.added applied.removed) same_app done) least
 
   pub line_refused : (refusal : Refusal) (result : Result Outcome OutOfMemory) → MatchResult result (λ outcome. (outcome ≡ outcomes.Refused refusal) × (refusal ≢ refusals.OutOfMemory)) (λ _. refusal ≡ refusals.OutOfMemory)
@@ -179,10 +147,10 @@ module _ (plans : List PlanOf) (m n : ArenaMap) (line : Line) (plan : PlanOf) (a
       → MatchResult result (λ outcome. HasLine (rules_of plans) (as_map m) line outcome (as_map n) start steps) (λ _. IsStopped (rules_of plans) (as_map m) line (as_map n) start steps)
   line_refused refusal (Ok outcome) told refused rises =
       subst (λ o. HasLine (rules_of plans) (as_map m) line o (as_map n) start steps) (sym told.0)
-      (has_refused (rules_of plans) m n line (rule_of plan.table) rule_is no_embeds_here plan_for.no_pre start steps one_here within_here refusal told.1
+      (has_refused (rules_of plans) m n line (rule_of plan.table) (rule_is plans line plan good is) start steps budget_there one_here within_here refusal told.1
       (subst (λ app. IsRefusedFor app refusal) same_app refused.0) refused.1 rises)
   line_refused refusal (Err error) told refused rises =
-      is_stopped (rules_of plans) m n line (rule_of plan.table) rule_is no_embeds_here plan_for.no_pre start steps one_here within_here refused.1
+      is_stopped (rules_of plans) m n line (rule_of plan.table) (rule_is plans line plan good is) start steps budget_there one_here within_here refused.1
 
 -- ---- one line more
 

@@ -1,11 +1,15 @@
--- Being alike is an equivalence of maps, and a map that is alike to a generalised map is one.
-use Rattle.std.proofs.Common.{◌≡◌, ℕ, ◌≤◌, List, [], None, slice_get, refl, sym, ap, subst, ◌∙◌, arith}
+-- Being alike is an equivalence of maps, and a map that is alike to a sound map is sound.
+use Rattle.std.proofs.Common.{◌≡◌, ℕ, zero, suc, ◌<◌, ◌≤◌, List, [], ◌∷◌, length, Some, slice_get, IsTrue, refl, sym, ap, subst, ◌∙◌, arith}
 use Rattle.gm_model.specs.declared.schema.Embed.{Embed}
 use Rattle.gm_model.specs.declared.schema.Schema.{Schema}
-use Rattle.gm_model.specs.Maps.{Map, IsDart, IsEmbedAt, IsGeneralised, dimension}
+use Rattle.gm_model.specs.Acceptance.{IsAccepted}
+use Rattle.gm_model.specs.Maps.{Map, IsDart, IsEmbedAt, IsGeneralised, IsMap, IsSchema, IsSound, dimension, type_of}
+use Rattle.gm_model.specs.Matches.{Placement, IsInstance}
 use Rattle.gm_model.specs.Rules.{Rule}
-use Rattle.gm_model.specs.Structure.{IsInRange, HasIncidence}
-use Rattle.gm_theory.proofs.Lists.{none_some}
+use Rattle.gm_model.specs.Values.{IsValueOf}
+use Rattle.gm_theory.specs.OneMatch.{IsLike}
+use Rattle.gm_apply.proofs.LikeOrbits.{orbit_same, orbit_live}
+use Rattle.gm_apply.proofs.LikePlaces.{AreLikeAt}
 use Rattle.gm_run.specs.Alike.{AreAlike}
 
 pub alike_self : (m : Map) → AreAlike m m
@@ -62,24 +66,61 @@ alike_generalised a b alike old = record {
         ap (b.alpha i) (sym (alike.same.arcs d j (live_back d live) (label_back j k)))
         ∙ sym (alike.same.arcs (a.alpha j d) i (old.stays d j (live_back d live) (label_back j k)) (label_back i h))
 
--- What is used of a rule and a map. The map is a generalised one without embeddings. The rule is in range for its
--- schema, has its structure and arcs in order, and no precondition.
+pub alike_map : (a b : Map) → AreAlike a b → IsMap a → IsMap b
+alike_map a b alike old = record {
+  below = λ d live. subst (λ n. d < n) alike.same.next (old.below d ((alike.same.darts d).1 live));
+  values = λ e d embed at live.
+      let at_first = subst (λ (s : Schema). IsEmbedAt s e embed) (sym alike.schema) at in
+      let live_first = (alike.same.darts d).1 live in
+      subst (IsValueOf embed.kind) (alike.values e d embed at_first live_first) (old.values e d embed at_first live_first);
+}
+
+pub alike_sound : (a b : Map) → AreAlike a b → IsSchema a.schema → IsSound a → IsSound b
+alike_sound a b alike of_schema old = record {
+  is_map = alike_map a b alike old.is_map;
+  generalised = alike_generalised a b alike old.generalised;
+  embedded = λ e embed at d d' live orbit.
+      let at_first = subst (λ (s : Schema). IsEmbedAt s e embed) (sym alike.schema) at in
+      let back = alike_back a b alike in
+      let generalised = alike_generalised a b alike old.generalised in
+      let low : (i : ℕ) → IsTrue (type_of embed i) → i ≤ dimension b = λ i h. subst (λ (s : Schema). i ≤ s.dim) alike.schema (of_schema.labels e i embed at_first h) in
+      let orbit_first = orbit_same (dimension b) (IsDart b) b.alpha a.alpha generalised.stays back.same.arcs (type_of embed) low d d' live orbit in
+      let live_first = (alike.same.darts d).1 live in
+      let live_there = (alike.same.darts d').1 (orbit_live (dimension b) (IsDart b) b.alpha a.alpha generalised.stays back.same.arcs (type_of embed) low d d' live orbit) in
+      sym (alike.values e d embed at_first live_first) ∙ old.embedded e embed at_first d d' live_first orbit_first ∙ alike.values e d' embed at_first live_there;
+}
+
+-- What is used of a rule and a map: the map is sound, and the rule is accepted for it.
 pub record Suits (rule : Rule) (map : Map) : Type 0 where
-  pub generalised : IsGeneralised map
-  pub in_range : IsInRange map.schema rule
-  pub incidence : HasIncidence map.schema.dim rule
-  pub no_embeds : map.schema.embeds ≡ []
-  pub no_pre : rule.pre ≡ None
+  pub of_schema : IsSchema map.schema
+  pub sound : IsSound map
+  pub accepted : IsAccepted map.schema rule
 
 pub suits_too : (rule : Rule) (a b : Map) → AreAlike a b → Suits rule a → Suits rule b
 suits_too rule a b alike suits = record {
-  generalised = alike_generalised a b alike suits.generalised;
-  in_range = subst (λ (s : Schema). IsInRange s rule) alike.schema suits.in_range;
-  incidence = subst (λ (s : Schema). HasIncidence s.dim rule) alike.schema suits.incidence;
-  no_embeds = ap (λ (s : Schema). s.embeds) (sym alike.schema) ∙ suits.no_embeds;
-  no_pre = suits.no_pre;
+  of_schema = subst IsSchema alike.schema suits.of_schema;
+  sound = alike_sound a b alike suits.of_schema suits.sound;
+  accepted = subst (λ (s : Schema). IsAccepted s rule) alike.schema suits.accepted;
 }
 
--- there is no embedding
-pub no_embed : (rule : Rule) (map : Map) → Suits rule map → (e : ℕ) (embed : Embed) → IsEmbedAt map.schema e embed → ⊥
-no_embed rule map suits e embed at = none_some embed (sym (ap (λ (embeds : List Embed). slice_get embeds e) suits.no_embeds) ∙ at)
+some_embed : (embeds : List Embed) (e : ℕ) → e < length embeds → (embed : Embed) × (slice_get embeds e ≡ Some embed)
+some_embed [] e within = absurd (omega (arith, within))
+some_embed (embed ∷ embeds) zero within = (embed, refl)
+some_embed (embed ∷ embeds) (suc e) within = some_embed embeds e (omega (arith, within))
+
+-- a match lies alike in both maps
+pub alike_at : (rule : Rule) (a b : Map) → AreAlike a b → Suits rule a → (place other : Placement) → IsLike rule place other → ((x p : ℕ) → IsInstance rule place x p → IsDart a (place.dart_of x p)) → AreLikeAt rule a b place other
+alike_at rule a b alike suits place other like live = record {
+  accepted = suits.accepted;
+  first_map = suits.sound.is_map;
+  first_generalised = suits.sound.generalised;
+  second_map = alike_map a b alike suits.sound.is_map;
+  second_generalised = alike_generalised a b alike suits.sound.generalised;
+  schema = alike.schema;
+  next = alike.same.next;
+  darts = alike.same.darts;
+  arcs = alike.same.arcs;
+  values = λ e d within. let embed = some_embed a.schema.embeds e within in alike.values e d embed.0 embed.1;
+  like = like;
+  live = live;
+}

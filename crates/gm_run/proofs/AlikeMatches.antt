@@ -63,10 +63,10 @@ module _ (rule : Rule) (hooks : List ℕ) (params : List Value) (a b : Map) (sui
   module _ (d : ℕ) (walk : List ℕ) (live : IsDart a d) (is : IsWalk (along_hook a rule) (width rule) d walk) where
     walk_live : (p : ℕ) → p < length walk → IsDart a (slice_index walk p)
     walk_live p within =
-        walk_keeps (along_hook a rule) (width rule) (IsDart a) d walk is live (λ e m h l. suits.generalised.stays e (hook_label rule m) l (hook_label_up_to a.schema rule suits.in_range m)) (suc p) p (omega arith) within
+        walk_keeps (along_hook a rule) (width rule) (IsDart a) d walk is live (λ e m h l. suits.sound.generalised.stays e (hook_label rule m) l (hook_label_up_to a.schema rule suits.accepted.in_range m)) (suc p) p (omega arith) within
 
     next_same : (p m : ℕ) → p < length walk → along_hook a rule (slice_index walk p) m ≡ along_hook b rule (slice_index walk p) m
-    next_same p m within = alike.same.arcs (slice_index walk p) (hook_label rule m) (walk_live p within) (hook_label_up_to a.schema rule suits.in_range m)
+    next_same p m within = alike.same.arcs (slice_index walk p) (hook_label rule m) (walk_live p within) (hook_label_up_to a.schema rule suits.accepted.in_range m)
 
     walk_there : IsWalk (along_hook b rule) (width rule) d walk
     walk_there = record {
@@ -102,12 +102,12 @@ module _ (rule : Rule) (hooks : List ℕ) (params : List Value) (a b : Map) (sui
   follow_there : (path : List ℕ) (x y d : ℕ) → Leads rule.left_links x path y → IsDart a d → follow a.alpha path d ≡ follow b.alpha path d
   follow_there [] x y d e live = refl
   follow_there (i ∷ path) x y d (z, linked, leads) live =
-      let label : i ≤ dimension a = (linked_in_range a.schema rule suits.in_range suits.incidence Left x i z linked).2 in
-      follow_there path z y (a.alpha i d) leads (suits.generalised.stays d i live label) ∙ ap (follow b.alpha path) (alike.same.arcs d i live label)
+      let label : i ≤ dimension a = (linked_in_range a.schema rule suits.accepted.in_range suits.accepted.incidence Left x i z linked).2 in
+      follow_there path z y (a.alpha i d) leads (suits.sound.generalised.stays d i live label) ∙ ap (follow b.alpha path) (alike.same.arcs d i live label)
 
   module _ (place : Placement) (candidate : IsCandidate a rule hooks place) (darts : HasHookDarts here) where
     hook_there : (t h p : ℕ) → slice_get rule.hooks t ≡ Some h → p < place.positions → IsDart a (place.dart_of h p)
-    hook_there = hooks_live a rule place suits.in_range suits.incidence suits.generalised hooks candidate darts
+    hook_there = hooks_live a rule place suits.accepted.in_range suits.accepted.incidence suits.sound.generalised hooks candidate darts
 
     pub candidate_there : IsCandidate b rule hooks place
     candidate_there = record {
@@ -118,25 +118,25 @@ module _ (rule : Rule) (hooks : List ℕ) (params : List Value) (a b : Map) (sui
       at_darts = candidate.at_darts;
       in_step = λ t h p q m later at some within turn.
           candidate.in_step t h p q m later at some within turn
-          ∙ alike.same.arcs (place.dart_of h q) (label_at (letters rule Left h) m) (hook_there t h q at turn.position) (letter_low a.schema rule suits.in_range suits.incidence t h at m);
+          ∙ alike.same.arcs (place.dart_of h q) (label_at (letters rule Left h) m) (hook_there t h q at turn.position) (letter_low a.schema rule suits.accepted.in_range suits.accepted.incidence t h at m);
       forced = λ x p hook path at to. candidate.forced x p hook path at to ∙ follow_there path hook x (place.dart_of hook p) to.leads (hook_there to.index hook p to.hook_at at.1);
     }
 
     -- ---- the steps that it meets
 
     instance_live : (x p : ℕ) → IsInstance rule place x p → IsDart a (place.dart_of x p)
-    instance_live x p at = go (least_path a.schema rule suits.in_range suits.incidence x at.0)
+    instance_live x p at = go (least_path a.schema rule suits.accepted.in_range suits.accepted.incidence x at.0)
       where
         go : (hook : ℕ) × (path : List ℕ) × IsPathTo rule x hook path → IsDart a (place.dart_of x p)
         go (hook, path, to) =
             subst (IsDart a) (sym (candidate.forced x p hook path at to))
-            (follow_live a rule place suits.in_range suits.incidence suits.generalised path hook x (place.dart_of hook p) to.leads (hook_there to.index hook p to.hook_at at.1))
+            (follow_live a rule place suits.accepted.in_range suits.accepted.incidence suits.sound.generalised path hook x (place.dart_of hook p) to.leads (hook_there to.index hook p to.hook_at at.1))
 
     arc_there : (x p i : ℕ) → IsInstance rule place x p → i ≤ dimension a → a.alpha i (place.dart_of x p) ≡ b.alpha i (place.dart_of x p)
     arc_there x p i at h = alike.same.arcs (place.dart_of x p) i (instance_live x p at) h
 
     other_end : (x p i y : ℕ) → IsInstance rule place x p → i ≤ dimension a → step rule Left x i ≡ Exp y → IsInstance rule place y p
-    other_end x p i y at h e = ((step_back a.schema rule suits.in_range suits.incidence Left x i y h e).0, at.1)
+    other_end x p i y at h e = ((step_back a.schema rule suits.accepted.in_range suits.accepted.incidence Left x i y h e).0, at.1)
 
     met_there : (x p i : ℕ) → IsInstance rule place x p → i ≤ dimension a → IsMetAt a rule place x p i → IsMetAt b rule place x p i
     met_there x p i at h = met_same a.alpha b.alpha place x p i (step rule Left x i) (arc_there x p i at h) (λ y e. arc_there y p i (other_end x p i y at h e) h)

@@ -1,22 +1,32 @@
 -- What becomes of an application's candidate: it has one end, as any two candidates are like.
-use Rattle.std.proofs.Common.{◌≡◌, ℕ, ◌+◌, ◌*◌, ◌<◌, ◌≤◌, ◌⊎◌, inl, inr, Option, Some, None, refl, sym, ap, ap₂, subst, ◌∙◌, arith}
+use Rattle.std.proofs.Common.{◌≡◌, ℕ, false, true, ◌+◌, ◌*◌, ◌<◌, ◌≤◌, ◌⊎◌, inl, inr, List, Option, Some, None, refl, sym, ap, ap₂, subst, ◌∙◌, arith}
 use Rattle.std.proofs.lemmas.Bool.{cases_order}
 use Rattle.std.proofs.lemmas.Option.{slice_get_within, get_or_from_slice_get}
 use Rattle.std.specs.List.{slice_get}
-use Rattle.gm_model.specs.Applications.{Application, Cause, NoDart, Arc, Same, FullDarts, FullNames, HasHookDarts, MeetsSteps, IsFirstBroken, IsRepeat, HasNoRepeat, IsFirstRepeat, IsStaying, IsDone, IsRefused, NoHookDart, BrokenStep, Repeated, ValuelessPre, FalsePre, NoRoom, NoNames, Valueless, more}
+use Rattle.gm_model.specs.declared.value.Value.{Value}
+use Rattle.gm_model.specs.declared.value.Value.TheVariants as values
+use Rattle.gm_model.specs.Applications.{Application, Cause, NoDart, Arc, Same, PreNoValue, PreFalse, FullDarts, FullNames, HasHookDarts, MeetsSteps, IsFirstBroken, IsRepeat, HasNoRepeat, IsFirstRepeat, IsFound, MeetsPre, IsReady, IsStaying, IsDone, IsRefused, NoHookDart, BrokenStep, Repeated, ValuelessPre, FalsePre, NoRoom, NoNames, more, reading_at}
+use Rattle.gm_model.specs.Applications as causes
+use Rattle.gm_model.specs.Expressions.{HasValue, HasNoValue}
 use Rattle.gm_model.specs.Limits.{most_darts, most_names}
-use Rattle.gm_model.specs.Maps.{Map, IsDart}
-use Rattle.gm_model.specs.Matches.{Placement, IsCandidate, IsInstance}
+use Rattle.gm_model.specs.Maps.{Map, IsDart, IsSchema, dimension}
+use Rattle.gm_model.specs.Matches.{Placement, IsCandidate, IsInstance, IsMatch, IsMetAt}
 use Rattle.gm_model.specs.Orbits.{HasCount, IsPairBefore}
+use Rattle.gm_model.specs.Rules.{Rule}
+use Rattle.gm_model.specs.Trees.{Tree}
 use Rattle.gm_model.specs.Unfolding.{added_nodes}
-use Rattle.gm_apply.proofs.Counting.{count_same}
+use Rattle.gm_apply.proofs.LikeApplications.{here, there, staying_there, pre_value_there, pre_no_value_there, meets_pre_there, ready_there}
+use Rattle.gm_apply.proofs.LikePlaces.{AreLikeAt, same_map, instance_there, repeat_like, candidates_like, steps_like, found_like}
 use Rattle.gm_theory.specs.OneMatch.{IsLike}
-use Rattle.gm_theory.proofs.Agreement.{candidates_agree, met_alike}
+use Rattle.gm_theory.proofs.Agreement.{met_alike}
+use Rattle.gm_theory.proofs.CandidatesFound.{some_position}
 use Rattle.gm_theory.proofs.Lists.{none_some, some_same}
+use Rattle.gm_theory.proofs.ReadingsDecided.{not_both_truths}
+use Rattle.gm_theory.proofs.ValuesKept.{found_match}
 use Rattle.gm_theory.proofs.ValuesUnique.{one_count}
 use Rattle.gm_theory.proofs.Walks.{pair_order}
-use Rattle.gm_run.proofs.AlikeLemmas.{Suits, no_embed}
-use Rattle.gm_run.proofs.AlikeScenes.{gone_like}
+use Rattle.gm_run.proofs.AlikeLemmas.{Suits}
+use Rattle.gm_run.proofs.ReadyEnds.{IsReadyEnd, Lacks, HasAll, ready_end_there, one_ready_end, result_has_all}
 
 -- ---- ends
 
@@ -26,11 +36,18 @@ pub data IsRoom (next new live : ℕ) : Option Cause → Type 0 where
   OverNames : live + new ≤ most_darts → most_names < next + new → IsRoom next new live (Some (FullNames next new))
   HasBoth : live + new ≤ most_darts → next + new ≤ most_names → IsRoom next new live None
 
+-- The match is refused for this cause; without one its result is made.
+pub data IsFoundEnd (app : Application) (place : Placement) : Option Cause → Type 0 where
+  Valueless : (tree : Tree) → app.rule.pre ≡ Some tree → HasNoValue (reading_at app place 0) tree → IsFoundEnd app place (Some PreNoValue)
+  Untrue : (tree : Tree) → app.rule.pre ≡ Some tree → HasValue (reading_at app place 0) tree (values.Bool false) → IsFoundEnd app place (Some PreFalse)
+  Full : (live : ℕ) (cause : Cause) → MeetsPre app place → HasCount (IsStaying app place) live → IsRoom app.map.next (more app place) live (Some cause) → IsFoundEnd app place (Some cause)
+  Readies : (told : Option Cause) → IsReady app place → IsReadyEnd app place told → IsFoundEnd app place told
+
 -- The candidate is refused for this cause; without one its result is made.
 pub data IsEnd (app : Application) (place : Placement) : Option Cause → Type 0 where
   Breaks : (x p i : ℕ) → IsFirstBroken app place x p i → IsEnd app place (Some (Arc x p i))
   Repeats : (x p y q : ℕ) → MeetsSteps app place → IsFirstRepeat app place x p y q → IsEnd app place (Some (Same x p y q))
-  Fits : (live : ℕ) (told : Option Cause) → MeetsSteps app place → HasNoRepeat app place → HasCount (IsStaying app place) live → IsRoom app.map.next (more app place) live told → IsEnd app place told
+  Fits : (told : Option Cause) → MeetsSteps app place → HasNoRepeat app place → IsFoundEnd app place told → IsEnd app place told
 
 one_room : (next new live : ℕ) (told other : Option Cause) → IsRoom next new live told → IsRoom next new live other → told ≡ other
 one_room next new live _ _ (OverDarts h) (OverDarts k) = refl
@@ -77,63 +94,113 @@ module _ (app : Application) (place : Placement) where
       go (inr (inl before)) = absurd (second.before x p y q before first.here)
       go (inr (inr before)) = absurd (first.before x' p' y' q' before second.here)
 
-  one_end : (told other : Option Cause) → IsEnd app place told → IsEnd app place other → told ≡ other
-  one_end _ _ (Breaks x p i first) (Breaks y q j second) = ap Some (one_broken x p i y q j first second)
-  one_end _ _ (Breaks x p i first) (Repeats x' p' y' q' steps again) = absurd (first.broken (steps x p i first.instance first.label))
-  one_end _ other (Breaks x p i first) (Fits live _ steps distinct counted room) = absurd (first.broken (steps x p i first.instance first.label))
-  one_end _ _ (Repeats x p y q steps first) (Breaks x' p' i broken) = absurd (broken.broken (steps x' p' i broken.instance broken.label))
-  one_end _ _ (Repeats x p y q steps first) (Repeats x' p' y' q' steps' second) = ap Some (one_repeat x p y q x' p' y' q' first second)
-  one_end _ other (Repeats x p y q steps first) (Fits live _ steps' distinct counted room) = absurd (distinct x p y q first.here)
-  one_end told _ (Fits live _ steps distinct counted room) (Breaks x p i first) = absurd (first.broken (steps x p i first.instance first.label))
-  one_end told _ (Fits live _ steps distinct counted room) (Repeats x p y q steps' first) = absurd (distinct x p y q first.here)
-  one_end told other (Fits live _ steps distinct counted room) (Fits live' _ steps' distinct' counted' room') =
+  -- it isn't both met and refused
+  met_or_valueless : (tree : Tree) → app.rule.pre ≡ Some tree → HasNoValue (reading_at app place 0) tree → MeetsPre app place → ⊥
+  met_or_valueless tree is none pre = none (values.Bool true) (pre tree is)
+
+  met_or_false : (tree : Tree) → app.rule.pre ≡ Some tree → HasValue (reading_at app place 0) tree (values.Bool false) → MeetsPre app place → ⊥
+  met_or_false tree is false_there pre = not_both_truths (reading_at app place 0) tree (pre tree is) false_there
+
+  valueless_or_false : (tree other : Tree) → app.rule.pre ≡ Some tree → app.rule.pre ≡ Some other → HasNoValue (reading_at app place 0) tree → HasValue (reading_at app place 0) other (values.Bool false) → ⊥
+  valueless_or_false tree other is is' none false_there = none (values.Bool false) (subst (λ t. HasValue (reading_at app place 0) t (values.Bool false)) (some_same other tree (sym is' ∙ is)) false_there)
+
+  full_or_ready : (live : ℕ) (cause : Cause) → HasCount (IsStaying app place) live → IsRoom app.map.next (more app place) live (Some cause) → IsReady app place → ⊥
+  full_or_ready live cause counted room ready =
+      let same : ready.live ≡ live = one_count (IsStaying app place) ready.live live ready.live_is counted in
+      none_some cause (one_room app.map.next (more app place) live None (Some cause) (HasBoth (subst (λ n. n + more app place ≤ most_darts) same ready.darts_fit) ready.names_fit) room)
+
+module _ (app : Application) (suits : Suits app.rule app.map) (place : Placement) where
+  one_found_end : (told other : Option Cause) → IsFoundEnd app place told → IsFoundEnd app place other → told ≡ other
+  one_found_end _ _ (Valueless tree is none) (Valueless tree' is' none') = refl
+  one_found_end _ _ (Valueless tree is none) (Untrue tree' is' false_there) = absurd (valueless_or_false app place tree tree' is is' none false_there)
+  one_found_end _ _ (Valueless tree is none) (Full live cause pre counted room) = absurd (met_or_valueless app place tree is none pre)
+  one_found_end _ other (Valueless tree is none) (Readies _ ready end) = absurd (met_or_valueless app place tree is none ready.pre)
+  one_found_end _ _ (Untrue tree is false_there) (Valueless tree' is' none) = absurd (valueless_or_false app place tree' tree is' is none false_there)
+  one_found_end _ _ (Untrue tree is false_there) (Untrue tree' is' false_there') = refl
+  one_found_end _ _ (Untrue tree is false_there) (Full live cause pre counted room) = absurd (met_or_false app place tree is false_there pre)
+  one_found_end _ other (Untrue tree is false_there) (Readies _ ready end) = absurd (met_or_false app place tree is false_there ready.pre)
+  one_found_end _ _ (Full live cause pre counted room) (Valueless tree is none) = absurd (met_or_valueless app place tree is none pre)
+  one_found_end _ _ (Full live cause pre counted room) (Untrue tree is false_there) = absurd (met_or_false app place tree is false_there pre)
+  one_found_end _ _ (Full live cause pre counted room) (Full live' cause' pre' counted' room') =
       let same : live' ≡ live = one_count (IsStaying app place) live' live counted' counted in
-      one_room app.map.next (more app place) live told other room (subst (λ n. IsRoom app.map.next (more app place) n other) same room')
+      one_room app.map.next (more app place) live (Some cause) (Some cause') room (subst (λ n. IsRoom app.map.next (more app place) n (Some cause')) same room')
+  one_found_end _ other (Full live cause pre counted room) (Readies _ ready end) = absurd (full_or_ready app place live cause counted room ready)
+  one_found_end told _ (Readies _ ready end) (Valueless tree is none) = absurd (met_or_valueless app place tree is none ready.pre)
+  one_found_end told _ (Readies _ ready end) (Untrue tree is false_there) = absurd (met_or_false app place tree is false_there ready.pre)
+  one_found_end told _ (Readies _ ready end) (Full live cause pre counted room) = absurd (full_or_ready app place live cause counted room ready)
+  one_found_end told other (Readies _ ready end) (Readies _ ready' end') = one_ready_end app suits place ready.found told other end end'
+
+  one_end : (told other : Option Cause) → IsEnd app place told → IsEnd app place other → told ≡ other
+  one_end _ _ (Breaks x p i first) (Breaks y q j second) = ap Some (one_broken app place x p i y q j first second)
+  one_end _ _ (Breaks x p i first) (Repeats x' p' y' q' steps again) = absurd (first.broken (steps x p i first.instance first.label))
+  one_end _ other (Breaks x p i first) (Fits _ steps distinct end) = absurd (first.broken (steps x p i first.instance first.label))
+  one_end _ _ (Repeats x p y q steps first) (Breaks x' p' i broken) = absurd (broken.broken (steps x' p' i broken.instance broken.label))
+  one_end _ _ (Repeats x p y q steps first) (Repeats x' p' y' q' steps' second) = ap Some (one_repeat app place x p y q x' p' y' q' first second)
+  one_end _ other (Repeats x p y q steps first) (Fits _ steps' distinct end) = absurd (distinct x p y q first.here)
+  one_end told _ (Fits _ steps distinct end) (Breaks x p i first) = absurd (first.broken (steps x p i first.instance first.label))
+  one_end told _ (Fits _ steps distinct end) (Repeats x p y q steps' first) = absurd (distinct x p y q first.here)
+  one_end told other (Fits _ steps distinct end) (Fits _ steps' distinct' end') = one_found_end told other end end'
+
+-- ---- the same end over maps and places that are like
+
+module _ (rule : Rule) (hooks : List ℕ) (params : List Value) (a b : Map) (place other : Placement) (like : AreLikeAt rule a b place other) (of_schema : IsSchema a.schema) (found : IsFound (here rule hooks params a b place other like) place)
+    (found_too : IsFound (there rule hooks params a b place other like) other) where
+  some : 0 < place.positions
+  some = some_position a rule hooks place found.candidate
+
+  matched : IsMatch a rule hooks place
+  matched = found_match (here rule hooks params a b place other like) place like.first_generalised like.accepted found
+
+  pub found_end_there : (told : Option Cause) → IsFoundEnd (here rule hooks params a b place other like) place told → IsFoundEnd (there rule hooks params a b place other like) other told
+  found_end_there _ (Valueless tree is none) = Valueless tree is (pre_no_value_there rule hooks params a b place other like some tree is none)
+  found_end_there _ (Untrue tree is false_there) = Untrue tree is (pre_value_there rule hooks params a b place other like some tree (values.Bool false) is false_there)
+  found_end_there _ (Full live cause pre counted room) =
+      Full live cause (meets_pre_there rule hooks params a b place other like some pre) (staying_there rule hooks params a b place other like live counted)
+      (subst (λ n. IsRoom b.next (n * added_nodes rule) live (Some cause)) like.like.positions (subst (λ n. IsRoom n (place.positions * added_nodes rule) live (Some cause)) like.next room))
+  found_end_there told (Readies _ ready end) = Readies told (ready_there rule hooks params a b place other like ready found_too) (ready_end_there rule hooks params a b place other like of_schema matched told end)
 
 -- ---- candidates that are like have the same end
 
-module _ (app : Application) (suits : Suits app.rule app.map) (place other : Placement) (like : IsLike app.rule place other) (back : IsLike app.rule other place) where
-  instance_back : (x p : ℕ) → IsInstance app.rule other x p → IsInstance app.rule place x p
-  instance_back x p at = (at.0, subst (λ n. p < n) back.positions at.1)
+module _ (app : Application) (suits : Suits app.rule app.map) (place other : Placement) (ours : IsCandidate app.map app.rule app.hooks place) (darts : HasHookDarts app) (theirs : IsCandidate app.map app.rule app.hooks other) where
+  like : IsLike app.rule place other
+  like = candidates_like app suits.accepted.in_range suits.accepted.incidence place other ours theirs
 
-  steps_like : MeetsSteps app place → MeetsSteps app other
-  steps_like steps x p i at h = met_alike app.map app.rule app.hooks suits.in_range suits.incidence other place back x p i at h (steps x p i (instance_back x p at) h)
+  back : IsLike app.rule other place
+  back = candidates_like app suits.accepted.in_range suits.accepted.incidence other place theirs ours
+
+  met_there : (x p i : ℕ) → IsInstance app.rule other x p → i ≤ dimension app.map → IsMetAt app.map app.rule place x p i → IsMetAt app.map app.rule other x p i
+  met_there = met_alike app.map app.rule app.hooks suits.accepted.in_range suits.accepted.incidence other place back
+
+  met_back : (x p i : ℕ) → IsInstance app.rule place x p → i ≤ dimension app.map → IsMetAt app.map app.rule other x p i → IsMetAt app.map app.rule place x p i
+  met_back = met_alike app.map app.rule app.hooks suits.accepted.in_range suits.accepted.incidence place other like
 
   broken_like : (x p i : ℕ) → IsFirstBroken app place x p i → IsFirstBroken app other x p i
   broken_like x p i first = record {
-    instance = (first.instance.0, subst (λ n. p < n) like.positions first.instance.1);
+    instance = instance_there app place other like x p first.instance;
     label = first.label;
-    broken = λ met. first.broken (met_alike app.map app.rule app.hooks suits.in_range suits.incidence place other like x p i first.instance first.label met);
-    before = λ y q j earlier at h. met_alike app.map app.rule app.hooks suits.in_range suits.incidence other place back y q j at h (first.before y q j earlier (instance_back y q at) h);
+    broken = λ met. first.broken (met_back x p i first.instance first.label met);
+    before = λ y q j earlier at h. met_there y q j at h (first.before y q j earlier (instance_there app other place back y q at) h);
   }
 
-repeat_like : (app : Application) (place other : Placement) → IsLike app.rule place other → (x p y q : ℕ) → IsRepeat app place x p y q → IsRepeat app other x p y q
-repeat_like app place other like x p y q r = record {
-  first = (r.first.0, subst (λ n. p < n) like.positions r.first.1);
-  second = (r.second.0, subst (λ n. q < n) like.positions r.second.1);
-  later = r.later;
-  same = sym (like.darts x p r.first) ∙ r.same ∙ like.darts y q r.second;
-}
-
-module _ (app : Application) (suits : Suits app.rule app.map) (place other : Placement) (like : IsLike app.rule place other) (back : IsLike app.rule other place) where
   first_repeat_like : (x p y q : ℕ) → IsFirstRepeat app place x p y q → IsFirstRepeat app other x p y q
   first_repeat_like x p y q first = record {
     here = repeat_like app place other like x p y q first.here;
     before = λ x' p' y' q' earlier r. first.before x' p' y' q' earlier (repeat_like app other place back x' p' y' q' r);
   }
 
-  staying_like : (n : ℕ) → HasCount (IsStaying app place) n → HasCount (IsStaying app other) n
-  staying_like n = count_same (IsStaying app place) (IsStaying app other) n (λ d. (
-    λ h. (h.0, λ g. h.1 (gone_like app.map app.rule app.hooks suits.in_range suits.incidence other place back d g)),
-    λ h. (h.0, λ g. h.1 (gone_like app.map app.rule app.hooks suits.in_range suits.incidence place other like d g)),
-  ))
+  found_here : MeetsSteps app place → HasNoRepeat app place → IsFound app place
+  found_here steps distinct = record { darts = darts; candidate = ours; steps = steps; distinct = distinct }
+
+  both_places : IsFound app place → AreLikeAt app.rule app.map app.map place other
+  both_places found = same_map app.rule app.map place other suits.accepted suits.sound.is_map suits.sound.generalised like (found_match app place suits.sound.generalised suits.accepted found).embedded.live
 
   end_like : (told : Option Cause) → IsEnd app place told → IsEnd app other told
-  end_like _ (Breaks x p i first) = Breaks x p i (broken_like app suits place other like back x p i first)
-  end_like _ (Repeats x p y q steps first) = Repeats x p y q (steps_like app suits place other like back steps) (first_repeat_like x p y q first)
-  end_like told (Fits live _ steps distinct counted room) =
-      Fits live told (steps_like app suits place other like back steps) (λ x p y q r. distinct x p y q (repeat_like app other place back x p y q r)) (staying_like live counted)
-      (subst (λ n. IsRoom app.map.next (n * added_nodes app.rule) live told) like.positions room)
+  end_like _ (Breaks x p i first) = Breaks x p i (broken_like x p i first)
+  end_like _ (Repeats x p y q steps first) = Repeats x p y q (steps_like app suits.accepted.in_range suits.accepted.incidence place other like back steps) (first_repeat_like x p y q first)
+  end_like told (Fits _ steps distinct end) =
+      let found = found_here steps distinct in
+      let there = found_like app suits.accepted.in_range suits.accepted.incidence place other theirs found in
+      Fits told there.steps there.distinct (found_end_there app.rule app.hooks app.params app.map app.map place other (both_places found) suits.of_schema found there told end)
 
 -- ---- the end of an application
 
@@ -156,31 +223,29 @@ abbrev pub IsRefusedBy : Application → Cause → Type 0
 IsRefusedBy app cause = ((index : ℕ) × IsDeadHook app index × (cause ≡ NoDart index)) ⊎ Ends app (Some cause)
 
 module _ (app : Application) (suits : Suits app.rule app.map) where
+  found_ends : (told : Option Cause) (place : Placement) → IsFound app place → IsFoundEnd app place told → Ends app told
+  found_ends told place found end = record { place = place; darts = found.darts; candidate = found.candidate; is_end = Fits told found.steps found.distinct end }
+
   pub refused_by : (cause : Cause) → IsRefused app cause → IsRefusedBy app cause
   refused_by _ (NoHookDart index d at dead before) = inl (index, record { dart = d; named = at; dead = dead; before = before }, refl)
   refused_by _ (BrokenStep place x p i darts candidate first) = inr (record { place = place; darts = darts; candidate = candidate; is_end = Breaks x p i first })
   refused_by _ (Repeated place x p y q darts candidate steps first) = inr (record { place = place; darts = darts; candidate = candidate; is_end = Repeats x p y q steps first })
-  refused_by _ (ValuelessPre place tree found is none) = none_some tree (sym suits.no_pre ∙ is)
-  refused_by _ (FalsePre place tree found is value) = none_some tree (sym suits.no_pre ∙ is)
-  refused_by _ (NoRoom place live found pre counted full) = inr (record { place = place; darts = found.darts; candidate = found.candidate; is_end = Fits live _ found.steps found.distinct counted (OverDarts full) })
-  refused_by _ (NoNames place live found pre counted fits full) = inr (record { place = place; darts = found.darts; candidate = found.candidate; is_end = Fits live _ found.steps found.distinct counted (OverNames fits full) })
-  refused_by _ (Valueless place live alpha decider ready unfolded first) = absurd (no_embed app.rule app.map suits decider.embed first.here.embed first.here.embed_at)
+  refused_by _ (ValuelessPre place tree found is none) = inr (found_ends _ place found (Valueless tree is none))
+  refused_by _ (FalsePre place tree found is false_there) = inr (found_ends _ place found (Untrue tree is false_there))
+  refused_by _ (NoRoom place live found pre counted full) = inr (found_ends _ place found (Full live _ pre counted (OverDarts full)))
+  refused_by _ (NoNames place live found pre counted fits full) = inr (found_ends _ place found (Full live _ pre counted (OverNames fits full)))
+  refused_by _ (causes.Valueless place live alpha decider ready unfolded first) =
+      inr (found_ends _ place ready.found (Readies _ ready (Lacks (record { live = live; alpha = alpha; next = app.map.next + more app place }) decider unfolded first)))
 
   pub done_ends : (after : Map) (added removed : ℕ) → IsDone app after added removed → Ends app None
-  done_ends after added removed done = record {
-    place = done.place;
-    darts = done.ready.found.darts;
-    candidate = done.ready.found.candidate;
-    is_end = Fits done.ready.live None done.ready.found.steps done.ready.found.distinct done.ready.live_is (HasBoth done.ready.darts_fit done.ready.names_fit);
-  }
-
-  pub candidates_like : (place other : Placement) → IsCandidate app.map app.rule app.hooks place → IsCandidate app.map app.rule app.hooks other → IsLike app.rule place other
-  candidates_like place other ours theirs = candidates_agree app.map app.rule app.hooks suits.in_range suits.incidence place other ours theirs
+  done_ends after added removed done =
+      found_ends None done.place done.ready.found
+      (Readies None done.ready (HasAll (record { live = after.live; alpha = after.alpha; next = after.next }) done.result_is.unfolded (result_has_all app suits done.place done.ready.found after done.result_is)))
 
   pub ends_once : (told other : Option Cause) → Ends app told → Ends app other → told ≡ other
   ends_once told other ours theirs =
-      one_end app theirs.place told other
-      (end_like app suits ours.place theirs.place (candidates_like ours.place theirs.place ours.candidate theirs.candidate) (candidates_like theirs.place ours.place theirs.candidate ours.candidate) told ours.is_end)
+      one_end app suits theirs.place told other
+      (end_like app suits ours.place theirs.place ours.candidate ours.darts theirs.candidate told ours.is_end)
       theirs.is_end
 
   -- where a hook names no live dart, there is no candidate

@@ -1,8 +1,8 @@
 pub mod Told
 pub mod AlikeLemmas
 pub mod AlikeMatches
-pub mod AlikeScenes
 pub mod AlikeWork
+pub mod ReadyEnds
 pub mod Endings
 pub mod OneOutcome
 pub mod Splitting

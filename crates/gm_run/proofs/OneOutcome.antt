@@ -1,42 +1,33 @@
 -- An application has one outcome and one budget, over maps that are alike, and leaves maps that are alike.
-use Rattle.std.proofs.Common.{◌≡◌, ℕ, ◌*◌, ◌≤◌, ◌↔◌, List, [], None, refl, sym, ap, ap₂, subst, ◌∙◌}
+use Rattle.std.proofs.Common.{◌≡◌, ℕ, ◌*◌, ◌≤◌, ◌↔◌, List, None, refl, sym, ap, ap₂, subst, ◌∙◌}
 use Rattle.gm_model.specs.declared.schema.Schema.{Schema}
 use Rattle.gm_model.specs.declared.value.Value.{Value}
-use Rattle.gm_model.specs.Applications.{Application, IsDone, IsBudget}
-use Rattle.gm_model.specs.Maps.{Map, IsDart, IsEmbedAt, IsGeneralised, dimension}
-use Rattle.gm_model.specs.Matches.{IsCandidate}
+use Rattle.gm_model.specs.Applications.{Application, IsDone, IsResult, IsBudget}
+use Rattle.gm_model.specs.Maps.{Map, IsDart, dimension}
+use Rattle.gm_model.specs.Matches.{IsCandidate, IsMatch}
 use Rattle.gm_model.specs.Rules.{Rule}
 use Rattle.gm_model.specs.Runs.{Outcome, Done, Refused, IsOutcome}
-use Rattle.gm_model.specs.Structure.{IsInRange, HasIncidence}
 use Rattle.gm_model.specs.Unfolding.{IsGone, IsUnfolding, scene_of, added_nodes}
 use Rattle.gm_apply.proofs.Counting.{count_same}
+use Rattle.gm_apply.proofs.LikeApplications.{gone_there}
+use Rattle.gm_apply.proofs.LikePlaces.{AreLikeAt, candidates_like, places_back}
+use Rattle.gm_apply.proofs.LikeScenes.{unfolding_there}
+use Rattle.gm_apply.proofs.LikeValues.{result_there}
+use Rattle.gm_theory.specs.Values.{KeepsWellEmbedded}
+use Rattle.gm_theory.proofs.ValuesKept.{found_match, rules_keep_well_embedded_maps}
 use Rattle.gm_theory.specs.OneMatch.{IsLike}
 use Rattle.gm_theory.proofs.ValuesUnique.{one_count}
 use Rattle.gm_run.specs.Alike.{AreAlike}
-use Rattle.gm_run.proofs.AlikeLemmas.{Suits, suits_too, no_embed, alike_back}
+use Rattle.gm_run.proofs.AlikeLemmas.{Suits, suits_too, alike_at, alike_back}
 use Rattle.gm_run.proofs.AlikeMatches.{candidate_there}
-use Rattle.gm_run.proofs.AlikeScenes.{gone_like, unfolding_there, unfolding_like}
 use Rattle.gm_run.proofs.AlikeWork.{ends_there, refused_there, budget_there}
-use Rattle.gm_run.proofs.Endings.{candidates_like, refused_by, done_ends, one_cause, done_or_refused}
+use Rattle.gm_run.proofs.Endings.{refused_by, done_ends, one_cause, done_or_refused}
 
-module _ (schema : Schema) (rule : Rule) (no_embeds : schema.embeds ≡ []) (no_pre : rule.pre ≡ None) (in_range : IsInRange schema rule) (incidence : HasIncidence schema.dim rule) (hooks : List ℕ) (params : List Value) where
+module _ (rule : Rule) (hooks : List ℕ) (params : List Value) where
   abbrev pub app_at : Map → Application
   app_at map = record { map = map; rule = rule; hooks = hooks; params = params }
 
-  -- the rule suits each generalised map of its schema
-  suits_at : (map : Map) → map.schema ≡ schema → IsGeneralised map → Suits rule map
-  suits_at map is_schema generalised = record {
-    generalised = generalised;
-    in_range = subst (λ s. IsInRange s rule) (sym is_schema) in_range;
-    incidence = subst (λ (s : Schema). HasIncidence s.dim rule) (sym is_schema) incidence;
-    no_embeds = ap (λ (s : Schema). s.embeds) is_schema ∙ no_embeds;
-    no_pre = no_pre;
-  }
-
-  module _ (a b : Map) (is_schema : b.schema ≡ schema) (generalised : IsGeneralised b) (alike : AreAlike a b) where
-    ours : Suits rule b
-    ours = suits_at b is_schema generalised
-
+  module _ (a b : Map) (ours : Suits rule b) (alike : AreAlike a b) where
     theirs : Suits rule a
     theirs = suits_too rule b a (alike_back a b alike) ours
 
@@ -46,27 +37,34 @@ module _ (schema : Schema) (rule : Rule) (no_embeds : schema.embeds ≡ []) (no_
       candidate = candidate_there rule hooks params a b theirs alike first.place first.ready.found.candidate first.ready.found.darts
 
       like : IsLike rule first.place second.place
-      like = candidates_like (app_at b) ours first.place second.place candidate second.ready.found.candidate
+      like = candidates_like (app_at b) ours.accepted.in_range ours.accepted.incidence first.place second.place candidate second.ready.found.candidate
 
-      back : IsLike rule second.place first.place
-      back = candidates_like (app_at b) ours second.place first.place second.ready.found.candidate candidate
+      both : AreLikeAt rule a b first.place second.place
+      both = alike_at rule a b alike theirs first.place second.place like (found_match (app_at a) first.place theirs.sound.generalised theirs.accepted first.ready.found).embedded.live
 
       unfolded : IsUnfolding (scene_of b rule second.place) (IsDart after) after.alpha after.next
-      unfolded =
-          unfolding_like b rule hooks ours.in_range ours.incidence first.place second.place like back (IsDart after) after.alpha after.next
-          (unfolding_there rule first.place a b alike (IsDart after) after.alpha after.next first.result_is.unfolded)
+      unfolded = unfolding_there rule a b first.place second.place both (IsDart after) after.alpha after.next first.result_is.unfolded
 
       same_added : added ≡ added'
       same_added = first.added_is ∙ ap (λ n. n * added_nodes rule) like.positions ∙ sym second.added_is
 
       same_removed : removed ≡ removed'
-      same_removed = one_count (IsGone (scene_of b rule second.place)) removed removed' (count_same (IsGone (scene_of b rule first.place)) (IsGone (scene_of b rule second.place)) removed there first.removed_is) second.removed_is
+      same_removed = one_count (IsGone (scene_of b rule second.place)) removed removed' (count_same (IsGone (scene_of a rule first.place)) (IsGone (scene_of b rule second.place)) removed there first.removed_is) second.removed_is
         where
-          there : (d : ℕ) → IsGone (scene_of b rule first.place) d ↔ IsGone (scene_of b rule second.place) d
-          there d = (gone_like b rule hooks ours.in_range ours.incidence first.place second.place like d, gone_like b rule hooks ours.in_range ours.incidence second.place first.place back d)
+          there : (d : ℕ) → IsGone (scene_of a rule first.place) d ↔ IsGone (scene_of b rule second.place) d
+          there d = (gone_there rule a b first.place second.place both d, gone_there rule b a second.place first.place (places_back rule a b first.place second.place both) d)
 
       same_schema : after.schema ≡ b.schema
       same_schema = first.result_is.schema ∙ alike.schema
+
+      matched : IsMatch a rule hooks first.place
+      matched = found_match (app_at a) first.place theirs.sound.generalised theirs.accepted first.ready.found
+
+      there : IsResult (app_at b) second.place after
+      there = result_there rule hooks params a b first.place second.place both theirs.of_schema matched after first.result_is
+
+      kept : KeepsWellEmbedded (app_at b) second.place
+      kept = rules_keep_well_embedded_maps (app_at b) second.place ours.of_schema ours.sound.is_map ours.sound.generalised ours.sound.embedded ours.accepted (found_match (app_at b) second.place ours.sound.generalised ours.accepted second.ready.found)
 
       results_alike : AreAlike after after'
       results_alike = record {
@@ -78,7 +76,7 @@ module _ (schema : Schema) (rule : Rule) (no_embeds : schema.embeds ≡ []) (no_
               let low : i ≤ dimension b = subst (λ (s : Schema). i ≤ s.dim) same_schema h in
               sym ((second.result_is.unfolded.arcs d i (after.alpha i d) low).1 ((unfolded.arcs d i (after.alpha i d) low).0 (live, refl))).1;
         };
-        values = λ e d embed at live. absurd (no_embed rule b ours e embed (subst (λ (s : Schema). IsEmbedAt s e embed) same_schema at));
+        values = λ e d embed at live. kept.determined after after' there second.result_is e d embed at live;
       }
 
     -- two outcomes are one, and leave maps that are alike

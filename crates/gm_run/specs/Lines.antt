@@ -7,7 +7,7 @@ use Rattle.gm_apply.specs.declared.refusal.Refusal.TheVariants as refusals
 use Rattle.gm_run.specs.declared.outcome.Outcome.{Outcome}
 use Rattle.gm_run.specs.declared.outcome.Outcome.TheVariants as outcomes
 
--- Want of memory is no cause, and no line of a report is refused for it.
+-- Want of memory is no cause. What stands for it here is the cause of no application, since no instance comes before itself.
 abbrev pub cause_of : Refusal → Cause
 cause_of (refusals.NoDart index) = causes.NoDart index
 cause_of (refusals.Arc x p i) = causes.Arc x p i
@@ -17,7 +17,7 @@ cause_of refusals.PreFalse = causes.PreFalse
 cause_of (refusals.FullDarts live more) = causes.FullDarts live more
 cause_of (refusals.FullNames next more) = causes.FullNames next more
 cause_of (refusals.NoValue e x) = causes.NoValue e x
-cause_of refusals.OutOfMemory = causes.PreNoValue
+cause_of refusals.OutOfMemory = causes.Same 0 0 0 0
 
 abbrev pub outcome_of : Outcome → runs.Outcome
 outcome_of (outcomes.Done applied) = runs.Done applied.added applied.removed

@@ -1,5 +1,5 @@
 -- What a run needs, and how far it has come.
-use Rattle.std.specs.Prelude.{◌≡◌, ◌≢◌, ℕ, ◌+◌, ◌≤◌, All, List, [], ◌∷◌, map, take, length, None, Some, slice_get}
+use Rattle.std.specs.Prelude.{◌≡◌, ◌≢◌, ℕ, ◌+◌, ◌≤◌, All, List, [], ◌∷◌, map, take, length, Some, slice_get}
 use Rattle.gm_model.specs.declared.schema.Schema.{Schema}
 use Rattle.gm_model.specs.declared.script.Line.{Line}
 use Rattle.gm_model.specs.Maps.{Map}
@@ -18,18 +18,12 @@ use Rattle.gm_run.specs.Lines.{outcome_of}
 abbrev pub rules_of : List PlanOf → List Rule
 rules_of plans = map (λ (plan : PlanOf). rule_of plan.table) plans
 
--- the plan is for maps of the schema, which has no embeddings, and its rule has no precondition
-pub record IsPlanFor (schema : Schema) (plan : PlanOf) : Type 0 where
-  pub same : schema ≡ plan.schema
-  pub no_embeds : plan.schema.embeds ≡ []
-  pub no_pre : (rule_of plan.table).pre ≡ None
+-- the plan is for maps of the schema
+abbrev pub IsPlanFor : Schema → PlanOf → Type 0
+IsPlanFor schema plan = schema ≡ plan.schema
 
 abbrev pub ArePlansFor : Schema → List PlanOf → Type 0
 ArePlansFor schema plans = All (IsPlanFor schema) plans
-
--- the line names a rule, and has a name for each of its hooks
-abbrev pub Agrees : List Rule → Line → Type 0
-Agrees rules line = (rule : Rule) × (slice_get rules line.rule ≡ Some rule) × (length line.hooks ≡ length rule.hooks)
 
 -- ---- how far it has come
 

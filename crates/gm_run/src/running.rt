@@ -1,21 +1,22 @@
 //! A run: the lines of a script, one after another.
 ghost use Rattle.std.specs.Prelude.{◌≡◌, ◌≢◌, ℕ, ◌+◌, ◌≤◌, All, IfOk, IfErr, List, MatchResult, map};
-ghost use Rattle.gm_model.specs.Maps.{Map, IsGeneralised, IsDart};
+ghost use Rattle.gm_model.specs.Maps.{Map, IsDart, IsSound};
 ghost use Rattle.gm_model.specs.Orbits.{HasCount};
 ghost use Rattle.gm_model.specs.Runs.{IsRun, IsRunBudget, changed_darts};
 ghost use Rattle.gm_model.specs.Runs as runs;
 ghost use Rattle.gm_apply.specs.declared.refusal.Refusal.TheVariants as refusals;
 ghost use Rattle.gm_arena.specs.ArenaAsMap.{as_map};
+ghost use Rattle.gm_theory.specs.Outcomes.{IsGoodLine};
 ghost use Rattle.gm_run.specs.Alike.{AreAlike};
 ghost use Rattle.gm_run.specs.declared.outcome.Outcome.TheVariants as outcomes;
 ghost use Rattle.gm_run.specs.Lines.{outcome_of};
 ghost use Rattle.gm_run.specs.Printing.{CanBePrinted};
-ghost use Rattle.gm_run.specs.Progress.{rules_of, ArePlansFor, Agrees, IsDecided, HasLine, HasRun, IsCutShort, IsStopped};
+ghost use Rattle.gm_run.specs.Progress.{rules_of, ArePlansFor, IsDecided, HasLine, HasRun, IsCutShort, IsStopped};
 
 use crate::outcome::{Outcome, Report};
 use gm_apply::{Refusal, apply};
 use gm_arena::{Arena, Steps};
-use gm_model::{Items, Line, OutOfMemory, Script};
+use gm_model::{Items, Line, MOST_DARTS, OutOfMemory, Script};
 use gm_plan::Plan;
 use gm_walk::Scratch;
 use std::alloc::Global;
@@ -24,7 +25,7 @@ use std::sync::ledger::Ledger;
 /// Applies each line to the map that the line before it left. A line that is refused leaves the
 /// map, and the next is applied to it.
 ///
-/// The arena is a generalised map again, whatever the answer is. Where memory was wanting, it has
+/// The arena has a sound map again, whatever the answer is. Where memory was wanting, it has
 /// the map after some of the lines, the first ones, and none was applied in part. No outcome is a
 /// refusal for want of memory.
 ///
@@ -37,9 +38,9 @@ pub fn run<L: Ledger>(
     arena: &mut Arena,
     steps: &mut Steps<L>,
 ) -> Result<Report, OutOfMemory>
-    requires generalised { IsGeneralised (as_map arena.old) }
+    requires sound { IsSound (as_map arena.old) }
     requires plans { ArePlansFor arena.old.schema plans.now }
-    requires lines { All (Agrees (rules_of plans.now)) script.now.lines }
+    requires lines { All (IsGoodLine (rules_of plans.now)) script.now.lines }
     ensures run { IfOk result (λ report. IsRun (rules_of plans.now) (as_map arena.old) script.now.lines (map outcome_of report.lines) (as_map arena.new)) }
     ensures decided { IfOk result (λ report. All IsDecided report.lines) }
     ensures only { IfOk result (λ report. (outcomes : List runs.Outcome) (after : Map) → IsRun (rules_of plans.now) (as_map arena.old) script.now.lines outcomes after → (outcomes ≡ map outcome_of report.lines) × AreAlike after (as_map arena.new)) }
@@ -50,7 +51,7 @@ pub fn run<L: Ledger>(
     ensures next { IfOk result (λ report. report.next ≡ arena.new.next) }
     ensures printable { IfOk result (λ report. CanBePrinted arena.old.schema (rules_of plans.now) script.now.lines report.lines) }
     ensures cut { IfErr result (λ _. IsCutShort (rules_of plans.now) (as_map arena.old) script.now.lines (as_map arena.new) steps.old steps.new) }
-    ensures generalised { IsGeneralised (as_map arena.new) }
+    ensures sound { IsSound (as_map arena.new) }
     ensures schema { arena.new.schema ≡ arena.old.schema }
     ensures spare_stays { arena.old.count + arena.old.spare ≤ arena.new.count + arena.new.spare }
     ensures reserved_stays { arena.old.reserved ≤ arena.new.reserved }
@@ -70,13 +71,13 @@ fn line_outcomes<L: Ledger>(
     arena: &mut Arena,
     steps: &mut Steps<L>,
 ) -> Result<Vec<Outcome>, OutOfMemory>
-    requires generalised { IsGeneralised (as_map arena.old) }
+    requires sound { IsSound (as_map arena.old) }
     requires plans { ArePlansFor arena.old.schema plans.now }
-    requires lines { All (Agrees (rules_of plans.now)) lines.now }
+    requires lines { All (IsGoodLine (rules_of plans.now)) lines.now }
     ensures run { MatchResult result
         (λ outcomes. HasRun (rules_of plans.now) (as_map arena.old) lines.now outcomes.items (as_map arena.new) steps.old steps.new)
         (λ _. IsCutShort (rules_of plans.now) (as_map arena.old) lines.now (as_map arena.new) steps.old steps.new) }
-    ensures generalised { IsGeneralised (as_map arena.new) }
+    ensures sound { IsSound (as_map arena.new) }
     ensures schema { arena.new.schema ≡ arena.old.schema }
     ensures spare_stays { arena.old.count + arena.old.spare ≤ arena.new.count + arena.new.spare }
     ensures reserved_stays { arena.old.reserved ≤ arena.new.reserved }
@@ -99,13 +100,13 @@ fn line_outcome<L: Ledger>(
     scratch: &mut Scratch,
     steps: &mut Steps<L>,
 ) -> Result<Outcome, OutOfMemory>
-    requires generalised { IsGeneralised (as_map arena.old) }
+    requires sound { IsSound (as_map arena.old) }
     requires plans { ArePlansFor arena.old.schema plans.now }
-    requires agrees { Agrees (rules_of plans.now) line.now }
+    requires good { IsGoodLine (rules_of plans.now) line.now }
     ensures line { MatchResult result
         (λ outcome. HasLine (rules_of plans.now) (as_map arena.old) line.now outcome (as_map arena.new) steps.old steps.new)
         (λ _. IsStopped (rules_of plans.now) (as_map arena.old) line.now (as_map arena.new) steps.old steps.new) }
-    ensures generalised { IsGeneralised (as_map arena.new) }
+    ensures sound { IsSound (as_map arena.new) }
     ensures schema { arena.new.schema ≡ arena.old.schema }
     ensures spare_stays { arena.old.count + arena.old.spare ≤ arena.new.count + arena.new.spare }
     ensures reserved_stays { arena.old.reserved ≤ arena.new.reserved }
@@ -113,8 +114,10 @@ fn line_outcome<L: Ledger>(
     let plan = &plans[line.rule as usize];
     let hooks = line.hooks.as_slice();
     let params = line.params.as_slice();
-    // From this call it is known that a plan's rule is accepted: so the line has one outcome.
+    // From these calls it is known that a plan's rule is accepted and what an arena keeps: so the
+    // line has one outcome.
     prove!(plan.rule().hooks.as_slice().len() == hooks.len());
+    prove!(arena.count() <= MOST_DARTS);
     match apply(alloc, plan, arena, hooks, params, scratch, steps) {
         Ok(applied) => Ok(Outcome::Done(applied)),
         Err(refusal) => refused(refusal),

@@ -1,5 +1,5 @@
 //! Schemas without embeddings, and rules without expressions.
-ghost use Rattle.std.specs.Prelude.{◌≡◌, ◌==◌, [], All, None, IsTrue, IfOk, length};
+ghost use Rattle.std.specs.Prelude.{◌≡◌, ◌==◌, ◌≤◌, [], All, None, IsTrue, IfOk, length};
 ghost use Rattle.std.specs.List.{list_all};
 ghost use Rattle.gm_model.specs.declared.rule.Node.{Node};
 ghost use Rattle.gm_model.specs.Kinds.{IsTyped};
@@ -107,11 +107,15 @@ fn has_no_sets(nodes: &[Node]) -> bool
 
 /// Whether the rule can be compiled, and has no expressions.
 pub fn is_fit(schema: &Schema, rule: &RuleTable) -> bool
+    ensures embeds { IsTrue result → length schema.now.embeds ≤ 8 }
     ensures limits { IsTrue result → IsWithinLimits (rule_of rule.now) }
     ensures range { IsTrue result → IsInRange schema.now (rule_of rule.now) }
     ensures typed { IsTrue result → IsTyped schema.now (rule_of rule.now) }
     ensures no_sets { IsTrue result → All (λ (node : RuleNode). node.sets ≡ []) (rule_of rule.now).nodes }
     ensures no_pre { IsTrue result → (rule_of rule.now).pre ≡ None }
 {
-    rule.is_within_limits() && rule.is_in_range(schema) && is_bare(schema, rule)
+    schema.embeds.as_slice().len() <= 8
+        && rule.is_within_limits()
+        && rule.is_in_range(schema)
+        && is_bare(schema, rule)
 }

@@ -16,3 +16,4 @@ pub mod Script
 pub mod FirstFault
 pub mod OneForm
 pub mod OneScript
+pub mod GoodParams

@@ -1,7 +1,8 @@
 //! What holds of the texts of scripts, whoever reads them.
-ghost use Rattle.std.specs.Prelude.{◌≡◌, ℕ, List};
+ghost use Rattle.std.specs.Prelude.{◌≡◌, ℕ, List, Some, slice_get};
 ghost use Rattle.gm_model.specs.declared.limit.LimitKind.{LimitKind};
 ghost use Rattle.gm_model.specs.declared.script.Line.{Line};
+ghost use Rattle.gm_model.specs.Kinds.{AreGoodParams};
 ghost use Rattle.gm_model.specs.Rules.{Rule};
 ghost use Rattle.gm_script.specs.ScriptText.{ScriptText, StandsForNoScript, IsTextFault, IsLimitFault, Disagreement, IsFirstDisagreement};
 
@@ -21,4 +22,11 @@ pub fn one_first_fault_at_most()
     ensures no_script_at_text { (text : List ℕ) (rules : List Rule) (place : ℕ) → IsTextFault text place → StandsForNoScript text rules }
     ensures no_script_at_limit { (text : List ℕ) (rules : List Rule) (what : LimitKind) (place : ℕ) → IsLimitFault text what place → StandsForNoScript text rules }
     ensures no_script_at_disagreement { (text : List ℕ) (rules : List Rule) (fault : Disagreement) → IsFirstDisagreement text rules fault → StandsForNoScript text rules }
+{}
+
+/// Each line of a script that a text stands for has one value for each parameter of its rule, of
+/// the parameter's kind and in its range.
+pub fn values_fit_their_parameters()
+    ensures { (text : List ℕ) (rules : List Rule) (lines : List Line) (k : ℕ) (line : Line) (rule : Rule) → ScriptText text rules lines →
+        slice_get lines k ≡ Some line → slice_get rules line.rule ≡ Some rule → AreGoodParams rule line.params }
 {}

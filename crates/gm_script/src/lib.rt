@@ -13,4 +13,4 @@ mod values;
 
 pub use comparing::read_script;
 pub use fault::ScriptFault;
-pub use laws::{one_first_fault_at_most, one_script_at_most};
+pub use laws::{one_first_fault_at_most, one_script_at_most, values_fit_their_parameters};

@@ -61,18 +61,12 @@ const SEW: RuleRow = RuleRow {
     right_links: &[(0, 2, 1)],
 };
 
-/// Whether the rule is in range, and has no parameters and no expressions.
+/// Whether the rule is in range, and has no expressions.
 fn is_printable(schema: &Schema, rule: &RuleTable) -> bool
     ensures numbers { IsTrue result → NamesItsNodes (rule_of rule.now) }
     ensures plain { IsTrue result → IsPlain (rule_of rule.now) }
 {
-    has_no_params(rule) && is_fit(schema, rule)
-}
-
-fn has_no_params(rule: &RuleTable) -> bool
-    ensures { IsTrue result → rule.now.params ≡ [] }
-{
-    rule.params.as_slice().is_empty()
+    is_fit(schema, rule)
 }
 
 fn book(rt: &impl Abort, alloc: Global) -> Result<Book, Fail>

@@ -1,11 +1,10 @@
 //! Applications in dimensions 1 and 2: done, refused for want of room, and in a full map.
-ghost use Rattle.std.specs.Prelude.{◌≡◌, ◌<◌, [], None, IsTrue};
-ghost use Rattle.gm_model.specs.Rules.{rule_of};
+ghost use Rattle.std.specs.Prelude.{◌≡◌, ◌<◌, [], IsTrue};
 
 use gm_apply::{Applied, Refusal, apply};
 use gm_arena::{Arena, Steps};
 use gm_laws::check_map;
-use gm_model::{RuleTable, Schema};
+use gm_model::{MOST_DARTS, RuleTable, Schema};
 use gm_plan::{Plan, compile};
 use gm_sample::{RuleRow, SQUARE, free_darts, is_fit, map_of, rule, schema};
 use gm_walk::Scratch;
@@ -93,11 +92,12 @@ fn answer_of<L: Ledger>(
     arena: &mut Arena,
     hooks: &[u32],
     steps: &mut Steps<L>,
-) -> Result<Result<Applied, Refusal>, Fail>
-    requires no_pre { (rule_of plan.now.table).pre ≡ None }
-{
+) -> Result<Result<Applied, Refusal>, Fail> {
     assert!(rt; are_same(arena.schema(), plan.schema()));
     assert!(rt; hooks.len() == plan.hooks() as usize);
+    assert!(rt; plan.rule().params.as_slice().len() == 0);
+    // The arena tells here what it holds.
+    prove!(arena.count() <= MOST_DARTS);
     let Ok(()) = check_map(alloc, arena, steps) else {
         return Err("a map".into());
     };

@@ -9,7 +9,7 @@ ghost use Rattle.gm_pending.specs.EditLists.{AreEditsOf};
 ghost use Rattle.gm_pending.specs.Results.{pending_of};
 
 use gm_arena::{Arena, Steps};
-use gm_model::{RuleTable, Schema};
+use gm_model::{MOST_DARTS, RuleTable, Schema};
 use gm_pending::{At, Edits, Pending};
 use gm_plan::{Instances, Plan, compile};
 use gm_sample::{RuleRow, is_fit, rule, schema};
@@ -53,6 +53,8 @@ fn edits_of<'a, L: Ledger>(
     requires one { found.now.positions ≡ 1 }
     ensures { IfOk result (λ edits. AreEditsOf (pending_of arena.now plan.now.table found.now) edits) }
 {
+    // The arena tells here what it holds.
+    prove!(arena.count() <= MOST_DARTS);
     let pending = Pending::build(row.alloc, plan, arena, found, steps)?;
     let top = plan.schema().dim.top();
     for node in 0..plan.rule().node_count() {

@@ -26,6 +26,24 @@ const ROLLED: &str =
 
 const EDGE_AND_DART: &str = "gmap 1\ndim 2\ndarts 3\n0 1 0 0\n1 0 1 1\n2 2 2 2\n";
 
+/// The square with a colour on its face.
+const PAINTED: &str =
+    "gmap 1\ndim 2\nembed paint <0 1> rgb\ndarts 8\n0 1 7 0 (10 20 30)\n1 0 2 1 (10 20 30)\n2 3 1 2 (10 20 30)\n3 2 4 3 (10 20 30)\n4 5 3 4 (10 20 30)\n5 4 6 5 (10 20 30)\n6 7 5 6 (10 20 30)\n7 6 0 7 (10 20 30)\n";
+
+/// Triangulated, it has the colour on each of its faces.
+const TRIANGULATED_PAINTED: &str =
+    "gmap 1\ndim 2\nembed paint <0 1> rgb\ndarts 24\n0 1 8 0 (10 20 30)\n1 0 9 1 (10 20 30)\n2 3 11 2 (10 20 30)\n3 2 13 3 (10 20 30)\n4 5 15 4 (10 20 30)\n5 4 14 5 (10 20 30)\n6 7 12 6 (10 20 30)\n7 6 10 7 (10 20 30)\n8 16 0 10 (10 20 30)\n9 17 1 11 (10 20 30)\n10 18 7 8 (10 20 30)\n11 19 2 9 (10 20 30)\n12 20 6 14 (10 20 30)\n13 21 3 15 (10 20 30)\n14 22 5 12 (10 20 30)\n15 23 4 13 (10 20 30)\n16 8 17 18 (10 20 30)\n17 9 16 19 (10 20 30)\n18 10 20 16 (10 20 30)\n19 11 21 17 (10 20 30)\n20 12 18 22 (10 20 30)\n21 13 19 23 (10 20 30)\n22 14 23 20 (10 20 30)\n23 15 22 21 (10 20 30)\n";
+
+const PAINTED_T: &str =
+    "book 1 dim 2 embed paint <0 1> rgb rule T left a <0 1> hook right a <0 _> b <_ 2> c <1 2> a -1- b b -0- c";
+
+/// Two edges that are sewn, with a point at each end.
+const SEWN_EDGES: &str =
+    "gmap 1 dim 2 embed pos <1 2> vec2 darts 4 0 1 0 2 (0 0) 1 0 1 3 (4 0) 2 3 2 0 (0 0) 3 2 3 1 (4 0)";
+
+const UNSEW: &str =
+    "book 1 dim 2 embed pos <1 2> vec2 rule unsew left a <0> hook b <0> a -2- b right a <0> b <0> a -2- a b -2- b";
+
 const DONE: &str = "1 T done added 16 removed 0\napplied 1 refused 0 darts 24 next 24\n";
 
 fn files(alloc: Global, map: &str, book: &str, script: &str) -> Result<MemStore, Fail> {
@@ -181,6 +199,54 @@ fn scripts_run(rt: HostRuntime) -> Result<(), Fail> {
     run_each(&rt, &rt, &RUNS)
 }
 
+/// Rules over embeddings, which keep values and give them to new darts.
+const RUNS_OVER_EMBEDDINGS: [Run; 4] = [
+    // The new darts have the colour of the face that is triangulated.
+    Run {
+        texts: [PAINTED, PAINTED_T, "apply T 0"],
+        status: 0,
+        put: DONE,
+        saved: Some(TRIANGULATED_PAINTED),
+    },
+    // The darts of the new vertex have the number of the edge that is split, and not of the other.
+    Run {
+        texts: [
+            "gmap 1 dim 1 embed w <0> int darts 4 0 1 0 5 1 0 2 5 2 3 1 -7 3 2 3 -7",
+            "book 1 dim 1 embed w <0> int rule split left a <0> hook right a <_> b <1> a -0- b",
+            "apply split 2",
+        ],
+        status: 0,
+        put: "1 split done added 2 removed 0\napplied 1 refused 0 darts 6 next 6\n",
+        saved: Some(
+            "gmap 1\ndim 1\nembed w <0> int\ndarts 6\n0 1 0 5\n1 0 2 5\n2 4 1 -7\n3 5 3 -7\n4 2 5 -7\n5 3 4 -7\n",
+        ),
+    },
+    // Each end keeps its point where its vertex falls apart.
+    Run {
+        texts: [SEWN_EDGES, UNSEW, "apply unsew 0 apply unsew 0"],
+        status: 1,
+        put: "1 unsew done added 0 removed 0\n2 unsew refused no-match same a 0 b 0\napplied 1 refused 1 darts 4 next 4\n",
+        saved: Some(
+            "gmap 1\ndim 2\nembed pos <1 2> vec2\ndarts 4\n0 1 0 0 (0 0)\n1 0 1 1 (4 0)\n2 3 2 2 (0 0)\n3 2 3 3 (4 0)\n",
+        ),
+    },
+    Run {
+        texts: [
+            "gmap 1 dim 1 embed v <0> int darts 1 0 0 0 5",
+            "book 1 dim 1 embed v <0> int rule drop left a <0 1> hook right",
+            "apply drop 0",
+        ],
+        status: 0,
+        put: "1 drop done added 0 removed 1\napplied 1 refused 0 darts 0 next 1\n",
+        saved: Some("gmap 1\ndim 1\nembed v <0> int\ndarts 0\n"),
+    },
+];
+
+#[test]
+fn scripts_run_over_embeddings(rt: HostRuntime) -> Result<(), Fail> {
+    run_each(&rt, &rt, &RUNS_OVER_EMBEDDINGS)
+}
+
 const NO_RUNS: [Run; 13] = [
     Run {
         texts: ["gmap 1 dim 2 darts 1", "", ""],
@@ -236,12 +302,12 @@ const NO_RUNS: [Run; 13] = [
     },
     Run {
         texts: [
-            "gmap 1 dim 1 embed v <0> int darts 1 0 0 0 5",
-            "book 1 dim 1 embed v <0> int rule drop left a <0 1> hook right",
+            "gmap 1 dim 2 embed pos <1 2> vec3 darts 0",
+            "book 2 dim 2 embed pos <1 2> vec3 rule sew left a <0> hook b <0> hook a -2- a b -2- b right a <0> b <0> a -2- b",
             "",
         ],
         status: 4,
-        put: "refused BOOK rule drop not-built\n",
+        put: "refused BOOK rule sew merge pos a b\n",
         saved: None,
     },
     Run {

@@ -1,6 +1,5 @@
 -- The canonical text of the map in an arena stands for it, and what is told of it is put.
-use Rattle.std.proofs.Common.{◌≡◌, ℕ, true, false, List, [], get_or, Option, Some, None, is_some, refl, sym, ap, subst, ◌∙◌}
-use Rattle.std.specs.Prelude.{slice_get}
+use Rattle.std.proofs.Common.{◌≡◌, ℕ, true, false, List, get_or, Option, Some, None, is_some, refl, sym, ap, subst, ◌∙◌}
 use Rattle.std.specs.List.{AllByRecursion}
 use Rattle.std.specs.FinMap.{get, keys}
 use Rattle.std.proofs.lemmas.List.{get_or_default}
@@ -8,7 +7,6 @@ use Rattle.std.proofs.lemmas.List.Elements.{recursion_from_All}
 use Rattle.gm_arena.specs.ArenaAsMap.{as_map}
 use Rattle.gm_arena.specs.ArenaMap.{ArenaMap, Dart}
 use Rattle.gm_arena.specs.Lawful.{IsLawful}
-use Rattle.gm_arena.proofs.ArenaIsMap.{is_map}
 use Rattle.gm_mapfile.proofs.Printable.{arena_printed}
 use Rattle.gm_mapfile.proofs.Printed.{nobody, dart_at-is, dart_at_place}
 use Rattle.gm_mapfile.proofs.SoundRows.{same_map}
@@ -18,8 +16,7 @@ use Rattle.gm_mapfile.specs.Printing.{renumbered}
 use Rattle.gm_mapfile.specs.Rows.{darts_of, listed_of, dart_at}
 use Rattle.gm_mapfile.specs.declared.version.MapVersion.{MapVersion}
 use Rattle.gm_mapfile.specs.declared.version.MapVersion.TheVariants as versions
-use Rattle.gm_model.specs.declared.schema.Embed.{Embed}
-use Rattle.gm_model.specs.Maps.{IsGeneralised, IsSound}
+use Rattle.gm_model.specs.Maps.{IsSound}
 use Rattle.gm_text.specs.SchemaPrinting.{AreParts}
 use Rattle.gm_tool.specs.Answer.{Cells, Counted, IsOutput, TellsCells}
 use Rattle.gm_tool.specs.MadeRuns.{IsMapBytes}
@@ -38,17 +35,6 @@ darts_whole m lawful = recursion_from_All (IsWhole m.schema) (darts_of m) (λ k 
     whole : (name : ℕ) (o : Option Dart) → get m.darts name ≡ o → is_some (get m.darts name) ≡ true → IsWhole m.schema (dart_at m name)
     whole name None is live = let none : false ≡ true = sym (ap is_some is) ∙ live in absurd cc
     whole name (Some dart) is live = let lawful_dart = lawful.dart name dart is in subst (IsWhole m.schema) (sym (dart_at-is m name dart is)) (lawful_dart.whole, lawful_dart.valued.kinds)
-
--- a generalised map without embeddings is sound
-pub bare_sound : (m : ArenaMap) → IsLawful m → m.schema.embeds ≡ [] → IsGeneralised (as_map m) → IsSound (as_map m)
-bare_sound m lawful bare gmap = record {
-  is_map = is_map m lawful;
-  generalised = gmap;
-  embedded = λ e embed at. absurd (none e embed (rw bare at at));
-}
-  where
-    none : (e : ℕ) (embed : Embed) → slice_get {X = Embed} [] e ≡ Some embed → ⊥
-    none e embed h = absurd cc
 
 -- the canonical text in either version stands for the map, whose next name the first version tells by the names
 pub text_of_arena : (version : MapVersion) (m : ArenaMap) → IsLawful m → AreParts m.schema.embeds → IsSound (as_map m) → IsMapBytes (canonical version (listed_of m))

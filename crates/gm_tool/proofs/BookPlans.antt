@@ -9,7 +9,7 @@ use Rattle.std.proofs.lemmas.List.Elements.{All-from_recursion, recursion_from_A
 use Rattle.std.proofs.lemmas.Option.{slice_get-map, slice_get-get_or}
 use Rattle.gm_model.specs.declared.rule.RuleTable.{RuleTable}
 use Rattle.gm_model.specs.declared.schema.Schema.{Schema}
-use Rattle.gm_tool.specs.Runnable.{IsRunnable}
+use Rattle.gm_model.specs.Acceptance.{IsAccepted}
 use Rattle.gm_model.specs.Rules.{Rule, rule_of}
 use Rattle.gm_plan.specs.Plans.{PlanOf, plan_of}
 use Rattle.gm_lines.specs.Refusing.{TheBook}
@@ -20,9 +20,9 @@ use Rattle.gm_tool.specs.declared.refusal.NoText.TheVariants as nothing
 use Rattle.gm_tool.specs.declared.refusal.Stop.{Stop}
 use Rattle.gm_tool.specs.declared.refusal.Stop.TheVariants as stops
 
--- the first rules can be run
-abbrev pub AreRunnable : Schema → List RuleTable → ℕ → Type 0
-AreRunnable schema tables k = (j : ℕ) (table : RuleTable) → j < k → slice_get tables j ≡ Some table → IsRunnable schema (rule_of table)
+-- the first rules are accepted
+abbrev pub AreAccepted : Schema → List RuleTable → ℕ → Type 0
+AreAccepted schema tables k = (j : ℕ) (table : RuleTable) → j < k → slice_get tables j ≡ Some table → IsAccepted schema (rule_of table)
 
 some_same : {A : Type 0} (x y : A) → Some x ≡ Some y → x ≡ y
 some_same x y e = cc e
@@ -37,34 +37,34 @@ module _ (schema : Schema) (tables : List RuleTable) where
   here_at : (k : ℕ) (table : RuleTable) → k < length tables → table ≡ get_or tables k table → slice_get tables k ≡ Some table
   here_at k table within at = slice_get-get_or tables k table within ∙ ap (λ t. Some t) (sym at)
 
-  pub runnable_with : (k : ℕ) (table : RuleTable) → k < length tables → table ≡ get_or tables k table → AreRunnable schema tables k → IsRunnable schema (rule_of table) → AreRunnable schema tables (k + 1)
-  runnable_with k table within at before here j other below there =
+  pub accepted_with : (k : ℕ) (table : RuleTable) → k < length tables → table ≡ get_or tables k table → AreAccepted schema tables k → IsAccepted schema (rule_of table) → AreAccepted schema tables (k + 1)
+  accepted_with k table within at before here j other below there =
       elim (cases_order j k) [
-        | inl same ↦ subst (λ t. IsRunnable schema (rule_of t)) (some_same table other (sym (here_at k table within at) ∙ (ap (slice_get tables) (sym same) ∙ there))) here
+        | inl same ↦ subst (λ t. IsAccepted schema (rule_of t)) (some_same table other (sym (here_at k table within at) ∙ (ap (slice_get tables) (sym same) ∙ there))) here
         | inr (inl less) ↦ before j other less there
         | inr (inr more) ↦ absurd (omega (arith, more, below))
       ]
 
-  -- all rules can be run
-  pub all_runnable : (k : ℕ) → length tables ≤ k → AreRunnable schema tables k → All (IsRunnable schema) (map rule_of tables)
-  all_runnable k all h = All-from_recursion (IsRunnable schema) (map rule_of tables) (each tables (recursion_from_All (λ (t : RuleTable). IsRunnable schema (rule_of t)) tables (λ j d within.
+  -- all rules are accepted
+  pub all_accepted : (k : ℕ) → length tables ≤ k → AreAccepted schema tables k → All (IsAccepted schema) (map rule_of tables)
+  all_accepted k all h = All-from_recursion (IsAccepted schema) (map rule_of tables) (each tables (recursion_from_All (λ (t : RuleTable). IsAccepted schema (rule_of t)) tables (λ j d within.
       h j (get_or tables j d) (omega (arith, within, all)) (slice_get-get_or tables j d within))))
     where
-      each : (ts : List RuleTable) → AllByRecursion (λ (t : RuleTable). IsRunnable schema (rule_of t)) ts → AllByRecursion (IsRunnable schema) (map rule_of ts)
+      each : (ts : List RuleTable) → AllByRecursion (λ (t : RuleTable). IsAccepted schema (rule_of t)) ts → AllByRecursion (IsAccepted schema) (map rule_of ts)
       each [] p = tt
       each (t ∷ ts) p = (p.0, each ts p.1)
 
   -- the first rule that isn't
-  pub first_refused : (k : ℕ) (table : RuleTable) (stop : Stop) → k < length tables → table ≡ get_or tables k table → AreRunnable schema tables k → IsRuleStop schema (rule_of table) stop
+  pub first_refused : (k : ℕ) (table : RuleTable) (stop : Stop) → k < length tables → table ≡ get_or tables k table → AreAccepted schema tables k → IsRuleStop schema (rule_of table) stop
       → IsBadFor TheBook (IsFirstRefused schema (map rule_of tables)) stop
   first_refused k table (stops.Bad line) within at before (why, says, text) = (why, first, text)
     where
-      earlier : (j : ℕ) (rule : Rule) → j < k → slice_get (map rule_of tables) j ≡ Some rule → IsRunnable schema rule
+      earlier : (j : ℕ) (rule : Rule) → j < k → slice_get (map rule_of tables) j ≡ Some rule → IsAccepted schema rule
       earlier j rule below there = go (slice_get tables j) refl
         where
-          go : (o : Option RuleTable) → slice_get tables j ≡ o → IsRunnable schema rule
+          go : (o : Option RuleTable) → slice_get tables j ≡ o → IsAccepted schema rule
           go None none = let e : None ≡ Some rule = sym (slice_get-map rule_of tables j ∙ ap (option_map rule_of) none) ∙ there in absurd cc
-          go (Some other) some = subst (IsRunnable schema) (some_same (rule_of other) rule (sym (slice_get-map rule_of tables j ∙ ap (option_map rule_of) some) ∙ there)) (before j other below some)
+          go (Some other) some = subst (IsAccepted schema) (some_same (rule_of other) rule (sym (slice_get-map rule_of tables j ∙ ap (option_map rule_of) some) ∙ there)) (before j other below some)
 
       first : IsFirstRefused schema (map rule_of tables) why
       first = record {

@@ -1,8 +1,8 @@
 -- The plans of a book that was read and the lines of its script are those that a run takes, and what a run answers is the run of what was read.
-use Rattle.std.proofs.Common.{◌≡◌, ℕ, List, [], ◌∷◌, inl, inr, Some, None, Result, Ok, Err, length, map, All, refl, sym, ap, subst, ◌∙◌, arith}
-use Rattle.std.specs.Prelude.{slice_get, IfOk, IfErr}
+use Rattle.std.proofs.Common.{◌≡◌, ℕ, List, [], ◌∷◌, inl, inr, Result, Ok, Err, length, map, All, refl, sym, ap, subst, ◌∙◌}
+use Rattle.std.specs.Prelude.{IfOk, IfErr}
 use Rattle.std.specs.List.{AllByRecursion}
-use Rattle.std.proofs.lemmas.List.Elements.{All-from_recursion, recursion_from_All}
+use Rattle.std.proofs.lemmas.List.Elements.{All-from_recursion}
 use Rattle.gm_arena.specs.ArenaAsMap.{as_map}
 use Rattle.gm_arena.specs.ArenaMap.{ArenaMap}
 use Rattle.gm_arena.specs.Lawful.{IsLawful}
@@ -14,7 +14,7 @@ use Rattle.gm_model.specs.declared.rule.RuleTable.{RuleTable}
 use Rattle.gm_model.specs.declared.schema.Schema.{Schema}
 use Rattle.gm_model.specs.declared.script.Line.{Line}
 use Rattle.gm_model.specs.declared.script.Script.{Script}
-use Rattle.gm_model.specs.Maps.{Map, IsGeneralised, IsSound}
+use Rattle.gm_model.specs.Maps.{IsSound}
 use Rattle.gm_mapfile.specs.MapText.{map_of, canonical}
 use Rattle.gm_mapfile.specs.declared.version.MapVersion.{MapVersion}
 use Rattle.gm_model.specs.Reports.{report_text}
@@ -22,12 +22,13 @@ use Rattle.gm_model.specs.Rules.{Rule, rule_of}
 use Rattle.gm_model.specs.Runs.{Outcome, IsRun}
 use Rattle.gm_model.specs.Runs as runs
 use Rattle.gm_text.specs.SchemaPrinting.{AreParts}
-use Rattle.gm_tool.specs.Runnable.{IsRunnable}
-use Rattle.gm_script.specs.ScriptText.{LineForm, AreLines, IsLine}
+use Rattle.gm_script.specs.ScriptText.{LineForm, AreLines, ScriptText}
+use Rattle.gm_script.proofs.GoodParams.{HasGoodParams, script_params_good}
+use Rattle.gm_theory.specs.Outcomes.{IsGoodLine}
 use Rattle.gm_plan.specs.Plans.{PlanOf, plan_of}
 use Rattle.gm_run.specs.declared.outcome.Outcome as answers
 use Rattle.gm_run.specs.Printing.{CanBePrinted}
-use Rattle.gm_run.specs.Progress.{IsPlanFor, ArePlansFor, Agrees, rules_of}
+use Rattle.gm_run.specs.Progress.{IsPlanFor, ArePlansFor, rules_of}
 use Rattle.gm_tool.specs.MadeRuns.{CanRun, inputs_of, IsFitted, IsPrinted, IsRunOf, IsMapBytes, IsRunStatus}
 use Rattle.gm_tool.specs.Stops.{IsSoundStop}
 use Rattle.gm_tool.specs.declared.refusal.Refusal.TheVariants as refusals
@@ -37,7 +38,7 @@ use Rattle.gm_tool.specs.declared.refusal.Stop.{Stop}
 use Rattle.gm_tool.specs.declared.refusal.Stop.TheVariants as stops
 use Rattle.gm_tool.specs.declared.running.Made.{Made}
 use Rattle.gm_mapfile.proofs.SoundRows.{same_map}
-use Rattle.gm_tool.proofs.ArenaMaps.{bare_sound, darts_whole, text_of_arena}
+use Rattle.gm_tool.proofs.ArenaMaps.{darts_whole, text_of_arena}
 
 -- a run is done with status 0 or 1
 status_is : (outcomes : List Outcome) → IsRunStatus (run_status outcomes)
@@ -49,6 +50,17 @@ rules_planned : (schema : Schema) (tables : List RuleTable) → rules_of (map (p
 rules_planned schema [] = refl
 rules_planned schema (table ∷ tables) = ap (λ rules. rule_of table ∷ rules) (rules_planned schema tables)
 
+-- the lines of a script that was read are good
+pub good_lines : (rules : List Rule) (text : List ℕ) (lines : List Line) → ScriptText text rules lines → AllByRecursion (IsGoodLine rules) lines
+good_lines rules text lines script = each script.forms lines script.same (script_params_good rules text lines script)
+  where
+    each : (forms : List LineForm) (ls : List Line) → AreLines rules forms ls → AllByRecursion (HasGoodParams rules) ls → AllByRecursion (IsGoodLine rules) ls
+    each [] [] h good = tt
+    each [] (line ∷ ls) h good = absurd h
+    each (form ∷ forms) [] h good = absurd h
+    each (form ∷ forms) (line ∷ ls) h good =
+        (record { rule = h.0.rule; rule_is = h.0.named.there; hooks = ap length h.0.hooks ∙ h.0.count; params = good.0 h.0.rule h.0.named.there }, each forms ls h.1 good.1)
+
 module _ (m : ArenaMap) (book : Book) (script : Script) (plans : List PlanOf) (can : CanRun m book script plans) where
   pub same_rules : rules_of plans ≡ map rule_of book.rules
   same_rules = ap rules_of can.plans_are ∙ rules_planned book.schema book.rules
@@ -57,23 +69,15 @@ module _ (m : ArenaMap) (book : Book) (script : Script) (plans : List PlanOf) (c
 
   pub plans_fit : ArePlansFor m.schema plans
   plans_fit = subst (All (IsPlanFor m.schema)) (sym can.plans_are)
-      (All-from_recursion (IsPlanFor m.schema) (map (plan_of book.schema) book.rules) (each book.rules (recursion_from_All (λ (table : RuleTable). (rule_of table).pre ≡ None) book.rules can.plain) (recursion_from_All (IsRunnable book.schema) (map rule_of book.rules) can.runnable)))
+      (All-from_recursion (IsPlanFor m.schema) (map (plan_of book.schema) book.rules) (each book.rules))
     where
-      each : (tables : List RuleTable) → AllByRecursion (λ (table : RuleTable). (rule_of table).pre ≡ None) tables → AllByRecursion (IsRunnable book.schema) (map rule_of tables) → AllByRecursion (IsPlanFor m.schema) (map (plan_of book.schema) tables)
-      each [] h runs = tt
-      each (table ∷ tables) h runs = (record { same = can.agree; no_embeds = runs.0.bare; no_pre = h.0 }, each tables h.1 runs.1)
+      each : (tables : List RuleTable) → AllByRecursion (IsPlanFor m.schema) (map (plan_of book.schema) tables)
+      each [] = tt
+      each (table ∷ tables) = (can.agree, each tables)
 
-  line_fits : (form : LineForm) (line : Line) → IsLine (map rule_of book.rules) form line → Agrees (rules_of plans) line
-  line_fits form line h = (h.rule, ap (λ rules. slice_get rules line.rule) same_rules ∙ h.named.there, ap length h.hooks ∙ h.count)
-
-  pub lines_fit : All (Agrees (rules_of plans)) script.lines
-  lines_fit = All-from_recursion (Agrees (rules_of plans)) script.lines (each can.lines.forms script.lines can.lines.same)
-    where
-      each : (forms : List LineForm) (lines : List Line) → AreLines (map rule_of book.rules) forms lines → AllByRecursion (Agrees (rules_of plans)) lines
-      each [] [] h = tt
-      each [] (line ∷ lines) h = absurd h
-      each (form ∷ forms) [] h = absurd h
-      each (form ∷ forms) (line ∷ lines) h = (line_fits form line h.0, each forms lines h.1)
+  pub lines_fit : All (IsGoodLine (rules_of plans)) script.lines
+  lines_fit = All-from_recursion (IsGoodLine (rules_of plans)) script.lines
+      (subst (λ rules. AllByRecursion (IsGoodLine rules) script.lines) (sym same_rules) (good_lines (map rule_of book.rules) can.text script.lines can.lines))
 
   pub printable : (outcomes : List answers.Outcome) → CanBePrinted m.schema (rules_of plans) script.lines outcomes → CanBePrinted book.schema (map rule_of book.rules) script.lines outcomes
   printable outcomes h = subst (λ rules. CanBePrinted book.schema rules script.lines outcomes) same_rules (subst (λ schema. CanBePrinted schema (rules_of plans) script.lines outcomes) can.agree h)
@@ -120,40 +124,6 @@ module _ (m : ArenaMap) (book : Book) (script : Script) (plans : List PlanOf) (c
 
 -- ---- the map that is left
 
--- a script without rules has no lines
-none_lines : (forms : List LineForm) (lines : List Line) → AreLines [] forms lines → lines ≡ []
-none_lines [] [] h = refl
-none_lines [] (line ∷ lines) h = absurd h
-none_lines (form ∷ forms) [] h = absurd h
-none_lines (form ∷ forms) (line ∷ lines) h = absurd (none_some h.0.rule h.0.named.there)
-  where
-    none_some : (rule : Rule) → slice_get {X = Rule} [] line.rule ≡ Some rule → ⊥
-    none_some rule e = absurd cc
-
--- and a run of none leaves the map
-pub none_run : (rules : List Rule) (before : Map) (lines : List Line) (outcomes : List Outcome) (after : Map) → lines ≡ [] → IsRun rules before lines outcomes after → (outcomes ≡ []) × (after ≡ before)
-none_run rules before lines outcomes after none run = go outcomes (subst (λ ls. IsRun rules before ls outcomes after) none run)
-  where
-    go : (os : List Outcome) → IsRun rules before [] os after → (os ≡ []) × (after ≡ before)
-    go [] h = (refl, h)
-    go (o ∷ os) h = absurd h
-
-pub unruled_lines : (rules : List Rule) (forms : List LineForm) (lines : List Line) → rules ≡ [] → AreLines rules forms lines → lines ≡ []
-unruled_lines rules forms lines none are = none_lines forms lines (subst (λ rs. AreLines rs forms lines) none are)
-
-module _ (m : ArenaMap) (book : Book) (script : Script) (plans : List PlanOf) (can : CanRun m book script plans) (after : ArenaMap) (lawful : IsLawful after) (same : after.schema ≡ m.schema) (gmap : IsGeneralised (as_map after))
-    (outcomes : List Outcome) (run : IsRun (rules_of plans) (as_map m) script.lines outcomes (as_map after)) where
-  -- no rule was there to apply, or no embedding to be kept
-  pub left_sound : IsSound (as_map after)
-  left_sound = go (map rule_of book.rules) refl
-    where
-      go : (rules : List Rule) → map rule_of book.rules ≡ rules → IsSound (as_map after)
-      go [] none = subst IsSound (sym (none_run (rules_of plans) (as_map m) script.lines outcomes (as_map after) (unruled_lines (map rule_of book.rules) can.lines.forms script.lines none can.lines.same) run).1) can.sound
-      go (rule ∷ rules) some =
-          let all : All (IsRunnable book.schema) (rule ∷ rules) = subst (All (IsRunnable book.schema)) some can.runnable in
-          let bare : book.schema.embeds ≡ [] = (all 0 rule (omega arith)).bare in
-          bare_sound after lawful (ap (λ (schema : Schema). schema.embeds) (same ∙ can.agree) ∙ bare) gmap
-
 -- the text of a map that is printed stands for it
 pub map_made : (version : MapVersion) (m : ArenaMap) (status : ℕ) (report : List ℕ) (result : Result Made Stop) → IsLawful m → AreParts m.schema.embeds → IsSound (as_map m) → IsPrinted status report (canonical version (listed_of m)) result
     → IfOk result (λ made. IsMapBytes made.map.items)
@@ -180,5 +150,5 @@ run_is_sound inputs (Err (stops.NoText (nothing.Refused refusals.Save))) P (ran,
 run_is_sound inputs (Err (stops.NoText (nothing.Refused (refusals.Load role)))) P (ran, is, (e, long)) = absurd cc
 
 pub run_is_done : (inputs : Inputs) (result : Result Made Stop) → IsRunOf inputs result → IfOk result (λ made. IsRunStatus made.status)
-run_is_done inputs (Ok made) (ran, is, fits) = subst IsRunStatus (sym fits.0) (status_is ran.outcomes)
-run_is_done inputs (Err stop) h = tt
+run_is_done _ (Ok made) (ran, is, fits) = subst IsRunStatus (sym fits.0) (status_is ran.outcomes)
+run_is_done _ (Err stop) h = tt

@@ -4,7 +4,7 @@ use Rattle.std.specs.Prelude.{IfSome, IfOk}
 use Rattle.gm_host.specs.Store.{Contents}
 use Rattle.gm_mapfile.specs.declared.reading.MapRead.{MapRead}
 use Rattle.gm_model.specs.declared.rule.Book.{Book}
-use Rattle.gm_tool.specs.Runnable.{IsRunnable}
+use Rattle.gm_model.specs.Acceptance.{IsAccepted}
 use Rattle.gm_model.specs.Rules.{rule_of}
 use Rattle.gm_tool.specs.Answer.{Files, answers, HasFile}
 use Rattle.gm_lines.specs.Refusing.{Role, TheMap, TheBook}
@@ -64,7 +64,7 @@ module _ (named : RunNames) (fails : Type 0) (before after : ℕ) where
       refused_here files named.book text book fails (StopsInTime files named fails before after) there is (λ here. (2, BehindBook (known m m.arena.schema []) (bytes, held, read.stands) here, twice)) stop bad
 
   pub behind_script : (contents : Contents) (m : MapRead) (book : Book) (one two : Type 0) (result : Result Made Stop) → after ≡ loads_after 3 before → IsFrom contents TheMap named.map IsReadMap IsBadMap one (Ok m)
-      → IsFrom contents TheBook named.book IsReadBook IsBadBook two (Ok book) → All (IsRunnable book.schema) (map rule_of book.rules) → CountsMade contents result
+      → IsFrom contents TheBook named.book IsReadBook IsBadBook two (Ok book) → All (IsAccepted book.schema) (map rule_of book.rules) → CountsMade contents result
   behind_script None m book one two result thrice f h accepted = tt
   behind_script (Some files) m book one two result thrice (bytes, held, read) (text, there, is) accepted =
       always_made result (StopsInTime files named fails before after) (3, BehindScript (known m book.schema (map rule_of book.rules)) (bytes, held, read.stands) (text, book.version, there, is, accepted), thrice)

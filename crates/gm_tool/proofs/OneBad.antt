@@ -3,9 +3,9 @@ use Rattle.std.proofs.Common.{◌≡◌, ℕ, List, ◌++◌, length, All, refl,
 use Rattle.std.proofs.Math.Path.{ap₂}
 use Rattle.gm_model.specs.declared.schema.Schema.{Schema}
 use Rattle.gm_model.specs.declared.script.Line.{Line}
-use Rattle.gm_tool.specs.Runnable.{IsRunnable}
-use Rattle.gm_book.specs.BookText.{BookText}
-use Rattle.gm_book.specs.BookText as books
+use Rattle.gm_model.specs.Acceptance.{IsAccepted}
+use Rattle.gm_forms.specs.BookText.{BookText}
+use Rattle.gm_forms.specs.BookText as books
 use Rattle.gm_model.specs.Maps.{IsGeneralised}
 use Rattle.gm_mapfile.specs.MapFaults.{fault_words}
 use Rattle.gm_mapfile.specs.MapText.{ListedMap, MapText, map_of, canonical}
@@ -76,7 +76,7 @@ one_bad_book bytes why other (RuleRefused version schema rules a first) (RuleRef
     let same = one_book bytes version version' schema schema' rules rules' a b in
     one_refused schema rules why other first (subst (λ s. IsFirstRefused s rules other) (sym same.1) (subst (λ rs. IsFirstRefused schema' rs other) (sym same.2) first'))
 
-pub no_bad_good_book : (bytes why : List ℕ) (version : ℕ) (schema : Schema) (rules : List Rule) → IsBadBook bytes why → BookText bytes version schema rules → All (IsRunnable schema) rules → ⊥
+pub no_bad_good_book : (bytes why : List ℕ) (version : ℕ) (schema : Schema) (rules : List Rule) → IsBadBook bytes why → BookText bytes version schema rules → All (IsAccepted schema) rules → ⊥
 no_bad_good_book bytes why version schema rules (Unread fault a e) stands accepted = no_book_at bytes fault a version schema rules stands
 no_bad_good_book bytes why version schema rules (RuleRefused version' schema' rules' a first) stands accepted =
     let same = one_book bytes version version' schema schema' rules rules' stands a in

@@ -1,6 +1,6 @@
 -- A run of a script has one answer at most to its files.
 use Rattle.std.proofs.Common.{◌≡◌, ◌⊎◌, ℕ, ◌<◌, ◌≤◌, List, inl, inr, Some, length, codes, sym, subst, ◌∙◌, arith}
-use Rattle.gm_book.specs.BookText.{BookText}
+use Rattle.gm_forms.specs.BookText.{BookText}
 use Rattle.gm_mapfile.specs.MapText.{MapText}
 use Rattle.gm_model.specs.Rules.{Rule}
 use Rattle.gm_book.proofs.OneBook.{one_book}
@@ -65,8 +65,8 @@ module _ (files : Files) (named : RunNames) where
   one_at_end inputs the_map the_book the_script one other (inl (never, e)) (inl (never', f)) = e ∙ sym f
   one_at_end inputs the_map the_book the_script one other (inl (never, e)) (inr (agree, rest)) = absurd (never agree)
   one_at_end inputs the_map the_book the_script one other (inr (agree, rest)) (inl (never, f)) = absurd (never agree)
-  one_at_end inputs the_map (bytes, version, held, stands, runnable) (script, script_held, lines) one other (inr (agree, (ran, is, made))) (inr (agree', (ran', is', made'))) =
-      let same : ran' ≡ ran = one_ran inputs the_map.2.sound bytes version stands runnable script lines agree ran' ran is' is in
+  one_at_end inputs the_map (bytes, version, held, stands, accepted) (script, script_held, lines) one other (inr (agree, (ran, is, made))) (inr (agree', (ran', is', made'))) =
+      let same : ran' ≡ ran = one_ran inputs the_map.0 the_map.2 accepted script lines agree ran' ran is' is in
       one_made inputs ran one other made (subst (λ r. IsMade inputs r other) same made')
 
   -- ---- file by file

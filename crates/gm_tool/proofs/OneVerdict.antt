@@ -1,4 +1,4 @@
--- A rule has one verdict, so the lines of a check are determined, and so is the first rule that can't be run.
+-- A rule has one verdict, so the lines of a check are determined, and so is the first rule that isn't accepted.
 use Rattle.std.proofs.Common.{◌≡◌, ℕ, ◌+◌, List, ◌++◌, inl, inr, Option, Some, None, All, codes, refl, sym, ap, subst, ◌∙◌}
 use Rattle.std.specs.Prelude.{slice_get}
 use Rattle.std.proofs.Math.Path.{ap₂}
@@ -6,12 +6,12 @@ use Rattle.std.proofs.lemmas.Bool.{cases_order}
 use Rattle.std.proofs.lemmas.Option.{slice_get_within, get_or_from_slice_get, same_Some}
 use Rattle.gm_model.specs.declared.rule.RuleFault.{RuleFault}
 use Rattle.gm_model.specs.declared.schema.Schema.{Schema}
+use Rattle.gm_model.specs.Acceptance.{IsAccepted}
 use Rattle.gm_model.specs.Rules.{Rule}
 use Rattle.gm_plan.proofs.OneFault.{one_fault}
 use Rattle.gm_theory.proofs.NoFault.{accepted_no_fault}
 use Rattle.gm_lines.specs.Checking.{IsVerdict, AreLines, NoRules, NextRule, refusals, rule_line, rule_fault_words}
-use Rattle.gm_tool.specs.Runnable.{IsRunnable, IsRuleWhy, Faulty, NotBuilt}
-use Rattle.gm_tool.specs.RunAnswer.{IsFirstRefused}
+use Rattle.gm_tool.specs.RunAnswer.{IsRuleWhy, IsFirstRefused}
 
 -- ---- the lines of a check
 
@@ -28,17 +28,13 @@ one_lines schema _ _ _ _ _ (NextRule rule verdict rules refused lines is rest) (
     let more : (refused ≡ refused') × (lines ≡ lines') = one_lines schema rules refused refused' lines lines' rest rest' in
     (ap₂ (λ (v : Option RuleFault) (n : ℕ). refusals v + n) same more.0, ap₂ (λ (v : Option RuleFault) (t : List ℕ). rule_line schema rule v ++ t) same more.1)
 
--- ---- the first rule that can't be run
+-- ---- the first rule that isn't accepted
 
 one_why : (schema : Schema) (rule : Rule) (why other : List ℕ) → IsRuleWhy schema rule why → IsRuleWhy schema rule other → why ≡ other
-one_why schema rule why other (Faulty fault a e) (Faulty fault' b f) = e ∙ ap (λ (x : RuleFault). codes "rule " ++ rule.name ++ codes " " ++ rule_fault_words schema rule x) (one_fault schema rule fault fault' a b) ∙ sym f
-one_why schema rule why other (Faulty fault a e) (NotBuilt b embeds f) = absurd (accepted_no_fault schema rule fault b a)
-one_why schema rule why other (NotBuilt a embeds e) (Faulty fault b f) = absurd (accepted_no_fault schema rule fault a b)
-one_why schema rule why other (NotBuilt a embeds e) (NotBuilt b embeds' f) = e ∙ sym f
+one_why schema rule why other (fault, a, e) (fault', b, f) = e ∙ ap (λ (x : RuleFault). codes "rule " ++ rule.name ++ codes " " ++ rule_fault_words schema rule x) (one_fault schema rule fault fault' a b) ∙ sym f
 
-none_why : (schema : Schema) (rule : Rule) (why : List ℕ) → IsRunnable schema rule → IsRuleWhy schema rule why → ⊥
-none_why schema rule why runs (Faulty fault a e) = accepted_no_fault schema rule fault runs.accepted a
-none_why schema rule why runs (NotBuilt a embeds e) = embeds runs.bare
+none_why : (schema : Schema) (rule : Rule) (why : List ℕ) → IsAccepted schema rule → IsRuleWhy schema rule why → ⊥
+none_why schema rule why accepted (fault, is, words) = accepted_no_fault schema rule fault accepted is
 
 pub one_refused : (schema : Schema) (rules : List Rule) (why other : List ℕ) → IsFirstRefused schema rules why → IsFirstRefused schema rules other → why ≡ other
 one_refused schema rules why other a b =
@@ -54,5 +50,5 @@ one_refused schema rules why other a b =
 rule_has : (P : Rule → Type 0) (rules : List Rule) (k : ℕ) (rule : Rule) → All P rules → slice_get rules k ≡ Some rule → P rule
 rule_has P rules k rule all at = subst P (get_or_from_slice_get rules k rule rule at) (all k rule (slice_get_within rules k rule at))
 
-pub none_refused : (schema : Schema) (rules : List Rule) (why : List ℕ) → All (IsRunnable schema) rules → IsFirstRefused schema rules why → ⊥
-none_refused schema rules why runnable first = none_why schema first.rule why (rule_has (IsRunnable schema) rules first.place first.rule runnable first.rule_at) first.says
+pub none_refused : (schema : Schema) (rules : List Rule) (why : List ℕ) → All (IsAccepted schema) rules → IsFirstRefused schema rules why → ⊥
+none_refused schema rules why accepted first = none_why schema first.rule why (rule_has (IsAccepted schema) rules first.place first.rule accepted first.rule_at) first.says

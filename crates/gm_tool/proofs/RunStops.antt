@@ -8,7 +8,7 @@ use Rattle.gm_mapfile.specs.declared.reading.MapRead.{MapRead}
 use Rattle.gm_model.specs.declared.rule.Book.{Book}
 use Rattle.gm_model.specs.declared.schema.Schema.{Schema}
 use Rattle.gm_model.specs.declared.script.Script.{Script}
-use Rattle.gm_tool.specs.Runnable.{IsRunnable}
+use Rattle.gm_model.specs.Acceptance.{IsAccepted}
 use Rattle.gm_model.specs.Rules.{Rule, rule_of}
 use Rattle.gm_tool.specs.Answer.{Files, answers, HasFile}
 use Rattle.gm_lines.specs.Refusing.{TheMap, TheBook, TheScript}
@@ -84,7 +84,7 @@ module _ (named : RunNames) (load_fails : ℕ → Type 0) where
   at_rules (Some files) m book one two stop (bytes, held, read) (text, there, is) bad = rule_stop named load_fails files (known m m.arena.schema []) (bytes, held, read.stands) text book there is stop bad
 
   pub at_script : (contents : Contents) (m : MapRead) (book : Book) (one two later : Type 0) (stop : Stop) → (later → load_fails 3) → IsFrom contents TheMap named.map IsReadMap IsBadMap one (Ok m)
-      → IsFrom contents TheBook named.book IsReadBook IsBadBook two (Ok book) → All (IsRunnable book.schema) (map rule_of book.rules)
+      → IsFrom contents TheBook named.book IsReadBook IsBadBook two (Ok book) → All (IsAccepted book.schema) (map rule_of book.rules)
       → IsFrom {A = Script} contents TheScript named.script (IsReadScript (map rule_of book.rules)) (IsBadScript (map rule_of book.rules)) later (Err stop) → IfSome contents (λ files. IsMade files named load_fails (Err stop))
   at_script None m book one two later stop up f g accepted h = tt
   at_script (Some files) m book one two later stop up (bytes, held, read) (text, there, is) accepted h =
@@ -92,7 +92,7 @@ module _ (named : RunNames) (load_fails : ℕ → Type 0) where
 
   -- all three files are read
   module _ (contents : Contents) (m : MapRead) (book : Book) (script : Script) (one two three : Type 0) (the_map : IsFrom contents TheMap named.map IsReadMap IsBadMap one (Ok m))
-      (the_book : IsFrom contents TheBook named.book IsReadBook IsBadBook two (Ok book)) (accepted : All (IsRunnable book.schema) (map rule_of book.rules))
+      (the_book : IsFrom contents TheBook named.book IsReadBook IsBadBook two (Ok book)) (accepted : All (IsAccepted book.schema) (map rule_of book.rules))
       (the_script : IsFrom contents TheScript named.script (IsReadScript (map rule_of book.rules)) (IsBadScript (map rule_of book.rules)) three (Ok script)) where
     pub at_agreement : (Agree (inputs_of m.version m.arena book script) → ⊥) → IfSome contents (λ files. IsMade files named load_fails (Err (stops.NoText (nothing.Refused refusals.Agree))))
     at_agreement no_agreement = go contents the_map the_book the_script

@@ -18,7 +18,7 @@ use Rattle.gm_mapfile.specs.declared.reading.MapRead.{MapRead}
 use Rattle.gm_model.specs.declared.rule.Book.{Book}
 use Rattle.gm_model.specs.declared.schema.Schema.{Schema}
 use Rattle.gm_model.specs.declared.script.Script.{Script}
-use Rattle.gm_tool.specs.Runnable.{IsRunnable}
+use Rattle.gm_model.specs.Acceptance.{IsAccepted}
 use Rattle.gm_model.specs.Maps.{Map, IsDart}
 use Rattle.gm_mapfile.specs.MapText.{DartRow, map_of, names, rows_of}
 use Rattle.gm_mapfile.specs.declared.version.MapVersion.{MapVersion}
@@ -164,7 +164,7 @@ module _ (named : RunNames) where
           let read = within good.the_map.0 good.the_map.1 inputs.version inputs.map good.the_map.2 in
           reading_below ((dim_of inputs + 1) * (dim_of inputs + 1)) (darts_read inputs) (darts_left ran) sum before last (omega (arith, same, read))
 
-  module _ (read : MapRead) (book : Book) (script : Script) (one two three : Type 0) (accepted : All (IsRunnable book.schema) (map rule_of book.rules)) where
+  module _ (read : MapRead) (book : Book) (script : Script) (one two three : Type 0) (accepted : All (IsAccepted book.schema) (map rule_of book.rules)) where
     abbrev read_inputs : Inputs
     read_inputs = inputs_of read.version read.arena book script
 

@@ -1,14 +1,14 @@
 -- Why a file of a run stops it.
-use Rattle.std.proofs.Common.{Bool, true, false, ◌≡◌, ◌⊎◌, ℕ, ◌≤◌, List, ◌++◌, inl, inr, Option, Some, None, Result, Ok, Err, length, refl, sym, ap, subst, ◌∙◌}
+use Rattle.std.proofs.Common.{◌≡◌, ◌⊎◌, ℕ, ◌≤◌, List, ◌++◌, inl, inr, Option, Some, None, Result, Ok, Err, length, refl, sym, ap, subst, ◌∙◌}
 use Rattle.std.specs.Global.{Vec}
-use Rattle.std.specs.Prelude.{◌≢◌, ◌==◌, [], IfOk, IfErr, codes}
+use Rattle.std.specs.Prelude.{IfOk, IfErr, codes}
 use Rattle.gm_book.specs.declared.fault.BookFault.{BookFault}
 use Rattle.gm_book.specs.declared.fault.BookFault.TheVariants as book
 use Rattle.gm_book.specs.Faults as book_faults
 use Rattle.gm_host.specs.Store.{Contents, Lacks, IsHeld, IsLongerThan}
 use Rattle.gm_model.specs.declared.rule.RuleFault.{RuleFault}
 use Rattle.gm_model.specs.declared.schema.Schema.{Schema}
-use Rattle.gm_model.specs.Acceptance.{IsAccepted, IsFault}
+use Rattle.gm_model.specs.Acceptance.{IsFault}
 use Rattle.gm_model.specs.Rules.{Rule}
 use Rattle.gm_script.specs.declared.fault.ScriptFault.{ScriptFault}
 use Rattle.gm_script.specs.declared.fault.ScriptFault.TheVariants as script
@@ -19,13 +19,11 @@ use Rattle.gm_lines.specs.Refusing as refusing
 use Rattle.gm_lines.specs.BookFaults as first_book
 use Rattle.gm_lines.specs.ScriptFaults as first_script
 use Rattle.gm_tool.specs.Books.{IsRuleStop}
-use Rattle.gm_tool.specs.Runnable.{IsRuleWhy}
-use Rattle.gm_tool.specs.Runnable as runnable
 use Rattle.gm_lines.specs.Checking.{rule_fault_words}
 use Rattle.gm_lines.specs.FaultLines.{IsSaidOfBook, IsSaidOfScript, book_words, script_words}
 use Rattle.gm_tool.specs.Refusals.{role_in, refusal_answer}
 use Rattle.gm_tool.specs.Replies.{IsLoading}
-use Rattle.gm_tool.specs.RunAnswer.{IsBadMap, IsBadBook, IsBadScript, Unread, IsFailing, Missing, Long, Bad}
+use Rattle.gm_tool.specs.RunAnswer.{IsRuleWhy, IsBadMap, IsBadBook, IsBadScript, Unread, IsFailing, Missing, Long, Bad}
 use Rattle.gm_tool.specs.Stops.{IsStopWith, IsBadFor, IsRoleStop, IsSoundStop, IsFrom}
 use Rattle.gm_tool.specs.declared.refusal.NoText.{NoText}
 use Rattle.gm_tool.specs.declared.refusal.NoText.TheVariants as nothing
@@ -87,7 +85,7 @@ module _ {E : Type 0} (bytes : List ℕ) (line : Result (Vec ℕ) E) (stop : Sto
 
 -- ---- a rule that isn't accepted
 
--- the line of a rule that has no plan
+-- the line of a rule that isn't accepted
 rule_says : {E : Type 0} (schema : Schema) (rule : Rule) (why : List ℕ) (line : Result (Vec ℕ) E) (stop : Stop) → IsRuleWhy schema rule why
     → IfOk line (λ text. text.items ≡ refusal (codes "BOOK" ++ codes " " ++ why)) → IsStopWith line stop → IsRuleStop schema rule stop
 rule_says {E = E} schema rule why line stop h says is = stopped TheBook (IsRuleWhy schema rule) why line stop (both line says) is
@@ -100,16 +98,7 @@ rule_says {E = E} schema rule why line stop h says is = stopped TheBook (IsRuleW
 pub rule_stopped : {E : Type 0} (schema : Schema) (rule : Rule) (fault : RuleFault) (line : Result (Vec ℕ) E) (stop : Stop) → IsFault schema rule fault
     → IfOk line (λ text. text.items ≡ refusal (codes "BOOK" ++ codes " " ++ (codes "rule " ++ rule.name ++ codes " " ++ rule_fault_words schema rule fault))) → IsStopWith line stop → IsRuleStop schema rule stop
 rule_stopped schema rule fault line stop h says is =
-    rule_says schema rule (codes "rule " ++ rule.name ++ codes " " ++ rule_fault_words schema rule fault) line stop (runnable.Faulty fault h refl) says is
-
-has_some : {A : Type 0} (xs : List A) (empty : Bool) → empty ≡ (length xs == 0) → empty ≡ false → xs ≢ []
-has_some xs empty is e none = absurd (let both : true ≡ false = sym (is ∙ ap (λ ys. length ys == 0) none) ∙ e in cc)
-
-pub rule_not_run : {E : Type 0} (schema : Schema) (rule : Rule) (line : Result (Vec ℕ) E) (stop : Stop) → IsAccepted schema rule
-    → (empty : Bool) → empty ≡ (length schema.embeds == 0) → empty ≡ false
-    → IfOk line (λ text. text.items ≡ refusal (codes "BOOK" ++ codes " " ++ (codes "rule " ++ rule.name ++ codes " not-built"))) → IsStopWith line stop → IsRuleStop schema rule stop
-rule_not_run schema rule line stop accepted empty counted is_false says is =
-    rule_says schema rule (codes "rule " ++ rule.name ++ codes " not-built") line stop (runnable.NotBuilt accepted (has_some schema.embeds empty counted is_false) refl) says is
+    rule_says schema rule (codes "rule " ++ rule.name ++ codes " " ++ rule_fault_words schema rule fault) line stop (fault, h, refl) says is
 
 -- a text that can't be run is no fault of the store
 pub bad_is_sound : (role : refusing.Role) (IsWhy : List ℕ → Type 0) (P : Type 0) (stop : Stop) → IsBadFor role IsWhy stop → IsSoundStop stop P

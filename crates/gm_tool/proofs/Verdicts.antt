@@ -15,6 +15,8 @@ use Rattle.gm_model.specs.Rules.{Rule, rule_of, has_word, is_preserved}
 use Rattle.gm_model.specs.Squares.{HasSquares, IsSquareFault, OpenSquare, IsFirstOpenSquare}
 use Rattle.gm_model.specs.Structure.{HasIncidence, IsIncidenceFault, OfStructure, OfArcs, IsStructureFault, BadHooks, BadHookWord, BadLength, Unconnected, AtNode, IsNodeArcFault, TwiceLeft, TwiceRight, Missing, Differs}
 use Rattle.gm_model.proofs.Nodes.{node_below}
+use Rattle.gm_plan.specs.Refusals.{IsRefusal, Faulty}
+use Rattle.gm_plan.specs.declared.compiler.PlanFault.TheVariants as plans
 use Rattle.gm_tool.specs.Books.{IsCheckable}
 use Rattle.gm_lines.specs.Speaking.{SpeaksOf, IsSayable}
 use Rattle.gm_lines.specs.Checking.{IsVerdict, AreLines, NoRules, NextRule, refusals, rule_line}
@@ -22,6 +24,10 @@ use Rattle.gm_lines.specs.Checking.{IsVerdict, AreLines, NoRules, NextRule, refu
 first_true : (a b : Bool) → (a && b) ≡ true → a ≡ true
 first_true true b e = refl
 first_true false b e = absurd cc
+
+-- the fault for which a rule has no plan is its first
+pub fault_without_plan : (schema : Schema) (rule : Rule) (fault : RuleFault) → IsRefusal schema rule (plans.Rule fault) → IsFault schema rule fault
+fault_without_plan schema rule fault (Faulty _ is) = is
 
 -- ---- what a fault speaks of
 

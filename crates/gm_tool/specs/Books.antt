@@ -5,7 +5,7 @@ use Rattle.gm_model.specs.Maps.{IsSchema}
 use Rattle.gm_model.specs.Rules.{Rule}
 use Rattle.gm_model.specs.Structure.{IsInRange, IsWithinLimits}
 use Rattle.gm_lines.specs.Refusing.{TheBook}
-use Rattle.gm_tool.specs.Runnable.{IsRuleWhy}
+use Rattle.gm_tool.specs.RunAnswer.{IsRuleWhy}
 use Rattle.gm_tool.specs.Stops.{IsBadFor}
 use Rattle.gm_tool.specs.declared.refusal.Stop.{Stop}
 

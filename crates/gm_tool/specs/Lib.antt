@@ -1,5 +1,4 @@
 pub mod Answer
-pub mod Runnable
 pub mod RunAnswer
 pub mod Migrating
 pub mod Program

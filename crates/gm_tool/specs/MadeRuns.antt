@@ -1,5 +1,5 @@
 -- What a run makes of its files before anything is saved, and what is left when the map is saved.
-use Rattle.std.specs.Prelude.{◌≡◌, ◌⊎◌, ℕ, ◌<◌, ◌≤◌, List, ◌++◌, length, map, All, Some, None, Result, Ok, Err, IfSome, codes}
+use Rattle.std.specs.Prelude.{◌≡◌, ◌⊎◌, ℕ, ◌<◌, ◌≤◌, List, ◌++◌, length, map, Some, Result, Ok, Err, IfSome, codes}
 use Rattle.gm_host.specs.Store.{Contents, Lacks}
 use Rattle.gm_host.specs.Count.{counted}
 use Rattle.gm_host.specs.Saves.{IsSaved, IsSavedInPart}
@@ -7,7 +7,6 @@ use Rattle.gm_arena.specs.ArenaAsMap.{as_map}
 use Rattle.gm_arena.specs.ArenaMap.{ArenaMap}
 use Rattle.gm_mapfile.specs.Rows.{listed_of}
 use Rattle.gm_model.specs.declared.rule.Book.{Book}
-use Rattle.gm_model.specs.declared.rule.RuleTable.{RuleTable}
 use Rattle.gm_model.specs.declared.script.Script.{Script}
 use Rattle.gm_model.specs.Maps.{IsSound}
 use Rattle.gm_mapfile.specs.MapText.{ListedMap, MapText, canonical}
@@ -15,7 +14,6 @@ use Rattle.gm_mapfile.specs.declared.version.MapVersion.{MapVersion}
 use Rattle.gm_model.specs.Rules.{rule_of}
 use Rattle.gm_script.specs.ScriptText.{ScriptText}
 use Rattle.gm_text.specs.SchemaPrinting.{AreParts}
-use Rattle.gm_tool.specs.Runnable.{IsRunnable}
 use Rattle.gm_plan.specs.Plans.{PlanOf, plan_of}
 use Rattle.gm_tool.specs.Answer.{most_bytes, Files, Answer, answers}
 use Rattle.gm_lines.specs.Refusing.{refusal, role_word}
@@ -45,9 +43,7 @@ pub record CanRun (m : ArenaMap) (book : Book) (script : Script) (plans : List P
   pub sound : IsSound (as_map m)
   pub parts : AreParts m.schema.embeds
   pub agree : m.schema ≡ book.schema
-  pub runnable : All (IsRunnable book.schema) (map rule_of book.rules)
   pub plans_are : plans ≡ map (plan_of book.schema) book.rules
-  pub plain : All (λ (rule : RuleTable). (rule_of rule).pre ≡ None) book.rules
   pub text : List ℕ
   pub lines : ScriptText text (map rule_of book.rules) script.lines
 

@@ -2,10 +2,11 @@
 use Rattle.std.specs.Prelude.{◌≡◌, ◌⊎◌, ℕ, ◌<◌, ◌≤◌, List, [], ◌∷◌, ◌++◌, length, Some, None, All, codes, slice_get}
 use Rattle.std.specs.List.{AllByRecursion}
 use Rattle.std.specs.List.Sorted.{IsStrictlyIncreasing}
+use Rattle.gm_model.specs.declared.rule.RuleFault.{RuleFault}
 use Rattle.gm_model.specs.declared.schema.Schema.{Schema}
 use Rattle.gm_model.specs.declared.script.Line.{Line}
-use Rattle.gm_tool.specs.Runnable.{IsRunnable, IsRuleWhy}
-use Rattle.gm_book.specs.BookText.{BookText}
+use Rattle.gm_model.specs.Acceptance.{IsAccepted, IsFault}
+use Rattle.gm_forms.specs.BookText.{BookText}
 use Rattle.gm_mapfile.specs.MapReading.{IsWhole}
 use Rattle.gm_mapfile.specs.MapText.{ListedMap, MapText, map_of, canonical, names}
 use Rattle.gm_mapfile.specs.declared.version.MapVersion.{MapVersion}
@@ -17,6 +18,7 @@ use Rattle.gm_script.specs.ScriptText.{ScriptText}
 use Rattle.gm_tool.specs.Answer.{most_bytes, Files, Answer, answers, HasFile}
 use Rattle.gm_lines.specs.Refusing.{Role, TheMap, TheBook, TheScript, role_word, refusal, IsBad}
 use Rattle.gm_lines.specs.BookFaults.{BookTextFault, IsFirstBookFault, book_fault_words}
+use Rattle.gm_lines.specs.Checking.{rule_fault_words}
 use Rattle.gm_lines.specs.ScriptFaults.{ScriptTextFault, IsFirstScriptFault, script_fault_words}
 
 -- the files that are read, and the name under which the map is saved
@@ -37,15 +39,19 @@ pub data IsFailing (files : Files) (role : Role) (name : List ℕ) (IsBadText : 
   Long : (bytes : List ℕ) → files name ≡ Some bytes → most_bytes < length bytes → answer ≡ answers 8 (refusal (codes "size " ++ role_word role)) → IsFailing files role name IsBadText answer
   Bad : (bytes why : List ℕ) → HasFile files name bytes → IsBadText bytes why → answer ≡ answers 4 (refusal (role_word role ++ codes " " ++ why)) → IsFailing files role name IsBadText answer
 
--- the first rule that can't be run, and the words that say so
+-- the words say the first fault of the rule
+abbrev pub IsRuleWhy : Schema → Rule → List ℕ → Type 0
+IsRuleWhy schema rule why = (fault : RuleFault) × IsFault schema rule fault × (why ≡ codes "rule " ++ rule.name ++ codes " " ++ rule_fault_words schema rule fault)
+
+-- the first rule that isn't accepted, and the words that say so
 pub record IsFirstRefused (schema : Schema) (rules : List Rule) (why : List ℕ) : Type 0 where
   pub place : ℕ
   pub rule : Rule
   pub rule_at : slice_get rules place ≡ Some rule
   pub says : IsRuleWhy schema rule why
-  pub before : (k : ℕ) (other : Rule) → k < place → slice_get rules k ≡ Some other → IsRunnable schema other
+  pub before : (k : ℕ) (other : Rule) → k < place → slice_get rules k ≡ Some other → IsAccepted schema other
 
--- the text stands for no book, or for one with a rule that can't be run
+-- the text stands for no book, or for one with a rule that isn't accepted
 pub data IsBadBook (bytes why : List ℕ) : Type 0 where
   Unread : (fault : BookTextFault) → IsFirstBookFault bytes fault → why ≡ book_fault_words fault → IsBadBook bytes why
   RuleRefused : (version : ℕ) (schema : Schema) (rules : List Rule) → BookText bytes version schema rules → IsFirstRefused schema rules why → IsBadBook bytes why
@@ -69,9 +75,9 @@ module _ (files : Files) (named : RunNames) (inputs : Inputs) where
   abbrev pub HasMap : Type 0
   HasMap = (bytes : List ℕ) × HasFile files named.map bytes × MapText bytes inputs.version inputs.map
 
-  -- each rule can be run
+  -- each rule is accepted
   abbrev pub HasBook : Type 0
-  HasBook = (bytes : List ℕ) × (version : ℕ) × HasFile files named.book bytes × BookText bytes version inputs.schema inputs.rules × All (IsRunnable inputs.schema) inputs.rules
+  HasBook = (bytes : List ℕ) × (version : ℕ) × HasFile files named.book bytes × BookText bytes version inputs.schema inputs.rules × All (IsAccepted inputs.schema) inputs.rules
 
   abbrev pub HasScript : Type 0
   HasScript = (bytes : List ℕ) × HasFile files named.script bytes × ScriptText bytes inputs.rules inputs.lines

@@ -1,5 +1,5 @@
 ghost use Rattle.std.specs.Prelude.{◌≡◌, All, IfOk, IfErr, map};
-ghost use Rattle.gm_tool.specs.Runnable.{IsRunnable};
+ghost use Rattle.gm_model.specs.Acceptance.{IsAccepted};
 ghost use Rattle.gm_model.specs.Maps.{IsSchema};
 ghost use Rattle.gm_model.specs.Rules.{rule_of};
 ghost use Rattle.gm_plan.specs.Plans.{plan_of};
@@ -10,13 +10,12 @@ ghost use Rattle.gm_tool.specs.Replies.{IsJudged, IsBookRefusal};
 ghost use Rattle.gm_tool.specs.RunAnswer.{IsBadBook, IsFirstRefused};
 ghost use Rattle.gm_tool.specs.Stops.{IsReadBook, IsBadFor};
 
-use crate::check::first_fault;
 use crate::refusal::{NoText, Stop};
 use crate::reply::{Reply, reply_within_limit};
 use gm_book::{BookFault, print_book, read_book};
-use gm_lines::{book_line, refused_rule_line, rule_not_built_line};
+use gm_lines::{book_line, refused_rule_line};
 use gm_model::{Book, RuleTable, Schema};
-use gm_plan::{Plan, compile};
+use gm_plan::{Plan, PlanFault, compile};
 use std::alloc::Global;
 
 /// The canonical text of the book that a file's text stands for, or the line that refuses it.
@@ -53,11 +52,11 @@ pub fn read(alloc: Global, bytes: &[u8]) -> Result<Book, Stop>
 }
 
 /// The plans of the rules of the book, in order, or the line that refuses the book for its first
-/// rule that isn't accepted, or that isn't run yet.
+/// rule that isn't accepted.
 pub fn plans_of<'b>(alloc: Global, book: &'b Book) -> Result<Vec<Plan<'b>>, Stop>
     requires { All (λ rule. IsCheckable book.now.schema (rule_of rule)) book.now.rules }
     ensures plans { IfOk result (λ plans. plans.items ≡ map (plan_of book.now.schema) book.now.rules) }
-    ensures runnable { IfOk result (λ _. All (IsRunnable book.now.schema) (map rule_of book.now.rules)) }
+    ensures accepted { IfOk result (λ _. All (IsAccepted book.now.schema) (map rule_of book.now.rules)) }
     ensures stop { IfErr result (IsBadFor TheBook (IsFirstRefused book.now.schema (map rule_of book.now.rules))) }
 {
     let mut plans = Vec::new(alloc);
@@ -70,17 +69,14 @@ pub fn plans_of<'b>(alloc: Global, book: &'b Book) -> Result<Vec<Plan<'b>>, Stop
 fn plan_for<'b>(alloc: Global, schema: &'b Schema, rule: &'b RuleTable) -> Result<Plan<'b>, Stop>
     requires { IsCheckable schema.now (rule_of rule.now) }
     ensures plan { IfOk result (λ plan. plan ≡ plan_of schema.now rule.now) }
-    ensures runnable { IfOk result (λ _. IsRunnable schema.now (rule_of rule.now)) }
+    ensures accepted { IfOk result (λ _. IsAccepted schema.now (rule_of rule.now)) }
     ensures stop { IfErr result (IsRuleStop schema.now (rule_of rule.now)) }
 {
-    if let Some(fault) = first_fault(schema, rule) {
-        return Err(Stop::because(refused_rule_line(alloc, schema, rule, fault)));
-    }
-    if !schema.embeds.as_slice().is_empty() {
-        return Err(Stop::because(rule_not_built_line(alloc, rule)));
-    }
     match compile(alloc, schema, rule) {
         Ok(plan) => Ok(plan),
-        Err(_) => Err(Stop::NoText(NoText::OutOfMemory)),
+        Err(PlanFault::Rule(fault)) => {
+            Err(Stop::because(refused_rule_line(alloc, schema, rule, fault)))
+        }
+        Err(PlanFault::OutOfMemory) => Err(Stop::NoText(NoText::OutOfMemory)),
     }
 }

@@ -56,7 +56,7 @@ fn lines_of(
 }
 
 /// The rule's first fault, where it has one.
-pub fn first_fault(schema: &Schema, rule: &RuleTable) -> Option<RuleFault>
+fn first_fault(schema: &Schema, rule: &RuleTable) -> Option<RuleFault>
     requires { IsCheckable schema.now (rule_of rule.now) }
     ensures { IsVerdict schema.now (rule_of rule.now) result }
 {

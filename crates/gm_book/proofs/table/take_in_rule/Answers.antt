@@ -1,9 +1,9 @@
 use Rattle.std.proofs.Common.{◌≡◌, [], map, sym, ap, subst, ◌∙◌}
 use Rattle.std.specs.List.{AllByRecursion}
 use Rattle.gm_model.specs.Names.{IsName}
-use Rattle.gm_book.specs.Forms.{item_of, rule_form_of}
+use Rattle.gm_forms.specs.Forms.{item_of, rule_form_of}
 use Rattle.gm_book.specs.FirstNameFault.{with_items}
-use Rattle.gm_book.specs.Held.{names_held}
+use Rattle.gm_forms.specs.Held.{names_held}
 use Rattle.gm_book.proofs.RuleNames.{rule_names_counted, good_items}
 use Rattle.gm_book.proofs.table.take_in_rule.Goals as goal
 
@@ -25,4 +25,4 @@ returns-clause-good c =
     let text = c.args.text.now in
     let rule = c.args.rule.now in
     subst (AllByRecursion IsName) (sym (all_taken c))
-    (good_items text rule.right.items _ (good_items text rule.left.items [] tt c.requires.within.1) c.requires.within.2)
+    (good_items text rule.right.items _ (good_items text rule.left.items [] tt c.requires.within.2) c.requires.within.3)

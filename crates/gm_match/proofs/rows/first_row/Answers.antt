@@ -31,7 +31,7 @@ loop-index-preserved g c =
     record {
       whole = length-set _ _ _ ∙ i.whole;
       live = All-set (λ (s : Slot). IsLiveSlot c.args.arena.now s.at) c.loop-index.row _ _ (All-get_or (λ (s : Slot). IsLiveSlot c.args.arena.now s.at) c.args.darts.now c.loop-index.index (record { at = 0 }) c.loop-index-test.true c.requires.live) i.live;
-      placed = one_dart c.args.arena.now rule.hooks planned.in_range.hooks_differ c.args.darts.now c.loop-index.row c.loop-index.index _ at within c.loop-index-test.true i.placed;
+      placed = one_dart c.args.arena.now rule.hooks planned.accepted.in_range.hooks_differ c.args.darts.now c.loop-index.row c.loop-index.index _ at within c.loop-index-test.true i.placed;
     }
 
 pub returns-clause-darts : goal.returns-clause-darts

@@ -46,12 +46,12 @@ loop-index-preserved g c =
     record {
       whole = length-set _ _ _ ∙ i.whole;
       live = All-set (λ (s : Slot). IsLiveSlot m s.at) c.loop-index.row hook c.step_hook.result c.step_hook.ensures.live i.live;
-      first = λ h first. other_stays m rule.hooks planned.in_range.hooks_differ c.loop-index.row c.loop-index.index hook at c.step_hook.result 0 h first (λ e. omega (arith, e, c.loop-index.auto.index)) ∙ i.first h first;
+      first = λ h first. other_stays m rule.hooks planned.accepted.in_range.hooks_differ c.loop-index.row c.loop-index.index hook at c.step_hook.result 0 h first (λ e. omega (arith, e, c.loop-index.auto.index)) ∙ i.first h first;
       later = λ t h nodes some less there counts. elim (cases_eq t c.loop-index.index) [
-        | inl same ↦ own_set m rule.hooks planned.in_range.hooks_differ c.loop-index.row c.loop-index.index hook at c.step_hook.result within t h there same
+        | inl same ↦ own_set m rule.hooks planned.accepted.in_range.hooks_differ c.loop-index.row c.loop-index.index hook at c.step_hook.result within t h there same
             ∙ c.step_hook.ensures.stepped nodes counts
             ∙ ap (stepped m rule nodes c.args.slots.now c.args.turn) (one_hook rule.hooks c.loop-index.index t hook h at there same)
-        | inr apart ↦ other_stays m rule.hooks planned.in_range.hooks_differ c.loop-index.row c.loop-index.index hook at c.step_hook.result t h there apart ∙ i.later t h nodes some (omega (arith, less, apart)) there counts
+        | inr apart ↦ other_stays m rule.hooks planned.accepted.in_range.hooks_differ c.loop-index.row c.loop-index.index hook at c.step_hook.result t h there apart ∙ i.later t h nodes some (omega (arith, less, apart)) there counts
       ];
       cost = omega (arith, i.cost, c.step_hook.ensures.cost);
     }

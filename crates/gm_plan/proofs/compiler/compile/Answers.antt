@@ -1,5 +1,5 @@
 use Rattle.std.proofs.lemmas.Result.{err_from_is_err_and}
-use Rattle.gm_model.specs.Acceptance.{Incidence, Cycle}
+use Rattle.gm_model.specs.Acceptance.{Incidence, Cycle, Embedding}
 use Rattle.gm_plan.specs.Refusals.{Faulty, NoMemory}
 use Rattle.gm_plan.proofs.compiler.compile.Goals as goal
 
@@ -13,7 +13,16 @@ returns-in_err-check-2 c =
     let p = err_from_is_err_and c.from_residual-in_err-check-2.result c.from_residual-in_err-check-2.ensures.1 in
     rw (p.1, p.2) (Faulty _ (Cycle c.in_ok-check.ensures c.in_err-check-2.ensures))
 
+pub returns-in_err-check-3 : goal.returns-in_err-check-3
+returns-in_err-check-3 c =
+    let p = err_from_is_err_and c.from_residual-in_err-check-3.result c.from_residual-in_err-check-3.ensures.1 in
+    rw (p.1, p.2) (Faulty _ (Embedding c.in_ok-check.ensures c.in_ok-check-2.ensures c.in_err-check-3.ensures))
+
 pub returns-in_err-new : goal.returns-in_err-new
 returns-in_err-new c =
     let p = err_from_is_err_and c.from_residual-in_err-new.result c.from_residual-in_err-new.ensures.1 in
-    rw (p.1, p.2) (NoMemory (record { in_range = c.requires.in_range; within = c.requires.within; typed = c.requires.typed; incidence = c.in_ok-check.ensures; squares = c.in_ok-check-2.ensures }))
+    rw (p.1, p.2)
+    (NoMemory (record {
+      accepted = record { in_range = c.requires.in_range; typed = c.requires.typed; incidence = c.in_ok-check.ensures; squares = c.in_ok-check-2.ensures; sources = c.in_ok-check-3.ensures };
+      within = c.requires.within;
+    }))

@@ -5,7 +5,7 @@ use Rattle.gm_plan.proofs.Search.{search_starts}
 use Rattle.gm_plan.proofs.paths.least_paths.Goals as goal
 
 pub loop-done-init : goal.loop-done-init
-loop-done-init c = rw c.new.ensures.items (search_starts _ (rule_of c.args.rule.now).hooks _ c.requires.planned.in_range.hooks_differ (rw c.as_slice.ensures at c.hook_ranks.ensures))
+loop-done-init c = rw c.new.ensures.items (search_starts _ (rule_of c.args.rule.now).hooks _ c.requires.planned.accepted.in_range.hooks_differ (rw c.as_slice.ensures at c.hook_ranks.ensures))
 
 pub follow_rank-requires-clause-steps : goal.follow_rank-requires-clause-steps
 follow_rank-requires-clause-steps c = labels_below c.args.schema.now _ c.requires.planned (omega arith) _ c.requires.rows _ (omega arith)

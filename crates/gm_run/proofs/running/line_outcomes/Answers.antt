@@ -2,12 +2,13 @@ use Rattle.std.proofs.Common.{◌+◌, length, take, ap, sym, subst, ◌∙◌, 
 use Rattle.std.proofs.lemmas.List.{length_push}
 use Rattle.std.proofs.lemmas.Result.{err_from_is_err_and}
 use Rattle.gm_arena.specs.ArenaAsMap.{as_map}
-use Rattle.gm_run.specs.Progress.{rules_of, Agrees, HasRun}
+use Rattle.gm_theory.specs.Outcomes.{IsGoodLine}
+use Rattle.gm_run.specs.Progress.{rules_of, HasRun}
 use Rattle.gm_run.proofs.Advancing.{line_more, cut_first, cut_at}
 use Rattle.gm_run.proofs.running.line_outcomes.Goals as goal
 
-pub line_outcome-requires-clause-agrees : goal.line_outcome-requires-clause-agrees
-line_outcome-requires-clause-agrees g c = subst (Agrees (rules_of c.args.plans.now)) (sym c.line-item.is) (c.requires.lines c.loop-line.line-index c.line-item.result c.loop-line-test.true)
+pub line_outcome-requires-clause-good : goal.line_outcome-requires-clause-good
+line_outcome-requires-clause-good g c = subst (IsGoodLine (rules_of c.args.plans.now)) (sym c.line-item.is) (c.requires.lines c.loop-line.line-index c.line-item.result c.loop-line-test.true)
 
 pub returns-in_err-outcomes-clause-run : goal.returns-in_err-outcomes-clause-run
 returns-in_err-outcomes-clause-run g c =
@@ -28,7 +29,7 @@ loop-line-preserved g c =
     let room = before.capacity in
     let same = c.push_reserved.ensures.capacity in
     record {
-      generalised = c.in_ok-outcome.ensures.generalised;
+      sound = c.in_ok-outcome.ensures.sound;
       schema = c.in_ok-outcome.ensures.schema ∙ before.schema;
       spare = let more = c.in_ok-outcome.ensures.spare_stays in let so_far = before.spare in omega (arith, more, so_far);
       reserved = let more = c.in_ok-outcome.ensures.reserved_stays in let so_far = before.reserved in omega (arith, more, so_far);

@@ -1,4 +1,4 @@
-use Rattle.std.proofs.Common.{◌≤◌, arith}
+use Rattle.std.proofs.Common.{arith}
 use Rattle.gm_arena.proofs.MapLemmas.{name_below}
 use Rattle.gm_tests_matches.proofs.applying.use_up_names.Goals as goal
 

@@ -1,6 +1,6 @@
 use Rattle.std.proofs.Common.{map}
 use Rattle.gm_run.specs.Lines.{outcome_of}
-use Rattle.gm_tool.proofs.Lines.{plans_fit, lines_fit, printable, run_made, left_sound, map_made}
+use Rattle.gm_tool.proofs.Lines.{plans_fit, lines_fit, printable, run_made, map_made}
 use Rattle.gm_tool.proofs.StepBounds.{unprinted_within, printed_within, printed_least, if_done}
 use Rattle.gm_tool.proofs.running.applied.Goals as goal
 
@@ -20,7 +20,7 @@ returns-clause-run g c =
 
 pub returns-clause-map : goal.returns-clause-map
 returns-clause-map g c = map_made c.args.version c.run.new.arena _ _ c.printed.result c.printed.ensures.lawful (rw c.run.ensures.schema c.requires.parts)
-    (left_sound c.args.arena.now c.args.book.now c.args.script.now c.args.plans.now c.requires c.run.new.arena c.printed.ensures.lawful c.run.ensures.schema c.run.ensures.generalised (map outcome_of c.in_ok-report.report.lines) c.in_ok-report.ensures.run)
+    c.run.ensures.sound
     c.printed.ensures.texts
 
 pub returns-in_err-report-clause-most : goal.returns-in_err-report-clause-most

@@ -23,7 +23,7 @@ plans_of-requires g c = checkable_rules c.in_ok-book.ensures.read.0 c.in_ok-book
 
 pub applied-requires : goal.applied-requires
 applied-requires g c =
-    can_run c.in_ok-map.map c.in_ok-book.book c.in_ok-script.script c.as_slice.result.now c.in_ok-map.ensures.read c.in_ok-book.ensures.read c.in_ok-script.ensures.read (rw c.as_slice.ensures.value c.in_ok-plans.ensures.plans) c.in_ok-plans.ensures.runnable
+    can_run c.in_ok-map.map c.in_ok-book.book c.in_ok-script.script c.as_slice.result.now c.in_ok-map.ensures.read c.in_ok-book.ensures.read c.in_ok-script.ensures.read (rw c.as_slice.ensures.value c.in_ok-plans.ensures.plans)
     (search rules)
 
 pub returns-in_err-map-clause-made : goal.returns-in_err-map-clause-made
@@ -51,12 +51,12 @@ returns-in_err-script-clause-made g c =
     rw (p.1, p.2)
     (at_script (names_of c.args.files) (FailsAt (g.S.Store.load_faults c.args.store.now) (g.S.Store.load_faults c.load_script.new.store) (g.S.Store.loads c.args.store.now) (g.S.Store.loads c.load_script.new.store)) (g.S.Store.holds c.args.store.now) c.in_ok-map.map c.in_ok-book.book (Unit {0}) (Unit {0}) _ c.in_err-script.field-0.0
     (λ rises. (rises_last _ _ _ _ c.load_map.ensures.faults_never_fall c.load_book.ensures.faults_never_fall rises, c.load_script.ensures.once ∙ ap counted (c.load_book.ensures.once ∙ ap counted c.load_map.ensures.once))) c.in_ok-map.ensures.from (rw c.load_map.ensures.held at c.in_ok-book.ensures.from)
-    c.in_ok-plans.ensures.runnable (rw (c.load_book.ensures.held, c.load_map.ensures.held) at c.in_err-script.ensures.from))
+    c.in_ok-plans.ensures.accepted (rw (c.load_book.ensures.held, c.load_map.ensures.held) at c.in_err-script.ensures.from))
 
 pub returns-clause-made : goal.returns-clause-made
 returns-clause-made g c =
     at_end (names_of c.args.files) (FailsAt (g.S.Store.load_faults c.args.store.now) (g.S.Store.load_faults c.load_script.new.store) (g.S.Store.loads c.args.store.now) (g.S.Store.loads c.load_script.new.store)) (g.S.Store.holds c.args.store.now) c.in_ok-map.map c.in_ok-book.book c.in_ok-script.script (Unit {0}) (Unit {0}) (Unit {0}) c.in_ok-map.ensures.from (rw c.load_map.ensures.held at c.in_ok-book.ensures.from)
-    c.in_ok-plans.ensures.runnable (rw (c.load_book.ensures.held, c.load_map.ensures.held) at c.in_ok-script.ensures.from)
+    c.in_ok-plans.ensures.accepted (rw (c.load_book.ensures.held, c.load_map.ensures.held) at c.in_ok-script.ensures.from)
     (search rules) c.applied.result c.applied.ensures.run
 
 pub returns-clause-sound : goal.returns-clause-sound
@@ -90,7 +90,7 @@ returns-in_err-script-clause-sound g c =
 pub returns-then-not-agree-clause-made : goal.returns-then-not-agree-clause-made
 returns-then-not-agree-clause-made g c =
     at_agreement (names_of c.args.files) (FailsAt (g.S.Store.load_faults c.args.store.now) (g.S.Store.load_faults c.load_script.new.store) (g.S.Store.loads c.args.store.now) (g.S.Store.loads c.load_script.new.store)) (g.S.Store.holds c.args.store.now) c.in_ok-map.map c.in_ok-book.book c.in_ok-script.script (Unit {0}) (Unit {0}) (Unit {0}) c.in_ok-map.ensures.from
-    (rw c.load_map.ensures.held at c.in_ok-book.ensures.from) c.in_ok-plans.ensures.runnable (rw (c.load_book.ensures.held, c.load_map.ensures.held) at c.in_ok-script.ensures.from)
+    (rw c.load_map.ensures.held at c.in_ok-book.ensures.from) c.in_ok-plans.ensures.accepted (rw (c.load_book.ensures.held, c.load_map.ensures.held) at c.in_ok-script.ensures.from)
     (search rules)
 
 pub returns-in_err-map-clause-most : goal.returns-in_err-map-clause-most
@@ -110,15 +110,15 @@ returns-then-not-agree-clause-most g c = stopped_within (names_of c.args.files) 
 
 pub returns-clause-most : goal.returns-clause-most
 returns-clause-most g c =
-    ended_within (names_of c.args.files) c.in_ok-map.map c.in_ok-book.book c.in_ok-script.script (Unit {0}) (Unit {0}) (Unit {0}) c.in_ok-plans.ensures.runnable (g.S.Store.holds c.args.store.now) _ _ _
-    (are_read (names_of c.args.files) c.in_ok-map.map c.in_ok-book.book c.in_ok-script.script (Unit {0}) (Unit {0}) (Unit {0}) c.in_ok-plans.ensures.runnable (g.S.Store.holds c.args.store.now) c.in_ok-map.ensures.from
+    ended_within (names_of c.args.files) c.in_ok-map.map c.in_ok-book.book c.in_ok-script.script (Unit {0}) (Unit {0}) (Unit {0}) c.in_ok-plans.ensures.accepted (g.S.Store.holds c.args.store.now) _ _ _
+    (are_read (names_of c.args.files) c.in_ok-map.map c.in_ok-book.book c.in_ok-script.script (Unit {0}) (Unit {0}) (Unit {0}) c.in_ok-plans.ensures.accepted (g.S.Store.holds c.args.store.now) c.in_ok-map.ensures.from
     (rw c.load_map.ensures.held at c.in_ok-book.ensures.from) (rw (c.load_book.ensures.held, c.load_map.ensures.held) at c.in_ok-script.ensures.from)) c.in_ok-map.ensures.most c.applied.ensures.most
 
 pub returns-clause-least : goal.returns-clause-least
 returns-clause-least g c =
     if_done
-    (ended_least (names_of c.args.files) c.in_ok-map.map c.in_ok-book.book c.in_ok-script.script (Unit {0}) (Unit {0}) (Unit {0}) c.in_ok-plans.ensures.runnable (g.S.Store.holds c.args.store.now) _ _ _ c.applied.ensures.lawful
-    (are_read (names_of c.args.files) c.in_ok-map.map c.in_ok-book.book c.in_ok-script.script (Unit {0}) (Unit {0}) (Unit {0}) c.in_ok-plans.ensures.runnable (g.S.Store.holds c.args.store.now) c.in_ok-map.ensures.from
+    (ended_least (names_of c.args.files) c.in_ok-map.map c.in_ok-book.book c.in_ok-script.script (Unit {0}) (Unit {0}) (Unit {0}) c.in_ok-plans.ensures.accepted (g.S.Store.holds c.args.store.now) _ _ _ c.applied.ensures.lawful
+    (are_read (names_of c.args.files) c.in_ok-map.map c.in_ok-book.book c.in_ok-script.script (Unit {0}) (Unit {0}) (Unit {0}) c.in_ok-plans.ensures.accepted (g.S.Store.holds c.args.store.now) c.in_ok-map.ensures.from
     (rw c.load_map.ensures.held at c.in_ok-book.ensures.from) (rw (c.load_book.ensures.held, c.load_map.ensures.held) at c.in_ok-script.ensures.from)) c.in_ok-map.ensures.least) c.applied.result c.applied.ensures.least
 
 pub returns-in_err-map-clause-counted_loads : goal.returns-in_err-map-clause-counted_loads
@@ -145,14 +145,14 @@ returns-in_err-script-clause-counted_loads g c =
     let p = err_from_is_err_and c.from_residual-in_err-script.result c.from_residual-in_err-script.ensures.1 in
     rw (p.1, p.2)
     (behind_script (names_of c.args.files) (Rises (g.S.Store.load_faults c.args.store.now) (g.S.Store.load_faults c.load_script.new.store)) (g.S.Store.loads c.args.store.now) (g.S.Store.loads c.load_script.new.store) (g.S.Store.holds c.args.store.now) c.in_ok-map.map c.in_ok-book.book (Unit {0}) (Unit {0}) (Err c.in_err-script.field-0.0)
-    (c.load_script.ensures.once ∙ ap counted (c.load_book.ensures.once ∙ ap counted c.load_map.ensures.once)) c.in_ok-map.ensures.from (rw c.load_map.ensures.held at c.in_ok-book.ensures.from) c.in_ok-plans.ensures.runnable)
+    (c.load_script.ensures.once ∙ ap counted (c.load_book.ensures.once ∙ ap counted c.load_map.ensures.once)) c.in_ok-map.ensures.from (rw c.load_map.ensures.held at c.in_ok-book.ensures.from) c.in_ok-plans.ensures.accepted)
 
 pub returns-then-not-agree-clause-counted_loads : goal.returns-then-not-agree-clause-counted_loads
 returns-then-not-agree-clause-counted_loads g c =
     behind_script (names_of c.args.files) (Rises (g.S.Store.load_faults c.args.store.now) (g.S.Store.load_faults c.load_script.new.store)) (g.S.Store.loads c.args.store.now) (g.S.Store.loads c.load_script.new.store) (g.S.Store.holds c.args.store.now) c.in_ok-map.map c.in_ok-book.book (Unit {0}) (Unit {0}) (Err (stops.NoText (nothing.Refused refusals.Agree)))
-    (c.load_script.ensures.once ∙ ap counted (c.load_book.ensures.once ∙ ap counted c.load_map.ensures.once)) c.in_ok-map.ensures.from (rw c.load_map.ensures.held at c.in_ok-book.ensures.from) c.in_ok-plans.ensures.runnable
+    (c.load_script.ensures.once ∙ ap counted (c.load_book.ensures.once ∙ ap counted c.load_map.ensures.once)) c.in_ok-map.ensures.from (rw c.load_map.ensures.held at c.in_ok-book.ensures.from) c.in_ok-plans.ensures.accepted
 
 pub returns-clause-counted_loads : goal.returns-clause-counted_loads
 returns-clause-counted_loads g c =
     behind_script (names_of c.args.files) (Rises (g.S.Store.load_faults c.args.store.now) (g.S.Store.load_faults c.load_script.new.store)) (g.S.Store.loads c.args.store.now) (g.S.Store.loads c.load_script.new.store) (g.S.Store.holds c.args.store.now) c.in_ok-map.map c.in_ok-book.book (Unit {0}) (Unit {0}) c.applied.result
-    (c.load_script.ensures.once ∙ ap counted (c.load_book.ensures.once ∙ ap counted c.load_map.ensures.once)) c.in_ok-map.ensures.from (rw c.load_map.ensures.held at c.in_ok-book.ensures.from) c.in_ok-plans.ensures.runnable
+    (c.load_script.ensures.once ∙ ap counted (c.load_book.ensures.once ∙ ap counted c.load_map.ensures.once)) c.in_ok-map.ensures.from (rw c.load_map.ensures.held at c.in_ok-book.ensures.from) c.in_ok-plans.ensures.accepted

@@ -1,18 +1,25 @@
-use Rattle.std.proofs.Common.{sym, subst, ap, ◌∙◌}
+use Rattle.std.proofs.Common.{length, replicate, None, sym, subst, ap, ◌∙◌}
 use Rattle.gm_model.specs.declared.schema.Schema.{Schema}
 use Rattle.gm_model.specs.Rules.{rule_of}
 use Rattle.gm_plan.specs.Plans.{IsPlanned}
+use Rattle.gm_pending.specs.Results.{IsPrepared}
+use Rattle.gm_pending.proofs.Answered.{no_answers, nothing_answered, nothing_prepared}
 use Rattle.gm_pending.proofs.pending.Pending.build.Goals as goal
+
+pub returns-clause-pending : goal.returns-clause-pending
+returns-clause-pending g c = nothing_answered c.args.arena.now c.args.plan.now.table c.args.found.now c.none_asked.result.items
+    (c.none_asked.ensures ∙ ap (λ embeds. replicate (length embeds) None) (c.as_slice.ensures ∙ ap (λ (s : Schema). s.embeds) c.schema-3.ensures))
 
 pub invariant_of-result : goal.invariant_of-result
 invariant_of-result g c = (
-  record {
-    lawful = c.count.ensures.lawful;
-    no_embeds = ap (λ (s : Schema). s.embeds) c.requires.schema ∙ c.requires.no_embeds;
-    planned = subst (λ (s : Schema). IsPlanned s (rule_of c.args.plan.now.table)) (sym c.requires.schema) c.schema.ensures.planned;
-    generalised = c.requires.generalised;
-    hooks = c.requires.matched.0;
-    matched = c.requires.matched.1;
-  },
+  subst IsPrepared (sym (nothing_answered c.args.arena.now c.args.plan.now.table c.args.found.now c.none_asked.result.items
+      (c.none_asked.ensures ∙ ap (λ embeds. replicate (length embeds) None) (c.as_slice.ensures ∙ ap (λ (s : Schema). s.embeds) c.schema-3.ensures))))
+      (nothing_prepared c.args.arena.now c.args.plan.now.table c.args.found.now
+      c.count.ensures.lawful
+      (subst (λ (s : Schema). IsPlanned s (rule_of c.args.plan.now.table)) (sym c.requires.schema) c.schema.ensures.planned)
+      c.requires.sound c.requires.matched.0 c.requires.matched.1),
   c.requires.schema,
+  no_answers _ (length c.args.arena.now.schema.embeds) c.none_asked.result.items
+      (c.none_asked.ensures ∙ ap (λ embeds. replicate (length embeds) None) (c.as_slice.ensures ∙ ap (λ (s : Schema). s.embeds) c.schema-3.ensures)),
+  tt,
 )

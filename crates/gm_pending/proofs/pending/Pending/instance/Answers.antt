@@ -1,24 +1,20 @@
-use Rattle.std.proofs.Common.{◌≡◌, ◌≢◌, ℕ, Option, Some, None, MatchOption, subst}
-use Rattle.gm_model.specs.Rules.{rule_of}
+use Rattle.std.proofs.Common.{◌≡◌, ◌≢◌, ℕ, Option, Some, None, MatchOption}
 use Rattle.gm_plan.specs.InArena.{slot_number}
 use Rattle.gm_theory.proofs.Scenes.{IsRightAt}
 use Rattle.gm_pending.specs.declared.at.At.TheVariants.{Old}
 use Rattle.gm_pending.specs.Lookup.{IsWithin, IsAtSlot}
 use Rattle.gm_pending.specs.Results.{PendingOf, IsPrepared, IsResultDart, scene_in, name_of}
-use Rattle.gm_pending.proofs.Darts.{one_left_count, instance_lies, none_lies}
+use Rattle.gm_pending.proofs.Darts.{instance_lies, none_lies}
 use Rattle.gm_pending.proofs.pending.Pending.instance.Goals as goal
 
-pub instance_at-requires : goal.instance_at-requires
-instance_at-requires c = one_left_count (rule_of c.self.inside.plan.now.table) _ _ c.left_nodes.ensures.left c.self.invariant.0.matched.nodes
-
 pub returns-in-Old : goal.returns-in-Old
-returns-in-Old c = go c.instance_at.result (subst (λ (a : PendingOf). MatchOption c.instance_at.result ((x p : ℕ) → IsWithin a.placed x p → slot_number a.placed x p ≢ c.in-Old.slot.at) (λ i. IsAtSlot a.placed c.in-Old.slot.at i.0 i.1)) c.self.view_is c.instance_at.ensures)
+returns-in-Old c = go c.left_instance.result c.left_instance.ensures.instance
   where
     app : PendingOf
     app = c.args.self.now
 
     prepared : IsPrepared c.args.self.now
-    prepared = subst IsPrepared c.self.view_is c.self.invariant.0
+    prepared = c.left_instance.ensures.prepared
 
     dart : IsResultDart c.args.self.now (Old c.in-Old.slot)
     dart = rw c.in-Old.is at c.requires

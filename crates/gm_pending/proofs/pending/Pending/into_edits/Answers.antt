@@ -1,10 +1,52 @@
-use Rattle.std.proofs.Common.{◌≡◌, ◌*◌, subst, ap, ap₂, ◌∙◌, mul_comm}
+use Rattle.std.proofs.Common.{◌≡◌, ℕ, ◌+◌, ◌*◌, ◌<◌, ◌≤◌, length, subst, ap, ap₂, ◌∙◌, arith, mul_comm}
+use Rattle.std.proofs.lemmas.Nat.{mul-le}
 use Rattle.gm_model.specs.Unfolding.{added_nodes}
 use Rattle.gm_pending.specs.declared.rewrite.Arcs.TheVariants.{Freed, Made}
 use Rattle.gm_pending.specs.Collected.{all_arcs, all_removed}
 use Rattle.gm_pending.specs.Results.{PendingOf, IsPrepared, rule_in}
-use Rattle.gm_pending.proofs.Collected.{are_edits}
+use Rattle.gm_pending.proofs.Collected.{are_edits, few_added}
 use Rattle.gm_pending.proofs.pending.Pending.into_edits.Goals as goal
+
+-- where there are 8 embeddings at most and 2 labels at least, the values of added darts take few steps
+few_reads : (start after dim width adds count k added reached : ℕ) → 0 < dim → width ≤ 8 → adds ≤ count → added ≡ k * adds → after ≤ start + added * width + reached → after ≤ start + 6 * (dim + 1) * (count * k + reached + 1)
+few_reads start after dim width adds count k added reached some few fewer is cost =
+    let come : k * adds ≤ count * k = grind arith in
+    let once : added * width ≤ count * k * 8 = mul-le added width (count * k) 8 (omega (arith, is, come)) few in
+    let labels : 12 * (count * k + reached + 1) ≤ 6 * (dim + 1) * (count * k + reached + 1) = mul-le 12 (count * k + reached + 1) (6 * (dim + 1)) (count * k + reached + 1) (omega arith) (omega arith) in
+    omega (arith, once, labels, cost)
+
+pub returns-in_err-added_values-clause-cost : goal.returns-in_err-added_values-clause-cost
+returns-in_err-added_values-clause-cost g c =
+    let app = c.args.self in
+    let prepared : IsPrepared app = subst IsPrepared c.self.view_is c.self.invariant.0 in
+    let added : c.added.result * c.positions.result ≡ app.placed.positions * added_nodes (rule_in app) =
+    ap₂ (λ a b. a * b) (c.added.ensures ∙ ap (λ (a : PendingOf). added_nodes (rule_in a)) c.self.view_is) (c.positions.ensures.value ∙ ap (λ (a : PendingOf). a.placed.positions) c.self.view_is)
+    ∙ mul_comm (added_nodes (rule_in app)) app.placed.positions in
+    λ reached sum.
+    few_reads c.args.steps.now c.added_values.new.steps app.map.schema.dim (length app.map.schema.embeds) (added_nodes (rule_in app)) (length (rule_in app).nodes) app.placed.positions (c.added.result * c.positions.result) reached
+    prepared.lawful.dim.0 prepared.lawful.schema.count (few_added app prepared (length (rule_in app).nodes)) added (omega (arith, c.added_values.ensures.cost))
+
+pub returns-in_err-values-clause-cost : goal.returns-in_err-values-clause-cost
+returns-in_err-values-clause-cost g c =
+    let app = c.args.self in
+    let prepared : IsPrepared app = subst IsPrepared c.self.view_is c.self.invariant.0 in
+    let added : c.added.result * c.positions.result ≡ app.placed.positions * added_nodes (rule_in app) =
+    ap₂ (λ a b. a * b) (c.added.ensures ∙ ap (λ (a : PendingOf). added_nodes (rule_in a)) c.self.view_is) (c.positions.ensures.value ∙ ap (λ (a : PendingOf). a.placed.positions) c.self.view_is)
+    ∙ mul_comm (added_nodes (rule_in app)) app.placed.positions in
+    λ reached sum.
+    few_reads c.args.steps.now c.new_values.new.steps app.map.schema.dim (length app.map.schema.embeds) (added_nodes (rule_in app)) (length (rule_in app).nodes) app.placed.positions (c.added.result * c.positions.result) reached
+    prepared.lawful.dim.0 prepared.lawful.schema.count (few_added app prepared (length (rule_in app).nodes)) added (omega (arith, c.added_values.ensures.cost, c.new_values.ensures.cost reached sum))
+
+pub returns-clause-cost : goal.returns-clause-cost
+returns-clause-cost g c =
+    let app = c.args.self in
+    let prepared : IsPrepared app = subst IsPrepared c.self.view_is c.self.invariant.0 in
+    let added : c.added.result * c.positions.result ≡ app.placed.positions * added_nodes (rule_in app) =
+    ap₂ (λ a b. a * b) (c.added.ensures ∙ ap (λ (a : PendingOf). added_nodes (rule_in a)) c.self.view_is) (c.positions.ensures.value ∙ ap (λ (a : PendingOf). a.placed.positions) c.self.view_is)
+    ∙ mul_comm (added_nodes (rule_in app)) app.placed.positions in
+    λ reached sum.
+    few_reads c.args.steps.now c.new_values.new.steps app.map.schema.dim (length app.map.schema.embeds) (added_nodes (rule_in app)) (length (rule_in app).nodes) app.placed.positions (c.added.result * c.positions.result) reached
+    prepared.lawful.dim.0 prepared.lawful.schema.count (few_added app prepared (length (rule_in app).nodes)) added (omega (arith, c.added_values.ensures.cost, c.new_values.ensures.cost reached sum))
 
 pub returns-clause-edits : goal.returns-clause-edits
 returns-clause-edits g c =
@@ -13,4 +55,4 @@ returns-clause-edits g c =
     let added : c.added.result * c.positions.result ≡ app.placed.positions * added_nodes (rule_in app) =
     ap₂ (λ a b. a * b) (c.added.ensures ∙ ap (λ (a : PendingOf). added_nodes (rule_in a)) c.self.view_is) (c.positions.ensures.value ∙ ap (λ (a : PendingOf). a.placed.positions) c.self.view_is)
     ∙ mul_comm (added_nodes (rule_in app)) app.placed.positions in
-    are_edits app prepared _ (ap (λ r. all_arcs r Freed) c.rewrite.ensures) (ap all_removed c.rewrite.ensures) (ap (λ r. all_arcs r Made) c.rewrite.ensures) added
+    are_edits app prepared _ c.in_ok-added_values.ensures.values c.in_ok-values.ensures.values (ap (λ r. all_arcs r Freed) c.rewrite.ensures) (ap all_removed c.rewrite.ensures) (ap (λ r. all_arcs r Made) c.rewrite.ensures) added

@@ -13,7 +13,7 @@ end-to-requires-clause-node c =
     let fitted = c.self.invariant in
     let is : step rule Right c.args.node c.args.label ≡ Exp c.in-Exp.other = sym c.in-Exp.ensures in
     let label : c.args.label ≤ schema.dim = subst (λ (r : RewriteOf). c.args.label ≤ r.dim) (sym c.self.view_is) c.requires.label in
-    rw (← c.self.view_is) (step_back schema rule fitted.planned.in_range fitted.planned.incidence Right c.args.node c.args.label c.in-Exp.other label is).0
+    rw (← c.self.view_is) (step_back schema rule fitted.planned.accepted.in_range fitted.planned.accepted.incidence Right c.args.node c.args.label c.in-Exp.other label is).0
 
 pub turn-requires-clause-place : goal.turn-requires-clause-place
 turn-requires-clause-place c =
@@ -22,5 +22,5 @@ turn-requires-clause-place c =
     let fitted = c.self.invariant in
     let is : step rule Right c.args.node c.args.label ≡ Imp c.in-Imp.place = sym c.in-Imp.ensures in
     let right = rw (← c.self.view_is) at (sym c.if-not-is_right.ensures) in
-    let low : c.in-Imp.place < width rule = step_within schema rule fitted.planned.in_range fitted.planned.incidence Right c.args.node c.args.label c.in-Imp.place right is in
+    let low : c.in-Imp.place < width rule = step_within schema rule fitted.planned.accepted.in_range fitted.planned.accepted.incidence Right c.args.node c.args.label c.in-Imp.place right is in
     rw fitted.places low

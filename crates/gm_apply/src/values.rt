@@ -1,0 +1,65 @@
+//! The edits of an application, with the values of its result.
+ghost use Rattle.std.specs.Prelude.{◌≡◌, ℕ, ◌+◌, ◌<◌, List, length, MatchResult};
+ghost use Rattle.gm_walk.specs.Room.{Fits};
+ghost use Rattle.gm_apply.specs.Reads.{IsReadable, HasRead, HasEdits, IsEnded};
+
+use crate::reading::Reading;
+use crate::refusal::Refusal;
+use gm_arena::Steps;
+use gm_model::MOST_DARTS;
+use gm_pending::{Edits, Pending};
+use gm_walk::Scratch;
+use std::alloc::Global;
+use std::sync::ledger::Ledger;
+
+impl<'a, 'm> Reading<'a, 'm> {
+    /// The edits that make the result. The map is only read.
+    pub(crate) fn edits<L: Ledger>(
+        &self,
+        alloc: Global,
+        scratch: &mut Scratch,
+        steps: &mut Steps<L>,
+    ) -> Result<Edits<'a>, Refusal>
+        requires readable { (hooks : List ℕ) × IsReadable self.now hooks }
+        requires fits { Fits scratch.old self.now.arena.now }
+        ensures edits { (hooks : List ℕ) → IsReadable self.now hooks → MatchResult result
+            (λ edits. HasEdits self.now hooks edits steps.old steps.new)
+            (λ refusal. IsEnded self.now hooks refusal steps.old steps.new) }
+        ensures room { scratch.new.bound ≡ scratch.old.bound }
+    {
+        // The arena tells here that its embeddings are few.
+        prove!(self.arena.count() <= MOST_DARTS);
+        let mut pending = Pending::build(alloc, self.plan, self.arena, self.found, steps)?;
+        for embed in 0..self.plan.schema().embeds.as_slice().len() as u8 {
+            self.give_values(&mut pending, embed, scratch, steps)?;
+        }
+        Ok(pending.into_edits(steps)?)
+    }
+
+    /// Gives each deciding instance of the embedding the value of its expression.
+    fn give_values<L: Ledger>(
+        &self,
+        pending: &mut Pending<'_, '_>,
+        embed: u8,
+        scratch: &mut Scratch,
+        steps: &mut Steps<L>,
+    ) -> Result<(), Refusal>
+        requires fits { Fits scratch.old self.now.arena.now }
+        requires embed { embed < length self.now.arena.now.schema.embeds }
+        requires read { (hooks : List ℕ) × (start : ℕ) × IsReadable self.now hooks × HasRead self.now hooks pending.old embed embed 0 start steps.old }
+        ensures given { (hooks : List ℕ) (start : ℕ) → IsReadable self.now hooks → HasRead self.now hooks pending.old embed embed 0 start steps.old → MatchResult result
+            (λ _. HasRead self.now hooks pending.new (embed + 1) (embed + 1) 0 start steps.new)
+            (λ refusal. IsEnded self.now hooks refusal start steps.new) }
+        ensures room { scratch.new.bound ≡ scratch.old.bound }
+    {
+        let count = pending.deciding(embed, steps)?;
+        for index in 0..count {
+            let (node, position) = pending.decider(embed, index);
+            let Some(value) = self.value(embed, node, position, scratch, steps) else {
+                return Err(Refusal::NoValue { embed, node });
+            };
+            pending.give(embed, index, value);
+        }
+        Ok(())
+    }
+}

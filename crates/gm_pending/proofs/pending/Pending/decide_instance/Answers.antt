@@ -1,0 +1,44 @@
+use Rattle.std.proofs.Common.{length, sym, ◌∙◌, subst, arith}
+use Rattle.gm_pending.specs.Reached.{IsSpreadTo}
+use Rattle.gm_pending.specs.Results.{name_of}
+use Rattle.gm_pending.specs.Marks.{key_of}
+use Rattle.gm_pending.proofs.Decided.{assigned_right, decided_reached, instance_decides, instance_passed, key_absent, key_there, on_ok, some_grown}
+use Rattle.gm_pending.proofs.pending.Pending.decide_instance.Goals as goal
+
+pub place-at-requires : goal.place-at-requires
+place-at-requires g c = (assigned_right c.args.self.now c.labels.ensures.prepared c.args.embed c.args.declared.now c.requires.embed c.args.node c.requires.assigned, c.requires.position)
+
+pub returns-then-is_some-clause-decided : goal.returns-then-is_some-clause-decided
+returns-then-is_some-clause-decided g c =
+    instance_passed c.args.self.now c.labels.ensures.prepared c.args.embed c.args.declared.now c.requires.embed c.args.asked.now.deciders.items c.args.asked.now.marks c.args.node c.args.position c.place-at.result
+    c.requires.earlier (c.requires.assigned, c.requires.position) c.place-at.ensures.dart c.place-at.ensures.name
+    (key_there c.args.asked.now.marks (key_of c.place-at.result) c.decider.result c.decider.ensures.decider (sym c.is_some.ensures ∙ c.if-is_some.true))
+
+pub returns-then-is_some-clause-reached : goal.returns-then-is_some-clause-reached
+returns-then-is_some-clause-reached g c = decided_reached c.args.self.now c.labels.ensures.prepared c.args.embed c.args.declared.now c.requires.embed c.args.asked.now.deciders.items c.args.asked.now.marks c.args.node c.args.position c.requires.earlier
+
+pub returns-then-len-clause-reached : goal.returns-then-len-clause-reached
+returns-then-len-clause-reached g c = decided_reached c.args.self.now c.labels.ensures.prepared c.args.embed c.args.declared.now c.requires.embed c.args.asked.now.deciders.items c.args.asked.now.marks c.args.node c.args.position c.requires.earlier
+
+pub returns-in_err-push-clause-reached : goal.returns-in_err-push-clause-reached
+returns-in_err-push-clause-reached g c = decided_reached c.args.self.now c.labels.ensures.prepared c.args.embed c.args.declared.now c.requires.embed c.args.asked.now.deciders.items c.args.asked.now.marks c.args.node c.args.position c.requires.earlier
+
+pub returns-clause-decided : goal.returns-clause-decided
+returns-clause-decided g c =
+    let app = c.args.self.now in
+    let marks = c.args.asked.now.marks in
+    let deciders = c.args.asked.now.deciders.items in
+    on_ok c.reach.result c.reach.ensures.spread (λ spread. rw c.in_ok-push.ensures.items
+    (instance_decides app c.labels.ensures.prepared c.args.embed c.args.declared.now c.requires.embed deciders marks c.args.node c.args.position c.place-at.result
+    c.requires.earlier (c.requires.assigned, c.requires.position) c.place-at.ensures.dart c.place-at.ensures.name c.reach.new.marks
+    (key_absent marks (key_of c.place-at.result) c.decider.result c.decider.ensures.decider (sym c.is_some.ensures ∙ c.if-is_some.false))
+    c.reach.ensures.darts (omega (arith, c.if-len.false, c.len.ensures, c.args.asked.now.deciders.ok.0))
+    (λ result unfolded. subst (λ k. IsSpreadTo app c.args.declared.now result marks c.reach.new.marks k (name_of app c.place-at.result) (length c.reach.new.marks) 0) (omega (arith, c.len-index.ensures, c.args.asked.now.deciders.ok.0)) (spread result unfolded (c.requires.earlier.walked result unfolded).closed))))
+
+pub returns-clause-reached : goal.returns-clause-reached
+returns-clause-reached g c =
+    let app = c.args.self.now in
+    some_grown app c.labels.ensures.prepared c.args.embed c.args.declared.now c.requires.embed c.args.asked.now.marks c.reach.new.marks c.len-index.result c.args.node c.args.position c.place-at.result
+    (c.requires.assigned, c.requires.position) c.place-at.ensures.dart c.place-at.ensures.name c.reach.ensures.darts
+    (decided_reached app c.labels.ensures.prepared c.args.embed c.args.declared.now c.requires.embed c.args.asked.now.deciders.items c.args.asked.now.marks c.args.node c.args.position c.requires.earlier)
+    (λ result unfolded. c.reach.ensures.grown result unfolded (c.requires.earlier.walked result unfolded).closed)

@@ -1,0 +1,10 @@
+use Rattle.std.proofs.Common.{◌+◌, ◌*◌, ◌≤◌, length}
+use Rattle.gm_pending.specs.Reached.{IsDecidedUpTo}
+use Rattle.gm_pending.proofs.pending.Pending.decide_nodes.Given as goal
+
+abbrev pub invariant-loop-node : goal.invariant-loop-node
+invariant-loop-node g l = record {
+  decided : IsDecidedUpTo l.self l.embed l.declared l.asked.deciders.items l.asked.marks l.node 0;
+  cost : l.steps + (l.self.map.schema.dim + 1) * length l.fn.asked.marks ≤ l.fn.steps + (l.self.map.schema.dim + 1) * length l.asked.marks;
+  least : l.fn.steps ≤ l.steps;
+}

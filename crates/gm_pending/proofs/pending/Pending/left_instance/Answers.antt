@@ -1,0 +1,13 @@
+use Rattle.std.proofs.Common.{◌≢◌, ℕ, MatchOption, subst}
+use Rattle.gm_model.specs.Rules.{rule_of}
+use Rattle.gm_plan.specs.InArena.{slot_number}
+use Rattle.gm_pending.specs.Lookup.{IsWithin, IsAtSlot}
+use Rattle.gm_pending.specs.Results.{PendingOf}
+use Rattle.gm_pending.proofs.Darts.{one_left_count}
+use Rattle.gm_pending.proofs.pending.Pending.left_instance.Goals as goal
+
+pub instance_at-requires : goal.instance_at-requires
+instance_at-requires c = one_left_count (rule_of c.self.inside.plan.now.table) _ _ c.left_nodes.ensures.left c.self.invariant.0.matched.nodes
+
+pub returns-in-Some-clause-instance : goal.returns-in-Some-clause-instance
+returns-in-Some-clause-instance c = subst (λ (a : PendingOf). MatchOption c.find.result ((x p : ℕ) → IsWithin a.placed x p → slot_number a.placed x p ≢ c.args.slot.at) (λ i. IsAtSlot a.placed c.args.slot.at i.0 i.1)) c.self.view_is c.find.ensures

@@ -1,0 +1,61 @@
+use Rattle.std.proofs.Common.{◌≡◌, ◌+◌, ◌<◌, length, sym, subst, arith}
+use Rattle.std.proofs.lemmas.Option.{slice_get_within}
+use Rattle.gm_pending.specs.Reached.{IsSpreadTo}
+use Rattle.gm_pending.specs.Results.{name_of}
+use Rattle.gm_pending.proofs.Following.{stays_longer, walked_cost, walked_on, walked_some}
+use Rattle.gm_pending.proofs.Spread.{marked_kept, marked_darts, nothing_grown, spread_starts}
+use Rattle.gm_pending.proofs.pending.Pending.reach.Goals as goal
+
+pub returns-in_err-mark-clause-darts : goal.returns-in_err-mark-clause-darts
+returns-in_err-mark-clause-darts g c = rw c.in_err-mark.ensures.err c.requires.darts
+
+pub returns-in_err-mark-clause-grown : goal.returns-in_err-mark-clause-grown
+returns-in_err-mark-clause-grown g c = λ result unfolded closed. rw c.in_err-mark.ensures.err
+    (nothing_grown c.args.self.now c.labels.ensures.prepared c.args.embed c.args.declared.now c.requires.embed result unfolded c.args.marks.now c.args.index (name_of c.args.self.now c.args.at))
+
+pub loop-next-init : goal.loop-next-init
+loop-next-init g c =
+    let app = c.args.self.now in
+    let prepared = c.labels.ensures.prepared in
+    let more = c.in_ok-mark.ensures.ok in
+    let start : c.len-next.result ≡ length c.args.marks.now = c.len-next.ensures.len in
+    record {
+      darts = marked_darts app prepared c.args.marks.now c.mark.new.self c.args.at c.args.index more c.requires.dart c.requires.darts;
+      late = omega (arith, start);
+      within = omega (arith, start, stays_longer c.args.marks.now c.mark.new.self (marked_kept app prepared c.args.marks.now c.mark.new.self c.args.at c.args.index more));
+      spread = λ result unfolded closed. subst (λ n. IsSpreadTo app c.args.declared.now result c.args.marks.now c.mark.new.self c.args.index (name_of app c.args.at) n 0) (sym start)
+          (spread_starts app prepared c.args.embed c.args.declared.now c.requires.embed result unfolded c.args.marks.now c.mark.new.self c.args.at c.args.index closed c.requires.absent more);
+      cost = rw start (omega arith);
+      least = omega arith;
+    }
+
+pub returns-in_err-spread-clause-grown : goal.returns-in_err-spread-clause-grown
+returns-in_err-spread-clause-grown g c =
+    let l = c.loop-next in
+    λ result unfolded closed. walked_some c.args.self.now c.labels.ensures.prepared c.args.embed c.args.declared.now c.requires.embed c.args.marks.now l.marks c.spread.new.marks c.args.index (name_of c.args.self.now c.args.at) l.next
+    c.get-from.result l.invariant.late c.get-from.ensures result unfolded (l.invariant.spread result unfolded closed) c.spread.ensures.grown
+
+pub returns-in_err-spread-clause-cost : goal.returns-in_err-spread-clause-cost
+returns-in_err-spread-clause-cost g c =
+    let within : c.loop-next.next < length c.loop-next.marks = slice_get_within c.loop-next.marks c.loop-next.next c.get-from.result c.get-from.ensures in
+    walked_cost c.args.self.now.map.schema.dim c.loop-next.next (length c.spread.new.marks) (length c.args.marks.now) c.args.steps.now c.loop-next.steps c.spread.new.steps (omega (arith, within, c.spread.ensures.longer)) c.loop-next.invariant.cost c.spread.ensures.cost
+
+pub loop-next-preserved : goal.loop-next-preserved
+loop-next-preserved g c =
+    let l = c.loop-next in
+    let within : l.next < length l.marks = slice_get_within l.marks l.next c.get-from.result c.get-from.ensures in
+    record {
+      darts = c.spread.ensures.darts;
+      late = omega (arith, l.invariant.late);
+      within = omega (arith, within, c.spread.ensures.longer);
+      spread = λ result unfolded closed. walked_on c.args.self.now c.labels.ensures.prepared c.args.embed c.args.declared.now c.requires.embed c.args.marks.now l.marks c.spread.new.marks c.args.index (name_of c.args.self.now c.args.at) l.next
+          c.get-from.result l.invariant.late c.get-from.ensures result unfolded (l.invariant.spread result unfolded closed) c.in_ok-spread.ensures.followed;
+      cost = walked_cost c.args.self.now.map.schema.dim l.next (l.next + 1) (length c.args.marks.now) c.args.steps.now l.steps c.spread.new.steps (omega arith) l.invariant.cost c.spread.ensures.cost;
+      least = omega (arith, l.invariant.least, c.spread.ensures.least);
+    }
+
+pub returns-clause-spread : goal.returns-clause-spread
+returns-clause-spread g c =
+    let l = c.loop-next in
+    let end : l.next ≡ length l.marks = omega (arith, l.invariant.within, c.loop-next-test.false, c.len.ensures.len) in
+    λ result unfolded closed. subst (λ n. IsSpreadTo c.args.self.now c.args.declared.now result c.args.marks.now l.marks c.args.index (name_of c.args.self.now c.args.at) n 0) end (l.invariant.spread result unfolded closed)

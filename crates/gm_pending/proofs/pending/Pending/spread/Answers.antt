@@ -1,0 +1,53 @@
+use Rattle.std.proofs.Common.{◌≡◌, ◌+◌, sym, ◌∙◌, subst, arith}
+use Rattle.gm_pending.specs.Reached.{IsFollowedTo}
+use Rattle.gm_pending.proofs.Following.{stays_longer, followed_some, followed_passes, followed_follows}
+use Rattle.gm_pending.proofs.Spread.{marked_kept, marked_darts}
+use Rattle.gm_pending.proofs.pending.Pending.spread.Goals as goal
+use Rattle.gm_pending.proofs.pending.Pending.spread.Goals.{then-has+in_ok-mark, else-has}
+
+pub alpha-to-requires-clause-dart : goal.alpha-to-requires-clause-dart
+alpha-to-requires-clause-dart g c = c.requires.darts c.args.from c.requires.from
+
+pub returns-in_err-mark-clause-darts : goal.returns-in_err-mark-clause-darts
+returns-in_err-mark-clause-darts g c = rw c.in_err-mark.ensures.err c.loop-label.invariant.darts
+
+pub returns-in_err-mark-clause-grown : goal.returns-in_err-mark-clause-grown
+returns-in_err-mark-clause-grown g c = rw c.in_err-mark.ensures.err
+    (followed_some c.args.self.now c.labels-label-end.ensures.prepared c.args.embed c.args.declared.now c.requires.embed c.args.from c.args.marks.now c.loop-label.marks c.loop-label.label c.loop-label.invariant.followed)
+
+pub loop-label-preserved : goal.loop-label-preserved
+loop-label-preserved g c =
+    let app = c.args.self.now in
+    let l = c.loop-label in
+    let from = c.args.from in
+    elim c.if-has.branch [
+      | then-has+in_ok-mark w ↦
+          let more = w.in_ok-mark.ensures.ok in
+          rw (w.marks-is, w.steps-is) record {
+            darts = marked_darts app c.labels-label-end.ensures.prepared l.marks w.mark.new.self w.alpha-to.result from.decider more w.alpha-to.ensures.dart l.invariant.darts;
+            kept = λ j entry f. marked_kept app c.labels-label-end.ensures.prepared l.marks w.mark.new.self w.alpha-to.result from.decider more j entry (l.invariant.kept j entry f);
+            followed = followed_follows app c.labels-label-end.ensures.prepared c.args.embed c.args.declared.now c.requires.embed from c.args.marks.now l.marks l.label l.invariant.kept l.invariant.followed
+                w.mark.new.self w.alpha-to.result (sym c.has.ensures ∙ w.if-has.true) l.invariant.darts w.mark.ensures.distinct w.alpha-to.ensures.dart w.alpha-to.ensures.arc more;
+            cost = omega (arith, l.invariant.cost, w.alpha-to.ensures.cost);
+            least = omega (arith, l.invariant.least, w.alpha-to.ensures.least);
+          }
+      | else-has w ↦
+          rw (w.marks-is, w.steps-is) record {
+            darts = l.invariant.darts;
+            kept = l.invariant.kept;
+            followed = followed_passes app c.labels-label-end.ensures.prepared c.args.embed c.args.declared.now c.requires.embed from c.args.marks.now l.marks l.label l.invariant.kept l.invariant.followed (sym c.has.ensures ∙ w.if-has.false);
+            cost = omega (arith, l.invariant.cost);
+            least = l.invariant.least;
+          }
+    ]
+
+pub returns-clause-followed : goal.returns-clause-followed
+returns-clause-followed g c =
+    let end : c.loop-label.label ≡ c.args.self.now.map.schema.dim + 1 = omega (arith, c.loop-label.auto.label-end, c.loop-label-test.false, c.labels-label-end.ensures.labels) in
+    subst (λ i. IsFollowedTo c.args.self.now c.args.declared.now c.args.from c.args.marks.now c.loop-label.marks i) end c.loop-label.invariant.followed
+
+pub returns-clause-longer : goal.returns-clause-longer
+returns-clause-longer g c = stays_longer c.args.marks.now c.loop-label.marks c.loop-label.invariant.kept
+
+pub returns-in_err-mark-clause-longer : goal.returns-in_err-mark-clause-longer
+returns-in_err-mark-clause-longer g c = rw c.in_err-mark.ensures.err (stays_longer c.args.marks.now c.loop-label.marks c.loop-label.invariant.kept)

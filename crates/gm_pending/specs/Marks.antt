@@ -1,0 +1,37 @@
+-- How reached darts are kept. No public clause cites this module.
+use Rattle.std.specs.Prelude.{◌≡◌, ◌≢◌, ℕ, ◌+◌, ◌*◌, ◌<◌, ◌⊎◌, List, [], ◌∷◌, ◌++◌, Some, slice_get}
+use Rattle.std.specs.List.{Contains}
+use Rattle.std.specs.Ordering.{nat_cmp}
+use Rattle.std.specs.BTreeMap.{BTreeMap, get}
+use Rattle.gm_pending.specs.declared.at.At.{At}
+use Rattle.gm_pending.specs.declared.at.At.TheVariants.{Old, New}
+use Rattle.gm_pending.specs.declared.marks.Reached.{Reached}
+
+abbrev pub reached_by : At → ℕ → Reached
+reached_by at k = record { at = at; decider = k }
+
+-- the number of a dart
+abbrev pub key_of : At → ℕ
+key_of (Old slot) = slot.at * 512
+key_of (New x p) = p * 512 + x + 1
+
+-- an entry of the list has this key
+abbrev pub HasKey : List Reached → ℕ → Type 0
+HasKey reached key = (entry : Reached) × Contains reached entry × (key_of entry.at ≡ key)
+
+-- and this index
+abbrev pub IsMarkedBy : List Reached → ℕ → ℕ → Type 0
+IsMarkedBy reached key k = (entry : Reached) × Contains reached entry × (key_of entry.at ≡ key) × (entry.decider ≡ k)
+
+-- the dart was added, unless an entry had its key
+abbrev pub IsMarkedMore : List Reached → List Reached → At → ℕ → Type 0
+IsMarkedMore before after at k = (HasKey before (key_of at) × (after ≡ before)) ⊎ ((HasKey before (key_of at) → ⊥) × (after ≡ before ++ reached_by at k ∷ []))
+
+abbrev pub HasDistinctKeys : List Reached → Type 0
+HasDistinctKeys reached = (k l : ℕ) (a b : Reached) → k < l → slice_get reached k ≡ Some a → slice_get reached l ≡ Some b → key_of a.at ≢ key_of b.at
+
+-- the map has the index of each entry, by its key
+pub record AreMarked (reached : List Reached) (deciders : BTreeMap ℕ ℕ) : Type 0 where
+  pub marked : (entry : Reached) → Contains reached entry → get nat_cmp deciders (key_of entry.at) ≡ Some entry.decider
+  pub only : (key k : ℕ) → get nat_cmp deciders key ≡ Some k → IsMarkedBy reached key k
+  pub distinct : HasDistinctKeys reached

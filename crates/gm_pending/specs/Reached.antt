@@ -1,0 +1,81 @@
+-- Which darts of the result are reached from deciding instances, and how a walk finds them. No public clause cites this module.
+use Rattle.std.specs.Prelude.{◌≡◌, ◌≢◌, ℕ, ◌<◌, ◌≤◌, List, length, Some, None, slice_get, IsTrue}
+use Rattle.std.specs.List.{Contains}
+use Rattle.gm_model.specs.declared.schema.Embed.{Embed}
+use Rattle.gm_model.specs.Components.{IsAssigned}
+use Rattle.gm_model.specs.Maps.{type_of}
+use Rattle.gm_model.specs.Orbits.{IsInOrbit, IsPairBefore}
+use Rattle.gm_theory.specs.Theorem.{Unfolded}
+use Rattle.gm_pending.specs.declared.decider.Decider.{Decider}
+use Rattle.gm_pending.specs.declared.marks.Reached.{Reached}
+use Rattle.gm_pending.specs.Results.{PendingOf, IsResultDart, IsUnfoldedIn, IsDecidedIn, IsReachedIn, name_of, rule_in, scene_in}
+
+module _ (app : PendingOf) where
+  -- each entry is a dart of the result
+  abbrev pub AreResultDarts : List Reached → Type 0
+  AreResultDarts reached = (entry : Reached) → Contains reached entry → IsResultDart app entry.at
+
+  abbrev pub HaveDistinctNames : List Reached → Type 0
+  HaveDistinctNames reached = (k l : ℕ) (a b : Reached) → k < l → slice_get reached k ≡ Some a → slice_get reached l ≡ Some b → name_of app a.at ≢ name_of app b.at
+
+  -- the dart has an entry, with the index of this decider
+  abbrev pub HasMark : List Reached → ℕ → ℕ → Type 0
+  HasMark reached d k = (entry : Reached) × Contains reached entry × (name_of app entry.at ≡ d) × (entry.decider ≡ k)
+
+  -- ---- all of them
+
+  -- the entries are the darts of the result in orbits with a deciding instance, each once, with its index
+  pub record AreReached (e : ℕ) (embed : Embed) (deciders : List Decider) (reached : List Reached) : Type 0 where
+    pub darts : AreResultDarts reached
+    pub distinct : HaveDistinctNames reached
+    pub decided : (result : Unfolded) → IsUnfoldedIn app result → (entry : Reached) → Contains reached entry → (decider : Decider) × (slice_get deciders entry.decider ≡ Some decider) × IsDecidedIn app result e embed (name_of app entry.at) decider.node decider.position
+    pub all : (result : Unfolded) → IsUnfoldedIn app result → (d : ℕ) → IsReachedIn app result e embed d → (entry : Reached) × Contains reached entry × (name_of app entry.at ≡ d)
+
+  -- each entry is one of them
+  abbrev pub AreSomeReached : ℕ → Embed → List Reached → Type 0
+  AreSomeReached e embed reached = (result : Unfolded) → IsUnfoldedIn app result → (entry : Reached) → Contains reached entry → IsReachedIn app result e embed (name_of app entry.at)
+
+  -- ---- the walk from one instance
+
+  module _ (embed : Embed) (result : Unfolded) where
+    -- an arc of the type leads from a marked dart to a marked dart
+    abbrev pub IsClosed : List Reached → Type 0
+    IsClosed reached = (d k i : ℕ) → HasMark reached d k → IsTrue (type_of embed i) → HasMark reached (result.alpha i d) k
+
+    -- entries were added, each in the orbit of the dart d, and with this index
+    pub record IsGrown (before after : List Reached) (k d : ℕ) : Type 0 where
+      pub kept : (j : ℕ) (entry : Reached) → slice_get before j ≡ Some entry → slice_get after j ≡ Some entry
+      pub more : (j : ℕ) (entry : Reached) → length before ≤ j → slice_get after j ≡ Some entry → (entry.decider ≡ k) × IsInOrbit result.alpha (type_of embed) d (name_of app entry.at)
+
+    -- the arcs of the added entries were followed as far as entry n and label i
+    pub record IsSpreadTo (before after : List Reached) (k d n i : ℕ) : Type 0 where
+      pub grown : IsGrown before after k d
+      pub closed : IsClosed before
+      pub here : HasMark after d k
+      pub followed : (j l : ℕ) (entry : Reached) → length before ≤ j → slice_get after j ≡ Some entry → IsPairBefore j l n i → IsTrue (type_of embed l) → HasMark after (result.alpha l (name_of app entry.at)) k
+
+  -- In each unfolding, and whatever was reached before the walk: the arcs of this entry were followed as far as label i.
+  abbrev pub IsFollowedTo : Embed → Reached → List Reached → List Reached → ℕ → Type 0
+  IsFollowedTo embed from old new i = (result : Unfolded) (before : List Reached) (d n : ℕ) → IsUnfoldedIn app result → slice_get old n ≡ Some from → length before ≤ n → IsSpreadTo embed result before old from.decider d n 0 → IsSpreadTo embed result before new from.decider d n i
+
+  -- and some of them
+  abbrev pub IsFollowed : Embed → Reached → List Reached → List Reached → Type 0
+  IsFollowed embed from old new = (result : Unfolded) (before : List Reached) (d n : ℕ) → IsUnfoldedIn app result → slice_get old n ≡ Some from → length before ≤ n → IsSpreadTo embed result before old from.decider d n 0 → IsGrown embed result before new from.decider d
+
+  -- ---- the walks from the instances before one
+
+  module _ (e : ℕ) (embed : Embed) where
+    pub record IsWalkedUpTo (result : Unfolded) (deciders : List Decider) (reached : List Reached) (x p : ℕ) : Type 0 where
+      pub closed : IsClosed embed result reached
+      pub decided : (d k : ℕ) → HasMark reached d k → (decider : Decider) × (slice_get deciders k ≡ Some decider) × IsDecidedIn app result e embed d decider.node decider.position
+      pub own : (k : ℕ) (decider : Decider) → slice_get deciders k ≡ Some decider → HasMark reached ((scene_in app).name_of decider.node decider.position) k
+      pub all : (y q : ℕ) → IsPairBefore y q x p → IsAssigned (rule_in app) e y → q < app.placed.positions → (k : ℕ) × HasMark reached ((scene_in app).name_of y q) k
+
+    -- each assigned instance before node x and position p was looked at
+    pub record IsDecidedUpTo (deciders : List Decider) (reached : List Reached) (x p : ℕ) : Type 0 where
+      pub darts : AreResultDarts reached
+      pub few : length deciders ≤ 4294967295
+      pub ascending : (k l : ℕ) (a b : Decider) → k < l → slice_get deciders k ≡ Some a → slice_get deciders l ≡ Some b → IsPairBefore a.node a.position b.node b.position
+      pub before : (k : ℕ) (decider : Decider) → slice_get deciders k ≡ Some decider → IsPairBefore decider.node decider.position x p
+      pub ungiven : (k : ℕ) (decider : Decider) → slice_get deciders k ≡ Some decider → decider.value ≡ None
+      pub walked : (result : Unfolded) → IsUnfoldedIn app result → IsWalkedUpTo result deciders reached x p

@@ -1,0 +1,26 @@
+-- Where a dart has its value from in an orbit without a deciding instance. No public clause cites this module.
+use Rattle.std.specs.Prelude.{◌≡◌, ℕ, List, Option, slice_get}
+use Rattle.std.specs.Option.{option_and_then}
+use Rattle.gm_model.specs.declared.schema.Embed.{Embed}
+use Rattle.gm_model.specs.declared.value.Value.{Value}
+use Rattle.gm_model.specs.Components.{IsKeeper}
+use Rattle.gm_model.specs.Maps.{type_of}
+use Rattle.gm_plan.specs.InArena.{slot_number}
+use Rattle.gm_pending.specs.declared.at.At.{At}
+use Rattle.gm_pending.specs.declared.at.At.TheVariants.{Old, New}
+use Rattle.gm_pending.specs.declared.decider.Decider.{Decider}
+use Rattle.gm_pending.specs.Results.{PendingOf, rule_in}
+
+-- an added node's component has a preserved node
+abbrev pub HasSourceNode : PendingOf → Embed → At → Type 0
+HasSourceNode app embed (Old slot) = Unit {0}
+HasSourceNode app embed (New x p) = (keeper : ℕ) × IsKeeper (rule_in app) (type_of embed) x keeper
+
+-- an old dart has its own value, and an added one that of the least such node
+abbrev pub IsSourceOf : PendingOf → Embed → At → ℕ → Type 0
+IsSourceOf app embed (Old old) slot = slot ≡ old.at
+IsSourceOf app embed (New x p) slot = (keeper : ℕ) × IsKeeper (rule_in app) (type_of embed) x keeper × (slot_number app.placed keeper p ≡ slot)
+
+-- the value that was given to the deciding instance of this index
+abbrev pub given_of : List Decider → ℕ → Option Value
+given_of deciders k = option_and_then (λ (decider : Decider). decider.value) (slice_get deciders k)

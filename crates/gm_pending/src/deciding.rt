@@ -1,0 +1,230 @@
+//! Which instances decide the values of a result, and which of its darts they reach.
+ghost use Rattle.std.specs.Prelude.{◌≡◌, ℕ, ◌+◌, ◌*◌, ◌<◌, ◌≤◌, length, Some, None, IfOk, OnOk, OnErr};
+ghost use Rattle.std.specs.List.{Contains};
+ghost use Rattle.gm_model.specs.declared.schema.Embed.{Embed};
+ghost use Rattle.gm_model.specs.Components.{IsAssigned};
+ghost use Rattle.gm_model.specs.Maps.{IsEmbedAt};
+ghost use Rattle.gm_theory.specs.Theorem.{Unfolded};
+ghost use Rattle.gm_pending.specs.declared.decider.Decider.{Decider};
+ghost use Rattle.gm_pending.specs.declared.marks.Reached.{Reached};
+ghost use Rattle.gm_pending.specs.Marks.{key_of, HasKey};
+ghost use Rattle.gm_pending.specs.Reached.{AreReached, AreResultDarts, AreSomeReached, IsClosed, IsGrown, IsSpreadTo, IsFollowedTo, IsFollowed, IsDecidedUpTo};
+ghost use Rattle.gm_pending.specs.Results.{IsPrepared, AreDeciders, IsAsked, IsResultDart, IsUnfoldedIn, IsWithinReach, deciders_of, with_deciders, name_of, rule_in};
+
+use crate::asked::{Asked, keep};
+use crate::at::At;
+use crate::decider::Decider;
+use crate::lookup::Lookup;
+use crate::marks::{Marks, Reached};
+use crate::pending::Pending;
+use gm_arena::Steps;
+use gm_model::{Embed, OutOfMemory};
+use std::sync::ledger::Ledger;
+
+impl Pending<'_, '_> {
+    /// Finds the deciding instances of an embedding, which wasn't asked for before, and answers how
+    /// many they are. Where memory was wanting, it counts as not asked for.
+    pub fn deciding<L: Ledger>(
+        &mut self,
+        embed: u8,
+        steps: &mut Steps<L>,
+    ) -> Result<u32, OutOfMemory>
+        requires embed { embed < length self.old.map.schema.embeds }
+        requires unasked { IsAsked self.old embed → ⊥ }
+        ensures asked { OnOk result (self.new ≡ with_deciders self.old embed (deciders_of self.new embed)) }
+        ensures deciders { OnOk result ((kept : Embed) → IsEmbedAt self.old.map.schema embed kept → AreDeciders self.old embed kept (deciders_of self.new embed)) }
+        ensures ungiven { OnOk result ((decider : Decider) → Contains (deciders_of self.new embed) decider → decider.value ≡ None) }
+        ensures count { IfOk result (λ count. count ≡ length (deciders_of self.new embed)) }
+        ensures err { OnErr result (self.new ≡ self.old) }
+        ensures cost { (kept : Embed) → IsEmbedAt self.old.map.schema embed kept → IsWithinReach self.old embed kept steps.old steps.new }
+        ensures least { steps.old ≤ steps.new }
+    {
+        self.look_up(embed)?;
+        let asked = self.decide(embed, steps)?;
+        let count = asked.deciders.len() as u32;
+        keep(&mut self.asked, embed, asked);
+        Ok(count)
+    }
+
+    /// Prepares the look-up of slots, where the rule assigns the embedding.
+    fn look_up(&mut self, embed: u8) -> Result<(), OutOfMemory>
+        ensures { self.new ≡ self.old }
+    {
+        if self.lookup.is_none() && self.assigns_any(embed) {
+            let nodes = self.plan.left_nodes();
+            self.lookup = Some(Lookup::build(self.alloc, self.found, nodes)?);
+        }
+        Ok(())
+    }
+
+    /// Finds the deciding instances of an embedding and the darts that they reach.
+    fn decide<L: Ledger>(&self, embed: u8, steps: &mut Steps<L>) -> Result<Asked, OutOfMemory>
+        requires { embed < length self.now.map.schema.embeds }
+        ensures deciders { IfOk result (λ asked. (kept : Embed) → IsEmbedAt self.now.map.schema embed kept → AreDeciders self.now embed kept asked.deciders.items) }
+        ensures reached { IfOk result (λ asked. (kept : Embed) → IsEmbedAt self.now.map.schema embed kept → AreReached self.now embed kept asked.deciders.items asked.marks) }
+        ensures ungiven { IfOk result (λ asked. (decider : Decider) → Contains asked.deciders.items decider → decider.value ≡ None) }
+        ensures few { IfOk result (λ asked. length asked.deciders.items ≤ 4294967295) }
+        ensures cost { (kept : Embed) → IsEmbedAt self.now.map.schema embed kept → IsWithinReach self.now embed kept steps.old steps.new }
+        ensures least { steps.old ≤ steps.new }
+        ensures prepared { IsPrepared self.now }
+    {
+        let declared = &self.arena.schema().embeds.as_slice()[embed as usize];
+        let mut asked = Asked {
+            deciders: Vec::new(self.alloc),
+            marks: Marks::new(self.alloc),
+        };
+        let outcome = self.decide_nodes(embed, declared, &mut asked, steps);
+        // The marks tell here that no dart comes twice.
+        prove!(asked.marks.len() <= usize::MAX);
+        outcome?;
+        Ok(asked)
+    }
+
+    fn decide_nodes<L: Ledger>(
+        &self,
+        embed: u8,
+        declared: &Embed,
+        asked: &mut Asked,
+        steps: &mut Steps<L>,
+    ) -> Result<(), OutOfMemory>
+        requires embed { IsEmbedAt self.now.map.schema embed declared.now }
+        requires earlier { IsDecidedUpTo self.now embed declared.now asked.old.deciders.items asked.old.marks 0 0 }
+        ensures decided { OnOk result (IsDecidedUpTo self.now embed declared.now asked.new.deciders.items asked.new.marks (length (rule_in self.now).nodes) 0) }
+        ensures darts { AreResultDarts self.now asked.new.marks }
+        ensures reached { AreSomeReached self.now embed declared.now asked.new.marks }
+        ensures cost { steps.new + (self.now.map.schema.dim + 1) * length asked.old.marks ≤ steps.old + (self.now.map.schema.dim + 1) * length asked.new.marks }
+        ensures least { steps.old ≤ steps.new }
+        ensures prepared { IsPrepared self.now }
+    {
+        let nodes = self.nodes();
+        for node in 0..nodes {
+            if self.assigns(embed, node) {
+                self.decide_node(embed, declared, node, asked, steps)?;
+            }
+        }
+        Ok(())
+    }
+
+    /// Looks at the instances of a node with an assignment to the embedding.
+    fn decide_node<L: Ledger>(
+        &self,
+        embed: u8,
+        declared: &Embed,
+        node: u8,
+        asked: &mut Asked,
+        steps: &mut Steps<L>,
+    ) -> Result<(), OutOfMemory>
+        requires embed { IsEmbedAt self.now.map.schema embed declared.now }
+        requires assigned { IsAssigned (rule_in self.now) embed node }
+        requires earlier { IsDecidedUpTo self.now embed declared.now asked.old.deciders.items asked.old.marks node 0 }
+        ensures decided { OnOk result (IsDecidedUpTo self.now embed declared.now asked.new.deciders.items asked.new.marks (node + 1) 0) }
+        ensures darts { AreResultDarts self.now asked.new.marks }
+        ensures reached { AreSomeReached self.now embed declared.now asked.new.marks }
+        ensures cost { steps.new + (self.now.map.schema.dim + 1) * length asked.old.marks ≤ steps.old + (self.now.map.schema.dim + 1) * length asked.new.marks }
+        ensures least { steps.old ≤ steps.new }
+    {
+        for position in 0..self.positions() {
+            self.decide_instance(embed, declared, node, position, asked, steps)?;
+        }
+        Ok(())
+    }
+
+    /// Looks at an instance with an assignment: it decides, unless an earlier one reached its dart.
+    fn decide_instance<L: Ledger>(
+        &self,
+        embed: u8,
+        declared: &Embed,
+        node: u8,
+        position: u32,
+        asked: &mut Asked,
+        steps: &mut Steps<L>,
+    ) -> Result<(), OutOfMemory>
+        requires embed { IsEmbedAt self.now.map.schema embed declared.now }
+        requires assigned { IsAssigned (rule_in self.now) embed node }
+        requires position { position < self.now.placed.positions }
+        requires earlier { IsDecidedUpTo self.now embed declared.now asked.old.deciders.items asked.old.marks node position }
+        ensures decided { OnOk result (IsDecidedUpTo self.now embed declared.now asked.new.deciders.items asked.new.marks node (position + 1)) }
+        ensures darts { AreResultDarts self.now asked.new.marks }
+        ensures reached { AreSomeReached self.now embed declared.now asked.new.marks }
+        ensures cost { steps.new + (self.now.map.schema.dim + 1) * length asked.old.marks ≤ steps.old + (self.now.map.schema.dim + 1) * length asked.new.marks }
+        ensures least { steps.old ≤ steps.new }
+    {
+        // The application tells here what its type keeps.
+        prove!(self.labels() <= 8);
+        let at = self.place(node, position);
+        if asked.marks.decider(at).is_some() {
+            return Ok(());
+        }
+        // So many instances take more memory than there is.
+        if asked.deciders.len() >= u32::MAX as usize {
+            return Err(OutOfMemory);
+        }
+        let index = asked.deciders.len() as u32;
+        asked.deciders.push(Decider {
+            node,
+            position,
+            value: None,
+        })?;
+        self.reach(at, index, embed, declared, &mut asked.marks, steps)
+    }
+
+    /// Walks the orbit of an instance, and marks its darts.
+    fn reach<L: Ledger>(
+        &self,
+        at: At,
+        index: u32,
+        embed: u8,
+        declared: &Embed,
+        marks: &mut Marks,
+        steps: &mut Steps<L>,
+    ) -> Result<(), OutOfMemory>
+        requires embed { IsEmbedAt self.now.map.schema embed declared.now }
+        requires dart { IsResultDart self.now at }
+        requires darts { AreResultDarts self.now marks.old }
+        requires absent { HasKey marks.old (key_of at) → ⊥ }
+        ensures darts { AreResultDarts self.now marks.new }
+        ensures spread { OnOk result ((unfolded : Unfolded) → IsUnfoldedIn self.now unfolded → IsClosed self.now declared.now unfolded marks.old → IsSpreadTo self.now declared.now unfolded marks.old marks.new index (name_of self.now at) (length marks.new) 0) }
+        ensures grown { (unfolded : Unfolded) → IsUnfoldedIn self.now unfolded → IsClosed self.now declared.now unfolded marks.old → IsGrown self.now declared.now unfolded marks.old marks.new index (name_of self.now at) }
+        ensures cost { steps.new + (self.now.map.schema.dim + 1) * length marks.old ≤ steps.old + (self.now.map.schema.dim + 1) * length marks.new }
+        ensures least { steps.old ≤ steps.new }
+    {
+        // The application tells here what its type keeps.
+        prove!(self.labels() <= 8);
+        let mut next = marks.len();
+        marks.mark(at, index)?;
+        while next < marks.len() {
+            let from = marks.get(next);
+            self.spread(from, embed, declared, marks, steps)?;
+            next += 1;
+        }
+        Ok(())
+    }
+
+    /// Marks the neighbours of a reached dart.
+    fn spread<L: Ledger>(
+        &self,
+        from: Reached,
+        embed: u8,
+        declared: &Embed,
+        marks: &mut Marks,
+        steps: &mut Steps<L>,
+    ) -> Result<(), OutOfMemory>
+        requires embed { IsEmbedAt self.now.map.schema embed declared.now }
+        requires darts { AreResultDarts self.now marks.old }
+        requires from { Contains marks.old from }
+        ensures darts { AreResultDarts self.now marks.new }
+        ensures followed { OnOk result (IsFollowedTo self.now declared.now from marks.old marks.new (self.now.map.schema.dim + 1)) }
+        ensures grown { IsFollowed self.now declared.now from marks.old marks.new }
+        ensures longer { length marks.old ≤ length marks.new }
+        ensures cost { steps.new ≤ steps.old + (self.now.map.schema.dim + 1) }
+        ensures least { steps.old ≤ steps.new }
+    {
+        for label in 0..self.labels() {
+            if declared.mask.has(label) {
+                let to = self.alpha(from.at, label, steps);
+                marks.mark(to, from.decider)?;
+            }
+        }
+        Ok(())
+    }
+}

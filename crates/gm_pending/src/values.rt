@@ -1,0 +1,113 @@
+//! The values of a result, as the values that were given to its deciding instances make them.
+ghost use Rattle.std.specs.Prelude.{◌≡◌, ◌+◌, ◌<◌, ◌≤◌, length, map, slice_get, Some, IsSome, IsTrue};
+ghost use Rattle.gm_model.specs.declared.schema.Embed.{Embed};
+ghost use Rattle.gm_model.specs.Maps.{IsEmbedAt};
+ghost use Rattle.gm_model.specs.Values.{IsValueOf};
+ghost use Rattle.gm_pending.specs.declared.decider.Decider.{Decider};
+ghost use Rattle.gm_pending.specs.Reached.{AreReached};
+ghost use Rattle.gm_pending.specs.Sources.{HasSourceNode, IsSourceOf, given_of};
+ghost use Rattle.gm_pending.specs.declared.at.At.TheVariants.{New};
+ghost use Rattle.gm_model.specs.Rules.{is_added};
+ghost use Rattle.gm_arena.specs.ArenaMap.{IsLiveSlot};
+ghost use Rattle.gm_pending.specs.Results.{IsPrepared, IsAsked, AreAllGiven, IsResultDart, IsValueIn, deciders_of, given_at, with_deciders, name_of, place_of, rule_in};
+
+use crate::asked::{Asked, keep, take_out};
+use crate::at::At;
+use crate::component::keeper_of;
+use crate::decider::Decider;
+use crate::pending::Pending;
+use gm_arena::{Slot, Steps};
+use gm_model::Value;
+use std::sync::ledger::Ledger;
+
+impl Pending<'_, '_> {
+    /// The node and the position of a deciding instance of the embedding, by its index.
+    pub fn decider(&self, embed: u8, index: u32) -> (u8, u32)
+        requires { index < length (deciders_of self.now embed) }
+        ensures { slice_get (map place_of (deciders_of self.now embed)) index ≡ Some result }
+    {
+        let decider = self.answer(embed).deciders[index as usize];
+        (decider.node, decider.position)
+    }
+
+    /// Gives a deciding instance of the embedding its value.
+    pub fn give(&mut self, embed: u8, index: u32, value: Value)
+        requires index { index < length (deciders_of self.old embed) }
+        requires value { (kept : Embed) → IsEmbedAt self.old.map.schema embed kept → IsValueOf kept.kind value }
+        ensures { self.new ≡ with_deciders self.old embed (given_at (deciders_of self.old embed) index value) }
+    {
+        let Some(mut asked) = take_out(&mut self.asked, embed) else {
+            unreachable!()
+        };
+        asked.deciders[index as usize].value = Some(value);
+        keep(&mut self.asked, embed, asked);
+    }
+
+    /// The value of a dart of the result, of an embedding whose deciding instances all have values.
+    pub fn value<L: Ledger>(&self, at: At, embed: u8, steps: &mut Steps<L>) -> Value
+        requires dart { IsResultDart self.now at }
+        requires given { AreAllGiven self.now embed }
+        ensures value { (kept : Embed) → IsEmbedAt self.now.map.schema embed kept → IsValueIn self.now embed kept (name_of self.now at) result }
+        ensures cost { steps.new ≤ steps.old + 1 }
+        ensures least { steps.old ≤ steps.new }
+    {
+        let asked = self.answer(embed);
+        match asked.marks.decider(at) {
+            Some(index) => given(&asked.deciders, index),
+            None => self.arena.value(self.source(at, embed), embed, steps),
+        }
+    }
+
+    /// The old dart whose value a dart has in an orbit without a deciding instance.
+    pub(crate) fn source(&self, at: At, embed: u8) -> Slot
+        requires dart { IsResultDart self.now at }
+        requires embed { embed < length self.now.map.schema.embeds }
+        requires keeper { (kept : Embed) → IsEmbedAt self.now.map.schema embed kept → HasSourceNode self.now kept at }
+        ensures live { IsLiveSlot self.now.map result.at }
+        ensures source { (kept : Embed) → IsEmbedAt self.now.map.schema embed kept → IsSourceOf self.now kept at result.at }
+    {
+        match at {
+            At::Old(slot) => slot,
+            At::New { node, position } => self.kept_slot(node, position, embed),
+        }
+    }
+
+    /// The slot of the least preserved node of an added node's component, at the position.
+    pub(crate) fn kept_slot(&self, node: u8, position: u32, embed: u8) -> Slot
+        requires added { IsTrue (is_added (rule_in self.now) node) }
+        requires position { position < self.now.placed.positions }
+        requires embed { embed < length self.now.map.schema.embeds }
+        requires keeper { (kept : Embed) → IsEmbedAt self.now.map.schema embed kept → HasSourceNode self.now kept (New node position) }
+        ensures live { IsLiveSlot self.now.map result.at }
+        ensures source { (kept : Embed) → IsEmbedAt self.now.map.schema embed kept → IsSourceOf self.now kept (New node position) result.at }
+    {
+        let declared = &self.arena.schema().embeds.as_slice()[embed as usize];
+        let keeper = keeper_of(self.plan.rule(), declared.mask, node);
+        self.found.slot(keeper, position)
+    }
+
+    /// What was answered for an embedding that was asked for.
+    pub(crate) fn answer(&self, embed: u8) -> &Asked
+        requires { IsAsked self.now embed }
+        ensures deciders { result.now.deciders.items ≡ deciders_of self.now embed }
+        ensures reached { (kept : Embed) → IsEmbedAt self.now.map.schema embed kept → AreReached self.now embed kept (deciders_of self.now embed) result.now.marks }
+        ensures embed { embed < length self.now.map.schema.embeds }
+        ensures prepared { IsPrepared self.now }
+    {
+        match &self.asked[embed as usize] {
+            Some(asked) => asked,
+            None => unreachable!(),
+        }
+    }
+}
+
+/// The value that was given to a deciding instance.
+pub(crate) fn given(deciders: &[Decider], index: u32) -> Value
+    requires { IsSome (given_of deciders.now index) }
+    ensures { given_of deciders.now index ≡ Some result }
+{
+    match deciders[index as usize].value {
+        Some(value) => value,
+        None => unreachable!(),
+    }
+}

@@ -1,0 +1,158 @@
+-- The values of a line that a text stands for are values of its rule's parameters, each in the range of its kind.
+use Rattle.std.proofs.Common.{◌≡◌, ℕ, zero, suc, ◌+◌, ◌<◌, ◌≤◌, ◌^◌, Bool, true, false, cond, ℤ, pos, negsuc, FitsSigned, w64, List, [], ◌∷◌, ◌++◌, map, Some, None, slice_get, refl, sym, ap, subst, ◌∙◌, arith, codes}
+use Rattle.std.specs.Prelude.{IsTrue, ◌&&◌, nat_lt, nat_abs, int_le}
+use Rattle.std.specs.List.{AllByRecursion, AllZip}
+use Rattle.std.proofs.lemmas.Bool.Decides.{nat_tests}
+use Rattle.std.proofs.lemmas.Bool.{and_parts}
+use Rattle.std.proofs.lemmas.Option.{same_Some}
+use Rattle.gm_model.specs.declared.limit.LimitKind.{LimitKind}
+use Rattle.gm_model.specs.declared.limit.LimitKind.TheVariants as limits
+use Rattle.gm_model.specs.declared.rule.Param.{Param}
+use Rattle.gm_model.specs.declared.script.Line.{Line}
+use Rattle.gm_model.specs.declared.value.Kind.{Kind}
+use Rattle.gm_model.specs.declared.value.Kind.TheVariants as kinds
+use Rattle.gm_model.specs.declared.value.Value.{Value}
+use Rattle.gm_model.specs.declared.value.Value.TheVariants as values
+use Rattle.gm_model.specs.Kinds.{AreGoodParams, param_kinds}
+use Rattle.gm_model.specs.Reading.{Part, IsWithin}
+use Rattle.gm_model.specs.Rules.{Rule}
+use Rattle.gm_model.specs.Symbols.{Numeral}
+use Rattle.gm_model.specs.Values.{IsValueOf}
+use Rattle.gm_text.specs.ValueText.{Signed, integer, greatest, is_channel}
+use Rattle.gm_script.specs.ScriptText.{ValueForm, Plain, Truth, Pair, Triple, LineForm, Role, Fixed, Hook, Size, limit_of, number, sign, the_end, spell_signed, spell_value, spell_values, spell_params, spell_lines, IsSentence, value_as, colour, AreParams, IsLine, AreLines, ScriptText}
+
+abbrev AreWithin : List (Part Role) → Type 0
+AreWithin parts = IsWithin IsSentence limit_of parts
+
+-- ---- numbers
+
+abbrev IsInRange : Signed → Type 0
+IsInRange x = FitsSigned w64 (integer x)
+
+fits : (minus : Bool) (n : ℕ) → n ≤ greatest minus → IsInRange (record { minus = minus; size = n })
+fits true zero small = record { sfits = omega arith }
+fits true (suc n) small = record { sfits = omega (arith, small) }
+fits false n small = record { sfits = omega (arith, small) }
+
+size_fits : (minus : Bool) (n : ℕ) → limit_of (Size minus) (Numeral n) ≡ None → IsInRange (record { minus = minus; size = n })
+size_fits minus n e = go (nat_lt (greatest minus) n) refl e
+  where
+    go : (b : Bool) → nat_lt (greatest minus) n ≡ b → cond b (Some limits.Integer) None ≡ None → IsInRange (record { minus = minus; size = n })
+    go true f e = absurd cc
+    go false f e = let small : n ≤ greatest minus = grind (arith, nat_tests, f) in fits minus n small
+
+signed_within : (minus : Bool) (n : ℕ) (rest : List (Part Role)) → AreWithin (spell_signed (record { minus = minus; size = n }) rest) → IsInRange (record { minus = minus; size = n }) × AreWithin rest
+signed_within true n rest within = (size_fits true n within.1.0, within.1.1)
+signed_within false n rest within = (size_fits false n within.0, within.1)
+
+-- ---- values
+
+-- each number of the value is in range
+abbrev IsGoodForm : ValueForm → Type 0
+IsGoodForm (Plain x) = IsInRange x
+IsGoodForm (Truth b) = Unit {0}
+IsGoodForm (Pair x y) = IsInRange x × IsInRange y
+IsGoodForm (Triple x y z) = IsInRange x × IsInRange y × IsInRange z
+
+value_within : (form : ValueForm) (rest : List (Part Role)) → AreWithin (spell_value form rest) → IsGoodForm form × AreWithin rest
+value_within (Plain x) rest within = signed_within x.minus x.size rest within
+value_within (Truth true) rest within = (tt, within.1)
+value_within (Truth false) rest within = (tt, within.1)
+value_within (Pair x y) rest within =
+    let last = sign (codes ")") ∷ rest in
+    let first = signed_within x.minus x.size (spell_signed y last) within.1 in
+    let second = signed_within y.minus y.size last first.1 in
+    ((first.0, second.0), second.1.1)
+value_within (Triple x y z) rest within =
+    let last = sign (codes ")") ∷ rest in
+    let first = signed_within x.minus x.size (spell_signed y (spell_signed z last)) within.1 in
+    let second = signed_within y.minus y.size (spell_signed z last) first.1 in
+    let third = signed_within z.minus z.size last second.1 in
+    ((first.0, second.0, third.0), third.1.1)
+
+values_within : (forms : List ValueForm) (rest : List (Part Role)) → AreWithin (spell_values forms rest) → AllByRecursion IsGoodForm forms × AreWithin rest
+values_within [] rest within = (tt, within)
+values_within (form ∷ forms) rest within =
+    let first = value_within form (spell_values forms rest) within in
+    let others = values_within forms rest first.1 in
+    ((first.0, others.0), others.1)
+
+params_within : (forms : List ValueForm) (rest : List (Part Role)) → AreWithin (spell_params forms rest) → AllByRecursion IsGoodForm forms × AreWithin rest
+params_within [] rest within = (tt, within)
+params_within (form ∷ forms) rest within = values_within (form ∷ forms) rest within.1
+
+hooks_within : (hooks : List ℕ) (rest : List (Part Role)) → AreWithin (map (number Hook) hooks ++ rest) → AreWithin rest
+hooks_within [] rest within = within
+hooks_within (hook ∷ hooks) rest within = hooks_within hooks rest within.1
+
+abbrev HasGoodForms : LineForm → Type 0
+HasGoodForms line = AllByRecursion IsGoodForm line.values
+
+lines_within : (k : ℕ) (lines : List LineForm) (rest : List (Part Role)) → AreWithin (spell_lines k lines rest) → AllByRecursion HasGoodForms lines
+lines_within k [] rest within = tt
+lines_within k (line ∷ lines) rest within =
+    let behind = spell_lines (k + 1) lines rest in
+    let here = params_within line.values behind (hooks_within line.hooks (spell_params line.values behind) within.1.1) in
+    (here.0, lines_within (k + 1) lines rest here.1)
+
+-- ---- values of a kind
+
+channel_low : (x : ℤ) → IsTrue (is_channel x) → nat_abs x < 256
+channel_low (pos n) is = grind (arith, nat_tests, and_parts (int_le (pos 0) (pos n)) (int_le (pos n) (pos 255)) is)
+channel_low (negsuc n) is = absurd cc
+
+colour_of_kind : (r g b : ℤ) (v : Value) → colour r g b ≡ Some v → IsValueOf kinds.Rgb v
+colour_of_kind r g b v e = go (is_channel r) (is_channel g) (is_channel b) refl refl refl e
+  where
+    made : Value
+    made = values.Rgb (nat_abs r) (nat_abs g) (nat_abs b)
+
+    go : (p q s : Bool) → is_channel r ≡ p → is_channel g ≡ q → is_channel b ≡ s → cond (p && q && s) (Some made) None ≡ Some v → IsValueOf kinds.Rgb v
+    go true true true f g' h e = subst (IsValueOf kinds.Rgb) (same_Some made v e) (record { kind_is = refl; range = (channel_low r f, channel_low g g', channel_low b h) })
+    go true true false f g' h e = absurd cc
+    go true false s f g' h e = absurd cc
+    go false q s f g' h e = absurd cc
+
+value_of_kind : (kind : Kind) (form : ValueForm) (v : Value) → IsGoodForm form → value_as kind form ≡ Some v → IsValueOf kind v
+value_of_kind kinds.Int (Plain x) v good e = subst (IsValueOf kinds.Int) (same_Some _ v e) (record { kind_is = refl; range = good })
+value_of_kind kinds.Bool (Truth b) v good e = subst (IsValueOf kinds.Bool) (same_Some _ v e) (record { kind_is = refl; range = tt })
+value_of_kind kinds.Vec2 (Pair x y) v good e = subst (IsValueOf kinds.Vec2) (same_Some _ v e) (record { kind_is = refl; range = good })
+value_of_kind kinds.Vec3 (Triple x y z) v good e = subst (IsValueOf kinds.Vec3) (same_Some _ v e) (record { kind_is = refl; range = good })
+value_of_kind kinds.Rgb (Triple x y z) v good e = colour_of_kind (integer x) (integer y) (integer z) v e
+value_of_kind kind form v good e = absurd cc
+
+good_params : (params : List Param) (forms : List ValueForm) (vs : List Value) → AllByRecursion IsGoodForm forms → AreParams params forms vs → AllZip IsValueOf (param_kinds params) vs
+good_params [] [] [] good are = tt
+good_params [] [] (v ∷ vs) good are = absurd are
+good_params [] (form ∷ forms) vs good are = absurd are
+good_params (param ∷ params) [] vs good are = absurd are
+good_params (param ∷ params) (form ∷ forms) [] good are = absurd are
+good_params (param ∷ params) (form ∷ forms) (v ∷ vs) good are = (value_of_kind param.kind form v good.0 are.0, good_params params forms vs good.1 are.1)
+
+-- ---- lines
+
+module _ (rules : List Rule) where
+  -- whichever rule the line names, it has a value for each parameter
+  abbrev pub HasGoodParams : Line → Type 0
+  HasGoodParams line = (rule : Rule) → slice_get rules line.rule ≡ Some rule → AreGoodParams rule line.params
+
+  line_good : (form : LineForm) (line : Line) → HasGoodForms form → IsLine rules form line → HasGoodParams line
+  line_good form line good is rule there =
+      subst (λ (r : Rule). AreGoodParams r line.params) (same_Some is.rule rule (sym is.named.there ∙ there)) (good_params is.rule.params form.values line.params good is.params)
+
+  lines_good : (forms : List LineForm) (lines : List Line) → AllByRecursion HasGoodForms forms → AreLines rules forms lines → AllByRecursion HasGoodParams lines
+  lines_good [] [] good are = tt
+  lines_good [] (line ∷ lines) good are = absurd are
+  lines_good (form ∷ forms) [] good are = absurd are
+  lines_good (form ∷ forms) (line ∷ lines) good are = (line_good form line good.0 are.0, lines_good forms lines good.1 are.1)
+
+  pub script_params_good : (text : List ℕ) (lines : List Line) → ScriptText text rules lines → AllByRecursion HasGoodParams lines
+  script_params_good text lines script = lines_good script.forms lines (lines_within 0 script.forms (the_end ∷ []) script.written.read.within) script.same
+
+at_place : (P : Line → Type 0) (lines : List Line) (k : ℕ) (line : Line) → AllByRecursion P lines → slice_get lines k ≡ Some line → P line
+at_place P [] k line all at = absurd cc
+at_place P (first ∷ lines) zero line all at = subst P (same_Some first line at) all.0
+at_place P (first ∷ lines) (suc k) line all at = at_place P lines k line all.1 at
+
+pub params_fit : (text : List ℕ) (rules : List Rule) (lines : List Line) (k : ℕ) (line : Line) (rule : Rule) → ScriptText text rules lines → slice_get lines k ≡ Some line → slice_get rules line.rule ≡ Some rule → AreGoodParams rule line.params
+params_fit text rules lines k line rule script at there = at_place (HasGoodParams rules) lines k line (script_params_good rules text lines script) at rule there
