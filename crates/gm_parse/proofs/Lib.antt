@@ -1,0 +1,5 @@
+pub mod Keys
+pub mod Leading
+pub mod Frames
+pub mod Sound
+pub mod Counted

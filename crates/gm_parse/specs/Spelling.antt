@@ -143,18 +143,14 @@ counted_from k (part ∷ parts) = record { symbol = part.symbol; role = record {
 abbrev pub parts_of : ℕ → Form → List (Part Counted)
 parts_of n form = counted_from 0 (spell n form [])
 
--- how many symbols it has
-abbrev pub size_of : Form → ℕ
-size_of form = length (spell 0 form [])
-
-abbrev pub symbols_of_form : Form → List Symbol
-symbols_of_form form = symbols_in (spell 0 form [])
+abbrev pub symbols_of : ℕ → Form → List Symbol
+symbols_of n form = symbols_in (spell n form [])
 
 -- ---- an expression before anything else
 
 -- some expression begins with the form's symbols and goes on with this one
-abbrev pub GoesOn : Form → Symbol → Type 0
-GoesOn form symbol = (longer : Form) × IsGood longer × (more : List Symbol) × (symbols_of_form longer ≡ symbols_of_form form ++ symbol ∷ more)
+abbrev pub GoesOn : ℕ → Form → Symbol → Type 0
+GoesOn n form symbol = (longer : Form) × IsGood longer × (more : List Symbol) × (symbols_of n longer ≡ symbols_of n form ++ symbol ∷ more)
 
 -- what stands behind the expression is not judged
 abbrev pub beyond : Symbol → Part Counted
@@ -166,7 +162,7 @@ pub record IsSentence (n : ℕ) (parts : List (Part Counted)) : Type 0 where
   pub good : IsGood form
   pub next : Symbol
   pub others : List Symbol
-  pub ends : GoesOn form next → ⊥
+  pub ends : GoesOn n form next → ⊥
   pub spelled : parts ≡ parts_of n form ++ map beyond (next ∷ others)
 
 abbrev pub IsPlacedAt : ℕ → Role → Type 0
@@ -185,10 +181,10 @@ pub record Stands (n : ℕ) (form : Form) (marks rest : List Mark) : Type 0 wher
   pub before : List Mark
   pub split : marks ≡ before ++ rest
   pub good : IsGood form
-  pub spelled : symbols before ≡ symbols_in (spell n form [])
+  pub spelled : symbols before ≡ symbols_of n form
   pub within : IsWithin (IsSentence n) limit_in (parts_of n form)
   pub placed : ArePlaced before (spell n form [])
   pub next : Mark
   pub others : List Mark
   pub behind : rest ≡ next ∷ others
-  pub ends : GoesOn form next.symbol → ⊥
+  pub ends : GoesOn n form next.symbol → ⊥
