@@ -3,3 +3,4 @@ pub mod Leading
 pub mod Frames
 pub mod Sound
 pub mod Counted
+pub mod Standing

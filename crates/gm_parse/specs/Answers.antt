@@ -12,7 +12,7 @@ use Rattle.gm_model.specs.Symbols.{Mark}
 use Rattle.gm_model.specs.Trees.{Tree}
 use Rattle.gm_text.specs.Cursor.{Cursor}
 use Rattle.gm_text.specs.Machine.{Stop, Ends, Passes, run}
-use Rattle.gm_text.specs.SchemaAnswers.{marks_left}
+use Rattle.gm_text.specs.SchemaAnswers.{marks_left, IsNoToken}
 use Rattle.gm_parse.specs.declared.fault.ExprFault.{ExprFault}
 use Rattle.gm_parse.specs.declared.fault.ExprFault.TheVariants as faults
 use Rattle.gm_parse.specs.declared.fault.SyntaxFault.{SyntaxFault}
@@ -105,3 +105,10 @@ pub record EndsIn (n : ℕ) (spot : Spot) (old : Cursor) (place : ℕ) : Type 0 
 abbrev pub Stops : ℕ → Spot → Cursor → SyntaxFault → Type 0
 Stops n spot old (syntax_faults.Text place) = EndsIn n spot old place
 Stops n spot old (syntax_faults.Limit what place) = (last : ℕ) → run_in n spot last (marks_left old) ≡ Err (Passes what place)
+
+-- no token stands next, but at the place a stray byte or the end
+pub record IsNoneNext (old : Cursor) (place : ℕ) : Type 0 where
+  pub mark : Mark
+  pub none : IsNoToken mark.symbol
+  pub marks : marks_left old ≡ mark ∷ []
+  pub here : mark.place ≡ place

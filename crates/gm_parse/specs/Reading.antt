@@ -89,28 +89,35 @@ at state place = Some (record state { place = place })
 abbrev pub opened : State → Bracket → State
 opened state bracket = state_at (bracket ∷ state.open_brackets) false (places.Operand needs.Any)
 
+-- the same brackets, and the place where there is one
+abbrev pub move_to : State → Option Place → Option State
+move_to state to = option_map (λ (place : Place). record state { place = place }) to
+
 -- ---- where an operand begins
 
 abbrev pub if_move : State → Need → Option State
 if_move state needs.Any = Some (opened state brackets.If)
 if_move state _ = None
 
-abbrev pub not_move : State → Need → Option State
-not_move state needs.Tight = None
-not_move state _ = at state (places.Operand needs.NoIf)
+abbrev pub not_place : Need → Option Place
+not_place needs.Tight = None
+not_place _ = Some (places.Operand needs.NoIf)
+
+abbrev pub operand_place : Need → Key → Option Place
+operand_place need keys.Number = Some places.Behind
+operand_place need (keys.Truth b) = Some places.Behind
+operand_place need keys.Name = Some places.BehindName
+operand_place need (keys.Operator ops.Sub) = Some (places.Operand needs.Tight)
+operand_place need keys.Not = not_place need
+operand_place need keys.Same = Some places.Same
+operand_place need keys.Count = Some (places.Orbit endings.Close)
+operand_place need (keys.Collect collector) = Some (places.Orbit endings.FieldClose)
+operand_place need _ = None
 
 abbrev pub operand_move : State → Need → Key → Option State
-operand_move state need keys.Number = at state places.Behind
-operand_move state need (keys.Truth b) = at state places.Behind
-operand_move state need keys.Name = at state places.BehindName
 operand_move state need keys.Open = Some (opened state (brackets.Group state.compared))
-operand_move state need (keys.Operator ops.Sub) = at state (places.Operand needs.Tight)
-operand_move state need keys.Not = not_move state need
 operand_move state need keys.If = if_move state need
-operand_move state need keys.Same = at state places.Same
-operand_move state need keys.Count = at state (places.Orbit endings.Close)
-operand_move state need (keys.Collect collector) = at state (places.Orbit endings.FieldClose)
-operand_move state need _ = None
+operand_move state need key = move_to state (operand_place need key)
 
 -- ---- behind an operand
 
@@ -163,31 +170,32 @@ behind_name_move state key = behind_move state key
 
 -- ---- dart terms
 
-abbrev pub expect : Key → Key → State → Place → Option State
-expect keys.Open keys.Open state place = at state place
-expect keys.Close keys.Close state place = at state place
-expect keys.Name keys.Name state place = at state place
-expect keys.Number keys.Number state place = at state place
-expect (keys.Operator ops.Lt) (keys.Operator ops.Lt) state place = at state place
-expect _ _ state place = None
-
-abbrev pub label_move : State → Ending → Key → Option State
-label_move state ending keys.Number = at state (places.Label ending)
-label_move state ending (keys.Operator ops.Gt) = at state (places.Open ending)
-label_move state ending _ = None
-
 -- a label of a path, or what stands behind the term
-abbrev pub behind_node_move : State → Ending → Key → Option State
-behind_node_move state ending keys.At = at state (places.Step ending)
-behind_node_move state endings.Comma keys.Comma = at state (places.Node endings.Close)
-behind_node_move state endings.Close keys.Close = at state places.Behind
-behind_node_move state endings.Field keys.Dot = at state (places.Field endings.Field)
-behind_node_move state endings.FieldClose keys.Dot = at state (places.Field endings.FieldClose)
-behind_node_move state _ _ = None
+abbrev pub behind_node : Ending → Key → Option Place
+behind_node ending keys.At = Some (places.Step ending)
+behind_node endings.Comma keys.Comma = Some (places.Node endings.Close)
+behind_node endings.Close keys.Close = Some places.Behind
+behind_node endings.Field keys.Dot = Some (places.Field endings.Field)
+behind_node endings.FieldClose keys.Dot = Some (places.Field endings.FieldClose)
+behind_node _ _ = None
 
 abbrev pub behind_field : Ending → Place
 behind_field endings.FieldClose = places.Close
 behind_field _ = places.Behind
+
+-- where a term and what is read at it go on; elsewhere they don't
+abbrev pub term_place : Place → Key → Option Place
+term_place places.Same keys.Open = Some (places.Node endings.Comma)
+term_place (places.Orbit ending) (keys.Operator ops.Lt) = Some (places.Label ending)
+term_place (places.Label ending) keys.Number = Some (places.Label ending)
+term_place (places.Label ending) (keys.Operator ops.Gt) = Some (places.Open ending)
+term_place (places.Open ending) keys.Open = Some (places.Node ending)
+term_place (places.Node ending) keys.Name = Some (places.BehindNode ending)
+term_place (places.BehindNode ending) key = behind_node ending key
+term_place (places.Step ending) keys.Number = Some (places.BehindNode ending)
+term_place (places.Field ending) keys.Name = Some (behind_field ending)
+term_place places.Close keys.Close = Some places.Behind
+term_place _ _ = None
 
 -- ---- moves
 
@@ -195,15 +203,7 @@ abbrev pub move_by : State → Place → Key → Option State
 move_by state (places.Operand need) key = operand_move state need key
 move_by state places.Behind key = behind_move state key
 move_by state places.BehindName key = behind_name_move state key
-move_by state places.Same key = expect keys.Open key state (places.Node endings.Comma)
-move_by state (places.Orbit ending) key = expect (keys.Operator ops.Lt) key state (places.Label ending)
-move_by state (places.Label ending) key = label_move state ending key
-move_by state (places.Open ending) key = expect keys.Open key state (places.Node ending)
-move_by state (places.Node ending) key = expect keys.Name key state (places.BehindNode ending)
-move_by state (places.BehindNode ending) key = behind_node_move state ending key
-move_by state (places.Step ending) key = expect keys.Number key state (places.BehindNode ending)
-move_by state (places.Field ending) key = expect keys.Name key state (behind_field ending)
-move_by state places.Close key = expect keys.Close key state places.Behind
+move_by state place key = move_to state (term_place place key)
 
 -- the state behind a symbol, where it can stand
 abbrev pub move : State → Symbol → Option State

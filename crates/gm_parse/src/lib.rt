@@ -2,6 +2,7 @@
 //! tree that it means under the names of a schema and a rule.
 #![tactic(auto)]
 
+mod brackets;
 mod env;
 mod fault;
 mod function;
@@ -9,6 +10,8 @@ mod key;
 mod place;
 mod reading;
 mod skipping;
+mod state;
+mod tokens;
 
 pub use env::Env;
 pub use fault::{ExprFault, SyntaxFault};

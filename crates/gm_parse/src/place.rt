@@ -50,13 +50,14 @@ pub enum Place {
 }
 
 /// An open bracket. One of parentheses knows whether a comparison came before it.
-#[derive(Clone, Copy, Debug, PartialEq, Eq)]
+#[derive(Clone, Copy, Debug, Default, PartialEq, Eq)]
 pub enum Bracket {
     /// `(` of parentheses.
     Group(bool),
     /// `(` of a function.
     Call(bool),
     /// `if`, up to `then`.
+    #[default]
     If,
     /// `then`, up to `else`.
     Then,
