@@ -1,15 +1,13 @@
 -- Paths through the states, symbols counted, and what they come to by their symbols alone.
-use Rattle.std.proofs.Common.{◌≡◌, ℕ, ◌+◌, Bool, true, false, List, [], ◌∷◌, ◌++◌, length, Option, Some, None, refl, sym, ap, subst, ◌∙◌, arith}
+use Rattle.std.proofs.Common.{◌≡◌, ℕ, ◌+◌, Bool, false, List, [], ◌∷◌, ◌++◌, length, Option, Some, None, refl, sym, ap, subst, ◌∙◌, arith}
 use Rattle.std.specs.Option.{option_map, option_and_then}
 use Rattle.std.specs.Prelude.{IsTrue}
-use Rattle.gm_model.specs.declared.limit.LimitKind.{LimitKind}
 use Rattle.gm_model.specs.Reading.{Part, symbols_in}
 use Rattle.gm_model.specs.Symbols.{Symbol}
 use Rattle.gm_text.specs.Machine.{Leads}
-use Rattle.gm_parse.specs.Forms.{Form, IsGood, level_of}
+use Rattle.gm_parse.specs.Forms.{Form, IsGood}
 use Rattle.gm_parse.specs.Spelling.{Role, Counted, limit_in, counted_from, spell, symbols_of, parts_of, GoesOn}
 use Rattle.gm_parse.specs.Reading.{State, state_at, start, move, role_at, is_whole, Spot, spot_at, first_spot, spot_move, spot_role, is_whole_spot, never}
-use Rattle.gm_parse.specs.declared.place.Bracket.{Bracket}
 use Rattle.gm_parse.specs.declared.place.Need.TheVariants as needs
 use Rattle.gm_parse.specs.declared.place.Place.{Place}
 use Rattle.gm_parse.proofs.Leading.{Led, led_form, goes_on, compared_behind, place_behind, is_behind, IsBehind, Plainly, AtName}

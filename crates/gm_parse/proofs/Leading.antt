@@ -1,11 +1,10 @@
 -- Each good form leads through the states, and each state can be gone on from.
-use Rattle.std.proofs.Common.{◌≡◌, ◌<◌, ◌≤◌, ◌⊎◌, ℕ, Bool, true, false, cond, List, [], ◌∷◌, Option, Some, None, refl, sym, ap, subst, ◌∙◌, codes, arith}
+use Rattle.std.proofs.Common.{◌≡◌, ◌<◌, ◌≤◌, ℕ, Bool, true, false, List, [], ◌∷◌, Some, refl, sym, ap, subst, ◌∙◌, codes, arith}
 use Rattle.std.specs.Prelude.{IsTrue}
 use Rattle.gm_model.specs.declared.expr.BinOp.{BinOp}
 use Rattle.gm_model.specs.declared.expr.BinOp.TheVariants as ops
 use Rattle.gm_model.specs.Names.{Mention, reserved, is_among}
 use Rattle.gm_model.specs.Reading.{Part}
-use Rattle.gm_model.specs.Symbols.{Symbol, Word}
 use Rattle.gm_text.specs.Machine.{Leads}
 use Rattle.gm_text.specs.SchemaText.{LabelForm}
 use Rattle.gm_parse.specs.declared.key.Collector.{Collector}
@@ -22,8 +21,8 @@ use Rattle.gm_parse.specs.declared.place.Place.{Place}
 use Rattle.gm_parse.specs.declared.place.Place.TheVariants as places
 use Rattle.gm_parse.specs.Forms.{TermForm, Form, NumberForm, TruthForm, ParamForm, FieldForm, SameForm, CountForm, CollectForm, CallForm, ParenForm, MinusForm, NotForm, BinaryForm, IfForm, Arguments, First, Further, level_of, IsGood, AreGood}
 use Rattle.gm_parse.specs.Levels.{binary_level, least_on_left, least_on_right}
-use Rattle.gm_parse.specs.Spelling.{Role, Fixed, NameAt, limit_of, name, operator, spell, spell_arguments, spell_labels, spell_path, spell_term, sign, word, number, Quantity, LabelAt, StepAt, truth_word, collector_word}
-use Rattle.gm_parse.specs.Reading.{State, state_at, opened, operator_move, behind_move, move_by, move, role_at, key_role, key_of, is_whole}
+use Rattle.gm_parse.specs.Spelling.{Role, Fixed, limit_of, name, operator, spell, spell_arguments, spell_labels, spell_path, spell_term, sign, word, number, Quantity, StepAt, truth_word, collector_word}
+use Rattle.gm_parse.specs.Reading.{State, state_at, operator_move, behind_move, move_by, move, role_at, key_role, key_of, is_whole}
 use Rattle.gm_parse.proofs.Keys.{key_operator, key_name}
 
 abbrev pub plainly : Role → Bool

@@ -1,9 +1,9 @@
 -- What leads through the states to where an expression can end is the spelling of a good form.
-use Rattle.std.proofs.Common.{◌≡◌, ◌<◌, ◌≤◌, ◌⊎◌, inl, inr, ℕ, Bool, true, false, cond, List, [], ◌∷◌, ◌++◌, Option, Some, None, refl, sym, ap, subst, ◌∙◌, codes, arith}
+use Rattle.std.proofs.Common.{◌≡◌, ◌≤◌, ◌⊎◌, inl, inr, ℕ, Bool, true, false, List, [], ◌∷◌, ◌++◌, Option, Some, None, refl, sym, ap, subst, ◌∙◌, codes, arith}
 use Rattle.std.specs.Prelude.{IsTrue}
 use Rattle.gm_model.specs.declared.expr.BinOp.{BinOp}
 use Rattle.gm_model.specs.declared.expr.BinOp.TheVariants as ops
-use Rattle.gm_model.specs.Names.{Mention, IsFree, reserved, is_among}
+use Rattle.gm_model.specs.Names.{Mention, IsFree}
 use Rattle.gm_model.specs.Reading.{Part}
 use Rattle.gm_model.specs.Symbols.{Symbol, Word, Numeral, Sign}
 use Rattle.gm_text.specs.SchemaText.{LabelForm}
@@ -18,13 +18,13 @@ use Rattle.gm_parse.specs.declared.place.Need.{Need}
 use Rattle.gm_parse.specs.declared.place.Need.TheVariants as needs
 use Rattle.gm_parse.specs.declared.place.Place.{Place}
 use Rattle.gm_parse.specs.declared.place.Place.TheVariants as places
-use Rattle.gm_parse.specs.Forms.{TermForm, Form, NumberForm, TruthForm, ParamForm, FieldForm, SameForm, CountForm, CollectForm, CallForm, ParenForm, IfForm, Arguments, First, Further, level_of, IsGood, IsGoodTerm}
-use Rattle.gm_parse.specs.Levels.{binary_level, least_on_left, least_on_right}
+use Rattle.gm_parse.specs.Forms.{TermForm, Form, NumberForm, TruthForm, ParamForm, FieldForm, SameForm, CountForm, CollectForm, CallForm, ParenForm, First, Further, level_of, IsGood, IsGoodTerm}
+use Rattle.gm_parse.specs.Levels.{binary_level, least_on_right}
 use Rattle.gm_parse.specs.Spelling.{Role, Fixed, Quantity, NameAt, LabelAt, StepAt, name, operator, spell, spell_labels, spell_orbit, spell_path, spell_term, spell_field, sign, word, number, truth_word, collector_word}
-use Rattle.gm_parse.specs.Reading.{State, state_at, opened, operator_move, behind_move, close_move, comma_move, then_move, else_move, move_by, move, role_at, key_role, key_of, is_whole, start}
+use Rattle.gm_parse.specs.Reading.{State, state_at, operator_move, behind_move, close_move, comma_move, then_move, else_move, move_by, move, role_at, key_role, key_of, is_whole, start}
 use Rattle.gm_parse.proofs.Keys.{symbol_of, is_fixed, fixed_is, number_is, name_is}
 use Rattle.gm_parse.proofs.Leading.{compared_by, need_behind, Led, tables}
-use Rattle.gm_parse.proofs.Frames.{Frame, LeftOf, MinusOf, NotOf, ElseOf, GroupOf, FirstOf, FurtherOf, IfOf, ThenOf, spell_frame, spell_frames, least_in, least_of, compared_in, brackets_of, AreGoodFrames, least_most, Held, held, IsHeld, settled, reduced, settled_same, settled_is, IsSettled, Nothing, AtBracket, is_open, reduced_same, reduced_least, reduced_level, reduced_compared, left_most, IsFreeFor}
+use Rattle.gm_parse.proofs.Frames.{Frame, LeftOf, MinusOf, NotOf, ElseOf, GroupOf, FirstOf, FurtherOf, IfOf, ThenOf, spell_frames, least_of, compared_in, brackets_of, AreGoodFrames, least_most, held, IsHeld, settled, reduced, settled_same, settled_is, IsSettled, Nothing, AtBracket, is_open, reduced_same, reduced_least, reduced_level, reduced_compared, left_most, IsFreeFor}
 
 -- ---- what is read of an operand
 

@@ -1,25 +1,25 @@
 -- An expression before anything else: the states read it as its grammar says, and what reading answers is its form, or the first fault.
-use Rattle.std.proofs.Common.{◌≡◌, ℕ, ◌+◌, Bool, true, false, cond, List, [], ◌∷◌, ◌++◌, map, Option, Some, None, Result, Ok, Err, refl, sym, ap, subst, ◌∙◌}
+use Rattle.std.proofs.Common.{◌≡◌, ℕ, ◌+◌, Bool, false, cond, List, [], ◌∷◌, ◌++◌, map, Option, Some, None, Ok, Err, refl, sym, ap, subst, ◌∙◌}
 use Rattle.std.specs.Option.{option_map}
 use Rattle.gm_parse.specs.declared.place.Bracket.{Bracket}
 use Rattle.std.specs.Prelude.{IsTrue, is_some, nat_lt}
 use Rattle.gm_model.specs.declared.limit.LimitKind.{LimitKind}
 use Rattle.gm_model.specs.Reading.{Part, IsWithin, TextEndsAt, LimitStandsAt}
-use Rattle.gm_model.specs.Symbols.{Symbol, Word, Numeral, Sign, Gone, Stray, End, Mark, symbols}
-use Rattle.gm_text.specs.Machine.{Stop, Ends, Passes, Leads, IsGrammar, run}
+use Rattle.gm_model.specs.Symbols.{Symbol, Word, Numeral, Sign, Gone, Stray, End, Mark}
+use Rattle.gm_text.specs.Machine.{Ends, Passes, IsGrammar}
 use Rattle.gm_text.specs.Nested.{Nested, Outside, Inside, IsApart, HasPieces, IsNestedSentence, LeadsNested, wrapped}
 use Rattle.gm_text.specs.Nested as nested
-use Rattle.gm_text.proofs.Machine.{Along, run_reads, run_ends, run_passes, along_leads, along_spelled, ended_is, passing_is, part_at}
+use Rattle.gm_text.proofs.Machine.{Along, run_reads, run_ends, run_passes, along_leads, along_spelled, ended_is, passing_is}
 use Rattle.gm_text.proofs.Nested.{nested_grammar, run_inside_ends, run_inside_passes}
 use Rattle.gm_parse.specs.declared.key.Key.{Key}
 use Rattle.gm_parse.specs.declared.key.Key.TheVariants as keys
 use Rattle.gm_parse.specs.declared.place.Place.{Place}
 use Rattle.gm_parse.specs.declared.place.Place.TheVariants as places
 use Rattle.gm_parse.specs.Forms.{Form, IsGood}
-use Rattle.gm_parse.specs.Spelling.{Role, Fixed, Quantity, NameAt, LabelAt, StepAt, Counted, limit_of, limit_in, passed_by, counted_from, spell, parts_of, beyond, IsSentence, IsPlacedAt, ArePlaced, GoesOn, Stands}
+use Rattle.gm_parse.specs.Spelling.{Role, Fixed, NameAt, Counted, limit_of, limit_in, passed_by, counted_from, spell, parts_of, beyond, IsSentence, IsPlacedAt, ArePlaced, Stands}
 use Rattle.gm_parse.specs.Reading.{State, state_at, move_by, is_whole_at, key_of, number_role, key_role, role_at, Spot, spot_at, first_spot, spot_move, spot_role, is_whole_spot, never, Around, AtNext, AtRest, around_move, standing}
 use Rattle.gm_parse.specs.Answers.{run_in}
-use Rattle.gm_parse.proofs.Counted.{LedSpot, spot_behind, form_whole, form_leads, IsFormOf, path_form, path_end, spot_goes_on, no_longer, stays_ended, parts_symbols}
+use Rattle.gm_parse.proofs.Counted.{LedSpot, spot_behind, form_whole, form_leads, path_form, path_end, spot_goes_on, no_longer, stays_ended, parts_symbols}
 
 -- ---- nothing goes on with what stands in no expression
 
@@ -247,16 +247,18 @@ module _ (n : ℕ) where
       let led = along_leads limit_in never (spot_role n) spot_move first_spot last before read.parts read.along in
       let is = path_form n read.parts last led whole in
       let along = subst (λ (ps : List (Part Counted)). Along limit_in never (spot_role n) spot_move first_spot before ps last) is.spelled read.along in
-      let end = path_end n is.form last is.good (subst (λ (ps : List (Part Counted)). LedSpot n first_spot ps last) is.spelled led) in
-      (is.form, record {
-        before = before;
-        split = split;
-        good = is.good;
-        spelled = along_spelled limit_in never (spot_role n) spot_move first_spot last before (parts_of n is.form) along ∙ parts_symbols n is.form;
-        within = subst (λ (ps : List (Part Counted)). IsWithin (IsSentence n) limit_in ps) is.spelled read.within;
-        placed = placed_along 0 first_spot last before (spell n is.form []) along;
-        next = next;
-        others = others;
-        behind = behind;
-        ends = no_longer n is.form is.good next.symbol (ap (λ (s : Spot). spot_move s next.symbol) (sym end) ∙ none);
-      })
+      let end = path_end n is.form last is.good (subst (λ (ps : List (Part Counted)). LedSpot n first_spot ps last) is.spelled led) in (
+        is.form,
+        record {
+          before = before;
+          split = split;
+          good = is.good;
+          spelled = along_spelled limit_in never (spot_role n) spot_move first_spot last before (parts_of n is.form) along ∙ parts_symbols n is.form;
+          within = subst (λ (ps : List (Part Counted)). IsWithin (IsSentence n) limit_in ps) is.spelled read.within;
+          placed = placed_along 0 first_spot last before (spell n is.form []) along;
+          next = next;
+          others = others;
+          behind = behind;
+          ends = no_longer n is.form is.good next.symbol (ap (λ (s : Spot). spot_move s next.symbol) (sym end) ∙ none);
+        },
+      )

@@ -1,5 +1,5 @@
 -- What the calls that read an expression answer, as a whole and by states.
-use Rattle.std.specs.Prelude.{◌≡◌, ℕ, ◌<◌, ◌≤◌, Bool, false, List, [], ◌∷◌, ◌++◌, length, Option, Some, None, Result, Ok, Err, IsTrue, is_some, slice_get}
+use Rattle.std.specs.Prelude.{◌≡◌, ℕ, ◌+◌, ◌<◌, ◌≤◌, Bool, true, false, List, [], ◌∷◌, ◌++◌, length, Some, None, Result, Ok, Err, IsTrue, is_some, slice_get}
 use Rattle.gm_model.specs.declared.limit.LimitKind.{LimitKind}
 use Rattle.gm_model.specs.declared.rule.Node.{Node}
 use Rattle.gm_model.specs.declared.rule.Param.{Param}
@@ -19,8 +19,8 @@ use Rattle.gm_parse.specs.declared.fault.SyntaxFault.{SyntaxFault}
 use Rattle.gm_parse.specs.declared.fault.SyntaxFault.TheVariants as syntax_faults
 use Rattle.gm_parse.specs.Forms.{Form}
 use Rattle.gm_parse.specs.Spelling.{limit_in, IsSentence, Stands}
-use Rattle.gm_parse.specs.Reading.{Spot, first_spot, spot_move, spot_role, is_whole_spot, never}
-use Rattle.gm_parse.specs.Meaning.{Names, NameFault, UnknownAt, TwiceAt, faults_in, tree_in, left_name, IsFirstFault}
+use Rattle.gm_parse.specs.Reading.{State, Spot, spot_at, first_spot, spot_move, spot_role, is_whole_spot, never}
+use Rattle.gm_parse.specs.Meaning.{Names, NameFault, UnknownAt, TwiceAt, faults_in, tree_in, IsFirstFault}
 
 -- ---- as a whole
 
@@ -112,3 +112,8 @@ pub record IsNoneNext (old : Cursor) (place : ℕ) : Type 0 where
   pub none : IsNoToken mark.symbol
   pub marks : marks_left old ≡ mark ∷ []
   pub here : mark.place ≡ place
+
+-- one symbol further, to this state; or the expression ends, and nothing has changed
+abbrev pub Advances : ℕ → Spot → Cursor → Bool → State → Cursor → Type 0
+Advances n spot old true state new = Reads n spot old new (spot_at (spot.count + 1) state) × (old.place < new.place) × (new.place ≤ length new.text) × (spot.count < 256) × (length state.open_brackets ≤ spot.count + 1)
+Advances n spot old false state new = (state ≡ spot.state) × (new ≡ old) × IsTrue (is_whole_spot spot) × EndsBefore spot (marks_left old)

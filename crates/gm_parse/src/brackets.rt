@@ -10,6 +10,7 @@ use std::marker::Model;
 const MOST: usize = 257;
 
 /// Open brackets. Contracts see their list, the innermost first.
+#[derive(Drop)]
 pub(crate) struct Brackets {
     held: ArrayVec<Bracket, MOST>,
 }

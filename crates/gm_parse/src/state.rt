@@ -11,6 +11,7 @@ use std::marker::Model;
 
 /// The brackets that are open, and what can stand next. Whether a comparison was read since the
 /// last bracket, `and` or `or` is known too, since no further one can follow it.
+#[derive(Drop)]
 pub(crate) struct State {
     open_brackets: Brackets,
     compared: bool,

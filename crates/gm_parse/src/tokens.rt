@@ -1,9 +1,9 @@
 //! The tokens of expressions: what each is, and which limit it passes.
-ghost use Rattle.std.specs.Prelude.{◌≡◌, ◌<◌, ◌≤◌, ◌^◌, ◌-◌, min, bytes_eq, IfOk, IfErr};
+ghost use Rattle.std.specs.Prelude.{◌≡◌, ℕ, ◌<◌, ◌≤◌, ◌^◌, ◌-◌, min, bytes_eq, IfOk, IfErr};
 ghost use Rattle.std.specs.List.{list_any};
 ghost use Rattle.gm_model.specs.declared.token.TokenKind.TheVariants.{Number};
 ghost use Rattle.gm_model.specs.Names.{is_among, reserved};
-ghost use Rattle.gm_model.specs.Symbols.{Word, value_of};
+ghost use Rattle.gm_model.specs.Symbols.{Word, Numeral, value_of};
 ghost use Rattle.gm_model.specs.Tokens.{bytes_of};
 ghost use Rattle.gm_text.specs.SchemaAnswers.{IsNext, IsToken, symbol_at};
 ghost use Rattle.gm_parse.specs.declared.key.Key.TheVariants as keys;
@@ -23,7 +23,10 @@ const RESERVED: [&[u8]; 19] = [
 ];
 
 const MOST_TOKENS: usize = 256;
+
 const MOST_BYTES: usize = 32;
+
+const GREATEST: u64 = 9_223_372_036_854_775_807;
 
 /// The next token, which the lexer goes past, or the place where none stands.
 pub(crate) fn next_token(lexer: &mut Lexer<'_>) -> Result<Token, usize>
@@ -124,4 +127,54 @@ pub(crate) fn value(lexer: &Lexer<'_>, token: &Token) -> u64
     ensures { result ≡ min (value_of (bytes_of lexer.now.text token.now)) (2 ^ 64 - 1) }
 {
     lexer.number(token).unwrap_or(u64::MAX)
+}
+
+fn limit_of_number(dim: Dim, place: Place, value: u64) -> Option<LimitKind>
+    ensures { (n at : ℕ) → value ≡ min n (2 ^ 64 - 1) → result ≡ limit_of (number_role dim place at) (Numeral n) }
+{
+    match place {
+        Place::Label(_) | Place::Step(_) if value > u64::from(dim.top()) => Some(LimitKind::Label),
+        Place::Label(_) | Place::Step(_) => None,
+        _ if value > GREATEST => Some(LimitKind::Integer),
+        _ => None,
+    }
+}
+
+/// The limit that the token passes in the role that it has at this place, however many came before.
+fn limit_of_key(
+    lexer: &Lexer<'_>,
+    token: &Token,
+    key: Key,
+    dim: Dim,
+    place: Place,
+) -> Option<LimitKind>
+    requires token { IsToken lexer.now.text token.now }
+    requires key { key ≡ key_of (symbol_at lexer.now.text token.now) }
+    ensures { result ≡ limit_of (key_role dim place key token.now.start) (symbol_at lexer.now.text token.now) }
+{
+    match key {
+        Key::Number => limit_of_number(dim, place, value(lexer, token)),
+        Key::Name if lexer.text(token).len() > MOST_BYTES => Some(LimitKind::Name),
+        _ => None,
+    }
+}
+
+/// The limit that the token passes there, as the one with this ordinal of its expression.
+pub(crate) fn limit_passed(
+    lexer: &Lexer<'_>,
+    token: &Token,
+    key: Key,
+    dim: Dim,
+    place: Place,
+    ordinal: usize,
+) -> Option<LimitKind>
+    requires token { IsToken lexer.now.text token.now }
+    requires key { key ≡ key_of (symbol_at lexer.now.text token.now) }
+    ensures { result ≡ limit_in (record { ordinal = ordinal; role = key_role dim place key token.now.start }) (symbol_at lexer.now.text token.now) }
+{
+    match limit_of_key(lexer, token, key, dim, place) {
+        Some(what) => Some(what),
+        None if ordinal > MOST_TOKENS => Some(LimitKind::Expression),
+        None => None,
+    }
 }
