@@ -241,7 +241,7 @@ module _ (n : ℕ) where
 
   -- the form that was read before other marks
   pub form_stands : (marks before rest : List Mark) (next : Mark) (others : List Mark) (last : Spot) → run_in n first_spot 0 before ≡ Ok last → IsTrue (is_whole_spot last) → marks ≡ before ++ rest
-      → rest ≡ next ∷ others → spot_move last next.symbol ≡ None → (form : Form) × Stands n form marks rest
+      → rest ≡ next ∷ others → spot_move last next.symbol ≡ None → (form : Form) × (stands : Stands n form marks rest) × (stands.before ≡ before)
   form_stands marks before rest next others last e whole split behind none =
       let read = run_reads limit_in never (spot_role n) spot_move first_spot last 0 before e in
       let led = along_leads limit_in never (spot_role n) spot_move first_spot last before read.parts read.along in
@@ -261,4 +261,5 @@ module _ (n : ℕ) where
           behind = behind;
           ends = no_longer n is.form is.good next.symbol (ap (λ (s : Spot). spot_move s next.symbol) (sym end) ∙ none);
         },
+        refl,
       )

@@ -86,10 +86,10 @@ run_over n spot to last (mark ∷ marks) rest e =
       | Off stop is ↦ let no_way : Err stop ≡ Ok to = sym (is marks) ∙ e in absurd cc
     ]
 
-pub reads_self : (n : ℕ) (spot : Spot) (cursor : Cursor) → Reads n spot cursor cursor spot
+abbrev pub reads_self : (n : ℕ) (spot : Spot) (cursor : Cursor) → Reads n spot cursor cursor spot
 reads_self n spot cursor = record { before = []; split = refl; runs = λ last. refl; text = refl; onward = omega arith }
 
-pub reads_then : (n : ℕ) (spot middle to : Spot) (old between new : Cursor) → Reads n spot old between middle → Reads n middle between new to → Reads n spot old new to
+abbrev pub reads_then : (n : ℕ) (spot middle to : Spot) (old between new : Cursor) → Reads n spot old between middle → Reads n middle between new to → Reads n spot old new to
 reads_then n spot middle to old between new one two = record {
   before = one.before ++ two.before;
   split = one.split ∙ ap (λ (ms : List Mark). one.before ++ ms) two.split ∙ sym (append_assoc one.before two.before (marks_left new));
@@ -123,12 +123,12 @@ pub becomes_some : {A : Type 0} (to : Option A) (old new : A) → Becomes to old
 becomes_some None old new is = let no_way : true ≡ false = is.0 in absurd cc
 becomes_some (Some next) old new is = ap Some (sym is.1)
 
-pub end_ok : (n count : ℕ) (state : State) (old : Cursor) (result : Result Bool SyntaxFault) → IfOk result (λ more. (is_whole state ≡ true) × (more ≡ false)) → EndsBefore (spot_at count state) (marks_left old) → IfOk result (λ more. Advances n (spot_at count state) old more state old)
-end_ok n count state old (Ok true) is ends = let no_way : true ≡ false = is.1 in absurd cc
-end_ok n count state old (Ok false) is ends = (refl, refl, is.0, ends)
+pub end_ok : (n count : ℕ) (state : State) (old : Cursor) (result : Result (Option Token) SyntaxFault) → IfOk result (λ more. (is_whole state ≡ true) × (more ≡ None)) → EndsBefore (spot_at count state) (marks_left old) → IfOk result (λ more. Advances n (spot_at count state) old more state old)
+end_ok n count state old (Ok (Some token)) is ends = absurd cc
+end_ok n count state old (Ok None) is ends = (refl, refl, is.0, ends)
 end_ok n count state old (Err fault) is ends = is
 
-pub end_err : (n count : ℕ) (state : State) (old : Cursor) (place : ℕ) (result : Result Bool SyntaxFault) → IfErr result (λ fault. (is_whole state ≡ false) × (fault ≡ faults.Text place)) → (ends : EndsBefore (spot_at count state) (marks_left old)) → ends.next.place ≡ place
+pub end_err : (n count : ℕ) (state : State) (old : Cursor) (place : ℕ) (result : Result (Option Token) SyntaxFault) → IfErr result (λ fault. (is_whole state ≡ false) × (fault ≡ faults.Text place)) → (ends : EndsBefore (spot_at count state) (marks_left old)) → ends.next.place ≡ place
     → IfErr result (Stops n (spot_at count state) old)
 end_err n count state old place (Ok more) is ends here = is
 end_err n count state old place (Err fault) is ends here =
@@ -149,10 +149,10 @@ ends_token spot old new token is none = record { next = mark_at new.text token; 
 
 -- ---- what one token comes to
 
-pub none_ok : (n count : ℕ) (state : State) (old : Cursor) (place : ℕ) (result : Result Bool SyntaxFault) → IfOk result (λ more. (is_whole state ≡ true) × (more ≡ false)) → IsNoneNext old place → IfOk result (λ more. Advances n (spot_at count state) old more state old)
+pub none_ok : (n count : ℕ) (state : State) (old : Cursor) (place : ℕ) (result : Result (Option Token) SyntaxFault) → IfOk result (λ more. (is_whole state ≡ true) × (more ≡ None)) → IsNoneNext old place → IfOk result (λ more. Advances n (spot_at count state) old more state old)
 none_ok n count state old place result is none = end_ok n count state old result is (ends_none (spot_at count state) old place none)
 
-pub none_err : (n count : ℕ) (state : State) (old : Cursor) (place : ℕ) (result : Result Bool SyntaxFault) → IfErr result (λ fault. (is_whole state ≡ false) × (fault ≡ faults.Text place)) → IsNoneNext old place → IfErr result (Stops n (spot_at count state) old)
+pub none_err : (n count : ℕ) (state : State) (old : Cursor) (place : ℕ) (result : Result (Option Token) SyntaxFault) → IfErr result (λ fault. (is_whole state ≡ false) × (fault ≡ faults.Text place)) → IsNoneNext old place → IfErr result (Stops n (spot_at count state) old)
 none_err n count state old place result is none = end_err n count state old place result is (record { next = none.mark; others = []; split = none.marks; none = other_spot (spot_at count state) none.mark.symbol (no_token none.mark.symbol none.none) }) none.here
 
 module _ (n count : ℕ) (state after : State) (old new : Cursor) (token : Token) (key : Key) (next : IsNext old token new) (key_is : key ≡ key_of (symbol_at new.text token)) where
@@ -162,13 +162,13 @@ module _ (n count : ℕ) (state after : State) (old new : Cursor) (token : Token
   stuck : (moved : Bool) → moved ≡ false → Becomes (move_by state state.place key) state moved after → (move state (symbol_at new.text token) ≡ None) × (after ≡ state)
   stuck moved e is = let both = becomes_none (move_by state state.place key) state after (subst (λ (b : Bool). Becomes (move_by state state.place key) state b after) e is) in (moves_key None both.0, both.1)
 
-  pub token_ok : (moved : Bool) (result : Result Bool SyntaxFault) → moved ≡ false → Becomes (move_by state state.place key) state moved after → IfOk result (λ more. (is_whole after ≡ true) × (more ≡ false)) → IfOk result (λ more. Advances n (spot_at count state) old more after old)
+  pub token_ok : (moved : Bool) (result : Result (Option Token) SyntaxFault) → moved ≡ false → Becomes (move_by state state.place key) state moved after → IfOk result (λ more. (is_whole after ≡ true) × (more ≡ None)) → IfOk result (λ more. Advances n (spot_at count state) old more after old)
   token_ok moved result e is whole =
       let (none, same) = stuck moved e is in
-      let at = subst (λ (s : State). IfOk result (λ more. (is_whole s ≡ true) × (more ≡ false))) same whole in
+      let at = subst (λ (s : State). IfOk result (λ more. (is_whole s ≡ true) × (more ≡ None))) same whole in
       subst (λ (s : State). IfOk result (λ more. Advances n (spot_at count state) old more s old)) (sym same) (end_ok n count state old result at (ends_token (spot_at count state) old new token next none))
 
-  pub token_err : (moved : Bool) (result : Result Bool SyntaxFault) → moved ≡ false → Becomes (move_by state state.place key) state moved after → IfErr result (λ fault. (is_whole after ≡ false) × (fault ≡ faults.Text token.start)) → IfErr result (Stops n (spot_at count state) old)
+  pub token_err : (moved : Bool) (result : Result (Option Token) SyntaxFault) → moved ≡ false → Becomes (move_by state state.place key) state moved after → IfErr result (λ fault. (is_whole after ≡ false) × (fault ≡ faults.Text token.start)) → IfErr result (Stops n (spot_at count state) old)
   token_err moved result e is part =
       let (none, same) = stuck moved e is in
       let at = subst (λ (s : State). IfErr result (λ fault. (is_whole s ≡ false) × (fault ≡ faults.Text token.start))) same part in
@@ -197,20 +197,21 @@ module _ (n count : ℕ) (state after : State) (old new : Cursor) (token : Token
         go false e limit = grind (arith, nat_tests, e)
     few_left (Some what) limit = absurd cc
 
-    pub token_on : None ≡ limit_in (record { ordinal = count + 1; role = key_role n place key token.start }) (symbol_at new.text token) → length state.open_brackets ≤ count → Advances n (spot_at count state) old true after new
+    pub token_on : None ≡ limit_in (record { ordinal = count + 1; role = key_role n place key token.start }) (symbol_at new.text token) → length state.open_brackets ≤ count → Advances n (spot_at count state) old (Some token) after new
     token_on limit room = (
       reads_token n (spot_at count state) (spot_at (count + 1) after) old new token next on_token (the_limit None limit),
       next.onward,
       next.within,
       few_left (limit_of (key_role n place key token.start) (symbol_at new.text token)) (sym limit),
       omega (arith, room, few_more state after state.place key by_key),
+      next,
     )
 
 -- ---- as a whole
 
 pub skip_stands : (n : ℕ) (old new : Cursor) → SkipsExpr n old new → IsExprSkipped n old new
 skip_stands n old new skips =
-    let (form, stands) = form_stands n (marks_left old) skips.reads.before (marks_left new) skips.ends.next skips.ends.others skips.last (skips.reads.runs 0) skips.whole skips.reads.split skips.ends.split skips.ends.none in
+    let (form, stands, before) = form_stands n (marks_left old) skips.reads.before (marks_left new) skips.ends.next skips.ends.others skips.last (skips.reads.runs 0) skips.whole skips.reads.split skips.ends.split skips.ends.none in
     record { form = form; stands = stands }
 
 pub skip_fault : (n : ℕ) (old : Cursor) (fault : SyntaxFault) → Stops n first_spot old fault → IsSyntaxFault n (marks_left old) fault

@@ -1,10 +1,11 @@
 -- What the calls that read an expression answer, as a whole and by states.
-use Rattle.std.specs.Prelude.{◌≡◌, ℕ, ◌+◌, ◌<◌, ◌≤◌, Bool, true, false, List, [], ◌∷◌, ◌++◌, length, Some, None, Result, Ok, Err, IsTrue, is_some, slice_get}
+use Rattle.std.specs.Prelude.{◌≡◌, ℕ, ◌+◌, ◌<◌, ◌≤◌, false, List, [], ◌∷◌, ◌++◌, length, Some, None, Result, Ok, Err, IsTrue, Option, is_some, slice_get}
 use Rattle.gm_model.specs.declared.limit.LimitKind.{LimitKind}
 use Rattle.gm_model.specs.declared.rule.Node.{Node}
 use Rattle.gm_model.specs.declared.rule.Param.{Param}
 use Rattle.gm_model.specs.declared.rule.Side.TheVariants.{Left}
 use Rattle.gm_model.specs.declared.schema.Schema.{Schema}
+use Rattle.gm_model.specs.declared.token.Token.{Token}
 use Rattle.gm_model.specs.Kinds.{IsTreeInRange}
 use Rattle.gm_model.specs.Reading.{TextEndsAt, LimitStandsAt}
 use Rattle.gm_model.specs.Rules.{Rule, has_word}
@@ -12,7 +13,7 @@ use Rattle.gm_model.specs.Symbols.{Mark}
 use Rattle.gm_model.specs.Trees.{Tree}
 use Rattle.gm_text.specs.Cursor.{Cursor}
 use Rattle.gm_text.specs.Machine.{Stop, Ends, Passes, run}
-use Rattle.gm_text.specs.SchemaAnswers.{marks_left, IsNoToken}
+use Rattle.gm_text.specs.SchemaAnswers.{marks_left, IsNext, IsNoToken}
 use Rattle.gm_parse.specs.declared.fault.ExprFault.{ExprFault}
 use Rattle.gm_parse.specs.declared.fault.ExprFault.TheVariants as faults
 use Rattle.gm_parse.specs.declared.fault.SyntaxFault.{SyntaxFault}
@@ -113,7 +114,8 @@ pub record IsNoneNext (old : Cursor) (place : ℕ) : Type 0 where
   pub marks : marks_left old ≡ mark ∷ []
   pub here : mark.place ≡ place
 
--- one symbol further, to this state; or the expression ends, and nothing has changed
-abbrev pub Advances : ℕ → Spot → Cursor → Bool → State → Cursor → Type 0
-Advances n spot old true state new = Reads n spot old new (spot_at (spot.count + 1) state) × (old.place < new.place) × (new.place ≤ length new.text) × (spot.count < 256) × (length state.open_brackets ≤ spot.count + 1)
-Advances n spot old false state new = (state ≡ spot.state) × (new ≡ old) × IsTrue (is_whole_spot spot) × EndsBefore spot (marks_left old)
+-- one token further, to this state; or the expression ends, and nothing has changed
+abbrev pub Advances : ℕ → Spot → Cursor → Option Token → State → Cursor → Type 0
+Advances n spot old (Some token) state new =
+    Reads n spot old new (spot_at (spot.count + 1) state) × (old.place < new.place) × (new.place ≤ length new.text) × (spot.count < 256) × (length state.open_brackets ≤ spot.count + 1) × IsNext old token new
+Advances n spot old None state new = (state ≡ spot.state) × (new ≡ old) × IsTrue (is_whole_spot spot) × EndsBefore spot (marks_left old)

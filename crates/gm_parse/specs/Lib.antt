@@ -2,6 +2,9 @@ pub mod Levels
 pub mod Forms
 pub mod Spelling
 pub mod Reading
-pub mod Taking
 pub mod Meaning
 pub mod Answers
+pub mod Building
+pub mod Taking
+pub mod Small
+pub mod Built

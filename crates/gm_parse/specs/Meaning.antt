@@ -127,7 +127,7 @@ module _ (names : Names) where
     faults_in (SameForm left right) = term_faults left ++ term_faults right
     faults_in (CountForm orbit term) = orbit_faults orbit ++ term_faults term
     faults_in (CollectForm collector orbit term embed) = orbit_faults orbit ++ field_faults term embed
-    faults_in (CallForm name arguments) = unknown name (function_of name.name (count_of arguments)) ++ argument_faults arguments
+    faults_in (CallForm name arguments) = argument_faults arguments ++ unknown name (function_of name.name (count_of arguments))
     faults_in (ParenForm part) = faults_in part
     faults_in (MinusForm part) = faults_in part
     faults_in (NotForm part) = faults_in part

@@ -1,5 +1,5 @@
 //! Why an expression can't be read.
-use gm_model::LimitKind;
+use gm_model::{LimitKind, OutOfMemory};
 use std::alloc::{AllocError, AllocFailed};
 
 /// Why no expression stands where a lexer is. Places are byte indices, and one may be the length of
@@ -42,6 +42,17 @@ impl<T: Drop> From<AllocFailed<T>> for ExprFault {
     ghost from_gives = { λ _ fault. fault ≡ faults.OutOfMemory };
 
     fn from(_error: AllocFailed<T>) -> ExprFault {
+        ExprFault::OutOfMemory
+    }
+}
+
+impl From<OutOfMemory> for ExprFault {
+    ghost use Rattle.std.specs.Prelude.{◌≡◌};
+    ghost use Rattle.gm_parse.specs.declared.fault.ExprFault.TheVariants as faults;
+
+    ghost from_gives = { λ _ fault. fault ≡ faults.OutOfMemory };
+
+    fn from(_error: OutOfMemory) -> ExprFault {
         ExprFault::OutOfMemory
     }
 }

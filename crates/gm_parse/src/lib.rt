@@ -3,15 +3,25 @@
 #![tactic(auto)]
 
 mod brackets;
+mod builder;
+mod building;
+mod calls;
 mod env;
 mod fault;
 mod function;
 mod key;
+mod names;
+mod operands;
+mod partial;
 mod place;
 mod reading;
 mod skipping;
+mod stack;
 mod state;
+mod table;
+mod taking;
 mod tokens;
+mod waiting;
 
 pub use env::Env;
 pub use fault::{ExprFault, SyntaxFault};

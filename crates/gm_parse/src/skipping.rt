@@ -1,5 +1,5 @@
 //! An expression gone past: what the longest one is, and its first fault by the grammar.
-ghost use Rattle.std.specs.Prelude.{◌≡◌, ◌≤◌, true, false, length, IfOk, IfErr, OnErr};
+ghost use Rattle.std.specs.Prelude.{◌≡◌, ◌≤◌, true, false, length, None, IfOk, IfErr, OnErr};
 ghost use Rattle.gm_text.specs.SchemaAnswers.{marks_left};
 ghost use Rattle.gm_parse.specs.declared.fault.SyntaxFault.TheVariants as syntax_faults;
 ghost use Rattle.gm_parse.specs.Answers.{Advances, IsExprSkipped, IsSyntaxFault, SkipsExpr, Stops};
@@ -8,31 +8,32 @@ ghost use Rattle.gm_parse.specs.Reading.{first_spot, is_whole, spot_at};
 use crate::fault::SyntaxFault;
 use crate::state::State;
 use crate::tokens::{key_at, limit_passed, next_token};
-use gm_model::Dim;
+use gm_model::{Dim, Token};
 use gm_text::Lexer;
 
 /// Answers that an expression ends here, where one can: what stands at the place goes on with none.
-fn end_before(state: &State, place: usize) -> Result<bool, SyntaxFault>
-    ensures ok { IfOk result (λ more. (is_whole state.now ≡ true) × (more ≡ false)) }
+fn end_before(state: &State, place: usize) -> Result<Option<Token>, SyntaxFault>
+    ensures ok { IfOk result (λ more. (is_whole state.now ≡ true) × (more ≡ None)) }
     ensures err { IfErr result (λ fault. (is_whole state.now ≡ false) × (fault ≡ syntax_faults.Text place)) }
 {
     if state.is_whole() {
-        Ok(false)
+        Ok(None)
     } else {
         Err(SyntaxFault::Text { place })
     }
 }
 
-/// Goes past the next token of an expression, behind so many, or answers that none goes on with it.
-fn advance(
+/// Goes past the next token of an expression, behind so many, and answers it, or `None` where no
+/// expression goes on with it.
+pub(crate) fn advance(
     lexer: &mut Lexer<'_>,
     dim: Dim,
     count: usize,
     state: &mut State,
-) -> Result<bool, SyntaxFault>
+) -> Result<Option<Token>, SyntaxFault>
     requires few { count ≤ 256 }
     requires room { length state.old.open_brackets ≤ count }
-    ensures on { IfOk result (λ more. Advances dim (spot_at count state.old) lexer.old more state.new lexer.new) }
+    ensures on { IfOk result (λ token. Advances dim (spot_at count state.old) lexer.old token state.new lexer.new) }
     ensures stops { IfErr result (Stops dim (spot_at count state.old) lexer.old) }
 {
     let mut ahead = lexer.fork();
@@ -50,7 +51,7 @@ fn advance(
         return Err(SyntaxFault::Limit { what, place });
     }
     *lexer = ahead;
-    Ok(true)
+    Ok(Some(token))
 }
 
 fn skip_ahead(lexer: &mut Lexer<'_>, dim: Dim) -> Result<(), SyntaxFault>
@@ -59,7 +60,7 @@ fn skip_ahead(lexer: &mut Lexer<'_>, dim: Dim) -> Result<(), SyntaxFault>
 {
     let mut state = State::new();
     let mut count = 0;
-    while advance(lexer, dim, count, &mut state)? {
+    while let Some(_) = advance(lexer, dim, count, &mut state)? {
         count += 1;
     }
     Ok(())

@@ -1,4 +1,5 @@
-use Rattle.std.proofs.Common.{◌+◌, Bool, subst, arith}
+use Rattle.std.proofs.Common.{◌+◌, Option, subst, arith}
+use Rattle.gm_model.specs.declared.token.Token.{Token}
 use Rattle.std.proofs.lemmas.Result.{err_from_is_err_and}
 use Rattle.gm_parse.specs.Answers.{Advances}
 use Rattle.gm_parse.specs.Reading.{first_spot, spot_at}
@@ -14,5 +15,5 @@ returns-in_err-advance-clause-stops c =
 pub loop-count-preserved : goal.loop-count-preserved
 loop-count-preserved c =
     let l = c.loop-count in
-    let (reads, onward, within, few, room) = subst (λ (more : Bool). Advances c.args.dim (spot_at l.count l.state) l.lexer more c.advance.new.state c.advance.new.lexer) c.if-branch.true c.in_ok-advance.ensures.on in
+    let (reads, onward, within, few, room, next) = subst (λ (found : Option Token). Advances c.args.dim (spot_at l.count l.state) l.lexer found c.advance.new.state c.advance.new.lexer) c.in-Some.is c.in_ok-advance.ensures.on in
     (omega (arith, few), room, reads_then c.args.dim first_spot (spot_at l.count l.state) (spot_at (l.count + 1) c.advance.new.state) c.args.lexer.now l.lexer c.advance.new.lexer l.invariant.2 reads)
