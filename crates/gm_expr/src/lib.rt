@@ -6,6 +6,7 @@ mod levels;
 mod printing;
 mod terms;
 
-pub use gm_parse::{Env, ExprFault, SyntaxFault, read_expr, skip_expr};
+pub use gm_parse::{Env, ExprFault, SyntaxFault, skip_expr};
+pub use gm_tree::read_expr;
 pub use kinds::type_expr;
 pub use printing::print_expr;

@@ -7,10 +7,3 @@ pub mod Standing
 pub mod NoToken
 pub mod OpenBrackets
 pub mod Steps
-pub mod Stacks
-pub mod Ending
-pub mod LookUp
-pub mod Meant
-pub mod Underway
-pub mod ReadTrees
-pub mod ReadForms

@@ -4,7 +4,4 @@ pub mod Spelling
 pub mod Reading
 pub mod Meaning
 pub mod Answers
-pub mod Building
 pub mod Taking
-pub mod Small
-pub mod Built

@@ -2,7 +2,7 @@
 use gm_model::UnOp;
 
 /// A function by its name.
-#[derive(Clone, Copy, Debug, PartialEq, Eq)]
+#[derive(Clone, Copy)]
 pub enum Function {
     Vec2,
     Vec3,

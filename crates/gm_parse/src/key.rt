@@ -2,7 +2,7 @@
 use gm_model::BinOp;
 
 /// A function over the darts of an orbit.
-#[derive(Clone, Copy, Debug, PartialEq, Eq)]
+#[derive(Clone, Copy)]
 pub enum Collector {
     Sum,
     Least,
@@ -10,7 +10,7 @@ pub enum Collector {
 }
 
 /// What a token is to expressions, wherever it stands in one. `<`, `>` and `-` are operators here.
-#[derive(Clone, Copy, Debug, PartialEq, Eq)]
+#[derive(Clone, Copy)]
 pub enum Key {
     Number,
     Truth(bool),

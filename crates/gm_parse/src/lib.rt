@@ -1,29 +1,21 @@
-//! Expressions read from a text: what the longest one at a place is, with its first fault, and the
-//! tree that it means under the names of a schema and a rule.
+//! Expressions as their text is read: what the longest one at a place is, its first fault by the
+//! grammar, and how its tokens go on one after another.
 #![tactic(auto)]
 
 mod brackets;
-mod builder;
-mod building;
-mod calls;
 mod env;
 mod fault;
 mod function;
 mod key;
-mod names;
-mod operands;
-mod partial;
 mod place;
-mod reading;
 mod skipping;
-mod stack;
 mod state;
-mod table;
-mod taking;
 mod tokens;
-mod waiting;
 
 pub use env::Env;
 pub use fault::{ExprFault, SyntaxFault};
-pub use reading::read_expr;
-pub use skipping::skip_expr;
+pub use function::Function;
+pub use key::{Collector, Key};
+pub use skipping::{advance, skip_expr};
+pub use state::State;
+pub use tokens::{key_at, value};

@@ -1,7 +1,7 @@
 //! Where in an expression reading is.
 
 /// What an operand can begin with, beside what each can.
-#[derive(Clone, Copy, Debug, PartialEq, Eq)]
+#[derive(Clone, Copy)]
 pub enum Need {
     /// `if` and `not`.
     Any,
@@ -12,7 +12,7 @@ pub enum Need {
 }
 
 /// What stands behind a dart term.
-#[derive(Clone, Copy, Debug, PartialEq, Eq)]
+#[derive(Clone, Copy)]
 pub enum Ending {
     /// `,` and a further term.
     Comma,
@@ -25,7 +25,7 @@ pub enum Ending {
 }
 
 /// What can stand next.
-#[derive(Clone, Copy, Debug, PartialEq, Eq)]
+#[derive(Clone, Copy)]
 pub enum Place {
     /// An operand begins.
     Operand(Need),
@@ -50,7 +50,7 @@ pub enum Place {
 }
 
 /// An open bracket. One of parentheses knows whether a comparison came before it.
-#[derive(Clone, Copy, Debug, Default, PartialEq, Eq)]
+#[derive(Clone, Copy, Default)]
 pub enum Bracket {
     /// `(` of parentheses.
     Group(bool),

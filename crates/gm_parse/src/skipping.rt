@@ -25,7 +25,7 @@ fn end_before(state: &State, place: usize) -> Result<Option<Token>, SyntaxFault>
 
 /// Goes past the next token of an expression, behind so many, and answers it, or `None` where no
 /// expression goes on with it.
-pub(crate) fn advance(
+pub fn advance(
     lexer: &mut Lexer<'_>,
     dim: Dim,
     count: usize,

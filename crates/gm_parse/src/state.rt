@@ -12,7 +12,7 @@ use std::marker::Model;
 /// The brackets that are open, and what can stand next. Whether a comparison was read since the
 /// last bracket, `and` or `or` is known too, since no further one can follow it.
 #[derive(Drop)]
-pub(crate) struct State {
+pub struct State {
     open_brackets: Brackets,
     compared: bool,
     place: Place,
@@ -28,7 +28,8 @@ impl Model for State {
 }
 
 impl State {
-    pub(crate) fn new() -> State
+    /// Where an expression begins.
+    pub fn new() -> State
         ensures { result ≡ start }
     {
         State {
@@ -218,6 +219,16 @@ impl State {
     }
 }
 
+/// Where reading goes on behind `not`.
+fn begin_negation(need: Need) -> Option<Place>
+    ensures { result ≡ not_place need }
+{
+    match need {
+        Need::Tight => None,
+        _ => Some(Place::Operand(Need::NoIf)),
+    }
+}
+
 /// Where reading goes on behind the beginning of an operand, but for brackets.
 fn begin_operand(need: Need, key: Key) -> Option<Place>
     ensures { result ≡ operand_place need key }
@@ -226,7 +237,7 @@ fn begin_operand(need: Need, key: Key) -> Option<Place>
         Key::Number | Key::Truth(_) => Some(Place::Behind),
         Key::Name => Some(Place::BehindName),
         Key::Operator(BinOp::Sub) => Some(Place::Operand(Need::Tight)),
-        Key::Not if need != Need::Tight => Some(Place::Operand(Need::NoIf)),
+        Key::Not => begin_negation(need),
         Key::Same => Some(Place::Same),
         Key::Count => Some(Place::Orbit(Ending::Close)),
         Key::Collect(_) => Some(Place::Orbit(Ending::FieldClose)),

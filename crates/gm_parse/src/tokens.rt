@@ -108,7 +108,7 @@ fn key_of_sign(sign: &[u8]) -> Key
 }
 
 /// What the token is to expressions.
-pub(crate) fn key_at(lexer: &Lexer<'_>, token: &Token) -> Key
+pub fn key_at(lexer: &Lexer<'_>, token: &Token) -> Key
     requires { IsToken lexer.now.text token.now }
     ensures { result ≡ key_of (symbol_at lexer.now.text token.now) }
 {
@@ -121,7 +121,7 @@ pub(crate) fn key_at(lexer: &Lexer<'_>, token: &Token) -> Key
 }
 
 /// The value of a number; the greatest `u64` stands for a number that is greater.
-pub(crate) fn value(lexer: &Lexer<'_>, token: &Token) -> u64
+pub fn value(lexer: &Lexer<'_>, token: &Token) -> u64
     requires token { IsToken lexer.now.text token.now }
     requires kind { token.now.kind ≡ Number }
     ensures { result ≡ min (value_of (bytes_of lexer.now.text token.now)) (2 ^ 64 - 1) }
