@@ -4,7 +4,7 @@ use Rattle.std.proofs.lemmas.Bool.{cases_Bool}
 use Rattle.std.proofs.lemmas.List.Folds.{list_any-append}
 use Rattle.std.proofs.lemmas.Slice.Eq.{bytes_eq-Decides}
 use Rattle.std.specs.Str.{bytes_eq}
-use Rattle.gm_book.specs.BookText.{Item, NodeItem, LinkItem, with_name, names_of, nodes_in}
+use Rattle.gm_forms.specs.BookText.{Item, NodeItem, LinkItem, with_name, names_of, nodes_in}
 use Rattle.gm_model.specs.Names.{is_among}
 use Rattle.gm_book.specs.FirstNameFault.{with_items}
 

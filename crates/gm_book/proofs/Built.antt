@@ -1,15 +1,15 @@
 -- What the pass over the names of the rules says of the whole.
 use Rattle.std.proofs.Common.{ℕ, ◌≤◌, List, [], ◌∷◌, length, Some, None}
 use Rattle.std.specs.List.{AllByRecursion}
-use Rattle.gm_book.specs.BookText.{IsFaultInRules, place_of, TwiceAt, UnknownAt, IsSentence, limit_of, spell_rules, the_end, nodes_of}
-use Rattle.gm_book.specs.BookText as text
+use Rattle.gm_forms.specs.BookText.{IsFaultInRules, place_of, TwiceAt, UnknownAt, IsSentence, limit_of, spell_rules, the_end, nodes_of}
+use Rattle.gm_forms.specs.BookText as text
 use Rattle.gm_model.specs.Reading.{IsWithin}
-use Rattle.gm_book.specs.declared.form.RuleForm.{RuleForm}
+use Rattle.gm_forms.specs.declared.form.RuleForm.{RuleForm}
 use Rattle.gm_book.specs.declared.names.NameFault.{NameFault}
 use Rattle.gm_book.specs.declared.names.NameFault.TheVariants.{Twice, Unknown}
 use Rattle.gm_book.specs.Building.{HasNoFaultInRules, IsFaultOfNames, book_fault_of}
 use Rattle.gm_book.specs.FirstNameFault.{fault_of, place_at, IsLeastFault}
-use Rattle.gm_book.specs.Forms.{forms_of, rule_form_of}
+use Rattle.gm_forms.specs.Forms.{forms_of, rule_form_of}
 use Rattle.gm_book.proofs.Fitting.{IsFitting, all_fitting}
 
 -- ---- faults

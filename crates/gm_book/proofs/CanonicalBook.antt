@@ -13,16 +13,16 @@ use Rattle.gm_text.specs.SchemaPrinting.{AreParts}
 use Rattle.gm_text.proofs.Printed.{symbols_from, symbols_of-from, symbols_from-word_blank, symbols_from-decimal_blank}
 use Rattle.gm_text.proofs.SchemaAgain.{form_again}
 use Rattle.gm_text.proofs.SchemaSound.{nothing_passed}
-use Rattle.gm_book.specs.BookText.{RuleForm, BookForm, BookText, NameFault, IsFaultInRules, IsNameFault, SchemaTwice, RulesFault, rule_in, rule_lines, spell_rules, the_end, canonical}
-use Rattle.gm_book.specs.Standing.{IsHeaded}
+use Rattle.gm_forms.specs.BookText.{RuleForm, BookForm, BookText, NameFault, IsFaultInRules, IsNameFault, SchemaTwice, RulesFault, rule_in, rule_lines, spell_rules, the_end, canonical}
+use Rattle.gm_forms.specs.Standing.{IsHeaded}
 use Rattle.gm_book.proofs.CanonicalForm.{behind_lines, lines_of, right_marks, forms_at, AreNew, IsWritable}
 use Rattle.gm_book.proofs.CanonicalText.{rules_symbols}
 use Rattle.gm_book.proofs.CanonicalRule.{rule_same}
 use Rattle.gm_book.proofs.CanonicalPlaces.{rules_placed}
 use Rattle.gm_book.proofs.CanonicalLimits.{HasFewHooks, forms_are_rules, rules_within}
 use Rattle.gm_book.proofs.CanonicalNames.{rule_names, rules_faultless}
-use Rattle.gm_book.proofs.Contained.{contains_cases, contains_none}
-use Rattle.gm_book.proofs.Header.{known_version}
+use Rattle.gm_forms.proofs.Contained.{contains_cases, contains_none}
+use Rattle.gm_forms.proofs.Header.{known_version}
 use Rattle.gm_book.proofs.Written.{AreThere, written_from}
 use Rattle.std.specs.List.{Contains}
 

@@ -10,7 +10,7 @@ use Rattle.gm_model.specs.declared.rule.Side.TheVariants.{Left, Right}
 use Rattle.gm_model.specs.Symbols.{Mark}
 use Rattle.gm_model.specs.Names.{reserved, IsName, Mention, is_among}
 use Rattle.gm_model.specs.Rules.{Rule, RuleNode, word_on, links_on, has_word, name_at}
-use Rattle.gm_book.specs.BookText.{Item, NodeItem, LinkItem, RuleForm, node_line}
+use Rattle.gm_forms.specs.BookText.{Item, NodeItem, LinkItem, RuleForm, node_line}
 
 -- ---- lines
 

@@ -11,7 +11,7 @@ use Rattle.gm_model.specs.declared.rule.Side.TheVariants.{Left, Right}
 use Rattle.gm_model.specs.Symbols.{Mark}
 use Rattle.gm_model.specs.Reading.{Part, IsWithin}
 use Rattle.gm_model.specs.Rules.{Rule, RuleNode, word_on}
-use Rattle.gm_book.specs.BookText.{Item, NodeItem, LinkItem, RuleForm, hook_count, nodes_of, hooks_in, rule_in, Role, Count, no_count, count_after, count_across, counted, with_name, the_end, limit_of, spell_letters, spell_hook, spell_item, spell_items, spell_rule, spell_rules, IsItem, IsRule, IsSentence}
+use Rattle.gm_forms.specs.BookText.{Item, NodeItem, LinkItem, RuleForm, hook_count, nodes_of, hooks_in, rule_in, Role, Count, no_count, count_after, count_across, counted, with_name, the_end, limit_of, spell_letters, spell_hook, spell_item, spell_items, spell_rule, spell_rules, IsItem, IsRule, IsSentence}
 use Rattle.gm_model.specs.Names.{is_among}
 use Rattle.gm_book.proofs.CanonicalForm.{Line, NodeLine, LinkLine, behind_line, behind_lines, node_lines, line_before, tie, hook_on, item_at, items_at, lines_of, left_marks, right_marks, form_at, forms_at, node_names, IsGoodLetter, IsGoodLine, IsWritable}
 use Rattle.gm_book.proofs.CanonicalText.{good_lines}

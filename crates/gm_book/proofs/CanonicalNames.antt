@@ -11,7 +11,7 @@ use Rattle.gm_model.specs.declared.rule.Side.TheVariants.{Left, Right}
 use Rattle.gm_model.specs.Symbols.{Mark}
 use Rattle.gm_model.specs.Rules.{Rule, RuleNode, has_word, word_on, links_on, name_at}
 use Rattle.gm_model.specs.Names.{Mention, is_among}
-use Rattle.gm_book.specs.BookText.{RuleForm, names_of, nodes_in, ends_in, items_on, IsAgain, IsStranger, NameFault, IsFaultInRules, RuleTwice, NodeTwice, NodeUnknown}
+use Rattle.gm_forms.specs.BookText.{RuleForm, names_of, nodes_in, ends_in, items_on, IsAgain, IsStranger, NameFault, IsFaultInRules, RuleTwice, NodeTwice, NodeUnknown}
 use Rattle.gm_book.proofs.CanonicalForm.{NodeLine, behind_line, behind_lines, node_lines, line_before, tie, hook_on, items_at, lines_of, left_marks, right_marks, form_at, forms_at, AreNew, node_names, IsGoodLink, IsWritable}
 use Rattle.gm_book.proofs.CanonicalRule.{names_on, name_before, on_append, side_names}
 use Rattle.gm_book.proofs.DifferentNames.{among_last, among_neither, fewer_seen, new_behind, split_there}

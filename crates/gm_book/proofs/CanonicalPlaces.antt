@@ -7,7 +7,7 @@ use Rattle.gm_model.specs.declared.rule.Side.TheVariants.{Left, Right}
 use Rattle.gm_model.specs.Symbols.{Mark}
 use Rattle.gm_model.specs.Reading.{Part}
 use Rattle.gm_model.specs.Rules.{Rule}
-use Rattle.gm_book.specs.BookText.{Role, LetterAt, Count, no_count, count_after, count_across, counted, letter, the_end, spell_letters, spell_hook, spell_item, spell_items, spell_rule, spell_rules, IsPlacedAt, ArePlaced}
+use Rattle.gm_forms.specs.BookText.{Role, LetterAt, Count, no_count, count_after, count_across, counted, letter, the_end, spell_letters, spell_hook, spell_item, spell_items, spell_rule, spell_rules, IsPlacedAt, ArePlaced}
 use Rattle.gm_book.proofs.CanonicalForm.{Line, NodeLine, LinkLine, behind, place_in, behind_letters, behind_hook, behind_line, behind_lines, item_at, items_at, lines_of, left_marks, right_marks, form_at, forms_at}
 
 -- one part more in front

@@ -14,7 +14,7 @@ use Rattle.gm_model.specs.declared.rule.Side.TheVariants.{Left, Right}
 use Rattle.gm_model.specs.Symbols.{Mark}
 use Rattle.gm_model.specs.Trees.{Tree}
 use Rattle.gm_model.specs.Rules.{Rule, RuleNode, has_word, word_on, links_on, name_at}
-use Rattle.gm_book.specs.BookText.{Item, Count, NodeItem, LinkItem, no_count, count_after, counted, with_name, names_of, nodes_in, nodes_of, word_in, links_in, hooks_in, node_in, rule_in}
+use Rattle.gm_forms.specs.BookText.{Item, Count, NodeItem, LinkItem, no_count, count_after, counted, with_name, names_of, nodes_in, nodes_of, word_in, links_in, hooks_in, node_in, rule_in}
 use Rattle.gm_model.specs.Names.{is_among}
 use Rattle.gm_book.proofs.CanonicalForm.{NodeLine, node_lines, line_before, tie, hook_on, lines_of, items_at, behind_line, form_at, left_marks, right_marks, AreNew, number_if, numbers_where, node_names, IsGoodNode, IsGoodLink, IsWritable}
 use Rattle.gm_book.proofs.CanonicalText.{each}

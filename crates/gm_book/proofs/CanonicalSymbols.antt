@@ -10,7 +10,7 @@ use Rattle.gm_model.specs.declared.token.TokenKind.TheVariants as kinds
 use Rattle.gm_model.specs.Tokens.{is_digit, begins_two_byte_sign, IsLexeme}
 use Rattle.gm_model.specs.Symbols.{Symbol, Word, Numeral, Sign, Mark}
 use Rattle.gm_model.specs.Reading.{Part, symbols_in}
-use Rattle.gm_book.specs.BookText.{Role, LetterAt, Count, count_after, letter, letter_text, letters_text, hook_text, spell_letters, spell_hook, spell_item, spell_items}
+use Rattle.gm_forms.specs.BookText.{Role, LetterAt, Count, count_after, letter, letter_text, letters_text, hook_text, spell_letters, spell_hook, spell_item, spell_items}
 use Rattle.gm_text.proofs.Printed.{Stops, symbols_from, symbols_from-blank, symbols_from-word_blank, symbols_from-decimal, symbols_from-gone, symbols_from-sign, IsLexeme-decimal}
 use Rattle.gm_book.proofs.CanonicalForm.{Line, NodeLine, LinkLine, text_of, item_at, items_at, behind_line, IsGoodLetter, IsGoodLine}
 

@@ -13,7 +13,7 @@ use Rattle.gm_model.specs.declared.rule.Side.TheVariants.{Left, Right}
 use Rattle.gm_model.specs.Symbols.{Symbol, Word, Mark}
 use Rattle.gm_model.specs.Reading.{Part, symbols_in}
 use Rattle.gm_model.specs.Rules.{Rule, RuleNode, has_word, word_on, links_on, name_at}
-use Rattle.gm_book.specs.BookText.{Role, Fixed, the_end, word, no_count, counted, count_across, left_lines, right_line, right_lines, link_line, rule_lines, spell_items, spell_rule, spell_rules}
+use Rattle.gm_forms.specs.BookText.{Role, Fixed, the_end, word, no_count, counted, count_across, left_lines, right_line, right_lines, link_line, rule_lines, spell_items, spell_rule, spell_rules}
 use Rattle.gm_text.proofs.Printed.{symbols_from, symbols_from-end, symbols_from-word_blank}
 use Rattle.gm_book.proofs.CanonicalForm.{Line, NodeLine, text_of, node_lines, line_before, tie, hook_on, lines_of, form_at, forms_at, left_marks, right_marks, behind_lines, IsGoodName, IsGoodLine, IsGoodNode, IsGoodLink, IsGoodWordIfAny, IsWritable}
 use Rattle.gm_book.proofs.CanonicalSymbols.{lines_symbols}

@@ -7,7 +7,7 @@ use Rattle.gm_model.specs.declared.rule.Side.{Side}
 use Rattle.gm_model.specs.declared.rule.Side.TheVariants.{Left, Right}
 use Rattle.gm_model.specs.declared.word.Letter.{Letter}
 use Rattle.gm_model.specs.declared.word.Letter.TheVariants.{At, Gone}
-use Rattle.gm_book.specs.BookText.{Item, NodeItem, LinkItem, RuleForm, Count, Role, with_name, counted, count_after, count_across, no_count, nodes_of, limit_of, spell_letters, spell_hook, spell_items, spell_rule, spell_rules, IsSentence}
+use Rattle.gm_forms.specs.BookText.{Item, NodeItem, LinkItem, RuleForm, Count, Role, with_name, counted, count_after, count_across, no_count, nodes_of, limit_of, spell_letters, spell_hook, spell_items, spell_rule, spell_rules, IsSentence}
 use Rattle.gm_model.specs.Reading.{Part, IsWithin}
 use Rattle.gm_model.specs.Structure.{HasLabelsUpTo}
 use Rattle.gm_book.proofs.RuleNames.{names_counted}

@@ -5,13 +5,13 @@ use Rattle.std.specs.List.{Contains}
 use Rattle.gm_model.specs.declared.rule.Side.{Side}
 use Rattle.gm_model.specs.declared.rule.Side.TheVariants.{Left, Right}
 use Rattle.gm_model.specs.Names.{Mention, is_among}
-use Rattle.gm_book.specs.BookText.{Item, NodeItem, LinkItem, RuleForm, with_name, names_of, nodes_in, ends_in, items_on, IsAgain, IsStranger, IsFaultInRules, RuleTwice, NodeTwice, NodeUnknown}
-use Rattle.gm_book.specs.BookText as text
+use Rattle.gm_forms.specs.BookText.{Item, NodeItem, LinkItem, RuleForm, with_name, names_of, nodes_in, ends_in, items_on, IsAgain, IsStranger, IsFaultInRules, RuleTwice, NodeTwice, NodeUnknown}
+use Rattle.gm_forms.specs.BookText as text
 use Rattle.gm_book.specs.declared.names.NameFault.{NameFault}
 use Rattle.gm_book.specs.declared.names.NameFault.TheVariants.{Twice, Unknown}
 use Rattle.gm_book.specs.FirstNameFault.{place_at, fault_of, IsLeast, IsLeastFault, least_of, again_at, with_items, least_again, unknown_at, least_unknown, side_least, rule_least, least_in}
 use Rattle.gm_book.proofs.Among.{among_with, among_items, or_false, or_regroup}
-use Rattle.gm_book.proofs.Contained.{contains_cases, contains_here, contains_behind, contains_none}
+use Rattle.gm_forms.proofs.Contained.{contains_cases, contains_here, contains_behind, contains_none}
 
 -- ---- the least of two
 

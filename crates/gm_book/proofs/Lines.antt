@@ -10,7 +10,7 @@ use Rattle.std.proofs.lemmas.Option.{get_or_from_slice_get}
 use Rattle.gm_model.specs.declared.word.Letter.{Letter}
 use Rattle.gm_model.specs.declared.rule.Node.{Node}
 use Rattle.gm_model.specs.Rules.{RuleNode, node_of}
-use Rattle.gm_book.specs.BookText.{letter_text, letters_text, left_lines, right_line}
+use Rattle.gm_forms.specs.BookText.{letter_text, letters_text, left_lines, right_line}
 use Rattle.gm_book.specs.Printing.{left_line}
 
 -- of a text that goes through a list element by element

@@ -15,18 +15,18 @@ use Rattle.gm_text.specs.SchemaText as schemas
 use Rattle.gm_text.specs.SchemaText.{SchemaForm, schema_of, spell}
 use Rattle.gm_text.proofs.Machine.{Along, part_at, reading_runs, ends_run, passes_run}
 use Rattle.gm_text.proofs.SchemaSpelled.{same_form}
-use Rattle.gm_book.specs.BookText.{RuleForm, BookForm, Role, InSchema, NameAt, in_schema, limit_of, stands_before, the_end, spell_rules, spelling, IsSentence, IsPlacedAt, ArePlaced, IsWritten, rule_in, BookText, StandsForNoBook, IsNotBuilt, IsTextFault, NameFault, TwiceAt, UnknownAt, place_of, IsNameFault, IsFirstNameFault}
+use Rattle.gm_forms.specs.BookText.{RuleForm, BookForm, Role, InSchema, NameAt, in_schema, limit_of, stands_before, the_end, spell_rules, spelling, IsSentence, IsPlacedAt, ArePlaced, IsWritten, rule_in, BookText, StandsForNoBook, IsNotBuilt, IsTextFault, NameFault, TwiceAt, UnknownAt, place_of, IsNameFault, IsFirstNameFault}
 use Rattle.gm_book.specs.declared.fault.BookFault.{BookFault}
 use Rattle.gm_book.specs.declared.fault.BookFault.TheVariants as faults
 use Rattle.gm_book.specs.Faults.{IsFaultOf}
-use Rattle.gm_book.specs.Reading.{State, AtRules, AtName, AtItem, AtBehind, AtTo, AtEnd, heading_at, closing, is_hook, AtFormat, AtVersion, InRules, Whole, in_rules, book_nesting, Held, nothing_held, held_behind, run_whole, is_later_in}
-use Rattle.gm_book.specs.Reading as rules
-use Rattle.gm_book.proofs.Header.{LedWhole, book_grammar}
-use Rattle.gm_book.proofs.Later.{not_built_is, not_built_ends}
-use Rattle.gm_book.proofs.NamePlaces.{twice_or_unknown}
-use Rattle.gm_book.proofs.RulesHeld.{marks_for, header_held}
-use Rattle.gm_book.proofs.SchemaNames as schema_names
-use Rattle.gm_book.proofs.Spelling.{Parts}
+use Rattle.gm_forms.specs.Reading.{State, AtRules, AtName, AtItem, AtBehind, AtTo, AtEnd, heading_at, closing, is_hook, AtFormat, AtVersion, InRules, Whole, in_rules, book_nesting, Held, nothing_held, held_behind, run_whole, is_later_in}
+use Rattle.gm_forms.specs.Reading as rules
+use Rattle.gm_forms.proofs.Header.{LedWhole, book_grammar}
+use Rattle.gm_forms.proofs.Later.{not_built_is, not_built_ends}
+use Rattle.gm_forms.proofs.NamePlaces.{twice_or_unknown}
+use Rattle.gm_forms.proofs.RulesHeld.{marks_for, header_held}
+use Rattle.gm_forms.proofs.SchemaNames as schema_names
+use Rattle.gm_forms.proofs.Spelling.{Parts}
 
 abbrev role_at : Whole → Symbol → ℕ → Role
 role_at = nested.role_at book_nesting

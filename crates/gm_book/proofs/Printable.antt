@@ -9,7 +9,7 @@ use Rattle.gm_model.specs.declared.rule.Side.TheVariants.{Left, Right}
 use Rattle.gm_model.specs.declared.schema.Schema.{Schema}
 use Rattle.gm_model.specs.Rules.{Rule, RuleNode, has_word, links_on}
 use Rattle.gm_model.specs.Structure.{IsInRange, IsLinkInRange}
-use Rattle.gm_book.specs.BookText.{RuleForm, BookText, rule_in, node_in, nodes_of}
+use Rattle.gm_forms.specs.BookText.{RuleForm, BookText, rule_in, node_in, nodes_of}
 use Rattle.gm_book.proofs.ReadRange.{range_from_text}
 use Rattle.gm_book.specs.Printing.{AreEndsNodes, NamesItsNodes, IsPlain, CanBePrinted}
 

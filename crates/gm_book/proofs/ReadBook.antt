@@ -22,27 +22,27 @@ use Rattle.gm_text.specs.declared.schema_fault.SchemaFault.{SchemaFault}
 use Rattle.gm_text.specs.declared.schema_fault.SchemaFault.TheVariants as schema_faults
 use Rattle.gm_text.proofs.Machine.{run_reads, run_passes, passing_is, along_spelled}
 use Rattle.gm_text.proofs.OneSchema.{one_skipped}
-use Rattle.gm_book.specs.BookText.{RuleForm, BookForm, Role, limit_of, stands_before, IsSentence, ArePlaced, IsWritten, IsTextFault, IsLimitFault, IsNotBuilt, NameFault, TwiceAt, UnknownAt, place_of, IsNameFault, SchemaTwice, RulesFault, rule_in, BookText, nodes_of}
+use Rattle.gm_forms.specs.BookText.{RuleForm, BookForm, Role, limit_of, stands_before, IsSentence, ArePlaced, IsWritten, IsTextFault, IsLimitFault, IsNotBuilt, NameFault, TwiceAt, UnknownAt, place_of, IsNameFault, SchemaTwice, RulesFault, rule_in, BookText, nodes_of}
 use Rattle.gm_book.specs.declared.fault.BookFault.{BookFault}
 use Rattle.gm_book.specs.declared.fault.BookFault.TheVariants as faults
-use Rattle.gm_book.specs.declared.form_fault.FormFault.{FormFault}
-use Rattle.gm_book.specs.declared.form_fault.FormFault.TheVariants as forms
-use Rattle.gm_book.specs.declared.form.RuleForm.{RuleForm as CodeRule}
+use Rattle.gm_forms.specs.declared.form_fault.FormFault.{FormFault}
+use Rattle.gm_forms.specs.declared.form_fault.FormFault.TheVariants as forms
+use Rattle.gm_forms.specs.declared.form.RuleForm.{RuleForm as CodeRule}
 use Rattle.gm_book.specs.Building.{HasNoFaultInRules, IsFirstInRules, IsFaultOfNames}
 use Rattle.gm_book.specs.Faults.{IsFaultOf, book_fault_of_form, book_fault_of_schema}
-use Rattle.gm_book.specs.Forms.{forms_of, rule_form_of}
-use Rattle.gm_book.specs.Reading.{State, AtRules, AtEnd, heading_at, AtFormat, header_at, Whole, in_rules, Held, book_nesting, role_at, move, run, run_whole, is_later, is_later_in}
-use Rattle.gm_book.specs.Standing.{IsHeaded, IsHeadFault, AreRulesRead, IsRulesFault}
+use Rattle.gm_forms.specs.Forms.{forms_of, rule_form_of}
+use Rattle.gm_forms.specs.Reading.{State, AtRules, AtEnd, heading_at, AtFormat, header_at, Whole, in_rules, Held, book_nesting, role_at, move, run, run_whole, is_later, is_later_in}
+use Rattle.gm_forms.specs.Standing.{IsHeaded, IsHeadFault, AreRulesRead, IsRulesFault}
 use Rattle.gm_book.proofs.Built.{all_few}
 use Rattle.gm_book.proofs.CanonicalBook.{passes_free, none_again}
-use Rattle.gm_book.proofs.Grammar.{placed_along}
-use Rattle.gm_book.proofs.Header.{book_grammar}
-use Rattle.gm_book.proofs.Later.{not_built_is, text_fault_is}
-use Rattle.gm_book.proofs.NamePlaces.{schema_is_first, first_is_fault}
+use Rattle.gm_forms.proofs.Grammar.{placed_along}
+use Rattle.gm_forms.proofs.Header.{book_grammar}
+use Rattle.gm_forms.proofs.Later.{not_built_is, text_fault_is}
+use Rattle.gm_forms.proofs.NamePlaces.{schema_is_first, first_is_fault}
 use Rattle.gm_book.proofs.ReadRange.{range_from_text}
-use Rattle.gm_book.proofs.SchemaNames.{IsFaultOfSchema, schema_fault}
-use Rattle.gm_book.proofs.Spelling.{along_rules}
-use Rattle.gm_book.proofs.Whole.{head_runs, schema_runs, Answers, schema_stops, IsSame, behind_schema}
+use Rattle.gm_forms.proofs.SchemaNames.{IsFaultOfSchema, schema_fault}
+use Rattle.gm_forms.proofs.Spelling.{along_rules}
+use Rattle.gm_forms.proofs.Whole.{head_runs, schema_runs, Answers, schema_stops, IsSame, behind_schema}
 use Rattle.gm_book.proofs.Written.{AreThere, written_from}
 use Rattle.gm_text.specs.Nested as nested
 

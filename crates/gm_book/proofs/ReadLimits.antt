@@ -15,8 +15,8 @@ use Rattle.gm_model.specs.Names.{reserved, is_among}
 use Rattle.gm_text.specs.SchemaText as schemas
 use Rattle.gm_text.specs.SchemaText.{spell}
 use Rattle.gm_text.proofs.Lexemes.{IsSound, words_are_lexemes}
-use Rattle.gm_book.specs.BookText.{NodeItem, LinkItem, RuleForm, BookForm, Role, Count, no_count, count_after, count_across, counted, with_name, the_end, in_schema, limit_of, spell_letters, spell_hook, spell_item, spell_items, spell_rule, spell_rules, spelling, IsItem, IsRule, IsForm, IsSentence}
-use Rattle.gm_book.specs.BookText as text
+use Rattle.gm_forms.specs.BookText.{NodeItem, LinkItem, RuleForm, BookForm, Role, Count, no_count, count_after, count_across, counted, with_name, the_end, in_schema, limit_of, spell_letters, spell_hook, spell_item, spell_items, spell_rule, spell_rules, spelling, IsItem, IsRule, IsForm, IsSentence}
+use Rattle.gm_forms.specs.BookText as text
 use Rattle.gm_book.proofs.CanonicalForm.{IsGoodName, IsGoodLetter, IsGoodWord}
 use Rattle.gm_book.proofs.CanonicalLimits.{AreFew}
 

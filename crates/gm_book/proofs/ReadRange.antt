@@ -13,7 +13,7 @@ use Rattle.gm_model.specs.declared.rule.Side.TheVariants.{Left, Right}
 use Rattle.gm_model.specs.declared.schema.Schema.{Schema}
 use Rattle.gm_model.specs.Rules.{Rule, RuleNode, Assignment, has_word, word_on, letters, links_on}
 use Rattle.gm_model.specs.Structure.{HasLabelsUpTo, IsLinkInRange, IsInRange, IsWithinLimits}
-use Rattle.gm_book.specs.BookText.{BookText}
+use Rattle.gm_forms.specs.BookText.{BookText}
 use Rattle.gm_book.proofs.CanonicalForm.{IsGoodLetter, IsGoodWordIfAny, IsGoodNode, IsGoodLink, IsWritable, numbers_where, number_if, hook_on}
 use Rattle.gm_book.proofs.CanonicalText.{element_at, each}
 use Rattle.gm_book.proofs.ReadRules.{writable_from_text}

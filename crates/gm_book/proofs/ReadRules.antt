@@ -18,14 +18,14 @@ use Rattle.gm_model.specs.Symbols.{Symbol}
 use Rattle.gm_text.specs.SchemaText as schemas
 use Rattle.gm_text.specs.SchemaText.{spell, is_again, passed_of}
 use Rattle.gm_text.proofs.SchemaSound.{form_parts}
-use Rattle.gm_book.specs.BookText.{Item, NodeItem, LinkItem, RuleForm, BookForm, Count, no_count, count_after, count_across, counted, with_name, names_of, nodes_in, ends_in, items_on, nodes_of, word_in, number_of, links_in, hooks_in, node_in, rule_in, IsAgain, IsStranger, NameFault, IsNameFault, TwiceAt, UnknownAt, RuleTwice, NodeTwice, NodeUnknown, SchemaTwice, RulesFault, IsRule, IsForm, BookText, spelling, canonical}
+use Rattle.gm_forms.specs.BookText.{Item, NodeItem, LinkItem, RuleForm, BookForm, Count, no_count, count_after, count_across, counted, with_name, names_of, nodes_in, ends_in, items_on, nodes_of, word_in, number_of, links_in, hooks_in, node_in, rule_in, IsAgain, IsStranger, NameFault, IsNameFault, TwiceAt, UnknownAt, RuleTwice, NodeTwice, NodeUnknown, SchemaTwice, RulesFault, IsRule, IsForm, BookText, spelling, canonical}
 use Rattle.gm_book.proofs.CanonicalForm.{AreNew, number_if, numbers_where, node_names, hook_on, IsGoodName, IsGoodWordIfAny, IsGoodNode, IsGoodLink, IsWritable}
 use Rattle.gm_book.proofs.CanonicalLimits.{HasFewHooks, as_many_hooks}
 use Rattle.gm_book.proofs.CanonicalText.{each}
 use Rattle.gm_book.proofs.CanonicalRule.{seen_after, counted_seen, seen_new}
 use Rattle.gm_book.proofs.CanonicalNames.{rule_names, HasNoFault}
 use Rattle.gm_book.proofs.CanonicalBook.{AreWritable, written_again}
-use Rattle.gm_book.proofs.Contained.{contains_here, contains_behind}
+use Rattle.gm_forms.proofs.Contained.{contains_here, contains_behind}
 use Rattle.gm_book.proofs.DifferentNames.{among_front, among_last, among_neither, new_append, number_behind}
 use Rattle.gm_book.proofs.ReadLimits.{IsGoodItem, IsReadable, IsReadableBook, read_fit, book_good}
 

@@ -2,15 +2,15 @@
 use Rattle.std.proofs.Common.{◌≡◌, ℕ, zero, suc, ◌<◌, inl, inr, List, [], ◌∷◌, ◌++◌, length, get_or, map, arith, refl, ap, ◌∙◌}
 use Rattle.std.proofs.lemmas.Bool.{cases_Bool}
 use Rattle.std.specs.List.{AllByRecursion}
-use Rattle.gm_book.specs.BookText.{NodeItem, LinkItem, Count, RuleForm, with_name, counted, count_after, no_count, nodes_of}
+use Rattle.gm_forms.specs.BookText.{NodeItem, LinkItem, Count, RuleForm, with_name, counted, count_after, no_count, nodes_of}
 use Rattle.gm_model.specs.Names.{is_among, IsName}
-use Rattle.gm_book.specs.BookText as text
-use Rattle.gm_book.specs.declared.key.NameKey.{NameKey}
-use Rattle.gm_book.specs.declared.form.Item.{Item}
-use Rattle.gm_book.specs.declared.form.Item.TheVariants.{Node, Link}
-use Rattle.gm_book.specs.Forms.{IsItemIn, item_of}
+use Rattle.gm_forms.specs.BookText as text
+use Rattle.gm_forms.specs.declared.key.NameKey.{NameKey}
+use Rattle.gm_forms.specs.declared.form.Item.{Item}
+use Rattle.gm_forms.specs.declared.form.Item.TheVariants.{Node, Link}
+use Rattle.gm_forms.specs.Forms.{IsItemIn, item_of}
 use Rattle.gm_book.specs.FirstNameFault.{with_items}
-use Rattle.gm_book.specs.Held.{names_at}
+use Rattle.gm_forms.specs.Held.{names_at}
 
 pub names_counted : (items : List text.Item) (count : Count) → with_items count.nodes items ≡ (counted count items).nodes
 names_counted [] count = refl

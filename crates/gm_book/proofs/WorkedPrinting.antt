@@ -8,7 +8,7 @@ use Rattle.gm_model.specs.declared.word.Letter.TheVariants.{At, Gone}
 use Rattle.gm_model.specs.Rules.{Rule, RuleNode, links_on}
 use Rattle.gm_model.specs.declared.value.Kind.TheVariants.{Vec2}
 use Rattle.gm_text.specs.SchemaText.{SchemaForm, labels_in}
-use Rattle.gm_book.specs.BookText.{BookText, canonical}
+use Rattle.gm_forms.specs.BookText.{BookText, canonical}
 use Rattle.std.specs.List.{AllByRecursion}
 use Rattle.gm_book.proofs.CanonicalForm.{IsWritable, IsGoodLink}
 use Rattle.gm_book.proofs.CanonicalBook.{written_again}

@@ -7,9 +7,9 @@ use Rattle.gm_model.specs.Reading.{Part, IsWithin, symbols_in}
 use Rattle.gm_text.specs.SchemaText as schemas
 use Rattle.gm_text.specs.SchemaText.{SchemaForm, spell}
 use Rattle.gm_text.specs.SchemaReading.{Stands}
-use Rattle.gm_book.specs.BookText.{RuleForm, BookForm, Role, in_schema, limit_of, the_end, spell_rules, spelling, IsRule, IsForm, IsSentence, ArePlaced, IsWritten}
-use Rattle.gm_book.specs.Standing.{IsHeaded}
-use Rattle.gm_book.proofs.Header.{version_known}
+use Rattle.gm_forms.specs.BookText.{RuleForm, BookForm, Role, in_schema, limit_of, the_end, spell_rules, spelling, IsRule, IsForm, IsSentence, ArePlaced, IsWritten}
+use Rattle.gm_forms.specs.Standing.{IsHeaded}
+use Rattle.gm_forms.proofs.Header.{version_known}
 
 abbrev Parts : Type 0
 Parts = List (Part Role)

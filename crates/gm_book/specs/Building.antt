@@ -1,7 +1,7 @@
 -- Which rules have no fault of names, and which fault is their first otherwise.
 use Rattle.std.specs.Prelude.{◌≤◌, List}
-use Rattle.gm_book.specs.BookText.{RuleForm, IsFaultInRules, place_of, TwiceAt, UnknownAt}
-use Rattle.gm_book.specs.BookText as text
+use Rattle.gm_forms.specs.BookText.{RuleForm, IsFaultInRules, place_of, TwiceAt, UnknownAt}
+use Rattle.gm_forms.specs.BookText as text
 use Rattle.gm_book.specs.declared.fault.BookFault.{BookFault}
 use Rattle.gm_book.specs.declared.fault.BookFault.TheVariants as faults
 use Rattle.gm_book.specs.declared.names.NameFault.{NameFault}

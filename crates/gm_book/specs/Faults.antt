@@ -1,10 +1,10 @@
 -- Which first fault of a text a reader's answer names.
 use Rattle.std.specs.Prelude.{ℕ, List}
-use Rattle.gm_book.specs.BookText.{IsTextFault, IsLimitFault, IsNotBuilt, IsFirstNameFault, TwiceAt, UnknownAt}
+use Rattle.gm_forms.specs.BookText.{IsTextFault, IsLimitFault, IsNotBuilt, IsFirstNameFault, TwiceAt, UnknownAt}
 use Rattle.gm_book.specs.declared.fault.BookFault.{BookFault}
 use Rattle.gm_book.specs.declared.fault.BookFault.TheVariants as faults
-use Rattle.gm_book.specs.declared.form_fault.FormFault.{FormFault}
-use Rattle.gm_book.specs.declared.form_fault.FormFault.TheVariants as forms
+use Rattle.gm_forms.specs.declared.form_fault.FormFault.{FormFault}
+use Rattle.gm_forms.specs.declared.form_fault.FormFault.TheVariants as forms
 use Rattle.gm_text.specs.declared.schema_fault.SchemaFault.{SchemaFault}
 use Rattle.gm_text.specs.declared.schema_fault.SchemaFault.TheVariants as schemas
 

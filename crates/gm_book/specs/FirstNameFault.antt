@@ -1,8 +1,8 @@
 -- The fault of the rules' names that stands first, and the least fault of each of their parts.
 use Rattle.std.specs.Prelude.{ℕ, ◌≤◌, nat_lt, if◌then◌else◌, List, [], ◌∷◌, Option, Some, None}
 use Rattle.gm_model.specs.Names.{Mention, is_among}
-use Rattle.gm_book.specs.BookText.{Item, NodeItem, LinkItem, RuleForm, IsFaultInRules, with_name}
-use Rattle.gm_book.specs.BookText as text
+use Rattle.gm_forms.specs.BookText.{Item, NodeItem, LinkItem, RuleForm, IsFaultInRules, with_name}
+use Rattle.gm_forms.specs.BookText as text
 use Rattle.gm_book.specs.declared.names.NameFault.{NameFault}
 use Rattle.gm_book.specs.declared.names.NameFault.TheVariants.{Twice, Unknown}
 

@@ -3,7 +3,7 @@ use Rattle.std.specs.Prelude.{◌≡◌, ℕ, ◌<◌, Bool, true, false, not, A
 use Rattle.gm_model.specs.declared.word.Letter.{Letter}
 use Rattle.gm_model.specs.declared.rule.Link.{Link}
 use Rattle.gm_model.specs.Rules.{Rule, RuleNode}
-use Rattle.gm_book.specs.BookText.{node_line}
+use Rattle.gm_forms.specs.BookText.{node_line}
 
 -- both ends are among so many nodes
 abbrev pub AreEndsNodes : ℕ → Link → Type 0

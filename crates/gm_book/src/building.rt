@@ -1,13 +1,13 @@
 //! The book of a schema and of rules that are written in a text.
 ghost use Rattle.std.specs.Prelude.{◌≡◌, ◌≤◌, length, map, IfOk, IfErr};
 ghost use Rattle.std.specs.List.{AllByRecursion};
-ghost use Rattle.gm_book.specs.BookText.{nodes_of, rule_in};
+ghost use Rattle.gm_forms.specs.BookText.{nodes_of, rule_in};
 ghost use Rattle.gm_model.specs.Rules.{rule_of};
 ghost use Rattle.gm_book.specs.Building.{HasNoFaultInRules, IsFaultOfNames};
-ghost use Rattle.gm_book.specs.Forms.{IsRuleIn, AreRulesIn, rule_form_of, forms_of};
+ghost use Rattle.gm_forms.specs.Forms.{IsRuleIn, AreRulesIn, rule_form_of, forms_of};
 
 use crate::fault::BookFault;
-use crate::form::RuleForm;
+use gm_forms::RuleForm;
 use crate::names::name_fault;
 use crate::table::table;
 use gm_model::{Book, Items, OutOfMemory, RuleTable, Schema};

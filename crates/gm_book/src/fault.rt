@@ -1,6 +1,6 @@
 ghost use Rattle.std.specs.Prelude.{◌≡◌};
 
-use crate::form_fault::FormFault;
+use gm_forms::FormFault;
 use crate::names::NameFault;
 use gm_model::{LimitKind, OutOfMemory};
 use gm_text::SchemaFault;

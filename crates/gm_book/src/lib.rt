@@ -3,24 +3,12 @@
 #![tactic(auto)]
 
 mod building;
-mod draft;
 mod fault;
-mod form;
-mod form_fault;
-mod headers;
-mod key;
 mod laws;
-mod letters;
 mod names;
-mod nodes;
 mod printing;
-mod reader;
 mod reading;
-mod signs;
-mod state;
 mod table;
-mod tally;
-mod words;
 
 pub use fault::BookFault;
 pub use laws::{

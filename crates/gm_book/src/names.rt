@@ -4,14 +4,13 @@
 ghost use Rattle.std.specs.Prelude.{◌≡◌, [], not, map, IfOk, OnOk};
 ghost use Rattle.std.specs.List.{AllByRecursion};
 ghost use Rattle.gm_model.specs.Names.{is_among};
-ghost use Rattle.gm_book.specs.BookText.{with_name};
+ghost use Rattle.gm_forms.specs.BookText.{with_name};
 ghost use Rattle.gm_model.specs.Tokens.{bytes_of};
-ghost use Rattle.gm_book.specs.Forms.{IsIn, IsItemIn, IsRuleIn, AreRulesIn, mention_of, item_of, rule_form_of, forms_of};
-ghost use Rattle.gm_book.specs.Held.{names_held};
+ghost use Rattle.gm_forms.specs.Forms.{IsIn, IsItemIn, IsRuleIn, AreRulesIn, mention_of, item_of, rule_form_of, forms_of};
+ghost use Rattle.gm_forms.specs.Held.{names_held};
 ghost use Rattle.gm_book.specs.FirstNameFault.{least_of, again_at, place_at, with_item, again_in, with_items, least_again, unknown_at, unknown_in, least_unknown, side_least, rule_least, least_in, IsLeastFault};
 
-use crate::form::{Item, RuleForm};
-use crate::key::NameKey;
+use gm_forms::{Item, NameKey, RuleForm};
 use gm_model::OutOfMemory;
 use gm_text::Token;
 use indexmap::IndexSet;

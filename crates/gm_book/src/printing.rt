@@ -3,7 +3,7 @@ ghost use Rattle.std.specs.Prelude.{◌≡◌, ◌++◌, ◌∷◌, ◌<◌, ◌
 ghost use Rattle.std.specs.List.{flat_map, list_any};
 ghost use Rattle.gm_model.specs.Rules.{rule_of, node_of, name_at};
 ghost use Rattle.gm_text.specs.SchemaText as schemas;
-ghost use Rattle.gm_book.specs.BookText.{canonical, rule_lines, left_lines, right_line, right_lines, link_line, node_line, letters_text, letter_text};
+ghost use Rattle.gm_forms.specs.BookText.{canonical, rule_lines, left_lines, right_line, right_lines, link_line, node_line, letters_text, letter_text};
 ghost use Rattle.gm_book.specs.Printing.{CanBePrinted, NamesItsNodes, AreEndsNodes, left_line, is_left};
 
 use gm_model::{Book, Letter, Link, Name, Node, OutOfMemory, RuleTable, Schema, Word};

@@ -1,14 +1,13 @@
 //! The table of a rule whose names are in order.
 ghost use Rattle.std.specs.Prelude.{◌≡◌, ◌≤◌, [], length, map, IfOk, OnOk};
 ghost use Rattle.std.specs.List.{AllByRecursion};
-ghost use Rattle.gm_book.specs.BookText.{nodes_of, number_of, word_in, links_in, hooks_in, node_in, rule_in};
+ghost use Rattle.gm_forms.specs.BookText.{nodes_of, number_of, word_in, links_in, hooks_in, node_in, rule_in};
 ghost use Rattle.gm_model.specs.Names.{IsName};
 ghost use Rattle.gm_model.specs.Rules.{node_of, rule_of};
-ghost use Rattle.gm_book.specs.Forms.{IsIn, IsItemIn, IsRuleIn, mention_of, item_of, rule_form_of};
-ghost use Rattle.gm_book.specs.Held.{names_at, names_held};
+ghost use Rattle.gm_forms.specs.Forms.{IsIn, IsItemIn, IsRuleIn, mention_of, item_of, rule_form_of};
+ghost use Rattle.gm_forms.specs.Held.{names_at, names_held};
 
-use crate::form::{Item, RuleForm};
-use crate::key::NameKey;
+use gm_forms::{Item, NameKey, RuleForm};
 use crate::names::{bytes_in, take_in_nodes};
 use gm_model::{Items, Link, Name, Node, OutOfMemory, RuleTable, Word};
 use gm_text::Token;

@@ -1,7 +1,7 @@
 -- Why a text stands for no book: its first fault, by the grammar and its limits, and then by names; and the words that say so.
 use Rattle.std.specs.Prelude.{ℕ, List, ◌++◌, codes, decimal}
 use Rattle.gm_model.specs.declared.limit.LimitKind.{LimitKind}
-use Rattle.gm_book.specs.BookText.{IsTextFault, IsLimitFault, IsNotBuilt, NameFault, TwiceAt, UnknownAt, IsFirstNameFault}
+use Rattle.gm_forms.specs.BookText.{IsTextFault, IsLimitFault, IsNotBuilt, NameFault, TwiceAt, UnknownAt, IsFirstNameFault}
 use Rattle.gm_mapfile.specs.MapFaults.{limit_word}
 
 pub data BookTextFault : Type 0 where

@@ -7,7 +7,7 @@ use Rattle.gm_model.specs.Symbols.{Mark, Stray, End}
 use Rattle.gm_mapfile.specs.MapText.{Version, DartRow, IsListed}
 use Rattle.gm_book.specs.declared.fault.BookFault.{BookFault}
 use Rattle.gm_book.specs.declared.fault.BookFault.TheVariants as book
-use Rattle.gm_book.specs.BookText.{TwiceAt, UnknownAt}
+use Rattle.gm_forms.specs.BookText.{TwiceAt, UnknownAt}
 use Rattle.gm_script.specs.ScriptText.{UnknownRuleAt, HookCountAt, ParamsAt}
 use Rattle.gm_script.specs.declared.fault.ScriptFault.{ScriptFault}
 use Rattle.gm_script.specs.declared.fault.ScriptFault.TheVariants as script

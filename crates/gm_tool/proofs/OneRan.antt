@@ -1,6 +1,6 @@
 -- A script has one run: the same outcomes, and the same map after it.
 use Rattle.std.proofs.Common.{◌≡◌, ℕ, List, [], ◌∷◌, All, refl, sym, subst, ◌∙◌, arith}
-use Rattle.gm_book.specs.BookText.{BookText}
+use Rattle.gm_forms.specs.BookText.{BookText}
 use Rattle.gm_book.proofs.Printable.{printable_from_text}
 use Rattle.gm_mapfile.specs.MapText.{map_of}
 use Rattle.gm_tool.specs.Runnable.{IsRunnable}

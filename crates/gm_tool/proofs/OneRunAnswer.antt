@@ -1,6 +1,6 @@
 -- A run of a script has one answer at most to its files.
 use Rattle.std.proofs.Common.{◌≡◌, ◌⊎◌, ℕ, ◌<◌, ◌≤◌, List, inl, inr, Some, length, codes, sym, subst, ◌∙◌, arith}
-use Rattle.gm_book.specs.BookText.{BookText}
+use Rattle.gm_forms.specs.BookText.{BookText}
 use Rattle.gm_mapfile.specs.MapText.{MapText}
 use Rattle.gm_model.specs.Rules.{Rule}
 use Rattle.gm_book.proofs.OneBook.{one_book}

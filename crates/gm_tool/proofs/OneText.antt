@@ -1,7 +1,7 @@
 -- A text has one first fault at most as a book and as a script, and one that has a fault stands for none.
 use Rattle.std.proofs.Common.{◌≡◌, ◌≢◌, ℕ, List, refl, sym, ap, ◌∙◌}
 use Rattle.std.proofs.Math.Path.{ap₂}
-use Rattle.gm_book.specs.BookText.{TwiceAt, UnknownAt, StandsForNoBook}
+use Rattle.gm_forms.specs.BookText.{TwiceAt, UnknownAt, StandsForNoBook}
 use Rattle.gm_model.specs.Rules.{Rule}
 use Rattle.gm_book.specs.declared.fault.BookFault.{BookFault}
 use Rattle.gm_book.specs.declared.fault.BookFault.TheVariants as faults

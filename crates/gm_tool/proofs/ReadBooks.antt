@@ -6,7 +6,7 @@ use Rattle.std.proofs.lemmas.Option.{slice_get_within, get_or_from_slice_get}
 use Rattle.gm_model.specs.declared.rule.Book.{Book}
 use Rattle.gm_model.specs.declared.rule.RuleTable.{RuleTable}
 use Rattle.gm_model.specs.declared.schema.Schema.{Schema}
-use Rattle.gm_book.specs.BookText.{BookText}
+use Rattle.gm_forms.specs.BookText.{BookText}
 use Rattle.gm_model.specs.Kinds.{IsTyped}
 use Rattle.gm_model.specs.Maps.{IsSchema}
 use Rattle.gm_model.specs.Rules.{Assignment, Rule, RuleNode, rule_of}

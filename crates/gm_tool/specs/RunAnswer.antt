@@ -5,7 +5,7 @@ use Rattle.std.specs.List.Sorted.{IsStrictlyIncreasing}
 use Rattle.gm_model.specs.declared.schema.Schema.{Schema}
 use Rattle.gm_model.specs.declared.script.Line.{Line}
 use Rattle.gm_tool.specs.Runnable.{IsRunnable, IsRuleWhy}
-use Rattle.gm_book.specs.BookText.{BookText}
+use Rattle.gm_forms.specs.BookText.{BookText}
 use Rattle.gm_mapfile.specs.MapReading.{IsWhole}
 use Rattle.gm_mapfile.specs.MapText.{ListedMap, MapText, map_of, canonical, names}
 use Rattle.gm_mapfile.specs.declared.version.MapVersion.{MapVersion}

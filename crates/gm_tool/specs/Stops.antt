@@ -6,7 +6,7 @@ use Rattle.gm_arena.specs.ArenaAsMap.{as_map}
 use Rattle.gm_mapfile.specs.Rows.{listed_of}
 use Rattle.gm_model.specs.declared.rule.Book.{Book}
 use Rattle.gm_model.specs.declared.script.Script.{Script}
-use Rattle.gm_book.specs.BookText.{BookText}
+use Rattle.gm_forms.specs.BookText.{BookText}
 use Rattle.gm_mapfile.specs.MapText.{MapText}
 use Rattle.gm_mapfile.specs.declared.reading.MapRead.{MapRead}
 use Rattle.gm_model.specs.Maps.{IsSound}

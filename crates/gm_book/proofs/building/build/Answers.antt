@@ -1,8 +1,8 @@
 use Rattle.std.proofs.Common.{List, sym, subst}
-use Rattle.gm_book.specs.declared.form.RuleForm.{RuleForm}
+use Rattle.gm_forms.specs.declared.form.RuleForm.{RuleForm}
 use Rattle.gm_book.specs.Building.{HasNoFaultInRules, IsFaultOfNames}
 use Rattle.gm_book.specs.FirstNameFault.{IsLeastFault}
-use Rattle.gm_book.specs.Forms.{forms_of}
+use Rattle.gm_forms.specs.Forms.{forms_of}
 use Rattle.gm_book.proofs.Built.{no_fault, first_fault}
 use Rattle.gm_book.proofs.building.build.Goals as goal
 

@@ -1,7 +1,7 @@
 use Rattle.std.proofs.Common.{◌≡◌, map, take}
-use Rattle.gm_book.specs.BookText.{rule_in}
+use Rattle.gm_forms.specs.BookText.{rule_in}
 use Rattle.gm_model.specs.Rules.{rule_of}
-use Rattle.gm_book.specs.Forms.{rule_form_of}
+use Rattle.gm_forms.specs.Forms.{rule_form_of}
 use Rattle.gm_book.proofs.building.tables.Given as goal
 
 abbrev pub invariant-loop-rule : goal.invariant-loop-rule

@@ -1,6 +1,6 @@
 use Rattle.std.proofs.Common.{◌≡◌, map, drop}
-use Rattle.gm_book.specs.Forms.{item_of}
-use Rattle.gm_book.specs.Held.{names_held}
+use Rattle.gm_forms.specs.Forms.{item_of}
+use Rattle.gm_forms.specs.Held.{names_held}
 use Rattle.gm_book.specs.FirstNameFault.{least_of, least_unknown}
 use Rattle.gm_book.proofs.names.first_unknown.Given as goal
 

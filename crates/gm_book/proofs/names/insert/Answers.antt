@@ -1,6 +1,6 @@
 use Rattle.std.proofs.Common.{◌∙◌, not, ap}
-use Rattle.gm_book.specs.Held.{names_at}
-use Rattle.gm_book.proofs.HeldNames.{among_held, taken_in}
+use Rattle.gm_forms.specs.Held.{names_at}
+use Rattle.gm_forms.proofs.HeldNames.{among_held, taken_in}
 use Rattle.gm_book.proofs.names.insert.Goals as goal
 
 pub returns-clause-held : goal.returns-clause-held

@@ -1,7 +1,7 @@
 use Rattle.std.proofs.Common.{◌≡◌, [], Option}
 use Rattle.std.proofs.lemmas.Result.{IfOk-weaker}
 use Rattle.gm_book.specs.declared.names.NameFault.{NameFault}
-use Rattle.gm_book.specs.Forms.{forms_of}
+use Rattle.gm_forms.specs.Forms.{forms_of}
 use Rattle.gm_book.specs.FirstNameFault.{least_in, IsLeastFault}
 use Rattle.gm_book.proofs.LeastFault.{is_least_fault}
 use Rattle.gm_book.proofs.names.name_fault.Goals as goal

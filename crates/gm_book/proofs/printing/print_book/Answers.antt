@@ -3,7 +3,7 @@ use Rattle.std.specs.Prelude.{decimal}
 use Rattle.std.proofs.lemmas.List.{get_or-map, length-map}
 use Rattle.gm_model.specs.Rules.{rule_of}
 use Rattle.gm_text.specs.SchemaText as schemas
-use Rattle.gm_book.specs.BookText.{rule_lines}
+use Rattle.gm_forms.specs.BookText.{rule_lines}
 use Rattle.gm_book.specs.Printing.{NamesItsNodes}
 use Rattle.gm_book.proofs.Lines.{mapped_more}
 use Rattle.gm_book.proofs.printing.print_book.Goals as goal

@@ -1,7 +1,7 @@
 use Rattle.std.proofs.Common.{◌≡◌, ◌++◌, take, map, filter}
 use Rattle.std.specs.List.{flat_map}
 use Rattle.gm_model.specs.Rules.{node_of}
-use Rattle.gm_book.specs.BookText.{right_line}
+use Rattle.gm_forms.specs.BookText.{right_line}
 use Rattle.gm_book.specs.Printing.{is_left}
 use Rattle.gm_book.proofs.printing.print_right_nodes_where.Given as goal
 

@@ -4,9 +4,9 @@ use Rattle.gm_model.specs.Symbols.{Mark}
 use Rattle.gm_text.specs.Cursor.{Cursor}
 use Rattle.gm_text.specs.Nested.{Outside}
 use Rattle.gm_text.specs.SchemaAnswers.{marks_left, IsSchemaRead}
-use Rattle.gm_book.specs.Forms.{forms_of}
-use Rattle.gm_book.specs.Reading.{AtFormat, heading_at}
-use Rattle.gm_book.specs.Standing.{IsHeaded, IsHeadFault, AreRulesRead}
+use Rattle.gm_forms.specs.Forms.{forms_of}
+use Rattle.gm_forms.specs.Reading.{AtFormat, heading_at}
+use Rattle.gm_forms.specs.Standing.{IsHeaded, IsHeadFault, AreRulesRead}
 use Rattle.gm_book.proofs.ReadBook.{rules_there, few_there, head_fault, skip_fault, rules_fault, names_in_schema, answer_stands, answer_faults, answer_in_range, answer_within_limits}
 use Rattle.gm_book.proofs.reading.read_book.Goals as goal
 

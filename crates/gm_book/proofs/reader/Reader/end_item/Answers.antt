@@ -1,4 +1,0 @@
-use Rattle.gm_book.proofs.reader.Reader.end_item.Goals as goal
-
-pub returns-in_ok-close-in-Right-clause-within : goal.returns-in_ok-close-in-Right-clause-within
-returns-in_ok-close-in-Right-clause-within c text draft_in = (c.in_ok-close-in-Right.ensures.within text draft_in).0

@@ -1,0 +1,16 @@
+pub mod Behind
+pub mod NamePlaces
+pub mod Onward
+pub mod Run
+pub mod Taking
+pub mod Leading
+pub mod Spelling
+pub mod Grammar
+pub mod Header
+pub mod Later
+pub mod RulesHeld
+pub mod SchemaNames
+pub mod Whole
+pub mod HeadRead
+pub mod Contained
+pub mod HeldNames

@@ -1,0 +1,39 @@
+use Rattle.gm_forms.specs.Standing.{word_mark}
+use Rattle.gm_forms.proofs.Behind.{moves_at, stays_at, keeps_in_at, stays_keeps_at}
+use Rattle.gm_forms.proofs.reader.Reader.word.Goals as goal
+
+pub returns-in-Rules-clause-moves : goal.returns-in-Rules-clause-moves
+returns-in-Rules-clause-moves c = stays_at c.args.lexer.now.text c.args.self.now.nodes c.args.self.now.draft (word_mark c.args.lexer.now.text c.args.token) c.at_rules.result c.in-Rules.is c.at_rules.ensures.leads
+
+pub returns-in-Rules-clause-within : goal.returns-in-Rules-clause-within
+returns-in-Rules-clause-within c = stays_keeps_at c.args.lexer.now.text c.args.self.now.draft c.at_rules.result c.in-Rules.is c.at_rules.ensures.within
+
+pub returns-in-Name-clause-moves : goal.returns-in-Name-clause-moves
+returns-in-Name-clause-moves c = moves_at c.args.lexer.now.text c.args.self.now.nodes c.args.self.now.draft (word_mark c.args.lexer.now.text c.args.token) c.at_name.result c.at_name.new.self.nodes c.at_name.new.self.draft c.in-Name.is c.at_name.ensures.moves
+
+pub returns-in-Name-clause-within : goal.returns-in-Name-clause-within
+returns-in-Name-clause-within c = keeps_in_at c.args.lexer.now.text c.args.self.now.draft c.at_name.result c.at_name.new.self.draft c.in-Name.is c.at_name.ensures.within
+
+pub returns-in-Left-clause-moves : goal.returns-in-Left-clause-moves
+returns-in-Left-clause-moves c = moves_at c.args.lexer.now.text c.args.self.now.nodes c.args.self.now.draft (word_mark c.args.lexer.now.text c.args.token) c.at_left.result c.at_left.new.self.nodes c.at_left.new.self.draft c.in-Left.is c.at_left.ensures.moves
+
+pub returns-in-Left-clause-within : goal.returns-in-Left-clause-within
+returns-in-Left-clause-within c = keeps_in_at c.args.lexer.now.text c.args.self.now.draft c.at_left.result c.at_left.new.self.draft c.in-Left.is c.at_left.ensures.within
+
+pub returns-in-Item-clause-moves : goal.returns-in-Item-clause-moves
+returns-in-Item-clause-moves c = moves_at c.args.lexer.now.text c.args.self.now.nodes c.args.self.now.draft (word_mark c.args.lexer.now.text c.args.token) c.at_item.result c.at_item.new.self.nodes c.at_item.new.self.draft c.in-Item.is c.at_item.ensures.moves
+
+pub returns-in-Item-clause-within : goal.returns-in-Item-clause-within
+returns-in-Item-clause-within c = keeps_in_at c.args.lexer.now.text c.args.self.now.draft c.at_item.result c.at_item.new.self.draft c.in-Item.is c.at_item.ensures.within
+
+pub returns-in-Behind-clause-moves : goal.returns-in-Behind-clause-moves
+returns-in-Behind-clause-moves c = moves_at c.args.lexer.now.text c.args.self.now.nodes c.args.self.now.draft (word_mark c.args.lexer.now.text c.args.token) c.at_behind.result c.at_behind.new.self.nodes c.at_behind.new.self.draft c.in-Behind.is c.at_behind.ensures.moves
+
+pub returns-in-Behind-clause-within : goal.returns-in-Behind-clause-within
+returns-in-Behind-clause-within c = keeps_in_at c.args.lexer.now.text c.args.self.now.draft c.at_behind.result c.at_behind.new.self.draft c.in-Behind.is c.at_behind.ensures.within
+
+pub returns-in-To-clause-moves : goal.returns-in-To-clause-moves
+returns-in-To-clause-moves c = moves_at c.args.lexer.now.text c.args.self.now.nodes c.args.self.now.draft (word_mark c.args.lexer.now.text c.args.token) c.at_to.result c.at_to.new.self.nodes c.at_to.new.self.draft c.in-To.is c.at_to.ensures.moves
+
+pub returns-in-To-clause-within : goal.returns-in-To-clause-within
+returns-in-To-clause-within c = keeps_in_at c.args.lexer.now.text c.args.self.now.draft c.at_to.result c.at_to.new.self.draft c.in-To.is c.at_to.ensures.within

@@ -1,0 +1,352 @@
+-- How a book's text is read, one symbol after another: what can stand next in which role, what is held of its rules, and where something begins that books don't have so far.
+use Rattle.std.specs.Prelude.{ℕ, ◌+◌, Bool, true, false, not, ◌&&◌, ◌||◌, ◌==◌, if◌then◌else◌, List, [], ◌∷◌, ◌++◌, length, Option, Some, None, Result, codes}
+use Rattle.std.specs.Option.{option_map, option_map_or}
+use Rattle.std.specs.Str.{bytes_eq}
+use Rattle.gm_model.specs.declared.limit.LimitKind.{LimitKind}
+use Rattle.gm_model.specs.declared.rule.Side.{Side}
+use Rattle.gm_model.specs.declared.rule.Side.TheVariants.{Left, Right}
+use Rattle.gm_model.specs.declared.word.Letter.{Letter}
+use Rattle.gm_model.specs.declared.word.Letter.TheVariants as letters
+use Rattle.gm_model.specs.Names.{reserved, Mention, is_among}
+use Rattle.gm_model.specs.Symbols.{Symbol, Word, Numeral, Sign, Gone, End, Mark}
+use Rattle.gm_forms.specs.BookText.{Item, NodeItem, LinkItem, RuleForm, Count, no_count, count_across, with_name, Role, Fixed, InSchema, RuleWord, NameAt, NodeSign, LinkSign, LetterAt, WordEnd, LabelAt, limit_of, stands_before}
+use Rattle.gm_forms.specs.declared.state.Heading.{Heading}
+use Rattle.gm_text.specs.Machine as machine
+use Rattle.gm_text.specs.Nested.{Nested, Outside, Inside, Nesting}
+use Rattle.gm_text.specs.Nested as nested
+use Rattle.gm_text.specs.SchemaText as schemas
+use Rattle.gm_text.specs.SchemaReading as schema
+
+-- ---- states in the rules
+
+-- where in a side of a rule reading is: the heading, how many rules have begun, the side, how much there is so far, and whether the rule has a hook so far
+pub record Spot : Type 0 where
+  pub heading : Heading
+  pub rules : ℕ
+  pub side : Side
+  pub count : Count
+  pub hooked : Bool
+
+pub data State : Type 0 where
+  -- behind the header, which is of this version and dimension
+  AtRules : Heading → State
+  -- before the name of the rule with this ordinal, and behind it
+  AtName : Heading → ℕ → State
+  AtLeft : Heading → ℕ → State
+  -- where an item can begin, and behind its first name
+  AtItem : Spot → State
+  AtSign : Spot → List ℕ → State
+  -- in a node's word behind so many letters, and behind the word
+  AtLetter : Spot → ℕ → State
+  AtBehind : Spot → State
+  -- in a link before its label, behind it, and before its second name
+  AtLabel : Spot → State
+  AtDash : Spot → State
+  AtTo : Spot → State
+  -- behind the end
+  AtEnd : State
+
+abbrev pub heading_at : ℕ → ℕ → Heading
+heading_at version n = record { version = version; dim = n }
+
+-- the left side of the rule with this ordinal, before its first item
+abbrev pub left_spot : Heading → ℕ → Spot
+left_spot heading k = record { heading = heading; rules = k; side = Left; count = no_count; hooked = false }
+
+abbrev pub right_spot : Spot → Spot
+right_spot spot = record { heading = spot.heading; rules = spot.rules; side = Right; count = count_across spot.count; hooked = spot.hooked }
+
+abbrev pub with_node : Spot → List ℕ → Spot
+with_node spot name = record spot { count = record spot.count { nodes = with_name spot.count.nodes name } }
+
+abbrev pub with_link : Spot → Spot
+with_link spot = record spot { count = record spot.count { links = spot.count.links + 1 } }
+
+abbrev pub with_hook : Spot → Spot
+with_hook spot = record spot { hooked = true }
+
+-- ---- roles
+
+-- the word that stands behind the items of a side; behind the right ones the next rule begins
+abbrev pub closing : Side → List ℕ
+closing Left = codes "right"
+closing Right = codes "rule"
+
+abbrev pub closing_role : Side → ℕ → Role
+closing_role Left k = Fixed
+closing_role Right k = RuleWord (k + 1)
+
+abbrev pub item_role : Spot → Symbol → ℕ → Role
+item_role spot (Word word) place = if bytes_eq word (closing spot.side) then closing_role spot.side spot.rules else NameAt place
+item_role spot _ place = Fixed
+
+-- whether a further node of a rule may be a hook, by whether there is one so far; in version 1 it may not where there is
+abbrev pub takes_hook : ℕ → Bool → Bool
+takes_hook version hooked = not (hooked && (version == 1))
+
+-- the word makes the node before it a hook, which only a left one may be
+abbrev pub is_hook_on : Side → Bool → List ℕ → Bool
+is_hook_on Left takes word = bytes_eq word (codes "hook") && takes
+is_hook_on Right takes word = false
+
+abbrev pub is_hook : Spot → List ℕ → Bool
+is_hook spot word = is_hook_on spot.side (takes_hook spot.heading.version spot.hooked) word
+
+abbrev pub behind_role : Spot → Symbol → ℕ → Role
+behind_role spot (Word word) place = if is_hook spot word then Fixed else item_role spot (Word word) place
+behind_role spot _ place = Fixed
+
+abbrev pub sign_role : Spot → List ℕ → Symbol → Role
+sign_role spot name (Sign sign) = if bytes_eq sign (codes "<") then NodeSign (length (with_name spot.count.nodes name)) else LinkSign (spot.count.links + 1)
+sign_role spot name _ = Fixed
+
+abbrev pub letter_role : Spot → ℕ → Symbol → Role
+letter_role spot k (Sign sign) = WordEnd spot.side
+letter_role spot k _ = LetterAt spot.heading.dim (k + 1)
+
+abbrev pub rules_role : Symbol → Role
+rules_role (Word word) = RuleWord 1
+rules_role _ = Fixed
+
+-- the role of a symbol that stands at a place
+abbrev pub role_at : State → Symbol → ℕ → Role
+role_at (AtRules heading) symbol place = rules_role symbol
+role_at (AtName heading k) symbol place = NameAt place
+role_at (AtItem spot) symbol place = item_role spot symbol place
+role_at (AtSign spot name) symbol place = sign_role spot name symbol
+role_at (AtLetter spot k) symbol place = letter_role spot k symbol
+role_at (AtBehind spot) symbol place = behind_role spot symbol place
+role_at (AtLabel spot) symbol place = LabelAt spot.heading.dim
+role_at (AtTo spot) symbol place = NameAt place
+role_at _ symbol place = Fixed
+
+-- ---- moves
+
+abbrev pub expect : List ℕ → List ℕ → State → Option State
+expect wanted found next = if bytes_eq found wanted then Some next else None
+
+-- a reserved word is no name
+abbrev pub unless_reserved : List ℕ → State → Option State
+unless_reserved word next = if is_among reserved word then None else Some next
+
+abbrev pub closed : Spot → Side → State
+closed spot Left = AtItem (right_spot spot)
+closed spot Right = AtName spot.heading (spot.rules + 1)
+
+abbrev pub item_move : Spot → List ℕ → Option State
+item_move spot word = if bytes_eq word (closing spot.side) then Some (closed spot spot.side) else unless_reserved word (AtSign spot word)
+
+abbrev pub behind_move : Spot → List ℕ → Option State
+behind_move spot word = if is_hook spot word then Some (AtItem (with_hook spot)) else item_move spot word
+
+abbrev pub sign_move : Spot → List ℕ → List ℕ → Option State
+sign_move spot name sign = if bytes_eq sign (codes "<") then Some (AtLetter (with_node spot name) 0) else (if bytes_eq sign (codes "-") then Some (AtLabel (with_link spot)) else None)
+
+-- the book can end where a rule can
+abbrev pub end_move : Side → Option State
+end_move Left = None
+end_move Right = Some AtEnd
+
+-- the state behind a symbol, where it can stand
+abbrev pub move : State → Symbol → Option State
+move (AtRules heading) (Word word) = expect (codes "rule") word (AtName heading 1)
+move (AtRules heading) End = Some AtEnd
+move (AtName heading k) (Word word) = unless_reserved word (AtLeft heading k)
+move (AtLeft heading k) (Word word) = expect (codes "left") word (AtItem (left_spot heading k))
+move (AtItem spot) (Word word) = item_move spot word
+move (AtItem spot) End = end_move spot.side
+move (AtSign spot name) (Sign sign) = sign_move spot name sign
+move (AtLetter spot k) (Numeral label) = Some (AtLetter spot (k + 1))
+move (AtLetter spot k) Gone = Some (AtLetter spot (k + 1))
+move (AtLetter spot k) (Sign sign) = expect (codes ">") sign (AtBehind spot)
+move (AtBehind spot) (Word word) = behind_move spot word
+move (AtBehind spot) End = end_move spot.side
+move (AtLabel spot) (Numeral label) = Some (AtDash spot)
+move (AtDash spot) (Sign sign) = expect (codes "-") sign (AtTo spot)
+move (AtTo spot) (Word word) = unless_reserved word (AtItem spot)
+move _ _ = None
+
+abbrev pub step : State → ℕ → Mark → Result State (machine.Stop State LimitKind)
+step = machine.step limit_of stands_before role_at move
+
+abbrev pub run : State → ℕ → List Mark → Result State (machine.Stop State LimitKind)
+run = machine.run limit_of stands_before role_at move
+
+-- ---- a whole book
+
+-- the version is known behind it
+pub data Outer : Type 0 where
+  -- before the word `book`, and before the version
+  AtFormat : Outer
+  AtVersion : Outer
+  InRules : State → Outer
+
+-- where in the schema reading is, in a book of this version
+pub record Header : Type 0 where
+  pub version : ℕ
+  pub state : schema.State
+
+abbrev pub header_at : ℕ → schema.State → Header
+header_at version state = record { version = version; state = state }
+
+abbrev pub Whole : Type 0
+Whole = Nested Outer Header
+
+abbrev pub is_version : ℕ → Bool
+is_version version = (version == 1) || (version == 2)
+
+abbrev pub outer_role : Outer → Symbol → ℕ → Role
+outer_role (InRules state) symbol place = role_at state symbol place
+outer_role _ symbol place = Fixed
+
+abbrev pub in_rules : State → Whole
+in_rules state = Outside (InRules state)
+
+abbrev pub outer_move : Outer → Symbol → Option Whole
+outer_move AtFormat (Word word) = if bytes_eq word (codes "book") then Some (Outside AtVersion) else None
+outer_move AtVersion (Numeral version) = if is_version version then Some (Inside (header_at version schema.AtDim)) else None
+outer_move (InRules state) symbol = option_map in_rules (move state symbol)
+outer_move _ _ = None
+
+-- the dimension, where the schema can end
+abbrev pub dim_in : schema.State → ℕ
+dim_in (schema.AtEmbeds n declared) = n
+dim_in _ = 0
+
+abbrev pub heading_in : Header → Heading
+heading_in header = heading_at header.version (dim_in header.state)
+
+-- Behind the version stands the schema, and behind it the rules.
+abbrev pub book_nesting : Nesting Outer Header Role schemas.Role
+book_nesting = record {
+  outer_role = outer_role;
+  outer_move = outer_move;
+  inner_role = λ header symbol place. schema.role_at header.state symbol place;
+  inner_move = λ header symbol. option_map (header_at header.version) (schema.move header.state symbol);
+  wrap = InSchema;
+  is_whole = λ header. schema.is_whole header.state;
+  behind = λ header. InRules (AtRules (heading_in header));
+}
+
+abbrev pub run_whole : Whole → ℕ → List Mark → Result Whole (machine.Stop Whole LimitKind)
+run_whole = machine.run limit_of stands_before (nested.role_at book_nesting) (nested.move book_nesting)
+
+-- ---- what books don't have so far
+
+abbrev pub is_later_behind_items : Side → List ℕ → Bool
+is_later_behind_items Left word = false
+is_later_behind_items Right word = bytes_eq word (codes "pre")
+
+-- the symbol begins parameters, an assignment or a precondition
+abbrev pub is_later : State → Symbol → Bool
+is_later (AtLeft heading k) (Sign sign) = bytes_eq sign (codes "(")
+is_later (AtItem spot) (Word word) = is_later_behind_items spot.side word
+is_later (AtBehind spot) (Word word) = is_later_behind spot.side
+  where
+    is_later_behind : Side → Bool
+    is_later_behind Left = false
+    is_later_behind Right = if bytes_eq word (codes "with") then true else bytes_eq word (codes "pre")
+is_later _ _ = false
+
+abbrev pub is_later_in : Whole → Symbol → Bool
+is_later_in (Outside (InRules state)) symbol = is_later state symbol
+is_later_in _ symbol = false
+
+-- ---- what is held
+
+-- an item of which a part was read
+pub data Part : Type 0 where
+  Nothing : Part
+  -- its first name
+  Named : Mention → Part
+  -- a node's name and the letters of its word
+  Lettered : Mention → List Letter → Part
+  -- a link's first name, and that name and the label
+  Linked : Mention → Part
+  Labelled : Mention → ℕ → Part
+
+pub record Held : Type 0 where
+  -- the rules that are read whole
+  pub rules : List RuleForm
+  -- the rule that is read
+  pub current : Option RuleForm
+  pub part : Part
+
+abbrev pub nothing_held : Held
+nothing_held = record { rules = []; current = None; part = Nothing }
+
+abbrev pub mention_at : List ℕ → ℕ → Mention
+mention_at name place = record { name = name; place = place }
+
+abbrev pub with_item : Side → Item → RuleForm → RuleForm
+with_item Left item rule = record rule { left = rule.left ++ item ∷ [] }
+with_item Right item rule = record rule { right = rule.right ++ item ∷ [] }
+
+abbrev pub put_item : Side → Item → Held → Held
+put_item side item held = record held { current = option_map (with_item side item) held.current; part = Nothing }
+
+-- the last item is a hook
+abbrev pub hooked : List Item → List Item
+hooked [] = []
+hooked (NodeItem node word hook ∷ []) = NodeItem node word true ∷ []
+hooked (item ∷ items) = item ∷ hooked items
+
+abbrev pub hook_last : RuleForm → RuleForm
+hook_last rule = record rule { left = hooked rule.left }
+
+abbrev pub listed : Option RuleForm → List RuleForm
+listed None = []
+listed (Some rule) = rule ∷ []
+
+abbrev pub close_rule : Held → Held
+close_rule held = record held { rules = held.rules ++ listed held.current; current = None; part = Nothing }
+
+abbrev pub close_side : Side → Held → Held
+close_side Left held = held
+close_side Right held = close_rule held
+
+abbrev pub open_rule : Mention → Held → Held
+open_rule name held = record held { current = Some (record { name = name; left = []; right = [] }) }
+
+abbrev pub hold_item : Spot → List ℕ → ℕ → Held → Held
+hold_item spot word place held = if bytes_eq word (closing spot.side) then close_side spot.side held else record held { part = Named (mention_at word place) }
+
+abbrev pub hold_sign : List ℕ → Part → Part
+hold_sign sign (Named name) = if bytes_eq sign (codes "<") then Lettered name [] else Linked name
+hold_sign sign part = part
+
+abbrev pub hold_letter : Letter → Part → Part
+hold_letter letter (Lettered name word) = Lettered name (word ++ letter ∷ [])
+hold_letter letter part = part
+
+abbrev pub hold_node : Side → Held → Part → Held
+hold_node side held (Lettered name word) = put_item side (NodeItem name word false) held
+hold_node side held part = held
+
+abbrev pub hold_label : ℕ → Part → Part
+hold_label label (Linked name) = Labelled name label
+hold_label label part = part
+
+abbrev pub hold_link : Side → Mention → Held → Part → Held
+hold_link side to held (Labelled from label) = put_item side (LinkItem from label to) held
+hold_link side to held part = held
+
+-- what is held behind a symbol that stands at a place
+abbrev pub hold : State → Symbol → ℕ → Held → Held
+hold (AtName heading k) (Word word) place held = open_rule (mention_at word place) held
+hold (AtItem spot) (Word word) place held = hold_item spot word place held
+hold (AtItem spot) End place held = close_rule held
+hold (AtSign spot name) (Sign sign) place held = record held { part = hold_sign sign held.part }
+hold (AtLetter spot k) (Numeral label) place held = record held { part = hold_letter (letters.At label) held.part }
+hold (AtLetter spot k) Gone place held = record held { part = hold_letter letters.Gone held.part }
+hold (AtLetter spot k) (Sign sign) place held = hold_node spot.side held held.part
+hold (AtBehind spot) (Word word) place held = if is_hook spot word then record held { current = option_map hook_last held.current } else hold_item spot word place held
+hold (AtBehind spot) End place held = close_rule held
+hold (AtLabel spot) (Numeral label) place held = record held { part = hold_label label held.part }
+hold (AtTo spot) (Word word) place held = hold_link spot.side (mention_at word place) held held.part
+hold _ symbol place held = held
+
+-- what is held behind marks, along the states to which they lead
+abbrev pub held_behind : State → List Mark → Held → Held
+held_behind state [] held = held
+held_behind state (mark ∷ marks) held = option_map_or (λ (next : State). held_behind next marks (hold state mark.symbol mark.place held)) (move state mark.symbol) held

@@ -1,0 +1,80 @@
+//! The rules of a book that are read so far.
+ghost use Rattle.std.specs.Prelude.{◌≡◌, List, ℕ, [], Some, OnOk, ◌++◌, None};
+ghost use Rattle.std.specs.Option.{option_map};
+ghost use Rattle.gm_forms.specs.Forms.{mention_of, item_of, rule_form_of, IsIn, IsItemIn, IsRuleIn};
+ghost use Rattle.gm_forms.specs.Reading.{with_item, listed};
+ghost use Rattle.gm_forms.specs.Standing.{rules_of, current_of, IsDraftIn};
+
+use crate::form::{Item, RuleForm};
+use gm_model::Side;
+use gm_text::Token;
+use std::alloc::{AllocFailed, Global};
+
+#[derive(Drop)]
+pub struct Draft {
+    /// The rules that are read whole.
+    pub rules: Vec<RuleForm>,
+    /// The rule that is read.
+    pub current: Option<RuleForm>,
+}
+
+impl Draft {
+    pub fn new(alloc: Global) -> Draft
+        ensures rules { result.rules.items ≡ [] }
+        ensures current { result.current ≡ None }
+    {
+        Draft {
+            rules: Vec::new(alloc),
+            current: None,
+        }
+    }
+
+    /// Begins a rule.
+    pub fn open(&mut self, alloc: Global, name: Token)
+        ensures rules { self.new.rules ≡ self.old.rules }
+        ensures within { (text : List ℕ) → IsIn text name → IsDraftIn text self.old → IsDraftIn text self.new }
+        ensures current { (text : List ℕ) → current_of text self.new ≡ Some (record { name = mention_of text name; left = []; right = [] }) }
+    {
+        self.current = Some(RuleForm {
+            name,
+            left: Vec::new(alloc),
+            right: Vec::new(alloc),
+        });
+    }
+
+    /// Lists an item on a side of the rule that is read.
+    pub fn put(&mut self, side: Side, item: Item) -> Result<(), AllocFailed<Item>>
+        ensures rules { OnOk result (self.new.rules ≡ self.old.rules) }
+        ensures within { (text : List ℕ) → IsItemIn text item → IsDraftIn text self.old → OnOk result (IsDraftIn text self.new) }
+        ensures current { (text : List ℕ) → OnOk result (current_of text self.new ≡ option_map (with_item side (item_of text item)) (current_of text self.old)) }
+    {
+        match &mut self.current {
+            None => Ok(()),
+            Some(rule) => rule.put(side, item),
+        }
+    }
+
+    /// Ends the rule that is read.
+    pub fn close(&mut self) -> Result<(), AllocFailed<RuleForm>>
+        ensures rules { (text : List ℕ) → OnOk result (rules_of text self.new ≡ rules_of text self.old ++ listed (current_of text self.old)) }
+        ensures current { OnOk result (self.new.current ≡ None) }
+        ensures within { (text : List ℕ) → IsDraftIn text self.old → OnOk result (IsDraftIn text self.new) }
+    {
+        match self.current.take() {
+            None => Ok(()),
+            Some(rule) => self.rules.push(rule),
+        }
+    }
+}
+
+impl RuleForm {
+    fn put(&mut self, side: Side, item: Item) -> Result<(), AllocFailed<Item>>
+        ensures within { (text : List ℕ) → IsItemIn text item → IsRuleIn text self.old → OnOk result (IsRuleIn text self.new) }
+        ensures listed { (text : List ℕ) → OnOk result (rule_form_of text self.new ≡ with_item side (item_of text item) (rule_form_of text self.old)) }
+    {
+        match side {
+            Side::Left => self.left.push(item),
+            Side::Right => self.right.push(item),
+        }
+    }
+}

@@ -1,0 +1,36 @@
+use gm_model::LimitKind;
+use std::alloc::{AllocError, AllocFailed};
+
+/// Why a text has no form: its first fault from left to right, or want of memory.
+#[derive(Drop)]
+pub enum FormFault {
+    /// No text of a book goes on with what stands at the place.
+    Text { place: usize },
+    /// A limit is passed by what stands at the place.
+    Limit { what: LimitKind, place: usize },
+    /// At the place begins what books don't have so far.
+    NotBuilt { place: usize },
+    OutOfMemory,
+}
+
+impl From<AllocError> for FormFault {
+    ghost use Rattle.std.specs.Prelude.{◌≡◌};
+    ghost use Rattle.gm_forms.specs.declared.form_fault.FormFault.TheVariants as faults;
+
+    ghost from_gives = { λ _ fault. fault ≡ faults.OutOfMemory };
+
+    fn from(_error: AllocError) -> FormFault {
+        FormFault::OutOfMemory
+    }
+}
+
+impl<T: Drop> From<AllocFailed<T>> for FormFault {
+    ghost use Rattle.std.specs.Prelude.{◌≡◌};
+    ghost use Rattle.gm_forms.specs.declared.form_fault.FormFault.TheVariants as faults;
+
+    ghost from_gives = { λ _ fault. fault ≡ faults.OutOfMemory };
+
+    fn from(_error: AllocFailed<T>) -> FormFault {
+        FormFault::OutOfMemory
+    }
+}

@@ -1,0 +1,80 @@
+//! The word `book` and the version, with which a book begins.
+ghost use Rattle.std.specs.Prelude.{◌≡◌, ◌^◌, ◌-◌, min, IfOk, IfErr};
+ghost use Rattle.gm_model.specs.Symbols.{value_of};
+ghost use Rattle.gm_model.specs.Tokens.{bytes_of};
+ghost use Rattle.gm_model.specs.declared.token.TokenKind.TheVariants.{Number};
+ghost use Rattle.gm_text.specs.Nested.{Outside};
+ghost use Rattle.gm_forms.specs.Reading.{AtFormat, AtVersion};
+ghost use Rattle.gm_text.specs.SchemaAnswers.{IsToken, marks_left};
+ghost use Rattle.gm_forms.specs.Standing.{IsNext, IsHeaded, BeginsBook, IsVersioned, IsHeadFault};
+
+use crate::form_fault::FormFault;
+use crate::words::reads;
+use gm_text::{Lexer, Token, TokenKind};
+
+/// The next token, which the lexer goes past, or `None` at the end of the text.
+pub fn next_token(lexer: &mut Lexer<'_>) -> Result<Option<Token>, FormFault>
+    ensures text { lexer.new.text ≡ lexer.old.text }
+    ensures next { IsNext lexer.old result lexer.new }
+{
+    match lexer.next() {
+        Ok(found) => Ok(found),
+        Err(fault) => Err(FormFault::Text { place: fault.place }),
+    }
+}
+
+/// The value of a number; the greatest `u64` stands for a number that is greater.
+pub fn value(lexer: &Lexer<'_>, token: Token) -> u64
+    requires token { IsToken lexer.now.text token }
+    requires kind { token.kind ≡ Number }
+    ensures { result ≡ min (value_of (bytes_of lexer.now.text token)) (2 ^ 64 - 1) }
+{
+    lexer.number(&token).unwrap_or(u64::MAX)
+}
+
+fn read_format(lexer: &mut Lexer<'_>) -> Result<(), FormFault>
+    ensures text { lexer.new.text ≡ lexer.old.text }
+    ensures read { IfOk result (λ _. BeginsBook (marks_left lexer.old) (marks_left lexer.new)) }
+    ensures fault { IfErr result (IsHeadFault (Outside AtFormat) (marks_left lexer.old)) }
+{
+    let Some(token) = next_token(lexer)? else {
+        return Err(FormFault::Text {
+            place: lexer.place(),
+        });
+    };
+    if token.kind != TokenKind::Name || !reads(lexer, token, b"book") {
+        return Err(FormFault::Text { place: token.start });
+    }
+    Ok(())
+}
+
+fn read_number(lexer: &mut Lexer<'_>) -> Result<u8, FormFault>
+    ensures text { lexer.new.text ≡ lexer.old.text }
+    ensures read { IfOk result (λ version. IsVersioned (marks_left lexer.old) version (marks_left lexer.new)) }
+    ensures fault { IfErr result (IsHeadFault (Outside AtVersion) (marks_left lexer.old)) }
+{
+    let Some(token) = next_token(lexer)? else {
+        return Err(FormFault::Text {
+            place: lexer.place(),
+        });
+    };
+    let place = token.start;
+    if token.kind != TokenKind::Number {
+        return Err(FormFault::Text { place });
+    }
+    let version = value(lexer, token);
+    if version != 1 && version != 2 {
+        return Err(FormFault::Text { place });
+    }
+    Ok(version as u8)
+}
+
+/// The version of a book. The lexer goes past it, up to the schema.
+pub fn read_version(lexer: &mut Lexer<'_>) -> Result<u8, FormFault>
+    ensures text { lexer.new.text ≡ lexer.old.text }
+    ensures read { IfOk result (λ version. IsHeaded (marks_left lexer.old) version (marks_left lexer.new)) }
+    ensures fault { IfErr result (IsHeadFault (Outside AtFormat) (marks_left lexer.old)) }
+{
+    read_format(lexer)?;
+    read_number(lexer)
+}

@@ -1,0 +1,63 @@
+//! Where in a book's rules reading is, and what of an item is read so far.
+ghost use Rattle.std.specs.Prelude.{◌≡◌, ◌≤◌};
+ghost use Rattle.gm_forms.specs.Reading.{takes_hook};
+
+use crate::tally::Tally;
+use gm_model::{Dim, Side, Word};
+use gm_text::Token;
+
+/// What the rules need of a book's header.
+#[derive(Clone, Copy)]
+pub struct Heading {
+    pub version: u8,
+    pub dim: Dim,
+}
+
+impl Heading {
+    /// The greatest label.
+    pub fn top(&self) -> u8
+        ensures value { result ≡ self.now.dim }
+        ensures greatest { self.now.dim ≤ 7 }
+    {
+        self.dim.top()
+    }
+}
+
+/// Where in a side of a rule reading is: how many rules have begun, how many links the side has so
+/// far, and whether the rule has a hook so far.
+#[derive(Clone, Copy)]
+pub struct Spot {
+    pub heading: Heading,
+    pub rules: Tally,
+    pub side: Side,
+    pub links: Tally,
+    pub hooked: bool,
+}
+
+impl Spot {
+    /// Whether the version lets a further node of the rule be a hook.
+    pub fn takes_hook(&self) -> bool
+        ensures { result ≡ takes_hook self.now.heading.version self.now.hooked }
+    {
+        !self.hooked || self.heading.version != 1
+    }
+}
+
+#[derive(Clone, Copy)]
+pub enum State {
+    /// Behind the header.
+    Rules(Heading),
+    /// Before the name of the rule with this ordinal, and behind it.
+    Name(Heading, Tally),
+    Left(Heading, Tally),
+    /// Where an item can begin, and behind its first name.
+    Item(Spot),
+    Sign(Spot, Token),
+    /// In a node's word behind these letters, and behind the word.
+    Letter(Spot, Token, Word),
+    Behind(Spot, Token, Word),
+    /// In a link before its label, behind it, and before its second name.
+    Label(Spot, Token),
+    Dash(Spot, Token, u8),
+    To(Spot, Token, u8),
+}

@@ -1,0 +1,34 @@
+//! Words and signs of the formats.
+ghost use Rattle.std.specs.Prelude.{◌≡◌, bytes_eq};
+ghost use Rattle.std.specs.List.{list_any};
+ghost use Rattle.gm_model.specs.Names.{is_among, reserved};
+ghost use Rattle.gm_model.specs.Tokens.{bytes_of};
+ghost use Rattle.gm_text.specs.SchemaAnswers.{IsToken};
+
+use gm_text::{Lexer, Token};
+
+/// The words of the formats that no name can be.
+const RESERVED: [&[u8]; 19] = [
+    b"rule", b"left", b"right", b"hook", b"with", b"pre", b"and", b"or", b"not", b"if", b"then",
+    b"else", b"true", b"false", b"sum", b"count", b"min", b"max", b"same",
+];
+
+/// Whether the token is this word or sign.
+pub fn reads(lexer: &Lexer<'_>, token: Token, word: &[u8]) -> bool
+    requires { IsToken lexer.now.text token }
+    ensures { result ≡ bytes_eq (bytes_of lexer.now.text token) word.now }
+{
+    lexer.text(&token) == word
+}
+
+pub fn is_reserved(word: &[u8]) -> bool
+    ensures { result ≡ is_among reserved word.now }
+{
+    is_among(&RESERVED, word)
+}
+
+fn is_among(words: &[&[u8]], word: &[u8]) -> bool
+    ensures { result ≡ list_any (λ other. bytes_eq word.now other.now) words.now }
+{
+    words.iter().any(|other| word == *other)
+}
