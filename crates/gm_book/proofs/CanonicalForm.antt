@@ -5,12 +5,13 @@ use Rattle.std.specs.List.{list_any, AllByRecursion}
 use Rattle.gm_model.specs.declared.word.Letter.{Letter}
 use Rattle.gm_model.specs.declared.word.Letter.TheVariants as letters
 use Rattle.gm_model.specs.declared.rule.Link.{Link}
+use Rattle.gm_model.specs.declared.rule.Param.{Param}
 use Rattle.gm_model.specs.declared.rule.Side.{Side}
 use Rattle.gm_model.specs.declared.rule.Side.TheVariants.{Left, Right}
 use Rattle.gm_model.specs.Symbols.{Mark}
 use Rattle.gm_model.specs.Names.{reserved, IsName, Mention, is_among}
 use Rattle.gm_model.specs.Rules.{Rule, RuleNode, word_on, links_on, has_word, name_at}
-use Rattle.gm_forms.specs.BookText.{Item, NodeItem, LinkItem, RuleForm, node_line}
+use Rattle.gm_forms.specs.BookText.{Item, NodeItem, LinkItem, ParamForm, RuleForm, node_line}
 
 -- ---- lines
 
@@ -80,16 +81,33 @@ abbrev pub behind_lines : List Line → List Mark → List Mark
 behind_lines [] marks = marks
 behind_lines (line ∷ lines) marks = behind_lines lines (behind_line line marks)
 
-abbrev pub left_marks : List Mark → List Mark
-left_marks marks = behind (behind (behind marks))
+-- behind so many marks at the sign before a parameter, each has four: the sign, its name, a sign and its kind
+abbrev pub behind_param : List Mark → List Mark
+behind_param marks = behind (behind (behind (behind marks)))
+
+abbrev pub params_at : List Mark → List Param → List ParamForm
+params_at marks [] = []
+params_at marks (param ∷ params) = record { name = at (behind marks) param.name; kind = param.kind } ∷ params_at (behind_param marks) params
+
+abbrev pub behind_more_params : List Param → List Mark → List Mark
+behind_more_params [] marks = behind marks
+behind_more_params (param ∷ params) marks = behind_more_params params (behind_param marks)
+
+abbrev pub behind_params : List Param → List Mark → List Mark
+behind_params [] marks = marks
+behind_params (param ∷ params) marks = behind_more_params params (behind_param marks)
+
+abbrev pub left_marks : Rule → List Mark → List Mark
+left_marks rule marks = behind (behind_params rule.params (behind (behind marks)))
 
 abbrev pub right_marks : Rule → List Mark → List Mark
-right_marks rule marks = behind (behind_lines (lines_of rule Left) (left_marks marks))
+right_marks rule marks = behind (behind_lines (lines_of rule Left) (left_marks rule marks))
 
 abbrev pub form_at : List Mark → Rule → RuleForm
 form_at marks rule = record {
   name = at (behind marks) rule.name;
-  left = items_at (left_marks marks) (lines_of rule Left);
+  params = params_at (behind (behind marks)) rule.params;
+  left = items_at (left_marks rule marks) (lines_of rule Left);
   right = items_at (right_marks rule marks) (lines_of rule Right);
 }
 
@@ -146,6 +164,12 @@ numbers_where test x (node ∷ nodes) = number_if (is_some node.left && test x) 
 abbrev pub node_names : List RuleNode → List (List ℕ)
 node_names nodes = map (λ (node : RuleNode). node.name) nodes
 
+abbrev pub IsGoodParam : Param → Type 0
+IsGoodParam param = IsGoodName param.name
+
+abbrev pub param_names : List Param → List (List ℕ)
+param_names params = map (λ (param : Param). param.name) params
+
 -- a rule as a text can give it
 pub record IsWritable (n : ℕ) (rule : Rule) : Type 0 where
   pub name : IsGoodName rule.name
@@ -160,5 +184,7 @@ pub record IsWritable (n : ℕ) (rule : Rule) : Type 0 where
   pub links : (side : Side) → AllByRecursion (IsGoodLink n rule side) (links_on rule side)
   pub few_links : (side : Side) → length (links_on rule side) ≤ 256
   pub hooks : numbers_where (hook_on rule Left) 0 rule.nodes ≡ rule.hooks
-  pub params : rule.params ≡ []
+  pub params : AllByRecursion IsGoodParam rule.params
+  pub params_differ : AreNew [] (param_names rule.params)
+  pub few_params : length rule.params ≤ 8
   pub pre : rule.pre ≡ None

@@ -6,14 +6,15 @@ use Rattle.std.proofs.lemmas.List.{length-append, length-map}
 use Rattle.gm_model.specs.declared.word.Letter.{Letter}
 use Rattle.gm_model.specs.declared.word.Letter.TheVariants as letters
 use Rattle.gm_model.specs.declared.rule.Link.{Link}
+use Rattle.gm_model.specs.declared.rule.Param.{Param}
 use Rattle.gm_model.specs.declared.rule.Side.{Side}
 use Rattle.gm_model.specs.declared.rule.Side.TheVariants.{Left, Right}
 use Rattle.gm_model.specs.Symbols.{Mark}
 use Rattle.gm_model.specs.Reading.{Part, IsWithin}
 use Rattle.gm_model.specs.Rules.{Rule, RuleNode, word_on}
-use Rattle.gm_forms.specs.BookText.{Item, NodeItem, LinkItem, RuleForm, hook_count, nodes_of, hooks_in, rule_in, Role, Count, no_count, count_after, count_across, counted, with_name, the_end, limit_of, spell_letters, spell_hook, spell_item, spell_items, spell_rule, spell_rules, IsItem, IsRule, IsSentence}
+use Rattle.gm_forms.specs.BookText.{Item, NodeItem, LinkItem, RuleForm, hook_count, nodes_of, hooks_in, rule_in, Role, Count, no_count, count_after, count_across, counted, with_name, the_end, limit_of, spell_letters, spell_hook, spell_item, spell_items, spell_more_params, spell_params, spell_rule, spell_rules, IsItem, IsParam, IsRule, IsSentence}
 use Rattle.gm_model.specs.Names.{is_among}
-use Rattle.gm_book.proofs.CanonicalForm.{Line, NodeLine, LinkLine, behind_line, behind_lines, node_lines, line_before, tie, hook_on, item_at, items_at, lines_of, left_marks, right_marks, form_at, forms_at, node_names, IsGoodLetter, IsGoodLine, IsWritable}
+use Rattle.gm_book.proofs.CanonicalForm.{Line, NodeLine, LinkLine, behind_line, behind_lines, node_lines, line_before, tie, hook_on, item_at, items_at, lines_of, left_marks, right_marks, form_at, forms_at, node_names, behind, params_at, behind_param, IsGoodParam, IsGoodLetter, IsGoodLine, IsWritable}
 use Rattle.gm_book.proofs.CanonicalText.{good_lines}
 use Rattle.gm_book.proofs.CanonicalRule.{rule_same, counted_seen, seen_after, names_on, side_names, left_seen, both_seen}
 
@@ -61,13 +62,18 @@ hooks_counted names (LinkItem from label to ∷ items) = hooks_counted names ite
 pub as_many_hooks : (form : RuleForm) → hook_count form.left ≡ length (rule_in form).hooks
 as_many_hooks form = hooks_counted (nodes_of form) form.left
 
+params_are_params : (params : List Param) (marks : List Mark) → AllByRecursion IsGoodParam params → AllByRecursion IsParam (params_at marks params)
+params_are_params [] marks good = tt
+params_are_params (param ∷ params) marks good = (good.0.1, params_are_params params (behind_param marks) good.1)
+
 form_is_rule : (version n : ℕ) (rule : Rule) (marks : List Mark) → (version ≡ 1 → length rule.hooks ≤ 1) → IsWritable n rule → IsRule version (form_at marks rule)
-form_is_rule version n rule marks few ok = (
-  ok.name.1,
-  lines_are_items n Left (lines_of rule Left) (left_marks marks) (left_lines_fit (lines_of rule Left)) (good_lines n rule Left ok),
-  lines_are_items n Right (lines_of rule Right) (right_marks rule marks) (right_lines_fit 0 rule.nodes (map (tie rule.nodes) rule.right_links) (right_ties_fit rule.nodes rule.right_links)) (good_lines n rule Right ok),
-  λ one. omega (arith, few one, as_many_hooks (form_at marks rule), ap (λ (r : Rule). length r.hooks) (rule_same n rule ok marks)),
-)
+form_is_rule version n rule marks few ok = record {
+  name = ok.name.1;
+  params = params_are_params rule.params (behind (behind marks)) ok.params;
+  left = lines_are_items n Left (lines_of rule Left) (left_marks rule marks) (left_lines_fit (lines_of rule Left)) (good_lines n rule Left ok);
+  right = lines_are_items n Right (lines_of rule Right) (right_marks rule marks) (right_lines_fit 0 rule.nodes (map (tie rule.nodes) rule.right_links) (right_ties_fit rule.nodes rule.right_links)) (good_lines n rule Right ok);
+  few_hooks = λ one. omega (arith, few one, as_many_hooks (form_at marks rule), ap (λ (r : Rule). length r.hooks) (rule_same n rule ok marks));
+}
 
 -- in version 1 the rule has one hook at most
 abbrev pub HasFewHooks : ℕ → Rule → Type 0
@@ -111,12 +117,12 @@ links_counted side hook all x (node ∷ nodes) links count marks = go (word_on s
 
 module _ (n : ℕ) (rule : Rule) (marks : List Mark) (ok : IsWritable n rule) where
   left_counted : (counted no_count (form_at marks rule).left).nodes ≡ node_names ok.left_nodes
-  left_counted = counted_seen no_count (form_at marks rule).left ∙ ap (seen_after []) (side_names n rule ok Left (left_marks marks)) ∙ left_seen n rule ok
+  left_counted = counted_seen no_count (form_at marks rule).left ∙ ap (seen_after []) (side_names n rule ok Left (left_marks rule marks)) ∙ left_seen n rule ok
 
   left_few : AreFew (counted no_count (form_at marks rule).left)
   left_few = record {
     nodes = omega (arith, ap length left_counted, length-map ok.left_nodes (λ (node : RuleNode). node.name), ap length ok.left_first, length-append ok.left_nodes ok.added_nodes, ok.few_nodes);
-    links = omega (arith, links_counted Left (hook_on rule Left) rule.nodes 0 rule.nodes rule.left_links no_count (left_marks marks), ok.few_links Left);
+    links = omega (arith, links_counted Left (hook_on rule Left) rule.nodes 0 rule.nodes rule.left_links no_count (left_marks rule marks), ok.few_links Left);
   }
 
   right_few : AreFew (counted (count_across (counted no_count (form_at marks rule).left)) (form_at marks rule).right)
@@ -169,6 +175,19 @@ module _ (n : ℕ) where
         line_within line count marks _ good.0 (few_before (items_at (behind_line line marks) lines) (count_after count (item_at marks line)) few)
         (lines_within lines (count_after count (item_at marks line)) (behind_line line marks) parts good.1 few later)
 
+  more_params_within : (k : ℕ) (params : List Param) (marks : List Mark) (parts : List (Part Role)) → k + length params ≤ 8 → AllByRecursion IsGoodParam params → IsIn parts → IsIn (spell_more_params k (params_at marks params) parts)
+  more_params_within k [] marks parts few good later = (refl, later)
+  more_params_within k (param ∷ params) marks parts few good later =
+      let short : ltb 32 (length param.name) ≡ false = le-ltb 32 (length param.name) good.0.0.0 in
+      let room : ltb 8 (k + 1) ≡ false = le-ltb 8 (k + 1) (omega (arith, few)) in
+      (refl, (rw (short, room) refl, (refl, (refl, more_params_within (k + 1) params (behind_param marks) parts (omega (arith, few)) good.1 later))))
+
+  params_within : (params : List Param) (marks : List Mark) (parts : List (Part Role)) → length params ≤ 8 → AllByRecursion IsGoodParam params → IsIn parts → IsIn (spell_params (params_at marks params) parts)
+  params_within [] marks parts few good later = later
+  params_within (param ∷ params) marks parts few good later =
+      let short : ltb 32 (length param.name) ≡ false = le-ltb 32 (length param.name) good.0.0.0 in
+      (refl, (rw short refl, (refl, (refl, more_params_within 1 params (behind_param marks) parts (omega (arith, few)) good.1 later))))
+
   rule_within : (k : ℕ) (rule : Rule) (marks : List Mark) (parts : List (Part Role)) → k ≤ 256 → IsWritable n rule → IsIn parts → IsIn (spell_rule n k (form_at marks rule) parts)
   rule_within k rule marks parts few ok later =
       let room : ltb 256 k ≡ false = le-ltb 256 k few in
@@ -176,9 +195,9 @@ module _ (n : ℕ) where
         rw room refl,
         (
           rw short refl,
-          (
+          params_within rule.params (behind (behind marks)) _ ok.few_params ok.params (
             refl,
-            lines_within Left (lines_of rule Left) no_count (left_marks marks) _ (good_lines n rule Left ok) (left_few n rule marks ok)
+            lines_within Left (lines_of rule Left) no_count (left_marks rule marks) _ (good_lines n rule Left ok) (left_few n rule marks ok)
                 (refl, lines_within Right (lines_of rule Right) (count_across (counted no_count (form_at marks rule).left)) (right_marks rule marks) parts (good_lines n rule Right ok) (right_few n rule marks ok) later),
           ),
         ),

@@ -6,13 +6,14 @@ use Rattle.std.proofs.lemmas.List.{map-append}
 use Rattle.std.proofs.lemmas.List.Elements.{All-from_recursion}
 use Rattle.gm_model.specs.declared.word.Letter.{Letter}
 use Rattle.gm_model.specs.declared.rule.Link.{Link}
+use Rattle.gm_model.specs.declared.rule.Param.{Param}
 use Rattle.gm_model.specs.declared.rule.Side.{Side}
 use Rattle.gm_model.specs.declared.rule.Side.TheVariants.{Left, Right}
 use Rattle.gm_model.specs.Symbols.{Mark}
 use Rattle.gm_model.specs.Rules.{Rule, RuleNode, has_word, word_on, links_on, name_at}
 use Rattle.gm_model.specs.Names.{Mention, is_among}
-use Rattle.gm_forms.specs.BookText.{RuleForm, names_of, nodes_in, ends_in, items_on, IsAgain, IsStranger, NameFault, IsFaultInRules, RuleTwice, NodeTwice, NodeUnknown}
-use Rattle.gm_book.proofs.CanonicalForm.{NodeLine, behind_line, behind_lines, node_lines, line_before, tie, hook_on, items_at, lines_of, left_marks, right_marks, form_at, forms_at, AreNew, node_names, IsGoodLink, IsWritable}
+use Rattle.gm_forms.specs.BookText.{ParamForm, RuleForm, names_of, params_in, nodes_in, ends_in, items_on, IsAgain, IsStranger, NameFault, IsFaultInRules, RuleTwice, ParamTwice, NodeTwice, NodeUnknown}
+use Rattle.gm_book.proofs.CanonicalForm.{NodeLine, behind_line, behind_lines, node_lines, line_before, tie, hook_on, items_at, lines_of, behind, params_at, behind_param, param_names, left_marks, right_marks, form_at, forms_at, AreNew, node_names, IsGoodLink, IsWritable}
 use Rattle.gm_book.proofs.CanonicalRule.{names_on, name_before, on_append, side_names}
 use Rattle.gm_book.proofs.DifferentNames.{among_last, among_neither, fewer_seen, new_behind, split_there}
 
@@ -73,8 +74,13 @@ module _ (n : ℕ) (rule : Rule) (side : Side) (hook : ℕ → Bool) where
 -- ---- so no rule has a fault
 
 pub record HasNoFault (form : RuleForm) : Type 0 where
+  pub param_twice : (place : ℕ) → IsAgain (params_in form) place → ⊥
   pub twice : (side : Side) (place : ℕ) → IsAgain (nodes_in (items_on form side)) place → ⊥
   pub stranger : (side : Side) (place : ℕ) → IsStranger (items_on form side) place → ⊥
+
+named_params : (params : List Param) (marks : List Mark) → names_of (map (λ (param : ParamForm). param.name) (params_at marks params)) ≡ param_names params
+named_params [] marks = refl
+named_params (param ∷ params) marks = ap (λ names. param.name ∷ names) (named_params params (behind_param marks))
 
 contained : {X : Type 0} (P : X → Type 0) (xs : List X) (x : X) → AllByRecursion P xs → Contains xs x → P x
 contained P xs x all has = subst P has.2 (All-from_recursion P xs all has.0 x has.1)
@@ -90,14 +96,18 @@ module _ (n : ℕ) where
       not_both (is_among (names_on side rule.nodes) stranger.mention.name) known (ap (λ names. is_among names stranger.mention.name) (sym (side_names n rule ok side marks)) ∙ stranger.stranger)
 
   form_faultless : (rule : Rule) (marks : List Mark) → IsWritable n rule → HasNoFault (form_at marks rule)
-  form_faultless rule marks ok = record { twice = twice; stranger = stranger }
+  form_faultless rule marks ok = record {
+    param_twice = λ place again. no_again _ place (subst (AreNew []) (sym (named_params rule.params (behind (behind marks)))) ok.params_differ) again;
+    twice = twice;
+    stranger = stranger;
+  }
     where
       twice : (side : Side) (place : ℕ) → IsAgain (nodes_in (items_on (form_at marks rule) side)) place → ⊥
-      twice Left place again = items_twice rule Left (left_marks marks) place ok again
+      twice Left place again = items_twice rule Left (left_marks rule marks) place ok again
       twice Right place again = items_twice rule Right (right_marks rule marks) place ok again
 
       stranger : (side : Side) (place : ℕ) → IsStranger (items_on (form_at marks rule) side) place → ⊥
-      stranger Left place found = items_stranger rule Left (left_marks marks) place ok found
+      stranger Left place found = items_stranger rule Left (left_marks rule marks) place ok found
       stranger Right place found = items_stranger rule Right (right_marks rule marks) place ok found
 
   forms_faultless : (rules : List Rule) (marks : List Mark) → AllByRecursion (IsWritable n) rules → AllByRecursion HasNoFault (forms_at marks rules)
@@ -113,5 +123,6 @@ form_names (rule ∷ rules) marks = ap (λ names. rule.name ∷ names) (form_nam
 
 pub rules_faultless : (n : ℕ) (rules : List Rule) (marks : List Mark) → AllByRecursion (IsWritable n) rules → AreNew [] (rule_names rules) → (fault : NameFault) → IsFaultInRules (forms_at marks rules) fault → ⊥
 rules_faultless n rules marks ok differ _ (RuleTwice place again) = no_again _ place (subst (AreNew []) (sym (form_names rules marks)) differ) again
+rules_faultless n rules marks ok differ _ (ParamTwice form place has again) = (contained HasNoFault _ form (forms_faultless n rules marks ok) has).param_twice place again
 rules_faultless n rules marks ok differ _ (NodeTwice form side place has again) = (contained HasNoFault _ form (forms_faultless n rules marks ok) has).twice side place again
 rules_faultless n rules marks ok differ _ (NodeUnknown form side place has stranger) = (contained HasNoFault _ form (forms_faultless n rules marks ok) has).stranger side place stranger

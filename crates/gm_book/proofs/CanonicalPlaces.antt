@@ -6,9 +6,10 @@ use Rattle.gm_model.specs.declared.rule.Side.{Side}
 use Rattle.gm_model.specs.declared.rule.Side.TheVariants.{Left, Right}
 use Rattle.gm_model.specs.Symbols.{Mark}
 use Rattle.gm_model.specs.Reading.{Part}
+use Rattle.gm_model.specs.declared.rule.Param.{Param}
 use Rattle.gm_model.specs.Rules.{Rule}
-use Rattle.gm_forms.specs.BookText.{Role, LetterAt, Count, no_count, count_after, count_across, counted, letter, the_end, spell_letters, spell_hook, spell_item, spell_items, spell_rule, spell_rules, IsPlacedAt, ArePlaced}
-use Rattle.gm_book.proofs.CanonicalForm.{Line, NodeLine, LinkLine, behind, place_in, behind_letters, behind_hook, behind_line, behind_lines, item_at, items_at, lines_of, left_marks, right_marks, form_at, forms_at}
+use Rattle.gm_forms.specs.BookText.{Role, LetterAt, Count, no_count, count_after, count_across, counted, letter, the_end, spell_letters, spell_hook, spell_item, spell_items, spell_more_params, spell_params, spell_rule, spell_rules, IsPlacedAt, ArePlaced}
+use Rattle.gm_book.proofs.CanonicalForm.{Line, NodeLine, LinkLine, behind, params_at, behind_param, behind_more_params, behind_params, place_in, behind_letters, behind_hook, behind_line, behind_lines, item_at, items_at, lines_of, left_marks, right_marks, form_at, forms_at}
 
 -- one part more in front
 first : (marks : List Mark) (part : Part Role) (parts : List (Part Role)) → IsPlacedAt (place_in marks) part.role → ArePlaced (behind marks) parts → ArePlaced marks (part ∷ parts)
@@ -40,10 +41,21 @@ module _ (n : ℕ) where
     lines_placed [] count marks parts later = later
     lines_placed (line ∷ lines) count marks parts later = line_placed line count marks _ (lines_placed lines (count_after count (item_at marks line)) (behind_line line marks) parts later)
 
+  more_params_placed : (k : ℕ) (params : List Param) (marks : List Mark) (parts : List (Part Role)) → ArePlaced (behind_more_params params marks) parts → ArePlaced marks (spell_more_params k (params_at marks params) parts)
+  more_params_placed k [] marks parts later = first marks _ _ tt later
+  more_params_placed k (param ∷ params) marks parts later =
+      first marks _ _ tt (first (behind marks) _ _ refl (first (behind (behind marks)) _ _ tt (first (behind (behind (behind marks))) _ _ tt (more_params_placed (k + 1) params (behind_param marks) parts later))))
+
+  params_placed : (params : List Param) (marks : List Mark) (parts : List (Part Role)) → ArePlaced (behind_params params marks) parts → ArePlaced marks (spell_params (params_at marks params) parts)
+  params_placed [] marks parts later = later
+  params_placed (param ∷ params) marks parts later =
+      first marks _ _ tt (first (behind marks) _ _ refl (first (behind (behind marks)) _ _ tt (first (behind (behind (behind marks))) _ _ tt (more_params_placed 1 params (behind_param marks) parts later))))
+
   rule_placed : (k : ℕ) (rule : Rule) (marks : List Mark) (parts : List (Part Role)) → ArePlaced (behind_lines (lines_of rule Right) (right_marks rule marks)) parts → ArePlaced marks (spell_rule n k (form_at marks rule) parts)
   rule_placed k rule marks parts later =
-      first marks _ _ tt (first (behind marks) _ _ refl (first (behind (behind marks)) _ _ tt (lines_placed Left (lines_of rule Left) no_count (left_marks marks) _
-      (first (behind_lines (lines_of rule Left) (left_marks marks)) _ _ tt (lines_placed Right (lines_of rule Right) (count_across (counted no_count (form_at marks rule).left)) (right_marks rule marks) parts later)))))
+      first marks _ _ tt (first (behind marks) _ _ refl (params_placed rule.params (behind (behind marks)) _
+      (first (behind_params rule.params (behind (behind marks))) _ _ tt (lines_placed Left (lines_of rule Left) no_count (left_marks rule marks) _
+      (first (behind_lines (lines_of rule Left) (left_marks rule marks)) _ _ tt (lines_placed Right (lines_of rule Right) (count_across (counted no_count (form_at marks rule).left)) (right_marks rule marks) parts later))))))
 
   pub rules_placed : (k : ℕ) (rules : List Rule) (marks : List Mark) → ArePlaced marks (spell_rules n k (forms_at marks rules) (the_end ∷ []))
   rules_placed k [] marks = first marks the_end [] tt (none (behind marks))

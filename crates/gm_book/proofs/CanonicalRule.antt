@@ -14,9 +14,9 @@ use Rattle.gm_model.specs.declared.rule.Side.TheVariants.{Left, Right}
 use Rattle.gm_model.specs.Symbols.{Mark}
 use Rattle.gm_model.specs.Trees.{Tree}
 use Rattle.gm_model.specs.Rules.{Rule, RuleNode, has_word, word_on, links_on, name_at}
-use Rattle.gm_forms.specs.BookText.{Item, Count, NodeItem, LinkItem, no_count, count_after, counted, with_name, names_of, nodes_in, nodes_of, word_in, links_in, hooks_in, node_in, rule_in}
+use Rattle.gm_forms.specs.BookText.{Item, Count, NodeItem, LinkItem, no_count, count_after, counted, with_name, names_of, nodes_in, nodes_of, word_in, links_in, hooks_in, node_in, param_of, rule_in}
 use Rattle.gm_model.specs.Names.{is_among}
-use Rattle.gm_book.proofs.CanonicalForm.{NodeLine, node_lines, line_before, tie, hook_on, lines_of, items_at, behind_line, form_at, left_marks, right_marks, AreNew, number_if, numbers_where, node_names, IsGoodNode, IsGoodLink, IsWritable}
+use Rattle.gm_book.proofs.CanonicalForm.{NodeLine, behind, node_lines, line_before, tie, hook_on, lines_of, items_at, behind_line, form_at, params_at, behind_param, left_marks, right_marks, AreNew, number_if, numbers_where, node_names, IsGoodNode, IsGoodLink, IsWritable}
 use Rattle.gm_book.proofs.CanonicalText.{each}
 use Rattle.gm_book.proofs.DifferentNames.{same_bytes, among_last, new_front, new_behind, rest_differ, number_behind, number_there}
 
@@ -187,6 +187,10 @@ rule_from : (rule : Rule) (params : List Param) (nodes : List RuleNode) (left ri
     → (let r : Rule = record { name = rule.name; params = params; nodes = nodes; left_links = left; right_links = right; hooks = hooks; pre = pre } in r) ≡ rule
 rule_from rule params nodes left right hooks pre a b c d e f = rw (a, b, c, d, e, f) refl
 
+params_same : (params : List Param) (marks : List Mark) → map param_of (params_at marks params) ≡ params
+params_same [] marks = refl
+params_same (param ∷ params) marks = ap (λ (others : List Param). param ∷ others) (params_same params (behind_param marks))
+
 module _ (n : ℕ) (rule : Rule) (ok : IsWritable n rule) where
   number_of_named : (side : Side) (x : ℕ) → has_word rule side x ≡ true → position_or_len (bytes_eq (name_at rule.nodes x)) (node_names rule.nodes) ≡ x
   number_of_named side x has = go (slice_get rule.nodes x) refl
@@ -241,11 +245,11 @@ module _ (n : ℕ) (rule : Rule) (ok : IsWritable n rule) where
   module _ (marks : List Mark) where
     nodes_same : nodes_of (form_at marks rule) ≡ node_names rule.nodes
     nodes_same =
-        let left = items_at (left_marks marks) (lines_of rule Left) in
+        let left = items_at (left_marks rule marks) (lines_of rule Left) in
         let right = items_at (right_marks rule marks) (lines_of rule Right) in
         counted_seen (counted no_count left) right
         ∙ ap (seen_after (counted no_count left).nodes) (side_names Right (right_marks rule marks))
-        ∙ ap (λ seen. seen_after seen (names_on Right rule.nodes)) (counted_seen no_count left ∙ ap (seen_after []) (side_names Left (left_marks marks)) ∙ left_seen)
+        ∙ ap (λ seen. seen_after seen (names_on Right rule.nodes)) (counted_seen no_count left ∙ ap (seen_after []) (side_names Left (left_marks rule marks)) ∙ left_seen)
         ∙ both_seen
 
     words_same : (front behind : List RuleNode) → front ++ behind ≡ rule.nodes → AreNew (node_names front) (node_names behind) → AllByRecursion (IsGoodNode n) behind → map (node_in (form_at marks rule)) (node_names behind) ≡ behind
@@ -256,12 +260,12 @@ module _ (n : ℕ) (rule : Rule) (ok : IsWritable n rule) where
         subst (λ nodes. word_in (items_from side (hook_on rule side) rule.nodes (links_on rule side) marks 0 nodes) node.name ≡ word_on side node) split
         (word_there side (hook_on rule side) rule.nodes (links_on rule side) front node behind 0 marks new.0 last) in
         let rest = words_same (front ++ node ∷ []) behind (append_assoc front (node ∷ []) behind ∙ split) (subst (λ names. AreNew names (node_names behind)) (sym (map-append (λ (m : RuleNode). m.name) front (node ∷ []))) new.1) good.1 in
-        rw (word_of Left (left_marks marks), word_of Right (right_marks rule marks), sym good.0.sets, rest) refl
+        rw (word_of Left (left_marks rule marks), word_of Right (right_marks rule marks), sym good.0.sets, rest) refl
 
     pub rule_same : rule_in (form_at marks rule) ≡ rule
     rule_same =
         let nodes : map (node_in (form_at marks rule)) (nodes_of (form_at marks rule)) ≡ rule.nodes = ap (map (node_in (form_at marks rule))) nodes_same ∙ words_same [] rule.nodes refl ok.differ ok.nodes in
-        let left : links_in (nodes_of (form_at marks rule)) (form_at marks rule).left ≡ rule.left_links = ap (λ names. links_in names (form_at marks rule).left) nodes_same ∙ links_same Left (left_marks marks) in
+        let left : links_in (nodes_of (form_at marks rule)) (form_at marks rule).left ≡ rule.left_links = ap (λ names. links_in names (form_at marks rule).left) nodes_same ∙ links_same Left (left_marks rule marks) in
         let right : links_in (nodes_of (form_at marks rule)) (form_at marks rule).right ≡ rule.right_links = ap (λ names. links_in names (form_at marks rule).right) nodes_same ∙ links_same Right (right_marks rule marks) in
-        let hooks : hooks_in (nodes_of (form_at marks rule)) (form_at marks rule).left ≡ rule.hooks = ap (λ names. hooks_in names (form_at marks rule).left) nodes_same ∙ hooks_same (left_marks marks) in
-        rule_from rule _ _ _ _ _ _ (sym ok.params) nodes left right hooks (sym ok.pre)
+        let hooks : hooks_in (nodes_of (form_at marks rule)) (form_at marks rule).left ≡ rule.hooks = ap (λ names. hooks_in names (form_at marks rule).left) nodes_same ∙ hooks_same (left_marks rule marks) in
+        rule_from rule _ _ _ _ _ _ (params_same rule.params (behind (behind marks))) nodes left right hooks (sym ok.pre)

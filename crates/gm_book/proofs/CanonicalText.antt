@@ -8,14 +8,20 @@ use Rattle.std.proofs.lemmas.List.Elements.{filter-append, All-from_recursion}
 use Rattle.std.proofs.lemmas.Option.{slice_get_within, get_or_from_slice_get}
 use Rattle.gm_model.specs.declared.word.Letter.{Letter}
 use Rattle.gm_model.specs.declared.rule.Link.{Link}
+use Rattle.gm_model.specs.declared.rule.Param.{Param}
+use Rattle.gm_model.specs.declared.token.TokenKind.TheVariants as tokens
+use Rattle.gm_model.specs.declared.value.Kind.{Kind}
+use Rattle.gm_model.specs.declared.value.Kind.TheVariants as kinds
 use Rattle.gm_model.specs.declared.rule.Side.{Side}
 use Rattle.gm_model.specs.declared.rule.Side.TheVariants.{Left, Right}
-use Rattle.gm_model.specs.Symbols.{Symbol, Word, Mark}
+use Rattle.gm_model.specs.Symbols.{Symbol, Word, Sign, Mark}
+use Rattle.gm_model.specs.Tokens.{IsLexeme, is_name_byte}
 use Rattle.gm_model.specs.Reading.{Part, symbols_in}
 use Rattle.gm_model.specs.Rules.{Rule, RuleNode, has_word, word_on, links_on, name_at}
-use Rattle.gm_forms.specs.BookText.{Role, Fixed, the_end, word, no_count, counted, count_across, left_lines, right_line, right_lines, link_line, rule_lines, spell_items, spell_rule, spell_rules}
-use Rattle.gm_text.proofs.Printed.{symbols_from, symbols_from-end, symbols_from-word_blank}
-use Rattle.gm_book.proofs.CanonicalForm.{Line, NodeLine, text_of, node_lines, line_before, tie, hook_on, lines_of, form_at, forms_at, left_marks, right_marks, behind_lines, IsGoodName, IsGoodLine, IsGoodNode, IsGoodLink, IsGoodWordIfAny, IsWritable}
+use Rattle.gm_forms.specs.BookText.{Role, Fixed, the_end, word, no_count, counted, count_across, left_lines, right_line, right_lines, link_line, param_text, params_text, rule_lines, spell_items, spell_more_params, spell_params, spell_rule, spell_rules}
+use Rattle.gm_text.proofs.Printed.{symbols_from, Stops, symbols_from-end, symbols_from-blank, symbols_from-sign, symbols_from-word, symbols_from-word_blank}
+use Rattle.gm_text.specs.SchemaText.{kind_word}
+use Rattle.gm_book.proofs.CanonicalForm.{Line, NodeLine, text_of, node_lines, line_before, tie, hook_on, lines_of, behind, params_at, behind_param, form_at, forms_at, left_marks, right_marks, behind_lines, IsGoodName, IsGoodParam, IsGoodLine, IsGoodNode, IsGoodLink, IsGoodWordIfAny, IsWritable}
 use Rattle.gm_book.proofs.CanonicalSymbols.{lines_symbols}
 
 pub element_at : {X : Type 0} (P : X → Type 0) (xs : List X) → AllByRecursion P xs → (k : ℕ) (x : X) → slice_get xs k ≡ Some x → P x
@@ -91,8 +97,65 @@ right_side n rule ok =
     ap (λ bytes. bytes ++ flat_map (link_line rule.nodes) rule.right_links) (rights_in_order n rule ok) ∙ ap (λ bytes. flat_map right_line rule.nodes ++ bytes) (ties_text rule.nodes rule.right_links)
     ∙ right_text 0 rule.nodes (map (tie rule.nodes) rule.right_links)
 
-regroup : (a b c d e f g h more : List ℕ) → (a ++ b ++ c ++ d ++ e ++ f ++ g ++ h) ++ more ≡ a ++ (b ++ (c ++ ((d ++ e) ++ (f ++ ((g ++ h) ++ more)))))
-regroup a b c d e f g h more = simp append_assoc
+regroup : (a b p c d e f g h more : List ℕ) → (a ++ b ++ p ++ c ++ d ++ e ++ f ++ g ++ h) ++ more ≡ a ++ (b ++ (p ++ (c ++ ((d ++ e) ++ (f ++ ((g ++ h) ++ more))))))
+regroup a b p c d e f g h more = simp append_assoc
+
+-- ---- parameters
+
+kind_lexeme : (kind : Kind) → IsLexeme tokens.Name (kind_word kind)
+kind_lexeme kinds.Int = (refl, refl)
+kind_lexeme kinds.Bool = (refl, refl)
+kind_lexeme kinds.Vec2 = (refl, refl)
+kind_lexeme kinds.Vec3 = (refl, refl)
+kind_lexeme kinds.Rgb = (refl, refl)
+
+param_symbols : (param : Param) (more : List ℕ) → IsGoodParam param → Stops is_name_byte more → symbols_from (param_text param ++ more) ≡ Word param.name ∷ Sign (codes ":") ∷ Word (kind_word param.kind) ∷ symbols_from more
+param_symbols param more good stops =
+    let regrouped : param_text param ++ more ≡ param.name ++ 58 ∷ 32 ∷ (kind_word param.kind ++ more) = simp append_assoc in
+    ap symbols_from regrouped
+    ∙ symbols_from-word param.name (58 ∷ 32 ∷ (kind_word param.kind ++ more)) good.0.1 refl
+    ∙ ap (λ (s : List Symbol). Word param.name ∷ s)
+    (symbols_from-sign 58 (32 ∷ (kind_word param.kind ++ more)) refl refl
+    ∙ ap (λ (s : List Symbol). Sign (codes ":") ∷ s) (symbols_from-blank 32 (kind_word param.kind ++ more) refl ∙ symbols_from-word (kind_word param.kind) more (kind_lexeme param.kind) stops))
+
+abbrev more_params_text : List Param → List ℕ → List ℕ
+more_params_text params more = flat_map (λ (param : Param). codes ", " ++ param_text param) params ++ 41 ∷ more
+
+more_params_stop : (params : List Param) (more : List ℕ) → Stops is_name_byte (more_params_text params more)
+more_params_stop [] more = refl
+more_params_stop (param ∷ params) more = refl
+
+more_params_symbols : (k : ℕ) (params : List Param) (marks : List Mark) (more : List ℕ) (parts : List (Part Role)) → AllByRecursion IsGoodParam params → symbols_from more ≡ symbols_in parts
+    → symbols_from (more_params_text params more) ≡ symbols_in (spell_more_params k (params_at marks params) parts)
+more_params_symbols k [] marks more parts good rest = symbols_from-sign 41 more refl refl ∙ ap (λ (s : List Symbol). Sign (codes ")") ∷ s) rest
+more_params_symbols k (param ∷ params) marks more parts good rest =
+    let behind_it = more_params_text params more in
+    let regrouped : more_params_text (param ∷ params) more ≡ 44 ∷ 32 ∷ (param_text param ++ behind_it) = ap (λ (bytes : List ℕ). 44 ∷ 32 ∷ bytes) (append_assoc (param_text param) (flat_map (λ (other : Param). codes ", " ++ param_text other) params) (41 ∷ more)) in
+    ap symbols_from regrouped
+    ∙ symbols_from-sign 44 (32 ∷ (param_text param ++ behind_it)) refl refl
+    ∙ ap (λ (s : List Symbol). Sign (codes ",") ∷ s)
+    (symbols_from-blank 32 (param_text param ++ behind_it) refl
+    ∙ param_symbols param behind_it good.0 (more_params_stop params more)
+    ∙ ap (λ (s : List Symbol). Word param.name ∷ Sign (codes ":") ∷ Word (kind_word param.kind) ∷ s) (more_params_symbols (k + 1) params (behind_param marks) more parts good.1 rest))
+
+-- what stands behind a rule's name goes on no name
+params_stop : (params : List Param) (more : List ℕ) → Stops is_name_byte more → Stops is_name_byte (params_text params ++ more)
+params_stop [] more stops = stops
+params_stop (param ∷ params) more stops = refl
+
+params_symbols : (params : List Param) (marks : List Mark) (more : List ℕ) (parts : List (Part Role)) → AllByRecursion IsGoodParam params → symbols_from more ≡ symbols_in parts
+    → symbols_from (params_text params ++ more) ≡ symbols_in (spell_params (params_at marks params) parts)
+params_symbols [] marks more parts good rest = rest
+params_symbols (param ∷ params) marks more parts good rest =
+    let behind_it = more_params_text params more in
+    let regrouped : params_text (param ∷ params) ++ more ≡ 40 ∷ (param_text param ++ behind_it) =
+    ap (λ (bytes : List ℕ). 40 ∷ bytes) (append_assoc (param_text param) (flat_map (λ (other : Param). codes ", " ++ param_text other) params ++ codes ")") more
+    ∙ ap (λ (bytes : List ℕ). param_text param ++ bytes) (append_assoc (flat_map (λ (other : Param). codes ", " ++ param_text other) params) (codes ")") more)) in
+    ap symbols_from regrouped
+    ∙ symbols_from-sign 40 (param_text param ++ behind_it) refl refl
+    ∙ ap (λ (s : List Symbol). Sign (codes "(") ∷ s)
+    (param_symbols param behind_it good.0 (more_params_stop params more)
+    ∙ ap (λ (s : List Symbol). Word param.name ∷ Sign (codes ":") ∷ Word (kind_word param.kind) ∷ s) (more_params_symbols 1 params (behind_param marks) more parts good.1 rest))
 
 -- ---- good lines
 
@@ -136,21 +199,24 @@ module _ (n : ℕ) where
         let right : List ℕ = right_lines rule.nodes ++ flat_map (link_line rule.nodes) rule.right_links in
         let form = form_at marks rule in
         let right_parts : List (Part Role) = spell_items n Right (count_across (counted no_count form.left)) form.right parts in
-        let regrouped : rule_lines rule ++ more ≡ codes "rule " ++ (rule.name ++ 10 ∷ (codes "left\n" ++ (left ++ (codes "right\n" ++ (right ++ more))))) =
-        regroup (codes "rule ") rule.name (codes "\nleft\n") (left_lines rule.hooks 0 rule.nodes) (flat_map (link_line rule.nodes) rule.left_links) (codes "right\n") (right_lines rule.nodes) (flat_map (link_line rule.nodes) rule.right_links) more in
+        let from_left : List ℕ = codes "left\n" ++ (left ++ (codes "right\n" ++ (right ++ more))) in
+        let regrouped : rule_lines rule ++ more ≡ codes "rule " ++ (rule.name ++ (params_text rule.params ++ 10 ∷ from_left)) =
+        regroup (codes "rule ") rule.name (params_text rule.params) (codes "\nleft\n") (left_lines rule.hooks 0 rule.nodes) (flat_map (link_line rule.nodes) rule.left_links) (codes "right\n") (right_lines rule.nodes) (flat_map (link_line rule.nodes) rule.right_links) more in
         let behind_left : symbols_from (codes "right\n" ++ (right ++ more)) ≡ symbols_in (word Fixed (codes "right") ∷ right_parts) =
         symbols_from-word_blank (codes "right") 10 (right ++ more) (refl, refl) refl
         ∙ ap (λ (s : List Symbol). Word (codes "right") ∷ s)
         (ap (λ bytes. symbols_from (bytes ++ more)) (right_side n rule ok) ∙ lines_symbols n low Right (lines_of rule Right) _ (right_marks rule marks) more parts (good_lines rule Right ok) rest) in
         ap symbols_from regrouped
-        ∙ symbols_from-word_blank (codes "rule") 32 (rule.name ++ 10 ∷ (codes "left\n" ++ (left ++ (codes "right\n" ++ (right ++ more))))) (refl, refl) refl
+        ∙ symbols_from-word_blank (codes "rule") 32 (rule.name ++ (params_text rule.params ++ 10 ∷ from_left)) (refl, refl) refl
         ∙ ap (λ (s : List Symbol). Word (codes "rule") ∷ s)
-        (symbols_from-word_blank rule.name 10 (codes "left\n" ++ (left ++ (codes "right\n" ++ (right ++ more)))) ok.name.0.1 refl
+        (symbols_from-word rule.name (params_text rule.params ++ 10 ∷ from_left) ok.name.0.1 (params_stop rule.params (10 ∷ from_left) refl)
         ∙ ap (λ (s : List Symbol). Word rule.name ∷ s)
-        (symbols_from-word_blank (codes "left") 10 (left ++ (codes "right\n" ++ (right ++ more))) (refl, refl) refl
+        (params_symbols rule.params (behind (behind marks)) (10 ∷ from_left) (word Fixed (codes "left") ∷ spell_items n Left no_count form.left (word Fixed (codes "right") ∷ right_parts)) ok.params
+        (symbols_from-blank 10 from_left refl
+        ∙ symbols_from-word_blank (codes "left") 10 (left ++ (codes "right\n" ++ (right ++ more))) (refl, refl) refl
         ∙ ap (λ (s : List Symbol). Word (codes "left") ∷ s)
         (ap (λ bytes. symbols_from (bytes ++ (codes "right\n" ++ (right ++ more)))) (left_side rule)
-        ∙ lines_symbols n low Left (lines_of rule Left) no_count (left_marks marks) (codes "right\n" ++ (right ++ more)) _ (good_lines rule Left ok) behind_left)))
+        ∙ lines_symbols n low Left (lines_of rule Left) no_count (left_marks rule marks) (codes "right\n" ++ (right ++ more)) _ (good_lines rule Left ok) behind_left)))))
 
     pub rules_symbols : (k : ℕ) (rules : List Rule) (marks : List Mark) → AllByRecursion (IsWritable n) rules → symbols_from (flat_map rule_lines rules) ≡ symbols_in (spell_rules n k (forms_at marks rules) (the_end ∷ []))
     rules_symbols k [] marks ok = symbols_from-end

@@ -7,7 +7,7 @@ use Rattle.gm_model.specs.declared.rule.Side.{Side}
 use Rattle.gm_model.specs.declared.rule.Side.TheVariants.{Left, Right}
 use Rattle.gm_model.specs.declared.word.Letter.{Letter}
 use Rattle.gm_model.specs.declared.word.Letter.TheVariants.{At, Gone}
-use Rattle.gm_forms.specs.BookText.{Item, NodeItem, LinkItem, RuleForm, Count, Role, with_name, counted, count_after, count_across, no_count, nodes_of, limit_of, spell_letters, spell_hook, spell_items, spell_rule, spell_rules, IsSentence}
+use Rattle.gm_forms.specs.BookText.{Item, NodeItem, LinkItem, ParamForm, RuleForm, Count, Role, with_name, counted, count_after, count_across, no_count, nodes_of, limit_of, spell_letters, spell_hook, spell_items, spell_more_params, spell_params, spell_rule, spell_rules, IsSentence}
 use Rattle.gm_model.specs.Reading.{Part, IsWithin}
 use Rattle.gm_model.specs.Structure.{HasLabelsUpTo}
 use Rattle.gm_book.proofs.RuleNames.{names_counted}
@@ -69,9 +69,17 @@ same_links [] a b e = e
 same_links (NodeItem node word hook ∷ items) a b e = same_links items (count_after a (NodeItem node word hook)) (count_after b (NodeItem node word hook)) e
 same_links (LinkItem from label to ∷ items) a b e = same_links items (count_after a (LinkItem from label to)) (count_after b (LinkItem from label to)) (ap (λ n. n + 1) e)
 
+more_params_within : (k : ℕ) (params : List ParamForm) (rest : List (Part Role)) → Within (spell_more_params k params rest) → Within rest
+more_params_within k [] rest h = h.1
+more_params_within k (param ∷ params) rest h = more_params_within (k + 1) params rest h.1.1.1.1
+
+params_within : (params : List ParamForm) (rest : List (Part Role)) → Within (spell_params params rest) → Within rest
+params_within [] rest h = h
+params_within (param ∷ params) rest h = more_params_within 1 params rest h.1.1.1.1
+
 rule_within : (n k : ℕ) (rule : RuleForm) (rest : List (Part Role)) → Within (spell_rule n k rule rest) → IsFitting n rule × Within rest
 rule_within n k rule rest h =
-    let left = items_within n Left rule.left no_count _ h.1.1.1 (omega arith) (omega arith) in
+    let left = items_within n Left rule.left no_count _ (params_within rule.params _ h.1.1).1 (omega arith) (omega arith) in
     let before = counted no_count rule.left in
     let right = items_within n Right rule.right (count_across before) rest left.3.1 left.0 (omega arith) in
     let nodes : (counted (count_across before) rule.right).nodes ≡ nodes_of rule = sym (names_counted rule.right (count_across before)) ∙ names_counted rule.right before in (

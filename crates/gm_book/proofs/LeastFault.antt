@@ -5,11 +5,11 @@ use Rattle.std.specs.List.{Contains}
 use Rattle.gm_model.specs.declared.rule.Side.{Side}
 use Rattle.gm_model.specs.declared.rule.Side.TheVariants.{Left, Right}
 use Rattle.gm_model.specs.Names.{Mention, is_among}
-use Rattle.gm_forms.specs.BookText.{Item, NodeItem, LinkItem, RuleForm, with_name, names_of, nodes_in, ends_in, items_on, IsAgain, IsStranger, IsFaultInRules, RuleTwice, NodeTwice, NodeUnknown}
+use Rattle.gm_forms.specs.BookText.{Item, NodeItem, LinkItem, ParamForm, RuleForm, with_name, names_of, params_in, nodes_in, ends_in, items_on, IsAgain, IsStranger, IsFaultInRules, RuleTwice, ParamTwice, NodeTwice, NodeUnknown}
 use Rattle.gm_forms.specs.BookText as text
 use Rattle.gm_book.specs.declared.names.NameFault.{NameFault}
 use Rattle.gm_book.specs.declared.names.NameFault.TheVariants.{Twice, Unknown}
-use Rattle.gm_book.specs.FirstNameFault.{place_at, fault_of, IsLeast, IsLeastFault, least_of, again_at, with_items, least_again, unknown_at, least_unknown, side_least, rule_least, least_in}
+use Rattle.gm_book.specs.FirstNameFault.{place_at, fault_of, IsLeast, IsLeastFault, least_of, again_at, with_items, least_again, unknown_at, least_unknown, side_least, least_param, rule_least, least_in}
 use Rattle.gm_book.proofs.Among.{among_with, among_items, or_false, or_regroup}
 use Rattle.gm_forms.proofs.Contained.{contains_cases, contains_here, contains_behind, contains_none}
 
@@ -142,14 +142,30 @@ side_is_least items =
     least_joined {P = AgainBehind [] (nodes_in items)} {Q = UnknownIn (with_items [] items) (ends_in items)} {R = SideFault items} (λ f h. h) (λ f h. inl h) (λ f h. inr h)
     (least_again [] items) (least_unknown (with_items [] items) items) (again_least items []) (unknown_least (with_items [] items) items)
 
+abbrev param_names : List ParamForm → List Mention
+param_names params = map (λ (param : ParamForm). param.name) params
+
+param_is_least : (params : List ParamForm) (names : List (List ℕ)) → IsLeast (AgainBehind names (param_names params)) (least_param names params)
+param_is_least [] names = again_none names
+param_is_least (param ∷ params) names =
+    least_joined {P = AgainFirst names param.name} {Q = AgainBehind (with_name names param.name.name) (param_names params)} {R = AgainBehind names (param_names (param ∷ params))}
+    (again_cases names param.name (param_names params)) (again_here names param.name (param_names params)) (again_later names param.name (param_names params))
+    (again_at names param.name) (least_param (with_name names param.name.name) params) (again_first names param.name) (param_is_least params (with_name names param.name.name))
+
+abbrev SidesFault : RuleForm → NameFault → Type 0
+SidesFault rule fault = SideFault rule.left fault ⊎ SideFault rule.right fault
+
 abbrev FaultIn : RuleForm → NameFault → Type 0
-FaultIn rule fault = SideFault rule.left fault ⊎ SideFault rule.right fault
+FaultIn rule fault = AgainBehind [] (params_in rule) fault ⊎ SidesFault rule fault
 
 rule_is_least : (rule : RuleForm) → IsLeast (FaultIn rule) (rule_least rule)
 unfolding rule_least
 rule_is_least rule =
-    least_joined {P = SideFault rule.left} {Q = SideFault rule.right} {R = FaultIn rule} (λ f h. h) (λ f h. inl h) (λ f h. inr h)
-    (side_least rule.left) (side_least rule.right) (side_is_least rule.left) (side_is_least rule.right)
+    let sides : IsLeast (SidesFault rule) (least_of (side_least rule.left) (side_least rule.right)) =
+    least_joined {P = SideFault rule.left} {Q = SideFault rule.right} {R = SidesFault rule} (λ f h. h) (λ f h. inl h) (λ f h. inr h)
+    (side_least rule.left) (side_least rule.right) (side_is_least rule.left) (side_is_least rule.right) in
+    least_joined {P = AgainBehind [] (params_in rule)} {Q = SidesFault rule} {R = FaultIn rule} (λ f h. h) (λ f h. inl h) (λ f h. inr h)
+    (least_param [] rule.params) (least_of (side_least rule.left) (side_least rule.right)) (param_is_least rule.params []) sides
 
 abbrev rule_names : List RuleForm → List Mention
 rule_names rules = map (λ (rule : RuleForm). rule.name) rules
@@ -200,12 +216,13 @@ unknown_from items place (Twice p) h e = cc
 unknown_from items place (Unknown p) h e = (h.mention, h.among, (ap Unknown (h.here ∙ ap text.place_of e), among_items items [] h.mention.name ∙ h.stranger))
 
 side_in : (rule : RuleForm) (side : Side) (f : NameFault) → SideFault (items_on rule side) f → FaultIn rule f
-side_in rule Left f h = inl h
-side_in rule Right f h = inr h
+side_in rule Left f h = inr (inl h)
+side_in rule Right f h = inr (inr h)
 
 module _ (rules : List RuleForm) where
   fault_from : (g : text.NameFault) → IsFaultInRules rules g → (f : NameFault) → g ≡ fault_of f → FaultBehind [] rules f
   fault_from _ (RuleTwice place again) f e = inl (again_from (rule_names rules) place f again e)
+  fault_from _ (ParamTwice rule place among again) f e = inr (rule, among, inl (again_from (params_in rule) place f again e))
   fault_from _ (NodeTwice rule side place among again) f e = inr (rule, among, side_in rule side f (inl (again_from (nodes_in (items_on rule side)) place f again e)))
   fault_from _ (NodeUnknown rule side place among stranger) f e = inr (rule, among, side_in rule side f (inr (unknown_from (items_on rule side) place f stranger e)))
 
@@ -218,8 +235,9 @@ module _ (rules : List RuleForm) where
 
   fault_to : (f : NameFault) → FaultBehind [] rules f → IsFaultInRules rules (fault_of f)
   fault_to f (inl h) = let again = again_of (rule_names rules) f h in subst (λ g. IsFaultInRules rules (fault_of g)) again.2 (RuleTwice again.0 again.1)
-  fault_to f (inr (rule, among, inl h)) = side_fault rule Left f among h
-  fault_to f (inr (rule, among, inr h)) = side_fault rule Right f among h
+  fault_to f (inr (rule, among, inl h)) = let again = again_of (params_in rule) f h in subst (λ g. IsFaultInRules rules (fault_of g)) again.2 (ParamTwice rule again.0 among again.1)
+  fault_to f (inr (rule, among, inr (inl h))) = side_fault rule Left f among h
+  fault_to f (inr (rule, among, inr (inr h))) = side_fault rule Right f among h
 
   pub is_least_fault : (fault : Option NameFault) → fault ≡ least_in [] rules → IsLeastFault rules fault
   is_least_fault fault e =

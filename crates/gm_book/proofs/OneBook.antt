@@ -1,5 +1,5 @@
 -- A text is written as at most one book, and has at most one first fault, and then no book.
-use Rattle.std.proofs.Common.{◌≡◌, ◌≢◌, ℕ, Bool, true, false, List, [], ◌∷◌, ◌++◌, map, Option, Some, Result, Ok, Err, refl, sym, ap, subst, ◌∙◌, ◌≤◌, arith}
+use Rattle.std.proofs.Common.{◌≡◌, ◌≢◌, ℕ, ◌+◌, Bool, true, false, List, [], ◌∷◌, ◌++◌, map, Option, Some, Result, Ok, Err, refl, sym, ap, subst, ◌∙◌, ◌≤◌, arith}
 use Rattle.std.specs.Prelude.{is_some}
 use Rattle.std.specs.Str.{bytes_eq}
 use Rattle.gm_model.specs.declared.limit.LimitKind.{LimitKind}
@@ -15,11 +15,11 @@ use Rattle.gm_text.specs.SchemaText as schemas
 use Rattle.gm_text.specs.SchemaText.{SchemaForm, schema_of, spell}
 use Rattle.gm_text.proofs.Machine.{Along, part_at, reading_runs, ends_run, passes_run}
 use Rattle.gm_text.proofs.SchemaSpelled.{same_form}
-use Rattle.gm_forms.specs.BookText.{RuleForm, BookForm, Role, InSchema, NameAt, in_schema, limit_of, stands_before, the_end, spell_rules, spelling, IsSentence, IsPlacedAt, ArePlaced, IsWritten, rule_in, BookText, StandsForNoBook, IsNotBuilt, IsTextFault, NameFault, TwiceAt, UnknownAt, place_of, IsNameFault, IsFirstNameFault}
+use Rattle.gm_forms.specs.BookText.{RuleForm, BookForm, Role, InSchema, NameAt, ParamName, in_schema, limit_of, stands_before, the_end, spell_rules, spelling, IsSentence, IsPlacedAt, ArePlaced, IsWritten, rule_in, BookText, StandsForNoBook, IsNotBuilt, IsTextFault, NameFault, TwiceAt, UnknownAt, place_of, IsNameFault, IsFirstNameFault}
 use Rattle.gm_book.specs.declared.fault.BookFault.{BookFault}
 use Rattle.gm_book.specs.declared.fault.BookFault.TheVariants as faults
 use Rattle.gm_book.specs.Faults.{IsFaultOf}
-use Rattle.gm_forms.specs.Reading.{State, AtRules, AtName, AtItem, AtBehind, AtTo, AtEnd, heading_at, closing, is_hook, AtFormat, AtVersion, InRules, Whole, in_rules, book_nesting, Held, nothing_held, held_behind, run_whole, is_later_in}
+use Rattle.gm_forms.specs.Reading.{State, AtRules, AtName, AtParam, AtItem, AtBehind, AtTo, AtEnd, heading_at, closing, is_hook, AtFormat, AtVersion, InRules, Whole, in_rules, book_nesting, Held, nothing_held, held_behind, run_whole, is_later_in}
 use Rattle.gm_forms.specs.Reading as rules
 use Rattle.gm_forms.proofs.Header.{LedWhole, book_grammar}
 use Rattle.gm_forms.proofs.Later.{not_built_is, not_built_ends}
@@ -39,6 +39,7 @@ move_on = nested.move book_nesting
 -- where a role in the rules says a place, it is the place of the mark
 moved_in_rules : (state : State) (symbol : Symbol) (place other : ℕ) → IsPlacedAt other (rules.role_at state symbol place) → rules.role_at state symbol place ≡ rules.role_at state symbol other
 moved_in_rules (AtName n k) symbol place other at = ap NameAt at
+moved_in_rules (AtParam n k count) symbol place other at = ap (ParamName (count + 1)) at
 moved_in_rules (AtTo spot) symbol place other at = ap NameAt at
 moved_in_rules (AtItem spot) (Word w) place other at = go (bytes_eq w (closing spot.side)) refl
   where

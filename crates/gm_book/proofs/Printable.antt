@@ -33,7 +33,7 @@ names_its_nodes schema rule range = record {
 }
 
 plain_in : (form : RuleForm) → IsPlain (rule_in form)
-plain_in form = record { params = refl; sets = All-map (λ (node : RuleNode). node.sets ≡ []) (node_in form) (nodes_of form) (λ k d inside. refl); pre = refl }
+plain_in form = record { sets = All-map (λ (node : RuleNode). node.sets ≡ []) (node_in form) (nodes_of form) (λ k d inside. refl); pre = refl }
 
 pub printable_from_text : (text : List ℕ) (version : ℕ) (schema : Schema) (rules : List Rule) → BookText text version schema rules → CanBePrinted rules
 printable_from_text text version schema rules stands = record {

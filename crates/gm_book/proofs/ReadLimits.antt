@@ -3,6 +3,7 @@ use Rattle.std.proofs.Common.{◌≡◌, ℕ, ◌+◌, ◌<◌, ◌≤◌, Bool,
 use Rattle.std.specs.List.{AllByRecursion}
 use Rattle.std.proofs.lemmas.Bool.{ltb-false, or_parts, eqb-false, cases_lt}
 use Rattle.gm_model.specs.declared.limit.LimitKind.{LimitKind}
+use Rattle.gm_model.specs.declared.limit.LimitKind.TheVariants as limits
 use Rattle.gm_model.specs.declared.token.TokenKind.TheVariants as kinds
 use Rattle.gm_model.specs.declared.word.Letter.{Letter}
 use Rattle.gm_model.specs.declared.word.Letter.TheVariants as letters
@@ -15,7 +16,7 @@ use Rattle.gm_model.specs.Names.{reserved, is_among}
 use Rattle.gm_text.specs.SchemaText as schemas
 use Rattle.gm_text.specs.SchemaText.{spell}
 use Rattle.gm_text.proofs.Lexemes.{IsSound, words_are_lexemes}
-use Rattle.gm_forms.specs.BookText.{NodeItem, LinkItem, RuleForm, BookForm, Role, Count, no_count, count_after, count_across, counted, with_name, the_end, in_schema, limit_of, spell_letters, spell_hook, spell_item, spell_items, spell_rule, spell_rules, spelling, IsItem, IsRule, IsForm, IsSentence}
+use Rattle.gm_forms.specs.BookText.{NodeItem, LinkItem, ParamForm, RuleForm, BookForm, Role, Count, no_count, count_after, count_across, counted, with_name, the_end, in_schema, limit_of, spell_letters, spell_hook, spell_item, spell_items, spell_more_params, spell_params, spell_rule, spell_rules, spelling, IsItem, IsParam, IsRule, IsForm, IsSentence}
 use Rattle.gm_forms.specs.BookText as text
 use Rattle.gm_book.proofs.CanonicalForm.{IsGoodName, IsGoodLetter, IsGoodWord}
 use Rattle.gm_book.proofs.CanonicalLimits.{AreFew}
@@ -100,10 +101,38 @@ module _ (n : ℕ) where
         let later = items_good items (count_after count item) parts are.1 first.1 first.2 in
         ((first.0, later.0), later.1, later.2)
 
+-- ---- good parameters
+
+abbrev pub IsGoodParamForm : ParamForm → Type 0
+IsGoodParamForm param = IsGoodName param.name.name
+
+-- a parameter's name behind so many
+name_good : (k : ℕ) (param : ParamForm) → IsParam param → IsLexeme kinds.Name param.name.name → cond (ltb 32 (length param.name.name)) (Some limits.Name) (cond (ltb 8 k) (Some limits.Parameters) None) ≡ None → IsGoodParamForm param × (k ≤ 8)
+name_good k param free token within =
+    let short = not_passed (ltb 32 (length param.name.name)) _ _ within in
+    let room = not_passed (ltb 8 k) _ _ short.1 in
+    (((ltb-false 32 (length param.name.name) short.0, token), free), ltb-false 8 k room.0)
+
+more_params_good : (k : ℕ) (params : List ParamForm) (parts : List (Part Role)) → k ≤ 8 → AllByRecursion IsParam params → AreFit (spell_more_params k params parts) → AllByRecursion IsGoodParamForm params × (k + length params ≤ 8) × AreFit parts
+more_params_good k [] parts few are fit = (tt, omega (arith, few), fit.1)
+more_params_good k (param ∷ params) parts few are fit =
+    let first = name_good (k + 1) param are.0 fit.1.0.sound fit.1.0.within in
+    let later = more_params_good (k + 1) params parts first.1 are.1 fit.1.1.1.1 in
+    ((first.0, later.0), omega (arith, later.1), later.2)
+
+params_good : (params : List ParamForm) (parts : List (Part Role)) → AllByRecursion IsParam params → AreFit (spell_params params parts) → AllByRecursion IsGoodParamForm params × (length params ≤ 8) × AreFit parts
+params_good [] parts are fit = (tt, omega arith, fit)
+params_good (param ∷ params) parts are fit =
+    let first = name_good 1 param are.0 fit.1.0.sound fit.1.0.within in
+    let later = more_params_good 1 params parts first.1 are.1 fit.1.1.1.1 in
+    ((first.0, later.0), omega (arith, later.1), later.2)
+
 -- ---- good rules
 
 pub record IsReadable (n : ℕ) (form : RuleForm) : Type 0 where
   pub name : IsGoodName form.name.name
+  pub params : AllByRecursion IsGoodParamForm form.params
+  pub few_params : length form.params ≤ 8
   pub left : AllByRecursion (IsGoodItem n) form.left
   pub right : AllByRecursion (IsGoodItem n) form.right
   pub left_few : AreFew (counted no_count form.left)
@@ -113,9 +142,18 @@ module _ (n : ℕ) where
   form_good : (version k : ℕ) (form : RuleForm) (parts : List (Part Role)) → IsRule version form → AreFit (spell_rule n k form parts) → IsReadable n form × (k ≤ 256) × AreFit parts
   form_good version k form parts is fit =
       let room = not_passed (ltb 256 k) _ _ fit.0.within in
-      let left = items_good n Left form.left no_count _ is.1 (record { nodes = omega arith; links = omega arith }) fit.1.1.1 in
-      let right = items_good n Right form.right (count_across (counted no_count form.left)) parts is.2 (record { nodes = left.1.nodes; links = omega arith }) left.2.1 in (
-        record { name = good_name form.name.name _ is.0 fit.1.0.sound fit.1.0.within; left = left.0; right = right.0; left_few = left.1; right_few = right.1 },
+      let params = params_good form.params _ is.params fit.1.1 in
+      let left = items_good n Left form.left no_count _ is.left (record { nodes = omega arith; links = omega arith }) params.2.1 in
+      let right = items_good n Right form.right (count_across (counted no_count form.left)) parts is.right (record { nodes = left.1.nodes; links = omega arith }) left.2.1 in (
+        record {
+          name = good_name form.name.name _ is.name fit.1.0.sound fit.1.0.within;
+          params = params.0;
+          few_params = params.1;
+          left = left.0;
+          right = right.0;
+          left_few = left.1;
+          right_few = right.1;
+        },
         ltb-false 256 k room.0,
         right.2,
       )

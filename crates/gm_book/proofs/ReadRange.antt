@@ -165,7 +165,7 @@ module _ (schema : Schema) (rule : Rule) (ok : IsWritable schema.dim rule) where
   }
 
   pub writable_within : IsWithinLimits rule
-  writable_within = record { nodes = ok.few_nodes; left_links = ok.few_links Left; right_links = ok.few_links Right; params = omega (arith, ap length ok.params) }
+  writable_within = record { nodes = ok.few_nodes; left_links = ok.few_links Left; right_links = ok.few_links Right; params = ok.few_params }
 
 -- ---- a book
 

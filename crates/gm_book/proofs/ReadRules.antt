@@ -18,8 +18,8 @@ use Rattle.gm_model.specs.Symbols.{Symbol}
 use Rattle.gm_text.specs.SchemaText as schemas
 use Rattle.gm_text.specs.SchemaText.{spell, is_again, passed_of}
 use Rattle.gm_text.proofs.SchemaSound.{form_parts}
-use Rattle.gm_forms.specs.BookText.{Item, NodeItem, LinkItem, RuleForm, BookForm, Count, no_count, count_after, count_across, counted, with_name, names_of, nodes_in, ends_in, items_on, nodes_of, word_in, number_of, links_in, hooks_in, node_in, rule_in, IsAgain, IsStranger, NameFault, IsNameFault, TwiceAt, UnknownAt, RuleTwice, NodeTwice, NodeUnknown, SchemaTwice, RulesFault, IsRule, IsForm, BookText, spelling, canonical}
-use Rattle.gm_book.proofs.CanonicalForm.{AreNew, number_if, numbers_where, node_names, hook_on, IsGoodName, IsGoodWordIfAny, IsGoodNode, IsGoodLink, IsWritable}
+use Rattle.gm_forms.specs.BookText.{Item, NodeItem, LinkItem, ParamForm, RuleForm, BookForm, Count, no_count, count_after, count_across, counted, with_name, names_of, nodes_in, ends_in, items_on, nodes_of, word_in, number_of, links_in, hooks_in, node_in, params_in, param_of, rule_in, IsAgain, IsStranger, NameFault, IsNameFault, TwiceAt, UnknownAt, RuleTwice, ParamTwice, NodeTwice, NodeUnknown, SchemaTwice, RulesFault, IsRule, IsForm, BookText, spelling, canonical}
+use Rattle.gm_book.proofs.CanonicalForm.{AreNew, number_if, numbers_where, node_names, hook_on, IsGoodName, IsGoodWordIfAny, IsGoodNode, IsGoodLink, IsWritable, IsGoodParam, param_names}
 use Rattle.gm_book.proofs.CanonicalLimits.{HasFewHooks, as_many_hooks}
 use Rattle.gm_book.proofs.CanonicalText.{each}
 use Rattle.gm_book.proofs.CanonicalRule.{seen_after, counted_seen, seen_new}
@@ -238,6 +238,10 @@ both : {X : Type 0} (P Q : X → Type 0) (xs : List X) → AllByRecursion P xs �
 both P Q [] first second = tt
 both P Q (x ∷ xs) first second = ((first.0, second.0), both P Q xs first.1 second.1)
 
+params_named : (params : List ParamForm) → param_names (map param_of params) ≡ names_of (map (λ (param : ParamForm). param.name) params)
+params_named [] = refl
+params_named (param ∷ params) = ap (λ others. param.name.name ∷ others) (params_named params)
+
 module _ (n : ℕ) (form : RuleForm) (ok : IsReadable n form) (faultless : HasNoFault form) where
   abbrev names_in : Side → List (List ℕ)
   names_in side = names_of (nodes_in (items_on form side))
@@ -331,7 +335,9 @@ module _ (n : ℕ) (form : RuleForm) (ok : IsReadable n form) (faultless : HasNo
     links = links_on_side;
     few_links = few_on_side;
     hooks = hooks_kept;
-    params = refl;
+    params = each_mapped IsGoodParam param_of form.params ok.params;
+    params_differ = subst (AreNew []) (sym (params_named form.params)) (new_mentions [] (params_in form) faultless.param_twice);
+    few_params = omega (arith, length-map form.params param_of, ok.few_params);
     pre = refl;
   }
 
@@ -346,6 +352,7 @@ faultless_forms book sound = recursion_from_All HasNoFault book.rules (λ k d in
     let form = get_or book.rules k d in
     let has : Contains book.rules form = (k, inside, get_or_from_slice_get book.rules k form form (slice_get-get_or book.rules k d inside)) in
     record {
+      param_twice = λ place again. sound (TwiceAt place) (RulesFault (TwiceAt place) (ParamTwice form place has again));
       twice = λ side place again. sound (TwiceAt place) (RulesFault (TwiceAt place) (NodeTwice form side place has again));
       stranger = λ side place found. sound (UnknownAt place) (RulesFault (UnknownAt place) (NodeUnknown form side place has found));
     })
@@ -356,7 +363,7 @@ names_of_rules (form ∷ forms) = ap (λ names. form.name.name ∷ names) (names
 
 few_hooks : (version : ℕ) (forms : List RuleForm) → AllByRecursion (IsRule version) forms → AllByRecursion (HasFewHooks version) (map rule_in forms)
 few_hooks version [] are = tt
-few_hooks version (form ∷ forms) are = (λ one. omega (arith, are.0.3 one, as_many_hooks form), few_hooks version forms are.1)
+few_hooks version (form ∷ forms) are = (λ one. omega (arith, are.0.few_hooks one, as_many_hooks form), few_hooks version forms are.1)
 
 book_writable : (book : BookForm) → IsForm book → IsReadableBook book → ((fault : NameFault) → IsNameFault book fault → ⊥) → AreWritable book.version book.schema.dim (map rule_in book.rules)
 book_writable book is ok sound = record {

@@ -69,7 +69,9 @@ split_is_writable = record {
   links = split_links;
   few_links = few_links;
   hooks = refl;
-  params = refl;
+  params = tt;
+  params_differ = tt;
+  few_params = omega arith;
   pre = refl;
 }
 
@@ -126,7 +128,9 @@ sew_is_writable = record {
   links = sew_links;
   few_links = few_in_sew;
   hooks = refl;
-  params = refl;
+  params = tt;
+  params_differ = tt;
+  few_params = omega arith;
   pre = refl;
 }
 

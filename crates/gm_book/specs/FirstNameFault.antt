@@ -1,7 +1,7 @@
 -- The fault of the rules' names that stands first, and the least fault of each of their parts.
 use Rattle.std.specs.Prelude.{ℕ, ◌≤◌, nat_lt, if◌then◌else◌, List, [], ◌∷◌, Option, Some, None}
 use Rattle.gm_model.specs.Names.{Mention, is_among}
-use Rattle.gm_forms.specs.BookText.{Item, NodeItem, LinkItem, RuleForm, IsFaultInRules, with_name}
+use Rattle.gm_forms.specs.BookText.{Item, NodeItem, LinkItem, ParamForm, RuleForm, IsFaultInRules, with_name}
 use Rattle.gm_forms.specs.BookText as text
 use Rattle.gm_book.specs.declared.names.NameFault.{NameFault}
 use Rattle.gm_book.specs.declared.names.NameFault.TheVariants.{Twice, Unknown}
@@ -67,8 +67,13 @@ least_unknown names (item ∷ items) = least_of (unknown_in names item) (least_u
 abbrev pub side_least : List Item → Option NameFault
 side_least items = least_of (least_again [] items) (least_unknown (with_items [] items) items)
 
+-- of the parameters whose names are among these or are those of parameters before
+abbrev pub least_param : List (List ℕ) → List ParamForm → Option NameFault
+least_param names [] = None
+least_param names (param ∷ params) = least_of (again_at names param.name) (least_param (with_name names param.name.name) params)
+
 unfoldable pub rule_least : RuleForm → Option NameFault
-rule_least rule = least_of (side_least rule.left) (side_least rule.right)
+rule_least rule = least_of (least_param [] rule.params) (least_of (side_least rule.left) (side_least rule.right))
 
 -- of the rules' names and in the rules, behind rules with these names
 abbrev pub least_in : List (List ℕ) → List RuleForm → Option NameFault

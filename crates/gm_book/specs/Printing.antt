@@ -15,13 +15,12 @@ pub record NamesItsNodes (rule : Rule) : Type 0 where
   pub right : All (AreEndsNodes (length rule.nodes)) rule.right_links
   pub hooks : All (λ hook. hook < length rule.nodes) rule.hooks
 
--- the rule has no parameters, no assignments and no precondition
+-- the rule has no assignments and no precondition
 pub record IsPlain (rule : Rule) : Type 0 where
-  pub params : rule.params ≡ []
   pub sets : All (λ (node : RuleNode). node.sets ≡ []) rule.nodes
   pub pre : rule.pre ≡ None
 
--- The rules can be printed. Parameters, assignments and preconditions come later.
+-- The rules can be printed. Assignments and preconditions come later.
 pub record CanBePrinted (rules : List Rule) : Type 0 where
   pub numbers : All NamesItsNodes rules
   pub plain : All IsPlain rules

@@ -16,8 +16,9 @@ pub enum BookFault {
     /// What stands at the place passes a limit.
     #[error("a limit is passed")]
     Limit { what: LimitKind, place: usize },
-    /// An embedding has the name of an earlier embedding, a rule that of an earlier rule, or a node
-    /// that of an earlier node of its side; or a label is mentioned again in its orbit.
+    /// An embedding has the name of an earlier embedding, a rule that of an earlier rule, a
+    /// parameter that of an earlier one of its rule, or a node that of an earlier node of its side;
+    /// or a label is mentioned again in its orbit.
     #[error("a name is given twice")]
     Twice { place: usize },
     /// A link names no node of its side.

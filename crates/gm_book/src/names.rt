@@ -6,11 +6,11 @@ ghost use Rattle.std.specs.List.{AllByRecursion};
 ghost use Rattle.gm_model.specs.Names.{is_among};
 ghost use Rattle.gm_forms.specs.BookText.{with_name};
 ghost use Rattle.gm_model.specs.Tokens.{bytes_of};
-ghost use Rattle.gm_forms.specs.Forms.{IsIn, IsItemIn, IsRuleIn, AreRulesIn, mention_of, item_of, rule_form_of, forms_of};
+ghost use Rattle.gm_forms.specs.Forms.{IsIn, IsItemIn, IsParamIn, IsRuleIn, AreRulesIn, mention_of, item_of, param_form_of, rule_form_of, forms_of};
 ghost use Rattle.gm_forms.specs.Held.{names_held};
-ghost use Rattle.gm_book.specs.FirstNameFault.{least_of, again_at, place_at, with_item, again_in, with_items, least_again, unknown_at, unknown_in, least_unknown, side_least, rule_least, least_in, IsLeastFault};
+ghost use Rattle.gm_book.specs.FirstNameFault.{least_of, again_at, place_at, with_item, again_in, with_items, least_again, unknown_at, unknown_in, least_unknown, side_least, least_param, rule_least, least_in, IsLeastFault};
 
-use gm_forms::{Item, NameKey, RuleForm};
+use gm_forms::{Item, NameKey, ParamForm, RuleForm};
 use gm_model::OutOfMemory;
 use gm_text::Token;
 use indexmap::IndexSet;
@@ -19,7 +19,8 @@ use std::alloc::Global;
 /// A fault of the rules' names, and where it stands.
 #[derive(Clone, Copy)]
 pub(crate) enum NameFault {
-    /// A rule has the name of an earlier rule, or a node that of an earlier node of its side.
+    /// A rule has the name of an earlier rule, a parameter that of an earlier one of its rule, or a
+    /// node that of an earlier node of its side.
     Twice { place: usize },
     /// A link names no node of its side.
     Unknown { place: usize },
@@ -157,14 +158,32 @@ fn side_fault(alloc: Global, text: &[u8], items: &[Item]) -> Result<Option<NameF
     Ok(earlier(again, first_unknown(&table, text, items)))
 }
 
+/// The first parameter with the name of an earlier one.
+fn params_fault(
+    alloc: Global,
+    text: &[u8],
+    params: &[ParamForm],
+) -> Result<Option<NameFault>, OutOfMemory>
+    requires { AllByRecursion (IsParamIn text.now) params.now }
+    ensures { IfOk result (λ fault. fault ≡ least_param [] (map (param_form_of text.now) params.now)) }
+{
+    let mut table = IndexSet::new(alloc);
+    let mut fault = None;
+    for param in params {
+        fault = earlier(fault, take_in(&mut table, text, &param.name)?);
+    }
+    Ok(fault)
+}
+
 #[tactic(auto, unfolding(crate::specs::FirstNameFault::rule_least))]
 fn rule_fault(alloc: Global, text: &[u8], rule: &RuleForm) -> Result<Option<NameFault>, OutOfMemory>
     requires { IsRuleIn text.now rule.now }
     ensures { IfOk result (λ fault. fault ≡ rule_least (rule_form_of text.now rule.now)) }
 {
+    let params = params_fault(alloc, text, rule.params.as_slice())?;
     let left = side_fault(alloc, text, rule.left.as_slice())?;
     let right = side_fault(alloc, text, rule.right.as_slice())?;
-    Ok(earlier(left, right))
+    Ok(earlier(params, earlier(left, right)))
 }
 
 /// Takes the rule's name into the table. The fault is the first of the rule's names, its own

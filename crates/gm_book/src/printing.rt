@@ -3,15 +3,18 @@ ghost use Rattle.std.specs.Prelude.{◌≡◌, ◌++◌, ◌∷◌, ◌<◌, ◌
 ghost use Rattle.std.specs.List.{flat_map, list_any};
 ghost use Rattle.gm_model.specs.Rules.{rule_of, node_of, name_at};
 ghost use Rattle.gm_text.specs.SchemaText as schemas;
-ghost use Rattle.gm_forms.specs.BookText.{canonical, rule_lines, left_lines, right_line, right_lines, link_line, node_line, letters_text, letter_text};
+ghost use Rattle.gm_text.specs.SchemaText.{kind_word};
+ghost use Rattle.gm_forms.specs.BookText.{canonical, param_text, params_text, rule_lines, left_lines, right_line, right_lines, link_line, node_line, letters_text, letter_text};
 ghost use Rattle.gm_book.specs.Printing.{CanBePrinted, NamesItsNodes, AreEndsNodes, left_line, is_left};
 
-use gm_model::{Book, Letter, Link, Name, Node, OutOfMemory, RuleTable, Schema, Word};
+use gm_model::{
+    Book, Kind, Letter, Link, Name, Node, OutOfMemory, Param, RuleTable, Schema, Word,
+};
 use gm_text::{Text, print_schema};
 use std::alloc::Global;
 
 /// The canonical text of the book, in its version. What a reader answers can be printed. Books
-/// with parameters, assignments or preconditions can't be read or printed so far.
+/// with assignments or preconditions can't be read or printed so far.
 pub fn print_book(alloc: Global, book: &Book) -> Result<Vec<u8>, OutOfMemory>
     requires { CanBePrinted (map rule_of book.now.rules) }
     ensures { IfOk result (λ text. text.items ≡ canonical book.now.version book.now.schema (map rule_of book.now.rules)) }
@@ -40,12 +43,56 @@ fn print_rule(text: &mut Text, rule: &RuleTable) -> Result<(), OutOfMemory>
     let nodes = rule.nodes.as_slice();
     text.put(b"rule ")?;
     text.put(rule.name.bytes())?;
+    print_params(text, rule.params.as_slice())?;
     text.put(b"\nleft\n")?;
     print_left_nodes(text, nodes, rule.hooks.as_slice())?;
     print_links(text, nodes, rule.left_links.as_slice())?;
     text.put(b"right\n")?;
     print_right_nodes(text, nodes)?;
     print_links(text, nodes, rule.right_links.as_slice())
+}
+
+/// Nothing, where there is no parameter.
+fn print_params(text: &mut Text, params: &[Param]) -> Result<(), OutOfMemory>
+    ensures { OnOk result (text.new ≡ text.old ++ params_text params.now) }
+{
+    let [first, others @ ..] = params else {
+        return Ok(());
+    };
+    text.put(b"(")?;
+    print_param(text, first)?;
+    print_more_params(text, others)?;
+    text.put(b")")
+}
+
+fn print_more_params(text: &mut Text, params: &[Param]) -> Result<(), OutOfMemory>
+    ensures { OnOk result (text.new ≡ text.old ++ flat_map (λ param. codes ", " ++ param_text param) params.now) }
+{
+    for param in params {
+        text.put(b", ")?;
+        print_param(text, param)?;
+    }
+    Ok(())
+}
+
+fn print_param(text: &mut Text, param: &Param) -> Result<(), OutOfMemory>
+    ensures { OnOk result (text.new ≡ text.old ++ param_text param.now) }
+{
+    text.put(param.name.bytes())?;
+    text.put(b": ")?;
+    text.put(kind_word(param.kind))
+}
+
+fn kind_word(kind: Kind) -> &'static [u8]
+    ensures { result.now ≡ kind_word kind }
+{
+    match kind {
+        Kind::Int => b"int",
+        Kind::Bool => b"bool",
+        Kind::Vec2 => b"vec2",
+        Kind::Vec3 => b"vec3",
+        Kind::Rgb => b"rgb",
+    }
 }
 
 fn print_left_nodes(text: &mut Text, nodes: &[Node], hooks: &[u8]) -> Result<(), OutOfMemory>

@@ -1,15 +1,15 @@
 //! The table of a rule whose names are in order.
 ghost use Rattle.std.specs.Prelude.{◌≡◌, ◌≤◌, [], length, map, IfOk, OnOk};
 ghost use Rattle.std.specs.List.{AllByRecursion};
-ghost use Rattle.gm_forms.specs.BookText.{nodes_of, number_of, word_in, links_in, hooks_in, node_in, rule_in};
+ghost use Rattle.gm_forms.specs.BookText.{nodes_of, number_of, word_in, links_in, hooks_in, node_in, param_of, rule_in};
 ghost use Rattle.gm_model.specs.Names.{IsName};
 ghost use Rattle.gm_model.specs.Rules.{node_of, rule_of};
-ghost use Rattle.gm_forms.specs.Forms.{IsIn, IsItemIn, IsRuleIn, mention_of, item_of, rule_form_of};
+ghost use Rattle.gm_forms.specs.Forms.{IsIn, IsItemIn, IsParamIn, IsRuleIn, mention_of, item_of, param_form_of, rule_form_of};
 ghost use Rattle.gm_forms.specs.Held.{names_at, names_held};
 
-use gm_forms::{Item, NameKey, RuleForm};
+use gm_forms::{Item, NameKey, ParamForm, RuleForm};
 use crate::names::{bytes_in, take_in_nodes};
-use gm_model::{Items, Link, Name, Node, OutOfMemory, RuleTable, Word};
+use gm_model::{Items, Link, Name, Node, OutOfMemory, Param, RuleTable, Word};
 use gm_text::Token;
 use indexmap::IndexSet;
 use std::alloc::Global;
@@ -40,6 +40,27 @@ fn number(names: &IndexSet<NameKey<'_>>, text: &[u8], name: &Token) -> u8
     let bytes = bytes_in(text, name);
     let number = names.get_index_of(&NameKey { bytes });
     number.unwrap_or(names.len()) as u8
+}
+
+fn params(alloc: Global, text: &[u8], forms: &[ParamForm]) -> Result<Vec<Param>, OutOfMemory>
+    requires { AllByRecursion (IsParamIn text.now) forms.now }
+    ensures { IfOk result (λ params. params.items ≡ map param_of (map (param_form_of text.now) forms.now)) }
+{
+    let mut params = Vec::new(alloc);
+    for form in forms {
+        params.push(param(text, form))?;
+    }
+    Ok(params)
+}
+
+fn param(text: &[u8], form: &ParamForm) -> Param
+    requires { IsParamIn text.now form.now }
+    ensures { result ≡ param_of (param_form_of text.now form.now) }
+{
+    Param {
+        name: Name::new(bytes_in(text, &form.name)).unwrap(),
+        kind: form.kind,
+    }
 }
 
 fn links(
@@ -152,13 +173,14 @@ fn numbered_table(
     requires few { length (names_held names.now) ≤ 32 }
     ensures { IfOk result (λ table. rule_of table ≡ rule_in (rule_form_of text.now rule.now)) }
 {
+    let params = params(alloc, text, rule.params.as_slice())?;
     let nodes = nodes(alloc, text, rule, names.as_slice())?;
     let left_links = links(alloc, names, text, rule.left.as_slice())?;
     let right_links = links(alloc, names, text, rule.right.as_slice())?;
     let hooks = hooks(alloc, names, text, rule.left.as_slice())?;
     Ok(RuleTable {
         name: Name::new(bytes_in(text, &rule.name)).unwrap(),
-        params: Items::new(Vec::new(alloc)),
+        params: Items::new(params),
         nodes: Items::new(nodes),
         left_links: Items::new(left_links),
         right_links: Items::new(right_links),

@@ -1,13 +1,13 @@
 -- Where a symbol stands in the rules has no part in what it passes, and a name has the place of its mark.
-use Rattle.std.proofs.Common.{◌≡◌, ℕ, Bool, true, false, List, [], ◌∷◌, refl, ap, codes}
+use Rattle.std.proofs.Common.{◌≡◌, ℕ, ◌+◌, Bool, true, false, List, [], ◌∷◌, refl, ap, codes}
 use Rattle.std.specs.Str.{bytes_eq}
 use Rattle.gm_model.specs.declared.rule.Side.{Side}
 use Rattle.gm_model.specs.declared.rule.Side.TheVariants.{Left, Right}
 use Rattle.gm_model.specs.Symbols.{Symbol, Word, Numeral, Sign, Gone, Stray, End, Mark}
 use Rattle.gm_model.specs.Reading.{Part}
-use Rattle.gm_forms.specs.BookText.{Role, NameAt, limit_of, stands_before, IsPlacedAt, ArePlaced}
+use Rattle.gm_forms.specs.BookText.{Role, NameAt, ParamName, limit_of, stands_before, IsPlacedAt, ArePlaced}
 use Rattle.gm_text.proofs.Machine.{Along}
-use Rattle.gm_forms.specs.Reading.{Spot, State, AtRules, AtName, AtLeft, AtItem, AtSign, AtLetter, AtBehind, AtLabel, AtDash, AtTo, AtEnd, closing, closing_role, is_hook, item_role, role_at, move}
+use Rattle.gm_forms.specs.Reading.{Spot, State, AtRules, AtName, AtLeft, AtParam, AtColon, AtKind, AtComma, AtBody, AtItem, AtSign, AtLetter, AtBehind, AtLabel, AtDash, AtTo, AtEnd, closing, closing_role, is_hook, item_role, role_at, move}
 use Rattle.gm_forms.proofs.Leading.{Led}
 
 -- ---- where a symbol stands
@@ -32,10 +32,23 @@ same_name_limit Gone place other = refl
 same_name_limit Stray place other = refl
 same_name_limit End place other = refl
 
+same_param_limit : (k : ℕ) (symbol : Symbol) (place other : ℕ) → limit_of (ParamName k place) symbol ≡ limit_of (ParamName k other) symbol
+same_param_limit k (Word w) place other = refl
+same_param_limit k (Numeral n) place other = refl
+same_param_limit k (Sign s) place other = refl
+same_param_limit k Gone place other = refl
+same_param_limit k Stray place other = refl
+same_param_limit k End place other = refl
+
 pub same_limit : (state : State) (symbol : Symbol) (place other : ℕ) → limit_of (role_at state symbol place) symbol ≡ limit_of (role_at state symbol other) symbol
 same_limit (AtRules n) symbol place other = refl
 same_limit (AtName n k) symbol place other = same_name_limit symbol place other
 same_limit (AtLeft n k) symbol place other = refl
+same_limit (AtParam n k count) symbol place other = same_param_limit (count + 1) symbol place other
+same_limit (AtColon n k count) symbol place other = refl
+same_limit (AtKind n k count) symbol place other = refl
+same_limit (AtComma n k count) symbol place other = refl
+same_limit (AtBody n k) symbol place other = refl
 same_limit (AtItem spot) symbol place other = same_item_limit spot symbol place other
 same_limit (AtSign spot name) symbol place other = refl
 same_limit (AtLetter spot k) symbol place other = refl
@@ -70,6 +83,11 @@ pub same_before : (state : State) (symbol : Symbol) (place other : ℕ) → stan
 same_before (AtRules n) symbol place other = refl
 same_before (AtName n k) symbol place other = refl
 same_before (AtLeft n k) symbol place other = refl
+same_before (AtParam n k count) symbol place other = refl
+same_before (AtColon n k count) symbol place other = refl
+same_before (AtKind n k count) symbol place other = refl
+same_before (AtComma n k count) symbol place other = refl
+same_before (AtBody n k) symbol place other = refl
 same_before (AtItem spot) symbol place other = same_item_before spot symbol place other
 same_before (AtSign spot name) symbol place other = refl
 same_before (AtLetter spot k) symbol place other = refl
@@ -114,6 +132,11 @@ placed_role (AtRules n) Stray place = tt
 placed_role (AtRules n) End place = tt
 placed_role (AtName n k) symbol place = refl
 placed_role (AtLeft n k) symbol place = tt
+placed_role (AtParam n k count) symbol place = refl
+placed_role (AtColon n k count) symbol place = tt
+placed_role (AtKind n k count) symbol place = tt
+placed_role (AtComma n k count) symbol place = tt
+placed_role (AtBody n k) symbol place = tt
 placed_role (AtItem spot) symbol place = placed_item spot symbol place
 placed_role (AtSign spot name) (Sign s) place = go (bytes_eq s (codes "<")) refl
   where

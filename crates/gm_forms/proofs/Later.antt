@@ -6,6 +6,7 @@ use Rattle.std.specs.Option.{option_map}
 use Rattle.std.specs.Prelude.{IsTrue}
 use Rattle.std.specs.Str.{bytes_eq}
 use Rattle.gm_model.specs.declared.rule.Side.{Side}
+use Rattle.gm_model.specs.declared.value.Kind.{Kind}
 use Rattle.gm_model.specs.declared.rule.Side.TheVariants.{Left, Right}
 use Rattle.gm_model.specs.Symbols.{Symbol, Word, Numeral, Sign, Gone, Stray, End, Mark, marks_of}
 use Rattle.gm_model.specs.Reading.{Part, Begins}
@@ -17,8 +18,8 @@ use Rattle.gm_text.specs.SchemaText.{SchemaForm, spell}
 use Rattle.gm_text.specs.SchemaReading as schema
 use Rattle.gm_text.proofs.Machine.{last_of, IsEnded, along_leads, along_spelled, run_ends, ended_is, led_begins, begun}
 use Rattle.gm_forms.specs.declared.state.Heading.{Heading}
-use Rattle.gm_forms.specs.BookText.{Role, Fixed, InSchema, WordEnd, limit_of, stands_before, in_schema, header, word, sign, the_end, IsSentence, IsLater, Parameters, Assignment, Precondition, IsNotBuilt, IsTextFault}
-use Rattle.gm_forms.specs.Reading.{Spot, State, AtRules, AtName, AtLeft, AtItem, AtSign, AtLetter, AtBehind, AtLabel, AtDash, AtTo, AtEnd, left_spot, with_hook, closing, is_hook, expect, unless_reserved, item_move, behind_move, end_move, closed, move, AtFormat, AtVersion, InRules, Header, header_at, Whole, in_rules, outer_move, heading_in, rules_role, book_nesting, run_whole, is_later_in}
+use Rattle.gm_forms.specs.BookText.{Role, Fixed, InSchema, WordEnd, limit_of, stands_before, in_schema, header, word, sign, the_end, IsSentence, IsLater, Assignment, Precondition, IsNotBuilt, IsTextFault}
+use Rattle.gm_forms.specs.Reading.{Spot, State, AtRules, AtName, AtLeft, AtParam, AtColon, AtKind, AtComma, AtBody, AtItem, AtSign, AtLetter, AtBehind, AtLabel, AtDash, AtTo, AtEnd, left_spot, with_hook, closing, is_hook, expect, unless_reserved, item_move, behind_move, end_move, closed, param_kind, comma_move, move, AtFormat, AtVersion, InRules, Header, header_at, Whole, in_rules, outer_move, heading_in, rules_role, book_nesting, run_whole, is_later_in}
 use Rattle.gm_forms.proofs.Spelling.{expected, free_word}
 use Rattle.gm_forms.proofs.Header.{LedWhole, front_of, fronted, format_moved, version_moved, the_part, inner_is, book_grammar}
 
@@ -85,11 +86,28 @@ plain_end : (side : Side) (next : State) → end_move side ≡ Some next → is_
 plain_end Left next moves = absurd cc
 plain_end Right next moves = plain_some AtEnd next refl moves
 
+plain_kind : (h : Heading) (k count : ℕ) (kind : Option Kind) (next : State) → option_map (λ (kind : Kind). AtComma h k count) kind ≡ Some next → is_plain next ≡ true
+plain_kind h k count None next moves = absurd cc
+plain_kind h k count (Some kind) next moves = plain_some (AtComma h k count) next refl moves
+
+plain_comma : (h : Heading) (k count : ℕ) (s : List ℕ) (next : State) → comma_move h k count s ≡ Some next → is_plain next ≡ true
+plain_comma h k count s next moves = go (bytes_eq s (codes ",")) refl
+  where
+    go : (b : Bool) → bytes_eq s (codes ",") ≡ b → is_plain next ≡ true
+    go true is = plain_some (AtParam h k count) next refl (rw is at moves)
+    go false is = plain_expected (codes ")") s (AtBody h k) next refl (rw is at moves)
+
 entered : (state : State) (symbol : Symbol) (next : State) → move state symbol ≡ Some next → Entered state symbol next
 entered (AtRules n) (Word w) next moves = Plain (plain_expected (codes "rule") w (AtName n 1) next refl moves)
 entered (AtRules n) End next moves = Plain (plain_some AtEnd next refl moves)
 entered (AtName n k) (Word w) next moves = Plain (plain_free w (AtLeft n k) next refl moves)
 entered (AtLeft n k) (Word w) next moves = Plain (plain_expected (codes "left") w (AtItem (left_spot n k)) next refl moves)
+entered (AtLeft n k) (Sign s) next moves = Plain (plain_expected (codes "(") s (AtParam n k 0) next refl moves)
+entered (AtParam n k count) (Word w) next moves = Plain (plain_free w (AtColon n k (count + 1)) next refl moves)
+entered (AtColon n k count) (Sign s) next moves = Plain (plain_expected (codes ":") s (AtKind n k count) next refl moves)
+entered (AtKind n k count) (Word w) next moves = Plain (plain_kind n k count (param_kind w) next moves)
+entered (AtComma n k count) (Sign s) next moves = Plain (plain_comma n k count s next moves)
+entered (AtBody n k) (Word w) next moves = Plain (plain_expected (codes "left") w (AtItem (left_spot n k)) next refl moves)
 entered (AtItem spot) (Word w) next moves = Plain (plain_item spot w next moves)
 entered (AtItem spot) End next moves = Plain (plain_end spot.side next moves)
 entered (AtSign spot name) (Sign s) next moves = Plain (plain_sign spot name s next moves)
@@ -305,10 +323,6 @@ later_sides w is parts state led ends role =
     rw pre (Precondition (book_grammar.sentence (parts ++ the_end ∷ []) whole) (in_rules_no_header state parts led))
 
 later_here : (state : Whole) (symbol : Symbol) (parts : Parts) → Leading (Outside AtFormat) parts state → is_later_in state symbol ≡ true → IsLater parts symbol
-later_here (Outside (InRules (AtLeft n k))) (Sign s) parts led is =
-    let next = in_rules (AtItem (left_spot n k)) in
-    let more : Leading (Outside AtFormat) (parts ++ word Fixed (codes "left") ∷ []) next = led_more (Outside AtFormat) (in_rules (AtLeft n k)) next parts (word Fixed (codes "left") ∷ []) led (0, next, refl, refl, refl) in
-    rw ((bytes_eq-Decides s (codes "(")).0 is) (Parameters (begins_by next (parts ++ word Fixed (codes "left") ∷ []) more))
 later_here (Outside (InRules (AtItem spot))) (Word w) parts led is = go spot.side refl
   where
     go : (side : Side) → spot.side ≡ side → IsLater parts (Word w)
@@ -330,32 +344,7 @@ record LaterIn (state : Whole) (symbol : Symbol) : Type 0 where
   later : is_later_in state symbol ≡ true
   stuck : move_on state symbol ≡ None
 
--- `left` stands in no header
-left_inside : (version : ℕ) (state : schema.State) (next : Whole) → move_on (Inside (header_at version state)) (Word (codes "left")) ≡ Some next → ⊥
-left_inside version schema.AtDim next moves = absurd cc
-left_inside version schema.AtTop next moves = absurd cc
-left_inside version (schema.AtEmbeds n declared) next moves = absurd cc
-left_inside version (schema.AtName n declared) next moves = absurd cc
-left_inside version (schema.AtOrbit n declared name) next moves = absurd cc
-left_inside version (schema.AtLabel n declared name mask) next moves = absurd cc
-left_inside version (schema.AtKind n declared name mask) next moves = absurd cc
-
-left_state : (state next : Whole) → move_on state (Word (codes "left")) ≡ Some next → LaterIn state (Sign (codes "("))
-left_state (Inside inner) next moves = absurd (left_inside inner.version inner.state next moves)
-left_state (Outside (InRules (AtLeft n k))) next moves = record { later = refl; stuck = refl }
-left_state (Outside (InRules (AtItem spot))) next moves = go spot.side refl
-  where
-    go : (side : Side) → spot.side ≡ side → LaterIn (in_rules (AtItem spot)) (Sign (codes "("))
-    go Left e = let none : None ≡ Some next = rw e at moves in absurd cc
-    go Right e = let none : None ≡ Some next = rw e at moves in absurd cc
-left_state (Outside (InRules (AtBehind spot))) next moves = go spot.side refl
-  where
-    go : (side : Side) → spot.side ≡ side → LaterIn (in_rules (AtBehind spot)) (Sign (codes "("))
-    go Left e = let none : None ≡ Some next = rw e at moves in absurd cc
-    go Right e = let none : None ≡ Some next = rw e at moves in absurd cc
-left_state (Outside outer) next moves = absurd cc
-
--- nor does the end of a word
+-- the end of a word stands in no header
 end_inside : (version : ℕ) (state : schema.State) (place : ℕ) (next : Whole) → WordEnd Right ≡ role_at (Inside (header_at version state)) (Sign (codes ">")) place → move_on (Inside (header_at version state)) (Sign (codes ">")) ≡ Some next → ⊥
 end_inside version schema.AtDim place next role moves = absurd cc
 end_inside version schema.AtTop place next role moves = absurd cc
@@ -402,11 +391,6 @@ pre_state (Outside (InRules (AtBehind spot))) next moves header rules = go spot.
 pre_state (Outside outer) next moves header rules = absurd cc
 
 later_in : (state : Whole) (symbol : Symbol) (parts : Parts) → Leading (Outside AtFormat) parts state → IsLater parts symbol → LaterIn state symbol
-later_in state (Sign s) parts led (Parameters begins) =
-    let f = cut_off (Outside AtFormat) (in_rules AtEnd) (parts ++ word Fixed (codes "left") ∷ []) begins.0 (book_grammar.leads ((parts ++ word Fixed (codes "left") ∷ []) ++ begins.0) begins.1) in
-    let g = cut_off (Outside AtFormat) f.middle parts (word Fixed (codes "left") ∷ []) f.front in
-    let same : g.middle ≡ state = one_state (Outside AtFormat) g.middle state parts g.front led in
-    subst (λ s. LaterIn s (Sign (codes "("))) same (left_state g.middle g.back.1 g.back.3)
 later_in state (Word w) parts led (Assignment front e) =
     let f = cut_off (Outside AtFormat) state front (sign (WordEnd Right) (codes ">") ∷ []) (subst (λ (ps : Parts). Leading (Outside AtFormat) ps state) e led) in
     let last : LaterIn f.back.1 (Word (codes "with")) = with_state f.middle f.back.1 f.back.0 f.back.2 f.back.3 in
@@ -419,6 +403,7 @@ later_in state (Word w) parts led (Precondition sentence other) =
     let no_rules : (h : Heading) → f.middle ≢ in_rules (AtRules h) = λ h is. no_rules_yet h parts (subst (λ s. Leading (Outside AtFormat) parts s) is f.front) in
     subst (λ s. LaterIn s (Word (codes "pre"))) same (pre_state f.middle f.back.1 f.back.3 no_header no_rules)
 later_in state (Numeral n) parts led later = elim later [ ]
+later_in state (Sign s) parts led later = elim later [ ]
 later_in state Gone parts led later = elim later [ ]
 later_in state Stray parts led later = elim later [ ]
 later_in state End parts led later = elim later [ ]

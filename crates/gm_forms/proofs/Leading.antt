@@ -6,15 +6,19 @@ use Rattle.std.specs.List.{AllByRecursion}
 use Rattle.std.specs.Str.{bytes_eq}
 use Rattle.gm_model.specs.declared.rule.Side.{Side}
 use Rattle.gm_model.specs.declared.rule.Side.TheVariants.{Left, Right}
+use Rattle.gm_model.specs.declared.value.Kind.{Kind}
+use Rattle.gm_model.specs.declared.value.Kind.TheVariants as kinds
 use Rattle.gm_model.specs.declared.word.Letter.{Letter}
 use Rattle.gm_model.specs.declared.word.Letter.TheVariants as letters
 use Rattle.gm_model.specs.Names.{reserved, Mention, is_among, IsFree}
 use Rattle.gm_model.specs.Symbols.{Symbol, Word, Numeral, Sign, Gone, Stray, End}
 use Rattle.gm_model.specs.Reading.{Part}
-use Rattle.gm_forms.specs.BookText.{Item, NodeItem, LinkItem, RuleForm, Count, no_count, count_after, counted, count_across, with_name, hook_count, Role, Fixed, RuleWord, NameAt, WordEnd, NodeSign, limit_of, stands_before, word, sign, named, the_end, spell_letters, spell_hook, spell_item, spell_items, spell_rules, IsItem, IsRule}
+use Rattle.gm_forms.specs.BookText.{Item, NodeItem, LinkItem, ParamForm, RuleForm, Count, no_count, count_after, counted, count_across, with_name, hook_count, Role, Fixed, RuleWord, NameAt, WordEnd, NodeSign, limit_of, stands_before, word, sign, named, the_end, spell_letters, spell_hook, spell_item, spell_items, spell_param, spell_more_params, spell_params, spell_rules, IsItem, IsParam, IsRule}
+use Rattle.std.specs.Option.{option_map}
 use Rattle.gm_text.specs.Machine.{Leads}
+use Rattle.gm_text.specs.SchemaText.{kind_word}
 use Rattle.gm_forms.specs.declared.state.Heading.{Heading}
-use Rattle.gm_forms.specs.Reading.{Spot, State, AtRules, AtName, AtLeft, AtItem, AtSign, AtLetter, AtBehind, AtLabel, AtDash, AtTo, AtEnd, left_spot, with_node, with_link, with_hook, closing, takes_hook, is_hook_on, is_hook, item_role, role_at, item_move, move}
+use Rattle.gm_forms.specs.Reading.{Spot, State, AtRules, AtName, AtLeft, AtParam, AtColon, AtKind, AtComma, AtBody, AtItem, AtSign, AtLetter, AtBehind, AtLabel, AtDash, AtTo, AtEnd, left_spot, with_node, with_link, with_hook, closing, takes_hook, is_hook_on, is_hook, item_role, role_at, param_kind, item_move, move}
 
 abbrev pub Led : State → List (Part Role) → Type 0
 Led state parts = Leads limit_of stands_before role_at move state parts AtEnd
@@ -183,6 +187,41 @@ led_items h k side count hooked [] rest good taken led = led
 led_items h k side count hooked (item ∷ items) rest good taken led =
     led_item h k side count hooked item (spell_items h.dim side (count_after count item) items rest) good.0 taken.0 (led_items h k side (count_after count item) (hooked_by hooked item) items rest good.1 taken.1 led)
 
+-- ---- parameters
+
+pub kind_again : (kind : Kind) → param_kind (kind_word kind) ≡ Some kind
+kind_again kinds.Int = refl
+kind_again kinds.Bool = refl
+kind_again kinds.Vec2 = refl
+kind_again kinds.Vec3 = refl
+kind_again kinds.Rgb = refl
+
+module _ (h : Heading) (k : ℕ) where
+  led_param : (count : ℕ) (param : ParamForm) (rest : List (Part Role)) → IsParam param → Led (AtComma h k (count + 1)) rest → Led (AtParam h k count) (spell_param (count + 1) param rest)
+  led_param count param rest free led = (
+    param.name.place,
+    AtColon h k (count + 1),
+    refl,
+    rw free refl,
+    (0, AtKind h k (count + 1), refl, refl, (0, AtComma h k (count + 1), refl, ap (option_map (λ (kind : Kind). AtComma h k (count + 1))) (kind_again param.kind), led)),
+  )
+
+  led_more_params : (count : ℕ) (params : List ParamForm) (rest : List (Part Role)) → AllByRecursion IsParam params → Led (AtBody h k) rest → Led (AtComma h k count) (spell_more_params count params rest)
+  led_more_params count [] rest good led = (0, AtBody h k, refl, refl, led)
+  led_more_params count (param ∷ params) rest good led =
+      (0, AtParam h k count, refl, refl, led_param count param (spell_more_params (count + 1) params rest) good.0 (led_more_params (count + 1) params rest good.1 led))
+
+  led_params : (params : List ParamForm) (rest : List (Part Role)) → AllByRecursion IsParam params → Led (AtItem (left_spot h k)) rest → Led (AtLeft h k) (spell_params params (word Fixed (codes "left") ∷ rest))
+  led_params [] rest good led = (0, AtItem (left_spot h k), refl, refl, led)
+  led_params (param ∷ params) rest good led = (
+    0,
+    AtParam h k 0,
+    refl,
+    refl,
+    led_param 0 param (spell_more_params 1 params (word Fixed (codes "left") ∷ rest)) good.0
+        (led_more_params 1 params (word Fixed (codes "left") ∷ rest) good.1 (0, AtItem (left_spot h k), refl, refl, led)),
+  )
+
 -- ---- rules
 
 -- where a rule can begin behind so many, and the book can end
@@ -200,7 +239,7 @@ at_right h k count hooked = record { rule_role = refl; rule_move = refl; end_rol
 
 pub led_rules : (state : State) (h : Heading) (k : ℕ) (rules : List RuleForm) → CanEnd state h k → AllByRecursion (IsRule h.version) rules → Led state (spell_rules h.dim k rules (the_end ∷ []))
 led_rules state h k [] can good = (0, AtEnd, sym can.end_role, can.end_move, refl)
-led_rules state h k (rule ∷ rules) can ((free, left, right, few), good) =
+led_rules state h k (rule ∷ rules) can (is, good) =
     let across = count_across (counted no_count rule.left) in
     let behind = counted across rule.right in
     let hooked = hooked_in false rule.left in
@@ -214,21 +253,16 @@ led_rules state h k (rule ∷ rules) can ((free, left, right, few), good) =
         rule.name.place,
         AtLeft h (k + 1),
         refl,
-        rw free refl,
-        (
-          0,
-          AtItem (left_spot h (k + 1)),
-          refl,
-          refl,
-          led_items h (k + 1) Left no_count false rule.left (word Fixed (codes "right") ∷ spell_items h.dim Right across rule.right rest) left (left_taken h.version rule.left few) (
-            0,
-            AtItem (spot_at h (k + 1) Right across hooked),
-            refl,
-            refl,
-            led_items h (k + 1) Right across hooked rule.right rest right (right_taken h.version hooked rule.right right)
-                (led_rules (AtItem (spot_at h (k + 1) Right behind hooked_behind)) h (k + 1) rules (at_right h (k + 1) behind hooked_behind) good),
-          ),
-        ),
+        rw is.name refl,
+        led_params h (k + 1) rule.params (spell_items h.dim Left no_count rule.left (word Fixed (codes "right") ∷ spell_items h.dim Right across rule.right rest)) is.params
+            (led_items h (k + 1) Left no_count false rule.left (word Fixed (codes "right") ∷ spell_items h.dim Right across rule.right rest) is.left (left_taken h.version rule.left is.few_hooks) (
+              0,
+              AtItem (spot_at h (k + 1) Right across hooked),
+              refl,
+              refl,
+              led_items h (k + 1) Right across hooked rule.right rest is.right (right_taken h.version hooked rule.right is.right)
+                  (led_rules (AtItem (spot_at h (k + 1) Right behind hooked_behind)) h (k + 1) rules (at_right h (k + 1) behind hooked_behind) good),
+            )),
       ),
     )
 
@@ -272,10 +306,27 @@ rules_go_on h = more (AtRules h) AtEnd End refl ([], refl)
 left_goes_on : (h : Heading) (k : ℕ) → (rest : List (Part Role)) × Led (AtLeft h k) rest
 left_goes_on h k = more (AtLeft h k) (AtItem (left_spot h k)) (Word (codes "left")) refl (item_goes_on h k Left no_count false)
 
+body_goes_on : (h : Heading) (k : ℕ) → (rest : List (Part Role)) × Led (AtBody h k) rest
+body_goes_on h k = more (AtBody h k) (AtItem (left_spot h k)) (Word (codes "left")) refl (item_goes_on h k Left no_count false)
+
+comma_goes_on : (h : Heading) (k count : ℕ) → (rest : List (Part Role)) × Led (AtComma h k count) rest
+comma_goes_on h k count = more (AtComma h k count) (AtBody h k) (Sign (codes ")")) refl (body_goes_on h k)
+
+kind_goes_on : (h : Heading) (k count : ℕ) → (rest : List (Part Role)) × Led (AtKind h k count) rest
+kind_goes_on h k count = more (AtKind h k count) (AtComma h k count) (Word (codes "int")) refl (comma_goes_on h k count)
+
+colon_goes_on : (h : Heading) (k count : ℕ) → (rest : List (Part Role)) × Led (AtColon h k count) rest
+colon_goes_on h k count = more (AtColon h k count) (AtKind h k count) (Sign (codes ":")) refl (kind_goes_on h k count)
+
 pub goes_on : (state : State) → (rest : List (Part Role)) × Led state rest
 goes_on (AtRules h) = rules_go_on h
 goes_on (AtName h k) = more (AtName h k) (AtLeft h k) (Word (codes "a")) refl (left_goes_on h k)
 goes_on (AtLeft h k) = left_goes_on h k
+goes_on (AtParam h k count) = more (AtParam h k count) (AtColon h k (count + 1)) (Word (codes "a")) refl (colon_goes_on h k (count + 1))
+goes_on (AtColon h k count) = colon_goes_on h k count
+goes_on (AtKind h k count) = kind_goes_on h k count
+goes_on (AtComma h k count) = comma_goes_on h k count
+goes_on (AtBody h k) = body_goes_on h k
 goes_on (AtItem spot) = item_goes_on spot.heading spot.rules spot.side spot.count spot.hooked
 goes_on (AtSign spot name) = more (AtSign spot name) (AtLetter (with_node spot name) 0) (Sign (codes "<")) refl (letter_goes_on (with_node spot name) 0)
 goes_on (AtLetter spot k) = letter_goes_on spot k

@@ -11,7 +11,7 @@ use Rattle.gm_model.specs.Reading.{Part, symbols_in}
 use Rattle.gm_model.specs.Names.{Mention}
 use Rattle.gm_text.specs.SchemaText as schemas
 use Rattle.gm_text.specs.SchemaText.{spell, is_again}
-use Rattle.gm_forms.specs.BookText.{Item, NodeItem, LinkItem, RuleForm, BookForm, Count, no_count, count_after, count_across, counted, Role, InSchema, NameAt, in_schema, the_end, spell_letters, spell_hook, spell_items, spell_rules, spelling, nodes_in, ends_in, items_on, IsPlacedAt, ArePlaced, IsWritten, IsAgain, IsStranger, NameFault, TwiceAt, UnknownAt, place_of, IsFaultInRules, RuleTwice, NodeTwice, NodeUnknown, IsNameFault, SchemaTwice, RulesFault}
+use Rattle.gm_forms.specs.BookText.{Item, NodeItem, LinkItem, ParamForm, RuleForm, BookForm, Count, no_count, count_after, count_across, counted, Role, InSchema, NameAt, ParamName, in_schema, the_end, spell_letters, spell_hook, spell_items, spell_more_params, spell_params, spell_rules, spelling, params_in, nodes_in, ends_in, items_on, IsPlacedAt, ArePlaced, IsWritten, IsAgain, IsStranger, NameFault, TwiceAt, UnknownAt, place_of, IsFaultInRules, RuleTwice, ParamTwice, NodeTwice, NodeUnknown, IsNameFault, SchemaTwice, RulesFault}
 use Rattle.gm_forms.proofs.Contained.{contains_cases, contains_here, contains_behind, contains_none}
 
 -- ---- the marks of a text rise
@@ -45,6 +45,7 @@ behind_in_schema role low Later = Later low
 
 abbrev behind_part : Role → ℕ → (ℕ → Type 0) → Type 0
 behind_part (NameAt place) low Later = (low ≤ place) × Later (suc place)
+behind_part (ParamName k place) low Later = (low ≤ place) × Later (suc place)
 behind_part (InSchema role) low Later = behind_in_schema role low Later
 behind_part role low Later = Later low
 
@@ -56,6 +57,7 @@ part_placed : (role : Role) (low place : ℕ) (Later : ℕ → Type 0) → ((les
 part_placed (InSchema (schemas.NameAt names at)) low place Later lower here up later = (omega (arith, here, up), subst (λ p. Later (suc p)) (sym here) later)
 part_placed (InSchema (schemas.LabelAt n mask at)) low place Later lower here up later = (omega (arith, here, up), subst (λ p. Later (suc p)) (sym here) later)
 part_placed (NameAt named) low place Later lower here up later = (omega (arith, here, up), subst (λ p. Later (suc p)) (sym here) later)
+part_placed (ParamName k named) low place Later lower here up later = (omega (arith, here, up), subst (λ p. Later (suc p)) (sym here) later)
 part_placed role low place Later lower here up later = lower low (suc place) (omega (arith, up)) later
 
 names_from_less : (parts : List (Part Role)) (less more : ℕ) → less ≤ more → NamesRise more parts → NamesRise less parts
@@ -64,6 +66,7 @@ names_from_less (part ∷ parts) less more up rise = go part.role (names_from_le
   where
     go : (role : Role) → (NamesRise more parts → NamesRise less parts) → behind_part role more (λ next. NamesRise next parts) → behind_part role less (λ next. NamesRise next parts)
     go (NameAt place) lower (here, later) = (omega (arith, up, here), later)
+    go (ParamName k place) lower (here, later) = (omega (arith, up, here), later)
     go (InSchema (schemas.NameAt names place)) lower (here, later) = (omega (arith, up, here), later)
     go (InSchema (schemas.LabelAt n mask place)) lower (here, later) = (omega (arith, up, here), later)
     go role lower later = lower later
@@ -97,9 +100,16 @@ uses_in [] rest = rest
 uses_in (NodeItem node word hook ∷ items) rest = declared node ∷ uses_in items rest
 uses_in (LinkItem from label to ∷ items) rest = looked_up from ∷ looked_up to ∷ uses_in items rest
 
+abbrev uses_in_params : List ParamForm → List NameUse → List NameUse
+uses_in_params [] rest = rest
+uses_in_params (param ∷ params) rest = declared param.name ∷ uses_in_params params rest
+
+abbrev uses_in_sides : RuleForm → List NameUse → List NameUse
+uses_in_sides rule rest = uses_in rule.left (uses_in rule.right rest)
+
 abbrev uses_of : List RuleForm → List NameUse
 uses_of [] = []
-uses_of (rule ∷ rules) = declared rule.name ∷ uses_in rule.left (uses_in rule.right (uses_of rules))
+uses_of (rule ∷ rules) = declared rule.name ∷ uses_in_params rule.params (uses_in_sides rule (uses_of rules))
 
 -- a name or label of the schema is declared where it stands
 abbrev used_as : schemas.Role → List NameUse → List NameUse
@@ -139,10 +149,19 @@ module _ (n : ℕ) where
   items_follow side count (LinkItem from label to ∷ items) rest uses later low (here, (there, rise)) =
       (here, (there, items_follow side (count_after count (LinkItem from label to)) items rest uses later (suc to.place) rise))
 
+  more_params_follow : (count : ℕ) (params : List ParamForm) (rest : List (Part Role)) (uses : List NameUse) → Follows rest uses → Follows (spell_more_params count params rest) (uses_in_params params uses)
+  more_params_follow count [] rest uses later low rise = later low rise
+  more_params_follow count (param ∷ params) rest uses later low (here, rise) = (here, more_params_follow (count + 1) params rest uses later (suc param.name.place) rise)
+
+  params_follow : (params : List ParamForm) (rest : List (Part Role)) (uses : List NameUse) → Follows rest uses → Follows (spell_params params rest) (uses_in_params params uses)
+  params_follow [] rest uses later low rise = later low rise
+  params_follow (param ∷ params) rest uses later low (here, rise) = (here, more_params_follow 1 params rest uses later (suc param.name.place) rise)
+
   rules_follow : (k : ℕ) (rules : List RuleForm) → Follows (spell_rules n k rules (the_end ∷ [])) (uses_of rules)
   rules_follow k [] low rise = tt
   rules_follow k (rule ∷ rules) low (here, rise) =
-      (here, items_follow Left no_count rule.left _ _ (items_follow Right (count_across (counted no_count rule.left)) rule.right _ (uses_of rules) (rules_follow (k + 1) rules)) (suc rule.name.place) rise)
+      (here, params_follow rule.params _ (uses_in_sides rule (uses_of rules))
+      (items_follow Left no_count rule.left _ _ (items_follow Right (count_across (counted no_count rule.left)) rule.right _ (uses_of rules) (rules_follow (k + 1) rules))) (suc rule.name.place) rise)
 
 schema_follows : (parts : List (Part schemas.Role)) (rest : List (Part Role)) (uses : List NameUse) → Follows rest uses → Follows (map in_schema parts ++ rest) (uses_in_schema parts uses)
 schema_follows [] rest uses later low rise = later low rise
@@ -206,6 +225,18 @@ used_behind declares place [] rest used = used
 used_behind declares place (NodeItem node word hook ∷ items) rest used = inr (used_behind declares place items rest used)
 used_behind declares place (LinkItem from label to ∷ items) rest used = inr (inr (used_behind declares place items rest used))
 
+used_behind_sides : (declares : Bool) (place : ℕ) (rule : RuleForm) (rest : List NameUse) → IsUsed declares place rest → IsUsed declares place (uses_in_sides rule rest)
+used_behind_sides declares place rule rest used = used_behind declares place rule.left _ (used_behind declares place rule.right rest used)
+
+used_behind_params : (declares : Bool) (place : ℕ) (params : List ParamForm) (rest : List NameUse) → IsUsed declares place rest → IsUsed declares place (uses_in_params params rest)
+used_behind_params declares place [] rest used = used
+used_behind_params declares place (param ∷ params) rest used = inr (used_behind_params declares place params rest used)
+
+params_declared : (place : ℕ) (params : List ParamForm) (rest : List NameUse) → IsMentioned place (map (λ (param : ParamForm). param.name) params) → IsUsed true place (uses_in_params params rest)
+params_declared place [] rest mentioned = absurd mentioned
+params_declared place (param ∷ params) rest (inl here) = inl (here, refl)
+params_declared place (param ∷ params) rest (inr behind) = inr (params_declared place params rest behind)
+
 nodes_declared : (place : ℕ) (items : List Item) (rest : List NameUse) → IsMentioned place (nodes_in items) → IsUsed true place (uses_in items rest)
 nodes_declared place [] rest mentioned = absurd mentioned
 nodes_declared place (NodeItem node word hook ∷ items) rest (inl here) = inl (here, refl)
@@ -222,19 +253,23 @@ ends_looked_up place (LinkItem from label to ∷ items) rest (inr (inr behind)) 
 rules_declared : (place : ℕ) (rules : List RuleForm) → IsMentioned place (map (λ (rule : RuleForm). rule.name) rules) → IsUsed true place (uses_of rules)
 rules_declared place [] mentioned = absurd mentioned
 rules_declared place (rule ∷ rules) (inl here) = inl (here, refl)
-rules_declared place (rule ∷ rules) (inr behind) = inr (used_behind true place rule.left _ (used_behind true place rule.right _ (rules_declared place rules behind)))
+rules_declared place (rule ∷ rules) (inr behind) = inr (used_behind_params true place rule.params _ (used_behind_sides true place rule _ (rules_declared place rules behind)))
 
--- what a side uses, the book does
-side_used : (declares : Bool) (place : ℕ) (rules : List RuleForm) (rule : RuleForm) (side : Side) → Contains rules rule → ((rest : List NameUse) → IsUsed declares place (uses_in (items_on rule side) rest)) → IsUsed declares place (uses_of rules)
-side_used declares place [] rule side among used = absurd (contains_none rule among)
-side_used declares place (first ∷ rules) rule side among used = elim (contains_cases first rules rule among) [
-  | inl e ↦ inr (on side (subst (λ (r : RuleForm). (rest : List NameUse) → IsUsed declares place (uses_in (items_on r side) rest)) (sym e) used))
-  | inr behind ↦ inr (used_behind declares place first.left _ (used_behind declares place first.right _ (side_used declares place rules rule side behind used)))
+-- what a rule uses, the book does
+rule_used : (declares : Bool) (place : ℕ) (rules : List RuleForm) (rule : RuleForm) → Contains rules rule → ((rest : List NameUse) → IsUsed declares place (uses_in_params rule.params (uses_in_sides rule rest))) → IsUsed declares place (uses_of rules)
+rule_used declares place [] rule among used = absurd (contains_none rule among)
+rule_used declares place (first ∷ rules) rule among used = elim (contains_cases first rules rule among) [
+  | inl e ↦ inr (subst (λ (r : RuleForm). (rest : List NameUse) → IsUsed declares place (uses_in_params r.params (uses_in_sides r rest))) (sym e) used (uses_of rules))
+  | inr behind ↦ inr (used_behind_params declares place first.params _ (used_behind_sides declares place first _ (rule_used declares place rules rule behind used)))
 ]
+
+-- what a side uses, the rule does
+side_used : (declares : Bool) (place : ℕ) (rule : RuleForm) (side : Side) → ((rest : List NameUse) → IsUsed declares place (uses_in (items_on rule side) rest)) → (rest : List NameUse) → IsUsed declares place (uses_in_params rule.params (uses_in_sides rule rest))
+side_used declares place rule side used rest = used_behind_params declares place rule.params _ (on side used)
   where
-    on : (s : Side) → ((rest : List NameUse) → IsUsed declares place (uses_in (items_on first s) rest)) → IsUsed declares place (uses_in first.left (uses_in first.right (uses_of rules)))
+    on : (s : Side) → ((rest : List NameUse) → IsUsed declares place (uses_in (items_on rule s) rest)) → IsUsed declares place (uses_in_sides rule rest)
     on Left here = here _
-    on Right here = used_behind declares place first.left _ (here _)
+    on Right here = used_behind declares place rule.left _ (here _)
 
 -- ---- in the schema
 
@@ -269,11 +304,13 @@ schema_declared place (first ∷ parts) part rest among again here = elim (conta
 twice_in_rules : (rules : List RuleForm) (place : ℕ) → IsFaultInRules rules (TwiceAt place) → IsUsed true place (uses_of rules)
 twice_in_rules rules _ (RuleTwice place again) = rules_declared place rules (again_mentioned _ place again)
 twice_in_rules rules _ (NodeTwice rule side place among again) =
-    side_used true place rules rule side among (λ rest. nodes_declared place (items_on rule side) rest (again_mentioned (nodes_in (items_on rule side)) place again))
+    rule_used true place rules rule among (side_used true place rule side (λ rest. nodes_declared place (items_on rule side) rest (again_mentioned (nodes_in (items_on rule side)) place again)))
+twice_in_rules rules _ (ParamTwice rule place among again) =
+    rule_used true place rules rule among (λ rest. params_declared place rule.params _ (again_mentioned (params_in rule) place again))
 
 unknown_in_rules : (rules : List RuleForm) (place : ℕ) → IsFaultInRules rules (UnknownAt place) → IsUsed false place (uses_of rules)
 unknown_in_rules rules _ (NodeUnknown rule side place among stranger) =
-    side_used false place rules rule side among (λ rest. ends_looked_up place (items_on rule side) rest (stranger_mentioned (items_on rule side) place stranger))
+    rule_used false place rules rule among (side_used false place rule side (λ rest. ends_looked_up place (items_on rule side) rest (stranger_mentioned (items_on rule side) place stranger)))
 
 twice_declared : (book : BookForm) (place : ℕ) → IsNameFault book (TwiceAt place) → IsUsed true place (uses_in_book book)
 twice_declared book _ (SchemaTwice place part among again here) = schema_declared place (spell book.schema []) part (uses_of book.rules) among again here

@@ -9,7 +9,7 @@ use Rattle.gm_forms.specs.declared.draft.Draft.{Draft}
 use Rattle.gm_forms.specs.declared.form_fault.FormFault.{FormFault}
 use Rattle.gm_forms.specs.declared.form_fault.FormFault.TheVariants as faults
 use Rattle.gm_forms.specs.declared.state.State.{State as CodeState}
-use Rattle.gm_forms.specs.Reading.{State, AtRules, AtName, AtLeft, AtItem, AtSign, AtLetter, AtBehind, AtLabel, AtDash, AtTo, AtEnd, Held}
+use Rattle.gm_forms.specs.Reading.{State, AtRules, AtName, AtLeft, AtParam, AtColon, AtKind, AtComma, AtBody, AtItem, AtSign, AtLetter, AtBehind, AtLabel, AtDash, AtTo, AtEnd, Held}
 use Rattle.gm_text.specs.SchemaAnswers.{marks_left}
 use Rattle.gm_forms.specs.Standing.{Stand, stepped, read_on, ◌>>=◌, Fails, IsNext, IsStateIn, IsDraftIn, MovesFrom, stand_of, mark_of}
 
@@ -35,6 +35,11 @@ unfolding stepped
 stray_is_fault (AtRules n) last place held = refl
 stray_is_fault (AtName n k) last place held = refl
 stray_is_fault (AtLeft n k) last place held = refl
+stray_is_fault (AtParam n k count) last place held = refl
+stray_is_fault (AtColon n k count) last place held = refl
+stray_is_fault (AtKind n k count) last place held = refl
+stray_is_fault (AtComma n k count) last place held = refl
+stray_is_fault (AtBody n k) last place held = refl
 stray_is_fault (AtItem spot) last place held = refl
 stray_is_fault (AtSign spot name) last place held = refl
 stray_is_fault (AtLetter spot k) last place held = refl

@@ -9,16 +9,17 @@ use Rattle.gm_model.specs.declared.word.Letter.TheVariants as letters
 use Rattle.gm_model.specs.Symbols.{Symbol, Word, Mark}
 use Rattle.gm_model.specs.Reading as reading
 use Rattle.gm_model.specs.Names.{Mention}
-use Rattle.gm_forms.specs.BookText.{Item, NodeItem, LinkItem, RuleForm, Count, no_count, count_after, counted, count_across, Role, Fixed, NameAt, WordEnd, word, sign, named, the_end, spell_letters, spell_hook, spell_item, spell_items, spell_rules, IsItem, IsRule}
+use Rattle.gm_forms.specs.BookText.{Item, NodeItem, LinkItem, ParamForm, RuleForm, Count, no_count, count_after, counted, count_across, Role, Fixed, NameAt, ParamName, WordEnd, word, sign, named, the_end, spell_letters, spell_hook, spell_item, spell_items, spell_more_params, spell_params, spell_rules, IsItem, IsParam, IsRule}
 use Rattle.gm_forms.specs.declared.state.Heading.{Heading}
-use Rattle.gm_forms.specs.Reading.{Spot, State, AtRules, AtName, AtItem, AtLetter, AtBehind, with_node, with_hook, takes_hook, is_hook_on, Part, Nothing, Lettered, Held, hook_last, held_behind}
-use Rattle.gm_forms.proofs.Leading.{spot_at, hooked_by, hooked_in, IsTaken, AreTaken, left_taken, right_taken, free_closes, free_hook, hook_side, link_free}
-use Rattle.gm_forms.proofs.Spelling.{Parts, within, behind, put, hook_put}
+use Rattle.gm_forms.specs.Reading.{Spot, State, AtRules, AtName, AtLeft, AtComma, AtBody, AtItem, left_spot, AtLetter, AtBehind, with_node, with_hook, takes_hook, is_hook_on, Part, Nothing, Lettered, Held, with_param, hook_last, held_behind}
+use Rattle.gm_forms.proofs.Leading.{spot_at, hooked_by, hooked_in, IsTaken, AreTaken, left_taken, right_taken, kind_again, free_closes, free_hook, hook_side, link_free}
+use Rattle.gm_forms.proofs.Spelling.{Parts, within, behind, declared, put, hook_put}
 
 -- ---- the marks of parts: a name stands where its mention says
 
 abbrev role_place : Role → ℕ
 role_place (NameAt place) = place
+role_place (ParamName k place) = place
 role_place _ = 0
 
 abbrev pub marks_for : Parts → List Mark
@@ -94,35 +95,64 @@ items_held h k side count hook_before (item ∷ items) rest before rule part las
     next [] good = plain
     next (item' ∷ items) good = free_item side item' h.dim (count_after count item) (spell_items h.dim side (count_after (count_after count item) item') items rest) good.0
 
-put_left : (items : List Item) (rule : RuleForm) → put_all Left items rule ≡ record { name = rule.name; left = rule.left ++ items; right = rule.right }
-put_left [] rule = ap (λ (left : List Item). let r : RuleForm = record { name = rule.name; left = left; right = rule.right } in r) (sym (append-nil rule.left))
-put_left (item ∷ items) rule = put_left items (put Left item rule) ∙ ap (λ (left : List Item). let r : RuleForm = record { name = rule.name; left = left; right = rule.right } in r) (append_assoc rule.left (item ∷ []) items)
+put_left : (items : List Item) (rule : RuleForm) → put_all Left items rule ≡ record { name = rule.name; params = rule.params; left = rule.left ++ items; right = rule.right }
+put_left [] rule = ap (λ (left : List Item). let r : RuleForm = record { name = rule.name; params = rule.params; left = left; right = rule.right } in r) (sym (append-nil rule.left))
+put_left (item ∷ items) rule = put_left items (put Left item rule) ∙ ap (λ (left : List Item). let r : RuleForm = record { name = rule.name; params = rule.params; left = left; right = rule.right } in r) (append_assoc rule.left (item ∷ []) items)
 
-put_right : (items : List Item) (rule : RuleForm) → put_all Right items rule ≡ record { name = rule.name; left = rule.left; right = rule.right ++ items }
-put_right [] rule = ap (λ (right : List Item). let r : RuleForm = record { name = rule.name; left = rule.left; right = right } in r) (sym (append-nil rule.right))
-put_right (item ∷ items) rule = put_right items (put Right item rule) ∙ ap (λ (right : List Item). let r : RuleForm = record { name = rule.name; left = rule.left; right = right } in r) (append_assoc rule.right (item ∷ []) items)
+put_right : (items : List Item) (rule : RuleForm) → put_all Right items rule ≡ record { name = rule.name; params = rule.params; left = rule.left; right = rule.right ++ items }
+put_right [] rule = ap (λ (right : List Item). let r : RuleForm = record { name = rule.name; params = rule.params; left = rule.left; right = right } in r) (sym (append-nil rule.right))
+put_right (item ∷ items) rule = put_right items (put Right item rule) ∙ ap (λ (right : List Item). let r : RuleForm = record { name = rule.name; params = rule.params; left = rule.left; right = right } in r) (append_assoc rule.right (item ∷ []) items)
+
+-- ---- parameters
+
+abbrev declare_all : List ParamForm → RuleForm → RuleForm
+declare_all [] rule = rule
+declare_all (param ∷ params) rule = declare_all params (with_param param rule)
+
+declare_is : (params : List ParamForm) (rule : RuleForm) → declare_all params rule ≡ declared params rule
+declare_is [] rule = ap (λ (params : List ParamForm). let r : RuleForm = record { name = rule.name; params = params; left = rule.left; right = rule.right } in r) (sym (append-nil rule.params))
+declare_is (param ∷ params) rule = declare_is params (with_param param rule)
+    ∙ ap (λ (all : List ParamForm). let r : RuleForm = record { name = rule.name; params = all; left = rule.left; right = rule.right } in r) (append_assoc rule.params (param ∷ []) params)
+
+module _ (h : Heading) (k : ℕ) (before : List RuleForm) (last : Held) where
+  more_params_held : (count : ℕ) (params : List ParamForm) (rest : Parts) (rule : RuleForm) (part : Part) → AllByRecursion IsParam params
+      → ((p : Part) → Leaves (AtBody h k) rest (within before (declare_all params rule) p) last) → Leaves (AtComma h k count) (spell_more_params count params rest) (within before rule part) last
+  more_params_held count [] rest rule part good ends = ends part
+  more_params_held count (param ∷ params) rest rule part good ends =
+      rw (good.0, kind_again param.kind) (more_params_held (count + 1) params rest (with_param param rule) Nothing good.1 ends)
+
+  params_held : (params : List ParamForm) (rest : Parts) (rule : RuleForm) (part : Part) → AllByRecursion IsParam params
+      → ((p : Part) → Leaves (AtItem (left_spot h k)) rest (within before (declared params rule) p) last) → Leaves (AtLeft h k) (spell_params params (word Fixed (codes "left") ∷ rest)) (within before rule part) last
+  params_held [] rest rule part good ends = ap (λ (r : RuleForm). held_behind (AtItem (left_spot h k)) (marks_for rest) (within before r part)) (declare_is [] rule) ∙ ends part
+  params_held (param ∷ params) rest rule part good ends =
+      rw (good.0, kind_again param.kind)
+      (more_params_held 1 params (word Fixed (codes "left") ∷ rest) (with_param param rule) Nothing good.1
+      (λ p. ap (λ (r : RuleForm). held_behind (AtItem (left_spot h k)) (marks_for rest) (within before r p)) (declare_is (param ∷ params) rule) ∙ ends p))
 
 -- ---- rules
 
 rule_held : (h : Heading) (k : ℕ) (before : List RuleForm) (rule : RuleForm) (rules : List RuleForm) → IsRule h.version rule
     → ((count : Count) (hook_before : Bool) (part : Part) → Leaves (AtItem (spot_at h k Right count hook_before)) (spell_rules h.dim k rules (the_end ∷ [])) (within before rule part) (behind (before ++ rule ∷ rules)))
-    → Leaves (AtName h k) (named rule.name ∷ word Fixed (codes "left") ∷ spell_items h.dim Left no_count rule.left (word Fixed (codes "right") ∷ spell_items h.dim Right (count_across (counted no_count rule.left)) rule.right (spell_rules h.dim k rules (the_end ∷ [])))) (behind before) (behind (before ++ rule ∷ rules))
-rule_held h k before rule rules (free, left, right, few) later =
+    → Leaves (AtName h k) (named rule.name ∷ spell_params rule.params (word Fixed (codes "left") ∷ spell_items h.dim Left no_count rule.left (word Fixed (codes "right") ∷ spell_items h.dim Right (count_across (counted no_count rule.left)) rule.right (spell_rules h.dim k rules (the_end ∷ []))))) (behind before) (behind (before ++ rule ∷ rules))
+rule_held h k before rule rules is later =
     let across = count_across (counted no_count rule.left) in
     let hook_left = hooked_in false rule.left in
     let hook_right = hooked_in hook_left rule.right in
     let rest = spell_rules h.dim k rules (the_end ∷ []) in
-    let empty : RuleForm = record { name = rule.name; left = []; right = [] } in
-    let lefts : RuleForm = record { name = rule.name; left = rule.left; right = [] } in
+    let unread : RuleForm = record { name = rule.name; params = []; left = []; right = [] } in
+    let empty : RuleForm = record { name = rule.name; params = rule.params; left = []; right = [] } in
+    let lefts : RuleForm = record { name = rule.name; params = rule.params; left = rule.left; right = [] } in
     let last = behind (before ++ rule ∷ rules) in
     let on_right : (p : Part) → Leaves (AtItem (spot_at h k Right (counted across rule.right) hook_right)) rest (within before (put_all Right rule.right lefts) p) last = λ p.
     ap (λ (r : RuleForm). held_behind (AtItem (spot_at h k Right (counted across rule.right) hook_right)) (marks_for rest) (within before r p)) (put_right rule.right lefts) ∙ later (counted across rule.right) hook_right p in
     let right_part : (p : Part) → Leaves (AtItem (spot_at h k Right across hook_left)) (spell_items h.dim Right across rule.right rest) (within before lefts p) last = λ p.
-    items_held h k Right across hook_left rule.right rest before lefts p last right (right_taken h.version hook_left rule.right right) (plain_rules rules) on_right in
+    items_held h k Right across hook_left rule.right rest before lefts p last is.right (right_taken h.version hook_left rule.right is.right) (plain_rules rules) on_right in
     let on_left : (p : Part) → Leaves (AtItem (spot_at h k Left (counted no_count rule.left) hook_left)) (word Fixed (codes "right") ∷ spell_items h.dim Right across rule.right rest) (within before (put_all Left rule.left empty) p) last = λ p.
     ap (λ (r : RuleForm). held_behind (AtItem (spot_at h k Left (counted no_count rule.left) hook_left)) (marks_for (word Fixed (codes "right") ∷ spell_items h.dim Right across rule.right rest)) (within before r p)) (put_left rule.left empty) ∙ right_part p in
-    rw free (items_held h k Left no_count false rule.left (word Fixed (codes "right") ∷ spell_items h.dim Right across rule.right rest) before empty Nothing last left (left_taken h.version rule.left few)
-    (λ takes w e. let same : codes "right" ≡ w = cc e in rw (← same) refl) on_left)
+    let left_part : (p : Part) → Leaves (AtItem (left_spot h k)) (spell_items h.dim Left no_count rule.left (word Fixed (codes "right") ∷ spell_items h.dim Right across rule.right rest)) (within before empty p) last = λ p.
+    items_held h k Left no_count false rule.left (word Fixed (codes "right") ∷ spell_items h.dim Right across rule.right rest) before empty p last is.left (left_taken h.version rule.left is.few_hooks)
+    (λ takes w e. let same : codes "right" ≡ w = cc e in rw (← same) refl) on_left in
+    rw is.name (params_held h k before last rule.params (spell_items h.dim Left no_count rule.left (word Fixed (codes "right") ∷ spell_items h.dim Right across rule.right rest)) unread Nothing is.params left_part)
   where
     plain_rules : (rules : List RuleForm) → HasNoHook Right (spell_rules h.dim k rules (the_end ∷ []))
     plain_rules [] = λ takes w e. refl

@@ -7,15 +7,21 @@ use Rattle.std.specs.List.{AllByRecursion}
 use Rattle.std.specs.Str.{bytes_eq}
 use Rattle.gm_model.specs.declared.rule.Side.{Side}
 use Rattle.gm_model.specs.declared.rule.Side.TheVariants.{Left, Right}
+use Rattle.gm_model.specs.declared.value.Kind.{Kind}
+use Rattle.gm_model.specs.declared.value.Kind.TheVariants as kinds
 use Rattle.gm_model.specs.declared.word.Letter.{Letter}
 use Rattle.gm_model.specs.declared.word.Letter.TheVariants as letters
 use Rattle.gm_model.specs.Names.{reserved, Mention, is_among, IsFree}
 use Rattle.gm_model.specs.Symbols.{Symbol, Word, Numeral, Sign, Gone, End, Mark}
 use Rattle.gm_model.specs.Reading as reading
-use Rattle.gm_forms.specs.BookText.{Item, NodeItem, LinkItem, RuleForm, Count, count_after, counted, count_across, with_name, Role, Fixed, RuleWord, NameAt, LetterAt, WordEnd, NodeSign, LinkSign, LabelAt, limit_of, stands_before, word, number, sign, named, the_end, spell_letters, spell_hook, spell_item, spell_items, spell_rule, spell_rules, IsItem, IsRule}
+use Rattle.gm_forms.specs.BookText.{Item, NodeItem, LinkItem, ParamForm, RuleForm, Count, count_after, counted, count_across, with_name, Role, Fixed, RuleWord, NameAt, ParamName, LetterAt, WordEnd, NodeSign, LinkSign, LabelAt, limit_of, stands_before, word, number, sign, named, the_end, spell_letters, spell_hook, spell_item, spell_items, spell_param, spell_more_params, spell_params, spell_rule, spell_rules, IsItem, IsParam, IsRule}
+use Rattle.std.specs.Option.{option_map}
+use Rattle.gm_text.specs.SchemaText.{kind_word}
+use Rattle.gm_text.specs.SchemaReading.{kind_named}
+use Rattle.gm_text.proofs.SchemaGrammar.{kind_spelled}
 use Rattle.gm_text.proofs.Machine.{Along}
 use Rattle.gm_forms.specs.declared.state.Heading.{Heading}
-use Rattle.gm_forms.specs.Reading.{Spot, State, AtRules, AtName, AtLeft, AtItem, AtSign, AtLetter, AtBehind, AtLabel, AtDash, AtTo, AtEnd, left_spot, right_spot, with_node, with_link, closing, takes_hook, is_hook, role_at, expect, item_move, behind_move, unless_reserved, end_move, closed, move, Part, Nothing, Named, Lettered, Linked, Labelled, Held, nothing_held, mention_at, with_item, hooked, hook_last, held_behind}
+use Rattle.gm_forms.specs.Reading.{Spot, State, AtRules, AtName, AtLeft, AtParam, AtColon, AtKind, AtComma, AtBody, AtItem, AtSign, AtLetter, AtBehind, AtLabel, AtDash, AtTo, AtEnd, left_spot, right_spot, with_node, with_link, closing, takes_hook, is_hook, role_at, expect, item_move, behind_move, unless_reserved, end_move, closed, comma_move, param_kind, move, Part, Nothing, Declared, Named, Lettered, Linked, Labelled, Held, nothing_held, mention_at, with_param, with_item, hooked, hook_last, held_behind}
 use Rattle.gm_forms.proofs.Leading.{spot_at, hooked_by, IsTaken, AreTaken, taken_left}
 
 abbrev pub Parts : Type 0
@@ -31,7 +37,11 @@ behind rules = record { rules = rules; current = None; part = Nothing }
 
 -- the rule with more items
 abbrev pub grown : RuleForm → List Item → List Item → RuleForm
-grown rule left right = record { name = rule.name; left = rule.left ++ left; right = rule.right ++ right }
+grown rule left right = record { name = rule.name; params = rule.params; left = rule.left ++ left; right = rule.right ++ right }
+
+-- the rule with more parameters
+abbrev pub declared : List ParamForm → RuleForm → RuleForm
+declared params rule = record { name = rule.name; params = rule.params ++ params; left = rule.left; right = rule.right }
 
 -- ---- what still stands before the end
 
@@ -154,15 +164,56 @@ pub record AfterHeader (h : Heading) (marks : List Mark) (parts : Parts) : Type 
   pub held : held_behind (AtRules h) marks nothing_held ≡ behind rules
 
 -- `left`, and then the items
-record AfterLeft (h : Heading) (k : ℕ) (marks : List Mark) (parts : Parts) : Type 0 where
+abbrev body : (h : Heading) (k : ℕ) → ItemsAt (left_spot h k) → Parts
+body h k items = word Fixed (codes "left") ∷ spelled (left_spot h k) items
+
+record AfterBody (h : Heading) (k : ℕ) (marks : List Mark) (parts : Parts) : Type 0 where
   items : ItemsAt (left_spot h k)
-  same : parts ≡ word Fixed (codes "left") ∷ spelled (left_spot h k) items
-  held : (before : List RuleForm) (rule : RuleForm) (part : Part) → held_behind (AtLeft h k) marks (within before rule part) ≡ behind (before ++ all Left rule items)
+  same : parts ≡ body h k items
+  held : (before : List RuleForm) (rule : RuleForm) (part : Part) → held_behind (AtBody h k) marks (within before rule part) ≡ behind (before ++ all Left rule items)
+
+-- parameters as they are spelled there, and then the items
+record AfterParams (h : Heading) (k : ℕ) (state : State) (spell : List ParamForm → Parts → Parts) (marks : List Mark) (parts : Parts) : Type 0 where
+  params : List ParamForm
+  good : AllByRecursion IsParam params
+  items : ItemsAt (left_spot h k)
+  same : parts ≡ spell params (body h k items)
+  held : (before : List RuleForm) (rule : RuleForm) (part : Part) → held_behind state marks (within before rule part) ≡ behind (before ++ all Left (declared params rule) items)
+
+record AfterParam (h : Heading) (k count : ℕ) (marks : List Mark) (parts : Parts) : Type 0 where
+  param : ParamForm
+  free : IsParam param
+  params : List ParamForm
+  good : AllByRecursion IsParam params
+  items : ItemsAt (left_spot h k)
+  same : parts ≡ spell_param (count + 1) param (spell_more_params (count + 1) params (body h k items))
+  held : (before : List RuleForm) (rule : RuleForm) (part : Part) → held_behind (AtParam h k count) marks (within before rule part) ≡ behind (before ++ all Left (declared (param ∷ params) rule) items)
+
+-- a parameter's kind behind its name as it is spelled there, further parameters, and then the items
+record AfterDeclared (h : Heading) (k count : ℕ) (state : State) (spell : Kind → Parts → Parts) (marks : List Mark) (parts : Parts) : Type 0 where
+  kind : Kind
+  params : List ParamForm
+  good : AllByRecursion IsParam params
+  items : ItemsAt (left_spot h k)
+  same : parts ≡ spell kind (spell_more_params count params (body h k items))
+  held : (before : List RuleForm) (rule : RuleForm) (name : Mention) → held_behind state marks (within before rule (Declared name))
+      ≡ behind (before ++ all Left (declared (record { name = name; kind = kind } ∷ params) rule) items)
+
+abbrev spell_kind : Kind → Parts → Parts
+spell_kind kind rest = word Fixed (kind_word kind) ∷ rest
+
+abbrev spell_colon : Kind → Parts → Parts
+spell_colon kind rest = sign Fixed (codes ":") ∷ spell_kind kind rest
 
 abbrev After : State → List Mark → Parts → Type 0
 After (AtRules h) marks parts = AfterHeader h marks parts
 After (AtName h k) marks parts = AfterRule h k marks parts
-After (AtLeft h k) marks parts = AfterLeft h k marks parts
+After (AtLeft h k) marks parts = AfterParams h k (AtLeft h k) spell_params marks parts
+After (AtParam h k count) marks parts = AfterParam h k count marks parts
+After (AtColon h k count) marks parts = AfterDeclared h k count (AtColon h k count) spell_colon marks parts
+After (AtKind h k count) marks parts = AfterDeclared h k count (AtKind h k count) spell_kind marks parts
+After (AtComma h k count) marks parts = AfterParams h k (AtComma h k count) (spell_more_params count) marks parts
+After (AtBody h k) marks parts = AfterBody h k marks parts
 After (AtItem spot) marks parts = AfterItems spot marks parts
 After (AtSign spot name) marks parts = AfterName spot name marks parts
 After (AtLetter spot k) marks parts = AfterLetter spot k marks parts
@@ -225,8 +276,8 @@ spelled_add h k Right count hook_before item good taken items = refl
 
 all_put : (version : ℕ) (hook_before : Bool) (side : Side) (item : Item) (good : IsItem side item) (taken : IsTaken version hook_before item) (rule : RuleForm) (items : Items version (hooked_by hook_before item) side)
     → all side (put side item rule) items ≡ all side rule (add version hook_before side item good taken items)
-all_put version hook_before Left item good taken rule items = ap (λ (left : List Item). let r : RuleForm = record { name = rule.name; left = left; right = rule.right ++ items.right } in r ∷ items.rules) (append_assoc rule.left (item ∷ []) items.left)
-all_put version hook_before Right item good taken rule items = ap (λ (right : List Item). let r : RuleForm = record { name = rule.name; left = rule.left ++ items.left; right = right } in r ∷ items.rules) (append_assoc rule.right (item ∷ []) items.right)
+all_put version hook_before Left item good taken rule items = ap (λ (left : List Item). let r : RuleForm = record { name = rule.name; params = rule.params; left = left; right = rule.right ++ items.right } in r ∷ items.rules) (append_assoc rule.left (item ∷ []) items.left)
+all_put version hook_before Right item good taken rule items = ap (λ (right : List Item). let r : RuleForm = record { name = rule.name; params = rule.params; left = rule.left ++ items.left; right = right } in r ∷ items.rules) (append_assoc rule.right (item ∷ []) items.right)
 
 hooked-append : (items : List Item) (name : Mention) (word : List Letter) → hooked (items ++ NodeItem name word false ∷ []) ≡ items ++ NodeItem name word true ∷ []
 hooked-append [] name word = refl
@@ -238,8 +289,17 @@ hooked-append (LinkItem from label to ∷ next ∷ items) name word = ap (λ (is
 -- the node that was put last, once its hook is known
 pub hook_put : (side : Side) (name : Mention) (word : List Letter) (hook : Bool) (rule : RuleForm) → (hook ≡ true → side ≡ Left) → (if hook then hook_last (put side (NodeItem name word false) rule) else put side (NodeItem name word false) rule) ≡ put side (NodeItem name word hook) rule
 hook_put side name word false rule on = refl
-hook_put Left name word true rule on = ap (λ (left : List Item). let r : RuleForm = record { name = rule.name; left = left; right = rule.right } in r) (hooked-append rule.left name word)
+hook_put Left name word true rule on = ap (λ (left : List Item). let r : RuleForm = record { name = rule.name; params = rule.params; left = left; right = rule.right } in r) (hooked-append rule.left name word)
 hook_put Right name word true rule on = let other : Right ≡ Left = on refl in absurd cc
+
+abbrev all_behind : {version : ℕ} {hook_before : Bool} → List RuleForm → RuleForm → Items version hook_before Left → Held
+all_behind before rule items = behind (before ++ all Left rule items)
+
+declared_none : (rule : RuleForm) → declared [] rule ≡ rule
+declared_none rule = ap (λ (params : List ParamForm). let r : RuleForm = record { name = rule.name; params = params; left = rule.left; right = rule.right } in r) (append-nil rule.params)
+
+declared_more : (param : ParamForm) (params : List ParamForm) (rule : RuleForm) → declared params (with_param param rule) ≡ declared (param ∷ params) rule
+declared_more param params rule = ap (λ (all : List ParamForm). let r : RuleForm = record { name = rule.name; params = all; left = rule.left; right = rule.right } in r) (append_assoc rule.params (param ∷ []) params)
 
 -- ---- one mark
 
@@ -260,21 +320,143 @@ rule_name h k w place marks parts next moves rest =
     let e = free_word w (AtLeft h k) next moves in
     let behind : After (AtLeft h k) marks parts = subst (λ s. After s marks parts) (sym e.1) rest in
     let name = mention_at w place in
-    let rule : RuleForm = record { name = name; left = behind.items.left; right = behind.items.right } in
+    let rule : RuleForm = record { name = name; params = behind.params; left = behind.items.left; right = behind.items.right } in
     record {
       rule = rule;
       rules = behind.items.rules;
-      rule_good = (e.0, behind.items.left_good, behind.items.right_good, taken_left h.version behind.items.left behind.items.taken);
+      rule_good = record {
+        name = e.0;
+        params = behind.good;
+        left = behind.items.left_good;
+        right = behind.items.right_good;
+        few_hooks = taken_left h.version behind.items.left behind.items.taken;
+      };
       rules_good = behind.items.rules_good;
       same = ap (λ (ps : Parts). word (RuleWord k) (codes "rule") ∷ named name ∷ ps) behind.same;
-      held = λ before. rw e.0 (behind.held before (record { name = name; left = []; right = [] }) Nothing);
+      held = λ before. rw e.0 (behind.held before (record { name = name; params = []; left = []; right = [] }) Nothing);
     }
 
 left_word : (h : Heading) (k : ℕ) (w : List ℕ) (place : ℕ) (marks : List Mark) (parts : Parts) (next : State) → expect (codes "left") w (AtItem (left_spot h k)) ≡ Some next → After next marks parts → After (AtLeft h k) (mark_at (Word w) place ∷ marks) (part_in (AtLeft h k) (Word w) place ∷ parts)
 left_word h k w place marks parts next moves rest =
     let e = expected (codes "left") w (AtItem (left_spot h k)) next moves in
     let behind : After (AtItem (left_spot h k)) marks parts = subst (λ s. After s marks parts) (sym e.1) rest in
+    rw e.0 (record {
+      params = [];
+      good = tt;
+      items = behind.items;
+      same = ap (λ (ps : Parts). word Fixed (codes "left") ∷ ps) behind.same;
+      held = λ before rule part. behind.held before rule part ∙ ap (λ (r : RuleForm). all_behind before r behind.items) (sym (declared_none rule));
+    })
+
+body_word : (h : Heading) (k : ℕ) (w : List ℕ) (place : ℕ) (marks : List Mark) (parts : Parts) (next : State) → expect (codes "left") w (AtItem (left_spot h k)) ≡ Some next → After next marks parts → After (AtBody h k) (mark_at (Word w) place ∷ marks) (part_in (AtBody h k) (Word w) place ∷ parts)
+body_word h k w place marks parts next moves rest =
+    let e = expected (codes "left") w (AtItem (left_spot h k)) next moves in
+    let behind : After (AtItem (left_spot h k)) marks parts = subst (λ s. After s marks parts) (sym e.1) rest in
     rw e.0 (record { items = behind.items; same = ap (λ (ps : Parts). word Fixed (codes "left") ∷ ps) behind.same; held = behind.held })
+
+-- ---- parameters
+
+open_sign : (h : Heading) (k : ℕ) (s : List ℕ) (place : ℕ) (marks : List Mark) (parts : Parts) (next : State) → expect (codes "(") s (AtParam h k 0) ≡ Some next → After next marks parts
+    → After (AtLeft h k) (mark_at (Sign s) place ∷ marks) (part_in (AtLeft h k) (Sign s) place ∷ parts)
+open_sign h k s place marks parts next moves rest =
+    let e = expected (codes "(") s (AtParam h k 0) next moves in
+    let behind : After (AtParam h k 0) marks parts = subst (λ s. After s marks parts) (sym e.1) rest in
+    rw e.0 (record {
+      params = behind.param ∷ behind.params;
+      good = (behind.free, behind.good);
+      items = behind.items;
+      same = ap (λ (ps : Parts). sign Fixed (codes "(") ∷ ps) behind.same;
+      held = behind.held;
+    })
+
+param_name : (h : Heading) (k count : ℕ) (w : List ℕ) (place : ℕ) (marks : List Mark) (parts : Parts) (next : State) → unless_reserved w (AtColon h k (count + 1)) ≡ Some next → After next marks parts
+    → After (AtParam h k count) (mark_at (Word w) place ∷ marks) (part_in (AtParam h k count) (Word w) place ∷ parts)
+param_name h k count w place marks parts next moves rest =
+    let e = free_word w (AtColon h k (count + 1)) next moves in
+    let behind : After (AtColon h k (count + 1)) marks parts = subst (λ s. After s marks parts) (sym e.1) rest in
+    record {
+      param = record { name = mention_at w place; kind = behind.kind };
+      free = e.0;
+      params = behind.params;
+      good = behind.good;
+      items = behind.items;
+      same = ap (λ (ps : Parts). word (ParamName (count + 1) place) w ∷ ps) behind.same;
+      held = λ before rule part. rw e.0 (behind.held before rule (mention_at w place));
+    }
+
+colon_sign : (h : Heading) (k count : ℕ) (s : List ℕ) (place : ℕ) (marks : List Mark) (parts : Parts) (next : State) → expect (codes ":") s (AtKind h k count) ≡ Some next → After next marks parts
+    → After (AtColon h k count) (mark_at (Sign s) place ∷ marks) (part_in (AtColon h k count) (Sign s) place ∷ parts)
+colon_sign h k count s place marks parts next moves rest =
+    let e = expected (codes ":") s (AtKind h k count) next moves in
+    let behind : After (AtKind h k count) marks parts = subst (λ s. After s marks parts) (sym e.1) rest in
+    rw e.0 (record {
+      kind = behind.kind;
+      params = behind.params;
+      good = behind.good;
+      items = behind.items;
+      same = ap (λ (ps : Parts). sign Fixed (codes ":") ∷ ps) behind.same;
+      held = behind.held;
+    })
+
+kind_is : (w : List ℕ) (kind : Kind) → param_kind w ≡ Some kind → w ≡ kind_word kind
+kind_is w kind named = go (bytes_eq w (codes "bool")) refl
+  where
+    go : (b : Bool) → bytes_eq w (codes "bool") ≡ b → w ≡ kind_word kind
+    go true is =
+        let one : Some kinds.Bool ≡ Some kind = rw is at named in
+        let same : kinds.Bool ≡ kind = cc one in
+        (bytes_eq-Decides w (codes "bool")).0 is ∙ ap kind_word same
+    go false is = let other : kind_named w ≡ Some kind = rw is at named in (kind_spelled w kind other).0
+
+kind_read : (h : Heading) (k count : ℕ) (w : List ℕ) (place : ℕ) (marks : List Mark) (parts : Parts) (next : State) → option_map (λ (kind : Kind). AtComma h k count) (param_kind w) ≡ Some next → After next marks parts
+    → After (AtKind h k count) (mark_at (Word w) place ∷ marks) (part_in (AtKind h k count) (Word w) place ∷ parts)
+kind_read h k count w place marks parts next moves rest = go (param_kind w) refl
+  where
+    go : (found : Option Kind) → param_kind w ≡ found → After (AtKind h k count) (mark_at (Word w) place ∷ marks) (part_in (AtKind h k count) (Word w) place ∷ parts)
+    go None is = let none : None ≡ Some next = rw is at moves in absurd cc
+    go (Some kind) is =
+        let one : Some (AtComma h k count) ≡ Some next = rw is at moves in
+        let e : AtComma h k count ≡ next = cc one in
+        let behind : After (AtComma h k count) marks parts = subst (λ s. After s marks parts) (sym e) rest in
+        record {
+          kind = kind;
+          params = behind.params;
+          good = behind.good;
+          items = behind.items;
+          same = ap (λ (v : List ℕ). word Fixed v ∷ parts) (kind_is w kind is) ∙ ap (λ (ps : Parts). word Fixed (kind_word kind) ∷ ps) behind.same;
+          held = λ before rule name. rw (is) (behind.held before (with_param (record { name = name; kind = kind }) rule) Nothing
+              ∙ ap (λ (r : RuleForm). all_behind before r behind.items) (declared_more (record { name = name; kind = kind }) behind.params rule));
+        }
+
+comma_sign : (h : Heading) (k count : ℕ) (s : List ℕ) (place : ℕ) (marks : List Mark) (parts : Parts) (next : State) → comma_move h k count s ≡ Some next → After next marks parts
+    → After (AtComma h k count) (mark_at (Sign s) place ∷ marks) (part_in (AtComma h k count) (Sign s) place ∷ parts)
+comma_sign h k count s place marks parts next moves rest = go (bytes_eq s (codes ",")) refl
+  where
+    go : (b : Bool) → bytes_eq s (codes ",") ≡ b → After (AtComma h k count) (mark_at (Sign s) place ∷ marks) (part_in (AtComma h k count) (Sign s) place ∷ parts)
+    go true is =
+        let one : Some (AtParam h k count) ≡ Some next = rw is at moves in
+        let e : AtParam h k count ≡ next = cc one in
+        let behind : After (AtParam h k count) marks parts = subst (λ s. After s marks parts) (sym e) rest in
+        rw ((bytes_eq-Decides s (codes ",")).0 is) (record {
+          params = behind.param ∷ behind.params;
+          good = (behind.free, behind.good);
+          items = behind.items;
+          same = ap (λ (ps : Parts). sign Fixed (codes ",") ∷ ps) behind.same;
+          held = behind.held;
+        })
+    go false is =
+        let ends : expect (codes ")") s (AtBody h k) ≡ Some next = rw is at moves in
+        let e = expected (codes ")") s (AtBody h k) next ends in
+        let behind : After (AtBody h k) marks parts = subst (λ s. After s marks parts) (sym e.1) rest in
+        rw e.0 (record {
+          params = [];
+          good = tt;
+          items = behind.items;
+          same = ap (λ (ps : Parts). sign Fixed (codes ")") ∷ ps) behind.same;
+          held = λ before rule part. behind.held before rule part ∙ ap (λ (r : RuleForm). all_behind before r behind.items) (sym (declared_none rule));
+        })
+
+-- ---- items
 
 -- the items of the left side end
 right_word : (h : Heading) (k : ℕ) (count : Count) (hook_before : Bool) (w : List ℕ) (place : ℕ) (marks : List Mark) (parts : Parts) → w ≡ codes "right" → After (AtItem (right_spot (spot_at h k Left count hook_before))) marks parts
@@ -285,14 +467,14 @@ right_word h k count hook_before w place marks parts e behind =
       items = items;
       same = ap (λ (ps : Parts). word Fixed (codes "right") ∷ ps) behind.same;
       held = λ before rule part. behind.held before rule part
-          ∙ ap (λ (left : List Item). let r : RuleForm = record { name = rule.name; left = rule.left ++ left; right = rule.right ++ behind.items.right } in let h : Held = record { rules = before ++ r ∷ behind.items.rules; current = None; part = Nothing } in h) behind.items.on;
+          ∙ ap (λ (left : List Item). let r : RuleForm = record { name = rule.name; params = rule.params; left = rule.left ++ left; right = rule.right ++ behind.items.right } in let h : Held = record { rules = before ++ r ∷ behind.items.rules; current = None; part = Nothing } in h) behind.items.on;
     })
 
 -- nothing more stands on either side
 pub grown_nothing : (rule : RuleForm) → rule ≡ grown rule [] []
 grown_nothing rule =
-    ap (λ (left : List Item). let r : RuleForm = record { name = rule.name; left = left; right = rule.right } in r) (sym (append-nil rule.left))
-    ∙ ap (λ (right : List Item). let r : RuleForm = record { name = rule.name; left = rule.left ++ []; right = right } in r) (sym (append-nil rule.right))
+    ap (λ (left : List Item). let r : RuleForm = record { name = rule.name; params = rule.params; left = left; right = rule.right } in r) (sym (append-nil rule.left))
+    ∙ ap (λ (right : List Item). let r : RuleForm = record { name = rule.name; params = rule.params; left = rule.left ++ []; right = right } in r) (sym (append-nil rule.right))
 
 abbrev nothing_more : (version : ℕ) (hook_before : Bool) (rules : List RuleForm) → AllByRecursion (IsRule version) rules → Items version hook_before Right
 nothing_more version hook_before rules good = record { left = []; right = []; rules = rules; on = refl; left_good = tt; taken = tt; right_good = tt; rules_good = good }
@@ -526,6 +708,12 @@ step_is (AtRules h) (Word w) place marks parts next moves rest = first_rule h w 
 step_is (AtRules h) End place marks parts next moves rest = no_rules h place marks parts next moves rest
 step_is (AtName h k) (Word w) place marks parts next moves rest = rule_name h k w place marks parts next moves rest
 step_is (AtLeft h k) (Word w) place marks parts next moves rest = left_word h k w place marks parts next moves rest
+step_is (AtLeft h k) (Sign s) place marks parts next moves rest = open_sign h k s place marks parts next moves rest
+step_is (AtParam h k count) (Word w) place marks parts next moves rest = param_name h k count w place marks parts next moves rest
+step_is (AtColon h k count) (Sign s) place marks parts next moves rest = colon_sign h k count s place marks parts next moves rest
+step_is (AtKind h k count) (Word w) place marks parts next moves rest = kind_read h k count w place marks parts next moves rest
+step_is (AtComma h k count) (Sign s) place marks parts next moves rest = comma_sign h k count s place marks parts next moves rest
+step_is (AtBody h k) (Word w) place marks parts next moves rest = body_word h k w place marks parts next moves rest
 step_is (AtItem spot) (Word w) place marks parts next moves rest = item_word spot.heading spot.rules spot.side spot.count spot.hooked w place marks parts next moves rest
 step_is (AtItem spot) End place marks parts next moves rest = item_end spot.heading spot.rules spot.side spot.count spot.hooked place marks parts next moves rest
 step_is (AtSign spot name) (Sign s) place marks parts next moves rest = item_sign spot name s place marks parts next moves rest

@@ -1,4 +1,4 @@
--- How a book of rules without parameters, assignments and preconditions is written: the grammar of its texts with their limits and faults, the schema and the rules that a text stands for, and their one canonical text.
+-- How a book of rules without assignments and preconditions is written: the grammar of its texts with their limits and faults, the schema and the rules that a text stands for, and their one canonical text.
 use Rattle.std.specs.Prelude.{◌≡◌, ◌≢◌, ℕ, ◌+◌, ◌≤◌, ◌⊎◌, Bool, true, false, not, nat_eq, nat_lt, if◌then◌else◌, List, [], ◌∷◌, ◌++◌, length, map, filter, Option, Some, None, is_some, codes, decimal, IsTrue}
 use Rattle.std.specs.List.{flat_map, list_any, position_or_len, AllByRecursion, Contains}
 use Rattle.std.specs.Str.{bytes_eq}
@@ -7,15 +7,17 @@ use Rattle.gm_model.specs.declared.limit.LimitKind.TheVariants as limits
 use Rattle.gm_model.specs.declared.word.Letter.{Letter}
 use Rattle.gm_model.specs.declared.word.Letter.TheVariants as letters
 use Rattle.gm_model.specs.declared.rule.Link.{Link}
+use Rattle.gm_model.specs.declared.rule.Param.{Param}
 use Rattle.gm_model.specs.declared.rule.Side.{Side}
 use Rattle.gm_model.specs.declared.rule.Side.TheVariants.{Left, Right}
 use Rattle.gm_model.specs.declared.schema.Schema.{Schema}
+use Rattle.gm_model.specs.declared.value.Kind.{Kind}
 use Rattle.gm_model.specs.Symbols.{Symbol, Word, Numeral, Sign, Gone, End, Mark, symbols, marks_of}
 use Rattle.gm_model.specs.Names.{Mention, IsFree, is_among}
 use Rattle.gm_model.specs.Rules.{Rule, RuleNode, name_at}
 use Rattle.gm_model.specs.Reading.{Part, Begins, IsWithin, IsReadAs, TextEndsAt, LimitStandsAt, symbols_in}
 use Rattle.gm_text.specs.SchemaText as schemas
-use Rattle.gm_text.specs.SchemaText.{SchemaForm, schema_of, spell, is_again}
+use Rattle.gm_text.specs.SchemaText.{SchemaForm, schema_of, spell, is_again, kind_word}
 
 -- ---- what is written in a book
 
@@ -26,9 +28,15 @@ pub data Item : Type 0 where
   -- a link from a node with a label to a node
   LinkItem : Mention → ℕ → Mention → Item
 
+-- a parameter as it is declared
+pub record ParamForm : Type 0 where
+  pub name : Mention
+  pub kind : Kind
+
 -- a rule as it is written, before its names are looked up
 pub record RuleForm : Type 0 where
   pub name : Mention
+  pub params : List ParamForm
   pub left : List Item
   pub right : List Item
 
@@ -49,6 +57,10 @@ with_name names name = if is_among names name then names else names ++ name ∷ 
 
 abbrev pub names_of : List Mention → List (List ℕ)
 names_of mentions = map (λ (mention : Mention). mention.name) mentions
+
+-- the names that are declared as parameters, in order
+abbrev pub params_in : RuleForm → List Mention
+params_in rule = map (λ (param : ParamForm). param.name) rule.params
 
 -- the names that are mentioned as nodes, in order
 abbrev pub nodes_in : List Item → List Mention
@@ -100,6 +112,8 @@ pub data Role : Type 0 where
   RuleWord : ℕ → Role
   -- a name, at this place
   NameAt : ℕ → Role
+  -- the name of the parameter with this ordinal of its rule, at this place
+  ParamName : ℕ → ℕ → Role
   -- the sign behind a name that makes it a node, where the rule then has so many different nodes
   NodeSign : ℕ → Role
   -- the sign behind a name that makes it the beginning of a link, the one with this ordinal of its side
@@ -118,6 +132,7 @@ limit_of (LabelAt n) (Numeral i) = if nat_lt n i then Some limits.Label else Non
 limit_of (LetterAt n k) (Numeral i) = if nat_lt n i then Some limits.Label else (if nat_lt 8 k then Some limits.Word else None)
 limit_of (LetterAt n k) Gone = if nat_lt 8 k then Some limits.Word else None
 limit_of (NameAt place) (Word name) = if nat_lt 32 (length name) then Some limits.Name else None
+limit_of (ParamName k place) (Word name) = if nat_lt 32 (length name) then Some limits.Name else (if nat_lt 8 k then Some limits.Parameters else None)
 limit_of (RuleWord k) (Word word) = if nat_lt 256 k then Some limits.Rules else None
 limit_of (NodeSign k) (Sign sign) = if nat_lt 32 k then Some limits.Nodes else None
 limit_of (LinkSign k) (Sign sign) = if nat_lt 256 k then Some limits.Links else None
@@ -171,11 +186,26 @@ abbrev pub spell_items : ℕ → Side → Count → List Item → List (Part Rol
 spell_items n side count [] rest = rest
 spell_items n side count (item ∷ items) rest = spell_item n side count item (spell_items n side (count_after count item) items rest)
 
--- rule r left .. right ..
+-- v: vec3, the parameter with this ordinal
+abbrev pub spell_param : ℕ → ParamForm → List (Part Role) → List (Part Role)
+spell_param k param rest = word (ParamName k param.name.place) param.name.name ∷ sign Fixed (codes ":") ∷ word Fixed (kind_word param.kind) ∷ rest
+
+-- what stands behind so many parameters, these ones and the sign that ends them
+abbrev pub spell_more_params : ℕ → List ParamForm → List (Part Role) → List (Part Role)
+spell_more_params k [] rest = sign Fixed (codes ")") ∷ rest
+spell_more_params k (param ∷ params) rest = sign Fixed (codes ",") ∷ spell_param (k + 1) param (spell_more_params (k + 1) params rest)
+
+-- (v: vec3, w: int), and nothing where there is no parameter
+abbrev pub spell_params : List ParamForm → List (Part Role) → List (Part Role)
+spell_params [] rest = rest
+spell_params (param ∷ params) rest = sign Fixed (codes "(") ∷ spell_param 1 param (spell_more_params 1 params rest)
+
+-- rule r(v: vec3) left .. right ..
 abbrev pub spell_rule : ℕ → ℕ → RuleForm → List (Part Role) → List (Part Role)
 spell_rule n k rule rest =
-    word (RuleWord k) (codes "rule") ∷ named rule.name ∷ word Fixed (codes "left")
-    ∷ spell_items n Left no_count rule.left (word Fixed (codes "right") ∷ spell_items n Right (count_across (counted no_count rule.left)) rule.right rest)
+    word (RuleWord k) (codes "rule") ∷ named rule.name
+    ∷ spell_params rule.params (word Fixed (codes "left")
+    ∷ spell_items n Left no_count rule.left (word Fixed (codes "right") ∷ spell_items n Right (count_across (counted no_count rule.left)) rule.right rest))
 
 -- rules behind so many
 abbrev pub spell_rules : ℕ → ℕ → List RuleForm → List (Part Role) → List (Part Role)
@@ -199,9 +229,16 @@ IsItem Left (NodeItem node word hook) = IsFree node
 IsItem Right (NodeItem node word hook) = IsFree node × (hook ≡ false)
 IsItem side (LinkItem from label to) = IsFree from × IsFree to
 
+abbrev pub IsParam : ParamForm → Type 0
+IsParam param = IsFree param.name
+
 -- in version 1 a rule has one hook at most
-abbrev pub IsRule : ℕ → RuleForm → Type 0
-IsRule version rule = IsFree rule.name × AllByRecursion (IsItem Left) rule.left × AllByRecursion (IsItem Right) rule.right × (version ≡ 1 → hook_count rule.left ≤ 1)
+pub record IsRule (version : ℕ) (rule : RuleForm) : Type 0 where
+  pub name : IsFree rule.name
+  pub params : AllByRecursion IsParam rule.params
+  pub left : AllByRecursion (IsItem Left) rule.left
+  pub right : AllByRecursion (IsItem Right) rule.right
+  pub few_hooks : version ≡ 1 → hook_count rule.left ≤ 1
 
 abbrev pub IsForm : BookForm → Type 0
 IsForm book = ((book.version ≡ 1) ⊎ (book.version ≡ 2)) × schemas.IsForm book.schema × AllByRecursion (IsRule book.version) book.rules
@@ -213,6 +250,7 @@ IsSentence parts = (book : BookForm) × IsForm book × (parts ≡ spelling book)
 
 abbrev pub IsPlacedAt : ℕ → Role → Type 0
 IsPlacedAt place (NameAt named) = named ≡ place
+IsPlacedAt place (ParamName k named) = named ≡ place
 IsPlacedAt place (InSchema role) = schemas.IsPlacedAt place role
 IsPlacedAt place _ = Unit {0}
 
@@ -230,8 +268,6 @@ pub record IsWritten (text : List ℕ) (book : BookForm) : Type 0 where
 
 -- Behind these parts the symbol begins what books don't have so far.
 pub data IsLater (parts : List (Part Role)) : Symbol → Type 0 where
-  -- parameters, directly behind a rule's name, where else `left` stands
-  Parameters : Begins IsSentence limit_of (parts ++ word Fixed (codes "left") ∷ []) → IsLater parts (Sign (codes "("))
   -- an assignment, directly behind a right node
   Assignment : (front : List (Part Role)) → parts ≡ front ++ sign (WordEnd Right) (codes ">") ∷ [] → IsLater parts (Word (codes "with"))
   -- a precondition, where a rule can end
@@ -285,9 +321,10 @@ abbrev pub place_of : NameFault → ℕ
 place_of (TwiceAt place) = place
 place_of (UnknownAt place) = place
 
--- two rules of one name; or on one side of one rule two nodes of one name, or a link with a name that is no node
+-- two rules of one name; or in one rule two parameters of one name, or on one side of it two nodes of one name, or a link with a name that is no node
 pub data IsFaultInRules (rules : List RuleForm) : NameFault → Type 0 where
   RuleTwice : (place : ℕ) → IsAgain (map (λ (rule : RuleForm). rule.name) rules) place → IsFaultInRules rules (TwiceAt place)
+  ParamTwice : (rule : RuleForm) (place : ℕ) → Contains rules rule → IsAgain (params_in rule) place → IsFaultInRules rules (TwiceAt place)
   NodeTwice : (rule : RuleForm) (side : Side) (place : ℕ) → Contains rules rule → IsAgain (nodes_in (items_on rule side)) place → IsFaultInRules rules (TwiceAt place)
   NodeUnknown : (rule : RuleForm) (side : Side) (place : ℕ) → Contains rules rule → IsStranger (items_on rule side) place → IsFaultInRules rules (UnknownAt place)
 
@@ -334,10 +371,13 @@ hooks_in nodes (LinkItem from label to ∷ items) = hooks_in nodes items
 abbrev pub node_in : RuleForm → List ℕ → RuleNode
 node_in rule name = record { name = name; left = word_in rule.left name; right = word_in rule.right name; sets = [] }
 
+abbrev pub param_of : ParamForm → Param
+param_of param = record { name = param.name.name; kind = param.kind }
+
 abbrev pub rule_in : RuleForm → Rule
 rule_in rule = record {
   name = rule.name.name;
-  params = [];
+  params = map param_of rule.params;
   nodes = map (node_in rule) (nodes_of rule);
   left_links = links_in (nodes_of rule) rule.left;
   right_links = links_in (nodes_of rule) rule.right;
@@ -401,9 +441,18 @@ right_lines nodes =
 abbrev pub link_line : List RuleNode → Link → List ℕ
 link_line nodes link = name_at nodes link.from ++ codes " -" ++ decimal link.label ++ codes "- " ++ name_at nodes link.to ++ codes "\n"
 
+-- v: vec3
+abbrev pub param_text : Param → List ℕ
+param_text param = param.name ++ codes ": " ++ kind_word param.kind
+
+-- (v: vec3, w: int)
+abbrev pub params_text : List Param → List ℕ
+params_text [] = []
+params_text (param ∷ params) = codes "(" ++ param_text param ++ flat_map (λ other. codes ", " ++ param_text other) params ++ codes ")"
+
 abbrev pub rule_lines : Rule → List ℕ
 rule_lines rule =
-    codes "rule " ++ rule.name ++ codes "\nleft\n" ++ left_lines rule.hooks 0 rule.nodes ++ flat_map (link_line rule.nodes) rule.left_links
+    codes "rule " ++ rule.name ++ params_text rule.params ++ codes "\nleft\n" ++ left_lines rule.hooks 0 rule.nodes ++ flat_map (link_line rule.nodes) rule.left_links
     ++ codes "right\n" ++ right_lines rule.nodes ++ flat_map (link_line rule.nodes) rule.right_links
 
 abbrev pub canonical : ℕ → Schema → List Rule → List ℕ

@@ -8,6 +8,7 @@ use Rattle.gm_forms.specs.BookText.{NodeItem, LinkItem}
 use Rattle.gm_forms.specs.BookText as text
 use Rattle.gm_forms.specs.declared.form.Item.{Item}
 use Rattle.gm_forms.specs.declared.form.Item.TheVariants.{Node, Link}
+use Rattle.gm_forms.specs.declared.form.ParamForm.{ParamForm}
 use Rattle.gm_forms.specs.declared.form.RuleForm.{RuleForm}
 
 abbrev pub mention_of : List ℕ → Token → Mention
@@ -17,8 +18,11 @@ abbrev pub item_of : List ℕ → Item → text.Item
 item_of bytes (Node name word hook) = NodeItem (mention_of bytes name) word hook
 item_of bytes (Link from label to) = LinkItem (mention_of bytes from) label (mention_of bytes to)
 
+abbrev pub param_form_of : List ℕ → ParamForm → text.ParamForm
+param_form_of bytes param = record { name = mention_of bytes param.name; kind = param.kind }
+
 abbrev pub rule_form_of : List ℕ → RuleForm → text.RuleForm
-rule_form_of bytes rule = record { name = mention_of bytes rule.name; left = map (item_of bytes) rule.left.items; right = map (item_of bytes) rule.right.items }
+rule_form_of bytes rule = record { name = mention_of bytes rule.name; params = map (param_form_of bytes) rule.params.items; left = map (item_of bytes) rule.left.items; right = map (item_of bytes) rule.right.items }
 
 abbrev pub forms_of : List ℕ → List RuleForm → List text.RuleForm
 forms_of bytes rules = map (rule_form_of bytes) rules
@@ -31,8 +35,11 @@ abbrev pub IsItemIn : List ℕ → Item → Type 0
 IsItemIn bytes (Node name word hook) = IsIn bytes name
 IsItemIn bytes (Link from label to) = IsIn bytes from × IsIn bytes to
 
+abbrev pub IsParamIn : List ℕ → ParamForm → Type 0
+IsParamIn bytes param = IsIn bytes param.name
+
 abbrev pub IsRuleIn : List ℕ → RuleForm → Type 0
-IsRuleIn bytes rule = IsIn bytes rule.name × AllByRecursion (IsItemIn bytes) rule.left.items × AllByRecursion (IsItemIn bytes) rule.right.items
+IsRuleIn bytes rule = IsIn bytes rule.name × AllByRecursion (IsParamIn bytes) rule.params.items × AllByRecursion (IsItemIn bytes) rule.left.items × AllByRecursion (IsItemIn bytes) rule.right.items
 
 -- each token of the rules is a name in the text
 abbrev pub AreRulesIn : List ℕ → List RuleForm → Type 0

@@ -5,11 +5,13 @@ use Rattle.std.specs.Str.{bytes_eq}
 use Rattle.gm_model.specs.declared.limit.LimitKind.{LimitKind}
 use Rattle.gm_model.specs.declared.rule.Side.{Side}
 use Rattle.gm_model.specs.declared.rule.Side.TheVariants.{Left, Right}
+use Rattle.gm_model.specs.declared.value.Kind.{Kind}
+use Rattle.gm_model.specs.declared.value.Kind.TheVariants as kinds
 use Rattle.gm_model.specs.declared.word.Letter.{Letter}
 use Rattle.gm_model.specs.declared.word.Letter.TheVariants as letters
 use Rattle.gm_model.specs.Names.{reserved, Mention, is_among}
 use Rattle.gm_model.specs.Symbols.{Symbol, Word, Numeral, Sign, Gone, End, Mark}
-use Rattle.gm_forms.specs.BookText.{Item, NodeItem, LinkItem, RuleForm, Count, no_count, count_across, with_name, Role, Fixed, InSchema, RuleWord, NameAt, NodeSign, LinkSign, LetterAt, WordEnd, LabelAt, limit_of, stands_before}
+use Rattle.gm_forms.specs.BookText.{Item, NodeItem, LinkItem, ParamForm, RuleForm, Count, no_count, count_across, with_name, Role, Fixed, InSchema, RuleWord, NameAt, ParamName, NodeSign, LinkSign, LetterAt, WordEnd, LabelAt, limit_of, stands_before}
 use Rattle.gm_forms.specs.declared.state.Heading.{Heading}
 use Rattle.gm_text.specs.Machine as machine
 use Rattle.gm_text.specs.Nested.{Nested, Outside, Inside, Nesting}
@@ -33,6 +35,14 @@ pub data State : Type 0 where
   -- before the name of the rule with this ordinal, and behind it
   AtName : Heading → ℕ → State
   AtLeft : Heading → ℕ → State
+  -- before the name of a parameter behind so many of its rule
+  AtParam : Heading → ℕ → ℕ → State
+  -- behind the name of the parameter with this ordinal, before its kind, and behind it
+  AtColon : Heading → ℕ → ℕ → State
+  AtKind : Heading → ℕ → ℕ → State
+  AtComma : Heading → ℕ → ℕ → State
+  -- behind all parameters
+  AtBody : Heading → ℕ → State
   -- where an item can begin, and behind its first name
   AtItem : Spot → State
   AtSign : Spot → List ℕ → State
@@ -112,6 +122,7 @@ rules_role _ = Fixed
 abbrev pub role_at : State → Symbol → ℕ → Role
 role_at (AtRules heading) symbol place = rules_role symbol
 role_at (AtName heading k) symbol place = NameAt place
+role_at (AtParam heading k count) symbol place = ParamName (count + 1) place
 role_at (AtItem spot) symbol place = item_role spot symbol place
 role_at (AtSign spot name) symbol place = sign_role spot name symbol
 role_at (AtLetter spot k) symbol place = letter_role spot k symbol
@@ -147,12 +158,26 @@ abbrev pub end_move : Side → Option State
 end_move Left = None
 end_move Right = Some AtEnd
 
+-- the kind of a parameter with the word
+abbrev pub param_kind : List ℕ → Option Kind
+param_kind word = if bytes_eq word (codes "bool") then Some kinds.Bool else schema.kind_named word
+
+-- the next parameter, or the end of them
+abbrev pub comma_move : Heading → ℕ → ℕ → List ℕ → Option State
+comma_move heading k count sign = if bytes_eq sign (codes ",") then Some (AtParam heading k count) else expect (codes ")") sign (AtBody heading k)
+
 -- the state behind a symbol, where it can stand
 abbrev pub move : State → Symbol → Option State
 move (AtRules heading) (Word word) = expect (codes "rule") word (AtName heading 1)
 move (AtRules heading) End = Some AtEnd
 move (AtName heading k) (Word word) = unless_reserved word (AtLeft heading k)
 move (AtLeft heading k) (Word word) = expect (codes "left") word (AtItem (left_spot heading k))
+move (AtLeft heading k) (Sign sign) = expect (codes "(") sign (AtParam heading k 0)
+move (AtParam heading k count) (Word word) = unless_reserved word (AtColon heading k (count + 1))
+move (AtColon heading k count) (Sign sign) = expect (codes ":") sign (AtKind heading k count)
+move (AtKind heading k count) (Word word) = option_map (λ kind. AtComma heading k count) (param_kind word)
+move (AtComma heading k count) (Sign sign) = comma_move heading k count sign
+move (AtBody heading k) (Word word) = expect (codes "left") word (AtItem (left_spot heading k))
 move (AtItem spot) (Word word) = item_move spot word
 move (AtItem spot) End = end_move spot.side
 move (AtSign spot name) (Sign sign) = sign_move spot name sign
@@ -237,9 +262,8 @@ abbrev pub is_later_behind_items : Side → List ℕ → Bool
 is_later_behind_items Left word = false
 is_later_behind_items Right word = bytes_eq word (codes "pre")
 
--- the symbol begins parameters, an assignment or a precondition
+-- the symbol begins an assignment or a precondition
 abbrev pub is_later : State → Symbol → Bool
-is_later (AtLeft heading k) (Sign sign) = bytes_eq sign (codes "(")
 is_later (AtItem spot) (Word word) = is_later_behind_items spot.side word
 is_later (AtBehind spot) (Word word) = is_later_behind spot.side
   where
@@ -254,9 +278,11 @@ is_later_in _ symbol = false
 
 -- ---- what is held
 
--- an item of which a part was read
+-- a parameter or an item of which a part was read
 pub data Part : Type 0 where
   Nothing : Part
+  -- a parameter's name
+  Declared : Mention → Part
   -- its first name
   Named : Mention → Part
   -- a node's name and the letters of its word
@@ -306,7 +332,18 @@ close_side Left held = held
 close_side Right held = close_rule held
 
 abbrev pub open_rule : Mention → Held → Held
-open_rule name held = record held { current = Some (record { name = name; left = []; right = [] }) }
+open_rule name held = record held { current = Some (record { name = name; params = []; left = []; right = [] }) }
+
+abbrev pub with_param : ParamForm → RuleForm → RuleForm
+with_param param rule = record rule { params = rule.params ++ param ∷ [] }
+
+abbrev pub put_param : ParamForm → Held → Held
+put_param param held = record held { current = option_map (with_param param) held.current; part = Nothing }
+
+-- a parameter of which the name is read
+abbrev pub hold_kind : Kind → Held → Part → Held
+hold_kind kind held (Declared name) = put_param (record { name = name; kind = kind }) held
+hold_kind kind held part = held
 
 abbrev pub hold_item : Spot → List ℕ → ℕ → Held → Held
 hold_item spot word place held = if bytes_eq word (closing spot.side) then close_side spot.side held else record held { part = Named (mention_at word place) }
@@ -334,6 +371,8 @@ hold_link side to held part = held
 -- what is held behind a symbol that stands at a place
 abbrev pub hold : State → Symbol → ℕ → Held → Held
 hold (AtName heading k) (Word word) place held = open_rule (mention_at word place) held
+hold (AtParam heading k count) (Word word) place held = record held { part = Declared (mention_at word place) }
+hold (AtKind heading k count) (Word word) place held = option_map_or (λ (kind : Kind). hold_kind kind held held.part) (param_kind word) held
 hold (AtItem spot) (Word word) place held = hold_item spot word place held
 hold (AtItem spot) End place held = close_rule held
 hold (AtSign spot name) (Sign sign) place held = record held { part = hold_sign sign held.part }

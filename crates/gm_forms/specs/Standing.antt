@@ -19,7 +19,7 @@ use Rattle.gm_forms.specs.declared.state.Spot.{Spot as CodeSpot}
 use Rattle.gm_forms.specs.declared.state.State.{State as CodeState}
 use Rattle.gm_forms.specs.declared.state.State.TheVariants as code
 use Rattle.gm_forms.specs.Forms.{mention_of, rule_form_of, IsIn, IsRuleIn}
-use Rattle.gm_forms.specs.Reading.{Spot, State, AtRules, AtName, AtLeft, AtItem, AtSign, AtLetter, AtBehind, AtLabel, AtDash, AtTo, AtEnd, Whole, is_version, step, run, run_whole, is_later, is_later_in, Part, Nothing, Named, Lettered, Linked, Labelled, Held, nothing_held, put_item, hold, held_behind}
+use Rattle.gm_forms.specs.Reading.{Spot, State, AtRules, AtName, AtLeft, AtParam, AtColon, AtKind, AtComma, AtBody, AtItem, AtSign, AtLetter, AtBehind, AtLabel, AtDash, AtTo, AtEnd, Whole, is_version, step, run, run_whole, is_later, is_later_in, Part, Nothing, Declared, Named, Lettered, Linked, Labelled, Held, nothing_held, put_item, hold, held_behind}
 
 -- the state, the place of the mark before, and what is held
 pub record Stand : Type 0 where
@@ -66,6 +66,11 @@ abbrev pub state_of : List ℕ → List (List ℕ) → CodeState → State
 state_of text nodes (code.Rules heading) = AtRules heading
 state_of text nodes (code.Name heading rules) = AtName heading rules
 state_of text nodes (code.Left heading rules) = AtLeft heading rules
+state_of text nodes (code.Param heading rules count) = AtParam heading rules count
+state_of text nodes (code.Colon heading rules count name) = AtColon heading rules count
+state_of text nodes (code.Kind heading rules count name) = AtKind heading rules count
+state_of text nodes (code.Comma heading rules count) = AtComma heading rules count
+state_of text nodes (code.Body heading rules) = AtBody heading rules
 state_of text nodes (code.Item spot) = AtItem (spot_of nodes spot)
 state_of text nodes (code.Sign spot name) = AtSign (spot_of nodes spot) (bytes_of text name)
 state_of text nodes (code.Letter spot name word) = AtLetter (spot_of nodes spot) (length word)
@@ -75,6 +80,8 @@ state_of text nodes (code.Dash spot from label) = AtDash (spot_of nodes spot)
 state_of text nodes (code.To spot from label) = AtTo (spot_of nodes spot)
 
 abbrev pub part_of : List ℕ → CodeState → Part
+part_of text (code.Colon heading rules count name) = Declared (mention_of text name)
+part_of text (code.Kind heading rules count name) = Declared (mention_of text name)
 part_of text (code.Sign spot name) = Named (mention_of text name)
 part_of text (code.Letter spot name word) = Lettered (mention_of text name) word
 part_of text (code.Label spot from) = Linked (mention_of text from)
@@ -93,6 +100,8 @@ stand_in text nodes rules current state last = record { state = state_of text no
 
 -- the names that the state holds are in the text
 abbrev pub IsStateIn : List ℕ → CodeState → Type 0
+IsStateIn text (code.Colon heading rules count name) = IsIn text name
+IsStateIn text (code.Kind heading rules count name) = IsIn text name
 IsStateIn text (code.Sign spot name) = IsIn text name
 IsStateIn text (code.Letter spot name word) = IsIn text name
 IsStateIn text (code.Behind spot name word) = IsIn text name

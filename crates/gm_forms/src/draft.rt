@@ -1,11 +1,11 @@
 //! The rules of a book that are read so far.
 ghost use Rattle.std.specs.Prelude.{◌≡◌, List, ℕ, [], Some, OnOk, ◌++◌, None};
 ghost use Rattle.std.specs.Option.{option_map};
-ghost use Rattle.gm_forms.specs.Forms.{mention_of, item_of, rule_form_of, IsIn, IsItemIn, IsRuleIn};
-ghost use Rattle.gm_forms.specs.Reading.{with_item, listed};
+ghost use Rattle.gm_forms.specs.Forms.{mention_of, item_of, param_form_of, rule_form_of, IsIn, IsItemIn, IsParamIn, IsRuleIn};
+ghost use Rattle.gm_forms.specs.Reading.{with_item, with_param, listed};
 ghost use Rattle.gm_forms.specs.Standing.{rules_of, current_of, IsDraftIn};
 
-use crate::form::{Item, RuleForm};
+use crate::form::{Item, ParamForm, RuleForm};
 use gm_model::Side;
 use gm_text::Token;
 use std::alloc::{AllocFailed, Global};
@@ -33,13 +33,26 @@ impl Draft {
     pub fn open(&mut self, alloc: Global, name: Token)
         ensures rules { self.new.rules ≡ self.old.rules }
         ensures within { (text : List ℕ) → IsIn text name → IsDraftIn text self.old → IsDraftIn text self.new }
-        ensures current { (text : List ℕ) → current_of text self.new ≡ Some (record { name = mention_of text name; left = []; right = [] }) }
+        ensures current { (text : List ℕ) → current_of text self.new ≡ Some (record { name = mention_of text name; params = []; left = []; right = [] }) }
     {
         self.current = Some(RuleForm {
             name,
+            params: Vec::new(alloc),
             left: Vec::new(alloc),
             right: Vec::new(alloc),
         });
+    }
+
+    /// Lists a parameter of the rule that is read.
+    pub fn declare(&mut self, param: ParamForm) -> Result<(), AllocFailed<ParamForm>>
+        ensures rules { OnOk result (self.new.rules ≡ self.old.rules) }
+        ensures within { (text : List ℕ) → IsParamIn text param → IsDraftIn text self.old → OnOk result (IsDraftIn text self.new) }
+        ensures current { (text : List ℕ) → OnOk result (current_of text self.new ≡ option_map (with_param (param_form_of text param)) (current_of text self.old)) }
+    {
+        match &mut self.current {
+            None => Ok(()),
+            Some(rule) => rule.declare(param),
+        }
     }
 
     /// Lists an item on a side of the rule that is read.
@@ -68,6 +81,13 @@ impl Draft {
 }
 
 impl RuleForm {
+    fn declare(&mut self, param: ParamForm) -> Result<(), AllocFailed<ParamForm>>
+        ensures within { (text : List ℕ) → IsParamIn text param → IsRuleIn text self.old → OnOk result (IsRuleIn text self.new) }
+        ensures listed { (text : List ℕ) → OnOk result (rule_form_of text self.new ≡ with_param (param_form_of text param) (rule_form_of text self.old)) }
+    {
+        self.params.push(param)
+    }
+
     fn put(&mut self, side: Side, item: Item) -> Result<(), AllocFailed<Item>>
         ensures within { (text : List ℕ) → IsItemIn text item → IsRuleIn text self.old → OnOk result (IsRuleIn text self.new) }
         ensures listed { (text : List ℕ) → OnOk result (rule_form_of text self.new ≡ with_item side (item_of text item) (rule_form_of text self.old)) }

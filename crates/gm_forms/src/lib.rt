@@ -10,6 +10,7 @@ mod headers;
 mod key;
 mod letters;
 mod nodes;
+mod params;
 mod reader;
 mod signs;
 mod state;
@@ -17,7 +18,7 @@ mod tally;
 mod words;
 
 pub use first_pass::read_forms;
-pub use form::{Item, RuleForm};
+pub use form::{Item, ParamForm, RuleForm};
 pub use form_fault::FormFault;
 pub use headers::read_version;
 pub use key::NameKey;

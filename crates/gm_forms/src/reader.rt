@@ -12,7 +12,8 @@ use crate::draft::Draft;
 use crate::form::Item;
 use crate::form_fault::FormFault;
 use crate::nodes::Nodes;
-use crate::signs::{at_dash, at_number, at_parameters, at_sign, at_word_end, gone};
+use crate::params::{at_colon, at_comma, at_kind, at_open, at_param};
+use crate::signs::{at_dash, at_number, at_sign, at_word_end, gone};
 use crate::state::{Heading, Spot, State};
 use crate::tally::Tally;
 use crate::words::{is_reserved, reads};
@@ -20,7 +21,7 @@ use gm_model::{LimitKind, Side, Word};
 use gm_text::{Lexer, Token, TokenKind};
 use std::alloc::Global;
 
-const MOST_NAME_BYTES: usize = 32;
+pub const MOST_NAME_BYTES: usize = 32;
 
 /// What of a book is read so far, but for the item that is read.
 #[derive(Drop)]
@@ -111,6 +112,7 @@ impl<'a> Reader<'a> {
         Ok(State::Left(heading, rules))
     }
 
+    /// Behind a rule's name, or behind its parameters.
     #[tactic(auto, unfolding(crate::specs::Standing::stepped))]
     pub fn at_left(
         &mut self,
@@ -122,6 +124,8 @@ impl<'a> Reader<'a> {
         requires { IsToken lexer.now.text token }
         ensures moves { Moves lexer.now.text self.old.nodes self.old.draft (states.Left heading rules) (word_mark lexer.now.text token) result self.new.nodes self.new.draft }
         ensures within { KeepsIn lexer.now.text self.old.draft (states.Left heading rules) result self.new.draft }
+        ensures body_moves { Moves lexer.now.text self.old.nodes self.old.draft (states.Body heading rules) (word_mark lexer.now.text token) result self.new.nodes self.new.draft }
+        ensures body_within { KeepsIn lexer.now.text self.old.draft (states.Body heading rules) result self.new.draft }
     {
         if !reads(lexer, token, b"left") {
             return Err(FormFault::Text { place: token.start });
@@ -277,12 +281,15 @@ impl<'a> Reader<'a> {
             State::Rules(heading) => at_rules(lexer, token, heading),
             State::Name(heading, rules) => self.at_name(alloc, lexer, token, heading, rules),
             State::Left(heading, rules) => self.at_left(lexer, token, heading, rules),
+            State::Param(heading, rules, count) => at_param(lexer, token, heading, rules, count),
+            State::Kind(heading, rules, count, name) => {
+                at_kind(lexer, token, heading, rules, count, name, &mut self.draft)
+            }
+            State::Body(heading, rules) => self.at_left(lexer, token, heading, rules),
             State::Item(spot) => self.at_item(lexer, token, spot),
             State::Behind(spot, name, word) => self.at_behind(lexer, token, spot, name, word),
             State::To(spot, from, label) => self.at_to(lexer, token, spot, from, label),
-            State::Sign(..) | State::Letter(..) | State::Label(..) | State::Dash(..) => {
-                Err(FormFault::Text { place: token.start })
-            }
+            _ => Err(FormFault::Text { place: token.start }),
         }
     }
 
@@ -320,7 +327,11 @@ impl<'a> Reader<'a> {
         ensures within { KeepsIn lexer.now.text self.old.draft state result self.new.draft }
     {
         match state {
-            State::Left(heading, rules) => at_parameters(lexer, token, heading, rules),
+            State::Left(heading, rules) => at_open(lexer, token, heading, rules),
+            State::Colon(heading, rules, count, name) => {
+                at_colon(lexer, token, heading, rules, count, name)
+            }
+            State::Comma(heading, rules, count) => at_comma(lexer, token, heading, rules, count),
             State::Sign(spot, name) => at_sign(lexer, token, spot, name, last, &mut self.nodes),
             State::Letter(spot, name, word) => at_word_end(lexer, token, spot, name, word),
             State::Dash(spot, from, label) => at_dash(lexer, token, spot, from, label),

@@ -13,8 +13,7 @@ use crate::form_fault::FormFault;
 use crate::headers::value;
 use crate::letters::{no_letters, with_letter};
 use crate::nodes::Nodes;
-use crate::state::{Heading, Spot, State};
-use crate::tally::Tally;
+use crate::state::{Spot, State};
 use crate::words::reads;
 use gm_model::{Letter, LimitKind, MOST_NODES, Word};
 use gm_text::{Lexer, Token};
@@ -122,25 +121,6 @@ pub fn at_dash(
         return Err(FormFault::Text { place: token.start });
     }
     Ok(State::To(spot, from, label))
-}
-
-/// A sign behind a rule's name.
-#[tactic(auto, unfolding(crate::specs::Standing::stepped))]
-pub fn at_parameters(
-    lexer: &Lexer<'_>,
-    token: Token,
-    heading: Heading,
-    rules: Tally,
-) -> Result<State, FormFault>
-    requires { IsToken lexer.now.text token }
-    ensures leads { Leads lexer.now.text (states.Left heading rules) (sign_mark lexer.now.text token) result }
-    ensures within { StaysIn lexer.now.text (states.Left heading rules) result }
-{
-    let place = token.start;
-    if reads(lexer, token, b"(") {
-        return Err(FormFault::NotBuilt { place });
-    }
-    Err(FormFault::Text { place })
 }
 
 /// A node's sign behind its name, which stands at the place `last`.

@@ -50,6 +50,14 @@ pub enum State {
     /// Before the name of the rule with this ordinal, and behind it.
     Name(Heading, Tally),
     Left(Heading, Tally),
+    /// Before the name of a parameter behind so many of its rule.
+    Param(Heading, Tally, u8),
+    /// Behind the name of the parameter with this ordinal, before its kind, and behind it.
+    Colon(Heading, Tally, u8, Token),
+    Kind(Heading, Tally, u8, Token),
+    Comma(Heading, Tally, u8),
+    /// Behind all parameters.
+    Body(Heading, Tally),
     /// Where an item can begin, and behind its first name.
     Item(Spot),
     Sign(Spot, Token),

@@ -4,7 +4,9 @@ ghost use Rattle.std.specs.List.{list_any};
 ghost use Rattle.gm_model.specs.Names.{is_among, reserved};
 ghost use Rattle.gm_model.specs.Tokens.{bytes_of};
 ghost use Rattle.gm_text.specs.SchemaAnswers.{IsToken};
+ghost use Rattle.gm_forms.specs.Reading.{param_kind};
 
+use gm_model::Kind;
 use gm_text::{Lexer, Token};
 
 /// The words of the formats that no name can be.
@@ -25,6 +27,20 @@ pub fn is_reserved(word: &[u8]) -> bool
     ensures { result ≡ is_among reserved word.now }
 {
     is_among(&RESERVED, word)
+}
+
+/// The kind of a parameter with the word.
+pub fn kind_named(word: &[u8]) -> Option<Kind>
+    ensures { result ≡ param_kind word.now }
+{
+    match word {
+        b"bool" => Some(Kind::Bool),
+        b"int" => Some(Kind::Int),
+        b"vec2" => Some(Kind::Vec2),
+        b"vec3" => Some(Kind::Vec3),
+        b"rgb" => Some(Kind::Rgb),
+        _ => None,
+    }
 }
 
 fn is_among(words: &[&[u8]], word: &[u8]) -> bool

@@ -3,10 +3,10 @@ use Rattle.gm_forms.proofs.Behind.{moves_from, stays_at, stays_keeps_at}
 use Rattle.gm_forms.proofs.reader.Reader.sign.Goals as goal
 
 pub returns-in-Left-clause-moves : goal.returns-in-Left-clause-moves
-returns-in-Left-clause-moves c = stays_at c.args.lexer.now.text c.args.self.now.nodes c.args.self.now.draft (sign_mark c.args.lexer.now.text c.args.token) c.at_parameters.result c.in-Left.is c.at_parameters.ensures.leads c.args.last
+returns-in-Left-clause-moves c = stays_at c.args.lexer.now.text c.args.self.now.nodes c.args.self.now.draft (sign_mark c.args.lexer.now.text c.args.token) c.at_open.result c.in-Left.is c.at_open.ensures.leads c.args.last
 
 pub returns-in-Left-clause-within : goal.returns-in-Left-clause-within
-returns-in-Left-clause-within c = stays_keeps_at c.args.lexer.now.text c.args.self.now.draft c.at_parameters.result c.in-Left.is c.at_parameters.ensures.within
+returns-in-Left-clause-within c = stays_keeps_at c.args.lexer.now.text c.args.self.now.draft c.at_open.result c.in-Left.is c.at_open.ensures.within
 
 pub returns-in-Letter-clause-moves : goal.returns-in-Letter-clause-moves
 returns-in-Letter-clause-moves c = stays_at c.args.lexer.now.text c.args.self.now.nodes c.args.self.now.draft (sign_mark c.args.lexer.now.text c.args.token) c.at_word_end.result c.in-Letter.is c.at_word_end.ensures.leads c.args.last
@@ -28,3 +28,15 @@ returns-in-Sign-clause-moves c =
     let draft = c.args.self.now.draft in
     let text = c.args.lexer.now.text in
     moves_from c.args.last c.args.lexer.now.text c.args.self.now.nodes c.args.self.now.draft (sign_mark c.args.lexer.now.text c.args.token) c.at_sign.result c.at_sign.new.nodes draft c.in-Sign.is (c.at_sign.ensures.leads (rules_of text draft) (current_of text draft))
+
+pub returns-in-Colon-clause-moves : goal.returns-in-Colon-clause-moves
+returns-in-Colon-clause-moves c = stays_at c.args.lexer.now.text c.args.self.now.nodes c.args.self.now.draft (sign_mark c.args.lexer.now.text c.args.token) c.at_colon.result c.in-Colon.is c.at_colon.ensures.leads c.args.last
+
+pub returns-in-Colon-clause-within : goal.returns-in-Colon-clause-within
+returns-in-Colon-clause-within c = stays_keeps_at c.args.lexer.now.text c.args.self.now.draft c.at_colon.result c.in-Colon.is c.at_colon.ensures.within
+
+pub returns-in-Comma-clause-moves : goal.returns-in-Comma-clause-moves
+returns-in-Comma-clause-moves c = stays_at c.args.lexer.now.text c.args.self.now.nodes c.args.self.now.draft (sign_mark c.args.lexer.now.text c.args.token) c.at_comma.result c.in-Comma.is c.at_comma.ensures.leads c.args.last
+
+pub returns-in-Comma-clause-within : goal.returns-in-Comma-clause-within
+returns-in-Comma-clause-within c = stays_keeps_at c.args.lexer.now.text c.args.self.now.draft c.at_comma.result c.in-Comma.is c.at_comma.ensures.within

@@ -37,3 +37,21 @@ returns-in-To-clause-moves c = moves_at c.args.lexer.now.text c.args.self.now.no
 
 pub returns-in-To-clause-within : goal.returns-in-To-clause-within
 returns-in-To-clause-within c = keeps_in_at c.args.lexer.now.text c.args.self.now.draft c.at_to.result c.at_to.new.self.draft c.in-To.is c.at_to.ensures.within
+
+pub returns-in-Param-clause-moves : goal.returns-in-Param-clause-moves
+returns-in-Param-clause-moves c = stays_at c.args.lexer.now.text c.args.self.now.nodes c.args.self.now.draft (word_mark c.args.lexer.now.text c.args.token) c.at_param.result c.in-Param.is c.at_param.ensures.leads
+
+pub returns-in-Param-clause-within : goal.returns-in-Param-clause-within
+returns-in-Param-clause-within c = stays_keeps_at c.args.lexer.now.text c.args.self.now.draft c.at_param.result c.in-Param.is c.at_param.ensures.within
+
+pub returns-in-Kind-clause-moves : goal.returns-in-Kind-clause-moves
+returns-in-Kind-clause-moves c = moves_at c.args.lexer.now.text c.args.self.now.nodes c.args.self.now.draft (word_mark c.args.lexer.now.text c.args.token) c.at_kind.result c.args.self.now.nodes c.at_kind.new.draft c.in-Kind.is (c.at_kind.ensures.moves c.args.self.now.nodes)
+
+pub returns-in-Kind-clause-within : goal.returns-in-Kind-clause-within
+returns-in-Kind-clause-within c = keeps_in_at c.args.lexer.now.text c.args.self.now.draft c.at_kind.result c.at_kind.new.draft c.in-Kind.is c.at_kind.ensures.within
+
+pub returns-in-Body-clause-moves : goal.returns-in-Body-clause-moves
+returns-in-Body-clause-moves c = moves_at c.args.lexer.now.text c.args.self.now.nodes c.args.self.now.draft (word_mark c.args.lexer.now.text c.args.token) c.at_left-2.result c.at_left-2.new.self.nodes c.at_left-2.new.self.draft c.in-Body.is c.at_left-2.ensures.body_moves
+
+pub returns-in-Body-clause-within : goal.returns-in-Body-clause-within
+returns-in-Body-clause-within c = keeps_in_at c.args.lexer.now.text c.args.self.now.draft c.at_left-2.result c.at_left-2.new.self.draft c.in-Body.is c.at_left-2.ensures.body_within

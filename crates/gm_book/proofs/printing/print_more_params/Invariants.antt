@@ -1,0 +1,7 @@
+use Rattle.std.proofs.Common.{◌≡◌, ◌++◌, take, codes}
+use Rattle.std.specs.List.{flat_map}
+use Rattle.gm_forms.specs.BookText.{param_text}
+use Rattle.gm_book.proofs.printing.print_more_params.Given as goal
+
+abbrev pub invariant-loop-param : goal.invariant-loop-param
+invariant-loop-param l = l.text ≡ l.fn.text ++ flat_map (λ param. codes ", " ++ param_text param) (take l.param-index l.params)
