@@ -159,9 +159,11 @@ module _ (n : ℕ) where
 
   rules_follow : (k : ℕ) (rules : List RuleForm) → Follows (spell_rules n k rules (the_end ∷ [])) (uses_of rules)
   rules_follow k [] low rise = tt
-  rules_follow k (rule ∷ rules) low (here, rise) =
-      (here, params_follow rule.params _ (uses_in_sides rule (uses_of rules))
-      (items_follow Left no_count rule.left _ _ (items_follow Right (count_across (counted no_count rule.left)) rule.right _ (uses_of rules) (rules_follow (k + 1) rules))) (suc rule.name.place) rise)
+  rules_follow k (rule ∷ rules) low (here, rise) = (
+    here,
+    params_follow rule.params _ (uses_in_sides rule (uses_of rules))
+        (items_follow Left no_count rule.left _ _ (items_follow Right (count_across (counted no_count rule.left)) rule.right _ (uses_of rules) (rules_follow (k + 1) rules))) (suc rule.name.place) rise,
+  )
 
 schema_follows : (parts : List (Part schemas.Role)) (rest : List (Part Role)) (uses : List NameUse) → Follows rest uses → Follows (map in_schema parts ++ rest) (uses_in_schema parts uses)
 schema_follows [] rest uses later low rise = later low rise

@@ -32,11 +32,7 @@ pub struct Reader<'a> {
 
 /// Behind the header, where the first rule can begin.
 #[tactic(auto, unfolding(crate::specs::Standing::stepped))]
-pub fn at_rules(
-    lexer: &Lexer<'_>,
-    token: Token,
-    heading: Heading,
-) -> Result<State, FormFault>
+pub fn at_rules(lexer: &Lexer<'_>, token: Token, heading: Heading) -> Result<State, FormFault>
     requires { IsToken lexer.now.text token }
     ensures leads { Leads lexer.now.text (states.Rules heading) (word_mark lexer.now.text token) result }
     ensures within { StaysIn lexer.now.text (states.Rules heading) result }

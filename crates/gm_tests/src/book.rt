@@ -66,13 +66,7 @@ fn is_printable(schema: &Schema, rule: &RuleTable) -> bool
     ensures numbers { IsTrue result → NamesItsNodes (rule_of rule.now) }
     ensures plain { IsTrue result → IsPlain (rule_of rule.now) }
 {
-    has_no_params(rule) && is_fit(schema, rule)
-}
-
-fn has_no_params(rule: &RuleTable) -> bool
-    ensures { IsTrue result → rule.now.params ≡ [] }
-{
-    rule.params.as_slice().is_empty()
+    is_fit(schema, rule)
 }
 
 fn book(rt: &impl Abort, alloc: Global) -> Result<Book, Fail>

@@ -51,7 +51,7 @@ pub returns-in-Kind-clause-within : goal.returns-in-Kind-clause-within
 returns-in-Kind-clause-within c = keeps_in_at c.args.lexer.now.text c.args.self.now.draft c.at_kind.result c.at_kind.new.draft c.in-Kind.is c.at_kind.ensures.within
 
 pub returns-in-Body-clause-moves : goal.returns-in-Body-clause-moves
-returns-in-Body-clause-moves c = moves_at c.args.lexer.now.text c.args.self.now.nodes c.args.self.now.draft (word_mark c.args.lexer.now.text c.args.token) c.at_left-2.result c.at_left-2.new.self.nodes c.at_left-2.new.self.draft c.in-Body.is c.at_left-2.ensures.body_moves
+returns-in-Body-clause-moves c = moves_at c.args.lexer.now.text c.args.self.now.nodes c.args.self.now.draft (word_mark c.args.lexer.now.text c.args.token) c.at_left-in-Body.result c.at_left-in-Body.new.self.nodes c.at_left-in-Body.new.self.draft c.in-Body.is c.at_left-in-Body.ensures.body_moves
 
 pub returns-in-Body-clause-within : goal.returns-in-Body-clause-within
-returns-in-Body-clause-within c = keeps_in_at c.args.lexer.now.text c.args.self.now.draft c.at_left-2.result c.at_left-2.new.self.draft c.in-Body.is c.at_left-2.ensures.body_within
+returns-in-Body-clause-within c = keeps_in_at c.args.lexer.now.text c.args.self.now.draft c.at_left-in-Body.result c.at_left-in-Body.new.self.draft c.in-Body.is c.at_left-in-Body.ensures.body_within
