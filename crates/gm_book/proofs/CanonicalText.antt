@@ -15,7 +15,7 @@ use Rattle.gm_model.specs.declared.value.Kind.TheVariants as kinds
 use Rattle.gm_model.specs.declared.rule.Side.{Side}
 use Rattle.gm_model.specs.declared.rule.Side.TheVariants.{Left, Right}
 use Rattle.gm_model.specs.Symbols.{Symbol, Word, Sign, Mark}
-use Rattle.gm_model.specs.Tokens.{IsLexeme, is_name_byte}
+use Rattle.gm_model.specs.Tokens.{IsLexeme, begins_two_byte_sign, is_name_byte}
 use Rattle.gm_model.specs.Reading.{Part, symbols_in}
 use Rattle.gm_model.specs.Rules.{Rule, RuleNode, has_word, word_on, links_on, name_at}
 use Rattle.gm_forms.specs.BookText.{Role, Fixed, the_end, word, no_count, counted, count_across, left_lines, right_line, right_lines, link_line, param_text, params_text, rule_lines, spell_items, spell_more_params, spell_params, spell_rule, spell_rules}
@@ -121,13 +121,21 @@ param_symbols param more good stops =
 abbrev more_params_text : List Param → List ℕ → List ℕ
 more_params_text params more = flat_map (λ (param : Param). codes ", " ++ param_text param) params ++ 41 ∷ more
 
+open_alone : (rest : List ℕ) → begins_two_byte_sign 40 rest ≡ false
+open_alone [] = refl
+open_alone (b ∷ rest) = refl
+
+close_alone : (rest : List ℕ) → begins_two_byte_sign 41 rest ≡ false
+close_alone [] = refl
+close_alone (b ∷ rest) = refl
+
 more_params_stop : (params : List Param) (more : List ℕ) → Stops is_name_byte (more_params_text params more)
 more_params_stop [] more = refl
 more_params_stop (param ∷ params) more = refl
 
 more_params_symbols : (k : ℕ) (params : List Param) (marks : List Mark) (more : List ℕ) (parts : List (Part Role)) → AllByRecursion IsGoodParam params → symbols_from more ≡ symbols_in parts
     → symbols_from (more_params_text params more) ≡ symbols_in (spell_more_params k (params_at marks params) parts)
-more_params_symbols k [] marks more parts good rest = symbols_from-sign 41 more refl refl ∙ ap (λ (s : List Symbol). Sign (codes ")") ∷ s) rest
+more_params_symbols k [] marks more parts good rest = symbols_from-sign 41 more refl (close_alone more) ∙ ap (λ (s : List Symbol). Sign (codes ")") ∷ s) rest
 more_params_symbols k (param ∷ params) marks more parts good rest =
     let behind_it = more_params_text params more in
     let regrouped : more_params_text (param ∷ params) more ≡ 44 ∷ 32 ∷ (param_text param ++ behind_it) = ap (λ (bytes : List ℕ). 44 ∷ 32 ∷ bytes) (append_assoc (param_text param) (flat_map (λ (other : Param). codes ", " ++ param_text other) params) (41 ∷ more)) in
@@ -148,11 +156,9 @@ params_symbols : (params : List Param) (marks : List Mark) (more : List ℕ) (pa
 params_symbols [] marks more parts good rest = rest
 params_symbols (param ∷ params) marks more parts good rest =
     let behind_it = more_params_text params more in
-    let regrouped : params_text (param ∷ params) ++ more ≡ 40 ∷ (param_text param ++ behind_it) =
-    ap (λ (bytes : List ℕ). 40 ∷ bytes) (append_assoc (param_text param) (flat_map (λ (other : Param). codes ", " ++ param_text other) params ++ codes ")") more
-    ∙ ap (λ (bytes : List ℕ). param_text param ++ bytes) (append_assoc (flat_map (λ (other : Param). codes ", " ++ param_text other) params) (codes ")") more)) in
+    let regrouped : params_text (param ∷ params) ++ more ≡ 40 ∷ (param_text param ++ behind_it) = simp append_assoc in
     ap symbols_from regrouped
-    ∙ symbols_from-sign 40 (param_text param ++ behind_it) refl refl
+    ∙ symbols_from-sign 40 (param_text param ++ behind_it) refl (open_alone (param_text param ++ behind_it))
     ∙ ap (λ (s : List Symbol). Sign (codes "(") ∷ s)
     (param_symbols param behind_it good.0 (more_params_stop params more)
     ∙ ap (λ (s : List Symbol). Word param.name ∷ Sign (codes ":") ∷ Word (kind_word param.kind) ∷ s) (more_params_symbols 1 params (behind_param marks) more parts good.1 rest))
@@ -216,7 +222,7 @@ module _ (n : ℕ) where
         ∙ symbols_from-word_blank (codes "left") 10 (left ++ (codes "right\n" ++ (right ++ more))) (refl, refl) refl
         ∙ ap (λ (s : List Symbol). Word (codes "left") ∷ s)
         (ap (λ bytes. symbols_from (bytes ++ (codes "right\n" ++ (right ++ more)))) (left_side rule)
-        ∙ lines_symbols n low Left (lines_of rule Left) no_count (left_marks rule marks) (codes "right\n" ++ (right ++ more)) _ (good_lines rule Left ok) behind_left)))))
+        ∙ lines_symbols n low Left (lines_of rule Left) no_count (left_marks rule marks) (codes "right\n" ++ (right ++ more)) _ (good_lines rule Left ok) behind_left))))
 
     pub rules_symbols : (k : ℕ) (rules : List Rule) (marks : List Mark) → AllByRecursion (IsWritable n) rules → symbols_from (flat_map rule_lines rules) ≡ symbols_in (spell_rules n k (forms_at marks rules) (the_end ∷ []))
     rules_symbols k [] marks ok = symbols_from-end

@@ -7,9 +7,9 @@ ghost use Rattle.gm_book.specs.Building.{HasNoFaultInRules, IsFaultOfNames};
 ghost use Rattle.gm_forms.specs.Forms.{IsRuleIn, AreRulesIn, rule_form_of, forms_of};
 
 use crate::fault::BookFault;
-use gm_forms::RuleForm;
 use crate::names::name_fault;
 use crate::table::table;
+use gm_forms::RuleForm;
 use gm_model::{Book, Items, OutOfMemory, RuleTable, Schema};
 use std::alloc::Global;
 

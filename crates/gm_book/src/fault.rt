@@ -1,7 +1,7 @@
 ghost use Rattle.std.specs.Prelude.{◌≡◌};
 
-use gm_forms::FormFault;
 use crate::names::NameFault;
+use gm_forms::FormFault;
 use gm_model::{LimitKind, OutOfMemory};
 use gm_text::SchemaFault;
 use std::alloc::{AllocError, AllocFailed};

@@ -7,9 +7,7 @@ ghost use Rattle.gm_text.specs.SchemaText.{kind_word};
 ghost use Rattle.gm_forms.specs.BookText.{canonical, param_text, params_text, rule_lines, left_lines, right_line, right_lines, link_line, node_line, letters_text, letter_text};
 ghost use Rattle.gm_book.specs.Printing.{CanBePrinted, NamesItsNodes, AreEndsNodes, left_line, is_left};
 
-use gm_model::{
-    Book, Kind, Letter, Link, Name, Node, OutOfMemory, Param, RuleTable, Schema, Word,
-};
+use gm_model::{Book, Kind, Letter, Link, Name, Node, OutOfMemory, Param, RuleTable, Schema, Word};
 use gm_text::{Text, print_schema};
 use std::alloc::Global;
 

@@ -7,8 +7,8 @@ ghost use Rattle.gm_model.specs.Rules.{node_of, rule_of};
 ghost use Rattle.gm_forms.specs.Forms.{IsIn, IsItemIn, IsParamIn, IsRuleIn, mention_of, item_of, param_form_of, rule_form_of};
 ghost use Rattle.gm_forms.specs.Held.{names_at, names_held};
 
-use gm_forms::{Item, NameKey, ParamForm, RuleForm};
 use crate::names::{bytes_in, take_in_nodes};
+use gm_forms::{Item, NameKey, ParamForm, RuleForm};
 use gm_model::{Items, Link, Name, Node, OutOfMemory, Param, RuleTable, Word};
 use gm_text::Token;
 use indexmap::IndexSet;

@@ -25,4 +25,4 @@ returns-clause-good c =
     let text = c.args.text.now in
     let rule = c.args.rule.now in
     subst (AllByRecursion IsName) (sym (all_taken c))
-    (good_items text rule.right.items _ (good_items text rule.left.items [] tt c.requires.within.1) c.requires.within.2)
+    (good_items text rule.right.items _ (good_items text rule.left.items [] tt c.requires.within.2) c.requires.within.3)
