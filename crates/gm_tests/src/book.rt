@@ -61,7 +61,7 @@ const SEW: RuleRow = RuleRow {
     right_links: &[(0, 2, 1)],
 };
 
-/// Whether the rule is in range, and has no parameters and no expressions.
+/// Whether the rule is in range, and has no expressions.
 fn is_printable(schema: &Schema, rule: &RuleTable) -> bool
     ensures numbers { IsTrue result → NamesItsNodes (rule_of rule.now) }
     ensures plain { IsTrue result → IsPlain (rule_of rule.now) }

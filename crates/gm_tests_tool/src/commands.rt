@@ -284,7 +284,7 @@ fn words_that_are_no_command(rt: HostRuntime) -> Result<(), Fail> {
     expect_each(&rt, &rt, &NO_COMMANDS, &USAGE)
 }
 
-const BOOKS: [Case; 12] = [
+const BOOKS: [Case; 13] = [
     Case {
         text: "book 1 dim 2 embed pos <2 1> vec3 embed w <> int rule keep left a <0 1> hook right a <0 1>",
         status: 0,
@@ -345,6 +345,11 @@ const BOOKS: [Case; 12] = [
         status: 0,
         put: "book 2\ndim 1\nrule r\nleft\na <> hook\nb <>\nc <> hook\nd <> hook\nb -0- a\nright\n",
     },
+    Case {
+        text: "book 1 dim 2 rule move(v: vec3, w :int,b:bool) left right",
+        status: 0,
+        put: "book 1\ndim 2\nrule move(v: vec3, w: int, b: bool)\nleft\nright\n",
+    },
 ];
 
 #[test]
@@ -352,7 +357,7 @@ fn books_printed(rt: HostRuntime) -> Result<(), Fail> {
     expect_each(&rt, &rt, &["book BOOK"], &BOOKS)
 }
 
-const NO_BOOKS: [Case; 29] = [
+const NO_BOOKS: [Case; 31] = [
     Case {
         text: "",
         status: 4,
@@ -469,9 +474,19 @@ const NO_BOOKS: [Case; 29] = [
         put: "refused BOOK not-built 52\n",
     },
     Case {
-        text: "book 1 dim 2 rule move(v: vec3) left right",
+        text: "book 1 dim 2 rule move(v: vec3, v :int) left right",
         status: 4,
-        put: "refused BOOK not-built 22\n",
+        put: "refused BOOK twice 32\n",
+    },
+    Case {
+        text: "book 1 dim 2 rule m(a:int,b:int,c:int,d:int,e:int,f:int,g:int,h:int,i:int) left right",
+        status: 4,
+        put: "refused BOOK limit parameters 68\n",
+    },
+    Case {
+        text: "book 1 dim 2 rule m() left right",
+        status: 4,
+        put: "refused BOOK text 20\n",
     },
     Case {
         text: "book 1 dim 2 rule r left a <> hook right a <> with pos = 1",
