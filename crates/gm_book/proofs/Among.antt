@@ -34,7 +34,7 @@ among_with names name x = elim (cases_Bool (is_among names name)) [
 
 pub among_items : (items : List Item) (names : List (List ℕ)) (x : List ℕ) → is_among (with_items names items) x ≡ (is_among names x || is_among (names_of (nodes_in items)) x)
 among_items [] names x = or_false (is_among names x)
-among_items (NodeItem node word hook ∷ items) names x =
+among_items (NodeItem node word hook sets ∷ items) names x =
     among_items items (with_name names node.name) x
     ∙ (ap (λ b. b || is_among (names_of (nodes_in items)) x) (among_with names node.name x) ∙ or_regroup (is_among names x) (bytes_eq x node.name) (is_among (names_of (nodes_in items)) x))
 among_items (LinkItem from label to ∷ items) names x = among_items items names x

@@ -54,8 +54,8 @@ right_lines_fit x (node ∷ nodes) lines rest = go node.right (right_lines_fit (
 
 hooks_counted : (names : List (List ℕ)) (items : List Item) → hook_count items ≡ length (hooks_in names items)
 hooks_counted names [] = refl
-hooks_counted names (NodeItem node word true ∷ items) = omega (arith, hooks_counted names items)
-hooks_counted names (NodeItem node word false ∷ items) = hooks_counted names items
+hooks_counted names (NodeItem node word true sets ∷ items) = omega (arith, hooks_counted names items)
+hooks_counted names (NodeItem node word false sets ∷ items) = hooks_counted names items
 hooks_counted names (LinkItem from label to ∷ items) = hooks_counted names items
 
 -- a rule has as many hooks as its form
@@ -97,8 +97,8 @@ longer names name = elim (cases_Bool (is_among names name)) [
 
 few_before : (items : List Item) (count : Count) → AreFew (counted count items) → AreFew count
 few_before [] count few = few
-few_before (NodeItem node word hook ∷ items) count few =
-    let next = few_before items (count_after count (NodeItem node word hook)) few in
+few_before (NodeItem node word hook sets ∷ items) count few =
+    let next = few_before items (count_after count (NodeItem node word hook sets)) few in
     record { nodes = omega (arith, next.nodes, longer count.nodes node.name); links = next.links }
 few_before (LinkItem from label to ∷ items) count few =
     let next = few_before items (count_after count (LinkItem from label to)) few in

@@ -29,7 +29,7 @@ seen_after seen (name ∷ names) = seen_after (with_name seen name) names
 
 pub counted_seen : (count : Count) (items : List Item) → (counted count items).nodes ≡ seen_after count.nodes (names_of (nodes_in items))
 counted_seen count [] = refl
-counted_seen count (NodeItem node word hook ∷ items) = counted_seen (count_after count (NodeItem node word hook)) items
+counted_seen count (NodeItem node word hook sets ∷ items) = counted_seen (count_after count (NodeItem node word hook sets)) items
 counted_seen count (LinkItem from label to ∷ items) = counted_seen (count_after count (LinkItem from label to)) items
 
 pub seen_new : (seen names : List (List ℕ)) → AreNew seen names → seen_after seen names ≡ seen ++ names

@@ -10,20 +10,8 @@ use Rattle.gm_model.specs.declared.word.Letter.TheVariants.{At, Gone}
 use Rattle.gm_forms.specs.BookText.{Item, NodeItem, LinkItem, ParamForm, RuleForm, Count, Role, with_name, counted, count_after, count_across, no_count, nodes_of, limit_of, spell_letters, spell_hook, spell_items, spell_more_params, spell_params, spell_rule, spell_rules, IsSentence}
 use Rattle.gm_model.specs.Reading.{Part, IsWithin}
 use Rattle.gm_model.specs.Structure.{HasLabelsUpTo}
+use Rattle.gm_book.specs.Fitting.{IsLowItem, IsFitting}
 use Rattle.gm_book.proofs.RuleNames.{names_counted}
-
--- the labels of the item are at most n
-abbrev pub IsLowItem : ℕ → Item → Type 0
-IsLowItem n (NodeItem node word hook) = HasLabelsUpTo n word
-IsLowItem n (LinkItem from label to) = label ≤ n
-
--- the parts of the rule pass no limit
-pub record IsFitting (n : ℕ) (rule : RuleForm) : Type 0 where
-  pub nodes : length (nodes_of rule) ≤ 32
-  pub left_links : (counted no_count rule.left).links ≤ 256
-  pub right_links : (counted no_count rule.right).links ≤ 256
-  pub left : AllByRecursion (IsLowItem n) rule.left
-  pub right : AllByRecursion (IsLowItem n) rule.right
 
 abbrev Within : List (Part Role) → Type 0
 Within parts = AllByRecursion (λ (part : Part Role). limit_of part.role part.symbol ≡ None) parts
@@ -52,10 +40,10 @@ hook_within false rest h = h
 items_within : (n : ℕ) (side : Side) (items : List Item) (count : Count) (rest : List (Part Role)) → Within (spell_items n side count items rest)
     → length count.nodes ≤ 32 → count.links ≤ 256 → (length (counted count items).nodes ≤ 32) × ((counted count items).links ≤ 256) × AllByRecursion (IsLowItem n) items × Within rest
 items_within n side [] count rest h nodes links = (nodes, links, tt, h)
-items_within n side (NodeItem node word hook ∷ items) count rest h nodes links =
+items_within n side (NodeItem node word hook sets ∷ items) count rest h nodes links =
     let more : length (with_name count.nodes node.name) ≤ 32 = not_passed 32 _ _ _ h.1.0 in
     let letters = letters_within n 0 word _ h.1.1 in
-    let behind = items_within n side items (count_after count (NodeItem node word hook)) rest (hook_within hook _ letters.1.1) more links in
+    let behind = items_within n side items (count_after count (NodeItem node word hook sets)) rest (hook_within hook _ letters.1.1) more links in
     (behind.0, behind.1, (letters.0, behind.2), behind.3)
 items_within n side (LinkItem from label to ∷ items) count rest h nodes links =
     let more : count.links + 1 ≤ 256 = not_passed 256 _ _ _ h.1.0 in
@@ -66,7 +54,7 @@ items_within n side (LinkItem from label to ∷ items) count rest h nodes links 
 -- the count of links takes no notice of the nodes
 same_links : (items : List Item) (a b : Count) → a.links ≡ b.links → (counted a items).links ≡ (counted b items).links
 same_links [] a b e = e
-same_links (NodeItem node word hook ∷ items) a b e = same_links items (count_after a (NodeItem node word hook)) (count_after b (NodeItem node word hook)) e
+same_links (NodeItem node word hook sets ∷ items) a b e = same_links items (count_after a (NodeItem node word hook sets)) (count_after b (NodeItem node word hook sets)) e
 same_links (LinkItem from label to ∷ items) a b e = same_links items (count_after a (LinkItem from label to)) (count_after b (LinkItem from label to)) (ap (λ n. n + 1) e)
 
 more_params_within : (k : ℕ) (params : List ParamForm) (rest : List (Part Role)) → Within (spell_more_params k params rest) → Within rest

@@ -81,7 +81,7 @@ module _ (names : List (List ℕ)) (mention : Mention) (mentions : List Mention)
 
 again_least : (items : List Item) (names : List (List ℕ)) → IsLeast (AgainBehind names (nodes_in items)) (least_again names items)
 again_least [] names = again_none names
-again_least (NodeItem node word hook ∷ items) names =
+again_least (NodeItem node word hook sets ∷ items) names =
     least_joined {P = AgainFirst names node} {Q = AgainBehind (with_name names node.name) (nodes_in items)} {R = AgainBehind names (node ∷ nodes_in items)}
     (again_cases names node (nodes_in items)) (again_here names node (nodes_in items)) (again_later names node (nodes_in items))
     (again_at names node) (least_again (with_name names node.name) items) (again_first names node) (again_least items (with_name names node.name))
@@ -126,7 +126,7 @@ module _ (names : List (List ℕ)) (from to : Mention) (mentions : List Mention)
 
 unknown_least : (names : List (List ℕ)) (items : List Item) → IsLeast (UnknownIn names (ends_in items)) (least_unknown names items)
 unknown_least names [] = λ f h. contains_none h.0 h.1
-unknown_least names (NodeItem node word hook ∷ items) = unknown_least names items
+unknown_least names (NodeItem node word hook sets ∷ items) = unknown_least names items
 unknown_least names (LinkItem from label to ∷ items) =
     least_joined {P = UnknownEnd names from to (ends_in items)} {Q = UnknownIn names (ends_in items)} {R = UnknownIn names (from ∷ to ∷ ends_in items)}
     (unknown_cases names from to (ends_in items)) (unknown_here names from to (ends_in items)) (unknown_later names from to (ends_in items))

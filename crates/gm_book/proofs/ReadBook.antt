@@ -41,7 +41,7 @@ use Rattle.gm_forms.proofs.Later.{not_built_is, text_fault_is}
 use Rattle.gm_forms.proofs.NamePlaces.{schema_is_first, first_is_fault}
 use Rattle.gm_book.proofs.ReadRange.{range_from_text}
 use Rattle.gm_forms.proofs.SchemaNames.{IsFaultOfSchema, schema_fault}
-use Rattle.gm_forms.proofs.Spelling.{along_rules}
+use Rattle.gm_forms.proofs.Marks.{along_rules}
 use Rattle.gm_forms.proofs.Whole.{head_runs, schema_runs, Answers, schema_stops, IsSame, behind_schema}
 use Rattle.gm_book.proofs.Written.{AreThere, written_from}
 use Rattle.gm_text.specs.Nested as nested

@@ -44,16 +44,16 @@ not_passed false what other e = (refl, e)
 -- ---- good items
 
 abbrev pub IsGoodItem : ℕ → text.Item → Type 0
-IsGoodItem n (NodeItem node word hook) = IsGoodName node.name × IsGoodWord n word
+IsGoodItem n (NodeItem node word hook sets) = IsGoodName node.name × IsGoodWord n word
 IsGoodItem n (LinkItem from label to) = IsGoodName from.name × (label ≤ n) × IsGoodName to.name
 
 abbrev pub IsFreeItem : text.Item → Type 0
-IsFreeItem (NodeItem node word hook) = is_among reserved node.name ≡ false
+IsFreeItem (NodeItem node word hook sets) = is_among reserved node.name ≡ false
 IsFreeItem (LinkItem from label to) = (is_among reserved from.name ≡ false) × (is_among reserved to.name ≡ false)
 
 pub free_item : (side : Side) (item : text.Item) → IsItem side item → IsFreeItem item
-free_item Left (NodeItem node word hook) is = is
-free_item Right (NodeItem node word hook) is = is.0
+free_item Left (NodeItem node word hook sets) is = is
+free_item Right (NodeItem node word hook sets) is = is.0
 free_item Left (LinkItem from label to) is = is
 free_item Right (LinkItem from label to) is = is
 
@@ -79,7 +79,7 @@ module _ (n : ℕ) where
 
   module _ (side : Side) where
     item_good : (item : text.Item) (count : Count) (parts : List (Part Role)) → IsFreeItem item → AreFew count → AreFit (spell_item n side count item parts) → IsGoodItem n item × AreFew (count_after count item) × AreFit parts
-    item_good (NodeItem node word hook) count parts free few fit =
+    item_good (NodeItem node word hook sets) count parts free few fit =
         let room = not_passed (ltb 32 (length (with_name count.nodes node.name))) _ _ fit.1.0.within in
         let within = letters_good 0 word _ (omega arith) fit.1.1 in (
           (good_name node.name _ free fit.0.sound fit.0.within, (omega (arith, within.0), within.1)),

@@ -131,7 +131,7 @@ stands_at (other ∷ names) name is = elim (cases_Bool (bytes_eq name other)) [
 
 some_word : (items : List Item) (name : List ℕ) → is_some (word_in items name) ≡ is_among (names_of (nodes_in items)) name
 some_word [] name = refl
-some_word (NodeItem node word hook ∷ items) name = elim (cases_Bool (bytes_eq name node.name)) [
+some_word (NodeItem node word hook sets ∷ items) name = elim (cases_Bool (bytes_eq name node.name)) [
   | inl same ↦ rw same refl
   | inr differ ↦ rw differ (some_word items name)
 ]
@@ -139,7 +139,7 @@ some_word (LinkItem from label to ∷ items) name = some_word items name
 
 good_word : (n : ℕ) (items : List Item) (name : List ℕ) → AllByRecursion (IsGoodItem n) items → IsGoodWordIfAny n (word_in items name)
 good_word n [] name good = tt
-good_word n (NodeItem node word hook ∷ items) name good = elim (cases_Bool (bytes_eq name node.name)) [
+good_word n (NodeItem node word hook sets ∷ items) name good = elim (cases_Bool (bytes_eq name node.name)) [
   | inl same ↦ rw same good.0.1
   | inr differ ↦ rw differ (good_word n items name good.1)
 ]
@@ -147,14 +147,14 @@ good_word n (LinkItem from label to ∷ items) name good = good_word n items nam
 
 good_names : (n : ℕ) (items : List Item) → AllByRecursion (IsGoodItem n) items → AllByRecursion IsGoodName (names_of (nodes_in items))
 good_names n [] good = tt
-good_names n (NodeItem node word hook ∷ items) good = (good.0.0, good_names n items good.1)
+good_names n (NodeItem node word hook sets ∷ items) good = (good.0.0, good_names n items good.1)
 good_names n (LinkItem from label to ∷ items) good = good_names n items good.1
 
 -- ---- hooks
 
 abbrev hook_flags : List Item → List Bool
 hook_flags [] = []
-hook_flags (NodeItem node word hook ∷ items) = hook ∷ hook_flags items
+hook_flags (NodeItem node word hook sets ∷ items) = hook ∷ hook_flags items
 hook_flags (LinkItem from label to ∷ items) = hook_flags items
 
 -- the numbers of the flags that are set
@@ -165,7 +165,7 @@ flagged x (flag ∷ flags) = number_if flag x (flagged (x + 1) flags)
 hooks_flagged : (names front more : List (List ℕ)) (items : List Item) → names ≡ front ++ (names_of (nodes_in items) ++ more) → AreNew front (names_of (nodes_in items)) → hooks_in names items ≡ flagged (length front) (hook_flags items)
 hooks_flagged names front more [] split new = refl
 hooks_flagged names front more (LinkItem from label to ∷ items) split new = hooks_flagged names front more items split new
-hooks_flagged names front more (NodeItem node word hook ∷ items) split new =
+hooks_flagged names front more (NodeItem node word hook sets ∷ items) split new =
     let here : number_of names node ≡ length front = ap (position_or_len (bytes_eq node.name)) split ∙ number_behind front (names_of (nodes_in items) ++ more) node.name new.0 in
     let longer : length (front ++ node.name ∷ []) ≡ length front + 1 = length-append front (node.name ∷ []) in
     let later : hooks_in names items ≡ flagged (length front + 1) (hook_flags items) =
@@ -173,7 +173,7 @@ hooks_flagged names front more (NodeItem node word hook ∷ items) split new =
     go hook here later
   where
     go : (hook : Bool) → number_of names node ≡ length front → hooks_in names items ≡ flagged (length front + 1) (hook_flags items)
-        → hooks_in names (NodeItem node word hook ∷ items) ≡ number_if hook (length front) (flagged (length front + 1) (hook_flags items))
+        → hooks_in names (NodeItem node word hook sets ∷ items) ≡ number_if hook (length front) (flagged (length front + 1) (hook_flags items))
     go true here later = rw (here, later) refl
     go false here later = later
 
@@ -205,7 +205,7 @@ where_front test x (node ∷ front) behind none = ap (number_if (is_some node.le
 
 flags_long : (items : List Item) → length (hook_flags items) ≡ length (names_of (nodes_in items))
 flags_long [] = refl
-flags_long (NodeItem node word hook ∷ items) = ap suc (flags_long items)
+flags_long (NodeItem node word hook sets ∷ items) = ap suc (flags_long items)
 flags_long (LinkItem from label to ∷ items) = flags_long items
 
 -- ---- links
@@ -225,7 +225,7 @@ ends_known items never = recursion_from_All (λ (m : Mention). is_among (names_o
 
 links_long : (names : List (List ℕ)) (items : List Item) (count : Count) → (counted count items).links ≡ count.links + length (links_in names items)
 links_long names [] count = omega arith
-links_long names (NodeItem node word hook ∷ items) count = links_long names items (count_after count (NodeItem node word hook))
+links_long names (NodeItem node word hook sets ∷ items) count = links_long names items (count_after count (NodeItem node word hook sets))
 links_long names (LinkItem from label to ∷ items) count = omega (arith, links_long names items (count_after count (LinkItem from label to)))
 
 -- ---- a rule
@@ -290,7 +290,7 @@ module _ (n : ℕ) (form : RuleForm) (ok : IsReadable n form) (faultless : HasNo
 
   links_good : (side : Side) (items : List Item) → AllByRecursion (IsGoodItem n) items → AllByRecursion (λ (m : Mention). is_among (names_in side) m.name ≡ true) (ends_in items) → AllByRecursion (IsGoodLink n (rule_in form) side) (links_in (nodes_of form) items)
   links_good side [] good known = tt
-  links_good side (NodeItem node word hook ∷ items) good known = links_good side items good.1 known
+  links_good side (NodeItem node word hook sets ∷ items) good known = links_good side items good.1 known
   links_good side (LinkItem from label to ∷ items) good known =
       (record { label = good.0.1; from = has_at side from.name known.0; to = has_at side to.name known.1.0 }, links_good side items good.1 known.1.1)
 

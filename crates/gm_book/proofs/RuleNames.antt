@@ -14,7 +14,7 @@ use Rattle.gm_forms.specs.Held.{names_at}
 
 pub names_counted : (items : List text.Item) (count : Count) → with_items count.nodes items ≡ (counted count items).nodes
 names_counted [] count = refl
-names_counted (NodeItem node word hook ∷ items) count = names_counted items (count_after count (NodeItem node word hook))
+names_counted (NodeItem node word hook sets ∷ items) count = names_counted items (count_after count (NodeItem node word hook sets))
 names_counted (LinkItem from label to ∷ items) count = names_counted items (count_after count (LinkItem from label to))
 
 pub rule_names_counted : (rule : RuleForm) → with_items (with_items [] rule.left) rule.right ≡ nodes_of rule

@@ -3,7 +3,8 @@ ghost use Rattle.std.specs.Prelude.{◌≡◌, ◌≢◌, ◌≤◌, ℕ, List, 
 ghost use Rattle.gm_model.specs.declared.schema.Schema.{Schema};
 ghost use Rattle.gm_model.specs.Rules.{Rule};
 ghost use Rattle.gm_model.specs.Structure.{IsInRange, IsWithinLimits};
-ghost use Rattle.gm_forms.specs.BookText.{BookText, canonical, StandsForNoBook, NameFault, IsFirstNameFault};
+ghost use Rattle.gm_book.specs.Canonical.{canonical};
+ghost use Rattle.gm_forms.specs.BookText.{BookText, StandsForNoBook, NameFault, IsFirstNameFault};
 ghost use Rattle.gm_book.specs.declared.fault.BookFault.{BookFault};
 ghost use Rattle.gm_book.specs.declared.fault.BookFault.TheVariants.{OutOfMemory};
 ghost use Rattle.gm_book.specs.Faults.{IsFaultOf};

@@ -1,4 +1,4 @@
-//! Expressions: their kinds, and their canonical text.
+//! Expressions: how they are read, their kinds, and their canonical text.
 #![tactic(auto)]
 
 mod kinds;
@@ -6,5 +6,6 @@ mod levels;
 mod printing;
 mod terms;
 
+pub use gm_parse::{Env, ExprFault, SyntaxFault, read_expr, skip_expr};
 pub use kinds::type_expr;
 pub use printing::print_expr;
