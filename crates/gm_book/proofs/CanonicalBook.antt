@@ -1,8 +1,7 @@
 -- A schema and rules that a text can give are given by their canonical text.
-use Rattle.std.proofs.Common.{◌≡◌, ◌≢◌, ℕ, ◌<◌, ◌≤◌, ◌⊎◌, inl, inr, true, false, List, [], ◌∷◌, ◌++◌, length, map, None, refl, sym, ap, ap₂, subst, ◌∙◌, append_assoc, arith, codes}
+use Rattle.std.proofs.Common.{◌≡◌, ◌≢◌, ℕ, ◌<◌, ◌≤◌, ◌⊎◌, inl, inr, true, false, List, [], ◌∷◌, ◌++◌, length, None, refl, sym, ap, subst, ◌∙◌, append_assoc, arith, codes}
 use Rattle.std.specs.Prelude.{decimal}
-use Rattle.std.specs.List.{flat_map, AllByRecursion}
-use Rattle.gm_model.specs.declared.rule.Side.TheVariants.{Right}
+use Rattle.std.specs.List.{flat_map, AllByRecursion, AllZip}
 use Rattle.gm_model.specs.declared.schema.Schema.{Schema}
 use Rattle.gm_model.specs.Symbols.{Symbol, Word, Numeral, End, Mark, symbols, marks_of}
 use Rattle.gm_model.specs.Reading.{Part, IsWithin, symbols_in}
@@ -13,16 +12,18 @@ use Rattle.gm_text.specs.SchemaPrinting.{AreParts}
 use Rattle.gm_text.proofs.Printed.{symbols_from, symbols_of-from, symbols_from-word_blank, symbols_from-decimal_blank}
 use Rattle.gm_text.proofs.SchemaAgain.{form_again}
 use Rattle.gm_text.proofs.SchemaSound.{nothing_passed}
-use Rattle.gm_forms.specs.BookText.{RuleForm, BookForm, BookText, NameFault, IsFaultInRules, IsNameFault, SchemaTwice, RulesFault, rule_in, rule_lines, spell_rules, the_end, canonical}
+use Rattle.gm_forms.specs.BookText.{RuleForm, BookForm, BookText, NameFault, IsFaultInRules, IsNameFault, SchemaTwice, RulesFault, MeansRule, spell_rules, the_end}
+use Rattle.gm_book.specs.Canonical.{rule_lines, canonical}
 use Rattle.gm_forms.specs.Standing.{IsHeaded}
-use Rattle.gm_book.proofs.CanonicalForm.{behind_lines, lines_of, right_marks, forms_at, AreNew, IsWritable}
+use Rattle.gm_book.proofs.CanonicalForm.{forms_at, AreNew, IsWritable, HasGoodExprs}
 use Rattle.gm_book.proofs.CanonicalText.{rules_symbols}
-use Rattle.gm_book.proofs.CanonicalRule.{rule_same}
+use Rattle.gm_book.proofs.CanonicalMeans.{rules_mean}
 use Rattle.gm_book.proofs.CanonicalPlaces.{rules_placed}
 use Rattle.gm_book.proofs.CanonicalLimits.{HasFewHooks, forms_are_rules, rules_within}
 use Rattle.gm_book.proofs.CanonicalNames.{rule_names, rules_faultless}
 use Rattle.gm_forms.proofs.Contained.{contains_cases, contains_none}
 use Rattle.gm_forms.proofs.Header.{known_version}
+use Rattle.gm_book.proofs.GoodEmbeds.{embeds_good}
 use Rattle.gm_book.proofs.Written.{AreThere, written_from}
 use Rattle.std.specs.List.{Contains}
 
@@ -34,10 +35,6 @@ pub record AreWritable (version n : ℕ) (rules : List Rule) : Type 0 where
   pub few : length rules ≤ 256
   pub each : AllByRecursion (IsWritable n) rules
   pub differ : AreNew [] (rule_names rules)
-
-rules_same : (n : ℕ) (rules : List Rule) (marks : List Mark) → AllByRecursion (IsWritable n) rules → map rule_in (forms_at marks rules) ≡ rules
-rules_same n [] marks ok = refl
-rules_same n (rule ∷ rules) marks ok = ap₂ (λ first others. first ∷ others) (rule_same n rule ok.0 marks) (rules_same n rules (behind_lines (lines_of rule Right) (right_marks rule marks)) ok.1)
 
 small : (version : ℕ) → (version ≡ 1) ⊎ (version ≡ 2) → version ≤ 2
 small version (inl one) = omega (arith, one)
@@ -52,10 +49,17 @@ head_symbols version more low =
     ∙ symbols_from-word_blank (codes "book") 32 (decimal version ++ 10 ∷ more) (refl, refl) refl
     ∙ ap (λ (s : List Symbol). Word (codes "book") ∷ s) (symbols_from-decimal_blank version 10 more (omega (arith, low)) refl)
 
+book_symbols : (version : ℕ) (schema : Schema) (rules : List Rule) → version ≤ 2
+    → symbols (marks_of (canonical version schema rules)) ≡ Word (codes "book") ∷ Numeral version ∷ symbols_from (schemas.canonical schema ++ flat_map (rule_lines schema) rules)
+book_symbols version schema rules low =
+    let more : List ℕ = schemas.canonical schema ++ flat_map (rule_lines schema) rules in
+    let grouped : canonical version schema rules ≡ codes "book " ++ decimal version ++ codes "\n" ++ more = append_assoc (codes "book " ++ decimal version ++ codes "\n") (schemas.canonical schema) (flat_map (rule_lines schema) rules) in
+    symbols_of-from (canonical version schema rules) ∙ ap symbols_from grouped ∙ head_symbols version more low
+
 -- what stands behind the schema begins no embedding
-begins : (n : ℕ) (rules : List Rule) (marks : List Mark) → (next : Symbol) × (others : List Symbol) × (symbols_in (spell_rules n 0 (forms_at marks rules) (the_end ∷ [])) ≡ next ∷ others) × (next ≢ Word (codes "embed"))
-begins n [] marks = (End, [], refl, λ e. absurd cc)
-begins n (rule ∷ rules) marks = (Word (codes "rule"), _, refl, λ e. absurd cc)
+begins : (schema : Schema) (rules : List Rule) (marks : List Mark) → (next : Symbol) × (others : List Symbol) × (symbols_in (spell_rules schema.dim 0 (forms_at schema marks rules) (the_end ∷ [])) ≡ next ∷ others) × (next ≢ Word (codes "embed"))
+begins schema [] marks = (End, [], refl, λ e. absurd cc)
+begins schema (rule ∷ rules) marks = (Word (codes "rule"), _, refl, λ e. absurd cc)
 
 -- the first two marks
 headed : (marks : List Mark) (version : ℕ) (others : List Symbol) → (version ≡ 1) ⊎ (version ≡ 2) → symbols marks ≡ Word (codes "book") ∷ Numeral version ∷ others → (rest : List Mark) × IsHeaded marks version rest × (symbols rest ≡ others)
@@ -90,35 +94,35 @@ none_again (first ∷ parts) within part among again = elim (contains_cases firs
 
 -- ---- a book
 
-pub written_again : (version : ℕ) (form : SchemaForm) (rules : List Rule) → schemas.IsForm form → IsWithin schemas.IsSentence passed_of (spell form []) → AreParts (schema_of form).embeds → AreWritable version form.dim rules
+pub written_again : (version : ℕ) (form : SchemaForm) (rules : List Rule) → schemas.IsForm form → IsWithin schemas.IsSentence passed_of (spell form []) → AreParts (schema_of form).embeds → AreWritable version form.dim rules → AllByRecursion (HasGoodExprs (schema_of form)) rules
     → BookText (canonical version (schema_of form) rules) version (schema_of form) rules
-written_again version form rules good within names ok =
-    let n = form.dim in
+written_again version form rules good within names ok exprs =
     let schema = schema_of form in
-    let lines = flat_map rule_lines rules in
+    let embeds = embeds_good form good within names in
+    let lines = flat_map (rule_lines schema) rules in
     let text = canonical version schema rules in
-    let grouped : text ≡ codes "book " ++ decimal version ++ codes "\n" ++ (schemas.canonical schema ++ lines) = append_assoc (codes "book " ++ decimal version ++ codes "\n") (schemas.canonical schema) lines in
-    let all = symbols_of-from text ∙ ap symbols_from grouped ∙ head_symbols version (schemas.canonical schema ++ lines) (small version ok.known) in
-    let (marks, is_headed, behind) = headed (marks_of text) version (symbols_from (schemas.canonical schema ++ lines)) ok.known all in
-    let (next, others, first, other) = begins n rules [] in
-    let again = form_again form marks lines good within names behind next others (rules_symbols n ok.low 0 rules [] ok.each ∙ first) other in
-    let dim : n ≡ again.again.dim = ap (λ (s : Schema). s.dim) again.means in
-    let there : AreThere version n (forms_at again.after rules) again.after = record {
-      good = forms_are_rules version n rules again.after ok.hooks ok.each;
-      spelled = again.behind_is ∙ rules_symbols n ok.low 0 rules again.after ok.each;
-      within = rules_within n 0 rules again.after (omega (arith, ok.few)) ok.each;
-      placed = rules_placed n 0 rules again.after;
+    let (marks, is_headed, behind) = headed (marks_of text) version (symbols_from (schemas.canonical schema ++ lines)) ok.known (book_symbols version schema rules (small version ok.known)) in
+    let (next, others, first, other) = begins schema rules [] in
+    let again = form_again form marks lines good within names behind next others (rules_symbols schema ok.low embeds.good 0 rules [] ok.each exprs ∙ first) other in
+    let forms = forms_at schema again.after rules in
+    let there : AreThere version schema.dim forms again.after = record {
+      good = forms_are_rules version schema rules again.after embeds.good ok.hooks ok.each exprs;
+      spelled = again.behind_is ∙ rules_symbols schema ok.low embeds.good 0 rules again.after ok.each exprs;
+      within = rules_within schema 0 rules again.after embeds.good (omega (arith, ok.few)) ok.each exprs;
+      placed = rules_placed schema 0 rules again.after;
     } in
-    let book : BookForm = record { version = version; schema = again.again; rules = forms_at again.after rules } in
+    let sound = rules_faultless schema ok.low embeds rules again.after ok.each exprs ok.differ in
+    let book : BookForm = record { version = version; schema = again.again; rules = forms } in
     record {
       book = book;
-      written = written_from passed_of passes_free text version again.again (forms_at again.after rules) marks again.after is_headed again.stands (subst (λ (m : ℕ). AreThere version m (forms_at again.after rules) again.after) dim there);
-      sound = faultless again.again (forms_at again.after rules) again.stands.within (rules_faultless n rules again.after ok.each ok.differ);
+      written = written_from passed_of passes_free text version again.again forms marks again.after is_headed again.stands (subst (λ (s : Schema). AreThere version s.dim forms again.after) again.means there);
+      sound = faultless again.again forms again.stands.within (subst (λ (s : Schema). (fault : NameFault) → IsFaultInRules s.dim s.embeds forms fault → ⊥) again.means sound);
       versions = refl;
       means = again.means;
-      same = sym (rules_same n rules again.after ok.each);
+      same = subst (λ (s : Schema). AllZip (MeansRule s.dim s.embeds) forms rules) again.means (rules_mean schema ok.low embeds rules again.after ok.each exprs);
     }
   where
-    faultless : (schema : SchemaForm) (forms : List RuleForm) → IsWithin schemas.IsSentence passed_of (spell schema []) → ((fault : NameFault) → IsFaultInRules forms fault → ⊥) → (fault : NameFault) → IsNameFault (record { version = version; schema = schema; rules = forms }) fault → ⊥
+    faultless : (schema : SchemaForm) (forms : List RuleForm) → IsWithin schemas.IsSentence passed_of (spell schema []) → ((fault : NameFault) → IsFaultInRules schema.dim (schema_of schema).embeds forms fault → ⊥) → (fault : NameFault)
+        → IsNameFault (record { version = version; schema = schema; rules = forms }) fault → ⊥
     faultless schema forms within sound _ (SchemaTwice place part among again here) = none_again (spell schema []) within part among again
     faultless schema forms within sound fault (RulesFault _ found) = sound fault found

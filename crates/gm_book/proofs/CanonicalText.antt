@@ -9,6 +9,8 @@ use Rattle.std.proofs.lemmas.Option.{slice_get_within, get_or_from_slice_get}
 use Rattle.gm_model.specs.declared.word.Letter.{Letter}
 use Rattle.gm_model.specs.declared.rule.Link.{Link}
 use Rattle.gm_model.specs.declared.rule.Param.{Param}
+use Rattle.gm_model.specs.declared.schema.Embed.{Embed}
+use Rattle.gm_model.specs.declared.schema.Schema.{Schema}
 use Rattle.gm_model.specs.declared.token.TokenKind.TheVariants as tokens
 use Rattle.gm_model.specs.declared.value.Kind.{Kind}
 use Rattle.gm_model.specs.declared.value.Kind.TheVariants as kinds
@@ -17,46 +19,50 @@ use Rattle.gm_model.specs.declared.rule.Side.TheVariants.{Left, Right}
 use Rattle.gm_model.specs.Symbols.{Symbol, Word, Sign, Mark}
 use Rattle.gm_model.specs.Tokens.{IsLexeme, begins_two_byte_sign, is_name_byte}
 use Rattle.gm_model.specs.Reading.{Part, symbols_in}
-use Rattle.gm_model.specs.Rules.{Rule, RuleNode, has_word, word_on, links_on, name_at}
-use Rattle.gm_forms.specs.BookText.{Role, Fixed, the_end, word, no_count, counted, count_across, left_lines, right_line, right_lines, link_line, param_text, params_text, rule_lines, spell_items, spell_more_params, spell_params, spell_rule, spell_rules}
+use Rattle.gm_model.specs.Rules.{Rule, RuleNode, Assignment, has_word, word_on, links_on, name_at}
+use Rattle.gm_expr.proofs.Canonical.{behind}
+use Rattle.gm_expr.specs.Writable.{AreGoodNames}
+use Rattle.gm_forms.specs.BookText.{Role, Fixed, the_end, word, no_count, counted, count_across, spell_items, spell_more_params, spell_params, spell_pre, spell_rule, spell_rules}
+use Rattle.gm_book.specs.Canonical.{hook_text, node_line, set_text, left_lines, right_line, right_lines, link_line, param_text, params_text, pre_line, rule_lines}
 use Rattle.gm_text.proofs.Printed.{symbols_from, Stops, symbols_from-end, symbols_from-blank, symbols_from-sign, symbols_from-word, symbols_from-word_blank}
 use Rattle.gm_text.specs.SchemaText.{kind_word}
-use Rattle.gm_book.proofs.CanonicalForm.{Line, NodeLine, text_of, node_lines, line_before, tie, hook_on, lines_of, behind, params_at, behind_param, form_at, forms_at, left_marks, right_marks, behind_lines, IsGoodName, IsGoodParam, IsGoodLine, IsGoodNode, IsGoodLink, IsGoodWordIfAny, IsWritable}
-use Rattle.gm_book.proofs.CanonicalSymbols.{lines_symbols}
+use Rattle.gm_book.proofs.CanonicalForm.{Line, text_of, node_lines, line_before, sets_on, tie, hook_on, lines_of, params_at, behind_param, form_at, forms_at, left_marks, right_marks, pre_marks, behind_rule, IsGoodName, IsGoodParam, IsGoodLine, IsGoodNode, IsGoodLink, IsGoodWordIfAny, IsWritable, IsGoodSet, HasGoodSets, HasGoodExprs}
+use Rattle.gm_book.proofs.CanonicalSymbols.{lines_symbols, pre_symbols}
 
 pub element_at : {X : Type 0} (P : X → Type 0) (xs : List X) → AllByRecursion P xs → (k : ℕ) (x : X) → slice_get xs k ≡ Some x → P x
 element_at P xs all k x here = subst P (get_or_from_slice_get xs k x x here) (All-from_recursion P xs all k x (slice_get_within xs k x here))
 
 -- ---- text as lines
 
-ties_text : (nodes : List RuleNode) (links : List Link) → flat_map (link_line nodes) links ≡ flat_map text_of (map (tie nodes) links)
-ties_text nodes [] = refl
-ties_text nodes (link ∷ links) = ap (λ bytes. link_line nodes link ++ bytes) (ties_text nodes links)
+module _ (schema : Schema) (rule : Rule) where
+  abbrev lines_text : List Line → List ℕ
+  lines_text lines = flat_map (text_of schema rule) lines
 
--- a node's line, before more of them
-line_text : (name : List ℕ) (word : Option (List Letter)) (hook : Bool) (lines : List Line) → flat_map text_of (line_before name word hook lines) ≡ flat_map text_of (line_before name word hook []) ++ flat_map text_of lines
-line_text name None hook lines = refl
-line_text name (Some word) hook lines = ap (λ bytes. bytes ++ flat_map text_of lines) (sym (append-nil (text_of (NodeLine name word hook))))
+  ties_text : (nodes : List RuleNode) (links : List Link) → flat_map (link_line nodes) links ≡ lines_text (map (tie nodes) links)
+  ties_text nodes [] = refl
+  ties_text nodes (link ∷ links) = ap (λ bytes. link_line nodes link ++ bytes) (ties_text nodes links)
 
-left_text : (hooks : List ℕ) (x : ℕ) (nodes : List RuleNode) (lines : List Line) → left_lines hooks x nodes ++ flat_map text_of lines ≡ flat_map text_of (node_lines Left (λ y. list_any (eqb y) hooks) x nodes lines)
-left_text hooks x [] lines = refl
-left_text hooks x (node ∷ nodes) lines = go (left_text hooks (x + 1) nodes lines) node.left refl
-  where
-    go : left_lines hooks (x + 1) nodes ++ flat_map text_of lines ≡ flat_map text_of (node_lines Left (λ y. list_any (eqb y) hooks) (x + 1) nodes lines) → (word : Option (List Letter)) → node.left ≡ word → left_lines hooks x (node ∷ nodes) ++ flat_map text_of lines ≡ flat_map text_of (node_lines Left (λ y. list_any (eqb y) hooks) x (node ∷ nodes) lines)
-    go rest None is = rw is rest
-    go rest (Some word) is =
-        rw is (append_assoc (text_of (NodeLine node.name word (list_any (eqb x) hooks))) (left_lines hooks (x + 1) nodes) (flat_map text_of lines)
-        ∙ ap (λ bytes. text_of (NodeLine node.name word (list_any (eqb x) hooks)) ++ bytes) rest)
+  left_text : (hooks : List ℕ) (x : ℕ) (nodes : List RuleNode) (lines : List Line) → left_lines hooks x nodes ++ lines_text lines ≡ lines_text (node_lines Left (λ y. list_any (eqb y) hooks) x nodes lines)
+  left_text hooks x [] lines = refl
+  left_text hooks x (node ∷ nodes) lines = go (left_text hooks (x + 1) nodes lines) node.left refl
+    where
+      go : left_lines hooks (x + 1) nodes ++ lines_text lines ≡ lines_text (node_lines Left (λ y. list_any (eqb y) hooks) (x + 1) nodes lines) → (word : Option (List Letter)) → node.left ≡ word → left_lines hooks x (node ∷ nodes) ++ lines_text lines ≡ lines_text (node_lines Left (λ y. list_any (eqb y) hooks) x (node ∷ nodes) lines)
+      go rest None is = rw is rest
+      go rest (Some word) is =
+          let hook : List ℕ = hook_text (list_any (eqb x) hooks) in
+          rw is (append_assoc (node_line node.name word hook) (left_lines hooks (x + 1) nodes) (lines_text lines)
+          ∙ ap (λ bytes. node_line node.name word hook ++ bytes) rest
+          ∙ ap (λ bytes. node_line node.name word bytes ++ lines_text (node_lines Left (λ y. list_any (eqb y) hooks) (x + 1) nodes lines)) (sym (append-nil hook)))
 
-right_text : (x : ℕ) (nodes : List RuleNode) (lines : List Line) → flat_map right_line nodes ++ flat_map text_of lines ≡ flat_map text_of (node_lines Right (λ y. false) x nodes lines)
-right_text x [] lines = refl
-right_text x (node ∷ nodes) lines = go (right_text (x + 1) nodes lines) node.right refl
-  where
-    go : flat_map right_line nodes ++ flat_map text_of lines ≡ flat_map text_of (node_lines Right (λ y. false) (x + 1) nodes lines) → (word : Option (List Letter)) → node.right ≡ word → flat_map right_line (node ∷ nodes) ++ flat_map text_of lines ≡ flat_map text_of (node_lines Right (λ y. false) x (node ∷ nodes) lines)
-    go rest None is = rw is rest
-    go rest (Some word) is =
-        rw is (append_assoc (text_of (NodeLine node.name word false)) (flat_map right_line nodes) (flat_map text_of lines)
-        ∙ ap (λ bytes. text_of (NodeLine node.name word false) ++ bytes) rest)
+  right_text : (x : ℕ) (nodes : List RuleNode) (lines : List Line) → flat_map (right_line schema rule) nodes ++ lines_text lines ≡ lines_text (node_lines Right (λ y. false) x nodes lines)
+  right_text x [] lines = refl
+  right_text x (node ∷ nodes) lines = go (right_text (x + 1) nodes lines) node.right refl
+    where
+      go : flat_map (right_line schema rule) nodes ++ lines_text lines ≡ lines_text (node_lines Right (λ y. false) (x + 1) nodes lines) → (word : Option (List Letter)) → node.right ≡ word → flat_map (right_line schema rule) (node ∷ nodes) ++ lines_text lines ≡ lines_text (node_lines Right (λ y. false) x (node ∷ nodes) lines)
+      go rest None is = rw is rest
+      go rest (Some word) is =
+          let text : List ℕ = node_line node.name word (flat_map (set_text schema rule) node.sets) in
+          rw is (append_assoc text (flat_map (right_line schema rule) nodes) (lines_text lines) ∙ ap (λ bytes. text ++ bytes) rest)
 
 -- ---- with the left nodes first
 
@@ -75,8 +81,9 @@ each P Q more (x ∷ xs) all = (more x all.0, each P Q more xs all.1)
 abbrev is_left_node : RuleNode → Bool
 is_left_node node = is_some node.left
 
-rights_in_order : (n : ℕ) (rule : Rule) → IsWritable n rule → right_lines rule.nodes ≡ flat_map right_line rule.nodes
-rights_in_order n rule ok =
+rights_in_order : (schema : Schema) (rule : Rule) → IsWritable schema.dim rule → right_lines schema rule ≡ flat_map (right_line schema rule) rule.nodes
+rights_in_order schema rule ok =
+    let line : RuleNode → List ℕ = right_line schema rule in
     let no : RuleNode → Bool = λ node. not (is_left_node node) in
     let lefts : filter is_left_node rule.nodes ≡ ok.left_nodes =
     ap (filter is_left_node) ok.left_first ∙ filter-append is_left_node ok.left_nodes ok.added_nodes
@@ -86,19 +93,19 @@ rights_in_order n rule ok =
     ap (filter no) ok.left_first ∙ filter-append no ok.left_nodes ok.added_nodes
     ∙ ap (λ xs. xs ++ filter no ok.added_nodes) (none_pass no ok.left_nodes (each _ _ (λ x is. ap not is) ok.left_nodes ok.left))
     ∙ all_pass no ok.added_nodes (each _ _ (λ x both. ap not both.0) ok.added_nodes ok.added) in
-    ap (λ xs. flat_map right_line xs ++ flat_map right_line (filter no rule.nodes)) lefts ∙ ap (λ xs. flat_map right_line ok.left_nodes ++ flat_map right_line xs) others
-    ∙ sym (flat_map-append right_line ok.left_nodes ok.added_nodes) ∙ ap (flat_map right_line) (sym ok.left_first)
+    ap (λ xs. flat_map line xs ++ flat_map line (filter no rule.nodes)) lefts ∙ ap (λ xs. flat_map line ok.left_nodes ++ flat_map line xs) others
+    ∙ sym (flat_map-append line ok.left_nodes ok.added_nodes) ∙ ap (flat_map line) (sym ok.left_first)
 
-left_side : (rule : Rule) → left_lines rule.hooks 0 rule.nodes ++ flat_map (link_line rule.nodes) rule.left_links ≡ flat_map text_of (lines_of rule Left)
-left_side rule = ap (λ bytes. left_lines rule.hooks 0 rule.nodes ++ bytes) (ties_text rule.nodes rule.left_links) ∙ left_text rule.hooks 0 rule.nodes (map (tie rule.nodes) rule.left_links)
+left_side : (schema : Schema) (rule : Rule) → left_lines rule.hooks 0 rule.nodes ++ flat_map (link_line rule.nodes) rule.left_links ≡ flat_map (text_of schema rule) (lines_of rule Left)
+left_side schema rule = ap (λ bytes. left_lines rule.hooks 0 rule.nodes ++ bytes) (ties_text schema rule rule.nodes rule.left_links) ∙ left_text schema rule rule.hooks 0 rule.nodes (map (tie rule.nodes) rule.left_links)
 
-right_side : (n : ℕ) (rule : Rule) → IsWritable n rule → right_lines rule.nodes ++ flat_map (link_line rule.nodes) rule.right_links ≡ flat_map text_of (lines_of rule Right)
-right_side n rule ok =
-    ap (λ bytes. bytes ++ flat_map (link_line rule.nodes) rule.right_links) (rights_in_order n rule ok) ∙ ap (λ bytes. flat_map right_line rule.nodes ++ bytes) (ties_text rule.nodes rule.right_links)
-    ∙ right_text 0 rule.nodes (map (tie rule.nodes) rule.right_links)
+right_side : (schema : Schema) (rule : Rule) → IsWritable schema.dim rule → right_lines schema rule ++ flat_map (link_line rule.nodes) rule.right_links ≡ flat_map (text_of schema rule) (lines_of rule Right)
+right_side schema rule ok =
+    ap (λ bytes. bytes ++ flat_map (link_line rule.nodes) rule.right_links) (rights_in_order schema rule ok) ∙ ap (λ bytes. flat_map (right_line schema rule) rule.nodes ++ bytes) (ties_text schema rule rule.nodes rule.right_links)
+    ∙ right_text schema rule 0 rule.nodes (map (tie rule.nodes) rule.right_links)
 
-regroup : (a b p c d e f g h more : List ℕ) → (a ++ b ++ p ++ c ++ d ++ e ++ f ++ g ++ h) ++ more ≡ a ++ (b ++ (p ++ (c ++ ((d ++ e) ++ (f ++ ((g ++ h) ++ more))))))
-regroup a b p c d e f g h more = simp append_assoc
+regroup : (a b p c d e f g h q more : List ℕ) → (a ++ b ++ p ++ c ++ d ++ e ++ f ++ g ++ h ++ q) ++ more ≡ a ++ (b ++ (p ++ (c ++ ((d ++ e) ++ (f ++ ((g ++ h) ++ (q ++ more)))))))
+regroup a b p c d e f g h q more = simp append_assoc
 
 -- ---- parameters
 
@@ -165,66 +172,87 @@ params_symbols (param ∷ params) marks more parts good rest =
 
 -- ---- good lines
 
-module _ (n : ℕ) where
-  word_on_side : (side : Side) (node : RuleNode) → IsGoodNode n node → IsGoodWordIfAny n (word_on side node)
-  word_on_side Left node good = good.left
-  word_on_side Right node good = good.right
+word_on_side : (n : ℕ) (side : Side) (node : RuleNode) → IsGoodNode n node → IsGoodWordIfAny n (word_on side node)
+word_on_side n Left node good = good.left
+word_on_side n Right node good = good.right
 
-  good_before : (name : List ℕ) (word : Option (List Letter)) (hook : Bool) (lines : List Line) → IsGoodName name → IsGoodWordIfAny n word → AllByRecursion (IsGoodLine n) lines → AllByRecursion (IsGoodLine n) (line_before name word hook lines)
-  good_before name None hook lines good fits rest = rest
-  good_before name (Some word) hook lines good fits rest = ((good, fits), rest)
+-- the name of a node that has a word
+named_by : (n : ℕ) (rule : Rule) (side : Side) (x : ℕ) → AllByRecursion (IsGoodNode n) rule.nodes → has_word rule side x ≡ true → IsGoodName (name_at rule.nodes x)
+named_by n rule side x good has = go (slice_get rule.nodes x) refl
+  where
+    go : (found : Option RuleNode) → slice_get rule.nodes x ≡ found → IsGoodName (name_at rule.nodes x)
+    go None is = absurd (let none : has_word rule side x ≡ false = rw is refl in cc)
+    go (Some node) is = rw is (element_at (IsGoodNode n) rule.nodes good x node is).name
 
-  good_nodes : (side : Side) (hook : ℕ → Bool) (x : ℕ) (nodes : List RuleNode) (lines : List Line) → AllByRecursion (IsGoodNode n) nodes → AllByRecursion (IsGoodLine n) lines → AllByRecursion (IsGoodLine n) (node_lines side hook x nodes lines)
-  good_nodes side hook x [] lines good rest = rest
-  good_nodes side hook x (node ∷ nodes) lines good rest =
-      good_before node.name (word_on side node) (hook x) (node_lines side hook (x + 1) nodes lines) good.0.name (word_on_side side node good.0) (good_nodes side hook (x + 1) nodes lines good.1 rest)
+-- the names of the schema's embeddings, the rule's parameters and its nodes
+pub good_names : (schema : Schema) (rule : Rule) → AllByRecursion (λ (embed : Embed). IsGoodName embed.name) schema.embeds → IsWritable schema.dim rule → AreGoodNames schema.embeds rule.params rule.nodes
+good_names schema rule embeds ok = record {
+  embeds_are = embeds;
+  params_are = ok.params;
+  nodes_are = each (IsGoodNode schema.dim) (λ (node : RuleNode). IsGoodName node.name) (λ node good. good.name) rule.nodes ok.nodes;
+}
 
-  -- the name of a node that has a word
-  named_by : (rule : Rule) (side : Side) (x : ℕ) → AllByRecursion (IsGoodNode n) rule.nodes → has_word rule side x ≡ true → IsGoodName (name_at rule.nodes x)
-  named_by rule side x good has = go (slice_get rule.nodes x) refl
-    where
-      go : (found : Option RuleNode) → slice_get rule.nodes x ≡ found → IsGoodName (name_at rule.nodes x)
-      go None is = absurd (let none : has_word rule side x ≡ false = rw is refl in cc)
-      go (Some node) is = rw is (element_at (IsGoodNode n) rule.nodes good x node is).name
+module _ (schema : Schema) (rule : Rule) where
+  good_before : (name : List ℕ) (word : Option (List Letter)) (hook : Bool) (sets : List Assignment) (lines : List Line) → IsGoodName name → IsGoodWordIfAny schema.dim word → AllByRecursion (IsGoodSet schema rule) sets → AllByRecursion (IsGoodLine schema rule) lines
+      → AllByRecursion (IsGoodLine schema rule) (line_before name word hook sets lines)
+  good_before name None hook sets lines good fits exprs rest = rest
+  good_before name (Some word) hook sets lines good fits exprs rest = ((good, fits, exprs), rest)
 
-  good_ties : (rule : Rule) (side : Side) (links : List Link) → AllByRecursion (IsGoodNode n) rule.nodes → AllByRecursion (IsGoodLink n rule side) links → AllByRecursion (IsGoodLine n) (map (tie rule.nodes) links)
-  good_ties rule side [] nodes good = tt
-  good_ties rule side (link ∷ links) nodes good =
-      ((named_by rule side link.from nodes good.0.from, good.0.label, named_by rule side link.to nodes good.0.to), good_ties rule side links nodes good.1)
+  sets_on_side : (side : Side) (node : RuleNode) → HasGoodSets schema rule node → AllByRecursion (IsGoodSet schema rule) (sets_on side node)
+  sets_on_side Left node good = tt
+  sets_on_side Right node good = good.each
 
-  pub good_lines : (rule : Rule) (side : Side) → IsWritable n rule → AllByRecursion (IsGoodLine n) (lines_of rule side)
-  good_lines rule side ok = good_nodes side (hook_on rule side) 0 rule.nodes (map (tie rule.nodes) (links_on rule side)) ok.nodes (good_ties rule side (links_on rule side) ok.nodes (ok.links side))
+  good_nodes : (side : Side) (hook : ℕ → Bool) (x : ℕ) (nodes : List RuleNode) (lines : List Line) → AllByRecursion (IsGoodNode schema.dim) nodes → AllByRecursion (HasGoodSets schema rule) nodes → AllByRecursion (IsGoodLine schema rule) lines
+      → AllByRecursion (IsGoodLine schema rule) (node_lines side hook x nodes lines)
+  good_nodes side hook x [] lines good exprs rest = rest
+  good_nodes side hook x (node ∷ nodes) lines good exprs rest =
+      good_before node.name (word_on side node) (hook x) (sets_on side node) (node_lines side hook (x + 1) nodes lines) good.0.name (word_on_side schema.dim side node good.0) (sets_on_side side node exprs.0)
+      (good_nodes side hook (x + 1) nodes lines good.1 exprs.1 rest)
 
-  -- ---- symbols
+  good_ties : (side : Side) (links : List Link) → AllByRecursion (IsGoodNode schema.dim) rule.nodes → AllByRecursion (IsGoodLink schema.dim rule side) links → AllByRecursion (IsGoodLine schema rule) (map (tie rule.nodes) links)
+  good_ties side [] nodes good = tt
+  good_ties side (link ∷ links) nodes good =
+      ((named_by schema.dim rule side link.from nodes good.0.from, good.0.label, named_by schema.dim rule side link.to nodes good.0.to), good_ties side links nodes good.1)
 
-  module _ (low : n ≤ 7) where
-    rule_symbols : (k : ℕ) (rule : Rule) (marks : List Mark) (more : List ℕ) (parts : List (Part Role)) → IsWritable n rule → symbols_from more ≡ symbols_in parts
-        → symbols_from (rule_lines rule ++ more) ≡ symbols_in (spell_rule n k (form_at marks rule) parts)
-    rule_symbols k rule marks more parts ok rest =
-        let left : List ℕ = left_lines rule.hooks 0 rule.nodes ++ flat_map (link_line rule.nodes) rule.left_links in
-        let right : List ℕ = right_lines rule.nodes ++ flat_map (link_line rule.nodes) rule.right_links in
-        let form = form_at marks rule in
-        let right_parts : List (Part Role) = spell_items n Right (count_across (counted no_count form.left)) form.right parts in
-        let from_left : List ℕ = codes "left\n" ++ (left ++ (codes "right\n" ++ (right ++ more))) in
-        let regrouped : rule_lines rule ++ more ≡ codes "rule " ++ (rule.name ++ (params_text rule.params ++ 10 ∷ from_left)) =
-        regroup (codes "rule ") rule.name (params_text rule.params) (codes "\nleft\n") (left_lines rule.hooks 0 rule.nodes) (flat_map (link_line rule.nodes) rule.left_links) (codes "right\n") (right_lines rule.nodes) (flat_map (link_line rule.nodes) rule.right_links) more in
-        let behind_left : symbols_from (codes "right\n" ++ (right ++ more)) ≡ symbols_in (word Fixed (codes "right") ∷ right_parts) =
-        symbols_from-word_blank (codes "right") 10 (right ++ more) (refl, refl) refl
-        ∙ ap (λ (s : List Symbol). Word (codes "right") ∷ s)
-        (ap (λ bytes. symbols_from (bytes ++ more)) (right_side n rule ok) ∙ lines_symbols n low Right (lines_of rule Right) _ (right_marks rule marks) more parts (good_lines rule Right ok) rest) in
-        ap symbols_from regrouped
-        ∙ symbols_from-word_blank (codes "rule") 32 (rule.name ++ (params_text rule.params ++ 10 ∷ from_left)) (refl, refl) refl
-        ∙ ap (λ (s : List Symbol). Word (codes "rule") ∷ s)
-        (symbols_from-word rule.name (params_text rule.params ++ 10 ∷ from_left) ok.name.0.1 (params_stop rule.params (10 ∷ from_left) refl)
-        ∙ ap (λ (s : List Symbol). Word rule.name ∷ s)
-        (params_symbols rule.params (behind (behind marks)) (10 ∷ from_left) (word Fixed (codes "left") ∷ spell_items n Left no_count form.left (word Fixed (codes "right") ∷ right_parts)) ok.params
-        (symbols_from-blank 10 from_left refl
-        ∙ symbols_from-word_blank (codes "left") 10 (left ++ (codes "right\n" ++ (right ++ more))) (refl, refl) refl
-        ∙ ap (λ (s : List Symbol). Word (codes "left") ∷ s)
-        (ap (λ bytes. symbols_from (bytes ++ (codes "right\n" ++ (right ++ more)))) (left_side rule)
-        ∙ lines_symbols n low Left (lines_of rule Left) no_count (left_marks rule marks) (codes "right\n" ++ (right ++ more)) _ (good_lines rule Left ok) behind_left))))
+  pub good_lines : (side : Side) → IsWritable schema.dim rule → HasGoodExprs schema rule → AllByRecursion (IsGoodLine schema rule) (lines_of rule side)
+  good_lines side ok exprs = good_nodes side (hook_on rule side) 0 rule.nodes (map (tie rule.nodes) (links_on rule side)) ok.nodes exprs.sets (good_ties side (links_on rule side) ok.nodes (ok.links side))
 
-    pub rules_symbols : (k : ℕ) (rules : List Rule) (marks : List Mark) → AllByRecursion (IsWritable n) rules → symbols_from (flat_map rule_lines rules) ≡ symbols_in (spell_rules n k (forms_at marks rules) (the_end ∷ []))
-    rules_symbols k [] marks ok = symbols_from-end
-    rules_symbols k (rule ∷ rules) marks ok =
-        rule_symbols (k + 1) rule marks (flat_map rule_lines rules) _ ok.0 (rules_symbols (k + 1) rules (behind_lines (lines_of rule Right) (right_marks rule marks)) ok.1)
+-- ---- symbols
+
+module _ (schema : Schema) (low : schema.dim ≤ 7) (embeds : AllByRecursion (λ (embed : Embed). IsGoodName embed.name) schema.embeds) where
+  rule_symbols : (k : ℕ) (rule : Rule) (marks : List Mark) (more : List ℕ) (parts : List (Part Role)) → IsWritable schema.dim rule → HasGoodExprs schema rule → symbols_from more ≡ symbols_in parts
+      → symbols_from (rule_lines schema rule ++ more) ≡ symbols_in (spell_rule schema.dim k (form_at schema marks rule) parts)
+  rule_symbols k rule marks more parts ok exprs rest =
+      let names = good_names schema rule embeds ok in
+      let left : List ℕ = left_lines rule.hooks 0 rule.nodes ++ flat_map (link_line rule.nodes) rule.left_links in
+      let right : List ℕ = right_lines schema rule ++ flat_map (link_line rule.nodes) rule.right_links in
+      let form = form_at schema marks rule in
+      let last : List ℕ = pre_line schema rule ++ more in
+      let last_parts : List (Part Role) = spell_pre form.pre parts in
+      let right_parts : List (Part Role) = spell_items schema.dim (count_across (counted no_count form.left)) form.right last_parts in
+      let from_left : List ℕ = codes "left\n" ++ (left ++ (codes "right\n" ++ (right ++ last))) in
+      let regrouped : rule_lines schema rule ++ more ≡ codes "rule " ++ (rule.name ++ (params_text rule.params ++ 10 ∷ from_left)) =
+      regroup (codes "rule ") rule.name (params_text rule.params) (codes "\nleft\n") (left_lines rule.hooks 0 rule.nodes) (flat_map (link_line rule.nodes) rule.left_links) (codes "right\n") (right_lines schema rule) (flat_map (link_line rule.nodes) rule.right_links) (pre_line schema rule) more in
+      let behind_left : symbols_from (codes "right\n" ++ (right ++ last)) ≡ symbols_in (word Fixed (codes "right") ∷ right_parts) =
+      symbols_from-word_blank (codes "right") 10 (right ++ last) (refl, refl) refl
+      ∙ ap (λ (s : List Symbol). Word (codes "right") ∷ s)
+      (ap (λ bytes. symbols_from (bytes ++ last)) (right_side schema rule ok)
+      ∙ lines_symbols schema rule low names (lines_of rule Right) _ (right_marks schema rule marks) last last_parts (good_lines schema rule Right ok exprs)
+      (pre_symbols schema rule low names _ (pre_marks schema rule marks) more parts exprs.pre rest)) in
+      ap symbols_from regrouped
+      ∙ symbols_from-word_blank (codes "rule") 32 (rule.name ++ (params_text rule.params ++ 10 ∷ from_left)) (refl, refl) refl
+      ∙ ap (λ (s : List Symbol). Word (codes "rule") ∷ s)
+      (symbols_from-word rule.name (params_text rule.params ++ 10 ∷ from_left) ok.name.0.1 (params_stop rule.params (10 ∷ from_left) refl)
+      ∙ ap (λ (s : List Symbol). Word rule.name ∷ s)
+      (params_symbols rule.params (behind (behind marks)) (10 ∷ from_left) (word Fixed (codes "left") ∷ spell_items schema.dim no_count form.left (word Fixed (codes "right") ∷ right_parts)) ok.params
+      (symbols_from-blank 10 from_left refl
+      ∙ symbols_from-word_blank (codes "left") 10 (left ++ (codes "right\n" ++ (right ++ last))) (refl, refl) refl
+      ∙ ap (λ (s : List Symbol). Word (codes "left") ∷ s)
+      (ap (λ bytes. symbols_from (bytes ++ (codes "right\n" ++ (right ++ last)))) (left_side schema rule)
+      ∙ lines_symbols schema rule low names (lines_of rule Left) no_count (left_marks rule marks) (codes "right\n" ++ (right ++ last)) _ (good_lines schema rule Left ok exprs) behind_left))))
+
+  pub rules_symbols : (k : ℕ) (rules : List Rule) (marks : List Mark) → AllByRecursion (IsWritable schema.dim) rules → AllByRecursion (HasGoodExprs schema) rules
+      → symbols_from (flat_map (rule_lines schema) rules) ≡ symbols_in (spell_rules schema.dim k (forms_at schema marks rules) (the_end ∷ []))
+  rules_symbols k [] marks ok exprs = symbols_from-end
+  rules_symbols k (rule ∷ rules) marks ok exprs =
+      rule_symbols (k + 1) rule marks (flat_map (rule_lines schema) rules) _ ok.0 exprs.0 (rules_symbols (k + 1) rules (behind_rule schema rule marks) ok.1 exprs.1)

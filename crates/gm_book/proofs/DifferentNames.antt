@@ -4,11 +4,12 @@ use Rattle.std.specs.Prelude.{slice_get}
 use Rattle.std.specs.Str.{bytes_eq}
 use Rattle.std.specs.List.{position_or_len}
 use Rattle.std.proofs.lemmas.Bool.{or_parts, cases_Bool}
-use Rattle.std.proofs.lemmas.List.{append-nil, drop_more, take-append-drop, length-take-le}
+use Rattle.std.proofs.lemmas.List.{append-nil, map-append, drop_more, take-append-drop, length-take-le}
 use Rattle.std.proofs.lemmas.Option.{slice_get_within, get_or_from_slice_get}
 use Rattle.std.proofs.lemmas.List.Folds.{list_any-append}
 use Rattle.std.proofs.lemmas.Slice.Eq.{bytes_eq-Decides}
-use Rattle.gm_model.specs.Names.{is_among}
+use Rattle.gm_model.specs.Names.{Mention, is_among}
+use Rattle.gm_forms.specs.BookText.{names_of, IsAgain}
 use Rattle.gm_book.proofs.CanonicalForm.{AreNew}
 
 pub same_bytes : (name : List ℕ) → bytes_eq name name ≡ true
@@ -90,3 +91,25 @@ number_there names x name new here =
     let split = split_there names x name here in
     let first : is_among (take x names) name ≡ false = (new_behind [] (take x names) (name ∷ drop (x + 1) names) (subst (AreNew []) (sym split) new)).0 in
     ap (position_or_len (bytes_eq name)) (sym split) ∙ number_behind (take x names) (drop (x + 1) names) name first ∙ length-take-le x names (omega (arith, within))
+
+-- ---- no name again
+
+pub not_both : (b : Bool) → b ≡ true → b ≡ false → ⊥
+not_both b yes' no' = let e : true ≡ false = sym yes' ∙ no' in absurd cc
+
+pub no_again : (mentions : List Mention) (place : ℕ) → AreNew [] (names_of mentions) → IsAgain mentions place → ⊥
+no_again mentions place new again =
+    let split : names_of mentions ≡ names_of again.front ++ again.mention.name ∷ names_of again.behind = ap names_of again.split ∙ map-append (λ (m : Mention). m.name) again.front (again.mention ∷ again.behind) in
+    let head = (new_behind [] (names_of again.front) (again.mention.name ∷ names_of again.behind) (subst (AreNew []) split new)).0 in
+    not_both (is_among (names_of again.front) again.mention.name) again.again head
+
+-- where no name is mentioned again, each is new
+pub new_mentions : (front behind : List Mention) → ((place : ℕ) → IsAgain (front ++ behind) place → ⊥) → AreNew (names_of front) (names_of behind)
+new_mentions front [] never = tt
+new_mentions front (mention ∷ behind) never =
+    let first : is_among (names_of front) mention.name ≡ false = elim (cases_Bool (is_among (names_of front) mention.name)) [
+      | inl again ↦ absurd (never mention.place (record { front = front; mention = mention; behind = behind; split = refl; here = refl; again = again }))
+      | inr new ↦ new
+    ] in
+    let later = new_mentions (front ++ mention ∷ []) behind (subst (λ all. (place : ℕ) → IsAgain all place → ⊥) (sym (append_assoc front (mention ∷ []) behind)) never) in
+    (first, subst (λ names. AreNew names (names_of behind)) (map-append (λ (m : Mention). m.name) front (mention ∷ [])) later)

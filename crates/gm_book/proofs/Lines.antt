@@ -1,16 +1,17 @@
 -- One line more: what is printed of the first elements of a list goes on with what is printed of the next.
-use Rattle.std.proofs.Common.{◌≡◌, ℕ, ◌+◌, ◌<◌, Bool, cond, List, [], ◌∷◌, ◌++◌, length, take, drop, get_or, map, filter, Option, Some, None, refl, sym, ap, ◌∙◌, append_assoc, eqb, arith}
+use Rattle.std.proofs.Common.{◌≡◌, ℕ, ◌+◌, ◌<◌, Bool, cond, List, [], ◌∷◌, ◌++◌, length, take, drop, get_or, map, filter, Option, Some, None, refl, sym, ap, subst, ◌∙◌, append_assoc, eqb, arith}
 use Rattle.std.specs.Prelude.{slice_get}
-use Rattle.std.specs.List.{flat_map, list_any}
+use Rattle.std.specs.List.{flat_map, list_any, AllByRecursion}
 use Rattle.std.proofs.lemmas.Grind.{flat_map-append}
 use Rattle.std.proofs.lemmas.List.{take_more, append-nil, length-take-le, length-map, get_or-map, drop_more}
-use Rattle.std.proofs.lemmas.List.Elements.{filter-append}
+use Rattle.std.proofs.lemmas.List.Elements.{filter-append, All-from_recursion}
 use Rattle.std.proofs.lemmas.Bool.{ne_eqb, eq-eqb}
 use Rattle.std.proofs.lemmas.Option.{get_or_from_slice_get}
 use Rattle.gm_model.specs.declared.word.Letter.{Letter}
 use Rattle.gm_model.specs.declared.rule.Node.{Node}
-use Rattle.gm_model.specs.Rules.{RuleNode, node_of}
-use Rattle.gm_forms.specs.BookText.{letter_text, letters_text, left_lines, right_line}
+use Rattle.gm_model.specs.declared.schema.Schema.{Schema}
+use Rattle.gm_model.specs.Rules.{Rule, RuleNode, node_of}
+use Rattle.gm_book.specs.Canonical.{letter_text, letters_text, left_lines, right_line}
 use Rattle.gm_book.specs.Printing.{left_line}
 
 -- of a text that goes through a list element by element
@@ -75,18 +76,22 @@ left_more hooks nodes k d hook start text after within is-hook before last =
         by_word None is = rw is refl
         by_word (Some word) is = rw (is, is-hook) refl
 
-right_parts : (p : RuleNode → Bool) (xs ys : List RuleNode) → flat_map right_line (filter p (xs ++ ys)) ≡ flat_map right_line (filter p xs) ++ flat_map right_line (filter p ys)
-right_parts p xs ys = ap (flat_map right_line) (filter-append p xs ys) ∙ flat_map-append right_line (filter p xs) (filter p ys)
+module _ (schema : Schema) (rule : Rule) where
+  abbrev lines_where : (RuleNode → Bool) → List RuleNode → List ℕ
+  lines_where p nodes = flat_map (right_line schema rule) (filter p nodes)
 
--- of a node's line on the right
-pub right_more : (p : RuleNode → Bool) (nodes : List Node) (k : ℕ) (d : Node) (start text after : List ℕ) → k < length nodes
-    → text ≡ start ++ flat_map right_line (filter p (take k (map node_of nodes))) → after ≡ text ++ flat_map right_line (filter p (node_of (get_or nodes k d) ∷ []))
-    → after ≡ start ++ flat_map right_line (filter p (take (k + 1) (map node_of nodes)))
-right_more p nodes k d start text after within before last =
-    let node = node_of (get_or nodes k d) in
-    let here : get_or (map node_of nodes) k node ≡ node = get_or-map node_of nodes k d node within in
-    line_more (λ xs. flat_map right_line (filter p xs)) (right_parts p) (map node_of nodes) k node start text after (omega (arith, length-map nodes node_of, within)) before
-    (last ∙ ap (λ n. text ++ flat_map right_line (filter p (n ∷ []))) (sym here))
+  right_parts : (p : RuleNode → Bool) (xs ys : List RuleNode) → lines_where p (xs ++ ys) ≡ lines_where p xs ++ lines_where p ys
+  right_parts p xs ys = ap (flat_map (right_line schema rule)) (filter-append p xs ys) ∙ flat_map-append (right_line schema rule) (filter p xs) (filter p ys)
+
+  -- of a node's line on the right
+  pub right_more : (p : RuleNode → Bool) (nodes : List Node) (k : ℕ) (d : Node) (start text after : List ℕ) → k < length nodes
+      → text ≡ start ++ flat_map (right_line schema rule) (filter p (take k (map node_of nodes))) → after ≡ text ++ flat_map (right_line schema rule) (filter p (node_of (get_or nodes k d) ∷ []))
+      → after ≡ start ++ flat_map (right_line schema rule) (filter p (take (k + 1) (map node_of nodes)))
+  right_more p nodes k d start text after within before last =
+      let node = node_of (get_or nodes k d) in
+      let here : get_or (map node_of nodes) k node ≡ node = get_or-map node_of nodes k d node within in
+      line_more (lines_where p) (right_parts p) (map node_of nodes) k node start text after (omega (arith, length-map nodes node_of, within)) before
+      (last ∙ ap (λ n. text ++ lines_where p (n ∷ [])) (sym here))
 
 -- of a line for what each element stands for
 pub mapped_more : {X Y : Type 0} (g : X → Y) (f : Y → List ℕ) (xs : List X) (k : ℕ) (d : X) (start text after : List ℕ) → k < length xs
@@ -94,3 +99,8 @@ pub mapped_more : {X Y : Type 0} (g : X → Y) (f : Y → List ℕ) (xs : List X
 mapped_more g f xs k d start text after within before last =
     let here : get_or (map g xs) k (g d) ≡ g (get_or xs k d) = get_or-map g xs k d (g d) within in
     flat_more f (map g xs) k (g d) start text after (omega (arith, length-map xs g, within)) before (last ∙ ap (λ y. text ++ f y) (sym here))
+
+-- what holds of all that is stood for holds of one
+pub each_at : {X Y : Type 0} (P : Y → Type 0) (g : X → Y) (xs : List X) (k : ℕ) (d : X) → k < length xs → AllByRecursion P (map g xs) → P (g (get_or xs k d))
+each_at P g xs k d within all =
+    subst P (get_or-map g xs k d (g d) within) (All-from_recursion P (map g xs) all k (g d) (omega (arith, length-map xs g, within)))

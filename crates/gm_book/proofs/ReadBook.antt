@@ -1,47 +1,48 @@
 -- What the passes of the reader of a book's text say of the whole.
-use Rattle.std.proofs.Common.{◌≡◌, ℕ, ◌≤◌, true, false, List, [], ◌∷◌, map, length, All, Result, Ok, Err, sym, ap, subst, ◌∙◌}
+use Rattle.std.proofs.Common.{◌≡◌, ℕ, true, false, List, [], ◌∷◌, map, All, Result, Ok, Err, sym, ap, subst, ◌∙◌}
 use Rattle.std.proofs.lemmas.List.Elements.{All-head, All-tail}
 use Rattle.std.specs.Prelude.{IfOk, IfErr}
-use Rattle.std.specs.List.{AllByRecursion}
+use Rattle.std.specs.List.{AllByRecursion, AllZip}
 use Rattle.gm_model.specs.declared.limit.LimitKind.{LimitKind}
 use Rattle.gm_model.specs.declared.rule.Book.{Book}
 use Rattle.gm_model.specs.declared.rule.RuleTable.{RuleTable}
 use Rattle.gm_model.specs.declared.schema.Schema.{Schema}
-use Rattle.gm_model.specs.Rules.{rule_of}
+use Rattle.gm_model.specs.Rules.{Rule, rule_of}
 use Rattle.gm_model.specs.Reading.{Part, IsWithin, symbols_in}
+use Rattle.gm_model.specs.Kinds.{IsTyped}
 use Rattle.gm_model.specs.Structure.{IsInRange, IsWithinLimits}
 use Rattle.gm_model.specs.Symbols.{Mark, marks_of}
 use Rattle.gm_text.specs.Cursor.{Cursor}
 use Rattle.gm_text.specs.Machine.{Stop, Ends, Passes}
 use Rattle.gm_text.specs.Nested.{Outside, Inside}
-use Rattle.gm_text.specs.SchemaText.{passed_of, limit_of as schema_limit, spell}
+use Rattle.gm_text.specs.SchemaText.{schema_of, passed_of, limit_of as schema_limit, spell}
 use Rattle.gm_text.specs.SchemaReading as schema
 use Rattle.gm_text.specs.SchemaReading.{Stands}
 use Rattle.gm_text.specs.SchemaAnswers.{marks_left, SkipsSchema, IsSchemaSkipped, IsSchemaRead, Stops, StopsOrLost}
 use Rattle.gm_text.specs.declared.schema_fault.SchemaFault.{SchemaFault}
 use Rattle.gm_text.specs.declared.schema_fault.SchemaFault.TheVariants as schema_faults
-use Rattle.gm_text.proofs.Machine.{run_reads, run_passes, passing_is, along_spelled}
+use Rattle.gm_text.proofs.Lexemes.{IsSound, words_are_lexemes}
+use Rattle.gm_text.proofs.Machine.{run_reads, run_ends, run_passes, ended_is, passing_is, along_spelled}
 use Rattle.gm_text.proofs.OneSchema.{one_skipped}
-use Rattle.gm_forms.specs.BookText.{RuleForm, BookForm, Role, limit_of, stands_before, IsSentence, ArePlaced, IsWritten, IsTextFault, IsLimitFault, IsNotBuilt, NameFault, TwiceAt, UnknownAt, place_of, IsNameFault, SchemaTwice, RulesFault, rule_in, BookText, nodes_of}
+use Rattle.gm_forms.specs.BookText.{RuleForm, BookForm, Role, limit_of, stands_before, IsSentence, the_end, spell_rules, ArePlaced, IsWritten, IsTextFault, IsLimitFault, NameFault, TwiceAt, UnknownAt, WrongKindAt, IsNotAfter, IsNameFault, SchemaTwice, RulesFault, MeansRule, BookText}
 use Rattle.gm_book.specs.declared.fault.BookFault.{BookFault}
 use Rattle.gm_book.specs.declared.fault.BookFault.TheVariants as faults
 use Rattle.gm_forms.specs.declared.form_fault.FormFault.{FormFault}
 use Rattle.gm_forms.specs.declared.form_fault.FormFault.TheVariants as forms
-use Rattle.gm_forms.specs.declared.form.RuleForm.{RuleForm as CodeRule}
 use Rattle.gm_book.specs.Building.{HasNoFaultInRules, IsFirstInRules, IsFaultOfNames}
+use Rattle.gm_book.specs.Fitting.{IsFitting, HasExprs}
+use Rattle.gm_book.specs.Unsigned.{HasUnsignedExprs}
 use Rattle.gm_book.specs.Faults.{IsFaultOf, book_fault_of_form, book_fault_of_schema}
-use Rattle.gm_forms.specs.Forms.{forms_of, rule_form_of}
-use Rattle.gm_forms.specs.Reading.{State, AtRules, AtEnd, heading_at, AtFormat, header_at, Whole, in_rules, Held, book_nesting, role_at, move, run, run_whole, is_later, is_later_in}
+use Rattle.gm_forms.specs.Reading.{State, AtRules, AtEnd, heading_at, AtFormat, header_at, Whole, in_rules, Held, book_nesting, role_at, move, run, run_whole}
 use Rattle.gm_forms.specs.Standing.{IsHeaded, IsHeadFault, AreRulesRead, IsRulesFault}
-use Rattle.gm_book.proofs.Built.{all_few}
 use Rattle.gm_book.proofs.CanonicalBook.{passes_free, none_again}
 use Rattle.gm_forms.proofs.Grammar.{placed_along}
 use Rattle.gm_forms.proofs.Header.{book_grammar}
-use Rattle.gm_forms.proofs.Later.{not_built_is, text_fault_is}
 use Rattle.gm_forms.proofs.NamePlaces.{schema_is_first, first_is_fault}
+use Rattle.gm_book.proofs.ReadLimits.{both_fit, all_exprs, all_fitting}
 use Rattle.gm_book.proofs.ReadRange.{range_from_text}
 use Rattle.gm_forms.proofs.SchemaNames.{IsFaultOfSchema, schema_fault}
-use Rattle.gm_forms.proofs.Spelling.{along_rules}
+use Rattle.gm_forms.proofs.Marks.{along_rules}
 use Rattle.gm_forms.proofs.Whole.{head_runs, schema_runs, Answers, schema_stops, IsSame, behind_schema}
 use Rattle.gm_book.proofs.Written.{AreThere, written_from}
 use Rattle.gm_text.specs.Nested as nested
@@ -65,8 +66,12 @@ rules_there version n marks rules read =
     } in
     subst (λ rs. AreThere version n rs marks) same there
 
-pub few_there : (text : List ℕ) (version n : ℕ) (marks : List Mark) (rules : List CodeRule) → AreRulesRead (heading_at version n) marks (forms_of text rules) → AllByRecursion (λ rule. length (nodes_of (rule_form_of text rule)) ≤ 32) rules
-few_there text version n marks rules read = all_few text n rules (rules_there version n marks (forms_of text rules) read).within
+-- they pass no limit, and their expressions are expressions
+pub fitting_there : (version n : ℕ) (cursor : Cursor) (rules : List RuleForm) → AreThere version n rules (marks_left cursor) → AllByRecursion (IsFitting n) rules
+fitting_there version n cursor rules there = all_fitting version n rules there.good (both_fit (spell_rules n 0 rules (the_end ∷ [])) (subst (AllByRecursion IsSound) there.spelled (words_are_lexemes cursor.text cursor.place)) there.within)
+
+pub exprs_there : (version n : ℕ) (marks : List Mark) (rules : List RuleForm) → AreThere version n rules marks → AllByRecursion (HasExprs n) rules
+exprs_there version n marks rules there = all_exprs version n rules there.good
 
 -- ---- faults of the grammar
 
@@ -79,16 +84,16 @@ module _ (text : List ℕ) where
       passing_is limit_of stands_before (nested.role_at book_nesting) (nested.move book_nesting) IsSentence (Outside AtFormat) (in_rules AtEnd) book_grammar (marks_of text) what place
       (run_passes limit_of stands_before (nested.role_at book_nesting) (nested.move book_nesting) (Outside AtFormat) 0 (marks_of text) what place e)
 
-  ends_here : (state : Whole) (mark : Mark) (place : ℕ) → Run ≡ Err (Ends state mark) → mark.place ≡ place → is_later_in state mark.symbol ≡ false → IsTextFault text place
-  ends_here state mark place e here plain = subst (IsTextFault text) here (text_fault_is text state mark e plain)
-
-  later_here : (state : Whole) (mark : Mark) (place : ℕ) → Run ≡ Err (Ends state mark) → mark.place ≡ place → is_later_in state mark.symbol ≡ true → IsNotBuilt text place
-  later_here state mark place e here later = subst (IsNotBuilt text) here (not_built_is text state mark e later)
+  ends_here : (state : Whole) (mark : Mark) (place : ℕ) → Run ≡ Err (Ends state mark) → mark.place ≡ place → IsTextFault text place
+  ends_here state mark place e here =
+      let role = nested.role_at book_nesting in
+      let move_on = nested.move book_nesting in
+      let ended = run_ends limit_of stands_before role move_on (Outside AtFormat) state 0 (marks_of text) mark e in
+      subst (IsTextFault text) here (ended_is limit_of stands_before role move_on IsSentence (Outside AtFormat) (in_rules AtEnd) book_grammar state (marks_of text) mark ended)
 
   pub head_fault : (fault : FormFault) → IsHeadFault (Outside AtFormat) (marks_of text) fault → IsFaultOf text (book_fault_of_form fault)
-  head_fault (forms.Text place) fault = let (state, mark, runs, here, plain) = fault 0 in ends_here state mark place runs here plain
+  head_fault (forms.Text place) fault = let (state, mark, runs, here) = fault 0 in ends_here state mark place runs here
   head_fault (forms.Limit what place) fault = absurd fault
-  head_fault (forms.NotBuilt place) fault = absurd fault
   head_fault forms.OutOfMemory fault = absurd fault
 
   module _ (version : ℕ) (old : Cursor) (headed : IsHeaded (marks_of text) version (marks_left old)) where
@@ -100,7 +105,7 @@ module _ (text : List ℕ) where
     skip_fault fault stops = go fault head.0 head.1 (schema_stops version old head.0 fault stops)
       where
         go : (fault : SchemaFault) (last : ℕ) → Run ≡ run_whole (Inside (header_at version schema.AtDim)) last (marks_left old) → Answers version old last fault → IsFaultOf text (book_fault_of_schema fault)
-        go (schema_faults.Text place) last same (state, mark, runs, here, plain) = ends_here state mark place (same ∙ runs) here plain
+        go (schema_faults.Text place) last same (state, mark, runs, here) = ends_here state mark place (same ∙ runs) here
         go (schema_faults.Limit what place) last same runs = limit_is what place (same ∙ runs)
         go (schema_faults.Twice place) last same none = absurd none
         go schema_faults.OutOfMemory last same none = absurd none
@@ -121,15 +126,14 @@ module _ (text : List ℕ) where
           subst (λ (ms : List Mark). IsSame (run (AtRules (heading_at version n)) 0 ms) (run_whole (Inside (header_at version (schema.AtEmbeds n skips.0))) behind ms)) (sym skipped.stands.behind) there in
           subst (IsSame Rules) (sym (from ∙ runs)) at
 
-      ended_there : (state : State) (mark : Mark) → Rules ≡ Err (Ends state mark) → (whole : Whole) × (Run ≡ Err (Ends whole mark)) × (is_later_in whole mark.symbol ≡ is_later state mark.symbol)
+      ended_there : (state : State) (mark : Mark) → Rules ≡ Err (Ends state mark) → (whole : Whole) × (Run ≡ Err (Ends whole mark))
       ended_there state mark e = subst (λ (answer : Result State (Stop State LimitKind)). IsSame answer Run) e same_run
 
       passed_there : (what : LimitKind) (place : ℕ) → Rules ≡ Err (Passes what place) → Run ≡ Err (Passes what place)
       passed_there what place e = subst (λ (answer : Result State (Stop State LimitKind)). IsSame answer Run) e same_run
 
       pub rules_fault : (fault : FormFault) → IsRulesFault (heading_at version n) (marks_left new) fault → IsFaultOf text (book_fault_of_form fault)
-      rules_fault (forms.Text place) (state, mark, runs, here, plain) = let (whole, ends, same) = ended_there state mark runs in ends_here whole mark place ends here (same ∙ plain)
-      rules_fault (forms.NotBuilt place) (state, mark, runs, here, later) = let (whole, ends, same) = ended_there state mark runs in later_here whole mark place ends here (same ∙ later)
+      rules_fault (forms.Text place) (state, mark, runs, here) = let (whole, ends) = ended_there state mark runs in ends_here whole mark place ends here
       rules_fault (forms.Limit what place) runs = limit_is what place (passed_there what place runs)
       rules_fault forms.OutOfMemory h = tt
 
@@ -164,47 +168,63 @@ module _ (text : List ℕ) where
               let dim : n ≡ read.form.dim = sym same.0 ∙ ap (λ (s : Schema). s.dim) read.means in
               written_from passed_of passes_free text version read.form rules (marks_left old) (marks_left new) headed stands (subst (λ (m : ℕ). AreThere version m rules (marks_left new)) dim there)
 
-          faultless : HasNoFaultInRules rules → (fault : NameFault) → IsNameFault book fault → ⊥
+          abbrev told : Schema
+          told = schema_of read.form
+
+          faultless : HasNoFaultInRules told.dim told.embeds rules → (fault : NameFault) → IsNameFault book fault → ⊥
           faultless sound _ (SchemaTwice place part among again here) = none_again (spell read.form []) read.stands.within part among again
           faultless sound fault (RulesFault _ found) = sound fault found
 
-          first_of_all : (fault : NameFault) → IsFirstInRules rules fault → (other : NameFault) → IsNameFault book other → place_of fault ≤ place_of other
+          first_of_all : (fault : NameFault) → IsFirstInRules told.dim told.embeds rules fault → (other : NameFault) → IsNameFault book other → IsNotAfter fault other
           first_of_all fault first _ (SchemaTwice place part among again here) = absurd (none_again (spell read.form []) read.stands.within part among again)
           first_of_all fault first other (RulesFault _ found) = first.first other found
 
-          name_fault : (fault : BookFault) → IsFaultOfNames rules fault → IsFaultOf text fault
+          name_fault : (fault : BookFault) → IsFaultOfNames told.dim told.embeds rules fault → IsFaultOf text fault
           name_fault (faults.Twice place) first = record { book = book; written = written; found = RulesFault (TwiceAt place) first.found; first = first_of_all (TwiceAt place) first }
           name_fault (faults.Unknown place) first = record { book = book; written = written; found = RulesFault (UnknownAt place) first.found; first = first_of_all (UnknownAt place) first }
+          name_fault (faults.WrongKind place) first = record { book = book; written = written; found = RulesFault (WrongKindAt place) first.found; first = first_of_all (WrongKindAt place) first }
           name_fault faults.OutOfMemory lost = tt
           name_fault (faults.Text place) none = absurd none
           name_fault (faults.Limit what place) none = absurd none
-          name_fault (faults.NotBuilt place) none = absurd none
 
-          pub answer_stands : (result : Result Book BookFault) → IfOk result (λ made. made.version ≡ version) → IfOk result (λ made. made.schema ≡ declared) → IfOk result (λ made. map rule_of made.rules ≡ map rule_in rules) → IfOk result (λ _. HasNoFaultInRules rules)
+          pub answer_stands : (result : Result Book BookFault) → IfOk result (λ made. made.version ≡ version) → IfOk result (λ made. made.schema ≡ declared)
+              → IfOk result (λ made. AllZip (MeansRule declared.dim declared.embeds) rules (map rule_of made.rules)) → IfOk result (λ _. HasNoFaultInRules declared.dim declared.embeds rules)
               → IfOk result (λ made. BookText text made.version made.schema (map rule_of made.rules))
-          answer_stands (Ok made) versions schemas same sound = record { book = book; written = written; sound = faultless sound; versions = versions; means = schemas ∙ read.means; same = same }
+          answer_stands (Ok made) versions schemas same sound = record {
+            book = book;
+            written = written;
+            sound = faultless (subst (λ (s : Schema). HasNoFaultInRules s.dim s.embeds rules) read.means sound);
+            versions = versions;
+            means = schemas ∙ read.means;
+            same = subst (λ (s : Schema). AllZip (MeansRule s.dim s.embeds) rules (map rule_of made.rules)) read.means same;
+          }
           answer_stands (Err fault) versions schemas same sound = tt
 
-          pub answer_faults : (result : Result Book BookFault) → IfErr result (IsFaultOfNames rules) → IfErr result (IsFaultOf text)
+          pub answer_faults : (result : Result Book BookFault) → IfErr result (IsFaultOfNames declared.dim declared.embeds rules) → IfErr result (IsFaultOf text)
           answer_faults (Ok made) h = tt
-          answer_faults (Err fault) h = name_fault fault h
+          answer_faults (Err fault) h = name_fault fault (subst (λ (s : Schema). IsFaultOfNames s.dim s.embeds rules fault) read.means h)
 
 -- ---- what is read is in range
 
-range_of_tables : (schema : Schema) (tables : List RuleTable) → All (λ rule. IsInRange schema rule × IsWithinLimits rule) (map rule_of tables) → AllByRecursion (λ table. IsInRange schema (rule_of table)) tables × AllByRecursion (λ table. IsWithinLimits (rule_of table)) tables
-range_of_tables schema [] all = (tt, tt)
-range_of_tables schema (table ∷ tables) all =
-    let here = All-head (λ rule. IsInRange schema rule × IsWithinLimits rule) (rule_of table) (map rule_of tables) all in
-    let rest = range_of_tables schema tables (All-tail (λ rule. IsInRange schema rule × IsWithinLimits rule) (rule_of table) (map rule_of tables) all) in
-    ((here.0, rest.0), (here.1, rest.1))
+each_table : (P : Rule → Type 0) (tables : List RuleTable) → All P (map rule_of tables) → AllByRecursion (λ table. P (rule_of table)) tables
+each_table P [] all = tt
+each_table P (table ∷ tables) all = (All-head P (rule_of table) (map rule_of tables) all, each_table P tables (All-tail P (rule_of table) (map rule_of tables) all))
 
-pub tables_in_range : (text : List ℕ) (version : ℕ) (schema : Schema) (tables : List RuleTable) → BookText text version schema (map rule_of tables) → AllByRecursion (λ table. IsInRange schema (rule_of table)) tables × AllByRecursion (λ table. IsWithinLimits (rule_of table)) tables
-tables_in_range text version schema tables stands = range_of_tables schema tables (range_from_text text version schema (map rule_of tables) stands)
+-- where a book stands in the text, what its rules have in common by the text holds of its tables
+of_tables : (P : Schema → Rule → Type 0) → ((whole : List ℕ) (version : ℕ) (schema : Schema) (rules : List Rule) → BookText whole version schema rules → All (P schema) rules) → (text : List ℕ) (result : Result Book BookFault)
+    → IfOk result (λ book. BookText text book.version book.schema (map rule_of book.rules)) → IfOk result (λ book. AllByRecursion (λ rule. P book.schema (rule_of rule)) book.rules)
+of_tables P common text (Ok book) stands = each_table (P book.schema) book.rules (common text book.version book.schema (map rule_of book.rules) stands)
+of_tables P common text (Err fault) stands = tt
 
-pub answer_in_range : (text : List ℕ) (result : Result Book BookFault) → IfOk result (λ book. BookText text book.version book.schema (map rule_of book.rules)) → IfOk result (λ book. AllByRecursion (λ rule. IsInRange book.schema (rule_of rule)) book.rules)
-answer_in_range text (Ok book) stands = (tables_in_range text book.version book.schema book.rules stands).0
-answer_in_range text (Err fault) stands = tt
+module _ (text : List ℕ) (result : Result Book BookFault) (stands : IfOk result (λ book. BookText text book.version book.schema (map rule_of book.rules))) where
+  pub answer_in_range : IfOk result (λ book. AllByRecursion (λ rule. IsInRange book.schema (rule_of rule)) book.rules)
+  answer_in_range = of_tables IsInRange (λ whole version schema rules is k d inside. (range_from_text whole version schema rules is k d inside).0) text result stands
 
-pub answer_within_limits : (text : List ℕ) (result : Result Book BookFault) → IfOk result (λ book. BookText text book.version book.schema (map rule_of book.rules)) → IfOk result (λ book. AllByRecursion (λ rule. IsWithinLimits (rule_of rule)) book.rules)
-answer_within_limits text (Ok book) stands = (tables_in_range text book.version book.schema book.rules stands).1
-answer_within_limits text (Err fault) stands = tt
+  pub answer_within_limits : IfOk result (λ book. AllByRecursion (λ rule. IsWithinLimits (rule_of rule)) book.rules)
+  answer_within_limits = of_tables (λ schema. IsWithinLimits) (λ whole version schema rules is k d inside. (range_from_text whole version schema rules is k d inside).1) text result stands
+
+  pub answer_typed : IfOk result (λ book. AllByRecursion (λ rule. IsTyped book.schema (rule_of rule)) book.rules)
+  answer_typed = of_tables IsTyped (λ whole version schema rules is k d inside. (range_from_text whole version schema rules is k d inside).2) text result stands
+
+  pub answer_unsigned : IfOk result (λ book. AllByRecursion (λ rule. HasUnsignedExprs (rule_of rule)) book.rules)
+  answer_unsigned = of_tables (λ schema. HasUnsignedExprs) (λ whole version schema rules is k d inside. (range_from_text whole version schema rules is k d inside).3) text result stands

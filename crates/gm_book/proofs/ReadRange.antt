@@ -1,21 +1,34 @@
--- The rules that a text stands for are in range and within the limits, and can be printed.
+-- The rules that a text stands for are in range and within the limits, and each of their expressions has its kind.
 use Rattle.std.proofs.Common.{◌≡◌, ℕ, zero, suc, ◌+◌, ◌<◌, ◌≤◌, Bool, true, false, ◌&&◌, List, [], ◌∷◌, ◌++◌, length, get_or, All, Option, Some, None, is_some, inl, inr, ◌⊎◌, refl, sym, ap, subst, ◌∙◌, arith}
 use Rattle.std.specs.Prelude.{slice_get}
-use Rattle.std.specs.List.{AllByRecursion}
-use Rattle.std.specs.Option.{option_and_then, unwrap_or}
+use Rattle.std.specs.List.{AllByRecursion, Contains, position_or_len}
+use Rattle.std.specs.Option.{option_map, option_and_then, unwrap_or}
+use Rattle.std.specs.Str.{bytes_eq}
 use Rattle.std.proofs.lemmas.List.{length-append, append_assoc}
 use Rattle.std.proofs.lemmas.List.Elements.{All-from_recursion}
-use Rattle.std.proofs.lemmas.Option.{slice_get-get_or, slice_get_within}
+use Rattle.std.proofs.lemmas.Option.{slice_get-get_or, slice_get-map, slice_get_within}
+use Rattle.gm_model.specs.declared.expr.DartTerm.{DartTerm}
 use Rattle.gm_model.specs.declared.word.Letter.{Letter}
-use Rattle.gm_model.specs.declared.word.Letter.TheVariants as letter
 use Rattle.gm_model.specs.declared.rule.Side.{Side}
 use Rattle.gm_model.specs.declared.rule.Side.TheVariants.{Left, Right}
 use Rattle.gm_model.specs.declared.schema.Schema.{Schema}
-use Rattle.gm_model.specs.Rules.{Rule, RuleNode, Assignment, has_word, word_on, letters, links_on}
+use Rattle.gm_model.specs.declared.schema.Embed.{Embed}
+use Rattle.gm_model.specs.declared.value.Kind.{Kind}
+use Rattle.gm_model.specs.declared.value.Kind.TheVariants as kinds
+use Rattle.gm_model.specs.Kinds.{IsTermInRange, IsTreeInRange, HasKind, IsTyped, embed_kind, param_kinds}
+use Rattle.gm_model.specs.Rules.{Rule, RuleNode, Assignment, Assigns, has_word, word_on, letters, links_on}
 use Rattle.gm_model.specs.Structure.{HasLabelsUpTo, IsLinkInRange, IsInRange, IsWithinLimits}
+use Rattle.gm_model.specs.Trees.{Tree, Number, Truth, Param as Parameter, Field, Same, Count, Sum, Least, Greatest, Unary, Binary, If, MakeVec2, MakeVec3, MakeRgb}
+use Rattle.gm_parse.specs.Meaning.{IsUnsigned}
+use Rattle.gm_expr.specs.ExprText.{embed_name}
+use Rattle.gm_expr.specs.Writable as trees
 use Rattle.gm_forms.specs.BookText.{BookText}
-use Rattle.gm_book.proofs.CanonicalForm.{IsGoodLetter, IsGoodWordIfAny, IsGoodNode, IsGoodLink, IsWritable, numbers_where, number_if, hook_on}
+use Rattle.gm_book.specs.Unsigned.{HasUnsignedExprs}
+use Rattle.gm_book.proofs.CanonicalForm.{IsGoodWordIfAny, IsGoodNode, IsGoodLink, IsWritable, numbers_where, number_if, hook_on, set_names, IsGoodValue, IsGoodSet, HasGoodSets, HasGoodExprs}
 use Rattle.gm_book.proofs.CanonicalText.{element_at, each}
+use Rattle.gm_book.proofs.DifferentNames.{number_there}
+use Rattle.gm_book.proofs.ReadAgain.{exprs_from_text}
+use Rattle.gm_book.proofs.ReadLimits.{low_letters}
 use Rattle.gm_book.proofs.ReadRules.{writable_from_text}
 
 -- ---- numbers that rise
@@ -57,15 +70,12 @@ module _ (n : ℕ) (rule : Rule) (ok : IsWritable n rule) where
   has_of : (side : Side) (x : ℕ) (node : RuleNode) → slice_get rule.nodes x ≡ Some node → has_word rule side x ≡ is_some (word_on side node)
   has_of side x node here = rw here refl
 
-  good_letters : (word : List Letter) → AllByRecursion (IsGoodLetter n) word → HasLabelsUpTo n word
-  good_letters word good = each (IsGoodLetter n) (λ x. (i : ℕ) → x ≡ letter.At i → i ≤ n) (λ x fits i is. subst (IsGoodLetter n) is fits) word good
-
   labels_low : (side : Side) (x : ℕ) → HasLabelsUpTo n (letters rule side x)
   labels_low side x = go (slice_get rule.nodes x) refl
     where
       of_word : (word : Option (List Letter)) → IsGoodWordIfAny n word → HasLabelsUpTo n (unwrap_or word [])
       of_word None good = tt
-      of_word (Some word) good = good_letters word good.1
+      of_word (Some word) good = low_letters n word good.1
 
       of_side : (side : Side) (node : RuleNode) → IsGoodNode n node → HasLabelsUpTo n (unwrap_or (word_on side node) [])
       of_side Left node good = of_word node.left good.left
@@ -77,12 +87,6 @@ module _ (n : ℕ) (rule : Rule) (ok : IsWritable n rule) where
 
   links_low : (side : Side) → AllByRecursion (IsLinkInRange n rule side) (links_on rule side)
   links_low side = each (IsGoodLink n rule side) (IsLinkInRange n rule side) (λ link good. record { label = good.label; from = good.from; to = good.to }) (links_on rule side) (ok.links side)
-
-  no_sets : (x : ℕ) (node : RuleNode) → slice_get rule.nodes x ≡ Some node → node.sets ≡ []
-  no_sets x node here = (element_at (IsGoodNode n) rule.nodes ok.nodes x node here).sets
-
-  none_set : (x : ℕ) (node : RuleNode) (k : ℕ) (s : Assignment) → slice_get rule.nodes x ≡ Some node → slice_get node.sets k ≡ Some s → ⊥
-  none_set x node k s here set = let inside : k < length node.sets = slice_get_within node.sets k s set in omega (arith, inside, ap length (no_sets x node here))
 
 -- ---- left nodes first
 
@@ -150,25 +154,119 @@ module _ (schema : Schema) (rule : Rule) (ok : IsWritable schema.dim rule) where
   left_in_front x y before = subst (λ nodes. has_left nodes y ≡ true → has_left nodes x ≡ true) (sym ok.left_first)
       (first_left ok.left_nodes ok.added_nodes ok.left (each _ _ (λ (node : RuleNode) two. two.0) ok.added_nodes ok.added) x y before)
 
-  pub writable_in_range : IsInRange schema rule
-  writable_in_range = record {
-    words = labels_low schema.dim rule ok;
-    some_word = has_some;
-    left_first = left_in_front;
-    links = links_low schema.dim rule ok;
-    hooks = subst (AllByRecursion (λ h. has_word rule Left h ≡ true)) ok.hooks (numbers_left (hook_on rule Left) [] rule.nodes);
-    hooks_differ = λ p q before inside same.
-        let apart = rises_apart 0 rule.hooks (subst (Rises 0) ok.hooks (numbers_rise (hook_on rule Left) 0 rule.nodes)) p q before inside in
-        omega (arith, apart, same);
-    sets = λ x node s here has. absurd (none_set schema.dim rule ok x node has.0 s here (slice_get-get_or node.sets has.0 s has.1 ∙ ap Some has.2));
-    sets_differ = λ x node k l s t here set _ _. absurd (none_set schema.dim rule ok x node k s here set);
-  }
+  -- ---- its expressions
+
+  term_in_range : (term : DartTerm) → trees.IsGoodTerm schema.embeds rule.params rule.nodes schema.dim term → IsTermInRange schema rule term
+  term_in_range term (node, there, left, labels) = record { node = has_of schema.dim rule ok Left term.node node there ∙ left; path = labels }
+
+  tree_in_range : (tree : Tree) → trees.IsWritable schema.embeds rule.params rule.nodes schema.dim tree → IsTreeInRange schema rule tree
+  tree_in_range (Number z) can = tt
+  tree_in_range (Truth b) can = tt
+  tree_in_range (Parameter k) can = can
+  tree_in_range (Field d e) can = (term_in_range d can.0, can.1)
+  tree_in_range (Same d d') can = (term_in_range d can.0, term_in_range d' can.1)
+  tree_in_range (Count o d) can = (can.0, term_in_range d can.1)
+  tree_in_range (Sum o d e) can = (can.0, term_in_range d can.1, can.2)
+  tree_in_range (Least o d e) can = (can.0, term_in_range d can.1, can.2)
+  tree_in_range (Greatest o d e) can = (can.0, term_in_range d can.1, can.2)
+  tree_in_range (Unary op a) can = tree_in_range a can
+  tree_in_range (Binary op a b) can = (tree_in_range a can.0, tree_in_range b can.1)
+  tree_in_range (If c a b) can = (tree_in_range c can.0, tree_in_range a can.1, tree_in_range b can.2)
+  tree_in_range (MakeVec2 a b) can = (tree_in_range a can.0, tree_in_range b can.1)
+  tree_in_range (MakeVec3 a b c) can = (tree_in_range a can.0, tree_in_range b can.1, tree_in_range c can.2)
+  tree_in_range (MakeRgb a b c) can = (tree_in_range a can.0, tree_in_range b can.1, tree_in_range c can.2)
+
+  tree_unsigned : (tree : Tree) → trees.IsWritable schema.embeds rule.params rule.nodes schema.dim tree → IsUnsigned tree
+  tree_unsigned (Number z) can = (can.0, can.1)
+  tree_unsigned (Truth b) can = tt
+  tree_unsigned (Parameter k) can = tt
+  tree_unsigned (Field d e) can = tt
+  tree_unsigned (Same d d') can = tt
+  tree_unsigned (Count o d) can = tt
+  tree_unsigned (Sum o d e) can = tt
+  tree_unsigned (Least o d e) can = tt
+  tree_unsigned (Greatest o d e) can = tt
+  tree_unsigned (Unary op a) can = tree_unsigned a can
+  tree_unsigned (Binary op a b) can = (tree_unsigned a can.0, tree_unsigned b can.1)
+  tree_unsigned (If c a b) can = (tree_unsigned c can.0, tree_unsigned a can.1, tree_unsigned b can.2)
+  tree_unsigned (MakeVec2 a b) can = (tree_unsigned a can.0, tree_unsigned b can.1)
+  tree_unsigned (MakeVec3 a b c) can = (tree_unsigned a can.0, tree_unsigned b can.1, tree_unsigned c can.2)
+  tree_unsigned (MakeRgb a b c) can = (tree_unsigned a can.0, tree_unsigned b can.1, tree_unsigned c can.2)
+
+  module _ (exprs : HasGoodExprs schema rule) where
+    sets_of_node : (x : ℕ) (node : RuleNode) → slice_get rule.nodes x ≡ Some node → HasGoodSets schema rule node
+    sets_of_node x node here = element_at (HasGoodSets schema rule) rule.nodes exprs.sets x node here
+
+    good_set : (x : ℕ) (node : RuleNode) (k : ℕ) (set : Assignment) → slice_get rule.nodes x ≡ Some node → slice_get node.sets k ≡ Some set → IsGoodSet schema rule set
+    good_set x node k set here there = element_at (IsGoodSet schema rule) node.sets (sets_of_node x node here).each k set there
+
+    placed : (node : RuleNode) (set : Assignment) → Contains node.sets set → (k : ℕ) × (slice_get node.sets k ≡ Some set)
+    placed node set there = (there.0, slice_get-get_or node.sets there.0 set there.1 ∙ ap Some there.2)
+
+    -- a node with an assignment is a right one
+    on_right : (x : ℕ) (node : RuleNode) (k : ℕ) (set : Assignment) → slice_get rule.nodes x ≡ Some node → slice_get node.sets k ≡ Some set → has_word rule Right x ≡ true
+    on_right x node k set here there = has_of schema.dim rule ok Right x node here ∙ go node.right refl
+      where
+        go : (word : Option (List Letter)) → node.right ≡ word → is_some word ≡ true
+        go None is = absurd (let inside : k < length node.sets = slice_get_within node.sets k set there in omega (arith, inside, ap length ((sets_of_node x node here).on_right is)))
+        go (Some word) is = refl
+
+    -- where an embedding is assigned tells which assignment it is
+    number_of_set : (x : ℕ) (node : RuleNode) (k : ℕ) (set : Assignment) → slice_get rule.nodes x ≡ Some node → slice_get node.sets k ≡ Some set
+        → position_or_len (bytes_eq (embed_name schema.embeds set.embed)) (set_names schema node.sets) ≡ k
+    number_of_set x node k set here there =
+        let name_of : Assignment → List ℕ = λ other. embed_name schema.embeds other.embed in
+        let named : slice_get (set_names schema node.sets) k ≡ Some (name_of set) = slice_get-map name_of node.sets k ∙ ap (option_map name_of) there in
+        number_there (set_names schema node.sets) k (name_of set) (sets_of_node x node here).differ named
+
+    pub writable_in_range : IsInRange schema rule
+    writable_in_range = record {
+      words = labels_low schema.dim rule ok;
+      some_word = has_some;
+      left_first = left_in_front;
+      links = links_low schema.dim rule ok;
+      hooks = subst (AllByRecursion (λ h. has_word rule Left h ≡ true)) ok.hooks (numbers_left (hook_on rule Left) [] rule.nodes);
+      hooks_differ = λ p q before inside same.
+          let apart = rises_apart 0 rule.hooks (subst (Rises 0) ok.hooks (numbers_rise (hook_on rule Left) 0 rule.nodes)) p q before inside in
+          omega (arith, apart, same);
+      sets = λ x node set here has. let (k, there) = placed node set has in (on_right x node k set here there, (good_set x node k set here there).embed);
+      sets_differ = λ x node k l set other here first second same.
+          sym (number_of_set x node k set here first) ∙ ap (λ e. position_or_len (bytes_eq (embed_name schema.embeds e)) (set_names schema node.sets)) same ∙ number_of_set x node l other here second;
+    }
+
+    value_typed : (tree : Tree) (kind : Kind) → IsGoodValue schema rule tree (Some kind) → HasKind schema rule tree kind
+    value_typed tree kind good = record { in_range = tree_in_range tree good.can; kind_is = good.kind_is }
+
+    assigned_value : (x e : ℕ) (tree : Tree) → Assigns rule x e tree → IsGoodValue schema rule tree (embed_kind schema.embeds (param_kinds rule.params) e)
+    assigned_value x e tree (node, here, has) = let (k, there) = placed node _ has in (good_set x node k _ here there).value
+
+    pub writable_typed : IsTyped schema rule
+    writable_typed = record {
+      pre = λ tree is. value_typed tree kinds.Bool (exprs.pre tree is);
+      sets = λ x e tree embed assigns at.
+          value_typed tree embed.kind (subst (IsGoodValue schema rule tree) (ap (option_map (λ (other : Embed). other.kind)) at) (assigned_value x e tree assigns));
+    }
+
+    pub writable_unsigned : HasUnsignedExprs rule
+    writable_unsigned = record {
+      pre = λ tree is. tree_unsigned tree (exprs.pre tree is).can;
+      sets = λ x e tree assigns. tree_unsigned tree (assigned_value x e tree assigns).can;
+    }
 
   pub writable_within : IsWithinLimits rule
   writable_within = record { nodes = ok.few_nodes; left_links = ok.few_links Left; right_links = ok.few_links Right; params = ok.few_params }
 
 -- ---- a book
 
-pub range_from_text : (whole : List ℕ) (version : ℕ) (schema : Schema) (rules : List Rule) → BookText whole version schema rules → All (λ rule. IsInRange schema rule × IsWithinLimits rule) rules
-range_from_text whole version schema rules stands = All-from_recursion (λ rule. IsInRange schema rule × IsWithinLimits rule) rules
-    (each (IsWritable schema.dim) (λ rule. IsInRange schema rule × IsWithinLimits rule) (λ rule ok. (writable_in_range schema rule ok, writable_within schema rule ok)) rules (writable_from_text whole version schema rules stands).each)
+-- what holds of each rule that is read
+abbrev IsGoodRead : Schema → Rule → Type 0
+IsGoodRead schema rule = IsInRange schema rule × IsWithinLimits rule × IsTyped schema rule × HasUnsignedExprs rule
+
+each_good : (schema : Schema) (rules : List Rule) → AllByRecursion (IsWritable schema.dim) rules → AllByRecursion (HasGoodExprs schema) rules → AllByRecursion (IsGoodRead schema) rules
+each_good schema [] ok exprs = tt
+each_good schema (rule ∷ rules) ok exprs =
+    ((writable_in_range schema rule ok.0 exprs.0, writable_within schema rule ok.0, writable_typed schema rule ok.0 exprs.0, writable_unsigned schema rule ok.0 exprs.0), each_good schema rules ok.1 exprs.1)
+
+pub range_from_text : (whole : List ℕ) (version : ℕ) (schema : Schema) (rules : List Rule) → BookText whole version schema rules → All (λ rule. IsInRange schema rule × IsWithinLimits rule × IsTyped schema rule × HasUnsignedExprs rule) rules
+range_from_text whole version schema rules stands =
+    All-from_recursion (IsGoodRead schema) rules (each_good schema rules (writable_from_text whole version schema rules stands).each (exprs_from_text whole version schema rules stands))

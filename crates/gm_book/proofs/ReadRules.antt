@@ -1,8 +1,8 @@
 -- The rules that a text stands for can be written.
-use Rattle.std.proofs.Common.{◌≡◌, ℕ, suc, ◌+◌, ◌<◌, ◌≤◌, Bool, true, false, ◌&&◌, eqb, List, [], ◌∷◌, ◌++◌, length, get_or, map, All, Some, None, is_some, inl, inr, refl, sym, ap, subst, ◌∙◌, append_assoc, arith}
+use Rattle.std.proofs.Common.{◌≡◌, ℕ, suc, ◌+◌, ◌<◌, ◌≤◌, Bool, true, false, ◌&&◌, eqb, List, [], ◌∷◌, ◌++◌, length, get_or, map, All, Option, Some, None, is_some, inl, inr, refl, sym, ap, subst, ◌∙◌, append_assoc, arith}
 use Rattle.std.specs.Prelude.{slice_get}
 use Rattle.std.specs.Str.{bytes_eq}
-use Rattle.std.specs.List.{list_any, position_or_len, AllByRecursion, Contains}
+use Rattle.std.specs.List.{list_any, position_or_len, AllByRecursion, AllZip, Contains}
 use Rattle.std.proofs.lemmas.Bool.{cases_Bool, ne_eqb, eq-eqb}
 use Rattle.std.proofs.lemmas.List.{append-nil, map-append, length-append, length-map}
 use Rattle.std.proofs.lemmas.List.Elements.{All-from_recursion, recursion_from_All}
@@ -11,36 +11,30 @@ use Rattle.std.proofs.lemmas.Slice.Eq.{bytes_eq-Decides}
 use Rattle.gm_model.specs.declared.rule.Side.{Side}
 use Rattle.gm_model.specs.declared.rule.Side.TheVariants.{Left, Right}
 use Rattle.gm_model.specs.declared.schema.Schema.{Schema}
-use Rattle.gm_model.specs.Rules.{Rule, RuleNode, has_word, word_on, links_on}
+use Rattle.gm_model.specs.declared.schema.Embed.{Embed}
+use Rattle.gm_model.specs.Maps.{IsSchema}
+use Rattle.gm_model.specs.Rules.{Rule, RuleNode, Assignment, has_word, word_on, links_on}
+use Rattle.gm_model.specs.Trees.{Tree}
 use Rattle.gm_model.specs.Names.{Mention, is_among}
 use Rattle.gm_model.specs.Reading.{Part, IsWithin}
 use Rattle.gm_model.specs.Symbols.{Symbol}
 use Rattle.gm_text.specs.SchemaText as schemas
-use Rattle.gm_text.specs.SchemaText.{spell, is_again, passed_of}
-use Rattle.gm_text.proofs.SchemaSound.{form_parts}
-use Rattle.gm_forms.specs.BookText.{Item, NodeItem, LinkItem, ParamForm, RuleForm, BookForm, Count, no_count, count_after, count_across, counted, with_name, names_of, nodes_in, ends_in, items_on, nodes_of, word_in, number_of, links_in, hooks_in, node_in, params_in, param_of, rule_in, IsAgain, IsStranger, NameFault, IsNameFault, TwiceAt, UnknownAt, RuleTwice, ParamTwice, NodeTwice, NodeUnknown, SchemaTwice, RulesFault, IsRule, IsForm, BookText, spelling, canonical}
+use Rattle.gm_text.specs.SchemaText.{schema_of, spell, is_again, passed_of}
+use Rattle.gm_text.proofs.SchemaSound.{form_sound}
+use Rattle.gm_forms.specs.BookText.{Item, NodeItem, LinkItem, ParamForm, RuleForm, BookForm, Count, no_count, count_after, count_across, counted, with_name, names_of, nodes_in, ends_in, items_on, nodes_of, word_in, number_of, links_in, hooks_in, node_in, params_in, param_of, rule_in, IsAgain, IsStranger, TwiceAt, UnknownAt, RuleTwice, ParamTwice, NodeTwice, NodeUnknown, SchemaTwice, RulesFault, IsRule, BookText, MeansRule, spelling}
 use Rattle.gm_book.proofs.CanonicalForm.{AreNew, number_if, numbers_where, node_names, hook_on, IsGoodName, IsGoodWordIfAny, IsGoodNode, IsGoodLink, IsWritable, IsGoodParam, param_names}
 use Rattle.gm_book.proofs.CanonicalLimits.{HasFewHooks, as_many_hooks}
 use Rattle.gm_book.proofs.CanonicalText.{each}
 use Rattle.gm_book.proofs.CanonicalRule.{seen_after, counted_seen, seen_new}
-use Rattle.gm_book.proofs.CanonicalNames.{rule_names, HasNoFault}
-use Rattle.gm_book.proofs.CanonicalBook.{AreWritable, written_again}
+use Rattle.gm_book.proofs.CanonicalNames.{rule_names}
+use Rattle.gm_book.proofs.CanonicalBook.{AreWritable}
+use Rattle.gm_book.specs.Building.{HasNoFaultInRules}
+use Rattle.gm_book.proofs.Built.{sound_alone}
 use Rattle.gm_forms.proofs.Contained.{contains_here, contains_behind}
-use Rattle.gm_book.proofs.DifferentNames.{among_front, among_last, among_neither, new_append, number_behind}
-use Rattle.gm_book.proofs.ReadLimits.{IsGoodItem, IsReadable, IsReadableBook, read_fit, book_good}
+use Rattle.gm_book.proofs.DifferentNames.{among_front, among_last, among_neither, new_append, number_behind, new_mentions}
+use Rattle.gm_book.proofs.ReadLimits.{IsGoodItem, IsReadable, IsReadableBook, few_names, read_fit, book_good}
 
 -- ---- names
-
--- where no name is mentioned again, each is new
-new_mentions : (front behind : List Mention) → ((place : ℕ) → IsAgain (front ++ behind) place → ⊥) → AreNew (names_of front) (names_of behind)
-new_mentions front [] never = tt
-new_mentions front (mention ∷ behind) never =
-    let first : is_among (names_of front) mention.name ≡ false = elim (cases_Bool (is_among (names_of front) mention.name)) [
-      | inl again ↦ absurd (never mention.place (record { front = front; mention = mention; behind = behind; split = refl; here = refl; again = again }))
-      | inr new ↦ new
-    ] in
-    let later = new_mentions (front ++ mention ∷ []) behind (subst (λ all. (place : ℕ) → IsAgain all place → ⊥) (sym (append_assoc front (mention ∷ []) behind)) never) in
-    (first, subst (λ names. AreNew names (names_of behind)) (map-append (λ (m : Mention). m.name) front (mention ∷ [])) later)
 
 -- what is added to the names seen
 record Added (seen names : List (List ℕ)) : Type 0 where
@@ -131,7 +125,7 @@ stands_at (other ∷ names) name is = elim (cases_Bool (bytes_eq name other)) [
 
 some_word : (items : List Item) (name : List ℕ) → is_some (word_in items name) ≡ is_among (names_of (nodes_in items)) name
 some_word [] name = refl
-some_word (NodeItem node word hook ∷ items) name = elim (cases_Bool (bytes_eq name node.name)) [
+some_word (NodeItem node word hook sets ∷ items) name = elim (cases_Bool (bytes_eq name node.name)) [
   | inl same ↦ rw same refl
   | inr differ ↦ rw differ (some_word items name)
 ]
@@ -139,7 +133,7 @@ some_word (LinkItem from label to ∷ items) name = some_word items name
 
 good_word : (n : ℕ) (items : List Item) (name : List ℕ) → AllByRecursion (IsGoodItem n) items → IsGoodWordIfAny n (word_in items name)
 good_word n [] name good = tt
-good_word n (NodeItem node word hook ∷ items) name good = elim (cases_Bool (bytes_eq name node.name)) [
+good_word n (NodeItem node word hook sets ∷ items) name good = elim (cases_Bool (bytes_eq name node.name)) [
   | inl same ↦ rw same good.0.1
   | inr differ ↦ rw differ (good_word n items name good.1)
 ]
@@ -147,14 +141,14 @@ good_word n (LinkItem from label to ∷ items) name good = good_word n items nam
 
 good_names : (n : ℕ) (items : List Item) → AllByRecursion (IsGoodItem n) items → AllByRecursion IsGoodName (names_of (nodes_in items))
 good_names n [] good = tt
-good_names n (NodeItem node word hook ∷ items) good = (good.0.0, good_names n items good.1)
+good_names n (NodeItem node word hook sets ∷ items) good = (good.0.0, good_names n items good.1)
 good_names n (LinkItem from label to ∷ items) good = good_names n items good.1
 
 -- ---- hooks
 
 abbrev hook_flags : List Item → List Bool
 hook_flags [] = []
-hook_flags (NodeItem node word hook ∷ items) = hook ∷ hook_flags items
+hook_flags (NodeItem node word hook sets ∷ items) = hook ∷ hook_flags items
 hook_flags (LinkItem from label to ∷ items) = hook_flags items
 
 -- the numbers of the flags that are set
@@ -165,7 +159,7 @@ flagged x (flag ∷ flags) = number_if flag x (flagged (x + 1) flags)
 hooks_flagged : (names front more : List (List ℕ)) (items : List Item) → names ≡ front ++ (names_of (nodes_in items) ++ more) → AreNew front (names_of (nodes_in items)) → hooks_in names items ≡ flagged (length front) (hook_flags items)
 hooks_flagged names front more [] split new = refl
 hooks_flagged names front more (LinkItem from label to ∷ items) split new = hooks_flagged names front more items split new
-hooks_flagged names front more (NodeItem node word hook ∷ items) split new =
+hooks_flagged names front more (NodeItem node word hook sets ∷ items) split new =
     let here : number_of names node ≡ length front = ap (position_or_len (bytes_eq node.name)) split ∙ number_behind front (names_of (nodes_in items) ++ more) node.name new.0 in
     let longer : length (front ++ node.name ∷ []) ≡ length front + 1 = length-append front (node.name ∷ []) in
     let later : hooks_in names items ≡ flagged (length front + 1) (hook_flags items) =
@@ -173,7 +167,7 @@ hooks_flagged names front more (NodeItem node word hook ∷ items) split new =
     go hook here later
   where
     go : (hook : Bool) → number_of names node ≡ length front → hooks_in names items ≡ flagged (length front + 1) (hook_flags items)
-        → hooks_in names (NodeItem node word hook ∷ items) ≡ number_if hook (length front) (flagged (length front + 1) (hook_flags items))
+        → hooks_in names (NodeItem node word hook sets ∷ items) ≡ number_if hook (length front) (flagged (length front + 1) (hook_flags items))
     go true here later = rw (here, later) refl
     go false here later = later
 
@@ -205,7 +199,7 @@ where_front test x (node ∷ front) behind none = ap (number_if (is_some node.le
 
 flags_long : (items : List Item) → length (hook_flags items) ≡ length (names_of (nodes_in items))
 flags_long [] = refl
-flags_long (NodeItem node word hook ∷ items) = ap suc (flags_long items)
+flags_long (NodeItem node word hook sets ∷ items) = ap suc (flags_long items)
 flags_long (LinkItem from label to ∷ items) = flags_long items
 
 -- ---- links
@@ -225,7 +219,7 @@ ends_known items never = recursion_from_All (λ (m : Mention). is_among (names_o
 
 links_long : (names : List (List ℕ)) (items : List Item) (count : Count) → (counted count items).links ≡ count.links + length (links_in names items)
 links_long names [] count = omega arith
-links_long names (NodeItem node word hook ∷ items) count = links_long names items (count_after count (NodeItem node word hook))
+links_long names (NodeItem node word hook sets ∷ items) count = links_long names items (count_after count (NodeItem node word hook sets))
 links_long names (LinkItem from label to ∷ items) count = omega (arith, links_long names items (count_after count (LinkItem from label to)))
 
 -- ---- a rule
@@ -242,12 +236,27 @@ params_named : (params : List ParamForm) → param_names (map param_of params) �
 params_named [] = refl
 params_named (param ∷ params) = ap (λ others. param.name.name ∷ others) (params_named params)
 
-module _ (n : ℕ) (form : RuleForm) (ok : IsReadable n form) (faultless : HasNoFault form) where
+module _ (n : ℕ) (embeds : List Embed) (form : RuleForm) (ok : IsReadable n form) (sound : HasNoFaultInRules n embeds (form ∷ [])) (sets : List ℕ → List Assignment) (pre : Option Tree) where
+  abbrev made : Rule
+  made = rule_in sets pre form
+
+  abbrev node_named : List ℕ → RuleNode
+  node_named name = node_in form sets name
+
+  node_once : (side : Side) (place : ℕ) → IsAgain (nodes_in (items_on form side)) place → ⊥
+  node_once side place again = sound (TwiceAt place) (NodeTwice form side place (contains_here form []) again)
+
+  no_stranger : (side : Side) (place : ℕ) → IsStranger (items_on form side) place → ⊥
+  no_stranger side place found = sound (UnknownAt place) (NodeUnknown form side place (contains_here form []) found)
+
+  param_once : (place : ℕ) → IsAgain (params_in form) place → ⊥
+  param_once place again = sound (TwiceAt place) (ParamTwice form place (contains_here form []) again)
+
   abbrev names_in : Side → List (List ℕ)
   names_in side = names_of (nodes_in (items_on form side))
 
   left_new : AreNew [] (names_in Left)
-  left_new = new_mentions [] (nodes_in form.left) (faultless.twice Left)
+  left_new = new_mentions [] (nodes_in form.left) (node_once Left)
 
   more : Added (names_in Left) (names_in Right)
   more = added (names_in Left) (names_in Right)
@@ -261,74 +270,68 @@ module _ (n : ℕ) (form : RuleForm) (ok : IsReadable n form) (faultless : HasNo
   all_good : AllByRecursion IsGoodName (nodes_of form)
   all_good = subst (AllByRecursion IsGoodName) (sym names_seen) (good_after IsGoodName (names_in Left) (names_in Right) (good_names n form.left ok.left) (good_names n form.right ok.right))
 
-  left_nodes_have : AllByRecursion (λ (node : RuleNode). is_some node.left ≡ true) (map (node_in form) (names_in Left))
-  left_nodes_have = each_mapped _ (node_in form) (names_in Left) (each _ _ (λ name among. some_word form.left name ∙ among) (names_in Left) (all_among [] (names_in Left)))
+  left_nodes_have : AllByRecursion (λ (node : RuleNode). is_some node.left ≡ true) (map node_named (names_in Left))
+  left_nodes_have = each_mapped _ node_named (names_in Left) (each _ _ (λ name among. some_word form.left name ∙ among) (names_in Left) (all_among [] (names_in Left)))
 
-  added_nodes_have : AllByRecursion (λ (node : RuleNode). (is_some node.left ≡ false) × (is_some node.right ≡ true)) (map (node_in form) more.more)
-  added_nodes_have = each_mapped _ (node_in form) more.more (both _ _ more.more
+  added_nodes_have : AllByRecursion (λ (node : RuleNode). (is_some node.left ≡ false) × (is_some node.right ≡ true)) (map node_named more.more)
+  added_nodes_have = each_mapped _ node_named more.more (both _ _ more.more
       (each _ _ (λ name absent. some_word form.left name ∙ absent) more.more (new_absent [] (names_in Left) more.more (subst (λ seen. AreNew seen more.more) (sym (append-nil (names_in Left))) more.new)))
       (each _ _ (λ name among. some_word form.right name ∙ among) more.more more.among))
 
-  nodes_split : map (node_in form) (nodes_of form) ≡ map (node_in form) (names_in Left) ++ map (node_in form) more.more
-  nodes_split = ap (map (node_in form)) names_are ∙ map-append (node_in form) (names_in Left) more.more
+  nodes_split : map node_named (nodes_of form) ≡ map node_named (names_in Left) ++ map node_named more.more
+  nodes_split = ap (map node_named) names_are ∙ map-append node_named (names_in Left) more.more
 
   -- a name of the side is a node with a word there
-  has_at : (side : Side) (name : List ℕ) → is_among (names_in side) name ≡ true → has_word (rule_in form) side (position_or_len (bytes_eq name) (nodes_of form)) ≡ true
+  has_at : (side : Side) (name : List ℕ) → is_among (names_in side) name ≡ true → has_word made side (position_or_len (bytes_eq name) (nodes_of form)) ≡ true
   has_at side name among =
       let known : is_among (nodes_of form) name ≡ true = ap (λ names. is_among names name) names_seen ∙ known_on side among in
-      let here : slice_get (map (node_in form) (nodes_of form)) (position_or_len (bytes_eq name) (nodes_of form)) ≡ Some (node_in form name) =
-      slice_get-map (node_in form) (nodes_of form) (position_or_len (bytes_eq name) (nodes_of form)) ∙ rw (stands_at (nodes_of form) name known) refl in
+      let here : slice_get (map node_named (nodes_of form)) (position_or_len (bytes_eq name) (nodes_of form)) ≡ Some (node_named name) =
+      slice_get-map node_named (nodes_of form) (position_or_len (bytes_eq name) (nodes_of form)) ∙ rw (stands_at (nodes_of form) name known) refl in
       rw here (word_of side among)
     where
       known_on : (side : Side) → is_among (names_in side) name ≡ true → is_among (seen_after (names_in Left) (names_in Right)) name ≡ true
       known_on Left is = known_first (names_in Left) (names_in Right) name is
       known_on Right is = known_later (names_in Left) (names_in Right) name is
 
-      word_of : (side : Side) → is_among (names_in side) name ≡ true → is_some (word_on side (node_in form name)) ≡ true
+      word_of : (side : Side) → is_among (names_in side) name ≡ true → is_some (word_on side (node_named name)) ≡ true
       word_of Left is = some_word form.left name ∙ is
       word_of Right is = some_word form.right name ∙ is
 
-  links_good : (side : Side) (items : List Item) → AllByRecursion (IsGoodItem n) items → AllByRecursion (λ (m : Mention). is_among (names_in side) m.name ≡ true) (ends_in items) → AllByRecursion (IsGoodLink n (rule_in form) side) (links_in (nodes_of form) items)
+  links_good : (side : Side) (items : List Item) → AllByRecursion (IsGoodItem n) items → AllByRecursion (λ (m : Mention). is_among (names_in side) m.name ≡ true) (ends_in items) → AllByRecursion (IsGoodLink n made side) (links_in (nodes_of form) items)
   links_good side [] good known = tt
-  links_good side (NodeItem node word hook ∷ items) good known = links_good side items good.1 known
+  links_good side (NodeItem node word hook sets ∷ items) good known = links_good side items good.1 known
   links_good side (LinkItem from label to ∷ items) good known =
       (record { label = good.0.1; from = has_at side from.name known.0; to = has_at side to.name known.1.0 }, links_good side items good.1 known.1.1)
 
-  links_on_side : (side : Side) → AllByRecursion (IsGoodLink n (rule_in form) side) (links_on (rule_in form) side)
-  links_on_side Left = links_good Left form.left ok.left (ends_known form.left (faultless.stranger Left))
-  links_on_side Right = links_good Right form.right ok.right (ends_known form.right (faultless.stranger Right))
+  links_on_side : (side : Side) → AllByRecursion (IsGoodLink n made side) (links_on made side)
+  links_on_side Left = links_good Left form.left ok.left (ends_known form.left (no_stranger Left))
+  links_on_side Right = links_good Right form.right ok.right (ends_known form.right (no_stranger Right))
 
-  few_on_side : (side : Side) → length (links_on (rule_in form) side) ≤ 256
+  few_on_side : (side : Side) → length (links_on made side) ≤ 256
   few_on_side Left = omega (arith, links_long (nodes_of form) form.left no_count, ok.left_few.links)
   few_on_side Right = omega (arith, links_long (nodes_of form) form.right (count_across (counted no_count form.left)), ok.right_few.links)
 
-  hooks_kept : numbers_where (hook_on (rule_in form) Left) 0 (rule_in form).nodes ≡ (rule_in form).hooks
+  hooks_kept : numbers_where (hook_on made Left) 0 made.nodes ≡ made.hooks
   hooks_kept =
-      let test = hook_on (rule_in form) Left in
+      let test = hook_on made Left in
       let same : hooks_in (nodes_of form) form.left ≡ flagged 0 (hook_flags form.left) = hooks_flagged (nodes_of form) [] more.more form.left names_are left_new in
       ap (numbers_where test 0) nodes_split
-      ∙ where_front test 0 (map (node_in form) (names_in Left)) (map (node_in form) more.more) (each _ _ (λ node two. two.0) (map (node_in form) more.more) added_nodes_have)
-      ∙ where_flagged test 0 (map (node_in form) (names_in Left)) (hook_flags form.left) left_nodes_have (length-map (names_in Left) (node_in form) ∙ sym (flags_long form.left)) (λ y above. ap (list_any (eqb y)) same)
+      ∙ where_front test 0 (map node_named (names_in Left)) (map node_named more.more) (each _ _ (λ node two. two.0) (map node_named more.more) added_nodes_have)
+      ∙ where_flagged test 0 (map node_named (names_in Left)) (hook_flags form.left) left_nodes_have (length-map (names_in Left) node_named ∙ sym (flags_long form.left)) (λ y above. ap (list_any (eqb y)) same)
       ∙ sym same
 
-  names_mapped : (names : List (List ℕ)) → node_names (map (node_in form) names) ≡ names
+  names_mapped : (names : List (List ℕ)) → node_names (map node_named names) ≡ names
   names_mapped [] = refl
   names_mapped (name ∷ names) = ap (λ others. name ∷ others) (names_mapped names)
 
-  few_names : length (nodes_of form) ≤ 32
-  few_names =
-      let same : (counted (count_across (counted no_count form.left)) form.right).nodes ≡ nodes_of form =
-      counted_seen (count_across (counted no_count form.left)) form.right ∙ sym (counted_seen (counted no_count form.left) form.right) in
-      subst (λ names. length names ≤ 32) same ok.right_few.nodes
-
-  rule_writable : IsWritable n (rule_in form)
-  rule_writable = record {
+  form_writable : IsWritable n made
+  form_writable = record {
     name = ok.name;
-    nodes = each_mapped (IsGoodNode n) (node_in form) (nodes_of form) (each _ _ (λ name good. record { name = good; left = good_word n form.left name ok.left; right = good_word n form.right name ok.right; sets = refl }) (nodes_of form) all_good);
+    nodes = each_mapped (IsGoodNode n) node_named (nodes_of form) (each _ _ (λ name good. record { name = good; left = good_word n form.left name ok.left; right = good_word n form.right name ok.right }) (nodes_of form) all_good);
     differ = subst (AreNew []) (sym (names_mapped (nodes_of form) ∙ names_are)) (new_append [] (names_in Left) more.more left_new more.new);
-    few_nodes = omega (arith, length-map (nodes_of form) (node_in form), few_names);
-    left_nodes = map (node_in form) (names_in Left);
-    added_nodes = map (node_in form) more.more;
+    few_nodes = omega (arith, length-map (nodes_of form) node_named, few_names n form ok);
+    left_nodes = map node_named (names_in Left);
+    added_nodes = map node_named more.more;
     left_first = nodes_split;
     left = left_nodes_have;
     added = added_nodes_have;
@@ -336,52 +339,44 @@ module _ (n : ℕ) (form : RuleForm) (ok : IsReadable n form) (faultless : HasNo
     few_links = few_on_side;
     hooks = hooks_kept;
     params = each_mapped IsGoodParam param_of form.params ok.params;
-    params_differ = subst (AreNew []) (sym (params_named form.params)) (new_mentions [] (params_in form) faultless.param_twice);
+    params_differ = subst (AreNew []) (sym (params_named form.params)) (new_mentions [] (params_in form) param_once);
     few_params = omega (arith, length-map form.params param_of, ok.few_params);
-    pre = refl;
   }
+
+pub rule_writable : (n : ℕ) (embeds : List Embed) (form : RuleForm) (rule : Rule) → MeansRule n embeds form rule → IsReadable n form → HasNoFaultInRules n embeds (form ∷ []) → IsWritable n rule
+rule_writable n embeds form rule means ok sound = subst (IsWritable n) (sym means.same) (form_writable n embeds form ok sound means.sets means.pre)
 
 -- ---- a book
 
-rules_writable : (n : ℕ) (forms : List RuleForm) → AllByRecursion (IsReadable n) forms → AllByRecursion HasNoFault forms → AllByRecursion (IsWritable n) (map rule_in forms)
-rules_writable n [] ok faultless = tt
-rules_writable n (form ∷ forms) ok faultless = (rule_writable n form ok.0 faultless.0, rules_writable n forms ok.1 faultless.1)
+module _ (n : ℕ) (embeds : List Embed) where
+  -- what follows from meaning a readable rule without faults
+  pub each_rule : (P : Rule → Type 0) → ((form : RuleForm) (rule : Rule) → MeansRule n embeds form rule → IsReadable n form → HasNoFaultInRules n embeds (form ∷ []) → P rule) → (forms : List RuleForm) (rules : List Rule)
+      → AllZip (MeansRule n embeds) forms rules → AllByRecursion (IsReadable n) forms → ((form : RuleForm) → Contains forms form → HasNoFaultInRules n embeds (form ∷ [])) → AllByRecursion P rules
+  each_rule P gives [] [] mean ok sound = tt
+  each_rule P gives [] (rule ∷ rules) mean ok sound = absurd mean
+  each_rule P gives (form ∷ forms) [] mean ok sound = absurd mean
+  each_rule P gives (form ∷ forms) (rule ∷ rules) mean ok sound =
+      (gives form rule mean.0 ok.0 (sound form (contains_here form forms)), each_rule P gives forms rules mean.1 ok.1 (λ other there. sound other (contains_behind form forms other there)))
 
-faultless_forms : (book : BookForm) → ((fault : NameFault) → IsNameFault book fault → ⊥) → AllByRecursion HasNoFault book.rules
-faultless_forms book sound = recursion_from_All HasNoFault book.rules (λ k d inside.
-    let form = get_or book.rules k d in
-    let has : Contains book.rules form = (k, inside, get_or_from_slice_get book.rules k form form (slice_get-get_or book.rules k d inside)) in
-    record {
-      param_twice = λ place again. sound (TwiceAt place) (RulesFault (TwiceAt place) (ParamTwice form place has again));
-      twice = λ side place again. sound (TwiceAt place) (RulesFault (TwiceAt place) (NodeTwice form side place has again));
-      stranger = λ side place found. sound (UnknownAt place) (RulesFault (UnknownAt place) (NodeUnknown form side place has found));
-    })
+  names_of_rules : (forms : List RuleForm) (rules : List Rule) → AllZip (MeansRule n embeds) forms rules → rule_names rules ≡ names_of (map (λ (form : RuleForm). form.name) forms)
+  names_of_rules [] [] mean = refl
+  names_of_rules [] (rule ∷ rules) mean = absurd mean
+  names_of_rules (form ∷ forms) [] mean = absurd mean
+  names_of_rules (form ∷ forms) (rule ∷ rules) mean =
+      ap (λ name. name ∷ rule_names rules) (ap (λ (r : Rule). r.name) mean.0.same) ∙ ap (λ names. form.name.name ∷ names) (names_of_rules forms rules mean.1)
 
-names_of_rules : (forms : List RuleForm) → rule_names (map rule_in forms) ≡ names_of (map (λ (form : RuleForm). form.name) forms)
-names_of_rules [] = refl
-names_of_rules (form ∷ forms) = ap (λ names. form.name.name ∷ names) (names_of_rules forms)
+  as_many : (forms : List RuleForm) (rules : List Rule) → AllZip (MeansRule n embeds) forms rules → length rules ≡ length forms
+  as_many [] [] mean = refl
+  as_many [] (rule ∷ rules) mean = absurd mean
+  as_many (form ∷ forms) [] mean = absurd mean
+  as_many (form ∷ forms) (rule ∷ rules) mean = ap suc (as_many forms rules mean.1)
 
-few_hooks : (version : ℕ) (forms : List RuleForm) → AllByRecursion (IsRule version) forms → AllByRecursion (HasFewHooks version) (map rule_in forms)
-few_hooks version [] are = tt
-few_hooks version (form ∷ forms) are = (λ one. omega (arith, are.0.few_hooks one, as_many_hooks form), few_hooks version forms are.1)
-
-book_writable : (book : BookForm) → IsForm book → IsReadableBook book → ((fault : NameFault) → IsNameFault book fault → ⊥) → AreWritable book.version book.schema.dim (map rule_in book.rules)
-book_writable book is ok sound = record {
-  known = is.0;
-  hooks = few_hooks book.version book.rules is.2;
-  some = ok.some;
-  low = ok.low;
-  few = omega (arith, length-map book.rules rule_in, ok.few);
-  each = rules_writable book.schema.dim book.rules ok.each (faultless_forms book sound);
-  differ = subst (AreNew []) (sym (names_of_rules book.rules)) (new_mentions [] (map (λ (form : RuleForm). form.name) book.rules) (λ place again. sound (TwiceAt place) (RulesFault (TwiceAt place) (RuleTwice place again))));
-}
-
-pub writable_from_text : (whole : List ℕ) (version : ℕ) (schema : Schema) (rules : List Rule) → BookText whole version schema rules → AreWritable version schema.dim rules
-writable_from_text whole version schema rules stands =
-    let book = stands.book in
-    let good = book_good book stands.written.form (read_fit whole (spelling stands.book) stands.written.read.spelled stands.written.read.within) in
-    let of_form = subst (AreWritable book.version book.schema.dim) (sym stands.same) (book_writable book stands.written.form good stands.sound) in
-    subst (λ n. AreWritable version n rules) (sym (ap (λ (s : Schema). s.dim) stands.means)) (subst (λ v. AreWritable v book.schema.dim rules) (sym stands.versions) of_form)
+  few_hooks : (version : ℕ) (forms : List RuleForm) (rules : List Rule) → AllZip (MeansRule n embeds) forms rules → AllByRecursion (IsRule version n) forms → AllByRecursion (HasFewHooks version) rules
+  few_hooks version [] [] mean are = tt
+  few_hooks version [] (rule ∷ rules) mean are = absurd mean
+  few_hooks version (form ∷ forms) [] mean are = absurd mean
+  few_hooks version (form ∷ forms) (rule ∷ rules) mean are =
+      (λ one. omega (arith, are.0.few_hooks one, as_many_hooks form, ap (λ (r : Rule). length r.hooks) mean.0.same), few_hooks version forms rules mean.1 are.1)
 
 -- a schema without a fault of its names passes nothing
 passes_nothing : (parts : List (Part schemas.Role)) → IsWithin schemas.IsSentence schemas.limit_of parts → ((part : Part schemas.Role) → Contains parts part → is_again part.role part.symbol ≡ true → ⊥) → IsWithin schemas.IsSentence passed_of parts
@@ -398,17 +393,46 @@ again_placed (schemas.NameAt names at) symbol again = (at, refl)
 again_placed (schemas.LabelAt n mask at) symbol again = (at, refl)
 again_placed role symbol again = absurd cc
 
--- the canonical text of what a text stands for stands for it
-pub read_again : (whole : List ℕ) (version : ℕ) (schema : Schema) (rules : List Rule) → BookText whole version schema rules → BookText (canonical version schema rules) version schema rules
-read_again whole version schema rules stands =
-    let book = stands.book in
-    let form = book.schema in
-    let good = book_good book stands.written.form (read_fit whole (spelling book) stands.written.read.spelled stands.written.read.within) in
-    let within = passes_nothing (spell form []) good.within (λ part among again.
-    let (place, here) = again_placed part.role part.symbol again in stands.sound (TwiceAt place) (SchemaTwice place part among again here)) in
-    let names = form_parts form within good.sound in
-    let writable = subst (λ n. AreWritable version n rules) (ap (λ (s : Schema). s.dim) stands.means) (writable_from_text whole version schema rules stands) in
-    subst (λ (s : Schema). BookText (canonical version s rules) version s rules) (sym stands.means) (written_again version form rules stands.written.form.1 within names writable)
+module _ (whole : List ℕ) (version : ℕ) (schema : Schema) (rules : List Rule) (stands : BookText whole version schema rules) where
+  abbrev book : BookForm
+  book = stands.book
+
+  abbrev told : Schema
+  told = schema_of book.schema
+
+  pub book_read : IsReadableBook book
+  book_read = book_good book stands.written.form (read_fit whole (spelling book) stands.written.read.spelled stands.written.read.within)
+
+  -- its schema passes nothing
+  pub schema_passes : IsWithin schemas.IsSentence passed_of (spell book.schema [])
+  schema_passes = passes_nothing (spell book.schema []) book_read.within (λ part among again.
+      let (place, here) = again_placed part.role part.symbol again in stands.sound (TwiceAt place) (SchemaTwice place part among again here))
+
+  schema_told : IsSchema told
+  schema_told = form_sound book.schema stands.written.form.1 schema_passes
+
+  rule_sound : (form : RuleForm) → Contains book.rules form → HasNoFaultInRules told.dim told.embeds (form ∷ [])
+  rule_sound form there = sound_alone told.dim told.embeds book.rules form there (λ fault found. stands.sound fault (RulesFault fault found))
+
+  -- what follows, over a schema, from meaning a readable rule without faults
+  pub each_of_text : (Q : Schema → Rule → Type 0) → ((s : Schema) (form : RuleForm) (rule : Rule) → IsSchema s → s.dim ≤ 7 → MeansRule s.dim s.embeds form rule → IsReadable s.dim form → HasNoFaultInRules s.dim s.embeds (form ∷ []) → Q s rule) → AllByRecursion (Q schema) rules
+  each_of_text Q gives = subst (λ (s : Schema). AllByRecursion (Q s) rules) (sym stands.means)
+      (each_rule told.dim told.embeds (Q told) (λ form rule means ok sound. gives told form rule schema_told book_read.low means ok sound) book.rules rules stands.same book_read.each rule_sound)
+
+  writable : AreWritable book.version told.dim rules
+  writable = record {
+    known = stands.written.form.0;
+    hooks = few_hooks told.dim told.embeds book.version book.rules rules stands.same stands.written.form.2;
+    some = book_read.some;
+    low = book_read.low;
+    few = omega (arith, as_many told.dim told.embeds book.rules rules stands.same, book_read.few);
+    each = each_rule told.dim told.embeds (IsWritable told.dim) (rule_writable told.dim told.embeds) book.rules rules stands.same book_read.each rule_sound;
+    differ = subst (AreNew []) (sym (names_of_rules told.dim told.embeds book.rules rules stands.same)) (new_mentions [] (map (λ (form : RuleForm). form.name) book.rules)
+        (λ place again. stands.sound (TwiceAt place) (RulesFault (TwiceAt place) (RuleTwice place again))));
+  }
+
+  pub writable_from_text : AreWritable version schema.dim rules
+  writable_from_text = subst (λ n. AreWritable version n rules) (sym (ap (λ (s : Schema). s.dim) stands.means)) (subst (λ v. AreWritable v told.dim rules) (sym stands.versions) writable)
 
 pub one_hook_at_most : (whole : List ℕ) (schema : Schema) (rules : List Rule) → BookText whole 1 schema rules → All (λ (rule : Rule). length rule.hooks ≤ 1) rules
 one_hook_at_most whole schema rules stands =

@@ -14,7 +14,7 @@ use Rattle.gm_forms.specs.Held.{names_at}
 
 pub names_counted : (items : List text.Item) (count : Count) → with_items count.nodes items ≡ (counted count items).nodes
 names_counted [] count = refl
-names_counted (NodeItem node word hook ∷ items) count = names_counted items (count_after count (NodeItem node word hook))
+names_counted (NodeItem node word hook sets ∷ items) count = names_counted items (count_after count (NodeItem node word hook sets))
 names_counted (LinkItem from label to ∷ items) count = names_counted items (count_after count (LinkItem from label to))
 
 pub rule_names_counted : (rule : RuleForm) → with_items (with_items [] rule.left) rule.right ≡ nodes_of rule
@@ -32,7 +32,7 @@ good_with names name all good = elim (cases_Bool (is_among names name)) [
 
 pub good_items : (bytes : List ℕ) (items : List Item) (names : List (List ℕ)) → AllByRecursion IsName names → AllByRecursion (IsItemIn bytes) items → AllByRecursion IsName (with_items names (map (item_of bytes) items))
 good_items bytes [] names all within = all
-good_items bytes (Node name word hook ∷ items) names all within = good_items bytes items _ (good_with names _ all within.0.2) within.1
+good_items bytes (Node name word hook sets ∷ items) names all within = good_items bytes items _ (good_with names _ all within.0.0.2) within.1
 good_items bytes (Link from label to ∷ items) names all within = good_items bytes items names all within.1
 
 pub good_at : (keys : List NameKey) (k : ℕ) (d : NameKey) → AllByRecursion IsName (names_at keys) → k < length keys → IsName (get_or keys k d).bytes.now

@@ -39,7 +39,7 @@ all_free passed free (part ∷ parts) within = (free part.role part.symbol withi
 
 -- rules that stand where marks are
 pub record AreThere (version n : ℕ) (rules : List RuleForm) (marks : List Mark) : Type 0 where
-  pub good : AllByRecursion (IsRule version) rules
+  pub good : AllByRecursion (IsRule version n) rules
   pub spelled : symbols marks ≡ symbols_in (spell_rules n 0 rules (the_end ∷ []))
   pub within : IsIn (spell_rules n 0 rules (the_end ∷ []))
   pub placed : ArePlaced marks (spell_rules n 0 rules (the_end ∷ []))

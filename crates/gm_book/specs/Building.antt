@@ -1,27 +1,50 @@
--- Which rules have no fault of names, and which fault is their first otherwise.
-use Rattle.std.specs.Prelude.{◌≤◌, List}
-use Rattle.gm_forms.specs.BookText.{RuleForm, IsFaultInRules, place_of, TwiceAt, UnknownAt}
+-- Which rules have no fault of names, and which fault is their first otherwise; and what of a rule is read of its assignments.
+use Rattle.std.specs.Prelude.{◌≡◌, ℕ, List, is_some, IsTrue}
+use Rattle.std.specs.List.{AllByRecursion, AllZip}
+use Rattle.gm_model.specs.declared.schema.Embed.{Embed}
+use Rattle.gm_model.specs.Rules.{RuleNode}
+use Rattle.gm_parse.specs.Meaning.{Names, embed_number}
+use Rattle.gm_forms.specs.BookText.{SetForm, Item, NodeItem, LinkItem, RuleForm, IsExpr, IsFaultInRules, IsNotAfter, TwiceAt, UnknownAt, WrongKindAt, MeansSet, node_in, sets_in}
 use Rattle.gm_forms.specs.BookText as text
 use Rattle.gm_book.specs.declared.fault.BookFault.{BookFault}
 use Rattle.gm_book.specs.declared.fault.BookFault.TheVariants as faults
 use Rattle.gm_book.specs.declared.names.NameFault.{NameFault}
-use Rattle.gm_book.specs.declared.names.NameFault.TheVariants.{Twice, Unknown}
+use Rattle.gm_book.specs.declared.names.NameFault.TheVariants.{Twice, Unknown, WrongKind}
 
 abbrev pub book_fault_of : NameFault → BookFault
 book_fault_of (Twice place) = faults.Twice place
 book_fault_of (Unknown place) = faults.Unknown place
+book_fault_of (WrongKind place) = faults.WrongKind place
 
-abbrev pub HasNoFaultInRules : List RuleForm → Type 0
-HasNoFaultInRules rules = (fault : text.NameFault) → IsFaultInRules rules fault → ⊥
+module _ (n : ℕ) (embeds : List Embed) (rules : List RuleForm) where
+  abbrev pub HasNoFaultInRules : Type 0
+  HasNoFaultInRules = (fault : text.NameFault) → IsFaultInRules n embeds rules fault → ⊥
 
--- the fault of the rules' names at the least place
-pub record IsFirstInRules (rules : List RuleForm) (fault : text.NameFault) : Type 0 where
-  pub found : IsFaultInRules rules fault
-  pub first : (other : text.NameFault) → IsFaultInRules rules other → place_of fault ≤ place_of other
+  -- the fault of the rules' names that counts first
+  pub record IsFirstInRules (fault : text.NameFault) : Type 0 where
+    pub found : IsFaultInRules n embeds rules fault
+    pub first : (other : text.NameFault) → IsFaultInRules n embeds rules other → IsNotAfter fault other
 
--- a fault of names is the first; else memory was wanting
-abbrev pub IsFaultOfNames : List RuleForm → BookFault → Type 0
-IsFaultOfNames rules (faults.Twice place) = IsFirstInRules rules (TwiceAt place)
-IsFaultOfNames rules (faults.Unknown place) = IsFirstInRules rules (UnknownAt place)
-IsFaultOfNames rules faults.OutOfMemory = Unit {0}
-IsFaultOfNames rules _ = ⊥
+  -- a fault of names is the first; else memory was wanting
+  abbrev pub IsFaultOfNames : BookFault → Type 0
+  IsFaultOfNames (faults.Twice place) = IsFirstInRules (TwiceAt place)
+  IsFaultOfNames (faults.Unknown place) = IsFirstInRules (UnknownAt place)
+  IsFaultOfNames (faults.WrongKind place) = IsFirstInRules (WrongKindAt place)
+  IsFaultOfNames faults.OutOfMemory = Unit {0}
+  IsFaultOfNames _ = ⊥
+
+-- ---- assignments
+
+-- what is assigned is an embedding, and an expression is assigned to it
+pub record IsKnownSet (n : ℕ) (names : Names) (set : SetForm) : Type 0 where
+  pub embed : IsTrue (is_some (embed_number names set.embed))
+  pub value : IsExpr n set.value
+
+abbrev pub HasKnownSets : ℕ → Names → Item → Type 0
+HasKnownSets n names (NodeItem node word hook sets) = AllByRecursion (IsKnownSet n names) sets
+HasKnownSets n names (LinkItem from label to) = Unit {0}
+
+-- the node of the rule with the name, whose assignments mean what is written
+pub record IsAssigned (n : ℕ) (names : Names) (rule : RuleForm) (name : List ℕ) (node : RuleNode) : Type 0 where
+  pub sets : AllZip (MeansSet n names) (sets_in rule.right name) node.sets
+  pub same : node ≡ node_in rule (λ _. node.sets) name

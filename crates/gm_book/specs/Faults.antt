@@ -1,6 +1,6 @@
 -- Which first fault of a text a reader's answer names.
 use Rattle.std.specs.Prelude.{ℕ, List}
-use Rattle.gm_forms.specs.BookText.{IsTextFault, IsLimitFault, IsNotBuilt, IsFirstNameFault, TwiceAt, UnknownAt}
+use Rattle.gm_forms.specs.BookText.{IsTextFault, IsLimitFault, IsFirstNameFault, TwiceAt, UnknownAt, WrongKindAt}
 use Rattle.gm_book.specs.declared.fault.BookFault.{BookFault}
 use Rattle.gm_book.specs.declared.fault.BookFault.TheVariants as faults
 use Rattle.gm_forms.specs.declared.form_fault.FormFault.{FormFault}
@@ -12,16 +12,16 @@ use Rattle.gm_text.specs.declared.schema_fault.SchemaFault.TheVariants as schema
 abbrev pub IsFaultOf : List ℕ → BookFault → Type 0
 IsFaultOf text (faults.Text place) = IsTextFault text place
 IsFaultOf text (faults.Limit what place) = IsLimitFault text what place
-IsFaultOf text (faults.NotBuilt place) = IsNotBuilt text place
 IsFaultOf text (faults.Twice place) = IsFirstNameFault text (TwiceAt place)
 IsFaultOf text (faults.Unknown place) = IsFirstNameFault text (UnknownAt place)
+IsFaultOf text (faults.WrongKind place) = IsFirstNameFault text (WrongKindAt place)
 IsFaultOf text faults.OutOfMemory = Unit {0}
 
 -- where the fault stands; want of memory stands nowhere
 abbrev pub place_of_fault : BookFault → ℕ
 place_of_fault (faults.Text place) = place
 place_of_fault (faults.Limit what place) = place
-place_of_fault (faults.NotBuilt place) = place
+place_of_fault (faults.WrongKind place) = place
 place_of_fault (faults.Twice place) = place
 place_of_fault (faults.Unknown place) = place
 place_of_fault faults.OutOfMemory = 0
@@ -30,7 +30,6 @@ place_of_fault faults.OutOfMemory = 0
 abbrev pub book_fault_of_form : FormFault → BookFault
 book_fault_of_form (forms.Text place) = faults.Text place
 book_fault_of_form (forms.Limit what place) = faults.Limit what place
-book_fault_of_form (forms.NotBuilt place) = faults.NotBuilt place
 book_fault_of_form forms.OutOfMemory = faults.OutOfMemory
 
 -- a fault of the schema as one of the book

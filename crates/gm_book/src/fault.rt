@@ -18,15 +18,16 @@ pub enum BookFault {
     Limit { what: LimitKind, place: usize },
     /// An embedding has the name of an earlier embedding, a rule that of an earlier rule, a
     /// parameter that of an earlier one of its rule, or a node that of an earlier node of its side;
-    /// or a label is mentioned again in its orbit.
+    /// or an embedding is assigned again on its node, or a label is mentioned again in its orbit.
     #[error("a name is given twice")]
     Twice { place: usize },
-    /// A link names no node of its side.
+    /// A link names no node of its side, `with` no embedding, or an expression nothing that it could.
     #[error("a name stands for nothing")]
     Unknown { place: usize },
-    /// What stands at the place is not read yet.
-    #[error("a part of books that is not read yet")]
-    NotBuilt { place: usize },
+    /// The expression that begins at the place hasn't the kind that an assignment's embedding or a
+    /// precondition needs, or has none.
+    #[error("an expression of the wrong kind")]
+    WrongKind { place: usize },
     /// Memory was wanting, which says nothing of the text.
     #[error("out of memory")]
     OutOfMemory,
@@ -71,6 +72,7 @@ impl From<NameFault> for BookFault {
         match fault {
             NameFault::Twice { place } => BookFault::Twice { place },
             NameFault::Unknown { place } => BookFault::Unknown { place },
+            NameFault::WrongKind { place } => BookFault::WrongKind { place },
         }
     }
 }
@@ -84,7 +86,6 @@ impl From<FormFault> for BookFault {
         match fault {
             FormFault::Text { place } => BookFault::Text { place },
             FormFault::Limit { what, place } => BookFault::Limit { what, place },
-            FormFault::NotBuilt { place } => BookFault::NotBuilt { place },
             FormFault::OutOfMemory => BookFault::OutOfMemory,
         }
     }

@@ -1,12 +1,15 @@
 //! What holds of the texts of books, whoever reads or prints them.
 ghost use Rattle.std.specs.Prelude.{◌≡◌, ◌≢◌, ◌≤◌, ℕ, List, All, length};
 ghost use Rattle.gm_model.specs.declared.schema.Schema.{Schema};
+ghost use Rattle.gm_model.specs.Kinds.{IsTyped};
 ghost use Rattle.gm_model.specs.Rules.{Rule};
 ghost use Rattle.gm_model.specs.Structure.{IsInRange, IsWithinLimits};
-ghost use Rattle.gm_forms.specs.BookText.{BookText, canonical, StandsForNoBook, NameFault, IsFirstNameFault};
+ghost use Rattle.gm_book.specs.Canonical.{canonical};
+ghost use Rattle.gm_forms.specs.BookText.{BookText, StandsForNoBook, NameFault, IsFirstNameFault};
 ghost use Rattle.gm_book.specs.declared.fault.BookFault.{BookFault};
 ghost use Rattle.gm_book.specs.declared.fault.BookFault.TheVariants.{OutOfMemory};
 ghost use Rattle.gm_book.specs.Faults.{IsFaultOf};
+ghost use Rattle.gm_book.specs.Unsigned.{HasUnsignedExprs};
 
 /// A text has one version and stands for one book at most.
 pub fn one_book_at_most()
@@ -14,7 +17,7 @@ pub fn one_book_at_most()
 {}
 
 /// A text has one first fault at most, its kind and place included: by its grammar and limits, or
-/// else by its names.
+/// else by its names and the kinds of its expressions.
 pub fn one_first_fault_at_most()
     ensures one { (text : List ℕ) (fault other : BookFault) → fault ≢ OutOfMemory → other ≢ OutOfMemory → IsFaultOf text fault → IsFaultOf text other → fault ≡ other }
     ensures names { (text : List ℕ) (fault other : NameFault) → IsFirstNameFault text fault → IsFirstNameFault text other → fault ≡ other }
@@ -36,7 +39,9 @@ pub fn one_hook_at_most_in_version_one()
     ensures { (text : List ℕ) (schema : Schema) (rules : List Rule) → BookText text 1 schema rules → All (λ rule. length rule.hooks ≤ 1) rules }
 {}
 
-/// The rules that a text stands for are in range and within the limits on their parts.
+/// The rules that a text stands for are in range and within the limits on their parts. Each of their
+/// expressions names what is there and has the kind that its place needs, and no number in it is
+/// negative.
 pub fn what_is_read_is_in_range()
-    ensures { (text : List ℕ) (version : ℕ) (schema : Schema) (rules : List Rule) → BookText text version schema rules → All (λ rule. IsInRange schema rule × IsWithinLimits rule) rules }
+    ensures { (text : List ℕ) (version : ℕ) (schema : Schema) (rules : List Rule) → BookText text version schema rules → All (λ rule. IsInRange schema rule × IsWithinLimits rule × IsTyped schema rule × HasUnsignedExprs rule) rules }
 {}

@@ -9,6 +9,7 @@ mod names;
 mod printing;
 mod reading;
 mod table;
+mod values;
 
 pub use fault::BookFault;
 pub use laws::{

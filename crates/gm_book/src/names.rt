@@ -3,15 +3,18 @@
 //! The least place counts. So no pass ends the others, and each answers its own least fault.
 ghost use Rattle.std.specs.Prelude.{◌≡◌, [], not, map, IfOk, OnOk};
 ghost use Rattle.std.specs.List.{AllByRecursion};
+ghost use Rattle.gm_model.specs.Maps.{IsSchema};
 ghost use Rattle.gm_model.specs.Names.{is_among};
 ghost use Rattle.gm_forms.specs.BookText.{with_name};
 ghost use Rattle.gm_model.specs.Tokens.{bytes_of};
-ghost use Rattle.gm_forms.specs.Forms.{IsIn, IsItemIn, IsParamIn, IsRuleIn, AreRulesIn, mention_of, item_of, param_form_of, rule_form_of, forms_of};
+ghost use Rattle.gm_forms.specs.Forms.{IsIn, IsSetIn, set_form_of, IsItemIn, IsParamIn, IsRuleIn, AreRulesIn, mention_of, item_of, param_form_of, rule_form_of, forms_of};
 ghost use Rattle.gm_forms.specs.Held.{names_held};
-ghost use Rattle.gm_book.specs.FirstNameFault.{least_of, again_at, place_at, with_item, again_in, with_items, least_again, unknown_at, unknown_in, least_unknown, side_least, least_param, rule_least, least_in, IsLeastFault};
+ghost use Rattle.gm_book.specs.FirstNameFault.{least_of, again_at, place_at, with_item, again_in, with_items, least_again, unknown_at, unknown_in, least_unknown, side_least, least_param, embed_names, least_set, set_in, least_assigned, rank_at, is_before, rule_least, IsLeast, IsFaultInRule, IsRuleFault, IsFaultBehind, IsLeastFault};
+ghost use Rattle.gm_book.specs.Fitting.{IsFitting, HasExprs};
 
-use gm_forms::{Item, NameKey, ParamForm, RuleForm};
-use gm_model::OutOfMemory;
+use crate::values::{embed_number, values_fault};
+use gm_forms::{Item, NameKey, ParamForm, RuleForm, SetForm};
+use gm_model::{OutOfMemory, Schema};
 use gm_text::Token;
 use indexmap::IndexSet;
 use std::alloc::Global;
@@ -20,10 +23,13 @@ use std::alloc::Global;
 #[derive(Clone, Copy)]
 pub(crate) enum NameFault {
     /// A rule has the name of an earlier rule, a parameter that of an earlier one of its rule, or a
-    /// node that of an earlier node of its side.
+    /// node that of an earlier node of its side; or an embedding is assigned again on its node, or a
+    /// label is mentioned again in its orbit.
     Twice { place: usize },
-    /// A link names no node of its side.
+    /// A link names no node of its side, or `with` no embedding, or an expression names nothing.
     Unknown { place: usize },
+    /// An expression hasn't the kind that its place needs.
+    WrongKind { place: usize },
 }
 
 impl NameFault {
@@ -31,8 +37,27 @@ impl NameFault {
         ensures { result ≡ place_at self }
     {
         match self {
-            NameFault::Twice { place } | NameFault::Unknown { place } => place,
+            NameFault::Twice { place }
+            | NameFault::Unknown { place }
+            | NameFault::WrongKind { place } => place,
         }
+    }
+
+    /// The order in which faults at one place count.
+    fn rank(self) -> u8
+        ensures { result ≡ rank_at self }
+    {
+        match self {
+            NameFault::Twice { .. } => 0,
+            NameFault::Unknown { .. } => 1,
+            NameFault::WrongKind { .. } => 2,
+        }
+    }
+
+    fn is_before(self, other: NameFault) -> bool
+        ensures { result ≡ is_before self other }
+    {
+        self.place() < other.place() || self.place() == other.place() && self.rank() < other.rank()
     }
 }
 
@@ -44,12 +69,12 @@ pub(crate) fn bytes_in<'t>(text: &'t [u8], name: &Token) -> &'t [u8]
     &text[name.start..name.end]
 }
 
-/// The fault at the lesser place, where there is one.
-fn earlier(fault: Option<NameFault>, other: Option<NameFault>) -> Option<NameFault>
+/// The fault that counts first, where there is one.
+pub(crate) fn earlier(fault: Option<NameFault>, other: Option<NameFault>) -> Option<NameFault>
     ensures { result ≡ least_of fault other }
 {
     match (fault, other) {
-        (Some(first), Some(second)) if second.place() < first.place() => other,
+        (Some(first), Some(second)) if second.is_before(first) => other,
         (None, _) => other,
         _ => fault,
     }
@@ -175,15 +200,101 @@ fn params_fault(
     Ok(fault)
 }
 
+/// The fault that the name after `with` is no embedding.
+fn unknown_embed(schema: &Schema, text: &[u8], name: &Token) -> Option<NameFault>
+    requires { IsIn text.now name.now }
+    ensures { result ≡ unknown_at (embed_names schema.now) (mention_of text.now name.now) }
+{
+    let place = name.start;
+    match embed_number(schema, bytes_in(text, name)) {
+        Some(_) => None,
+        None => Some(NameFault::Unknown { place }),
+    }
+}
+
+fn sets_fault(
+    alloc: Global,
+    text: &[u8],
+    schema: &Schema,
+    sets: &[SetForm],
+) -> Result<Option<NameFault>, OutOfMemory>
+    requires { AllByRecursion (IsSetIn text.now) sets.now }
+    ensures { IfOk result (λ fault. fault ≡ least_set (embed_names schema.now) [] (map (set_form_of text.now) sets.now)) }
+{
+    let mut table = IndexSet::new(alloc);
+    let mut fault = None;
+    for set in sets {
+        let again = take_in(&mut table, text, &set.embed)?;
+        let unknown = unknown_embed(schema, text, &set.embed);
+        fault = earlier(fault, earlier(again, unknown));
+    }
+    Ok(fault)
+}
+
+fn item_sets_fault(
+    alloc: Global,
+    text: &[u8],
+    schema: &Schema,
+    item: &Item,
+) -> Result<Option<NameFault>, OutOfMemory>
+    requires { IsItemIn text.now item.now }
+    ensures { IfOk result (λ fault. fault ≡ set_in (embed_names schema.now) (item_of text.now item.now)) }
+{
+    match item {
+        Item::Node { sets, .. } => sets_fault(alloc, text, schema, sets.as_slice()),
+        Item::Link { .. } => Ok(None),
+    }
+}
+
+/// The first fault of the names after `with`.
+fn assigned_fault(
+    alloc: Global,
+    text: &[u8],
+    schema: &Schema,
+    items: &[Item],
+) -> Result<Option<NameFault>, OutOfMemory>
+    requires { AllByRecursion (IsItemIn text.now) items.now }
+    ensures { IfOk result (λ fault. fault ≡ least_assigned (embed_names schema.now) (map (item_of text.now) items.now)) }
+{
+    let mut fault = None;
+    for item in items {
+        fault = earlier(fault, item_sets_fault(alloc, text, schema, item)?);
+    }
+    Ok(fault)
+}
+
 #[tactic(auto, unfolding(crate::specs::FirstNameFault::rule_least))]
-fn rule_fault(alloc: Global, text: &[u8], rule: &RuleForm) -> Result<Option<NameFault>, OutOfMemory>
+fn rule_names_fault(
+    alloc: Global,
+    text: &[u8],
+    schema: &Schema,
+    rule: &RuleForm,
+) -> Result<Option<NameFault>, OutOfMemory>
     requires { IsRuleIn text.now rule.now }
-    ensures { IfOk result (λ fault. fault ≡ rule_least (rule_form_of text.now rule.now)) }
+    ensures { IfOk result (λ fault. fault ≡ rule_least (embed_names schema.now) (rule_form_of text.now rule.now)) }
 {
     let params = params_fault(alloc, text, rule.params.as_slice())?;
     let left = side_fault(alloc, text, rule.left.as_slice())?;
     let right = side_fault(alloc, text, rule.right.as_slice())?;
-    Ok(earlier(params, earlier(left, right)))
+    let sets = assigned_fault(alloc, text, schema, rule.right.as_slice())?;
+    Ok(earlier(params, earlier(sets, earlier(left, right))))
+}
+
+/// The first fault in the rule, its expressions included.
+fn rule_fault(
+    alloc: Global,
+    text: &[u8],
+    schema: &Schema,
+    rule: &RuleForm,
+) -> Result<Option<NameFault>, OutOfMemory>
+    requires within { IsRuleIn text.now rule.now }
+    requires fits { IsFitting schema.now.dim (rule_form_of text.now rule.now) }
+    requires exprs { HasExprs schema.now.dim (rule_form_of text.now rule.now) }
+    requires schema { IsSchema schema.now }
+    ensures { IfOk result (IsLeast (IsFaultInRule schema.now.dim schema.now.embeds (rule_form_of text.now rule.now))) }
+{
+    let names = rule_names_fault(alloc, text, schema, rule)?;
+    Ok(earlier(names, values_fault(alloc, text, schema, rule)?))
 }
 
 /// Takes the rule's name into the table. The fault is the first of the rule's names, its own
@@ -192,40 +303,55 @@ fn take_in_rule_name<'t>(
     alloc: Global,
     table: &mut IndexSet<NameKey<'t>>,
     text: &'t [u8],
+    schema: &Schema,
     rule: &RuleForm,
 ) -> Result<Option<NameFault>, OutOfMemory>
-    requires { IsRuleIn text.now rule.now }
+    requires within { IsRuleIn text.now rule.now }
+    requires fits { IsFitting schema.now.dim (rule_form_of text.now rule.now) }
+    requires exprs { HasExprs schema.now.dim (rule_form_of text.now rule.now) }
+    requires schema { IsSchema schema.now }
     ensures held { OnOk result (names_held table.new ≡ with_name (names_held table.old) (rule_form_of text.now rule.now).name.name) }
-    ensures fault { IfOk result (λ fault. fault ≡ least_of (again_at (names_held table.old) (rule_form_of text.now rule.now).name) (rule_least (rule_form_of text.now rule.now))) }
+    ensures fault { IfOk result (IsLeast (IsRuleFault schema.now.dim schema.now.embeds (names_held table.old) (rule_form_of text.now rule.now))) }
 {
     let again = take_in(table, text, &rule.name)?;
-    Ok(earlier(again, rule_fault(alloc, text, rule)?))
+    Ok(earlier(again, rule_fault(alloc, text, schema, rule)?))
 }
 
 fn first_fault(
     alloc: Global,
     text: &[u8],
+    schema: &Schema,
     rules: &[RuleForm],
 ) -> Result<Option<NameFault>, OutOfMemory>
-    requires { AllByRecursion (IsRuleIn text.now) rules.now }
-    ensures { IfOk result (λ fault. fault ≡ least_in [] (map (rule_form_of text.now) rules.now)) }
+    requires within { AllByRecursion (IsRuleIn text.now) rules.now }
+    requires fits { AllByRecursion (IsFitting schema.now.dim) (map (rule_form_of text.now) rules.now) }
+    requires exprs { AllByRecursion (HasExprs schema.now.dim) (map (rule_form_of text.now) rules.now) }
+    requires schema { IsSchema schema.now }
+    ensures { IfOk result (IsLeast (IsFaultBehind schema.now.dim schema.now.embeds [] (map (rule_form_of text.now) rules.now))) }
 {
     let mut table = IndexSet::new(alloc);
     let mut fault = None;
     for rule in rules {
-        fault = earlier(fault, take_in_rule_name(alloc, &mut table, text, rule)?);
+        fault = earlier(
+            fault,
+            take_in_rule_name(alloc, &mut table, text, schema, rule)?,
+        );
     }
     Ok(fault)
 }
 
-/// The fault of the rules' names that stands first in the text, where there is one.
+/// The fault of the rules' names that counts first in the text, where there is one.
 pub(crate) fn name_fault(
     alloc: Global,
     text: &[u8],
+    schema: &Schema,
     rules: &[RuleForm],
 ) -> Result<Option<NameFault>, OutOfMemory>
-    requires { AreRulesIn text.now rules.now }
-    ensures { IfOk result (IsLeastFault (forms_of text.now rules.now)) }
+    requires within { AreRulesIn text.now rules.now }
+    requires fits { AllByRecursion (IsFitting schema.now.dim) (forms_of text.now rules.now) }
+    requires exprs { AllByRecursion (HasExprs schema.now.dim) (forms_of text.now rules.now) }
+    requires schema { IsSchema schema.now }
+    ensures { IfOk result (IsLeastFault schema.now.dim schema.now.embeds (forms_of text.now rules.now)) }
 {
-    first_fault(alloc, text, rules)
+    first_fault(alloc, text, schema, rules)
 }

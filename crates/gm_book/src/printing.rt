@@ -1,26 +1,30 @@
 //! The canonical text of a book.
 ghost use Rattle.std.specs.Prelude.{◌≡◌, ◌++◌, ◌∷◌, ◌<◌, ◌==◌, if◌then◌else◌, [], length, nat_eq, All, OnOk, IfOk, map, filter, codes, decimal};
 ghost use Rattle.std.specs.List.{flat_map, list_any};
-ghost use Rattle.gm_model.specs.Rules.{rule_of, node_of, name_at};
+ghost use Rattle.gm_model.specs.Rules.{assignment_of, rule_of, node_of, name_at};
+ghost use Rattle.gm_model.specs.Trees.{tree_of};
 ghost use Rattle.gm_text.specs.SchemaText as schemas;
 ghost use Rattle.gm_text.specs.SchemaText.{kind_word};
-ghost use Rattle.gm_forms.specs.BookText.{canonical, param_text, params_text, rule_lines, left_lines, right_line, right_lines, link_line, node_line, letters_text, letter_text};
-ghost use Rattle.gm_book.specs.Printing.{CanBePrinted, NamesItsNodes, AreEndsNodes, left_line, is_left};
+ghost use Rattle.gm_expr.specs.ExprText.{embed_name, IsNamed};
+ghost use Rattle.gm_book.specs.Canonical.{canonical, param_text, params_text, rule_lines, left_lines, set_text, right_line, right_lines, pre_line, link_line, letters_text, letter_text};
+ghost use Rattle.gm_book.specs.Printing.{CanBePrinted, NamesItsNodes, HasNamedExprs, AreNamed, AreEndsNodes, left_line, is_left};
 
-use gm_model::{Book, Kind, Letter, Link, Name, Node, OutOfMemory, Param, RuleTable, Schema, Word};
+use gm_expr::print_expr;
+use gm_model::{
+    Book, Kind, Letter, Link, Name, Node, OutOfMemory, Param, RuleTable, Schema, Set, Word,
+};
 use gm_text::{Text, print_schema};
 use std::alloc::Global;
 
-/// The canonical text of the book, in its version. What a reader answers can be printed. Books
-/// with assignments or preconditions can't be read or printed so far.
+/// The canonical text of the book, in its version. What a reader answers can be printed.
 pub fn print_book(alloc: Global, book: &Book) -> Result<Vec<u8>, OutOfMemory>
-    requires { CanBePrinted (map rule_of book.now.rules) }
+    requires { CanBePrinted book.now.schema (map rule_of book.now.rules) }
     ensures { IfOk result (λ text. text.items ≡ canonical book.now.version book.now.schema (map rule_of book.now.rules)) }
 {
     let mut text = Text::new(alloc);
     print_header(&mut text, book.version, &book.schema)?;
     for rule in book.rules.as_slice() {
-        print_rule(&mut text, rule)?;
+        print_rule(&mut text, &book.schema, rule)?;
     }
     Ok(text.into_bytes())
 }
@@ -34,20 +38,59 @@ fn print_header(text: &mut Text, version: u8, schema: &Schema) -> Result<(), Out
     print_schema(text, schema)
 }
 
-fn print_rule(text: &mut Text, rule: &RuleTable) -> Result<(), OutOfMemory>
-    requires { NamesItsNodes (rule_of rule.now) }
-    ensures { OnOk result (text.new ≡ text.old ++ rule_lines (rule_of rule.now)) }
+fn print_rule(text: &mut Text, schema: &Schema, rule: &RuleTable) -> Result<(), OutOfMemory>
+    requires numbers { NamesItsNodes (rule_of rule.now) }
+    requires exprs { HasNamedExprs schema.now (rule_of rule.now) }
+    ensures { OnOk result (text.new ≡ text.old ++ rule_lines schema.now (rule_of rule.now)) }
 {
-    let nodes = rule.nodes.as_slice();
+    print_head(text, rule)?;
+    print_left(text, rule)?;
+    print_right(text, schema, rule)?;
+    print_pre(text, schema, rule)
+}
+
+fn print_head(text: &mut Text, rule: &RuleTable) -> Result<(), OutOfMemory>
+    ensures { OnOk result (text.new ≡ text.old ++ (codes "rule " ++ rule.now.name ++ params_text rule.now.params)) }
+{
     text.put(b"rule ")?;
     text.put(rule.name.bytes())?;
-    print_params(text, rule.params.as_slice())?;
+    print_params(text, rule.params.as_slice())
+}
+
+fn print_left(text: &mut Text, rule: &RuleTable) -> Result<(), OutOfMemory>
+    requires { NamesItsNodes (rule_of rule.now) }
+    ensures { OnOk result (text.new ≡ text.old ++ (codes "\nleft\n" ++ left_lines rule.now.hooks 0 (map node_of rule.now.nodes) ++ flat_map (link_line (map node_of rule.now.nodes)) rule.now.left_links)) }
+{
+    let nodes = rule.nodes.as_slice();
     text.put(b"\nleft\n")?;
     print_left_nodes(text, nodes, rule.hooks.as_slice())?;
-    print_links(text, nodes, rule.left_links.as_slice())?;
+    print_links(text, nodes, rule.left_links.as_slice())
+}
+
+fn print_right(text: &mut Text, schema: &Schema, rule: &RuleTable) -> Result<(), OutOfMemory>
+    requires numbers { NamesItsNodes (rule_of rule.now) }
+    requires exprs { HasNamedExprs schema.now (rule_of rule.now) }
+    ensures { OnOk result (text.new ≡ text.old ++ (codes "right\n" ++ right_lines schema.now (rule_of rule.now) ++ flat_map (link_line (map node_of rule.now.nodes)) rule.now.right_links)) }
+{
     text.put(b"right\n")?;
-    print_right_nodes(text, nodes)?;
-    print_links(text, nodes, rule.right_links.as_slice())
+    print_right_nodes(text, schema, rule, true)?;
+    print_right_nodes(text, schema, rule, false)?;
+    print_links(text, rule.nodes.as_slice(), rule.right_links.as_slice())
+}
+
+/// Nothing, where the rule has no precondition.
+fn print_pre(text: &mut Text, schema: &Schema, rule: &RuleTable) -> Result<(), OutOfMemory>
+    requires { HasNamedExprs schema.now (rule_of rule.now) }
+    ensures { OnOk result (text.new ≡ text.old ++ pre_line schema.now (rule_of rule.now)) }
+{
+    match &rule.pre {
+        Some(pre) => {
+            text.put(b"pre ")?;
+            print_expr(text, schema, rule, pre)?;
+            text.put(b"\n")
+        }
+        None => Ok(()),
+    }
 }
 
 /// Nothing, where there is no parameter.
@@ -107,7 +150,10 @@ fn print_left_node(text: &mut Text, node: &Node, is_hook: bool) -> Result<(), Ou
     ensures { OnOk result (text.new ≡ text.old ++ left_line (node_of node.now) is_hook) }
 {
     match &node.left {
-        Some(word) => print_node(text, &node.name, word, is_hook),
+        Some(word) => {
+            print_word(text, &node.name, word)?;
+            text.put(if is_hook { b" hook\n" } else { b"\n" })
+        }
         None => Ok(()),
     }
 }
@@ -118,45 +164,88 @@ fn is_among(hooks: &[u8], number: usize) -> bool
     hooks.iter().any(|hook| number == usize::from(*hook))
 }
 
-/// First the preserved nodes, and then the added ones.
-fn print_right_nodes(text: &mut Text, nodes: &[Node]) -> Result<(), OutOfMemory>
-    ensures { OnOk result (text.new ≡ text.old ++ right_lines (map node_of nodes.now)) }
-{
-    print_right_nodes_where(text, nodes, true)?;
-    print_right_nodes_where(text, nodes, false)
-}
-
 /// The right nodes that are left nodes too, or those that aren't.
-fn print_right_nodes_where(
+fn print_right_nodes(
     text: &mut Text,
-    nodes: &[Node],
+    schema: &Schema,
+    rule: &RuleTable,
     left_too: bool,
 ) -> Result<(), OutOfMemory>
-    ensures { OnOk result (text.new ≡ text.old ++ flat_map right_line (filter (is_left left_too) (map node_of nodes.now))) }
+    requires { HasNamedExprs schema.now (rule_of rule.now) }
+    ensures { OnOk result (text.new ≡ text.old ++ flat_map (right_line schema.now (rule_of rule.now)) (filter (is_left left_too) (map node_of rule.now.nodes))) }
 {
-    for node in nodes {
-        print_right_node(text, node, left_too)?;
+    for node in rule.nodes.as_slice() {
+        print_right_node(text, schema, rule, node, left_too)?;
     }
     Ok(())
 }
 
 /// Nothing, where the node isn't such a right one.
-fn print_right_node(text: &mut Text, node: &Node, left_too: bool) -> Result<(), OutOfMemory>
-    ensures { OnOk result (text.new ≡ text.old ++ flat_map right_line (filter (is_left left_too) (node_of node.now ∷ []))) }
+fn print_right_node(
+    text: &mut Text,
+    schema: &Schema,
+    rule: &RuleTable,
+    node: &Node,
+    left_too: bool,
+) -> Result<(), OutOfMemory>
+    requires { AreNamed schema.now (rule_of rule.now) (map assignment_of node.now.sets) }
+    ensures { OnOk result (text.new ≡ text.old ++ flat_map (right_line schema.now (rule_of rule.now)) (filter (is_left left_too) (node_of node.now ∷ []))) }
 {
     match &node.right {
-        Some(word) if node.left.is_some() == left_too => print_node(text, &node.name, word, false),
+        Some(word) if node.left.is_some() == left_too => {
+            print_word(text, &node.name, word)?;
+            print_sets(text, schema, rule, node.sets.as_slice())?;
+            text.put(b"\n")
+        }
         _ => Ok(()),
     }
 }
 
-fn print_node(text: &mut Text, name: &Name, word: &Word, is_hook: bool) -> Result<(), OutOfMemory>
-    ensures { OnOk result (text.new ≡ text.old ++ node_line name.now word.now is_hook) }
+fn print_sets(
+    text: &mut Text,
+    schema: &Schema,
+    rule: &RuleTable,
+    sets: &[Set],
+) -> Result<(), OutOfMemory>
+    requires { AreNamed schema.now (rule_of rule.now) (map assignment_of sets.now) }
+    ensures { OnOk result (text.new ≡ text.old ++ flat_map (set_text schema.now (rule_of rule.now)) (map assignment_of sets.now)) }
+{
+    for set in sets {
+        print_set(text, schema, rule, set)?;
+    }
+    Ok(())
+}
+
+fn print_set(
+    text: &mut Text,
+    schema: &Schema,
+    rule: &RuleTable,
+    set: &Set,
+) -> Result<(), OutOfMemory>
+    requires embed { set.now.embed < length schema.now.embeds }
+    requires expr { IsNamed schema.now (rule_of rule.now) (tree_of set.now.expr) }
+    ensures { OnOk result (text.new ≡ text.old ++ set_text schema.now (rule_of rule.now) (assignment_of set.now)) }
+{
+    text.put(b" with ")?;
+    print_embed_name(text, schema, set.embed)?;
+    text.put(b" = ")?;
+    print_expr(text, schema, rule, &set.expr)
+}
+
+fn print_embed_name(text: &mut Text, schema: &Schema, embed: u8) -> Result<(), OutOfMemory>
+    requires { embed < length schema.now.embeds }
+    ensures { OnOk result (text.new ≡ text.old ++ embed_name schema.now.embeds embed) }
+{
+    text.put(schema.embeds.as_slice()[usize::from(embed)].name.bytes())
+}
+
+fn print_word(text: &mut Text, name: &Name, word: &Word) -> Result<(), OutOfMemory>
+    ensures { OnOk result (text.new ≡ text.old ++ (name.now ++ codes " <" ++ letters_text word.now ++ codes ">")) }
 {
     text.put(name.bytes())?;
     text.put(b" <")?;
     print_letters(text, word)?;
-    text.put(if is_hook { b"> hook\n" } else { b">\n" })
+    text.put(b">")
 }
 
 fn print_letters(text: &mut Text, word: &Word) -> Result<(), OutOfMemory>

@@ -1,15 +1,23 @@
 //! The table of a rule whose names are in order.
-ghost use Rattle.std.specs.Prelude.{◌≡◌, ◌≤◌, [], length, map, IfOk, OnOk};
-ghost use Rattle.std.specs.List.{AllByRecursion};
-ghost use Rattle.gm_forms.specs.BookText.{nodes_of, number_of, word_in, links_in, hooks_in, node_in, param_of, rule_in};
+ghost use Rattle.std.specs.Prelude.{◌≡◌, ◌≤◌, [], ◌∷◌, length, map, IfOk, OnOk};
+ghost use Rattle.std.specs.List.{AllByRecursion, AllZip};
+ghost use Rattle.std.specs.Option.{option_map};
+ghost use Rattle.gm_model.specs.Maps.{IsSchema};
 ghost use Rattle.gm_model.specs.Names.{IsName};
-ghost use Rattle.gm_model.specs.Rules.{node_of, rule_of};
-ghost use Rattle.gm_forms.specs.Forms.{IsIn, IsItemIn, IsParamIn, IsRuleIn, mention_of, item_of, param_form_of, rule_form_of};
+ghost use Rattle.gm_model.specs.Rules.{assignment_of, node_of, rule_of};
+ghost use Rattle.gm_model.specs.Trees.{tree_of};
+ghost use Rattle.gm_parse.specs.Meaning.{names_in};
+ghost use Rattle.gm_forms.specs.BookText.{nodes_of, number_of, word_in, links_in, hooks_in, node_in, sets_in, param_of, IsPre, MeansSet, MeansPre, MeansRule};
+ghost use Rattle.gm_forms.specs.Forms.{IsIn, IsSetIn, IsItemIn, IsParamIn, IsPreIn, IsRuleIn, mention_of, value_of, set_form_of, item_of, param_form_of, rule_form_of};
 ghost use Rattle.gm_forms.specs.Held.{names_at, names_held};
+ghost use Rattle.gm_book.specs.Building.{HasNoFaultInRules, IsKnownSet, HasKnownSets, IsAssigned};
+ghost use Rattle.gm_book.specs.Fitting.{IsFitting, HasExprs};
 
 use crate::names::{bytes_in, take_in_nodes};
-use gm_forms::{Item, NameKey, ParamForm, RuleForm};
-use gm_model::{Items, Link, Name, Node, OutOfMemory, Param, RuleTable, Word};
+use crate::values::{embed_number, read_value};
+use gm_forms::{Item, NameKey, ParamForm, RuleForm, SetForm, Span};
+use gm_model::{Expr, Items, Link, Name, Node, OutOfMemory, Param, RuleTable, Schema, Set, Word};
+use gm_parse::Env;
 use gm_text::Token;
 use indexmap::IndexSet;
 use std::alloc::Global;
@@ -130,10 +138,11 @@ fn word_of(text: &[u8], items: &[Item], name: &[u8]) -> Option<Word>
     None
 }
 
+/// A node without assignments.
 fn node(alloc: Global, text: &[u8], rule: &RuleForm, name: &[u8]) -> Node
     requires within { IsRuleIn text.now rule.now }
     requires good { IsName name.now }
-    ensures { node_of result ≡ node_in (rule_form_of text.now rule.now) name.now }
+    ensures { node_of result ≡ node_in (rule_form_of text.now rule.now) (λ node. []) name.now }
 {
     Node {
         name: Name::new(name).unwrap(),
@@ -151,7 +160,7 @@ fn nodes(
 ) -> Result<Vec<Node>, OutOfMemory>
     requires within { IsRuleIn text.now rule.now }
     requires good { AllByRecursion IsName (names_at names.now) }
-    ensures { IfOk result (λ nodes. map node_of nodes.items ≡ map (node_in (rule_form_of text.now rule.now)) (names_at names.now)) }
+    ensures { IfOk result (λ nodes. map node_of nodes.items ≡ map (node_in (rule_form_of text.now rule.now) (λ node. [])) (names_at names.now)) }
 {
     let mut nodes = Vec::new(alloc);
     for name in names {
@@ -160,42 +169,214 @@ fn nodes(
     Ok(nodes)
 }
 
+/// What the expressions of a rule can name: its parameters, and its nodes without assignments.
+pub(crate) struct Parts {
+    pub params: Vec<Param>,
+    pub nodes: Vec<Node>,
+}
+
+fn numbered_parts(
+    alloc: Global,
+    text: &[u8],
+    rule: &RuleForm,
+    names: &[NameKey<'_>],
+) -> Result<Parts, OutOfMemory>
+    requires within { IsRuleIn text.now rule.now }
+    requires good { AllByRecursion IsName (names_at names.now) }
+    ensures params { IfOk result (λ parts. parts.params.items ≡ map param_of (rule_form_of text.now rule.now).params) }
+    ensures nodes { IfOk result (λ parts. map node_of parts.nodes.items ≡ map (node_in (rule_form_of text.now rule.now) (λ node. [])) (names_at names.now)) }
+{
+    Ok(Parts {
+        params: params(alloc, text, rule.params.as_slice())?,
+        nodes: nodes(alloc, text, rule, names)?,
+    })
+}
+
+/// What the expressions of the rule can name.
+pub(crate) fn parts_of(alloc: Global, text: &[u8], rule: &RuleForm) -> Result<Parts, OutOfMemory>
+    requires { IsRuleIn text.now rule.now }
+    ensures params { IfOk result (λ parts. parts.params.items ≡ map param_of (rule_form_of text.now rule.now).params) }
+    ensures nodes { IfOk result (λ parts. map node_of parts.nodes.items ≡ map (node_in (rule_form_of text.now rule.now) (λ node. [])) (nodes_of (rule_form_of text.now rule.now))) }
+{
+    let mut names = IndexSet::new(alloc);
+    take_in_rule(&mut names, text, rule)?;
+    numbered_parts(alloc, text, rule, names.as_slice())
+}
+
+/// An assignment. Its names are known, so a refusal is want of memory.
+fn set(alloc: Global, text: &[u8], env: &Env<'_>, form: &SetForm) -> Result<Set, OutOfMemory>
+    requires within { IsSetIn text.now form.now }
+    requires known { IsKnownSet env.now.schema.now.dim (names_in env.now.schema.now env.now.params.now env.now.nodes.now) (set_form_of text.now form.now) }
+    ensures { IfOk result (λ set. MeansSet env.now.schema.now.dim (names_in env.now.schema.now env.now.params.now env.now.nodes.now) (set_form_of text.now form.now) (assignment_of set)) }
+{
+    let number = embed_number(env.schema, bytes_in(text, &form.embed));
+    match read_value(alloc, text, env, &form.value) {
+        Ok(expr) => Ok(Set {
+            embed: number.unwrap_or(0) as u8,
+            expr,
+        }),
+        Err(_) => Err(OutOfMemory),
+    }
+}
+
+fn sets(
+    alloc: Global,
+    text: &[u8],
+    env: &Env<'_>,
+    forms: &[SetForm],
+) -> Result<Vec<Set>, OutOfMemory>
+    requires within { AllByRecursion (IsSetIn text.now) forms.now }
+    requires known { AllByRecursion (IsKnownSet env.now.schema.now.dim (names_in env.now.schema.now env.now.params.now env.now.nodes.now)) (map (set_form_of text.now) forms.now) }
+    ensures { IfOk result (λ sets. AllZip (MeansSet env.now.schema.now.dim (names_in env.now.schema.now env.now.params.now env.now.nodes.now)) (map (set_form_of text.now) forms.now) (map assignment_of sets.items)) }
+{
+    let mut sets = Vec::new(alloc);
+    for form in forms {
+        sets.push(set(alloc, text, env, form)?)?;
+    }
+    Ok(sets)
+}
+
+/// The assignments of the node with the name.
+fn sets_of(
+    alloc: Global,
+    text: &[u8],
+    env: &Env<'_>,
+    items: &[Item],
+    name: &[u8],
+) -> Result<Vec<Set>, OutOfMemory>
+    requires within { AllByRecursion (IsItemIn text.now) items.now }
+    requires known { AllByRecursion (HasKnownSets env.now.schema.now.dim (names_in env.now.schema.now env.now.params.now env.now.nodes.now)) (map (item_of text.now) items.now) }
+    ensures { IfOk result (λ sets. AllZip (MeansSet env.now.schema.now.dim (names_in env.now.schema.now env.now.params.now env.now.nodes.now)) (sets_in (map (item_of text.now) items.now) name.now) (map assignment_of sets.items)) }
+{
+    for item in items {
+        if let Item::Node {
+            name: node,
+            sets: forms,
+            ..
+        } = item
+        {
+            if name == bytes_in(text, node) {
+                return sets(alloc, text, env, forms.as_slice());
+            }
+        }
+    }
+    Ok(Vec::new(alloc))
+}
+
+/// The node with the name, and its assignments.
+fn assigned_node(
+    alloc: Global,
+    text: &[u8],
+    env: &Env<'_>,
+    rule: &RuleForm,
+    name: &[u8],
+) -> Result<Node, OutOfMemory>
+    requires within { IsRuleIn text.now rule.now }
+    requires good { IsName name.now }
+    requires known { AllByRecursion (HasKnownSets env.now.schema.now.dim (names_in env.now.schema.now env.now.params.now env.now.nodes.now)) (rule_form_of text.now rule.now).right }
+    ensures { IfOk result (λ node. IsAssigned env.now.schema.now.dim (names_in env.now.schema.now env.now.params.now env.now.nodes.now) (rule_form_of text.now rule.now) name.now (node_of node)) }
+{
+    let sets = sets_of(alloc, text, env, rule.right.as_slice(), name)?;
+    Ok(Node {
+        sets: Items::new(sets),
+        ..node(alloc, text, rule, name)
+    })
+}
+
+/// The rule's nodes with their assignments.
+fn assigned(
+    alloc: Global,
+    text: &[u8],
+    env: &Env<'_>,
+    rule: &RuleForm,
+    names: &[NameKey<'_>],
+) -> Result<Vec<Node>, OutOfMemory>
+    requires within { IsRuleIn text.now rule.now }
+    requires good { AllByRecursion IsName (names_at names.now) }
+    requires known { AllByRecursion (HasKnownSets env.now.schema.now.dim (names_in env.now.schema.now env.now.params.now env.now.nodes.now)) (rule_form_of text.now rule.now).right }
+    ensures { IfOk result (λ nodes. AllZip (IsAssigned env.now.schema.now.dim (names_in env.now.schema.now env.now.params.now env.now.nodes.now) (rule_form_of text.now rule.now)) (names_at names.now) (map node_of nodes.items)) }
+{
+    let mut nodes = Vec::new(alloc);
+    for name in names {
+        nodes.push(assigned_node(alloc, text, env, rule, name.bytes)?)?;
+    }
+    Ok(nodes)
+}
+
+/// The precondition. Its names are known, so a refusal is want of memory.
+fn pre(
+    alloc: Global,
+    text: &[u8],
+    env: &Env<'_>,
+    form: Option<Span>,
+) -> Result<Option<Expr>, OutOfMemory>
+    requires within { IsPreIn text.now form }
+    requires expr { IsPre env.now.schema.now.dim (option_map (value_of text.now) form) }
+    ensures { IfOk result (λ pre. MeansPre env.now.schema.now.dim (names_in env.now.schema.now env.now.params.now env.now.nodes.now) (option_map (value_of text.now) form) (option_map tree_of pre)) }
+{
+    match form {
+        Some(value) => match read_value(alloc, text, env, &value) {
+            Ok(expr) => Ok(Some(expr)),
+            Err(_) => Err(OutOfMemory),
+        },
+        None => Ok(None),
+    }
+}
+
 /// The table of the rule, whose nodes have their numbers in `names`.
 fn numbered_table(
     alloc: Global,
     text: &[u8],
+    schema: &Schema,
     rule: &RuleForm,
     names: &IndexSet<NameKey<'_>>,
 ) -> Result<RuleTable, OutOfMemory>
     requires within { IsRuleIn text.now rule.now }
     requires numbered { names_held names.now ≡ nodes_of (rule_form_of text.now rule.now) }
     requires good { AllByRecursion IsName (names_held names.now) }
-    requires few { length (names_held names.now) ≤ 32 }
-    ensures { IfOk result (λ table. rule_of table ≡ rule_in (rule_form_of text.now rule.now)) }
+    requires schema { IsSchema schema.now }
+    requires fits { IsFitting schema.now.dim (rule_form_of text.now rule.now) }
+    requires exprs { HasExprs schema.now.dim (rule_form_of text.now rule.now) }
+    requires sound { HasNoFaultInRules schema.now.dim schema.now.embeds (rule_form_of text.now rule.now ∷ []) }
+    ensures { IfOk result (λ table. MeansRule schema.now.dim schema.now.embeds (rule_form_of text.now rule.now) (rule_of table)) }
 {
-    let params = params(alloc, text, rule.params.as_slice())?;
-    let nodes = nodes(alloc, text, rule, names.as_slice())?;
+    let Parts { params, nodes } = numbered_parts(alloc, text, rule, names.as_slice())?;
+    let env = Env {
+        schema,
+        params: params.as_slice(),
+        nodes: nodes.as_slice(),
+    };
+    let assigned = assigned(alloc, text, &env, rule, names.as_slice())?;
+    let pre = pre(alloc, text, &env, rule.pre)?;
     let left_links = links(alloc, names, text, rule.left.as_slice())?;
     let right_links = links(alloc, names, text, rule.right.as_slice())?;
     let hooks = hooks(alloc, names, text, rule.left.as_slice())?;
     Ok(RuleTable {
         name: Name::new(bytes_in(text, &rule.name)).unwrap(),
         params: Items::new(params),
-        nodes: Items::new(nodes),
+        nodes: Items::new(assigned),
         left_links: Items::new(left_links),
         right_links: Items::new(right_links),
         hooks: Items::new(hooks),
-        pre: None,
+        pre,
     })
 }
 
 /// The table of the rule: its nodes by number, left nodes first.
-pub(crate) fn table(alloc: Global, text: &[u8], rule: &RuleForm) -> Result<RuleTable, OutOfMemory>
+pub(crate) fn table(
+    alloc: Global,
+    text: &[u8],
+    schema: &Schema,
+    rule: &RuleForm,
+) -> Result<RuleTable, OutOfMemory>
     requires within { IsRuleIn text.now rule.now }
-    requires few { length (nodes_of (rule_form_of text.now rule.now)) ≤ 32 }
-    ensures { IfOk result (λ table. rule_of table ≡ rule_in (rule_form_of text.now rule.now)) }
+    requires schema { IsSchema schema.now }
+    requires fits { IsFitting schema.now.dim (rule_form_of text.now rule.now) }
+    requires exprs { HasExprs schema.now.dim (rule_form_of text.now rule.now) }
+    requires sound { HasNoFaultInRules schema.now.dim schema.now.embeds (rule_form_of text.now rule.now ∷ []) }
+    ensures { IfOk result (λ table. MeansRule schema.now.dim schema.now.embeds (rule_form_of text.now rule.now) (rule_of table)) }
 {
     let mut names = IndexSet::new(alloc);
     take_in_rule(&mut names, text, rule)?;
-    numbered_table(alloc, text, rule, &names)
+    numbered_table(alloc, text, schema, rule, &names)
 }

@@ -1,12 +1,10 @@
-pub mod CountLemmas
 pub mod FreeLemmas
+pub mod LabelLemmas
 pub mod LeastLemmas
+pub mod MaskLemmas
 pub mod OneAnswer
-pub mod OrbitLemmas
 pub mod SearchLemmas
-pub mod SeenLemmas
 pub mod SettledLemmas
 pub mod TextLemmas
 pub mod TwoOrOdd
 pub mod WalkLemmas
-pub mod WordLemmas

@@ -8,7 +8,7 @@ use Rattle.gm_cells.specs.Cells.{labels_to}
 use Rattle.gm_cells.specs.Colours.{IsFirstDart, IsJoined, AreOfFirstColour, IsFirstOdd, IsOrientation, IsLower}
 use Rattle.gm_cells.specs.declared.orientation.Orientation.{Orientation}
 use Rattle.gm_cells.specs.declared.orientation.Orientation.TheVariants.{Two, Odd}
-use Rattle.gm_cells.proofs.OrbitLemmas.{orbit_join}
+use Rattle.gm_walk.proofs.OrbitLemmas.{orbit_join}
 use Rattle.gm_cells.proofs.WalkLemmas.{orbit_walk, orbit_turned, orbit_live, even_odd}
 
 -- ---- rising lists

@@ -14,7 +14,7 @@ use Rattle.gm_arena.proofs.MapLemmas.{IsAt-name_at, name_at-is, IsLiveName-name_
 use Rattle.gm_cells.specs.Colours.{IsFirstDart, HasColoursAt, AreOfFirstColour}
 use Rattle.gm_cells.specs.Search.{mark_of, Leads, IsFresh, IsMarkedBy, IsSearched}
 use Rattle.gm_cells.specs.Settled.{IsSettled, IsOddStart}
-use Rattle.gm_cells.proofs.CountLemmas.{IsEarly, rises, is_named}
+use Rattle.gm_walk.proofs.CountLemmas.{IsEarly, rises, is_named}
 use Rattle.gm_cells.proofs.SearchLemmas.{mark_parity}
 use Rattle.gm_cells.proofs.WalkLemmas.{step_back, turned, walk_orbit, orbit_walk, orbit_turned, orbit_live}
 

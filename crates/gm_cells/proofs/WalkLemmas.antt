@@ -5,7 +5,7 @@ use Rattle.gm_model.specs.GMap.{IsGMap}
 use Rattle.gm_model.specs.Orbits.{IsPathIn, IsInOrbit, follow}
 use Rattle.gm_cells.specs.Cells.{labels_to}
 use Rattle.gm_cells.specs.Colours.{LeadsTo, IsTwoColouring, IsOddWalk}
-use Rattle.gm_cells.proofs.OrbitLemmas.{live_along, orbit_back, orbit_join}
+use Rattle.gm_walk.proofs.OrbitLemmas.{live_along, orbit_back, orbit_join}
 
 module _ (n : ℕ) (IsLive : ℕ → Type 0) (alpha : ℕ → ℕ → ℕ) (gmap : IsGMap n IsLive alpha) where
   -- a step back along the same label

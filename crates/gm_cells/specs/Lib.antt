@@ -2,5 +2,4 @@ pub mod Cells
 pub mod CellsText
 pub mod Colours
 pub mod Search
-pub mod Seen
 pub mod Settled

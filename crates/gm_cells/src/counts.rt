@@ -2,15 +2,15 @@
 
 ghost use Rattle.std.specs.Prelude.{IfOk};
 ghost use Rattle.gm_arena.specs.ArenaAsMap.{as_map};
-ghost use Rattle.gm_cells.specs.Cells.{AreCounts};
+ghost use Rattle.gm_cells.specs.Cells.{AreCounts, HasCells};
 ghost use Rattle.gm_model.specs.Maps.{IsGeneralised};
 ghost use Rattle.gm_walk.specs.Room.{Fits};
 
 use crate::free::count_free;
-use crate::orbits::{count_cells, count_orbits};
+use crate::masks::mask_without;
 use gm_arena::{Arena, Steps};
 use gm_model::{Items, OutOfMemory};
-use gm_walk::Scratch;
+use gm_walk::{Scratch, orbits};
 use std::alloc::Global;
 use std::sync::ledger::Ledger;
 
@@ -38,11 +38,12 @@ pub fn count<L: Ledger>(
     ensures room { Fits scratch.new arena.now }
 {
     let darts = arena.count();
+    let cells = count_cells(alloc, arena, scratch, steps)?;
+    let top = arena.schema().dim.top();
+    // No label is above the dimension, so this mask leaves none out.
+    let all = mask_without(top, top + 1);
+    let components = orbits(alloc, arena, all, scratch, steps)?;
     let names = arena.names(alloc, steps)?;
-    let cells = count_cells(alloc, arena, &names, scratch, steps)?;
-    // No label is above the dimension, so this one leaves none out.
-    let all = arena.schema().dim.top() + 1;
-    let components = count_orbits(alloc, arena, &names, all, scratch, steps)?;
     let free = count_free(alloc, arena, &names, steps)?;
     Ok(Counts {
         darts,
@@ -50,4 +51,25 @@ pub fn count<L: Ledger>(
         components,
         free: Items::new(free),
     })
+}
+
+/// By label, how many orbits there are over all labels but that.
+fn count_cells<L: Ledger>(
+    alloc: Global,
+    arena: &Arena,
+    scratch: &mut Scratch,
+    steps: &mut Steps<L>,
+) -> Result<Vec<u32>, OutOfMemory>
+    requires generalised { IsGeneralised (as_map arena.now) }
+    requires fits { Fits scratch.old arena.now }
+    ensures cells { IfOk result (λ cells. HasCells (as_map arena.now) cells.items) }
+    ensures room { Fits scratch.new arena.now }
+{
+    let top = arena.schema().dim.top();
+    let mut cells = Vec::new(alloc);
+    for label in 0..top + 1 {
+        let others = mask_without(top, label);
+        cells.push(orbits(alloc, arena, others, scratch, steps)?)?;
+    }
+    Ok(cells)
 }

@@ -8,12 +8,11 @@ mod colouring;
 mod counts;
 mod free;
 mod laws;
+mod masks;
 mod odd_walk;
-mod orbits;
 mod orientation;
 mod printing;
 mod search;
-mod words;
 
 pub use colouring::orient;
 pub use counts::{Counts, count};

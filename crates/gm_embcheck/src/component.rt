@@ -1,11 +1,12 @@
-//! The nodes that links with labels of a set join, as a table of marks by node.
+//! The nodes that links with labels of a set join, as a table of marks by node. A caller gives
+//! links between numbers below 32, with labels up to 7, as a rule in range has them on each side.
 ghost use Rattle.std.specs.Prelude.{◌≡◌, ◌<◌, ◌≤◌, ℕ, ◌↔◌, IsTrue, IsFalse};
 ghost use Rattle.std.specs.List.{All};
 ghost use Rattle.gm_model.specs.declared.rule.Link.{Link};
 ghost use Rattle.gm_model.specs.Labels.{has};
 ghost use Rattle.gm_model.specs.Structure.{IsJoined};
 ghost use Rattle.gm_embcheck.specs.Bounds.{HasLinkBounds};
-ghost use Rattle.gm_embcheck.specs.NodeSets.{IsIn, HasBefore, count_out, HasSpread, Leaves};
+ghost use Rattle.gm_embcheck.specs.NodeSets.{IsIn, count_out, HasSpread, Leaves};
 
 use gm_model::{Link, MOST_NODES, Mask};
 
@@ -51,17 +52,4 @@ fn leaves(nodes: &NodeSet, mask: Mask, link: Link) -> bool
     ensures { IsTrue result ↔ Leaves nodes.now (has mask) link }
 {
     mask.has(link.label) && nodes[link.from as usize] != nodes[link.to as usize]
-}
-
-/// Whether the set has a node before this one.
-pub fn has_before(nodes: &NodeSet, node: u8) -> bool
-    requires { node < 32 }
-    ensures { IsTrue result ↔ HasBefore nodes.now node }
-{
-    for earlier in 0..node {
-        if nodes[earlier as usize] {
-            return true;
-        }
-    }
-    false
 }

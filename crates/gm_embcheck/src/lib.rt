@@ -11,14 +11,19 @@ ghost use Rattle.gm_model.specs.Structure.{IsInRange, IsWithinLimits, HasInciden
 ghost use Rattle.gm_embcheck.specs.Bounds.{HasBounds};
 ghost use Rattle.gm_embcheck.specs.Faults.{IsFirstComponentFault};
 
+mod assignments;
 mod component;
 mod nodes;
 mod places;
+mod preserved;
 mod sources;
 
-use crate::component::{component_of, has_before};
+use crate::nodes::has_before;
 use crate::sources::check_component;
+pub use assignments::assigns;
+pub use component::{NodeSet, component_of};
 use gm_model::{Mask, RuleFault, RuleTable, Schema, Side};
+pub use preserved::first_preserved;
 
 /// Tests the right components of a rule, for each embedding and then by their least node, and
 /// answers the first fault in that order.

@@ -9,8 +9,9 @@ ghost use Rattle.gm_embcheck.specs.Firsts.{HasNoneFrom};
 ghost use Rattle.gm_embcheck.specs.NodeSets.{IsIn, IsAssignedIn};
 
 use crate::component::{NodeSet, component_of};
-use crate::nodes::{first_assigned, first_outside, first_preserved};
+use crate::nodes::{first_assigned, first_outside};
 use crate::places::first_uncovered;
+use crate::preserved::first_preserved;
 use gm_model::{Mask, RuleFault, RuleTable, Side};
 
 /// The first fault of the right component of the node, which is its least.

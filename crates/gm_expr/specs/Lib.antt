@@ -1,1 +1,3 @@
 pub mod ExprText
+pub mod Whole
+pub mod Writable

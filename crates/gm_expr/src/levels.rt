@@ -1,7 +1,8 @@
 //! How tightly operators bind, what each place asks for, and the signs that are written.
 ghost use Rattle.std.specs.Prelude.{◌≡◌};
 ghost use Rattle.gm_model.specs.Trees.{tree_of};
-ghost use Rattle.gm_expr.specs.ExprText.{binary_level, head_of, least_of_part, least_on_left, least_on_right, level, sign_of, tail_of, truth_text, unary_level};
+ghost use Rattle.gm_expr.specs.ExprText.{head_of, level, sign_of, tail_of, truth_text};
+ghost use Rattle.gm_parse.specs.Levels.{binary_level, least_of_part, least_on_left, least_on_right, unary_level};
 
 use gm_model::{BinOp, Expr, UnOp};
 

@@ -18,7 +18,8 @@ use Rattle.gm_forms.specs.declared.state.Spot.{Spot as CodeSpot}
 use Rattle.gm_forms.specs.declared.state.State.{State as CodeState}
 use Rattle.gm_forms.specs.declared.state.State.TheVariants as code
 use Rattle.gm_forms.specs.Forms.{mention_of}
-use Rattle.gm_forms.specs.Reading.{State, role_at, move, AtItem, AtBehind, takes_hook, is_hook_on, is_hook, is_later, with_item, hooked, hook_last}
+use Rattle.gm_forms.specs.declared.state.Heading.{Heading}
+use Rattle.gm_forms.specs.Reading.{State, role_at, move, AtItem, AtBehind, listed, takes_hook, is_hook_on, is_hook, is_with_on, Spot, with_item, hooked, hook_last}
 use Rattle.gm_forms.specs.Standing.{StaysIn, KeepsIn, IsStateIn, IsDraftIn, Leads, Moves, MovesFrom, EndsFrom, Gives, end_stand, stand_of, stepped, settled, stand_in, spot_of, rules_of, current_of}
 
 pub leads_at : (text : List ℕ) (mark : Mark) (result : Result CodeState FormFault) {state known : CodeState} → state ≡ known → Leads text known mark result → Leads text state mark result
@@ -51,11 +52,11 @@ pub stays_keeps_at : (text : List ℕ) (draft : Draft) (result : Result CodeStat
 stays_keeps_at text draft result is stays state_in draft_in = also_in text draft result (stays_in_at text result is stays state_in) draft_in
 
 behind_is_item : (text : List ℕ) (nodes : List (List ℕ)) (rules : List RuleForm) (current : Option RuleForm) (spot : CodeSpot) (name : Token) (word : List Letter) (last : ℕ) (found : List ℕ) (place : ℕ)
-    → is_hook (spot_of nodes spot) found ≡ false → is_later (AtBehind (spot_of nodes spot)) (Word found) ≡ is_later (AtItem (spot_of nodes spot)) (Word found)
+    → is_hook (spot_of nodes spot) found ≡ false → is_with_on spot.side found ≡ false
     → stepped (stand_in text nodes rules current (code.Behind spot name word) last) (record { symbol = Word found; place = place })
-    ≡ stepped (stand_in text nodes rules (option_map (with_item spot.side (NodeItem (mention_of text name) word false)) current) (code.Item spot) last) (record { symbol = Word found; place = place })
+    ≡ stepped (stand_in text nodes rules (option_map (with_item spot.side (NodeItem (mention_of text name) word false [])) current) (code.Item spot) last) (record { symbol = Word found; place = place })
 unfolding stepped
-behind_is_item text nodes rules current spot name word last found place plain later = rw plain (go _ _ _)
+behind_is_item text nodes rules current spot name word last found place plain no_set = rw (plain, no_set) (go _ _ _)
   where
     mark : Mark
     mark = record { symbol = Word found; place = place }
@@ -65,43 +66,83 @@ behind_is_item text nodes rules current spot name word last found place plain la
 
     go : (next : Option State) (limit : Option LimitKind) (where_passed : ℕ)
         → settled (stand_in text nodes rules current (code.Behind spot name word) last) mark (taken (AtBehind (spot_of nodes spot)) where_passed next limit)
-        ≡ settled (stand_in text nodes rules (option_map (with_item spot.side (NodeItem (mention_of text name) word false)) current) (code.Item spot) last) mark (taken (AtItem (spot_of nodes spot)) where_passed next limit)
-    go None limit where_passed = rw later refl
+        ≡ settled (stand_in text nodes rules (option_map (with_item spot.side (NodeItem (mention_of text name) word false [])) current) (code.Item spot) last) mark (taken (AtItem (spot_of nodes spot)) where_passed next limit)
+    go None limit where_passed = refl
     go (Some next) (Some what) where_passed = refl
-    go (Some next) None where_passed = rw plain refl
+    go (Some next) None where_passed = rw (plain, no_set) refl
 
-hooked_put : (items : List Item) (node : Mention) (word : List Letter) → hooked (items ++ NodeItem node word false ∷ []) ≡ items ++ NodeItem node word true ∷ []
+hooked_put : (items : List Item) (node : Mention) (word : List Letter) → hooked (items ++ NodeItem node word false [] ∷ []) ≡ items ++ NodeItem node word true [] ∷ []
 hooked_put [] node word = refl
-hooked_put (NodeItem first letters hook ∷ []) node word = refl
-hooked_put (NodeItem first letters hook ∷ item ∷ items) node word = ap (λ xs. NodeItem first letters hook ∷ xs) (hooked_put (item ∷ items) node word)
+hooked_put (NodeItem first letters hook sets ∷ []) node word = refl
+hooked_put (NodeItem first letters hook sets ∷ item ∷ items) node word = ap (λ xs. NodeItem first letters hook sets ∷ xs) (hooked_put (item ∷ items) node word)
 hooked_put (LinkItem from label to ∷ items) node word = ap (λ xs. LinkItem from label to ∷ xs) (hooked_put items node word)
 
 pub hook_is_put : (current : Option RuleForm) (node : Mention) (word : List Letter)
-    → option_map hook_last (option_map (with_item Left (NodeItem node word false)) current) ≡ option_map (with_item Left (NodeItem node word true)) current
+    → option_map hook_last (option_map (with_item Left (NodeItem node word false [])) current) ≡ option_map (with_item Left (NodeItem node word true [])) current
 hook_is_put None node word = refl
 hook_is_put (Some rule) node word = rw (hooked_put rule.left node word) refl
 
 module _ (text : List ℕ) (nodes : List (List ℕ)) (old put : Draft) (spot : CodeSpot) (name : Token) (word : List Letter) (found : List ℕ) (place : ℕ) where
   pub behind_moves : (result : Result CodeState FormFault) (new_nodes : List (List ℕ)) (new : Draft)
-      → rules_of text put ≡ rules_of text old → current_of text put ≡ option_map (with_item spot.side (NodeItem (mention_of text name) word false)) (current_of text old)
-      → is_hook (spot_of nodes spot) found ≡ false → is_later (AtBehind (spot_of nodes spot)) (Word found) ≡ is_later (AtItem (spot_of nodes spot)) (Word found)
+      → rules_of text put ≡ rules_of text old → current_of text put ≡ option_map (with_item spot.side (NodeItem (mention_of text name) word false [])) (current_of text old)
+      → is_hook (spot_of nodes spot) found ≡ false → is_with_on spot.side found ≡ false
       → Moves text nodes put (code.Item spot) (record { symbol = Word found; place = place }) result new_nodes new
       → Moves text nodes old (code.Behind spot name word) (record { symbol = Word found; place = place }) result new_nodes new
-  behind_moves result new_nodes new rules current plain later moves last =
-      let same = behind_is_item text nodes (rules_of text old) (current_of text old) spot name word last found place plain later in
+  behind_moves result new_nodes new rules current plain no_set moves last =
+      let same = behind_is_item text nodes (rules_of text old) (current_of text old) spot name word last found place plain no_set in
       let there = ap (λ (rs : List RuleForm). stepped (stand_in text nodes rs (current_of text put) (code.Item spot) last) (record { symbol = Word found; place = place })) rules in
       let here = ap (λ (c : Option RuleForm). stepped (stand_in text nodes (rules_of text old) c (code.Item spot) last) (record { symbol = Word found; place = place })) current in
       subst (λ step. Gives (λ next. stand_of text new_nodes new next place) result step) (there ∙ here ∙ sym same) (moves last)
 
-  pub hook_moves : rules_of text put ≡ rules_of text old → current_of text put ≡ option_map (with_item Left (NodeItem (mention_of text name) word true)) (current_of text old)
+  pub hook_moves : rules_of text put ≡ rules_of text old → current_of text put ≡ option_map (with_item Left (NodeItem (mention_of text name) word true [])) (current_of text old)
       → spot.side ≡ Left → bytes_eq found (codes "hook") ≡ true → takes_hook spot.heading.version spot.hooked ≡ true
       → Moves text nodes old (code.Behind spot name word) (record { symbol = Word found; place = place }) (Ok (code.Item (record spot { hooked = true }))) nodes put
   unfolding stepped
   hook_moves rules current side hook takes last =
-      let here : option_map hook_last (option_map (with_item Left (NodeItem (mention_of text name) word false)) (current_of text old)) ≡ current_of text put =
+      let here : option_map hook_last (option_map (with_item Left (NodeItem (mention_of text name) word false [])) (current_of text old)) ≡ current_of text put =
       hook_is_put (current_of text old) (mention_of text name) word ∙ sym current in
       let is : is_hook_on Left (takes_hook spot.heading.version spot.hooked) found ≡ true = rw (hook, takes) refl in
       rw (side, is, here, rules, is) refl
+
+  -- an assignment begins
+  pub with_moves : rules_of text put ≡ rules_of text old → current_of text put ≡ option_map (with_item spot.side (NodeItem (mention_of text name) word false [])) (current_of text old)
+      → spot.side ≡ Right → bytes_eq found (codes "with") ≡ true
+      → Moves text nodes old (code.Behind spot name word) (record { symbol = Word found; place = place }) (Ok (code.Set spot)) nodes put
+  unfolding stepped
+  with_moves rules current right set last = rw (right, set, current, rules, right, set) refl
+
+-- behind a whole assignment a word does what it does where a right item can begin, but for `with`
+pub assigned_moves : (text : List ℕ) (nodes : List (List ℕ)) (draft : Draft) (spot right : CodeSpot) (found : List ℕ) (place : ℕ) (result : Result CodeState FormFault) (new_nodes : List (List ℕ)) (new : Draft)
+    → right ≡ record spot { side = Right } → bytes_eq found (codes "with") ≡ false
+    → Moves text nodes draft (code.Item right) (record { symbol = Word found; place = place }) result new_nodes new
+    → Moves text nodes draft (code.Assigned spot) (record { symbol = Word found; place = place }) result new_nodes new
+unfolding stepped
+assigned_moves text nodes draft spot right found place result new_nodes new is other moves last =
+    subst (λ step. Gives (λ next. stand_of text new_nodes new next place) result step) (ap (λ (s : CodeSpot). stepped (stand_of text nodes draft (code.Item s) last) (record { symbol = Word found; place = place })) is ∙ sym same) (moves last)
+  where
+    same : stepped (stand_of text nodes draft (code.Assigned spot) last) (record { symbol = Word found; place = place })
+        ≡ stepped (stand_of text nodes draft (code.Item (record spot { side = Right })) last) (record { symbol = Word found; place = place })
+    same = rw other (go _ _ _)
+      where
+        mark : Mark
+        mark = record { symbol = Word found; place = place }
+
+        at : Spot
+        at = spot_of nodes (record spot { side = Right })
+
+        go : (next : Option State) (limit : Option LimitKind) (where_passed : ℕ)
+            → settled (stand_of text nodes draft (code.Assigned spot) last) mark (machine.taken limit_of stands_before role_at move (AtBehind at) mark where_passed next limit)
+            ≡ settled (stand_of text nodes draft (code.Item (record spot { side = Right })) last) mark (machine.taken limit_of stands_before role_at move (AtItem at) mark where_passed next limit)
+        go None limit where_passed = refl
+        go (Some next) (Some what) where_passed = refl
+        go (Some next) None where_passed = rw other refl
+
+pub assigned_ends : {X : Type 0} (text : List ℕ) (nodes : List (List ℕ)) (draft : Draft) (spot right : CodeSpot) (place : ℕ) (result : Result X FormFault) (new : Draft)
+    → right ≡ record spot { side = Right } → EndsFrom text nodes draft (code.Item right) place result new → EndsFrom text nodes draft (code.Assigned spot) place result new
+unfolding stepped
+assigned_ends {X} text nodes draft spot right place result new is ends last =
+    let same : stepped (stand_of text nodes draft (code.Assigned spot) last) (record { symbol = End; place = place }) ≡ stepped (stand_of text nodes draft (code.Item (record spot { side = Right })) last) (record { symbol = End; place = place }) = refl in
+    subst (λ step. Gives (λ (x : X). end_stand text new place) result step) (ap (λ (s : CodeSpot). stepped (stand_of text nodes draft (code.Item s) last) (record { symbol = End; place = place })) is ∙ sym same) (ends last)
 
 pub to_moves : (text : List ℕ) (nodes : List (List ℕ)) (old put : Draft) (spot : CodeSpot) (from : Token) (label : ℕ) (to : Token)
     → is_among reserved (bytes_of text to) ≡ false → nat_lt 32 (length (bytes_of text to)) ≡ false
@@ -116,15 +157,21 @@ pub ends_at : {X : Type 0} (text : List ℕ) (nodes : List (List ℕ)) (draft : 
     → state ≡ known → EndsFrom text nodes draft known place result new → EndsFrom text nodes draft state place result new
 ends_at text nodes draft place result new is ends = subst (λ (s : CodeState). EndsFrom text nodes draft s place result new) (sym is) ends
 
+-- behind a precondition
+pub rule_ends : {X : Type 0} (text : List ℕ) (nodes : List (List ℕ)) (old new : Draft) (heading : Heading) (so_far place : ℕ) (x : X) → rules_of text new ≡ rules_of text old ++ listed (current_of text old) → new.current ≡ None
+    → EndsFrom text nodes old (code.RuleEnd heading so_far) place (Ok x) new
+unfolding stepped
+rule_ends text nodes old new heading so_far place x rules none last = rw (rules, none) refl
+
 end_is_item : (text : List ℕ) (nodes : List (List ℕ)) (rules : List RuleForm) (current : Option RuleForm) (spot : CodeSpot) (name : Token) (word : List Letter) (last place : ℕ) (side : Side) → spot.side ≡ side
     → stepped (stand_in text nodes rules current (code.Behind spot name word) last) (record { symbol = End; place = place })
-    ≡ stepped (stand_in text nodes rules (option_map (with_item spot.side (NodeItem (mention_of text name) word false)) current) (code.Item spot) last) (record { symbol = End; place = place })
+    ≡ stepped (stand_in text nodes rules (option_map (with_item spot.side (NodeItem (mention_of text name) word false [])) current) (code.Item spot) last) (record { symbol = End; place = place })
 unfolding stepped
 end_is_item text nodes rules current spot name word last place Left is = rw is refl
 end_is_item text nodes rules current spot name word last place Right is = rw is refl
 
 pub behind_ends : {X : Type 0} (text : List ℕ) (nodes : List (List ℕ)) (old put : Draft) (spot : CodeSpot) (name : Token) (word : List Letter) (place : ℕ) (result : Result X FormFault) (new : Draft)
-    → rules_of text put ≡ rules_of text old → current_of text put ≡ option_map (with_item spot.side (NodeItem (mention_of text name) word false)) (current_of text old)
+    → rules_of text put ≡ rules_of text old → current_of text put ≡ option_map (with_item spot.side (NodeItem (mention_of text name) word false [])) (current_of text old)
     → EndsFrom text nodes put (code.Item spot) place result new → EndsFrom text nodes old (code.Behind spot name word) place result new
 behind_ends {X} text nodes old put spot name word place result new rules current ends last =
     let same = end_is_item text nodes (rules_of text old) (current_of text old) spot name word last place spot.side refl in

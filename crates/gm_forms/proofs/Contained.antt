@@ -1,5 +1,5 @@
 -- Where an element of a list stands: first, or behind.
-use Rattle.std.proofs.Common.{◌≡◌, zero, suc, ◌⊎◌, inl, inr, List, [], ◌∷◌, refl, arith}
+use Rattle.std.proofs.Common.{◌≡◌, zero, suc, ◌⊎◌, inl, inr, List, [], ◌∷◌, ◌++◌, refl, subst, arith}
 use Rattle.std.specs.List.{Contains}
 
 module _ {X : Type 0} (x : X) (xs : List X) where
@@ -15,3 +15,14 @@ module _ {X : Type 0} (x : X) (xs : List X) where
 
 pub contains_none : {X : Type 0} (x : X) → Contains [] x → ⊥
 contains_none x h = omega (arith, h.1)
+
+-- in the first of two lists, or in the second
+pub contains_either : {X : Type 0} (xs ys : List X) (y : X) → Contains (xs ++ ys) y → Contains xs y ⊎ Contains ys y
+contains_either [] ys y h = inr h
+contains_either (x ∷ xs) ys y h = elim (contains_cases x (xs ++ ys) y h) [
+  | inl e ↦ inl (subst (Contains (x ∷ xs)) e (contains_here x xs))
+  | inr behind ↦ elim (contains_either xs ys y behind) [
+    | inl first ↦ inl (contains_behind x xs y first)
+    | inr second ↦ inr second
+  ]
+]

@@ -1,13 +1,17 @@
 -- Where a symbol stands in the rules has no part in what it passes, and a name has the place of its mark.
-use Rattle.std.proofs.Common.{◌≡◌, ℕ, ◌+◌, Bool, true, false, List, [], ◌∷◌, refl, ap, codes}
+use Rattle.std.proofs.Common.{◌≡◌, ℕ, ◌+◌, Bool, true, false, cond, List, [], ◌∷◌, refl, sym, ap, ◌∙◌, codes}
 use Rattle.std.specs.Str.{bytes_eq}
 use Rattle.gm_model.specs.declared.rule.Side.{Side}
 use Rattle.gm_model.specs.declared.rule.Side.TheVariants.{Left, Right}
 use Rattle.gm_model.specs.Symbols.{Symbol, Word, Numeral, Sign, Gone, Stray, End, Mark}
 use Rattle.gm_model.specs.Reading.{Part}
-use Rattle.gm_forms.specs.BookText.{Role, NameAt, ParamName, limit_of, stands_before, IsPlacedAt, ArePlaced}
+use Rattle.std.specs.Prelude.{is_some}
+use Rattle.gm_parse.specs.Reading.{spot_move}
+use Rattle.gm_forms.proofs.Apart.{expr_limit}
+use Rattle.gm_forms.proofs.Values.{item_before, behind_before, expr_before}
+use Rattle.gm_forms.specs.BookText.{Role, Fixed, NameAt, ParamName, limit_of, stands_before, IsPlacedAt, ArePlaced}
 use Rattle.gm_text.proofs.Machine.{Along}
-use Rattle.gm_forms.specs.Reading.{Spot, State, AtRules, AtName, AtLeft, AtParam, AtColon, AtKind, AtComma, AtBody, AtItem, AtSign, AtLetter, AtBehind, AtLabel, AtDash, AtTo, AtEnd, closing, closing_role, is_hook, item_role, role_at, move}
+use Rattle.gm_forms.specs.Reading.{Spot, State, AtRules, AtName, AtLeft, AtParam, AtColon, AtKind, AtComma, AtBody, AtItem, AtSign, AtLetter, AtBehind, AtSet, AtEqual, AtExpr, AtRuleEnd, AtLabel, AtDash, AtTo, AtEnd, Slot, SetSlot, PreSlot, behind_slot, dim_of, on_right, closing, closing_role, is_hook, is_pre_on, is_with_on, item_role, behind_role, end_role, plain_role, role_at, move}
 use Rattle.gm_forms.proofs.Leading.{Led}
 
 -- ---- where a symbol stands
@@ -15,9 +19,13 @@ use Rattle.gm_forms.proofs.Leading.{Led}
 same_item_limit : (spot : Spot) (symbol : Symbol) (place other : ℕ) → limit_of (item_role spot symbol place) symbol ≡ limit_of (item_role spot symbol other) symbol
 same_item_limit spot (Word w) place other = go (bytes_eq w (closing spot.side)) refl
   where
+    pre : (c : Bool) → limit_of (cond c Fixed (NameAt place)) (Word w) ≡ limit_of (cond c Fixed (NameAt other)) (Word w)
+    pre true = refl
+    pre false = refl
+
     go : (b : Bool) → bytes_eq w (closing spot.side) ≡ b → limit_of (item_role spot (Word w) place) (Word w) ≡ limit_of (item_role spot (Word w) other) (Word w)
     go true e = rw e refl
-    go false e = rw e refl
+    go false e = rw e (pre (is_pre_on spot.side w))
 same_item_limit spot (Numeral n) place other = refl
 same_item_limit spot (Sign s) place other = refl
 same_item_limit spot Gone place other = refl
@@ -40,6 +48,26 @@ same_param_limit k Gone place other = refl
 same_param_limit k Stray place other = refl
 same_param_limit k End place other = refl
 
+same_behind_limit : (spot : Spot) (symbol : Symbol) (place other : ℕ) → limit_of (role_at (AtBehind spot) symbol place) symbol ≡ limit_of (role_at (AtBehind spot) symbol other) symbol
+same_behind_limit spot (Word w) place other = go (is_hook spot w) refl
+  where
+    set : (c : Bool) → limit_of (cond c Fixed (item_role spot (Word w) place)) (Word w) ≡ limit_of (cond c Fixed (item_role spot (Word w) other)) (Word w)
+    set true = refl
+    set false = same_item_limit spot (Word w) place other
+
+    go : (b : Bool) → is_hook spot w ≡ b → limit_of (role_at (AtBehind spot) (Word w) place) (Word w) ≡ limit_of (role_at (AtBehind spot) (Word w) other) (Word w)
+    go true e = rw e refl
+    go false e = rw e (set (is_with_on spot.side w))
+same_behind_limit spot (Numeral n) place other = refl
+same_behind_limit spot (Sign s) place other = refl
+same_behind_limit spot Gone place other = refl
+same_behind_limit spot Stray place other = refl
+same_behind_limit spot End place other = refl
+
+slot_limit : (slot : Slot) (symbol : Symbol) (place other : ℕ) → limit_of (plain_role (behind_slot slot) symbol place) symbol ≡ limit_of (plain_role (behind_slot slot) symbol other) symbol
+slot_limit (SetSlot spot) symbol place other = same_behind_limit (on_right spot) symbol place other
+slot_limit (PreSlot heading k) symbol place other = refl
+
 pub same_limit : (state : State) (symbol : Symbol) (place other : ℕ) → limit_of (role_at state symbol place) symbol ≡ limit_of (role_at state symbol other) symbol
 same_limit (AtRules n) symbol place other = refl
 same_limit (AtName n k) symbol place other = same_name_limit symbol place other
@@ -52,32 +80,19 @@ same_limit (AtBody n k) symbol place other = refl
 same_limit (AtItem spot) symbol place other = same_item_limit spot symbol place other
 same_limit (AtSign spot name) symbol place other = refl
 same_limit (AtLetter spot k) symbol place other = refl
-same_limit (AtBehind spot) (Word w) place other = go (is_hook spot w) refl
+same_limit (AtBehind spot) symbol place other = same_behind_limit spot symbol place other
+same_limit (AtSet spot) symbol place other = same_name_limit symbol place other
+same_limit (AtEqual spot) symbol place other = refl
+same_limit (AtExpr slot spot) symbol place other = go (is_some (spot_move spot symbol)) refl
   where
-    go : (b : Bool) → is_hook spot w ≡ b → limit_of (role_at (AtBehind spot) (Word w) place) (Word w) ≡ limit_of (role_at (AtBehind spot) (Word w) other) (Word w)
-    go true e = rw e refl
-    go false e = rw e (same_item_limit spot (Word w) place other)
-same_limit (AtBehind spot) (Numeral n) place other = refl
-same_limit (AtBehind spot) (Sign s) place other = refl
-same_limit (AtBehind spot) Gone place other = refl
-same_limit (AtBehind spot) Stray place other = refl
-same_limit (AtBehind spot) End place other = refl
+    go : (b : Bool) → is_some (spot_move spot symbol) ≡ b → limit_of (role_at (AtExpr slot spot) symbol place) symbol ≡ limit_of (role_at (AtExpr slot spot) symbol other) symbol
+    go true e = rw e (expr_limit (dim_of slot) spot symbol place other)
+    go false e = rw e (slot_limit slot symbol place other)
+same_limit (AtRuleEnd n k) symbol place other = refl
 same_limit (AtLabel spot) symbol place other = refl
 same_limit (AtDash spot) symbol place other = refl
 same_limit (AtTo spot) symbol place other = same_name_limit symbol place other
 same_limit AtEnd symbol place other = refl
-
-same_item_before : (spot : Spot) (symbol : Symbol) (place other : ℕ) → stands_before (item_role spot symbol place) ≡ stands_before (item_role spot symbol other)
-same_item_before spot (Word w) place other = go (bytes_eq w (closing spot.side)) refl
-  where
-    go : (b : Bool) → bytes_eq w (closing spot.side) ≡ b → stands_before (item_role spot (Word w) place) ≡ stands_before (item_role spot (Word w) other)
-    go true e = rw e refl
-    go false e = rw e refl
-same_item_before spot (Numeral n) place other = refl
-same_item_before spot (Sign s) place other = refl
-same_item_before spot Gone place other = refl
-same_item_before spot Stray place other = refl
-same_item_before spot End place other = refl
 
 pub same_before : (state : State) (symbol : Symbol) (place other : ℕ) → stands_before (role_at state symbol place) ≡ stands_before (role_at state symbol other)
 same_before (AtRules n) symbol place other = refl
@@ -88,19 +103,14 @@ same_before (AtColon n k count) symbol place other = refl
 same_before (AtKind n k count) symbol place other = refl
 same_before (AtComma n k count) symbol place other = refl
 same_before (AtBody n k) symbol place other = refl
-same_before (AtItem spot) symbol place other = same_item_before spot symbol place other
+same_before (AtItem spot) symbol place other = item_before spot symbol place ∙ sym (item_before spot symbol other)
 same_before (AtSign spot name) symbol place other = refl
 same_before (AtLetter spot k) symbol place other = refl
-same_before (AtBehind spot) (Word w) place other = go (is_hook spot w) refl
-  where
-    go : (b : Bool) → is_hook spot w ≡ b → stands_before (role_at (AtBehind spot) (Word w) place) ≡ stands_before (role_at (AtBehind spot) (Word w) other)
-    go true e = rw e refl
-    go false e = rw e (same_item_before spot (Word w) place other)
-same_before (AtBehind spot) (Numeral n) place other = refl
-same_before (AtBehind spot) (Sign s) place other = refl
-same_before (AtBehind spot) Gone place other = refl
-same_before (AtBehind spot) Stray place other = refl
-same_before (AtBehind spot) End place other = refl
+same_before (AtBehind spot) symbol place other = behind_before spot symbol place ∙ sym (behind_before spot symbol other)
+same_before (AtSet spot) symbol place other = refl
+same_before (AtEqual spot) symbol place other = refl
+same_before (AtExpr slot spot) symbol place other = expr_before slot spot symbol place ∙ sym (expr_before slot spot symbol other)
+same_before (AtRuleEnd n k) symbol place other = refl
 same_before (AtLabel spot) symbol place other = refl
 same_before (AtDash spot) symbol place other = refl
 same_before (AtTo spot) symbol place other = refl
@@ -113,14 +123,46 @@ placed_closing Right k place = tt
 placed_item : (spot : Spot) (symbol : Symbol) (place : ℕ) → IsPlacedAt place (item_role spot symbol place)
 placed_item spot (Word w) place = go (bytes_eq w (closing spot.side)) refl
   where
+    pre : (c : Bool) → IsPlacedAt place (cond c Fixed (NameAt place))
+    pre true = tt
+    pre false = refl
+
     go : (b : Bool) → bytes_eq w (closing spot.side) ≡ b → IsPlacedAt place (item_role spot (Word w) place)
     go true e = rw e (placed_closing spot.side spot.rules place)
-    go false e = rw e refl
+    go false e = rw e (pre (is_pre_on spot.side w))
 placed_item spot (Numeral n) place = tt
 placed_item spot (Sign s) place = tt
 placed_item spot Gone place = tt
 placed_item spot Stray place = tt
 placed_item spot End place = tt
+
+placed_behind : (spot : Spot) (symbol : Symbol) (place : ℕ) → IsPlacedAt place (behind_role spot symbol place)
+placed_behind spot (Word w) place = go (is_hook spot w) refl
+  where
+    set : (c : Bool) → IsPlacedAt place (cond c Fixed (item_role spot (Word w) place))
+    set true = tt
+    set false = placed_item spot (Word w) place
+
+    go : (b : Bool) → is_hook spot w ≡ b → IsPlacedAt place (behind_role spot (Word w) place)
+    go true e = rw e tt
+    go false e = rw e (set (is_with_on spot.side w))
+placed_behind spot (Numeral n) place = tt
+placed_behind spot (Sign s) place = tt
+placed_behind spot Gone place = tt
+placed_behind spot Stray place = tt
+placed_behind spot End place = tt
+
+placed_end : (k : ℕ) (symbol : Symbol) (place : ℕ) → IsPlacedAt place (end_role k symbol)
+placed_end k (Word w) place = tt
+placed_end k (Numeral n) place = tt
+placed_end k (Sign s) place = tt
+placed_end k Gone place = tt
+placed_end k Stray place = tt
+placed_end k End place = tt
+
+placed_slot : (slot : Slot) (symbol : Symbol) (place : ℕ) → IsPlacedAt place (plain_role (behind_slot slot) symbol place)
+placed_slot (SetSlot spot) symbol place = placed_behind (on_right spot) symbol place
+placed_slot (PreSlot heading k) symbol place = placed_end k symbol place
 
 -- a name has the place of its mark
 pub placed_role : (state : State) (symbol : Symbol) (place : ℕ) → IsPlacedAt place (role_at state symbol place)
@@ -154,16 +196,15 @@ placed_role (AtLetter spot k) (Numeral m) place = tt
 placed_role (AtLetter spot k) Gone place = tt
 placed_role (AtLetter spot k) Stray place = tt
 placed_role (AtLetter spot k) End place = tt
-placed_role (AtBehind spot) (Word w) place = go (is_hook spot w) refl
+placed_role (AtBehind spot) symbol place = placed_behind spot symbol place
+placed_role (AtSet spot) symbol place = refl
+placed_role (AtEqual spot) symbol place = tt
+placed_role (AtExpr slot spot) symbol place = go (is_some (spot_move spot symbol)) refl
   where
-    go : (b : Bool) → is_hook spot w ≡ b → IsPlacedAt place (role_at (AtBehind spot) (Word w) place)
-    go true e = rw e tt
-    go false e = rw e (placed_item spot (Word w) place)
-placed_role (AtBehind spot) (Numeral n) place = tt
-placed_role (AtBehind spot) (Sign s) place = tt
-placed_role (AtBehind spot) Gone place = tt
-placed_role (AtBehind spot) Stray place = tt
-placed_role (AtBehind spot) End place = tt
+    go : (b : Bool) → is_some (spot_move spot symbol) ≡ b → IsPlacedAt place (role_at (AtExpr slot spot) symbol place)
+    go true e = rw e refl
+    go false e = rw e (placed_slot slot symbol place)
+placed_role (AtRuleEnd n k) symbol place = placed_end k symbol place
 placed_role (AtLabel spot) symbol place = tt
 placed_role (AtDash spot) symbol place = tt
 placed_role (AtTo spot) symbol place = refl

@@ -12,35 +12,31 @@ use Rattle.gm_text.specs.Cursor.{Cursor}
 use Rattle.gm_text.specs.Nested.{Outside}
 use Rattle.gm_forms.specs.declared.form_fault.FormFault.{FormFault}
 use Rattle.gm_forms.specs.declared.form_fault.FormFault.TheVariants as faults
-use Rattle.gm_forms.specs.Reading.{Outer, AtFormat, AtVersion, is_version, outer_move, run_whole, is_later_in}
+use Rattle.gm_forms.specs.Reading.{Outer, AtFormat, AtVersion, is_version, outer_move, run_whole}
 use Rattle.gm_text.specs.SchemaAnswers.{marks_left}
 use Rattle.gm_forms.specs.Standing.{IsNext, IsHeaded, BeginsBook, IsVersioned, EndsAt, IsHeadFault, mark_of}
 
 -- ---- no text of a book goes on
 
-abbrev IsPlain : Outer → Type 0
-IsPlain outer = (symbol : Symbol) → is_later_in (Outside outer) symbol ≡ false
+refused : (outer : Outer) (marks rest : List Mark) (mark : Mark) → marks ≡ mark ∷ rest → outer_move outer mark.symbol ≡ None → EndsAt (Outside outer) marks mark.place
+refused outer marks rest mark is stuck last = (Outside outer, mark, ap (run_whole (Outside outer) last) is ∙ rw stuck refl, refl)
 
-refused : (outer : Outer) (marks rest : List Mark) (mark : Mark) → IsPlain outer → marks ≡ mark ∷ rest → outer_move outer mark.symbol ≡ None → EndsAt (Outside outer) marks mark.place false
-refused outer marks rest mark plain is stuck last = (Outside outer, mark, ap (run_whole (Outside outer) last) is ∙ rw stuck refl, refl, plain mark.symbol)
-
-module _ (outer : Outer) (plain : IsPlain outer) (cursor rest : Cursor) where
+module _ (outer : Outer) (cursor rest : Cursor) where
   pub at_stray : (fault : FormFault) → outer_move outer Stray ≡ None → IsNext cursor (Err fault) rest → IsHeadFault (Outside outer) (marks_left cursor) fault
-  at_stray (faults.Text place) stuck is = refused outer (marks_left cursor) [] (record { symbol = Stray; place = place }) plain is stuck
+  at_stray (faults.Text place) stuck is = refused outer (marks_left cursor) [] (record { symbol = Stray; place = place }) is stuck
   at_stray (faults.Limit what place) stuck is = absurd is
-  at_stray (faults.NotBuilt place) stuck is = absurd is
   at_stray faults.OutOfMemory stuck is = absurd is
 
-  pub at_end : (found : Option Token) (place : ℕ) → outer_move outer End ≡ None → IsNext cursor (Ok found) rest → found ≡ None → place ≡ rest.place → EndsAt (Outside outer) (marks_left cursor) place false
-  at_end None place stuck is none here = subst (λ (p : ℕ). EndsAt (Outside outer) (marks_left cursor) p false) (sym here) (refused outer (marks_left cursor) [] (record { symbol = End; place = rest.place }) plain is.0 stuck)
+  pub at_end : (found : Option Token) (place : ℕ) → outer_move outer End ≡ None → IsNext cursor (Ok found) rest → found ≡ None → place ≡ rest.place → EndsAt (Outside outer) (marks_left cursor) place
+  at_end None place stuck is none here = subst (λ (p : ℕ). EndsAt (Outside outer) (marks_left cursor) p) (sym here) (refused outer (marks_left cursor) [] (record { symbol = End; place = rest.place }) is.0 stuck)
   at_end (Some token) place stuck is none here = absurd cc
 
   -- the mark of the token, whose text is the lexer's
   token_marks : (token : Token) → rest.text ≡ cursor.text → IsNext cursor (Ok (Some token)) rest → marks_left cursor ≡ mark_of rest.text token ∷ marks_left rest
   token_marks token same is = subst (λ (t : List ℕ). marks_left cursor ≡ mark_of t token ∷ marks_left rest) (sym same) is.1
 
-  pub at_token : (token : Token) → rest.text ≡ cursor.text → IsNext cursor (Ok (Some token)) rest → outer_move outer (symbol_of_kind token.kind (bytes_of rest.text token)) ≡ None → EndsAt (Outside outer) (marks_left cursor) token.start false
-  at_token token same is stuck = refused outer (marks_left cursor) (marks_left rest) (mark_of rest.text token) plain (token_marks token same is) stuck
+  pub at_token : (token : Token) → rest.text ≡ cursor.text → IsNext cursor (Ok (Some token)) rest → outer_move outer (symbol_of_kind token.kind (bytes_of rest.text token)) ≡ None → EndsAt (Outside outer) (marks_left cursor) token.start
+  at_token token same is stuck = refused outer (marks_left cursor) (marks_left rest) (mark_of rest.text token) (token_marks token same is) stuck
 
 -- ---- the word `book`
 
@@ -56,7 +52,7 @@ other_word kind bytes is differ = rw is (rw differ refl)
 pub book_read : (cursor rest : Cursor) (token : Token) → rest.text ≡ cursor.text → IsNext cursor (Ok (Some token)) rest → token.kind ≡ kinds.Name → bytes_eq (bytes_of rest.text token) (codes "book") ≡ true → BeginsBook (marks_left cursor) (marks_left rest)
 book_read cursor rest token same is kind word =
     let symbol : symbol_of_kind token.kind (bytes_of rest.text token) ≡ Word (codes "book") = ap (λ k. symbol_of_kind k (bytes_of rest.text token)) kind ∙ ap Word ((bytes_eq-Decides (bytes_of rest.text token) (codes "book")).0 word) in
-    (token.start, token_marks AtFormat (λ s. refl) cursor rest token same is ∙ ap (λ (s : Symbol). let m : Mark = record { symbol = s; place = token.start } in m ∷ marks_left rest) symbol)
+    (token.start, token_marks AtFormat cursor rest token same is ∙ ap (λ (s : Symbol). let m : Mark = record { symbol = s; place = token.start } in m ∷ marks_left rest) symbol)
 
 -- ---- the version
 
@@ -83,7 +79,7 @@ pub version_read : (cursor rest : Cursor) (token : Token) → rest.text ≡ curs
 version_read cursor rest token same is kind value at known = go known
   where
     marks : marks_left cursor ≡ mark_of rest.text token ∷ marks_left rest
-    marks = token_marks AtVersion (λ s. refl) cursor rest token same is
+    marks = token_marks AtVersion cursor rest token same is
 
     made : (v : ℕ) → value ≡ v → v ≤ 2 → is_version v ≡ true → IsVersioned (marks_left cursor) value (marks_left rest)
     made v e small good = record {
@@ -104,8 +100,7 @@ headed marks middle rest version (place, begins) number = record { first = place
 -- a fault behind the word `book`
 pub fault_behind : (marks middle : List Mark) (fault : FormFault) → BeginsBook marks middle → IsHeadFault (Outside AtVersion) middle fault → IsHeadFault (Outside AtFormat) marks fault
 fault_behind marks middle (faults.Text place) (at, begins) fault = λ last.
-    let (state, mark, runs, here, plain) = fault at in
-    (state, mark, ap (run_whole (Outside AtFormat) last) begins ∙ runs, here, plain)
+    let (state, mark, runs, here) = fault at in
+    (state, mark, ap (run_whole (Outside AtFormat) last) begins ∙ runs, here)
 fault_behind marks middle (faults.Limit what place) begins fault = fault
-fault_behind marks middle (faults.NotBuilt place) begins fault = fault
 fault_behind marks middle faults.OutOfMemory begins fault = fault

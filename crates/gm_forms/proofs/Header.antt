@@ -25,7 +25,7 @@ use Rattle.gm_forms.specs.BookText.{BookForm, Role, Fixed, InSchema, limit_of, s
 use Rattle.gm_forms.specs.Reading.{State, AtRules, AtName, AtEnd, heading_at, Outer, AtFormat, AtVersion, InRules, Header, header_at, Whole, is_version, outer_role, in_rules, outer_move, heading_in, book_nesting, role_at, move}
 use Rattle.gm_forms.proofs.Grammar.{same_limit, same_before, has_marks}
 use Rattle.gm_forms.proofs.Leading.{at_header, led_rules, goes_on}
-use Rattle.gm_forms.proofs.Spelling.{along_rules}
+use Rattle.gm_forms.proofs.Marks.{along_rules}
 
 abbrev Parts : Type 0
 Parts = List (Part Role)

@@ -7,10 +7,15 @@ pub mod Leading
 pub mod Spelling
 pub mod Grammar
 pub mod Header
-pub mod Later
 pub mod RulesHeld
 pub mod SchemaNames
 pub mod Whole
 pub mod HeadRead
 pub mod Contained
 pub mod HeldNames
+pub mod Values
+pub mod Apart
+pub mod ValuePlaces
+pub mod ValuesRead
+pub mod Drafts
+pub mod Marks

@@ -1,5 +1,5 @@
 -- How reading mark by mark goes on: over a token that a lexer answers, and up to a fault.
-use Rattle.std.proofs.Common.{arith, ◌≡◌, ℕ, List, ◌∷◌, Option, Some, None, Result, Ok, Err, refl, sym, ap, subst, ◌∙◌}
+use Rattle.std.proofs.Common.{arith, ◌≡◌, ℕ, Bool, true, false, cond, List, ◌∷◌, Option, Some, None, Result, Ok, Err, refl, sym, ap, subst, ◌∙◌}
 use Rattle.gm_model.specs.declared.token.Token.{Token}
 use Rattle.gm_model.specs.Symbols.{Stray, Mark}
 use Rattle.gm_text.specs.Cursor.{Cursor}
@@ -9,9 +9,14 @@ use Rattle.gm_forms.specs.declared.draft.Draft.{Draft}
 use Rattle.gm_forms.specs.declared.form_fault.FormFault.{FormFault}
 use Rattle.gm_forms.specs.declared.form_fault.FormFault.TheVariants as faults
 use Rattle.gm_forms.specs.declared.state.State.{State as CodeState}
-use Rattle.gm_forms.specs.Reading.{State, AtRules, AtName, AtLeft, AtParam, AtColon, AtKind, AtComma, AtBody, AtItem, AtSign, AtLetter, AtBehind, AtLabel, AtDash, AtTo, AtEnd, Held}
+use Rattle.gm_text.specs.Machine as machines
+use Rattle.gm_parse.specs.Reading.{is_whole_spot}
+use Rattle.gm_forms.specs.BookText.{limit_of, stands_before}
+use Rattle.gm_forms.proofs.Apart.{other_stuck}
+use Rattle.gm_forms.proofs.Values.{plain_before}
+use Rattle.gm_forms.specs.Reading.{Slot, SetSlot, PreSlot, behind_slot, plain_role, plain_move, role_at, move, State, AtRules, AtName, AtLeft, AtParam, AtColon, AtKind, AtComma, AtBody, AtItem, AtSign, AtLetter, AtBehind, AtSet, AtEqual, AtExpr, AtRuleEnd, AtLabel, AtDash, AtTo, AtEnd, Held}
 use Rattle.gm_text.specs.SchemaAnswers.{marks_left}
-use Rattle.gm_forms.specs.Standing.{Stand, stepped, read_on, ◌>>=◌, Fails, IsNext, IsStateIn, IsDraftIn, MovesFrom, stand_of, mark_of}
+use Rattle.gm_forms.specs.Standing.{Stand, settled, stepped, read_on, ◌>>=◌, Fails, IsNext, IsStateIn, IsDraftIn, MovesFrom, stand_of, mark_of}
 
 -- ---- tokens
 
@@ -44,6 +49,17 @@ stray_is_fault (AtItem spot) last place held = refl
 stray_is_fault (AtSign spot name) last place held = refl
 stray_is_fault (AtLetter spot k) last place held = refl
 stray_is_fault (AtBehind spot) last place held = refl
+stray_is_fault (AtSet spot) last place held = refl
+stray_is_fault (AtEqual spot) last place held = refl
+stray_is_fault (AtExpr slot spot) last place held = rw (other_stuck spot Stray refl, plain_before slot Stray place) (go slot (is_whole_spot spot))
+  where
+    go : (slot : Slot) (b : Bool) → settled (record { state = AtExpr slot spot; last = last; held = held }) (record { symbol = Stray; place = place })
+        (machines.taken limit_of stands_before role_at move (AtExpr slot spot) (record { symbol = Stray; place = place }) place (cond b (plain_move (behind_slot slot) Stray) None) (limit_of (plain_role (behind_slot slot) Stray place) Stray)) ≡ Err (faults.Text place)
+    go (SetSlot at) true = refl
+    go (SetSlot at) false = refl
+    go (PreSlot heading k) true = refl
+    go (PreSlot heading k) false = refl
+stray_is_fault (AtRuleEnd n k) last place held = refl
 stray_is_fault (AtLabel spot) last place held = refl
 stray_is_fault (AtDash spot) last place held = refl
 stray_is_fault (AtTo spot) last place held = refl
@@ -53,14 +69,12 @@ stray_is_fault AtEnd last place held = refl
 pub stray_stops : (cursor rest : Cursor) (fault : FormFault) (stand : Stand) (whole : Result Stand FormFault) → IsNext cursor (Err fault) rest → read_on stand (marks_left cursor) ≡ whole → Fails fault whole
 stray_stops cursor rest (faults.Text place) stand whole is so_far = sym so_far ∙ (ap (λ (marks : List Mark). read_on stand marks) is ∙ rw (stray_is_fault stand.state stand.last place stand.held) refl)
 stray_stops cursor rest (faults.Limit what place) stand whole is so_far = absurd is
-stray_stops cursor rest (faults.NotBuilt place) stand whole is so_far = absurd is
 stray_stops cursor rest faults.OutOfMemory stand whole is so_far = absurd is
 
 fails : {A B : Type 0} (fault : FormFault) (found : Result A FormFault) (on : A → Result B FormFault) → Fails fault found → Fails fault (found >>= on)
 fails faults.OutOfMemory found on given = tt
 fails (faults.Text place) found on given = rw given refl
 fails (faults.Limit what place) found on given = rw given refl
-fails (faults.NotBuilt place) found on given = rw given refl
 
 module _ (text : List ℕ) (cursor rest : Cursor) (same : cursor.text ≡ text) (still : rest.text ≡ cursor.text) (token : Token) (nodes new_nodes : List (List ℕ)) (draft new : Draft) (state : CodeState) (last : ℕ) (whole : Result Stand FormFault) where
   at_mark : IsNext cursor (Ok (Some token)) rest → read_on (stand_of text nodes draft state last) (marks_left cursor) ≡ whole
@@ -87,3 +101,13 @@ module _ (text : List ℕ) (cursor rest : Cursor) (same : cursor.text ≡ text) 
 
   pub keeps_on : (next : CodeState) → (IsStateIn rest.text state → IsDraftIn rest.text draft → IsStateIn rest.text next × IsDraftIn rest.text new) → IsStateIn text state → IsDraftIn text draft → IsStateIn text next × IsDraftIn text new
   keeps_on next keeps = subst (λ (t : List ℕ). IsStateIn t state → IsDraftIn t draft → IsStateIn t next × IsDraftIn t new) (still ∙ same) keeps
+
+-- ---- past an expression
+
+module _ (text : List ℕ) (cursor rest : Cursor) (same : cursor.text ≡ text) (nodes new_nodes : List (List ℕ)) (draft new : Draft) (state : CodeState) (last : ℕ) (whole : Result Stand FormFault) where
+  pub past_on : (next : CodeState) → read_on (stand_of cursor.text new_nodes new next last) (marks_left rest) ≡ read_on (stand_of cursor.text nodes draft state last) (marks_left cursor)
+      → read_on (stand_of text nodes draft state last) (marks_left cursor) ≡ whole → read_on (stand_of text new_nodes new next last) (marks_left rest) ≡ whole
+  past_on next past so_far = subst (λ (t : List ℕ). read_on (stand_of t new_nodes new next last) (marks_left rest) ≡ read_on (stand_of t nodes draft state last) (marks_left cursor)) same past ∙ so_far
+
+  pub past_stops : (fault : FormFault) → Fails fault (read_on (stand_of cursor.text nodes draft state last) (marks_left cursor)) → read_on (stand_of text nodes draft state last) (marks_left cursor) ≡ whole → Fails fault whole
+  past_stops fault fails so_far = subst (λ (w : Result Stand FormFault). Fails fault w) so_far (subst (λ (t : List ℕ). Fails fault (read_on (stand_of t nodes draft state last) (marks_left cursor))) same fails)

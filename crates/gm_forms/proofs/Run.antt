@@ -1,5 +1,5 @@
 -- What reading mark by mark says of the machine's run: its last state and what is held, or why it stops.
-use Rattle.std.proofs.Common.{◌≡◌, ℕ, Bool, true, false, cond, List, [], ◌∷◌, Option, Some, None, Result, Ok, Err, refl, ap, subst}
+use Rattle.std.proofs.Common.{◌≡◌, ℕ, List, [], ◌∷◌, Option, Some, None, Result, Ok, Err, refl, ap, subst}
 use Rattle.gm_model.specs.declared.limit.LimitKind.{LimitKind}
 use Rattle.gm_model.specs.Symbols.{Mark}
 use Rattle.gm_forms.specs.BookText.{RuleForm, limit_of, stands_before}
@@ -7,7 +7,7 @@ use Rattle.gm_text.specs.Machine as machine
 use Rattle.gm_forms.specs.declared.form_fault.FormFault.{FormFault}
 use Rattle.gm_forms.specs.declared.form_fault.FormFault.TheVariants as faults
 use Rattle.gm_forms.specs.declared.state.Heading.{Heading}
-use Rattle.gm_forms.specs.Reading.{State, AtRules, AtEnd, role_at, move, step, run, is_later, Nothing, Held, hold, held_behind}
+use Rattle.gm_forms.specs.Reading.{State, AtRules, AtEnd, role_at, move, step, run, Nothing, Held, hold, held_behind}
 use Rattle.gm_forms.specs.Standing.{Stand, rules_stand, fault_of, settled, stepped, read_on, ◌>>=◌, AreRulesRead, IsRulesFault, Fails}
 
 abbrev taken : State → Mark → ℕ → Option State → Option LimitKind → Result State (machine.Stop State LimitKind)
@@ -68,11 +68,6 @@ read_stops stand (mark ∷ marks) fault read = go (step stand.state stand.last m
 
 -- ---- the rules
 
-ended : (heading : Heading) (marks : List Mark) (state : State) (mark : Mark) (fault : FormFault) → run (AtRules heading) 0 marks ≡ Err (machine.Ends state mark) → (later : Bool) → is_later state mark.symbol ≡ later
-    → cond later (faults.NotBuilt mark.place) (faults.Text mark.place) ≡ fault → IsRulesFault heading marks fault
-ended heading marks state mark fault stops true later says = subst (IsRulesFault heading marks) says (state, mark, stops, refl, later)
-ended heading marks state mark fault stops false later says = subst (IsRulesFault heading marks) says (state, mark, stops, refl, later)
-
 pub are_rules_read : (heading : Heading) (marks : List Mark) (last : ℕ) (rules : List RuleForm) (current : Option RuleForm)
     → read_on (rules_stand heading) marks ≡ Ok (record { state = AtEnd; last = last; held = record { rules = rules; current = current; part = Nothing } }) → AreRulesRead heading marks rules
 are_rules_read heading marks last rules current read =
@@ -86,11 +81,10 @@ says_fault heading marks fault read = go stops.stop stops.stops stops.says
     stops = read_stops (rules_stand heading) marks fault read
 
     go : (stop : machine.Stop State LimitKind) → run (AtRules heading) 0 marks ≡ Err stop → fault_of stop ≡ fault → IsRulesFault heading marks fault
-    go (machine.Ends state mark) ends says = ended heading marks state mark fault ends (is_later state mark.symbol) refl says
+    go (machine.Ends state mark) ends says = subst (IsRulesFault heading marks) says (state, mark, ends, refl)
     go (machine.Passes what place) ends says = subst (IsRulesFault heading marks) says ends
 
 pub is_rules_fault : (heading : Heading) (marks : List Mark) (fault : FormFault) → Fails fault (read_on (rules_stand heading) marks) → IsRulesFault heading marks fault
 is_rules_fault heading marks (faults.Text place) read = says_fault heading marks (faults.Text place) read
 is_rules_fault heading marks (faults.Limit what place) read = says_fault heading marks (faults.Limit what place) read
-is_rules_fault heading marks (faults.NotBuilt place) read = says_fault heading marks (faults.NotBuilt place) read
 is_rules_fault heading marks faults.OutOfMemory read = tt

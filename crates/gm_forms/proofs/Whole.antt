@@ -17,7 +17,7 @@ use Rattle.gm_text.proofs.Machine.{last_of}
 use Rattle.gm_text.proofs.Nested.{run_inside, run_inside_ends, run_inside_passes}
 use Rattle.gm_text.proofs.SchemaWhole.{run_limits, limits_run, limits_ok, limits_end, limits_pass, never_again}
 use Rattle.gm_forms.specs.BookText.{Role, InSchema, limit_of, stands_before}
-use Rattle.gm_forms.specs.Reading.{State, AtRules, AtFormat, Header, header_at, Whole, in_rules, heading_at, book_nesting, rules_role, role_at, move, run, run_whole, is_later, is_later_in}
+use Rattle.gm_forms.specs.Reading.{State, AtRules, AtFormat, Header, header_at, Whole, in_rules, heading_at, book_nesting, rules_role, role_at, move, run, run_whole}
 use Rattle.gm_forms.specs.Standing.{IsHeaded}
 use Rattle.gm_forms.proofs.SchemaNames.{no_embed}
 
@@ -45,7 +45,7 @@ module _ (version : ℕ) (old : Cursor) where
 
   -- what a run over the schema's beginning answers
   abbrev pub Answers : ℕ → SchemaFault → Type 0
-  Answers last (faults.Text place) = (state : Whole) × (mark : Mark) × (run_whole (Inside (header_at version schema.AtDim)) last (marks_left old) ≡ Err (Ends state mark)) × (mark.place ≡ place) × (is_later_in state mark.symbol ≡ false)
+  Answers last (faults.Text place) = (state : Whole) × (mark : Mark) × (run_whole (Inside (header_at version schema.AtDim)) last (marks_left old) ≡ Err (Ends state mark)) × (mark.place ≡ place)
   Answers last (faults.Limit what place) = run_whole (Inside (header_at version schema.AtDim)) last (marks_left old) ≡ Err (Passes what place)
   Answers last _ = ⊥
 
@@ -53,7 +53,7 @@ module _ (version : ℕ) (old : Cursor) where
   schema_stops last (faults.Text place) stops =
       let limits = limits_end (run_limits schema.AtDim last (marks_left old)) stops.stop stops.mark (sym (limits_run schema.AtDim last (marks_left old)) ∙ stops.ends last) in
       let inside : RunInside (header_at version schema.AtDim) last (marks_left old) ≡ Err (Ends (header_at version stops.stop) stops.mark) = inside_run version schema.AtDim last (marks_left old) ∙ ap (carried (header_at version)) limits in
-      (Inside (header_at version stops.stop), stops.mark, run_inside_ends book_nesting limit_of stands_before (header_at version schema.AtDim) (header_at version stops.stop) last (marks_left old) stops.mark inside stops.part, stops.here, refl)
+      (Inside (header_at version stops.stop), stops.mark, run_inside_ends book_nesting limit_of stands_before (header_at version schema.AtDim) (header_at version stops.stop) last (marks_left old) stops.mark inside stops.part, stops.here)
   schema_stops last (faults.Limit what place) stops =
       let limits = limits_pass (run_limits schema.AtDim last (marks_left old)) what place (sym (limits_run schema.AtDim last (marks_left old)) ∙ stops last) in
       let inside : RunInside (header_at version schema.AtDim) last (marks_left old) ≡ Err (Passes what place) = inside_run version schema.AtDim last (marks_left old) ∙ ap (carried (header_at version)) limits in
@@ -66,12 +66,12 @@ module _ (version : ℕ) (old : Cursor) where
 -- the answers are the same, but for the state at which no book goes on
 abbrev pub IsSame : Result State (Stop State LimitKind) → Result Whole (Stop Whole LimitKind) → Type 0
 IsSame (Ok state) found = found ≡ Ok (in_rules state)
-IsSame (Err (Ends state mark)) found = (whole : Whole) × (found ≡ Err (Ends whole mark)) × (is_later_in whole mark.symbol ≡ is_later state mark.symbol)
+IsSame (Err (Ends state mark)) found = (whole : Whole) × (found ≡ Err (Ends whole mark))
 IsSame (Err (Passes what place)) found = found ≡ Err (Passes what place)
 
 same_carried : (answer : Result State (Stop State LimitKind)) → IsSame answer (carried in_rules answer)
 same_carried (Ok state) = refl
-same_carried (Err (Ends state mark)) = (in_rules state, refl, refl)
+same_carried (Err (Ends state mark)) = (in_rules state, refl)
 same_carried (Err (Passes what place)) = refl
 
 rules_run : (state : State) (last : ℕ) (marks : List Mark) → run_whole (in_rules state) last marks ≡ carried in_rules (run state last marks)
@@ -101,7 +101,7 @@ module _ (version n : ℕ) (declared : List Embed) where
     where
       go : (to : Option State) → move Rules next.symbol ≡ to → (limit : Option LimitKind) → limit_of (rules_role next.symbol) next.symbol ≡ limit → schema.move (schema.AtEmbeds n declared) next.symbol ≡ None → stands_before (rules_role next.symbol) ≡ false
           → IsSame (run Rules 0 (next ∷ others)) (run_whole Behind last (next ∷ others))
-      go None e limit f none here = rw (e, none, e) (Behind, refl, refl)
+      go None e limit f none here = rw (e, none, e) (Behind, refl)
       go (Some to) e (Some what) f none here =
           let role : nested.role_at book_nesting Behind next.symbol next.place ≡ rules_role next.symbol = rw none refl in
           let place : limit_place limit_of stands_before (nested.role_at book_nesting) (nested.move book_nesting) Behind last next ≡ next.place = ap (λ (r : Role). cond (stands_before r) last next.place) role ∙ ap (λ (b : Bool). cond b last next.place) here in

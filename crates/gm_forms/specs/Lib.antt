@@ -3,3 +3,4 @@ pub mod Forms
 pub mod Reading
 pub mod Standing
 pub mod Held
+pub mod Values

@@ -1,5 +1,5 @@
--- How a book's text is read, one symbol after another: what can stand next in which role, what is held of its rules, and where something begins that books don't have so far.
-use Rattle.std.specs.Prelude.{ℕ, ◌+◌, Bool, true, false, not, ◌&&◌, ◌||◌, ◌==◌, if◌then◌else◌, List, [], ◌∷◌, ◌++◌, length, Option, Some, None, Result, codes}
+-- How a book's text is read, one symbol after another: what can stand next in which role, and what is held of its rules.
+use Rattle.std.specs.Prelude.{ℕ, ◌+◌, Bool, true, false, not, ◌&&◌, ◌||◌, ◌==◌, if◌then◌else◌, List, [], ◌∷◌, ◌++◌, length, Option, Some, None, is_some, Result, codes}
 use Rattle.std.specs.Option.{option_map, option_map_or}
 use Rattle.std.specs.Str.{bytes_eq}
 use Rattle.gm_model.specs.declared.limit.LimitKind.{LimitKind}
@@ -11,13 +11,15 @@ use Rattle.gm_model.specs.declared.word.Letter.{Letter}
 use Rattle.gm_model.specs.declared.word.Letter.TheVariants as letters
 use Rattle.gm_model.specs.Names.{reserved, Mention, is_among}
 use Rattle.gm_model.specs.Symbols.{Symbol, Word, Numeral, Sign, Gone, End, Mark}
-use Rattle.gm_forms.specs.BookText.{Item, NodeItem, LinkItem, ParamForm, RuleForm, Count, no_count, count_across, with_name, Role, Fixed, InSchema, RuleWord, NameAt, ParamName, NodeSign, LinkSign, LetterAt, WordEnd, LabelAt, limit_of, stands_before}
+use Rattle.gm_forms.specs.BookText.{ExprToken, SetForm, Item, NodeItem, LinkItem, ParamForm, RuleForm, Count, no_count, count_across, with_name, Role, Fixed, InSchema, RuleWord, NameAt, ParamName, NodeSign, LinkSign, LetterAt, LabelAt, InExpr, limit_of, stands_before}
 use Rattle.gm_forms.specs.declared.state.Heading.{Heading}
 use Rattle.gm_text.specs.Machine as machine
 use Rattle.gm_text.specs.Nested.{Nested, Outside, Inside, Nesting}
 use Rattle.gm_text.specs.Nested as nested
 use Rattle.gm_text.specs.SchemaText as schemas
 use Rattle.gm_text.specs.SchemaReading as schema
+use Rattle.gm_parse.specs.Reading as exprs
+use Rattle.gm_parse.specs.Reading.{first_spot, spot_move, spot_role, is_whole_spot}
 
 -- ---- states in the rules
 
@@ -28,6 +30,13 @@ pub record Spot : Type 0 where
   pub side : Side
   pub count : Count
   pub hooked : Bool
+
+-- what an expression is of, which is what goes on behind it
+pub data Slot : Type 0 where
+  -- an assignment of a node of this side, which is a right one
+  SetSlot : Spot → Slot
+  -- the precondition of the rule with this ordinal
+  PreSlot : Heading → ℕ → Slot
 
 pub data State : Type 0 where
   -- behind the header, which is of this version and dimension
@@ -49,6 +58,13 @@ pub data State : Type 0 where
   -- in a node's word behind so many letters, and behind the word
   AtLetter : Spot → ℕ → State
   AtBehind : Spot → State
+  -- in an assignment before the name of an embedding, and behind it
+  AtSet : Spot → State
+  AtEqual : Spot → State
+  -- in an expression, behind so many of its symbols
+  AtExpr : Slot → exprs.Spot → State
+  -- behind the precondition of the rule with this ordinal
+  AtRuleEnd : Heading → ℕ → State
   -- in a link before its label, behind it, and before its second name
   AtLabel : Spot → State
   AtDash : Spot → State
@@ -75,6 +91,19 @@ with_link spot = record spot { count = record spot.count { links = spot.count.li
 abbrev pub with_hook : Spot → Spot
 with_hook spot = record spot { hooked = true }
 
+abbrev pub on_right : Spot → Spot
+on_right spot = record spot { side = Right }
+
+-- where reading is behind a whole expression
+abbrev pub behind_slot : Slot → State
+behind_slot (SetSlot spot) = AtBehind (on_right spot)
+behind_slot (PreSlot heading k) = AtRuleEnd heading k
+
+-- up to which number labels go
+abbrev pub dim_of : Slot → ℕ
+dim_of (SetSlot spot) = spot.heading.dim
+dim_of (PreSlot heading k) = heading.dim
+
 -- ---- roles
 
 -- the word that stands behind the items of a side; behind the right ones the next rule begins
@@ -86,8 +115,18 @@ abbrev pub closing_role : Side → ℕ → Role
 closing_role Left k = Fixed
 closing_role Right k = RuleWord (k + 1)
 
+-- the word begins a precondition, which stands behind the right items
+abbrev pub is_pre_on : Side → List ℕ → Bool
+is_pre_on Left word = false
+is_pre_on Right word = bytes_eq word (codes "pre")
+
+-- the word begins an assignment, which only a right node may have
+abbrev pub is_with_on : Side → List ℕ → Bool
+is_with_on Left word = false
+is_with_on Right word = bytes_eq word (codes "with")
+
 abbrev pub item_role : Spot → Symbol → ℕ → Role
-item_role spot (Word word) place = if bytes_eq word (closing spot.side) then closing_role spot.side spot.rules else NameAt place
+item_role spot (Word word) place = if bytes_eq word (closing spot.side) then closing_role spot.side spot.rules else (if is_pre_on spot.side word then Fixed else NameAt place)
 item_role spot _ place = Fixed
 
 -- whether a further node of a rule may be a hook, by whether there is one so far; in version 1 it may not where there is
@@ -103,7 +142,7 @@ abbrev pub is_hook : Spot → List ℕ → Bool
 is_hook spot word = is_hook_on spot.side (takes_hook spot.heading.version spot.hooked) word
 
 abbrev pub behind_role : Spot → Symbol → ℕ → Role
-behind_role spot (Word word) place = if is_hook spot word then Fixed else item_role spot (Word word) place
+behind_role spot (Word word) place = if is_hook spot word then Fixed else (if is_with_on spot.side word then Fixed else item_role spot (Word word) place)
 behind_role spot _ place = Fixed
 
 abbrev pub sign_role : Spot → List ℕ → Symbol → Role
@@ -111,25 +150,37 @@ sign_role spot name (Sign sign) = if bytes_eq sign (codes "<") then NodeSign (le
 sign_role spot name _ = Fixed
 
 abbrev pub letter_role : Spot → ℕ → Symbol → Role
-letter_role spot k (Sign sign) = WordEnd spot.side
+letter_role spot k (Sign sign) = Fixed
 letter_role spot k _ = LetterAt spot.heading.dim (k + 1)
 
 abbrev pub rules_role : Symbol → Role
 rules_role (Word word) = RuleWord 1
 rules_role _ = Fixed
 
--- the role of a symbol that stands at a place
+abbrev pub end_role : ℕ → Symbol → Role
+end_role k (Word word) = RuleWord (k + 1)
+end_role k _ = Fixed
+
+-- the role of a symbol that stands at a place, outside of expressions
+abbrev pub plain_role : State → Symbol → ℕ → Role
+plain_role (AtRules heading) symbol place = rules_role symbol
+plain_role (AtName heading k) symbol place = NameAt place
+plain_role (AtParam heading k count) symbol place = ParamName (count + 1) place
+plain_role (AtItem spot) symbol place = item_role spot symbol place
+plain_role (AtSign spot name) symbol place = sign_role spot name symbol
+plain_role (AtLetter spot k) symbol place = letter_role spot k symbol
+plain_role (AtBehind spot) symbol place = behind_role spot symbol place
+plain_role (AtLabel spot) symbol place = LabelAt spot.heading.dim
+plain_role (AtTo spot) symbol place = NameAt place
+plain_role (AtSet spot) symbol place = NameAt place
+plain_role (AtRuleEnd heading k) symbol place = end_role k symbol
+plain_role _ symbol place = Fixed
+
+-- A symbol with which an expression goes on is one of its own.
 abbrev pub role_at : State → Symbol → ℕ → Role
-role_at (AtRules heading) symbol place = rules_role symbol
-role_at (AtName heading k) symbol place = NameAt place
-role_at (AtParam heading k count) symbol place = ParamName (count + 1) place
-role_at (AtItem spot) symbol place = item_role spot symbol place
-role_at (AtSign spot name) symbol place = sign_role spot name symbol
-role_at (AtLetter spot k) symbol place = letter_role spot k symbol
-role_at (AtBehind spot) symbol place = behind_role spot symbol place
-role_at (AtLabel spot) symbol place = LabelAt spot.heading.dim
-role_at (AtTo spot) symbol place = NameAt place
-role_at _ symbol place = Fixed
+role_at (AtExpr slot spot) symbol place =
+    if is_some (spot_move spot symbol) then InExpr place (spot_role (dim_of slot) spot symbol place) else plain_role (behind_slot slot) symbol place
+role_at state symbol place = plain_role state symbol place
 
 -- ---- moves
 
@@ -145,10 +196,12 @@ closed spot Left = AtItem (right_spot spot)
 closed spot Right = AtName spot.heading (spot.rules + 1)
 
 abbrev pub item_move : Spot → List ℕ → Option State
-item_move spot word = if bytes_eq word (closing spot.side) then Some (closed spot spot.side) else unless_reserved word (AtSign spot word)
+item_move spot word =
+    if bytes_eq word (closing spot.side) then Some (closed spot spot.side)
+    else (if is_pre_on spot.side word then Some (AtExpr (PreSlot spot.heading spot.rules) first_spot) else unless_reserved word (AtSign spot word))
 
 abbrev pub behind_move : Spot → List ℕ → Option State
-behind_move spot word = if is_hook spot word then Some (AtItem (with_hook spot)) else item_move spot word
+behind_move spot word = if is_hook spot word then Some (AtItem (with_hook spot)) else (if is_with_on spot.side word then Some (AtSet spot) else item_move spot word)
 
 abbrev pub sign_move : Spot → List ℕ → List ℕ → Option State
 sign_move spot name sign = if bytes_eq sign (codes "<") then Some (AtLetter (with_node spot name) 0) else (if bytes_eq sign (codes "-") then Some (AtLabel (with_link spot)) else None)
@@ -166,30 +219,44 @@ param_kind word = if bytes_eq word (codes "bool") then Some kinds.Bool else sche
 abbrev pub comma_move : Heading → ℕ → ℕ → List ℕ → Option State
 comma_move heading k count sign = if bytes_eq sign (codes ",") then Some (AtParam heading k count) else expect (codes ")") sign (AtBody heading k)
 
+-- the state behind a symbol, where it can stand, outside of expressions
+abbrev pub plain_move : State → Symbol → Option State
+plain_move (AtRules heading) (Word word) = expect (codes "rule") word (AtName heading 1)
+plain_move (AtRules heading) End = Some AtEnd
+plain_move (AtName heading k) (Word word) = unless_reserved word (AtLeft heading k)
+plain_move (AtLeft heading k) (Word word) = expect (codes "left") word (AtItem (left_spot heading k))
+plain_move (AtLeft heading k) (Sign sign) = expect (codes "(") sign (AtParam heading k 0)
+plain_move (AtParam heading k count) (Word word) = unless_reserved word (AtColon heading k (count + 1))
+plain_move (AtColon heading k count) (Sign sign) = expect (codes ":") sign (AtKind heading k count)
+plain_move (AtKind heading k count) (Word word) = option_map (λ kind. AtComma heading k count) (param_kind word)
+plain_move (AtComma heading k count) (Sign sign) = comma_move heading k count sign
+plain_move (AtBody heading k) (Word word) = expect (codes "left") word (AtItem (left_spot heading k))
+plain_move (AtItem spot) (Word word) = item_move spot word
+plain_move (AtItem spot) End = end_move spot.side
+plain_move (AtSign spot name) (Sign sign) = sign_move spot name sign
+plain_move (AtLetter spot k) (Numeral label) = Some (AtLetter spot (k + 1))
+plain_move (AtLetter spot k) Gone = Some (AtLetter spot (k + 1))
+plain_move (AtLetter spot k) (Sign sign) = expect (codes ">") sign (AtBehind spot)
+plain_move (AtBehind spot) (Word word) = behind_move spot word
+plain_move (AtBehind spot) End = end_move spot.side
+plain_move (AtLabel spot) (Numeral label) = Some (AtDash spot)
+plain_move (AtDash spot) (Sign sign) = expect (codes "-") sign (AtTo spot)
+plain_move (AtTo spot) (Word word) = unless_reserved word (AtItem spot)
+plain_move (AtSet spot) (Word word) = unless_reserved word (AtEqual spot)
+plain_move (AtEqual spot) (Sign sign) = expect (codes "=") sign (AtExpr (SetSlot spot) first_spot)
+plain_move (AtRuleEnd heading k) (Word word) = expect (codes "rule") word (AtName heading (k + 1))
+plain_move (AtRuleEnd heading k) End = Some AtEnd
+plain_move _ _ = None
+
+-- where the expression goes on, or else is whole
+abbrev pub expr_move : Slot → exprs.Spot → Symbol → Option exprs.Spot → Option State
+expr_move slot spot symbol (Some next) = Some (AtExpr slot next)
+expr_move slot spot symbol None = if is_whole_spot spot then plain_move (behind_slot slot) symbol else None
+
 -- the state behind a symbol, where it can stand
 abbrev pub move : State → Symbol → Option State
-move (AtRules heading) (Word word) = expect (codes "rule") word (AtName heading 1)
-move (AtRules heading) End = Some AtEnd
-move (AtName heading k) (Word word) = unless_reserved word (AtLeft heading k)
-move (AtLeft heading k) (Word word) = expect (codes "left") word (AtItem (left_spot heading k))
-move (AtLeft heading k) (Sign sign) = expect (codes "(") sign (AtParam heading k 0)
-move (AtParam heading k count) (Word word) = unless_reserved word (AtColon heading k (count + 1))
-move (AtColon heading k count) (Sign sign) = expect (codes ":") sign (AtKind heading k count)
-move (AtKind heading k count) (Word word) = option_map (λ kind. AtComma heading k count) (param_kind word)
-move (AtComma heading k count) (Sign sign) = comma_move heading k count sign
-move (AtBody heading k) (Word word) = expect (codes "left") word (AtItem (left_spot heading k))
-move (AtItem spot) (Word word) = item_move spot word
-move (AtItem spot) End = end_move spot.side
-move (AtSign spot name) (Sign sign) = sign_move spot name sign
-move (AtLetter spot k) (Numeral label) = Some (AtLetter spot (k + 1))
-move (AtLetter spot k) Gone = Some (AtLetter spot (k + 1))
-move (AtLetter spot k) (Sign sign) = expect (codes ">") sign (AtBehind spot)
-move (AtBehind spot) (Word word) = behind_move spot word
-move (AtBehind spot) End = end_move spot.side
-move (AtLabel spot) (Numeral label) = Some (AtDash spot)
-move (AtDash spot) (Sign sign) = expect (codes "-") sign (AtTo spot)
-move (AtTo spot) (Word word) = unless_reserved word (AtItem spot)
-move _ _ = None
+move (AtExpr slot spot) symbol = expr_move slot spot symbol (spot_move spot symbol)
+move state symbol = plain_move state symbol
 
 abbrev pub step : State → ℕ → Mark → Result State (machine.Stop State LimitKind)
 step = machine.step limit_of stands_before role_at move
@@ -256,26 +323,6 @@ book_nesting = record {
 abbrev pub run_whole : Whole → ℕ → List Mark → Result Whole (machine.Stop Whole LimitKind)
 run_whole = machine.run limit_of stands_before (nested.role_at book_nesting) (nested.move book_nesting)
 
--- ---- what books don't have so far
-
-abbrev pub is_later_behind_items : Side → List ℕ → Bool
-is_later_behind_items Left word = false
-is_later_behind_items Right word = bytes_eq word (codes "pre")
-
--- the symbol begins an assignment or a precondition
-abbrev pub is_later : State → Symbol → Bool
-is_later (AtItem spot) (Word word) = is_later_behind_items spot.side word
-is_later (AtBehind spot) (Word word) = is_later_behind spot.side
-  where
-    is_later_behind : Side → Bool
-    is_later_behind Left = false
-    is_later_behind Right = if bytes_eq word (codes "with") then true else bytes_eq word (codes "pre")
-is_later _ _ = false
-
-abbrev pub is_later_in : Whole → Symbol → Bool
-is_later_in (Outside (InRules state)) symbol = is_later state symbol
-is_later_in _ symbol = false
-
 -- ---- what is held
 
 -- a parameter or an item of which a part was read
@@ -289,6 +336,10 @@ pub data Part : Type 0 where
   Lettered : Mention → List Letter → Part
   -- a link's first name, and that name and the label
   Linked : Mention → Part
+  -- an assignment's name of an embedding, and so much of its expression
+  Assigned : Mention → List ExprToken → Part
+  -- so much of the expression of a precondition
+  Required : List ExprToken → Part
   Labelled : Mention → ℕ → Part
 
 pub record Held : Type 0 where
@@ -314,11 +365,38 @@ put_item side item held = record held { current = option_map (with_item side ite
 -- the last item is a hook
 abbrev pub hooked : List Item → List Item
 hooked [] = []
-hooked (NodeItem node word hook ∷ []) = NodeItem node word true ∷ []
+hooked (NodeItem node word hook sets ∷ []) = NodeItem node word true sets ∷ []
 hooked (item ∷ items) = item ∷ hooked items
 
 abbrev pub hook_last : RuleForm → RuleForm
 hook_last rule = record rule { left = hooked rule.left }
+
+abbrev pub with_set : SetForm → Item → Item
+with_set set (NodeItem node word hook sets) = NodeItem node word hook (sets ++ set ∷ [])
+with_set set item = item
+
+-- the last item has the assignment too
+abbrev pub assigned : SetForm → List Item → List Item
+assigned set [] = []
+assigned set (item ∷ []) = with_set set item ∷ []
+assigned set (item ∷ items) = item ∷ assigned set items
+
+abbrev pub assign_last : SetForm → RuleForm → RuleForm
+assign_last set rule = record rule { right = assigned set rule.right }
+
+abbrev pub require : List ExprToken → RuleForm → RuleForm
+require tokens rule = record rule { pre = Some tokens }
+
+-- the expression of the part is whole
+abbrev pub put_expr : Held → Part → Held
+put_expr held (Assigned embed tokens) = record held { current = option_map (assign_last (record { embed = embed; value = tokens })) held.current; part = Nothing }
+put_expr held (Required tokens) = record held { current = option_map (require tokens) held.current; part = Nothing }
+put_expr held part = held
+
+abbrev pub with_token : ExprToken → Part → Part
+with_token token (Assigned embed tokens) = Assigned embed (tokens ++ token ∷ [])
+with_token token (Required tokens) = Required (tokens ++ token ∷ [])
+with_token token part = part
 
 abbrev pub listed : Option RuleForm → List RuleForm
 listed None = []
@@ -332,7 +410,7 @@ close_side Left held = held
 close_side Right held = close_rule held
 
 abbrev pub open_rule : Mention → Held → Held
-open_rule name held = record held { current = Some (record { name = name; params = []; left = []; right = [] }) }
+open_rule name held = record held { current = Some (record { name = name; params = []; left = []; right = []; pre = None }) }
 
 abbrev pub with_param : ParamForm → RuleForm → RuleForm
 with_param param rule = record rule { params = rule.params ++ param ∷ [] }
@@ -346,7 +424,13 @@ hold_kind kind held (Declared name) = put_param (record { name = name; kind = ki
 hold_kind kind held part = held
 
 abbrev pub hold_item : Spot → List ℕ → ℕ → Held → Held
-hold_item spot word place held = if bytes_eq word (closing spot.side) then close_side spot.side held else record held { part = Named (mention_at word place) }
+hold_item spot word place held =
+    if bytes_eq word (closing spot.side) then close_side spot.side held
+    else (if is_pre_on spot.side word then record held { part = Required [] } else record held { part = Named (mention_at word place) })
+
+abbrev pub hold_behind : Spot → List ℕ → ℕ → Held → Held
+hold_behind spot word place held =
+    if is_hook spot word then record held { current = option_map hook_last held.current } else (if is_with_on spot.side word then held else hold_item spot word place held)
 
 abbrev pub hold_sign : List ℕ → Part → Part
 hold_sign sign (Named name) = if bytes_eq sign (codes "<") then Lettered name [] else Linked name
@@ -357,7 +441,7 @@ hold_letter letter (Lettered name word) = Lettered name (word ++ letter ∷ [])
 hold_letter letter part = part
 
 abbrev pub hold_node : Side → Held → Part → Held
-hold_node side held (Lettered name word) = put_item side (NodeItem name word false) held
+hold_node side held (Lettered name word) = put_item side (NodeItem name word false []) held
 hold_node side held part = held
 
 abbrev pub hold_label : ℕ → Part → Part
@@ -368,22 +452,33 @@ abbrev pub hold_link : Side → Mention → Held → Part → Held
 hold_link side to held (Labelled from label) = put_item side (LinkItem from label to) held
 hold_link side to held part = held
 
+-- what is held behind a symbol that stands at a place, outside of expressions
+abbrev pub plain_hold : State → Symbol → ℕ → Held → Held
+plain_hold (AtName heading k) (Word word) place held = open_rule (mention_at word place) held
+plain_hold (AtParam heading k count) (Word word) place held = record held { part = Declared (mention_at word place) }
+plain_hold (AtKind heading k count) (Word word) place held = option_map_or (λ (kind : Kind). hold_kind kind held held.part) (param_kind word) held
+plain_hold (AtItem spot) (Word word) place held = hold_item spot word place held
+plain_hold (AtItem spot) End place held = close_rule held
+plain_hold (AtSign spot name) (Sign sign) place held = record held { part = hold_sign sign held.part }
+plain_hold (AtLetter spot k) (Numeral label) place held = record held { part = hold_letter (letters.At label) held.part }
+plain_hold (AtLetter spot k) Gone place held = record held { part = hold_letter letters.Gone held.part }
+plain_hold (AtLetter spot k) (Sign sign) place held = hold_node spot.side held held.part
+plain_hold (AtBehind spot) (Word word) place held = hold_behind spot word place held
+plain_hold (AtBehind spot) End place held = close_rule held
+plain_hold (AtLabel spot) (Numeral label) place held = record held { part = hold_label label held.part }
+plain_hold (AtTo spot) (Word word) place held = hold_link spot.side (mention_at word place) held held.part
+plain_hold (AtSet spot) (Word word) place held = record held { part = Assigned (mention_at word place) [] }
+plain_hold (AtRuleEnd heading k) symbol place held = close_rule held
+plain_hold _ symbol place held = held
+
+abbrev pub token_at : Slot → exprs.Spot → Symbol → ℕ → ExprToken
+token_at slot spot symbol place = record { symbol = symbol; place = place; role = spot_role (dim_of slot) spot symbol place }
+
 -- what is held behind a symbol that stands at a place
 abbrev pub hold : State → Symbol → ℕ → Held → Held
-hold (AtName heading k) (Word word) place held = open_rule (mention_at word place) held
-hold (AtParam heading k count) (Word word) place held = record held { part = Declared (mention_at word place) }
-hold (AtKind heading k count) (Word word) place held = option_map_or (λ (kind : Kind). hold_kind kind held held.part) (param_kind word) held
-hold (AtItem spot) (Word word) place held = hold_item spot word place held
-hold (AtItem spot) End place held = close_rule held
-hold (AtSign spot name) (Sign sign) place held = record held { part = hold_sign sign held.part }
-hold (AtLetter spot k) (Numeral label) place held = record held { part = hold_letter (letters.At label) held.part }
-hold (AtLetter spot k) Gone place held = record held { part = hold_letter letters.Gone held.part }
-hold (AtLetter spot k) (Sign sign) place held = hold_node spot.side held held.part
-hold (AtBehind spot) (Word word) place held = if is_hook spot word then record held { current = option_map hook_last held.current } else hold_item spot word place held
-hold (AtBehind spot) End place held = close_rule held
-hold (AtLabel spot) (Numeral label) place held = record held { part = hold_label label held.part }
-hold (AtTo spot) (Word word) place held = hold_link spot.side (mention_at word place) held held.part
-hold _ symbol place held = held
+hold (AtExpr slot spot) symbol place held =
+    if is_some (spot_move spot symbol) then record held { part = with_token (token_at slot spot symbol place) held.part } else plain_hold (behind_slot slot) symbol place (put_expr held held.part)
+hold state symbol place held = plain_hold state symbol place held
 
 -- what is held behind marks, along the states to which they lead
 abbrev pub held_behind : State → List Mark → Held → Held

@@ -1,5 +1,5 @@
 -- Where the reader of a book's rules stands, what each mark comes to there, what the code holds of it, and what reading answers.
-use Rattle.std.specs.Prelude.{◌≡◌, ℕ, ◌<◌, Bool, true, false, if◌then◌else◌, List, [], ◌∷◌, length, map, Option, Some, None, Result, Ok, Err, IfOk, codes}
+use Rattle.std.specs.Prelude.{◌≡◌, ℕ, ◌<◌, true, false, List, [], ◌∷◌, length, map, Option, Some, None, Result, Ok, Err, IfOk, codes}
 use Rattle.std.specs.List.{AllByRecursion}
 use Rattle.std.specs.Option.{option_map}
 use Rattle.gm_model.specs.declared.limit.LimitKind.{LimitKind}
@@ -8,6 +8,7 @@ use Rattle.gm_model.specs.Tokens.{bytes_of}
 use Rattle.gm_model.specs.Symbols.{Word, Numeral, Sign, Stray, End, Mark, symbol_of_kind, value_of}
 use Rattle.gm_forms.specs.BookText.{NodeItem, RuleForm}
 use Rattle.gm_text.specs.Cursor.{Cursor}
+use Rattle.gm_parse.specs.Reading.{first_spot}
 use Rattle.gm_text.specs.Machine.{Stop, Ends, Passes}
 use Rattle.gm_text.specs.SchemaAnswers.{IsToken, marks_left}
 use Rattle.gm_forms.specs.declared.form.RuleForm.{RuleForm as CodeRule}
@@ -19,7 +20,7 @@ use Rattle.gm_forms.specs.declared.state.Spot.{Spot as CodeSpot}
 use Rattle.gm_forms.specs.declared.state.State.{State as CodeState}
 use Rattle.gm_forms.specs.declared.state.State.TheVariants as code
 use Rattle.gm_forms.specs.Forms.{mention_of, rule_form_of, IsIn, IsRuleIn}
-use Rattle.gm_forms.specs.Reading.{Spot, State, AtRules, AtName, AtLeft, AtParam, AtColon, AtKind, AtComma, AtBody, AtItem, AtSign, AtLetter, AtBehind, AtLabel, AtDash, AtTo, AtEnd, Whole, is_version, step, run, run_whole, is_later, is_later_in, Part, Nothing, Declared, Named, Lettered, Linked, Labelled, Held, nothing_held, put_item, hold, held_behind}
+use Rattle.gm_forms.specs.Reading.{Spot, State, AtRules, AtName, AtLeft, AtParam, AtColon, AtKind, AtComma, AtBody, AtItem, AtSign, AtLetter, AtBehind, AtSet, AtEqual, AtExpr, AtRuleEnd, AtLabel, AtDash, AtTo, AtEnd, SetSlot, PreSlot, Whole, on_right, is_version, step, run, run_whole, Part, Nothing, Declared, Named, Lettered, Linked, Labelled, Assigned, Required, Held, nothing_held, put_item, hold, held_behind}
 
 -- the state, the place of the mark before, and what is held
 pub record Stand : Type 0 where
@@ -32,7 +33,7 @@ abbrev pub rules_stand : Heading → Stand
 rules_stand heading = record { state = AtRules heading; last = 0; held = nothing_held }
 
 abbrev pub fault_of : Stop State LimitKind → FormFault
-fault_of (Ends state mark) = if is_later state mark.symbol then faults.NotBuilt mark.place else faults.Text mark.place
+fault_of (Ends state mark) = faults.Text mark.place
 fault_of (Passes what place) = faults.Limit what place
 
 abbrev pub settled : Stand → Mark → Result State (Stop State LimitKind) → Result Stand FormFault
@@ -75,6 +76,12 @@ state_of text nodes (code.Item spot) = AtItem (spot_of nodes spot)
 state_of text nodes (code.Sign spot name) = AtSign (spot_of nodes spot) (bytes_of text name)
 state_of text nodes (code.Letter spot name word) = AtLetter (spot_of nodes spot) (length word)
 state_of text nodes (code.Behind spot name word) = AtBehind (spot_of nodes spot)
+state_of text nodes (code.Assigned spot) = AtBehind (on_right (spot_of nodes spot))
+state_of text nodes (code.Set spot) = AtSet (spot_of nodes spot)
+state_of text nodes (code.Equal spot embed) = AtEqual (spot_of nodes spot)
+state_of text nodes (code.Value spot embed) = AtExpr (SetSlot (spot_of nodes spot)) first_spot
+state_of text nodes (code.Pre heading rules) = AtExpr (PreSlot heading rules) first_spot
+state_of text nodes (code.RuleEnd heading rules) = AtRuleEnd heading rules
 state_of text nodes (code.Label spot from) = AtLabel (spot_of nodes spot)
 state_of text nodes (code.Dash spot from label) = AtDash (spot_of nodes spot)
 state_of text nodes (code.To spot from label) = AtTo (spot_of nodes spot)
@@ -84,6 +91,9 @@ part_of text (code.Colon heading rules count name) = Declared (mention_of text n
 part_of text (code.Kind heading rules count name) = Declared (mention_of text name)
 part_of text (code.Sign spot name) = Named (mention_of text name)
 part_of text (code.Letter spot name word) = Lettered (mention_of text name) word
+part_of text (code.Equal spot embed) = Assigned (mention_of text embed) []
+part_of text (code.Value spot embed) = Assigned (mention_of text embed) []
+part_of text (code.Pre heading rules) = Required []
 part_of text (code.Label spot from) = Linked (mention_of text from)
 part_of text (code.Dash spot from label) = Labelled (mention_of text from) label
 part_of text (code.To spot from label) = Labelled (mention_of text from) label
@@ -91,7 +101,7 @@ part_of text state = Nothing
 
 -- The node behind whose word reading is joins its side only once it is known whether it is a hook.
 abbrev pub held_in : List ℕ → List RuleForm → Option RuleForm → CodeState → Held
-held_in text rules current (code.Behind spot name word) = put_item spot.side (NodeItem (mention_of text name) word false) (record { rules = rules; current = current; part = Nothing })
+held_in text rules current (code.Behind spot name word) = put_item spot.side (NodeItem (mention_of text name) word false []) (record { rules = rules; current = current; part = Nothing })
 held_in text rules current state = record { rules = rules; current = current; part = part_of text state }
 
 -- the names counted as nodes, the rules read whole and the one that is read stand beside the state
@@ -105,6 +115,8 @@ IsStateIn text (code.Kind heading rules count name) = IsIn text name
 IsStateIn text (code.Sign spot name) = IsIn text name
 IsStateIn text (code.Letter spot name word) = IsIn text name
 IsStateIn text (code.Behind spot name word) = IsIn text name
+IsStateIn text (code.Equal spot embed) = IsIn text embed
+IsStateIn text (code.Value spot embed) = IsIn text embed
 IsStateIn text (code.Label spot from) = IsIn text from
 IsStateIn text (code.Dash spot from label) = IsIn text from
 IsStateIn text (code.To spot from label) = IsIn text from
@@ -132,7 +144,6 @@ abbrev pub Fails : {Y : Type 0} → FormFault → Result Y FormFault → Type 0
 Fails faults.OutOfMemory found = Unit {0}
 Fails (faults.Text place) found = found ≡ Err (faults.Text place)
 Fails (faults.Limit what place) found = found ≡ Err (faults.Limit what place)
-Fails (faults.NotBuilt place) found = found ≡ Err (faults.NotBuilt place)
 
 -- what was returned, seen by view, is what the mark comes to, unless memory was wanting
 abbrev pub Gives : {X Y : Type 0} → (X → Y) → Result X FormFault → Result Y FormFault → Type 0
@@ -159,6 +170,17 @@ StaysIn text state result = IsStateIn text state → IfOk result (λ next. IsSta
 
 abbrev pub KeepsIn : List ℕ → Draft → CodeState → Result CodeState FormFault → Draft → Type 0
 KeepsIn text draft state result new_draft = IsStateIn text state → IsDraftIn text draft → IfOk result (λ next. IsStateIn text next × IsDraftIn text new_draft)
+
+-- no expression stands next
+abbrev pub IsOutside : CodeState → Type 0
+IsOutside (code.Value spot embed) = ⊥
+IsOutside (code.Pre heading rules) = ⊥
+IsOutside state = Unit {0}
+
+-- what reading comes to where the lexer stands goes on from where it stands afterwards
+abbrev pub GoesPast : {X : Type 0} → Result Stand FormFault → (X → Result Stand FormFault) → Result X FormFault → Type 0
+GoesPast whole from (Ok x) = from x ≡ whole
+GoesPast whole from (Err fault) = Fails fault whole
 
 -- behind the end
 abbrev pub end_stand : List ℕ → Draft → ℕ → Stand
@@ -209,13 +231,13 @@ pub record IsHeaded (marks : List Mark) (version : ℕ) (rest : List Mark) : Typ
   pub split : marks ≡ record { symbol = Word (codes "book"); place = first } ∷ record { symbol = Numeral version; place = second } ∷ rest
   pub known : is_version version ≡ true
 
--- from the state on, reading ends at the place, where something begins that books don't have so far, or where nothing does
-abbrev pub EndsAt : Whole → List Mark → ℕ → Bool → Type 0
-EndsAt from marks place later = (last : ℕ) → (state : Whole) × (mark : Mark) × (run_whole from last marks ≡ Err (Ends state mark)) × (mark.place ≡ place) × (is_later_in state mark.symbol ≡ later)
+-- from the state on, reading ends at the place
+abbrev pub EndsAt : Whole → List Mark → ℕ → Type 0
+EndsAt from marks place = (last : ℕ) → (state : Whole) × (mark : Mark) × (run_whole from last marks ≡ Err (Ends state mark)) × (mark.place ≡ place)
 
 -- before the schema no text of a book goes on, and the fault says where
 abbrev pub IsHeadFault : Whole → List Mark → FormFault → Type 0
-IsHeadFault from marks (faults.Text place) = EndsAt from marks place false
+IsHeadFault from marks (faults.Text place) = EndsAt from marks place
 IsHeadFault from marks _ = ⊥
 
 -- the machine goes through all marks of the rules, and these are held behind them
@@ -224,11 +246,10 @@ pub record AreRulesRead (heading : Heading) (marks : List Mark) (rules : List Ru
   pub held : (held_behind (AtRules heading) marks nothing_held).rules ≡ rules
 
 -- the same in the rules alone
-abbrev pub EndsInRules : Heading → List Mark → ℕ → Bool → Type 0
-EndsInRules heading marks place later = (state : State) × (mark : Mark) × (run (AtRules heading) 0 marks ≡ Err (Ends state mark)) × (mark.place ≡ place) × (is_later state mark.symbol ≡ later)
+abbrev pub EndsInRules : Heading → List Mark → ℕ → Type 0
+EndsInRules heading marks place = (state : State) × (mark : Mark) × (run (AtRules heading) 0 marks ≡ Err (Ends state mark)) × (mark.place ≡ place)
 
 abbrev pub IsRulesFault : Heading → List Mark → FormFault → Type 0
-IsRulesFault heading marks (faults.Text place) = EndsInRules heading marks place false
-IsRulesFault heading marks (faults.NotBuilt place) = EndsInRules heading marks place true
+IsRulesFault heading marks (faults.Text place) = EndsInRules heading marks place
 IsRulesFault heading marks (faults.Limit what place) = run (AtRules heading) 0 marks ≡ Err (Passes what place)
 IsRulesFault heading marks faults.OutOfMemory = Unit {0}

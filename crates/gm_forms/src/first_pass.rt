@@ -27,10 +27,11 @@ fn read_rules<'a>(
     let mut state = State::Rules(heading);
     let mut last = 0;
     while let Some(token) = next_token(lexer)? {
-        state = reader.step(alloc, lexer, token, state, last)?;
+        let next = reader.step(alloc, lexer, token, state, last)?;
+        state = reader.past_value(lexer, next)?;
         last = token.start;
     }
-    reader.end(state, lexer.place())
+    reader.end(alloc, state, lexer.place())
 }
 
 /// The rules behind the header as they are written, or the first fault from left to right.

@@ -1,13 +1,38 @@
 //! What is written in a book, before its names are looked up. Names are tokens of the text.
 
-use gm_model::{Kind, Word};
+use gm_model::{Dim, Kind, Word};
 use gm_text::Token;
 
-/// What a side of a rule lists.
+/// Where an expression stands in the text: from `start` up to its last token, before `end`. Labels
+/// in it go up to the dimension.
 #[derive(Clone, Copy)]
+pub struct Span {
+    pub start: usize,
+    pub end: usize,
+    pub dim: Dim,
+}
+
+/// An assignment to an embedding.
+#[derive(Clone, Copy)]
+pub struct SetForm {
+    pub embed: Token,
+    pub value: Span,
+}
+
+/// What a side of a rule lists.
+#[derive(Drop)]
 pub enum Item {
-    Node { name: Token, word: Word, hook: bool },
-    Link { from: Token, label: u8, to: Token },
+    Node {
+        name: Token,
+        word: Word,
+        hook: bool,
+        sets: Vec<SetForm>,
+    },
+    Link {
+        from: Token,
+        label: u8,
+        to: Token,
+    },
 }
 
 /// A parameter as it is declared.
@@ -24,4 +49,5 @@ pub struct RuleForm {
     pub params: Vec<ParamForm>,
     pub left: Vec<Item>,
     pub right: Vec<Item>,
+    pub pre: Option<Span>,
 }

@@ -1,4 +1,5 @@
 use gm_model::LimitKind;
+use gm_parse::SyntaxFault;
 use std::alloc::{AllocError, AllocFailed};
 
 /// Why a text has no form: its first fault from left to right, or want of memory.
@@ -8,8 +9,6 @@ pub enum FormFault {
     Text { place: usize },
     /// A limit is passed by what stands at the place.
     Limit { what: LimitKind, place: usize },
-    /// At the place begins what books don't have so far.
-    NotBuilt { place: usize },
     OutOfMemory,
 }
 
@@ -32,5 +31,19 @@ impl<T: Drop> From<AllocFailed<T>> for FormFault {
 
     fn from(_error: AllocFailed<T>) -> FormFault {
         FormFault::OutOfMemory
+    }
+}
+
+impl From<SyntaxFault> for FormFault {
+    ghost use Rattle.std.specs.Prelude.{◌≡◌};
+    ghost use Rattle.gm_forms.specs.Values.{form_fault_of_syntax};
+
+    ghost from_gives = { λ fault given. given ≡ form_fault_of_syntax fault };
+
+    fn from(fault: SyntaxFault) -> FormFault {
+        match fault {
+            SyntaxFault::Text { place } => FormFault::Text { place },
+            SyntaxFault::Limit { what, place } => FormFault::Limit { what, place },
+        }
     }
 }

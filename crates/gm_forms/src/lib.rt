@@ -3,6 +3,7 @@
 #![tactic(auto)]
 
 mod draft;
+mod exprs;
 mod first_pass;
 mod form;
 mod form_fault;
@@ -17,8 +18,9 @@ mod state;
 mod tally;
 mod words;
 
+pub use exprs::next_place;
 pub use first_pass::read_forms;
-pub use form::{Item, ParamForm, RuleForm};
+pub use form::{Item, ParamForm, RuleForm, SetForm, Span};
 pub use form_fault::FormFault;
 pub use headers::read_version;
 pub use key::NameKey;

@@ -1,14 +1,15 @@
 //! Moves at a word in the rules of a book.
-ghost use Rattle.std.specs.Prelude.{◌≡◌, List, ℕ, [], None, length, IfOk};
+ghost use Rattle.std.specs.Prelude.{◌≡◌, ◌≤◌, List, ℕ, [], None, length, IfOk};
 ghost use Rattle.std.specs.List.{AllByRecursion};
 ghost use Rattle.gm_model.specs.declared.rule.Side.TheVariants.{Left, Right};
 ghost use Rattle.gm_model.specs.declared.token.TokenKind.TheVariants.{Name};
 ghost use Rattle.gm_forms.specs.declared.state.State.TheVariants as states;
 ghost use Rattle.gm_forms.specs.Forms.{IsIn, IsRuleIn};
-ghost use Rattle.gm_text.specs.SchemaAnswers.{IsToken};
-ghost use Rattle.gm_forms.specs.Standing.{IsStateIn, IsDraftIn, Leads, StaysIn, Moves, KeepsIn, MovesFrom, EndsFrom, mark_of, word_mark, sign_mark};
+ghost use Rattle.gm_text.specs.SchemaAnswers.{IsToken, marks_left};
+ghost use Rattle.gm_forms.specs.Standing.{IsStateIn, IsDraftIn, IsOutside, Leads, StaysIn, Moves, KeepsIn, MovesFrom, EndsFrom, GoesPast, read_on, stand_of, mark_of, word_mark, sign_mark};
 
 use crate::draft::Draft;
+use crate::exprs::{at_equal, at_set, on_right, past_pre_value, past_set_value};
 use crate::form::Item;
 use crate::form_fault::FormFault;
 use crate::nodes::Nodes;
@@ -160,7 +161,7 @@ impl<'a> Reader<'a> {
             return Ok(State::Name(spot.heading, rules));
         }
         if reads(lexer, token, b"pre") {
-            return Err(FormFault::NotBuilt { place });
+            return Ok(State::Pre(spot.heading, spot.rules));
         }
         if is_reserved(word) {
             return Err(FormFault::Text { place });
@@ -186,6 +187,7 @@ impl<'a> Reader<'a> {
 
     fn at_left_behind(
         &mut self,
+        alloc: Global,
         lexer: &Lexer<'a>,
         token: Token,
         spot: Spot,
@@ -199,7 +201,7 @@ impl<'a> Reader<'a> {
         ensures within { KeepsIn lexer.now.text self.old.draft (states.Behind spot name word) result self.new.draft }
     {
         let hook = spot.takes_hook() && reads(lexer, token, b"hook");
-        self.draft.put(Side::Left, Item::Node { name, word, hook })?;
+        self.draft.put_node(alloc, Side::Left, name, word, hook)?;
         if hook {
             let hooked = true;
             return Ok(State::Item(Spot { hooked, ..spot }));
@@ -210,6 +212,7 @@ impl<'a> Reader<'a> {
     #[tactic(auto, unfolding(crate::specs::Standing::stepped))]
     fn at_right_behind(
         &mut self,
+        alloc: Global,
         lexer: &Lexer<'a>,
         token: Token,
         spot: Spot,
@@ -222,13 +225,72 @@ impl<'a> Reader<'a> {
         ensures moves { Moves lexer.now.text self.old.nodes self.old.draft (states.Behind spot name word) (word_mark lexer.now.text token) result self.new.nodes self.new.draft }
         ensures within { KeepsIn lexer.now.text self.old.draft (states.Behind spot name word) result self.new.draft }
     {
-        if reads(lexer, token, b"with") {
-            return Err(FormFault::NotBuilt { place: token.start });
-        }
         let hook = false;
-        self.draft
-            .put(Side::Right, Item::Node { name, word, hook })?;
+        self.draft.put_node(alloc, Side::Right, name, word, hook)?;
+        if reads(lexer, token, b"with") {
+            return Ok(State::Set(spot));
+        }
         self.at_right_item(lexer, token, spot)
+    }
+
+    /// Behind a whole assignment.
+    #[tactic(auto, unfolding(crate::specs::Standing::stepped))]
+    fn at_assigned(
+        &mut self,
+        lexer: &Lexer<'a>,
+        token: Token,
+        spot: Spot,
+    ) -> Result<State, FormFault>
+        requires token { IsToken lexer.now.text token }
+        requires kind { token.kind ≡ Name }
+        ensures moves { Moves lexer.now.text self.old.nodes self.old.draft (states.Assigned spot) (word_mark lexer.now.text token) result self.new.nodes self.new.draft }
+        ensures within { KeepsIn lexer.now.text self.old.draft (states.Assigned spot) result self.new.draft }
+    {
+        if reads(lexer, token, b"with") {
+            return Ok(State::Set(on_right(spot)));
+        }
+        self.at_right_item(lexer, token, on_right(spot))
+    }
+
+    /// Behind a rule's precondition.
+    #[tactic(auto, unfolding(crate::specs::Standing::stepped))]
+    fn at_rule_end(
+        &mut self,
+        lexer: &Lexer<'a>,
+        token: Token,
+        heading: Heading,
+        rules: Tally,
+    ) -> Result<State, FormFault>
+        requires { IsToken lexer.now.text token }
+        ensures moves { Moves lexer.now.text self.old.nodes self.old.draft (states.RuleEnd heading rules) (word_mark lexer.now.text token) result self.new.nodes self.new.draft }
+        ensures within { KeepsIn lexer.now.text self.old.draft (states.RuleEnd heading rules) result self.new.draft }
+    {
+        let place = token.start;
+        if !reads(lexer, token, b"rule") {
+            return Err(FormFault::Text { place });
+        }
+        let Some(rules) = rules.next() else {
+            let what = LimitKind::Rules;
+            return Err(FormFault::Limit { what, place });
+        };
+        self.draft.close()?;
+        Ok(State::Name(heading, rules))
+    }
+
+    /// Goes past the expression, where one stands next.
+    pub fn past_value(&mut self, lexer: &mut Lexer<'a>, state: State) -> Result<State, FormFault>
+        requires { IsStateIn lexer.old.text state }
+        ensures text { lexer.new.text ≡ lexer.old.text }
+        ensures onward { IfOk result (λ _. lexer.old.place ≤ lexer.new.place) }
+        ensures outside { IfOk result (λ next. IsOutside next) }
+        ensures within { KeepsIn lexer.old.text self.old.draft state result self.new.draft }
+        ensures past { (last : ℕ) → GoesPast (read_on (stand_of lexer.old.text self.old.nodes self.old.draft state last) (marks_left lexer.old)) (λ next. read_on (stand_of lexer.old.text self.new.nodes self.new.draft next last) (marks_left lexer.new)) result }
+    {
+        match state {
+            State::Value(spot, embed) => past_set_value(&mut self.draft, lexer, spot, embed),
+            State::Pre(heading, rules) => past_pre_value(&mut self.draft, lexer, heading, rules),
+            _ => Ok(state),
+        }
     }
 
     #[tactic(auto, unfolding(crate::specs::Standing::stepped))]
@@ -270,6 +332,7 @@ impl<'a> Reader<'a> {
     ) -> Result<State, FormFault>
         requires token { IsToken lexer.now.text token }
         requires kind { token.kind ≡ Name }
+        requires outside { IsOutside state }
         ensures moves { Moves lexer.now.text self.old.nodes self.old.draft state (word_mark lexer.now.text token) result self.new.nodes self.new.draft }
         ensures within { KeepsIn lexer.now.text self.old.draft state result self.new.draft }
     {
@@ -283,7 +346,12 @@ impl<'a> Reader<'a> {
             }
             State::Body(heading, rules) => self.at_left(lexer, token, heading, rules),
             State::Item(spot) => self.at_item(lexer, token, spot),
-            State::Behind(spot, name, word) => self.at_behind(lexer, token, spot, name, word),
+            State::Behind(spot, name, word) => self.at_behind(
+                alloc, lexer, token, spot, name, word,
+            ),
+            State::Assigned(spot) => self.at_assigned(lexer, token, spot),
+            State::Set(spot) => at_set(lexer, token, spot),
+            State::RuleEnd(heading, rules) => self.at_rule_end(lexer, token, heading, rules),
             State::To(spot, from, label) => self.at_to(lexer, token, spot, from, label),
             _ => Err(FormFault::Text { place: token.start }),
         }
@@ -291,6 +359,7 @@ impl<'a> Reader<'a> {
 
     fn at_behind(
         &mut self,
+        alloc: Global,
         lexer: &Lexer<'a>,
         token: Token,
         spot: Spot,
@@ -303,8 +372,8 @@ impl<'a> Reader<'a> {
         ensures within { KeepsIn lexer.now.text self.old.draft (states.Behind spot name word) result self.new.draft }
     {
         match spot.side {
-            Side::Left => self.at_left_behind(lexer, token, spot, name, word),
-            Side::Right => self.at_right_behind(lexer, token, spot, name, word),
+            Side::Left => self.at_left_behind(alloc, lexer, token, spot, name, word),
+            Side::Right => self.at_right_behind(alloc, lexer, token, spot, name, word),
         }
     }
 
@@ -319,6 +388,7 @@ impl<'a> Reader<'a> {
     ) -> Result<State, FormFault>
         requires token { IsToken lexer.now.text token }
         requires state { IsStateIn lexer.now.text state }
+        requires outside { IsOutside state }
         ensures moves { MovesFrom last lexer.now.text self.old.nodes self.old.draft state (sign_mark lexer.now.text token) result self.new.nodes self.new.draft }
         ensures within { KeepsIn lexer.now.text self.old.draft state result self.new.draft }
     {
@@ -328,6 +398,7 @@ impl<'a> Reader<'a> {
                 at_colon(lexer, token, heading, rules, count, name)
             }
             State::Comma(heading, rules, count) => at_comma(lexer, token, heading, rules, count),
+            State::Equal(spot, embed) => at_equal(lexer, token, spot, embed),
             State::Sign(spot, name) => at_sign(lexer, token, spot, name, last, &mut self.nodes),
             State::Letter(spot, name, word) => at_word_end(lexer, token, spot, name, word),
             State::Dash(spot, from, label) => at_dash(lexer, token, spot, from, label),
@@ -346,6 +417,7 @@ impl<'a> Reader<'a> {
     ) -> Result<State, FormFault>
         requires token { IsToken lexer.now.text token }
         requires state { IsStateIn lexer.now.text state }
+        requires outside { IsOutside state }
         ensures moves { MovesFrom last lexer.now.text self.old.nodes self.old.draft state (mark_of lexer.now.text token) result self.new.nodes self.new.draft }
         ensures within { KeepsIn lexer.now.text self.old.draft state result self.new.draft }
     {
@@ -359,14 +431,20 @@ impl<'a> Reader<'a> {
 
     /// The book's end, where it can end.
     #[tactic(auto, unfolding(crate::specs::Standing::stepped))]
-    pub fn end(&mut self, state: State, place: usize) -> Result<(), FormFault>
+    pub fn end(&mut self, alloc: Global, state: State, place: usize) -> Result<(), FormFault>
+        requires { IsOutside state }
         ensures within { (text : List ℕ) → IsDraftIn text self.old.draft → IsStateIn text state → IfOk result (λ _. AllByRecursion (IsRuleIn text) self.new.draft.rules.items) }
         ensures ends { (text : List ℕ) → EndsFrom text self.old.nodes self.old.draft state place result self.new.draft }
     {
         match state {
             State::Rules(_) => Ok(()),
             State::Item(spot) => self.end_item(spot, place),
-            State::Behind(spot, name, word) => self.end_behind(spot, name, word, place),
+            State::Behind(spot, name, word) => self.end_behind(alloc, spot, name, word, place),
+            State::Assigned(spot) => self.end_item(on_right(spot), place),
+            State::RuleEnd(..) => {
+                self.draft.close()?;
+                Ok(())
+            }
             _ => Err(FormFault::Text { place }),
         }
     }
@@ -387,6 +465,7 @@ impl<'a> Reader<'a> {
 
     fn end_behind(
         &mut self,
+        alloc: Global,
         spot: Spot,
         name: Token,
         word: Word,
@@ -396,7 +475,7 @@ impl<'a> Reader<'a> {
         ensures ends { (text : List ℕ) → EndsFrom text self.old.nodes self.old.draft (states.Behind spot name word) place result self.new.draft }
     {
         let hook = false;
-        self.draft.put(spot.side, Item::Node { name, word, hook })?;
+        self.draft.put_node(alloc, spot.side, name, word, hook)?;
         self.end_item(spot, place)
     }
 }

@@ -7,7 +7,7 @@ ghost use Rattle.gm_model.specs.Tokens.{bytes_of};
 ghost use Rattle.gm_forms.specs.declared.state.State.TheVariants as states;
 ghost use Rattle.gm_forms.specs.Forms.{IsIn};
 ghost use Rattle.gm_text.specs.SchemaAnswers.{IsToken};
-ghost use Rattle.gm_forms.specs.Standing.{Leads, StaysIn, Gives, stand_in, stepped, number_mark, sign_mark};
+ghost use Rattle.gm_forms.specs.Standing.{Leads, StaysIn, IsOutside, Gives, stand_in, stepped, number_mark, sign_mark};
 
 use crate::form_fault::FormFault;
 use crate::headers::value;
@@ -183,6 +183,7 @@ pub fn at_sign<'a>(
 pub fn at_number(lexer: &Lexer<'_>, token: Token, state: State) -> Result<State, FormFault>
     requires token { IsToken lexer.now.text token }
     requires kind { token.kind ≡ Number }
+    requires outside { IsOutside state }
     ensures leads { Leads lexer.now.text state (number_mark lexer.now.text token) result }
     ensures within { StaysIn lexer.now.text state result }
 {
@@ -196,6 +197,7 @@ pub fn at_number(lexer: &Lexer<'_>, token: Token, state: State) -> Result<State,
 /// Where a `_` stands.
 #[tactic(auto, unfolding(crate::specs::Standing::stepped))]
 pub fn gone(state: State, place: usize) -> Result<State, FormFault>
+    requires { IsOutside state }
     ensures leads { (text : List ℕ) → Leads text state (record { symbol = Gone; place = place }) result }
     ensures within { (text : List ℕ) → StaysIn text state result }
 {

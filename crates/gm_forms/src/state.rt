@@ -64,6 +64,15 @@ pub enum State {
     /// In a node's word behind these letters, and behind the word.
     Letter(Spot, Token, Word),
     Behind(Spot, Token, Word),
+    /// Behind a whole assignment of a right node.
+    Assigned(Spot),
+    /// In an assignment before the name of its embedding, behind it, and before its value.
+    Set(Spot),
+    Equal(Spot, Token),
+    Value(Spot, Token),
+    /// Before the expression of a precondition, and behind it.
+    Pre(Heading, Tally),
+    RuleEnd(Heading, Tally),
     /// In a link before its label, behind it, and before its second name.
     Label(Spot, Token),
     Dash(Spot, Token, u8),

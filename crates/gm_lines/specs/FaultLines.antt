@@ -7,7 +7,7 @@ use Rattle.gm_model.specs.Symbols.{Mark, Stray, End}
 use Rattle.gm_mapfile.specs.MapText.{Version, DartRow, IsListed}
 use Rattle.gm_book.specs.declared.fault.BookFault.{BookFault}
 use Rattle.gm_book.specs.declared.fault.BookFault.TheVariants as book
-use Rattle.gm_forms.specs.BookText.{TwiceAt, UnknownAt}
+use Rattle.gm_forms.specs.BookText.{TwiceAt, UnknownAt, WrongKindAt}
 use Rattle.gm_script.specs.ScriptText.{UnknownRuleAt, HookCountAt, ParamsAt}
 use Rattle.gm_script.specs.declared.fault.ScriptFault.{ScriptFault}
 use Rattle.gm_script.specs.declared.fault.ScriptFault.TheVariants as script
@@ -39,7 +39,7 @@ IsSaidOfBook (book.Text place) = Unit {0}
 IsSaidOfBook (book.Limit what place) = Unit {0}
 IsSaidOfBook (book.Twice place) = Unit {0}
 IsSaidOfBook (book.Unknown place) = Unit {0}
-IsSaidOfBook (book.NotBuilt place) = Unit {0}
+IsSaidOfBook (book.WrongKind place) = Unit {0}
 IsSaidOfBook book.OutOfMemory = ⊥
 
 abbrev pub book_words : BookFault → List ℕ
@@ -47,7 +47,7 @@ book_words (book.Text place) = book_fault_words (book_faults.Ends place)
 book_words (book.Limit what place) = book_fault_words (book_faults.Passes what place)
 book_words (book.Twice place) = book_fault_words (book_faults.OfName (TwiceAt place))
 book_words (book.Unknown place) = book_fault_words (book_faults.OfName (UnknownAt place))
-book_words (book.NotBuilt place) = book_fault_words (book_faults.NotBuilt place)
+book_words (book.WrongKind place) = book_fault_words (book_faults.OfName (WrongKindAt place))
 book_words book.OutOfMemory = []
 
 -- the fault is said by a line

@@ -118,7 +118,7 @@ fn put_book_fault(text: &mut Text, fault: BookFault) -> Result<(), OutOfMemory>
         BookFault::Limit { what, place } => put_limit(text, what, place),
         BookFault::Twice { place } => put_at(text, b"twice ", place as u64),
         BookFault::Unknown { place } => put_at(text, b"unknown ", place as u64),
-        BookFault::NotBuilt { place } => put_at(text, b"not-built ", place as u64),
+        BookFault::WrongKind { place } => put_at(text, b"type ", place as u64),
         BookFault::OutOfMemory => Err(OutOfMemory),
     }
 }

@@ -3,7 +3,6 @@
 #![tactic(auto)]
 
 mod asked;
-mod assigned;
 mod at;
 mod commit;
 mod component;

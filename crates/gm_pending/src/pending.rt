@@ -1,10 +1,10 @@
 ghost use Rattle.std.specs.Prelude.{◌≡◌, ◌≢◌, ℕ, ◌+◌, ◌<◌, ◌≤◌, List, length, Some, None, MatchOption, ◌↔◌, IfOk, IsTrue};
 
 use crate::asked::{Answers, none_asked};
-use crate::assigned::assigns;
 use crate::at::At;
 use crate::lookup::{Lookup, instance_at};
 use gm_arena::{Arena, Slot, Steps};
+use gm_embcheck::assigns;
 use gm_model::{MOST_DARTS, OutOfMemory, Side, Step};
 use gm_plan::{Instances, Plan};
 use std::alloc::Global;

@@ -7,3 +7,5 @@ mod commands;
 mod migrations;
 #[cfg(test)]
 mod runs;
+#[cfg(test)]
+mod values;

@@ -55,11 +55,11 @@ fn files(alloc: Global, map: &str, book: &str, script: &str) -> Result<MemStore,
 }
 
 /// The texts of a map, a book and a script, and the status, the text put and the map saved.
-struct Run<'a> {
-    texts: [&'a str; 3],
-    status: u8,
-    put: &'a str,
-    saved: Option<&'a str>,
+pub(crate) struct Run<'a> {
+    pub(crate) texts: [&'a str; 3],
+    pub(crate) status: u8,
+    pub(crate) put: &'a str,
+    pub(crate) saved: Option<&'a str>,
 }
 
 fn expect_run(rt: &impl Abort, host: &HostRuntime, case: &Run) -> Result<(), Fail> {
@@ -79,7 +79,7 @@ fn expect_run(rt: &impl Abort, host: &HostRuntime, case: &Run) -> Result<(), Fai
     Ok(())
 }
 
-fn run_each(rt: &impl Abort, host: &HostRuntime, cases: &[Run]) -> Result<(), Fail> {
+pub(crate) fn run_each(rt: &impl Abort, host: &HostRuntime, cases: &[Run]) -> Result<(), Fail> {
     for case in cases {
         expect_run(rt, host, case)?;
     }

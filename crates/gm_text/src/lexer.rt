@@ -40,6 +40,17 @@ impl<'a> Lexer<'a> {
         }
     }
 
+    /// A lexer of the text at the place.
+    pub fn at(text: &'a [u8], place: usize) -> Lexer<'a>
+        requires { place ≤ length text.now }
+        ensures { result ≡ record { text = text.now; place = place } }
+    {
+        Lexer {
+            source: text,
+            at: place,
+        }
+    }
+
     /// A further lexer of the text, at the same place.
     pub fn fork(&self) -> Lexer<'a>
         ensures { result ≡ self.now }

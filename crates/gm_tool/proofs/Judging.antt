@@ -9,7 +9,7 @@ use Rattle.gm_forms.specs.BookText.{BookText}
 use Rattle.gm_model.specs.Rules.{Rule}
 use Rattle.gm_tool.specs.Answer.{IsOutput, role_of, most_bytes, Checked}
 use Rattle.gm_lines.specs.Refusing.{IsBad, BadBook, TheMap, TheBook, refusal, IsBadLine}
-use Rattle.gm_lines.specs.BookFaults.{AtEnds, AtPasses, AtNotBuilt, AtName}
+use Rattle.gm_lines.specs.BookFaults.{AtEnds, AtPasses, AtName}
 use Rattle.gm_tool.specs.Answer as answer
 use Rattle.gm_lines.specs.Refusing as refusing
 use Rattle.gm_tool.specs.declared.refusal.NoText.{NoText}
@@ -36,7 +36,7 @@ book_is_bad bytes (book.Text place) h said = BadBook _ (AtEnds place h)
 book_is_bad bytes (book.Limit what place) h said = BadBook _ (AtPasses what place h)
 book_is_bad bytes (book.Twice place) h said = BadBook _ (AtName _ h)
 book_is_bad bytes (book.Unknown place) h said = BadBook _ (AtName _ h)
-book_is_bad bytes (book.NotBuilt place) h said = BadBook _ (AtNotBuilt place h)
+book_is_bad bytes (book.WrongKind place) h said = BadBook _ (AtName _ h)
 book_is_bad bytes book.OutOfMemory h said = absurd said
 
 -- whichever command reads the book

@@ -5,7 +5,7 @@ use Rattle.gm_model.specs.declared.schema.Schema.{Schema}
 use Rattle.gm_model.specs.declared.script.Line.{Line}
 use Rattle.gm_model.specs.Acceptance.{IsAccepted}
 use Rattle.gm_forms.specs.BookText.{BookText}
-use Rattle.gm_forms.specs.BookText as books
+use Rattle.gm_book.specs.Canonical as books
 use Rattle.gm_model.specs.Maps.{IsGeneralised}
 use Rattle.gm_mapfile.specs.MapFaults.{fault_words}
 use Rattle.gm_mapfile.specs.MapText.{ListedMap, MapText, map_of, canonical}

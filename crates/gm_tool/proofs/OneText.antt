@@ -1,7 +1,7 @@
 -- A text has one first fault at most as a book and as a script, and one that has a fault stands for none.
 use Rattle.std.proofs.Common.{◌≡◌, ◌≢◌, ℕ, List, refl, sym, ap, ◌∙◌}
 use Rattle.std.proofs.Math.Path.{ap₂}
-use Rattle.gm_forms.specs.BookText.{TwiceAt, UnknownAt, StandsForNoBook}
+use Rattle.gm_forms.specs.BookText.{TwiceAt, UnknownAt, WrongKindAt, StandsForNoBook}
 use Rattle.gm_model.specs.Rules.{Rule}
 use Rattle.gm_book.specs.declared.fault.BookFault.{BookFault}
 use Rattle.gm_book.specs.declared.fault.BookFault.TheVariants as faults
@@ -21,39 +21,39 @@ use Rattle.gm_lines.specs.ScriptFaults.{ScriptTextFault, IsFirstScriptFault}
 abbrev as_read : BookTextFault → BookFault
 as_read (books.Ends place) = faults.Text place
 as_read (books.Passes what place) = faults.Limit what place
-as_read (books.NotBuilt place) = faults.NotBuilt place
 as_read (books.OfName (TwiceAt place)) = faults.Twice place
 as_read (books.OfName (UnknownAt place)) = faults.Unknown place
+as_read (books.OfName (WrongKindAt place)) = faults.WrongKind place
 
 -- want of memory is no fault of a text, so anything stands for it
 abbrev as_written : BookFault → BookTextFault
 as_written (faults.Text place) = books.Ends place
 as_written (faults.Limit what place) = books.Passes what place
-as_written (faults.NotBuilt place) = books.NotBuilt place
 as_written (faults.Twice place) = books.OfName (TwiceAt place)
 as_written (faults.Unknown place) = books.OfName (UnknownAt place)
+as_written (faults.WrongKind place) = books.OfName (WrongKindAt place)
 as_written faults.OutOfMemory = books.Ends 0
 
 read_again : (fault : BookTextFault) → as_written (as_read fault) ≡ fault
 read_again (books.Ends place) = refl
 read_again (books.Passes what place) = refl
-read_again (books.NotBuilt place) = refl
 read_again (books.OfName (TwiceAt place)) = refl
 read_again (books.OfName (UnknownAt place)) = refl
+read_again (books.OfName (WrongKindAt place)) = refl
 
 no_memory : (fault : BookTextFault) → as_read fault ≢ faults.OutOfMemory
 no_memory (books.Ends place) e = absurd cc
 no_memory (books.Passes what place) e = absurd cc
-no_memory (books.NotBuilt place) e = absurd cc
 no_memory (books.OfName (TwiceAt place)) e = absurd cc
 no_memory (books.OfName (UnknownAt place)) e = absurd cc
+no_memory (books.OfName (WrongKindAt place)) e = absurd cc
 
 is_read : (text : List ℕ) (fault : BookTextFault) → IsFirstBookFault text fault → IsFaultOf text (as_read fault)
 is_read text _ (books.AtEnds place h) = h
 is_read text _ (books.AtPasses what place h) = h
-is_read text _ (books.AtNotBuilt place h) = h
 is_read text _ (books.AtName (TwiceAt place) h) = h
 is_read text _ (books.AtName (UnknownAt place) h) = h
+is_read text _ (books.AtName (WrongKindAt place) h) = h
 
 pub one_book_fault : (text : List ℕ) (fault other : BookTextFault) → IsFirstBookFault text fault → IsFirstBookFault text other → fault ≡ other
 one_book_fault text fault other a b =

@@ -53,7 +53,7 @@ module _ {E : Type 0} (bytes : List ℕ) (line : Result (Vec ℕ) E) (stop : Sto
   book_unread (book.Limit what place) h said = Unread (first_book.Passes what place) (first_book.AtPasses what place h) refl
   book_unread (book.Twice place) h said = Unread _ (first_book.AtName _ h) refl
   book_unread (book.Unknown place) h said = Unread _ (first_book.AtName _ h) refl
-  book_unread (book.NotBuilt place) h said = Unread (first_book.NotBuilt place) (first_book.AtNotBuilt place h) refl
+  book_unread (book.WrongKind place) h said = Unread _ (first_book.AtName _ h) refl
   book_unread book.OutOfMemory h said = absurd said
 
   pub book_stopped : (fault : BookFault) → book_faults.IsFaultOf bytes fault → IfOk line (λ text. IsSaidOfBook fault × (text.items ≡ refusal (codes "BOOK" ++ codes " " ++ book_words fault)))

@@ -7,7 +7,7 @@ use Rattle.gm_cells.specs.CellsText.{counts_text, orientation_text}
 use Rattle.gm_cells.specs.Colours.{IsOrientation}
 use Rattle.gm_model.specs.declared.schema.Schema.{Schema}
 use Rattle.gm_forms.specs.BookText.{BookText}
-use Rattle.gm_forms.specs.BookText as books
+use Rattle.gm_book.specs.Canonical as books
 use Rattle.gm_model.specs.Maps.{Map}
 use Rattle.gm_mapfile.specs.MapText.{ListedMap, MapText, map_of, canonical}
 use Rattle.gm_mapfile.specs.declared.version.MapVersion.{MapVersion}

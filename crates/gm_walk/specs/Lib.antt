@@ -2,3 +2,4 @@ pub mod Room
 pub mod Marks
 pub mod Walks
 pub mod Lent
+pub mod Seen

@@ -1,4 +1,4 @@
-use Rattle.gm_book.proofs.ReadRules.{read_again}
+use Rattle.gm_book.proofs.ReadAgain.{read_again}
 use Rattle.gm_book.proofs.laws.what_is_printed_is_read_again.Goals as goal
 
 pub returns : goal.returns

@@ -1,6 +1,6 @@
 use Rattle.std.proofs.Common.{◌≡◌, ◌++◌, drop, map}
 use Rattle.gm_model.specs.Rules.{node_of}
-use Rattle.gm_forms.specs.BookText.{left_lines}
+use Rattle.gm_book.specs.Canonical.{left_lines}
 use Rattle.gm_book.proofs.printing.print_left_nodes.Given as goal
 
 abbrev pub invariant-loop-number : goal.invariant-loop-number

@@ -1,5 +1,5 @@
 use Rattle.std.proofs.Common.{◌≡◌, ◌++◌, take}
-use Rattle.gm_forms.specs.BookText.{letters_text}
+use Rattle.gm_book.specs.Canonical.{letters_text}
 use Rattle.gm_book.proofs.printing.print_letters.Given as goal
 
 abbrev pub invariant-loop-place : goal.invariant-loop-place

@@ -1,7 +1,7 @@
 use Rattle.std.proofs.Common.{◌≡◌, ◌++◌, take, map}
 use Rattle.std.specs.List.{flat_map}
 use Rattle.gm_model.specs.Rules.{node_of}
-use Rattle.gm_forms.specs.BookText.{link_line}
+use Rattle.gm_book.specs.Canonical.{link_line}
 use Rattle.gm_book.proofs.printing.print_links.Given as goal
 
 abbrev pub invariant-loop-link : goal.invariant-loop-link

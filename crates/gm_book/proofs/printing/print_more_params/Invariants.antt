@@ -1,6 +1,6 @@
 use Rattle.std.proofs.Common.{◌≡◌, ◌++◌, take, codes}
 use Rattle.std.specs.List.{flat_map}
-use Rattle.gm_forms.specs.BookText.{param_text}
+use Rattle.gm_book.specs.Canonical.{param_text}
 use Rattle.gm_book.proofs.printing.print_more_params.Given as goal
 
 abbrev pub invariant-loop-param : goal.invariant-loop-param

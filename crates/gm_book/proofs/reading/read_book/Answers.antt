@@ -1,13 +1,16 @@
-use Rattle.std.proofs.Common.{ℕ, List, ap, subst, ◌∙◌}
+use Rattle.std.proofs.Common.{◌≡◌, ℕ, List, sym, ap, subst, ◌∙◌}
+use Rattle.std.specs.List.{AllByRecursion}
 use Rattle.std.proofs.lemmas.Result.{err_from_is_err_and}
 use Rattle.gm_model.specs.Symbols.{Mark}
 use Rattle.gm_text.specs.Cursor.{Cursor}
 use Rattle.gm_text.specs.Nested.{Outside}
 use Rattle.gm_text.specs.SchemaAnswers.{marks_left, IsSchemaRead}
+use Rattle.gm_text.proofs.OneSchema.{one_skipped}
 use Rattle.gm_forms.specs.Forms.{forms_of}
 use Rattle.gm_forms.specs.Reading.{AtFormat, heading_at}
 use Rattle.gm_forms.specs.Standing.{IsHeaded, IsHeadFault, AreRulesRead}
-use Rattle.gm_book.proofs.ReadBook.{rules_there, few_there, head_fault, skip_fault, rules_fault, names_in_schema, answer_stands, answer_faults, answer_in_range, answer_within_limits}
+use Rattle.gm_book.specs.Fitting.{IsFitting, HasExprs}
+use Rattle.gm_book.proofs.ReadBook.{rules_there, fitting_there, exprs_there, head_fault, skip_fault, rules_fault, names_in_schema, answer_stands, answer_faults, answer_in_range, answer_within_limits, answer_typed, answer_unsigned}
 use Rattle.gm_book.proofs.reading.read_book.Goals as goal
 
 pub returns-in_err-version-clause-fault : goal.returns-in_err-version-clause-fault
@@ -51,16 +54,37 @@ returns-in_err-schema-clause-fault c =
     let there = rules_there version n (marks_left new) (forms_of text forms) read in
     rw (p.1, p.2) (names_in_schema text version old headed new n c.in_ok-dim.ensures.runs c.in_ok-dim.ensures.dim (forms_of text forms) there c.fork-again.result c.in_err-schema.field-0.0 c.fork-again.ensures c.in_err-schema.ensures.stops)
 
-pub build-requires-clause-few : goal.build-requires-clause-few
-build-requires-clause-few c =
+pub build-requires-clause-fits : goal.build-requires-clause-fits
+build-requires-clause-fits c =
     let text = c.args.bytes.now in
     let version = c.in_ok-version.version in
+    let old = c.read_version.new.lexer in
     let new = c.skip_schema.new.lexer in
     let n = c.in_ok-dim.dim in
     let same = c.in_ok-dim.ensures.text ∙ c.in_ok-version.ensures.text ∙ ap (λ (cursor : Cursor). cursor.text) c.new-lexer.ensures in
     let forms = c.in_ok-forms.forms.items in
     let read = subst (λ (t : List ℕ). AreRulesRead (heading_at version n) (marks_left new) (forms_of t forms)) same c.in_ok-forms.ensures.forms in
-    few_there text version n (marks_left new) forms read
+    let there = rules_there version n (marks_left new) (forms_of text forms) read in
+    let declared = c.in_ok-schema.schema in
+    let found = subst (λ (cursor : Cursor). IsSchemaRead cursor c.read_schema.new.lexer declared) c.fork-again.ensures c.in_ok-schema.ensures.schema in
+    let dim : declared.dim ≡ n = (one_skipped old c.read_schema.new.lexer new declared n found c.in_ok-dim.ensures.dim).0 in
+    subst (λ m. AllByRecursion (IsFitting m) (forms_of text forms)) (sym dim) (fitting_there version n new (forms_of text forms) there)
+
+pub build-requires-clause-exprs : goal.build-requires-clause-exprs
+build-requires-clause-exprs c =
+    let text = c.args.bytes.now in
+    let version = c.in_ok-version.version in
+    let old = c.read_version.new.lexer in
+    let new = c.skip_schema.new.lexer in
+    let n = c.in_ok-dim.dim in
+    let same = c.in_ok-dim.ensures.text ∙ c.in_ok-version.ensures.text ∙ ap (λ (cursor : Cursor). cursor.text) c.new-lexer.ensures in
+    let forms = c.in_ok-forms.forms.items in
+    let read = subst (λ (t : List ℕ). AreRulesRead (heading_at version n) (marks_left new) (forms_of t forms)) same c.in_ok-forms.ensures.forms in
+    let there = rules_there version n (marks_left new) (forms_of text forms) read in
+    let declared = c.in_ok-schema.schema in
+    let found = subst (λ (cursor : Cursor). IsSchemaRead cursor c.read_schema.new.lexer declared) c.fork-again.ensures c.in_ok-schema.ensures.schema in
+    let dim : declared.dim ≡ n = (one_skipped old c.read_schema.new.lexer new declared n found c.in_ok-dim.ensures.dim).0 in
+    subst (λ m. AllByRecursion (HasExprs m) (forms_of text forms)) (sym dim) (exprs_there version n (marks_left new) (forms_of text forms) there)
 
 pub returns-clause-book : goal.returns-clause-book
 returns-clause-book c =
@@ -83,6 +107,12 @@ returns-clause-in_range c = answer_in_range c.args.bytes.now c.build.result (ret
 
 pub returns-clause-limits : goal.returns-clause-limits
 returns-clause-limits c = answer_within_limits c.args.bytes.now c.build.result (returns-clause-book c)
+
+pub returns-clause-typed : goal.returns-clause-typed
+returns-clause-typed c = answer_typed c.args.bytes.now c.build.result (returns-clause-book c)
+
+pub returns-clause-unsigned : goal.returns-clause-unsigned
+returns-clause-unsigned c = answer_unsigned c.args.bytes.now c.build.result (returns-clause-book c)
 
 pub returns-clause-fault : goal.returns-clause-fault
 returns-clause-fault c =

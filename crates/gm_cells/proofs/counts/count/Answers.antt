@@ -1,19 +1,20 @@
 use Rattle.std.proofs.Common.{◌+◌, subst, sym, ap, ◌∙◌}
 use Rattle.gm_arena.proofs.Keys.{darts_counted}
 use Rattle.gm_arena.specs.ArenaAsMap.{as_map}
-use Rattle.gm_arena.specs.ArenaMap.{IsLiveName, alpha}
 use Rattle.gm_cells.specs.Cells.{HasCells, HasFreeDarts}
-use Rattle.gm_cells.specs.Seen.{HasOrbitsBut}
 use Rattle.gm_model.specs.Maps.{IsDart}
 use Rattle.gm_model.specs.Orbits.{HasCount}
-use Rattle.gm_cells.proofs.OrbitLemmas.{orbits_over_all}
+use Rattle.gm_cells.proofs.LabelLemmas.{components_counted, mask_within}
 use Rattle.gm_cells.proofs.counts.count.Goals as goal
+
+pub orbits-requires-clause-mask : goal.orbits-requires-clause-mask
+orbits-requires-clause-mask g c = mask_within (as_map c.args.arena.now) _ c.top-top.result (c.top-top.result + 1) (c.top-top.ensures.value ∙ ap (λ s. s.dim) c.schema.ensures) c.mask_without-all.ensures
 
 pub returns-clause-counts : goal.returns-clause-counts
 returns-clause-counts g c =
     let m = c.args.arena.now in record {
       darts = subst (HasCount (IsDart (as_map m))) (sym c.count-darts.ensures.count) (darts_counted m c.count-darts.ensures.lawful);
       cells = subst (HasCells (as_map m)) (sym c.new.ensures) c.in_ok-cells.ensures.cells;
-      components = orbits_over_all (IsLiveName m) (alpha m) m.schema.dim _ (subst (λ n. HasOrbitsBut m (n + 1) c.in_ok-components.components) (c.top-all.ensures.value ∙ ap (λ s. s.dim) c.schema.ensures) c.in_ok-components.ensures.orbits);
+      components = components_counted (as_map m) _ c.top-top.result (c.top-top.ensures.value ∙ ap (λ s. s.dim) c.schema.ensures) c.mask_without-all.ensures c.in_ok-components.components c.in_ok-components.ensures.orbits;
       free = subst (HasFreeDarts (as_map m)) (sym c.new-2.ensures) c.in_ok-free.ensures.free;
     }

@@ -2,7 +2,7 @@ use Rattle.std.proofs.Common.{◌∙◌, ◌+◌, ap, length}
 use Rattle.std.proofs.lemmas.List.{length_push}
 use Rattle.gm_arena.specs.ArenaAsMap.{as_map}
 use Rattle.gm_cells.specs.Cells.{HasFree}
-use Rattle.gm_cells.proofs.CountLemmas.{by_label_more}
+use Rattle.gm_cells.proofs.LabelLemmas.{by_label_more}
 use Rattle.gm_cells.proofs.free.count_free.Goals as goal
 
 pub loop-label-preserved : goal.loop-label-preserved

@@ -1,7 +1,7 @@
 use Rattle.std.proofs.Common.{◌≡◌, ℕ, get_or, sym, ◌∙◌, arith}
 use Rattle.std.proofs.lemmas.Bool.{eqb-true, eqb-false}
 use Rattle.gm_arena.specs.ArenaMap.{IsLiveName, alpha}
-use Rattle.gm_cells.proofs.CountLemmas.{has_slot, name_of_slot, is_live, counted_yes, counted_no, counted_all, few_names}
+use Rattle.gm_walk.proofs.CountLemmas.{has_slot, name_of_slot, is_live, counted_yes, counted_no, counted_all, few_names}
 use Rattle.gm_cells.proofs.FreeLemmas.{is_free, not_free}
 use Rattle.gm_cells.proofs.free.count_free_along.Goals as goal
 use Rattle.gm_cells.proofs.free.count_free_along.Goals.{then-eq, else-eq}

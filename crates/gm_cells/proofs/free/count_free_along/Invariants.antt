@@ -1,6 +1,6 @@
 use Rattle.std.proofs.Common.{◌≡◌, ◌≤◌}
 use Rattle.gm_arena.specs.ArenaMap.{IsLiveName, alpha}
-use Rattle.gm_cells.proofs.CountLemmas.{CountedTo}
+use Rattle.gm_walk.proofs.CountLemmas.{CountedTo}
 use Rattle.gm_cells.proofs.free.count_free_along.Given as goal
 
 abbrev pub invariant-loop-name : goal.invariant-loop-name

@@ -3,7 +3,8 @@ use Rattle.std.specs.Prelude.{OnErr}
 use Rattle.std.proofs.lemmas.Result.{on_err_weaker, on_ok_weaker}
 use Rattle.gm_model.specs.Rules.{rule_of}
 use Rattle.gm_model.specs.Trees.{tree_of}
-use Rattle.gm_expr.specs.ExprText.{IsCutShort, expr_text, head_of, least_on_left, least_on_right, sign_of, tail_of, wrapped}
+use Rattle.gm_expr.specs.ExprText.{IsCutShort, expr_text, head_of, sign_of, tail_of, wrapped}
+use Rattle.gm_parse.specs.Levels.{least_on_left, least_on_right}
 use Rattle.gm_expr.proofs.Cuts.{cut_at_once, cut_before, cut_behind, on_err}
 use Rattle.gm_expr.proofs.printing.+print.Goals as goal
 

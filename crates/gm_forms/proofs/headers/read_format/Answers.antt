@@ -13,10 +13,10 @@ use Rattle.gm_forms.proofs.headers.read_format.Goals.{then-ne-via-then-ne, then-
 pub returns-in_err-token-clause-fault : goal.returns-in_err-token-clause-fault
 returns-in_err-token-clause-fault c =
     let p = err_from_is_err_and c.from_residual.result c.from_residual.ensures.1 in
-    rw (p.1, p.2) (at_stray AtFormat (λ s. refl) c.args.lexer.now c.next_token.new.lexer c.in_err-token.field-0.0 refl c.in_err-token.ensures.next)
+    rw (p.1, p.2) (at_stray AtFormat c.args.lexer.now c.next_token.new.lexer c.in_err-token.field-0.0 refl c.in_err-token.ensures.next)
 
 pub returns-in_default-clause-fault : goal.returns-in_default-clause-fault
-returns-in_default-clause-fault c = at_end AtFormat (λ s. refl) c.args.lexer.now c.next_token.new.lexer c.in_ok-token.field-0 c.place.result refl c.in_ok-token.ensures.next c.in_default.is c.place.ensures.value
+returns-in_default-clause-fault c = at_end AtFormat c.args.lexer.now c.next_token.new.lexer c.in_ok-token.field-0 c.place.result refl c.in_ok-token.ensures.next c.in_default.is c.place.ensures.value
 
 pub returns-then-ne-clause-fault : goal.returns-then-ne-clause-fault
 returns-then-ne-clause-fault c =
@@ -24,10 +24,10 @@ returns-then-ne-clause-fault c =
     let token = c.in-Some.token in
     let is = subst (λ (found : Option Token). IsNext c.args.lexer.now (Ok found) rest) c.in-Some.is c.in_ok-token.ensures.next in
     elim c.then-ne.branch [
-      | then-ne-via-then-ne w ↦ (let other : token.kind ≢ kinds.Name = search rules in at_token AtFormat (λ s. refl) c.args.lexer.now rest token c.in_ok-token.ensures.text is (no_word token.kind (bytes_of rest.text token) other))
+      | then-ne-via-then-ne w ↦ (let other : token.kind ≢ kinds.Name = search rules in at_token AtFormat c.args.lexer.now rest token c.in_ok-token.ensures.text is (no_word token.kind (bytes_of rest.text token) other))
       | then-ne-via-else-ne+then-not-reads w ↦ (let name : token.kind ≡ kinds.Name = search rules in
           let differ : bytes_eq (bytes_of rest.text token) (codes "book") ≡ false = search rules in
-          at_token AtFormat (λ s. refl) c.args.lexer.now rest token c.in_ok-token.ensures.text is (other_word token.kind (bytes_of rest.text token) name differ))
+          at_token AtFormat c.args.lexer.now rest token c.in_ok-token.ensures.text is (other_word token.kind (bytes_of rest.text token) name differ))
     ]
 
 pub returns-clause-read : goal.returns-clause-read

@@ -11,10 +11,10 @@ use Rattle.gm_forms.proofs.headers.read_number.Goals as goal
 pub returns-in_err-token-clause-fault : goal.returns-in_err-token-clause-fault
 returns-in_err-token-clause-fault c =
     let p = err_from_is_err_and c.from_residual.result c.from_residual.ensures.1 in
-    rw (p.1, p.2) (at_stray AtVersion (λ s. refl) c.args.lexer.now c.next_token.new.lexer c.in_err-token.field-0.0 refl c.in_err-token.ensures.next)
+    rw (p.1, p.2) (at_stray AtVersion c.args.lexer.now c.next_token.new.lexer c.in_err-token.field-0.0 refl c.in_err-token.ensures.next)
 
 pub returns-in_default-clause-fault : goal.returns-in_default-clause-fault
-returns-in_default-clause-fault c = at_end AtVersion (λ s. refl) c.args.lexer.now c.next_token.new.lexer c.in_ok-token.field-0 c.place.result refl c.in_ok-token.ensures.next c.in_default.is c.place.ensures.value
+returns-in_default-clause-fault c = at_end AtVersion c.args.lexer.now c.next_token.new.lexer c.in_ok-token.field-0 c.place.result refl c.in_ok-token.ensures.next c.in_default.is c.place.ensures.value
 
 pub returns-then-ne-clause-fault : goal.returns-then-ne-clause-fault
 returns-then-ne-clause-fault c =
@@ -22,7 +22,7 @@ returns-then-ne-clause-fault c =
     let token = c.in-Some.token in
     let is = subst (λ (found : Option Token). IsNext c.args.lexer.now (Ok found) rest) c.in-Some.is c.in_ok-token.ensures.next in
     let other : token.kind ≢ kinds.Number = search rules in
-    at_token AtVersion (λ s. refl) c.args.lexer.now rest token c.in_ok-token.ensures.text is (no_number token.kind (bytes_of rest.text token) other)
+    at_token AtVersion c.args.lexer.now rest token c.in_ok-token.ensures.text is (no_number token.kind (bytes_of rest.text token) other)
 
 pub returns-then-version-ne2-clause-fault : goal.returns-then-version-ne2-clause-fault
 returns-then-version-ne2-clause-fault c =
@@ -30,7 +30,7 @@ returns-then-version-ne2-clause-fault c =
     let token = c.in-Some.token in
     let is = subst (λ (found : Option Token). IsNext c.args.lexer.now (Ok found) rest) c.in-Some.is c.in_ok-token.ensures.next in
     let number : token.kind ≡ kinds.Number = search rules in
-    at_token AtVersion (λ s. refl) c.args.lexer.now rest token c.in_ok-token.ensures.text is (other_version token.kind (bytes_of rest.text token) number c.value-version.result c.value-version.ensures c.if-version-ne1.true c.if-version-ne2.true)
+    at_token AtVersion c.args.lexer.now rest token c.in_ok-token.ensures.text is (other_version token.kind (bytes_of rest.text token) number c.value-version.result c.value-version.ensures c.if-version-ne1.true c.if-version-ne2.true)
 
 pub returns-clause-read : goal.returns-clause-read
 returns-clause-read c =

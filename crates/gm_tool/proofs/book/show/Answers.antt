@@ -1,5 +1,5 @@
 use Rattle.std.proofs.Common.{ℕ, List, refl, sym, subst, map}
-use Rattle.gm_forms.specs.BookText.{canonical}
+use Rattle.gm_book.specs.Canonical.{canonical}
 use Rattle.gm_model.specs.Rules.{rule_of}
 use Rattle.gm_book.proofs.Printable.{printable_from_text}
 use Rattle.gm_tool.specs.Answer.{IsOutput, Book, Printed}

@@ -1,4 +1,4 @@
-use Rattle.std.proofs.Common.{rules, ◌≡◌, Bool, true, false, codes, refl, ap, ◌∙◌, map}
+use Rattle.std.proofs.Common.{[], rules, ◌≡◌, Bool, true, false, codes, refl, ap, ◌∙◌, map}
 use Rattle.std.specs.Option.{option_map}
 use Rattle.std.specs.Str.{bytes_eq}
 use Rattle.gm_model.specs.declared.rule.Side.TheVariants.{Left}
@@ -16,18 +16,18 @@ returns-then-hook-clause-moves c last =
     let old = c.args.self.now.draft in
     let hook : bytes_eq (bytes_of text c.args.token) (codes "hook") ≡ true = search rules in
     let takes : takes_hook c.args.spot.heading.version c.args.spot.hooked ≡ true = search rules in
-    let listed = c.in_ok-put.ensures.current text ∙ ap (λ (b : Bool). option_map (with_item Left (NodeItem (mention_of text c.args.name) c.args.word b)) (current_of text old)) c.if-hook.true in
-    hook_moves text c.args.self.now.nodes old c.put.new.self c.args.spot c.args.name c.args.word _ c.args.token.start
-    (ap (λ rs. map (rule_form_of text) rs.items) c.in_ok-put.ensures.rules) listed c.requires.side hook takes last
+    let listed = c.in_ok-put_node.ensures.current text ∙ ap (λ (b : Bool). option_map (with_item Left (NodeItem (mention_of text c.args.name) c.args.word b [])) (current_of text old)) c.if-hook.true in
+    hook_moves text c.args.self.now.nodes old c.put_node.new.self c.args.spot c.args.name c.args.word _ c.args.token.start
+    (ap (λ rs. map (rule_form_of text) rs.items) c.in_ok-put_node.ensures.rules) listed c.requires.side hook takes last
 
 pub returns-clause-moves : goal.returns-clause-moves
 returns-clause-moves c =
     let text = c.args.lexer.now.text in
     let old = c.args.self.now.draft in
-    let put = c.put.new.self in
+    let put = c.put_node.new.self in
     let nodes = c.args.self.now.nodes in
     let plain : is_hook_on Left (takes_hook c.args.spot.heading.version c.args.spot.hooked) (bytes_of text c.args.token) ≡ false = search rules in
-    let listed = c.in_ok-put.ensures.current text ∙ ap (λ (b : Bool). option_map (with_item Left (NodeItem (mention_of text c.args.name) c.args.word b)) (current_of text old)) c.if-hook.false in
+    let listed = c.in_ok-put_node.ensures.current text ∙ ap (λ (b : Bool). option_map (with_item Left (NodeItem (mention_of text c.args.name) c.args.word b [])) (current_of text old)) c.if-hook.false in
     behind_moves text nodes old put c.args.spot c.args.name c.args.word (bytes_of text c.args.token) c.args.token.start c.at_left_item.result nodes put
-    (ap (λ rs. map (rule_form_of text) rs.items) c.in_ok-put.ensures.rules) (rw c.requires.side listed) (rw c.requires.side plain) (rw c.requires.side refl)
+    (ap (λ rs. map (rule_form_of text) rs.items) c.in_ok-put_node.ensures.rules) (rw c.requires.side listed) (rw c.requires.side plain) (rw c.requires.side refl)
     (λ last. c.at_left_item.ensures.leads nodes (rules_of text put) (current_of text put) last)

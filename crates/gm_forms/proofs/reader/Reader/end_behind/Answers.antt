@@ -5,8 +5,8 @@ use Rattle.gm_forms.proofs.reader.Reader.end_behind.Goals as goal
 
 pub returns-clause-ends : goal.returns-clause-ends
 returns-clause-ends c text =
-    behind_ends text c.args.self.now.nodes c.args.self.now.draft c.put.new.self c.args.spot c.args.name c.args.word c.args.place c.end_item.result c.end_item.new.self.draft
-    (ap (λ rs. map (rule_form_of text) rs.items) c.in_ok-put.ensures.rules) (c.in_ok-put.ensures.current text) (c.end_item.ensures.ends text)
+    behind_ends text c.args.self.now.nodes c.args.self.now.draft c.put_node.new.self c.args.spot c.args.name c.args.word c.args.place c.end_item.result c.end_item.new.self.draft
+    (ap (λ rs. map (rule_form_of text) rs.items) c.in_ok-put_node.ensures.rules) (c.in_ok-put_node.ensures.current text) (c.end_item.ensures.ends text)
 
 pub returns-clause-within : goal.returns-clause-within
-returns-clause-within c text draft_in name_in = c.end_item.ensures.within text (c.in_ok-put.ensures.within text name_in draft_in)
+returns-clause-within c text draft_in name_in = c.end_item.ensures.within text (c.in_ok-put_node.ensures.within text name_in draft_in)

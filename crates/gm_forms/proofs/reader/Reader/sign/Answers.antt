@@ -40,3 +40,9 @@ returns-in-Comma-clause-moves c = stays_at c.args.lexer.now.text c.args.self.now
 
 pub returns-in-Comma-clause-within : goal.returns-in-Comma-clause-within
 returns-in-Comma-clause-within c = stays_keeps_at c.args.lexer.now.text c.args.self.now.draft c.at_comma.result c.in-Comma.is c.at_comma.ensures.within
+
+pub returns-in-Equal-clause-moves : goal.returns-in-Equal-clause-moves
+returns-in-Equal-clause-moves c = stays_at c.args.lexer.now.text c.args.self.now.nodes c.args.self.now.draft (sign_mark c.args.lexer.now.text c.args.token) c.at_equal.result c.in-Equal.is c.at_equal.ensures.leads c.args.last
+
+pub returns-in-Equal-clause-within : goal.returns-in-Equal-clause-within
+returns-in-Equal-clause-within c = stays_keeps_at c.args.lexer.now.text c.args.self.now.draft c.at_equal.result c.in-Equal.is c.at_equal.ensures.within

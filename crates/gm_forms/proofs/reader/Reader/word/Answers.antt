@@ -55,3 +55,21 @@ returns-in-Body-clause-moves c = moves_at c.args.lexer.now.text c.args.self.now.
 
 pub returns-in-Body-clause-within : goal.returns-in-Body-clause-within
 returns-in-Body-clause-within c = keeps_in_at c.args.lexer.now.text c.args.self.now.draft c.at_left-in-Body.result c.at_left-in-Body.new.self.draft c.in-Body.is c.at_left-in-Body.ensures.body_within
+
+pub returns-in-Assigned-clause-moves : goal.returns-in-Assigned-clause-moves
+returns-in-Assigned-clause-moves c = moves_at c.args.lexer.now.text c.args.self.now.nodes c.args.self.now.draft (word_mark c.args.lexer.now.text c.args.token) c.at_assigned.result c.at_assigned.new.self.nodes c.at_assigned.new.self.draft c.in-Assigned.is c.at_assigned.ensures.moves
+
+pub returns-in-Assigned-clause-within : goal.returns-in-Assigned-clause-within
+returns-in-Assigned-clause-within c = keeps_in_at c.args.lexer.now.text c.args.self.now.draft c.at_assigned.result c.at_assigned.new.self.draft c.in-Assigned.is c.at_assigned.ensures.within
+
+pub returns-in-Set-clause-moves : goal.returns-in-Set-clause-moves
+returns-in-Set-clause-moves c = stays_at c.args.lexer.now.text c.args.self.now.nodes c.args.self.now.draft (word_mark c.args.lexer.now.text c.args.token) c.at_set.result c.in-Set.is c.at_set.ensures.leads
+
+pub returns-in-Set-clause-within : goal.returns-in-Set-clause-within
+returns-in-Set-clause-within c = stays_keeps_at c.args.lexer.now.text c.args.self.now.draft c.at_set.result c.in-Set.is c.at_set.ensures.within
+
+pub returns-in-RuleEnd-clause-moves : goal.returns-in-RuleEnd-clause-moves
+returns-in-RuleEnd-clause-moves c = moves_at c.args.lexer.now.text c.args.self.now.nodes c.args.self.now.draft (word_mark c.args.lexer.now.text c.args.token) c.at_rule_end.result c.at_rule_end.new.self.nodes c.at_rule_end.new.self.draft c.in-RuleEnd.is c.at_rule_end.ensures.moves
+
+pub returns-in-RuleEnd-clause-within : goal.returns-in-RuleEnd-clause-within
+returns-in-RuleEnd-clause-within c = keeps_in_at c.args.lexer.now.text c.args.self.now.draft c.at_rule_end.result c.at_rule_end.new.self.draft c.in-RuleEnd.is c.at_rule_end.ensures.within

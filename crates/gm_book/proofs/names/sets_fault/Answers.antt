@@ -1,0 +1,28 @@
+use Rattle.std.proofs.Common.{◌≡◌, ◌+◌, ◌∷◌, List, Option, map, drop, sym, ap, ◌∙◌}
+use Rattle.gm_forms.specs.declared.form.SetForm.{SetForm}
+use Rattle.gm_forms.specs.BookText.{with_name}
+use Rattle.gm_forms.specs.Forms.{set_form_of, mention_of}
+use Rattle.gm_forms.specs.Held.{names_held}
+use Rattle.gm_book.specs.declared.names.NameFault.{NameFault}
+use Rattle.gm_book.specs.FirstNameFault.{embed_names, least_of, again_at, unknown_at, least_set}
+use Rattle.gm_book.proofs.LeastOf.{least_regrouped}
+use Rattle.gm_book.proofs.Onward.{left_on}
+use Rattle.gm_book.proofs.names.sets_fault.Goals as goal
+
+pub loop-set-preserved : goal.loop-set-preserved
+loop-set-preserved c =
+    let text = c.args.text.now in
+    let set = c.set-item.result in
+    let l = c.loop-set in
+    let known = embed_names c.args.schema.now in
+    let names = names_held l.table in
+    let mention = mention_of text set.embed in
+    let first = least_of (again_at names mention) (unknown_at known mention) in
+    let behind = map (set_form_of text) (drop (l.set-index + 1) c.args.sets.now) in
+    let left : drop l.set-index c.args.sets.now ≡ set ∷ drop (l.set-index + 1) c.args.sets.now = left_on c.args.sets.now l.set-index set c.loop-set-test.true c.set-item.is in
+    let takes = c.in_ok-again.ensures in
+    let both : c.earlier.result ≡ first = c.earlier.ensures ∙ ap (λ (f : Option NameFault). least_of f c.unknown_embed-unknown.result) takes.fault ∙ ap (least_of (again_at names mention)) c.unknown_embed-unknown.ensures in
+    ap (λ (f : Option NameFault). least_of f (least_set known (names_held c.take_in.new.table) behind)) (c.earlier-fault.ensures ∙ ap (least_of l.fault) both)
+    ∙ ap (λ ns. least_of (least_of l.fault first) (least_set known ns behind)) takes.held
+    ∙ least_regrouped l.fault first (least_set known (with_name names mention.name) behind)
+    ∙ ap (λ (ss : List SetForm). least_of l.fault (least_set known names (map (set_form_of text) ss))) (sym left) ∙ l.invariant

@@ -1,9 +1,0 @@
-use Rattle.std.proofs.Common.{◌≡◌, ◌++◌, take, map, filter}
-use Rattle.std.specs.List.{flat_map}
-use Rattle.gm_model.specs.Rules.{node_of}
-use Rattle.gm_forms.specs.BookText.{right_line}
-use Rattle.gm_book.specs.Printing.{is_left}
-use Rattle.gm_book.proofs.printing.print_right_nodes_where.Given as goal
-
-abbrev pub invariant-loop-node : goal.invariant-loop-node
-invariant-loop-node l = l.text ≡ l.fn.text ++ flat_map right_line (filter (is_left l.left_too) (take l.node-index (map node_of l.nodes)))

@@ -1,0 +1,7 @@
+use Rattle.std.proofs.Common.{◌≡◌, map, drop}
+use Rattle.gm_forms.specs.BookText.{sets_in}
+use Rattle.gm_forms.specs.Forms.{item_of}
+use Rattle.gm_book.proofs.table.sets_of.Given as goal
+
+abbrev pub invariant-loop-item : goal.invariant-loop-item
+invariant-loop-item l = sets_in (map (item_of l.text) (drop l.item-index l.items)) l.name ≡ sets_in (map (item_of l.text) l.items) l.name

@@ -1,0 +1,26 @@
+use Rattle.std.proofs.Common.{◌≡◌, List, map, sym, ap, subst, ◌∙◌}
+use Rattle.gm_model.specs.Rules.{node_of}
+use Rattle.gm_parse.specs.Meaning.{names_in}
+use Rattle.gm_forms.specs.declared.form.Item.{Item}
+use Rattle.gm_forms.specs.BookText.{names_for, param_of}
+use Rattle.gm_forms.specs.Forms.{item_of, rule_form_of}
+use Rattle.gm_book.specs.FirstNameFault.{IsLeast, IsAssignedFault, IsFaultOfValues}
+use Rattle.gm_book.proofs.ValueFaults.{least_of_values}
+use Rattle.gm_book.proofs.ValueNames.{names_same}
+use Rattle.gm_book.proofs.values.values_fault.Goals as goal
+
+pub returns : goal.returns
+returns c =
+    let bytes = c.args.text.now in
+    let schema = c.args.schema.now in
+    let n = schema.dim in
+    let embeds = schema.embeds in
+    let rule = rule_form_of bytes c.args.rule.now in
+    let params = c.as_slice.result.now in
+    let nodes = c.as_slice-2.result.now in
+    let names = names_in schema params nodes in
+    let params_are : params ≡ map param_of rule.params = c.as_slice.ensures.value ∙ c.in_ok-params.ensures.params in
+    let nodes_are = ap (map node_of) c.as_slice-2.ensures.value ∙ c.in_ok-params.ensures.nodes in
+    let same : names ≡ names_for embeds rule = names_same schema rule params nodes c.requires.schema.count c.requires.fits.params c.requires.fits.nodes params_are nodes_are in
+    let sets = subst (λ (items : List Item). IsLeast (IsAssignedFault n embeds params names (map (item_of bytes) items)) c.in_ok-sets.sets) c.as_slice-3.ensures.value c.in_ok-sets.ensures in
+    subst (IsLeast (IsFaultOfValues n embeds rule)) (sym c.earlier.ensures) (least_of_values n embeds params names rule params_are same c.in_ok-sets.sets c.in_ok-pre_fault.field-0 sets c.in_ok-pre_fault.ensures)

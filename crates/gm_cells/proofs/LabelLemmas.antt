@@ -1,0 +1,52 @@
+-- The labels of a map but one, and numbers by label, one label after another.
+use Rattle.std.proofs.Common.{◌≡◌, ◌≢◌, ℕ, ◌+◌, ◌<◌, ◌≤◌, Bool, true, false, ◌&&◌, List, [], ◌∷◌, ◌++◌, IsTrue, length, get_or, refl, sym, ap, subst, ◌∙◌, inl, inr, arith}
+use Rattle.std.proofs.lemmas.Bool.{cases_lt, le-leb, leb-true, ne_eqb, false≢true}
+use Rattle.std.proofs.lemmas.List.{get_or_append_left, get_or_push}
+use Rattle.gm_model.specs.Labels.{has}
+use Rattle.gm_model.specs.Maps.{Map, IsDart, dimension}
+use Rattle.gm_model.specs.Orbits.{HasOrbits}
+use Rattle.gm_model.specs.declared.word.Mask.{Mask}
+use Rattle.gm_walk.proofs.OrbitLemmas.{orbits_alike}
+use Rattle.gm_cells.specs.Cells.{HasCellsOf, labels_to, labels_but}
+
+-- ---- sets of labels
+
+pub has_but : (n i j : ℕ) → j ≤ n → j ≢ i → IsTrue (labels_but n i j)
+has_but n i j within apart = rw (le-leb j n within, ne_eqb j i apart) refl
+
+both : (a b : Bool) → IsTrue (a && b) → IsTrue a × IsTrue b
+both true b h = (refl, h)
+both false b h = absurd (false≢true h)
+
+pub but_within : (n i j : ℕ) → IsTrue (labels_but n i j) → j ≤ n
+but_within n i j h = leb-true j n (both _ _ h).0
+
+-- ---- the orbits over a mask of all labels of a map but one
+
+module _ (map : Map) (mask : Mask) (top label : ℕ) (whole : top ≡ dimension map) (same : (i : ℕ) → has mask i ≡ labels_but top label i) where
+  leaves : (i : ℕ) → has mask i ≡ labels_but (dimension map) label i
+  leaves i = same i ∙ ap (λ n. labels_but n label i) whole
+
+  within : (i : ℕ) → IsTrue (has mask i) → i ≤ dimension map
+  within i h = but_within (dimension map) label i (sym (leaves i) ∙ h)
+
+  pub mask_within : (i : ℕ) → i ≤ 7 → IsTrue (has mask i) → i ≤ dimension map
+  mask_within i few h = within i h
+
+  pub cells_counted : (count : ℕ) → HasOrbits (IsDart map) map.alpha (has mask) count → HasCellsOf map label count
+  cells_counted = orbits_alike (IsDart map) map.alpha (has mask) (labels_but (dimension map) label) (λ i h. sym (leaves i) ∙ h) (λ i h. leaves i ∙ h)
+
+-- a label above the dimension leaves none out
+pub components_counted : (map : Map) (mask : Mask) (top : ℕ) → top ≡ dimension map → ((i : ℕ) → has mask i ≡ labels_but top (top + 1) i) → (count : ℕ) → HasOrbits (IsDart map) map.alpha (has mask) count → HasOrbits (IsDart map) map.alpha (labels_to (dimension map)) count
+components_counted map mask top whole same = orbits_alike (IsDart map) map.alpha (has mask) (labels_to (dimension map))
+    (λ i h. le-leb i (dimension map) (within map mask top (top + 1) whole same i h))
+    (λ i h. let within = leb-true i (dimension map) h in same i ∙ has_but top (top + 1) i (omega arith) (λ e. omega arith))
+
+-- ---- numbers by label
+
+-- one number more
+pub by_label_more : (Is : ℕ → ℕ → Type 0) (items new : List ℕ) (label x : ℕ) → length items ≡ label → new ≡ items ++ x ∷ [] → ((i : ℕ) → i < label → Is i (get_or items i 0)) → Is label x → (i : ℕ) → i < label + 1 → Is i (get_or new i 0)
+by_label_more Is items new label x long e old here i less = elim (cases_lt i label) [
+  | inl l ↦ subst (Is i) (sym (ap (λ xs. get_or xs i 0) e ∙ get_or_append_left items (x ∷ []) 0 i (omega arith))) (old i l)
+  | inr l ↦ (let same : label ≡ i = omega arith in subst (λ k. Is k (get_or new k 0)) same (subst (Is label) (sym (ap (λ xs. get_or xs label 0) e ∙ get_or_push items x 0 label long)) here))
+]

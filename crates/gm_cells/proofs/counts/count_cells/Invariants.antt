@@ -1,0 +1,12 @@
+use Rattle.std.proofs.Common.{◌≡◌, ℕ, ◌<◌, get_or, length}
+use Rattle.gm_arena.specs.ArenaAsMap.{as_map}
+use Rattle.gm_cells.specs.Cells.{HasCellsOf}
+use Rattle.gm_walk.specs.Room.{Fits}
+use Rattle.gm_cells.proofs.counts.count_cells.Given as goal
+
+abbrev pub invariant-loop-label : goal.invariant-loop-label
+invariant-loop-label g l = record {
+  one_each : length l.cells.items ≡ l.label;
+  each : (i : ℕ) → i < l.label → HasCellsOf (as_map l.arena) i (get_or l.cells.items i 0);
+  room : Fits l.scratch l.arena;
+}

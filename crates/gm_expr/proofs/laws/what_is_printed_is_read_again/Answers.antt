@@ -1,0 +1,18 @@
+use Rattle.std.proofs.Common.{refl}
+use Rattle.gm_expr.specs.Writable.{names_of}
+use Rattle.gm_expr.proofs.CanonicalRead.{short_read, again_read, few_known}
+use Rattle.gm_expr.proofs.ReadWritable.{read_writable}
+use Rattle.gm_expr.proofs.laws.what_is_printed_is_read_again.Goals as goal
+
+pub returns-clause-written : goal.returns-clause-written
+returns-clause-written c n schema rule tree top good different writable few =
+    short_read schema.embeds rule.params rule.nodes good n top tree writable (names_of schema.embeds rule.params rule.nodes) refl refl refl different few
+
+pub returns-clause-read : goal.returns-clause-read
+returns-clause-read c n schema rule old new tree top good different read =
+    let names = names_of schema.embeds rule.params rule.nodes in
+    let writable = read_writable schema.embeds rule.params rule.nodes n names refl refl refl old new tree read in
+    again_read schema.embeds rule.params rule.nodes good n top tree writable names refl refl refl different old new read
+
+pub returns-clause-names : goal.returns-clause-names
+returns-clause-names c = few_known

@@ -1,0 +1,4 @@
+mod Worked
+pub mod GridSchema
+pub mod Stages
+pub mod Finished

@@ -1,0 +1,5 @@
+use Rattle.gm_grid.proofs.Finished.{is_grid}
+use Rattle.gm_grid.proofs.grid.make_grid.Goals as goal
+
+pub returns-clause-map : goal.returns-clause-map
+returns-clause-map g c = is_grid c.args.m c.in_ok-build.field-0 c.in_ok-build.ensures.linked

@@ -1,0 +1,117 @@
+//! The arena of a grid, and all that is run on it.
+ghost use Rattle.std.specs.Prelude.{◌≡◌, ◌+◌, ◌*◌, ◌<◌, ◌≤◌, IfOk};
+ghost use Rattle.gm_arena.specs.ArenaMap.{IsLiveName};
+ghost use Rattle.gm_arena.specs.ArenaAsMap.{as_map};
+ghost use Rattle.gm_arena.specs.Edits.{with_alpha};
+ghost use Rattle.gm_grid.specs.GridMap.{IsGridMap, dart_count};
+ghost use Rattle.gm_grid.specs.GridBook.{IsGridBook, IsGridScript};
+ghost use Rattle.gm_grid.specs.Building.{AreAdded, AreLinked};
+
+use crate::book::make_book;
+use crate::pattern::{neighbour_at, place_of, point_at};
+use crate::schema::make_schema;
+use crate::script::make_script;
+use gm_arena::{Arena, Steps};
+use gm_model::{Book, OutOfMemory, Script};
+use std::alloc::Global;
+use std::sync::ledger::Ledger;
+
+/// A map, and what is run on it.
+#[derive(Drop)]
+pub struct Grid {
+    pub arena: Arena,
+    pub book: Book,
+    pub script: Script,
+}
+
+/// The grid of `m` rows of `m` squares, the book of the rule that triangulates a face, and the
+/// script that applies it to each square.
+pub fn make_grid<L: Ledger>(alloc: Global, m: u8, steps: &mut Steps<L>) -> Result<Grid, OutOfMemory>
+    requires least { 1 ≤ m }
+    requires greatest { m ≤ 100 }
+    ensures map { IfOk result (λ grid. IsGridMap m (as_map grid.arena)) }
+    ensures book { IfOk result (λ grid. IsGridBook grid.book) }
+    ensures script { IfOk result (λ grid. IsGridScript m grid.script) }
+    ensures least { IfOk result (λ _. steps.old + 8 * (m * m) ≤ steps.new) }
+    ensures most { steps.new ≤ steps.old + 4096 * (m * m) }
+{
+    let m = m as u32;
+    Ok(Grid {
+        book: make_book(alloc)?,
+        script: make_script(alloc, m)?,
+        arena: build(alloc, m, steps)?,
+    })
+}
+
+fn build<L: Ledger>(alloc: Global, m: u32, steps: &mut Steps<L>) -> Result<Arena, OutOfMemory>
+    requires { m ≤ 100 }
+    ensures linked { IfOk result (AreLinked m (dart_count m)) }
+    ensures least { IfOk result (λ _. steps.new ≡ steps.old + 10 * dart_count m) }
+    ensures most { steps.new ≤ steps.old + 10 * dart_count m }
+{
+    let mut arena = Arena::new(alloc, make_schema(alloc)?);
+    arena.reserve(8 * (m * m), 8 * (m * m))?;
+    add_darts(&mut arena, m, steps);
+    link_darts(&mut arena, m, steps);
+    Ok(arena)
+}
+
+/// Adds the darts with their points, each free for every label.
+fn add_darts<L: Ledger>(arena: &mut Arena, m: u32, steps: &mut Steps<L>)
+    requires most { m ≤ 100 }
+    requires none { AreAdded m 0 arena.old }
+    ensures added { AreAdded m (dart_count m) arena.new }
+    ensures cost { steps.new ≡ steps.old + dart_count m }
+{
+    for name in 0..8 * (m * m) {
+        add_dart(arena, m, name, steps);
+    }
+}
+
+fn add_dart<L: Ledger>(arena: &mut Arena, m: u32, name: u32, steps: &mut Steps<L>)
+    requires most { m ≤ 100 }
+    requires below { name < dart_count m }
+    requires before { AreAdded m name arena.old }
+    ensures added { AreAdded m (name + 1) arena.new }
+    ensures cost { steps.new ≡ steps.old + 1 }
+{
+    arena.add(name, &[point_at(place_of(m, name))], steps);
+}
+
+/// Links each dart to its neighbours.
+fn link_darts<L: Ledger>(arena: &mut Arena, m: u32, steps: &mut Steps<L>)
+    requires most { m ≤ 100 }
+    requires free { AreLinked m 0 arena.old }
+    ensures linked { AreLinked m (dart_count m) arena.new }
+    ensures cost { steps.new ≡ steps.old + 9 * dart_count m }
+{
+    for name in 0..8 * (m * m) {
+        link_dart(arena, m, name, steps);
+    }
+}
+
+fn link_dart<L: Ledger>(arena: &mut Arena, m: u32, name: u32, steps: &mut Steps<L>)
+    requires most { m ≤ 100 }
+    requires below { name < dart_count m }
+    requires before { AreLinked m name arena.old }
+    ensures linked { AreLinked m (name + 1) arena.new }
+    ensures cost { steps.new ≡ steps.old + 9 }
+{
+    let place = place_of(m, name);
+    link(arena, name, 0, neighbour_at(m, 0, place), steps);
+    link(arena, name, 1, neighbour_at(m, 1, place), steps);
+    link(arena, name, 2, neighbour_at(m, 2, place), steps);
+}
+
+/// Makes the one dart the neighbour of the other.
+fn link<L: Ledger>(arena: &mut Arena, name: u32, label: u8, to: u32, steps: &mut Steps<L>)
+    requires live { IsLiveName arena.old name }
+    requires to_live { IsLiveName arena.old to }
+    requires label { label ≤ arena.old.schema.dim }
+    ensures map { arena.new ≡ with_alpha arena.old name label to }
+    ensures cost { steps.new ≡ steps.old + 3 }
+{
+    let slot = arena.slot_of(name, steps).unwrap();
+    let target = arena.slot_of(to, steps).unwrap();
+    arena.set_alpha(slot, label, target, steps);
+}

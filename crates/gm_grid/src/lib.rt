@@ -1,0 +1,11 @@
+//! A large input from a number: the map of a grid of squares, a rule that triangulates a face, and
+//! the script that applies it to each square.
+#![tactic(auto)]
+
+mod book;
+mod grid;
+mod pattern;
+mod schema;
+mod script;
+
+pub use grid::{Grid, make_grid};

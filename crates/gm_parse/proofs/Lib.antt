@@ -1,0 +1,11 @@
+pub mod Keys
+pub mod Leading
+pub mod Frames
+pub mod Sound
+pub mod Counted
+pub mod Standing
+pub mod NoToken
+pub mod OpenBrackets
+pub mod Steps
+pub mod FaultOrder
+pub mod OneReading

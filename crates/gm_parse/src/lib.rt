@@ -1,0 +1,21 @@
+//! Expressions as their text is read: what the longest one at a place is, its first fault by the
+//! grammar, and how its tokens go on one after another.
+#![tactic(auto)]
+
+mod brackets;
+mod env;
+mod fault;
+mod function;
+mod key;
+mod place;
+mod skipping;
+mod state;
+mod tokens;
+
+pub use env::Env;
+pub use fault::{ExprFault, SyntaxFault};
+pub use function::Function;
+pub use key::{Collector, Key};
+pub use skipping::{advance, skip_expr};
+pub use state::State;
+pub use tokens::{key_at, value};

@@ -1,0 +1,12 @@
+use Rattle.std.proofs.Common.{rules, ◌≡◌, ◌-◌, false, length, Some, IsSome, slice_get}
+use Rattle.std.proofs.lemmas.Option.{slice_get_within}
+use Rattle.gm_tree.specs.Building.{frame_of, is_bracket}
+use Rattle.gm_tree.proofs.Stacks.{taken_last, takes_shut}
+use Rattle.gm_tree.proofs.stack.take_shut.Goals as goal
+
+pub returns-in-Some : goal.returns-in-Some
+returns-in-Some c =
+    let seen : Some c.in-Some.waiting.now ≡ slice_get c.args.stack.now.items (length c.args.stack.now.items - 1) = search rules in
+    let some : IsSome c.pop.result = search (rules, seen, slice_get_within) in
+    let shut : is_bracket (frame_of c.in-Some.waiting.now) ≡ false = search rules in
+    takes_shut c.args.stack.now.items c.pop.new.self.items c.in-Some.waiting.now c.pop.result (taken_last c.args.stack.now.items c.pop.new.self.items c.in-Some.waiting.now c.pop.result seen c.pop.ensures.items some) shut

@@ -1,0 +1,4 @@
+pub mod Building
+pub mod Built
+pub mod Small
+pub mod Taking

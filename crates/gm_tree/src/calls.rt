@@ -1,0 +1,155 @@
+//! Functions of their arguments.
+ghost use Rattle.std.specs.Prelude.{◌≡◌, ◌∷◌, [], IfOk, is_some};
+ghost use Rattle.gm_model.specs.Trees.{tree_of};
+ghost use Rattle.gm_tree.specs.Building as building;
+ghost use Rattle.gm_tree.specs.Building.{closed, enclosed, frame_of, next_frame};
+ghost use Rattle.gm_parse.specs.Meaning.{arity as arity_of, call_of, with_arity};
+
+use crate::partial::Callee;
+use crate::waiting::Waiting;
+use gm_model::{Expr, OutOfMemory, UnOp};
+use gm_parse::{Function, Key};
+use std::alloc::Global;
+
+fn arity(function: Function) -> usize
+    ensures { result ≡ arity_of function }
+{
+    match function {
+        Function::Vec2 => 2,
+        Function::Vec3 | Function::Rgb => 3,
+        Function::Part(_) => 1,
+    }
+}
+
+/// Whether it is a function with so many arguments.
+pub(crate) fn takes(function: Option<Function>, count: usize) -> bool
+    ensures { result ≡ is_some (with_arity function count) }
+{
+    match function {
+        Some(function) => arity(function) == count,
+        None => false,
+    }
+}
+
+pub(crate) fn call_with_one(
+    alloc: Global,
+    function: Option<Function>,
+    a: Expr,
+) -> Result<Expr, OutOfMemory>
+    ensures { IfOk result (λ e. tree_of e ≡ call_of function (tree_of a ∷ [])) }
+{
+    match function {
+        Some(Function::Part(op)) => Ok(Expr::Unary(op, Box::new(alloc, a)?)),
+        _ => Ok(Expr::Bool(false)),
+    }
+}
+
+pub(crate) fn call_with_two(
+    alloc: Global,
+    function: Option<Function>,
+    a: Expr,
+    b: Expr,
+) -> Result<Expr, OutOfMemory>
+    ensures { IfOk result (λ e. tree_of e ≡ call_of function (tree_of a ∷ tree_of b ∷ [])) }
+{
+    match function {
+        Some(Function::Vec2) => Ok(Expr::MakeVec2(Box::new(alloc, a)?, Box::new(alloc, b)?)),
+        _ => Ok(Expr::Bool(false)),
+    }
+}
+
+pub(crate) fn call_with_three(
+    alloc: Global,
+    function: Option<Function>,
+    a: Expr,
+    b: Expr,
+    c: Expr,
+) -> Result<Expr, OutOfMemory>
+    ensures { IfOk result (λ e. tree_of e ≡ call_of function (tree_of a ∷ tree_of b ∷ tree_of c ∷ [])) }
+{
+    match function {
+        Some(Function::Vec3) => Ok(Expr::MakeVec3(
+            Box::new(alloc, a)?,
+            Box::new(alloc, b)?,
+            Box::new(alloc, c)?,
+        )),
+        Some(Function::Rgb) => Ok(Expr::MakeRgb(
+            Box::new(alloc, a)?,
+            Box::new(alloc, b)?,
+            Box::new(alloc, c)?,
+        )),
+        _ => Ok(Expr::Bool(false)),
+    }
+}
+
+/// The place of the function, where it doesn't take so many arguments.
+fn misfit_of(callee: Callee, count: usize) -> Option<usize>
+    ensures { result ≡ building.misfit_of callee count }
+{
+    if takes(callee.function, count) {
+        None
+    } else {
+        Some(callee.place)
+    }
+}
+
+/// The place of the function that doesn't take its arguments, of which the last one is to come.
+pub(crate) fn misfit(waiting: &Waiting) -> Option<usize>
+    ensures { result ≡ building.misfit (frame_of waiting.now) }
+{
+    match waiting {
+        Waiting::First(callee) => misfit_of(*callee, 1),
+        Waiting::Second(callee, _) => misfit_of(*callee, 2),
+        Waiting::Third(callee, _, _) => misfit_of(*callee, 3),
+        Waiting::Beyond(callee) => Some(callee.place),
+        _ => None,
+    }
+}
+
+/// A bracket with the last operand in it.
+pub(crate) fn enclose(alloc: Global, waiting: Waiting, operand: Expr) -> Result<Expr, OutOfMemory>
+    ensures { IfOk result (λ e. tree_of e ≡ enclosed (frame_of waiting) (tree_of operand)) }
+{
+    match waiting {
+        Waiting::First(callee) => call_with_one(alloc, callee.function, operand),
+        Waiting::Second(callee, a) => call_with_two(alloc, callee.function, a, operand),
+        Waiting::Third(callee, a, b) => call_with_three(alloc, callee.function, a, b, operand),
+        Waiting::Beyond(_) => Ok(Expr::Bool(false)),
+        _ => Ok(operand),
+    }
+}
+
+/// A bracket whose next part begins behind the operand.
+pub(crate) fn go_on(key: Key, waiting: Waiting, operand: Expr) -> Waiting
+    ensures { frame_of result ≡ next_frame key (frame_of waiting) (tree_of operand) }
+{
+    match (key, waiting) {
+        (Key::Comma, Waiting::First(callee)) => Waiting::Second(callee, operand),
+        (Key::Comma, Waiting::Second(callee, a)) => Waiting::Third(callee, a, operand),
+        (Key::Comma, Waiting::Third(callee, _, _)) => Waiting::Beyond(callee),
+        (Key::Then, Waiting::If) => Waiting::Then(operand),
+        (Key::Else, Waiting::Then(condition)) => Waiting::Else(condition, operand),
+        (_, other) => other,
+    }
+}
+
+/// What waited with its operand; a bracket leaves no trace.
+pub(crate) fn close(alloc: Global, waiting: Waiting, operand: Expr) -> Result<Expr, OutOfMemory>
+    ensures { IfOk result (λ e. tree_of e ≡ closed (frame_of waiting) (tree_of operand)) }
+{
+    match waiting {
+        Waiting::Left(op, left) => Ok(Expr::Binary(
+            op,
+            Box::new(alloc, left)?,
+            Box::new(alloc, operand)?,
+        )),
+        Waiting::Minus => Ok(Expr::Unary(UnOp::Neg, Box::new(alloc, operand)?)),
+        Waiting::Not => Ok(Expr::Unary(UnOp::Not, Box::new(alloc, operand)?)),
+        Waiting::Else(condition, one) => Ok(Expr::If(
+            Box::new(alloc, condition)?,
+            Box::new(alloc, one)?,
+            Box::new(alloc, operand)?,
+        )),
+        _ => Ok(operand),
+    }
+}
