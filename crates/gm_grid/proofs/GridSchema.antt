@@ -13,12 +13,12 @@ use Rattle.gm_model.specs.Maps.{IsEmbedAt, IsSchema}
 use Rattle.gm_model.specs.Names.{reserved, IsReserved}
 use Rattle.gm_grid.specs.GridMap.{positions, grid_schema}
 
-only_positions : (P : ℕ → Embed → Type 0) → P 0 positions → (e : ℕ) (embed : Embed) → IsEmbedAt grid_schema e embed → P e embed
+pub only_positions : (P : ℕ → Embed → Type 0) → P 0 positions → (e : ℕ) (embed : Embed) → IsEmbedAt grid_schema e embed → P e embed
 only_positions P holds zero embed at = subst (P 0) (same_Some positions embed at) holds
 only_positions P holds (suc e) embed at = absurd cc
 
-low : (i : ℕ) → IsTrue (has positions.mask i) → i ≤ 2
-low i there = elim (cases_lt 2 i) [
+pub label_low : (i : ℕ) → IsTrue (has positions.mask i) → i ≤ 2
+label_low i there = elim (cases_lt 2 i) [
   | inl above ↦
       let above_two : 3 ≤ i = omega (arith, above) in
       let larger : 2 ^ 3 ≤ 2 ^ i = pow_mono above_two in
@@ -40,7 +40,7 @@ pub is_schema : IsSchema grid_schema
 is_schema = record {
   count = omega arith;
   kinds = λ e embed at. only_positions (λ e' embed'. embed'.kind ≢ kinds.Bool) (λ same. absurd cc) e embed at;
-  labels = λ e i embed at there. only_positions (λ e' embed'. IsTrue (has embed'.mask i) → i ≤ 2) (low i) e embed at there;
+  labels = λ e i embed at there. only_positions (λ e' embed'. IsTrue (has embed'.mask i) → i ≤ 2) (label_low i) e embed at there;
   free = λ e embed at. only_positions (λ e' embed'. IsReserved embed'.name → ⊥) free e embed at;
   differ = λ e e' embed embed' at at' same. only_first e embed at ∙ sym (only_first e' embed' at');
 }

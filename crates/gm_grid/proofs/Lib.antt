@@ -2,3 +2,4 @@ mod Worked
 pub mod GridSchema
 pub mod Stages
 pub mod Finished
+pub mod GridSound

@@ -1,5 +1,6 @@
 //! The arena of a grid, and all that is run on it.
 ghost use Rattle.std.specs.Prelude.{◌≡◌, ◌+◌, ◌*◌, ◌<◌, ◌≤◌, IfOk};
+ghost use Rattle.gm_model.specs.Maps.{IsSound};
 ghost use Rattle.gm_arena.specs.ArenaMap.{IsLiveName};
 ghost use Rattle.gm_arena.specs.ArenaAsMap.{as_map};
 ghost use Rattle.gm_arena.specs.Edits.{with_alpha};
@@ -30,6 +31,7 @@ pub fn make_grid<L: Ledger>(alloc: Global, m: u8, steps: &mut Steps<L>) -> Resul
     requires least { 1 ≤ m }
     requires greatest { m ≤ 100 }
     ensures map { IfOk result (λ grid. IsGridMap m (as_map grid.arena)) }
+    ensures sound { IfOk result (λ grid. IsSound (as_map grid.arena)) }
     ensures book { IfOk result (λ grid. IsGridBook grid.book) }
     ensures script { IfOk result (λ grid. IsGridScript m grid.script) }
     ensures least { IfOk result (λ _. steps.old + 8 * (m * m) ≤ steps.new) }

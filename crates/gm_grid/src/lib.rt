@@ -4,8 +4,10 @@
 
 mod book;
 mod grid;
+mod laws;
 mod pattern;
 mod schema;
 mod script;
 
 pub use grid::{Grid, make_grid};
+pub use laws::grids_are_sound;
