@@ -1,6 +1,6 @@
 //! How many cells, components and free darts a map has.
 
-ghost use Rattle.std.specs.Prelude.{IfOk};
+ghost use Rattle.std.specs.Prelude.{◌+◌, ◌*◌, ◌≤◌, IfOk};
 ghost use Rattle.gm_arena.specs.ArenaAsMap.{as_map};
 ghost use Rattle.gm_cells.specs.Cells.{AreCounts, HasCells};
 ghost use Rattle.gm_model.specs.Maps.{IsGeneralised};
@@ -53,8 +53,8 @@ pub fn count<L: Ledger>(
     })
 }
 
-/// By label, how many orbits there are over all labels but that.
-fn count_cells<L: Ledger>(
+/// By label, how many cells it leaves: the orbits over all other labels. The scratch keeps its room.
+pub fn count_cells<L: Ledger>(
     alloc: Global,
     arena: &Arena,
     scratch: &mut Scratch,
@@ -63,6 +63,8 @@ fn count_cells<L: Ledger>(
     requires generalised { IsGeneralised (as_map arena.now) }
     requires fits { Fits scratch.old arena.now }
     ensures cells { IfOk result (λ cells. HasCells (as_map arena.now) cells.items) }
+    ensures cost { steps.new ≤ steps.old + (arena.now.schema.dim + 1) * (8 * (arena.now.schema.dim + 1) * arena.now.count) }
+    ensures least { steps.old ≤ steps.new }
     ensures room { Fits scratch.new arena.now }
 {
     let top = arena.schema().dim.top();

@@ -15,9 +15,9 @@ mod printing;
 mod search;
 
 pub use colouring::orient;
-pub use counts::{Counts, count};
+pub use counts::{Counts, count, count_cells};
 pub use laws::{
     never_two_colours_and_an_odd_walk, one_orientation_at_most, two_colours_or_an_odd_walk,
 };
 pub use orientation::Orientation;
-pub use printing::print_cells;
+pub use printing::{print_cells, put_numbers};

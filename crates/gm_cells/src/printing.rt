@@ -46,7 +46,7 @@ fn put_first(text: &mut Text, first: &[u32]) -> Result<(), OutOfMemory>
     ensures { OnOk result (text.new ≡ text.old ++ (codes "orientable yes\nfirst" ++ (listed first.now ++ codes "\n"))) }
 {
     text.put(b"orientable yes\nfirst")?;
-    put_darts(text, first)?;
+    put_numbers(text, first)?;
     text.put(b"\n")
 }
 
@@ -88,13 +88,13 @@ fn put_numbered(text: &mut Text, words: &[u8], numbers: &[u32]) -> Result<(), Ou
     Ok(())
 }
 
-/// The darts, one space before each.
-fn put_darts(text: &mut Text, darts: &[u32]) -> Result<(), OutOfMemory>
-    ensures { OnOk result (text.new ≡ text.old ++ listed darts.now) }
+/// Appends the numbers, one space before each.
+pub fn put_numbers(text: &mut Text, numbers: &[u32]) -> Result<(), OutOfMemory>
+    ensures { OnOk result (text.new ≡ text.old ++ listed numbers.now) }
 {
-    for dart in darts {
+    for number in numbers {
         text.put(b" ")?;
-        text.number(u64::from(*dart))?;
+        text.number(u64::from(*number))?;
     }
     Ok(())
 }

@@ -269,7 +269,7 @@ small_fits n small = record { sfits = omega (arith, small) }
 
 module _ (m : ℕ) (small : m ≤ 100) (map : Map) (grid : IsGridMap m map) where
   -- what holds of each dart of each square holds of each dart
-  by_square : (P : ℕ → Type 0) → ((row column k : ℕ) → row < m → column < m → k < 8 → P (dart m row column k)) → (d : ℕ) → IsDart map d → P d
+  pub by_square : (P : ℕ → Type 0) → ((row column k : ℕ) → row < m → column < m → k < 8 → P (dart m row column k)) → (d : ℕ) → IsDart map d → P d
   by_square P holds d live =
       let below : d < dart_count m = (grid.darts d).0 live in
       let some : 0 < m = some_rows m d below in

@@ -46,4 +46,5 @@ pub mod HeldRows
 pub mod NamesOf
 pub mod Whole
 pub mod Built
+pub mod Reordered
 pub mod ReadMap

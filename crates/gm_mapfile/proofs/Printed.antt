@@ -1,14 +1,15 @@
 -- The darts of an arena by place, as they are printed.
-use Rattle.std.proofs.Common.{◌≡◌, ℕ, eqb, ◌+◌, ◌*◌, ◌<◌, ◌≤◌, List, [], ◌∷◌, ◌++◌, length, take, drop, get_or, map, Option, Some, None, is_some, Result, Ok, Err, codes, refl, sym, ap, subst, ◌∙◌, arith}
-use Rattle.std.specs.Prelude.{decimal, OnOk}
+use Rattle.std.proofs.Common.{◌≡◌, ℕ, eqb, ◌+◌, ◌-◌, ◌*◌, ◌^◌, ◌<◌, ◌≤◌, List, [], ◌∷◌, ◌++◌, length, take, drop, set, get_or, map, Option, Some, None, is_some, codes, refl, sym, ap, ap₂, subst, ◌∙◌, arith}
+use Rattle.std.specs.Prelude.{decimal}
 use Rattle.std.specs.Option.{option_map, option_map_or}
 use Rattle.std.specs.List.{find, flat_map}
 use Rattle.std.specs.List.Sorted.{IsStrictlyIncreasing}
 use Rattle.std.specs.FinMap.{get, keys, entries, len-entries}
+use Rattle.std.proofs.lemmas.Fmt.{length-decimal-le}
 use Rattle.std.proofs.lemmas.Grind.{flat_map-append}
 use Rattle.std.proofs.lemmas.Bool.{ne_eqb, eq-eqb}
 use Rattle.std.proofs.lemmas.Nat.{mul-le}
-use Rattle.std.proofs.lemmas.List.{get_or-map, length-map, take_more, append-nil, append_assoc, length-drop, nil_from_length, take-append-drop}
+use Rattle.std.proofs.lemmas.List.{drop-set, drop_more, get_or-map, length-map, take_more, append-nil, append_assoc, length-drop, nil_from_length, take-append-drop}
 use Rattle.std.proofs.lemmas.List.Kept.{AllPairs-from_increasing}
 use Rattle.std.proofs.lemmas.List.Recursion.{found_at}
 use Rattle.gm_model.specs.declared.value.Value.{Value}
@@ -22,42 +23,36 @@ use Rattle.gm_mapfile.specs.Rows.{dart_of_entry, darts_of, listed_of, dart_at}
 use Rattle.gm_mapfile.specs.declared.version.MapVersion.{MapVersion}
 use Rattle.gm_mapfile.proofs.ArenaDarts.{dart_with, dart_of_arena, darts_ascending, names_of_arena}
 
--- ---- one piece of text behind another
-
-pub ok_then : {T E : Type 0} {P Q : Type 0} (r : Result T E) → OnOk r P → (P → Q) → OnOk r Q
-ok_then (Ok x) h f = f h
-ok_then (Err x) h f = tt
-
--- three numbers in parentheses
-pub three : (text x y z t1 t2 t3 t4 t5 t6 t7 : List ℕ) → t1 ≡ text ++ 40 ∷ [] → t2 ≡ t1 ++ x → t3 ≡ t2 ++ 32 ∷ [] → t4 ≡ t3 ++ y → t5 ≡ t4 ++ 32 ∷ [] → t6 ≡ t5 ++ z → t7 ≡ t6 ++ 41 ∷ []
-    → t7 ≡ text ++ 40 ∷ (x ++ 32 ∷ (y ++ 32 ∷ (z ++ 41 ∷ [])))
-three text x y z t1 t2 t3 t4 t5 t6 t7 e1 e2 e3 e4 e5 e6 e7 = rw (e7, e6, e5, e4, e3, e2, e1) (simp append_assoc)
-
--- one more, with a blank before it
-pub one_more : {A : Type 0} (spell : A → List ℕ) (xs : List A) (k : ℕ) (x : A) (front text put after : List ℕ) → k < length xs → text ≡ front ++ flat_map (λ a. 32 ∷ spell a) (take k xs) → put ≡ text ++ 32 ∷ [] → after ≡ put ++ spell (get_or xs k x)
-    → after ≡ front ++ flat_map (λ a. 32 ∷ spell a) (take (k + 1) xs)
-one_more {A} spell xs k x front text put after within before blank last =
-    let each : A → List ℕ = λ a. 32 ∷ spell a in
-    let this = get_or xs k x in
-    let one : flat_map each (this ∷ []) ≡ 32 ∷ spell this = append-nil (32 ∷ spell this) in
-    let more : flat_map each (take (k + 1) xs) ≡ flat_map each (take k xs) ++ 32 ∷ spell this =
-    ap (flat_map each) (take_more xs k x within) ∙ (flat_map-append each (take k xs) (this ∷ []) ∙ ap (λ ys. flat_map each (take k xs) ++ ys) one) in
-    last ∙ (ap (λ t. t ++ spell this) blank ∙ (append_assoc text (32 ∷ []) (spell this) ∙ (ap (λ t. t ++ 32 ∷ spell this) before
-    ∙ (append_assoc front (flat_map each (take k xs)) (32 ∷ spell this) ∙ ap (λ ys. front ++ ys) (sym more)))))
-
+-- all of a list is taken
 pub whole_taken : {A : Type 0} (xs : List A) (k : ℕ) → length xs ≤ k → take k xs ≡ xs
 whole_taken xs k long = sym (append-nil (take k xs)) ∙ (ap (λ ys. take k xs ++ ys) (sym (nil_from_length (drop k xs) (omega (arith, length-drop k xs)))) ∙ take-append-drop k xs)
 
 -- ---- a dart's line
 
--- the number that the code finds for a neighbour is its name
-pub neighbour_with : (m : ArenaMap) (slots : List Slot) (k name : ℕ) (d : Slot) (front text put after : List ℕ) → k < length slots → IsAt m (get_or slots k d).at name
-    → text ≡ front ++ flat_map (λ a. 32 ∷ decimal a) (take k (map (λ (s : Slot). name_at m s.at) slots)) → put ≡ text ++ 32 ∷ [] → after ≡ put ++ decimal name
-    → after ≡ front ++ flat_map (λ a. 32 ∷ decimal a) (take (k + 1) (map (λ (s : Slot). name_at m s.at) slots))
-neighbour_with m slots k name d front text put after within at before blank last =
+-- a name has ten digits at most
+pub short_name : (n : ℕ) → n < 2 ^ 32 → length (decimal n) ≤ 10
+short_name n small = length-decimal-le 10 n (omega arith) (omega (arith, small)) (omega (arith, small))
+
+-- and the size of a whole number nineteen
+pub short_size : (n : ℕ) → n ≤ 2 ^ 63 → length (decimal n) ≤ 19
+short_size n small = length-decimal-le 19 n (omega arith) (omega (arith, small)) (omega (arith, small))
+
+-- one more before those that are written, with a blank before it
+pub name_before : (m : ArenaMap) (slots : List Slot) (left name at start : ℕ) (d : Slot) (old put : List ℕ) → 0 < left → left ≤ length slots → IsAt m (get_or slots (left - 1) d).at name → 0 < start → start ≤ length put
+    → drop start put ≡ decimal name ++ drop at old → drop at old ≡ flat_map (λ a. 32 ∷ decimal a) (drop left (map (λ (s : Slot). name_at m s.at) slots))
+    → drop (start - 1) (set put (start - 1) 32) ≡ flat_map (λ a. 32 ∷ decimal a) (drop (left - 1) (map (λ (s : Slot). name_at m s.at) slots))
+name_before m slots left name at start d old put some few there inside within written before =
     let f : Slot → ℕ = λ (s : Slot). name_at m s.at in
-    let here : get_or (map f slots) k 0 ≡ name = get_or-map f slots k d 0 within ∙ name_at-is m (get_or slots k d).at name at in
-    one_more decimal (map f slots) k 0 front text put after (omega (arith, length-map slots f, within)) before blank (last ∙ ap (λ n. put ++ decimal n) (sym here))
+    let each : ℕ → List ℕ = λ a. 32 ∷ decimal a in
+    let names = map f slots in
+    let here : get_or names (left - 1) 0 ≡ name = get_or-map f slots (left - 1) d 0 (omega (arith, some, few)) ∙ name_at-is m (get_or slots (left - 1) d).at name there in
+    let again : left - 1 + 1 ≡ left = omega (arith, some) in
+    let behind : start - 1 + 1 ≡ start = omega (arith, inside) in
+    let split : drop (left - 1) names ≡ name ∷ drop left names = drop_more names (left - 1) 0 (omega (arith, some, few, length-map slots f)) ∙ ap₂ (λ (x : ℕ) (k : ℕ). x ∷ drop k names) here again in
+    drop-set put (start - 1) 32 (omega (arith, inside, within))
+    ∙ (ap (λ k. 32 ∷ drop k put) behind
+    ∙ (ap (λ (xs : List ℕ). 32 ∷ xs) (written ∙ ap (λ (xs : List ℕ). decimal name ++ xs) before)
+    ∙ sym (ap (flat_map each) split)))
 
 -- a dart has a neighbour for each label
 pub slots_long : (m : ArenaMap) (name : ℕ) (slots : List Slot) (values : List Value) → IsLawful m → get m.darts name ≡ Some (record { alphas = map (λ (s : Slot). name_at m s.at) slots; values = values }) → length slots ≡ m.schema.dim + 1

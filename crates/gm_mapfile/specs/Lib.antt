@@ -5,6 +5,7 @@ pub mod Draft
 pub mod MapReading
 pub mod Rows
 pub mod Building
+pub mod Ordering
 pub mod Faults
 pub mod Answered
 pub mod Printing

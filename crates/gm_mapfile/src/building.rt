@@ -1,7 +1,8 @@
 //! The arena of the darts that a text lists.
 //!
-//! The darts are added first with their values, each free for every label, and then linked to their
-//! neighbours. No pass keeps the lines a second time, and each looks a name up in the arena.
+//! The lines are brought into the order of their names where the text has another, so that slots follow
+//! names. Then the darts are added with their values, each free for every label, and then linked to
+//! their neighbours. Each pass looks a name up in the arena.
 ghost use Rattle.gm_model.specs.Limits.{most_names};
 ghost use Rattle.gm_model.specs.Maps.{IsSchema};
 ghost use Rattle.std.specs.Prelude.{◌≡◌, ◌+◌, ◌*◌, ◌/◌, ◌<◌, ◌≤◌, length, min, nat_lt, if◌then◌else◌, All, None, MatchOption, IfOk, IfErr, IfSome};
@@ -13,6 +14,7 @@ ghost use Rattle.gm_mapfile.specs.Faults.{IsNameFault};
 ghost use Rattle.gm_mapfile.specs.Building.{AreInRoom, AreSlotsLive, AreWhole, AreLive, AreValued, IsFresh, IsNextLeast, AreAdded, IsNotBelow, IsLeastNotBelowStated, IsNextSet, IsRelinked, IsDartLinked, IsLabelWithoutTarget, AreLinkedUnless, IsHeld};
 
 use crate::fault::MapFault;
+use crate::ordering::in_order;
 use crate::reading::Draft;
 use gm_arena::{Arena, Slot, Steps};
 use gm_model::Value;
@@ -23,6 +25,24 @@ use std::sync::ledger::Ledger;
 /// a name that two darts have, one that isn't below the next name where the text states it, or a
 /// neighbour that is no dart.
 pub(crate) fn build<L: Ledger>(
+    alloc: Global,
+    draft: Draft,
+    steps: &mut Steps<L>,
+) -> Result<Arena, MapFault>
+    requires schema { IsSchema draft.schema }
+    requires room { AreInRoom draft.schema draft.numbers.items draft.values.items }
+    requires next { IfSome draft.stated (λ next. next ≤ most_names) }
+    ensures held { IfOk result (IsHeld (version_in draft.stated) draft.schema (darts_in draft.schema draft.numbers.items draft.values.items)) }
+    ensures fault { IfErr result (IsNameFault (version_in draft.stated) draft.schema.dim (darts_in draft.schema draft.numbers.items draft.values.items)) }
+    ensures most { steps.new ≤ steps.old + (2 * draft.schema.dim + 5) * length (darts_in draft.schema draft.numbers.items draft.values.items) }
+    ensures least { IfOk result (λ arena. steps.old + arena.count ≤ steps.new) }
+{
+    let sorted = in_order(alloc, draft)?;
+    build_lines(alloc, sorted, steps)
+}
+
+/// The same, with the darts added and linked in the order of the lines.
+fn build_lines<L: Ledger>(
     alloc: Global,
     draft: Draft,
     steps: &mut Steps<L>,

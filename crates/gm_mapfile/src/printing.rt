@@ -1,20 +1,29 @@
 //! The canonical text of a map.
-ghost use Rattle.std.specs.Prelude.{◌≡◌, ℕ, ◌+◌, ◌*◌, ◌≤◌, ◌∷◌, ◌++◌, OnOk, IfOk, codes, decimal};
+ghost use Rattle.std.specs.Prelude.{◌≡◌, ℕ, ◌+◌, ◌*◌, ◌<◌, ◌≤◌, ◌∷◌, ◌++◌, length, drop, map, All, OnOk, IfOk, codes, decimal};
 ghost use Rattle.std.specs.List.{flat_map};
 ghost use Rattle.std.specs.Fmt.{signed_decimal};
 ghost use Rattle.std.specs.FinMap.{keys};
 ghost use Rattle.gm_text.specs.SchemaText as schema;
 ghost use Rattle.gm_mapfile.specs.MapText.{canonical, head_line, next_line, line_of, value_text, truth_text};
-ghost use Rattle.gm_arena.specs.ArenaMap.{IsLiveName};
+ghost use Rattle.gm_arena.specs.ArenaMap.{IsLiveName, IsLiveSlot, name_at};
+ghost use Rattle.gm_arena.specs.declared.slot.Slot.{Slot};
 ghost use Rattle.gm_arena.specs.Lawful.{IsLawful};
 ghost use Rattle.gm_mapfile.specs.Rows.{listed_of, dart_at};
 
 use crate::version::MapVersion;
-use gm_arena::{Arena, Row, Steps};
+use gm_arena::{Arena, Row, Slot, Steps};
 use gm_model::{OutOfMemory, Value};
 use gm_text::{Text, print_schema};
+use itoa::write_digits;
 use std::alloc::Global;
 use std::sync::ledger::Ledger;
+
+/// No more bytes are a dart's name and eight neighbours' names, ten digits and a blank each.
+const LINE: usize = 99;
+
+/// No more bytes are a value with a blank before it: three numbers of twenty bytes each, two signs
+/// and three blanks.
+const VALUE: usize = 65;
 
 /// The canonical text of the map in the version, with one step or more for each dart: the schema,
 /// in the second version the next name, and a line for each dart in ascending order of their names.
@@ -109,13 +118,36 @@ fn print_dart<L: Ledger>(
         alphas,
         values,
     } = arena.row(slot, steps);
-    text.number(u64::from(name))?;
-    for neighbour in alphas {
-        text.put(b" ")?;
-        text.number(u64::from(arena.name_of(*neighbour, steps)))?;
-    }
+    let mut line = [0; LINE];
+    let start = write_names(&mut line, arena, name, alphas, steps);
+    text.put(&line[start..])?;
     print_values(text, values)?;
     text.put(b"\n")
+}
+
+/// Writes the name and the neighbours' names at the end of the bytes. The answer is where they begin.
+fn write_names<L: Ledger>(
+    line: &mut [u8],
+    arena: &Arena,
+    name: u32,
+    neighbours: &[Slot],
+    steps: &mut Steps<L>,
+) -> usize
+    requires room { 11 * (length neighbours.now + 1) ≤ length line.old }
+    requires live { All (λ (s : Slot). IsLiveSlot arena.now s.at) neighbours.now }
+    ensures within { result ≤ length line.new }
+    ensures names { drop result line.new ≡ decimal name ++ flat_map (λ a. 32 ∷ decimal a) (map (λ (s : Slot). name_at arena.now s.at) neighbours.now) }
+    ensures cost { steps.new ≡ steps.old + length neighbours.now }
+{
+    let mut at = line.len();
+    let mut left = neighbours.len();
+    while left > 0 {
+        left -= 1;
+        let neighbour = arena.name_of(neighbours[left], steps);
+        at = write_digits(u64::from(neighbour), line, at) - 1;
+        line[at] = b' ';
+    }
+    write_digits(u64::from(name), line, at)
 }
 
 /// Each value behind a blank.
@@ -123,18 +155,18 @@ fn print_values(text: &mut Text, values: &[Value]) -> Result<(), OutOfMemory>
     ensures { OnOk result (text.new ≡ text.old ++ flat_map (λ v. 32 ∷ value_text v) values.now) }
 {
     for value in values {
-        text.put(b" ")?;
         print_value(text, *value)?;
     }
     Ok(())
 }
 
+/// A value behind a blank.
 fn print_value(text: &mut Text, value: Value) -> Result<(), OutOfMemory>
-    ensures { OnOk result (text.new ≡ text.old ++ value_text value) }
+    ensures { OnOk result (text.new ≡ text.old ++ (32 ∷ value_text value)) }
 {
     match value {
-        Value::Int(x) => text.signed(x),
-        Value::Bool(truth) => text.put(if truth { b"true" } else { b"false" }),
+        Value::Int(x) => print_integer(text, x),
+        Value::Bool(truth) => text.put(if truth { b" true" } else { b" false" }),
         Value::Vec2(x, y) => print_pair(text, x, y),
         Value::Vec3(x, y, z) => print_triple(text, x, y, z),
         Value::Rgb(red, green, blue) => {
@@ -143,24 +175,96 @@ fn print_value(text: &mut Text, value: Value) -> Result<(), OutOfMemory>
     }
 }
 
-fn print_pair(text: &mut Text, x: i64, y: i64) -> Result<(), OutOfMemory>
-    ensures { OnOk result (text.new ≡ text.old ++ (codes "(" ++ (signed_decimal x ++ (codes " " ++ (signed_decimal y ++ codes ")"))))) }
+fn print_integer(text: &mut Text, x: i64) -> Result<(), OutOfMemory>
+    ensures { OnOk result (text.new ≡ text.old ++ (32 ∷ signed_decimal x)) }
 {
-    text.put(b"(")?;
-    text.signed(x)?;
-    text.put(b" ")?;
-    text.signed(y)?;
-    text.put(b")")
+    let mut bytes = [0; VALUE];
+    let first = write_signed(&mut bytes, x, VALUE);
+    let start = write_byte(&mut bytes, b' ', first);
+    text.put(&bytes[start..])
+}
+
+fn print_pair(text: &mut Text, x: i64, y: i64) -> Result<(), OutOfMemory>
+    ensures { OnOk result (text.new ≡ text.old ++ (32 ∷ (codes "(" ++ (signed_decimal x ++ (codes " " ++ (signed_decimal y ++ codes ")")))))) }
+{
+    let mut bytes = [0; VALUE];
+    let end = write_byte(&mut bytes, b')', VALUE);
+    let second = write_signed(&mut bytes, y, end);
+    let first = write_behind(&mut bytes, x, second);
+    let start = write_bracket(&mut bytes, first);
+    text.put(&bytes[start..])
 }
 
 fn print_triple(text: &mut Text, x: i64, y: i64, z: i64) -> Result<(), OutOfMemory>
-    ensures { OnOk result (text.new ≡ text.old ++ (codes "(" ++ (signed_decimal x ++ (codes " " ++ (signed_decimal y ++ (codes " " ++ (signed_decimal z ++ codes ")"))))))) }
+    ensures { OnOk result (text.new ≡ text.old ++ (32 ∷ (codes "(" ++ (signed_decimal x ++ (codes " " ++ (signed_decimal y ++ (codes " " ++ (signed_decimal z ++ codes ")")))))))) }
 {
-    text.put(b"(")?;
-    text.signed(x)?;
-    text.put(b" ")?;
-    text.signed(y)?;
-    text.put(b" ")?;
-    text.signed(z)?;
-    text.put(b")")
+    let mut bytes = [0; VALUE];
+    let end = write_byte(&mut bytes, b')', VALUE);
+    let first = write_triple(&mut bytes, x, y, z, end);
+    let start = write_bracket(&mut bytes, first);
+    text.put(&bytes[start..])
+}
+
+/// Writes a blank and the sign before a value's numbers, so that they end at `end`. The answer is where
+/// they begin.
+fn write_bracket(bytes: &mut [u8], end: usize) -> usize
+    requires room { 2 ≤ end }
+    requires within { end ≤ length bytes.old }
+    ensures before { result + 2 ≡ end }
+    ensures written { drop result bytes.new ≡ 32 ∷ (40 ∷ drop end bytes.old) }
+{
+    let sign = write_byte(bytes, b'(', end);
+    write_byte(bytes, b' ', sign)
+}
+
+/// Writes three numbers with blanks between them, so that they end at `end`. The answer is where they
+/// begin.
+fn write_triple(bytes: &mut [u8], x: i64, y: i64, z: i64, end: usize) -> usize
+    requires room { 62 ≤ end }
+    requires within { end ≤ length bytes.old }
+    ensures few { end ≤ result + 62 }
+    ensures before { result ≤ end }
+    ensures written { drop result bytes.new ≡ signed_decimal x ++ (32 ∷ (signed_decimal y ++ (32 ∷ (signed_decimal z ++ drop end bytes.old)))) }
+{
+    let third = write_signed(bytes, z, end);
+    let second = write_behind(bytes, y, third);
+    write_behind(bytes, x, second)
+}
+
+/// Writes a number and a blank, so that they end at `end`. The answer is where they begin.
+fn write_behind(bytes: &mut [u8], x: i64, end: usize) -> usize
+    requires room { 21 ≤ end }
+    requires within { end ≤ length bytes.old }
+    ensures few { end ≤ result + 21 }
+    ensures before { result ≤ end }
+    ensures written { drop result bytes.new ≡ signed_decimal x ++ (32 ∷ drop end bytes.old) }
+{
+    let blank = write_byte(bytes, b' ', end);
+    write_signed(bytes, x, blank)
+}
+
+/// Writes a number of twenty bytes at most, so that it ends at `end`. The answer is where it begins.
+fn write_signed(bytes: &mut [u8], x: i64, end: usize) -> usize
+    requires room { 20 ≤ end }
+    requires within { end ≤ length bytes.old }
+    ensures few { end ≤ result + 20 }
+    ensures before { result ≤ end }
+    ensures written { drop result bytes.new ≡ signed_decimal x ++ drop end bytes.old }
+{
+    let start = write_digits(x.unsigned_abs(), bytes, end);
+    if x >= 0 {
+        return start;
+    }
+    write_byte(bytes, b'-', start)
+}
+
+/// Writes a byte, so that it ends at `end`. The answer is where it stands.
+fn write_byte(bytes: &mut [u8], byte: u8, end: usize) -> usize
+    requires room { 0 < end }
+    requires within { end ≤ length bytes.old }
+    ensures before { result + 1 ≡ end }
+    ensures written { drop result bytes.new ≡ byte ∷ drop end bytes.old }
+{
+    bytes[end - 1] = byte;
+    end - 1
 }

@@ -1,6 +1,7 @@
 //! The values of a dart, read from its line.
-ghost use Rattle.std.specs.Prelude.{◌≡◌, ◌<◌, ◌≤◌, [], ◌∷◌, codes, IsTrue, MatchOption, IfOk, IfErr, OnOk, OnErr};
+ghost use Rattle.std.specs.Prelude.{◌≡◌, ℕ, false, ◌<◌, ◌≤◌, [], ◌∷◌, codes, IsTrue, MatchOption, IfOk, IfErr, OnOk, OnErr};
 ghost use Rattle.gm_model.specs.declared.value.Kind.TheVariants as kinds;
+ghost use Rattle.gm_model.specs.Tokens as tokens;
 ghost use Rattle.gm_model.specs.Expressions.{components};
 ghost use Rattle.gm_model.specs.Values.{kind_of};
 ghost use Rattle.gm_text.specs.ValueText.{greatest, is_channel};
@@ -8,7 +9,7 @@ ghost use Rattle.gm_mapfile.specs.MapText.{signed};
 ghost use Rattle.gm_mapfile.specs.Words.{IsSignedNext, IsNoSignedNext};
 ghost use Rattle.gm_mapfile.specs.MapReading.{Takes, Misses, TheSign, Component, value_wants, values_wants, ReadsValues};
 
-use crate::words::{Numeral, next_token, read_number, read_sign};
+use crate::words::{Numeral, next_token, read_number, read_sign, small_numeral};
 use gm_model::{Embed, Kind, LimitKind, TokenKind, Value};
 use gm_text::{Lexer, SchemaFault};
 
@@ -20,7 +21,23 @@ struct Signed {
     place: usize,
 }
 
+/// Most are small, without a minus.
 fn read_signed(lexer: &mut Lexer<'_>) -> Result<Signed, SchemaFault>
+    ensures next { IfOk result (λ found. IsSignedNext lexer.old found.minus found.size found.place lexer.new) }
+    ensures none { IfErr result (IsNoSignedNext lexer.old) }
+{
+    match small_numeral(lexer) {
+        Some(Numeral { value, place }) => Ok(Signed {
+            minus: false,
+            size: value,
+            place,
+        }),
+        None => read_signed_numeral(lexer),
+    }
+}
+
+/// A number by its tokens.
+fn read_signed_numeral(lexer: &mut Lexer<'_>) -> Result<Signed, SchemaFault>
     ensures next { IfOk result (λ found. IsSignedNext lexer.old found.minus found.size found.place lexer.new) }
     ensures none { IfErr result (IsNoSignedNext lexer.old) }
 {
@@ -74,9 +91,11 @@ fn read_component(lexer: &mut Lexer<'_>, colour: bool) -> Result<i64, SchemaFaul
 }
 
 /// A sign around the components of a value.
-fn read_bracket(lexer: &mut Lexer<'_>, sign: &[u8]) -> Result<(), SchemaFault>
-    ensures takes { OnOk result (Takes (TheSign sign.now ∷ []) [] lexer.old lexer.new) }
-    ensures misses { IfErr result (Misses (TheSign sign.now ∷ []) lexer.old) }
+fn read_bracket(lexer: &mut Lexer<'_>, sign: u8) -> Result<(), SchemaFault>
+    requires sign { IsTrue (tokens.is_sign sign) }
+    requires alone { (c : ℕ) → tokens.is_two_byte_sign sign c ≡ false }
+    ensures takes { OnOk result (Takes (TheSign (sign ∷ []) ∷ []) [] lexer.old lexer.new) }
+    ensures misses { IfErr result (Misses (TheSign (sign ∷ []) ∷ []) lexer.old) }
 {
     read_sign(lexer, sign)
 }
@@ -87,11 +106,11 @@ fn read_triple(lexer: &mut Lexer<'_>, colour: bool) -> Result<(i64, i64, i64), S
     ensures channels { IfOk result (λ xs. IsTrue colour → IsTrue (is_channel xs.0) × IsTrue (is_channel xs.1) × IsTrue (is_channel xs.2)) }
     ensures misses { IfErr result (Misses (TheSign (codes "(") ∷ Component colour ∷ Component colour ∷ Component colour ∷ TheSign (codes ")") ∷ []) lexer.old) }
 {
-    read_bracket(lexer, b"(")?;
+    read_bracket(lexer, b'(')?;
     let x = read_component(lexer, colour)?;
     let y = read_component(lexer, colour)?;
     let z = read_component(lexer, colour)?;
-    read_bracket(lexer, b")")?;
+    read_bracket(lexer, b')')?;
     Ok((x, y, z))
 }
 
@@ -100,10 +119,10 @@ fn read_pair(lexer: &mut Lexer<'_>) -> Result<Value, SchemaFault>
     ensures kind { IfOk result (λ value. kind_of value ≡ kinds.Vec2) }
     ensures misses { IfErr result (Misses (value_wants kinds.Vec2) lexer.old) }
 {
-    read_bracket(lexer, b"(")?;
+    read_bracket(lexer, b'(')?;
     let x = read_component(lexer, false)?;
     let y = read_component(lexer, false)?;
-    read_bracket(lexer, b")")?;
+    read_bracket(lexer, b')')?;
     Ok(Value::Vec2(x, y))
 }
 
@@ -113,8 +132,8 @@ fn read_truth(lexer: &mut Lexer<'_>) -> Result<Value, SchemaFault>
     ensures kind { IfOk result (λ value. kind_of value ≡ kinds.Bool) }
     ensures misses { IfErr result (Misses (value_wants kinds.Bool) lexer.old) }
 {
-    read_bracket(lexer, b"(")?;
-    read_bracket(lexer, b")")?;
+    read_bracket(lexer, b'(')?;
+    read_bracket(lexer, b')')?;
     Ok(Value::Bool(false))
 }
 

@@ -1,10 +1,11 @@
 //! The words and the numbers of a map's text, one token each.
-ghost use Rattle.std.specs.Prelude.{◌≡◌, ◌-◌, ◌^◌, min, IfOk, IfErr};
+ghost use Rattle.std.specs.Prelude.{◌≡◌, ℕ, ◌-◌, ◌^◌, [], ◌∷◌, false, min, IsTrue, IfOk, IfErr, IfSome, IfNone};
 ghost use Rattle.gm_model.specs.Symbols.{Word, Sign};
+ghost use Rattle.gm_model.specs.Tokens as tokens;
 ghost use Rattle.gm_text.specs.SchemaAnswers.{IsNext, IsNoneNext};
 ghost use Rattle.gm_mapfile.specs.Words.{StandsNext, IsNumberNext, IsOtherNext, IsNoNumberNext};
 
-use gm_text::{Lexer, SchemaFault, Token, TokenKind};
+use gm_text::{Lexer, SchemaFault, SmallNumber, Token, TokenKind};
 
 /// A number of the text, and where it stands.
 pub(crate) struct Numeral {
@@ -39,8 +40,21 @@ pub(crate) fn read_word(lexer: &mut Lexer<'_>, word: &[u8]) -> Result<(), Schema
     Ok(())
 }
 
-/// A sign of the format.
-pub(crate) fn read_sign(lexer: &mut Lexer<'_>, sign: &[u8]) -> Result<(), SchemaFault>
+/// A sign of the format that has one byte, which mostly stands next or behind one blank.
+pub(crate) fn read_sign(lexer: &mut Lexer<'_>, sign: u8) -> Result<(), SchemaFault>
+    requires sign { IsTrue (tokens.is_sign sign) }
+    requires alone { (c : ℕ) → tokens.is_two_byte_sign sign c ≡ false }
+    ensures next { IfOk result (λ _. StandsNext (Sign (sign ∷ [])) lexer.old lexer.new) }
+    ensures other { IfErr result (IsOtherNext (Sign (sign ∷ [])) lexer.old) }
+{
+    if lexer.small_sign(sign) {
+        return Ok(());
+    }
+    read_sign_token(lexer, &[sign])
+}
+
+/// A sign of the format by its token.
+fn read_sign_token(lexer: &mut Lexer<'_>, sign: &[u8]) -> Result<(), SchemaFault>
     ensures next { IfOk result (λ _. StandsNext (Sign sign.now) lexer.old lexer.new) }
     ensures other { IfErr result (IsOtherNext (Sign sign.now) lexer.old) }
 {
@@ -51,8 +65,31 @@ pub(crate) fn read_sign(lexer: &mut Lexer<'_>, sign: &[u8]) -> Result<(), Schema
     Ok(())
 }
 
-/// A number, whatever limit it passes.
+/// A number, whatever limit it passes. Most are small.
 pub(crate) fn read_number(lexer: &mut Lexer<'_>) -> Result<Numeral, SchemaFault>
+    ensures next { IfOk result (λ found. IsNumberNext lexer.old found.value found.place lexer.new) }
+    ensures none { IfErr result (IsNoNumberNext lexer.old) }
+{
+    match small_numeral(lexer) {
+        Some(small) => Ok(small),
+        None => read_numeral(lexer),
+    }
+}
+
+/// A number that stands next and is small, or else the lexer stays.
+pub(crate) fn small_numeral(lexer: &mut Lexer<'_>) -> Option<Numeral>
+    ensures next { IfSome result (λ found. IsNumberNext lexer.old found.value found.place lexer.new) }
+    ensures none { IfNone result (lexer.new ≡ lexer.old) }
+{
+    let SmallNumber { value, place } = lexer.small_number()?;
+    Some(Numeral {
+        value: u64::from(value),
+        place,
+    })
+}
+
+/// A number by its token.
+fn read_numeral(lexer: &mut Lexer<'_>) -> Result<Numeral, SchemaFault>
     ensures next { IfOk result (λ found. IsNumberNext lexer.old found.value found.place lexer.new) }
     ensures none { IfErr result (IsNoNumberNext lexer.old) }
 {

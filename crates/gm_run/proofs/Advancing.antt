@@ -1,16 +1,16 @@
 -- How a run goes on from line to line.
-use Rattle.std.proofs.Common.{◌≡◌, ◌≢◌, ℕ, ◌+◌, ◌<◌, ◌≤◌, List, [], ◌∷◌, ◌++◌, map, take, drop, length, get_or, Some, refl, sym, ap, subst, ap₂, ◌∙◌, Result, Ok, Err, arith}
+use Rattle.std.proofs.Common.{◌≡◌, ◌≢◌, ℕ, ◌+◌, ◌<◌, ◌≤◌, List, [], ◌∷◌, ◌++◌, take, drop, length, get_or, Some, refl, sym, ap, subst, ap₂, ◌∙◌, Result, Ok, Err, arith}
 use Rattle.std.specs.Prelude.{slice_get, MatchResult}
 use Rattle.std.specs.Option.{option_map}
-use Rattle.std.proofs.lemmas.List.{take_more, take_all, take-append-drop, drop_more, map-append, length-map}
-use Rattle.std.proofs.lemmas.List.Elements.{All-push}
+use Rattle.std.proofs.lemmas.List.{take_more, take_all, take-append-drop, drop_more, length-map}
 use Rattle.std.proofs.lemmas.Option.{slice_get_within, slice_get-get_or, slice_get-map, same_Some}
 use Rattle.gm_model.specs.declared.memory.OutOfMemory.{OutOfMemory}
 use Rattle.gm_model.specs.declared.schema.Schema.{Schema}
 use Rattle.gm_model.specs.declared.script.Line.{Line}
 use Rattle.gm_model.specs.declared.value.Value.{Value}
 use Rattle.gm_model.specs.Acceptance.{IsAccepted}
-use Rattle.gm_model.specs.Applications.{Application, IsDone, IsRefused, IsBudget}
+use Rattle.gm_model.specs.Applications.{Application, Cause, IsDone, IsRefused, IsBudget}
+use Rattle.gm_model.specs.Applications as causes
 use Rattle.gm_model.specs.Kinds.{AreGoodParams}
 use Rattle.gm_model.specs.Maps.{Map, IsSound}
 use Rattle.gm_model.specs.Rules.{Rule, rule_of}
@@ -32,22 +32,23 @@ use Rattle.gm_run.specs.declared.outcome.Outcome.{Outcome}
 use Rattle.gm_run.specs.declared.outcome.Outcome.TheVariants as outcomes
 use Rattle.gm_run.specs.Lines.{cause_of, outcome_of}
 use Rattle.gm_run.specs.Alike.{AreAlike}
-use Rattle.gm_run.specs.Progress.{rules_of, IsPlanFor, ArePlansFor, IsDecided, HasLine, HasRun, IsStopped, IsCutShort}
+use Rattle.gm_run.specs.Progress.{rules_of, IsPlanFor, ArePlansFor, HasLine, HasRun, IsStopped, IsCutShort}
 use Rattle.gm_run.proofs.AlikeLemmas.{Suits, alike_self}
 use Rattle.gm_run.proofs.Determined.{determined}
 use Rattle.gm_run.proofs.OnlyRun.{IsDetermined, only_more, within_more}
+use Rattle.gm_run.proofs.Telling.{tells_more}
 
 -- ---- one line
 
-refused_for : (app : Application) (refusal : Refusal) → (refusal ≢ refusals.OutOfMemory) → IsRefusedFor app refusal → IsRefused app (cause_of refusal)
-refused_for app (refusals.NoDart index) other h = h
-refused_for app (refusals.Arc x p i) other h = h
-refused_for app (refusals.Same x p y q) other h = h
-refused_for app refusals.PreNoValue other h = h
-refused_for app refusals.PreFalse other h = h
-refused_for app (refusals.FullDarts live more) other h = h
-refused_for app (refusals.FullNames next more) other h = h
-refused_for app (refusals.NoValue e x) other h = h
+refused_for : (app : Application) (refusal : Refusal) → (refusal ≢ refusals.OutOfMemory) → IsRefusedFor app refusal → (cause : Cause) × (cause_of refusal ≡ Some cause) × IsRefused app cause
+refused_for app (refusals.NoDart index) other h = (causes.NoDart index, refl, h)
+refused_for app (refusals.Arc x p i) other h = (causes.Arc x p i, refl, h)
+refused_for app (refusals.Same x p y q) other h = (causes.Same x p y q, refl, h)
+refused_for app refusals.PreNoValue other h = (causes.PreNoValue, refl, h)
+refused_for app refusals.PreFalse other h = (causes.PreFalse, refl, h)
+refused_for app (refusals.FullDarts live more) other h = (causes.FullDarts live more, refl, h)
+refused_for app (refusals.FullNames next more) other h = (causes.FullNames next more, refl, h)
+refused_for app (refusals.NoValue e x) other h = (causes.NoValue e x, refl, h)
 refused_for app refusals.OutOfMemory other h = absurd (other refl)
 
 -- the outcome of a line is that of its rule's application
@@ -64,26 +65,28 @@ module _ (rules : List Rule) (m n : ArenaMap) (line : Line) (rule : Rule) (rule_
   within_alike : (other : Map) → AreAlike other (as_map m) → (most : ℕ) → IsLineBudget rules other line most → steps ≤ start + most
   within_alike other alike most given = within most (one.budget other alike most (budget_here rules other line rule most rule_is given))
 
-  has_line : (outcome : Outcome) → IsDecided outcome → IsOutcome (matches.application_of m rule line.hooks line.params) (outcome_of outcome) (as_map n) → start + changed_darts (outcome_of outcome ∷ []) ≤ steps
+  has_line : (outcome : Outcome) (told : runs.Outcome) → outcome_of outcome ≡ Some told → IsOutcome (matches.application_of m rule line.hooks line.params) told (as_map n) → start + changed_darts (told ∷ []) ≤ steps
       → HasLine rules (as_map m) line outcome (as_map n) start steps
-  has_line outcome decided is least = record {
+  has_line outcome told tells is least = record {
+    told = told;
+    tells = tells;
     is = record { rule = rule; rule_is = rule_is; outcome_is = is };
-    decided = decided;
     most = budget.0;
     budget = record { rule = rule; rule_is = rule_is; budget = budget.1 };
-    only = λ other alike o end h. one.only other alike o (outcome_of outcome) end (as_map n) (outcome_here rules other end line rule o rule_is h) is;
+    only = λ other alike o end h. one.only other alike o told end (as_map n) (outcome_here rules other end line rule o rule_is h) is;
     within = within_alike;
     least = least;
   }
 
   pub has_done : (applied : Applied) → IsDone (matches.application_of m rule line.hooks line.params) (as_map n) applied.added applied.removed → start + applied.added + applied.removed ≤ steps
       → HasLine rules (as_map m) line (outcomes.Done applied) (as_map n) start steps
-  has_done applied done least = has_line (outcomes.Done applied) tt done (omega (arith, least))
+  has_done applied done least = has_line (outcomes.Done applied) (runs.Done applied.added applied.removed) refl done (omega (arith, least))
 
   pub has_refused : (refusal : Refusal) → (refusal ≢ refusals.OutOfMemory) → IsRefusedFor (matches.application_of m rule line.hooks line.params) refusal → HasSameRows m n → start ≤ steps
       → HasLine rules (as_map m) line (outcomes.Refused refusal) (as_map n) start steps
   has_refused refusal other refused same rises =
-      has_line (outcomes.Refused refusal) other (refused_for (matches.application_of m rule line.hooks line.params) refusal other refused, ap as_map same) (omega (arith, rises))
+      let cause = refused_for (matches.application_of m rule line.hooks line.params) refusal other refused in
+      has_line (outcomes.Refused refusal) (runs.Refused cause.0) (ap (option_map runs.Refused) cause.1) (cause.2, ap as_map same) (omega (arith, rises))
 
   pub is_stopped : HasSameRows m n → IsStopped rules (as_map m) line (as_map n) start steps
   is_stopped same = record {
@@ -179,16 +182,15 @@ module _ (rules : List Rule) where
   has_more : (before between after : Map) (lines : List Line) (outcomes : List Outcome) (line : Line) (outcome : Outcome) (start middle steps : ℕ) → HasRun rules before lines outcomes between start middle
       → HasLine rules between line outcome after middle steps → HasRun rules before (lines ++ line ∷ []) (outcomes ++ outcome ∷ []) after start steps
   has_more before between after lines outcomes line outcome start middle steps run last =
-      let mapped : map outcome_of outcomes ++ outcome_of outcome ∷ [] ≡ map outcome_of (outcomes ++ outcome ∷ []) = sym (map-append outcome_of outcomes (outcome ∷ [])) in
-      let changed = ap changed_darts (sym mapped) ∙ changed_on (map outcome_of outcomes) (outcome_of outcome) in
+      let changed = changed_on run.told last.told in
       let least = run.least in
       let last_least = last.least in
       record {
-        run = subst (λ os. IsRun rules before (lines ++ line ∷ []) os after) mapped (run_on before between after lines (map outcome_of outcomes) line (outcome_of outcome) run.run last.is);
-        decided = All-push IsDecided outcomes outcome run.decided last.decided;
+        told = run.told ++ last.told ∷ [];
+        tells = tells_more outcomes run.told run.tells outcome last.told last.tells;
+        run = run_on before between after lines run.told line last.told run.run last.is;
         most = run.most + last.most;
-        budget = subst (λ os. IsRunBudget rules before (lines ++ line ∷ []) os after (run.most + last.most)) mapped
-            (budget_on before between after lines (map outcome_of outcomes) line (outcome_of outcome) run.most last.most run.budget last.is last.budget);
+        budget = budget_on before between after lines run.told line last.told run.most last.most run.budget last.is last.budget;
         only = only_more rules before between lines outcomes line start middle steps run outcome after last;
         within = within_more rules before between lines outcomes line start middle steps run [] last.within;
         least = omega (arith, least, last_least, changed);
@@ -198,8 +200,9 @@ module _ (rules : List Rule) where
   module _ (before : Map) (lines : List Line) (start : ℕ) where
     pub no_line : HasRun rules before [] [] before start start
     no_line = record {
+      told = [];
+      tells = refl;
       run = refl;
-      decided = λ k d h. absurd (omega (arith, h));
       most = 0;
       budget = (refl, refl);
       only = only_none;
@@ -237,10 +240,10 @@ module _ (rules : List Rule) where
         → HasRun rules before (take k lines) outcomes between start middle → IsStopped rules between line after middle steps → IsCutShort rules before lines after start steps
     cut_at k d line between after outcomes middle steps in_lines is run stopped = record {
       done = k;
-      outcomes = map outcome_of outcomes;
-      run = subst (IsRun rules before (take k lines) (map outcome_of outcomes)) (sym stopped.same) run.run;
+      outcomes = run.told;
+      run = subst (IsRun rules before (take k lines) run.told) (sym stopped.same) run.run;
       most = run.most;
-      budget = subst (λ m. IsRunBudget rules before (take k lines) (map outcome_of outcomes) m run.most) (sym stopped.same) run.budget;
+      budget = subst (λ m. IsRunBudget rules before (take k lines) run.told m run.most) (sym stopped.same) run.budget;
       within = λ other rest at budget. rest_within other rest at budget;
       ended = λ past. absurd (omega (arith, in_lines, past));
       whole = λ os end most budget. within_more rules before between (take k lines) outcomes line start middle steps run (drop (k + 1) lines) stopped.within before (alike_self before) os end most
@@ -255,5 +258,5 @@ module _ (rules : List Rule) where
             let same : other ≡ line = same_Some other line (sym at ∙ slice_get-get_or lines k d in_lines ∙ ap Some (sym is)) in
             let here : IsLineBudget rules between line rest = subst (λ l. IsLineBudget rules between l rest) same (subst (λ m. IsLineBudget rules m other rest) stopped.same budget) in
             let last = stopped.within between (alike_self between) rest here in
-            let before_it = run.within before (alike_self before) (map outcome_of outcomes) between run.most run.budget in
+            let before_it = run.within before (alike_self before) run.told between run.most run.budget in
             omega (arith, last, before_it)

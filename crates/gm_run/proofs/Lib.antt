@@ -1,3 +1,4 @@
+pub mod Telling
 pub mod Told
 pub mod AlikeLemmas
 pub mod AlikeMatches
@@ -11,3 +12,4 @@ pub mod Determined
 pub mod Advancing
 pub mod Sayable
 pub mod OneRun
+pub mod AlikeRuns

@@ -41,10 +41,10 @@ module _ (schema : Schema) (is_schema : IsSchema schema) where
   outcome_schema a rule line (Done added removed) after of_schema done = done.result_is.schema ∙ of_schema
   outcome_schema a rule line (Refused cause) after of_schema refused = ap (λ (m : Map). m.schema) refused.1 ∙ of_schema
 
-  schema_at : (a : Map) → a.schema ≡ schema → IsSchema a.schema
+  pub schema_at : (a : Map) → a.schema ≡ schema → IsSchema a.schema
   schema_at a of_schema = subst IsSchema (sym of_schema) is_schema
 
-  accepted_at : (a : Map) (rule : Rule) → a.schema ≡ schema → IsAccepted schema rule → IsAccepted a.schema rule
+  pub accepted_at : (a : Map) (rule : Rule) → a.schema ≡ schema → IsAccepted schema rule → IsAccepted a.schema rule
   accepted_at a rule of_schema accepted = subst (λ s. IsAccepted s rule) (sym of_schema) accepted
 
   -- and where its rule is accepted, it leaves a sound map again
@@ -56,21 +56,21 @@ module _ (schema : Schema) (is_schema : IsSchema schema) where
   -- ---- all lines
 
   module _ (rules : List Rule) (accepted : All (IsAccepted schema) rules) where
-    accepted_here : (line : Line) (rule : Rule) → slice_get rules line.rule ≡ Some rule → IsAccepted schema rule
+    pub accepted_here : (line : Line) (rule : Rule) → slice_get rules line.rule ≡ Some rule → IsAccepted schema rule
     accepted_here line rule is = rule_has (IsAccepted schema) rules line.rule rule accepted is
 
     -- what is used of a line
-    record IsTaken (a : Map) (line : Line) (outcome : Outcome) (after : Map) : Type 0 where
+    pub record IsTaken (a : Map) (line : Line) (outcome : Outcome) (after : Map) : Type 0 where
       pub kept : after.schema ≡ schema
       pub sound : IsSound after
 
-    taken : (a : Map) (line : Line) (outcome : Outcome) (after : Map) → a.schema ≡ schema → IsSound a → IsGoodLine rules line → IsLineOutcome rules a line outcome after → IsTaken a line outcome after
+    pub taken : (a : Map) (line : Line) (outcome : Outcome) (after : Map) → a.schema ≡ schema → IsSound a → IsGoodLine rules line → IsLineOutcome rules a line outcome after → IsTaken a line outcome after
     taken a line outcome after of_schema sound good is = record {
       kept = outcome_schema a is.rule line outcome after of_schema is.outcome_is;
       sound = outcome_sound a is.rule line outcome after of_schema sound (accepted_here line is.rule is.rule_is) (params_for rules line good is.rule is.rule_is) is.outcome_is;
     }
 
-    one_line : (a b : Map) → b.schema ≡ schema → IsSound b → AreAlike a b → (line : Line) (outcome outcome' : Outcome) (after after' : Map) → IsLineOutcome rules a line outcome after → IsLineOutcome rules b line outcome' after'
+    pub one_line : (a b : Map) → b.schema ≡ schema → IsSound b → AreAlike a b → (line : Line) (outcome outcome' : Outcome) (after after' : Map) → IsLineOutcome rules a line outcome after → IsLineOutcome rules b line outcome' after'
         → (outcome ≡ outcome') × AreAlike after after'
     one_line a b of_schema sound alike line outcome outcome' after after' first second =
         one_outcome first.rule line.hooks line.params a b suits alike outcome outcome' after after' first.outcome_is

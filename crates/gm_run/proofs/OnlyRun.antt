@@ -1,6 +1,5 @@
 -- That a run has no other outcomes than these, and no budget that its steps are not within, one line more at a time.
-use Rattle.std.proofs.Common.{◌≡◌, ℕ, ◌+◌, ◌≤◌, List, [], ◌∷◌, ◌++◌, map, sym, ap, ap₂, ◌∙◌, arith}
-use Rattle.std.proofs.lemmas.List.{map-append}
+use Rattle.std.proofs.Common.{◌≡◌, ℕ, ◌+◌, ◌≤◌, List, [], ◌∷◌, ◌++◌, ap, ap₂, ◌∙◌, arith}
 use Rattle.gm_model.specs.declared.script.Line.{Line}
 use Rattle.gm_model.specs.Applications.{Application, IsBudget}
 use Rattle.gm_model.specs.Maps.{Map}
@@ -9,7 +8,6 @@ use Rattle.gm_model.specs.Runs.{IsOutcome, IsLineOutcome, IsLineBudget, IsRun, I
 use Rattle.gm_model.specs.Runs as runs
 use Rattle.gm_run.specs.Alike.{AreAlike}
 use Rattle.gm_run.specs.declared.outcome.Outcome.{Outcome}
-use Rattle.gm_run.specs.Lines.{outcome_of}
 use Rattle.gm_run.specs.Progress.{HasLine, HasRun}
 use Rattle.gm_run.proofs.Splitting.{run_of_budget, split_run, split_budget, run_of_one, budget_of_first}
 
@@ -45,12 +43,12 @@ module _ (rules : List Rule) where
         let sum = split.sum_is in
         omega (arith, earlier, here, most_of_first, sum)
 
-    pub only_more : (outcome : Outcome) (after : Map) → HasLine rules between line outcome after middle steps
-        → (other : Map) → AreAlike other before → (os : List runs.Outcome) (end : Map) → IsRun rules other (lines ++ line ∷ []) os end → (os ≡ map outcome_of (outcomes ++ outcome ∷ [])) × AreAlike end after
+    pub only_more : (outcome : Outcome) (after : Map) (last : HasLine rules between line outcome after middle steps)
+        → (other : Map) → AreAlike other before → (os : List runs.Outcome) (end : Map) → IsRun rules other (lines ++ line ∷ []) os end → (os ≡ run.told ++ last.told ∷ []) × AreAlike end after
     only_more outcome after last other alike os end is =
         let split = split_run rules other end lines (line ∷ []) os is in
         let one = run_of_one rules split.between end line split.lasts split.last in
         let same = run.only other alike split.firsts split.between split.first in
         let here = last.only split.between same.1 one.outcome end one.is in
-        let lasts : split.lasts ≡ outcome_of outcome ∷ [] = one.outcomes_are ∙ ap (λ o. o ∷ []) here.0 in
-        (split.outcomes_are ∙ ap₂ (λ xs ys. xs ++ ys) same.0 lasts ∙ sym (map-append outcome_of outcomes (outcome ∷ [])), here.1)
+        let lasts : split.lasts ≡ last.told ∷ [] = one.outcomes_are ∙ ap (λ o. o ∷ []) here.0 in
+        (split.outcomes_are ∙ ap₂ (λ xs ys. xs ++ ys) same.0 lasts, here.1)

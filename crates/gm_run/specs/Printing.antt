@@ -1,41 +1,47 @@
--- Which reports can be printed.
-use Rattle.std.specs.Prelude.{◌≡◌, ℕ, ◌<◌, List, ◌++◌, length, Some, slice_get, codes, decimal}
+-- Which reports can be printed, and the words of their lines.
+use Rattle.std.specs.Prelude.{◌≡◌, ℕ, ◌<◌, List, [], ◌++◌, length, Some, slice_get, codes, decimal}
+use Rattle.std.specs.Option.{option_map, unwrap_or}
 use Rattle.gm_model.specs.declared.schema.Schema.{Schema}
 use Rattle.gm_model.specs.declared.script.Line.{Line}
-use Rattle.gm_model.specs.Reports.{nodes_at, outcome_words}
-use Rattle.gm_model.specs.Rules.{Rule}
+use Rattle.gm_model.specs.Applications as causes
+use Rattle.gm_model.specs.Reports.{nodes_at, cause_words, outcome_words}
+use Rattle.gm_model.specs.Rules.{Rule, RuleNode}
+use Rattle.gm_model.specs.Runs as runs
 use Rattle.gm_apply.specs.declared.refusal.Refusal.{Refusal}
-use Rattle.gm_apply.specs.declared.refusal.Refusal.TheVariants as refusals
 use Rattle.gm_run.specs.declared.outcome.Outcome.{Outcome}
-use Rattle.gm_run.specs.declared.outcome.Outcome.TheVariants as outcomes
-use Rattle.gm_run.specs.Lines.{outcome_of}
+use Rattle.gm_run.specs.Lines.{cause_of, outcome_of, Tells}
 
--- it is a cause, of nodes and embeddings that there are, of so many
-abbrev pub SpeaksOf : ℕ → ℕ → Refusal → Type 0
-SpeaksOf nodes embeds (refusals.NoDart index) = Unit {0}
-SpeaksOf nodes embeds (refusals.Arc x p i) = x < nodes
-SpeaksOf nodes embeds (refusals.Same x p y q) = (x < nodes) × (y < nodes)
-SpeaksOf nodes embeds refusals.PreNoValue = Unit {0}
-SpeaksOf nodes embeds refusals.PreFalse = Unit {0}
-SpeaksOf nodes embeds (refusals.FullDarts live more) = Unit {0}
-SpeaksOf nodes embeds (refusals.FullNames next more) = Unit {0}
-SpeaksOf nodes embeds (refusals.NoValue e x) = (e < embeds) × (x < nodes)
-SpeaksOf nodes embeds refusals.OutOfMemory = ⊥
+-- ---- which can be printed
 
-abbrev pub TellsOf : ℕ → ℕ → Outcome → Type 0
-TellsOf nodes embeds (outcomes.Done applied) = Unit {0}
-TellsOf nodes embeds (outcomes.Refused refusal) = SpeaksOf nodes embeds refusal
+-- the outcome speaks of nodes and embeddings that there are, of so many
+abbrev pub SpeaksOf : ℕ → ℕ → runs.Outcome → Type 0
+SpeaksOf nodes embeds (runs.Refused (causes.Arc x p i)) = x < nodes
+SpeaksOf nodes embeds (runs.Refused (causes.Same x p y q)) = (x < nodes) × (y < nodes)
+SpeaksOf nodes embeds (runs.Refused (causes.NoValue e x)) = (e < embeds) × (x < nodes)
+SpeaksOf nodes embeds _ = Unit {0}
 
 -- the line names a rule, and the outcome is one of that rule's
-pub record IsSayable (schema : Schema) (rules : List Rule) (line : Line) (outcome : Outcome) : Type 0 where
+pub record IsSayable (schema : Schema) (rules : List Rule) (line : Line) (outcome : runs.Outcome) : Type 0 where
   pub named : line.rule < length rules
-  pub told : TellsOf (length (nodes_at rules line.rule)) (length schema.embeds) outcome
+  pub speaks : SpeaksOf (length (nodes_at rules line.rule)) (length schema.embeds) outcome
 
--- each line has an outcome of its rule
-pub record CanBePrinted (schema : Schema) (rules : List Rule) (lines : List Line) (outcomes : List Outcome) : Type 0 where
-  pub each : length outcomes ≡ length lines
-  pub sayable : (k : ℕ) (line : Line) (outcome : Outcome) → slice_get lines k ≡ Some line → slice_get outcomes k ≡ Some outcome → IsSayable schema rules line outcome
+-- the report tells an outcome of each line, and it is one of the line's rule
+pub record CanBePrinted (schema : Schema) (rules : List Rule) (lines : List Line) (report : List Outcome) : Type 0 where
+  pub outcomes : List runs.Outcome
+  pub tells : Tells report outcomes
+  pub each : length report ≡ length lines
+  pub sayable : (k : ℕ) (line : Line) (outcome : runs.Outcome) → slice_get lines k ≡ Some line → slice_get outcomes k ≡ Some outcome → IsSayable schema rules line outcome
+
+-- ---- words
+
+-- the cause in words, and no words for want of memory
+abbrev pub refusal_words : Schema → List RuleNode → Refusal → List ℕ
+refusal_words schema nodes refusal = unwrap_or (option_map (cause_words schema nodes) (cause_of refusal)) []
+
+-- what is told of the line, in words
+abbrev pub told_words : Schema → List RuleNode → Outcome → List ℕ
+told_words schema nodes outcome = unwrap_or (option_map (outcome_words schema nodes) (outcome_of outcome)) []
 
 -- 1 T done added 16 removed 0
 abbrev pub line_text : Schema → Rule → ℕ → Outcome → List ℕ
-line_text schema rule k outcome = decimal k ++ codes " " ++ rule.name ++ codes " " ++ outcome_words schema rule.nodes (outcome_of outcome) ++ codes "\n"
+line_text schema rule k outcome = decimal k ++ codes " " ++ rule.name ++ codes " " ++ told_words schema rule.nodes outcome ++ codes "\n"

@@ -1,5 +1,5 @@
 -- What a run needs, and how far it has come.
-use Rattle.std.specs.Prelude.{◌≡◌, ◌≢◌, ℕ, ◌+◌, ◌≤◌, All, List, [], ◌∷◌, map, take, length, Some, slice_get}
+use Rattle.std.specs.Prelude.{◌≡◌, ℕ, ◌+◌, ◌≤◌, All, List, [], ◌∷◌, map, take, length, Some, slice_get}
 use Rattle.gm_model.specs.declared.schema.Schema.{Schema}
 use Rattle.gm_model.specs.declared.script.Line.{Line}
 use Rattle.gm_model.specs.Maps.{Map}
@@ -7,11 +7,9 @@ use Rattle.gm_model.specs.Rules.{Rule, rule_of}
 use Rattle.gm_model.specs.Runs.{IsLineOutcome, IsLineBudget, IsRun, IsRunBudget, changed_darts}
 use Rattle.gm_model.specs.Runs as runs
 use Rattle.gm_plan.specs.Plans.{PlanOf}
-use Rattle.gm_apply.specs.declared.refusal.Refusal.TheVariants as refusals
 use Rattle.gm_run.specs.Alike.{AreAlike}
 use Rattle.gm_run.specs.declared.outcome.Outcome.{Outcome}
-use Rattle.gm_run.specs.declared.outcome.Outcome.TheVariants as outcomes
-use Rattle.gm_run.specs.Lines.{outcome_of}
+use Rattle.gm_run.specs.Lines.{outcome_of, Tells}
 
 -- ---- what a run needs
 
@@ -27,34 +25,31 @@ ArePlansFor schema plans = All (IsPlanFor schema) plans
 
 -- ---- how far it has come
 
--- the outcome is no refusal for want of memory
-abbrev pub IsDecided : Outcome → Type 0
-IsDecided (outcomes.Done applied) = Unit {0}
-IsDecided (outcomes.Refused refusal) = refusal ≢ refusals.OutOfMemory
-
--- One line took the map from one to another, within its budget, and with a step for each dart that it changed. A run that the definition gives may come to the line at a map that differs from this one at names without a dart, so two fields speak of each map alike.
+-- One line took the map from one to another, as its outcome tells, within its budget, and with a step for each dart that it changed. A run that the definition gives may come to the line at a map that differs from this one at names without a dart, so two fields speak of each map alike.
 pub record HasLine (rules : List Rule) (before : Map) (line : Line) (outcome : Outcome) (after : Map) (start steps : ℕ) : Type 0 where
-  pub is : IsLineOutcome rules before line (outcome_of outcome) after
-  pub decided : IsDecided outcome
+  pub told : runs.Outcome
+  pub tells : outcome_of outcome ≡ Some told
+  pub is : IsLineOutcome rules before line told after
   pub most : ℕ
   pub budget : IsLineBudget rules before line most
   -- whatever outcome of the line the definition gives, at a map alike, it is this one
-  pub only : (other : Map) → AreAlike other before → (o : runs.Outcome) (end : Map) → IsLineOutcome rules other line o end → (o ≡ outcome_of outcome) × AreAlike end after
+  pub only : (other : Map) → AreAlike other before → (o : runs.Outcome) (end : Map) → IsLineOutcome rules other line o end → (o ≡ told) × AreAlike end after
   -- whatever budget of the line the definition gives, at a map alike, the steps are within it
   pub within : (other : Map) → AreAlike other before → (most : ℕ) → IsLineBudget rules other line most → steps ≤ start + most
-  pub least : start + changed_darts (outcome_of outcome ∷ []) ≤ steps
+  pub least : start + changed_darts (told ∷ []) ≤ steps
 
 -- all lines did
 pub record HasRun (rules : List Rule) (before : Map) (lines : List Line) (outcomes : List Outcome) (after : Map) (start steps : ℕ) : Type 0 where
-  pub run : IsRun rules before lines (map outcome_of outcomes) after
-  pub decided : All IsDecided outcomes
+  pub told : List runs.Outcome
+  pub tells : Tells outcomes told
+  pub run : IsRun rules before lines told after
   pub most : ℕ
-  pub budget : IsRunBudget rules before lines (map outcome_of outcomes) after most
+  pub budget : IsRunBudget rules before lines told after most
   -- whatever run of the lines the definition gives, from a map alike, it is this one
-  pub only : (other : Map) → AreAlike other before → (os : List runs.Outcome) (end : Map) → IsRun rules other lines os end → (os ≡ map outcome_of outcomes) × AreAlike end after
+  pub only : (other : Map) → AreAlike other before → (os : List runs.Outcome) (end : Map) → IsRun rules other lines os end → (os ≡ told) × AreAlike end after
   -- whatever budget of the lines the definition gives, from a map alike, the steps are within it
   pub within : (other : Map) → AreAlike other before → (os : List runs.Outcome) (end : Map) (most : ℕ) → IsRunBudget rules other lines os end most → steps ≤ start + most
-  pub least : start + changed_darts (map outcome_of outcomes) ≤ steps
+  pub least : start + changed_darts told ≤ steps
 
 -- memory was wanting at the line, which left the map, within whatever budget the line has at a map alike
 pub record IsStopped (rules : List Rule) (before : Map) (line : Line) (after : Map) (start steps : ℕ) : Type 0 where

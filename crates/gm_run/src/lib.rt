@@ -10,5 +10,5 @@ mod words;
 
 pub use laws::one_run_at_most;
 pub use outcome::{Outcome, Report};
-pub use printing::print_report;
+pub use printing::{count_done, print_report};
 pub use running::run;

@@ -1,11 +1,12 @@
 //! The text of a report.
-ghost use Rattle.std.specs.Prelude.{◌≡◌, ◌+◌, ◌++◌, ◌<◌, if◌then◌else◌, not, IfOk, OnOk, Some, length, map, slice_get};
+ghost use Rattle.std.specs.Prelude.{◌≡◌, ◌+◌, ◌++◌, ◌<◌, ◌≤◌, if◌then◌else◌, not, IfOk, IsSomeAnd, List, OnOk, Some, length, map, slice_get};
 ghost use Rattle.std.specs.List.{count_by};
 ghost use Rattle.gm_model.specs.Reports.{report_text, outcome_lines, counts_line};
 ghost use Rattle.gm_model.specs.Rules.{rule_of};
 ghost use Rattle.gm_model.specs.Runs.{is_done};
-ghost use Rattle.gm_run.specs.Lines.{outcome_of};
-ghost use Rattle.gm_run.specs.Printing.{CanBePrinted, TellsOf, line_text};
+ghost use Rattle.gm_model.specs.Runs as runs;
+ghost use Rattle.gm_run.specs.Lines.{outcome_of, Tells};
+ghost use Rattle.gm_run.specs.Printing.{CanBePrinted, SpeaksOf, line_text};
 
 use crate::outcome::{Outcome, Report};
 use crate::words::{put_number, put_outcome};
@@ -22,7 +23,7 @@ pub fn print_report(
     report: &Report,
 ) -> Result<Vec<u8>, OutOfMemory>
     requires { CanBePrinted book.now.schema (map rule_of book.now.rules) script.now.lines report.now.lines }
-    ensures { IfOk result (λ text. text.items ≡ report_text book.now.schema (map rule_of book.now.rules) script.now.lines (map outcome_of report.now.lines) report.now.darts report.now.next) }
+    ensures { IfOk result (λ text. (told : List runs.Outcome) → Tells report.now.lines told → text.items ≡ report_text book.now.schema (map rule_of book.now.rules) script.now.lines told report.now.darts report.now.next) }
 {
     let outcomes = report.lines.as_slice();
     let mut text = Text::new(alloc);
@@ -38,7 +39,7 @@ fn put_lines(
     outcomes: &[Outcome],
 ) -> Result<(), OutOfMemory>
     requires { CanBePrinted book.now.schema (map rule_of book.now.rules) lines.now outcomes.now }
-    ensures { OnOk result (text.new ≡ text.old ++ outcome_lines book.now.schema (map rule_of book.now.rules) 0 lines.now (map outcome_of outcomes.now)) }
+    ensures { (told : List runs.Outcome) → Tells outcomes.now told → OnOk result (text.new ≡ text.old ++ outcome_lines book.now.schema (map rule_of book.now.rules) 0 lines.now told) }
 {
     for (index, outcome) in outcomes.iter().enumerate() {
         let rule = rule_at(book, lines[index].rule);
@@ -61,7 +62,7 @@ fn put_line(
     number: usize,
     outcome: Outcome,
 ) -> Result<(), OutOfMemory>
-    requires { TellsOf (length (rule_of rule.now).nodes) (length schema.now.embeds) outcome }
+    requires { IsSomeAnd (outcome_of outcome) (SpeaksOf (length (rule_of rule.now).nodes) (length schema.now.embeds)) }
     ensures { OnOk result (text.new ≡ text.old ++ line_text schema.now (rule_of rule.now) number outcome) }
 {
     text.number(number as u64)?;
@@ -78,7 +79,7 @@ fn put_counts(
     darts: u32,
     next: u32,
 ) -> Result<(), OutOfMemory>
-    ensures { OnOk result (text.new ≡ text.old ++ counts_line (map outcome_of outcomes.now) darts next) }
+    ensures { (told : List runs.Outcome) → Tells outcomes.now told → OnOk result (text.new ≡ text.old ++ counts_line told darts next) }
 {
     let done = count_done(outcomes);
     let refused = outcomes.len() - done;
@@ -89,9 +90,11 @@ fn put_counts(
     text.put(b"\n")
 }
 
-fn count_done(outcomes: &[Outcome]) -> usize
-    ensures done { result ≡ count_by is_done (map outcome_of outcomes.now) }
-    ensures refused { length outcomes.now ≡ result + count_by (λ outcome. not (is_done outcome)) (map outcome_of outcomes.now) }
+/// How many of the lines are done.
+pub fn count_done(outcomes: &[Outcome]) -> usize
+    ensures within { result ≤ length outcomes.now }
+    ensures done { (told : List runs.Outcome) → Tells outcomes.now told → result ≡ count_by is_done told }
+    ensures refused { (told : List runs.Outcome) → Tells outcomes.now told → length outcomes.now ≡ result + count_by (λ outcome. not (is_done outcome)) told }
 {
     let mut done = 0;
     for outcome in outcomes {
@@ -102,7 +105,8 @@ fn count_done(outcomes: &[Outcome]) -> usize
 
 /// 1 for a line that is done.
 fn done_lines(outcome: Outcome) -> usize
-    ensures { result ≡ (if is_done (outcome_of outcome) then 1 else 0) }
+    ensures one { result ≤ 1 }
+    ensures done { (told : runs.Outcome) → outcome_of outcome ≡ Some told → result ≡ (if is_done told then 1 else 0) }
 {
     match outcome {
         Outcome::Done(_) => 1,

@@ -1,5 +1,5 @@
 //! A run: the lines of a script, one after another.
-ghost use Rattle.std.specs.Prelude.{◌≡◌, ◌≢◌, ℕ, ◌+◌, ◌≤◌, All, IfOk, IfErr, List, MatchResult, map};
+ghost use Rattle.std.specs.Prelude.{◌≡◌, ◌≢◌, ℕ, ◌+◌, ◌≤◌, All, IfOk, IfErr, List, MatchResult};
 ghost use Rattle.gm_model.specs.Maps.{Map, IsDart, IsSound};
 ghost use Rattle.gm_model.specs.Orbits.{HasCount};
 ghost use Rattle.gm_model.specs.Runs.{IsRun, IsRunBudget, changed_darts};
@@ -9,9 +9,9 @@ ghost use Rattle.gm_arena.specs.ArenaAsMap.{as_map};
 ghost use Rattle.gm_theory.specs.Outcomes.{IsGoodLine};
 ghost use Rattle.gm_run.specs.Alike.{AreAlike};
 ghost use Rattle.gm_run.specs.declared.outcome.Outcome.TheVariants as outcomes;
-ghost use Rattle.gm_run.specs.Lines.{outcome_of};
+ghost use Rattle.gm_run.specs.Lines.{Tells};
 ghost use Rattle.gm_run.specs.Printing.{CanBePrinted};
-ghost use Rattle.gm_run.specs.Progress.{rules_of, ArePlansFor, IsDecided, HasLine, HasRun, IsCutShort, IsStopped};
+ghost use Rattle.gm_run.specs.Progress.{rules_of, ArePlansFor, HasLine, HasRun, IsCutShort, IsStopped};
 
 use crate::outcome::{Outcome, Report};
 use gm_apply::{Refusal, apply};
@@ -26,10 +26,10 @@ use std::sync::ledger::Ledger;
 /// map, and the next is applied to it.
 ///
 /// The arena has a sound map again, whatever the answer is. Where memory was wanting, it has
-/// the map after some of the lines, the first ones, and none was applied in part. No outcome is a
-/// refusal for want of memory.
+/// the map after some of the lines, the first ones, and none was applied in part. The report tells
+/// an outcome of each line, so no line is refused for want of memory.
 ///
-/// There is one run: whatever outcomes the definition gives, the report has them, and whatever map,
+/// There is one run: whatever outcomes the definition gives, the report tells them, and whatever map,
 /// the arena has one alike. The steps are within whatever budget it gives, whatever the answer is.
 pub fn run<L: Ledger>(
     alloc: Global,
@@ -41,12 +41,11 @@ pub fn run<L: Ledger>(
     requires sound { IsSound (as_map arena.old) }
     requires plans { ArePlansFor arena.old.schema plans.now }
     requires lines { All (IsGoodLine (rules_of plans.now)) script.now.lines }
-    ensures run { IfOk result (λ report. IsRun (rules_of plans.now) (as_map arena.old) script.now.lines (map outcome_of report.lines) (as_map arena.new)) }
-    ensures decided { IfOk result (λ report. All IsDecided report.lines) }
-    ensures only { IfOk result (λ report. (outcomes : List runs.Outcome) (after : Map) → IsRun (rules_of plans.now) (as_map arena.old) script.now.lines outcomes after → (outcomes ≡ map outcome_of report.lines) × AreAlike after (as_map arena.new)) }
+    ensures run { IfOk result (λ report. (outcomes : List runs.Outcome) × Tells report.lines outcomes × IsRun (rules_of plans.now) (as_map arena.old) script.now.lines outcomes (as_map arena.new)) }
+    ensures only { IfOk result (λ report. (outcomes : List runs.Outcome) (after : Map) → IsRun (rules_of plans.now) (as_map arena.old) script.now.lines outcomes after → Tells report.lines outcomes × AreAlike after (as_map arena.new)) }
     ensures most { (outcomes : List runs.Outcome) (after : Map) (most : ℕ) → IsRunBudget (rules_of plans.now) (as_map arena.old) script.now.lines outcomes after most → steps.new ≤ steps.old + most }
-    ensures budget { IfOk result (λ report. (most : ℕ) × IsRunBudget (rules_of plans.now) (as_map arena.old) script.now.lines (map outcome_of report.lines) (as_map arena.new) most) }
-    ensures least { IfOk result (λ report. steps.old + changed_darts (map outcome_of report.lines) ≤ steps.new) }
+    ensures budget { IfOk result (λ report. (outcomes : List runs.Outcome) → Tells report.lines outcomes → (most : ℕ) × IsRunBudget (rules_of plans.now) (as_map arena.old) script.now.lines outcomes (as_map arena.new) most) }
+    ensures least { IfOk result (λ report. (outcomes : List runs.Outcome) → Tells report.lines outcomes → steps.old + changed_darts outcomes ≤ steps.new) }
     ensures darts { IfOk result (λ report. (report.darts ≡ arena.new.count) × HasCount (IsDart (as_map arena.new)) report.darts) }
     ensures next { IfOk result (λ report. report.next ≡ arena.new.next) }
     ensures printable { IfOk result (λ report. CanBePrinted arena.old.schema (rules_of plans.now) script.now.lines report.lines) }

@@ -1,9 +1,10 @@
 //! The words that say what became of a line.
-ghost use Rattle.std.specs.Prelude.{◌≡◌, ◌++◌, ◌<◌, OnOk, decimal, length, codes};
+ghost use Rattle.std.specs.Prelude.{◌≡◌, ◌++◌, ◌<◌, IsSomeAnd, OnOk, decimal, length};
 ghost use Rattle.gm_model.specs.Rules.{name_at, rule_of};
-ghost use Rattle.gm_model.specs.Reports.{outcome_words, cause_words, instance_words, embed_name};
+ghost use Rattle.gm_model.specs.Reports.{instance_words, embed_name};
+ghost use Rattle.gm_model.specs.Runs as runs;
 ghost use Rattle.gm_run.specs.Lines.{outcome_of, cause_of};
-ghost use Rattle.gm_run.specs.Printing.{SpeaksOf, TellsOf};
+ghost use Rattle.gm_run.specs.Printing.{SpeaksOf, refusal_words, told_words};
 
 use crate::outcome::Outcome;
 use gm_apply::{Applied, Refusal};
@@ -17,8 +18,8 @@ pub(crate) fn put_outcome(
     rule: &RuleTable,
     outcome: Outcome,
 ) -> Result<(), OutOfMemory>
-    requires { TellsOf (length (rule_of rule.now).nodes) (length schema.now.embeds) outcome }
-    ensures { OnOk result (text.new ≡ text.old ++ outcome_words schema.now (rule_of rule.now).nodes (outcome_of outcome)) }
+    requires { IsSomeAnd (outcome_of outcome) (SpeaksOf (length (rule_of rule.now).nodes) (length schema.now.embeds)) }
+    ensures { OnOk result (text.new ≡ text.old ++ told_words schema.now (rule_of rule.now).nodes outcome) }
 {
     match outcome {
         Outcome::Done(Applied { added, removed }) => {
@@ -38,8 +39,8 @@ fn put_cause(
     rule: &RuleTable,
     refusal: Refusal,
 ) -> Result<(), OutOfMemory>
-    requires { SpeaksOf (length (rule_of rule.now).nodes) (length schema.now.embeds) refusal }
-    ensures { OnOk result (text.new ≡ text.old ++ cause_words schema.now (rule_of rule.now).nodes (cause_of refusal)) }
+    requires { IsSomeAnd (cause_of refusal) (λ cause. SpeaksOf (length (rule_of rule.now).nodes) (length schema.now.embeds) (runs.Refused cause)) }
+    ensures { OnOk result (text.new ≡ text.old ++ refusal_words schema.now (rule_of rule.now).nodes refusal) }
 {
     match refusal {
         Refusal::NoDart { index } => put_number(text, b"no-dart hook ", u64::from(index)),

@@ -73,6 +73,13 @@ fn expect_neighbours<L: Ledger>(
     }
 }
 
+/// The darts with the names from 0 on, so many, are free along the labels 0 and 1.
+fn expect_free<L: Ledger>(rt: &impl Abort, arena: &Arena, darts: u32, steps: &mut Steps<L>) {
+    for name in 0..darts {
+        expect_neighbours(rt, arena, name, &[name, name], steps);
+    }
+}
+
 /// Whether both schemas have the same dimension and no embeddings.
 fn are_same(one: &Schema, other: &Schema) -> bool
     ensures same { IsTrue result → one.now ≡ other.now }
@@ -322,7 +329,8 @@ fn use_up_names(rt: &impl Abort, arena: &mut Arena) {
     arena.set_next(16_777_215);
 }
 
-/// A map of free darts, with one name left where it is late, and what is applied to it.
+/// A map of free darts, with one name left where it is late, and what is applied to it. Where that is
+/// refused, all stay free.
 struct Crowd<'a> {
     darts: u32,
     is_late: bool,
@@ -388,7 +396,11 @@ fn meet_crowd<L: Ledger>(
     if crowd.is_late {
         use_up_names(rt, &mut map);
     }
-    expect_answer(rt, alloc, &mut map, &crowd.case, steps)
+    expect_answer(rt, alloc, &mut map, &crowd.case, steps)?;
+    if crowd.case.answer.is_err() {
+        expect_free(rt, &map, crowd.darts, steps);
+    }
+    Ok(())
 }
 
 fn meet_each<L: Ledger>(

@@ -11,7 +11,8 @@ use std::test::Fail;
 pub(crate) const SQUARE: &str =
     "gmap 1\ndim 2\ndarts 8\n0 1 7 0\n1 0 2 1\n2 3 1 2\n3 2 4 3\n4 5 3 4\n5 4 6 5\n6 7 5 6\n7 6 0 7\n";
 
-const POINTS: &str =
+/// The square with a point at each corner.
+pub(crate) const POINTS: &str =
     "gmap 1\ndim 2\nembed pos <1 2> vec3\ndarts 8\n0 1 7 0 (0 0 0)\n1 0 2 1 (4 0 0)\n2 3 1 2 (4 0 0)\n3 2 4 3 (4 4 0)\n4 5 3 4 (4 4 0)\n5 4 6 5 (0 4 0)\n6 7 5 6 (0 4 0)\n7 6 0 7 (0 0 0)\n";
 
 pub(crate) const EMPTY: &str = "gmap 1\ndim 2\ndarts 0\n";
@@ -273,7 +274,7 @@ const NO_COMMANDS: [&str; 15] = [
     "--help",
 ];
 
-const USAGE: [Case; 1] = [Case {
+pub(crate) const USAGE: [Case; 1] = [Case {
     text: SQUARE,
     status: 2,
     put: "refused usage\n",
@@ -429,7 +430,7 @@ const NO_BOOKS: [Case; 28] = [
         put: "refused BOOK text 31\n",
     },
     Case {
-        text: "book 1 dim 2 rule abcdefghijklmnopqrstuvwxyz_1234567 left right",
+        text: "book 1 dim 1 rule aaaaaaaaaaaaaaaaaaaaaaaaaaaaaaaaa",
         status: 4,
         put: "refused BOOK limit name 18\n",
     },
@@ -685,7 +686,7 @@ const COMMANDS: [(&str, &str); 4] = [
     ("cells FILE", SQUARE),
 ];
 
-const FAULTS: [Fault; 5] = [
+const FAULTS: [Fault; 6] = [
     Fault {
         held: false,
         load_fails: false,
@@ -723,6 +724,13 @@ const FAULTS: [Fault; 5] = [
         put_keeps: Some(0),
         status: 6,
         puts: ["", "", "", ""],
+    },
+    Fault {
+        held: true,
+        load_fails: false,
+        put_keeps: Some(2),
+        status: 6,
+        puts: ["gm", "bo", "ru", "da"],
     },
     Fault {
         held: true,

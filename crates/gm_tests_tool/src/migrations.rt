@@ -1,6 +1,6 @@
 //! Migrations of maps over a store and a sink in memory.
 
-use crate::commands::{EMPTY, SQUARE, run, words_of};
+use crate::commands::{EMPTY, POINTS, SQUARE, run, words_of};
 use crate::runs::{Failure, Trial, try_each};
 use gm_host::{MemSink, MemStore};
 use std::process::{Abort, ExitCode};
@@ -38,7 +38,15 @@ fn migrate_each(rt: &impl Abort, host: &HostRuntime, cases: &[Migration]) -> Res
 
 /// Maps in the first version, whose next name is one above their greatest, and in the second, whose
 /// stated next name is kept.
-const MIGRATIONS: [Migration; 5] = [
+const MIGRATIONS: [Migration; 6] = [
+    Migration {
+        text: SQUARE,
+        status: 0,
+        put: DONE,
+        saved: Some(
+            "gmap 2\ndim 2\nnext 8\ndarts 8\n0 1 7 0\n1 0 2 1\n2 3 1 2\n3 2 4 3\n4 5 3 4\n5 4 6 5\n6 7 5 6\n7 6 0 7\n",
+        ),
+    },
     Migration {
         text: "gmap 1 dim 1 darts 2 40 3 40 3 40 3",
         status: 0,
@@ -111,15 +119,15 @@ fn texts_that_are_not_migrated(rt: HostRuntime) -> Result<(), Fail> {
     migrate_each(&rt, &rt, &NO_MAPS)
 }
 
-/// The square in the second version.
+/// The square with points in the second version.
 const MIGRATED: &str =
-    "gmap 2\ndim 2\nnext 8\ndarts 8\n0 1 7 0\n1 0 2 1\n2 3 1 2\n3 2 4 3\n4 5 3 4\n5 4 6 5\n6 7 5 6\n7 6 0 7\n";
+    "gmap 2\ndim 2\nembed pos <1 2> vec3\nnext 8\ndarts 8\n0 1 7 0 (0 0 0)\n1 0 2 1 (4 0 0)\n2 3 1 2 (4 0 0)\n3 2 4 3 (4 4 0)\n4 5 3 4 (4 4 0)\n5 4 6 5 (0 4 0)\n6 7 5 6 (0 4 0)\n7 6 0 7 (0 0 0)\n";
 
 const DONE: &str = "migrated darts 8 next 8\n";
 
 /// A load that fails, a file that is not there, saves and puts that fail, a migration that saves over
 /// its own map, and words that are no migration.
-const TRIALS: [Trial; 11] = [
+const TRIALS: [Trial; 13] = [
     Trial {
         line: "migrate MAP OUT",
         failure: Failure::Nothing,
@@ -167,7 +175,23 @@ const TRIALS: [Trial; 11] = [
         status: 5,
         put: "refused save OUT\n",
         file: "MAP",
-        holds: Some(SQUARE),
+        holds: Some(POINTS),
+    },
+    Trial {
+        line: "migrate MAP OUT",
+        failure: Failure::Save(None),
+        status: 5,
+        put: "refused save OUT\n",
+        file: "OUT",
+        holds: None,
+    },
+    Trial {
+        line: "migrate MAP OUT",
+        failure: Failure::Save(Some(4)),
+        status: 5,
+        put: "refused save OUT\n",
+        file: "OUT",
+        holds: Some("gmap"),
     },
     Trial {
         line: "migrate MAP OUT",
@@ -179,9 +203,9 @@ const TRIALS: [Trial; 11] = [
     },
     Trial {
         line: "migrate MAP OUT",
-        failure: Failure::Put(8),
+        failure: Failure::Put(3),
         status: 6,
-        put: "migrated",
+        put: "mig",
         file: "OUT",
         holds: Some(MIGRATED),
     },

@@ -1,6 +1,6 @@
 //! Runs of scripts over a store and a sink in memory.
 
-use crate::commands::{EMPTY, SQUARE, run, words_of};
+use crate::commands::{EMPTY, POINTS, SQUARE, run, words_of};
 use gm_host::{MemSink, MemStore};
 use std::alloc::Global;
 use std::process::{Abort, ExitCode};
@@ -40,6 +40,14 @@ const PAINTED_T: &str =
 /// Two edges that are sewn, with a point at each end.
 const SEWN_EDGES: &str =
     "gmap 1 dim 2 embed pos <1 2> vec2 darts 4 0 1 0 2 (0 0) 1 0 1 3 (4 0) 2 3 2 0 (0 0) 3 2 3 1 (4 0)";
+
+/// A rule that gives the new vertex the middle of the corners.
+pub(crate) const POINTS_T: &str =
+    "book 1\ndim 2\nembed pos <1 2> vec3\nrule T\nleft\na <0 1> hook\nright\na <0 _>\nb <_ 2>\nc <1 2> with pos = sum<0 1>(a.pos) / count<0 1>(a)\na -1- b\nb -0- c\n";
+
+/// The square with points, triangulated.
+pub(crate) const TRIANGULATED_POINTS: &str =
+    "gmap 1\ndim 2\nembed pos <1 2> vec3\ndarts 24\n0 1 8 0 (0 0 0)\n1 0 9 1 (4 0 0)\n2 3 11 2 (4 0 0)\n3 2 13 3 (4 4 0)\n4 5 15 4 (4 4 0)\n5 4 14 5 (0 4 0)\n6 7 12 6 (0 4 0)\n7 6 10 7 (0 0 0)\n8 16 0 10 (0 0 0)\n9 17 1 11 (4 0 0)\n10 18 7 8 (0 0 0)\n11 19 2 9 (4 0 0)\n12 20 6 14 (0 4 0)\n13 21 3 15 (4 4 0)\n14 22 5 12 (0 4 0)\n15 23 4 13 (4 4 0)\n16 8 17 18 (2 2 0)\n17 9 16 19 (2 2 0)\n18 10 20 16 (2 2 0)\n19 11 21 17 (2 2 0)\n20 12 18 22 (2 2 0)\n21 13 19 23 (2 2 0)\n22 14 23 20 (2 2 0)\n23 15 22 21 (2 2 0)\n";
 
 const UNSEW: &str =
     "book 1 dim 2 embed pos <1 2> vec2 rule unsew left a <0> hook b <0> a -2- b right a <0> b <0> a -2- a b -2- b";
@@ -355,9 +363,11 @@ pub(crate) enum Failure {
     Load(u32),
     Save(Option<usize>),
     Put(usize),
+    LoadAndPut(u32, usize),
 }
 
-/// A line over the texts of [`DONE`], what fails, and what the file then holds.
+/// A line over the square with points and one application of their rule, what fails, and what the file
+/// then holds.
 pub(crate) struct Trial<'a> {
     pub(crate) line: &'a str,
     pub(crate) failure: Failure,
@@ -369,13 +379,17 @@ pub(crate) struct Trial<'a> {
 
 fn expect_trial(rt: &impl Abort, host: &HostRuntime, trial: &Trial) -> Result<(), Fail> {
     let alloc = host.alloc();
-    let mut store = files(alloc, SQUARE, T, "apply T 0")?;
+    let mut store = files(alloc, POINTS, POINTS_T, "apply T 0")?;
     let mut out = MemSink::new(alloc);
     match trial.failure {
         Failure::Nothing => {}
         Failure::Load(call) => store.fail_load(call)?,
         Failure::Save(kept) => store.fail_save(0, kept)?,
         Failure::Put(kept) => out.fail_put(0, kept)?,
+        Failure::LoadAndPut(call, kept) => {
+            store.fail_load(call)?;
+            out.fail_put(0, kept)?;
+        }
     }
     let words = words_of(alloc, trial.line)?;
     let ended = run(host, words.as_slice(), &mut store, &mut out);
@@ -393,9 +407,10 @@ pub(crate) fn try_each(rt: &impl Abort, host: &HostRuntime, trials: &[Trial]) ->
     Ok(())
 }
 
-/// Loads that fail, files that are not there, saves that fail and keep nothing or some of the bytes,
-/// puts behind a save that fail, and at last a run that saves over its own map.
-const TRIALS: [Trial; 12] = [
+/// Loads that fail, files that are not there, saves that fail and keep nothing, some of the bytes or all,
+/// puts that fail behind a load that fails and behind a save, and at last a run that saves over its own
+/// map.
+const TRIALS: [Trial; 14] = [
     Trial {
         line: "run MAP BOOK SCRIPT OUT",
         failure: Failure::Load(0),
@@ -470,19 +485,35 @@ const TRIALS: [Trial; 12] = [
     },
     Trial {
         line: "run MAP BOOK SCRIPT OUT",
+        failure: Failure::Save(Some(TRIANGULATED_POINTS.len())),
+        status: 5,
+        put: "refused save OUT\n",
+        file: "OUT",
+        holds: Some(TRIANGULATED_POINTS),
+    },
+    Trial {
+        line: "run MAP BOOK SCRIPT OUT",
+        failure: Failure::LoadAndPut(0, 0),
+        status: 6,
+        put: "",
+        file: "OUT",
+        holds: None,
+    },
+    Trial {
+        line: "run MAP BOOK SCRIPT OUT",
         failure: Failure::Put(0),
         status: 6,
         put: "",
         file: "OUT",
-        holds: Some(TRIANGULATED),
+        holds: Some(TRIANGULATED_POINTS),
     },
     Trial {
         line: "run MAP BOOK SCRIPT OUT",
-        failure: Failure::Put(3),
+        failure: Failure::Put(5),
         status: 6,
-        put: "1 T",
+        put: "1 T d",
         file: "OUT",
-        holds: Some(TRIANGULATED),
+        holds: Some(TRIANGULATED_POINTS),
     },
     Trial {
         line: "run MAP BOOK SCRIPT MAP",
@@ -490,7 +521,7 @@ const TRIALS: [Trial; 12] = [
         status: 0,
         put: DONE,
         file: "MAP",
-        holds: Some(TRIANGULATED),
+        holds: Some(TRIANGULATED_POINTS),
     },
 ];
 
@@ -500,9 +531,17 @@ fn loads_saves_and_puts(rt: HostRuntime) -> Result<(), Fail> {
 }
 
 /// Words that are no run.
-const WRONG_LINES: [Trial; 5] = [
+const WRONG_LINES: [Trial; 6] = [
     Trial {
         line: "run",
+        failure: Failure::Nothing,
+        status: 2,
+        put: "refused usage\n",
+        file: "OUT",
+        holds: None,
+    },
+    Trial {
+        line: "run A B C",
         failure: Failure::Nothing,
         status: 2,
         put: "refused usage\n",

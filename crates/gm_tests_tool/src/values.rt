@@ -1,8 +1,8 @@
 //! Books with expressions, and runs of them over maps with values. What is awaited is an independent
 //! program's answer.
 
-use crate::commands::{Case, expect_each};
-use crate::runs::{Run, run_each};
+use crate::commands::{Case, POINTS, expect_each};
+use crate::runs::{POINTS_T, Run, TRIANGULATED_POINTS, run_each};
 use std::test::Fail;
 
 const EXPRESSIONS: [Case; 45] = [
@@ -240,16 +240,10 @@ fn expressions_in_books(rt: HostRuntime) -> Result<(), Fail> {
 
 const VALUES: [Run; 16] = [
     Run {
-        texts: [
-            "gmap 1\ndim 2\nembed pos <1 2> vec3\ndarts 8\n0 1 7 0 (0 0 0)\n1 0 2 1 (4 0 0)\n2 3 1 2 (4 0 0)\n3 2 4 3 (4 4 0)\n4 5 3 4 (4 4 0)\n5 4 6 5 (0 4 0)\n6 7 5 6 (0 4 0)\n7 6 0 7 (0 0 0)\n",
-            "book 1\ndim 2\nembed pos <1 2> vec3\nrule T\nleft\na <0 1> hook\nright\na <0 _>\nb <_ 2>\nc <1 2> with pos = sum<0 1>(a.pos) / count<0 1>(a)\na -1- b\nb -0- c\n",
-            "apply T 0",
-        ],
+        texts: [POINTS, POINTS_T, "apply T 0"],
         status: 0,
         put: "1 T done added 16 removed 0\napplied 1 refused 0 darts 24 next 24\n",
-        saved: Some(
-            "gmap 1\ndim 2\nembed pos <1 2> vec3\ndarts 24\n0 1 8 0 (0 0 0)\n1 0 9 1 (4 0 0)\n2 3 11 2 (4 0 0)\n3 2 13 3 (4 4 0)\n4 5 15 4 (4 4 0)\n5 4 14 5 (0 4 0)\n6 7 12 6 (0 4 0)\n7 6 10 7 (0 0 0)\n8 16 0 10 (0 0 0)\n9 17 1 11 (4 0 0)\n10 18 7 8 (0 0 0)\n11 19 2 9 (4 0 0)\n12 20 6 14 (0 4 0)\n13 21 3 15 (4 4 0)\n14 22 5 12 (0 4 0)\n15 23 4 13 (4 4 0)\n16 8 17 18 (2 2 0)\n17 9 16 19 (2 2 0)\n18 10 20 16 (2 2 0)\n19 11 21 17 (2 2 0)\n20 12 18 22 (2 2 0)\n21 13 19 23 (2 2 0)\n22 14 23 20 (2 2 0)\n23 15 22 21 (2 2 0)\n",
-        ),
+        saved: Some(TRIANGULATED_POINTS),
     },
     Run {
         texts: [
@@ -265,7 +259,7 @@ const VALUES: [Run; 16] = [
     },
     Run {
         texts: [
-            "gmap 1\ndim 2\nembed pos <1 2> vec3\ndarts 8\n0 1 7 0 (0 0 0)\n1 0 2 1 (4 0 0)\n2 3 1 2 (4 0 0)\n3 2 4 3 (4 4 0)\n4 5 3 4 (4 4 0)\n5 4 6 5 (0 4 0)\n6 7 5 6 (0 4 0)\n7 6 0 7 (0 0 0)\n",
+            POINTS,
             "book 1\ndim 2\nembed pos <1 2> vec3\nrule move(v: vec3) left a <1 2> hook right a <1 2> with pos = a.pos + v",
             "apply move 1 with (9223372036854775807 0 0) apply move 1 with (1 0 0)",
         ],
@@ -312,41 +306,25 @@ const VALUES: [Run; 16] = [
         ),
     },
     Run {
-        texts: [
-            "gmap 1\ndim 2\nembed pos <1 2> vec3\ndarts 8\n0 1 7 0 (0 0 0)\n1 0 2 1 (4 0 0)\n2 3 1 2 (4 0 0)\n3 2 4 3 (4 4 0)\n4 5 3 4 (4 4 0)\n5 4 6 5 (0 4 0)\n6 7 5 6 (0 4 0)\n7 6 0 7 (0 0 0)\n",
-            "book 1\ndim 2\nembed pos <1 2> vec3\nrule T\nleft\na <0 1> hook\nright\na <0 _>\nb <_ 2>\nc <1 2> with pos = sum<0 1>(a.pos) / count<0 1>(a)\na -1- b\nb -0- c\n",
-            "apply T",
-        ],
+        texts: [POINTS, POINTS_T, "apply T"],
         status: 4,
         put: "refused SCRIPT hook-count 0\n",
         saved: None,
     },
     Run {
-        texts: [
-            "gmap 1\ndim 2\nembed pos <1 2> vec3\ndarts 8\n0 1 7 0 (0 0 0)\n1 0 2 1 (4 0 0)\n2 3 1 2 (4 0 0)\n3 2 4 3 (4 4 0)\n4 5 3 4 (4 4 0)\n5 4 6 5 (0 4 0)\n6 7 5 6 (0 4 0)\n7 6 0 7 (0 0 0)\n",
-            "book 1\ndim 2\nembed pos <1 2> vec3\nrule T\nleft\na <0 1> hook\nright\na <0 _>\nb <_ 2>\nc <1 2> with pos = sum<0 1>(a.pos) / count<0 1>(a)\na -1- b\nb -0- c\n",
-            "apply U 0",
-        ],
+        texts: [POINTS, POINTS_T, "apply U 0"],
         status: 4,
         put: "refused SCRIPT unknown-rule 6\n",
         saved: None,
     },
     Run {
-        texts: [
-            "gmap 1\ndim 2\nembed pos <1 2> vec3\ndarts 8\n0 1 7 0 (0 0 0)\n1 0 2 1 (4 0 0)\n2 3 1 2 (4 0 0)\n3 2 4 3 (4 4 0)\n4 5 3 4 (4 4 0)\n5 4 6 5 (0 4 0)\n6 7 5 6 (0 4 0)\n7 6 0 7 (0 0 0)\n",
-            "book 1\ndim 2\nembed pos <1 2> vec3\nrule T\nleft\na <0 1> hook\nright\na <0 _>\nb <_ 2>\nc <1 2> with pos = sum<0 1>(a.pos) / count<0 1>(a)\na -1- b\nb -0- c\n",
-            "apply T 0 with 3",
-        ],
+        texts: [POINTS, POINTS_T, "apply T 0 with 3"],
         status: 4,
         put: "refused SCRIPT params 0\n",
         saved: None,
     },
     Run {
-        texts: [
-            "gmap 1\ndim 2\nembed pos <1 2> vec3\ndarts 8\n0 1 7 0 (0 0 0)\n1 0 2 1 (4 0 0)\n2 3 1 2 (4 0 0)\n3 2 4 3 (4 4 0)\n4 5 3 4 (4 4 0)\n5 4 6 5 (0 4 0)\n6 7 5 6 (0 4 0)\n7 6 0 7 (0 0 0)\n",
-            "book 1\ndim 2\nembed pos <1 2> vec3\nrule T\nleft\na <0 1> hook\nright\na <0 _>\nb <_ 2>\nc <1 2> with pos = sum<0 1>(a.pos) / count<0 1>(a)\na -1- b\nb -0- c\n",
-            "apply",
-        ],
+        texts: [POINTS, POINTS_T, "apply"],
         status: 4,
         put: "refused SCRIPT text 5\n",
         saved: None,
@@ -354,7 +332,7 @@ const VALUES: [Run; 16] = [
     Run {
         texts: [
             "gmap 1\ndim 2\ndarts 8\n0 1 7 0\n1 0 2 1\n2 3 1 2\n3 2 4 3\n4 5 3 4\n5 4 6 5\n6 7 5 6\n7 6 0 7\n",
-            "book 1\ndim 2\nembed pos <1 2> vec3\nrule T\nleft\na <0 1> hook\nright\na <0 _>\nb <_ 2>\nc <1 2> with pos = sum<0 1>(a.pos) / count<0 1>(a)\na -1- b\nb -0- c\n",
+            POINTS_T,
             "",
         ],
         status: 4,
@@ -426,4 +404,28 @@ const VALUES: [Run; 16] = [
 #[test]
 fn runs_with_values(rt: HostRuntime) -> Result<(), Fail> {
     run_each(&rt, &rt, &VALUES)
+}
+
+/// How many brackets are opened in a precondition, and what is put: an expression has 256 tokens at
+/// most.
+const OPENED: [(usize, &str); 2] = [
+    (256, "refused BOOK text 306\n"),
+    (300, "refused BOOK limit expression 306\n"),
+];
+
+#[test]
+fn brackets_opened(rt: HostRuntime) -> Result<(), Fail> {
+    for (count, put) in OPENED {
+        let opened = "(".repeat(rt.alloc(), count)?;
+        let text = format!(in rt.alloc();
+            "book 1 dim 1 rule r left a <> hook right a <> pre {opened}"
+        )?;
+        let case = Case {
+            text: text.as_str(),
+            status: 4,
+            put,
+        };
+        expect_each(&rt, &rt, &["book BOOK"], &[case])?;
+    }
+    Ok(())
 }

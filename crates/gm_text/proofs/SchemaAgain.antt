@@ -11,12 +11,12 @@ use Rattle.gm_model.specs.declared.value.Kind.{Kind}
 use Rattle.gm_model.specs.declared.value.Kind.TheVariants as kinds
 use Rattle.gm_model.specs.declared.word.Mask.{Mask}
 use Rattle.gm_model.specs.Labels.{has}
-use Rattle.gm_model.specs.Symbols.{Symbol, Word, Numeral, Sign, Mark, symbols, symbols_of, marks_of}
+use Rattle.gm_model.specs.Symbols.{Symbol, Word, Numeral, Sign, Mark, symbols, marks_of}
 use Rattle.gm_model.specs.Tokens.{is_digit, begins_two_byte_sign, IsLexeme}
 use Rattle.gm_model.specs.Reading.{Part, IsWithin, symbols_in}
 use Rattle.gm_text.specs.Cursor.{Cursor}
 use Rattle.gm_text.specs.Machine.{Leads, run}
-use Rattle.gm_text.specs.SchemaText.{LabelForm, EmbedForm, SchemaForm, Role, Fixed, Dimension, EmbedWord, NameAt, LabelAt, passed_of, no_labels, with_label, with_labels, embed_of, names_in, kind_word, schema_of, word, sign, spell_labels, spell_embed, spell_embeds, spell, IsEmbed, IsForm, IsSentence, beyond, labels_below, labels_in, labels_text, embed_line, canonical}
+use Rattle.gm_text.specs.SchemaText.{LabelForm, EmbedForm, SchemaForm, Role, Fixed, EmbedWord, NameAt, LabelAt, passed_of, no_labels, with_label, with_labels, embed_of, names_in, kind_word, schema_of, word, sign, spell_labels, spell_embed, spell_embeds, spell, IsEmbed, IsForm, IsSentence, beyond, labels_below, labels_in, labels_text, embed_line, canonical}
 use Rattle.gm_text.specs.SchemaReading.{State, AtDim, AtEmbeds, role_at, move, never, Stands}
 use Rattle.gm_text.specs.SchemaAnswers.{IsSchemaRead}
 use Rattle.gm_text.specs.SchemaPrinting.{AreParts, BeginNoEmbed, StandsBefore}

@@ -1,12 +1,21 @@
 -- The value of digits: it grows with each digit, and it is the number of a decimal text.
-use Rattle.std.proofs.Common.{◌≡◌, ℕ, suc, ◌+◌, ◌-◌, ◌*◌, ◌^◌, ◌<◌, ◌≤◌, true, List, [], ◌∷◌, length, drop, get_or, sym, ap, ◌∙◌, arith}
-use Rattle.std.specs.List.{list_all}
+use Rattle.std.proofs.Common.{◌≡◌, ℕ, suc, ◌+◌, ◌-◌, ◌*◌, ◌^◌, ◌<◌, ◌≤◌, true, List, [], ◌∷◌, length, drop, get_or, refl, sym, ap, ◌∙◌, arith}
+use Rattle.std.specs.List.{list_all, take_while}
 use Rattle.std.proofs.Math.Nat.{mul_assoc, pow-succ', pow-le-pow_right}
 use Rattle.std.proofs.lemmas.Bool.{and_parts, leb-true}
 use Rattle.std.proofs.lemmas.Nat.{mul-le}
 use Rattle.std.proofs.lemmas.List.{drop_more, drop_all}
+use Rattle.std.proofs.lemmas.List.Sums.{take_while-cons}
 use Rattle.gm_model.specs.Tokens.{is_digit}
 use Rattle.gm_model.specs.Symbols.{value_after, value_of}
+
+-- a digit is one of ten bytes
+pub record IsDigit (b : ℕ) : Type 0 where
+  pub low : 48 ≤ b
+  pub high : b ≤ 57
+
+pub digit_bounds : (b : ℕ) → is_digit b ≡ true → IsDigit b
+digit_bounds b h = let bounds = and_parts _ _ h in record { low = leb-true 48 b bounds.0; high = leb-true b 57 bounds.1 }
 
 -- what was read before is within the value
 pub value_after-grows : (n : ℕ) (digits : List ℕ) → n ≤ value_after n digits
@@ -29,11 +38,11 @@ IsReadTo-more digits place n inside read =
     let digit = get_or digits place 0 in
     let split = drop_more digits place 0 inside in
     let tests = and_parts (is_digit digit) (list_all is_digit (drop (place + 1) digits)) (ap (list_all is_digit) (sym split) ∙ read.all_digits) in
-    let bounds = and_parts _ _ tests.0 in
+    let bounds = digit_bounds digit tests.0 in
     let value : value_after (n * 10 + (digit - 48)) (drop (place + 1) digits) ≡ value_of digits = ap (value_after n) (sym split) ∙ read.value in
     record {
-      low = leb-true 48 digit bounds.0;
-      high = leb-true digit 57 bounds.1;
+      low = bounds.low;
+      high = bounds.high;
       next = record { all_digits = tests.1; value = value };
       within = omega (arith, value_after-grows (n * 10 + (digit - 48)) (drop (place + 1) digits));
     }
@@ -46,8 +55,7 @@ pub value_after-below : (n : ℕ) (digits : List ℕ) → list_all is_digit digi
 value_after-below n [] h = omega arith
 value_after-below n (digit ∷ digits) h =
     let tests = and_parts (is_digit digit) (list_all is_digit digits) h in
-    let bounds = and_parts _ _ tests.0 in
-    let high = leb-true digit 57 bounds.1 in
+    let high = (digit_bounds digit tests.0).high in
     let more = value_after-below (n * 10 + (digit - 48)) digits tests.1 in
     let power = 10 ^ length digits in
     let wide : (n * 10 + (digit - 48) + 1) * power ≤ ((n + 1) * 10) * power = mul-le (n * 10 + (digit - 48) + 1) power ((n + 1) * 10) power (omega arith) (omega arith) in
@@ -58,3 +66,12 @@ pub value_of-few : (digits : List ℕ) → list_all is_digit digits ≡ true →
 value_of-few digits h few =
     let power : 10 ^ length digits ≤ 10 ^ 8 = pow-le-pow_right (omega arith) few in
     omega (arith, value_after-below 0 digits h, power)
+
+-- one digit more at a place of a text
+pub value_after-digit : (text : List ℕ) (place n : ℕ) → place < length text → is_digit (get_or text place 0) ≡ true
+    → value_after n (take_while is_digit (drop place text)) ≡ value_after (n * 10 + (get_or text place 0 - 48)) (take_while is_digit (drop (place + 1) text))
+value_after-digit text place n inside is_one =
+    let digit = get_or text place 0 in
+    let rest = drop (place + 1) text in
+    let here : take_while is_digit (digit ∷ rest) ≡ digit ∷ take_while is_digit rest = take_while-cons is_digit digit rest ∙ rw is_one refl in
+    ap (λ (xs : List ℕ). value_after n (take_while is_digit xs)) (drop_more text place 0 inside) ∙ ap (value_after n) here

@@ -1,7 +1,9 @@
 -- What a lexer answers at a place, and what it goes past before it.
 use Rattle.std.specs.Prelude.{◌≡◌, ◌≢◌, ◌⊎◌, ℕ, ◌+◌, ◌-◌, ◌<◌, ◌≤◌, List, [], ◌∷◌, length, drop, slice_index, Option, Some, None, Result, Ok, Err, IsTrue}
 use Rattle.gm_model.specs.declared.token.Token.{Token}
-use Rattle.gm_model.specs.Tokens.{Item, Lexed, StrayAt, EndAt, Front, Lexeme, front_of, items_at, is_blank, is_hash, IsLongest, HasNoLexeme}
+use Rattle.gm_model.specs.declared.token.TokenKind.TheVariants as kinds
+use Rattle.gm_model.specs.Symbols.{value_of}
+use Rattle.gm_model.specs.Tokens.{Item, Lexed, StrayAt, EndAt, Front, Lexeme, front_of, items_at, is_blank, is_hash, bytes_of, IsLongest, HasNoLexeme}
 use Rattle.gm_text.specs.declared.fault.LexFault.{LexFault}
 use Rattle.gm_text.specs.Cursor.{Cursor}
 
@@ -20,6 +22,19 @@ abbrev pub after : Result (Option Token) LexFault → Cursor → Cursor
 after (Ok (Some token)) cursor = record cursor { place = token.end }
 after (Ok None) cursor = record cursor { place = length cursor.text }
 after (Err fault) cursor = cursor
+
+-- a number of this value stands next, at the place, and ends where the new lexer is
+pub record IsNumberRead (value place : ℕ) (old new : Cursor) : Type 0 where
+  pub text : new.text ≡ old.text
+  pub answer : rest_of old ≡ Lexed (record { kind = kinds.Number; start = place; end = new.place }) ∷ rest_of new
+  pub value_is : value ≡ value_of (bytes_of old.text (record { kind = kinds.Number; start = place; end = new.place }))
+
+-- this sign of one byte stands next, and ends where the new lexer is
+pub record IsSignRead (sign : ℕ) (old new : Cursor) : Type 0 where
+  pub place : ℕ
+  pub text : new.text ≡ old.text
+  pub answer : rest_of old ≡ Lexed (record { kind = kinds.Sign; start = place; end = new.place }) ∷ rest_of new
+  pub sign_is : bytes_of old.text (record { kind = kinds.Sign; start = place; end = new.place }) ≡ sign ∷ []
 
 -- where the answer stands
 abbrev pub stand_of : List ℕ → Result (Option Token) LexFault → ℕ

@@ -1,14 +1,23 @@
-ghost use Rattle.std.specs.Prelude.{◌≡◌, ◌<◌, ◌≤◌, ◌^◌, length, IsTrue, MatchOption};
+ghost use Rattle.std.specs.Prelude.{◌≡◌, ℕ, ◌<◌, ◌≤◌, ◌^◌, false, length, IsTrue, IfSome, IfNone, MatchOption};
 ghost use Rattle.std.specs.List.{list_all};
 ghost use Rattle.gm_model.specs.declared.token.TokenKind.TheVariants.{Number};
-ghost use Rattle.gm_model.specs.Tokens.{bytes_of, is_digit, IsLexeme};
+ghost use Rattle.gm_model.specs.Tokens.{bytes_of, IsLexeme};
+ghost use Rattle.gm_model.specs.Tokens as tokens;
 ghost use Rattle.gm_model.specs.Symbols.{value_of};
-ghost use Rattle.gm_text.specs.Lexing.{rest_of, items_read, after, stand_of, IsInText, IsLongestThere, IsGap};
+ghost use Rattle.gm_text.specs.Lexing.{rest_of, items_read, after, stand_of, IsInText, IsLongestThere, IsGap, IsNumberRead, IsSignRead};
 
+use crate::bytes::is_digit;
 use crate::fault::LexFault;
-use crate::scan::{gap_end, number_near, token_at};
+use crate::scan::{Small, behind_blank, gap_end, number_near, small_at, token_at};
 use gm_model::Token;
 use std::marker::Model;
+
+/// A number below 100,000,000, and where it stands.
+#[derive(Clone, Copy)]
+pub struct SmallNumber {
+    pub value: u32,
+    pub place: usize,
+}
 
 /// Reads a text from left to right, one token at a time. Nothing is copied. Contracts see the
 /// text and the place that the lexer has come to.
@@ -98,6 +107,42 @@ impl<'a> Lexer<'a> {
         }
     }
 
+    /// The number that stands next, which the lexer goes past, where it is below 100,000,000 and
+    /// nothing stands before it but one blank at most. `None` says nothing of what stands next, and
+    /// the lexer is then as before.
+    pub fn small_number(&mut self) -> Option<SmallNumber>
+        ensures number { IfSome result (λ found. IsNumberRead found.value found.place self.old self.new) }
+        ensures none { IfNone result (self.new ≡ self.old) }
+    {
+        let start = behind_blank(self.source, self.at);
+        if start < self.source.len() && is_digit(self.source[start]) {
+            let Small { value, end } = small_at(self.source, start)?;
+            self.at = end;
+            return Some(SmallNumber {
+                value,
+                place: start,
+            });
+        }
+        None
+    }
+
+    /// Whether this sign of one byte stands next, and nothing before it but one blank at most. The
+    /// lexer then goes past it. `false` says nothing of what stands next, and the lexer is then as
+    /// before.
+    pub fn small_sign(&mut self, sign: u8) -> bool
+        requires sign { IsTrue (tokens.is_sign sign) }
+        requires alone { (c : ℕ) → tokens.is_two_byte_sign sign c ≡ false }
+        ensures read { IsTrue result → IsSignRead sign self.old self.new }
+        ensures none { result ≡ false → self.new ≡ self.old }
+    {
+        let start = behind_blank(self.source, self.at);
+        if start < self.source.len() && self.source[start] == sign {
+            self.at = start + 1;
+            return true;
+        }
+        false
+    }
+
     /// The end of the last token that `next` answered: 0 before the first, and the text's length
     /// once `next` has answered `None`.
     pub fn place(&self) -> usize
@@ -131,7 +176,7 @@ impl<'a> Lexer<'a> {
 }
 
 fn value_of_digits(digits: &[u8]) -> Option<u64>
-    requires { IsTrue (list_all is_digit digits.now) }
+    requires { IsTrue (list_all tokens.is_digit digits.now) }
     ensures { MatchOption result (2 ^ 64 ≤ value_of digits.now) (λ n. n ≡ value_of digits.now) }
 {
     if digits.len() <= 8 {
@@ -143,7 +188,7 @@ fn value_of_digits(digits: &[u8]) -> Option<u64>
 
 /// The value of digits that are too few to pass the greatest `u64`.
 fn value_of_few_digits(digits: &[u8]) -> u64
-    requires digits { IsTrue (list_all is_digit digits.now) }
+    requires digits { IsTrue (list_all tokens.is_digit digits.now) }
     requires few { length digits.now ≤ 8 }
     ensures { result ≡ value_of digits.now }
 {
@@ -155,7 +200,7 @@ fn value_of_few_digits(digits: &[u8]) -> u64
 }
 
 fn value_of_many_digits(digits: &[u8]) -> Option<u64>
-    requires { IsTrue (list_all is_digit digits.now) }
+    requires { IsTrue (list_all tokens.is_digit digits.now) }
     ensures { MatchOption result (2 ^ 64 ≤ value_of digits.now) (λ n. n ≡ value_of digits.now) }
 {
     let mut value: u64 = 0;

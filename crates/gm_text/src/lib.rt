@@ -23,7 +23,7 @@ pub use laws::{
     a_printed_schema_is_read_again, no_schema_at_a_fault, one_schema_at_most,
     one_schema_fault_at_most,
 };
-pub use lexer::Lexer;
+pub use lexer::{Lexer, SmallNumber};
 pub use schema_fault::SchemaFault;
 pub use schema_printing::print_schema;
 pub use schema_reading::{read_schema, skip_schema};

@@ -1,5 +1,6 @@
-ghost use Rattle.std.specs.Prelude.{◌≡◌, ◌+◌, ◌<◌, ◌≤◌, ◌||◌, true, false, not, length, drop, slice_index, IfSome, MatchOption};
+ghost use Rattle.std.specs.Prelude.{◌≡◌, ◌+◌, ◌<◌, ◌≤◌, ◌||◌, true, false, not, length, drop, slice_index, IsTrue, IfSome, MatchOption};
 ghost use Rattle.std.specs.List.{take_while};
+ghost use Rattle.gm_model.specs.Symbols.{value_of};
 ghost use Rattle.gm_model.specs.Tokens as tokens;
 ghost use Rattle.gm_text.specs.Lexing.{IsGap, IsTokenAt, front_at};
 
@@ -48,8 +49,34 @@ pub fn number_near(text: &[u8], from: usize) -> Option<Token>
     None
 }
 
+/// A number below 100,000,000, and where it ends.
+pub struct Small {
+    pub value: u32,
+    pub end: usize,
+}
+
+/// The number whose first digit stands at `start`, where it is below 100,000,000.
+pub fn small_at(text: &[u8], start: usize) -> Option<Small>
+    requires inside { start < length text.now }
+    requires digit { IsTrue (tokens.is_digit (slice_index text.now start)) }
+    ensures end { IfSome result (λ small. small.end ≡ start + 1 + length (take_while tokens.is_digit (drop (start + 1) text.now))) }
+    ensures within { IfSome result (λ small. small.end ≤ length text.now) }
+    ensures value { IfSome result (λ small. small.value ≡ value_of (take_while tokens.is_digit (drop start text.now))) }
+{
+    let mut value = u32::from(text[start] - b'0');
+    let mut at = start + 1;
+    while at < text.len() && is_digit(text[at]) {
+        if value > 9_999_999 {
+            return None;
+        }
+        value = value * 10 + u32::from(text[at] - b'0');
+        at += 1;
+    }
+    Some(Small { value, end: at })
+}
+
 /// The place itself, or the next one where a blank stands at it.
-fn behind_blank(text: &[u8], from: usize) -> usize
+pub fn behind_blank(text: &[u8], from: usize) -> usize
     requires { from ≤ length text.now }
     ensures behind { from ≤ result }
     ensures within { result ≤ length text.now }

@@ -1,7 +1,8 @@
 -- What is asked, and what the load of its file and the judgement of its bytes make of it.
 use Rattle.std.proofs.Common.{◌≡◌, ◌⊎◌, ℕ, List, [], ◌∷◌, ◌++◌, inl, inr, Option, Some, None, Result, Ok, Err, length, get_or, refl, sym, ap, ◌∙◌, subst, arith}
 use Rattle.std.specs.Global.{Vec}
-use Rattle.std.specs.Prelude.{IfSome, IfOk, IsErrOf, codes, ◌==◌, if◌then◌else◌, Bool, true, false}
+use Rattle.std.specs.Prelude.{IfSome, IfOk, IsErrOf, codes, decimal, ◌==◌, if◌then◌else◌, Bool, true, false}
+use Rattle.std.specs.Str.{bytes_eq}
 use Rattle.gm_host.specs.Store.{Contents, Lacks, IsCutFrom, IsCutFromHeld, IsLongerThan, OnAbsent, OnFailed, IfTooLong}
 use Rattle.gm_host.specs.declared.fault.LoadFault.{LoadFault}
 use Rattle.gm_host.specs.declared.fault.LoadFault.TheVariants as faults
@@ -9,7 +10,8 @@ use Rattle.gm_tool.specs.Answer.{most_bytes, Answer, answers, Files, IsFileAnswe
 use Rattle.gm_tool.specs.Endings.{IsEnding, Whole, LoadFailed, SaveFailed, IsStored, IsTextOf}
 use Rattle.gm_tool.specs.MadeRuns.{IsRunText, IsSoundReply, HasCause, LacksInput, HoldsMap, IsRunStatus}
 use Rattle.gm_tool.specs.Migrating.{MigrateNames, AsksMigrate, IsMigrateText, IsMigrateStatus}
-use Rattle.gm_tool.specs.Program.{IsCommand, IsRunCommand, Usage, OfFile, OfRun, OfMigrate}
+use Rattle.gm_tool.specs.GridAnswer.{AsksGrid, IsGridReply}
+use Rattle.gm_tool.specs.Program.{IsCommand, IsFileCommand, IsRunCommand, IsSavingCommand, ReadsNoFile, ReadsOneFile, Usage, OfFile, OfRun, OfMigrate, OfGrid}
 use Rattle.gm_tool.specs.RunAnswer.{RunNames, AsksRun}
 use Rattle.gm_lines.specs.Checking.{check_status}
 use Rattle.gm_tool.specs.Answer as answer
@@ -185,6 +187,14 @@ module _ (words : List (List ℕ)) (load_fails : ℕ → Type 0) (save_fails : T
   migrate_text None named asks h = tt
   migrate_text (Some files) named asks h = text_to (λ given is. OfMigrate named asks is) (λ given is. tool.OfMigrate named asks is) files save_fails after reply h
 
+-- the line of a grid, which reads no file
+pub grid_text : (words : List (List ℕ)) (m : ℕ) → AsksGrid words m → (load_fails : ℕ → Type 0) (save_fails : Type 0) (contents : Contents) (reply : Result Reply NoText) → IsGridReply m reply
+    → IfSome contents (λ files. IsText words files load_fails save_fails contents reply)
+grid_text words m asks load_fails save_fails None reply h = tt
+grid_text words m asks load_fails save_fails (Some files) (Ok reply) (zero, text) = Whole (answers 0 reply.text.items) (OfGrid m asks (reply.text.items, text, refl)) zero refl refl
+grid_text words m asks load_fails save_fails (Some files) (Err nothing.OutOfMemory) h = refl
+grid_text words m asks load_fails save_fails (Some files) (Err (nothing.Refused why)) h = absurd cc
+
 pub usage_text : (words : List (List ℕ)) (load_fails : ℕ → Type 0) (save_fails : Type 0) (contents : Contents) → (IsCommand words → ⊥) → IfSome contents (λ files. IsText words files load_fails save_fails contents (Err (nothing.Refused refusals.Usage)))
 usage_text words load_fails save_fails None none = tt
 usage_text words load_fails save_fails (Some files) none = Whole (refusal_answer refusals.Usage) (Usage none refl) refl refl refl
@@ -228,6 +238,9 @@ pub file_refused : (words : List (List ℕ)) (command : answer.Command) (name : 
 file_refused words command name R asks (Ok reply) h = λ one. inl (name, subst (λ c. Asks words c name) (h one) asks)
 file_refused words command name R asks (Err none) h = tt
 
+pub differ : (a b : List ℕ) → bytes_eq a a ≡ true → bytes_eq a b ≡ false → a ≡ b → ⊥
+differ a b same other e = let both : true ≡ false = sym same ∙ ap (bytes_eq a) e ∙ other in absurd cc
+
 -- no words are two of the commands
 pub file_is_no_run : (words : List (List ℕ)) (command : answer.Command) (name : List ℕ) (named : RunNames) → Asks words command name → AsksRun words named → ⊥
 file_is_no_run words command name named asks runs = let e : length words ≡ 2 = ap length asks in let f : length words ≡ 5 = ap length runs in omega (arith, e, f)
@@ -237,6 +250,41 @@ file_is_no_migrate words command name named asks migrates = let e : length words
 
 pub run_is_no_migrate : (words : List (List ℕ)) (named : RunNames) (other : MigrateNames) → AsksRun words named → AsksMigrate words other → ⊥
 run_is_no_migrate words named other runs migrates = let e : length words ≡ 5 = ap length runs in let f : length words ≡ 3 = ap length migrates in omega (arith, e, f)
+
+pub file_is_no_grid : (words : List (List ℕ)) (command : answer.Command) (name : List ℕ) (m : ℕ) → Asks words command name → AsksGrid words m → ⊥
+file_is_no_grid words command name m asks grid = other command asks
+  where
+    same : (command : answer.Command) → Asks words command name → answer.command_word command ≡ codes "grid"
+    same command asks =
+        let both : ◌≡◌ {A = List (List ℕ)} (answer.command_word command ∷ name ∷ []) (codes "grid" ∷ decimal m ∷ []) = sym asks ∙ grid.is in
+        cc both
+
+    other : (command : answer.Command) → Asks words command name → ⊥
+    other answer.Show asks = differ (codes "show") (codes "grid") refl refl (same answer.Show asks)
+    other answer.Book asks = differ (codes "book") (codes "grid") refl refl (same answer.Book asks)
+    other answer.Check asks = differ (codes "check") (codes "grid") refl refl (same answer.Check asks)
+    other answer.Cells asks = differ (codes "cells") (codes "grid") refl refl (same answer.Cells asks)
+
+pub run_is_no_grid : (words : List (List ℕ)) (named : RunNames) (m : ℕ) → AsksRun words named → AsksGrid words m → ⊥
+run_is_no_grid words named m runs grid = let e : length words ≡ 5 = ap length runs in let f : length words ≡ 2 = ap length grid.is in omega (arith, e, f)
+
+pub migrate_is_no_grid : (words : List (List ℕ)) (named : MigrateNames) (m : ℕ) → AsksMigrate words named → AsksGrid words m → ⊥
+migrate_is_no_grid words named m migrates grid = let e : length words ≡ 3 = ap length migrates in let f : length words ≡ 2 = ap length grid.is in omega (arith, e, f)
+
+-- a grid is no command that reads a file
+pub grid_reads_none : (words : List (List ℕ)) (m : ℕ) → AsksGrid words m → IsFileCommand words ⊎ IsSavingCommand words → ⊥
+grid_reads_none words m grid (inl (command, name, asks)) = file_is_no_grid words command name m asks grid
+grid_reads_none words m grid (inr (inl (named, runs))) = run_is_no_grid words named m runs grid
+grid_reads_none words m grid (inr (inr (named, migrates))) = migrate_is_no_grid words named m migrates grid
+
+pub reads_some : (words : List (List ℕ)) → IsFileCommand words ⊎ IsSavingCommand words → ReadsNoFile words → ⊥
+reads_some words (inl file) (inl none) = none (inl file)
+reads_some words (inr saves) (inl none) = none (inr (inl saves))
+reads_some words reads (inr (m, grid)) = grid_reads_none words m grid reads
+
+pub grid_reads_no_one : (words : List (List ℕ)) (m : ℕ) → AsksGrid words m → ReadsOneFile words → ⊥
+grid_reads_no_one words m grid (inl file) = grid_reads_none words m grid (inl file)
+grid_reads_no_one words m grid (inr migrates) = grid_reads_none words m grid (inr (inr migrates))
 
 -- the files of a run are those that its words name
 pub same_named : (words : List (List ℕ)) (one other : RunNames) → AsksRun words one → AsksRun words other → one ≡ other
@@ -296,3 +344,30 @@ file_holds words command name contents asks (Ok reply) = λ status. (
   λ named migrates. absurd (file_is_no_migrate words command name named asks migrates),
 )
 file_holds words command name contents asks (Err none) = tt
+
+-- ---- a grid: done, or without memory
+
+module _ (m : ℕ) where
+  pub grid_status : (reply : Result Reply NoText) → IsGridReply m reply → IfOk reply (λ r. IsReplyStatus r.status)
+  grid_status (Ok reply) h = inl h.0
+  grid_status (Err none) h = tt
+
+  pub grid_refused : (P : Type 0) (reply : Result Reply NoText) → IsGridReply m reply → IfOk reply (λ r. r.status ≡ 1 → P)
+  grid_refused P (Ok reply) h = λ one. absurd (let f : ◌≡◌ {A = ℕ} 0 1 = sym h.0 ∙ one in cc)
+  grid_refused P (Err none) h = tt
+
+  pub grid_no_usage : (reply : Result Reply NoText) → IsGridReply m reply → IsErrOf reply (nothing.Refused refusals.Usage) → ⊥
+  grid_no_usage (Ok reply) h e = absurd cc
+  grid_no_usage (Err none) h e = absurd cc
+
+  pub grid_cause : (P Q : Type 0) (reply : Result Reply NoText) → IsGridReply m reply → HasCause reply P Q
+  grid_cause P Q (Ok reply) h = tt
+  grid_cause P Q (Err nothing.OutOfMemory) h = tt
+  grid_cause P Q (Err (nothing.Refused why)) h = absurd cc
+
+  pub grid_holds : (words : List (List ℕ)) → AsksGrid words m → (contents : Contents) (reply : Result Reply NoText) → IfOk reply (λ r. IsRunStatus r.status → HoldsSavedMap words contents)
+  grid_holds words grid contents (Ok reply) = λ status. (
+    λ named runs. absurd (run_is_no_grid words named m runs grid),
+    λ named migrates. absurd (migrate_is_no_grid words named m migrates grid),
+  )
+  grid_holds words grid contents (Err none) = tt

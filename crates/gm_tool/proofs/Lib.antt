@@ -24,4 +24,7 @@ mod SameRows
 mod OneRan
 mod OneRunAnswer
 mod OneMigration
+mod Grids
+mod OneGrid
+mod Gridding
 mod OneAnswer

@@ -46,7 +46,7 @@ status_is [] = inl refl
 status_is (runs.Done added removed ∷ outcomes) = status_is outcomes
 status_is (runs.Refused cause ∷ outcomes) = inr refl
 
-rules_planned : (schema : Schema) (tables : List RuleTable) → rules_of (map (plan_of schema) tables) ≡ map rule_of tables
+pub rules_planned : (schema : Schema) (tables : List RuleTable) → rules_of (map (plan_of schema) tables) ≡ map rule_of tables
 rules_planned schema [] = refl
 rules_planned schema (table ∷ tables) = ap (λ rules. rule_of table ∷ rules) (rules_planned schema tables)
 

@@ -12,7 +12,7 @@ use Rattle.gm_model.specs.Orbits.{IsLead}
 use Rattle.gm_theory.proofs.ValuesUnique.{one_count}
 use Rattle.gm_tool.specs.Answer.{TellsCells}
 
-one_by_label : (n : ℕ) (Is : ℕ → ℕ → Type 0) → ((i a b : ℕ) → Is i a → Is i b → a ≡ b) → (xs ys : List ℕ) → AreByLabel n Is xs → AreByLabel n Is ys → xs ≡ ys
+pub one_by_label : (n : ℕ) (Is : ℕ → ℕ → Type 0) → ((i a b : ℕ) → Is i a → Is i b → a ≡ b) → (xs ys : List ℕ) → AreByLabel n Is xs → AreByLabel n Is ys → xs ≡ ys
 one_by_label n Is one xs ys a b = same_lists xs ys (a.one_each ∙ sym b.one_each) (λ i x within.
     let long : length xs ≡ n + 1 = a.one_each in
     let wide : length ys ≡ n + 1 = b.one_each in

@@ -1,5 +1,5 @@
 -- What is put, and the status that comes of it.
-use Rattle.std.proofs.Common.{◌≡◌, ℕ, List, ◌++◌, inl, inr, Option, Some, None, Ok, Err, take, refl, sym, ◌∙◌, subst}
+use Rattle.std.proofs.Common.{◌≡◌, ℕ, ◌<◌, List, ◌++◌, inl, inr, Option, Some, None, Ok, Err, take, refl, sym, ◌∙◌, subst, arith}
 use Rattle.std.specs.Prelude.{IfSome, IsErrOf}
 use Rattle.gm_host.specs.Store.{Contents}
 use Rattle.gm_tool.specs.Answer.{Files}
@@ -93,6 +93,21 @@ not_one (refusals.Size role) e = absurd cc
 not_one refusals.SizeOutput e = absurd cc
 not_one refusals.Agree e = absurd cc
 not_one refusals.Save e = absurd cc
+
+-- and so is none of 6 and 7, which are left of a put that failed
+module _ (before after : Option (List ℕ)) (fails : Type 0) (bytes : List ℕ) (given status : ℕ) (is : IsReplyStatus given) where
+  reply_is_low : given < 5
+  reply_is_low = elim is [ inl zero ↦ omega (arith, zero) | inr (inl one) ↦ omega (arith, one) | inr (inr four) ↦ omega (arith, four) ]
+
+  pub reply_six : IsPut before after fails bytes given status → status ≡ 6 → fails
+  reply_six (inl p) is_six = let low = reply_is_low in let same = p.0 in absurd (omega (arith, low, same, is_six))
+  reply_six (inr (inl p)) is_six = p.1
+  reply_six (inr (inr p)) is_six = absurd (let e : 7 ≡ 6 = sym p.0 ∙ is_six in cc)
+
+  pub reply_seven : IsPut before after fails bytes given status → status ≡ 7 → after ≡ before
+  reply_seven (inl p) is_seven = let low = reply_is_low in let same = p.0 in absurd (omega (arith, low, same, is_seven))
+  reply_seven (inr (inl p)) is_seven = absurd (let e : 6 ≡ 7 = sym p.0 ∙ is_seven in cc)
+  reply_seven (inr (inr p)) is_seven = p.1
 
 -- ---- causes
 

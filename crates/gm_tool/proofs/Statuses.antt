@@ -1,33 +1,38 @@
 -- The status of a run, line by line.
-use Rattle.std.proofs.Common.{◌≡◌, ℕ, ◌+◌, ◌<◌, ◌≤◌, true, false, not, List, ◌∷◌, drop, get_or, length, map, refl, sym, ap, ◌∙◌}
-use Rattle.std.proofs.lemmas.List.{drop_more, drop_all, get_or_default}
-use Rattle.gm_run.specs.declared.outcome.Outcome.{Outcome}
-use Rattle.gm_run.specs.declared.outcome.Outcome.TheVariants as outcomes
+use Rattle.std.proofs.Common.{◌≡◌, ℕ, ◌+◌, ◌<◌, ◌≤◌, Bool, true, false, not, List, ◌∷◌, drop, get_or, length, Some, refl, sym, ap, ◌∙◌, arith}
+use Rattle.std.proofs.lemmas.List.{drop_all}
 use Rattle.gm_model.specs.Runs.{is_done}
-use Rattle.gm_run.specs.Lines.{outcome_of}
+use Rattle.gm_model.specs.Runs as runs
+use Rattle.gm_run.specs.declared.outcome.Outcome.{Outcome}
+use Rattle.gm_run.specs.Lines.{outcome_of, Tells}
+use Rattle.gm_run.proofs.Telling.{IsToldAt, as_many, behind, told_at}
 use Rattle.gm_tool.specs.RunAnswer.{run_status}
 
-module _ (all : List Outcome) (k : ℕ) where
-  pub goes_on : (outcome : Outcome) → k < length all → outcome ≡ get_or all k outcome → not (is_done (outcome_of outcome)) ≡ false → run_status (map outcome_of (drop k all)) ≡ run_status (map outcome_of all)
-      → run_status (map outcome_of (drop (k + 1) all)) ≡ run_status (map outcome_of all)
-  goes_on outcome within at done before = sym (step outcome done) ∙ (sym (ap (λ os. run_status (map outcome_of os)) (drop_more all k outcome within ∙ ap (λ o. o ∷ drop (k + 1) all) (sym at))) ∙ before)
-    where
-      step : (o : Outcome) → not (is_done (outcome_of o)) ≡ false → run_status (map outcome_of (o ∷ drop (k + 1) all)) ≡ run_status (map outcome_of (drop (k + 1) all))
-      step (outcomes.Done applied) e = refl
-      step (outcomes.Refused refusal) e = absurd cc
+-- the lines from this one on have the status of all lines
+abbrev pub IsStatusFrom : List runs.Outcome → ℕ → Type 0
+IsStatusFrom told k = run_status (drop k told) ≡ run_status told
 
-  pub stops : (outcome : Outcome) → k < length all → outcome ≡ get_or all k outcome → not (is_done (outcome_of outcome)) ≡ true → run_status (map outcome_of (drop k all)) ≡ run_status (map outcome_of all)
-      → 1 ≡ run_status (map outcome_of all)
-  stops outcome within at refused before = sym (step outcome refused) ∙ (sym (ap (λ os. run_status (map outcome_of os)) (drop_more all k outcome within ∙ ap (λ o. o ∷ drop (k + 1) all) (sym at))) ∙ before)
-    where
-      step : (o : Outcome) → not (is_done (outcome_of o)) ≡ true → run_status (map outcome_of (o ∷ drop (k + 1) all)) ≡ 1
-      step (outcomes.Done applied) e = absurd cc
-      step (outcomes.Refused refusal) e = refl
+module _ (lines : List Outcome) (told : List runs.Outcome) (tells : Tells lines told) (k : ℕ) where
+  module _ (line d : Outcome) (within : k < length lines) (line_is : line ≡ get_or lines k d) (refused : Bool) (is : (outcome : runs.Outcome) → outcome_of line ≡ Some outcome → refused ≡ not (is_done outcome)) (before : IsStatusFrom told k) where
+    here : IsToldAt lines told tells k line
+    here = told_at lines told tells k line d within line_is
 
-  pub ends : length all ≤ k → run_status (map outcome_of (drop k all)) ≡ run_status (map outcome_of all) → 0 ≡ run_status (map outcome_of all)
-  ends past before = sym (ap (λ os. run_status (map outcome_of os)) (drop_all k all past)) ∙ before
+    from_here : run_status (here.outcome ∷ drop (k + 1) told) ≡ run_status told
+    from_here = sym (ap run_status (behind told k here.outcome here.at)) ∙ before
 
--- the same, where the outcome is read at its place
-pub goes_on_at : (all : List Outcome) (k : ℕ) (d : Outcome) → k < length all → not (is_done (outcome_of (get_or all k d))) ≡ false → run_status (map outcome_of (drop k all)) ≡ run_status (map outcome_of all)
-    → run_status (map outcome_of (drop (k + 1) all)) ≡ run_status (map outcome_of all)
-goes_on_at all k d within done before = goes_on all k (get_or all k d) within (get_or_default all k d (get_or all k d) within) done before
+    pub goes_on : refused ≡ false → IsStatusFrom told (k + 1)
+    goes_on done = sym (step here.outcome (sym (is here.outcome here.is) ∙ done)) ∙ from_here
+      where
+        step : (outcome : runs.Outcome) → not (is_done outcome) ≡ false → run_status (outcome ∷ drop (k + 1) told) ≡ run_status (drop (k + 1) told)
+        step (runs.Done added removed) e = refl
+        step (runs.Refused cause) e = absurd cc
+
+    pub stops : refused ≡ true → 1 ≡ run_status told
+    stops at_line = sym (step here.outcome (sym (is here.outcome here.is) ∙ at_line)) ∙ from_here
+      where
+        step : (outcome : runs.Outcome) → not (is_done outcome) ≡ true → run_status (outcome ∷ drop (k + 1) told) ≡ 1
+        step (runs.Done added removed) e = absurd cc
+        step (runs.Refused cause) e = refl
+
+  pub ends : length lines ≤ k → IsStatusFrom told k → 0 ≡ run_status told
+  ends past before = sym (ap run_status (drop_all k told (let many = as_many lines told tells in omega (arith, many, past)))) ∙ before

@@ -27,7 +27,9 @@ use Rattle.gm_model.specs.Orbits.{HasCount}
 use Rattle.gm_model.specs.Rules.{rule_of}
 use Rattle.gm_model.specs.Runs.{Outcome, IsRun, IsRunBudget, changed_darts}
 use Rattle.gm_plan.specs.Plans.{PlanOf}
+use Rattle.gm_run.specs.declared.outcome.Outcome as report
 use Rattle.gm_run.specs.Alike.{AreAlike}
+use Rattle.gm_run.specs.Lines.{Tells}
 use Rattle.gm_run.specs.Progress.{rules_of}
 use Rattle.gm_theory.proofs.ValuesUnique.{one_count}
 use Rattle.gm_tool.specs.Answer.{Files}
@@ -88,9 +90,9 @@ module _ (version : MapVersion) (m after : ArenaMap) (book : Book) (script : Scr
       (subst (λ rules. IsRunBudget rules (as_map m) script.lines ran.outcomes (map_of ran.map) sum) (sym (same_rules m book script plans can))
       (subst (λ x. IsRunBudget (map rule_of book.rules) x script.lines ran.outcomes (map_of ran.map) sum) (sym (same_map m)) budget))
 
-  module _ (lawful_after : IsLawful after) (outcomes : List Outcome)
-      (only : (others : List Outcome) (end : Map) → IsRun (rules_of plans) (as_map m) script.lines others end → (others ≡ outcomes) × AreAlike end (as_map after)) where
-    of_ran : (ran : Ran) → IsRan inputs ran → (ran.outcomes ≡ outcomes) × AreAlike (map_of ran.map) (as_map after)
+  module _ (lawful_after : IsLawful after) (lines : List report.Outcome)
+      (only : (outcomes : List Outcome) (end : Map) → IsRun (rules_of plans) (as_map m) script.lines outcomes end → Tells lines outcomes × AreAlike end (as_map after)) where
+    of_ran : (ran : Ran) → IsRan inputs ran → Tells lines ran.outcomes × AreAlike (map_of ran.map) (as_map after)
     of_ran ran is =
         only ran.outcomes (map_of ran.map)
         (subst (λ rules. IsRun rules (as_map m) script.lines ran.outcomes (map_of ran.map)) (sym (same_rules m book script plans can))
@@ -112,11 +114,11 @@ module _ (version : MapVersion) (m after : ArenaMap) (book : Book) (script : Scr
         let last : steps ≤ middle + printing m.schema.dim (darts_left ran) = rw (left_counted ran is) (subst (λ n. steps ≤ middle + printing n after.count) dims printed) in
         omega (arith, first, last)
 
-    pub printed_least : (start middle steps : ℕ) → start + changed_darts outcomes ≤ middle → middle + after.count ≤ steps → RunsAtLeast inputs start steps
+    pub printed_least : (start middle steps : ℕ) → ((outcomes : List Outcome) → Tells lines outcomes → start + changed_darts outcomes ≤ middle) → middle + after.count ≤ steps → RunsAtLeast inputs start steps
     printed_least start middle steps ran_least printed ran is =
-        let changed = ap changed_darts (of_ran ran is).0 in
+        let changed = ran_least ran.outcomes (of_ran ran is).0 in
         let count = left_counted ran is in
-        omega (arith, ran_least, printed, changed, count)
+        omega (arith, printed, changed, count)
 
   -- a run that stops for want of memory prints nothing
   pub unprinted_within : (start steps : ℕ) → ((others : List Outcome) (end : Map) (most : ℕ) → IsRunBudget (rules_of plans) (as_map m) script.lines others end most → steps ≤ start + most)

@@ -12,16 +12,17 @@ use Rattle.gm_mapfile.specs.declared.reading.MapRead.{MapRead}
 use Rattle.gm_lines.specs.Refusing.{TheMap}
 use Rattle.gm_tool.specs.Answer.{Asks}
 use Rattle.gm_tool.specs.Answer as answer
+use Rattle.gm_tool.specs.GridAnswer.{AsksGrid}
 use Rattle.gm_tool.specs.MadeRuns.{IsRunStatus}
 use Rattle.gm_tool.specs.Migrating.{MigrateNames, AsksMigrate}
 use Rattle.gm_tool.specs.RunAnswer.{RunNames, AsksRun, IsBadMap}
-use Rattle.gm_tool.specs.StepBounds.{WithinMost, AtLeast, StaysWithin, TakesLeast, ShowsWithin, FileShowsWithin, ShowStaysWithin, MigrateStaysWithin, BytesReadWithin, ReadsWithin, printing}
+use Rattle.gm_tool.specs.StepBounds.{WithinMost, AtLeast, StaysWithin, TakesLeast, ShowsWithin, FileShowsWithin, ShowStaysWithin, MigrateStaysWithin, WithinGridMost, AtLeastOfGrid, GridStaysWithin, GridTakesLeast, BytesReadWithin, ReadsWithin, printing}
 use Rattle.gm_tool.specs.Stops.{IsReadMap, IsFrom, reply_of}
 use Rattle.gm_tool.specs.declared.refusal.NoText.{NoText}
 use Rattle.gm_tool.specs.declared.refusal.Stop.{Stop}
 use Rattle.gm_tool.specs.declared.reply.Reply.{Reply}
 use Rattle.gm_tool.proofs.Asking.{same_named, same_migrated}
-use Rattle.gm_tool.proofs.OneAnswer.{asked_once}
+use Rattle.gm_tool.proofs.OneAnswer.{asked_once, same_size}
 use Rattle.gm_tool.proofs.OneFile.{same_bytes}
 use Rattle.gm_tool.proofs.Saving.{stop_status, four_is_no_run}
 
@@ -113,6 +114,22 @@ migrated_within words named contents before after asks shown other asks_too = su
 pub none_migrated : (words : List (List ℕ)) (contents : Contents) (before after : ℕ) → ((named : MigrateNames) → AsksMigrate words named → ⊥) → MigrateStaysWithin words contents before after
 none_migrated words contents before after none named asks = absurd (none named asks)
 
+-- ---- a grid
+
+pub grid_within : (words : List (List ℕ)) (m before after : ℕ) → AsksGrid words m → WithinGridMost m before after → GridStaysWithin words before after
+grid_within words m before after asks within other asks_too = subst (λ n. WithinGridMost n before after) (same_size words m other asks asks_too) within
+
+pub none_gridded : (words : List (List ℕ)) (before after : ℕ) → ((m : ℕ) → AsksGrid words m → ⊥) → GridStaysWithin words before after
+none_gridded words before after none m asks = absurd (none m asks)
+
+pub grid_least : (words : List (List ℕ)) (m before after : ℕ) → AsksGrid words m → (reply : Result Reply NoText) → IfOk reply (λ _. AtLeastOfGrid m before after) → IfOk reply (λ r. GridTakesLeast words r.status before after)
+grid_least words m before after asks (Ok reply) h = λ other asks_too done. subst (λ n. AtLeastOfGrid n before after) (same_size words m other asks asks_too) h
+grid_least words m before after asks (Err none) h = tt
+
+pub no_grid_least : (words : List (List ℕ)) (before after : ℕ) → ((m : ℕ) → AsksGrid words m → ⊥) → (reply : Result Reply NoText) → IfOk reply (λ r. GridTakesLeast words r.status before after)
+no_grid_least words before after none (Ok reply) = λ m asks. absurd (none m asks)
+no_grid_least words before after none (Err error) = tt
+
 -- ---- the status
 
 -- of a report that was made and saved
@@ -143,3 +160,9 @@ least_refused words (Some files) status before after none = λ named asks run. a
 pub seven_is_no_run : IsRunStatus 7 → ⊥
 seven_is_no_run (inl e) = let f : ◌≡◌ {A = ℕ} 7 0 = e in cc
 seven_is_no_run (inr e) = let f : ◌≡◌ {A = ℕ} 7 1 = e in cc
+
+pub grid_least_put : (words : List (List ℕ)) (given status before after : ℕ) → (IsRunStatus status → IsRunStatus given) → GridTakesLeast words given before after → GridTakesLeast words status before after
+grid_least_put words given status before after runs h m asks run = h m asks (runs run)
+
+pub grid_least_refused : (words : List (List ℕ)) (status before after : ℕ) → (IsRunStatus status → ⊥) → GridTakesLeast words status before after
+grid_least_refused words status before after none m asks run = absurd (none run)

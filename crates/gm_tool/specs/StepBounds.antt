@@ -1,10 +1,14 @@
--- How many steps a run of the program takes: the most, and the least; and the most of a map that is shown or migrated.
+-- How many steps a run of the program and a grid take: the most, and the least; and the most of a map that is shown or migrated.
 use Rattle.std.specs.Prelude.{ℕ, ◌+◌, ◌*◌, ◌≤◌, List, length, IfSome}
+use Rattle.gm_grid.specs.GridMap.{dart_count}
 use Rattle.gm_host.specs.Store.{Contents}
 use Rattle.gm_mapfile.specs.MapText.{ListedMap, MapText, map_of}
 use Rattle.gm_mapfile.specs.declared.version.MapVersion.{MapVersion}
+use Rattle.gm_model.specs.Maps.{IsDart}
+use Rattle.gm_model.specs.Orbits.{HasCount}
 use Rattle.gm_model.specs.Runs.{IsRunBudget, changed_darts}
 use Rattle.gm_tool.specs.Answer.{Files, HasFile, Asks, Show}
+use Rattle.gm_tool.specs.GridAnswer.{AsksGrid, Gridded, IsGridded, grid_rules, grid_lines}
 use Rattle.gm_tool.specs.MadeRuns.{IsRunStatus}
 use Rattle.gm_tool.specs.Migrating.{MigrateNames, AsksMigrate}
 use Rattle.gm_tool.specs.RunAnswer.{RunNames, AsksRun, Inputs, Ran, IsRan, IsGoodRun}
@@ -82,6 +86,35 @@ ShowStaysWithin words contents before after = (name : List ℕ) → Asks words S
 abbrev pub MigrateStaysWithin : List (List ℕ) → Contents → ℕ → ℕ → Type 0
 MigrateStaysWithin words contents before after = (named : MigrateNames) → AsksMigrate words named → FileShowsWithin contents named.map before after
 
+-- ---- a grid
+
+-- the sum of the budgets of the lines, each at the map that it is applied to
+abbrev pub HasGridBudget : ℕ → Gridded → ℕ → Type 0
+HasGridBudget m made sum = IsRunBudget grid_rules made.grid (grid_lines m) made.outcomes made.after sum
+
+module _ (m : ℕ) where
+  -- the most steps: the budgets of the lines, and what it takes to handle the darts of the grid and those that are left
+  pub data IsGridMost : ℕ → Type 0 where
+    MostOfGrid : (made : Gridded) (left sum : ℕ) → IsGridded m made → HasGridBudget m made sum → HasCount (IsDart made.after) left → IsGridMost (sum + handling 2 (dart_count m) left)
+
+  -- the least: one for each dart that a line added or removed, and for each of the grid
+  pub data IsGridLeast : ℕ → Type 0 where
+    LeastOfGrid : (made : Gridded) → IsGridded m made → IsGridLeast (changed_darts made.outcomes + dart_count m)
+
+  abbrev pub WithinGridMost : ℕ → ℕ → Type 0
+  WithinGridMost before after = (most : ℕ) → IsGridMost most → after ≤ before + most
+
+  abbrev pub AtLeastOfGrid : ℕ → ℕ → Type 0
+  AtLeastOfGrid before after = (least : ℕ) → IsGridLeast least → before + least ≤ after
+
+-- where the words are a grid, no more steps than its most
+abbrev pub GridStaysWithin : List (List ℕ) → ℕ → ℕ → Type 0
+GridStaysWithin words before after = (m : ℕ) → AsksGrid words m → WithinGridMost m before after
+
+-- and where it is done, no fewer than its least
+abbrev pub GridTakesLeast : List (List ℕ) → ℕ → ℕ → ℕ → Type 0
+GridTakesLeast words status before after = (m : ℕ) → AsksGrid words m → IsRunStatus status → AtLeastOfGrid m before after
+
 -- ---- the parts of a run
 
 -- where the bytes stand for a map, no more steps than reading it
@@ -99,3 +132,17 @@ RunsWithin inputs before after = (ran : Ran) (sum : ℕ) → IsRan inputs ran �
 -- a step for each dart that a line added or removed, and for each that is left
 abbrev pub RunsAtLeast : Inputs → ℕ → ℕ → Type 0
 RunsAtLeast inputs before after = (ran : Ran) → IsRan inputs ran → before + changed_darts ran.outcomes + darts_left ran ≤ after
+
+-- ---- the parts of a grid
+
+-- what it takes to count the cells of a map of so many darts
+abbrev pub counting : ℕ → ℕ
+counting darts = 72 * darts
+
+-- no more steps than the budgets of the lines, and than counting the cells of the map that they leave
+abbrev pub GridRunsWithin : ℕ → ℕ → ℕ → Type 0
+GridRunsWithin m before after = (made : Gridded) (left sum : ℕ) → IsGridded m made → HasGridBudget m made sum → HasCount (IsDart made.after) left → after ≤ before + sum + counting left
+
+-- a step for each dart that a line added or removed
+abbrev pub GridRunsAtLeast : ℕ → ℕ → ℕ → Type 0
+GridRunsAtLeast m before after = (made : Gridded) → IsGridded m made → before + changed_darts made.outcomes ≤ after

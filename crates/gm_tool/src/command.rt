@@ -1,11 +1,14 @@
-ghost use Rattle.std.specs.Prelude.{MatchOption, ◌≡◌};
+ghost use Rattle.std.specs.Prelude.{MatchBool, MatchOption, ◌≡◌, ◌≤◌, ℕ, decimal};
 ghost use Rattle.gm_tool.specs.Answer.{Asks, command_word};
+ghost use Rattle.gm_tool.specs.GridAnswer.{AsksGrid};
 ghost use Rattle.gm_tool.specs.MadeRuns.{names_of};
 ghost use Rattle.gm_tool.specs.Migrating.{AsksMigrate, migrate_names_of};
-ghost use Rattle.gm_tool.specs.Program.{IsFileCommand, IsRunCommand, IsMigrateCommand};
+ghost use Rattle.gm_tool.specs.Program.{IsFileCommand, IsRunCommand, IsMigrateCommand, IsGridCommand};
 ghost use Rattle.gm_tool.specs.RunAnswer.{AsksRun};
 ghost use Rattle.gm_tool.specs.Refusals.{command_in, IsNoCommandWord};
 ghost use Rattle.gm_tool.specs.Tool.{words_of};
+
+use itoa::Buffer;
 
 /// A command on one file.
 #[derive(Clone, Copy, Debug, PartialEq, Eq)]
@@ -83,6 +86,38 @@ pub fn migrate_of(words: &[String]) -> Option<MigrateFiles<'_>>
         }),
         _ => None,
     }
+}
+
+/// The number M of `grid M`, or `None` where the words are anything else.
+pub fn grid_of(words: &[String]) -> Option<u8>
+    ensures { MatchOption result (IsGridCommand (words_of words.now) → ⊥) (λ size. AsksGrid (words_of words.now) size) }
+{
+    let [word, size] = words else {
+        return None;
+    };
+    match word.as_str() {
+        "grid" => size_of(size.as_str()),
+        _ => None,
+    }
+}
+
+/// The number from 1 to 100 that the word is the text of.
+fn size_of(word: &str) -> Option<u8>
+    ensures { MatchOption result ((m : ℕ) → 1 ≤ m → m ≤ 100 → word.now ≡ decimal m → ⊥) (λ size. (1 ≤ size) × (size ≤ 100) × (word.now ≡ decimal size)) }
+{
+    let size = word.parse::<u8>().ok()?;
+    if is_size(word, size) {
+        Some(size)
+    } else {
+        None
+    }
+}
+
+/// The number is from 1 to 100, and the word is its text, without a sign or a leading zero.
+fn is_size(word: &str, number: u8) -> bool
+    ensures { MatchBool result ((1 ≤ number) × (number ≤ 100) × (word.now ≡ decimal number)) (1 ≤ number → number ≤ 100 → word.now ≡ decimal number → ⊥) }
+{
+    1 <= number && number <= 100 && word == Buffer::new().format(number)
 }
 
 fn command_named(word: &str) -> Option<Command>

@@ -3,21 +3,21 @@ ghost use Rattle.std.specs.Process.{exit_status};
 ghost use Rattle.gm_host.specs.Count.{counted, Rises};
 ghost use Rattle.gm_tool.specs.Loads.{FailsAt, CountsLoads, UnlessNoMemory};
 ghost use Rattle.gm_tool.specs.MadeRuns.{LoadsAtMostThrice, IsRunStatus, IsSoundReply, HasCause};
-ghost use Rattle.gm_tool.specs.Program.{IsCommand, IsRunCommand, IsSavingCommand, ReadsOneFile};
+ghost use Rattle.gm_tool.specs.Program.{IsCommand, IsRunCommand, IsSavingCommand, ReadsOneFile, ReadsNoFile};
 ghost use Rattle.gm_tool.specs.Refusals.{command_in, IsRoleOf};
 ghost use Rattle.gm_tool.specs.Replies.{IsJudged};
 ghost use Rattle.gm_host.specs.Store.{Lacks};
 ghost use Rattle.gm_tool.specs.Answer as answer;
-ghost use Rattle.gm_tool.specs.StepBounds.{StaysWithin, TakesLeast, ShowsWithin, FileShowsWithin, ShowStaysWithin, MigrateStaysWithin};
+ghost use Rattle.gm_tool.specs.StepBounds.{StaysWithin, TakesLeast, ShowsWithin, FileShowsWithin, ShowStaysWithin, MigrateStaysWithin, GridStaysWithin, GridTakesLeast};
 ghost use Rattle.gm_tool.specs.Tool.{words_of, IsText, IsFileText, IsPut, IsReplyStatus, IsStatus, IsUsageStatus, IsCheck, LeavesWhereTold, LacksFile, HoldsSavedMap};
 ghost use Rattle.gm_tool.specs.declared.refusal.NoText.TheVariants as nothing;
 ghost use Rattle.gm_tool.specs.declared.refusal.Refusal.TheVariants as refusals;
 
-use crate::command::{Command, command_of, migrate_of, run_of};
+use crate::command::{Command, command_of, grid_of, migrate_of, run_of};
 use crate::load::load_file;
 use crate::refusal::{NoText, Refusal, Role};
 use crate::reply::Reply;
-use crate::{book, cells, check, map, migrating, running};
+use crate::{book, cells, check, grid, map, migrating, running};
 use gm_arena::Steps;
 use gm_host::{PutFault, Sink, Store};
 use std::alloc::Global;
@@ -86,7 +86,7 @@ fn reply_to<S: Store, L: Ledger>(
     ensures no_save_fault { (IsSavingCommand (words_of words.now) → ⊥) → S.save_faults store.new ≡ S.save_faults store.old }
     ensures loads { LoadsAtMostThrice (S.loads store.old) (S.loads store.new) }
     ensures one_load { ReadsOneFile (words_of words.now) → S.loads store.new ≡ counted (S.loads store.old) }
-    ensures none_loaded { (IsCommand (words_of words.now) → ⊥) → S.loads store.new ≡ S.loads store.old }
+    ensures none_loaded { ReadsNoFile (words_of words.now) → S.loads store.new ≡ S.loads store.old }
     ensures text { IfSome (S.holds store.old) (λ files. IsText (words_of words.now) files
         (FailsAt (S.load_faults store.old) (S.load_faults store.new) (S.loads store.old) (S.loads store.new)) (Rises (S.save_faults store.old) (S.save_faults store.new)) (S.holds store.new) result) }
     ensures statuses { IfOk result (λ reply. IsReplyStatus reply.status) }
@@ -101,6 +101,8 @@ fn reply_to<S: Store, L: Ledger>(
     ensures least { IfOk result (λ reply. TakesLeast (words_of words.now) (S.holds store.old) reply.status steps.old steps.new) }
     ensures show_most { ShowStaysWithin (words_of words.now) (S.holds store.old) steps.old steps.new }
     ensures migrate_most { MigrateStaysWithin (words_of words.now) (S.holds store.old) steps.old steps.new }
+    ensures grid_most { GridStaysWithin (words_of words.now) steps.old steps.new }
+    ensures grid_least { IfOk result (λ reply. GridTakesLeast (words_of words.now) reply.status steps.old steps.new) }
     ensures counted_loads { UnlessNoMemory result (CountsLoads (words_of words.now) (S.holds store.old)
         (Rises (S.load_faults store.old) (S.load_faults store.new)) (S.loads store.old) (S.loads store.new)) }
     ensures no_memory { IsErrOf result nothing.OutOfMemory → S.holds store.new ≡ S.holds store.old }
@@ -108,6 +110,9 @@ fn reply_to<S: Store, L: Ledger>(
 {
     if let Some((command, file)) = command_of(words) {
         return reply_on(alloc, command, file, store, steps);
+    }
+    if let Some(size) = grid_of(words) {
+        return grid::answer(alloc, size, steps);
     }
     if let Some(files) = migrate_of(words) {
         return migrating::answer(alloc, files, store, steps);
@@ -140,8 +145,11 @@ fn put_whole<O: Sink>(out: &mut O, bytes: &[u8], status: u8) -> u8
 /// the map's cells, components and free darts, and its two colours or an odd walk. `run MAP BOOK SCRIPT OUT`
 /// applies the lines of the script to the map, saves the map as OUT, which may be MAP, and puts a
 /// report. `migrate MAP OUT` saves the map as OUT, which may be MAP, in the second version of the
-/// format, and puts a line with the number of its darts and its next name. All that is put goes out by one put: the text, with status 0, or 1 where a rule isn't
-/// accepted or a line is refused, or the one line of a refusal. Status 2 is for words that are no
+/// format, and puts a line with the number of its darts and its next name. `grid M`, for M from 1 to
+/// 100, makes a grid of M rows of M squares, triangulates each, and puts a line that counts the
+/// lines done, the darts and the cells; it reads no file. All that is put goes out by one put: the
+/// text, with status 0, or 1 where a rule isn't accepted or a line is refused, or the one line of a
+/// refusal. Status 2 is for words that are no
 /// command, 3 for a file that can't be loaded, 4 for a text that stands for nothing, a rule that
 /// isn't accepted in a run, or a map and a book that don't agree, 8 for a file or a text past
 /// 268,435,456 bytes, 5 for a save that failed, 6 for a put that failed, and 7 for want of memory,
@@ -162,12 +170,14 @@ pub fn tool<S: Store, O: Sink, L: Ledger>(
     // The map that is saved is a generalised map.
     ensures map { IsRunStatus result → HoldsSavedMap (words_of words.now) (S.holds store.new) }
 
-    // The steps of a run, where the store tells: at most so many whatever is answered, and at least
-    // so many where it is done; and the most of a map that is shown or migrated.
+    // The steps of a run, where the store tells, and of a grid: at most so many whatever is answered,
+    // and at least so many where it is done; and the most of a map that is shown or migrated.
     ensures most { StaysWithin (words_of words.now) (S.holds store.old) steps.old steps.new }
     ensures least { TakesLeast (words_of words.now) (S.holds store.old) result steps.old steps.new }
     ensures show_most { ShowStaysWithin (words_of words.now) (S.holds store.old) steps.old steps.new }
     ensures migrate_most { MigrateStaysWithin (words_of words.now) (S.holds store.old) steps.old steps.new }
+    ensures grid_most { GridStaysWithin (words_of words.now) steps.old steps.new }
+    ensures grid_least { GridTakesLeast (words_of words.now) result steps.old steps.new }
 
     // The loads of a run, where the store tells.
     ensures counted_loads { result ≢ 7 → CountsLoads (words_of words.now) (S.holds store.old)
@@ -179,7 +189,7 @@ pub fn tool<S: Store, O: Sink, L: Ledger>(
     ensures no_save_fault { (IsSavingCommand (words_of words.now) → ⊥) → S.save_faults store.new ≡ S.save_faults store.old }
     ensures loads { LoadsAtMostThrice (S.loads store.old) (S.loads store.new) }
     ensures one_load { ReadsOneFile (words_of words.now) → S.loads store.new ≡ counted (S.loads store.old) }
-    ensures no_load { (IsCommand (words_of words.now) → ⊥) → S.loads store.new ≡ S.loads store.old }
+    ensures no_load { ReadsNoFile (words_of words.now) → S.loads store.new ≡ S.loads store.old }
     ensures usage { result ≡ 2 → IsCommand (words_of words.now) → ⊥ }
     ensures no_command { (IsCommand (words_of words.now) → ⊥) → IsUsageStatus result }
     ensures refused { result ≡ 1 → IsCheck (words_of words.now) ⊎ IsRunCommand (words_of words.now) }
@@ -222,7 +232,7 @@ pub fn with_new_counter<S: Store, O: Sink, L: Ledger>(
     ensures no_save_fault { (IsSavingCommand (words_of words.now) → ⊥) → S.save_faults store.new ≡ S.save_faults store.old }
     ensures loads { LoadsAtMostThrice (S.loads store.old) (S.loads store.new) }
     ensures one_load { ReadsOneFile (words_of words.now) → S.loads store.new ≡ counted (S.loads store.old) }
-    ensures no_load { (IsCommand (words_of words.now) → ⊥) → S.loads store.new ≡ S.loads store.old }
+    ensures no_load { ReadsNoFile (words_of words.now) → S.loads store.new ≡ S.loads store.old }
     ensures usage { (exit_status result) ≡ 2 → IsCommand (words_of words.now) → ⊥ }
     ensures no_command { (IsCommand (words_of words.now) → ⊥) → IsUsageStatus (exit_status result) }
     ensures refused { (exit_status result) ≡ 1 → IsCheck (words_of words.now) ⊎ IsRunCommand (words_of words.now) }

@@ -15,7 +15,8 @@ ghost use Rattle.gm_mapfile.specs.Rows.{listed_of};
 ghost use Rattle.gm_mapfile.specs.MapText.{canonical};
 ghost use Rattle.gm_model.specs.Reports.{report_text};
 ghost use Rattle.gm_model.specs.Runs.{is_done};
-ghost use Rattle.gm_run.specs.Lines.{outcome_of};
+ghost use Rattle.gm_model.specs.Runs as runs;
+ghost use Rattle.gm_run.specs.Lines.{outcome_of, Tells};
 ghost use Rattle.gm_run.specs.Printing.{CanBePrinted};
 
 use crate::book::plans_of;
@@ -92,7 +93,7 @@ fn load_script<S: Store>(
 }
 
 fn is_refused(outcome: &Outcome) -> bool
-    ensures { result ≡ not (is_done (outcome_of outcome.now)) }
+    ensures { (told : runs.Outcome) → outcome_of outcome.now ≡ Some told → result ≡ not (is_done told) }
 {
     match outcome {
         Outcome::Done(_) => false,
@@ -102,7 +103,7 @@ fn is_refused(outcome: &Outcome) -> bool
 
 /// 1 where a line was refused.
 fn status_of(outcomes: &[Outcome]) -> u8
-    ensures { result ≡ run_status (map outcome_of outcomes.now) }
+    ensures { (told : List runs.Outcome) → Tells outcomes.now told → result ≡ run_status told }
 {
     for outcome in outcomes {
         if is_refused(outcome) {
@@ -137,8 +138,8 @@ fn printed<L: Ledger>(
 ) -> Result<Made, Stop>
     requires printable { CanBePrinted book.now.schema (map rule_of book.now.rules) script.now.lines report.now.lines }
     ensures lawful { IsLawful arena.now }
-    ensures texts { IsPrinted (run_status (map outcome_of report.now.lines))
-        (report_text book.now.schema (map rule_of book.now.rules) script.now.lines (map outcome_of report.now.lines) report.now.darts report.now.next)
+    ensures texts { (told : List runs.Outcome) → Tells report.now.lines told → IsPrinted (run_status told)
+        (report_text book.now.schema (map rule_of book.now.rules) script.now.lines told report.now.darts report.now.next)
         (canonical version (listed_of arena.now)) result }
     ensures most { steps.new ≤ steps.old + printing arena.now.schema.dim arena.now.count }
     ensures least { IfOk result (λ _. steps.old + arena.now.count ≤ steps.new) }

@@ -1,4 +1,4 @@
-use Rattle.std.proofs.Common.{◌∙◌, ◌+◌, ap, length}
+use Rattle.std.proofs.Common.{◌∙◌, ◌+◌, ap, length, arith}
 use Rattle.std.proofs.lemmas.List.{length_push}
 use Rattle.gm_arena.specs.ArenaAsMap.{as_map}
 use Rattle.gm_cells.specs.Cells.{HasCellsOf}
@@ -19,5 +19,7 @@ loop-label-preserved g c =
     record {
       one_each = ap length c.in_ok-push.ensures.items ∙ length_push c.loop-label.cells.items count ∙ ap (λ n. n + 1) i.one_each;
       each = by_label_more (HasCellsOf map) c.loop-label.cells.items _ label count i.one_each c.in_ok-push.ensures.items i.each cells;
+      cost = let before = i.cost in let here = c.orbits.ensures.cost in omega (arith, before, here);
+      least = let before = i.least in let here = c.orbits.ensures.least in omega (arith, before, here);
       room = c.orbits.ensures.room;
     }

@@ -1,10 +1,10 @@
-use Rattle.std.proofs.Common.{◌+◌, length, take, ap, sym, subst, ◌∙◌, arith}
+use Rattle.std.proofs.Common.{◌+◌, [], length, take, refl, rules, ap, sym, subst, ◌∙◌, arith}
 use Rattle.std.proofs.lemmas.List.{length_push}
 use Rattle.std.proofs.lemmas.Result.{err_from_is_err_and}
 use Rattle.gm_arena.specs.ArenaAsMap.{as_map}
 use Rattle.gm_theory.specs.Outcomes.{IsGoodLine}
 use Rattle.gm_run.specs.Progress.{rules_of, HasRun}
-use Rattle.gm_run.proofs.Advancing.{line_more, cut_first, cut_at}
+use Rattle.gm_run.proofs.Advancing.{no_line, line_more, cut_first, cut_at}
 use Rattle.gm_run.proofs.running.line_outcomes.Goals as goal
 
 pub line_outcome-requires-clause-good : goal.line_outcome-requires-clause-good
@@ -20,6 +20,20 @@ returns-in_err-outcome-clause-run g c =
     let p = err_from_is_err_and c.from_residual-in_err-outcome.result c.from_residual-in_err-outcome.ensures.1 in
     rw p.1 (cut_at (rules_of c.args.plans.now) (as_map c.args.arena.now) c.args.lines.now c.args.steps.now c.loop-line.line-index c.line-item.result c.line-item.result (as_map c.loop-line.arena) (as_map c.line_outcome.new.arena)
     c.loop-line.outcomes.items c.loop-line.steps c.line_outcome.new.steps c.loop-line-test.true c.line-item.is c.loop-line.invariant.run c.in_err-outcome.ensures.line)
+
+pub loop-line-init : goal.loop-line-init
+loop-line-init g c =
+    let before = as_map c.args.arena.now in
+    let items = c.in_ok-outcomes.ensures.items in
+    record {
+      sound = c.requires.sound;
+      schema = refl;
+      spare = omega arith;
+      reserved = omega arith;
+      long = ap length items;
+      capacity = search rules;
+      run = subst (λ os. HasRun (rules_of c.args.plans.now) before [] os before c.args.steps.now c.args.steps.now) (sym items) (no_line (rules_of c.args.plans.now) before c.args.lines.now c.args.steps.now);
+    }
 
 pub loop-line-preserved : goal.loop-line-preserved
 loop-line-preserved g c =

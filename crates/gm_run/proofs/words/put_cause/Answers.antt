@@ -1,8 +1,8 @@
 use Rattle.std.proofs.Common.{◌≡◌, ◌++◌, sym, subst, append_assoc, codes}
 use Rattle.std.specs.Prelude.{decimal, OnOk}
-use Rattle.gm_model.specs.Reports.{cause_words, instance_words}
+use Rattle.gm_model.specs.Reports.{instance_words}
 use Rattle.gm_model.specs.Rules.{rule_of}
-use Rattle.gm_run.specs.Lines.{cause_of}
+use Rattle.gm_run.specs.Printing.{refusal_words}
 use Rattle.gm_run.proofs.Told.{onward}
 use Rattle.gm_run.proofs.words.put_cause.Goals as goal
 
@@ -10,18 +10,27 @@ pub returns-in_ok-put_instance-in-Arc : goal.returns-in_ok-put_instance-in-Arc
 returns-in_ok-put_instance-in-Arc c =
     let put = c.put_number-in-Arc in
     let nodes = (rule_of c.args.rule.now).nodes in
-    subst (λ r. OnOk put.result (put.new.text ≡ c.args.text.now ++ cause_words c.args.schema.now nodes (cause_of r))) (sym c.in-Arc.is)
+    subst (λ r. OnOk put.result (put.new.text ≡ c.args.text.now ++ refusal_words c.args.schema.now nodes r)) (sym c.in-Arc.is)
     (onward put.result c.args.text.now (codes "no-match arc " ++ instance_words nodes c.in-Arc.node c.in-Arc.position) (codes " " ++ decimal c.in-Arc.label) _ c.put_instance.new.text put.new.text c.in_ok-put_instance-in-Arc.ensures (sym (append_assoc (codes "no-match arc " ++ instance_words nodes c.in-Arc.node c.in-Arc.position) (codes " ") (decimal c.in-Arc.label)))
     (subst (λ n. OnOk put.result (put.new.text ≡ c.put_instance.new.text ++ (codes " " ++ decimal n))) c.from-in-Arc.ensures put.ensures))
 
+pub returns-in_ok-put_instance-in-Same : goal.returns-in_ok-put_instance-in-Same
+returns-in_ok-put_instance-in-Same c =
+    let put = c.put_instance-in-Same-2 in
+    let nodes = (rule_of c.args.rule.now).nodes in
+    let first = codes "no-match same " ++ instance_words nodes c.in-Same.node c.in-Same.position in
+    let second = instance_words nodes c.in-Same.node2 c.in-Same.position2 in
+    subst (λ r. OnOk put.result (put.new.text ≡ c.args.text.now ++ refusal_words c.args.schema.now nodes r)) (sym c.in-Same.is)
+    (onward put.result c.args.text.now first (codes " " ++ second) _ c.put_instance-in-Same.new.text put.new.text c.in_ok-put_instance-in-Same.ensures (sym (append_assoc first (codes " ") second)) put.ensures)
+
 pub returns-in-PreNoValue : goal.returns-in-PreNoValue
 returns-in-PreNoValue c =
-    subst (λ r. OnOk c.put.result (c.put.new.self ≡ c.args.text.now ++ cause_words c.args.schema.now (rule_of c.args.rule.now).nodes (cause_of r))) (sym c.in-PreNoValue.is) c.put.ensures.ok
+    subst (λ r. OnOk c.put.result (c.put.new.self ≡ c.args.text.now ++ refusal_words c.args.schema.now (rule_of c.args.rule.now).nodes r)) (sym c.in-PreNoValue.is) c.put.ensures.ok
 
 pub returns-in_ok-put_number-in-FullDarts : goal.returns-in_ok-put_number-in-FullDarts
 returns-in_ok-put_number-in-FullDarts c =
     let put = c.put_number-in-FullDarts-2 in
-    subst (λ r. OnOk put.result (put.new.text ≡ c.args.text.now ++ cause_words c.args.schema.now (rule_of c.args.rule.now).nodes (cause_of r))) (sym c.in-FullDarts.is)
+    subst (λ r. OnOk put.result (put.new.text ≡ c.args.text.now ++ refusal_words c.args.schema.now (rule_of c.args.rule.now).nodes r)) (sym c.in-FullDarts.is)
     (onward put.result c.args.text.now (codes "full-darts live " ++ decimal c.in-FullDarts.live) (codes " more " ++ decimal c.in-FullDarts.more) _ c.put_number-in-FullDarts.new.text put.new.text
     (subst (λ n. c.put_number-in-FullDarts.new.text ≡ c.args.text.now ++ (codes "full-darts live " ++ decimal n)) c.from-in-FullDarts.ensures c.in_ok-put_number-in-FullDarts.ensures)
     (sym (append_assoc (codes "full-darts live " ++ decimal c.in-FullDarts.live) (codes " more ") (decimal c.in-FullDarts.more))) put.ensures)
@@ -29,7 +38,7 @@ returns-in_ok-put_number-in-FullDarts c =
 pub returns-in_ok-put_number-in-FullNames : goal.returns-in_ok-put_number-in-FullNames
 returns-in_ok-put_number-in-FullNames c =
     let put = c.put_number-in-FullNames-2 in
-    subst (λ r. OnOk put.result (put.new.text ≡ c.args.text.now ++ cause_words c.args.schema.now (rule_of c.args.rule.now).nodes (cause_of r))) (sym c.in-FullNames.is)
+    subst (λ r. OnOk put.result (put.new.text ≡ c.args.text.now ++ refusal_words c.args.schema.now (rule_of c.args.rule.now).nodes r)) (sym c.in-FullNames.is)
     (onward put.result c.args.text.now (codes "full-names next " ++ decimal c.in-FullNames.next) (codes " more " ++ decimal c.in-FullNames.more) _ c.put_number-in-FullNames.new.text put.new.text
     (subst (λ n. c.put_number-in-FullNames.new.text ≡ c.args.text.now ++ (codes "full-names next " ++ decimal n)) c.from-in-FullNames.ensures c.in_ok-put_number-in-FullNames.ensures)
     (sym (append_assoc (codes "full-names next " ++ decimal c.in-FullNames.next) (codes " more ") (decimal c.in-FullNames.more))) put.ensures)

@@ -1,7 +1,7 @@
 use Rattle.std.proofs.Common.{refl}
 use Rattle.gm_tool.specs.Tool.{words_of}
-use Rattle.gm_tool.proofs.Putting.{put_reply, put_refusal, put_nothing, status_of_reply, status_of_refusal, status_without_memory, usage_status, one_put, not_one, three_put, five_put, not_three, not_five, run_put, no_run_put, reply_is_not_seven, refusal_is_not_seven}
-use Rattle.gm_tool.proofs.StepWords.{least_put, least_refused, seven_is_no_run}
+use Rattle.gm_tool.proofs.Putting.{put_reply, put_refusal, put_nothing, status_of_reply, status_of_refusal, status_without_memory, usage_status, one_put, not_one, three_put, five_put, not_three, not_five, run_put, no_run_put, reply_six, reply_seven, reply_is_not_seven, refusal_is_not_seven}
+use Rattle.gm_tool.proofs.StepWords.{least_put, least_refused, grid_least_put, grid_least_refused, seven_is_no_run}
 use Rattle.gm_tool.proofs.program.tool.Goals as goal
 
 pub returns-in-Ok-clause-leaves : goal.returns-in-Ok-clause-leaves
@@ -94,3 +94,20 @@ returns-in-Err-Refused-clause-no_save_failed g c run = absurd (no_run_put _ _ _ 
 
 pub returns-in-Err-OutOfMemory-clause-no_save_failed : goal.returns-in-Err-OutOfMemory-clause-no_save_failed
 returns-in-Err-OutOfMemory-clause-no_save_failed g c run = absurd (seven_is_no_run run)
+
+pub returns-in-Ok-clause-grid_least : goal.returns-in-Ok-clause-grid_least
+returns-in-Ok-clause-grid_least g c =
+    grid_least_put (words_of c.args.words.now) c.in-Ok.reply.status _ _ _ (run_put _ _ _ _ _ c.in-Ok.reply.status c.put_whole.ensures.put) c.in-Ok.ensures.grid_least
+
+pub returns-in-Err-Refused-clause-grid_least : goal.returns-in-Err-Refused-clause-grid_least
+returns-in-Err-Refused-clause-grid_least g c =
+    grid_least_refused (words_of c.args.words.now) _ _ _ (no_run_put _ _ _ _ _ c.in-Err-Refused.refusal (rw c.status.ensures at c.put_whole-in-Err-Refused.ensures.put))
+
+pub returns-in-Err-OutOfMemory-clause-grid_least : goal.returns-in-Err-OutOfMemory-clause-grid_least
+returns-in-Err-OutOfMemory-clause-grid_least g c = grid_least_refused (words_of c.args.words.now) _ _ _ seven_is_no_run
+
+pub returns-in-Ok-clause-put_failed : goal.returns-in-Ok-clause-put_failed
+returns-in-Ok-clause-put_failed g c six = reply_six _ _ _ _ c.in-Ok.reply.status _ c.in-Ok.ensures.statuses c.put_whole.ensures.put six
+
+pub returns-in-Ok-clause-no_memory : goal.returns-in-Ok-clause-no_memory
+returns-in-Ok-clause-no_memory g c seven = reply_seven _ _ _ _ c.in-Ok.reply.status _ c.in-Ok.ensures.statuses c.put_whole.ensures.put seven

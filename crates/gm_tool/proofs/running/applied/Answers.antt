@@ -1,5 +1,3 @@
-use Rattle.std.proofs.Common.{map}
-use Rattle.gm_run.specs.Lines.{outcome_of}
 use Rattle.gm_tool.proofs.Lines.{plans_fit, lines_fit, printable, run_made, map_made}
 use Rattle.gm_tool.proofs.StepBounds.{unprinted_within, printed_within, printed_least, if_done}
 use Rattle.gm_tool.proofs.running.applied.Goals as goal
@@ -15,13 +13,14 @@ printed-requires g c = record { printable = printable c.args.arena.now c.args.bo
 
 pub returns-clause-run : goal.returns-clause-run
 returns-clause-run g c =
+    let run = c.in_ok-report.ensures.run in
     run_made c.args.arena.now c.args.book.now c.args.script.now c.args.plans.now c.requires c.args.version c.run.new.arena c.run.ensures.schema c.printed.ensures.lawful
-    (map outcome_of c.in_ok-report.report.lines) c.in_ok-report.report.darts c.in_ok-report.report.next c.printed.result c.in_ok-report.ensures.run c.in_ok-report.ensures.darts.0 c.in_ok-report.ensures.next c.printed.ensures.texts
+    run.0 c.in_ok-report.report.darts c.in_ok-report.report.next c.printed.result run.2 c.in_ok-report.ensures.darts.0 c.in_ok-report.ensures.next (c.printed.ensures.texts run.0 run.1)
 
 pub returns-clause-map : goal.returns-clause-map
-returns-clause-map g c = map_made c.args.version c.run.new.arena _ _ c.printed.result c.printed.ensures.lawful (rw c.run.ensures.schema c.requires.parts)
-    c.run.ensures.sound
-    c.printed.ensures.texts
+returns-clause-map g c =
+    let run = c.in_ok-report.ensures.run in
+    map_made c.args.version c.run.new.arena _ _ c.printed.result c.printed.ensures.lawful (rw c.run.ensures.schema c.requires.parts) c.run.ensures.sound (c.printed.ensures.texts run.0 run.1)
 
 pub returns-in_err-report-clause-most : goal.returns-in_err-report-clause-most
 returns-in_err-report-clause-most g c =
@@ -30,10 +29,10 @@ returns-in_err-report-clause-most g c =
 pub returns-clause-most : goal.returns-clause-most
 returns-clause-most g c =
     printed_within c.args.version c.args.arena.now c.run.new.arena c.args.book.now c.args.script.now c.args.plans.now c.requires c.count.ensures.lawful c.printed.ensures.lawful
-    (map outcome_of c.in_ok-report.report.lines) c.in_ok-report.ensures.only _ _ _ c.run.ensures.most c.run.ensures.schema c.printed.ensures.most
+    c.in_ok-report.report.lines c.in_ok-report.ensures.only _ _ _ c.run.ensures.most c.run.ensures.schema c.printed.ensures.most
 
 pub returns-clause-least : goal.returns-clause-least
 returns-clause-least g c =
     if_done
     (printed_least c.args.version c.args.arena.now c.run.new.arena c.args.book.now c.args.script.now c.args.plans.now c.requires c.count.ensures.lawful c.printed.ensures.lawful
-    (map outcome_of c.in_ok-report.report.lines) c.in_ok-report.ensures.only _ _ _ c.in_ok-report.ensures.least) c.printed.result c.printed.ensures.least
+    c.in_ok-report.report.lines c.in_ok-report.ensures.only _ _ _ c.in_ok-report.ensures.least) c.printed.result c.printed.ensures.least

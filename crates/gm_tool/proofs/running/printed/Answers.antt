@@ -1,17 +1,20 @@
+use Rattle.std.proofs.Common.{subst, sym}
 use Rattle.std.proofs.lemmas.Result.{err_from_is_err_and}
+use Rattle.gm_run.specs.Lines.{Tells}
 use Rattle.gm_tool.proofs.Lines.{fitted_printed}
 use Rattle.gm_tool.proofs.running.printed.Goals as goal
 
 pub returns-in_err-text-clause-texts : goal.returns-in_err-text-clause-texts
-returns-in_err-text-clause-texts g c =
+returns-in_err-text-clause-texts g c told tells =
     let p = err_from_is_err_and c.from_residual.result c.from_residual.ensures.1 in
     rw (p.1, p.2) tt
 
 pub returns-in_err-map-clause-texts : goal.returns-in_err-map-clause-texts
-returns-in_err-map-clause-texts g c =
+returns-in_err-map-clause-texts g c told tells =
     let p = err_from_is_err_and c.from_residual-in_err-map.result c.from_residual-in_err-map.ensures.1 in
     rw (p.1, p.2) tt
 
 pub returns-clause-texts : goal.returns-clause-texts
-returns-clause-texts g c =
-    fitted_printed _ _ _ c.within_limit.result (rw (c.status_of.ensures, c.as_slice.ensures, c.in_ok-text.ensures, c.in_ok-map.ensures.text) at c.within_limit.ensures)
+returns-clause-texts g c told tells =
+    fitted_printed _ _ _ c.within_limit.result
+    (rw (c.status_of.ensures told (subst (λ lines. Tells lines told) (sym c.as_slice.ensures) tells), c.in_ok-text.ensures told tells, c.in_ok-map.ensures.text) at c.within_limit.ensures)

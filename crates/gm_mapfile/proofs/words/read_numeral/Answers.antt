@@ -1,7 +1,7 @@
 use Rattle.std.proofs.Common.{rules, ◌≡◌, ◌≢◌, arith}
 use Rattle.gm_model.specs.declared.token.TokenKind.TheVariants as tokens
 use Rattle.gm_mapfile.proofs.WordTokens.{no_number, number_stands}
-use Rattle.gm_mapfile.proofs.words.read_number.Goals as goal
+use Rattle.gm_mapfile.proofs.words.read_numeral.Goals as goal
 
 pub returns-then-ne-clause-none : goal.returns-then-ne-clause-none
 returns-then-ne-clause-none c =

@@ -1,0 +1,15 @@
+use Rattle.std.proofs.Common.{ℕ, ◌++◌, ◌∷◌, [], map, sym, ap, ◌∙◌, arith}
+use Rattle.std.proofs.lemmas.List.{map-append}
+use Rattle.gm_mapfile.specs.Ordering.{counted_from}
+use Rattle.gm_mapfile.specs.declared.ordering.Line.{Line}
+use Rattle.gm_mapfile.proofs.Reordered.{counted_push}
+use Rattle.gm_mapfile.proofs.ordering.lines_of.Goals as goal
+
+pub loop-at-preserved : goal.loop-at-preserved
+loop-at-preserved c =
+    let l = c.loop-at in
+    let place : Line → ℕ = λ line. line.at in
+    ap (map place) c.in_ok-push.ensures.items
+    ∙ (map-append place l.lines.items _
+    ∙ (ap (λ xs. xs ++ l.at ∷ []) l.invariant ∙ ap (λ x. counted_from 0 l.at ++ x ∷ []) (omega arith)
+    ∙ sym (counted_push 0 l.at)))

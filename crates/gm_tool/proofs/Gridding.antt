@@ -1,0 +1,170 @@
+-- What the code makes of a grid is what the definition says of it, within its most and its least.
+use Rattle.std.proofs.Common.{◌≡◌, ℕ, ◌+◌, ◌*◌, ◌≤◌, List, [], ◌∷◌, Result, Ok, Err, map, refl, sym, ap, subst, ◌∙◌, arith}
+use Rattle.std.specs.Global.{Vec}
+use Rattle.std.specs.Prelude.{All, IfOk}
+use Rattle.std.specs.List.{AllByRecursion, count_by}
+use Rattle.std.proofs.lemmas.List.Elements.{All-from_recursion}
+use Rattle.std.proofs.lemmas.Option.{slice_get_within, get_or_from_slice_get}
+use Rattle.gm_arena.specs.ArenaAsMap.{as_map}
+use Rattle.gm_arena.specs.ArenaMap.{ArenaMap}
+use Rattle.gm_cells.specs.Cells.{HasCells}
+use Rattle.gm_grid.specs.GridBook.{triangulation, IsGridBook}
+use Rattle.gm_grid.specs.GridMap.{IsGridMap, grid_schema}
+use Rattle.gm_grid.proofs.GridSchema.{is_schema}
+use Rattle.gm_lines.specs.Refusing.{TheBook}
+use Rattle.gm_model.specs.declared.memory.OutOfMemory.{OutOfMemory}
+use Rattle.gm_model.specs.declared.rule.Book.{Book}
+use Rattle.gm_model.specs.declared.rule.RuleTable.{RuleTable}
+use Rattle.gm_model.specs.declared.schema.Schema.{Schema}
+use Rattle.gm_model.specs.declared.script.Line.{Line}
+use Rattle.gm_model.specs.Acceptance.{IsAccepted}
+use Rattle.gm_model.specs.Maps.{Map, IsDart}
+use Rattle.gm_model.specs.Orbits.{HasCount}
+use Rattle.gm_model.specs.Rules.{Rule, rule_of}
+use Rattle.gm_model.specs.Runs.{Outcome, is_done, IsRun, IsRunBudget, changed_darts}
+use Rattle.gm_plan.specs.Plans.{PlanOf, plan_of}
+use Rattle.gm_theory.proofs.NoFault.{accepted_no_fault}
+use Rattle.gm_run.specs.Alike.{AreAlike}
+use Rattle.gm_run.specs.declared.outcome.Outcome as answers
+use Rattle.gm_run.specs.Lines.{Tells}
+use Rattle.gm_run.specs.Progress.{IsPlanFor, ArePlansFor, rules_of}
+use Rattle.gm_theory.proofs.ExamplesTriangulation.{accepted}
+use Rattle.gm_theory.proofs.ValuesUnique.{one_count}
+use Rattle.gm_theory.specs.Outcomes.{IsGoodLine}
+use Rattle.gm_walk.proofs.CountLemmas.{count_alike}
+use Rattle.gm_tool.specs.Books.{IsCheckable}
+use Rattle.gm_tool.specs.GridAnswer.{AreGridPlans, Gridded, IsGridded, IsGridText, IsGridReply, grid_rules, grid_lines, grid_line}
+use Rattle.gm_tool.specs.RunAnswer.{IsFirstRefused}
+use Rattle.gm_tool.specs.StepBounds.{HasGridBudget, GridRunsWithin, GridRunsAtLeast, WithinGridMost, AtLeastOfGrid, MostOfGrid, LeastOfGrid}
+use Rattle.gm_tool.specs.Stops.{IsBadFor, reply_of}
+use Rattle.gm_tool.specs.declared.refusal.NoText.TheVariants as nothing
+use Rattle.gm_tool.specs.declared.refusal.Stop.{Stop}
+use Rattle.gm_tool.specs.declared.refusal.Stop.TheVariants as stops
+use Rattle.gm_tool.proofs.Grids.{rules_accepted, lines_good, one_gridding, grid_budget}
+use Rattle.gm_tool.proofs.Lines.{rules_planned}
+
+-- ---- the plans of the book
+
+module _ (book : Book) (is : IsGridBook book) where
+  one_rule : (P : Rule → Type 0) → P triangulation → (tables : List RuleTable) → map rule_of tables ≡ grid_rules → AllByRecursion (λ (table : RuleTable). P (rule_of table)) tables
+  one_rule P holds [] e = absurd cc
+  one_rule P holds (table ∷ []) e = (subst P (let same : triangulation ≡ rule_of table = cc in same) holds, tt)
+  one_rule P holds (table ∷ other ∷ tables) e = absurd cc
+
+  checkable : IsCheckable grid_schema triangulation
+  checkable = record {
+    declared = is_schema;
+    in_range = accepted.in_range;
+    within = record { nodes = omega arith; left_links = omega arith; right_links = omega arith; params = omega arith };
+    typed = accepted.typed;
+  }
+
+  pub rules_checkable : All (λ (table : RuleTable). IsCheckable book.schema (rule_of table)) book.rules
+  rules_checkable = subst (λ s. All (λ (table : RuleTable). IsCheckable s (rule_of table)) book.rules) (sym is.schema_is)
+      (All-from_recursion (λ (table : RuleTable). IsCheckable grid_schema (rule_of table)) book.rules (one_rule (IsCheckable grid_schema) checkable book.rules is.rules_are))
+
+  pub plans_are : (plans : List PlanOf) → plans ≡ map (plan_of book.schema) book.rules → AreGridPlans plans
+  plans_are plans e = record {
+    fit = subst (ArePlansFor grid_schema) (sym e) (All-from_recursion (IsPlanFor grid_schema) (map (plan_of book.schema) book.rules) (each book.rules));
+    rules = ap rules_of e ∙ (rules_planned book.schema book.rules ∙ is.rules_are);
+  }
+    where
+      each : (tables : List RuleTable) → AllByRecursion (IsPlanFor grid_schema) (map (plan_of book.schema) tables)
+      each [] = tt
+      each (table ∷ tables) = (sym is.schema_is, each tables)
+
+  none_refused : (why : List ℕ) → IsFirstRefused grid_schema grid_rules why → ⊥
+  none_refused why first =
+      let here : IsAccepted grid_schema first.rule = subst (IsAccepted grid_schema) (get_or_from_slice_get grid_rules first.place first.rule first.rule first.rule_at) (rules_accepted first.place first.rule (slice_get_within grid_rules first.place first.rule first.rule_at)) in
+      accepted_no_fault grid_schema first.rule first.says.0 here first.says.1
+
+  refused_why : (why : List ℕ) → IsFirstRefused book.schema (map rule_of book.rules) why → ⊥
+  refused_why why first = none_refused why (subst (λ rules. IsFirstRefused grid_schema rules why) is.rules_are (subst (λ s. IsFirstRefused s (map rule_of book.rules) why) is.schema_is first))
+
+  -- the book isn't refused, so memory was wanting
+  pub stop_reply : (m : ℕ) (stop : Stop) → IsBadFor TheBook (IsFirstRefused book.schema (map rule_of book.rules)) stop → IsGridReply m (reply_of stop)
+  stop_reply m (stops.Bad line) (why, first, e) = absurd (refused_why why first)
+  stop_reply m (stops.NoText nothing.OutOfMemory) h = refl
+  stop_reply m (stops.NoText (nothing.Refused why)) h = absurd h
+
+  pub stop_makes_none : (P : Type 0) (stop : Stop) → IsBadFor TheBook (IsFirstRefused book.schema (map rule_of book.rules)) stop → IfOk (reply_of stop) (λ _. P)
+  stop_makes_none P (stops.Bad line) (why, first, e) = absurd (refused_why why first)
+  stop_makes_none P (stops.NoText none) h = tt
+
+-- ---- the run
+
+module _ (m : ℕ) (small : m ≤ 100) (arena : ArenaMap) (grid : IsGridMap m (as_map arena)) (plans : List PlanOf) (are : AreGridPlans plans) (lines : List Line) (lines_are : lines ≡ grid_lines m) where
+  pub plans_fit : ArePlansFor arena.schema plans
+  plans_fit = subst (λ s. ArePlansFor s plans) (sym grid.schema_is) are.fit
+
+  pub lines_fit : All (IsGoodLine (rules_of plans)) lines
+  lines_fit = All-from_recursion (IsGoodLine (rules_of plans)) lines
+      (subst (λ rules. AllByRecursion (IsGoodLine rules) lines) (sym are.rules) (subst (AllByRecursion (IsGoodLine grid_rules)) (sym lines_are) (lines_good m)))
+
+  of_grid : (outcomes : List Outcome) (end : Map) → IsRun (rules_of plans) (as_map arena) lines outcomes end → IsRun grid_rules (as_map arena) (grid_lines m) outcomes end
+  of_grid outcomes end run = subst (λ rules. IsRun rules (as_map arena) (grid_lines m) outcomes end) are.rules (subst (λ ls. IsRun (rules_of plans) (as_map arena) ls outcomes end) lines_are run)
+
+  -- within the budgets of the lines, whatever grid they are of
+  lines_within : (start steps : ℕ) → ((outcomes : List Outcome) (end : Map) (most : ℕ) → IsRunBudget (rules_of plans) (as_map arena) lines outcomes end most → steps ≤ start + most)
+      → (made : Gridded) (sum : ℕ) → IsGridded m made → HasGridBudget m made sum → steps ≤ start + sum
+  lines_within start steps within made sum is budget =
+      let found = grid_budget m small made.grid (as_map arena) is.grid_is grid made.outcomes made.after sum budget in
+      within made.outcomes found.0 sum
+      (subst (λ rules. IsRunBudget rules (as_map arena) lines made.outcomes found.0 sum) (sym are.rules) (subst (λ ls. IsRunBudget grid_rules (as_map arena) ls made.outcomes found.0 sum) (sym lines_are) found.1))
+
+  pub cut_within : (start steps : ℕ) → ((outcomes : List Outcome) (end : Map) (most : ℕ) → IsRunBudget (rules_of plans) (as_map arena) lines outcomes end most → steps ≤ start + most) → GridRunsWithin m start steps
+  cut_within start steps within made left sum is budget count = let lines = lines_within start steps within made sum is budget in omega (arith, lines)
+
+  module _ (after : ArenaMap) (outcomes : List Outcome) (run : IsRun (rules_of plans) (as_map arena) lines outcomes (as_map after)) (schema : after.schema ≡ arena.schema) (counted : HasCount (IsDart (as_map after)) after.count) where
+    abbrev made_here : Gridded
+    made_here = record { grid = as_map arena; outcomes = outcomes; after = as_map after }
+
+    same_run : (made : Gridded) → IsGridded m made → (made.outcomes ≡ outcomes) × AreAlike made.after (as_map after)
+    same_run made is = one_gridding m small made.grid (as_map arena) is.grid_is grid made.outcomes outcomes made.after (as_map after) is.run (of_grid outcomes (as_map after) run)
+
+    left_is : (made : Gridded) (left : ℕ) → IsGridded m made → HasCount (IsDart made.after) left → left ≡ after.count
+    left_is made left is count =
+        let darts = (same_run made is).1.same.darts in
+        one_count (IsDart (as_map after)) left after.count (count_alike (IsDart made.after) (IsDart (as_map after)) (λ d. (darts d).0) (λ d. (darts d).1) left count) counted
+
+    pub counted_within : (start middle steps : ℕ) → ((others : List Outcome) (end : Map) (most : ℕ) → IsRunBudget (rules_of plans) (as_map arena) lines others end most → middle ≤ start + most)
+        → steps ≤ middle + (after.schema.dim + 1) * (8 * (after.schema.dim + 1) * after.count) → GridRunsWithin m start steps
+    counted_within start middle steps within cells made left sum is budget count =
+        let first = lines_within start middle within made sum is budget in
+        let dims : after.schema ≡ grid_schema = schema ∙ grid.schema_is in
+        let last : steps ≤ middle + 3 * (24 * after.count) = subst (λ (s : Schema). steps ≤ middle + (s.dim + 1) * (8 * (s.dim + 1) * after.count)) dims cells in
+        let darts = left_is made left is count in
+        omega (arith, first, last, darts)
+
+    pub runs_least : (start middle steps : ℕ) → start + changed_darts outcomes ≤ middle → middle ≤ steps → GridRunsAtLeast m start steps
+    runs_least start middle steps least more made is = let same = ap changed_darts (same_run made is).0 in omega (arith, same, least, more)
+
+    text_is : (text cells : List ℕ) (darts next : ℕ) → HasCells (as_map after) cells → darts ≡ after.count → next ≡ after.next → text ≡ grid_line m (count_by is_done outcomes) darts next cells → IsGridText m text
+    text_is text cells darts next has darts_are next_is is = (
+      made_here,
+      record { grid_is = grid; run = of_grid outcomes (as_map after) run },
+      record {
+        darts = after.count;
+        darts_are = counted;
+        cells = cells;
+        cells_are = has;
+        is = is ∙ (λ k. grid_line m (count_by is_done outcomes) (darts_are k) (next_is k) cells);
+      },
+    )
+
+    -- the line is that of the grid
+    pub line_made : (cells : List ℕ) (darts next : ℕ) (line : Result (Vec ℕ) OutOfMemory) → HasCells (as_map after) cells → darts ≡ after.count → next ≡ after.next
+        → (lines : List answers.Outcome) → Tells lines outcomes → IfOk line (λ text. (told : List Outcome) → Tells lines told → text.items ≡ grid_line m (count_by is_done told) darts next cells) → IfOk line (λ text. IsGridText m text.items)
+    line_made cells darts next (Ok text) has darts_are next_is lines tells is = text_is text.items cells darts next has darts_are next_is (is outcomes tells)
+    line_made cells darts next (Err error) has darts_are next_is lines tells h = tt
+
+-- ---- the whole
+
+pub grid_unmade : (m start steps : ℕ) → steps ≤ start + 4096 * (m * m) → WithinGridMost m start steps
+grid_unmade m start steps made most (MostOfGrid gridded left sum is budget count) = omega (arith, made)
+
+pub grid_made : (m start middle steps : ℕ) → middle ≤ start + 4096 * (m * m) → GridRunsWithin m middle steps → WithinGridMost m start steps
+grid_made m start middle steps made runs most (MostOfGrid gridded left sum is budget count) = let lines = runs gridded left sum is budget count in omega (arith, made, lines)
+
+pub grid_reached : (m start middle steps : ℕ) → start + 8 * (m * m) ≤ middle → GridRunsAtLeast m middle steps → AtLeastOfGrid m start steps
+grid_reached m start middle steps made runs least (LeastOfGrid gridded is) = let lines = runs gridded is in omega (arith, made, lines)
