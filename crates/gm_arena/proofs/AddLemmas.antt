@@ -13,7 +13,7 @@ use Rattle.gm_arena.specs.declared.slot.Slot.{Slot}
 use Rattle.gm_arena.specs.declared.arena.Place.{Place}
 use Rattle.gm_arena.specs.Lawful.{AreGoodValues}
 use Rattle.gm_arena.specs.Edits.{free_dart, with_dart}
-use Rattle.gm_arena.specs.Inside.{no_slot, slot_in, name_in, part_of, dart_in, darts_in, slots_in, map_of, IsPlaced, IsSound}
+use Rattle.gm_arena.specs.Inside.{no_slot, slot_in, name_in, part_of, dart_in, darts_in, slots_in, map_of, IsPlaced, FitTogether}
 use Rattle.gm_arena.proofs.FilledLemmas.{same_maps, get-insert_same, get-insert_other, len-insert_new}
 use Rattle.gm_arena.proofs.InsideLemmas.{nowhere, dart_at, darts_get, slot_at, name_in-get, is_some_at, some_of}
 use Rattle.gm_arena.proofs.ValueLemmas.{IsWritten}
@@ -30,7 +30,7 @@ map-replicate : {A B : Type 0} (f : A → B) (n : ℕ) (x : A) → map f (replic
 map-replicate f zero x = refl
 map-replicate f (suc n) x = λ i. f x ∷ map-replicate f n x i
 
-module _ (schema : Schema) (labels width : ℕ) (places : Slab Place) (neighbours : List Slot) (values : List Value) (table : List ℕ) (next spare bound : ℕ) (sound : IsSound schema labels width places neighbours values table next spare bound)
+module _ (schema : Schema) (labels width : ℕ) (places : Slab Place) (neighbours : List Slot) (values : List Value) (table : List ℕ) (next spare bound : ℕ) (sound : FitTogether schema labels width places neighbours values table next spare bound)
     (name : ℕ) (new_name : map.get (darts_in labels width places neighbours values table) name ≡ None) (reserved : name < length table) (some_room : 0 < spare)
     (slot : ℕ) (places' : Slab Place) (free : get places slot ≡ None) (updates : Updates places places' slot (Some (new_place name)))
     (more : slab_len places' ≡ slab_len places + 1) (below : slot < places'.capacity) (capacity : places'.capacity ≡ places.capacity)
@@ -128,7 +128,7 @@ module _ (schema : Schema) (labels width : ℕ) (places : Slab Place) (neighbour
           below_capacity = omega (arith, capacity, was.below_capacity);
         }
 
-    pub sound_with : IsSound schema labels width places' neighbours' values' (set table name slot) next' (spare - 1) bound'
+    pub sound_with : FitTogether schema labels width places' neighbours' values' (set table name slot) next' (spare - 1) bound'
     sound_with = record {
       sized = sound.sized;
       placed = λ other p e. elim (cases_eq other slot) [

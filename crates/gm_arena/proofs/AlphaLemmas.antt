@@ -12,13 +12,13 @@ use Rattle.gm_arena.specs.declared.slot.Slot.{Slot}
 use Rattle.gm_arena.specs.declared.arena.Place.{Place}
 use Rattle.gm_arena.specs.ArenaMap.{Dart}
 use Rattle.gm_arena.specs.Edits.{turned, put_if, with_alpha}
-use Rattle.gm_arena.specs.Inside.{no_slot, name_in, part_of, dart_in, darts_in, map_of, IsPlaced, IsSound}
+use Rattle.gm_arena.specs.Inside.{no_slot, name_in, part_of, dart_in, darts_in, map_of, IsPlaced, FitTogether}
 use Rattle.gm_arena.proofs.FilledLemmas.{same_maps, get-insert_same, get-insert_other, len-insert_again}
 use Rattle.gm_arena.proofs.InsideLemmas.{nowhere, dart_at, darts_get}
 use Rattle.gm_arena.proofs.ValueLemmas.{IsWritten}
 use Rattle.gm_arena.proofs.ChangeLemmas.{dart_alike, other_dart, other_slot}
 
-module _ (schema : Schema) (labels width : ℕ) (places : Slab Place) (neighbours : List Slot) (values : List Value) (table : List ℕ) (next spare bound : ℕ) (sound : IsSound schema labels width places neighbours values table next spare bound)
+module _ (schema : Schema) (labels width : ℕ) (places : Slab Place) (neighbours : List Slot) (values : List Value) (table : List ℕ) (next spare bound : ℕ) (sound : FitTogether schema labels width places neighbours values table next spare bound)
     (slot : ℕ) (place : Place) (here : get places slot ≡ Some place) (label : ℕ) (to : Slot) (within : label < labels) (to_live : IsSome (get places to.at))
     (neighbours' : List Slot) (written : IsWritten labels slot neighbours (set (part_of labels neighbours slot) label to) neighbours') where
   none : get places no_slot ≡ None
@@ -64,7 +64,7 @@ module _ (schema : Schema) (labels width : ℕ) (places : Slab Place) (neighbour
         ∙ sym (get-insert_other _ place.name _ name apart)
   ])
 
-  pub sound_turned : IsSound schema labels width places neighbours' values table next spare bound
+  pub sound_turned : FitTogether schema labels width places neighbours' values table next spare bound
   sound_turned = record {
     sized = sound.sized;
     placed = placed;

@@ -9,7 +9,7 @@ use Rattle.gm_model.specs.declared.schema.Schema.{Schema}
 use Rattle.gm_model.specs.declared.value.Value.{Value}
 use Rattle.gm_arena.specs.declared.slot.Slot.{Slot}
 use Rattle.gm_arena.specs.declared.arena.Place.{Place}
-use Rattle.gm_arena.specs.Inside.{no_slot, slot_in, name_in, part_of, dart_in, darts_in, slots_in, IsSound}
+use Rattle.gm_arena.specs.Inside.{no_slot, slot_in, name_in, part_of, dart_in, darts_in, slots_in, FitTogether}
 use Rattle.gm_arena.proofs.InsideLemmas.{darts_get, get-slots, nowhere}
 
 pub map_alike : {A B : Type 0} (f g : A → B) (xs : List A) → All (λ x. f x ≡ g x) xs → map f xs ≡ map g xs
@@ -46,7 +46,7 @@ module _ (labels width : ℕ) (places places' : Slab Place) (neighbours neighbou
         ∙ (mapped_alike _ _ (get places (slot_in table name)) same
         ∙ sym (darts_get labels width places neighbours values table none name))))
 
-module _ (schema : Schema) (labels width : ℕ) (places : Slab Place) (neighbours : List Slot) (values : List Value) (table : List ℕ) (next spare bound : ℕ) (sound : IsSound schema labels width places neighbours values table next spare bound) where
+module _ (schema : Schema) (labels width : ℕ) (places : Slab Place) (neighbours : List Slot) (values : List Value) (table : List ℕ) (next spare bound : ℕ) (sound : FitTogether schema labels width places neighbours values table next spare bound) where
   -- another name has another slot
   pub other_slot : (slot : ℕ) (place : Place) (name : ℕ) → get places slot ≡ Some place → name ≢ place.name → slot_in table name ≢ slot
   other_slot slot place name here apart at =

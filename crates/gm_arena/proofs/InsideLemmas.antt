@@ -16,7 +16,7 @@ use Rattle.gm_arena.specs.declared.arena.Place.{Place}
 use Rattle.gm_arena.specs.ArenaAsMap.{value}
 use Rattle.gm_arena.specs.ArenaMap.{Dart, IsLiveName, name_at, alpha}
 use Rattle.gm_arena.specs.Lawful.{IsLawful, IsLawfulDart, AreGoodValues}
-use Rattle.gm_arena.specs.Inside.{no_slot, slot_in, name_in, part_of, dart_in, darts_in, slots_in, map_of, IsSound}
+use Rattle.gm_arena.specs.Inside.{no_slot, slot_in, name_in, part_of, dart_in, darts_in, slots_in, map_of, FitTogether}
 use Rattle.gm_arena.proofs.FilledLemmas.{get-filled}
 
 pub some_of : {A : Type 0} (o : Option A) → IsSome o → (x : A) × (o ≡ Some x)
@@ -90,7 +90,7 @@ darts_get labels width places neighbours values table nowhere name =
       | inr l ↦ get_or_past _ name None (rw length-map l) ∙ sym (ap f (get_or_past table name no_slot l) ∙ ap (option_map (λ (p : Place). dart_in labels width places neighbours values no_slot)) nowhere)
     ]
 
-module _ (schema : Schema) (labels width : ℕ) (places : Slab Place) (neighbours : List Slot) (values : List Value) (table : List ℕ) (next spare bound : ℕ) (sound : IsSound schema labels width places neighbours values table next spare bound) where
+module _ (schema : Schema) (labels width : ℕ) (places : Slab Place) (neighbours : List Slot) (values : List Value) (table : List ℕ) (next spare bound : ℕ) (sound : FitTogether schema labels width places neighbours values table next spare bound) where
   pub nowhere : get places no_slot ≡ None
   nowhere = none_of _ (λ h.
       let place : (p : Place) × (get places no_slot ≡ Some p) = some_of _ h in
@@ -227,7 +227,7 @@ module _ (schema : Schema) (labels width : ℕ) (places : Slab Place) (neighbour
       apart (sym (sound.placed other also f).found ∙ (ap (slot_in table) same ∙ (sound.placed slot place e).found))
 
   -- with another number above every name
-  pub sound_next : (next' : ℕ) → ((name : ℕ) → IsSome (map.get (darts_in labels width places neighbours values table) name) → name < next') → next' ≤ 16777216 → IsSound schema labels width places neighbours values table next' spare bound
+  pub sound_next : (next' : ℕ) → ((name : ℕ) → IsSome (map.get (darts_in labels width places neighbours values table) name) → name < next') → next' ≤ 16777216 → FitTogether schema labels width places neighbours values table next' spare bound
   sound_next next' above limit = record {
     placed = λ slot place e.
         let p = sound.placed slot place e in

@@ -12,7 +12,7 @@ use Rattle.gm_model.specs.declared.schema.Schema.{Schema}
 use Rattle.gm_model.specs.declared.value.Value.{Value}
 use Rattle.gm_arena.specs.declared.slot.Slot.{Slot}
 use Rattle.gm_arena.specs.declared.arena.Place.{Place}
-use Rattle.gm_arena.specs.Inside.{no_slot, slot_in, entry_of, names_in, dart_in, darts_in, IsSound}
+use Rattle.gm_arena.specs.Inside.{no_slot, slot_in, entry_of, names_in, dart_in, darts_in, FitTogether}
 use Rattle.gm_arena.proofs.FilledLemmas.{keys-filled}
 use Rattle.gm_arena.proofs.InsideLemmas.{nowhere}
 
@@ -58,7 +58,7 @@ same_keys f g k (slot ∷ table) h =
     one (Some x) None xs ys e rest = cc
     one (Some x) (Some y) xs ys e rest = ap (λ ks. k ∷ ks) rest
 
-module _ (schema : Schema) (labels width : ℕ) (places : Slab Place) (neighbours : List Slot) (values : List Value) (table : List ℕ) (next spare bound : ℕ) (sound : IsSound schema labels width places neighbours values table next spare bound) where
+module _ (schema : Schema) (labels width : ℕ) (places : Slab Place) (neighbours : List Slot) (values : List Value) (table : List ℕ) (next spare bound : ℕ) (sound : FitTogether schema labels width places neighbours values table next spare bound) where
   -- a slot in the table has a dart
   pub names_live : names_in table ≡ map.keys (darts_in labels width places neighbours values table)
   names_live =

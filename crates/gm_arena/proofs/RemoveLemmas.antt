@@ -12,12 +12,12 @@ use Rattle.gm_arena.specs.declared.slot.Slot.{Slot}
 use Rattle.gm_arena.specs.declared.arena.Place.{Place}
 use Rattle.gm_arena.specs.ArenaMap.{alpha}
 use Rattle.gm_arena.specs.Edits.{IsAlone, without_dart}
-use Rattle.gm_arena.specs.Inside.{no_slot, slot_in, name_in, part_of, dart_in, darts_in, slots_in, map_of, IsPlaced, IsSound}
+use Rattle.gm_arena.specs.Inside.{no_slot, slot_in, name_in, part_of, dart_in, darts_in, slots_in, map_of, IsPlaced, FitTogether}
 use Rattle.gm_arena.proofs.FilledLemmas.{same_maps, get-remove_same, get-remove_other, len-remove_one}
 use Rattle.gm_arena.proofs.InsideLemmas.{nowhere, part_long, dart_at, darts_get, slot_at, get-slots, alpha_at, name_at_in, name_in-get, name_within, apart_names, is_some_at, some_of}
 use Rattle.gm_arena.proofs.ChangeLemmas.{slots_alike, name_alike, dart_alike, other_dart, other_slot}
 
-module _ (schema : Schema) (labels width : ℕ) (places : Slab Place) (neighbours : List Slot) (values : List Value) (table : List ℕ) (next spare bound : ℕ) (sound : IsSound schema labels width places neighbours values table next spare bound)
+module _ (schema : Schema) (labels width : ℕ) (places : Slab Place) (neighbours : List Slot) (values : List Value) (table : List ℕ) (next spare bound : ℕ) (sound : FitTogether schema labels width places neighbours values table next spare bound)
     (slot : ℕ) (place : Place) (here : get places slot ≡ Some place) (alone : IsAlone (map_of schema labels width places neighbours values table next spare bound) place.name)
     (places' : Slab Place) (updates : Updates places places' slot None) (fewer : slab_len places' + 1 ≡ slab_len places) (capacity : places'.capacity ≡ places.capacity) where
   none : get places no_slot ≡ None
@@ -92,7 +92,7 @@ module _ (schema : Schema) (labels width : ℕ) (places : Slab Place) (neighbour
         below_capacity = rw capacity p.below_capacity;
       }
 
-  pub sound_without : IsSound schema labels width places' neighbours values (set table place.name no_slot) next (spare + 1) bound
+  pub sound_without : FitTogether schema labels width places' neighbours values (set table place.name no_slot) next (spare + 1) bound
   sound_without = record {
     sized = sound.sized;
     placed = placed;

@@ -11,7 +11,7 @@ use Rattle.gm_model.specs.declared.value.Value.{Value}
 use Rattle.gm_arena.specs.declared.slot.Slot.{Slot}
 use Rattle.gm_arena.specs.declared.arena.Place.{Place}
 use Rattle.gm_arena.specs.Lawful.{AreGoodValues}
-use Rattle.gm_arena.specs.Inside.{no_slot, slot_in, part_of, darts_in, slots_in, map_of, IsSound}
+use Rattle.gm_arena.specs.Inside.{no_slot, slot_in, part_of, darts_in, slots_in, map_of, FitTogether}
 use Rattle.gm_arena.proofs.FilledLemmas.{same_maps}
 use Rattle.gm_arena.proofs.InsideLemmas.{nowhere, live_place, is_some_at, some_of}
 use Rattle.gm_arena.proofs.ChangeLemmas.{name_alike, dart_alike, other_dart}
@@ -46,20 +46,20 @@ pub entries_padded : (table table' : List ℕ) (more : ℕ) → table' ≡ table
 entries_padded table table' more e name = rw e (entry_padded table more name)
 
 -- the neighbours of a live slot are there
-pub links_within : (schema : Schema) (labels width : ℕ) (places : Slab Place) (neighbours : List Slot) (values : List Value) (table : List ℕ) (next spare bound : ℕ) → IsSound schema labels width places neighbours values table next spare bound
+pub links_within : (schema : Schema) (labels width : ℕ) (places : Slab Place) (neighbours : List Slot) (values : List Value) (table : List ℕ) (next spare bound : ℕ) → FitTogether schema labels width places neighbours values table next spare bound
     → (slot : ℕ) → IsSome (map.get (slots_in places) slot) → slot * labels + labels ≤ length neighbours
 links_within schema labels width places neighbours values table next spare bound sound slot h =
     let p = live_place places slot h in
     stretch slot places.capacity labels (length neighbours) (sound.placed slot p.0 p.1).below_capacity sound.linked
 
 -- and its values
-pub values_within : (schema : Schema) (labels width : ℕ) (places : Slab Place) (neighbours : List Slot) (values : List Value) (table : List ℕ) (next spare bound : ℕ) → IsSound schema labels width places neighbours values table next spare bound
+pub values_within : (schema : Schema) (labels width : ℕ) (places : Slab Place) (neighbours : List Slot) (values : List Value) (table : List ℕ) (next spare bound : ℕ) → FitTogether schema labels width places neighbours values table next spare bound
     → (slot : ℕ) → IsSome (map.get (slots_in places) slot) → slot * width + width ≤ length values
 values_within schema labels width places neighbours values table next spare bound sound slot h =
     let p = live_place places slot h in
     stretch slot places.capacity width (length values) (sound.placed slot p.0 p.1).below_capacity sound.long
 
-module _ (schema : Schema) (labels width : ℕ) (places : Slab Place) (neighbours : List Slot) (values : List Value) (table : List ℕ) (next spare bound : ℕ) (sound : IsSound schema labels width places neighbours values table next spare bound)
+module _ (schema : Schema) (labels width : ℕ) (places : Slab Place) (neighbours : List Slot) (values : List Value) (table : List ℕ) (next spare bound : ℕ) (sound : FitTogether schema labels width places neighbours values table next spare bound)
     (places' : Slab Place) (neighbours' : List Slot) (values' : List Value) (table' : List ℕ)
     (slots : places'.slots ≡ places.slots) (links_kept : take (length neighbours) neighbours' ≡ neighbours) (kept : take (length values) values' ≡ values) (entries : (name : ℕ) → slot_in table' name ≡ slot_in table name) where
   same : (slot : ℕ) → get places' slot ≡ get places slot
@@ -91,7 +91,7 @@ module _ (schema : Schema) (labels width : ℕ) (places : Slab Place) (neighbour
 
   pub sound_more : (spare' : ℕ) → ((slot : ℕ) → IsSome (get places slot) → slot < places'.capacity) → places'.capacity ≤ no_slot → places'.capacity * labels ≤ length neighbours' → places'.capacity * width ≤ length values'
       → HasRoomFor places' spare' → slab_len places + spare' ≤ 1048576 → length table' ≤ 16777216
-      → IsSound schema labels width places' neighbours' values' table' next spare' bound
+      → FitTogether schema labels width places' neighbours' values' table' next spare' bound
   sound_more spare' keys fits linked long room few_darts few_reserved = record {
     sized = sound.sized;
     placed = λ slot p e.

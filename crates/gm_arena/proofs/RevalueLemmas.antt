@@ -19,7 +19,7 @@ use Rattle.gm_arena.specs.declared.slot.Slot.{Slot}
 use Rattle.gm_arena.specs.declared.arena.Place.{Place}
 use Rattle.gm_arena.specs.ArenaMap.{Dart}
 use Rattle.gm_arena.specs.Edits.{revalued, put_if, with_value}
-use Rattle.gm_arena.specs.Inside.{no_slot, part_of, dart_in, darts_in, map_of, IsSound}
+use Rattle.gm_arena.specs.Inside.{no_slot, part_of, dart_in, darts_in, map_of, FitTogether}
 use Rattle.gm_arena.specs.Lawful.{AreGoodValues}
 use Rattle.gm_arena.proofs.FilledLemmas.{same_maps, get-insert_same, get-insert_other, len-insert_again}
 use Rattle.gm_arena.proofs.InsideLemmas.{nowhere, dart_at, darts_get}
@@ -44,7 +44,7 @@ revalued_good schema values e embed v good at is = record {
         ∙ ap (λ (kinds : List Kind). get_or kinds e embed.kind) (sym good.kinds)
         ∙ get_or-map kind_of values e (Int (pos 0)) embed.kind (omega (arith, within, length-values schema values good))
 
-module _ (schema : Schema) (labels width : ℕ) (places : Slab Place) (neighbours : List Slot) (values : List Value) (table : List ℕ) (next spare bound : ℕ) (sound : IsSound schema labels width places neighbours values table next spare bound)
+module _ (schema : Schema) (labels width : ℕ) (places : Slab Place) (neighbours : List Slot) (values : List Value) (table : List ℕ) (next spare bound : ℕ) (sound : FitTogether schema labels width places neighbours values table next spare bound)
     (slot : ℕ) (place : Place) (here : get places slot ≡ Some place) (e : ℕ) (embed : Embed) (v : Value) (at : IsEmbedAt schema e embed) (is : IsValueOf embed.kind v)
     (values' : List Value) (written : IsWritten width slot values (set (part_of width values slot) e v) values') where
   none : get places no_slot ≡ None
@@ -68,7 +68,7 @@ module _ (schema : Schema) (labels width : ℕ) (places : Slab Place) (neighbour
         ∙ sym (get-insert_other _ place.name _ name apart)
   ])
 
-  pub sound_revalued : IsSound schema labels width places neighbours values' table next spare bound
+  pub sound_revalued : FitTogether schema labels width places neighbours values' table next spare bound
   sound_revalued = record {
     sized = sound.sized;
     placed = λ other now f. let p = sound.placed other now f in record { found = p.found; live = p.live; below_next = p.below_next; below_bound = p.below_bound; below_capacity = p.below_capacity };

@@ -76,7 +76,7 @@ pub record IsSized (schema : Schema) (labels width : ℕ) : Type 0 where
   pub few : labels ≤ 8
   pub wide : width ≡ length schema.embeds
 
-pub record IsSound (schema : Schema) (labels width : ℕ) (places : Slab Place) (neighbours : List Slot) (values : List Value) (table : List ℕ) (next spare bound : ℕ) : Type 0 where
+pub record FitTogether (schema : Schema) (labels width : ℕ) (places : Slab Place) (neighbours : List Slot) (values : List Value) (table : List ℕ) (next spare bound : ℕ) : Type 0 where
   pub sized : IsSized schema labels width
   pub placed : (slot : ℕ) (place : Place) → get places slot ≡ Some place → IsPlaced labels places neighbours table next bound slot place
   -- a slot in the table holds a place of this name

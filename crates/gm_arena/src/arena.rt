@@ -62,11 +62,11 @@ impl Model for Arena {
 
     ghost coded = { arena_code };
 
-    ghost use Rattle.gm_arena.specs.Inside.{map_of, IsSound};
+    ghost use Rattle.gm_arena.specs.Inside.{map_of, FitTogether};
 
     ghost view = { λ a. map_of a.schema a.labels a.width a.places a.neighbours.items a.values.items a.table.items a.next a.spare a.bound };
 
-    ghost invariant = { λ a. IsSound a.schema a.labels a.width a.places a.neighbours.items a.values.items a.table.items a.next a.spare a.bound };
+    ghost invariant = { λ a. FitTogether a.schema a.labels a.width a.places a.neighbours.items a.values.items a.table.items a.next a.spare a.bound };
 }
 
 impl Arena {

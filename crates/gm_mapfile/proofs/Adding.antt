@@ -6,7 +6,7 @@ use Rattle.std.proofs.lemmas.Bool.{cases_eq, cases_lt}
 use Rattle.std.proofs.lemmas.List.{length_push, length-replicate}
 use Rattle.gm_model.specs.declared.value.Value.{Value}
 use Rattle.gm_model.specs.GMap.{Row, row_of, IsLive}
-use Rattle.gm_mapfile.specs.MapFaults.{rows_named, AreDistinct, IsLeastTwice}
+use Rattle.gm_mapfile.specs.MapFaults.{rows_named, AreNamedOnce, IsLeastTwice}
 use Rattle.gm_arena.specs.ArenaMap.{ArenaMap, Dart, IsLiveName}
 use Rattle.gm_arena.specs.Edits.{with_dart, free_dart}
 use Rattle.gm_arena.proofs.MapLemmas.{get-with_dart_same, get-with_dart_other, IsAt-with_dart_same, slots-with_dart_other}
@@ -34,7 +34,7 @@ none_next m fresh = record {
 -- ---- names
 
 -- a name that is new
-distinct_more : (rows : List Row) (row : Row) → row_of rows row.name ≡ None → AreDistinct rows → AreDistinct (rows ++ row ∷ [])
+distinct_more : (rows : List Row) (row : Row) → row_of rows row.name ≡ None → AreNamedOnce rows → AreNamedOnce (rows ++ row ∷ [])
 distinct_more rows row none distinct d =
     elim (cases_eq d row.name) [
       | inl e ↦ rw e (omega (arith, named_push_same rows row, named_none rows row.name none))

@@ -3,7 +3,7 @@ use Rattle.std.proofs.Common.{◌≡◌, ℕ, ◌+◌, ◌-◌, ◌*◌, ◌≤�
 use Rattle.std.specs.Prelude.{MatchOption}
 use Rattle.std.proofs.Math.Seq.{take-length}
 use Rattle.gm_model.specs.GMap.{Row, row_of, IsLive}
-use Rattle.gm_mapfile.specs.MapFaults.{AreDistinct}
+use Rattle.gm_mapfile.specs.MapFaults.{AreNamedOnce}
 use Rattle.gm_arena.specs.ArenaMap.{ArenaMap}
 use Rattle.gm_mapfile.specs.Rows.{row_in, rows_in}
 use Rattle.gm_mapfile.specs.Building.{IsRelinked, IsDartLinked, IsLabelWithoutTarget, IsFirstLack, AreLinkedUnless}
@@ -32,9 +32,9 @@ module _ (n : ℕ) (old m m' : ArenaMap) (front : List Row) (numbers all line re
   pub line_live : IsLive (rows_in n numbers) (get_or line 0 0)
   line_live = subst (λ rows. IsLive rows (get_or line 0 0)) whole (subst (IsLive (front ++ row_in line ∷ rows_in n rest)) (name_of_line line) (live_among front (row_in line) (rows_in n rest)))
 
-  module _ (distinct : AreDistinct (rows_in n numbers)) (state : IsRelinked n old m) (missing : Option (ℕ × ℕ)) (before : AreLinkedUnless n old m front missing) where
+  module _ (distinct : AreNamedOnce (rows_in n numbers)) (state : IsRelinked n old m) (missing : Option (ℕ × ℕ)) (before : AreLinkedUnless n old m front missing) where
     new_name : row_of front (row_in line).name ≡ None
-    new_name = none_beside front (row_in line) (rows_in n rest) (subst AreDistinct (sym whole) distinct)
+    new_name = none_beside front (row_in line) (rows_in n rest) (subst AreNamedOnce (sym whole) distinct)
 
     of_row : (label : ℕ) → m.schema.dim ≡ n → IsDartLinked m.schema.dim m m' (get_or line 0 0) (neighbours_in line) label → IsDartLinked n m m' (row_in line).name (row_in line).alphas label
     of_row label e h =

@@ -8,12 +8,12 @@ use Rattle.gm_model.specs.declared.value.Value.{Value}
 use Rattle.gm_model.specs.declared.value.Value.TheVariants.{Int}
 use Rattle.gm_model.specs.GMap.{Row, row_of, IsLive, alpha}
 use Rattle.gm_mapfile.specs.MapText.{DartRow, bare, rows_of, dart_of, value_in}
-use Rattle.gm_mapfile.specs.MapFaults.{rows_named, AreDistinct}
+use Rattle.gm_mapfile.specs.MapFaults.{rows_named, AreNamedOnce}
 use Rattle.gm_mapfile.proofs.Ascending.{Has, moves_into}
 use Rattle.gm_mapfile.proofs.Darts.{row_of_dart}
 use Rattle.gm_mapfile.proofs.Named.{one_if, named_cons, named_some}
 
-pub distinct_moved : (darts others : List DartRow) → IsPermutation darts others → AreDistinct (rows_of others) → AreDistinct (rows_of darts)
+pub distinct_moved : (darts others : List DartRow) → IsPermutation darts others → AreNamedOnce (rows_of others) → AreNamedOnce (rows_of darts)
 distinct_moved darts others moved distinct d =
     let same : rows_named (rows_of others) d ≡ rows_named (rows_of darts) d = sum_by-IsPermutation (one_if d) (rows_of darts) (rows_of others) (IsPermutation-map bare darts others moved) in
     omega (arith, same, distinct d)
@@ -34,7 +34,7 @@ had (dart ∷ darts) d r is =
     ]
 
 -- and what is there is found, where no other has its name
-found : (darts : List DartRow) (r : DartRow) → AreDistinct (rows_of darts) → Has darts r → dart_of darts r.name ≡ Some r
+found : (darts : List DartRow) (r : DartRow) → AreNamedOnce (rows_of darts) → Has darts r → dart_of darts r.name ≡ Some r
 found [] r distinct has = absurd has
 found (dart ∷ darts) r distinct (inl same) = rw (eq-eqb dart.name r.name (ap (λ (x : DartRow). x.name) same)) (ap Some same)
 found (dart ∷ darts) r distinct (inr has) =
@@ -47,12 +47,12 @@ found (dart ∷ darts) r distinct (inr has) =
       | inr other ↦ rw other rest
     ]
 
-found_moved : (darts others : List DartRow) → IsPermutation darts others → AreDistinct (rows_of others) → (d : ℕ) (r : DartRow) → dart_of darts d ≡ Some r → dart_of others d ≡ Some r
+found_moved : (darts others : List DartRow) → IsPermutation darts others → AreNamedOnce (rows_of others) → (d : ℕ) (r : DartRow) → dart_of darts d ≡ Some r → dart_of others d ≡ Some r
 found_moved darts others moved distinct d r is =
     let there = had darts d r is in
     subst (λ (x : ℕ). dart_of others x ≡ Some r) there.1 (found others r distinct (moves_into darts others moved r there.0))
 
-pub same_moved : (darts others : List DartRow) → IsPermutation darts others → AreDistinct (rows_of others) → (d : ℕ) → dart_of darts d ≡ dart_of others d
+pub same_moved : (darts others : List DartRow) → IsPermutation darts others → AreNamedOnce (rows_of others) → (d : ℕ) → dart_of darts d ≡ dart_of others d
 same_moved darts others moved distinct d = go (dart_of darts d) (dart_of others d) refl refl
   where
     go : (o p : Option DartRow) → dart_of darts d ≡ o → dart_of others d ≡ p → dart_of darts d ≡ dart_of others d

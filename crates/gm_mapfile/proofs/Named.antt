@@ -5,7 +5,7 @@ use Rattle.std.proofs.lemmas.Bool.{cases_Bool, ne_eqb, eq-eqb}
 use Rattle.std.proofs.lemmas.List.Folds.{find-append}
 use Rattle.std.proofs.lemmas.List.Sums.{sum_by-cons, sum_by-append, sum_by_push}
 use Rattle.gm_model.specs.GMap.{Row, row_of, IsLive, alpha}
-use Rattle.gm_mapfile.specs.MapFaults.{rows_named, AreDistinct}
+use Rattle.gm_mapfile.specs.MapFaults.{rows_named, AreNamedOnce}
 
 abbrev pub is_named : ℕ → Row → Bool
 is_named d row = eqb row.name d
@@ -80,7 +80,7 @@ none_named rows d empty = go (row_of rows d) refl
     go (Some r) is = let live : IsLive rows d = rw is refl in absurd (omega (arith, named_some rows d live, empty))
 
 -- in the middle of distinct rows no other has the name
-pub none_beside : (front : List Row) (row : Row) (back : List Row) → AreDistinct (front ++ row ∷ back) → row_of front row.name ≡ None
+pub none_beside : (front : List Row) (row : Row) (back : List Row) → AreNamedOnce (front ++ row ∷ back) → row_of front row.name ≡ None
 none_beside front row back distinct =
     let here : one_if row.name row ≡ 1 = rw (eq-eqb row.name row.name refl) refl in
     none_named front row.name (omega (arith, distinct row.name, named_append front (row ∷ back) row.name, named_cons row back row.name, here))

@@ -17,7 +17,7 @@ use Rattle.gm_text.specs.SchemaText.{Passed, LimitOf}
 use Rattle.gm_text.specs.SchemaText as schemas
 use Rattle.gm_text.proofs.Machine.{reading_runs, ends_run, passes_run}
 use Rattle.gm_mapfile.specs.MapText.{Version, First, Second, DartRow, ListedMap, names, rows_of, value_in, IsNext, IsSentence, passed_of, spelling, IsListed, IsTextFault, IsLimitFault, IsAgainFault, StandsForNoMap, MapText}
-use Rattle.gm_mapfile.specs.MapFaults.{TextFault, Again, Twice, NotBelow, NoTarget, OneWay, Crossing, Unshared, IsLeastTwice, AreDistinct, AreBelow, IsLeastNotBelow, AreBelowStated, HaveTargets, IsFirstChange, IsFirstFault, AtEnds, AtPasses, AtAgain, AtTwice, AtNotBelow, AtNoTarget, AtOneWay, AtCrossing, AtUnshared}
+use Rattle.gm_mapfile.specs.MapFaults.{TextFault, Again, DartTwice, NotBelow, NoTarget, OneWay, Crossing, Unshared, IsLeastTwice, AreNamedOnce, AreBelow, IsLeastNotBelow, AreBelowStated, HaveTargets, IsFirstChange, IsFirstFault, AtEnds, AtPasses, AtAgain, AtTwice, AtNotBelow, AtNoTarget, AtOneWay, AtCrossing, AtUnshared}
 use Rattle.gm_mapfile.specs.MapFaults as first
 use Rattle.gm_mapfile.specs.MapReading.{Whole, Done, nesting, never, start, run_from}
 use Rattle.gm_mapfile.specs.declared.version.MapVersion.{MapVersion}
@@ -59,14 +59,14 @@ again_read text place fault =
 
 -- a fault of the darts that the text lists
 data IsOfDarts (version : Version) (schema : Schema) (darts : List DartRow) : TextFault → Type 0 where
-  OfTwice : (d : ℕ) → IsLeastTwice (rows_of darts) d → IsOfDarts version schema darts (Twice d)
-  OfNext : (next d : ℕ) → version ≡ Second next → AreDistinct (rows_of darts) → IsLeastNotBelow (rows_of darts) next d → IsOfDarts version schema darts (NotBelow d)
-  OfTarget : (d i : ℕ) → AreDistinct (rows_of darts) → AreBelowStated version (rows_of darts) → IsFirstWithoutTarget schema.dim (IsLive (rows_of darts)) (alpha (rows_of darts)) d i → IsOfDarts version schema darts (NoTarget d i)
-  OfWay : (d i : ℕ) → AreDistinct (rows_of darts) → AreBelowStated version (rows_of darts) → HaveTargets schema.dim (rows_of darts) → IsFirstOneWay schema.dim (IsLive (rows_of darts)) (alpha (rows_of darts)) d i
+  OfTwice : (d : ℕ) → IsLeastTwice (rows_of darts) d → IsOfDarts version schema darts (DartTwice d)
+  OfNext : (next d : ℕ) → version ≡ Second next → AreNamedOnce (rows_of darts) → IsLeastNotBelow (rows_of darts) next d → IsOfDarts version schema darts (NotBelow d)
+  OfTarget : (d i : ℕ) → AreNamedOnce (rows_of darts) → AreBelowStated version (rows_of darts) → IsFirstWithoutTarget schema.dim (IsLive (rows_of darts)) (alpha (rows_of darts)) d i → IsOfDarts version schema darts (NoTarget d i)
+  OfWay : (d i : ℕ) → AreNamedOnce (rows_of darts) → AreBelowStated version (rows_of darts) → HaveTargets schema.dim (rows_of darts) → IsFirstOneWay schema.dim (IsLive (rows_of darts)) (alpha (rows_of darts)) d i
       → IsOfDarts version schema darts (OneWay d i)
-  OfCrossing : (d i j : ℕ) → AreDistinct (rows_of darts) → AreBelowStated version (rows_of darts) → HaveTargets schema.dim (rows_of darts) → IsFirstCrossing schema.dim (IsLive (rows_of darts)) (alpha (rows_of darts)) d i j
+  OfCrossing : (d i j : ℕ) → AreNamedOnce (rows_of darts) → AreBelowStated version (rows_of darts) → HaveTargets schema.dim (rows_of darts) → IsFirstCrossing schema.dim (IsLive (rows_of darts)) (alpha (rows_of darts)) d i j
       → IsOfDarts version schema darts (Crossing d i j)
-  OfValue : (e : ℕ) (name : List ℕ) (d other : ℕ) → AreDistinct (rows_of darts) → AreBelowStated version (rows_of darts) → HaveTargets schema.dim (rows_of darts) → IsFirstChange schema darts e name d other
+  OfValue : (e : ℕ) (name : List ℕ) (d other : ℕ) → AreNamedOnce (rows_of darts) → AreBelowStated version (rows_of darts) → HaveTargets schema.dim (rows_of darts) → IsFirstChange schema darts e name d other
       → IsOfDarts version schema darts (Unshared e name d other)
 
 abbrev IsOfListed : List ℕ → TextFault → Type 0
@@ -180,7 +180,7 @@ one_change schema darts e e' name name' d d' other other' a b =
 
 module _ (version : Version) (schema : Schema) (darts : List DartRow) where
   abbrev Law : ℕ → Type 0
-  Law zero = AreDistinct (rows_of darts)
+  Law zero = AreNamedOnce (rows_of darts)
   Law (suc zero) = AreBelowStated version (rows_of darts)
   Law (suc (suc zero)) = HaveTargets schema.dim (rows_of darts)
   Law (suc (suc (suc zero))) = PointBack schema.dim (IsLive (rows_of darts)) (alpha (rows_of darts))
@@ -203,7 +203,7 @@ module _ (version : Version) (schema : Schema) (darts : List DartRow) where
 
   -- which law a fault is of
   abbrev law_of : TextFault → ℕ
-  law_of (Twice d) = 0
+  law_of (DartTwice d) = 0
   law_of (NotBelow d) = 1
   law_of (NoTarget d i) = 2
   law_of (OneWay d i) = 3
@@ -232,7 +232,7 @@ module _ (version : Version) (schema : Schema) (darts : List DartRow) where
   broken _ (OfValue e name d other distinct below targets change) law = let at = change.first in at.fails (law e at.embed d change.label at.embed_at at.live at.label at.of_type)
 
   same_law : (fault other : TextFault) → IsOfDarts version schema darts fault → IsOfDarts version schema darts other → law_of fault ≡ law_of other → fault ≡ other
-  same_law _ _ (OfTwice d least) (OfTwice e least') same = ap Twice (one_least (rows_of darts) d e least least')
+  same_law _ _ (OfTwice d least) (OfTwice e least') same = ap DartTwice (one_least (rows_of darts) d e least least')
   same_law _ _ (OfNext next d stated distinct least) (OfNext next' e stated' distinct' least') same =
       let both : Second next ≡ Second next' = sym stated ∙ stated' in
       let one : next ≡ next' = cc both in
@@ -292,7 +292,7 @@ stated_below (Second stated) xs next rows is below = subst (AreBelow rows) is be
 
 map_laws : (text : List ℕ) (version : MapVersion) (map : ListedMap) → (stands : MapText text version map) → Laws stands.written map.schema stands.darts 6
 map_laws text version map stands =
-    let ordered : AreDistinct (rows_of map.darts) = distinct_ascending map.darts stands.ascending in
+    let ordered : AreNamedOnce (rows_of map.darts) = distinct_ascending map.darts stands.ascending in
     let lawful = of_look_ups stands.darts map.darts (same_moved stands.darts map.darts stands.same ordered) (KeepsLaws map.next map.schema) (map_lawful text version map stands) in
     let distinct = distinct_moved stands.darts map.darts stands.same ordered in
     let below = stated_below stands.written (names map.darts) map.next (rows_of stands.darts) stands.next_is lawful.below in

@@ -7,7 +7,7 @@ use Rattle.std.proofs.lemmas.Bool.{cases_Bool, cases_eq, eqb-true, ne_eqb, eq-eq
 use Rattle.std.proofs.lemmas.List.Folds.{find-append}
 use Rattle.std.proofs.lemmas.List.Sorted.{IsPermutation-refl, IsPermutation-sym, IsPermutation-trans, IsPermutation-cons, IsPermutation-middle}
 use Rattle.gm_mapfile.specs.MapText.{DartRow, names, bare, rows_of, dart_of}
-use Rattle.gm_mapfile.specs.MapFaults.{rows_named, AreDistinct}
+use Rattle.gm_mapfile.specs.MapFaults.{rows_named, AreNamedOnce}
 use Rattle.gm_mapfile.proofs.Ascending.{Rises, AreAbove, rises}
 use Rattle.gm_mapfile.proofs.Darts.{has_name, rows_append, none_of_named}
 use Rattle.gm_mapfile.proofs.Named.{one_if, named_cons, named_append}
@@ -50,7 +50,7 @@ skip_among : (front : List DartRow) (dart : DartRow) (back : List DartRow) (d : 
 skip_among front dart back d apart =
     find-append (has_name d) front (dart ∷ back) ∙ (ap (option_or (dart_of front d)) (skip dart back d apart) ∙ sym (find-append (has_name d) front back))
 
-pub same_permuted : (xs ys : List DartRow) → AreDistinct (rows_of xs) → AreDistinct (rows_of ys) → ((d : ℕ) → dart_of xs d ≡ dart_of ys d) → IsPermutation xs ys
+pub same_permuted : (xs ys : List DartRow) → AreNamedOnce (rows_of xs) → AreNamedOnce (rows_of ys) → ((d : ℕ) → dart_of xs d ≡ dart_of ys d) → IsPermutation xs ys
 same_permuted [] [] one other same = IsPermutation-refl []
 same_permuted [] (y ∷ ys) one other same =
     let here : dart_of (y ∷ ys) y.name ≡ Some y = rw (eq-eqb y.name y.name refl) refl in
@@ -61,7 +61,7 @@ same_permuted (x ∷ xs) ys one other same =
     let found = split_found ys x.name x (sym (same x.name) ∙ here) in
     let front = found.0 in
     let back = found.1 in
-    let there : AreDistinct (rows_of (front ++ x ∷ back)) = subst (λ darts. AreDistinct (rows_of darts)) found.2 other in
+    let there : AreNamedOnce (rows_of (front ++ x ∷ back)) = subst (λ darts. AreNamedOnce (rows_of darts)) found.2 other in
     let rest : IsPermutation xs (front ++ back) =
     same_permuted xs (front ++ back)
     (λ d. omega (arith, one d, count_cons x xs d))
@@ -84,7 +84,7 @@ none_above n (dart ∷ darts) d above low =
     let zero : one_if d (bare dart) ≡ 0 = rw (ne_eqb dart.name d (λ e. omega (arith, e, up))) refl in
     omega (arith, count_cons dart darts d, zero, none_above n darts d above.1 low)
 
-distinct_rising : (darts : List DartRow) → Rises darts → AreDistinct (rows_of darts)
+distinct_rising : (darts : List DartRow) → Rises darts → AreNamedOnce (rows_of darts)
 distinct_rising [] up d = omega arith
 distinct_rising (dart ∷ darts) up d =
     elim (cases_eq d dart.name) [
@@ -97,5 +97,5 @@ distinct_rising (dart ∷ darts) up d =
           omega (arith, count_cons dart darts d, zero, distinct_rising darts up.1 d)
     ]
 
-pub distinct_ascending : (darts : List DartRow) → IsStrictlyIncreasing (names darts) → AreDistinct (rows_of darts)
+pub distinct_ascending : (darts : List DartRow) → IsStrictlyIncreasing (names darts) → AreNamedOnce (rows_of darts)
 distinct_ascending darts up = distinct_rising darts (rises darts up)

@@ -19,7 +19,7 @@ use Rattle.gm_arena.specs.Lawful.{AreGoodValues}
 use Rattle.gm_mapfile.specs.Building.{AreInRoom, IsHeld}
 use Rattle.gm_mapfile.specs.Draft.{version_in}
 use Rattle.gm_mapfile.specs.Faults.{IsNameFault}
-use Rattle.gm_mapfile.specs.MapFaults.{rows_named, AreDistinct, IsLeastTwice, IsLeastNotBelow, AreBelowStated}
+use Rattle.gm_mapfile.specs.MapFaults.{rows_named, AreNamedOnce, IsLeastTwice, IsLeastNotBelow, AreBelowStated}
 use Rattle.gm_mapfile.specs.MapText.{Version, First, Second, DartRow, bare, rows_of, dart_of}
 use Rattle.gm_mapfile.specs.Ordering.{counted_from, on_line, on_lines}
 use Rattle.gm_mapfile.specs.Rows.{row_in, rows_from, rows_in, valued, darts_from, darts_in}
@@ -178,7 +178,7 @@ named_moved : (darts others : List DartRow) → IsPermutation darts others → (
 named_moved darts others same d = sum_by-IsPermutation (one_if d) (rows_of darts) (rows_of others) (IsPermutation-map bare darts others same)
 
 module _ (darts others : List DartRow) (same : IsPermutation darts others) where
-  module _ (distinct : AreDistinct (rows_of others)) where
+  module _ (distinct : AreNamedOnce (rows_of others)) where
     found : (d : ℕ) → dart_of darts d ≡ dart_of others d
     found = same_moved darts others same distinct
 

@@ -10,7 +10,7 @@ use Rattle.gm_model.specs.Breaches.{IsFirstWithoutTarget}
 use Rattle.gm_arena.specs.ArenaMap.{ArenaMap, Dart, alpha}
 use Rattle.gm_arena.specs.Edits.{empty_map}
 use Rattle.gm_mapfile.specs.MapText.{Version, First, Second, DartRow, IsNext, IsLeastAbove, names, rows_of}
-use Rattle.gm_mapfile.specs.MapFaults.{AreDistinct}
+use Rattle.gm_mapfile.specs.MapFaults.{AreNamedOnce}
 use Rattle.gm_mapfile.specs.Building.{IsFresh, IsNextLeast, IsNextSet, AreAdded, AreValued, AreLive, IsRelinked, AreLinked, IsFirstLack, IsHeld}
 use Rattle.gm_mapfile.proofs.Darts.{length_rows_of}
 use Rattle.gm_mapfile.proofs.Named.{none_of}
@@ -98,5 +98,5 @@ module _ (version : Version) (schema : Schema) (darts : List DartRow) (start old
       held schema darts set new added_set (subst (λ n. IsRelinked n set new) set_dim relinked) (subst (λ n. AreLinked n set new (rows_of darts)) set_dim linked) version set_schema kept
       (next_set version darts old set added_old.live least next)
 
-  pub lack_after : (d i : ℕ) → IsFirstLack set.schema.dim set (rows_of darts) d i → AreDistinct (rows_of darts) × IsFirstWithoutTarget schema.dim (IsLive (rows_of darts)) (written.alpha (rows_of darts)) d i
+  pub lack_after : (d i : ℕ) → IsFirstLack set.schema.dim set (rows_of darts) d i → AreNamedOnce (rows_of darts) × IsFirstWithoutTarget schema.dim (IsLive (rows_of darts)) (written.alpha (rows_of darts)) d i
   lack_after d i lack = (added_set.twice.0, first_without schema.dim set (rows_of darts) d i added_set.live (subst (λ n. IsFirstLack n set (rows_of darts) d i) set_dim lack))

@@ -12,7 +12,7 @@ use Rattle.gm_model.specs.Orbits.{IsPairBefore}
 use Rattle.gm_arena.specs.ArenaMap.{ArenaMap, Dart, IsAt, IsLiveName, alpha}
 use Rattle.gm_arena.specs.Lawful.{AreGoodValues}
 use Rattle.gm_mapfile.specs.MapText.{Version, First, Second, DartRow, IsNext, names, rows_of, dart_of}
-use Rattle.gm_mapfile.specs.MapFaults.{AreDistinct, IsLeastTwice, IsLeastNotBelow, AreBelow, HaveTargets}
+use Rattle.gm_mapfile.specs.MapFaults.{AreNamedOnce, IsLeastTwice, IsLeastNotBelow, AreBelow, HaveTargets}
 use Rattle.gm_mapfile.specs.Rows.{darts_in}
 
 -- numbers and values that fit an arena over the schema: of so many lines, each number a name, and each line's values good
@@ -54,7 +54,7 @@ pub record IsNextLeast (m : ArenaMap) : Type 0 where
 
 -- no name is had twice, or this is the least of those
 abbrev pub IsTwice : ArenaMap → List Row → Option ℕ → Type 0
-IsTwice m rows twice = MatchOption twice (AreDistinct rows × (m.count ≡ length rows)) (IsLeastTwice rows)
+IsTwice m rows twice = MatchOption twice (AreNamedOnce rows × (m.count ≡ length rows)) (IsLeastTwice rows)
 
 -- the arena has a dart of each name of the rows, and no other
 abbrev pub AreLive : List Row → ArenaMap → Type 0
@@ -129,5 +129,5 @@ pub record IsHeld (version : Version) (schema : Schema) (darts : List DartRow) (
   pub live : AreLive (rows_of darts) m
   pub alphas : (d i : ℕ) → i ≤ schema.dim → alpha m i d ≡ written.alpha (rows_of darts) i d
   pub values : AreValued darts m
-  pub distinct : AreDistinct (rows_of darts)
+  pub distinct : AreNamedOnce (rows_of darts)
   pub targets : HaveTargets schema.dim (rows_of darts)

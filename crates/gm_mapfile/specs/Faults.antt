@@ -5,7 +5,7 @@ use Rattle.gm_model.specs.GMap.{IsLive, alpha}
 use Rattle.gm_laws.specs.declared.breach.MapBreach.{MapBreach}
 use Rattle.gm_laws.specs.declared.breach.MapBreach.TheVariants as breaches
 use Rattle.gm_mapfile.specs.MapText.{Version, Second, DartRow, rows_of}
-use Rattle.gm_mapfile.specs.MapFaults.{TextFault, IsFirstFault, IsLeastTwice, AreDistinct, IsLeastNotBelow, AreBelowStated}
+use Rattle.gm_mapfile.specs.MapFaults.{TextFault, IsFirstFault, IsLeastTwice, AreNamedOnce, IsLeastNotBelow, AreBelowStated}
 use Rattle.gm_mapfile.specs.MapFaults as first
 use Rattle.gm_mapfile.specs.declared.fault.MapFault.{MapFault}
 use Rattle.gm_mapfile.specs.declared.fault.MapFault.TheVariants as faults
@@ -21,7 +21,7 @@ abbrev pub IsFaultOf : List ℕ → MapFault → Type 0
 IsFaultOf text (faults.Text place) = IsFirstFault text (first.Ends place)
 IsFaultOf text (faults.Limit what place) = IsFirstFault text (first.Passes what place)
 IsFaultOf text (faults.Twice place) = IsFirstFault text (first.Again place)
-IsFaultOf text (faults.DartTwice dart) = IsFirstFault text (first.Twice dart)
+IsFaultOf text (faults.DartTwice dart) = IsFirstFault text (first.DartTwice dart)
 IsFaultOf text (faults.Next dart) = IsFirstFault text (first.NotBelow dart)
 IsFaultOf text (faults.NoTarget dart label) = IsFirstFault text (first.NoTarget dart label)
 IsFaultOf text (faults.Breach breach) = IsBreachOf text breach
@@ -30,7 +30,7 @@ IsFaultOf text faults.OutOfMemory = Unit {0}
 -- listed darts have this fault by their names, or memory was wanting
 abbrev pub IsNameFault : Version → ℕ → List DartRow → MapFault → Type 0
 IsNameFault version n darts (faults.DartTwice dart) = IsLeastTwice (rows_of darts) dart
-IsNameFault (Second next) n darts (faults.Next dart) = AreDistinct (rows_of darts) × IsLeastNotBelow (rows_of darts) next dart
-IsNameFault version n darts (faults.NoTarget dart label) = AreDistinct (rows_of darts) × AreBelowStated version (rows_of darts) × IsFirstWithoutTarget n (IsLive (rows_of darts)) (alpha (rows_of darts)) dart label
+IsNameFault (Second next) n darts (faults.Next dart) = AreNamedOnce (rows_of darts) × IsLeastNotBelow (rows_of darts) next dart
+IsNameFault version n darts (faults.NoTarget dart label) = AreNamedOnce (rows_of darts) × AreBelowStated version (rows_of darts) × IsFirstWithoutTarget n (IsLive (rows_of darts)) (alpha (rows_of darts)) dart label
 IsNameFault version n darts faults.OutOfMemory = Unit {0}
 IsNameFault version n darts _ = ⊥

@@ -18,7 +18,7 @@ pub data TextFault : Type 0 where
   -- the name or the label at this place was there before
   Again : ℕ → TextFault
   -- two darts have this name
-  Twice : ℕ → TextFault
+  DartTwice : ℕ → TextFault
   -- this name isn't below the next one that the text states
   NotBelow : ℕ → TextFault
   -- the neighbour of this dart along this label is no dart
@@ -41,8 +41,8 @@ pub record IsLeastTwice (rows : List Row) (d : ℕ) : Type 0 where
   pub twice : 1 < rows_named rows d
   pub least : (e : ℕ) → e < d → rows_named rows e ≤ 1
 
-abbrev pub AreDistinct : List Row → Type 0
-AreDistinct rows = (d : ℕ) → rows_named rows d ≤ 1
+abbrev pub AreNamedOnce : List Row → Type 0
+AreNamedOnce rows = (d : ℕ) → rows_named rows d ≤ 1
 
 -- each name is below the number
 abbrev pub AreBelow : List Row → ℕ → Type 0
@@ -66,7 +66,7 @@ HaveTargets n rows = (d i : ℕ) → IsLive rows d → i ≤ n → IsLive rows (
 -- the text lists darts whose names differ
 pub record AreNamed (text : List ℕ) (version : Version) (schema : Schema) (darts : List DartRow) : Type 0 where
   pub listed : IsListed text version schema darts
-  pub distinct : AreDistinct (rows_of darts)
+  pub distinct : AreNamedOnce (rows_of darts)
 
 -- and are below the next one
 pub record AreNumbered (text : List ℕ) (version : Version) (schema : Schema) (darts : List DartRow) : Type 0 where
@@ -92,7 +92,7 @@ pub data IsFirstFault (text : List ℕ) : TextFault → Type 0 where
   AtEnds : (place : ℕ) → IsTextFault text place → IsFirstFault text (Ends place)
   AtPasses : (what : LimitKind) (place : ℕ) → IsLimitFault text what place → IsFirstFault text (Passes what place)
   AtAgain : (place : ℕ) → IsAgainFault text place → IsFirstFault text (Again place)
-  AtTwice : (version : Version) (schema : Schema) (darts : List DartRow) (d : ℕ) → IsListed text version schema darts → IsLeastTwice (rows_of darts) d → IsFirstFault text (Twice d)
+  AtTwice : (version : Version) (schema : Schema) (darts : List DartRow) (d : ℕ) → IsListed text version schema darts → IsLeastTwice (rows_of darts) d → IsFirstFault text (DartTwice d)
   AtNotBelow : (next : ℕ) (schema : Schema) (darts : List DartRow) (d : ℕ) → AreNamed text (Second next) schema darts → IsLeastNotBelow (rows_of darts) next d → IsFirstFault text (NotBelow d)
   AtNoTarget : (version : Version) (schema : Schema) (darts : List DartRow) (d i : ℕ) → AreNumbered text version schema darts
       → IsFirstWithoutTarget schema.dim (IsLive (rows_of darts)) (alpha (rows_of darts)) d i → IsFirstFault text (NoTarget d i)
@@ -126,7 +126,7 @@ abbrev pub fault_words : TextFault → List ℕ
 fault_words (Ends place) = codes "text " ++ decimal place
 fault_words (Passes what place) = codes "limit " ++ limit_word what ++ codes " " ++ decimal place
 fault_words (Again place) = codes "twice " ++ decimal place
-fault_words (Twice d) = codes "dart-twice " ++ decimal d
+fault_words (DartTwice d) = codes "dart-twice " ++ decimal d
 fault_words (NotBelow d) = codes "next dart " ++ decimal d
 fault_words (NoTarget d i) = codes "no-target dart " ++ decimal d ++ codes " label " ++ decimal i
 fault_words (OneWay d i) = codes "involution dart " ++ decimal d ++ codes " label " ++ decimal i

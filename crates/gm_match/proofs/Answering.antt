@@ -42,7 +42,7 @@ use Rattle.gm_match.specs.Layout.IsNoDart.{Dead}
 use Rattle.gm_match.proofs.InArena.{answered}
 use Rattle.gm_match.specs.Outcome.{application_of, name_of, place_of, IsAnswer, IsCause, HasPositions}
 use Rattle.gm_match.specs.Outcome.HasPositions.{NoDarts, Candidate}
-use Rattle.gm_match.specs.Taken.{AreDistinct, AreDistinctBefore, IsFirstTwice}
+use Rattle.gm_match.specs.Taken.{TakeEachOnce, TakeEachOnceBefore, IsFirstTwice}
 use Rattle.gm_match.specs.Taken.IsFirstTwice.{Twice}
 use Rattle.gm_match.proofs.Costs.{found_cost, met_cost}
 use Rattle.gm_match.proofs.Stepping.{slot_live, slot_some, meets_all, first_broken}
@@ -61,13 +61,13 @@ not_nil [] empty is e = absurd (let both : true ≡ false = sym is ∙ e in cc)
 not_nil (x ∷ xs) empty is e = omega arith
 
 -- what the parts need of map and rule
-pub record IsSound (m : ArenaMap) (rule : Rule) : Type 0 where
+pub record IsMatchable (m : ArenaMap) (rule : Rule) : Type 0 where
   pub generalised : IsGeneralised (as_map m)
   pub in_range : IsInRange m.schema rule
   pub incidence : HasIncidence m.schema.dim rule
   pub few : length rule.hooks ≤ length rule.nodes
 
-pub sound_of : (m : ArenaMap) (schema : Schema) (rule : Rule) → IsGeneralised (as_map m) → m.schema ≡ schema → IsPlanned schema rule → IsSound m rule
+pub sound_of : (m : ArenaMap) (schema : Schema) (rule : Rule) → IsGeneralised (as_map m) → m.schema ≡ schema → IsPlanned schema rule → IsMatchable m rule
 sound_of m schema rule generalised same planned = record {
   generalised = generalised;
   in_range = subst (λ s. IsInRange s rule) (sym same) planned.accepted.in_range;
@@ -88,7 +88,7 @@ named_live m hooks slots lawful are k d within at =
 pub slots_below : (m : ArenaMap) (slots : List Slot) (bound : ℕ) → IsLawful m → AreLive m slots → m.bound ≤ bound → All (λ (s : Slot). s.at < bound) slots
 slots_below m slots bound lawful live fits k d h = omega (arith, lawful.below_bound (get_or slots k d).at (name_at m (get_or slots k d).at) (IsAt-name_at m (get_or slots k d).at (live k d h)))
 
-module _ (m : ArenaMap) (rule : Rule) (sound : IsSound m rule) where
+module _ (m : ArenaMap) (rule : Rule) (sound : IsMatchable m rule) where
   module _ (hooks : List ℕ) where
     pub darts_live : AreDarts m hooks (length hooks) → (params : List Value) → HasHookDarts (application_of m rule hooks params)
     darts_live live params d (k, h, e) = live k d h (slice_get-get_or hooks k d h ∙ ap Some e)
@@ -156,13 +156,13 @@ module _ (m : ArenaMap) (rule : Rule) (sound : IsSound m rule) where
 
 -- there is a hook, and each names a live dart
 pub record IsBegun (m : ArenaMap) (rule : Rule) (hooks : List ℕ) : Type 0 where
-  pub sound : IsSound m rule
+  pub sound : IsMatchable m rule
   pub lawful : IsLawful m
   pub some : 0 < length hooks
   pub live : AreDarts m hooks (length hooks)
   pub count : length hooks ≡ length rule.hooks
 
-pub begun_of : (m : ArenaMap) (rule : Rule) (hooks : List ℕ) (slots : List Slot) → IsSound m rule → IsLawful m → 0 < length hooks → length hooks ≡ length rule.hooks → AreHookSlots m hooks slots → IsBegun m rule hooks
+pub begun_of : (m : ArenaMap) (rule : Rule) (hooks : List ℕ) (slots : List Slot) → IsMatchable m rule → IsLawful m → 0 < length hooks → length hooks ≡ length rule.hooks → AreHookSlots m hooks slots → IsBegun m rule hooks
 begun_of m rule hooks slots sound lawful some same are = record { sound = sound; lawful = lawful; some = some; live = named_live m hooks slots lawful are; count = same }
 
 module _ (m : ArenaMap) (rule : Rule) (hooks : List ℕ) (begun : IsBegun m rule hooks) where
@@ -243,7 +243,7 @@ module _ (m : ArenaMap) (rule : Rule) (hooks : List ℕ) (begun : IsBegun m rule
             let t_at : IsAt m t.at (name_at m t.at) = IsAt-name_at m t.at (slot_live m found at.laid.slots y q t f) in
             e ∙ ap Some (same_slot s t (begun.lawful.one_slot t.at s.at (name_at m t.at) t_at s_at)) ∙ sym f
 
-    first_repeat : (params : List Value) (x p y q : ℕ) → y < found.nodes → p < found.positions → q < found.positions → IsPairBefore x p y q → slot_at found x p ≡ slot_at found y q → AreDistinctBefore found y q →
+    first_repeat : (params : List Value) (x p y q : ℕ) → y < found.nodes → p < found.positions → q < found.positions → IsPairBefore x p y q → slot_at found x p ≡ slot_at found y q → TakeEachOnceBefore found y q →
         IsFirstRepeat (application_of m rule hooks params) (place_of m found) x p y q
     first_repeat params x p y q y_in p_in q_in before same distinct = record {
       here = record { first = ((at.laid.nodes x).1 (x_in before), p_in); second = ((at.laid.nodes y).1 y_in, q_in); later = before; same = ap (name_of m) same };
@@ -277,7 +277,7 @@ module _ (m : ArenaMap) (rule : Rule) (hooks : List ℕ) (begun : IsBegun m rule
     -- ---- one node
 
     -- no two instances of one node have one slot, since no dart comes twice in a walk
-    pub one_node : found.nodes ≤ 1 → AreDistinct found
+    pub one_node : found.nodes ≤ 1 → TakeEachOnce found
     one_node one y q z r before last q_in r_in same = go before
       where
         walked : IsWalkedBy (as_map m) rule hooks (place_of m found) at.candidate.walk
@@ -304,7 +304,7 @@ module _ (m : ArenaMap) (rule : Rule) (hooks : List ℕ) (begun : IsBegun m rule
 
     -- ---- a match
 
-    pub answer : AreMet m rule found → AreDistinct found → IsAnswer m rule hooks found
+    pub answer : AreMet m rule found → TakeEachOnce found → IsAnswer m rule hooks found
     answer met distinct = answered m rule hooks found
         (candidate_is_match (as_map m) rule (place_of m found) begun.sound.in_range begun.sound.incidence begun.sound.generalised hooks at.candidate (live_hooks []) (meets_all m rule found at.laid met) apart)
         (λ params. record {

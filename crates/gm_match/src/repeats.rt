@@ -1,7 +1,7 @@
 ghost use Rattle.std.specs.Prelude.{◌≡◌, ◌+◌, ◌<◌, ◌≤◌, MatchResult};
 ghost use Rattle.std.specs.List.{All};
 ghost use Rattle.gm_arena.specs.declared.slot.Slot.{Slot};
-ghost use Rattle.gm_match.specs.Taken.{IsTaken, AreDistinct, IsFirstTwice};
+ghost use Rattle.gm_match.specs.Taken.{IsTaken, TakeEachOnce, IsFirstTwice};
 
 use crate::fault::MatchFault;
 use gm_plan::Instances;
@@ -16,8 +16,8 @@ pub(crate) fn take_once(
 ) -> Result<(), MatchFault>
     requires nodes { nodes ≡ found.now.nodes }
     requires room { All (λ (s : Slot). s.at < scratch.old.bound) found.now.slots }
-    requires alone { found.now.nodes ≤ 1 → AreDistinct found.now }
-    ensures once { MatchResult result (λ _. AreDistinct found.now) (IsFirstTwice found.now) }
+    requires alone { found.now.nodes ≤ 1 → TakeEachOnce found.now }
+    ensures once { MatchResult result (λ _. TakeEachOnce found.now) (IsFirstTwice found.now) }
     ensures room { scratch.new.bound ≡ scratch.old.bound }
 {
     if nodes <= 1 {
