@@ -3,24 +3,25 @@ use Rattle.std.proofs.Common.{◌≡◌, ℕ, ◌+◌, ◌*◌, ◌≤◌, List,
 use Rattle.std.proofs.lemmas.Nat.{mul-le}
 use Rattle.gm_model.specs.declared.value.Value.{Value}
 use Rattle.gm_model.specs.Acceptance.{IsAccepted}
-use Rattle.gm_model.specs.Applications.{Application, IsFound, IsReady, IsPreUnits, IsReachedSum, IsReadSum, IsWork, NoHookDarts, NoMatch, NotReady, Ready, IsBudget, Of}
+use Rattle.gm_model.specs.Applications.{Application, IsFound, IsReady, IsPreUnits, IsReachedSum, IsReadSum, HasPositions, NoDarts, Candidate, IsWork, NoMatch, NotReady, Ready, IsBudget, Of}
 use Rattle.gm_model.specs.Maps.{IsSchema, IsSound}
 use Rattle.gm_model.specs.Matches.{Placement}
 use Rattle.gm_model.specs.Rules.{Rule}
 use Rattle.gm_model.specs.Unfolding.{added_nodes}
 use Rattle.gm_arena.specs.ArenaAsMap.{as_map}
 use Rattle.gm_arena.specs.ArenaMap.{ArenaMap}
-use Rattle.gm_match.specs.Outcome.{application_of, IsAnswer, HasPositions, NoDarts, Candidate}
+use Rattle.gm_match.specs.Outcome.{application_of, IsAnswer}
 use Rattle.gm_plan.specs.InArena.{placement_in}
 use Rattle.gm_plan.specs.Placed.{Placed}
 use Rattle.gm_theory.specs.Theorem.{Unfolded, Unfolds, IsDartOf}
+use Rattle.gm_theory.proofs.LikeCandidates.{candidates_like}
 use Rattle.gm_theory.proofs.CandidatesFound.{some_position}
 use Rattle.gm_theory.proofs.ValuesKept.{found_match}
 use Rattle.gm_apply.proofs.LikeApplications.{pre_units_there, ready_there}
 use Rattle.gm_apply.proofs.LikeResults.{results_like}
 use Rattle.gm_apply.proofs.LikeScenes.{unfolding_there}
 use Rattle.gm_apply.proofs.LikeValues.{reached_sum_there, read_sum_there}
-use Rattle.gm_apply.proofs.LikePlaces.{AreLikeAt, same_map, places_back, candidates_like, found_like}
+use Rattle.gm_apply.proofs.LikePlaces.{AreLikeAt, same_map, places_back}
 
 fits_within : (d n reached pre sets : ℕ) → 8 * d * (n + 1) + 16 * d * (n + reached + 1) + 6 * d * pre + 6 * d * sets ≤ 24 * d * (n + reached + (pre + sets) + 1)
 fits_within d n reached pre sets =
@@ -34,12 +35,6 @@ module _ (m : ArenaMap) (rule : Rule) (hooks : List ℕ) (params : List Value) w
 
   -- ---- refused by its match
 
-  positions_of_work : (k reached read : ℕ) → IsWork app k reached read → HasPositions (as_map m) rule hooks k
-  positions_of_work k reached read (NoHookDarts none) = NoDarts none
-  positions_of_work k reached read (NoMatch place darts candidate no_match) = Candidate place darts candidate
-  positions_of_work k reached read (NotReady place u found unready units) = Candidate place found.darts found.candidate
-  positions_of_work k reached read (Ready place live alpha r u w ready unfolded reaches units sum) = Candidate place ready.found.darts ready.found.candidate
-
   within_budget : (factor k u reached read before after : ℕ) → factor ≤ 24 → u ≤ read → after ≤ before + factor * (m.schema.dim + 1) * (length rule.nodes * k + 1) + 6 * (m.schema.dim + 1) * u
       → after ≤ before + 24 * (m.schema.dim + 1) * (length rule.nodes * k + reached + read + 1)
   within_budget factor k u reached read before after few some h =
@@ -48,9 +43,9 @@ module _ (m : ArenaMap) (rule : Rule) (hooks : List ℕ) (params : List Value) w
       let two : 6 * d * u ≤ 24 * d * read = mul-le (6 * d) u (24 * d) read (mul-le 6 d 24 d (omega arith) (omega arith)) some in
       omega (arith, h, one, two)
 
-  pub find_within : (most before after : ℕ) → IsBudget app most → ((k : ℕ) → HasPositions (as_map m) rule hooks k → after ≤ before + 8 * (m.schema.dim + 1) * (length rule.nodes * k + 1)) → after ≤ before + most
-  find_within most before after (Of k reached read work) cost =
-      let found = cost k (positions_of_work k reached read work) in
+  pub find_within : (most before after : ℕ) → IsBudget app most → ((k : ℕ) → HasPositions app k → after ≤ before + 8 * (m.schema.dim + 1) * (length rule.nodes * k + 1)) → after ≤ before + most
+  find_within most before after (Of k reached read positions work) cost =
+      let found = cost k positions in
       within_budget 8 k 0 reached read before after (omega arith) (omega arith) (omega (arith, found))
 
   -- ---- found
@@ -59,9 +54,8 @@ module _ (m : ArenaMap) (rule : Rule) (hooks : List ℕ) (params : List Value) w
     abbrev here : Placement
     here = placement_in m found
 
-    -- the same positions, and reading the precondition takes so much of what is read
-    record IsWorkHere (k read : ℕ) : Type 0 where
-      positions_are : k ≡ found.positions
+    -- reading the precondition takes so much of what is read
+    record IsReadHere (read : ℕ) : Type 0 where
       units : ℕ
       pre_units : IsPreUnits app here units
       few : units ≤ read
@@ -75,32 +69,25 @@ module _ (m : ArenaMap) (rule : Rule) (hooks : List ℕ) (params : List Value) w
         let both = same_map rule (as_map m) here place accepted sound.is_map sound.generalised like answer.matched.is_match.embedded.live in
         pre_units_there rule hooks params (as_map m) (as_map m) place here (places_back rule (as_map m) (as_map m) here place both) (some_position (as_map m) rule hooks place theirs.candidate) u units
 
-    work_here : (k reached read : ℕ) → IsWork app k reached read → IsWorkHere k read
-    work_here _ _ _ (NoHookDarts none) = absurd (none found_here.darts)
-    work_here _ _ _ (NoMatch place darts candidate no_match) = absurd (no_match (found_like app accepted.in_range accepted.incidence here place candidate found_here))
-    work_here _ _ _ (NotReady place u theirs unready units) = record {
-      positions_are = (candidates_like app accepted.in_range accepted.incidence place here theirs.candidate found_here.candidate).positions;
-      units = u;
-      pre_units = units_here place u theirs units;
-      few = omega arith;
-    }
-    work_here _ _ _ (Ready place live alpha reached u w ready unfolded reaches units sum) = record {
-      positions_are = (candidates_like app accepted.in_range accepted.incidence place here ready.found.candidate found_here.candidate).positions;
-      units = u;
-      pre_units = units_here place u ready.found units;
-      few = omega arith;
-    }
+    positions_here : (k : ℕ) → HasPositions app k → k ≡ found.positions
+    positions_here _ (NoDarts none) = absurd (none found_here.darts)
+    positions_here _ (Candidate place darts candidate) = (candidates_like app accepted.in_range accepted.incidence place here candidate found_here.candidate).positions
 
-    find_cost : (before after : ℕ) → ((k : ℕ) → HasPositions (as_map m) rule hooks k → after ≤ before + 8 * (m.schema.dim + 1) * (length rule.nodes * k + 1)) → after ≤ before + 8 * (m.schema.dim + 1) * (length rule.nodes * found.positions + 1)
+    read_here : (reached read : ℕ) → IsWork app reached read → IsReadHere read
+    read_here _ _ (NoMatch none) = absurd (none here found_here)
+    read_here _ _ (NotReady place u theirs unready units) = record { units = u; pre_units = units_here place u theirs units; few = omega arith }
+    read_here _ _ (Ready place live alpha reached u w ready unfolded reaches units sum) = record { units = u; pre_units = units_here place u ready.found units; few = omega arith }
+
+    find_cost : (before after : ℕ) → ((k : ℕ) → HasPositions app k → after ≤ before + 8 * (m.schema.dim + 1) * (length rule.nodes * k + 1)) → after ≤ before + 8 * (m.schema.dim + 1) * (length rule.nodes * found.positions + 1)
     find_cost before after cost = cost found.positions (Candidate here found_here.darts found_here.candidate)
 
     -- the match is found, the precondition is read, and what comes behind takes so many steps more for each instance
     pub found_within : (most more before found_at read_at after : ℕ) → IsBudget app most → more ≤ 16
-        → ((k : ℕ) → HasPositions (as_map m) rule hooks k → found_at ≤ before + 8 * (m.schema.dim + 1) * (length rule.nodes * k + 1))
+        → ((k : ℕ) → HasPositions app k → found_at ≤ before + 8 * (m.schema.dim + 1) * (length rule.nodes * k + 1))
         → ((u : ℕ) → IsPreUnits app here u → read_at ≤ found_at + 6 * (m.schema.dim + 1) * u)
         → after ≤ read_at + more * (m.schema.dim + 1) * (length rule.nodes * found.positions + 1) → after ≤ before + most
-    found_within most more before found_at read_at after (Of k reached read work) few finding reading last =
-        let this = work_here k reached read work in
+    found_within most more before found_at read_at after (Of k reached read positions work) few finding reading last =
+        let this = read_here reached read work in
         let one = find_cost before found_at finding in
         let two = reading this.units this.pre_units in
         let d = m.schema.dim + 1 in
@@ -108,13 +95,12 @@ module _ (m : ArenaMap) (rule : Rule) (hooks : List ℕ) (params : List Value) w
         let sum : 8 * d * n + more * d * n ≡ (8 + more) * d * n = omega arith in
         let all : after ≤ before + (8 + more) * d * n + 6 * d * this.units = omega (arith, one, two, last, sum) in
         within_budget (8 + more) k this.units reached read before after (omega (arith, few)) this.few
-        (subst (λ p. after ≤ before + (8 + more) * (m.schema.dim + 1) * (length rule.nodes * p + 1) + 6 * (m.schema.dim + 1) * this.units) (sym this.positions_are) all)
+        (subst (λ p. after ≤ before + (8 + more) * (m.schema.dim + 1) * (length rule.nodes * p + 1) + 6 * (m.schema.dim + 1) * this.units) (sym (positions_here k positions)) all)
 
     -- ---- ready
 
     -- the work of an application that is ready, over a result of this match
-    pub record IsReadyWork (k reached read : ℕ) : Type 0 where
-      pub positions_are : k ≡ found.positions
+    pub record IsReadyWork (reached read : ℕ) : Type 0 where
       pub result : Unfolded
       pub unfolds : Unfolds (as_map m) rule here result
       pub reaches : IsReachedSum app here (IsDartOf result) result.alpha reached
@@ -130,18 +116,16 @@ module _ (m : ArenaMap) (rule : Rule) (hooks : List ℕ) (params : List Value) w
           places_back rule (as_map m) (as_map m) here place
           (same_map rule (as_map m) here place accepted sound.is_map sound.generalised (candidates_like app accepted.in_range accepted.incidence here place found_here.candidate theirs.candidate) answer.matched.is_match.embedded.live)
 
-      ready_work : (k reached read : ℕ) → IsWork app k reached read → IsReadyWork k reached read
-      ready_work _ _ _ (NoHookDarts none) = absurd (none found_here.darts)
-      ready_work _ _ _ (NoMatch place darts candidate no_match) = absurd (no_match (found_like app accepted.in_range accepted.incidence here place candidate found_here))
-      ready_work _ _ _ (NotReady place u theirs unready units) =
+      ready_work : (reached read : ℕ) → IsWork app reached read → IsReadyWork reached read
+      ready_work _ _ (NoMatch none) = absurd (none here found_here)
+      ready_work _ _ (NotReady place u theirs unready units) =
           absurd (unready (ready_there rule hooks params (as_map m) (as_map m) here place (places_back rule (as_map m) (as_map m) place here (same_here place theirs)) ready_here theirs))
-      ready_work _ _ _ (Ready place live alpha reached u w ready unfolded reaches units reads) =
+      ready_work _ _ (Ready place live alpha reached u w ready unfolded reaches units reads) =
           let both = same_here place ready.found in
           let result : Unfolded = record { live = live; alpha = alpha; next = m.next + place.positions * added_nodes rule } in
           let unfolds : Unfolds (as_map m) rule here result = unfolding_there rule (as_map m) (as_map m) place here both (λ d. IsTrue (live d)) alpha result.next unfolded in
           let like = results_like rule hooks (as_map m) (as_map m) place here both of_schema (found_match app place sound.generalised accepted ready.found) result result unfolded unfolds in
           record {
-            positions_are = both.like.positions;
             result = result;
             unfolds = unfolds;
             reaches = reached_sum_there rule hooks params (as_map m) (as_map m) place here result result like reached reaches;
@@ -155,13 +139,13 @@ module _ (m : ArenaMap) (rule : Rule) (hooks : List ℕ) (params : List Value) w
       -- the match is found, the precondition is read, and what comes behind takes so many steps more: for each instance,
       -- for each dart that gets a value, and for each unit that is read
       pub ready_within : (most before found_at read_at after : ℕ) → IsBudget app most
-          → ((k : ℕ) → HasPositions (as_map m) rule hooks k → found_at ≤ before + 8 * (m.schema.dim + 1) * (length rule.nodes * k + 1))
+          → ((k : ℕ) → HasPositions app k → found_at ≤ before + 8 * (m.schema.dim + 1) * (length rule.nodes * k + 1))
           → ((u : ℕ) → IsPreUnits app here u → read_at ≤ found_at + 6 * (m.schema.dim + 1) * u)
           → ((result : Unfolded) → Unfolds (as_map m) rule here result → (reached read : ℕ) → IsReachedSum app here (IsDartOf result) result.alpha reached → IsReadSum app here (IsDartOf result) result.alpha read
           → after ≤ read_at + 16 * (m.schema.dim + 1) * (length rule.nodes * found.positions + reached + 1) + 6 * (m.schema.dim + 1) * read)
           → after ≤ before + most
-      ready_within most before found_at read_at after (Of k reached read work) finding reading last =
-          let this = ready_work k reached read work in
+      ready_within most before found_at read_at after (Of k reached read positions work) finding reading last =
+          let this = ready_work reached read work in
           let one = find_cost before found_at finding in
           let two = reading this.pre this.pre_units in
           let three = last this.result this.unfolds reached this.sets this.reaches this.read_sum in
@@ -171,4 +155,4 @@ module _ (m : ArenaMap) (rule : Rule) (hooks : List ℕ) (params : List Value) w
           let fits : 8 * d * (n + 1) + 16 * d * (n + reached + 1) + 6 * d * this.pre + 6 * d * this.sets ≤ 24 * d * (n + reached + (this.pre + this.sets) + 1) = fits_within d n reached this.pre this.sets in
           let here_most : after ≤ before + 24 * d * (n + reached + (this.pre + this.sets) + 1) = omega (arith, all, fits) in
           subst (λ r. after ≤ before + 24 * (m.schema.dim + 1) * (length rule.nodes * k + reached + r + 1)) (sym this.read_is)
-          (subst (λ p. after ≤ before + 24 * (m.schema.dim + 1) * (length rule.nodes * p + reached + (this.pre + this.sets) + 1)) (sym this.positions_are) here_most)
+          (subst (λ p. after ≤ before + 24 * (m.schema.dim + 1) * (length rule.nodes * p + reached + (this.pre + this.sets) + 1)) (sym (positions_here k positions)) here_most)

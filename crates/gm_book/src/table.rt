@@ -323,6 +323,32 @@ fn pre(
     }
 }
 
+/// What a rule says of its nodes by their numbers.
+struct Arcs {
+    left_links: Vec<Link>,
+    right_links: Vec<Link>,
+    hooks: Vec<u8>,
+}
+
+fn arcs_of(
+    alloc: Global,
+    text: &[u8],
+    rule: &RuleForm,
+    names: &IndexSet<NameKey<'_>>,
+) -> Result<Arcs, OutOfMemory>
+    requires within { IsRuleIn text.now rule.now }
+    requires few { length (names_held names.now) ≤ 32 }
+    ensures left { IfOk result (λ arcs. arcs.left_links.items ≡ links_in (names_held names.now) (rule_form_of text.now rule.now).left) }
+    ensures right { IfOk result (λ arcs. arcs.right_links.items ≡ links_in (names_held names.now) (rule_form_of text.now rule.now).right) }
+    ensures hooks { IfOk result (λ arcs. arcs.hooks.items ≡ hooks_in (names_held names.now) (rule_form_of text.now rule.now).left) }
+{
+    Ok(Arcs {
+        left_links: links(alloc, names, text, rule.left.as_slice())?,
+        right_links: links(alloc, names, text, rule.right.as_slice())?,
+        hooks: hooks(alloc, names, text, rule.left.as_slice())?,
+    })
+}
+
 /// The table of the rule, whose nodes have their numbers in `names`.
 fn numbered_table(
     alloc: Global,
@@ -340,6 +366,11 @@ fn numbered_table(
     requires sound { HasNoFaultInRules schema.now.dim schema.now.embeds (rule_form_of text.now rule.now ∷ []) }
     ensures { IfOk result (λ table. MeansRule schema.now.dim schema.now.embeds (rule_form_of text.now rule.now) (rule_of table)) }
 {
+    let Arcs {
+        left_links,
+        right_links,
+        hooks,
+    } = arcs_of(alloc, text, rule, names)?;
     let Parts { params, nodes } = numbered_parts(alloc, text, rule, names.as_slice())?;
     let env = Env {
         schema,
@@ -348,9 +379,6 @@ fn numbered_table(
     };
     let assigned = assigned(alloc, text, &env, rule, names.as_slice())?;
     let pre = pre(alloc, text, &env, rule.pre)?;
-    let left_links = links(alloc, names, text, rule.left.as_slice())?;
-    let right_links = links(alloc, names, text, rule.right.as_slice())?;
-    let hooks = hooks(alloc, names, text, rule.left.as_slice())?;
     Ok(RuleTable {
         name: Name::new(bytes_in(text, &rule.name)).unwrap(),
         params: Items::new(params),

@@ -100,7 +100,10 @@ fn value_fault(
     let _top = env.schema.dim.top();
     match read_value(alloc, text, env, value) {
         Ok(expr) => {
-            if has_kind(env, &expr, kind) {
+            let fits = has_kind(env, &expr, kind);
+            // Left to the ends of the scope, the drop would be proved at each, over all variants.
+            drop(expr);
+            if fits {
                 return Ok(None);
             }
             let place = first_of(text, value);

@@ -52,7 +52,8 @@ fn build<L: Ledger>(alloc: Global, m: u32, steps: &mut Steps<L>) -> Result<Arena
     ensures most { steps.new ≤ steps.old + 10 * dart_count m }
 {
     let mut arena = Arena::new(alloc, make_schema(alloc)?);
-    arena.reserve(8 * (m * m), 8 * (m * m))?;
+    // There is room for what the script adds as well, so that none of its lines has to make it.
+    arena.reserve(24 * (m * m), 24 * (m * m))?;
     add_darts(&mut arena, m, steps);
     link_darts(&mut arena, m, steps);
     Ok(arena)

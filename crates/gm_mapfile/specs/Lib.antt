@@ -1,4 +1,5 @@
 pub mod MapText
+pub mod Name
 pub mod MapFaults
 pub mod Words
 pub mod Draft

@@ -14,6 +14,7 @@ ghost use Rattle.gm_mapfile.specs.Faults.{IsNameFault};
 ghost use Rattle.gm_mapfile.specs.Building.{AreInRoom, AreSlotsLive, AreWhole, AreLive, AreValued, IsFresh, IsNextLeast, AreAdded, IsNotBelow, IsLeastNotBelowStated, IsNextSet, IsRelinked, IsDartLinked, IsLabelWithoutTarget, AreLinkedUnless, IsHeld};
 
 use crate::fault::MapFault;
+use crate::name::Name;
 use crate::ordering::in_order;
 use crate::reading::Draft;
 use gm_arena::{Arena, Slot, Steps};
@@ -78,14 +79,14 @@ fn build_lines<L: Ledger>(
 }
 
 /// One more than the greatest of the numbers, or 0 where there is none.
-fn names_end(numbers: &[u32]) -> u32
+fn names_end(numbers: &[Name]) -> u32
     requires { All (λ x. x < most_names) numbers.now }
     ensures above { All (λ x. x < result) numbers.now }
     ensures few { result ≤ most_names }
 {
     let mut end = 0;
     for number in numbers {
-        end = end.max(*number + 1);
+        end = end.max(number.number() + 1);
     }
     end
 }
@@ -94,7 +95,7 @@ fn names_end(numbers: &[u32]) -> u32
 /// that two lines have.
 fn add_darts<L: Ledger>(
     arena: &mut Arena,
-    numbers: &[u32],
+    numbers: &[Name],
     values: &[Value],
     steps: &mut Steps<L>,
 ) -> Option<u32>
@@ -113,7 +114,7 @@ fn add_darts<L: Ledger>(
     let mut rest = values;
     let mut twice: Option<u32> = None;
     for line in numbers.chunks_exact(arena.schema().dim.top() as usize + 2) {
-        let name = line[0];
+        let name = line[0].number();
         let (own, others) = rest.split_at(embeds);
         rest = others;
         if arena.slot_of(name, steps).is_none() {
@@ -137,7 +138,7 @@ fn lesser(found: Option<u32>, name: u32) -> u32
 
 /// Sets the next name, where the text states one. The answer is the least name of a line that
 /// isn't below it, and then the arena is left as it was.
-fn set_stated(arena: &mut Arena, numbers: &[u32], stated: Option<u32>) -> Option<u32>
+fn set_stated(arena: &mut Arena, numbers: &[Name], stated: Option<u32>) -> Option<u32>
     requires next { IsNextLeast arena.old }
     requires live { AreLive (rows_in arena.old.schema.dim numbers.now) arena.old }
     requires most { IfSome stated (λ next. next ≤ most_names) }
@@ -153,7 +154,7 @@ fn set_stated(arena: &mut Arena, numbers: &[u32], stated: Option<u32>) -> Option
 }
 
 /// The least name of a line that isn't below the number.
-fn least_not_below(arena: &Arena, numbers: &[u32], next: u32) -> Option<u32>
+fn least_not_below(arena: &Arena, numbers: &[Name], next: u32) -> Option<u32>
     requires next { IsNextLeast arena.now }
     requires live { AreLive (rows_in arena.now.schema.dim numbers.now) arena.now }
     ensures { IsNotBelow (rows_in arena.now.schema.dim numbers.now) next result }
@@ -163,8 +164,9 @@ fn least_not_below(arena: &Arena, numbers: &[u32], next: u32) -> Option<u32>
     }
     let mut least: Option<u32> = None;
     for line in numbers.chunks_exact(arena.schema().dim.top() as usize + 2) {
-        if line[0] >= next {
-            least = Some(lesser(least, line[0]));
+        let name = line[0].number();
+        if name >= next {
+            least = Some(lesser(least, name));
         }
     }
     least
@@ -174,7 +176,7 @@ fn least_not_below(arena: &Arena, numbers: &[u32], next: u32) -> Option<u32>
 /// neighbour is no dart.
 fn link_darts<L: Ledger>(
     arena: &mut Arena,
-    numbers: &[u32],
+    numbers: &[Name],
     steps: &mut Steps<L>,
 ) -> Option<(u32, u8)>
     requires added { AreAdded arena.old.schema.dim (rows_in arena.old.schema.dim numbers.now) arena.old None }
@@ -185,7 +187,7 @@ fn link_darts<L: Ledger>(
 {
     let mut missing: Option<(u32, u8)> = None;
     for line in numbers.chunks_exact(arena.schema().dim.top() as usize + 2) {
-        let name = line[0];
+        let name = line[0].number();
         if let Some(label) = link_dart(arena, name, &line[1..], steps) {
             missing = Some(earlier(missing, name, label));
         }
@@ -208,7 +210,7 @@ fn earlier(found: Option<(u32, u8)>, dart: u32, label: u8) -> (u32, u8)
 fn link_dart<L: Ledger>(
     arena: &mut Arena,
     name: u32,
-    neighbours: &[u32],
+    neighbours: &[Name],
     steps: &mut Steps<L>,
 ) -> Option<u8>
     requires live { IsLiveName arena.old name }
@@ -221,7 +223,7 @@ fn link_dart<L: Ledger>(
 {
     let slot = arena.slot_of(name, steps)?;
     for label in 0..=arena.schema().dim.top() {
-        let Some(to) = arena.slot_of(neighbours[label as usize], steps) else {
+        let Some(to) = arena.slot_of(neighbours[label as usize].number(), steps) else {
             return Some(label);
         };
         arena.set_alpha(slot, label, to, steps);

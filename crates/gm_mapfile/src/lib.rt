@@ -4,6 +4,7 @@
 mod building;
 mod fault;
 mod laws;
+mod name;
 mod ordering;
 mod printing;
 mod reading;

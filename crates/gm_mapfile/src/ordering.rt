@@ -9,6 +9,7 @@ ghost use Rattle.gm_mapfile.specs.Ordering.{counted_from, on_lines};
 ghost use Rattle.gm_mapfile.specs.Rows.{darts_in};
 ghost use Rattle.gm_mapfile.specs.declared.ordering.Line.{Line};
 
+use crate::name::Name;
 use crate::reading::Draft;
 use gm_model::OutOfMemory;
 use std::alloc::Global;
@@ -72,16 +73,17 @@ fn is_ascending(draft: &Draft) -> bool {
         .as_slice()
         .chunks_exact(draft.schema.dim.top() as usize + 2)
     {
-        if line[0] < least {
+        let name = line[0].number();
+        if name < least {
             return false;
         }
-        least = line[0];
+        least = name;
     }
     true
 }
 
 /// The lines, each of so many numbers, in the order in which they stand.
-fn lines_of(alloc: Global, numbers: &[u32], width: usize) -> Result<Vec<Line>, OutOfMemory>
+fn lines_of(alloc: Global, numbers: &[Name], width: usize) -> Result<Vec<Line>, OutOfMemory>
     requires some { 0 < width }
     requires few { length numbers.now / width ≤ most_darts }
     ensures { IfOk result (λ lines. map (λ (line : Line). line.at) lines.items ≡ counted_from 0 (length numbers.now / width)) }
@@ -90,7 +92,7 @@ fn lines_of(alloc: Global, numbers: &[u32], width: usize) -> Result<Vec<Line>, O
     let mut lines = Vec::with_capacity(alloc, count)?;
     for at in 0..count {
         lines.push(Line {
-            name: numbers[at * width],
+            name: numbers[at * width].number(),
             at: at as u32,
         })?;
     }
@@ -98,7 +100,7 @@ fn lines_of(alloc: Global, numbers: &[u32], width: usize) -> Result<Vec<Line>, O
 }
 
 /// The lines in ascending order of their names.
-fn lines_by_name(alloc: Global, numbers: &[u32], width: usize) -> Result<Vec<Line>, OutOfMemory>
+fn lines_by_name(alloc: Global, numbers: &[Name], width: usize) -> Result<Vec<Line>, OutOfMemory>
     requires some { 0 < width }
     requires few { length numbers.now / width ≤ most_darts }
     ensures { IfOk result (λ lines. IsPermutation (counted_from 0 (length numbers.now / width)) (map (λ (line : Line). line.at) lines.items)) }

@@ -19,6 +19,7 @@ ghost use Rattle.gm_mapfile.specs.declared.version.MapVersion.{MapVersion};
 
 use crate::building::build;
 use crate::fault::MapFault;
+use crate::name::Name;
 use crate::values::read_values;
 use crate::version::MapVersion;
 use crate::words::{Numeral, read_number, read_word};
@@ -30,13 +31,13 @@ use std::alloc::Global;
 use std::sync::ledger::Ledger;
 
 /// The darts that a text lists, in its order, before any law of a map is tested.
-#[derive(Debug, Drop)]
+#[derive(Drop)]
 pub(crate) struct Draft {
     /// The next name, which a text of the second version states.
     pub stated: Option<u32>,
     pub schema: Schema,
     /// For each dart its name, and then its neighbours from label 0 on.
-    pub numbers: Vec<u32>,
+    pub numbers: Vec<Name>,
     /// For each dart its values, by embedding.
     pub values: Vec<Value>,
 }
@@ -50,7 +51,7 @@ struct Head {
 
 /// The lines of the darts.
 struct Lines {
-    numbers: Vec<u32>,
+    numbers: Vec<Name>,
     values: Vec<Value>,
 }
 
@@ -120,7 +121,7 @@ fn read_head(alloc: Global, lexer: &mut Lexer<'_>) -> Result<Head, SchemaFault>
     })
 }
 
-fn read_name(lexer: &mut Lexer<'_>) -> Result<u32, SchemaFault>
+fn read_name(lexer: &mut Lexer<'_>) -> Result<Name, SchemaFault>
     ensures takes { IfOk result (λ name. Takes (TheNumber DartName ∷ []) (pos name ∷ []) lexer.old lexer.new) }
     ensures misses { IfErr result (Misses (TheNumber DartName ∷ []) lexer.old) }
 {
@@ -129,11 +130,11 @@ fn read_name(lexer: &mut Lexer<'_>) -> Result<u32, SchemaFault>
         let what = LimitKind::DartName;
         return Err(SchemaFault::Limit { what, place });
     }
-    Ok(value as u32)
+    Ok(Name::new(value as u32))
 }
 
 /// So many names, behind those before them.
-fn read_names(lexer: &mut Lexer<'_>, count: usize, names: &mut Vec<u32>) -> Result<(), SchemaFault>
+fn read_names(lexer: &mut Lexer<'_>, count: usize, names: &mut Vec<Name>) -> Result<(), SchemaFault>
     ensures reads { OnOk result (ReadsNames count lexer.old lexer.new names.old.items names.new.items) }
     ensures stops { IfErr result (Misses (replicate count (TheNumber DartName)) lexer.old) }
 {

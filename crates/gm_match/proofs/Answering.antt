@@ -9,7 +9,7 @@ use Rattle.std.specs.Prelude.{slice_index, ◌==◌}
 use Rattle.gm_model.specs.declared.rule.Side.TheVariants.{Left}
 use Rattle.gm_model.specs.declared.schema.Schema.{Schema}
 use Rattle.gm_model.specs.declared.value.Value.{Value}
-use Rattle.gm_model.specs.Applications.{HasHookDarts, IsFirstRepeat, IsRepeat}
+use Rattle.gm_model.specs.Applications.{HasHookDarts, HasPositions, NoDarts, Candidate, IsFirstRepeat, IsRepeat}
 use Rattle.gm_model.specs.Applications.IsRefused.{NoHookDart, BrokenStep, Repeated}
 use Rattle.gm_model.specs.Maps.{IsGeneralised}
 use Rattle.gm_model.specs.Matches.{Placement, ArePositions, IsCandidate, IsInstance, IsMatch, along_hook}
@@ -40,8 +40,7 @@ use Rattle.gm_match.specs.Firsts.IsFirstStep.{NotMet}
 use Rattle.gm_match.specs.Layout.{AreDarts, AreHookSlots, IsNoDart, IsCandidateAt}
 use Rattle.gm_match.specs.Layout.IsNoDart.{Dead}
 use Rattle.gm_match.proofs.InArena.{answered}
-use Rattle.gm_match.specs.Outcome.{application_of, name_of, place_of, IsAnswer, IsCause, HasPositions}
-use Rattle.gm_match.specs.Outcome.HasPositions.{NoDarts, Candidate}
+use Rattle.gm_match.specs.Outcome.{application_of, name_of, place_of, IsAnswer, IsCause}
 use Rattle.gm_match.specs.Taken.{TakeEachOnce, TakeEachOnceBefore, IsFirstTwice}
 use Rattle.gm_match.specs.Taken.IsFirstTwice.{Twice}
 use Rattle.gm_match.proofs.Costs.{found_cost, met_cost}
@@ -113,9 +112,9 @@ module _ (m : ArenaMap) (rule : Rule) (sound : IsMatchable m rule) where
             not_live d dead (subst (IsLiveName m) (found.at_darts index (slice_index rule.hooks index) d here at) live)
 
     -- as many steps as hooks, where one names no live dart
-    pub missed_cost : (fault : MatchFault) → IsNoDart m hooks fault → length hooks ≡ length rule.hooks → (start looked : ℕ) → looked ≤ start + length hooks → (k : ℕ) → HasPositions (as_map m) rule hooks k → looked ≤ start + 8 * (m.schema.dim + 1) * (length rule.nodes * k + 1)
-    missed_cost _ (Dead index d at dead before) same start looked cost _ (NoDarts none) = found_cost (m.schema.dim + 1) (length rule.nodes) 1 start looked looked (omega arith) (omega arith) (omega (arith, cost, same, sound.few)) (omega arith)
-    missed_cost _ (Dead index d at dead before) same start looked cost _ (Candidate place live c) = absurd (not_live d dead (live d (get_contained hooks index d at)))
+    pub missed_cost : (fault : MatchFault) → IsNoDart m hooks fault → length hooks ≡ length rule.hooks → (start looked : ℕ) → looked ≤ start + length hooks → (params : List Value) (k : ℕ) → HasPositions (application_of m rule hooks params) k → looked ≤ start + 8 * (m.schema.dim + 1) * (length rule.nodes * k + 1)
+    missed_cost _ (Dead index d at dead before) same start looked cost params _ (NoDarts none) = found_cost (m.schema.dim + 1) (length rule.nodes) 1 start looked looked (omega arith) (omega arith) (omega (arith, cost, same, sound.few)) (omega arith)
+    missed_cost _ (Dead index d at dead before) same start looked cost params _ (Candidate place live c) = absurd (not_live d dead (live d (get_contained hooks index d at)))
 
     -- ---- a creation rule
 
@@ -182,38 +181,38 @@ module _ (m : ArenaMap) (rule : Rule) (hooks : List ℕ) (begun : IsBegun m rule
   live_hooks = darts_live m rule begun.sound hooks begun.live
 
   -- how many positions there are
-  pub positions_are : (k : ℕ) → HasPositions (as_map m) rule hooks k → (walk : List ℕ) × IsWalk (along_hook (as_map m) rule) (width rule) (slice_index hooks 0) walk × (length walk ≡ k)
-  positions_are _ (NoDarts none) = absurd (none (live_hooks []))
-  positions_are _ (Candidate place live c) =
+  pub positions_are : (params : List Value) (k : ℕ) → HasPositions (application_of m rule hooks params) k → (walk : List ℕ) × IsWalk (along_hook (as_map m) rule) (width rule) (slice_index hooks 0) walk × (length walk ≡ k)
+  positions_are params _ (NoDarts none) = absurd (none (live_hooks params))
+  positions_are params _ (Candidate place live c) =
       let w = walked_from (as_map m) rule hooks place c.walk (slice_index hooks 0) first_dart c.positions in
       (c.walk, subst (λ e. IsWalk (along_hook (as_map m) rule) (width rule) e c.walk) (some_same w.start (slice_index hooks 0) (sym w.first ∙ first_dart)) w.is_walk, sym w.size)
 
-  some_position : (k : ℕ) → HasPositions (as_map m) rule hooks k → 1 ≤ k
-  some_position k has = let w = positions_are k has in omega (arith, w.2, slice_get_within w.0 0 (slice_index hooks 0) w.1.starts)
+  some_position : (params : List Value) (k : ℕ) → HasPositions (application_of m rule hooks params) k → 1 ≤ k
+  some_position params k has = let w = positions_are params k has in omega (arith, w.2, slice_get_within w.0 0 (slice_index hooks 0) w.1.starts)
 
   -- the steps so far, from what the look-up of the hooks took, and what the candidate took
   module _ (start looked found_at : ℕ) (look : looked ≤ start + length hooks) (make : (walk : List ℕ) → IsWalk (along_hook (as_map m) rule) (width rule) (slice_index hooks 0) walk → found_at ≤ looked + 6 * (m.schema.dim + 1) * (length rule.nodes * length walk)) where
     few_looks : looked ≤ start + length rule.nodes
     few_looks = omega (arith, look, begun.count, begun.sound.few)
 
-    made : (k : ℕ) → HasPositions (as_map m) rule hooks k → found_at ≤ looked + 6 * (m.schema.dim + 1) * (length rule.nodes * k)
-    made k has = let w = positions_are k has in subst (λ n. found_at ≤ looked + 6 * (m.schema.dim + 1) * (length rule.nodes * n)) w.2 (make w.0 w.1)
+    made : (params : List Value) (k : ℕ) → HasPositions (application_of m rule hooks params) k → found_at ≤ looked + 6 * (m.schema.dim + 1) * (length rule.nodes * k)
+    made params k has = let w = positions_are params k has in subst (λ n. found_at ≤ looked + 6 * (m.schema.dim + 1) * (length rule.nodes * n)) w.2 (make w.0 w.1)
 
-    pub made_cost : (k : ℕ) → HasPositions (as_map m) rule hooks k → found_at ≤ start + 8 * (m.schema.dim + 1) * (length rule.nodes * k + 1)
-    made_cost k has = found_cost (m.schema.dim + 1) (length rule.nodes) k start looked found_at (omega arith) (some_position k has) few_looks (made k has)
+    pub made_cost : (params : List Value) (k : ℕ) → HasPositions (application_of m rule hooks params) k → found_at ≤ start + 8 * (m.schema.dim + 1) * (length rule.nodes * k + 1)
+    made_cost params k has = found_cost (m.schema.dim + 1) (length rule.nodes) k start looked found_at (omega arith) (some_position params k has) few_looks (made params k has)
 
   module _ (found : Placed) (at : IsCandidateAt m rule hooks found) where
-    pub positions_found : (k : ℕ) → HasPositions (as_map m) rule hooks k → k ≡ found.positions
-    positions_found k has =
-        let ours = positions_are k has in
-        let theirs = positions_are found.positions (Candidate (place_of m found) (live_hooks []) at.candidate) in
+    pub positions_found : (params : List Value) (k : ℕ) → HasPositions (application_of m rule hooks params) k → k ≡ found.positions
+    positions_found params k has =
+        let ours = positions_are params k has in
+        let theirs = positions_are params found.positions (Candidate (place_of m found) (live_hooks params) at.candidate) in
         sym ours.2 ∙ ap length (walk_unique (along_hook (as_map m) rule) (width rule) (slice_index hooks 0) ours.0 theirs.0 ours.1 theirs.1) ∙ theirs.2
 
     pub tested_cost : (start looked found_at met : ℕ) → looked ≤ start + length hooks → ((walk : List ℕ) → IsWalk (along_hook (as_map m) rule) (width rule) (slice_index hooks 0) walk → found_at ≤ looked + 6 * (m.schema.dim + 1) * (length rule.nodes * length walk)) →
-        met ≤ found_at + (m.schema.dim + 1) * (length rule.nodes * found.positions) → (k : ℕ) → HasPositions (as_map m) rule hooks k → met ≤ start + 8 * (m.schema.dim + 1) * (length rule.nodes * k + 1)
-    tested_cost start looked found_at met look make test k has =
-        met_cost (m.schema.dim + 1) (length rule.nodes) k start looked found_at met (omega arith) (some_position k has) (few_looks start looked found_at look make) (made start looked found_at look make k has)
-        (subst (λ n. met ≤ found_at + (m.schema.dim + 1) * (length rule.nodes * n)) (sym (positions_found k has)) test)
+        met ≤ found_at + (m.schema.dim + 1) * (length rule.nodes * found.positions) → (params : List Value) (k : ℕ) → HasPositions (application_of m rule hooks params) k → met ≤ start + 8 * (m.schema.dim + 1) * (length rule.nodes * k + 1)
+    tested_cost start looked found_at met look make test params k has =
+        met_cost (m.schema.dim + 1) (length rule.nodes) k start looked found_at met (omega arith) (some_position params k has) (few_looks start looked found_at look make) (made start looked found_at look make params k has)
+        (subst (λ n. met ≤ found_at + (m.schema.dim + 1) * (length rule.nodes * n)) (sym (positions_found params k has)) test)
 
     like : (place : Placement) → IsMatch (as_map m) rule hooks place → IsLike rule (place_of m found) place
     like place matched = candidates_agree (as_map m) rule hooks begun.sound.in_range begun.sound.incidence (place_of m found) place at.candidate (match_is_candidate (as_map m) rule place begun.sound.in_range begun.sound.incidence hooks matched)

@@ -16,11 +16,8 @@ module _ (labels nodes k places : ℕ) (some : 1 ≤ nodes) (label : 1 ≤ label
   slot_part : nodes * k ≤ labels * (nodes * k)
   slot_part = omega (arith, mul-le-mul_right (nodes * k) label)
 
-  pub candidate_cost : (start walked turned placed : ℕ) → walked ≤ start + 4 * labels * k → turned ≤ walked + k * places → placed + k ≤ turned + k * nodes → placed ≤ start + 6 * labels * (nodes * k)
-  candidate_cost start walked turned placed a b c = omega (arith, walk_part, turn_part, slot_part)
-
-  pub turns_cost : (start walked turned : ℕ) → walked ≤ start + 4 * labels * k → turned ≤ walked + k * places → turned ≤ start + 6 * labels * (nodes * k)
-  turns_cost start walked turned a b = omega (arith, walk_part, turn_part)
+  pub candidate_cost : (start walked placed : ℕ) → walked ≤ start + 4 * labels * k → placed ≤ walked + k * places + k * nodes → placed ≤ start + 6 * labels * (nodes * k)
+  candidate_cost start walked placed a b = omega (arith, walk_part, turn_part, slot_part)
 
 look_part : (labels nodes k : ℕ) → 1 ≤ labels → 1 ≤ k → nodes ≤ labels * (nodes * k)
 look_part labels nodes k label some = omega (arith, mul-le-mul_left nodes some, mul-le-mul_right (nodes * k) label)

@@ -1,11 +1,10 @@
 -- What matching answers: the match, or why there is none, in the words of an application's outcome.
-use Rattle.std.specs.Prelude.{ℕ, List, [], Option}
+use Rattle.std.specs.Prelude.{ℕ, List, Option}
 use Rattle.std.specs.Option.{option_map_or}
 use Rattle.gm_model.specs.declared.value.Value.{Value}
-use Rattle.gm_model.specs.Applications.{Application, HasHookDarts, IsFound, IsRefused}
+use Rattle.gm_model.specs.Applications.{Application, IsFound, IsRefused}
 use Rattle.gm_model.specs.Applications.Cause.{NoDart, Arc, Same}
-use Rattle.gm_model.specs.Maps.{Map}
-use Rattle.gm_model.specs.Matches.{Placement, IsCandidate}
+use Rattle.gm_model.specs.Matches.{Placement}
 use Rattle.gm_model.specs.Rules.{Rule}
 use Rattle.gm_arena.specs.declared.slot.Slot.{Slot}
 use Rattle.gm_arena.specs.ArenaMap.{ArenaMap, name_at}
@@ -40,8 +39,3 @@ IsCause app (faults.NoDart index) = IsRefused app (NoDart index)
 IsCause app (faults.Arc x p i) = IsRefused app (Arc x p i)
 IsCause app (faults.Same x p y q) = IsRefused app (Same x p y q)
 IsCause app faults.OutOfMemory = Unit {0}
-
--- how many positions the candidate has; 1 where a hook names no dart
-pub data HasPositions (map : Map) (rule : Rule) (hooks : List ℕ) : ℕ → Type 0 where
-  NoDarts : (HasHookDarts (record { map = map; rule = rule; hooks = hooks; params = [] }) → ⊥) → HasPositions map rule hooks 1
-  Candidate : (place : Placement) → HasHookDarts (record { map = map; rule = rule; hooks = hooks; params = [] }) → IsCandidate map rule hooks place → HasPositions map rule hooks place.positions

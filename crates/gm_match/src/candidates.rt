@@ -4,11 +4,11 @@ ghost use Rattle.gm_arena.specs.ArenaAsMap.{as_map};
 ghost use Rattle.gm_arena.specs.Lawful.{IsLawful};
 ghost use Rattle.gm_model.specs.Matches.{along_hook};
 ghost use Rattle.gm_model.specs.Orbits.{IsWalk};
-ghost use Rattle.gm_model.specs.Rules.{rule_of, width};
+ghost use Rattle.gm_model.specs.Rules.{rule_of, hook_word, width};
 ghost use Rattle.gm_plan.specs.Plans.{IsLeftCount};
 ghost use Rattle.gm_walk.specs.Lent.{slots_of};
 ghost use Rattle.gm_walk.specs.Room.{Fits};
-ghost use Rattle.gm_walk.specs.Walks.{IsWord, AreLive, names_of};
+ghost use Rattle.gm_walk.specs.Walks.{IsWord, AreLive, along, names_of};
 ghost use Rattle.gm_match.specs.Cells.{AreCells, IsRow};
 ghost use Rattle.gm_match.specs.Layout.{AreMatchable, AreRows, HaveFirstTurns, IsClosed, IsTurn, IsCandidateAt, LeadBefore, IsFirstTo};
 
@@ -45,7 +45,32 @@ pub(crate) fn candidate<L: Ledger>(
 {
     let word = plan.rule().hook_word().unwrap();
     let walk = walk_word(arena, darts[0], &word, scratch, steps);
-    let turns = turns(alloc, arena, &walk, &word, steps)?;
+    along_walk(alloc, plan, arena, darts, &walk, &word, steps)
+}
+
+/// The candidate along the walk of the first hook, from the darts of the hooks.
+fn along_walk<L: Ledger>(
+    alloc: Global,
+    plan: &Plan<'_>,
+    arena: &Arena,
+    darts: &[Slot],
+    walk: &Walk<'_>,
+    word: &Word,
+    steps: &mut Steps<L>,
+) -> Result<Instances, OutOfMemory>
+    requires matchable { AreMatchable arena.now plan.now }
+    requires some { 0 < length darts.now }
+    requires count { length darts.now ≡ length (rule_of plan.now.table).hooks }
+    requires live { AreLive arena.now darts.now }
+    requires word { word.now ≡ hook_word (rule_of plan.now.table) }
+    requires walk { IsWalk (along arena.now word.now) (length word.now) (slice_index (names_of arena.now darts.now) 0) (names_of arena.now (slots_of walk.now)) }
+    requires walked { AreLive arena.now (slots_of walk.now) }
+    ensures candidate { IfOk result (IsCandidateAt arena.now (rule_of plan.now.table) (names_of arena.now darts.now)) }
+    ensures cost { let positions = length (slots_of walk.now) in
+        steps.new ≤ steps.old + positions * length word.now + positions * length (rule_of plan.now.table).nodes }
+    ensures least { steps.old ≤ steps.new }
+{
+    let turns = turns(alloc, arena, walk, word, steps)?;
     let slots = slots(alloc, plan, arena, darts, walk.slots(), &turns, steps)?;
     let positions = walk.slots().len() as u32;
     Ok(Instances::new(slots, turns, positions, word.len()))

@@ -1,12 +1,13 @@
 ghost use Rattle.std.specs.Prelude.{◌≡◌, ℕ, List, ◌+◌, ◌*◌, ◌≤◌, length, MatchResult, IfErr};
 ghost use Rattle.gm_arena.specs.ArenaAsMap.{as_map};
 ghost use Rattle.gm_model.specs.declared.value.Value.{Value};
+ghost use Rattle.gm_model.specs.Applications.{HasPositions};
 ghost use Rattle.gm_model.specs.Maps.{IsGeneralised};
 ghost use Rattle.gm_model.specs.Matches.{Placement, IsMatch};
 ghost use Rattle.gm_model.specs.Rules.{rule_of};
 ghost use Rattle.gm_walk.specs.Room.{Fits};
 ghost use Rattle.gm_match.specs.declared.fault.MatchFault.TheVariants as faults;
-ghost use Rattle.gm_match.specs.Outcome.{application_of, IsAnswer, IsCause, HasPositions};
+ghost use Rattle.gm_match.specs.Outcome.{application_of, IsAnswer, IsCause};
 
 use crate::arcs::meet_steps;
 use crate::candidates::candidate;
@@ -42,8 +43,8 @@ pub fn find<L: Ledger>(
     ensures none_missed { (place : Placement)
         → IsMatch (as_map arena.now) (rule_of plan.now.table) hooks.now place
         → IfErr result (λ fault. fault ≡ faults.OutOfMemory) }
-    ensures cost { let rule = rule_of plan.now.table in (k : ℕ)
-        → HasPositions (as_map arena.now) rule hooks.now k
+    ensures cost { let rule = rule_of plan.now.table in (params : List Value) (k : ℕ)
+        → HasPositions (application_of arena.now rule hooks.now params) k
         → steps.new ≤ steps.old + 8 * (arena.now.schema.dim + 1) * (length rule.nodes * k + 1) }
     ensures least { steps.old ≤ steps.new }
     ensures room { scratch.new.bound ≡ scratch.old.bound }

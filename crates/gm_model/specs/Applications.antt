@@ -206,14 +206,18 @@ module _ (app : Application) where
     pub counts_are : (e c : ℕ) (embed : Embed) → slice_get counts e ≡ Some c → IsEmbedAt app.map.schema e embed → HasCount (IsReachedAt place IsLive alpha e embed) c
     pub sum_is : count ≡ sum counts
 
-  -- How many positions there are, how many darts get values, and what is read. Where the application is refused before
-  -- its assignments, no dart counts as getting one, and the precondition alone is read, where it is reached.
-  pub data IsWork : ℕ → ℕ → ℕ → Type 0 where
-    NoHookDarts : (HasHookDarts → ⊥) → IsWork 1 0 0
-    NoMatch : (place : Placement) → HasHookDarts → IsCandidate app.map app.rule app.hooks place → (IsFound place → ⊥) → IsWork place.positions 0 0
-    NotReady : (place : Placement) (u : ℕ) → IsFound place → (IsReady place → ⊥) → IsPreUnits place u → IsWork place.positions 0 u
-    Ready : (place : Placement) (IsLive : ℕ → Bool) (alpha : ℕ → ℕ → ℕ) (reached u w : ℕ) → IsReady place → IsUnfolded place (λ d. IsTrue (IsLive d)) alpha → IsReachedSum place (λ d. IsTrue (IsLive d)) alpha reached → IsPreUnits place u → IsReadSum place (λ d. IsTrue (IsLive d)) alpha w → IsWork place.positions reached (u + w)
+  -- how many positions the candidate has; 1 where a hook names no live dart
+  pub data HasPositions : ℕ → Type 0 where
+    NoDarts : (HasHookDarts → ⊥) → HasPositions 1
+    Candidate : (place : Placement) → HasHookDarts → IsCandidate app.map app.rule app.hooks place → HasPositions place.positions
+
+  -- How many darts get values, and what is read. Where the application is refused before its assignments, no dart counts
+  -- as getting one, and the precondition alone is read, where it is reached.
+  pub data IsWork : ℕ → ℕ → Type 0 where
+    NoMatch : ((place : Placement) → IsFound place → ⊥) → IsWork 0 0
+    NotReady : (place : Placement) (u : ℕ) → IsFound place → (IsReady place → ⊥) → IsPreUnits place u → IsWork 0 u
+    Ready : (place : Placement) (IsLive : ℕ → Bool) (alpha : ℕ → ℕ → ℕ) (reached u w : ℕ) → IsReady place → IsUnfolded place (λ d. IsTrue (IsLive d)) alpha → IsReachedSum place (λ d. IsTrue (IsLive d)) alpha reached → IsPreUnits place u → IsReadSum place (λ d. IsTrue (IsLive d)) alpha w → IsWork reached (u + w)
 
   -- the most steps that the application may take
   pub data IsBudget : ℕ → Type 0 where
-    Of : (positions reached read : ℕ) → IsWork positions reached read → IsBudget (24 * (dimension app.map + 1) * (length app.rule.nodes * positions + reached + read + 1))
+    Of : (positions reached read : ℕ) → HasPositions positions → IsWork reached read → IsBudget (24 * (dimension app.map + 1) * (length app.rule.nodes * positions + reached + read + 1))

@@ -1,5 +1,5 @@
 -- The end of a right node at a position is its dart of the result.
-use Rattle.std.proofs.Common.{◌≡◌, ℕ, zero, suc, ◌+◌, ◌-◌, ◌*◌, ◌<◌, ◌≤◌, ◌⊎◌, false, not, length, Option, Some, IsTrue, refl, sym, ap, inl, inr, arith}
+use Rattle.std.proofs.Common.{◌≡◌, ℕ, zero, suc, ◌+◌, ◌-◌, ◌*◌, ◌<◌, ◌≤◌, ◌⊎◌, false, not, [], length, Some, None, IsTrue, refl, sym, ap, inl, inr, arith}
 use Rattle.std.proofs.lemmas.Bool.{cases_lt, lt-ltb, le-ltb}
 use Rattle.gm_model.specs.declared.rule.Side.TheVariants.{Left, Right}
 use Rattle.gm_model.specs.declared.step.Step.{Step}
@@ -14,9 +14,11 @@ use Rattle.gm_theory.proofs.Arcs.{kept_name}
 use Rattle.gm_theory.proofs.NewNames.{added_step, new_name}
 use Rattle.gm_theory.proofs.RuleSteps.{word_below}
 use Rattle.gm_theory.proofs.Tests.{and_true, true_or_false, true_not, not_both}
-use Rattle.gm_pending.specs.declared.edits.Arc.{Arc}
+use Rattle.gm_pending.specs.declared.edits.End.{End}
+use Rattle.gm_pending.specs.declared.rewrite.Arcs.{Arcs}
+use Rattle.gm_pending.specs.declared.rewrite.Arcs.TheVariants.{Freed, Made}
 use Rattle.gm_pending.specs.declared.edits.End.TheVariants.{Old, New}
-use Rattle.gm_pending.specs.Collected.{RewriteOf, slot_in, rewrite_of, rule_at, end_of, freed_by, freed_at}
+use Rattle.gm_pending.specs.Collected.{RewriteOf, as_list, concat_below, slot_in, rewrite_of, rule_at, side_of, end_of, freed_by, freed_at, arc_at, arcs_of, labels}
 use Rattle.gm_pending.specs.EditLists.{IsResultEnd, end_name}
 use Rattle.gm_pending.specs.Results.{PendingOf, IsPrepared, IsRightInstance, rule_in, place_in, scene_in}
 use Rattle.gm_pending.proofs.Darts.{stays_there}
@@ -81,13 +83,22 @@ module _ (rewrite : RewriteOf) (x p : ℕ) where
   pub end_added : (left positions : ℕ) → left ≡ rewrite.placed.nodes → left ≤ x → positions ≡ rewrite.placed.positions → New ((x - left) * positions + p) ≡ end_of rewrite x p
   end_added left positions e h k = rw (le-ltb x rewrite.placed.nodes (omega arith), e, k) refl
 
-  pub freed_is : (i : ℕ) (slot : Slot) → IsTrue (has_word (rule_at rewrite) Left x) → slot_at rewrite.placed x p ≡ Some slot → (step (rule_at rewrite) Left x i ≡ Absent → ⊥) → Some (record { from = Old slot; label = i; to = Old slot }) ≡ freed_at rewrite x p i
-  freed_is i slot l e some = rw l (go (step (rule_at rewrite) Left x i) refl)
+  pub freed_is : (i : ℕ) (from : End) → IsTrue (has_word (rule_at rewrite) Left x) → x < rewrite.placed.nodes → from ≡ end_of rewrite x p → (step (rule_at rewrite) Left x i ≡ Absent → ⊥) → Some (record { from = from; label = i; to = from }) ≡ freed_at rewrite x p i
+  freed_is i from l h e some = rw (e, lt-ltb x rewrite.placed.nodes h, l) (go (step (rule_at rewrite) Left x i) refl)
     where
-      is : (s : Slot) → s ≡ slot → ◌≡◌ {A = Option Arc} (Some (record { from = Old slot; label = i; to = Old slot })) (Some (record { from = Old s; label = i; to = Old s }))
-      is s f = rw f refl
-
-      go : (t : Step) → step (rule_at rewrite) Left x i ≡ t → Some (record { from = Old slot; label = i; to = Old slot }) ≡ freed_by rewrite x p i t
+      go : (t : Step) → step (rule_at rewrite) Left x i ≡ t → Some (record { from = Old (slot_in rewrite.placed x p); label = i; to = Old (slot_in rewrite.placed x p) }) ≡ freed_by rewrite x p i t
       go Absent f = absurd (some f)
-      go (Exp y) f = is (slot_in rewrite.placed x p) (slot_is rewrite.placed x p slot e)
-      go (Imp m) f = is (slot_in rewrite.placed x p) (slot_is rewrite.placed x p slot e)
+      go (Exp y) f = refl
+      go (Imp m) f = refl
+
+  no_arc : (arcs : Arcs) → has_word (rule_at rewrite) (side_of arcs) x ≡ false → (i : ℕ) → arc_at rewrite arcs x p i ≡ None
+  no_arc Freed e i = rw e refl
+  no_arc Made e i = rw e refl
+
+  -- a node without a word on the side has no arcs of it
+  pub no_arcs : (arcs : Arcs) → has_word (rule_at rewrite) (side_of arcs) x ≡ false → arcs_of rewrite arcs x p ≡ []
+  no_arcs arcs e = go (labels rewrite)
+    where
+      go : (n : ℕ) → concat_below (λ i. as_list (arc_at rewrite arcs x p i)) n ≡ []
+      go zero = refl
+      go (suc n) = rw (go n, no_arc arcs e n) refl

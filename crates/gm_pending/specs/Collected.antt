@@ -1,6 +1,7 @@
 -- The edits of an application, node by node, position by position and label by label: they are told by its rule and its instances alone. No public clause cites this module.
 use Rattle.std.specs.Prelude.{◌≡◌, ℕ, zero, suc, ◌+◌, ◌-◌, ◌*◌, ◌≤◌, if◌then◌else◌, nat_lt, List, [], ◌∷◌, ◌++◌, length, Option, Some, None, slice_index_or}
 use Rattle.gm_model.specs.declared.rule.RuleTable.{RuleTable}
+use Rattle.gm_model.specs.declared.rule.Side.{Side}
 use Rattle.gm_model.specs.declared.rule.Side.TheVariants.{Left, Right}
 use Rattle.gm_model.specs.declared.schema.Schema.{Schema}
 use Rattle.gm_model.specs.declared.step.Step.{Step}
@@ -52,6 +53,11 @@ pub record IsFitted (schema : Schema) (rewrite : RewriteOf) : Type 0 where
   pub places : rewrite.placed.places ≡ width (rule_of rewrite.table)
 
 -- ---- the edits
+
+-- the side whose steps the arcs are
+abbrev pub side_of : Arcs → Side
+side_of Freed = Left
+side_of Made = Right
 
 module _ (rewrite : RewriteOf) where
   abbrev pub rule_at : Rule

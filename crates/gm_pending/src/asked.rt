@@ -1,12 +1,10 @@
 //! What was answered for each embedding: its deciding instances, and the darts that they reach.
-ghost use Rattle.std.specs.Prelude.{◌≡◌, ◌<◌, ◌≤◌, length, replicate, slice_get, slice_set, Some, None};
+ghost use Rattle.std.specs.Prelude.{◌≡◌, ◌<◌, length, replicate, slice_get, slice_set, Some, None, IfOk};
 
 use crate::decider::Decider;
 use crate::marks::Marks;
-use arrayvec::ArrayVec;
-
-/// A schema has at most so many embeddings.
-const MOST_EMBEDS: usize = 8;
+use gm_model::OutOfMemory;
+use std::alloc::Global;
 
 /// The deciding instances of an embedding, and the darts in their orbits.
 #[derive(Drop)]
@@ -15,19 +13,18 @@ pub(crate) struct Asked {
     pub(crate) marks: Marks,
 }
 
-/// An answer for each embedding that was asked for.
-pub(crate) type Answers = ArrayVec<Option<Asked>, MOST_EMBEDS>;
+/// An answer for each embedding that was asked for. Where there is no embedding, it takes no memory.
+pub(crate) type Answers = Vec<Option<Asked>>;
 
 /// So many embeddings that were not asked for.
-pub(crate) fn none_asked(embeds: usize) -> Answers
-    requires { embeds ≤ 8 }
-    ensures { result.items ≡ replicate embeds None }
+pub(crate) fn none_asked(alloc: Global, embeds: usize) -> Result<Answers, OutOfMemory>
+    ensures { IfOk result (λ asked. asked.items ≡ replicate embeds None) }
 {
-    let mut asked = ArrayVec::new();
+    let mut asked = Vec::with_capacity(alloc, embeds)?;
     for _ in 0..embeds {
-        asked.push(None);
+        asked.push(None)?;
     }
-    asked
+    Ok(asked)
 }
 
 /// Keeps the answer for an embedding.

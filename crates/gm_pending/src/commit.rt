@@ -98,8 +98,17 @@ impl Rewrite<'_> {
         ensures map { arena.new ≡ with_arcs (end_at arena.old made.now) arena.old (arcs_of self.now arcs node position) }
         ensures cost { steps.new ≡ steps.old + length (arcs_of self.now arcs node position) }
     {
+        if !self.has_arcs(arcs, node) {
+            return;
+        }
+        let from = self.end(node, position);
         for label in 0..self.labels() {
-            write_arc(self.arc(arcs, node, position, label), made, arena, steps);
+            write_arc(
+                self.arc(arcs, from, node, position, label),
+                made,
+                arena,
+                steps,
+            );
         }
     }
 

@@ -73,6 +73,17 @@ impl<'a> Pending<'a, '_> {
         ensures cost { (reached : ℕ) → IsReachedSumIn self.entry reached → steps.new ≤ steps.old + 6 * (self.entry.map.schema.dim + 1) * (length (rule_in self.entry).nodes * self.entry.placed.positions + reached + 1) }
         ensures least { steps.old ≤ steps.new }
     {
+        let edits = self.edits(steps);
+        drop(self);
+        edits
+    }
+
+    fn edits<L: Ledger>(&self, steps: &mut Steps<L>) -> Result<Edits<'a>, OutOfMemory>
+        requires given { AllGiven self.now }
+        ensures edits { IfOk result (λ edits. AreEditsOf self.now edits) }
+        ensures cost { (reached : ℕ) → IsReachedSumIn self.now reached → steps.new ≤ steps.old + 6 * (self.now.map.schema.dim + 1) * (length (rule_in self.now).nodes * self.now.placed.positions + reached + 1) }
+        ensures least { steps.old ≤ steps.new }
+    {
         let added = self.plan.added() as usize * self.found.positions() as usize;
         let made = Vec::with_capacity(self.alloc, added)?;
         let added_values = self.added_values(added, steps)?;

@@ -32,7 +32,8 @@ impl Pending<'_, '_> {
         ensures cost { steps.new ≤ steps.old + added * length self.now.map.schema.embeds }
         ensures least { steps.old ≤ steps.new }
     {
-        let mut values = Vec::new(self.alloc);
+        let room = added.saturating_mul(self.embeds() as usize);
+        let mut values = Vec::with_capacity(self.alloc, room)?;
         for number in 0..added {
             self.put_added_values(number, &mut values, steps)?;
         }

@@ -68,13 +68,14 @@ impl<'a, 'm> Pending<'a, 'm> {
         // The arena and the plan tell here what their types keep.
         prove!(arena.count() <= MOST_DARTS);
         prove_eq!(plan.schema().dim, arena.schema().dim);
+        let asked = none_asked(alloc, arena.schema().embeds.as_slice().len())?;
         Ok(Pending {
             plan,
             arena,
             found,
             alloc,
             lookup: None,
-            asked: none_asked(arena.schema().embeds.as_slice().len()),
+            asked,
         })
     }
 

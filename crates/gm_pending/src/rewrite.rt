@@ -1,7 +1,7 @@
 ghost use Rattle.std.specs.Prelude.{◌≡◌, ℕ, ◌+◌, ◌<◌, ◌≤◌, length, IsTrue};
-ghost use Rattle.gm_model.specs.declared.rule.Side.TheVariants.{Right};
+ghost use Rattle.gm_model.specs.declared.rule.Side.TheVariants.{Left, Right};
 ghost use Rattle.gm_model.specs.Rules.{has_word};
-ghost use Rattle.gm_pending.specs.Collected.{rule_at, end_of, freed_at, made_at, arc_at, removed_at};
+ghost use Rattle.gm_pending.specs.Collected.{rule_at, end_of, side_of, freed_at, made_at, arc_at, removed_at};
 
 use crate::edits::{Arc, End};
 use gm_arena::Slot;
@@ -60,36 +60,50 @@ impl Rewrite<'_> {
         self.found.positions()
     }
 
-    /// The arc of the node at the position and the label.
-    pub(crate) fn arc(&self, arcs: Arcs, node: u8, position: u32, label: u8) -> Option<Arc>
-        requires node { node < length (rule_at self.now).nodes }
+    /// Whether the node has such arcs.
+    pub(crate) fn has_arcs(&self, arcs: Arcs, node: u8) -> bool
+        requires { node < length (rule_at self.now).nodes }
+        ensures { result ≡ has_word (rule_at self.now) (side_of arcs) node }
+    {
+        match arcs {
+            Arcs::Freed => node < self.plan.left_nodes(),
+            Arcs::Made => self.is_right(node),
+        }
+    }
+
+    /// The arc of the node at the position and the label, from the end that the node is there.
+    pub(crate) fn arc(
+        &self,
+        arcs: Arcs,
+        from: End,
+        node: u8,
+        position: u32,
+        label: u8,
+    ) -> Option<Arc>
+        requires word { IsTrue (has_word (rule_at self.now) (side_of arcs) node) }
+        requires from { from ≡ end_of self.now node position }
         requires position { position < self.now.placed.positions }
         requires label { label ≤ self.now.dim }
         ensures { result ≡ arc_at self.now arcs node position label }
     {
         match arcs {
-            Arcs::Freed => self.freed_arc(node, position, label),
-            Arcs::Made => self.made_arc(node, position, label),
+            Arcs::Freed => self.freed_arc(from, node, label),
+            Arcs::Made => self.made_arc(from, node, position, label),
         }
     }
 
     /// The arc of a left step, which leads back to its own dart.
-    fn freed_arc(&self, node: u8, position: u32, label: u8) -> Option<Arc>
-        requires node { node < length (rule_at self.now).nodes }
-        requires position { position < self.now.placed.positions }
+    fn freed_arc(&self, from: End, node: u8, label: u8) -> Option<Arc>
+        requires word { IsTrue (has_word (rule_at self.now) Left node) }
         requires label { label ≤ self.now.dim }
-        ensures { result ≡ freed_at self.now node position label }
+        ensures { (position : ℕ) → from ≡ end_of self.now node position → result ≡ freed_at self.now node position label }
     {
-        if node >= self.plan.left_nodes() {
-            return None;
-        }
-        let end = End::Old(self.found.slot(node, position));
         match self.plan.step(Side::Left, node, label) {
             Step::Absent => None,
             _ => Some(Arc {
-                from: end,
+                from,
                 label,
-                to: end,
+                to: from,
             }),
         }
     }
@@ -106,29 +120,23 @@ impl Rewrite<'_> {
     }
 
     /// The arc of a right step.
-    fn made_arc(&self, node: u8, position: u32, label: u8) -> Option<Arc>
+    fn made_arc(&self, from: End, node: u8, position: u32, label: u8) -> Option<Arc>
+        requires word { IsTrue (has_word (rule_at self.now) Right node) }
+        requires from { from ≡ end_of self.now node position }
         requires position { position < self.now.placed.positions }
         requires label { label ≤ self.now.dim }
         ensures { result ≡ made_at self.now node position label }
     {
-        if !self.is_right(node) {
-            return None;
-        }
         let to = match self.plan.step(Side::Right, node, label) {
             Step::Absent => return None,
             Step::Exp(other) => self.end(other, position),
             Step::Imp(place) => self.end(node, self.found.turn(position, place)),
         };
-        Some(Arc {
-            from: self.end(node, position),
-            label,
-            to,
-        })
+        Some(Arc { from, label, to })
     }
 
-    /// The end that a right node is at a position.
-    fn end(&self, node: u8, position: u32) -> End
-        requires node { IsTrue (has_word (rule_at self.now) Right node) }
+    /// The end that a node is at a position.
+    pub(crate) fn end(&self, node: u8, position: u32) -> End
         requires position { position < self.now.placed.positions }
         ensures { result ≡ end_of self.now node position }
     {

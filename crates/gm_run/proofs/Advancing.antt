@@ -221,9 +221,6 @@ module _ (rules : List Rule) where
         subst (λ ls. HasRun rules before ls (outcomes ++ outcome ∷ []) after start steps) (ap (λ l. take k lines ++ l ∷ []) is ∙ sym (take_more lines k d within))
         (has_more before between after (take k lines) outcomes line outcome start middle steps run last)
 
-    pub all_lines : (k : ℕ) (outcomes : List Outcome) (after : Map) (steps : ℕ) → length lines ≤ k → HasRun rules before (take k lines) outcomes after start steps → HasRun rules before lines outcomes after start steps
-    all_lines k outcomes after steps past run = subst (λ ls. HasRun rules before ls outcomes after start steps) (take_all k lines past) run
-
     pub cut_first : IsCutShort rules before lines before start start
     cut_first = record {
       done = 0;

@@ -2,17 +2,18 @@
 use Rattle.std.proofs.Common.{ℕ, ◌+◌, ◌*◌, ◌<◌, inl, inr, List, length, Option, Some, IsTrue, sym, subst}
 use Rattle.gm_model.specs.declared.schema.Schema.{Schema}
 use Rattle.gm_model.specs.declared.value.Value.{Value}
-use Rattle.gm_model.specs.Applications.{Application, Cause, HasHookDarts, MeetsSteps, HasNoRepeat, IsFound, IsReady, IsPreUnits, IsReadSum, IsReachedSum, IsWork, NoHookDarts, NoMatch, NotReady, Ready, IsBudget, Of}
+use Rattle.gm_model.specs.Applications.{Application, Cause, HasHookDarts, MeetsSteps, HasNoRepeat, IsFound, IsReady, IsPreUnits, IsReadSum, IsReachedSum, HasPositions, NoDarts, Candidate, IsWork, NoMatch, NotReady, Ready, IsBudget, Of}
 use Rattle.gm_model.specs.Maps.{Map}
 use Rattle.gm_model.specs.Matches.{Placement, IsCandidate}
 use Rattle.gm_model.specs.Rules.{Rule}
 use Rattle.gm_model.specs.Unfolding.{IsUnfolding, scene_of, added_nodes}
 use Rattle.gm_apply.proofs.LikeApplications.{pre_units_there, ready_there}
-use Rattle.gm_apply.proofs.LikePlaces.{AreLikeAt, candidates_like}
+use Rattle.gm_apply.proofs.LikePlaces.{AreLikeAt}
 use Rattle.gm_apply.proofs.LikeResults.{AreLikeResults, results_like}
 use Rattle.gm_apply.proofs.LikeScenes.{unfolding_there}
 use Rattle.gm_apply.proofs.LikeValues.{reached_sum_there, read_sum_there}
 use Rattle.gm_theory.specs.Theorem.{Unfolded, Unfolds, IsDartOf}
+use Rattle.gm_theory.proofs.LikeCandidates.{candidates_like}
 use Rattle.gm_theory.proofs.CandidatesFound.{some_position}
 use Rattle.gm_theory.proofs.ValuesKept.{found_match}
 use Rattle.gm_run.specs.Alike.{AreAlike}
@@ -91,13 +92,15 @@ module _ (rule : Rule) (hooks : List ℕ) (params : List Value) (a b : Map) (sui
   suits_there : Suits rule b
   suits_there = suits_too rule a b alike suits
 
-  work_there : (positions reached read : ℕ) → IsWork (app_over rule hooks params a) positions reached read → IsWork (app_over rule hooks params b) positions reached read
-  work_there _ _ _ (NoHookDarts none) = NoHookDarts (λ darts. none (hook_darts_there rule hooks params b a suits_there back darts))
-  work_there _ _ _ (NoMatch place darts candidate no_match) =
-      NoMatch place (hook_darts_there rule hooks params a b suits alike darts) (candidate_there rule hooks params a b suits alike place candidate darts) (λ found. no_match (found_there rule hooks params b a suits_there back place found))
-  work_there _ _ _ (NotReady place u found unready units) =
+  positions_there : (k : ℕ) → HasPositions (app_over rule hooks params a) k → HasPositions (app_over rule hooks params b) k
+  positions_there _ (NoDarts none) = NoDarts (λ darts. none (hook_darts_there rule hooks params b a suits_there back darts))
+  positions_there _ (Candidate place darts candidate) = Candidate place (hook_darts_there rule hooks params a b suits alike darts) (candidate_there rule hooks params a b suits alike place candidate darts)
+
+  work_there : (reached read : ℕ) → IsWork (app_over rule hooks params a) reached read → IsWork (app_over rule hooks params b) reached read
+  work_there _ _ (NoMatch none) = NoMatch (λ place found. none place (found_there rule hooks params b a suits_there back place found))
+  work_there _ _ (NotReady place u found unready units) =
       NotReady place u (found_there rule hooks params a b suits alike place found) (λ ready. unready (ready_too rule hooks params b a suits_there back place ready)) (units_there rule hooks params a b suits alike place u found units)
-  work_there _ _ _ (Ready place live alpha reached u w ready unfolded reaches units read) =
+  work_there _ _ (Ready place live alpha reached u w ready unfolded reaches units read) =
       let result : Unfolded = record { live = live; alpha = alpha; next = a.next + place.positions * added_nodes rule } in
       Ready place live alpha reached u w (ready_too rule hooks params a b suits alike place ready)
       (subst (λ n. IsUnfolding (scene_of b rule place) (λ d. IsTrue (live d)) alpha (n + place.positions * added_nodes rule)) alike.same.next (unfolds_too rule hooks params a b suits alike place ready.found result unfolded))
@@ -105,6 +108,6 @@ module _ (rule : Rule) (hooks : List ℕ) (params : List Value) (a b : Map) (sui
       (read_there rule hooks params a b suits alike place ready.found result unfolded w read)
 
   pub budget_there : (most : ℕ) → IsBudget (app_over rule hooks params a) most → IsBudget (app_over rule hooks params b) most
-  budget_there _ (Of positions reached read work) =
+  budget_there _ (Of positions reached read has work) =
       subst (λ (s : Schema). IsBudget (app_over rule hooks params b) (24 * (s.dim + 1) * (length rule.nodes * positions + reached + read + 1))) (sym alike.schema)
-      (Of positions reached read (work_there positions reached read work))
+      (Of positions reached read (positions_there positions has) (work_there reached read work))

@@ -10,10 +10,11 @@ use Rattle.gm_model.specs.Runs.{Outcome, Done, Refused, IsOutcome}
 use Rattle.gm_model.specs.Unfolding.{IsGone, IsUnfolding, scene_of, added_nodes}
 use Rattle.gm_apply.proofs.Counting.{count_same}
 use Rattle.gm_apply.proofs.LikeApplications.{gone_there}
-use Rattle.gm_apply.proofs.LikePlaces.{AreLikeAt, candidates_like, places_back}
+use Rattle.gm_apply.proofs.LikePlaces.{AreLikeAt, places_back}
 use Rattle.gm_apply.proofs.LikeScenes.{unfolding_there}
 use Rattle.gm_apply.proofs.LikeValues.{result_there}
 use Rattle.gm_theory.specs.Values.{KeepsWellEmbedded}
+use Rattle.gm_theory.proofs.LikeCandidates.{candidates_like}
 use Rattle.gm_theory.proofs.ValuesKept.{found_match, rules_keep_well_embedded_maps}
 use Rattle.gm_theory.specs.OneMatch.{IsLike}
 use Rattle.gm_theory.proofs.ValuesUnique.{one_count}

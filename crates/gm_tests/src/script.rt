@@ -1,6 +1,7 @@
 //! Texts that are read, and texts that are refused, with their first faults.
-use gm_model::{Book, Items, Kind, LimitKind, Line, Param, Value};
+use gm_model::{Book, Items, Kind, LimitKind, Line, Param, RuleTable, Value};
 use gm_sample::{RuleRow, name, rule, schema};
+use gm_script::ScriptFault::{HookCount, Limit, Params, Text, UnknownRule};
 use gm_script::{ScriptFault, read_script};
 use std::alloc::Global;
 use std::process::Abort;
@@ -27,168 +28,267 @@ const UNHOOKED: RuleRow = RuleRow {
     right_links: &[],
 };
 
+/// A rule, and the kinds of its parameters.
+struct Named<'a> {
+    name: &'a str,
+    rule: RuleRow<'a>,
+    kinds: &'a [Kind],
+}
+
 /// A rule `T` with one hook, a rule `C` with one parameter of each kind, and a rule `S` with two
 /// hooks.
-fn book(alloc: Global) -> Result<Book, Fail> {
+const RULES: [Named; 3] = [
+    Named {
+        name: "T",
+        rule: HOOKED,
+        kinds: &[],
+    },
+    Named {
+        name: "C",
+        rule: UNHOOKED,
+        kinds: &[Kind::Int, Kind::Bool, Kind::Vec2, Kind::Vec3, Kind::Rgb],
+    },
+    Named {
+        name: "S",
+        rule: TWICE_HOOKED,
+        kinds: &[],
+    },
+];
+
+fn params(alloc: Global, kinds: &[Kind]) -> Result<Items<Param>, Fail> {
     let mut params = Vec::new(alloc);
-    for kind in [Kind::Int, Kind::Bool, Kind::Vec2, Kind::Vec3, Kind::Rgb] {
+    for kind in kinds {
         params.push(Param {
             name: name("C")?,
-            kind,
+            kind: *kind,
         })?;
     }
-    let mut with_params = rule(alloc, "C", &UNHOOKED)?;
-    with_params.params = Items::new(params);
-    let hooked = rule(alloc, "T", &HOOKED)?;
-    let twice_hooked = rule(alloc, "S", &TWICE_HOOKED)?;
-    let rules = vec![in alloc; hooked, with_params, twice_hooked]?;
+    Ok(Items::new(params))
+}
+
+fn table_of(alloc: Global, row: &Named) -> Result<RuleTable, Fail> {
+    let params = params(alloc, row.kinds)?;
+    let mut table = rule(alloc, row.name, &row.rule)?;
+    table.params = params;
+    Ok(table)
+}
+
+fn rules(alloc: Global) -> Result<Items<RuleTable>, Fail> {
+    let mut rules = Vec::new(alloc);
+    for row in &RULES {
+        rules.push(table_of(alloc, row)?)?;
+    }
+    Ok(Items::new(rules))
+}
+
+fn book(alloc: Global) -> Result<Book, Fail> {
+    let schema = schema(alloc, 2)?;
     Ok(Book {
         version: 2,
-        schema: schema(alloc, 2)?,
-        rules: Items::new(rules),
+        schema,
+        rules: rules(alloc)?,
     })
 }
 
-fn check_line(rt: &impl Abort, line: &Line, rule: u16, hooks: &[u32], params: &[Value]) {
-    assert_eq!(rt; line.rule, rule);
-    assert_eq!(rt; line.hooks.as_slice(), hooks);
-    assert_eq!(rt; line.params.as_slice(), params);
+/// The hooks of a line and its parameters, and the number of its rule.
+struct Wanted<'a> {
+    rule: u16,
+    hooks: &'a [u32],
+    params: &'a [Value],
 }
+
+fn check_line(rt: &impl Abort, line: &Line, wanted: &Wanted) {
+    assert_eq!(rt; line.rule, wanted.rule);
+    assert_eq!(rt; line.hooks.as_slice(), wanted.hooks);
+    assert_eq!(rt; line.params.as_slice(), wanted.params);
+}
+
+fn check_lines(rt: &impl Abort, alloc: Global, text: &[u8], wanted: &[Wanted]) -> Result<(), Fail> {
+    let book = book(alloc)?;
+    let script = read_script(alloc, text, &book)?;
+    let lines = script.lines.as_slice();
+    assert_eq!(rt; lines.len(), wanted.len());
+    for (line, wanted) in lines.iter().zip(wanted) {
+        check_line(rt, line, wanted);
+    }
+    Ok(())
+}
+
+const LINES: &[u8] =
+    b"apply T 007 # one\napply C with -3 true (1 -2)(0 0 -0)\n(0 255 9)apply T 16777215 apply S 5 3";
+
+const WANTED: [Wanted; 4] = [
+    Wanted {
+        rule: 0,
+        hooks: &[7],
+        params: &[],
+    },
+    Wanted {
+        rule: 1,
+        hooks: &[],
+        params: &[
+            Value::Int(-3),
+            Value::Bool(true),
+            Value::Vec2(1, -2),
+            Value::Vec3(0, 0, 0),
+            Value::Rgb(0, 255, 9),
+        ],
+    },
+    Wanted {
+        rule: 0,
+        hooks: &[16_777_215],
+        params: &[],
+    },
+    Wanted {
+        rule: 2,
+        hooks: &[5, 3],
+        params: &[],
+    },
+];
 
 #[test]
 fn lines_are_read(rt: HostRuntime) -> Result<(), Fail> {
-    let book = book(rt.alloc())?;
-    let none = read_script(rt.alloc(), b" # no line\n", &book)?;
-    assert_eq!(rt; none.lines.as_slice().len(), 0);
-    let text =
-        b"apply T 007 # one\napply C with -3 true (1 -2)(0 0 -0)\n(0 255 9)apply T 16777215 apply S 5 3";
-    let script = read_script(rt.alloc(), text, &book)?;
-    let [first, second, third, fourth] = script.lines.as_slice() else {
-        return Err("not four lines".into());
-    };
-    let params = [
-        Value::Int(-3),
-        Value::Bool(true),
-        Value::Vec2(1, -2),
-        Value::Vec3(0, 0, 0),
-        Value::Rgb(0, 255, 9),
-    ];
-    check_line(&rt, first, 0, &[7], &[]);
-    check_line(&rt, second, 1, &[], &params);
-    check_line(&rt, third, 0, &[16_777_215], &[]);
-    check_line(&rt, fourth, 2, &[5, 3], &[]);
-    Ok(())
+    check_lines(&rt, rt.alloc(), b" # no line\n", &[])?;
+    check_lines(&rt, rt.alloc(), LINES, &WANTED)
 }
 
-fn check_faults(
-    rt: &impl Abort,
-    alloc: Global,
-    cases: &[(&[u8], ScriptFault)],
-) -> Result<(), Fail> {
+/// A text, and its first fault.
+type Case = (&'static [u8], ScriptFault);
+
+fn check_fault(rt: &impl Abort, alloc: Global, book: &Book, case: &Case) {
+    let (text, fault) = case;
+    assert_eq!(rt; read_script(alloc, *text, book).err(), Some(*fault));
+}
+
+fn check_faults(rt: &impl Abort, alloc: Global, cases: &[Case]) -> Result<(), Fail> {
     let book = book(alloc)?;
-    for (text, wanted) in cases {
-        let Err(fault) = read_script(alloc, *text, &book) else {
-            return Err("a script".into());
-        };
-        assert_eq!(rt; fault, *wanted);
+    for case in cases {
+        check_fault(rt, alloc, &book, case);
     }
     Ok(())
 }
 
-fn text(place: usize) -> ScriptFault {
-    ScriptFault::Text { place }
-}
-
-fn limit(what: LimitKind, place: usize) -> ScriptFault {
-    ScriptFault::Limit { what, place }
-}
+const TEXTS: [Case; 18] = [
+    (b"apply", Text { place: 5 }),
+    (b"Apply T 0", Text { place: 0 }),
+    (b"apply left", Text { place: 6 }),
+    (b"apply T with", Text { place: 12 }),
+    (b"apply T 0 U", Text { place: 10 }),
+    (b"apply T 0 ?", Text { place: 10 }),
+    (b"apply U apply", Text { place: 13 }),
+    (b"apply C with (1)", Text { place: 15 }),
+    (b"apply C with (1 2 3 4)", Text { place: 20 }),
+    (b"apply C with - true", Text { place: 15 }),
+    (b"apply C with (- 1 - 2", Text { place: 21 }),
+    (b"apply T 0 with false with", Text { place: 21 }),
+    (
+        b"apply T 16777216 ?",
+        Limit {
+            what: LimitKind::DartName,
+            place: 8,
+        },
+    ),
+    (
+        b"apply a23456789012345678901234567890123 2",
+        Limit {
+            what: LimitKind::Name,
+            place: 6,
+        },
+    ),
+    (
+        b"apply C with 9223372036854775808",
+        Limit {
+            what: LimitKind::Integer,
+            place: 13,
+        },
+    ),
+    (
+        b"apply C with -9223372036854775809",
+        Limit {
+            what: LimitKind::Integer,
+            place: 14,
+        },
+    ),
+    (
+        b"apply C with 99999999999999999999",
+        Limit {
+            what: LimitKind::Integer,
+            place: 13,
+        },
+    ),
+    (b"apply U 0 apply", Text { place: 15 }),
+];
 
 #[test]
 fn the_first_fault_of_the_text_is_answered(rt: HostRuntime) -> Result<(), Fail> {
-    let cases: [(&[u8], ScriptFault); 18] = [
-        (b"apply", text(5)),
-        (b"Apply T 0", text(0)),
-        (b"apply left", text(6)),
-        (b"apply T with", text(12)),
-        (b"apply T 0 U", text(10)),
-        (b"apply T 0 ?", text(10)),
-        (b"apply U apply", text(13)),
-        (b"apply C with (1)", text(15)),
-        (b"apply C with (1 2 3 4)", text(20)),
-        (b"apply C with - true", text(15)),
-        (b"apply C with (- 1 - 2", text(21)),
-        (b"apply T 0 with false with", text(21)),
-        (b"apply T 16777216 ?", limit(LimitKind::DartName, 8)),
-        (
-            b"apply a23456789012345678901234567890123 2",
-            limit(LimitKind::Name, 6),
-        ),
-        (
-            b"apply C with 9223372036854775808",
-            limit(LimitKind::Integer, 13),
-        ),
-        (
-            b"apply C with -9223372036854775809",
-            limit(LimitKind::Integer, 14),
-        ),
-        (
-            b"apply C with 99999999999999999999",
-            limit(LimitKind::Integer, 13),
-        ),
-        (b"apply U 0 apply", text(15)),
-    ];
-    check_faults(&rt, rt.alloc(), &cases)
+    check_faults(&rt, rt.alloc(), &TEXTS)
 }
+
+const DISAGREEMENTS: [Case; 14] = [
+    (b"apply S 5", HookCount { place: 0 }),
+    (b"apply S 5 3 1", HookCount { place: 0 }),
+    (b"apply T", HookCount { place: 0 }),
+    (b"apply T 0 1", HookCount { place: 0 }),
+    (b"apply U 0", UnknownRule { place: 6 }),
+    (b"apply apply", UnknownRule { place: 6 }),
+    (b"apply T 0 with 3", Params { place: 0 }),
+    (b"apply T 0 apply T", HookCount { place: 10 }),
+    (b"apply T with 3", HookCount { place: 0 }),
+    (
+        b"apply a2345678901234567890123456789012 2",
+        UnknownRule { place: 6 },
+    ),
+    (b"apply C with -9223372036854775808", Params { place: 0 }),
+    (
+        b"apply C with 1 true (1 2) (1 2 3) (256 0 0)",
+        Params { place: 0 },
+    ),
+    (
+        b"apply C with 1 true (1 2) (1 2 3) (0 -1 0)",
+        Params { place: 0 },
+    ),
+    (
+        b"apply C with true 1 (1 2) (1 2 3) (0 0 0)",
+        Params { place: 0 },
+    ),
+];
 
 #[test]
 fn the_first_disagreement_is_answered(rt: HostRuntime) -> Result<(), Fail> {
-    let cases: [(&[u8], ScriptFault); 14] = [
-        (b"apply S 5", ScriptFault::HookCount { place: 0 }),
-        (b"apply S 5 3 1", ScriptFault::HookCount { place: 0 }),
-        (b"apply T", ScriptFault::HookCount { place: 0 }),
-        (b"apply T 0 1", ScriptFault::HookCount { place: 0 }),
-        (b"apply U 0", ScriptFault::UnknownRule { place: 6 }),
-        (b"apply apply", ScriptFault::UnknownRule { place: 6 }),
-        (b"apply T 0 with 3", ScriptFault::Params { place: 0 }),
-        (b"apply T 0 apply T", ScriptFault::HookCount { place: 10 }),
-        (b"apply T with 3", ScriptFault::HookCount { place: 0 }),
-        (
-            b"apply a2345678901234567890123456789012 2",
-            ScriptFault::UnknownRule { place: 6 },
-        ),
-        (
-            b"apply C with -9223372036854775808",
-            ScriptFault::Params { place: 0 },
-        ),
-        (
-            b"apply C with 1 true (1 2) (1 2 3) (256 0 0)",
-            ScriptFault::Params { place: 0 },
-        ),
-        (
-            b"apply C with 1 true (1 2) (1 2 3) (0 -1 0)",
-            ScriptFault::Params { place: 0 },
-        ),
-        (
-            b"apply C with true 1 (1 2) (1 2 3) (0 0 0)",
-            ScriptFault::Params { place: 0 },
-        ),
-    ];
-    check_faults(&rt, rt.alloc(), &cases)
+    check_faults(&rt, rt.alloc(), &DISAGREEMENTS)
 }
 
-#[test]
-fn a_hundred_thousand_lines_are_read_and_no_more(rt: HostRuntime) -> Result<(), Fail> {
-    let book = book(rt.alloc())?;
-    let mut text = Vec::new(rt.alloc());
+/// A text of a hundred thousand lines.
+fn long_text(alloc: Global) -> Result<Vec<u8>, Fail> {
+    let mut text = Vec::new(alloc);
     for _ in 0..100_000 {
         text.extend_from_slice(b"apply T 0\n")?;
     }
-    let script = read_script(rt.alloc(), &text, &book)?;
-    assert_eq!(rt; script.lines.as_slice().len(), 100_000);
-    text.extend_from_slice(b"apply")?;
-    let Err(fault) = read_script(rt.alloc(), &text, &book) else {
-        return Err("a script".into());
-    };
-    assert_eq!(rt; fault, limit(LimitKind::Lines, 1_000_000));
+    Ok(text)
+}
+
+fn check_count(rt: &impl Abort, alloc: Global, text: &[u8], count: usize) -> Result<(), Fail> {
+    let book = book(alloc)?;
+    let script = read_script(alloc, text, &book)?;
+    assert_eq!(rt; script.lines.as_slice().len(), count);
     Ok(())
+}
+
+fn check_end(rt: &impl Abort, alloc: Global, text: &[u8], fault: ScriptFault) -> Result<(), Fail> {
+    let book = book(alloc)?;
+    assert_eq!(rt; read_script(alloc, text, &book).err(), Some(fault));
+    Ok(())
+}
+
+const TOO_MANY: ScriptFault = Limit {
+    what: LimitKind::Lines,
+    place: 1_000_000,
+};
+
+#[test]
+fn a_hundred_thousand_lines_are_read_and_no_more(rt: HostRuntime) -> Result<(), Fail> {
+    let mut text = long_text(rt.alloc())?;
+    check_count(&rt, rt.alloc(), &text, 100_000)?;
+    text.extend_from_slice(b"apply")?;
+    check_end(&rt, rt.alloc(), &text, TOO_MANY)
 }

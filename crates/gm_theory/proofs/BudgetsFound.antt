@@ -7,7 +7,7 @@ use Rattle.gm_model.specs.declared.schema.Embed.{Embed}
 use Rattle.gm_model.specs.declared.value.Kind.{Kind}
 use Rattle.gm_model.specs.declared.value.Kind.TheVariants as kinds
 use Rattle.gm_model.specs.Acceptance.{IsAccepted}
-use Rattle.gm_model.specs.Applications.{Application, Decider, IsDeciderBefore, HasHookDarts, MeetsSteps, HasNoRepeat, IsFound, IsFirstBroken, IsFirstRepeat, MeetsPre, IsReady, IsDecider, IsValuedBefore, IsRead, IsReachedAt, IsPreUnits, IsReadUnits, IsReadSum, IsReachedSum, IsWork, NoHookDarts, NoMatch, NotReady, Ready, IsBudget, Of, reading_at}
+use Rattle.gm_model.specs.Applications.{Application, Decider, IsDeciderBefore, HasHookDarts, MeetsSteps, HasNoRepeat, IsFound, IsFirstBroken, IsFirstRepeat, MeetsPre, IsReady, IsDecider, IsValuedBefore, IsRead, IsReachedAt, IsPreUnits, IsReadUnits, IsReadSum, IsReachedSum, HasPositions, NoDarts, Candidate, IsWork, NoMatch, NotReady, Ready, IsBudget, Of, reading_at}
 use Rattle.gm_model.specs.Components.{IsAssigned}
 use Rattle.gm_model.specs.Expressions.{HasUnits}
 use Rattle.gm_model.specs.Kinds.{HasKind, AreGoodParams}
@@ -18,6 +18,7 @@ use Rattle.gm_model.specs.Orbits.{HasCount, IsListOf, IsPairBefore}
 use Rattle.gm_model.specs.Trees.{Tree}
 use Rattle.gm_model.specs.Unfolding.{IsUnfolding, name_in, scene_of}
 use Rattle.gm_model.specs.Rules.{hook_label, width}
+use Rattle.gm_theory.proofs.LikeCandidates.{found_like}
 use Rattle.gm_theory.proofs.CandidatesFound.{candidate_exists, some_position, IsDead, dead_or_live, broken_or_met, repeat_or_none, decide_before}
 use Rattle.gm_theory.proofs.FirstFound.{decide_pair_below}
 use Rattle.gm_theory.proofs.Keeps.{rules_keep_generalised_maps}
@@ -38,8 +39,8 @@ use Rattle.gm_theory.specs.Theorem.{Unfolded, Unfolds}
 abbrev HasBudget : Application → Type 0
 HasBudget app = (most : ℕ) × IsBudget app most
 
-of_work : (app : Application) (positions reached read : ℕ) → IsWork app positions reached read → HasBudget app
-of_work app positions reached read work = (24 * (dimension app.map + 1) * (length app.rule.nodes * positions + reached + read + 1), Of positions reached read work)
+of_work : (app : Application) (positions reached read : ℕ) → HasPositions app positions → IsWork app reached read → HasBudget app
+of_work app positions reached read has work = (24 * (dimension app.map + 1) * (length app.rule.nodes * positions + reached + read + 1), Of positions reached read has work)
 
 decide_decider_before : (a b : Decider) → IsDecided (IsDeciderBefore a b)
 decide_decider_before a b = go (cases_order a.embed b.embed) (decide_before a.node a.position b.node b.position)
@@ -281,10 +282,10 @@ module _ (app : Application) (of_schema : IsSchema app.map.schema) (sound : IsSo
       go (result, unfolds) =
           let reached : (count : ℕ) × IsReachedSum app place (λ d. IsTrue (result.live d)) result.alpha count = reached_sum result unfolds in
           let read : (w : ℕ) × IsReadSum app place (λ d. IsTrue (result.live d)) result.alpha w = read_sum result unfolds in
-          of_work app place.positions reached.0 (pre_units.0 + read.0) (Ready place result.live result.alpha reached.0 pre_units.0 read.0 ready (subst (λ n. IsUnfolding (scene_of app.map app.rule place) (λ d. IsTrue (result.live d)) result.alpha n) unfolds.next_is unfolds) reached.1 pre_units.1 read.1)
+          of_work app place.positions reached.0 (pre_units.0 + read.0) (Candidate place found.darts found.candidate) (Ready place result.live result.alpha reached.0 pre_units.0 read.0 ready (subst (λ n. IsUnfolding (scene_of app.map app.rule place) (λ d. IsTrue (result.live d)) result.alpha n) unfolds.next_is unfolds) reached.1 pre_units.1 read.1)
 
   unready_budget : (IsReady app place → ⊥) → HasBudget app
-  unready_budget none = of_work app place.positions 0 pre_units.0 (NotReady place pre_units.0 found none pre_units.1)
+  unready_budget none = of_work app place.positions 0 pre_units.0 (Candidate place found.darts found.candidate) (NotReady place pre_units.0 found none pre_units.1)
 
   found_budget : HasBudget app
   found_budget = go (pre_or_none app of_schema sound accepted params place found)
@@ -300,14 +301,22 @@ module _ (app : Application) (of_schema : IsSchema app.map.schema) (sound : IsSo
 pub applications_have_budgets : ApplicationsHaveBudgets
 applications_have_budgets app of_schema sound accepted count params = begin (dead_or_live app)
   where
+    -- the candidate is no match, and so there is none
+    unfound : (place : Placement) → HasHookDarts app → IsCandidate app.map app.rule app.hooks place → (IsFound app place → ⊥) → HasBudget app
+    unfound place darts candidate none =
+        of_work app place.positions 0 0 (Candidate place darts candidate) (NoMatch (λ other found. none (found_like app accepted.in_range accepted.incidence other place candidate found)))
+
     at : (place : Placement) (darts : HasHookDarts app) (candidate : IsCandidate app.map app.rule app.hooks place) →
         ((x : ℕ) × (p : ℕ) × (i : ℕ) × IsFirstBroken app place x p i) ⊎ MeetsSteps app place → ((x : ℕ) × (p : ℕ) × (y : ℕ) × (q : ℕ) × IsFirstRepeat app place x p y q) ⊎ HasNoRepeat app place → HasBudget app
-    at place darts candidate (inl (x, p, i, first)) side = of_work app place.positions 0 0 (NoMatch place darts candidate (λ found. first.broken (found.steps x p i first.instance first.label)))
-    at place darts candidate (inr met) (inl (x, p, y, q, first)) = of_work app place.positions 0 0 (NoMatch place darts candidate (λ found. found.distinct x p y q first.here))
+    at place darts candidate (inl (x, p, i, first)) side = unfound place darts candidate (λ found. first.broken (found.steps x p i first.instance first.label))
+    at place darts candidate (inr met) (inl (x, p, y, q, first)) = unfound place darts candidate (λ found. found.distinct x p y q first.here)
     at place darts candidate (inr met) (inr apart) = found_budget app of_schema sound accepted params place (record { darts = darts; candidate = candidate; steps = met; distinct = apart })
 
     begin : ((k : ℕ) × (k < length app.hooks) × IsLeast (IsDead app) k) ⊎ HasHookDarts app → HasBudget app
-    begin (inl (k, b, ((d, found, dead), least))) = of_work app 1 0 0 (NoHookDarts (λ darts. dead (darts d (k, b, get_or_from_slice_get app.hooks k d d found))))
+    begin (inl (k, b, ((d, found, dead), least))) = of_work app 1 0 0 (NoDarts no_darts) (NoMatch (λ place found. no_darts found.darts))
+      where
+        no_darts : HasHookDarts app → ⊥
+        no_darts darts = dead (darts d (k, b, get_or_from_slice_get app.hooks k d d found))
     begin (inr darts) = go (candidate_exists app.map app.rule sound.is_map sound.generalised accepted.in_range accepted.incidence app.hooks count darts)
       where
         go : (place : Placement) × IsCandidate app.map app.rule app.hooks place → HasBudget app

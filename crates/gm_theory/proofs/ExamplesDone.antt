@@ -8,7 +8,7 @@ use Rattle.gm_model.specs.declared.schema.Embed.{Embed}
 use Rattle.gm_model.specs.declared.value.Value.{Value}
 use Rattle.gm_model.specs.declared.value.Value.TheVariants as values
 use Rattle.gm_model.specs.declared.word.Letter.TheVariants.{At}
-use Rattle.gm_model.specs.Applications.{Decider, IsReady, IsStaying, IsDone, IsRefused, Valueless, NoValue, IsDeciderBefore, IsValuedBefore, IsRead, IsReadSum, IsReachedAt, IsReachedSum, IsBudget, Of, Ready, GivesValue, reading_at}
+use Rattle.gm_model.specs.Applications.{Decider, IsReady, IsStaying, IsDone, IsRefused, Valueless, NoValue, IsDeciderBefore, IsValuedBefore, IsRead, IsReadSum, IsReachedAt, IsReachedSum, IsBudget, Of, Candidate, Ready, GivesValue, reading_at}
 use Rattle.gm_model.specs.Components.{IsAssigned}
 use Rattle.gm_model.specs.Expressions.{HasValue, HasUnits}
 use Rattle.gm_model.specs.Labels.{has}
@@ -168,7 +168,7 @@ read_sum = record {
 
 -- three nodes at eight positions, eight darts that get the centre, and sixteen that are read for it
 pub budget : IsBudget triangulating 3528
-budget = Of 8 8 16 (Ready on_square four_triangles.live four_triangles.alpha 8 0 16 ready unfolded reached_sum (inl (refl, refl)) read_sum)
+budget = Of 8 8 16 (Candidate on_square ready.found.darts ready.found.candidate) (Ready on_square four_triangles.live four_triangles.alpha 8 0 16 ready unfolded reached_sum (inl (refl, refl)) read_sum)
 
 -- ---- a deciding instance without a value
 

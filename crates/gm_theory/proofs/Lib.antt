@@ -19,6 +19,7 @@ pub mod ExamplesUnfoldings
 pub mod FirstFound
 pub mod Keeps
 pub mod LeastPaths
+pub mod LikeCandidates
 pub mod Lists
 pub mod ListsGathered
 pub mod NewNames

@@ -160,9 +160,6 @@ module _ (m : ℕ) (small : m ≤ 100) (arena : ArenaMap) (grid : IsGridMap m (a
 
 -- ---- the whole
 
-pub grid_unmade : (m start steps : ℕ) → steps ≤ start + 4096 * (m * m) → WithinGridMost m start steps
-grid_unmade m start steps made most (MostOfGrid gridded left sum is budget count) = omega (arith, made)
-
 pub grid_made : (m start middle steps : ℕ) → middle ≤ start + 4096 * (m * m) → GridRunsWithin m middle steps → WithinGridMost m start steps
 grid_made m start middle steps made runs most (MostOfGrid gridded left sum is budget count) = let lines = runs gridded left sum is budget count in omega (arith, made, lines)
 

@@ -140,7 +140,10 @@ impl Builder {
     {
         match take(&mut self.waiting) {
             Some(waiting) => put(&mut self.waiting, go_on(key, waiting, operand)),
-            None => Ok(()),
+            None => {
+                drop(operand);
+                Ok(())
+            }
         }
     }
 

@@ -1,10 +1,15 @@
 //! Functions of their arguments.
+//!
+//! What is let go is dropped by a call: left to the end of its scope, each place where that ends
+//! would be proved over all variants of its type.
 ghost use Rattle.std.specs.Prelude.{◌≡◌, ◌∷◌, [], IfOk, is_some};
 ghost use Rattle.gm_model.specs.Trees.{tree_of};
 ghost use Rattle.gm_tree.specs.Building as building;
 ghost use Rattle.gm_tree.specs.Building.{closed, enclosed, frame_of, next_frame};
+ghost use Rattle.gm_parse.specs.declared.key.Key.TheVariants.{Comma, Then, Else};
 ghost use Rattle.gm_parse.specs.Meaning.{arity as arity_of, call_of, with_arity};
 
+use crate::joining::{binary, choice, rgb, unary, vec2, vec3};
 use crate::partial::Callee;
 use crate::waiting::Waiting;
 use gm_model::{Expr, OutOfMemory, UnOp};
@@ -39,8 +44,11 @@ pub(crate) fn call_with_one(
     ensures { IfOk result (λ e. tree_of e ≡ call_of function (tree_of a ∷ [])) }
 {
     match function {
-        Some(Function::Part(op)) => Ok(Expr::Unary(op, Box::new(alloc, a)?)),
-        _ => Ok(Expr::Bool(false)),
+        Some(Function::Part(op)) => unary(alloc, op, a),
+        _ => {
+            drop(a);
+            Ok(Expr::Bool(false))
+        }
     }
 }
 
@@ -53,8 +61,11 @@ pub(crate) fn call_with_two(
     ensures { IfOk result (λ e. tree_of e ≡ call_of function (tree_of a ∷ tree_of b ∷ [])) }
 {
     match function {
-        Some(Function::Vec2) => Ok(Expr::MakeVec2(Box::new(alloc, a)?, Box::new(alloc, b)?)),
-        _ => Ok(Expr::Bool(false)),
+        Some(Function::Vec2) => vec2(alloc, a, b),
+        _ => {
+            drop((a, b));
+            Ok(Expr::Bool(false))
+        }
     }
 }
 
@@ -68,17 +79,12 @@ pub(crate) fn call_with_three(
     ensures { IfOk result (λ e. tree_of e ≡ call_of function (tree_of a ∷ tree_of b ∷ tree_of c ∷ [])) }
 {
     match function {
-        Some(Function::Vec3) => Ok(Expr::MakeVec3(
-            Box::new(alloc, a)?,
-            Box::new(alloc, b)?,
-            Box::new(alloc, c)?,
-        )),
-        Some(Function::Rgb) => Ok(Expr::MakeRgb(
-            Box::new(alloc, a)?,
-            Box::new(alloc, b)?,
-            Box::new(alloc, c)?,
-        )),
-        _ => Ok(Expr::Bool(false)),
+        Some(Function::Vec3) => vec3(alloc, a, b, c),
+        Some(Function::Rgb) => rgb(alloc, a, b, c),
+        _ => {
+            drop((a, b, c));
+            Ok(Expr::Bool(false))
+        }
     }
 }
 
@@ -111,11 +117,70 @@ pub(crate) fn enclose(alloc: Global, waiting: Waiting, operand: Expr) -> Result<
     ensures { IfOk result (λ e. tree_of e ≡ enclosed (frame_of waiting) (tree_of operand)) }
 {
     match waiting {
-        Waiting::First(callee) => call_with_one(alloc, callee.function, operand),
+        Waiting::First(callee) => {
+            drop(waiting);
+            call_with_one(alloc, callee.function, operand)
+        }
         Waiting::Second(callee, a) => call_with_two(alloc, callee.function, a, operand),
         Waiting::Third(callee, a, b) => call_with_three(alloc, callee.function, a, b, operand),
-        Waiting::Beyond(_) => Ok(Expr::Bool(false)),
-        _ => Ok(operand),
+        Waiting::Beyond(_) => {
+            drop((waiting, operand));
+            Ok(Expr::Bool(false))
+        }
+        _ => {
+            drop(waiting);
+            Ok(operand)
+        }
+    }
+}
+
+/// A function whose next argument begins behind the operand.
+fn go_on_with_argument(waiting: Waiting, operand: Expr) -> Waiting
+    ensures { frame_of result ≡ next_frame Comma (frame_of waiting) (tree_of operand) }
+{
+    match waiting {
+        Waiting::First(callee) => {
+            drop(waiting);
+            Waiting::Second(callee, operand)
+        }
+        Waiting::Second(callee, a) => Waiting::Third(callee, a, operand),
+        Waiting::Third(callee, _, _) => {
+            drop((waiting, operand));
+            Waiting::Beyond(callee)
+        }
+        _ => {
+            drop(operand);
+            waiting
+        }
+    }
+}
+
+/// A condition whose first part begins behind the operand.
+fn go_on_with_then(waiting: Waiting, operand: Expr) -> Waiting
+    ensures { frame_of result ≡ next_frame Then (frame_of waiting) (tree_of operand) }
+{
+    match waiting {
+        Waiting::If => {
+            drop(waiting);
+            Waiting::Then(operand)
+        }
+        _ => {
+            drop(operand);
+            waiting
+        }
+    }
+}
+
+/// A condition whose other part begins behind the operand.
+fn go_on_with_else(waiting: Waiting, operand: Expr) -> Waiting
+    ensures { frame_of result ≡ next_frame Else (frame_of waiting) (tree_of operand) }
+{
+    match waiting {
+        Waiting::Then(condition) => Waiting::Else(condition, operand),
+        _ => {
+            drop(operand);
+            waiting
+        }
     }
 }
 
@@ -123,13 +188,14 @@ pub(crate) fn enclose(alloc: Global, waiting: Waiting, operand: Expr) -> Result<
 pub(crate) fn go_on(key: Key, waiting: Waiting, operand: Expr) -> Waiting
     ensures { frame_of result ≡ next_frame key (frame_of waiting) (tree_of operand) }
 {
-    match (key, waiting) {
-        (Key::Comma, Waiting::First(callee)) => Waiting::Second(callee, operand),
-        (Key::Comma, Waiting::Second(callee, a)) => Waiting::Third(callee, a, operand),
-        (Key::Comma, Waiting::Third(callee, _, _)) => Waiting::Beyond(callee),
-        (Key::Then, Waiting::If) => Waiting::Then(operand),
-        (Key::Else, Waiting::Then(condition)) => Waiting::Else(condition, operand),
-        (_, other) => other,
+    match key {
+        Key::Comma => go_on_with_argument(waiting, operand),
+        Key::Then => go_on_with_then(waiting, operand),
+        Key::Else => go_on_with_else(waiting, operand),
+        _ => {
+            drop(operand);
+            waiting
+        }
     }
 }
 
@@ -138,18 +204,13 @@ pub(crate) fn close(alloc: Global, waiting: Waiting, operand: Expr) -> Result<Ex
     ensures { IfOk result (λ e. tree_of e ≡ closed (frame_of waiting) (tree_of operand)) }
 {
     match waiting {
-        Waiting::Left(op, left) => Ok(Expr::Binary(
-            op,
-            Box::new(alloc, left)?,
-            Box::new(alloc, operand)?,
-        )),
-        Waiting::Minus => Ok(Expr::Unary(UnOp::Neg, Box::new(alloc, operand)?)),
-        Waiting::Not => Ok(Expr::Unary(UnOp::Not, Box::new(alloc, operand)?)),
-        Waiting::Else(condition, one) => Ok(Expr::If(
-            Box::new(alloc, condition)?,
-            Box::new(alloc, one)?,
-            Box::new(alloc, operand)?,
-        )),
-        _ => Ok(operand),
+        Waiting::Left(op, left) => binary(alloc, op, left, operand),
+        Waiting::Minus => unary(alloc, UnOp::Neg, operand),
+        Waiting::Not => unary(alloc, UnOp::Not, operand),
+        Waiting::Else(condition, one) => choice(alloc, condition, one, operand),
+        bracket => {
+            drop(bracket);
+            Ok(operand)
+        }
     }
 }

@@ -5,6 +5,7 @@
 mod builder;
 mod building;
 mod calls;
+mod joining;
 mod laws;
 mod names;
 mod operands;

@@ -87,9 +87,14 @@ fn finish(alloc: Global, built: Built) -> Result<Expr, ExprFault>
     } = built;
     let operand = builder.operand(partial);
     let expr = builder.settle(alloc, operand)?;
-    match builder.least {
+    let least = builder.least;
+    drop(builder);
+    match least {
         None => Ok(expr),
-        Some(fault) => Err(fault),
+        Some(fault) => {
+            drop(expr);
+            Err(fault)
+        }
     }
 }
 

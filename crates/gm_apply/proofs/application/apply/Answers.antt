@@ -15,7 +15,7 @@ returns-in_err-found-clause-outcome g c =
     rw (p.1, p.2) (refused_match (application_of c.args.arena.now (rule_of c.args.plan.now.table) c.args.hooks.now c.args.params.now) c.in_err-found.field-0.0 (c.in_err-found.ensures.answer c.args.params.now), refl)
 
 pub returns-in_err-found-clause-most : goal.returns-in_err-found-clause-most
-returns-in_err-found-clause-most g c most budget = find_within c.args.arena.now (rule_of c.args.plan.now.table) c.args.hooks.now c.args.params.now most c.args.steps.now c.find.new.steps budget c.in_err-found.ensures.cost
+returns-in_err-found-clause-most g c most budget = find_within c.args.arena.now (rule_of c.args.plan.now.table) c.args.hooks.now c.args.params.now most c.args.steps.now c.find.new.steps budget (c.in_err-found.ensures.cost c.args.params.now)
 
 pub meet_pre-requires-clause-readable : goal.meet_pre-requires-clause-readable
 meet_pre-requires-clause-readable g c = (c.args.hooks.now, (record { sound = c.requires.sound; schema = c.requires.schema; accepted = (accepted_for c.args.arena.now c.args.plan.now.schema (rule_of c.args.plan.now.table) c.requires.schema c.rule.ensures.planned); params = c.requires.params; answer = c.in_ok-found.ensures.answer }))
@@ -27,7 +27,7 @@ returns-in_err-meet_pre-clause-outcome g c =
 
 pub returns-in_err-meet_pre-clause-most : goal.returns-in_err-meet_pre-clause-most
 returns-in_err-meet_pre-clause-most g c most budget =
-    found_within c.args.arena.now (rule_of c.args.plan.now.table) c.args.hooks.now c.args.params.now c.requires.sound (accepted_for c.args.arena.now c.args.plan.now.schema (rule_of c.args.plan.now.table) c.requires.schema c.rule.ensures.planned) c.in_ok-found.found c.in_ok-found.ensures.answer most 0 c.args.steps.now c.find.new.steps c.meet_pre.new.steps c.meet_pre.new.steps budget (omega arith) c.in_ok-found.ensures.cost
+    found_within c.args.arena.now (rule_of c.args.plan.now.table) c.args.hooks.now c.args.params.now c.requires.sound (accepted_for c.args.arena.now c.args.plan.now.schema (rule_of c.args.plan.now.table) c.requires.schema c.rule.ensures.planned) c.in_ok-found.found c.in_ok-found.ensures.answer most 0 c.args.steps.now c.find.new.steps c.meet_pre.new.steps c.meet_pre.new.steps budget (omega arith) (c.in_ok-found.ensures.cost c.args.params.now)
     (c.in_err-meet_pre.ensures.cost c.args.hooks.now) (omega arith)
 
 pub room-requires-clause-found : goal.room-requires-clause-found
@@ -40,7 +40,7 @@ returns-in_err-applied-clause-outcome g c =
 
 pub returns-in_err-applied-clause-most : goal.returns-in_err-applied-clause-most
 returns-in_err-applied-clause-most g c most budget =
-    found_within c.args.arena.now (rule_of c.args.plan.now.table) c.args.hooks.now c.args.params.now c.requires.sound (accepted_for c.args.arena.now c.args.plan.now.schema (rule_of c.args.plan.now.table) c.requires.schema c.rule.ensures.planned) c.in_ok-found.found c.in_ok-found.ensures.answer most 0 c.args.steps.now c.find.new.steps c.meet_pre.new.steps c.meet_pre.new.steps budget (omega arith) c.in_ok-found.ensures.cost
+    found_within c.args.arena.now (rule_of c.args.plan.now.table) c.args.hooks.now c.args.params.now c.requires.sound (accepted_for c.args.arena.now c.args.plan.now.schema (rule_of c.args.plan.now.table) c.requires.schema c.rule.ensures.planned) c.in_ok-found.found c.in_ok-found.ensures.answer most 0 c.args.steps.now c.find.new.steps c.meet_pre.new.steps c.meet_pre.new.steps budget (omega arith) (c.in_ok-found.ensures.cost c.args.params.now)
     (c.in_ok-meet_pre.ensures.cost c.args.hooks.now) (omega arith)
 
 pub edits-requires-clause-readable : goal.edits-requires-clause-readable
@@ -63,7 +63,7 @@ returns-in_err-edits-clause-rises g c =
 pub returns-in_err-edits-clause-most : goal.returns-in_err-edits-clause-most
 returns-in_err-edits-clause-most g c most budget =
     let ended = c.in_err-edits.ensures.edits c.args.hooks.now (record { sound = c.requires.sound; schema = c.requires.schema; accepted = (accepted_for c.args.arena.now c.args.plan.now.schema (rule_of c.args.plan.now.table) c.requires.schema c.rule.ensures.planned); params = c.requires.params; answer = c.in_ok-found.ensures.answer }) in
-    ready_within c.args.arena.now (rule_of c.args.plan.now.table) c.args.hooks.now c.args.params.now c.requires.sound (accepted_for c.args.arena.now c.args.plan.now.schema (rule_of c.args.plan.now.table) c.requires.schema c.rule.ensures.planned) c.in_ok-found.found c.in_ok-found.ensures.answer c.count.ensures.lawful.schema (c.in_ok-applied.ensures.room c.args.hooks.now c.args.params.now c.in_ok-found.ensures.answer (c.in_ok-meet_pre.ensures.pre c.args.hooks.now (record { sound = c.requires.sound; schema = c.requires.schema; accepted = (accepted_for c.args.arena.now c.args.plan.now.schema (rule_of c.args.plan.now.table) c.requires.schema c.rule.ensures.planned); params = c.requires.params; answer = c.in_ok-found.ensures.answer }))).ready most c.args.steps.now c.find.new.steps c.meet_pre.new.steps c.edits.new.steps budget c.in_ok-found.ensures.cost
+    ready_within c.args.arena.now (rule_of c.args.plan.now.table) c.args.hooks.now c.args.params.now c.requires.sound (accepted_for c.args.arena.now c.args.plan.now.schema (rule_of c.args.plan.now.table) c.requires.schema c.rule.ensures.planned) c.in_ok-found.found c.in_ok-found.ensures.answer c.count.ensures.lawful.schema (c.in_ok-applied.ensures.room c.args.hooks.now c.args.params.now c.in_ok-found.ensures.answer (c.in_ok-meet_pre.ensures.pre c.args.hooks.now (record { sound = c.requires.sound; schema = c.requires.schema; accepted = (accepted_for c.args.arena.now c.args.plan.now.schema (rule_of c.args.plan.now.table) c.requires.schema c.rule.ensures.planned); params = c.requires.params; answer = c.in_ok-found.ensures.answer }))).ready most c.args.steps.now c.find.new.steps c.meet_pre.new.steps c.edits.new.steps budget (c.in_ok-found.ensures.cost c.args.params.now)
     (c.in_ok-meet_pre.ensures.cost c.args.hooks.now) (ended_within _ c.args.hooks.now _ _ _ ended)
 
 pub returns-in_err-edits-clause-untouched : goal.returns-in_err-edits-clause-untouched
@@ -105,7 +105,7 @@ returns-in_err-reserve-clause-rises g c =
 
 pub returns-in_err-reserve-clause-most : goal.returns-in_err-reserve-clause-most
 returns-in_err-reserve-clause-most g c most budget =
-    ready_within c.args.arena.now (rule_of c.args.plan.now.table) c.args.hooks.now c.args.params.now c.requires.sound (accepted_for c.args.arena.now c.args.plan.now.schema (rule_of c.args.plan.now.table) c.requires.schema c.rule.ensures.planned) c.in_ok-found.found c.in_ok-found.ensures.answer c.count.ensures.lawful.schema (c.in_ok-applied.ensures.room c.args.hooks.now c.args.params.now c.in_ok-found.ensures.answer (c.in_ok-meet_pre.ensures.pre c.args.hooks.now (record { sound = c.requires.sound; schema = c.requires.schema; accepted = (accepted_for c.args.arena.now c.args.plan.now.schema (rule_of c.args.plan.now.table) c.requires.schema c.rule.ensures.planned); params = c.requires.params; answer = c.in_ok-found.ensures.answer }))).ready most c.args.steps.now c.find.new.steps c.meet_pre.new.steps c.edits.new.steps budget c.in_ok-found.ensures.cost
+    ready_within c.args.arena.now (rule_of c.args.plan.now.table) c.args.hooks.now c.args.params.now c.requires.sound (accepted_for c.args.arena.now c.args.plan.now.schema (rule_of c.args.plan.now.table) c.requires.schema c.rule.ensures.planned) c.in_ok-found.found c.in_ok-found.ensures.answer c.count.ensures.lawful.schema (c.in_ok-applied.ensures.room c.args.hooks.now c.args.params.now c.in_ok-found.ensures.answer (c.in_ok-meet_pre.ensures.pre c.args.hooks.now (record { sound = c.requires.sound; schema = c.requires.schema; accepted = (accepted_for c.args.arena.now c.args.plan.now.schema (rule_of c.args.plan.now.table) c.requires.schema c.rule.ensures.planned); params = c.requires.params; answer = c.in_ok-found.ensures.answer }))).ready most c.args.steps.now c.find.new.steps c.meet_pre.new.steps c.edits.new.steps budget (c.in_ok-found.ensures.cost c.args.params.now)
     (c.in_ok-meet_pre.ensures.cost c.args.hooks.now) (read_within _ c.args.hooks.now c.in_ok-edits.edits _ _ (c.in_ok-edits.ensures.edits c.args.hooks.now (record { sound = c.requires.sound; schema = c.requires.schema; accepted = (accepted_for c.args.arena.now c.args.plan.now.schema (rule_of c.args.plan.now.table) c.requires.schema c.rule.ensures.planned); params = c.requires.params; answer = c.in_ok-found.ensures.answer })))
 
 pub returns-in_err-reserve-clause-untouched : goal.returns-in_err-reserve-clause-untouched
@@ -175,7 +175,7 @@ returns-clause-schema g c = c.commit.ensures.schema ∙ ap (λ m. m.schema) c.in
 
 pub returns-clause-most : goal.returns-clause-most
 returns-clause-most g c most budget =
-    ready_within c.args.arena.now (rule_of c.args.plan.now.table) c.args.hooks.now c.args.params.now c.requires.sound (accepted_for c.args.arena.now c.args.plan.now.schema (rule_of c.args.plan.now.table) c.requires.schema c.rule.ensures.planned) c.in_ok-found.found c.in_ok-found.ensures.answer c.count.ensures.lawful.schema (c.in_ok-applied.ensures.room c.args.hooks.now c.args.params.now c.in_ok-found.ensures.answer (c.in_ok-meet_pre.ensures.pre c.args.hooks.now (record { sound = c.requires.sound; schema = c.requires.schema; accepted = (accepted_for c.args.arena.now c.args.plan.now.schema (rule_of c.args.plan.now.table) c.requires.schema c.rule.ensures.planned); params = c.requires.params; answer = c.in_ok-found.ensures.answer }))).ready most c.args.steps.now c.find.new.steps c.meet_pre.new.steps c.commit.new.steps budget c.in_ok-found.ensures.cost
+    ready_within c.args.arena.now (rule_of c.args.plan.now.table) c.args.hooks.now c.args.params.now c.requires.sound (accepted_for c.args.arena.now c.args.plan.now.schema (rule_of c.args.plan.now.table) c.requires.schema c.rule.ensures.planned) c.in_ok-found.found c.in_ok-found.ensures.answer c.count.ensures.lawful.schema (c.in_ok-applied.ensures.room c.args.hooks.now c.args.params.now c.in_ok-found.ensures.answer (c.in_ok-meet_pre.ensures.pre c.args.hooks.now (record { sound = c.requires.sound; schema = c.requires.schema; accepted = (accepted_for c.args.arena.now c.args.plan.now.schema (rule_of c.args.plan.now.table) c.requires.schema c.rule.ensures.planned); params = c.requires.params; answer = c.in_ok-found.ensures.answer }))).ready most c.args.steps.now c.find.new.steps c.meet_pre.new.steps c.commit.new.steps budget (c.in_ok-found.ensures.cost c.args.params.now)
     (c.in_ok-meet_pre.ensures.cost c.args.hooks.now) (committed_within _ c.args.hooks.now c.in_ok-edits.edits _ _ (c.in_ok-edits.ensures.edits c.args.hooks.now (record { sound = c.requires.sound; schema = c.requires.schema; accepted = (accepted_for c.args.arena.now c.args.plan.now.schema (rule_of c.args.plan.now.table) c.requires.schema c.rule.ensures.planned); params = c.requires.params; answer = c.in_ok-found.ensures.answer })) c.commit.new.steps c.commit.ensures.most)
 
 pub returns-clause-rises : goal.returns-clause-rises

@@ -10,24 +10,24 @@ use Rattle.gm_book.proofs.ValueFaults.{name_fault_is_least, no_fault_is_least, o
 use Rattle.gm_book.proofs.ValueTokens.{are_within}
 use Rattle.gm_book.proofs.values.value_fault.Goals as goal
 
-pub returns-then-has_kind : goal.returns-then-has_kind
-returns-then-has_kind c =
+pub returns-then-fits : goal.returns-then-fits
+returns-then-fits c =
     let schema = c.args.env.now.schema.now in
     let params = c.args.env.now.params.now in
     let names = names_in schema params c.args.env.now.nodes.now in
     let tokens = value_of c.args.text.now c.args.value.now in
     let within = are_within c.args.text.now c.args.value.now c.requires.within in
-    no_fault_is_least schema.dim schema.embeds params names c.top-top.ensures.greatest tokens within c.args.kind (tree_of c.in-Ok.expr) c.in-Ok.ensures.expr (c.has_kind.ensures.0 c.if-has_kind.true)
+    no_fault_is_least schema.dim schema.embeds params names c.top-top.ensures.greatest tokens within c.args.kind (tree_of c.in-Ok.expr) c.in-Ok.ensures.expr (c.has_kind-fits.ensures.0 c.if-fits.true)
 
-pub returns-else-has_kind : goal.returns-else-has_kind
-returns-else-has_kind c =
+pub returns-else-fits : goal.returns-else-fits
+returns-else-fits c =
     let schema = c.args.env.now.schema.now in
     let params = c.args.env.now.params.now in
     let names = names_in schema params c.args.env.now.nodes.now in
     let tokens = value_of c.args.text.now c.args.value.now in
     let within = are_within c.args.text.now c.args.value.now c.requires.within in
     other_kind_is_least schema.dim schema.embeds params names c.top-top.ensures.greatest tokens within c.args.kind (tree_of c.in-Ok.expr) c.first_of-place.result c.in-Ok.ensures.expr
-    (λ has. let no_way : true ≡ false = sym (c.has_kind.ensures.1 has) ∙ c.if-has_kind.false in cc) c.first_of-place.ensures
+    (λ has. let no_way : true ≡ false = sym (c.has_kind-fits.ensures.1 has) ∙ c.if-fits.false in cc) c.first_of-place.ensures
 
 pub returns-in-Err : goal.returns-in-Err
 returns-in-Err c =

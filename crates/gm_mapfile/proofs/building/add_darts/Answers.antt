@@ -1,4 +1,4 @@
-use Rattle.std.proofs.Common.{◌≡◌, not, ◌+◌, slice_index, ◌∷◌, [], ◌++◌, length, take, drop, None, refl, sym, ap, subst, ◌∙◌, arith}
+use Rattle.std.proofs.Common.{◌≡◌, not, ◌+◌, ◌∷◌, [], ◌++◌, length, take, drop, None, refl, sym, ap, subst, ◌∙◌, arith}
 use Rattle.std.proofs.lemmas.List.{length_push}
 use Rattle.std.specs.FinMap.{get}
 use Rattle.std.specs.Slice.Iter.{chunks_exact_rest}
@@ -9,7 +9,7 @@ use Rattle.gm_model.specs.declared.schema.Schema.{Schema}
 use Rattle.gm_mapfile.specs.MapText.{rows_of}
 use Rattle.gm_mapfile.specs.Rows.{row_in, valued, darts_in}
 use Rattle.gm_mapfile.specs.Building.{AreAdded, AreValued}
-use Rattle.gm_mapfile.proofs.Chunks.{below_first, below_rest, name_of_line, none_left, darts_end, rows_of_darts_in, length_darts_in}
+use Rattle.gm_mapfile.proofs.Chunks.{below_first, below_rest, name_of_line, read_at, none_left, darts_end, rows_of_darts_in, length_darts_in}
 use Rattle.gm_mapfile.proofs.Adding.{answered_none, answered_some}
 use Rattle.gm_mapfile.proofs.AddedDarts.{HasDarts, has_none, has_more_named, has_again_named, line_split, line_good, line_spare, line_long, line_values}
 use Rattle.gm_mapfile.proofs.building.add_darts.Goals as goal
@@ -45,7 +45,7 @@ pub add-requires-clause-reserved : goal.add-requires-clause-reserved
 add-requires-clause-reserved g c =
     let steps = c.in-Some.ensures.steps in
     let long : length c.in-Some.line.now ≡ c.args.arena.now.schema.dim + 2 = steps.1.1 ∙ c.loop-line.invariant.size in
-    below_first c.loop-line.arena.reserved _ c.in-Some.line.now _ c.loop-line.invariant.reserved steps.1.0 (omega (arith, long))
+    rw (read_at c.in-Some.line.now 0 _ _ (omega (arith, long)) c.index-line-0.is c.number-name.ensures) (below_first c.loop-line.arena.reserved _ c.in-Some.line.now _ c.loop-line.invariant.reserved steps.1.0 (omega (arith, long)))
 
 pub add-requires-clause-values : goal.add-requires-clause-values
 add-requires-clause-values g c =
@@ -64,6 +64,8 @@ loop-line-preserved-then-is_none g c =
     let before = c.loop-line.invariant in
     let steps = c.in-Some.ensures.steps in
     let line = c.in-Some.line.now in
+    let name = c.number-name.result in
+    let named = name_of_line line ∙ sym (read_at c.in-Some.line.now 0 _ _ (omega (arith, steps.1.1, before.size)) c.index-line-0.is c.number-name.ensures) in
     let values = c.loop-line.rest.now in
     let others = c.split_at.result.1.now in
     let wide : length line ≡ n + 2 = steps.1.1 ∙ before.size in
@@ -71,7 +73,7 @@ loop-line-preserved-then-is_none g c =
     let left : others ≡ drop (length schema.embeds) values = c.split_at.ensures.back ∙ ap (λ k. drop k values) embeds in
     let own : take (length schema.embeds) values ≡ c.split_at.result.0.now = sym (c.split_at.ensures.front ∙ ap (λ k. take k values) embeds) in
     let dart = valued (row_in line) (take (length schema.embeds) values) in
-    let new_name = answered_none (get c.loop-line.arena.darts (slice_index line 0) ≡ None) (λ (s : Slot). IsAt c.loop-line.arena s.at (slice_index line 0)) c.slot_of.result c.slot_of.ensures.slot (c.is_none.ensures ∙ ap not c.if-is_none.true) in
+    let new_name = answered_none (get c.loop-line.arena.darts name ≡ None) (λ (s : Slot). IsAt c.loop-line.arena s.at name) c.slot_of.result c.slot_of.ensures.slot (c.is_none.ensures ∙ ap not c.if-is_none.true) in
     let m = c.loop-line.arena in
     let after = c.add.ensures.map in
     let room = line_spare schema _ line _ values others steps.1.0 wide left m.spare before.room in
@@ -85,7 +87,7 @@ loop-line-preserved-then-is_none g c =
       long = line_long schema _ line _ values others steps.1.0 wide left before.long;
       good = (line_good schema _ line _ values others steps.1.0 wide left before.good).1;
       has = subst (λ x. HasDarts n (before.front ++ dart ∷ []) x c.loop-line.twice) (sym after)
-          (has_more_named n before.front dart m c.loop-line.twice before.has c.add.result.at (slice_index line 0) c.split_at.result.0.now (ap (λ (s : Schema). s.dim) before.schema) (name_of_line line) own new_name);
+          (has_more_named n before.front dart m c.loop-line.twice before.has c.add.result.at name c.split_at.result.0.now (ap (λ (s : Schema). s.dim) before.schema) named own new_name);
       most = omega (arith, before.most, length_push before.front dart, c.slot_of.ensures.cost, c.add.ensures.cost);
       least = omega (arith, before.least, length_push before.front dart, c.slot_of.ensures.cost, c.add.ensures.cost);
     }
@@ -97,6 +99,8 @@ loop-line-preserved g c =
     let before = c.loop-line.invariant in
     let steps = c.in-Some.ensures.steps in
     let line = c.in-Some.line.now in
+    let name = c.number-name.result in
+    let named = name_of_line line ∙ sym (read_at c.in-Some.line.now 0 _ _ (omega (arith, steps.1.1, before.size)) c.index-line-0.is c.number-name.ensures) in
     let values = c.loop-line.rest.now in
     let others = c.split_at.result.1.now in
     let wide : length line ≡ n + 2 = steps.1.1 ∙ before.size in
@@ -104,7 +108,7 @@ loop-line-preserved g c =
     let left : others ≡ drop (length schema.embeds) values = c.split_at.ensures.back ∙ ap (λ k. drop k values) embeds in
     let dart = valued (row_in line) (take (length schema.embeds) values) in
     let m = c.loop-line.arena in
-    let there = answered_some (get m.darts (slice_index line 0) ≡ None) (λ (s : Slot). IsAt m s.at (slice_index line 0)) c.slot_of.result c.slot_of.ensures.slot c.if-is_none.ensures in
+    let there = answered_some (get m.darts name ≡ None) (λ (s : Slot). IsAt m s.at name) c.slot_of.result c.slot_of.ensures.slot c.if-is_none.ensures in
     let room = line_spare schema _ line _ values others steps.1.0 wide left m.spare before.room in
     record {
       front = before.front ++ dart ∷ [];
@@ -115,7 +119,7 @@ loop-line-preserved g c =
       reserved = below_rest m.reserved _ line _ before.reserved steps.1.0;
       long = line_long schema _ line _ values others steps.1.0 wide left before.long;
       good = (line_good schema _ line _ values others steps.1.0 wide left before.good).1;
-      has = has_again_named n before.front dart m c.loop-line.twice before.has (slice_index line 0) c.lesser.result (name_of_line line) (before.has.added.slots there.0.at (slice_index line 0) there.1) c.lesser.ensures;
+      has = has_again_named n before.front dart m c.loop-line.twice before.has name c.lesser.result named (before.has.added.slots there.0.at name there.1) c.lesser.ensures;
       most = omega (arith, before.most, length_push before.front dart, c.slot_of.ensures.cost);
       least = omega (arith, before.least, length_push before.front dart, c.slot_of.ensures.cost);
     }

@@ -11,7 +11,7 @@ in_turn start before after number added width so_far more h =
     (omega (arith, next), omega (arith, next, mul-le (number + 1) width added width (omega arith) (omega arith)))
 
 pub loop-number-init : goal.loop-number-init
-loop-number-init g c = record { so_far = rw c.new-values.ensures.items (none_added c.args.self.now); cost = omega arith; least = omega arith }
+loop-number-init g c = record { so_far = rw c.in_ok-values.ensures.items (none_added c.args.self.now); cost = omega arith; least = omega arith }
 
 pub returns-in_err-put_added_values-clause-cost : goal.returns-in_err-put_added_values-clause-cost
 returns-in_err-put_added_values-clause-cost g c = (in_turn c.args.steps.now c.loop-number.steps c.put_added_values.new.steps c.loop-number.number c.args.added _ c.loop-number.invariant.cost c.put_added_values.ensures.cost c.loop-number-test.true).1

@@ -5,6 +5,9 @@ use Rattle.gm_pending.proofs.Darts.{one_left_count}
 use Rattle.gm_pending.proofs.Ends.{end_left, end_added}
 use Rattle.gm_pending.proofs.rewrite.Rewrite.end.Goals as goal
 
+pub slot-requires-clause-node : goal.slot-requires-clause-node
+slot-requires-clause-node c = (c.self.invariant.nodes c.args.node).0 ((c.left_nodes-left.ensures.left c.args.node).1 c.if-node-left.true)
+
 pub returns-then-node-left : goal.returns-then-node-left
 returns-then-node-left c =
     let own = rewrite_at c.self.inside.plan.now.schema.dim c.self.inside.plan.now.table c.self.inside.found.now in

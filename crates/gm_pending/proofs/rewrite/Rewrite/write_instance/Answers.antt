@@ -1,10 +1,17 @@
-use Rattle.std.proofs.Common.{◌≡◌, ◌+◌, ◌<◌, length, ap, subst, ◌∙◌, arith}
+use Rattle.std.proofs.Common.{◌≡◌, ◌+◌, ◌<◌, length, refl, sym, ap, subst, ◌∙◌, arith}
 use Rattle.std.specs.List.{Contains}
 use Rattle.gm_pending.specs.Collected.{concat_below, labels, as_list, arc_at}
 use Rattle.gm_pending.specs.Written.{end_at, with_arcs}
 use Rattle.gm_pending.proofs.Concat.{contains_concat}
+use Rattle.gm_pending.proofs.Ends.{no_arcs}
 use Rattle.gm_pending.proofs.Writing.{none_written, more_written, still_writable}
 use Rattle.gm_pending.proofs.rewrite.Rewrite.write_instance.Goals as goal
+
+pub returns-then-not-has_arcs-clause-map : goal.returns-then-not-has_arcs-clause-map
+returns-then-not-has_arcs-clause-map g c = rw (no_arcs c.args.self.now c.args.node c.args.position c.args.arcs (sym c.has_arcs.ensures ∙ c.if-not-has_arcs.true)) refl
+
+pub returns-then-not-has_arcs-clause-cost : goal.returns-then-not-has_arcs-clause-cost
+returns-then-not-has_arcs-clause-cost g c = rw (no_arcs c.args.self.now c.args.node c.args.position c.args.arcs (sym c.has_arcs.ensures ∙ c.if-not-has_arcs.true)) (omega arith)
 
 pub loop-label-init : goal.loop-label-init
 loop-label-init g c = none_written c.args.arena.now c.args.made.now c.args.steps.now

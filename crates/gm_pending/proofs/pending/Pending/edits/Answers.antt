@@ -5,7 +5,7 @@ use Rattle.gm_pending.specs.declared.rewrite.Arcs.TheVariants.{Freed, Made}
 use Rattle.gm_pending.specs.Collected.{all_arcs, all_removed}
 use Rattle.gm_pending.specs.Results.{PendingOf, IsPrepared, rule_in}
 use Rattle.gm_pending.proofs.Collected.{are_edits, few_added}
-use Rattle.gm_pending.proofs.pending.Pending.into_edits.Goals as goal
+use Rattle.gm_pending.proofs.pending.Pending.edits.Goals as goal
 
 -- where there are 8 embeddings at most and 2 labels at least, the values of added darts take few steps
 few_reads : (start after dim width adds count k added reached : ℕ) → 0 < dim → width ≤ 8 → adds ≤ count → added ≡ k * adds → after ≤ start + added * width + reached → after ≤ start + 6 * (dim + 1) * (count * k + reached + 1)
@@ -17,7 +17,7 @@ few_reads start after dim width adds count k added reached some few fewer is cos
 
 pub returns-in_err-added_values-clause-cost : goal.returns-in_err-added_values-clause-cost
 returns-in_err-added_values-clause-cost g c =
-    let app = c.args.self in
+    let app = c.args.self.now in
     let prepared : IsPrepared app = subst IsPrepared c.self.view_is c.self.invariant.0 in
     let added : c.added.result * c.positions.result ≡ app.placed.positions * added_nodes (rule_in app) =
     ap₂ (λ a b. a * b) (c.added.ensures ∙ ap (λ (a : PendingOf). added_nodes (rule_in a)) c.self.view_is) (c.positions.ensures.value ∙ ap (λ (a : PendingOf). a.placed.positions) c.self.view_is)
@@ -28,7 +28,7 @@ returns-in_err-added_values-clause-cost g c =
 
 pub returns-in_err-values-clause-cost : goal.returns-in_err-values-clause-cost
 returns-in_err-values-clause-cost g c =
-    let app = c.args.self in
+    let app = c.args.self.now in
     let prepared : IsPrepared app = subst IsPrepared c.self.view_is c.self.invariant.0 in
     let added : c.added.result * c.positions.result ≡ app.placed.positions * added_nodes (rule_in app) =
     ap₂ (λ a b. a * b) (c.added.ensures ∙ ap (λ (a : PendingOf). added_nodes (rule_in a)) c.self.view_is) (c.positions.ensures.value ∙ ap (λ (a : PendingOf). a.placed.positions) c.self.view_is)
@@ -39,7 +39,7 @@ returns-in_err-values-clause-cost g c =
 
 pub returns-clause-cost : goal.returns-clause-cost
 returns-clause-cost g c =
-    let app = c.args.self in
+    let app = c.args.self.now in
     let prepared : IsPrepared app = subst IsPrepared c.self.view_is c.self.invariant.0 in
     let added : c.added.result * c.positions.result ≡ app.placed.positions * added_nodes (rule_in app) =
     ap₂ (λ a b. a * b) (c.added.ensures ∙ ap (λ (a : PendingOf). added_nodes (rule_in a)) c.self.view_is) (c.positions.ensures.value ∙ ap (λ (a : PendingOf). a.placed.positions) c.self.view_is)
@@ -50,7 +50,7 @@ returns-clause-cost g c =
 
 pub returns-clause-edits : goal.returns-clause-edits
 returns-clause-edits g c =
-    let app = c.args.self in
+    let app = c.args.self.now in
     let prepared : IsPrepared app = subst IsPrepared c.self.view_is c.self.invariant.0 in
     let added : c.added.result * c.positions.result ≡ app.placed.positions * added_nodes (rule_in app) =
     ap₂ (λ a b. a * b) (c.added.ensures ∙ ap (λ (a : PendingOf). added_nodes (rule_in a)) c.self.view_is) (c.positions.ensures.value ∙ ap (λ (a : PendingOf). a.placed.positions) c.self.view_is)

@@ -1,0 +1,476 @@
+//! A plain program with the answers of `gmr`, beside which `bench/beside` times it: dimension 2, at
+//! most one embedding of points on the vertices, and operations that are written by hand, with
+//! nothing proved. It reads and writes in pieces. A text that is no map, a script that it doesn't
+//! know and a number past 64 bits end it.
+//!
+//!     plain show MAP            puts the map
+//!     plain run MAP SCRIPT OUT  applies the lines of the script, saves the map, puts a line for each
+//!     plain grid M              triangulates each face of M by M squares, puts how many cells there are
+use std::env;
+use std::fs::File;
+use std::io::{self, Read, Write};
+
+const NONE: u32 = u32::MAX;
+const PIECE: usize = 1 << 16;
+const MOST_DARTS: usize = 1 << 20;
+
+type Point = [i64; 3];
+
+struct Input {
+    file: File,
+    piece: Vec<u8>,
+    at: usize,
+    end: usize,
+}
+
+impl Input {
+    fn open(path: &str) -> Input {
+        Input { file: File::open(path).expect("open"), piece: vec![0; PIECE], at: 0, end: 0 }
+    }
+
+    #[inline(always)]
+    fn byte(&mut self) -> Option<u8> {
+        if self.at == self.end {
+            self.end = self.file.read(&mut self.piece).expect("read");
+            self.at = 0;
+            if self.end == 0 {
+                return None;
+            }
+        }
+        self.at += 1;
+        Some(self.piece[self.at - 1])
+    }
+
+    #[inline(always)]
+    fn number(&mut self) -> i64 {
+        let mut byte = self.byte().expect("a number");
+        while matches!(byte, b' ' | b'\n' | b'(' | b')') {
+            byte = self.byte().expect("a number");
+        }
+        let negative = byte == b'-';
+        if negative {
+            byte = self.byte().expect("a digit");
+        }
+        let mut number: i64 = 0;
+        loop {
+            assert!(byte.is_ascii_digit(), "a digit");
+            number = number.checked_mul(10).and_then(|n| n.checked_add((byte - b'0').into())).expect("64 bits");
+            match self.byte() {
+                Some(next) if !matches!(next, b' ' | b'\n' | b')') => byte = next,
+                _ => return if negative { -number } else { number },
+            }
+        }
+    }
+
+    fn point(&mut self) -> Point {
+        [self.number(), self.number(), self.number()]
+    }
+
+    /// The next word; none at the end.
+    fn word(&mut self, word: &mut Vec<u8>) -> bool {
+        word.clear();
+        loop {
+            match self.byte() {
+                Some(b' ' | b'\n') if word.is_empty() => {}
+                Some(b' ' | b'\n') => return true,
+                Some(byte) => word.push(byte),
+                None => return !word.is_empty(),
+            }
+        }
+    }
+}
+
+struct Output<W: Write> {
+    to: W,
+    piece: Vec<u8>,
+}
+
+impl<W: Write> Output<W> {
+    fn new(to: W) -> Output<W> {
+        Output { to, piece: Vec::with_capacity(PIECE + 512) }
+    }
+
+    #[inline(always)]
+    fn number(&mut self, number: i64) {
+        let mut digits = [0; 20];
+        let mut at = digits.len();
+        let mut rest = number.unsigned_abs();
+        loop {
+            at -= 1;
+            digits[at] = b'0' + (rest % 10) as u8;
+            rest /= 10;
+            if rest == 0 {
+                break;
+            }
+        }
+        if number < 0 {
+            at -= 1;
+            digits[at] = b'-';
+        }
+        self.piece.extend_from_slice(&digits[at..]);
+    }
+
+    fn text(&mut self, text: &[u8]) {
+        self.piece.extend_from_slice(text);
+    }
+
+    fn end_line(&mut self) {
+        self.piece.push(b'\n');
+        if self.piece.len() > PIECE {
+            self.flush();
+        }
+    }
+
+    fn flush(&mut self) {
+        self.to.write_all(&self.piece).expect("write");
+        self.piece.clear();
+    }
+}
+
+/// The darts in slots, as in the proved program.
+#[derive(Default)]
+struct Map {
+    has_points: bool,
+    names: Vec<u32>,
+    neighbours: Vec<[u32; 3]>,
+    points: Vec<Point>,
+    slots: Vec<u32>,
+    free: Vec<u32>,
+    next: u32,
+}
+
+impl Map {
+    fn load(path: &str) -> Map {
+        let mut input = Input::open(path);
+        let mut map = Map::default();
+        let mut word = Vec::new();
+        while input.word(&mut word) && word != b"darts" {
+            map.has_points |= word == b"embed";
+        }
+        let count = input.number() as usize;
+        map.names.reserve_exact(count);
+        map.neighbours.reserve_exact(count);
+        map.points.reserve_exact(if map.has_points { count } else { 0 });
+        for _ in 0..count {
+            map.names.push(input.number() as u32);
+            map.neighbours.push([(); 3].map(|()| input.number() as u32));
+            if map.has_points {
+                map.points.push(input.point());
+            }
+        }
+        drop(input);
+        map.sort();
+        map.link();
+        map.check();
+        map
+    }
+
+    /// Brings the darts into the order of their names.
+    fn sort(&mut self) {
+        if self.names.windows(2).all(|pair| pair[0] < pair[1]) {
+            return;
+        }
+        let mut order: Vec<u32> = (0..self.names.len() as u32).collect();
+        order.sort_unstable_by_key(|slot| self.names[*slot as usize]);
+        self.neighbours = order.iter().map(|slot| self.neighbours[*slot as usize]).collect();
+        if self.has_points {
+            self.points = order.iter().map(|slot| self.points[*slot as usize]).collect();
+        }
+        self.names = order.iter().map(|slot| self.names[*slot as usize]).collect();
+        assert!(self.names.windows(2).all(|pair| pair[0] < pair[1]), "a name twice");
+    }
+
+    /// Puts slots in the places of names.
+    fn link(&mut self) {
+        self.next = self.names.last().map_or(0, |name| name + 1);
+        self.slots = vec![NONE; self.next as usize];
+        for (slot, name) in self.names.iter().enumerate() {
+            self.slots[*name as usize] = slot as u32;
+        }
+        for neighbour in self.neighbours.iter_mut().flatten() {
+            *neighbour = self.slots[*neighbour as usize];
+            assert!(*neighbour != NONE, "no such dart");
+        }
+    }
+
+    fn alpha(&self, label: usize, slot: u32) -> u32 {
+        self.neighbours[slot as usize][label]
+    }
+
+    fn check(&self) {
+        for slot in 0..self.neighbours.len() as u32 {
+            for label in 0..3 {
+                assert!(self.alpha(label, self.alpha(label, slot)) == slot, "an involution");
+            }
+            let across = self.alpha(2, self.alpha(0, slot));
+            assert!(self.alpha(2, self.alpha(0, across)) == slot, "a square");
+            for label in 1..3 {
+                let other = self.alpha(label, slot) as usize;
+                assert!(!self.has_points || self.points[other] == self.points[slot as usize], "a point");
+            }
+        }
+    }
+
+    fn print<W: Write>(&self, to: W) {
+        let mut output = Output::new(to);
+        let embed = if self.has_points { "embed pos <1 2> vec3\n" } else { "" };
+        let count = self.names.len() - self.free.len();
+        output.text(format!("gmap 1\ndim 2\n{embed}darts {count}\n").as_bytes());
+        for slot in self.slots.iter().filter(|slot| **slot != NONE) {
+            output.number(self.names[*slot as usize].into());
+            for neighbour in self.neighbours[*slot as usize] {
+                output.text(b" ");
+                output.number(self.names[neighbour as usize].into());
+            }
+            if self.has_points {
+                let [x, y, z] = self.points[*slot as usize];
+                for (before, number) in [(" (", x), (" ", y), (" ", z)] {
+                    output.text(before.as_bytes());
+                    output.number(number);
+                }
+                output.text(b")");
+            }
+            output.end_line();
+        }
+        output.flush();
+    }
+
+    fn slot_of(&self, name: u32) -> Option<u32> {
+        self.slots.get(name as usize).copied().filter(|slot| *slot != NONE)
+    }
+
+    fn add(&mut self, point: Point) -> u32 {
+        let slot = self.free.pop().unwrap_or_else(|| {
+            self.names.push(0);
+            self.neighbours.push([0; 3]);
+            if self.has_points {
+                self.points.push([0; 3]);
+            }
+            self.names.len() as u32 - 1
+        });
+        self.names[slot as usize] = self.next;
+        self.neighbours[slot as usize] = [slot; 3];
+        if self.has_points {
+            self.points[slot as usize] = point;
+        }
+        self.slots.push(slot);
+        self.next += 1;
+        slot
+    }
+
+    fn remove(&mut self, slot: u32) {
+        self.slots[self.names[slot as usize] as usize] = NONE;
+        self.free.push(slot);
+    }
+}
+
+/// The room for walks.
+#[derive(Default)]
+struct Walk {
+    slots: Vec<u32>,
+    /// One more than the place of each slot; 0 where it isn't among them.
+    places: Vec<u32>,
+    /// Where each place turns, by the two labels.
+    turns: Vec<[usize; 2]>,
+}
+
+impl Walk {
+    fn begin(&mut self, map: &Map, from: u32, labels: [usize; 2]) {
+        for slot in self.slots.drain(..) {
+            self.places[slot as usize] = 0;
+        }
+        self.places.resize(self.places.len().max(map.names.len()), 0);
+        self.meet(from);
+        let mut at = 0;
+        while at < self.slots.len() {
+            let [first, second] = labels.map(|label| map.alpha(label, self.slots[at]));
+            self.meet(first);
+            self.meet(second);
+            at += 1;
+        }
+        self.turns.clear();
+        for slot in &self.slots {
+            self.turns.push(labels.map(|label| self.places[map.alpha(label, *slot) as usize] as usize - 1));
+        }
+    }
+
+    fn meet(&mut self, slot: u32) {
+        if self.places[slot as usize] == 0 {
+            self.slots.push(slot);
+            self.places[slot as usize] = self.slots.len() as u32;
+        }
+    }
+}
+
+/// Puts a corner into the face of the dart, in the middle of its corners.
+fn triangulate(map: &mut Map, walk: &mut Walk, dart: u32) -> Option<(usize, usize)> {
+    walk.begin(map, map.slot_of(dart)?, [0, 1]);
+    let positions = walk.slots.len();
+    let mut middle = [0i64; 3];
+    for slot in walk.slots.iter().filter(|_| map.has_points) {
+        for (sum, number) in middle.iter_mut().zip(map.points[*slot as usize]) {
+            *sum = sum.checked_add(number)?;
+        }
+    }
+    middle = middle.map(|sum| sum.div_euclid(positions as i64));
+    if map.names.len() - map.free.len() + 2 * positions > MOST_DARTS {
+        return None;
+    }
+    let mut made = Vec::with_capacity(2 * positions);
+    for slot in &walk.slots {
+        let point = if map.has_points { map.points[*slot as usize] } else { middle };
+        made.push(map.add(point));
+    }
+    for _ in 0..positions {
+        made.push(map.add(middle));
+    }
+    let (spokes, centres) = made.split_at(positions);
+    for (position, slot) in walk.slots.iter().enumerate() {
+        let [along, around] = walk.turns[position];
+        map.neighbours[*slot as usize][1] = spokes[position];
+        map.neighbours[spokes[position] as usize] = [centres[position], *slot, spokes[around]];
+        map.neighbours[centres[position] as usize] = [spokes[position], centres[along], centres[around]];
+    }
+    Some((2 * positions, 0))
+}
+
+/// Takes the corner of the dart out again, with the edges that lead to it.
+fn merge(map: &mut Map, walk: &mut Walk, dart: u32) -> Option<(usize, usize)> {
+    walk.begin(map, map.slot_of(dart)?, [1, 2]);
+    let spokes: Vec<u32> = walk.slots.iter().map(|slot| map.alpha(0, *slot)).collect();
+    let rim: Vec<u32> = spokes.iter().map(|spoke| map.alpha(1, *spoke)).collect();
+    for (position, [along, around]) in walk.turns.iter().enumerate() {
+        if map.alpha(2, spokes[position]) != spokes[*around] || map.alpha(0, rim[position]) != rim[*along] {
+            return None;
+        }
+    }
+    for slot in spokes.iter().chain(&rim) {
+        let before = walk.slots.len();
+        walk.meet(*slot);
+        if walk.slots.len() == before {
+            return None;
+        }
+    }
+    for (position, [_, around]) in walk.turns.iter().enumerate() {
+        map.neighbours[rim[position] as usize][1] = rim[*around];
+        map.remove(walk.slots[position]);
+        map.remove(spokes[position]);
+    }
+    Some((0, 2 * spokes.len()))
+}
+
+/// Moves the corner of the dart.
+fn shift(map: &mut Map, walk: &mut Walk, dart: u32, by: Point) -> Option<(usize, usize)> {
+    let from = map.slot_of(dart)?;
+    walk.begin(map, from, [1, 2]);
+    let mut point = map.points[from as usize];
+    for (number, more) in point.iter_mut().zip(by) {
+        *number = number.checked_add(more)?;
+    }
+    for slot in &walk.slots {
+        map.points[*slot as usize] = point;
+    }
+    Some((0, 0))
+}
+
+fn run(map_path: &str, script_path: &str, out: &str) {
+    let mut map = Map::load(map_path);
+    let mut walk = Walk::default();
+    let mut script = Input::open(script_path);
+    let mut report = Output::new(Vec::new());
+    let mut word = Vec::new();
+    let mut line = 0;
+    while script.word(&mut word) {
+        line += 1;
+        script.word(&mut word);
+        let dart = script.number() as u32;
+        let applied = match word.as_slice() {
+            b"T" | b"split" => triangulate(&mut map, &mut walk, dart),
+            b"merge" => merge(&mut map, &mut walk, dart),
+            _ => {
+                script.word(&mut word);
+                let by = script.point();
+                shift(&mut map, &mut walk, dart, by)
+            }
+        };
+        report.number(line);
+        match applied {
+            Some((added, removed)) => {
+                report.text(b" done ");
+                report.number(added as i64);
+                report.text(b" ");
+                report.number(removed as i64);
+            }
+            None => report.text(b" refused"),
+        }
+        report.end_line();
+    }
+    map.print(File::create(out).expect("create"));
+    report.flush();
+    io::stdout().write_all(&report.to).expect("write");
+}
+
+fn squares(size: i64) -> Map {
+    const ALONG: [u32; 8] = [1, 0, 3, 2, 5, 4, 7, 6];
+    const AROUND: [u32; 8] = [7, 2, 1, 4, 3, 6, 5, 0];
+    const FACING: [u32; 8] = [5, 4, 7, 6, 1, 0, 3, 2];
+    const BEYOND: [(i64, i64); 8] = [(0, -1), (0, -1), (1, 0), (1, 0), (0, 1), (0, 1), (-1, 0), (-1, 0)];
+    const CORNER: [(i64, i64); 8] = [(0, 0), (1, 0), (1, 0), (1, 1), (1, 1), (0, 1), (0, 1), (0, 0)];
+    let mut map = Map { has_points: true, ..Map::default() };
+    for square in 0..size * size {
+        let (row, column, first) = (square / size, square % size, 8 * square as u32);
+        for dart in 0..8 {
+            map.add([1000 * (column + CORNER[dart].0), 1000 * (row + CORNER[dart].1), 0]);
+            let (x, y) = (column + BEYOND[dart].0, row + BEYOND[dart].1);
+            let is_inside = (0..size).contains(&x) && (0..size).contains(&y);
+            let across = if is_inside { 8 * (y * size + x) as u32 + FACING[dart] } else { first + dart as u32 };
+            map.neighbours[first as usize + dart] = [first + ALONG[dart], first + AROUND[dart], across];
+        }
+    }
+    map
+}
+
+fn count_orbits(map: &Map, labels: &[usize], seen: &mut [usize], mark: usize) -> usize {
+    let mut orbits = 0;
+    let mut left = Vec::new();
+    for slot in 0..map.names.len() {
+        if seen[slot] == mark {
+            continue;
+        }
+        orbits += 1;
+        seen[slot] = mark;
+        left.push(slot as u32);
+        while let Some(slot) = left.pop() {
+            for label in labels {
+                let other = map.alpha(*label, slot);
+                if seen[other as usize] != mark {
+                    seen[other as usize] = mark;
+                    left.push(other);
+                }
+            }
+        }
+    }
+    orbits
+}
+
+fn grid(size: i64) {
+    let mut map = squares(size);
+    let mut walk = Walk::default();
+    let faces = 0..(size * size) as u32;
+    let applied = faces.filter(|face| triangulate(&mut map, &mut walk, 8 * face).is_some()).count();
+    map.check();
+    let mut seen = vec![0; map.names.len()];
+    let cells = [[1, 2], [0, 2], [0, 1]].map(|labels| count_orbits(&map, &labels, &mut seen, 3 * labels[0] + labels[1]));
+    let [points, edges, faces] = cells;
+    println!("grid {size} applied {applied} darts {} next {} cells {points} {edges} {faces}", map.names.len(), map.next);
+}
+
+fn main() {
+    let words: Vec<String> = env::args().skip(1).collect();
+    match words.iter().map(String::as_str).collect::<Vec<_>>().as_slice() {
+        ["show", map] => Map::load(map).print(io::stdout().lock()),
+        ["run", map, script, out] => run(map, script, out),
+        ["grid", size] => grid(size.parse().expect("a number")),
+        _ => panic!("show MAP, run MAP SCRIPT OUT or grid M"),
+    }
+}
