@@ -1,7 +1,7 @@
-//! A plain program with the answers of `gmr`, beside which `bench/beside` times it: dimension 2, at
-//! most one embedding of points on the vertices, and operations that are written by hand, with
-//! nothing proved. It reads and writes in pieces. A text that is no map, a script that it doesn't
-//! know and a number past 64 bits end it.
+//! A plain program that saves the maps of `gmr`, beside which `bench/beside` times it: dimension 2,
+//! at most one embedding of points on the vertices, and operations that are written by hand, with
+//! nothing proved. It reads and writes in pieces, and its report is its own. A text that is no map, a
+//! script that it doesn't know and a number past 64 bits end it.
 //!
 //!     plain show MAP            puts the map
 //!     plain run MAP SCRIPT OUT  applies the lines of the script, saves the map, puts a line for each
@@ -359,6 +359,12 @@ fn merge(map: &mut Map, walk: &mut Walk, dart: u32) -> Option<(usize, usize)> {
     Some((0, 2 * spokes.len()))
 }
 
+/// Goes round the face of the dart and leaves it as it is.
+fn keep(map: &Map, walk: &mut Walk, dart: u32) -> Option<(usize, usize)> {
+    walk.begin(map, map.slot_of(dart)?, [0, 1]);
+    Some((0, 0))
+}
+
 /// Moves the corner of the dart.
 fn shift(map: &mut Map, walk: &mut Walk, dart: u32, by: Point) -> Option<(usize, usize)> {
     let from = map.slot_of(dart)?;
@@ -387,6 +393,7 @@ fn run(map_path: &str, script_path: &str, out: &str) {
         let applied = match word.as_slice() {
             b"T" | b"split" => triangulate(&mut map, &mut walk, dart),
             b"merge" => merge(&mut map, &mut walk, dart),
+            b"keep" => keep(&map, &mut walk, dart),
             _ => {
                 script.word(&mut word);
                 let by = script.point();
