@@ -1,5 +1,5 @@
 -- What an application comes to by the match, the precondition, the room for its result, and the edits.
-use Rattle.std.proofs.Common.{◌≡◌, ◌≢◌, ℕ, true, false, refl, ◌+◌, ◌-◌, ◌*◌, ◌<◌, ◌≤◌, List, Some, None, sym, ap, subst, ◌∙◌, arith}
+use Rattle.std.proofs.Common.{◌≡◌, ◌≢◌, ℕ, true, false, refl, ◌+◌, ◌-◌, ◌*◌, ◌<◌, ◌≤◌, inl, inr, List, Some, sym, ap, subst, ◌∙◌, arith}
 use Rattle.std.specs.Option.{option_map}
 use Rattle.gm_model.specs.declared.value.Value.{Value}
 use Rattle.gm_model.specs.declared.value.Kind.TheVariants as kinds
@@ -7,8 +7,8 @@ use Rattle.gm_model.specs.declared.value.Value.TheVariants as values
 use Rattle.gm_model.specs.declared.schema.Embed.{Embed}
 use Rattle.gm_model.specs.declared.schema.Schema.{Schema}
 use Rattle.gm_model.specs.Acceptance.{IsAccepted}
-use Rattle.gm_model.specs.Applications.{Application, IsRefused, ValuelessPre, FalsePre, NoRoom, NoNames, PreNoValue, PreFalse, FullDarts, FullNames, MeetsPre, GivesValue, IsDone}
-use Rattle.gm_model.specs.Expressions.{HasValue, HasNoValue}
+use Rattle.gm_model.specs.Applications.{Application, IsRefused, ValuelessPre, FalsePre, NoRoom, NoNames, PreNoValue, PreFalse, FullDarts, FullNames, IsPreUnits, MeetsPre, GivesValue, IsDone}
+use Rattle.gm_model.specs.Expressions.{HasValue, HasNoValue, HasUnits}
 use Rattle.gm_model.specs.Kinds.{AreGoodParams, HasKind}
 use Rattle.gm_model.specs.Limits.{most_darts, most_names}
 use Rattle.gm_model.specs.Maps.{IsDart, IsEmbedAt, IsSound, type_of}
@@ -38,7 +38,9 @@ use Rattle.gm_theory.proofs.CandidatesFound.{some_position}
 use Rattle.gm_theory.proofs.Lists.{none_some, some_same}
 use Rattle.gm_theory.proofs.ReadingsTyped.{values_have_their_kinds}
 use Rattle.gm_theory.proofs.ValuesKept.{match_reading}
+use Rattle.gm_apply.specs.declared.reading.Reading.{Reading}
 use Rattle.gm_apply.specs.Outcomes.{refusal_of_match, IsRefusedFor, HasRoom}
+use Rattle.gm_apply.specs.Reads.{IsReadable}
 use Rattle.gm_apply.proofs.Counted.{gone_counted, staying_counted}
 
 pub refused_match : (app : Application) (fault : MatchFault) → IsCause app fault → IsRefusedFor app (refusal_of_match fault)
@@ -53,15 +55,14 @@ refused_match app faults.OutOfMemory h = tt
 pub pre_is : (table other : RuleTable) (expr : Expr) → other ≡ table → other.pre ≡ Some expr → (rule_of table).pre ≡ Some (tree_of expr)
 pre_is table other expr same is = ap (λ (t : RuleTable). option_map tree_of t.pre) (sym same) ∙ ap (option_map tree_of) is
 
-pub no_pre_is : (table other : RuleTable) → other ≡ table → other.pre ≡ None → (rule_of table).pre ≡ None
-no_pre_is table other same is = ap (λ (t : RuleTable). option_map tree_of t.pre) (sym same) ∙ ap (option_map tree_of) is
+-- what reading the precondition takes, where there is one
+pub pre_units : (m : ArenaMap) (rule : Rule) (params : List Value) (found : Placed) (hooks : List ℕ) (tree : Tree) → rule.pre ≡ Some tree → (u : ℕ) → IsPreUnits (application_of m rule hooks params) (placement_in m found) u → HasUnits (reading_in m found 0 params) tree u
+pre_units m rule params found hooks tree is u (inl none) = none_some tree (sym none.0 ∙ is)
+pre_units m rule params found hooks tree is u (inr (other, at, units)) = subst (λ t. HasUnits (reading_in m found 0 params) t u) (some_same other tree (sym at ∙ is)) units
 
 module _ (m : ArenaMap) (rule : Rule) (hooks : List ℕ) (params : List Value) (found : Placed) (answer : IsAnswer m rule hooks found) where
   abbrev app : Application
   app = application_of m rule hooks params
-
-  pub no_pre : rule.pre ≡ None → MeetsPre app (placement_in m found)
-  no_pre none tree is = none_some tree (sym none ∙ is)
 
   module _ (tree : Tree) (is : rule.pre ≡ Some tree) where
     pub pre_met : (v : Value) → v ≡ values.Bool true → HasValue (reading_in m found 0 params) tree v → MeetsPre app (placement_in m found)
@@ -122,6 +123,16 @@ sound_again m n same h = subst (λ k. IsSound (as_map k)) (sym same) h
 
 pub accepted_for : (m : ArenaMap) (schema : Schema) (rule : Rule) → m.schema ≡ schema → IsPlanned schema rule → IsAccepted m.schema rule
 accepted_for m schema rule same planned = subst (λ s. IsAccepted s rule) (sym same) planned.accepted
+
+pub readable_at : (reading : Reading) (hooks : List ℕ) → IsSound (as_map reading.arena.now) → reading.arena.now.schema ≡ reading.plan.now.schema → IsPlanned reading.plan.now.schema (rule_of reading.plan.now.table)
+    → AreGoodParams (rule_of reading.plan.now.table) reading.params.now → IsAnswer reading.arena.now (rule_of reading.plan.now.table) hooks reading.found.now → IsReadable reading hooks
+readable_at reading hooks sound same planned good answer = record {
+  sound = sound;
+  schema = same;
+  accepted = accepted_for reading.arena.now reading.plan.now.schema (rule_of reading.plan.now.table) same planned;
+  params = good;
+  answer = answer;
+}
 
 -- the result has the values of the expressions
 pub is_done : (m result : ArenaMap) (table : RuleTable) (hooks : List ℕ) (params : List Value) (found : Placed) (added removed : ℕ) (pending : PendingOf) → pending ≡ record { map = m; table = table; placed = found; asked = pending.asked }

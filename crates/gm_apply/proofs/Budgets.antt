@@ -82,7 +82,7 @@ module _ (m : ArenaMap) (rule : Rule) (hooks : List ℕ) (params : List Value) w
     find_cost before after cost = cost found.positions (Candidate here found_here.darts found_here.candidate)
 
     -- the match is found, the precondition is read, and what comes behind takes so many steps more for each instance
-    pub found_within : (most more before found_at read_at after : ℕ) → IsBudget app most → more ≤ 16
+    found_within : (most more before found_at read_at after : ℕ) → IsBudget app most → more ≤ 16
         → ((k : ℕ) → HasPositions app k → found_at ≤ before + 8 * (m.schema.dim + 1) * (length rule.nodes * k + 1))
         → ((u : ℕ) → IsPreUnits app here u → read_at ≤ found_at + 6 * (m.schema.dim + 1) * u)
         → after ≤ read_at + more * (m.schema.dim + 1) * (length rule.nodes * found.positions + 1) → after ≤ before + most
@@ -96,6 +96,12 @@ module _ (m : ArenaMap) (rule : Rule) (hooks : List ℕ) (params : List Value) w
         let all : after ≤ before + (8 + more) * d * n + 6 * d * this.units = omega (arith, one, two, last, sum) in
         within_budget (8 + more) k this.units reached read before after (omega (arith, few)) this.few
         (subst (λ p. after ≤ before + (8 + more) * (m.schema.dim + 1) * (length rule.nodes * p + 1) + 6 * (m.schema.dim + 1) * this.units) (sym (positions_here k positions)) all)
+
+    -- nothing comes behind the precondition
+    pub pre_within : (most before found_at read_at : ℕ) → IsBudget app most
+        → ((k : ℕ) → HasPositions app k → found_at ≤ before + 8 * (m.schema.dim + 1) * (length rule.nodes * k + 1))
+        → ((u : ℕ) → IsPreUnits app here u → read_at ≤ found_at + 6 * (m.schema.dim + 1) * u) → read_at ≤ before + most
+    pre_within most before found_at read_at budget finding reading = found_within most 0 before found_at read_at read_at budget (omega arith) finding reading (omega arith)
 
     -- ---- ready
 

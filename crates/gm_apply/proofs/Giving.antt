@@ -111,6 +111,9 @@ module _ (reading : Reading) (hooks : List ℕ) where
   within_edits start steps within result count read unfolds reached s = let spent = within result count read unfolds reached s in omega (arith, spent)
 
   -- memory was wanting for the deciding instances of an embedding
+  pub ended_building : (start later : ℕ) → later ≡ start → IsEnded reading hooks refusals.OutOfMemory start later
+  ended_building start later same = record { refused = λ ready. tt; rises = omega (arith, same); within = λ result count read unfolds reached sum. omega (arith, same) }
+
   pub ended_asking : (before : PendingOf) (e start steps later : ℕ) → HasRead reading hooks before e e 0 start steps → e < length reading.arena.now.schema.embeds
       → ((embed : Embed) → IsEmbedAt before.map.schema e embed → IsWithinReach before e embed steps later) → steps ≤ later → IsEnded reading hooks refusals.OutOfMemory start later
   ended_asking before e start steps later h within cost rises = record {

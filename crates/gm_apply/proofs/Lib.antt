@@ -8,6 +8,7 @@ pub mod LikeScenes
 pub mod LikeResults
 pub mod LikeValues
 pub mod Sublists
+pub mod Sums
 pub mod Applying
 pub mod Budgets
 pub mod Assignments
@@ -16,3 +17,4 @@ pub mod Seen
 pub mod Asking
 pub mod Giving
 pub mod Ending
+pub mod Readying

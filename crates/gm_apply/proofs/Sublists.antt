@@ -1,14 +1,11 @@
 -- What is read in order costs no more than all that is read.
-use Rattle.std.proofs.Common.{◌≡◌, ℕ, zero, suc, ◌+◌, ◌≤◌, ◌⊎◌, inl, inr, List, [], ◌∷◌, ◌++◌, sum, refl, sym, subst, arith}
+use Rattle.std.proofs.Common.{◌≡◌, ℕ, zero, suc, ◌+◌, ◌≤◌, ◌⊎◌, inl, inr, List, [], ◌∷◌, sum, refl, sym, subst, arith}
 use Rattle.std.specs.List.{Contains, AllZip}
-use Rattle.std.proofs.lemmas.List.Sums.{sum_by-cons, sum_by-append}
+use Rattle.std.proofs.lemmas.List.Sums.{sum_by-cons}
 use Rattle.gm_model.specs.Applications.{Decider, IsDeciderBefore}
 
 pub sum_cons : (u : ℕ) (units : List ℕ) → sum (u ∷ units) ≡ u + sum units
 sum_cons u units = sum_by-cons (λ n. n) u units
-
-pub sum_append : (units more : List ℕ) → sum (units ++ more) ≡ sum units + sum more
-sum_append units more = sum_by-append (λ n. n) units more
 
 -- each before all behind it
 abbrev pub AreOrdered : List Decider → Type 0

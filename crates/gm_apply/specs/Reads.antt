@@ -5,8 +5,9 @@ use Rattle.gm_model.specs.declared.rule.Set.{Set}
 use Rattle.gm_model.specs.declared.schema.Embed.{Embed}
 use Rattle.gm_model.specs.declared.value.Value.{Value}
 use Rattle.gm_model.specs.Acceptance.{IsAccepted}
-use Rattle.gm_model.specs.Applications.{Application, Decider, GivesValue, IsReady, IsReadUnits, IsReadSum, IsReachedSum}
+use Rattle.gm_model.specs.Applications.{Application, Decider, GivesValue, HasPositions, IsBudget, IsPreUnits, IsReady, IsReadUnits, IsReadSum, IsReachedSum}
 use Rattle.gm_model.specs.Kinds.{AreGoodParams}
+use Rattle.gm_model.specs.Limits.{most_darts}
 use Rattle.gm_model.specs.Maps.{IsEmbedAt, IsSound}
 use Rattle.gm_model.specs.Matches.{Placement}
 use Rattle.gm_model.specs.Rules.{rule_of}
@@ -19,7 +20,7 @@ use Rattle.gm_pending.specs.Results.{PendingOf, IsAsked, AreDeciders, deciders_o
 use Rattle.gm_plan.specs.InArena.{placement_in}
 use Rattle.gm_apply.specs.declared.reading.Reading.{Reading}
 use Rattle.gm_apply.specs.declared.refusal.Refusal.{Refusal}
-use Rattle.gm_apply.specs.Outcomes.{IsRefusedFor}
+use Rattle.gm_apply.specs.Outcomes.{IsRefusedFor, HasRoom}
 
 -- ---- where expressions are read
 
@@ -120,3 +121,19 @@ module _ (reading : Reading) (hooks : List ℕ) where
     pub edits_of : AreEditsOf pending edits
     pub rises : start ≤ steps
     pub within : IsWithinEdits start steps
+
+  -- it is ready: so much is added and removed, from start to read steps the precondition was read, and behind that the edits were made
+  pub record IsReadyAt (added removed : ℕ) (edits : EditLists) (start steps : ℕ) : Type 0 where
+    pub room : HasRoom (app_at reading hooks) (place_at reading) added removed
+    pub few : reading.arena.now.count + added ≤ most_darts + removed
+    pub read : ℕ
+    pub rises : start ≤ read
+    pub pre : (u : ℕ) → IsPreUnits (app_at reading hooks) (place_at reading) u → read ≤ start + 6 * (reading.arena.now.schema.dim + 1) * u
+    pub edited : HasEdits edits read steps
+
+  -- it is refused, within the budget where the match was found within its part
+  pub record IsRefusedAt (refusal : Refusal) (start steps : ℕ) : Type 0 where
+    pub refused : IsRefusedFor (app_at reading hooks) refusal
+    pub rises : start ≤ steps
+    pub within : (most before : ℕ) → IsBudget (app_at reading hooks) most
+        → ((k : ℕ) → HasPositions (app_at reading hooks) k → start ≤ before + 8 * (reading.arena.now.schema.dim + 1) * (length (rule_of reading.plan.now.table).nodes * k + 1)) → steps ≤ before + most

@@ -9,14 +9,17 @@ ghost use Rattle.gm_arena.specs.ArenaAsMap.{as_map};
 ghost use Rattle.gm_match.specs.Outcome.{application_of, IsAnswer};
 ghost use Rattle.gm_pending.specs.EditLists.{HasSameRows};
 ghost use Rattle.gm_plan.specs.InArena.{placement_in};
+ghost use Rattle.gm_walk.specs.Room.{Fits};
 ghost use Rattle.gm_apply.specs.declared.refusal.Refusal.TheVariants as refusals;
 ghost use Rattle.gm_apply.specs.Outcomes.{HasRoom, IsRefusedFor, StaysInRoom};
+ghost use Rattle.gm_apply.specs.Reads.{IsReadable, IsReadyAt, IsRefusedAt};
 
 use crate::reading::Reading;
 use crate::refusal::Refusal;
 use gm_arena::{Arena, Steps};
 use gm_match::find;
 use gm_model::{MOST_DARTS, MOST_NAMES, Value};
+use gm_pending::Edits;
 use gm_plan::{Instances, Plan};
 use gm_walk::Scratch;
 use std::alloc::Global;
@@ -64,9 +67,8 @@ pub fn apply<L: Ledger>(
     ensures spare_stays { arena.old.count + arena.old.spare ≤ arena.new.count + arena.new.spare }
     ensures reserved_stays { arena.old.reserved ≤ arena.new.reserved }
 {
-    // The plan tells here that its rule is accepted, and the arena what it keeps.
+    // The plan tells here that its rule is accepted.
     prove!(plan.rule().hooks.as_slice().len() == hooks.len());
-    prove!(arena.count() <= MOST_DARTS);
     scratch.fit(arena)?;
     let found = find(alloc, plan, arena, hooks, scratch, steps)?;
     let reading = Reading {
@@ -75,13 +77,34 @@ pub fn apply<L: Ledger>(
         arena,
         params,
     };
-    reading.meet_pre(scratch, steps)?;
-    let applied = room(plan, arena, &found)?;
-    let edits = reading.edits(alloc, scratch, steps)?;
+    let (applied, edits) = ready(alloc, &reading, scratch, steps)?;
     let more = applied.added.saturating_sub(applied.removed);
     arena.reserve(more, arena.next() + applied.added)?;
     edits.commit(arena, steps);
     Ok(applied)
+}
+
+/// What the application adds and removes, and the edits that make its result, where it isn't
+/// refused. The map is only read.
+fn ready<'a, L: Ledger>(
+    alloc: Global,
+    reading: &Reading<'a, '_>,
+    scratch: &mut Scratch,
+    steps: &mut Steps<L>,
+) -> Result<(Applied, Edits<'a>), Refusal>
+    requires readable { (hooks : List ℕ) × IsReadable reading.now hooks }
+    requires fits { Fits scratch.old reading.now.arena.now }
+    ensures ready { (hooks : List ℕ) → IsReadable reading.now hooks → MatchResult result
+        (λ ready. IsReadyAt reading.now hooks ready.0.added ready.0.removed ready.1 steps.old steps.new)
+        (λ refusal. IsRefusedAt reading.now hooks refusal steps.old steps.new) }
+    ensures room { scratch.new.bound ≡ scratch.old.bound }
+{
+    // The arena tells here that its schema is sound.
+    prove!(reading.arena.count() <= MOST_DARTS);
+    reading.meet_pre(scratch, steps)?;
+    let applied = room(reading.plan, reading.arena, reading.found)?;
+    let edits = reading.edits(alloc, scratch, steps)?;
+    Ok((applied, edits))
 }
 
 /// How many darts the application adds and removes, where the map has room for the result.

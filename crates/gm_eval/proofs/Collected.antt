@@ -106,9 +106,6 @@ module _ (reader : Reader) (mask : Mask) (term : DartTerm) (from : ℕ) (slots :
   -- ---- their values
 
   module _ (e : ℕ) (kind : Kind) (typed : (s : Slot) → IsIn s slots → kind_of (value m e (name_of s)) ≡ kind) where
-    value_at : Slot → Value
-    value_at s = value m e (name_of s)
-
     all_typed : (xs : List Slot) → ((s : Slot) → IsIn s xs → IsIn s slots) → AllByRecursion (λ s. kind_of (value m e (name_of s)) ≡ kind) xs
     all_typed [] h = tt
     all_typed (s ∷ xs) h = (typed s (h s (inl refl)), all_typed xs (λ t i. h t (inr i)))

@@ -1,13 +1,5 @@
 -- Units of a reading, and the steps that they allow.
-use Rattle.std.proofs.Common.{◌≡◌, ℕ, ◌+◌, ◌*◌, ◌≤◌, arith}
-
--- one step for each label and one for a field
-pub field_within : (n path x : ℕ) → x ≡ path + 1 → x ≤ 6 * (n + 1) * (path + 1)
-field_within n path x e = omega arith
-
--- one for each label of two paths
-pub paths_within : (n path path' x : ℕ) → x ≡ path + path' → x ≤ 6 * (n + 1) * (path + path')
-paths_within n path path' x e = omega arith
+use Rattle.std.proofs.Common.{ℕ, ◌+◌, ◌*◌, ◌≤◌, arith}
 
 -- one for each label, a walk, and a field at each of its darts and at one more
 pub walk_within : (n path count x : ℕ) → 1 ≤ count → x ≤ path + 4 * (n + 1) * count + count + 1 → x ≤ 6 * (n + 1) * (path + count)

@@ -1,3 +1,4 @@
+mod Casts
 pub mod Floors
 pub mod Operated
 pub mod Terms

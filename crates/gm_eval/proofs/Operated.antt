@@ -1,12 +1,12 @@
 -- What an operator gives, from what is known of its arguments.
-use Rattle.std.proofs.Common.{◌≡◌, ◌∷◌, [], ap, ap₂, ◌∙◌, ◌≢◌, IsTrue, not, ◌↔◌, ◌⊎◌, ℤ, pos, ◌*ℤ◌, Bool, Option, Some, None, MatchOption, List, map, refl, sym, subst, inl, inr}
+use Rattle.std.proofs.Common.{◌≡◌, ◌∷◌, [], ap, ap₂, ◌∙◌, ◌≢◌, IsTrue, not, ◌↔◌, ◌⊎◌, ℤ, pos, ◌*ℤ◌, ◌-ℤ◌, Bool, Option, Some, None, MatchOption, List, map, refl, sym, subst, inl, inr}
 use Rattle.gm_model.specs.declared.expr.BinOp.{BinOp}
 use Rattle.gm_model.specs.declared.expr.UnOp.{UnOp}
 use Rattle.gm_model.specs.declared.value.Value.{Value}
 use Rattle.gm_model.specs.declared.value.Value.TheVariants as values
 use Rattle.gm_model.specs.declared.expr.BinOp.TheVariants as ops
 use Rattle.gm_model.specs.declared.value.Kind.TheVariants as kinds
-use Rattle.gm_model.specs.Expressions.{IsUnary, IsBinary, IsTest, IsMade, IsScaled, IsQuotient, by_component, components, floor}
+use Rattle.gm_model.specs.Expressions.{IsUnary, IsBinary, IsTest, IsMade, IsScaled, IsQuotient, IsRemainder, by_component, components, floor}
 use Rattle.gm_model.specs.Values.{kind_of}
 use Rattle.gm_theory.proofs.ValuesUnique.{int_same}
 use Rattle.gm_eval.specs.Made.{IsNone}
@@ -37,8 +37,8 @@ by_either op op' op'' a o (inr e) h k = by_unary op op'' a o e k
 pub three : (x y z x' y' z' : ℤ) → x ≡ x' → y ≡ y' → z ≡ z' → (x ∷ y ∷ z ∷ []) ≡ (x' ∷ y' ∷ z' ∷ [])
 three x y z x' y' z' e f g = ap₂ ◌∷◌ e (ap₂ ◌∷◌ f (ap (λ u. u ∷ []) g))
 
-pub found_scaled : (number : ℤ) (value : Value) (x y z : ℤ) (parts : List ℤ) (o : Option Value) → value ≡ values.Vec3 x y z → parts ≡ map (λ u. number *ℤ u) (x ∷ y ∷ z ∷ []) → Found (IsMade kinds.Vec3 parts) o → Found (IsScaled number value) o
-found_scaled number value x y z parts o e f h = subst (λ v. Found (IsScaled number v) o) (sym e) (subst (λ p. Found (IsMade kinds.Vec3 p) o) f h)
+pub found_scaled : (number : ℤ) (value value' : Value) (parts : List ℤ) (o : Option Value) → value ≡ value' → parts ≡ map (λ u. number *ℤ u) (components value') → Found (IsMade (kind_of value') parts) o → Found (IsScaled number value) o
+found_scaled number value value' parts o e f h = subst (λ v. Found (IsScaled number v) o) (sym e) (subst (λ p. Found (IsMade (kind_of value') p) o) f h)
 
 -- quotients by the number that the divisor is
 pub found_quotient : (a b : Value) (y : ℤ) (o : Option Value) → b ≡ values.Int y → y ≢ pos 0 → Found (IsMade (kind_of a) (map (λ x. floor x y) (components a))) o → Found (IsQuotient a b) o
@@ -46,6 +46,13 @@ found_quotient a b y o e n h = found_as (IsMade (kind_of a) (map (λ x. floor x 
   where
     back : (v : Value) → IsQuotient a b v → IsMade (kind_of a) (map (λ x. floor x y) (components a)) v
     back v (z, f, n', m) = subst (λ u. IsMade (kind_of a) (map (λ x. floor x u) (components a)) v) (int_same z y (sym f ∙ e)) m
+
+-- what the quotient leaves
+pub found_rest : (a b : Value) (x y r : ℤ) (o : Option Value) → a ≡ values.Int x → b ≡ values.Int y → y ≢ pos 0 → r ≡ x -ℤ (y *ℤ floor x y) → Found (IsMade kinds.Int (r ∷ [])) o → Found (IsRemainder a b) o
+found_rest a b x y r o e f n same h = found_as (IsMade kinds.Int (r ∷ [])) (IsRemainder a b) o (λ v made. (x, y, e, f, n, subst (λ z. IsMade kinds.Int (z ∷ []) v) same made)) back h
+  where
+    back : (v : Value) → IsRemainder a b v → IsMade kinds.Int (r ∷ []) v
+    back v (x', y', e', f', n', made) = subst (λ z. IsMade kinds.Int (z ∷ []) v) (ap₂ (λ s t. s -ℤ (t *ℤ floor s t)) (int_same x' x (sym e' ∙ e)) (int_same y' y (sym f' ∙ f)) ∙ sym same) made
 
 -- equality, and its opposite
 pub as_equal : (op : BinOp) (a b : Value) (r : Bool) → op ≡ ops.Eq → (IsTrue r ↔ (a ≡ b)) → IsBinary op a b (values.Bool r)
@@ -55,7 +62,7 @@ pub as_different : (op : BinOp) (a b : Value) (r : Bool) → op ≡ ops.Ne → (
 as_different op a b r e h = subst (λ x. IsBinary x a b (values.Bool (not r))) (sym e) (r, refl, h)
 
 -- component by component
-pub found_by_three : (f : ℤ → ℤ → ℤ) (left right : Value) (x y z a b c : ℤ) (parts : List ℤ) (o : Option Value) → left ≡ values.Vec3 x y z → right ≡ values.Vec3 a b c → parts ≡ (f x a ∷ f y b ∷ f z c ∷ []) → Found (IsMade kinds.Vec3 parts) o → Found (IsMade (kind_of left) (by_component f (components left) (components right))) o
-found_by_three f left right x y z a b c parts o e g same h =
+pub found_by_parts : (f : ℤ → ℤ → ℤ) (left right left' right' : Value) (parts : List ℤ) (o : Option Value) → left ≡ left' → right ≡ right' → parts ≡ by_component f (components left') (components right') → Found (IsMade (kind_of left') parts) o → Found (IsMade (kind_of left) (by_component f (components left) (components right))) o
+found_by_parts f left right left' right' parts o e g same h =
     subst (λ v. Found (IsMade (kind_of v) (by_component f (components v) (components right))) o) (sym e)
-    (subst (λ w. Found (IsMade kinds.Vec3 (by_component f (x ∷ y ∷ z ∷ []) (components w))) o) (sym g) (subst (λ p. Found (IsMade kinds.Vec3 p) o) same h))
+    (subst (λ w. Found (IsMade (kind_of left') (by_component f (components left') (components w))) o) (sym g) (subst (λ p. Found (IsMade (kind_of left') p) o) same h))

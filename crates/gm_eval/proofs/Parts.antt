@@ -11,11 +11,11 @@ use Rattle.gm_model.specs.declared.value.Kind.TheVariants as kinds
 use Rattle.gm_model.specs.declared.value.Value.{Value}
 use Rattle.gm_model.specs.declared.value.Value.TheVariants as values
 use Rattle.gm_model.specs.Expressions.{Reading, HasValue, HasNoValue, HasUnits, IsMade, IsUnary, IsBinary}
-use Rattle.gm_model.specs.Kinds.{unary_kind, binary_kind, param_kinds, tree_kind}
-use Rattle.gm_model.specs.Trees.{Tree, Param, Unary, Binary, If, MakeVec2, MakeVec3, tree_of}
+use Rattle.gm_model.specs.Kinds.{IsTreeInRange, unary_kind, binary_kind, choice_kind, of_ints, param_kinds, tree_kind, triple_kind, with_two, with_three}
+use Rattle.gm_model.specs.Trees.{Tree, Param, Unary, Binary, If, MakeVec2, MakeVec3, MakeRgb, tree_of}
 use Rattle.gm_model.specs.Values.{IsValueOf, kind_of}
 use Rattle.gm_theory.proofs.ReadingsDecided.{not_both_truths}
-use Rattle.gm_theory.proofs.ReadingsTyped.{then_some, of_two, typed}
+use Rattle.gm_theory.proofs.ReadingsTyped.{then_some, of_two, of_three, typed}
 use Rattle.gm_theory.proofs.ValuesUnique.{one_value, int_same}
 use Rattle.gm_eval.specs.declared.reader.Reader.{Reader}
 use Rattle.gm_eval.specs.Places.{IsWithinUnits}
@@ -66,6 +66,45 @@ module _ (reader : Reader) where
       let t = ready.typed in
       let same : length reader.params.now ≡ length (param_kinds t.rule.params) = same_lengths (param_kinds t.rule.params) reader.params.now t.good_params in
       omega (arith, same, length-map t.rule.params (λ (param : ParamOf). param.kind), t.has_kind.in_range)
+
+  -- ---- its parts can be read where a form can
+
+  part_ready : (whole part : Tree) (ready : IsReady reader whole) (kind : Kind) → IsTreeInRange reader.arena.now.schema ready.typed.rule part → kind_at part whole ready ≡ Some kind → IsReady reader part
+  part_ready whole part ready kind within is =
+      let t = ready.typed in
+      record { here = ready.here; typed = record { rule = t.rule; kind = kind; has_kind = record { in_range = within; kind_is = is }; good_params = t.good_params; nodes_among = t.nodes_among } }
+
+  pub unary_ready : (op : UnOp) (a : Tree) → IsReady reader (Unary op a) → IsReady reader a
+  unary_ready op a ready =
+      let t = ready.typed in
+      let p : (i : Kind) × (kind_at a (Unary op a) ready ≡ Some i) × (unary_kind op i ≡ Some t.kind) = then_some (unary_kind op) (kind_at a (Unary op a) ready) t.kind t.has_kind.kind_is in
+      part_ready (Unary op a) a ready p.0 t.has_kind.in_range p.1
+
+  two_ready : (f : Kind → Kind → Option Kind) (whole a b : Tree) (ready : IsReady reader whole) → IsTreeInRange reader.arena.now.schema ready.typed.rule a × IsTreeInRange reader.arena.now.schema ready.typed.rule b → with_two f (kind_at a whole ready) (kind_at b whole ready) ≡ Some ready.typed.kind → IsReady reader a × IsReady reader b
+  two_ready f whole a b ready within is =
+      let p : (i : Kind) × (j : Kind) × (kind_at a whole ready ≡ Some i) × (kind_at b whole ready ≡ Some j) × (f i j ≡ Some ready.typed.kind) = of_two f (kind_at a whole ready) (kind_at b whole ready) ready.typed.kind is in
+      (part_ready whole a ready p.0 within.0 p.2, part_ready whole b ready p.1 within.1 p.3)
+
+  pub binary_ready : (op : BinOp) (a b : Tree) → IsReady reader (Binary op a b) → IsReady reader a × IsReady reader b
+  binary_ready op a b ready = two_ready (binary_kind op) (Binary op a b) a b ready ready.typed.has_kind.in_range ready.typed.has_kind.kind_is
+
+  pub pair_ready : (a b : Tree) → IsReady reader (MakeVec2 a b) → IsReady reader a × IsReady reader b
+  pair_ready a b ready = two_ready (of_ints kinds.Vec2) (MakeVec2 a b) a b ready ready.typed.has_kind.in_range ready.typed.has_kind.kind_is
+
+  three_ready : (f : Kind → Kind → Kind → Option Kind) (whole a b c : Tree) (ready : IsReady reader whole) → IsTreeInRange reader.arena.now.schema ready.typed.rule a × IsTreeInRange reader.arena.now.schema ready.typed.rule b × IsTreeInRange reader.arena.now.schema ready.typed.rule c
+      → with_three f (kind_at a whole ready) (kind_at b whole ready) (kind_at c whole ready) ≡ Some ready.typed.kind → IsReady reader a × IsReady reader b × IsReady reader c
+  three_ready f whole a b c ready within is =
+      let p : (i : Kind) × (j : Kind) × (k : Kind) × (kind_at a whole ready ≡ Some i) × (kind_at b whole ready ≡ Some j) × (kind_at c whole ready ≡ Some k) × (f i j k ≡ Some ready.typed.kind) = of_three f (kind_at a whole ready) (kind_at b whole ready) (kind_at c whole ready) ready.typed.kind is in
+      (part_ready whole a ready p.0 within.0 p.3, part_ready whole b ready p.1 within.1 p.4, part_ready whole c ready p.2 within.2 p.5)
+
+  pub choice_ready : (c a b : Tree) → IsReady reader (If c a b) → IsReady reader c × IsReady reader a × IsReady reader b
+  choice_ready c a b ready = three_ready choice_kind (If c a b) c a b ready ready.typed.has_kind.in_range ready.typed.has_kind.kind_is
+
+  pub triple_ready : (a b c : Tree) → IsReady reader (MakeVec3 a b c) → IsReady reader a × IsReady reader b × IsReady reader c
+  triple_ready a b c ready = three_ready (triple_kind kinds.Vec3) (MakeVec3 a b c) a b c ready ready.typed.has_kind.in_range ready.typed.has_kind.kind_is
+
+  pub colour_ready : (a b c : Tree) → IsReady reader (MakeRgb a b c) → IsReady reader a × IsReady reader b × IsReady reader c
+  colour_ready a b c ready = three_ready (triple_kind kinds.Rgb) (MakeRgb a b c) a b c ready ready.typed.has_kind.in_range ready.typed.has_kind.kind_is
 
   -- ---- values
 
@@ -169,12 +208,21 @@ module _ (reader : Reader) where
 
   -- ---- the form that an expression has
 
-  pub as_form : (expr expr' : Expr) (o : Option Value) → expr ≡ expr' → IsValueThere reader (tree_of expr') o → IsValueThere reader (tree_of expr) o
-  as_form expr expr' o e h = subst (λ x. IsValueThere reader (tree_of x) o) (sym e) h
+  pub ready_as : (expr : Expr) (tree : Tree) → tree_of expr ≡ tree → IsReady reader (tree_of expr) → IsReady reader tree
+  ready_as expr tree e h = subst (IsReady reader) e h
 
-  -- its parts were lent
-  pub as_tree : (expr : Expr) (tree tree' : Tree) (o : Option Value) → tree_of expr ≡ tree → tree ≡ tree' → IsValueThere reader tree' o → IsValueThere reader (tree_of expr) o
-  as_tree expr tree tree' o e f h = subst (λ x. IsValueThere reader x o) (sym (e ∙ f)) h
+  pub value_as : (expr : Expr) (tree : Tree) (v : Value) → tree_of expr ≡ tree → HasValue R tree v → HasValue R (tree_of expr) v
+  value_as expr tree v e h = subst (λ x. HasValue R x v) (sym e) h
+
+  pub there_as : (expr : Expr) (tree : Tree) (o : Option Value) → tree_of expr ≡ tree → IsValueThere reader tree o → IsValueThere reader (tree_of expr) o
+  there_as expr tree o e h = subst (λ x. IsValueThere reader x o) (sym e) h
+
+  pub units_as : (expr : Expr) (tree : Tree) (old new : ℕ) → tree_of expr ≡ tree → IsWithinUnits R tree old new → IsWithinUnits R (tree_of expr) old new
+  units_as expr tree old new e h = subst (λ x. IsWithinUnits R x old new) (sym e) h
+
+  -- no steps are within any units
+  pub still_within : (tree : Tree) (old : ℕ) → IsWithinUnits R tree old old
+  still_within tree old u h = omega arith
 
   pub none_there : (tree : Tree) (o : Option Value) → o ≡ None → HasNoValue R tree → IsValueThere reader tree o
   none_there tree o e none = subst (IsValueThere reader tree) (sym e) none

@@ -1,6 +1,7 @@
 -- What follows where an expression can be read: for its terms, its masks and its embeddings, and for its parts.
-use Rattle.std.proofs.Common.{◌≡◌, ℕ, ◌≤◌, Option, Some, None, IsTrue, List, slice_get, refl, sym, ◌∙◌, ap, subst, arith}
+use Rattle.std.proofs.Common.{◌≡◌, ℕ, ◌<◌, ◌≤◌, Option, Some, None, IsSome, IsTrue, List, length, get_or, slice_get, refl, sym, ◌∙◌, ap, subst, arith}
 use Rattle.std.specs.Option.{option_map}
+use Rattle.std.proofs.lemmas.Option.{slice_get-get_or}
 use Rattle.std.proofs.lemmas.List.Elements.{All-from_recursion, recursion_from_All}
 use Rattle.gm_model.specs.declared.expr.DartTerm.{DartTerm}
 use Rattle.gm_model.specs.declared.schema.Embed.{Embed}
@@ -59,6 +60,13 @@ pub sum_kind_of : (reader : Reader) (mask : Mask) (term : DartTerm) (e : ℕ) (r
 sum_kind_of reader mask term e ready embed at =
     let p : (i : Kind) × (embed_kind reader.arena.now.schema.embeds (param_kinds ready.typed.rule.params) e ≡ Some i) × (sum_kind i ≡ Some ready.typed.kind) = then_some sum_kind _ ready.typed.kind ready.typed.has_kind.kind_is in
     (ready.typed.kind, ap sum_kind (some_same embed.kind p.0 (sym (ap (option_map (λ (embed : Embed). embed.kind)) at) ∙ p.1)) ∙ p.2)
+
+pub sum_known : (reader : Reader) (mask : Mask) (term : DartTerm) (e : ℕ) (ready : IsReady reader (Sum mask term e)) (embed : Embed) → slice_get reader.arena.now.schema.embeds e ≡ Some embed → IsSome (sum_kind embed.kind)
+sum_known reader mask term e ready embed at = let sum = sum_kind_of reader mask term e ready embed at in subst (λ (kind : Option Kind). IsSome kind) (sym sum.1) refl
+
+-- the embedding as the code reads it from the schema's list
+pub embed_read : (embeds read : List Embed) (e : ℕ) (default : Embed) → read ≡ embeds → e < length embeds → slice_get embeds e ≡ Some (get_or read e default)
+embed_read embeds read e default same within = subst (λ (xs : List Embed). slice_get xs e ≡ Some (get_or read e default)) same (slice_get-get_or read e default (subst (λ (xs : List Embed). e < length xs) (sym same) within))
 
 -- an embedding whose least value is asked has numbers
 pub number_of_embed : (reader : Reader) (mask : Mask) (term : DartTerm) (e : ℕ) (ready : IsReady reader (Least mask term e)) → (embed : Embed) × (slice_get reader.arena.now.schema.embeds e ≡ Some embed) × (embed.kind ≡ kinds.Int)

@@ -30,7 +30,7 @@ use Rattle.gm_match.proofs.Paths.{dart_set, dart_stays, path_left}
 -- ---- the hooks of a row
 
 -- a hook has one index
-same_index : (hooks : List ℕ) → HasNoRepeats hooks → (t u h : ℕ) → slice_get hooks t ≡ Some h → slice_get hooks u ≡ Some h → t ≡ u
+pub same_index : (hooks : List ℕ) → HasNoRepeats hooks → (t u h : ℕ) → slice_get hooks t ≡ Some h → slice_get hooks u ≡ Some h → t ≡ u
 same_index hooks differ t u h at there = same_place hooks t u differ (slice_get_within hooks t h at) (slice_get_within hooks u h there) (get_or_from_slice_get hooks t h 0 at ∙ sym (get_or_from_slice_get hooks u h 0 there))
 
 -- and an index one hook

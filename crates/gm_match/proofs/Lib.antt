@@ -6,7 +6,9 @@ pub mod Costs
 pub mod Paths
 pub mod FirstTurns
 pub mod Growing
+pub mod OneNode
 pub mod Placing
 pub mod Stepping
 pub mod Taking
 pub mod Turning
+pub mod TurnsMet

@@ -1,7 +1,9 @@
--- Which left step of a candidate is the first that isn't met, by node, position and label.
-use Rattle.std.specs.Prelude.{ℕ, ◌+◌}
+-- Which left steps of a candidate need no test, and which is the first that isn't met, by node, position and label.
+use Rattle.std.specs.Prelude.{◌≡◌, ◌≢◌, ℕ, ◌+◌, ◌≤◌, Some}
+use Rattle.gm_model.specs.declared.rule.Side.TheVariants.{Left}
+use Rattle.gm_model.specs.declared.step.Step.TheVariants.{Exp}
 use Rattle.gm_model.specs.Matches.{IsMetAt}
-use Rattle.gm_model.specs.Rules.{Rule}
+use Rattle.gm_model.specs.Rules.{Rule, first_hook, step}
 use Rattle.gm_model.specs.Structure.{AreGood, IsFirstBad}
 use Rattle.gm_arena.specs.ArenaAsMap.{as_map}
 use Rattle.gm_arena.specs.ArenaMap.{ArenaMap}
@@ -9,6 +11,11 @@ use Rattle.gm_plan.specs.Placed.{Placed}
 use Rattle.gm_match.specs.declared.fault.MatchFault.{MatchFault}
 use Rattle.gm_match.specs.declared.fault.MatchFault.TheVariants as faults
 use Rattle.gm_match.specs.Outcome.{place_of}
+
+-- node x is the first hook, and has no link with a label that is at most n
+pub record TurnsAlone (n : ℕ) (rule : Rule) (x : ℕ) : Type 0 where
+  pub first : first_hook rule ≡ Some x
+  pub no_link : (i y : ℕ) → i ≤ n → step rule Left x i ≢ Exp y
 
 module _ (m : ArenaMap) (rule : Rule) (found : Placed) where
   -- each left step of node x is met at position p

@@ -1,13 +1,14 @@
-ghost use Rattle.std.specs.Prelude.{◌≡◌, ◌+◌, ◌*◌, ◌<◌, ◌≤◌, ◌↔◌, length, MatchOption, MatchResult, IsTrue};
+ghost use Rattle.std.specs.Prelude.{◌≡◌, ℕ, List, ◌+◌, ◌*◌, ◌<◌, ◌≤◌, ◌↔◌, length, MatchOption, MatchResult, IsTrue};
 ghost use Rattle.gm_arena.specs.ArenaAsMap.{as_map};
 ghost use Rattle.gm_arena.specs.ArenaMap.{IsLiveSlot, name_at, alpha};
 ghost use Rattle.gm_arena.specs.Lawful.{IsLawful};
+ghost use Rattle.gm_model.specs.declared.rule.Side.TheVariants.{Left};
 ghost use Rattle.gm_model.specs.Matches.{IsMetAt};
-ghost use Rattle.gm_model.specs.Rules.{rule_of};
+ghost use Rattle.gm_model.specs.Rules.{rule_of, has_word};
 ghost use Rattle.gm_model.specs.Structure.{AreGood, IsFirstBad};
 ghost use Rattle.gm_match.specs.Outcome.{place_of};
-ghost use Rattle.gm_match.specs.Layout.{AreMatchable, IsLaid};
-ghost use Rattle.gm_match.specs.Firsts.{AreMetAt, AreMetBy, AreMet, IsFirstAt, IsFirstStep};
+ghost use Rattle.gm_match.specs.Layout.{AreMatchable, IsLaid, IsCandidateAt};
+ghost use Rattle.gm_match.specs.Firsts.{TurnsAlone, AreMetAt, AreMetBy, AreMet, IsFirstAt, IsFirstStep};
 
 use crate::fault::MatchFault;
 use gm_arena::{Arena, Slot, Steps};
@@ -15,7 +16,8 @@ use gm_model::{Side, Step};
 use gm_plan::{Instances, Plan};
 use std::sync::ledger::Ledger;
 
-/// Tests each left step of the candidate.
+/// Tests each left step of the candidate. Where those of the first hook are all turns, the
+/// candidate meets them as it is made, and they aren't tested.
 pub(crate) fn meet_steps<L: Ledger>(
     plan: &Plan<'_>,
     arena: &Arena,
@@ -23,7 +25,7 @@ pub(crate) fn meet_steps<L: Ledger>(
     steps: &mut Steps<L>,
 ) -> Result<(), MatchFault>
     requires matchable { AreMatchable arena.now plan.now }
-    requires laid { IsLaid arena.now (rule_of plan.now.table) found.now }
+    requires candidate { (hooks : List ℕ) × IsCandidateAt arena.now (rule_of plan.now.table) hooks found.now }
     ensures steps { MatchResult result
         (λ _. AreMet arena.now (rule_of plan.now.table) found.now)
         (IsFirstStep arena.now (rule_of plan.now.table) found.now) }
@@ -31,6 +33,9 @@ pub(crate) fn meet_steps<L: Ledger>(
     ensures least { steps.old ≤ steps.new }
 {
     for node in 0..plan.left_nodes() {
+        if turns_alone(plan, node) {
+            continue;
+        }
         if let Some((position, label)) = broken_position(plan, arena, found, node, steps) {
             return Err(MatchFault::Arc {
                 node,
@@ -40,6 +45,23 @@ pub(crate) fn meet_steps<L: Ledger>(
         }
     }
     Ok(())
+}
+
+/// Whether the left node is the first hook, and each left step of it is a turn. The candidate meets
+/// these steps as it is made: the hook lies along the walk, and the turns are those of the walk.
+fn turns_alone(plan: &Plan<'_>, node: u8) -> bool
+    requires left { IsTrue (has_word (rule_of plan.now.table) Left node) }
+    ensures alone { IsTrue result → TurnsAlone plan.now.schema.dim (rule_of plan.now.table) node }
+{
+    if plan.rule().hooks.as_slice()[0] != node {
+        return false;
+    }
+    for label in 0..plan.schema().dim.top() + 1 {
+        if let Step::Exp(_) = plan.step(Side::Left, node, label) {
+            return false;
+        }
+    }
+    true
 }
 
 /// The first position and label at which a left step of the node is broken.

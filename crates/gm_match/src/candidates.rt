@@ -153,6 +153,9 @@ fn slots<L: Ledger>(
     ensures least { steps.old ≤ steps.new }
 {
     let nodes = plan.left_nodes() as usize;
+    if nodes == 1 {
+        return walk_slots(alloc, walk);
+    }
     let mut slots = Vec::with_capacity(alloc, walk.len() * nodes)?;
     let row = first_row(plan, arena, darts, steps);
     slots.extend_from_slice(&row[..nodes])?;
@@ -163,6 +166,13 @@ fn slots<L: Ledger>(
         slots.extend_from_slice(&row[..nodes])?;
     }
     Ok(slots)
+}
+
+/// The slots of the only left node, by position: it is the hook, which lies along the walk.
+fn walk_slots(alloc: Global, walk: &[Slot]) -> Result<Vec<Slot>, OutOfMemory>
+    ensures slots { IfOk result (λ slots. slots.items ≡ walk.now) }
+{
+    Ok(walk.to_vec(alloc)?)
 }
 
 /// The first turn to the position, where those before `from` lead to earlier positions. With one

@@ -1,34 +1,38 @@
 -- The edits that are told, one after another, are those of the application.
-use Rattle.std.proofs.Common.{◌≡◌, ℕ, zero, suc, ◌+◌, ◌*◌, ◌<◌, ◌≤◌, ◌⊎◌, not, false, List, length, Some, IsTrue, refl, sym, ap, ◌∙◌, subst, inl, inr, arith, length-append}
+use Rattle.std.proofs.Common.{◌≡◌, ℕ, zero, suc, ◌+◌, ◌*◌, ◌<◌, ◌≤◌, ◌⊎◌, not, false, ◌&&◌, List, length, Some, IsTrue, refl, sym, ap, ◌∙◌, subst, inl, inr, arith, length-append}
 use Rattle.std.specs.List.{Contains}
+use Rattle.std.proofs.lemmas.Bool.{lt-ltb}
 use Rattle.std.proofs.lemmas.Option.{none-some, same_Some}
 use Rattle.gm_model.specs.declared.rule.Side.TheVariants.{Left, Right}
 use Rattle.gm_model.specs.declared.step.Step.{Step}
 use Rattle.gm_model.specs.declared.step.Step.TheVariants.{Absent, Exp, Imp}
 use Rattle.gm_model.specs.Rules.{has_word, is_added, is_removed, step}
-use Rattle.gm_model.specs.Unfolding.{IsStep, IsMadeArc, added_before, added_nodes}
+use Rattle.gm_model.specs.Unfolding.{IsStep, IsGone, IsCutAt, IsMadeArc, added_before, added_nodes}
 use Rattle.gm_arena.specs.declared.slot.Slot.{Slot}
-use Rattle.gm_arena.specs.ArenaMap.{IsLiveSlot, name_at}
+use Rattle.gm_arena.specs.ArenaMap.{IsLiveSlot, name_at, alpha}
 use Rattle.gm_plan.specs.Counts.{removed_before, removed_nodes}
 use Rattle.gm_plan.specs.InArena.{slot_number}
 use Rattle.gm_plan.specs.Placed.{turn_at}
 use Rattle.gm_theory.proofs.RuleSteps.{word_below}
-use Rattle.gm_theory.proofs.Tests.{both_true, true_or_false}
-use Rattle.gm_pending.specs.declared.edits.Arc.{Arc}
-use Rattle.gm_pending.specs.declared.edits.End.TheVariants.{Old}
+use Rattle.gm_theory.proofs.Arcs.{kept_name}
+use Rattle.gm_theory.proofs.Tests.{both_true, and_true, true_not, true_or_false}
+use Rattle.gm_pending.specs.Arcs.{Arc}
+use Rattle.gm_pending.specs.Arcs.End.{Old}
+use Rattle.gm_pending.specs.declared.rewrite.Arcs.{Arcs}
 use Rattle.gm_pending.specs.declared.rewrite.Arcs.TheVariants.{Freed, Made}
-use Rattle.gm_pending.specs.Collected.{as_list, concat_below, slot_in, rewrite_of, end_of, labels, freed_by, freed_at, made_by, made_at, removed_at, removed_of, removed_in, arcs_of, arcs_in, all_arcs, all_removed}
-use Rattle.gm_pending.specs.EditLists.{EditLists, AreAddedValues, AreArcs, AreDistinct, AreNewValues, AreRemoved, AreEditsOf, IsOldEnd, IsResultEnd, IsFreed, end_name}
+use Rattle.gm_pending.specs.Collected.{RewriteOf, as_list, concat_below, slot_in, rewrite_of, end_of, labels, is_same, is_steady, freed_by, arc_by, arc_at, arcs_at, arcs_in, all_arcs, removed_at, removed_of, removed_in, all_removed}
+use Rattle.gm_pending.specs.EditLists.{EditLists, AreAddedValues, AreArcs, AreDistinct, AreNewValues, AreRemoved, AreEditsOf, IsOldEnd, IsResultEnd, IsFreed, IsThere, IsNewArc, end_name}
 use Rattle.gm_pending.specs.Results.{PendingOf, IsPrepared, IsRightInstance, rule_in, scene_in}
 use Rattle.gm_pending.proofs.Concat.{concat_contains, contains_concat, list_contains, contains_list, length_concat, length_same, length_list, distinct_concat, distinct_list}
 use Rattle.gm_pending.proofs.Ends.{right_end}
 use Rattle.gm_pending.proofs.Law.{law}
+use Rattle.gm_pending.proofs.Steady.{same_step}
 
 -- at most four entries for each label of an instance
-few_numbers : (k count dim adds removes freed removed added made : ℕ) → freed ≤ count * (k * ((dim + 1) * 1)) → made ≤ count * (k * ((dim + 1) * 1)) → removed ≡ k * removes → added ≡ k * adds → removes ≤ count → adds ≤ count →
+few_numbers : (k count dim adds removes freed removed added made : ℕ) → freed ≤ count * ((dim + 1) * (k * 1)) → made ≤ count * ((dim + 1) * (k * 1)) → removed ≡ k * removes → added ≡ k * adds → removes ≤ count → adds ≤ count →
     freed + removed + added + made ≤ 4 * ((dim + 1) * (count * k))
 few_numbers k count dim adds removes freed removed added made f m r a fewer fewer' =
-    let whole : count * (k * ((dim + 1) * 1)) ≡ (dim + 1) * (count * k) = grind arith in
+    let whole : count * ((dim + 1) * (k * 1)) ≡ (dim + 1) * (count * k) = grind arith in
     let gone : k * removes ≤ count * k = grind arith in
     let come : k * adds ≤ count * k = grind arith in
     let once : count * k ≤ (dim + 1) * (count * k) = grind arith in
@@ -37,6 +41,28 @@ few_numbers k count dim adds removes freed removed added made f m r a fewer fewe
 module _ (app : PendingOf) (prepared : IsPrepared app) where
   abbrev count : ℕ
   count = length (rule_in app).nodes
+
+  abbrev pub rewrite : RewriteOf
+  rewrite = rewrite_of app
+
+  -- ---- where an arc of the list stands
+
+  abbrev IsTold : Arcs → Arc → Type 0
+  IsTold arcs arc = (x : ℕ) × (i : ℕ) × (p : ℕ) × (i < labels rewrite) × (p < app.placed.positions) × (arc_at rewrite arcs x i p ≡ Some arc)
+
+  told : (arcs : Arcs) (arc : Arc) → Contains (all_arcs rewrite arcs) arc → IsTold arcs arc
+  told arcs arc among =
+      let node = concat_contains (arcs_in rewrite arcs) count arc among in
+      let label = concat_contains (arcs_at rewrite arcs node.0) (labels rewrite) arc node.2 in
+      let position = concat_contains (λ p. as_list (arc_at rewrite arcs node.0 label.0 p)) app.placed.positions arc label.2 in
+      (node.0, label.0, position.0, label.1, position.1, list_contains (arc_at rewrite arcs node.0 label.0 position.0) arc position.2)
+
+  listed : (arcs : Arcs) (x i p : ℕ) (arc : Arc) → x < count → i ≤ app.map.schema.dim → p < app.placed.positions → arc_at rewrite arcs x i p ≡ Some arc → Contains (all_arcs rewrite arcs) arc
+  listed arcs x i p arc n h b e =
+      contains_concat (arcs_in rewrite arcs) count x arc n
+      (contains_concat (arcs_at rewrite arcs x) (labels rewrite) i arc (omega arith)
+      (contains_concat (λ q. as_list (arc_at rewrite arcs x i q)) app.placed.positions p arc b
+      (contains_list (arc_at rewrite arcs x i p) arc e)))
 
   -- ---- the arcs that are freed
 
@@ -47,73 +73,82 @@ module _ (app : PendingOf) (prepared : IsPrepared app) where
     pub within : position < app.placed.positions
     pub label : arc.label ≤ app.map.schema.dim
     pub step : IsStep (step (rule_in app) Left node arc.label)
+    pub gone : IsGone (scene_in app) (alpha app.map arc.label ((scene_in app).dart_of node position))
     pub from : arc.from ≡ Old (slot_in app.placed node position)
     pub to : arc.to ≡ Old (slot_in app.placed node position)
 
-  freed_from : (x p i : ℕ) (arc : Arc) → p < app.placed.positions → i < labels (rewrite_of app) → freed_at (rewrite_of app) x p i ≡ Some arc → IsFreedFrom arc
-  freed_from x p i arc b h e = go (true_or_false (has_word (rule_in app) Left x))
+  abbrev freed_arc : ℕ → ℕ → ℕ → Arc
+  freed_arc x p i = record { from = Old (slot_in app.placed x p); label = i; to = Old (slot_in app.placed x p) }
+
+  freed_is : (x p i : ℕ) → IsTrue (has_word (rule_in app) Left x) → freed_arc x p i ≡ record { from = end_of rewrite x p; label = i; to = end_of rewrite x p }
+  freed_is x p i l = rw (lt-ltb x app.placed.nodes ((prepared.matched.nodes x).0 l)) refl
+
+  freed_from : (arc : Arc) → IsTold Freed arc → IsFreedFrom arc
+  freed_from arc (x, i, p, h, b, e) = go (true_or_false (has_word (rule_in app) Left x))
     where
-      by : IsTrue (has_word (rule_in app) Left x) → (s : Step) → step (rule_in app) Left x i ≡ s → freed_by (rewrite_of app) x p i s ≡ Some arc → IsFreedFrom arc
+      within : i ≤ app.map.schema.dim
+      within = omega arith
+
+      is : IsTrue (has_word (rule_in app) Left x) → IsStep (step (rule_in app) Left x i) → IsGone (scene_in app) (alpha app.map i ((scene_in app).dart_of x p)) → Some (record { from = end_of rewrite x p; label = i; to = end_of rewrite x p }) ≡ Some arc → IsFreedFrom arc
+      is l s gone g = subst IsFreedFrom (freed_is x p i l ∙ same_Some _ arc g) (record { node = x; position = p; left = l; within = b; label = within; step = s; gone = gone; from = refl; to = refl })
+
+      by : IsTrue (has_word (rule_in app) Left x) → (s : Step) → step (rule_in app) Left x i ≡ s → arc_by rewrite Freed x p i (freed_by rewrite x s) ≡ Some arc → IsFreedFrom arc
       by l Absent f g = absurd (none-some arc g)
-      by l (Exp y) f g =
-          let is = same_Some _ arc g in
-          subst IsFreedFrom is (record { node = x; position = p; left = l; within = b; label = omega arith; step = rw f tt; from = refl; to = refl })
-      by l (Imp m) f g =
-          let is = same_Some _ arc g in
-          subst IsFreedFrom is (record { node = x; position = p; left = l; within = b; label = omega arith; step = rw f tt; from = refl; to = refl })
+      by l (Exp y) f g = elim (true_or_false (is_removed (rule_in app) y)) [
+        | inl r ↦ is l (rw f tt) (y, p, r, b, (law app prepared).darts.links x p i y (l, b) within f) (rw r at g)
+        | inr a ↦ absurd (none-some arc (rw a at g))
+      ]
+      by l (Imp m) f g = elim (true_or_false (is_removed (rule_in app) x)) [
+        | inl r ↦ is l (rw f tt) (x, turn_at app.placed p m, r, (law app prepared).turns.within p m b ((law app prepared).steps.left_place x i m l f), (law app prepared).darts.letters x p i m (l, b) within f) (rw r at g)
+        | inr a ↦ absurd (none-some arc (rw a at g))
+      ]
 
       go : IsTrue (has_word (rule_in app) Left x) ⊎ (has_word (rule_in app) Left x ≡ false) → IsFreedFrom arc
       go (inl l) = by l (step (rule_in app) Left x i) refl (rw l at e)
       go (inr a) = absurd (none-some arc (rw a at e))
 
-  freed_among : (arc : Arc) → Contains (all_arcs (rewrite_of app) Freed) arc → IsFreedFrom arc
-  freed_among arc among =
-      let node = concat_contains (arcs_in (rewrite_of app) Freed) count arc among in
-      let position = concat_contains (arcs_of (rewrite_of app) Freed node.0) app.placed.positions arc node.2 in
-      let label = concat_contains (λ i. as_list (freed_at (rewrite_of app) node.0 position.0 i)) (labels (rewrite_of app)) arc position.2 in
-      freed_from node.0 position.0 label.0 arc position.1 label.1 (list_contains (freed_at (rewrite_of app) node.0 position.0 label.0) arc label.2)
+  removed_left : (x : ℕ) → IsTrue (is_removed (rule_in app) x) → IsTrue (has_word (rule_in app) Left x)
+  removed_left x r = (both_true (has_word (rule_in app) Left x) (not (has_word (rule_in app) Right x)) r).0
 
-  abbrev freed_arc : ℕ → ℕ → ℕ → Arc
-  freed_arc x p i = record { from = Old (slot_in app.placed x p); label = i; to = Old (slot_in app.placed x p) }
-
-  freed_there : (x p i : ℕ) → IsTrue (has_word (rule_in app) Left x) → p < app.placed.positions → i ≤ app.map.schema.dim → IsStep (step (rule_in app) Left x i) → Contains (all_arcs (rewrite_of app) Freed) (freed_arc x p i)
-  freed_there x p i l b h s =
-      contains_concat (arcs_in (rewrite_of app) Freed) count x (freed_arc x p i) (word_below (rule_in app) Left x l)
-      (contains_concat (arcs_of (rewrite_of app) Freed x) app.placed.positions p (freed_arc x p i) b
-      (contains_concat (λ j. as_list (freed_at (rewrite_of app) x p j)) (labels (rewrite_of app)) i (freed_arc x p i) (omega arith)
-      (contains_list (freed_at (rewrite_of app) x p i) (freed_arc x p i) (rw l (by (step (rule_in app) Left x i) s)))))
+  -- an arc that is cut and led to a dart that goes has its entry
+  freed_entry : (d i e : ℕ) → IsFreed app d i e → (arc : Arc) × Contains (all_arcs rewrite Freed) arc × (end_name app arc.from ≡ d) × (arc.label ≡ i)
+  freed_entry d i e f = go f.cut f.gone
     where
-      by : (t : Step) → IsStep t → freed_by (rewrite_of app) x p i t ≡ Some (freed_arc x p i)
-      by Absent t = absurd t
-      by (Exp y) t = refl
-      by (Imp m) t = refl
+      go : IsCutAt (scene_in app) d i → IsGone (scene_in app) (alpha app.map i d) → (arc : Arc) × Contains (all_arcs rewrite Freed) arc × (end_name app arc.from ≡ d) × (arc.label ≡ i)
+      go (x, p, l, b, s, from) (z, q, r, c, to) = (freed_arc x p i, listed Freed x i p (freed_arc x p i) (word_below (rule_in app) Left x l) f.label b (rw l (by (step (rule_in app) Left x i) refl)), sym from, refl)
+        where
+          goes : (y t : ℕ) → IsTrue (has_word (rule_in app) Left y) → t < app.placed.positions → alpha app.map i ((scene_in app).dart_of x p) ≡ (scene_in app).dart_of y t → IsTrue (is_removed (rule_in app) y)
+          goes y t ly bt leads =
+              let same : (y ≡ z) × (t ≡ q) = (law app prepared).darts.injective y t z q (ly, bt) (removed_left z r, c) (sym leads ∙ ap (alpha app.map i) (sym from) ∙ to) in
+              subst (λ n. IsTrue (is_removed (rule_in app) n)) (sym same.0) r
 
-  freed_wanted : (arc : Arc) → IsFreedFrom arc → IsFreed app (end_name app arc.from) arc.label (end_name app arc.to)
-  freed_wanted arc f =
+          by : (t : Step) → step (rule_in app) Left x i ≡ t → arc_by rewrite Freed x p i (freed_by rewrite x t) ≡ Some (freed_arc x p i)
+          by Absent g = absurd (rw g at s)
+          by (Exp y) g =
+              let there : IsTrue (is_removed (rule_in app) y) = goes y p ((law app prepared).steps.left_back x i y l f.label g).0 b ((law app prepared).darts.links x p i y (l, b) f.label g) in
+              rw there (ap Some (sym (freed_is x p i l)))
+          by (Imp m) g =
+              let there : IsTrue (is_removed (rule_in app) x) = goes x (turn_at app.placed p m) l ((law app prepared).turns.within p m b ((law app prepared).steps.left_place x i m l g)) ((law app prepared).darts.letters x p i m (l, b) f.label g) in
+              rw there (ap Some (sym (freed_is x p i l)))
+
+  freed_good : (arc : Arc) → IsFreedFrom arc → IsFreed app (end_name app arc.from) arc.label (end_name app arc.to)
+  freed_good arc f =
       let here = Old (slot_in app.placed f.node f.position) in
       subst (λ a. IsFreed app (end_name app a) arc.label (end_name app arc.to)) (sym f.from)
-      (subst (λ b. IsFreed app (end_name app here) arc.label (end_name app b)) (sym f.to) ((f.node, f.position, f.left, f.within, f.step, refl), f.label, refl))
+      (subst (λ b. IsFreed app (end_name app here) arc.label (end_name app b)) (sym f.to) (record { cut = (f.node, f.position, f.left, f.within, f.step, refl); gone = f.gone; label = f.label; back = refl }))
 
-  pub are_freed : AreArcs app (IsOldEnd app) (IsFreed app) (all_arcs (rewrite_of app) Freed)
+  pub are_freed : AreArcs app (IsOldEnd app) (IsFreed app) (IsFreed app) (all_arcs rewrite Freed)
   are_freed = record {
     ends = λ arc among.
-        let f = freed_among arc among in
+        let f = freed_from arc (told Freed arc among) in
         let live : IsLiveSlot app.map (slot_number app.placed f.node f.position) = prepared.matched.live f.node f.position ((prepared.matched.nodes f.node).0 f.left) f.within in
         (rw f.from live, rw f.to live);
-    labels = λ arc among. (freed_among arc among).label;
-    wanted = λ arc among. freed_wanted arc (freed_among arc among);
-    all = λ d i e wanted.
-        let cut = wanted.0 in
-        (freed_arc cut.0 cut.1 i, freed_there cut.0 cut.1 i cut.2 cut.3 wanted.1 cut.4, sym cut.5, refl);
+    labels = λ arc among. (freed_from arc (told Freed arc among)).label;
+    good = λ arc among. freed_good arc (freed_from arc (told Freed arc among));
+    needed = freed_entry;
   }
 
   -- ---- the arcs that are made
-
-  -- the arc is that of this right step
-  abbrev IsArcBy : ℕ → ℕ → ℕ → Step → Arc → Type 0
-  IsArcBy x p i Absent arc = ⊥
-  IsArcBy x p i (Exp y) arc = arc ≡ record { from = end_of (rewrite_of app) x p; label = i; to = end_of (rewrite_of app) y p }
-  IsArcBy x p i (Imp m) arc = arc ≡ record { from = end_of (rewrite_of app) x p; label = i; to = end_of (rewrite_of app) x (turn_at app.placed p m) }
 
   pub record IsMadeFrom (arc : Arc) : Type 0 where
     pub node : ℕ
@@ -123,18 +158,18 @@ module _ (app : PendingOf) (prepared : IsPrepared app) where
     pub ends : IsResultEnd app arc.from × IsResultEnd app arc.to
     pub made : IsMadeArc (scene_in app) (end_name app arc.from) arc.label (end_name app arc.to)
 
-  made_from : (x p i : ℕ) (arc : Arc) → p < app.placed.positions → i < labels (rewrite_of app) → made_at (rewrite_of app) x p i ≡ Some arc → IsMadeFrom arc
-  made_from x p i arc b h e = go (true_or_false (has_word (rule_in app) Right x))
+  made_from : (arc : Arc) → IsTold Made arc → IsMadeFrom arc
+  made_from arc (x, i, p, h, b, e) = go (true_or_false (has_word (rule_in app) Right x && not (is_steady rewrite x i)))
     where
       within : i ≤ app.map.schema.dim
       within = omega arith
 
-      by : (r : IsTrue (has_word (rule_in app) Right x)) → (s : Step) → step (rule_in app) Right x i ≡ s → made_by (rewrite_of app) x p i s ≡ Some arc → IsMadeFrom arc
+      by : (r : IsTrue (has_word (rule_in app) Right x)) → (s : Step) → step (rule_in app) Right x i ≡ s → arc_by rewrite Made x p i s ≡ Some arc → IsMadeFrom arc
       by r Absent f g = absurd (none-some arc g)
       by r (Exp y) f g =
           let here = right_end app prepared x p (r, b) in
           let there = right_end app prepared y p (((law app prepared).steps.right_back x i y r within f).0, b) in
-          subst IsMadeFrom (same_Some (record { from = end_of (rewrite_of app) x p; label = i; to = end_of (rewrite_of app) y p }) arc g) (record {
+          subst IsMadeFrom (same_Some (record { from = end_of rewrite x p; label = i; to = end_of rewrite y p }) arc g) (record {
             node = x;
             position = p;
             right = (r, b);
@@ -146,7 +181,7 @@ module _ (app : PendingOf) (prepared : IsPrepared app) where
           let here = right_end app prepared x p (r, b) in
           let turned : turn_at app.placed p m < app.placed.positions = (law app prepared).turns.within p m b ((law app prepared).steps.right_place x i m r f) in
           let there = right_end app prepared x (turn_at app.placed p m) (r, turned) in
-          subst IsMadeFrom (same_Some (record { from = end_of (rewrite_of app) x p; label = i; to = end_of (rewrite_of app) x (turn_at app.placed p m) }) arc g) (record {
+          subst IsMadeFrom (same_Some (record { from = end_of rewrite x p; label = i; to = end_of rewrite x (turn_at app.placed p m) }) arc g) (record {
             node = x;
             position = p;
             right = (r, b);
@@ -155,48 +190,69 @@ module _ (app : PendingOf) (prepared : IsPrepared app) where
             made = record { node = x; position = p; right = r; within = b; label = within; from = here.1; leads = rw f there.1 };
           })
 
-      go : IsTrue (has_word (rule_in app) Right x) ⊎ (has_word (rule_in app) Right x ≡ false) → IsMadeFrom arc
-      go (inl r) = by r (step (rule_in app) Right x i) refl (rw r at e)
+      go : IsTrue (has_word (rule_in app) Right x && not (is_steady rewrite x i)) ⊎ (has_word (rule_in app) Right x && not (is_steady rewrite x i) ≡ false) → IsMadeFrom arc
+      go (inl w) = by (both_true (has_word (rule_in app) Right x) (not (is_steady rewrite x i)) w).0 (step (rule_in app) Right x i) refl (rw w at e)
       go (inr a) = absurd (none-some arc (rw a at e))
 
-  made_among : (arc : Arc) → Contains (all_arcs (rewrite_of app) Made) arc → IsMadeFrom arc
-  made_among arc among =
-      let node = concat_contains (arcs_in (rewrite_of app) Made) count arc among in
-      let position = concat_contains (arcs_of (rewrite_of app) Made node.0) app.placed.positions arc node.2 in
-      let label = concat_contains (λ i. as_list (made_at (rewrite_of app) node.0 position.0 i)) (labels (rewrite_of app)) arc position.2 in
-      made_from node.0 position.0 label.0 arc position.1 label.1 (list_contains (made_at (rewrite_of app) node.0 position.0 label.0) arc label.2)
-
-  made_there : (x p i : ℕ) (arc : Arc) → IsRightInstance app x p → i ≤ app.map.schema.dim → made_by (rewrite_of app) x p i (step (rule_in app) Right x i) ≡ Some arc → Contains (all_arcs (rewrite_of app) Made) arc
-  made_there x p i arc r h e =
-      contains_concat (arcs_in (rewrite_of app) Made) count x arc (word_below (rule_in app) Right x r.0)
-      (contains_concat (arcs_of (rewrite_of app) Made x) app.placed.positions p arc r.1
-      (contains_concat (λ j. as_list (made_at (rewrite_of app) x p j)) (labels (rewrite_of app)) i arc (omega arith)
-      (contains_list (made_at (rewrite_of app) x p i) arc (rw r.0 e))))
-
-  -- each arc of a right step has its entry
-  made_entry : (d i e : ℕ) → IsMadeArc (scene_in app) d i e → (arc : Arc) × Contains (all_arcs (rewrite_of app) Made) arc × (end_name app arc.from ≡ d) × (arc.label ≡ i)
-  made_entry d i e made = by (step (rule_in app) Right made.node i) refl
+  -- the arc of a steady step is there already
+  steady_there : (d i e : ℕ) → (made : IsMadeArc (scene_in app) d i e) → IsTrue (is_steady rewrite made.node i) → IsThere app d i e
+  steady_there d i e made steady = (subst (λ c. IsTrue ((scene_in app).live c)) (sym here) ((law app prepared).darts.live made.node made.position (l, made.within)), by (step (rule_in app) Right made.node i) refl)
     where
-      x : ℕ
-      x = made.node
+      sides : IsTrue (has_word (rule_in app) Left made.node) × IsTrue (is_same (step (rule_in app) Left made.node i) (step (rule_in app) Right made.node i))
+      sides = both_true (has_word (rule_in app) Left made.node) (is_same (step (rule_in app) Left made.node i) (step (rule_in app) Right made.node i)) steady
 
-      p : ℕ
-      p = made.position
+      l : IsTrue (has_word (rule_in app) Left made.node)
+      l = sides.0
 
-      from : end_name app (end_of (rewrite_of app) made.node made.position) ≡ d
+      same : step (rule_in app) Left made.node i ≡ step (rule_in app) Right made.node i
+      same = same_step _ _ sides.1
+
+      name : (y t : ℕ) → IsTrue (has_word (rule_in app) Left y) → (scene_in app).name_of y t ≡ (scene_in app).dart_of y t
+      name y t ly = kept_name (scene_in app) _ _ _ (law app prepared) y t ly
+
+      here : d ≡ (scene_in app).dart_of made.node made.position
+      here = made.from ∙ name made.node made.position l
+
+      by : (t : Step) → step (rule_in app) Right made.node i ≡ t → alpha app.map i d ≡ e
+      by Absent f = absurd (rw f at made.leads)
+      by (Exp y) f =
+          let leads : e ≡ (scene_in app).name_of y made.position = rw f at made.leads in
+          let other : IsTrue (has_word (rule_in app) Left y) = ((law app prepared).steps.left_back made.node i y l made.label (same ∙ f)).0 in
+          ap (alpha app.map i) here ∙ (law app prepared).darts.links made.node made.position i y (l, made.within) made.label (same ∙ f) ∙ sym (name y made.position other) ∙ sym leads
+      by (Imp m) f =
+          let leads : e ≡ (scene_in app).name_of made.node (turn_at app.placed made.position m) = rw f at made.leads in
+          ap (alpha app.map i) here ∙ (law app prepared).darts.letters made.node made.position i m (l, made.within) made.label (same ∙ f) ∙ sym (name made.node (turn_at app.placed made.position m) l) ∙ sym leads
+
+  -- each arc of a right step that isn't there has its entry
+  made_entry : (d i e : ℕ) → IsNewArc app d i e → (arc : Arc) × Contains (all_arcs rewrite Made) arc × (end_name app arc.from ≡ d) × (arc.label ≡ i)
+  made_entry d i e (made, new) = elim (true_or_false (is_steady rewrite made.node i)) [
+    | inl steady ↦ absurd (new (steady_there d i e made steady))
+    | inr moves ↦ by moves (step (rule_in app) Right made.node i) refl
+  ]
+    where
+      from : end_name app (end_of rewrite made.node made.position) ≡ d
       from = (right_end app prepared made.node made.position (made.right, made.within)).1 ∙ sym made.from
 
-      by : (s : Step) → step (rule_in app) Right made.node i ≡ s → (arc : Arc) × Contains (all_arcs (rewrite_of app) Made) arc × (end_name app arc.from ≡ d) × (arc.label ≡ i)
-      by Absent f = absurd (rw f at made.leads)
-      by (Exp y) f = (record { from = end_of (rewrite_of app) made.node made.position; label = i; to = end_of (rewrite_of app) y made.position }, made_there made.node made.position i _ (made.right, made.within) made.label (rw f refl), from, refl)
-      by (Imp m) f = (record { from = end_of (rewrite_of app) made.node made.position; label = i; to = end_of (rewrite_of app) made.node (turn_at app.placed made.position m) }, made_there made.node made.position i _ (made.right, made.within) made.label (rw f refl), from, refl)
+      entry : is_steady rewrite made.node i ≡ false → (arc : Arc) → arc.from ≡ end_of rewrite made.node made.position → arc.label ≡ i → arc_by rewrite Made made.node made.position i (step (rule_in app) Right made.node i) ≡ Some arc → (arc : Arc) × Contains (all_arcs rewrite Made) arc × (end_name app arc.from ≡ d) × (arc.label ≡ i)
+      entry moves arc begins label is = (
+        arc,
+        listed Made made.node i made.position arc (word_below (rule_in app) Right made.node made.right) made.label made.within
+            (rw (and_true (has_word (rule_in app) Right made.node) (not (is_steady rewrite made.node i)) made.right (true_not (is_steady rewrite made.node i) moves)) is),
+        ap (end_name app) begins ∙ from,
+        label,
+      )
 
-  pub are_made : AreArcs app (IsResultEnd app) (IsMadeArc (scene_in app)) (all_arcs (rewrite_of app) Made)
+      by : is_steady rewrite made.node i ≡ false → (s : Step) → step (rule_in app) Right made.node i ≡ s → (arc : Arc) × Contains (all_arcs rewrite Made) arc × (end_name app arc.from ≡ d) × (arc.label ≡ i)
+      by moves Absent f = absurd (rw f at made.leads)
+      by moves (Exp y) f = entry moves (record { from = end_of rewrite made.node made.position; label = i; to = end_of rewrite y made.position }) refl refl (rw f refl)
+      by moves (Imp m) f = entry moves (record { from = end_of rewrite made.node made.position; label = i; to = end_of rewrite made.node (turn_at app.placed made.position m) }) refl refl (rw f refl)
+
+  pub are_made : AreArcs app (IsResultEnd app) (IsMadeArc (scene_in app)) (IsNewArc app) (all_arcs rewrite Made)
   are_made = record {
-    ends = λ arc among. (made_among arc among).ends;
-    labels = λ arc among. (made_among arc among).label;
-    wanted = λ arc among. (made_among arc among).made;
-    all = made_entry;
+    ends = λ arc among. (made_from arc (told Made arc among)).ends;
+    labels = λ arc among. (made_from arc (told Made arc among)).label;
+    good = λ arc among. (made_from arc (told Made arc among)).made;
+    needed = made_entry;
   }
 
   -- ---- the darts that are removed
@@ -211,9 +267,6 @@ module _ (app : PendingOf) (prepared : IsPrepared app) where
       go : IsTrue (is_removed (rule_in app) x) ⊎ (is_removed (rule_in app) x ≡ false) → IsRemovedFrom x p slot
       go (inl r) = record { removed = r; is = sym (same_Some (slot_in app.placed x p) slot (rw r at e)) }
       go (inr a) = absurd (none-some slot (rw a at e))
-
-  removed_left : (x : ℕ) → IsTrue (is_removed (rule_in app) x) → IsTrue (has_word (rule_in app) Left x)
-  removed_left x r = (both_true (has_word (rule_in app) Left x) (not (has_word (rule_in app) Right x)) r).0
 
   removed_among : (slot : Slot) → Contains (all_removed (rewrite_of app)) slot → (x : ℕ) × (p : ℕ) × (p < app.placed.positions) × IsRemovedFrom x p slot
   removed_among slot among =
@@ -288,17 +341,15 @@ module _ (app : PendingOf) (prepared : IsPrepared app) where
       go (inl r) earlier = rw r (omega (arith, earlier))
       go (inr a) earlier = rw a (omega (arith, earlier))
 
-  most : (f : ℕ → ℕ → ℕ → List Arc) → ((x p i : ℕ) → length (f x p i) ≤ 1) → length (concat_below (λ x. concat_below (λ p. concat_below (f x p) (labels (rewrite_of app))) app.placed.positions) count) ≤ count * (app.placed.positions * (labels (rewrite_of app) * 1))
-  most f one = length_concat (λ x. concat_below (λ p. concat_below (f x p) (labels (rewrite_of app))) app.placed.positions) count (app.placed.positions * (labels (rewrite_of app) * 1))
-      (λ x. length_concat (λ p. concat_below (f x p) (labels (rewrite_of app))) app.placed.positions (labels (rewrite_of app) * 1)
-      (λ p. length_concat (f x p) (labels (rewrite_of app)) 1 (one x p)))
+  most : (arcs : Arcs) → length (all_arcs rewrite arcs) ≤ count * (labels rewrite * (app.placed.positions * 1))
+  most arcs = length_concat (arcs_in rewrite arcs) count (labels rewrite * (app.placed.positions * 1))
+      (λ x. length_concat (arcs_at rewrite arcs x) (labels rewrite) (app.placed.positions * 1)
+      (λ i. length_concat (λ p. as_list (arc_at rewrite arcs x i p)) app.placed.positions 1 (λ p. length_list (arc_at rewrite arcs x i p))))
 
   few : (added : ℕ) → added ≡ app.placed.positions * added_nodes (rule_in app) →
-      length (all_arcs (rewrite_of app) Freed) + length (all_removed (rewrite_of app)) + added + length (all_arcs (rewrite_of app) Made) ≤ 4 * ((app.map.schema.dim + 1) * (count * app.placed.positions))
+      length (all_arcs rewrite Freed) + length (all_removed rewrite) + added + length (all_arcs rewrite Made) ≤ 4 * ((app.map.schema.dim + 1) * (count * app.placed.positions))
   few added is = few_numbers app.placed.positions count app.map.schema.dim (added_nodes (rule_in app)) (removed_nodes (rule_in app)) _ _ added _
-      (most (λ x p i. as_list (freed_at (rewrite_of app) x p i)) (λ x p i. length_list (freed_at (rewrite_of app) x p i)))
-      (most (λ x p i. as_list (made_at (rewrite_of app) x p i)) (λ x p i. length_list (made_at (rewrite_of app) x p i)))
-      (removed_count count) is (few_removed count) (few_added count)
+      (most Freed) (most Made) (removed_count count) is (few_removed count) (few_added count)
 
   pub are_edits : (edits : EditLists) → AreAddedValues app edits.added edits.added_values → AreNewValues app edits.values → edits.freed ≡ all_arcs (rewrite_of app) Freed → edits.removed ≡ all_removed (rewrite_of app) → edits.arcs ≡ all_arcs (rewrite_of app) Made → edits.added ≡ app.placed.positions * added_nodes (rule_in app) → AreEditsOf app edits
   are_edits edits added_values values freed removed arcs added = record {

@@ -1,5 +1,5 @@
 -- The stages of a commit make the result: what each needs is there, and what the last leaves is the unfolding.
-use Rattle.std.proofs.Common.{◌≡◌, ℕ, ◌+◌, ◌-◌, ◌*◌, ◌<◌, ◌≤◌, ◌⊎◌, not, List, [], length, get_or, slice_get, unwrap_or, Some, None, is_some, IsTrue, refl, sym, ap, ◌∙◌, subst, inl, inr, arith, mul_comm, pos}
+use Rattle.std.proofs.Common.{◌≡◌, ℕ, ◌+◌, ◌-◌, ◌*◌, ◌<◌, ◌≤◌, ◌⊎◌, not, false, List, [], length, get_or, slice_get, unwrap_or, Some, None, is_some, IsTrue, refl, sym, ap, ◌∙◌, subst, inl, inr, arith, mul_comm, pos}
 use Rattle.std.specs.FinMap.{get}
 use Rattle.std.specs.List.{Contains}
 use Rattle.std.specs.Option.{option_map}
@@ -22,19 +22,19 @@ use Rattle.gm_arena.specs.Inside.{part_of}
 use Rattle.gm_arena.proofs.InsideLemmas.{is_some_at, part_long, some_from_map}
 use Rattle.gm_arena.proofs.ValueLemmas.{length-values}
 use Rattle.gm_arena.proofs.MapLemmas.{name_at-is, IsAt-name_at, IsLiveName-name_at, name_below, alpha-alike}
-use Rattle.gm_theory.proofs.Arcs.{cut_back, gone_cut, arc_from, one_arc}
+use Rattle.gm_theory.proofs.Arcs.{cut_back, gone_cut, arc_from, arc_to, one_arc}
 use Rattle.gm_theory.proofs.NewNames.{new_name}
-use Rattle.gm_theory.proofs.Tests.{both_true}
+use Rattle.gm_theory.proofs.Tests.{both_true, not_both, same_or_not, true_or_false}
 use Rattle.gm_theory.proofs.RuleSteps.{word_below}
-use Rattle.gm_pending.specs.declared.edits.Arc.{Arc}
-use Rattle.gm_pending.specs.declared.edits.End.{End}
-use Rattle.gm_pending.specs.declared.edits.End.TheVariants.{Old, New}
+use Rattle.gm_pending.specs.Arcs.{Arc}
+use Rattle.gm_pending.specs.Arcs.{End}
+use Rattle.gm_pending.specs.Arcs.End.{Old, New}
 use Rattle.gm_pending.specs.declared.edits.ValueAt.{ValueAt}
 use Rattle.gm_pending.specs.Results.{PendingOf, IsUnfoldedIn, IsValueIn, rule_in, place_in, scene_in}
-use Rattle.gm_pending.specs.EditLists.{EditLists, AreEditsOf, IsOldEnd, IsResultEnd, IsResultOf, added_value, end_name}
+use Rattle.gm_pending.specs.EditLists.{EditLists, AreEditsOf, IsOldEnd, IsResultEnd, IsResultOf, IsThere, added_value, end_name}
 use Rattle.gm_pending.specs.Written.{AreWhole, IsWritable, IsLiveEnd, IsSettable, CanRemove, IsExtended, end_at, values_at, with_arcs, with_values, without_darts}
 use Rattle.gm_pending.proofs.Law.{law}
-use Rattle.gm_pending.proofs.Made.{unmade_kept}
+use Rattle.gm_pending.proofs.Made.{exists_arc, not_gone}
 use Rattle.gm_pending.proofs.NewValues.{part_entry, typed}
 use Rattle.gm_pending.proofs.Numbers.{numbered, number_below}
 use Rattle.gm_pending.proofs.WithArcs.{arcs_frame, arcs_live, arcs_values, arcs_whole, arcs_written, AreWritable, IsWrittenOrKept}
@@ -84,22 +84,26 @@ module _ (app : PendingOf) (edits : EditLists) (ok : AreEditsOf app edits) (spar
   freed_whole : AreWhole freed
   freed_whole = arcs_whole (end_at before []) edits.freed before whole_before
 
-  -- an arc of the freed map leads back to its own dart, or is as it was and isn't cut
-  freed_arc : (d i : ℕ) → i ≤ app.map.schema.dim → (IsCutAt scene d i × (alpha freed i d ≡ d)) ⊎ ((IsCutAt scene d i → ⊥) × (alpha freed i d ≡ alpha app.map i d))
+  -- an arc that is cut, and led to a dart that goes
+  abbrev IsLost : ℕ → ℕ → Type 0
+  IsLost d i = IsCutAt scene d i × IsGone scene (alpha app.map i d)
+
+  -- an arc of the freed map leads back to its own dart, or is as it was
+  freed_arc : (d i : ℕ) → i ≤ app.map.schema.dim → (IsLost d i × (alpha freed i d ≡ d)) ⊎ ((IsLost d i → ⊥) × (alpha freed i d ≡ alpha app.map i d))
   freed_arc d i h = go (arcs_written (end_at before []) edits.freed before whole_before fit d i)
     where
       fit : AreWritable (end_at before []) before edits.freed
       fit arc among = ((old_end arc.from (ok.freed.ends arc among).0).2, ok.freed.labels arc among)
 
-      go : IsWrittenOrKept (end_at before []) before edits.freed d i (alpha freed i d) → (IsCutAt scene d i × (alpha freed i d ≡ d)) ⊎ ((IsCutAt scene d i → ⊥) × (alpha freed i d ≡ alpha app.map i d))
+      go : IsWrittenOrKept (end_at before []) before edits.freed d i (alpha freed i d) → (IsLost d i × (alpha freed i d ≡ d)) ⊎ ((IsLost d i → ⊥) × (alpha freed i d ≡ alpha app.map i d))
       go (inl w) =
           let ends = ok.freed.ends w.arc w.among in
-          let wanted = ok.freed.wanted w.arc w.among in
+          let good = ok.freed.good w.arc w.among in
           let from : end_name app w.arc.from ≡ d = sym (old_end w.arc.from ends.0).1 ∙ w.from in
-          inl (subst (λ j. IsCutAt scene d j) w.label (subst (λ c. IsCutAt scene c w.arc.label) from wanted.0), w.leads ∙ (old_end w.arc.to ends.1).1 ∙ wanted.2 ∙ from)
+          inl (subst (λ j. IsLost d j) w.label (subst (λ c. IsLost c w.arc.label) from (good.cut, good.gone)), w.leads ∙ (old_end w.arc.to ends.1).1 ∙ good.back ∙ from)
       go (inr (unwritten, same)) = inr (
-        λ cut.
-            let there = ok.freed.all d i d (cut, h, refl) in
+        λ lost.
+            let there = ok.freed.needed d i d (record { cut = lost.0; gone = lost.1; label = h; back = refl }) in
             unwritten there.0 there.1 ((old_end there.0.from (ok.freed.ends there.0 there.1).0).1 ∙ there.2) there.3,
         same,
       )
@@ -118,9 +122,14 @@ module _ (app : PendingOf) (edits : EditLists) (ok : AreEditsOf app edits) (spar
       was : IsTrue (scene.live other)
       was = sym (freed_live other) ∙ live
 
-      go : (IsCutAt scene other label × (alpha freed label other ≡ other)) ⊎ ((IsCutAt scene other label → ⊥) × (alpha freed label other ≡ alpha app.map label other)) → ⊥
-      go (inl (cut, back)) = apart (sym back ∙ leads)
-      go (inr (uncut, same)) = uncut (cut_back scene _ _ _ (law app ok.prepared) other label was h (rw (sym same ∙ leads) (gone_cut scene _ _ _ (law app ok.prepared) d label h gone)))
+      go : (IsLost other label × (alpha freed label other ≡ other)) ⊎ ((IsLost other label → ⊥) × (alpha freed label other ≡ alpha app.map label other)) → ⊥
+      go (inl (lost, back)) = apart (sym back ∙ leads)
+      go (inr (found, same)) =
+          let to : alpha app.map label other ≡ d = sym same ∙ leads in
+          found (
+            cut_back scene _ _ _ (law app ok.prepared) other label was h (subst (λ c. IsCutAt scene c label) (sym to) (gone_cut scene _ _ _ (law app ok.prepared) d label h gone)),
+            subst (IsGone scene) (sym to) gone,
+          )
 
   pub can_go : CanRemove freed edits.removed
   can_go = can_remove edits.removed freed ok.removed.distinct (λ slot among. (
@@ -218,34 +227,46 @@ module _ (app : PendingOf) (edits : EditLists) (ok : AreEditsOf app edits) (spar
 
     -- the arc of the result
     linked_arc : (d i : ℕ) → IsDartAfter scene d → i ≤ scene.dimension → IsArcAfter scene d i (alpha linked i d)
-    linked_arc d i after h = go (arcs_written (end_at more made) edits.arcs more (extended.whole (without_whole edits.removed freed freed_whole)) fit d i)
+    linked_arc d i after h = go (arcs_written (end_at more made) edits.arcs more (extended.whole (without_whole edits.removed freed freed_whole)) fit d i) (exists_arc scene _ _ _ (law app ok.prepared) d i h after)
       where
         fit : AreWritable (end_at more made) more edits.arcs
         fit arc among = ((result_end arc.from (ok.arcs.ends arc among).0).2, rw more_schema (ok.arcs.labels arc among))
 
-        kept : ((e : ℕ) → IsMadeArc scene d i e → ⊥) → IsTrue (scene.live d) × IsArcAfter scene d i (alpha app.map i d) → alpha linked i d ≡ alpha more i d → IsArcAfter scene d i (alpha linked i d)
-        kept unmade (live, inr arc) same = absurd (unmade (alpha app.map i d) arc)
-        kept unmade (live, inl arc) same =
-            let stays : IsGone scene d → ⊥ = λ gone. arc.uncut (gone_cut scene _ _ _ (law app ok.prepared) d i h gone) in
-            let low : d < fewer.next = rw fewer_next (name_below app.map d ok.prepared.lawful live) in
-            let was : alpha linked i d ≡ alpha freed i d = same ∙ alpha-alike fewer more i d (extended.darts d low) ∙ alpha-alike freed fewer i d (fewer_dart d stays) in
-            elim (freed_arc d i h) [
-              | inl (cut, back) ↦ absurd (arc.uncut cut)
-              | inr (uncut, old) ↦ subst (IsArcAfter scene d i) (sym (was ∙ old)) (inl arc)
-            ]
+        stays : IsGone scene d → ⊥
+        stays = not_gone scene _ _ _ (law app ok.prepared) d after
 
-        go : IsWrittenOrKept (end_at more made) more edits.arcs d i (alpha linked i d) → IsArcAfter scene d i (alpha linked i d)
-        go (inl w) =
+        -- an arc of the old map that the result has too is as it was
+        as_it_was : (e : ℕ) → IsTrue (scene.live d) → alpha app.map i d ≡ e → IsArcAfter scene d i e → alpha linked i d ≡ alpha more i d → IsArcAfter scene d i (alpha linked i d)
+        as_it_was e live leads arc same =
+            let low : d < fewer.next = rw fewer_next (name_below app.map d ok.prepared.lawful live) in
+            let there : IsGone scene e → ⊥ = not_gone scene _ _ _ (law app ok.prepared) e (arc_to scene _ _ _ (law app ok.prepared) d i e arc) in
+            let unfreed : alpha freed i d ≡ alpha app.map i d = elim (freed_arc d i h) [
+              | inl (lost, back) ↦ absurd (there (subst (IsGone scene) leads lost.1))
+              | inr (found, old) ↦ old
+            ] in
+            subst (IsArcAfter scene d i) (sym (same ∙ alpha-alike fewer more i d (extended.darts d low) ∙ alpha-alike freed fewer i d (fewer_dart d stays) ∙ unfreed ∙ leads)) arc
+
+        there_or_not : (e : ℕ) → IsThere app d i e ⊎ (IsThere app d i e → ⊥)
+        there_or_not e = go (true_or_false (scene.live d)) (same_or_not (alpha app.map i d) e)
+          where
+            go : IsTrue (scene.live d) ⊎ (scene.live d ≡ false) → (alpha app.map i d ≡ e) ⊎ (alpha app.map i d ≡ e → ⊥) → IsThere app d i e ⊎ (IsThere app d i e → ⊥)
+            go (inl live) (inl leads) = inl (live, leads)
+            go (inl live) (inr other) = inr (λ there. other there.1)
+            go (inr dead) any = inr (λ there. not_both (scene.live d) there.0 dead)
+
+        go : IsWrittenOrKept (end_at more made) more edits.arcs d i (alpha linked i d) → (e : ℕ) × IsArcAfter scene d i e → IsArcAfter scene d i (alpha linked i d)
+        go (inl w) any =
             let ends = ok.arcs.ends w.arc w.among in
             let from : end_name app w.arc.from ≡ d = sym (result_end w.arc.from ends.0).1 ∙ w.from in
             let to : end_name app w.arc.to ≡ alpha linked i d = sym (w.leads ∙ (result_end w.arc.to ends.1).1) in
-            inr (subst (IsMadeArc scene d i) to (subst (λ j. IsMadeArc scene d j (end_name app w.arc.to)) w.label (subst (λ c. IsMadeArc scene c w.arc.label (end_name app w.arc.to)) from (ok.arcs.wanted w.arc w.among))))
-        go (inr (unwritten, same)) = kept unmade (unmade_kept scene _ _ _ (law app ok.prepared) d i h unmade after) same
-          where
-            unmade : (e : ℕ) → IsMadeArc scene d i e → ⊥
-            unmade e arc =
-                let there = ok.arcs.all d i e arc in
-                unwritten there.0 there.1 ((result_end there.0.from (ok.arcs.ends there.0 there.1).0).1 ∙ there.2) there.3
+            inr (subst (IsMadeArc scene d i) to (subst (λ j. IsMadeArc scene d j (end_name app w.arc.to)) w.label (subst (λ c. IsMadeArc scene c w.arc.label (end_name app w.arc.to)) from (ok.arcs.good w.arc w.among))))
+        go (inr (unwritten, same)) (e, inl arc) = as_it_was e arc.live arc.leads (inl arc) same
+        go (inr (unwritten, same)) (e, inr arc) = elim (there_or_not e) [
+          | inl (live, leads) ↦ as_it_was e live leads (inr arc) same
+          | inr new ↦
+              let there = ok.arcs.needed d i e (arc, new) in
+              absurd (unwritten there.0 there.1 ((result_end there.0.from (ok.arcs.ends there.0 there.1).0).1 ∙ there.2) there.3)
+        ]
 
     linked_next : linked.next ≡ app.map.next + edits.added
     linked_next = ap (λ (m : ArenaMap). m.next) (arcs_frame (end_at more made) edits.arcs more) ∙ extended.next ∙ omega (arith, fewer_next, long)

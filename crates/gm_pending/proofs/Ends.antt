@@ -1,10 +1,11 @@
 -- The end of a right node at a position is its dart of the result.
-use Rattle.std.proofs.Common.{◌≡◌, ℕ, zero, suc, ◌+◌, ◌-◌, ◌*◌, ◌<◌, ◌≤◌, ◌⊎◌, false, not, [], length, Some, None, IsTrue, refl, sym, ap, inl, inr, arith}
+use Rattle.std.proofs.Common.{◌≡◌, ℕ, zero, suc, ◌+◌, ◌-◌, ◌*◌, ◌<◌, ◌≤◌, ◌⊎◌, false, not, ◌&&◌, [], length, Some, None, IsTrue, refl, sym, ap, inl, inr, arith, ◌∙◌, List, Option}
+use Rattle.std.specs.Option.{option_map}
 use Rattle.std.proofs.lemmas.Bool.{cases_lt, lt-ltb, le-ltb}
 use Rattle.gm_model.specs.declared.rule.Side.TheVariants.{Left, Right}
 use Rattle.gm_model.specs.declared.step.Step.{Step}
-use Rattle.gm_model.specs.declared.step.Step.TheVariants.{Absent, Exp, Imp}
-use Rattle.gm_model.specs.Rules.{has_word, is_added, step}
+use Rattle.gm_model.specs.declared.step.Step.TheVariants.{Absent, Imp}
+use Rattle.gm_model.specs.Rules.{has_word, is_added, is_removed, step}
 use Rattle.gm_model.specs.Unfolding.{added_before}
 use Rattle.gm_arena.specs.ArenaAsMap.{as_map}
 use Rattle.gm_arena.specs.declared.slot.Slot.{Slot}
@@ -13,13 +14,13 @@ use Rattle.std.proofs.lemmas.Option.{get_or_from_slice_get}
 use Rattle.gm_theory.proofs.Arcs.{kept_name}
 use Rattle.gm_theory.proofs.NewNames.{added_step, new_name}
 use Rattle.gm_theory.proofs.RuleSteps.{word_below}
-use Rattle.gm_theory.proofs.Tests.{and_true, true_or_false, true_not, not_both}
-use Rattle.gm_pending.specs.declared.edits.End.{End}
+use Rattle.gm_theory.proofs.Tests.{and_true, both_true, true_or_false, true_not, not_both}
 use Rattle.gm_pending.specs.declared.rewrite.Arcs.{Arcs}
 use Rattle.gm_pending.specs.declared.rewrite.Arcs.TheVariants.{Freed, Made}
-use Rattle.gm_pending.specs.declared.edits.End.TheVariants.{Old, New}
-use Rattle.gm_pending.specs.Collected.{RewriteOf, as_list, concat_below, slot_in, rewrite_of, rule_at, side_of, end_of, freed_by, freed_at, arc_at, arcs_of, labels}
+use Rattle.gm_pending.specs.Arcs.End.{New}
+use Rattle.gm_pending.specs.Collected.{RewriteOf, as_list, concat_below, slot_in, rewrite_of, rule_at, end_of, is_steady, made_step, written_step, leads_to, arc_between, arc_by, arc_at, arcs_at, removed_of, removed_in}
 use Rattle.gm_pending.specs.EditLists.{IsResultEnd, end_name}
+use Rattle.gm_pending.specs.Written.{slot_of}
 use Rattle.gm_pending.specs.Results.{PendingOf, IsPrepared, IsRightInstance, rule_in, place_in, scene_in}
 use Rattle.gm_pending.proofs.Darts.{stays_there}
 use Rattle.gm_pending.proofs.Law.{law}
@@ -76,29 +77,43 @@ module _ (app : PendingOf) (prepared : IsPrepared app) where
 slot_is : (placed : Placed) (x p : ℕ) (slot : Slot) → slot_at placed x p ≡ Some slot → slot_in placed x p ≡ slot
 slot_is placed x p slot e = get_or_from_slice_get placed.slots (p * placed.nodes + x) slot (record { at = 0 }) e
 
-module _ (rewrite : RewriteOf) (x p : ℕ) where
-  pub end_left : (slot : Slot) → x < rewrite.placed.nodes → slot_at rewrite.placed x p ≡ Some slot → Old slot ≡ end_of rewrite x p
-  end_left slot h e = rw (lt-ltb x rewrite.placed.nodes h) (ap Old (sym (slot_is rewrite.placed x p slot e)))
+module _ (rewrite : RewriteOf) (made : List Slot) (x p : ℕ) where
+  pub left_slot : (slot : Slot) → x < rewrite.placed.nodes → slot_at rewrite.placed x p ≡ Some slot → slot ≡ slot_of made (end_of rewrite x p)
+  left_slot slot h e = rw (lt-ltb x rewrite.placed.nodes h) (sym (slot_is rewrite.placed x p slot e))
 
-  pub end_added : (left positions : ℕ) → left ≡ rewrite.placed.nodes → left ≤ x → positions ≡ rewrite.placed.positions → New ((x - left) * positions + p) ≡ end_of rewrite x p
-  end_added left positions e h k = rw (le-ltb x rewrite.placed.nodes (omega arith), e, k) refl
+  pub added_end : (left positions : ℕ) → left ≡ rewrite.placed.nodes → left ≤ x → positions ≡ rewrite.placed.positions → end_of rewrite x p ≡ New ((x - left) * positions + p)
+  added_end left positions e h k = rw (le-ltb x rewrite.placed.nodes (omega arith), e, k) refl
 
-  pub freed_is : (i : ℕ) (from : End) → IsTrue (has_word (rule_at rewrite) Left x) → x < rewrite.placed.nodes → from ≡ end_of rewrite x p → (step (rule_at rewrite) Left x i ≡ Absent → ⊥) → Some (record { from = from; label = i; to = from }) ≡ freed_at rewrite x p i
-  freed_is i from l h e some = rw (e, lt-ltb x rewrite.placed.nodes h, l) (go (step (rule_at rewrite) Left x i) refl)
-    where
-      go : (t : Step) → step (rule_at rewrite) Left x i ≡ t → Some (record { from = Old (slot_in rewrite.placed x p); label = i; to = Old (slot_in rewrite.placed x p) }) ≡ freed_by rewrite x p i t
-      go Absent f = absurd (some f)
-      go (Exp y) f = refl
-      go (Imp m) f = refl
+-- the arc that is told at a position is the one of the list
+pub arc_told : (rewrite : RewriteOf) (arcs : Arcs) (x i p : ℕ) (step : Step) (to : Option (ℕ × ℕ)) → step ≡ written_step rewrite arcs x i → to ≡ leads_to rewrite arcs x p step → option_map (arc_between rewrite x p i) to ≡ arc_at rewrite arcs x i p
+arc_told rewrite arcs x i p step to e f = ap (option_map (arc_between rewrite x p i)) (f ∙ ap (leads_to rewrite arcs x p) e)
 
-  no_arc : (arcs : Arcs) → has_word (rule_at rewrite) (side_of arcs) x ≡ false → (i : ℕ) → arc_at rewrite arcs x p i ≡ None
-  no_arc Freed e i = rw e refl
-  no_arc Made e i = rw e refl
+-- a step that is absent has no arcs
+pub no_arcs : (rewrite : RewriteOf) (arcs : Arcs) (x i : ℕ) (step : Step) → step ≡ written_step rewrite arcs x i → step ≡ Absent → arcs_at rewrite arcs x i ≡ []
+no_arcs rewrite arcs x i step f g = go rewrite.placed.positions
+  where
+    none : (p : ℕ) → arc_at rewrite arcs x i p ≡ None
+    none p = ap (arc_by rewrite arcs x p i) (sym f ∙ g) ∙ absent arcs
+      where
+        absent : (a : Arcs) → arc_by rewrite a x p i Absent ≡ None
+        absent Freed = refl
+        absent Made = refl
 
-  -- a node without a word on the side has no arcs of it
-  pub no_arcs : (arcs : Arcs) → has_word (rule_at rewrite) (side_of arcs) x ≡ false → arcs_of rewrite arcs x p ≡ []
-  no_arcs arcs e = go (labels rewrite)
-    where
-      go : (n : ℕ) → concat_below (λ i. as_list (arc_at rewrite arcs x p i)) n ≡ []
-      go zero = refl
-      go (suc n) = rw (go n, no_arc arcs e n) refl
+    go : (n : ℕ) → concat_below (λ p. as_list (arc_at rewrite arcs x i p)) n ≡ []
+    go zero = refl
+    go (suc n) = rw (go n, none n) refl
+
+-- a letter that is written is that of a right step
+pub made_turn : (rewrite : RewriteOf) (x i m : ℕ) → made_step rewrite x i ≡ Imp m → IsTrue (has_word (rule_at rewrite) Right x) × (step (rule_at rewrite) Right x i ≡ Imp m)
+made_turn rewrite x i m e = elim (true_or_false (has_word (rule_at rewrite) Right x && not (is_steady rewrite x i))) [
+  | inl w ↦ ((both_true (has_word (rule_at rewrite) Right x) (not (is_steady rewrite x i)) w).0, rw w at e)
+  | inr a ↦ absurd (let none : Absent ≡ Imp m = rw a at e in cc)
+]
+
+-- no dart of a node that stays is removed
+pub none_removed : (rewrite : RewriteOf) (x : ℕ) → is_removed (rule_at rewrite) x ≡ false → removed_in rewrite x ≡ []
+none_removed rewrite x e = go rewrite.placed.positions
+  where
+    go : (n : ℕ) → concat_below (removed_of rewrite x) n ≡ []
+    go zero = refl
+    go (suc n) = rw (go n, e) refl

@@ -22,6 +22,7 @@ pub mod AddedValues
 pub mod Gathered
 pub mod Committed
 pub mod Stages
+pub mod Steady
 pub mod Concat
 pub mod Created
 pub mod Ends

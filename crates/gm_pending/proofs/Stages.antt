@@ -10,7 +10,7 @@ use Rattle.gm_arena.specs.ArenaMap.{ArenaMap, alpha}
 use Rattle.gm_arena.specs.Inside.{part_of}
 use Rattle.gm_arena.specs.Lawful.{AreGoodValues}
 use Rattle.gm_theory.proofs.Results.{unfolding_generalised}
-use Rattle.gm_pending.specs.declared.edits.Arc.{Arc}
+use Rattle.gm_pending.specs.Arcs.{Arc}
 use Rattle.gm_pending.specs.declared.edits.ValueAt.{ValueAt}
 use Rattle.gm_pending.specs.Results.{PendingOf, scene_in}
 use Rattle.gm_pending.specs.EditLists.{EditLists, HasSameRows, AreEditsOf, IsResultOf}

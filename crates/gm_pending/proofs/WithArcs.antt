@@ -6,8 +6,8 @@ use Rattle.std.proofs.lemmas.Bool.{cases_eq}
 use Rattle.gm_arena.specs.ArenaMap.{ArenaMap, IsLiveName, alpha}
 use Rattle.gm_arena.specs.Edits.{with_alpha}
 use Rattle.gm_arena.proofs.MapLemmas.{alpha-with_alpha_other, alpha-with_alpha_label}
-use Rattle.gm_pending.specs.declared.edits.Arc.{Arc}
-use Rattle.gm_pending.specs.declared.edits.End.{End}
+use Rattle.gm_pending.specs.Arcs.{Arc}
+use Rattle.gm_pending.specs.Arcs.{End}
 use Rattle.gm_pending.specs.Written.{AreWhole, values_at, with_arcs}
 use Rattle.gm_pending.proofs.Whole.{live_turned, values_turned, whole_turned, alpha_turned, contains_first, contains_later, contains_either, contains_none}
 

@@ -5,8 +5,8 @@ use Rattle.std.proofs.lemmas.Bool.{cases_eq}
 use Rattle.gm_arena.specs.declared.slot.Slot.{Slot}
 use Rattle.gm_arena.specs.ArenaMap.{ArenaMap}
 use Rattle.gm_arena.specs.Edits.{with_alpha}
-use Rattle.gm_pending.specs.declared.edits.Arc.{Arc}
-use Rattle.gm_pending.specs.declared.edits.End.{End}
+use Rattle.gm_pending.specs.Arcs.{Arc}
+use Rattle.gm_pending.specs.Arcs.{End}
 use Rattle.gm_pending.specs.Collected.{concat_below}
 use Rattle.gm_pending.specs.Written.{IsWritable, CanRemove, slot_of, end_at, with_arcs, without_slot, without_darts}
 use Rattle.gm_pending.proofs.Concat.{concat_next}

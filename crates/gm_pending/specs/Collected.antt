@@ -1,7 +1,7 @@
--- The edits of an application, node by node, position by position and label by label: they are told by its rule and its instances alone. No public clause cites this module.
-use Rattle.std.specs.Prelude.{◌≡◌, ℕ, zero, suc, ◌+◌, ◌-◌, ◌*◌, ◌≤◌, if◌then◌else◌, nat_lt, List, [], ◌∷◌, ◌++◌, length, Option, Some, None, slice_index_or}
+-- The edits of an application, node by node, label by label and position by position: they are told by its rule and its instances alone. No public clause cites this module.
+use Rattle.std.specs.Prelude.{◌≡◌, ℕ, zero, suc, ◌+◌, ◌-◌, ◌*◌, ◌≤◌, if◌then◌else◌, nat_lt, Bool, true, false, not, ◌&&◌, ◌==◌, List, [], ◌∷◌, ◌++◌, length, Option, Some, None, slice_index_or}
+use Rattle.std.specs.Option.{option_map}
 use Rattle.gm_model.specs.declared.rule.RuleTable.{RuleTable}
-use Rattle.gm_model.specs.declared.rule.Side.{Side}
 use Rattle.gm_model.specs.declared.rule.Side.TheVariants.{Left, Right}
 use Rattle.gm_model.specs.declared.schema.Schema.{Schema}
 use Rattle.gm_model.specs.declared.step.Step.{Step}
@@ -10,9 +10,9 @@ use Rattle.gm_model.specs.Rules.{Rule, rule_of, has_word, is_removed, step, widt
 use Rattle.gm_arena.specs.declared.slot.Slot.{Slot}
 use Rattle.gm_plan.specs.Placed.{Placed, turn_at}
 use Rattle.gm_plan.specs.Plans.{IsLeftCount, IsPlanned}
-use Rattle.gm_pending.specs.declared.edits.Arc.{Arc}
-use Rattle.gm_pending.specs.declared.edits.End.{End}
-use Rattle.gm_pending.specs.declared.edits.End.TheVariants.{Old, New}
+use Rattle.gm_pending.specs.Arcs.{Arc}
+use Rattle.gm_pending.specs.Arcs.{End}
+use Rattle.gm_pending.specs.Arcs.End.{Old, New}
 use Rattle.gm_pending.specs.declared.rewrite.Arcs.{Arcs}
 use Rattle.gm_pending.specs.declared.rewrite.Arcs.TheVariants.{Freed, Made}
 use Rattle.gm_pending.specs.Results.{PendingOf}
@@ -54,10 +54,16 @@ pub record IsFitted (schema : Schema) (rewrite : RewriteOf) : Type 0 where
 
 -- ---- the edits
 
--- the side whose steps the arcs are
-abbrev pub side_of : Arcs → Side
-side_of Freed = Left
-side_of Made = Right
+abbrev pub is_same : Step → Step → Bool
+is_same Absent Absent = true
+is_same Absent (Exp z) = false
+is_same Absent (Imp k) = false
+is_same (Exp y) Absent = false
+is_same (Exp y) (Exp z) = y == z
+is_same (Exp y) (Imp k) = false
+is_same (Imp m) Absent = false
+is_same (Imp m) (Exp z) = false
+is_same (Imp m) (Imp k) = m == k
 
 module _ (rewrite : RewriteOf) where
   abbrev pub rule_at : Rule
@@ -67,25 +73,46 @@ module _ (rewrite : RewriteOf) where
   abbrev pub end_of : ℕ → ℕ → End
   end_of x p = if nat_lt x rewrite.placed.nodes then Old (slot_in rewrite.placed x p) else New ((x - rewrite.placed.nodes) * rewrite.placed.positions + p)
 
-  abbrev pub freed_by : ℕ → ℕ → ℕ → Step → Option Arc
-  freed_by x p i Absent = None
-  freed_by x p i (Exp y) = Some (record { from = Old (slot_in rewrite.placed x p); label = i; to = Old (slot_in rewrite.placed x p) })
-  freed_by x p i (Imp m) = Some (record { from = Old (slot_in rewrite.placed x p); label = i; to = Old (slot_in rewrite.placed x p) })
+  -- a left step of node x, where it leads to darts that are removed
+  abbrev pub freed_by : ℕ → Step → Step
+  freed_by x Absent = Absent
+  freed_by x (Exp y) = if is_removed rule_at y then Exp y else Absent
+  freed_by x (Imp m) = if is_removed rule_at x then Imp m else Absent
 
-  abbrev pub freed_at : ℕ → ℕ → ℕ → Option Arc
-  freed_at x p i = if has_word rule_at Left x then freed_by x p i (step rule_at Left x i) else None
+  abbrev pub freed_step : ℕ → ℕ → Step
+  freed_step x i = if has_word rule_at Left x then freed_by x (step rule_at Left x i) else Absent
 
-  abbrev pub made_by : ℕ → ℕ → ℕ → Step → Option Arc
-  made_by x p i Absent = None
-  made_by x p i (Exp y) = Some (record { from = end_of x p; label = i; to = end_of y p })
-  made_by x p i (Imp m) = Some (record { from = end_of x p; label = i; to = end_of x (turn_at rewrite.placed p m) })
+  -- the step is the same on both sides
+  abbrev pub is_steady : ℕ → ℕ → Bool
+  is_steady x i = has_word rule_at Left x && is_same (step rule_at Left x i) (step rule_at Right x i)
 
-  abbrev pub made_at : ℕ → ℕ → ℕ → Option Arc
-  made_at x p i = if has_word rule_at Right x then made_by x p i (step rule_at Right x i) else None
+  -- a right step that isn't steady
+  abbrev pub made_step : ℕ → ℕ → Step
+  made_step x i = if has_word rule_at Right x && not (is_steady x i) then step rule_at Right x i else Absent
+
+  -- the step whose arcs are written
+  abbrev pub written_step : Arcs → ℕ → ℕ → Step
+  written_step Freed x i = freed_step x i
+  written_step Made x i = made_step x i
+
+  -- the instance to which the arc of such a step of node x leads at position p
+  abbrev pub leads_to : Arcs → ℕ → ℕ → Step → Option (ℕ × ℕ)
+  leads_to Freed x p Absent = None
+  leads_to Freed x p (Exp y) = Some (x, p)
+  leads_to Freed x p (Imp m) = Some (x, p)
+  leads_to Made x p Absent = None
+  leads_to Made x p (Exp y) = Some (y, p)
+  leads_to Made x p (Imp m) = Some (x, turn_at rewrite.placed p m)
+
+  -- the arc from an instance to another
+  abbrev pub arc_between : ℕ → ℕ → ℕ → ℕ × ℕ → Arc
+  arc_between x p i to = record { from = end_of x p; label = i; to = end_of to.0 to.1 }
+
+  abbrev pub arc_by : Arcs → ℕ → ℕ → ℕ → Step → Option Arc
+  arc_by arcs x p i s = option_map (arc_between x p i) (leads_to arcs x p s)
 
   abbrev pub arc_at : Arcs → ℕ → ℕ → ℕ → Option Arc
-  arc_at Freed x p i = freed_at x p i
-  arc_at Made x p i = made_at x p i
+  arc_at arcs x i p = arc_by arcs x p i (written_step arcs x i)
 
   abbrev pub removed_at : ℕ → ℕ → Option Slot
   removed_at x p = if is_removed rule_at x then Some (slot_in rewrite.placed x p) else None
@@ -93,16 +120,16 @@ module _ (rewrite : RewriteOf) where
   abbrev pub labels : ℕ
   labels = rewrite.dim + 1
 
-  -- of one instance
-  abbrev pub arcs_of : Arcs → ℕ → ℕ → List Arc
-  arcs_of arcs x p = concat_below (λ i. as_list (arc_at arcs x p i)) labels
+  -- of one node at one label
+  abbrev pub arcs_at : Arcs → ℕ → ℕ → List Arc
+  arcs_at arcs x i = concat_below (λ p. as_list (arc_at arcs x i p)) rewrite.placed.positions
 
   abbrev pub removed_of : ℕ → ℕ → List Slot
   removed_of x p = as_list (removed_at x p)
 
   -- of one node
   abbrev pub arcs_in : Arcs → ℕ → List Arc
-  arcs_in arcs x = concat_below (arcs_of arcs x) rewrite.placed.positions
+  arcs_in arcs x = concat_below (arcs_at arcs x) labels
 
   abbrev pub removed_in : ℕ → List Slot
   removed_in x = concat_below (removed_of x) rewrite.placed.positions

@@ -1,5 +1,5 @@
 -- Which changes of an arena make the result of an application of it.
-use Rattle.std.specs.Prelude.{◌≡◌, ◌≢◌, ℕ, ◌+◌, ◌*◌, ◌<◌, ◌≤◌, List, [], ◌∷◌, length, sum, Some, slice_get, slice_index_or, pos}
+use Rattle.std.specs.Prelude.{◌≡◌, ◌≢◌, ℕ, ◌+◌, ◌*◌, ◌<◌, ◌≤◌, List, [], ◌∷◌, length, sum, Some, IsTrue, slice_get, slice_index_or, pos}
 use Rattle.std.specs.List.{Contains}
 use Rattle.gm_model.specs.declared.schema.Embed.{Embed}
 use Rattle.gm_model.specs.declared.schema.Schema.{Schema}
@@ -10,18 +10,18 @@ use Rattle.gm_model.specs.Orbits.{HasCount}
 use Rattle.gm_model.specs.Unfolding.{IsGone, IsCutAt, IsMadeArc, IsUnfolding, added_nodes}
 use Rattle.gm_arena.specs.declared.slot.Slot.{Slot}
 use Rattle.gm_arena.specs.ArenaAsMap.{as_map}
-use Rattle.gm_arena.specs.ArenaMap.{ArenaMap, IsLiveSlot, name_at}
+use Rattle.gm_arena.specs.ArenaMap.{ArenaMap, IsLiveSlot, name_at, alpha}
 use Rattle.gm_plan.specs.Counts.{removed_nodes}
-use Rattle.gm_pending.specs.declared.edits.Arc.{Arc}
-use Rattle.gm_pending.specs.declared.edits.End.{End}
-use Rattle.gm_pending.specs.declared.edits.End.TheVariants.{Old, New}
+use Rattle.gm_pending.specs.Arcs.{Arc}
+use Rattle.gm_pending.specs.Arcs.{End}
+use Rattle.gm_pending.specs.Arcs.End.{Old, New}
 use Rattle.gm_pending.specs.declared.edits.ValueAt.{ValueAt}
 use Rattle.gm_pending.specs.Results.{PendingOf, IsPrepared, AreAllGiven, IsReachedIn, IsUnfoldedIn, IsValueIn, rule_in, scene_in}
 use Rattle.gm_theory.specs.Theorem.{Unfolded}
 
 -- what contracts see of edits
 pub record EditLists : Type 0 where
-  -- the arcs that are freed: each leads back to its own dart
+  -- the arcs that are freed of darts that go: each leads back to its own dart
   pub freed : List Arc
   -- the slots of the darts that are removed
   pub removed : List Slot
@@ -29,7 +29,7 @@ pub record EditLists : Type 0 where
   pub added : ℕ
   -- their values: those of one dart after those of another, one for each embedding
   pub added_values : List Value
-  -- the arcs that are made
+  -- the arcs that are made; those that are there already may be left out
   pub arcs : List Arc
   -- the values that are set at darts that stay
   pub values : List ValueAt
@@ -62,16 +62,27 @@ module _ (app : PendingOf) where
   IsResultEnd (Old slot) = IsLiveSlot app.map slot.at × (IsGone (scene_in app) (name_at app.map slot.at) → ⊥)
   IsResultEnd (New number) = number < app.placed.positions * added_nodes (rule_in app)
 
-  -- the list has an arc where it has to have one, and no other
-  pub record AreArcs (IsEnd : End → Type 0) (IsWanted : ℕ → ℕ → ℕ → Type 0) (arcs : List Arc) : Type 0 where
+  -- the list has such arcs alone, and each of them that is needed
+  pub record AreArcs (IsEnd : End → Type 0) (IsGood IsNeeded : ℕ → ℕ → ℕ → Type 0) (arcs : List Arc) : Type 0 where
     pub ends : (arc : Arc) → Contains arcs arc → IsEnd arc.from × IsEnd arc.to
     pub labels : (arc : Arc) → Contains arcs arc → arc.label ≤ app.map.schema.dim
-    pub wanted : (arc : Arc) → Contains arcs arc → IsWanted (end_name arc.from) arc.label (end_name arc.to)
-    pub all : (d i e : ℕ) → IsWanted d i e → (arc : Arc) × Contains arcs arc × (end_name arc.from ≡ d) × (arc.label ≡ i)
+    pub good : (arc : Arc) → Contains arcs arc → IsGood (end_name arc.from) arc.label (end_name arc.to)
+    pub needed : (d i e : ℕ) → IsNeeded d i e → (arc : Arc) × Contains arcs arc × (end_name arc.from ≡ d) × (arc.label ≡ i)
 
-  -- an arc that is cut, and leads back to its own dart
-  abbrev pub IsFreed : ℕ → ℕ → ℕ → Type 0
-  IsFreed d i e = IsCutAt (scene_in app) d i × (i ≤ app.map.schema.dim) × (e ≡ d)
+  -- an arc that is cut and led to a dart that goes: it leads back to its own dart
+  pub record IsFreed (d i e : ℕ) : Type 0 where
+    pub cut : IsCutAt (scene_in app) d i
+    pub gone : IsGone (scene_in app) (alpha app.map i d)
+    pub label : i ≤ app.map.schema.dim
+    pub back : e ≡ d
+
+  -- an arc of the old map
+  abbrev pub IsThere : ℕ → ℕ → ℕ → Type 0
+  IsThere d i e = IsTrue ((scene_in app).live d) × (alpha app.map i d ≡ e)
+
+  -- an arc of a right step that the old map doesn't have
+  abbrev pub IsNewArc : ℕ → ℕ → ℕ → Type 0
+  IsNewArc d i e = IsMadeArc (scene_in app) d i e × (IsThere d i e → ⊥)
 
   -- the slots are those of the darts that go, each once
   pub record AreRemoved (slots : List Slot) : Type 0 where
@@ -120,9 +131,9 @@ module _ (app : PendingOf) where
   -- the edits make the result of the application of its map, in few steps
   pub record AreEditsOf (edits : EditLists) : Type 0 where
     pub prepared : IsPrepared app
-    pub freed : AreArcs IsOldEnd IsFreed edits.freed
+    pub freed : AreArcs IsOldEnd IsFreed IsFreed edits.freed
     pub removed : AreRemoved edits.removed
-    pub arcs : AreArcs IsResultEnd (IsMadeArc (scene_in app)) edits.arcs
+    pub arcs : AreArcs IsResultEnd (IsMadeArc (scene_in app)) IsNewArc edits.arcs
     pub added_values : AreAddedValues edits.added edits.added_values
     pub values : AreNewValues edits.values
     pub added_is : edits.added ≡ app.placed.positions * added_nodes (rule_in app)

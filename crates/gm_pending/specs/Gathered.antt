@@ -1,5 +1,5 @@
 -- How the values of a result are gathered. No public clause cites this module.
-use Rattle.std.specs.Prelude.{◌≡◌, ℕ, ◌+◌, ◌<◌, ◌≤◌, ◌⊎◌, List, length, sum, take, Some, slice_get}
+use Rattle.std.specs.Prelude.{◌≡◌, ℕ, ◌+◌, ◌-◌, ◌*◌, ◌<◌, ◌≤◌, ◌⊎◌, List, length, sum, take, Some, slice_get}
 use Rattle.std.specs.List.{Contains}
 use Rattle.gm_model.specs.declared.schema.Embed.{Embed}
 use Rattle.gm_model.specs.Maps.{IsDart, IsEmbedAt}
@@ -17,6 +17,10 @@ module _ (app : PendingOf) where
   -- so many darts of the result are reached for the embedding
   abbrev pub HasReached : ℕ → ℕ → Type 0
   HasReached e count = (result : Unfolded) × (embed : Embed) × IsUnfoldedIn app result × IsEmbedAt app.map.schema e embed × HasCount (IsReachedIn app result e embed) count
+
+  -- the number of an added node's new dart at a position
+  abbrev pub new_number : ℕ → ℕ → ℕ
+  new_number x p = (x - app.placed.nodes) * app.placed.positions + p
 
   -- the entries are the darts of the result that are reached for the embedding, no more of them than there are
   pub record AreAllReached (e : ℕ) (reached : List Reached) : Type 0 where

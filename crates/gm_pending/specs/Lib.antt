@@ -1,3 +1,4 @@
+pub mod Arcs
 pub mod Answered
 pub mod Collected
 pub mod EditLists

@@ -1,5 +1,5 @@
 -- How reached darts are kept. No public clause cites this module.
-use Rattle.std.specs.Prelude.{◌≡◌, ◌≢◌, ℕ, ◌+◌, ◌*◌, ◌<◌, ◌⊎◌, List, [], ◌∷◌, ◌++◌, Some, slice_get}
+use Rattle.std.specs.Prelude.{◌≡◌, ◌≢◌, ℕ, ◌+◌, ◌*◌, ◌<◌, ◌⊎◌, List, [], ◌∷◌, ◌++◌, Option, Some, IfSome, slice_get}
 use Rattle.std.specs.List.{Contains}
 use Rattle.std.specs.Ordering.{nat_cmp}
 use Rattle.std.specs.BTreeMap.{BTreeMap, get}
@@ -31,7 +31,11 @@ abbrev pub HasDistinctKeys : List Reached → Type 0
 HasDistinctKeys reached = (k l : ℕ) (a b : Reached) → k < l → slice_get reached k ≡ Some a → slice_get reached l ≡ Some b → key_of a.at ≢ key_of b.at
 
 -- the map has the index of each entry, by its key
-pub record AreMarked (reached : List Reached) (deciders : BTreeMap ℕ ℕ) : Type 0 where
+pub record IsIndex (reached : List Reached) (deciders : BTreeMap ℕ ℕ) : Type 0 where
   pub marked : (entry : Reached) → Contains reached entry → get nat_cmp deciders (key_of entry.at) ≡ Some entry.decider
   pub only : (key k : ℕ) → get nat_cmp deciders key ≡ Some k → IsMarkedBy reached key k
+
+-- each key comes once; and where there is a map, it has all of them
+pub record AreMarked (reached : List Reached) (deciders : Option (BTreeMap ℕ ℕ)) : Type 0 where
   pub distinct : HasDistinctKeys reached
+  pub indexed : IfSome deciders (IsIndex reached)

@@ -1,15 +1,18 @@
 -- Where a dart has its value from in an orbit without a deciding instance. No public clause cites this module.
-use Rattle.std.specs.Prelude.{◌≡◌, ℕ, List, Option, slice_get}
+use Rattle.std.specs.Prelude.{◌≡◌, ℕ, ◌<◌, List, length, Option, None, MatchOption, slice_get, slice_index_or}
 use Rattle.std.specs.Option.{option_and_then}
 use Rattle.gm_model.specs.declared.schema.Embed.{Embed}
 use Rattle.gm_model.specs.declared.value.Value.{Value}
-use Rattle.gm_model.specs.Components.{IsKeeper}
-use Rattle.gm_model.specs.Maps.{type_of}
+use Rattle.gm_model.specs.Components.{IsKeeper, IsNew}
+use Rattle.gm_model.specs.Maps.{IsEmbedAt, type_of}
 use Rattle.gm_plan.specs.InArena.{slot_number}
 use Rattle.gm_pending.specs.declared.at.At.{At}
 use Rattle.gm_pending.specs.declared.at.At.TheVariants.{Old, New}
 use Rattle.gm_pending.specs.declared.decider.Decider.{Decider}
-use Rattle.gm_pending.specs.Results.{PendingOf, rule_in}
+use Rattle.gm_pending.specs.declared.marks.Reached.{Reached}
+use Rattle.gm_pending.specs.Marks.{HasKey, key_of}
+use Rattle.gm_pending.specs.Reached.{AreReached}
+use Rattle.gm_pending.specs.Results.{PendingOf, deciders_of, rule_in}
 
 -- an added node's component has a preserved node
 abbrev pub HasSourceNode : PendingOf → Embed → At → Type 0
@@ -20,6 +23,18 @@ HasSourceNode app embed (New x p) = (keeper : ℕ) × IsKeeper (rule_in app) (ty
 abbrev pub IsSourceOf : PendingOf → Embed → At → ℕ → Type 0
 IsSourceOf app embed (Old old) slot = slot ≡ old.at
 IsSourceOf app embed (New x p) slot = (keeper : ℕ) × IsKeeper (rule_in app) (type_of embed) x keeper × (slot_number app.placed keeper p ≡ slot)
+
+-- no deciding instance reaches the dart
+abbrev pub IsUnreached : PendingOf → ℕ → Embed → At → Type 0
+IsUnreached app e embed at = (reached : List Reached) × AreReached app e embed (deciders_of app e) reached × (HasKey reached (key_of at) → ⊥)
+
+-- the least preserved node of the component of x for the embedding of this number, or none where it has none
+abbrev pub IsKeeperFor : PendingOf → ℕ → ℕ → Option ℕ → Type 0
+IsKeeperFor app e x keeper = (embed : Embed) → IsEmbedAt app.map.schema e embed → MatchOption keeper (IsNew (rule_in app) (type_of embed) x) (IsKeeper (rule_in app) (type_of embed) x)
+
+-- the keepers of x, by the number of the embedding
+abbrev pub AreKeepers : PendingOf → ℕ → List (Option ℕ) → Type 0
+AreKeepers app x keepers = (e : ℕ) → e < length app.map.schema.embeds → IsKeeperFor app e x (slice_index_or keepers e None)
 
 -- the value that was given to the deciding instance of this index
 abbrev pub given_of : List Decider → ℕ → Option Value

@@ -10,9 +10,9 @@ use Rattle.gm_arena.specs.declared.slot.Slot.{Slot}
 use Rattle.gm_arena.specs.ArenaMap.{ArenaMap, Dart, IsAt, IsLiveSlot, IsLiveName, name_at}
 use Rattle.gm_arena.specs.Inside.{part_of}
 use Rattle.gm_arena.specs.Edits.{IsAlone, with_alpha, with_value, without_dart}
-use Rattle.gm_pending.specs.declared.edits.Arc.{Arc}
-use Rattle.gm_pending.specs.declared.edits.End.{End}
-use Rattle.gm_pending.specs.declared.edits.End.TheVariants.{Old, New}
+use Rattle.gm_pending.specs.Arcs.{Arc}
+use Rattle.gm_pending.specs.Arcs.{End}
+use Rattle.gm_pending.specs.Arcs.End.{Old, New}
 use Rattle.gm_pending.specs.declared.edits.ValueAt.{ValueAt}
 
 -- each dart has a neighbour for each label

@@ -1,30 +1,31 @@
 //! The commit: the edits of an application, written one by one as they are told.
-ghost use Rattle.std.specs.Prelude.{◌≡◌, ℕ, ◌+◌, ◌-◌, ◌*◌, ◌<◌, ◌≤◌, [], length};
+ghost use Rattle.std.specs.Prelude.{◌≡◌, ℕ, ◌+◌, ◌-◌, ◌*◌, ◌<◌, ◌≤◌, [], length, IfSome};
 ghost use Rattle.std.specs.List.{Contains};
+ghost use Rattle.std.specs.Option.{option_map};
 ghost use Rattle.std.specs.Vec.{vec_capacity};
 ghost use Rattle.gm_model.specs.Maps.{IsGeneralised};
 ghost use Rattle.gm_arena.specs.ArenaAsMap.{as_map};
 ghost use Rattle.gm_arena.specs.Inside.{part_of};
 ghost use Rattle.gm_arena.specs.Lawful.{AreGoodValues};
-ghost use Rattle.gm_pending.specs.declared.edits.Arc.{Arc};
+ghost use Rattle.gm_pending.specs.Arcs.{Arc};
 ghost use Rattle.gm_pending.specs.declared.edits.ValueAt.{ValueAt};
-ghost use Rattle.gm_pending.specs.Collected.{as_list, rule_at, arcs_of, arcs_in, all_arcs, removed_in, all_removed};
+ghost use Rattle.gm_pending.specs.Collected.{as_list, arc_between, rule_at, arcs_at, arcs_in, all_arcs, removed_in, all_removed};
 ghost use Rattle.gm_pending.specs.EditLists.{AreEditsHere, AreEditsOf, HasSameRows, IsReachedSumIn, IsResultOf};
 ghost use Rattle.gm_pending.specs.Results.{PendingOf, rule_in};
-ghost use Rattle.gm_pending.specs.Written.{HasSlot, IsWritable, IsSettable, CanRemove, IsExtended, slot_of, end_at, with_arcs, with_values, without_darts};
+ghost use Rattle.gm_pending.specs.Written.{IsWritable, IsSettable, CanRemove, IsExtended, end_at, with_arcs, with_values, without_darts};
 
-use crate::edits::{Arc, Edits, End, ValueAt};
+use crate::edits::{Edits, ValueAt};
 use crate::rewrite::{Arcs, Rewrite};
 use gm_arena::{Arena, Slot, Steps};
-use gm_model::Value;
+use gm_model::{Step, Value};
 use std::sync::ledger::Ledger;
 
 impl Edits<'_> {
     /// Makes the arena the result. It can't be refused, and takes no memory.
     ///
     /// The darts that go leave before the new ones come, so that a full map can be rewritten: first
-    /// the arcs of left steps are freed, then darts are removed, then added, then linked. The values
-    /// of old darts come last.
+    /// the arcs that led to them are freed, then they are removed, then darts are added, then linked.
+    /// An arc whose step is the same on both sides stays as it is. The values of old darts come last.
     pub fn commit<L: Ledger>(self, arena: &mut Arena, steps: &mut Steps<L>)
         requires edits { AreEditsHere arena.old self }
         requires names { arena.old.next + self.added ≤ arena.old.reserved }
@@ -78,38 +79,60 @@ impl Rewrite<'_> {
         ensures map { arena.new ≡ with_arcs (end_at arena.old made.now) arena.old (arcs_in self.now arcs node) }
         ensures cost { steps.new ≡ steps.old + length (arcs_in self.now arcs node) }
     {
-        for position in 0..self.positions() {
-            self.write_instance(arcs, node, position, made, arena, steps);
+        for label in 0..self.labels() {
+            self.write_step(arcs, node, label, made, arena, steps);
         }
     }
 
-    fn write_instance<L: Ledger>(
+    /// Writes the arcs of one step, at each position.
+    fn write_step<L: Ledger>(
         &self,
         arcs: Arcs,
         node: u8,
-        position: u32,
+        label: u8,
         made: &[Slot],
         arena: &mut Arena,
         steps: &mut Steps<L>,
     )
         requires node { node < length (rule_at self.now).nodes }
-        requires position { position < self.now.placed.positions }
-        requires arcs { (arc : Arc) → Contains (arcs_of self.now arcs node position) arc → IsWritable arena.old made.now arc }
-        ensures map { arena.new ≡ with_arcs (end_at arena.old made.now) arena.old (arcs_of self.now arcs node position) }
-        ensures cost { steps.new ≡ steps.old + length (arcs_of self.now arcs node position) }
+        requires label { label ≤ self.now.dim }
+        requires arcs { (arc : Arc) → Contains (arcs_at self.now arcs node label) arc → IsWritable arena.old made.now arc }
+        ensures map { arena.new ≡ with_arcs (end_at arena.old made.now) arena.old (arcs_at self.now arcs node label) }
+        ensures cost { steps.new ≡ steps.old + length (arcs_at self.now arcs node label) }
     {
-        if !self.has_arcs(arcs, node) {
+        let step = self.written_step(arcs, node, label);
+        if step == Step::Absent {
             return;
         }
-        let from = self.end(node, position);
-        for label in 0..self.labels() {
-            write_arc(
-                self.arc(arcs, from, node, position, label),
-                made,
-                arena,
-                steps,
-            );
+        for position in 0..self.positions() {
+            let to = self.leads_to(arcs, step, node, position, label);
+            self.write_arc(node, position, label, to, made, arena, steps);
         }
+    }
+
+    /// Writes the arc from an instance to another, where there is one.
+    fn write_arc<L: Ledger>(
+        &self,
+        node: u8,
+        position: u32,
+        label: u8,
+        to: Option<(u8, u32)>,
+        made: &[Slot],
+        arena: &mut Arena,
+        steps: &mut Steps<L>,
+    )
+        requires position { position < self.now.placed.positions }
+        requires within { IfSome to (λ other. other.1 < self.now.placed.positions) }
+        requires arc { (arc : Arc) → Contains (as_list (option_map (arc_between self.now node position label) to)) arc → IsWritable arena.old made.now arc }
+        ensures map { arena.new ≡ with_arcs (end_at arena.old made.now) arena.old (as_list (option_map (arc_between self.now node position label) to)) }
+        ensures cost { steps.new ≡ steps.old + length (as_list (option_map (arc_between self.now node position label) to)) }
+    {
+        let Some((other, there)) = to else {
+            return;
+        };
+        let from = self.slot(node, position, made);
+        let to = self.slot(other, there, made);
+        arena.set_alpha(from, label, to, steps);
     }
 
     /// Removes the darts that go.
@@ -128,32 +151,12 @@ impl Rewrite<'_> {
         ensures map { arena.new ≡ without_darts arena.old (removed_in self.now node) }
         ensures cost { steps.new ≡ steps.old + length (removed_in self.now node) }
     {
-        for position in 0..self.positions() {
-            remove_dart(self.removed_slot(node, position), arena, steps);
+        if !self.is_removed(node) {
+            return;
         }
-    }
-}
-
-fn write_arc<L: Ledger>(arc: Option<Arc>, made: &[Slot], arena: &mut Arena, steps: &mut Steps<L>)
-    requires { (a : Arc) → Contains (as_list arc) a → IsWritable arena.old made.now a }
-    ensures map { arena.new ≡ with_arcs (end_at arena.old made.now) arena.old (as_list arc) }
-    ensures cost { steps.new ≡ steps.old + length (as_list arc) }
-{
-    let Some(arc) = arc else {
-        return;
-    };
-    let from = slot_at(arc.from, made);
-    let to = slot_at(arc.to, made);
-    arena.set_alpha(from, arc.label, to, steps);
-}
-
-fn remove_dart<L: Ledger>(slot: Option<Slot>, arena: &mut Arena, steps: &mut Steps<L>)
-    requires { CanRemove arena.old (as_list slot) }
-    ensures map { arena.new ≡ without_darts arena.old (as_list slot) }
-    ensures cost { steps.new ≡ steps.old + length (as_list slot) }
-{
-    if let Some(slot) = slot {
-        arena.remove(slot, steps);
+        for position in 0..self.positions() {
+            arena.remove(self.removed_slot(node, position), steps);
+        }
     }
 }
 
@@ -190,16 +193,5 @@ fn set_values<L: Ledger>(values: &[ValueAt], arena: &mut Arena, steps: &mut Step
 {
     for entry in values {
         arena.set_value(entry.slot, entry.embed, entry.value, steps);
-    }
-}
-
-/// The slot of an end.
-fn slot_at(end: End, made: &[Slot]) -> Slot
-    requires { HasSlot made.now end }
-    ensures { result ≡ slot_of made.now end }
-{
-    match end {
-        End::Old(slot) => slot,
-        End::New(number) => made[number],
     }
 }

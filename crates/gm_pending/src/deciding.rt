@@ -21,6 +21,9 @@ use gm_arena::Steps;
 use gm_model::{Embed, OutOfMemory};
 use std::sync::ledger::Ledger;
 
+/// So many instances are looked through one after another, since that is faster than any look-up.
+const FEW: u64 = 16;
+
 impl Pending<'_, '_> {
     /// Finds the deciding instances of an embedding, which wasn't asked for before, and answers how
     /// many they are. Where memory was wanting, it counts as not asked for.
@@ -46,12 +49,14 @@ impl Pending<'_, '_> {
         Ok(count)
     }
 
-    /// Prepares the look-up of slots, where the rule assigns the embedding.
+    /// Prepares the look-up of slots, where the rule assigns the embedding and has more than a few
+    /// instances.
     fn look_up(&mut self, embed: u8) -> Result<(), OutOfMemory>
         ensures { self.new ≡ self.old }
     {
-        if self.lookup.is_none() && self.assigns_any(embed) {
-            let nodes = self.plan.left_nodes();
+        let nodes = self.plan.left_nodes();
+        let instances = u64::from(nodes) * u64::from(self.found.positions());
+        if self.lookup.is_none() && instances > FEW && self.assigns_any(embed) {
             self.lookup = Some(Lookup::build(self.alloc, self.found, nodes)?);
         }
         Ok(())

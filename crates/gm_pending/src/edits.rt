@@ -10,25 +10,8 @@ use gm_model::{OutOfMemory, Value};
 use std::marker::Model;
 use std::sync::ledger::Ledger;
 
-/// A dart of a result, as edits name it.
-#[derive(Clone, Copy, Debug, PartialEq, Eq)]
-pub(crate) enum End {
-    /// A dart of the old map.
-    Old(Slot),
-    /// The new dart of this number.
-    New(usize),
-}
-
-/// That the dart at one end has the other as its neighbour along the label.
-#[derive(Clone, Copy, Debug, PartialEq, Eq)]
-pub(crate) struct Arc {
-    pub(crate) from: End,
-    pub(crate) label: u8,
-    pub(crate) to: End,
-}
-
 /// That the dart at the slot has the value of the embedding.
-#[derive(Clone, Copy, Debug, PartialEq, Eq)]
+#[derive(Clone, Copy)]
 pub(crate) struct ValueAt {
     pub(crate) slot: Slot,
     pub(crate) embed: u8,

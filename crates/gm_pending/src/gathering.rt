@@ -1,9 +1,11 @@
 //! The values that the darts of a result get, gathered before anything is written.
-ghost use Rattle.std.specs.Prelude.{◌≡◌, ℕ, ◌+◌, ◌*◌, ◌<◌, ◌≤◌, length, IfOk, OnOk};
+ghost use Rattle.std.specs.Prelude.{◌≡◌, ℕ, ◌+◌, ◌*◌, ◌<◌, ◌≤◌, length, IfOk, OnOk, IsTrue};
+ghost use Rattle.gm_model.specs.Rules.{is_added};
 ghost use Rattle.gm_model.specs.Unfolding.{added_nodes};
 ghost use Rattle.gm_pending.specs.EditLists.{AllGiven, AreAddedValues, AreNewValues, IsReachedSumIn};
-ghost use Rattle.gm_pending.specs.Gathered.{AreGathered, HasReached};
-ghost use Rattle.gm_pending.specs.Results.{IsResultDart, name_of, rule_in};
+ghost use Rattle.gm_pending.specs.Gathered.{AreGathered, HasReached, new_number};
+ghost use Rattle.gm_pending.specs.Results.{IsPrepared, rule_in};
+ghost use Rattle.gm_pending.specs.Sources.{AreKeepers};
 
 use crate::at::At;
 use crate::edits::ValueAt;
@@ -12,10 +14,14 @@ use gm_arena::Steps;
 use gm_model::{OutOfMemory, Value};
 use std::sync::ledger::Ledger;
 
+/// How many embeddings a schema has at most.
+const MOST_EMBEDS: usize = 8;
+
 impl Pending<'_, '_> {
     /// The number of embeddings.
     fn embeds(&self) -> u8
-        ensures { result ≡ length self.now.map.schema.embeds }
+        ensures embeds { result ≡ length self.now.map.schema.embeds }
+        ensures prepared { IsPrepared self.now }
     {
         self.arena.schema().embeds.as_slice().len() as u8
     }
@@ -32,46 +38,73 @@ impl Pending<'_, '_> {
         ensures cost { steps.new ≤ steps.old + added * length self.now.map.schema.embeds }
         ensures least { steps.old ≤ steps.new }
     {
+        if self.embeds() == 0 {
+            return Ok(Vec::new(self.alloc));
+        }
         let room = added.saturating_mul(self.embeds() as usize);
         let mut values = Vec::with_capacity(self.alloc, room)?;
-        for number in 0..added {
-            self.put_added_values(number, &mut values, steps)?;
+        for node in self.left_nodes()..self.nodes() {
+            self.put_values_of_node(node, &mut values, steps)?;
         }
         Ok(values)
     }
 
-    /// Puts the values of the new dart of this number behind those of the earlier ones.
-    fn put_added_values<L: Ledger>(
+    /// Puts the values of an added node's new darts, by position, behind those of the earlier ones.
+    fn put_values_of_node<L: Ledger>(
         &self,
-        number: usize,
+        node: u8,
         values: &mut Vec<Value>,
         steps: &mut Steps<L>,
     ) -> Result<(), OutOfMemory>
-        requires number { number < self.now.placed.positions * added_nodes (rule_in self.now) }
+        requires added { IsTrue (is_added (rule_in self.now) node) }
         requires given { AllGiven self.now }
-        requires earlier { AreAddedValues self.now number values.old.items }
-        ensures values { OnOk result (AreAddedValues self.now (number + 1) values.new.items) }
-        ensures cost { steps.new ≤ steps.old + length self.now.map.schema.embeds }
+        requires earlier { AreAddedValues self.now (new_number self.now node 0) values.old.items }
+        ensures values { OnOk result (AreAddedValues self.now (new_number self.now node self.now.placed.positions) values.new.items) }
+        ensures cost { steps.new ≤ steps.old + self.now.placed.positions * length self.now.map.schema.embeds }
         ensures least { steps.old ≤ steps.new }
     {
-        let at = self.added_dart(number);
-        for embed in 0..self.embeds() {
-            values.push(self.value(at, embed, steps))?;
+        let keepers = self.keepers(node);
+        for position in 0..self.positions() {
+            self.put_values_of_dart(node, position, &keepers, values, steps)?;
         }
         Ok(())
     }
 
-    /// The new dart of this number.
-    fn added_dart(&self, number: usize) -> At
-        requires { number < self.now.placed.positions * added_nodes (rule_in self.now) }
-        ensures dart { IsResultDart self.now result }
-        ensures name { name_of self.now result ≡ self.now.map.next + number }
+    /// Puts the values of a new dart, by embedding, behind those of the earlier ones.
+    fn put_values_of_dart<L: Ledger>(
+        &self,
+        node: u8,
+        position: u32,
+        keepers: &[Option<u8>; MOST_EMBEDS],
+        values: &mut Vec<Value>,
+        steps: &mut Steps<L>,
+    ) -> Result<(), OutOfMemory>
+        requires added { IsTrue (is_added (rule_in self.now) node) }
+        requires position { position < self.now.placed.positions }
+        requires keepers { AreKeepers self.now node keepers.now }
+        requires given { AllGiven self.now }
+        requires earlier { AreAddedValues self.now (new_number self.now node position) values.old.items }
+        ensures values { OnOk result (AreAddedValues self.now (new_number self.now node position + 1) values.new.items) }
+        ensures cost { steps.new ≤ steps.old + length self.now.map.schema.embeds }
+        ensures least { steps.old ≤ steps.new }
     {
-        let positions = self.found.positions() as usize;
-        At::New {
-            node: self.plan.left_nodes() + (number / positions) as u8,
-            position: (number % positions) as u32,
+        for embed in 0..self.embeds() {
+            let keeper = keepers[embed as usize];
+            values.push(self.new_value(node, position, embed, keeper, steps))?;
         }
+        Ok(())
+    }
+
+    /// The keepers of an added node, by embedding.
+    fn keepers(&self, node: u8) -> [Option<u8>; MOST_EMBEDS]
+        requires { IsTrue (is_added (rule_in self.now) node) }
+        ensures { AreKeepers self.now node result }
+    {
+        let mut keepers = [None; MOST_EMBEDS];
+        for embed in 0..self.embeds() {
+            keepers[embed as usize] = self.keeper(node, embed);
+        }
+        keepers
     }
 
     /// The values that old darts get.

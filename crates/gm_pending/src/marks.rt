@@ -1,7 +1,7 @@
 //! The darts of a result that are reached from deciding instances.
-ghost use Rattle.std.specs.Prelude.{◌≡◌, ◌∷◌, ◌++◌, ◌<◌, [], length, slice_get, Some, MatchOption, OnOk, OnErr};
+ghost use Rattle.std.specs.Prelude.{◌≡◌, List, ◌∷◌, ◌++◌, ◌<◌, [], length, slice_get, Some, MatchOption, IfOk, IfSome, OnOk, OnErr};
 ghost use Rattle.gm_pending.specs.declared.marks.Reached.{Reached};
-ghost use Rattle.gm_pending.specs.Marks.{key_of, reached_by, HasKey, IsMarkedBy, IsMarkedMore, HasDistinctKeys};
+ghost use Rattle.gm_pending.specs.Marks.{key_of, reached_by, HasKey, IsIndex, IsMarkedBy, IsMarkedMore, HasDistinctKeys};
 
 use crate::at::At;
 use gm_model::OutOfMemory;
@@ -10,18 +10,22 @@ use std::collections::BTreeMap;
 use std::marker::Model;
 
 /// A dart of a result, and the index of the instance that decides its orbit.
-#[derive(Clone, Copy, Debug)]
+#[derive(Clone, Copy)]
 pub(crate) struct Reached {
     pub(crate) at: At,
     pub(crate) decider: u32,
 }
 
+/// So many darts are looked through one after another, since that is faster than any index.
+const FEW: usize = 16;
+
 /// The darts that are reached, in the order in which they were found. None comes twice.
 #[derive(Drop)]
 pub(crate) struct Marks {
+    alloc: Global,
     reached: Vec<Reached>,
-    /// The index of the deciding instance, by the key of a dart.
-    deciders: BTreeMap<u64, u32>,
+    /// The index of the deciding instance, by the key of a dart, where there are more than a few.
+    deciders: Option<BTreeMap<u64, u32>>,
 }
 
 impl Model for Marks {
@@ -42,8 +46,9 @@ impl Marks {
         ensures { result ≡ [] }
     {
         Marks {
+            alloc,
             reached: Vec::new(alloc),
-            deciders: BTreeMap::new(alloc),
+            deciders: None,
         }
     }
 
@@ -76,7 +81,10 @@ impl Marks {
         ensures decider { MatchOption result (HasKey self.now (key_of at) → ⊥) (IsMarkedBy self.now (key_of at)) }
         ensures distinct { HasDistinctKeys self.now }
     {
-        self.deciders.get(&key(at)).copied()
+        match &self.deciders {
+            Some(deciders) => deciders.get(&key(at)).copied(),
+            None => decider_among(&self.reached, key(at)),
+        }
     }
 
     /// Adds a dart, unless it is there. Where memory was wanting, nothing is added.
@@ -97,11 +105,61 @@ impl Marks {
         ensures ok { OnOk result (self.new ≡ self.old ++ reached_by at decider ∷ []) }
         ensures err { OnErr result (self.new ≡ self.old) }
     {
+        self.index_many()?;
         self.reached.try_reserve(1)?;
-        self.deciders.insert(key(at), decider)?;
+        self.deciders = put(self.deciders.take(), at, decider)?;
         self.reached.push_reserved(Reached { at, decider });
         Ok(())
     }
+
+    /// Makes the index, where there are more than a few darts.
+    fn index_many(&mut self) -> Result<(), OutOfMemory>
+        ensures { self.new ≡ self.old }
+    {
+        if self.deciders.is_none() && self.reached.len() >= FEW {
+            self.deciders = Some(index(self.alloc, &self.reached)?);
+        }
+        Ok(())
+    }
+}
+
+/// The index of the deciding instance of each dart, by its key.
+fn index(alloc: Global, reached: &[Reached]) -> Result<BTreeMap<u64, u32>, OutOfMemory>
+    requires { HasDistinctKeys reached.now }
+    ensures { IfOk result (IsIndex reached.now) }
+{
+    let mut deciders = BTreeMap::new(alloc);
+    for entry in reached {
+        deciders.insert(key(entry.at), entry.decider)?;
+    }
+    Ok(deciders)
+}
+
+/// The index with one more dart, where there is one.
+fn put(
+    deciders: Option<BTreeMap<u64, u32>>,
+    at: At,
+    decider: u32,
+) -> Result<Option<BTreeMap<u64, u32>>, OutOfMemory>
+    ensures { IfOk result (λ more. (reached : List Reached) → (HasKey reached (key_of at) → ⊥) → IfSome deciders (IsIndex reached) → IfSome more (IsIndex (reached ++ reached_by at decider ∷ []))) }
+{
+    let Some(mut deciders) = deciders else {
+        return Ok(None);
+    };
+    deciders.insert(key(at), decider)?;
+    Ok(Some(deciders))
+}
+
+/// The index of the deciding instance of the dart with this key.
+fn decider_among(reached: &[Reached], wanted: u64) -> Option<u32>
+    ensures { MatchOption result (HasKey reached.now wanted → ⊥) (IsMarkedBy reached.now wanted) }
+{
+    for entry in reached {
+        if key(entry.at) == wanted {
+            return Some(entry.decider);
+        }
+    }
+    None
 }
 
 /// A number of the dart: no other dart has it.

@@ -165,6 +165,14 @@ impl<'a, 'm> Pending<'a, 'm> {
         self.plan.rule().node_count()
     }
 
+    /// The number of left nodes. The nodes from there on are added.
+    pub(crate) fn left_nodes(&self) -> u8
+        ensures left { result ≡ self.now.placed.nodes }
+        ensures most { result ≤ length (rule_in self.now).nodes }
+    {
+        self.plan.left_nodes()
+    }
+
     /// Whether the node has an assignment to the embedding.
     pub(crate) fn assigns(&self, embed: u8, node: u8) -> bool
         requires { node < length (rule_in self.now).nodes }

@@ -1,20 +1,21 @@
-ghost use Rattle.std.specs.Prelude.{◌≡◌, ℕ, ◌+◌, ◌<◌, ◌≤◌, length, IsTrue};
+ghost use Rattle.std.specs.Prelude.{◌≡◌, ℕ, ◌+◌, ◌<◌, ◌≤◌, length, IfSome, IsTrue};
 ghost use Rattle.gm_model.specs.declared.rule.Side.TheVariants.{Left, Right};
-ghost use Rattle.gm_model.specs.Rules.{has_word};
-ghost use Rattle.gm_pending.specs.Collected.{rule_at, end_of, side_of, freed_at, made_at, arc_at, removed_at};
+ghost use Rattle.gm_model.specs.declared.step.Step.{Step};
+ghost use Rattle.gm_model.specs.Rules.{has_word, is_removed};
+ghost use Rattle.gm_pending.specs.Collected.{rule_at, end_of, is_steady, freed_step, made_step, written_step, leads_to, slot_in};
+ghost use Rattle.gm_pending.specs.Written.{HasSlot, slot_of};
 
-use crate::edits::{Arc, End};
 use gm_arena::Slot;
 use gm_model::{Side, Step};
 use gm_plan::{Instances, Plan};
 use std::marker::Model;
 
 /// Which arcs of an application are meant.
-#[derive(Clone, Copy, Debug, PartialEq, Eq)]
+#[derive(Clone, Copy)]
 pub(crate) enum Arcs {
-    /// Those of left steps, each of which is to lead back to its own dart.
+    /// Those that led to darts that are removed: each is to lead back to its own dart.
     Freed,
-    /// Those of right steps.
+    /// Those of right steps. Where the left step is the same, the arc is there already.
     Made,
 }
 
@@ -60,93 +61,109 @@ impl Rewrite<'_> {
         self.found.positions()
     }
 
-    /// Whether the node has such arcs.
-    pub(crate) fn has_arcs(&self, arcs: Arcs, node: u8) -> bool
-        requires { node < length (rule_at self.now).nodes }
-        ensures { result ≡ has_word (rule_at self.now) (side_of arcs) node }
+    /// The step of the node at the label whose arcs are to be written.
+    pub(crate) fn written_step(&self, arcs: Arcs, node: u8, label: u8) -> Step
+        requires node { node < length (rule_at self.now).nodes }
+        requires label { label ≤ self.now.dim }
+        ensures { result ≡ written_step self.now arcs node label }
     {
         match arcs {
-            Arcs::Freed => node < self.plan.left_nodes(),
-            Arcs::Made => self.is_right(node),
+            Arcs::Freed => self.freed_step(node, label),
+            Arcs::Made => self.made_step(node, label),
         }
     }
 
-    /// The arc of the node at the position and the label, from the end that the node is there.
-    pub(crate) fn arc(
+    /// The left step, where it leads to darts that are removed.
+    fn freed_step(&self, node: u8, label: u8) -> Step
+        requires node { node < length (rule_at self.now).nodes }
+        requires label { label ≤ self.now.dim }
+        ensures { result ≡ freed_step self.now node label }
+    {
+        if node >= self.plan.left_nodes() {
+            return Step::Absent;
+        }
+        let step = self.plan.step(Side::Left, node, label);
+        let is_freed = match step {
+            Step::Absent => false,
+            Step::Exp(other) => self.is_removed(other),
+            Step::Imp(_) => self.is_removed(node),
+        };
+        if is_freed { step } else { Step::Absent }
+    }
+
+    /// The right step, unless it is steady.
+    fn made_step(&self, node: u8, label: u8) -> Step
+        requires node { node < length (rule_at self.now).nodes }
+        requires label { label ≤ self.now.dim }
+        ensures { result ≡ made_step self.now node label }
+    {
+        if self.is_right(node) && !self.is_steady(node, label) {
+            self.plan.step(Side::Right, node, label)
+        } else {
+            Step::Absent
+        }
+    }
+
+    /// Whether the step is the same on both sides.
+    fn is_steady(&self, node: u8, label: u8) -> bool
+        requires node { node < length (rule_at self.now).nodes }
+        requires label { label ≤ self.now.dim }
+        ensures { result ≡ is_steady self.now node label }
+    {
+        node < self.plan.left_nodes()
+            && self.plan.step(Side::Left, node, label) == self.plan.step(Side::Right, node, label)
+    }
+
+    /// The instance to which the arc of such a step leads at the position.
+    pub(crate) fn leads_to(
         &self,
         arcs: Arcs,
-        from: End,
+        step: Step,
         node: u8,
         position: u32,
         label: u8,
-    ) -> Option<Arc>
-        requires word { IsTrue (has_word (rule_at self.now) (side_of arcs) node) }
-        requires from { from ≡ end_of self.now node position }
+    ) -> Option<(u8, u32)>
+        requires step { step ≡ written_step self.now arcs node label }
         requires position { position < self.now.placed.positions }
-        requires label { label ≤ self.now.dim }
-        ensures { result ≡ arc_at self.now arcs node position label }
+        ensures leads { result ≡ leads_to self.now arcs node position step }
+        ensures within { IfSome result (λ to. to.1 < self.now.placed.positions) }
     {
-        match arcs {
-            Arcs::Freed => self.freed_arc(from, node, label),
-            Arcs::Made => self.made_arc(from, node, position, label),
-        }
-    }
-
-    /// The arc of a left step, which leads back to its own dart.
-    fn freed_arc(&self, from: End, node: u8, label: u8) -> Option<Arc>
-        requires word { IsTrue (has_word (rule_at self.now) Left node) }
-        requires label { label ≤ self.now.dim }
-        ensures { (position : ℕ) → from ≡ end_of self.now node position → result ≡ freed_at self.now node position label }
-    {
-        match self.plan.step(Side::Left, node, label) {
-            Step::Absent => None,
-            _ => Some(Arc {
-                from,
-                label,
-                to: from,
-            }),
+        match (arcs, step) {
+            (_, Step::Absent) => None,
+            (Arcs::Freed, _) => Some((node, position)),
+            (Arcs::Made, Step::Exp(other)) => Some((other, position)),
+            (Arcs::Made, Step::Imp(place)) => Some((node, self.found.turn(position, place))),
         }
     }
 
     /// The slot of a node that is removed.
-    pub(crate) fn removed_slot(&self, node: u8, position: u32) -> Option<Slot>
+    pub(crate) fn removed_slot(&self, node: u8, position: u32) -> Slot
+        requires removed { IsTrue (is_removed (rule_at self.now) node) }
         requires position { position < self.now.placed.positions }
-        ensures { result ≡ removed_at self.now node position }
+        ensures { result ≡ slot_in self.now.placed node position }
     {
-        if node >= self.plan.left_nodes() || self.is_right(node) {
-            return None;
-        }
-        Some(self.found.slot(node, position))
+        self.found.slot(node, position)
     }
 
-    /// The arc of a right step.
-    fn made_arc(&self, from: End, node: u8, position: u32, label: u8) -> Option<Arc>
-        requires word { IsTrue (has_word (rule_at self.now) Right node) }
-        requires from { from ≡ end_of self.now node position }
+    /// The slot of an instance. Those of new darts are in `made`.
+    pub(crate) fn slot(&self, node: u8, position: u32, made: &[Slot]) -> Slot
         requires position { position < self.now.placed.positions }
-        requires label { label ≤ self.now.dim }
-        ensures { result ≡ made_at self.now node position label }
-    {
-        let to = match self.plan.step(Side::Right, node, label) {
-            Step::Absent => return None,
-            Step::Exp(other) => self.end(other, position),
-            Step::Imp(place) => self.end(node, self.found.turn(position, place)),
-        };
-        Some(Arc { from, label, to })
-    }
-
-    /// The end that a node is at a position.
-    pub(crate) fn end(&self, node: u8, position: u32) -> End
-        requires position { position < self.now.placed.positions }
-        ensures { result ≡ end_of self.now node position }
+        requires made { HasSlot made.now (end_of self.now node position) }
+        ensures { result ≡ slot_of made.now (end_of self.now node position) }
     {
         let left = self.plan.left_nodes();
         if node < left {
-            End::Old(self.found.slot(node, position))
+            self.found.slot(node, position)
         } else {
             let block = (node - left) as usize * self.found.positions() as usize;
-            End::New(block + position as usize)
+            made[block + position as usize]
         }
+    }
+
+    pub(crate) fn is_removed(&self, node: u8) -> bool
+        ensures { result ≡ is_removed (rule_at self.now) node }
+    {
+        node < self.plan.left_nodes() && !self.is_right(node)
     }
 
     fn is_right(&self, node: u8) -> bool

@@ -1,14 +1,15 @@
 //! The values of a result, as the values that were given to its deciding instances make them.
-ghost use Rattle.std.specs.Prelude.{◌≡◌, ◌+◌, ◌<◌, ◌≤◌, length, map, slice_get, Some, IsSome, IsTrue};
+ghost use Rattle.std.specs.Prelude.{◌≡◌, ◌+◌, ◌<◌, ◌≤◌, length, map, slice_get, Some, IsSome, IsTrue, MatchOption};
 ghost use Rattle.gm_model.specs.declared.schema.Embed.{Embed};
 ghost use Rattle.gm_model.specs.Maps.{IsEmbedAt};
 ghost use Rattle.gm_model.specs.Values.{IsValueOf};
 ghost use Rattle.gm_pending.specs.declared.decider.Decider.{Decider};
 ghost use Rattle.gm_pending.specs.Reached.{AreReached};
-ghost use Rattle.gm_pending.specs.Sources.{HasSourceNode, IsSourceOf, given_of};
+ghost use Rattle.gm_pending.specs.Sources.{HasSourceNode, IsKeeperFor, IsSourceOf, IsUnreached, given_of};
 ghost use Rattle.gm_pending.specs.declared.at.At.TheVariants.{New};
-ghost use Rattle.gm_model.specs.Rules.{is_added};
+ghost use Rattle.gm_model.specs.Rules.{is_added, is_preserved};
 ghost use Rattle.gm_arena.specs.ArenaMap.{IsLiveSlot};
+ghost use Rattle.gm_plan.specs.InArena.{slot_number};
 ghost use Rattle.gm_pending.specs.Results.{IsPrepared, IsAsked, AreAllGiven, IsResultDart, IsValueIn, deciders_of, given_at, with_deciders, name_of, place_of, rule_in};
 
 use crate::asked::{Asked, keep, take_out};
@@ -51,11 +52,53 @@ impl Pending<'_, '_> {
         ensures cost { steps.new ≤ steps.old + 1 }
         ensures least { steps.old ≤ steps.new }
     {
-        let asked = self.answer(embed);
-        match asked.marks.decider(at) {
-            Some(index) => given(&asked.deciders, index),
+        match self.decided_value(at, embed) {
+            Some(value) => value,
             None => self.arena.value(self.source(at, embed), embed, steps),
         }
+    }
+
+    /// The value of an added node's new dart at a position, as `value` has it. The node's keeper
+    /// for the embedding is given, since it is the same at all positions.
+    pub(crate) fn new_value<L: Ledger>(
+        &self,
+        node: u8,
+        position: u32,
+        embed: u8,
+        keeper: Option<u8>,
+        steps: &mut Steps<L>,
+    ) -> Value
+        requires added { IsTrue (is_added (rule_in self.now) node) }
+        requires position { position < self.now.placed.positions }
+        requires given { AreAllGiven self.now embed }
+        requires keeper { IsKeeperFor self.now embed node keeper }
+        ensures value { (kept : Embed) → IsEmbedAt self.now.map.schema embed kept → IsValueIn self.now embed kept (name_of self.now (New node position)) result }
+        ensures cost { steps.new ≤ steps.old + 1 }
+        ensures least { steps.old ≤ steps.new }
+    {
+        if let Some(value) = self.decided_value(At::New { node, position }, embed) {
+            return value;
+        }
+        match keeper {
+            Some(keeper) => {
+                let slot = self.kept_slot(keeper, position);
+                self.arena.value(slot, embed, steps)
+            }
+            None => unreachable!(),
+        }
+    }
+
+    /// The value of the instance that decides the dart's orbit; none where no instance does.
+    fn decided_value(&self, at: At, embed: u8) -> Option<Value>
+        requires dart { IsResultDart self.now at }
+        requires given { AreAllGiven self.now embed }
+        ensures value { (kept : Embed) → IsEmbedAt self.now.map.schema embed kept → MatchOption result (IsUnreached self.now embed kept at) (IsValueIn self.now embed kept (name_of self.now at)) }
+        ensures embed { embed < length self.now.map.schema.embeds }
+        ensures prepared { IsPrepared self.now }
+    {
+        let asked = self.answer(embed);
+        let index = asked.marks.decider(at)?;
+        Some(given(&asked.deciders, index))
     }
 
     /// The old dart whose value a dart has in an orbit without a deciding instance.
@@ -68,21 +111,31 @@ impl Pending<'_, '_> {
     {
         match at {
             At::Old(slot) => slot,
-            At::New { node, position } => self.kept_slot(node, position, embed),
+            At::New { node, position } => match self.keeper(node, embed) {
+                Some(keeper) => self.kept_slot(keeper, position),
+                None => unreachable!(),
+            },
         }
     }
 
-    /// The slot of the least preserved node of an added node's component, at the position.
-    pub(crate) fn kept_slot(&self, node: u8, position: u32, embed: u8) -> Slot
+    /// The keeper of an added node: the least preserved node of its component for the embedding,
+    /// if there is one.
+    pub(crate) fn keeper(&self, node: u8, embed: u8) -> Option<u8>
         requires added { IsTrue (is_added (rule_in self.now) node) }
-        requires position { position < self.now.placed.positions }
         requires embed { embed < length self.now.map.schema.embeds }
-        requires keeper { (kept : Embed) → IsEmbedAt self.now.map.schema embed kept → HasSourceNode self.now kept (New node position) }
-        ensures live { IsLiveSlot self.now.map result.at }
-        ensures source { (kept : Embed) → IsEmbedAt self.now.map.schema embed kept → IsSourceOf self.now kept (New node position) result.at }
+        ensures { IsKeeperFor self.now embed node result }
     {
         let declared = &self.arena.schema().embeds.as_slice()[embed as usize];
-        let keeper = keeper_of(self.plan.rule(), declared.mask, node);
+        keeper_of(self.plan.rule(), declared.mask, node)
+    }
+
+    /// The slot of a preserved node at the position.
+    fn kept_slot(&self, keeper: u8, position: u32) -> Slot
+        requires preserved { IsTrue (is_preserved (rule_in self.now) keeper) }
+        requires position { position < self.now.placed.positions }
+        ensures live { IsLiveSlot self.now.map result.at }
+        ensures slot { slot_number self.now.placed keeper position ≡ result.at }
+    {
         self.found.slot(keeper, position)
     }
 

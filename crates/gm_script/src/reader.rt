@@ -16,7 +16,7 @@ const MOST_NAME_BYTES: usize = 32;
 const MOST_LINES: usize = 100_000;
 
 /// Why a text lists no lines: its first fault from left to right, or want of memory.
-#[derive(Debug, Drop)]
+#[derive(Drop)]
 pub(crate) enum TextFault {
     /// No script goes on with what stands at the place.
     Text { place: usize },
@@ -36,7 +36,7 @@ impl<T: Drop> From<AllocFailed<T>> for TextFault {
 }
 
 /// A line as it is written, before its rule is looked up. Three numbers are held as a vector.
-#[derive(Debug, Drop)]
+#[derive(Drop)]
 pub(crate) struct DraftLine {
     /// Where its word `apply` stands.
     pub place: usize,
@@ -68,7 +68,7 @@ impl DraftLine {
 }
 
 /// The whole lines of a script, and the one that is being read.
-#[derive(Debug, Drop)]
+#[derive(Drop)]
 pub(crate) struct Reader {
     alloc: Global,
     spot: Spot,

@@ -8,7 +8,7 @@ ghost use Rattle.gm_script.specs.Reading as reading;
 use gm_text::{Lexer, Token, TokenKind};
 
 /// What a script sees in a token.
-#[derive(Clone, Copy, Debug, PartialEq, Eq)]
+#[derive(Clone, Copy)]
 pub(crate) enum Sight {
     Apply,
     With,

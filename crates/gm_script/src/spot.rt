@@ -4,7 +4,7 @@ ghost use Rattle.gm_script.specs.Reading as reading;
 use crate::sight::Sight;
 
 /// What a script was read up to.
-#[derive(Clone, Copy, Debug, PartialEq, Eq)]
+#[derive(Clone, Copy, PartialEq, Eq)]
 pub(crate) enum Spot {
     /// Nothing.
     Start,

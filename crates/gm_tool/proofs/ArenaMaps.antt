@@ -1,5 +1,7 @@
 -- The canonical text of the map in an arena stands for it, and what is told of it is put.
-use Rattle.std.proofs.Common.{◌≡◌, ℕ, true, false, List, get_or, Option, Some, None, is_some, refl, sym, ap, subst, ◌∙◌}
+use Rattle.std.proofs.Common.{◌≡◌, ℕ, true, false, List, ◌++◌, get_or, Option, Some, None, Result, Ok, Err, is_some, refl, sym, ap, subst, ◌∙◌}
+use Rattle.std.specs.Global.{Vec}
+use Rattle.std.specs.Prelude.{IfOk}
 use Rattle.std.specs.List.{AllByRecursion}
 use Rattle.std.specs.FinMap.{get, keys}
 use Rattle.std.proofs.lemmas.List.{get_or_default}
@@ -7,6 +9,11 @@ use Rattle.std.proofs.lemmas.List.Elements.{recursion_from_All}
 use Rattle.gm_arena.specs.ArenaAsMap.{as_map}
 use Rattle.gm_arena.specs.ArenaMap.{ArenaMap, Dart}
 use Rattle.gm_arena.specs.Lawful.{IsLawful}
+use Rattle.gm_cells.specs.declared.counts.Counts.{Counts}
+use Rattle.gm_cells.specs.declared.orientation.Orientation.{Orientation}
+use Rattle.gm_cells.specs.Cells.{AreCounts}
+use Rattle.gm_cells.specs.CellsText.{counts_text, orientation_text}
+use Rattle.gm_cells.specs.Colours.{IsOrientation}
 use Rattle.gm_mapfile.proofs.Printable.{arena_printed}
 use Rattle.gm_mapfile.proofs.Printed.{nobody, dart_at-is, dart_at_place}
 use Rattle.gm_mapfile.proofs.SoundRows.{same_map}
@@ -16,7 +23,7 @@ use Rattle.gm_mapfile.specs.Printing.{renumbered}
 use Rattle.gm_mapfile.specs.Rows.{darts_of, listed_of, dart_at}
 use Rattle.gm_mapfile.specs.declared.version.MapVersion.{MapVersion}
 use Rattle.gm_mapfile.specs.declared.version.MapVersion.TheVariants as versions
-use Rattle.gm_model.specs.Maps.{IsSound}
+use Rattle.gm_model.specs.Maps.{Map, IsSound}
 use Rattle.gm_text.specs.SchemaPrinting.{AreParts}
 use Rattle.gm_tool.specs.Answer.{Cells, Counted, IsOutput, TellsCells}
 use Rattle.gm_tool.specs.MadeRuns.{IsMapBytes}
@@ -24,6 +31,11 @@ use Rattle.gm_tool.specs.MadeRuns.{IsMapBytes}
 -- what is told of the map in an arena is put for the bytes that it was read of
 pub cells_told : (bytes text : List ℕ) (version : MapVersion) (m : ArenaMap) → MapText bytes version (listed_of m) → TellsCells (as_map m) text → IsOutput bytes Cells 0 text
 cells_told bytes text version m stands tells = Counted version (listed_of m) text stands (subst (λ map. TellsCells map text) (same_map m) tells)
+
+pub tells_cells : {E : Type 0} (map : Map) (counts : Counts) (orientation : Orientation) → AreCounts map counts → IsOrientation map orientation → (text : Result (Vec ℕ) E)
+    → IfOk text (λ t. t.items ≡ counts_text counts ++ orientation_text orientation) → IfOk text (λ t. TellsCells map t.items)
+tells_cells map counts orientation counted oriented (Ok text) is = record { counts = counts; counts_are = counted; orientation = orientation; orientation_is = oriented; is = is }
+tells_cells map counts orientation counted oriented (Err error) is = tt
 
 -- each dart has a neighbour for each label, and a value of each embedding's kind
 pub darts_whole : (m : ArenaMap) → IsLawful m → AllByRecursion (IsWhole m.schema) (darts_of m)

@@ -286,6 +286,10 @@ pub grid_reads_no_one : (words : List (List ℕ)) (m : ℕ) → AsksGrid words m
 grid_reads_no_one words m grid (inl file) = grid_reads_none words m grid (inl file)
 grid_reads_no_one words m grid (inr migrates) = grid_reads_none words m grid (inr (inr migrates))
 
+pub run_reads_no_one : (words : List (List ℕ)) (named : RunNames) → AsksRun words named → ReadsOneFile words → ⊥
+run_reads_no_one words named runs (inl (command, name, asks)) = file_is_no_run words command name named asks runs
+run_reads_no_one words named runs (inr (other, asks)) = run_is_no_migrate words named other runs asks
+
 -- the files of a run are those that its words name
 pub same_named : (words : List (List ℕ)) (one other : RunNames) → AsksRun words one → AsksRun words other → one ≡ other
 same_named words one other a b =

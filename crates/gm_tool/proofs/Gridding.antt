@@ -158,6 +158,10 @@ module _ (m : ℕ) (small : m ≤ 100) (arena : ArenaMap) (grid : IsGridMap m (a
     line_made cells darts next (Ok text) has darts_are next_is lines tells is = text_is text.items cells darts next has darts_are next_is (is outcomes tells)
     line_made cells darts next (Err error) has darts_are next_is lines tells h = tt
 
+-- a grid on which no line is applied
+pub none_run : (m steps : ℕ) → GridRunsWithin m steps steps
+none_run m steps made left sum is budget count = omega arith
+
 -- ---- the whole
 
 pub grid_made : (m start middle steps : ℕ) → middle ≤ start + 4096 * (m * m) → GridRunsWithin m middle steps → WithinGridMost m start steps

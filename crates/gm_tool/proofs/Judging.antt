@@ -15,7 +15,7 @@ use Rattle.gm_lines.specs.Refusing as refusing
 use Rattle.gm_tool.specs.declared.refusal.NoText.{NoText}
 use Rattle.gm_tool.specs.declared.refusal.NoText.TheVariants as nothing
 use Rattle.gm_tool.specs.declared.reply.Reply.{Reply}
-use Rattle.gm_lines.specs.Checking.{check_status, counts_line}
+use Rattle.gm_lines.specs.Checking.{AreLines, check_status, counts_line}
 use Rattle.gm_lines.specs.FaultLines.{IsSaidOfBook, book_words}
 use Rattle.gm_tool.specs.Replies.{IsJudged, IsMapRefusal, IsRefusal, IsBookRefusal, IsChecked, IsWithinLimit}
 
@@ -67,3 +67,14 @@ check_judged bytes version schema rules (Err (nothing.Refused why)) read (refuse
     output_judged bytes answer.Check (check_status refused) (lines ++ counts_line (length rules) refused) (Err (nothing.Refused why)) (Checked version schema rules refused lines read are) within
 check_judged bytes version schema rules (Ok reply) read (refused, lines, are, within) =
     output_judged bytes answer.Check (check_status refused) (lines ++ counts_line (length rules) refused) (Ok reply) (Checked version schema rules refused lines read are) within
+
+-- the lines of the rules and the one that counts, within the limit or not
+pub counted_checked : (schema : Schema) (rules : List Rule) (refused count status : ℕ) (lines text : List ℕ) (reply : Result Reply NoText) → AreLines schema rules refused lines → count ≡ length rules → text ≡ lines ++ counts_line count refused
+    → status ≡ check_status refused → IsWithinLimit status text reply → IsChecked schema rules reply
+counted_checked schema rules refused count status lines text reply are counted put told within =
+    go reply (subst (λ k. IsWithinLimit (check_status refused) (lines ++ counts_line k refused) reply) counted (subst (λ k. IsWithinLimit k (lines ++ counts_line count refused) reply) told (subst (λ t. IsWithinLimit status t reply) put within)))
+  where
+    go : (r : Result Reply NoText) → IsWithinLimit (check_status refused) (lines ++ counts_line (length rules) refused) r → IsChecked schema rules r
+    go (Ok made) is = (refused, lines, are, is)
+    go (Err nothing.OutOfMemory) is = tt
+    go (Err (nothing.Refused why)) is = (refused, lines, are, is)

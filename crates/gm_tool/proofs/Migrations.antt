@@ -1,6 +1,6 @@
 -- What a migration puts and saves, and why it stops.
-use Rattle.std.proofs.Common.{◌≡◌, ℕ, List, inl, inr, Some, None, Result, Ok, Err, ◌++◌, refl, sym, ap, subst, append_assoc}
-use Rattle.std.specs.Prelude.{IfSome}
+use Rattle.std.proofs.Common.{◌≡◌, ℕ, List, inl, inr, Some, None, Result, Ok, Err, ◌++◌, refl, sym, ap, subst, ◌∙◌, append_assoc}
+use Rattle.std.specs.Prelude.{IfOk, IfSome}
 use Rattle.gm_host.specs.Store.{Contents}
 use Rattle.gm_lines.specs.Refusing.{TheMap}
 use Rattle.gm_mapfile.proofs.Again.{printed_again}
@@ -11,8 +11,8 @@ use Rattle.gm_mapfile.specs.declared.reading.MapRead.{MapRead}
 use Rattle.gm_mapfile.specs.declared.version.MapVersion.TheVariants as versions
 use Rattle.gm_tool.specs.Answer.{Files, answers}
 use Rattle.gm_tool.specs.Endings.{Whole, LoadFailed}
-use Rattle.gm_tool.specs.MadeRuns.{IsMapBytes, IsSaving}
-use Rattle.gm_tool.specs.Migrating.{MigrateNames, HasMigrated, IsMigrateAnswer, MapFails, LongOutput, Done, IsMigrated, IsMigrateLoadFailure, IsMigrateText, migrated_line, migrated_text}
+use Rattle.gm_tool.specs.MadeRuns.{IsMapBytes, IsSaving, IsSoundReply}
+use Rattle.gm_tool.specs.Migrating.{MigrateNames, HasMigrated, IsMigrateAnswer, MapFails, LongOutput, Done, IsMigrated, IsMigrateStatus, IsMigrateLoadFailure, IsMigrateText, migrated_line, migrated_text}
 use Rattle.gm_tool.specs.Refusals.{refusal_answer}
 use Rattle.gm_tool.specs.RunAnswer.{IsBadMap}
 use Rattle.gm_tool.specs.Stops.{IsReadMap, IsRoleStop, IsFrom, reply_of}
@@ -77,6 +77,15 @@ module _ (named : MigrateNames) (load_fails : ℕ → Type 0) (fails save_fails 
 pub migrated_bytes : (read : MapRead) (made : Made) → (bytes : List ℕ) × IsReadMap bytes read → IsMigrated (listed_of read.arena) (Ok made) → IsMapBytes made.map.items
 migrated_bytes read made (bytes, is) made_is =
     subst IsMapBytes (sym made_is.2) (versions.Two, listed_of read.arena, refl, printed_again listed_good bytes read.version versions.Two (listed_of read.arena) is.stands)
+
+-- want of memory and a text that is too long are no faults of the store
+pub unmade_is_sound : (map : ListedMap) (none : NoText) (P Q : Type 0) → IsMigrated map (Err none) → IsSoundReply (Err none) P Q
+unmade_is_sound map nothing.OutOfMemory P Q is = tt
+unmade_is_sound map (nothing.Refused why) P Q is = subst (λ w. IsSoundReply (Err (nothing.Refused w)) P Q) (sym is.0) tt
+
+pub migrated_status : (contents after : Contents) (out : List ℕ) (fails : Type 0) (map : ListedMap) (made : Made) (reply : Result Reply NoText) → IsMigrated map (Ok made) → IsSaving contents out made fails after reply → IfOk reply (λ r. IsMigrateStatus r.status)
+migrated_status contents after out fails map made (Ok reply) is saving = inl (saving.0 ∙ is.0)
+migrated_status contents after out fails map made (Err none) is saving = tt
 
 -- what is put one after the other is the line
 pub joined : (a b c d e : List ℕ) → (a ++ b) ++ (c ++ d) ++ e ≡ a ++ b ++ c ++ d ++ e

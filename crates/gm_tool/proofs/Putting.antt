@@ -109,6 +109,21 @@ module _ (before after : Option (List ℕ)) (fails : Type 0) (bytes : List ℕ) 
   reply_seven (inr (inl p)) is_seven = absurd (let e : 6 ≡ 7 = sym p.0 ∙ is_seven in cc)
   reply_seven (inr (inr p)) is_seven = p.1
 
+-- ---- want of memory
+
+pub reply_is_not_seven : (given : ℕ) → IsReplyStatus given → given ≡ 7 → ⊥
+reply_is_not_seven given (inl h) e = let f : ◌≡◌ {A = ℕ} 0 7 = sym h ∙ e in cc
+reply_is_not_seven given (inr (inl h)) e = let f : ◌≡◌ {A = ℕ} 1 7 = sym h ∙ e in cc
+reply_is_not_seven given (inr (inr h)) e = let f : ◌≡◌ {A = ℕ} 4 7 = sym h ∙ e in cc
+
+pub refusal_is_not_seven : (why : Refusal) → (refusal_answer why).status ≡ 7 → ⊥
+refusal_is_not_seven refusals.Usage e = cc
+refusal_is_not_seven (refusals.Load role) e = cc
+refusal_is_not_seven (refusals.Size role) e = cc
+refusal_is_not_seven refusals.SizeOutput e = cc
+refusal_is_not_seven refusals.Agree e = cc
+refusal_is_not_seven refusals.Save e = cc
+
 -- ---- causes
 
 module _ (before after : Option (List ℕ)) (fails : Type 0) (bytes : List ℕ) (status : ℕ) where
@@ -138,6 +153,49 @@ module _ (before after : Option (List ℕ)) (fails : Type 0) (bytes : List ℕ) 
   five_put why P Q (inl put) e h = five_refused why P Q (sym put.0 ∙ e) h
   five_put why P Q (inr (inl put)) e h = absurd (let f : ◌≡◌ {A = ℕ} 6 5 = sym put.0 ∙ e in cc)
   five_put why P Q (inr (inr put)) e h = absurd (let f : ◌≡◌ {A = ℕ} 7 5 = sym put.0 ∙ e in cc)
+
+  -- the status 2 is that of words that are no command
+  two_refused : (why : Refusal) → (refusal_answer why).status ≡ 2 → why ≡ refusals.Usage
+  two_refused refusals.Usage e = refl
+  two_refused (refusals.Load role) e = absurd cc
+  two_refused (refusals.Size role) e = absurd cc
+  two_refused refusals.SizeOutput e = absurd cc
+  two_refused refusals.Agree e = absurd cc
+  two_refused refusals.Save e = absurd cc
+
+  pub two_put : (why : Refusal) → IsPut before after fails bytes (refusal_answer why).status status → status ≡ 2 → IsErrOf {T = Reply} (Err (nothing.Refused why)) (nothing.Refused refusals.Usage)
+  two_put why (inl put) e = let usage = two_refused why (sym put.0 ∙ e) in cc
+  two_put why (inr (inl put)) e = absurd (let f : ◌≡◌ {A = ℕ} 6 2 = sym put.0 ∙ e in cc)
+  two_put why (inr (inr put)) e = absurd (let f : ◌≡◌ {A = ℕ} 7 2 = sym put.0 ∙ e in cc)
+
+  reply_two : (given : ℕ) → IsReplyStatus given → given ≡ 2 → ⊥
+  reply_two given (inl h) e = let f : ◌≡◌ {A = ℕ} 0 2 = sym h ∙ e in cc
+  reply_two given (inr (inl h)) e = let f : ◌≡◌ {A = ℕ} 1 2 = sym h ∙ e in cc
+  reply_two given (inr (inr h)) e = let f : ◌≡◌ {A = ℕ} 4 2 = sym h ∙ e in cc
+
+  pub not_two : (given : ℕ) → IsReplyStatus given → IsPut before after fails bytes given status → status ≡ 2 → ⊥
+  not_two given is (inl put) e = reply_two given is (sym put.0 ∙ e)
+  not_two given is (inr (inl put)) e = let f : ◌≡◌ {A = ℕ} 6 2 = sym put.0 ∙ e in cc
+  not_two given is (inr (inr put)) e = let f : ◌≡◌ {A = ℕ} 7 2 = sym put.0 ∙ e in cc
+
+  -- the statuses 6 and 7 are those of a put that failed
+  not_six : (why : Refusal) → (refusal_answer why).status ≡ 6 → ⊥
+  not_six refusals.Usage e = cc
+  not_six (refusals.Load role) e = cc
+  not_six (refusals.Size role) e = cc
+  not_six refusals.SizeOutput e = cc
+  not_six refusals.Agree e = cc
+  not_six refusals.Save e = cc
+
+  pub refusal_six : (why : Refusal) → IsPut before after fails bytes (refusal_answer why).status status → status ≡ 6 → fails
+  refusal_six why (inl put) e = absurd (not_six why (sym put.0 ∙ e))
+  refusal_six why (inr (inl put)) e = put.1
+  refusal_six why (inr (inr put)) e = absurd (let f : ◌≡◌ {A = ℕ} 7 6 = sym put.0 ∙ e in cc)
+
+  pub refusal_seven : (why : Refusal) → IsPut before after fails bytes (refusal_answer why).status status → status ≡ 7 → after ≡ before
+  refusal_seven why (inl put) e = absurd (refusal_is_not_seven why (sym put.0 ∙ e))
+  refusal_seven why (inr (inl put)) e = absurd (let f : ◌≡◌ {A = ℕ} 6 7 = sym put.0 ∙ e in cc)
+  refusal_seven why (inr (inr put)) e = put.1
 
   reply_three : (given : ℕ) → IsReplyStatus given → given ≡ 3 → ⊥
   reply_three given (inl h) e = let f : ◌≡◌ {A = ℕ} 0 3 = sym h ∙ e in cc
@@ -183,21 +241,9 @@ module _ (before after : Option (List ℕ)) (fails : Type 0) (bytes : List ℕ) 
       done (inl e) = not_zero why e
       done (inr e) = not_one why e
 
--- ---- want of memory
-
-pub reply_is_not_seven : (given : ℕ) → IsReplyStatus given → given ≡ 7 → ⊥
-reply_is_not_seven given (inl h) e = let f : ◌≡◌ {A = ℕ} 0 7 = sym h ∙ e in cc
-reply_is_not_seven given (inr (inl h)) e = let f : ◌≡◌ {A = ℕ} 1 7 = sym h ∙ e in cc
-reply_is_not_seven given (inr (inr h)) e = let f : ◌≡◌ {A = ℕ} 4 7 = sym h ∙ e in cc
-
-pub refusal_is_not_seven : (why : Refusal) → (refusal_answer why).status ≡ 7 → ⊥
-refusal_is_not_seven refusals.Usage e = cc
-refusal_is_not_seven (refusals.Load role) e = cc
-refusal_is_not_seven (refusals.Size role) e = cc
-refusal_is_not_seven refusals.SizeOutput e = cc
-refusal_is_not_seven refusals.Agree e = cc
-refusal_is_not_seven refusals.Save e = cc
-
 pub six_is_no_run : IsRunStatus 6 → ⊥
 six_is_no_run (inl e) = let f : ◌≡◌ {A = ℕ} 6 0 = e in cc
 six_is_no_run (inr e) = let f : ◌≡◌ {A = ℕ} 6 1 = e in cc
+
+pub reply_is_no_usage : (reply : Reply) → IsErrOf {T = Reply} (Ok reply) (nothing.Refused refusals.Usage) → ⊥
+reply_is_no_usage reply e = cc

@@ -1,7 +1,7 @@
 -- Why a run stops before anything is saved, file by file.
-use Rattle.std.proofs.Common.{◌≡◌, ◌⊎◌, ℕ, ◌≤◌, List, [], inl, inr, Some, None, Result, Ok, Err, map, All, refl, ap, arith}
+use Rattle.std.proofs.Common.{◌≡◌, ◌⊎◌, ℕ, ◌≤◌, List, [], inl, inr, Some, None, Result, Ok, Err, map, All, refl, ap, ◌∙◌, ◌+◌, arith}
 use Rattle.std.specs.Prelude.{IfSome}
-use Rattle.gm_host.specs.Count.{Rises}
+use Rattle.gm_host.specs.Count.{counted, Rises}
 use Rattle.gm_host.specs.Store.{Contents, Lacks}
 use Rattle.gm_mapfile.specs.Rows.{listed_of}
 use Rattle.gm_mapfile.specs.declared.reading.MapRead.{MapRead}
@@ -12,9 +12,11 @@ use Rattle.gm_model.specs.Acceptance.{IsAccepted}
 use Rattle.gm_model.specs.Rules.{Rule, rule_of}
 use Rattle.gm_tool.specs.Answer.{Files, answers, HasFile}
 use Rattle.gm_lines.specs.Refusing.{TheMap, TheBook, TheScript}
-use Rattle.gm_tool.specs.MadeRuns.{inputs_of, IsRunOf, IsMade, IsStopOf, LacksInput}
+use Rattle.gm_tool.specs.Begun.{Counts, HasBegun}
+use Rattle.gm_tool.specs.MadeRuns.{inputs_of, IsRunOf, IsMade, IsStopOf, LacksInput, LoadsAtMostThrice}
 use Rattle.gm_tool.specs.Refusals.{refusal_answer}
 use Rattle.gm_tool.specs.RunAnswer.{RunNames, Inputs, HasMap, HasBook, HasScript, Agree, IsBadMap, IsBadBook, IsBadScript, IsFirstRefused, RuleRefused, Bad, MapFails, BookFails, ScriptFails, Disagree, LongOutput}
+use Rattle.gm_tool.specs.StepBounds.{ReadsWithin}
 use Rattle.gm_tool.specs.Stops.{IsBadFor, IsRoleStop, IsReadMap, IsReadBook, IsReadScript, IsFrom}
 use Rattle.gm_tool.specs.declared.refusal.NoText.TheVariants as nothing
 use Rattle.gm_tool.specs.declared.refusal.Refusal.TheVariants as refusals
@@ -117,6 +119,24 @@ module _ (named : RunNames) (load_fails : ℕ → Type 0) where
             → IsFrom c TheScript named.script (IsReadScript (map rule_of book.rules)) (IsBadScript (map rule_of book.rules)) three (Ok script) → IfSome c (λ files. IsMade files named load_fails result)
         go None f g h = tt
         go (Some files) (bytes, held, read) (text, there, is) h = run files (bytes, held, read.stands) (text, book.version, there, is, accepted) h result made
+
+-- ---- map and book are read
+
+pub has_begun : (contents : Contents) (named : RunNames) (m : MapRead) (book : Book) → IsFrom contents TheMap named.map IsReadMap IsBadMap (Unit {0}) (Ok m) → IsFrom contents TheBook named.book IsReadBook IsBadBook (Unit {0}) (Ok book)
+    → (start : Counts) (between faults once loads steps : ℕ) → start.faults ≤ between → between ≤ faults → once ≡ counted start.loads → loads ≡ counted once → ReadsWithin contents named.map start.steps steps → start.steps + m.arena.count ≤ steps
+    → HasBegun contents named m book start faults loads steps
+has_begun contents named m book the_map the_book start between faults once loads steps up more first second most least = record {
+  the_map = the_map;
+  the_book = the_book;
+  faults_never_fall = omega (arith, up, more);
+  twice = second ∙ ap counted first;
+  most = most;
+  least = least;
+}
+
+pub thrice_at_most : (before between after : ℕ) → between ≡ counted (counted before) → (after ≡ between) ⊎ (after ≡ counted between) → LoadsAtMostThrice before after
+thrice_at_most before between after twice (inl same) = inr (inr (inl (same ∙ twice)))
+thrice_at_most before between after twice (inr more) = inr (inr (inr (more ∙ ap counted twice)))
 
 -- ---- causes
 

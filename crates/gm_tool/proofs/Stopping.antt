@@ -31,6 +31,7 @@ use Rattle.gm_tool.specs.declared.refusal.Refusal.TheVariants as refusals
 use Rattle.gm_tool.specs.declared.refusal.Role.{Role}
 use Rattle.gm_tool.specs.declared.refusal.Stop.{Stop}
 use Rattle.gm_tool.specs.declared.refusal.Stop.TheVariants as stops
+use Rattle.gm_tool.specs.declared.running.Made.{Made}
 
 -- ---- texts
 
@@ -116,6 +117,10 @@ sound_to P Q f (stops.NoText (nothing.Refused refusals.Usage)) h = h
 sound_to P Q f (stops.NoText (nothing.Refused refusals.SizeOutput)) h = tt
 sound_to P Q f (stops.NoText (nothing.Refused refusals.Agree)) h = tt
 sound_to P Q f (stops.NoText (nothing.Refused refusals.Save)) h = h
+
+pub stops_soundly : (P Q : Type 0) → (P → Q) → (result : Result Made Stop) → IfErr result (λ stop. IsSoundStop stop P) → IfErr result (λ stop. IsSoundStop stop Q)
+stops_soundly P Q f (Ok made) h = tt
+stops_soundly P Q f (Err stop) h = sound_to P Q f stop h
 
 -- ---- files
 

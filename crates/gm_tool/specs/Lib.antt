@@ -12,3 +12,4 @@ pub mod Stops
 pub mod MadeRuns
 pub mod Tool
 pub mod StepBounds
+pub mod Begun

@@ -1,5 +1,9 @@
-ghost use Rattle.std.specs.Prelude.{IfOk};
+ghost use Rattle.std.specs.Prelude.{ℕ, IfOk, List};
 ghost use Rattle.gm_arena.specs.ArenaAsMap.{as_map};
+ghost use Rattle.gm_cells.specs.Cells.{AreCounts};
+ghost use Rattle.gm_mapfile.specs.MapText.{MapText};
+ghost use Rattle.gm_mapfile.specs.Rows.{listed_of};
+ghost use Rattle.gm_mapfile.specs.declared.version.MapVersion.{MapVersion};
 ghost use Rattle.gm_model.specs.Maps.{IsGeneralised};
 ghost use Rattle.gm_tool.specs.Answer.{Cells, TellsCells};
 ghost use Rattle.gm_tool.specs.Replies.{IsJudged};
@@ -8,7 +12,7 @@ use crate::map::refused;
 use crate::refusal::NoText;
 use crate::reply::{Reply, reply_within_limit};
 use gm_arena::{Arena, Steps};
-use gm_cells::{count, orient, print_cells};
+use gm_cells::{Counts, count, orient, print_cells};
 use gm_mapfile::read_map;
 use gm_model::{MOST_DARTS, OutOfMemory};
 use gm_walk::Scratch;
@@ -29,8 +33,16 @@ pub fn cells<L: Ledger>(
         Err(fault) => return refused(alloc, bytes.as_slice(), fault),
     };
     drop(bytes);
-    prove!(read.arena.count() <= MOST_DARTS);
-    let text = text_of(alloc, &read.arena, steps)?;
+    told(alloc, &read.arena, steps)
+}
+
+/// The reply for a map, which its owner lets go in one place.
+fn told<L: Ledger>(alloc: Global, arena: &Arena, steps: &mut Steps<L>) -> Result<Reply, NoText>
+    requires { IsGeneralised (as_map arena.now) }
+    ensures { (bytes : List ℕ) (version : MapVersion) → MapText bytes version (listed_of arena.now) → IsJudged bytes Cells result }
+{
+    prove!(arena.count() <= MOST_DARTS);
+    let text = text_of(alloc, arena, steps)?;
     reply_within_limit(0, text)
 }
 
@@ -43,9 +55,20 @@ fn text_of<L: Ledger>(
     requires { IsGeneralised (as_map arena.now) }
     ensures { IfOk result (λ text. TellsCells (as_map arena.now) text.items) }
 {
-    let mut scratch = Scratch::new(alloc);
-    scratch.fit(arena)?;
-    let counts = count(alloc, arena, &mut scratch, steps)?;
+    let counts = counts_of(alloc, arena, steps)?;
     let orientation = orient(alloc, arena, steps)?;
     print_cells(alloc, &counts, &orientation)
+}
+
+fn counts_of<L: Ledger>(
+    alloc: Global,
+    arena: &Arena,
+    steps: &mut Steps<L>,
+) -> Result<Counts, OutOfMemory>
+    requires { IsGeneralised (as_map arena.now) }
+    ensures { IfOk result (AreCounts (as_map arena.now)) }
+{
+    let mut scratch = Scratch::new(alloc);
+    scratch.fit(arena)?;
+    count(alloc, arena, &mut scratch, steps)
 }

@@ -11,7 +11,7 @@ ghost use Rattle.gm_tool.specs.Tool.{words_of};
 use itoa::Buffer;
 
 /// A command on one file.
-#[derive(Clone, Copy, Debug, PartialEq, Eq)]
+#[derive(Clone, Copy)]
 pub enum Command {
     /// `show MAP`: put the canonical text of a map.
     Show,
@@ -24,7 +24,7 @@ pub enum Command {
 }
 
 /// The files that a run reads, and the one under which it saves, by name.
-#[derive(Clone, Copy, Debug, PartialEq, Eq)]
+#[derive(Clone, Copy)]
 pub struct RunFiles<'w> {
     pub map: &'w str,
     pub book: &'w str,
@@ -33,7 +33,7 @@ pub struct RunFiles<'w> {
 }
 
 /// The file that a migration reads, and the one under which it saves, by name.
-#[derive(Clone, Copy, Debug, PartialEq, Eq)]
+#[derive(Clone, Copy)]
 pub struct MigrateFiles<'w> {
     pub map: &'w str,
     pub out: &'w str,

@@ -1,9 +1,9 @@
 //! A grid of squares, whose faces are triangulated, and the line that tells of it.
-ghost use Rattle.std.specs.Prelude.{◌≡◌, ◌+◌, ◌*◌, ◌≤◌, IfOk, List};
+ghost use Rattle.std.specs.Prelude.{◌≡◌, ◌+◌, ◌*◌, ◌≤◌, ◌++◌, IfOk, List, OnOk};
 ghost use Rattle.std.specs.List.{count_by};
 ghost use Rattle.gm_arena.specs.ArenaAsMap.{as_map};
 ghost use Rattle.gm_cells.specs.Cells.{HasCells};
-ghost use Rattle.gm_grid.specs.GridBook.{IsGridScript};
+ghost use Rattle.gm_grid.specs.GridBook.{IsGridBook, IsGridScript};
 ghost use Rattle.gm_grid.specs.GridMap.{IsGridMap};
 ghost use Rattle.gm_model.specs.Maps.{IsGeneralised};
 ghost use Rattle.gm_model.specs.Runs.{Outcome, is_done};
@@ -16,9 +16,9 @@ use crate::refusal::NoText;
 use crate::reply::{Reply, stopped};
 use gm_arena::{Arena, Steps};
 use gm_cells::{count_cells, put_numbers};
-use gm_grid::{Grid, make_grid};
+use gm_grid::make_grid;
 use gm_lines::put_at;
-use gm_model::{OutOfMemory, Script};
+use gm_model::{Book, OutOfMemory, Script};
 use gm_plan::Plan;
 use gm_run::{Report, count_done, run};
 use gm_text::Text;
@@ -34,16 +34,39 @@ pub fn answer<L: Ledger>(alloc: Global, size: u8, steps: &mut Steps<L>) -> Resul
     ensures most { WithinGridMost size steps.old steps.new }
     ensures least { IfOk result (λ _. AtLeastOfGrid size steps.old steps.new) }
 {
-    let Grid {
-        mut arena,
-        book,
-        script,
-    } = make_grid(alloc, size, steps)?;
-    let plans = match plans_of(alloc, &book) {
+    let mut grid = make_grid(alloc, size, steps)?;
+    reply_on(
+        alloc,
+        size,
+        &grid.book,
+        &grid.script,
+        &mut grid.arena,
+        steps,
+    )
+}
+
+/// The reply on a grid, which its owner lets go in one place.
+fn reply_on<L: Ledger>(
+    alloc: Global,
+    size: u8,
+    book: &Book,
+    script: &Script,
+    arena: &mut Arena,
+    steps: &mut Steps<L>,
+) -> Result<Reply, NoText>
+    requires small { size ≤ 100 }
+    requires grid { IsGridMap size (as_map arena.old) }
+    requires book { IsGridBook book.now }
+    requires script { IsGridScript size script.now }
+    ensures reply { IsGridReply size result }
+    ensures most { GridRunsWithin size steps.old steps.new }
+    ensures least { IfOk result (λ _. GridRunsAtLeast size steps.old steps.new) }
+{
+    let plans = match plans_of(alloc, book) {
         Ok(plans) => plans,
         Err(stop) => return stopped(stop),
     };
-    let text = triangulated(alloc, size, plans.as_slice(), &script, &mut arena, steps)?;
+    let text = triangulated(alloc, size, plans.as_slice(), script, arena, steps)?;
     Ok(Reply { status: 0, text })
 }
 
@@ -90,12 +113,24 @@ fn line_of(alloc: Global, size: u8, report: &Report, cells: &[u32]) -> Result<Ve
 {
     let done = count_done(report.lines.as_slice());
     let mut text = Text::new(alloc);
-    put_at(&mut text, b"grid ", u64::from(size))?;
-    put_at(&mut text, b" applied ", done as u64)?;
-    put_at(&mut text, b" darts ", u64::from(report.darts))?;
-    put_at(&mut text, b" next ", u64::from(report.next))?;
-    text.put(b" cells")?;
-    put_numbers(&mut text, cells)?;
-    text.put(b"\n")?;
+    put_line(&mut text, size, done, report, cells)?;
     Ok(text.into_bytes())
+}
+
+fn put_line(
+    text: &mut Text,
+    size: u8,
+    done: usize,
+    report: &Report,
+    cells: &[u32],
+) -> Result<(), OutOfMemory>
+    ensures { OnOk result (text.new ≡ text.old ++ grid_line size done report.now.darts report.now.next cells.now) }
+{
+    put_at(text, b"grid ", u64::from(size))?;
+    put_at(text, b" applied ", done as u64)?;
+    put_at(text, b" darts ", u64::from(report.darts))?;
+    put_at(text, b" next ", u64::from(report.next))?;
+    text.put(b" cells")?;
+    put_numbers(text, cells)?;
+    text.put(b"\n")
 }

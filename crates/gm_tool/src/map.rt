@@ -1,18 +1,21 @@
-ghost use Rattle.std.specs.Prelude.{ℕ, ◌+◌, ◌≤◌, IfOk, IfErr};
+ghost use Rattle.std.specs.Prelude.{ℕ, ◌+◌, ◌≤◌, IfOk, IfErr, List};
+ghost use Rattle.gm_arena.specs.Lawful.{IsLawful};
 ghost use Rattle.gm_mapfile.specs.Faults.{IsFaultOf};
+ghost use Rattle.gm_mapfile.specs.MapText.{MapText};
+ghost use Rattle.gm_mapfile.specs.Rows.{listed_of};
 ghost use Rattle.gm_tool.specs.Answer as answer;
 ghost use Rattle.gm_tool.specs.Answer.{Show};
 ghost use Rattle.gm_lines.specs.Refusing.{TheMap};
 ghost use Rattle.gm_tool.specs.Replies.{IsJudged, IsMapRefusal};
 ghost use Rattle.gm_tool.specs.RunAnswer.{IsBadMap};
-ghost use Rattle.gm_tool.specs.StepBounds.{BytesReadWithin, ShowsWithin};
+ghost use Rattle.gm_tool.specs.StepBounds.{BytesReadWithin, ShowsWithin, printing};
 ghost use Rattle.gm_tool.specs.Stops.{IsReadMap, IsBadFor};
 
 use crate::refusal::{NoText, Stop};
 use crate::reply::{Reply, reply_within_limit};
-use gm_arena::Steps;
+use gm_arena::{Arena, Steps};
 use gm_lines::map_line;
-use gm_mapfile::{MapFault, MapRead, print_map, read_map};
+use gm_mapfile::{MapFault, MapRead, MapVersion, print_map, read_map};
 use gm_model::MOST_DARTS;
 use std::alloc::Global;
 use std::sync::ledger::Ledger;
@@ -28,8 +31,22 @@ pub fn show<L: Ledger>(alloc: Global, bytes: Vec<u8>, steps: &mut Steps<L>) -> R
         Err(fault) => return refused(alloc, bytes.as_slice(), fault),
     };
     drop(bytes);
-    prove!(read.arena.count() <= MOST_DARTS);
-    let text = print_map(alloc, &read.arena, read.version, steps)?;
+    printed(alloc, &read.arena, read.version, steps)
+}
+
+/// The canonical text of a map, which its owner lets go in one place.
+fn printed<L: Ledger>(
+    alloc: Global,
+    arena: &Arena,
+    version: MapVersion,
+    steps: &mut Steps<L>,
+) -> Result<Reply, NoText>
+    ensures judged { (bytes : List ℕ) → MapText bytes version (listed_of arena.now) → IsJudged bytes Show result }
+    ensures lawful { IsLawful arena.now }
+    ensures most { steps.new ≤ steps.old + printing arena.now.schema.dim arena.now.count }
+{
+    prove!(arena.count() <= MOST_DARTS);
+    let text = print_map(alloc, arena, version, steps)?;
     reply_within_limit(0, text)
 }
 

@@ -5,7 +5,7 @@ use gm_model::OutOfMemory;
 use std::alloc::AllocFailed;
 
 /// What a file is for.
-#[derive(Clone, Copy, Debug, PartialEq, Eq)]
+#[derive(Clone, Copy)]
 pub enum Role {
     Map,
     Book,
@@ -13,7 +13,7 @@ pub enum Role {
 }
 
 /// Why a command isn't done, where its line needs no memory.
-#[derive(Clone, Copy, Debug, PartialEq, Eq)]
+#[derive(Clone, Copy)]
 pub enum Refusal {
     /// The words are no command with its number of words.
     Usage,
@@ -63,7 +63,7 @@ impl Refusal {
 }
 
 /// Why there is no text to put that takes memory.
-#[derive(Clone, Copy, Debug, PartialEq, Eq)]
+#[derive(Clone, Copy)]
 pub enum NoText {
     /// Memory was wanting, so nothing is put.
     OutOfMemory,
@@ -82,7 +82,7 @@ impl From<OutOfMemory> for NoText {
 }
 
 /// Why a run stops before anything is saved.
-#[derive(Debug, Drop)]
+#[derive(Drop)]
 pub enum Stop {
     /// The text of a file can't be run. This line says so, with status 4.
     Bad(Vec<u8>),

@@ -8,7 +8,7 @@ use crate::refusal::{NoText, Refusal, Stop};
 pub const MOST_BYTES: usize = 268_435_456;
 
 /// A text to put, with the status of the program where that goes well.
-#[derive(Debug, Drop)]
+#[derive(Drop)]
 pub struct Reply {
     pub status: u8,
     pub text: Vec<u8>,

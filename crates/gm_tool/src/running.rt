@@ -3,6 +3,7 @@ ghost use Rattle.gm_host.specs.Count.{counted, Rises};
 ghost use Rattle.gm_model.specs.Maps.{IsSchema};
 ghost use Rattle.gm_model.specs.Rules.{rule_of};
 ghost use Rattle.gm_lines.specs.Refusing.{TheMap, TheBook, TheScript};
+ghost use Rattle.gm_tool.specs.Begun.{Counts, HasBegun};
 ghost use Rattle.gm_tool.specs.Loads.{FailsAt, StopsInTime, UnlessNoMemory, UnlessNoMemoryToMake};
 ghost use Rattle.gm_tool.specs.MadeRuns.{names_of, inputs_of, CanRun, IsFitted, IsPrinted, IsRunOf, IsMapBytes, IsMade, LacksInput, LoadsAtMostThrice, IsRunStatus, HoldsMap, IsRunText, IsSaving, IsSoundReply};
 ghost use Rattle.gm_tool.specs.Tool.{IsReplyStatus};
@@ -35,7 +36,7 @@ use std::alloc::Global;
 use std::sync::ledger::Ledger;
 
 /// What is saved and put, with the status where that goes well.
-#[derive(Debug, Drop)]
+#[derive(Drop)]
 pub struct Made {
     pub status: u8,
     pub report: Vec<u8>,
@@ -219,20 +220,50 @@ fn prepared<S: Store, L: Ledger>(
     ensures least { IfOk result (λ _. IfSome (S.holds store.old) (λ held. AtLeast held (names_of files.entry) steps.old steps.new)) }
     ensures sound { IfErr result (λ stop. IsSoundStop stop (Rises (S.load_faults store.old) (S.load_faults store.new) ⊎ LacksInput (S.holds store.old) (names_of files.entry))) }
 {
-    let mut map = load_map(alloc, files.map, store, steps)?;
+    let mut read = load_map(alloc, files.map, store, steps)?;
     let book = load_book(alloc, files.book, store)?;
-    let plans = plans_of(alloc, &book)?;
-    let script = load_script(alloc, files.script, &book, store)?;
-    if !agree(map.arena.schema(), &book.schema) {
+    prepared_behind(alloc, files, &mut read, &book, store, steps)
+}
+
+/// The same of a run whose map and book were read, which their owner lets go in one place.
+fn prepared_behind<S: Store, L: Ledger>(
+    alloc: Global,
+    files: RunFiles<'_>,
+    read: &mut MapRead,
+    book: &Book,
+    store: &mut S,
+    steps: &mut Steps<L>,
+) -> Result<Made, Stop>
+    requires read { (bytes : List ℕ) × IsReadMap bytes read.old }
+    requires book { (bytes : List ℕ) × IsReadBook bytes book.now }
+    requires declared { IsSchema book.now.schema }
+    ensures held { S.holds store.new ≡ S.holds store.old }
+    ensures no_save_fault { S.save_faults store.new ≡ S.save_faults store.old }
+    ensures loads { (S.loads store.new ≡ S.loads store.old) ⊎ (S.loads store.new ≡ counted (S.loads store.old)) }
+    ensures counted_loads { (start : Counts) → HasBegun (S.holds store.old) (names_of files.entry) read.old book.now start (S.load_faults store.old) (S.loads store.old) steps.old →
+        IfSome (S.holds store.old) (λ held. UnlessNoMemoryToMake result (StopsInTime held (names_of files.entry) (Rises start.faults (S.load_faults store.new)) start.loads (S.loads store.new))) }
+    ensures made { (start : Counts) → HasBegun (S.holds store.old) (names_of files.entry) read.old book.now start (S.load_faults store.old) (S.loads store.old) steps.old →
+        IfSome (S.holds store.old) (λ held. IsMade held (names_of files.entry) (FailsAt start.faults (S.load_faults store.new) start.loads (S.loads store.new)) result) }
+    ensures map { IfOk result (λ made. IsMapBytes made.map.items) }
+    ensures status { IfOk result (λ made. IsRunStatus made.status) }
+    ensures most { (start : Counts) → HasBegun (S.holds store.old) (names_of files.entry) read.old book.now start (S.load_faults store.old) (S.loads store.old) steps.old →
+        IfSome (S.holds store.old) (λ held. WithinMost held (names_of files.entry) start.steps steps.new) }
+    ensures least { (start : Counts) → HasBegun (S.holds store.old) (names_of files.entry) read.old book.now start (S.load_faults store.old) (S.loads store.old) steps.old →
+        IfOk result (λ _. IfSome (S.holds store.old) (λ held. AtLeast held (names_of files.entry) start.steps steps.new)) }
+    ensures sound { IfErr result (λ stop. IsSoundStop stop (Rises (S.load_faults store.old) (S.load_faults store.new) ⊎ LacksInput (S.holds store.old) (names_of files.entry))) }
+{
+    let plans = plans_of(alloc, book)?;
+    let script = load_script(alloc, files.script, book, store)?;
+    if !agree(read.arena.schema(), &book.schema) {
         return Err(Stop::NoText(NoText::Refused(Refusal::Agree)));
     }
     applied(
         alloc,
         plans.as_slice(),
-        &book,
+        book,
         &script,
-        &mut map.arena,
-        map.version,
+        &mut read.arena,
+        read.version,
         steps,
     )
 }

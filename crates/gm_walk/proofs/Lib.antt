@@ -4,5 +4,6 @@ pub mod NameLemmas
 pub mod WordLemmas
 pub mod CountLemmas
 pub mod OrbitLemmas
+pub mod GrowLemmas
 pub mod SeenLemmas
 pub mod MetLemmas

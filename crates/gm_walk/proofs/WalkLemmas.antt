@@ -9,7 +9,7 @@ use Rattle.std.proofs.lemmas.Option.{slice_get-get_or}
 use Rattle.gm_model.specs.Orbits.{IsPairBefore, IsLeastStep, IsWalkTo}
 
 -- a place of a list with one more at its end is a place of the list, or the end
-place_cases : (xs : List ℕ) (x p : ℕ) → p < length (xs ++ x ∷ []) → (p < length xs) ⊎ (p ≡ length xs)
+pub place_cases : (xs : List ℕ) (x p : ℕ) → p < length (xs ++ x ∷ []) → (p < length xs) ⊎ (p ≡ length xs)
 place_cases xs x p h = elim (cases_lt p (length xs)) [ inl l ↦ inl l | inr l ↦ inr (omega (arith, length_push xs x)) ]
 
 -- the pairs before the next place of a dart are those before this place, and this one

@@ -1,18 +1,21 @@
-//! Counting orbits: a dart of which no walk was met so far is the least of an orbit.
+//! Counting orbits: a dart that is in no orbit that was walked so far is the least of its own.
 
-ghost use Rattle.std.specs.Prelude.{◌≡◌, ℕ, ◌+◌, ◌*◌, ◌≤◌, length, replicate, IfOk, IsTrue, false};
+ghost use Rattle.std.specs.Prelude.{◌≡◌, ℕ, ◌+◌, ◌*◌, ◌≤◌, length, IfOk, IsTrue};
 ghost use Rattle.std.specs.FinMap.{keys};
 ghost use Rattle.gm_model.specs.Labels.{has};
 ghost use Rattle.gm_model.specs.Maps.{IsDart, IsGeneralised};
 ghost use Rattle.gm_model.specs.Orbits.{HasOrbits};
 ghost use Rattle.gm_arena.specs.ArenaAsMap.{as_map};
+ghost use Rattle.gm_arena.specs.ArenaMap.{IsLiveSlot, name_at};
+ghost use Rattle.gm_arena.specs.Lawful.{IsLawful};
 ghost use Rattle.gm_walk.specs.Room.{Fits};
-ghost use Rattle.gm_walk.specs.Seen.{AreMarked, AreWithin};
+ghost use Rattle.gm_walk.specs.Seen.{HasGrownTo};
+ghost use Rattle.gm_walk.specs.Walks.{IsWord, names_of, AreLive};
 
 use crate::scratch::Scratch;
-use crate::walk::walk_mask;
+use crate::walk::{take_in_neighbours, word_of};
 use gm_arena::{Arena, Slot, Steps};
-use gm_model::{Mask, OutOfMemory};
+use gm_model::{Mask, OutOfMemory, Word};
 use std::alloc::Global;
 use std::sync::ledger::Ledger;
 
@@ -33,55 +36,65 @@ pub fn orbits<L: Ledger>(
     ensures room { Fits scratch.new arena.now }
 {
     let names = arena.names(alloc, steps)?;
-    let mut seen = none_seen(alloc, arena.bound())?;
-    Ok(count_unseen(arena, &names, mask, &mut seen, scratch, steps))
+    Ok(count_unseen(arena, &names, mask, scratch, steps))
 }
 
-/// How many of the darts no walk from an earlier one has met, where no dart was seen before.
+/// How many of the darts are in the orbit of no earlier one. The scratch keeps all orbits so far,
+/// one behind another, so that each dart is walked once and nothing is cleared in between.
 fn count_unseen<L: Ledger>(
     arena: &Arena,
     names: &[u32],
     mask: Mask,
-    seen: &mut [bool],
     scratch: &mut Scratch,
     steps: &mut Steps<L>,
 ) -> u32
     requires generalised { IsGeneralised (as_map arena.now) }
     requires names { names.now ≡ keys arena.now.darts }
     requires mask { (label : ℕ) → IsTrue (has mask label) → label ≤ arena.now.schema.dim }
-    requires unseen { seen.old ≡ replicate arena.now.bound false }
     requires fits { Fits scratch.old arena.now }
     ensures orbits { HasOrbits (IsDart (as_map arena.now)) (as_map arena.now).alpha (has mask) result }
-    ensures cost { steps.new ≤ steps.old + (4 * (arena.now.schema.dim + 1) + 1) * length names.now }
+    ensures cost { steps.new ≤ steps.old + (4 * (arena.now.schema.dim + 1) + 1) * arena.now.count }
     ensures least { steps.old ≤ steps.new }
     ensures room { Fits scratch.new arena.now }
 {
-    prove!(seen.len() <= arena.bound());
+    prove!(names.len() == arena.count() as usize);
+    let word = word_of(mask);
+    scratch.clear();
     let mut orbits = 0;
     for name in names {
         let slot = arena.slot_of(*name, steps).unwrap();
-        if !seen[slot.at as usize] {
-            let walk = walk_mask(arena, slot, mask, scratch, steps);
-            mark(seen, walk.slots());
+        if scratch.place(slot).is_none() {
+            take_in_orbit(arena, slot, &word, scratch, steps);
             orbits += 1;
         }
     }
     orbits
 }
 
-/// A mark for each slot, none of them set.
-fn none_seen(alloc: Global, slots: usize) -> Result<Vec<bool>, OutOfMemory>
-    ensures { IfOk result (λ seen. seen.items ≡ replicate slots false) }
+/// Takes in the orbit of a live slot along the labels of the word, behind the slots that were walked.
+fn take_in_orbit<L: Ledger>(
+    arena: &Arena,
+    from: Slot,
+    word: &Word,
+    scratch: &mut Scratch,
+    steps: &mut Steps<L>,
+)
+    requires lawful { IsLawful arena.now }
+    requires from { IsLiveSlot arena.now from.at }
+    requires live { AreLive arena.now scratch.old.walked }
+    requires word { IsWord arena.now.schema.dim word.now }
+    requires fits { Fits scratch.old arena.now }
+    ensures grown { HasGrownTo arena.now word.now (name_at arena.now from.at) (length scratch.new.walked) (names_of arena.now scratch.old.walked) (names_of arena.now scratch.new.walked) }
+    ensures live { AreLive arena.now scratch.new.walked }
+    ensures bound { scratch.new.bound ≡ scratch.old.bound }
+    ensures cost { steps.new + 4 * (arena.now.schema.dim + 1) * length scratch.old.walked ≤ steps.old + 4 * (arena.now.schema.dim + 1) * length scratch.new.walked }
+    ensures least { steps.old ≤ steps.new }
 {
-    Ok(vec![in alloc; false; slots]?)
-}
-
-/// Sets the marks of the slots.
-fn mark(seen: &mut [bool], slots: &[Slot])
-    requires { AreWithin (length seen.old) slots.now }
-    ensures marks { AreMarked seen.old slots.now seen.new }
-{
-    for slot in slots {
-        seen[slot.at as usize] = true;
+    prove!((from.at as usize) < arena.bound());
+    let mut at = scratch.walked().len();
+    scratch.take_in(from);
+    while at < scratch.walked().len() {
+        take_in_neighbours(arena, at, word, scratch, steps);
+        at += 1;
     }
 }

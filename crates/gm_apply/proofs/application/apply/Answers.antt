@@ -3,10 +3,11 @@ use Rattle.std.proofs.lemmas.Result.{err_from_is_err_and}
 use Rattle.gm_model.specs.Rules.{rule_of}
 use Rattle.gm_match.specs.Outcome.{application_of}
 use Rattle.gm_theory.proofs.ValuesKept.{applications_keep_sound_maps}
-use Rattle.gm_apply.specs.Outcomes.{ForResult}
-use Rattle.gm_apply.proofs.Applying.{refused_match, sound_again, accepted_for, is_done}
-use Rattle.gm_apply.proofs.Budgets.{find_within, found_within, ready_within}
-use Rattle.gm_apply.proofs.Ending.{ended_within, read_within, edits_here, rows_there, values_right, committed_within}
+use Rattle.gm_apply.specs.Outcomes.{AsBefore, ForResult}
+use Rattle.gm_apply.proofs.Applying.{refused_match, sound_again, accepted_for, readable_at}
+use Rattle.gm_apply.proofs.Budgets.{find_within}
+use Rattle.gm_apply.proofs.Readying.{names_there, edits_there, new_is, old_is, done, within_ready, within_done}
+use Rattle.gm_apply.proofs.Sums.{stays, no_less, rises_twice, rises_thrice, rises_to_the_end, steps_of_darts, names_reserved, reserved_then, reserved_most, reserved_stays, darts_fit, room_reserved, spare_then, spare_most, spare_stays, spare_stays_then}
 use Rattle.gm_apply.proofs.application.apply.Goals as goal
 
 pub returns-in_err-found-clause-outcome : goal.returns-in_err-found-clause-outcome
@@ -17,96 +18,43 @@ returns-in_err-found-clause-outcome g c =
 pub returns-in_err-found-clause-most : goal.returns-in_err-found-clause-most
 returns-in_err-found-clause-most g c most budget = find_within c.args.arena.now (rule_of c.args.plan.now.table) c.args.hooks.now c.args.params.now most c.args.steps.now c.find.new.steps budget (c.in_err-found.ensures.cost c.args.params.now)
 
-pub meet_pre-requires-clause-readable : goal.meet_pre-requires-clause-readable
-meet_pre-requires-clause-readable g c = (c.args.hooks.now, (record { sound = c.requires.sound; schema = c.requires.schema; accepted = (accepted_for c.args.arena.now c.args.plan.now.schema (rule_of c.args.plan.now.table) c.requires.schema c.rule.ensures.planned); params = c.requires.params; answer = c.in_ok-found.ensures.answer }))
-
-pub returns-in_err-meet_pre-clause-outcome : goal.returns-in_err-meet_pre-clause-outcome
-returns-in_err-meet_pre-clause-outcome g c =
-    let p = err_from_is_err_and c.from_residual-in_err-meet_pre.result c.from_residual-in_err-meet_pre.ensures.1 in
-    rw (p.1, p.2) (c.in_err-meet_pre.ensures.pre c.args.hooks.now (record { sound = c.requires.sound; schema = c.requires.schema; accepted = (accepted_for c.args.arena.now c.args.plan.now.schema (rule_of c.args.plan.now.table) c.requires.schema c.rule.ensures.planned); params = c.requires.params; answer = c.in_ok-found.ensures.answer }), refl)
-
-pub returns-in_err-meet_pre-clause-most : goal.returns-in_err-meet_pre-clause-most
-returns-in_err-meet_pre-clause-most g c most budget =
-    found_within c.args.arena.now (rule_of c.args.plan.now.table) c.args.hooks.now c.args.params.now c.requires.sound (accepted_for c.args.arena.now c.args.plan.now.schema (rule_of c.args.plan.now.table) c.requires.schema c.rule.ensures.planned) c.in_ok-found.found c.in_ok-found.ensures.answer most 0 c.args.steps.now c.find.new.steps c.meet_pre.new.steps c.meet_pre.new.steps budget (omega arith) (c.in_ok-found.ensures.cost c.args.params.now)
-    (c.in_err-meet_pre.ensures.cost c.args.hooks.now) (omega arith)
-
-pub room-requires-clause-found : goal.room-requires-clause-found
-room-requires-clause-found g c = (c.args.hooks.now, c.in_ok-found.ensures.answer)
+pub ready-requires-clause-readable : goal.ready-requires-clause-readable
+ready-requires-clause-readable g c = (c.args.hooks.now, readable_at _ _ c.requires.sound c.requires.schema c.rule.ensures.planned c.requires.params c.in_ok-found.ensures.answer)
 
 pub returns-in_err-applied-clause-outcome : goal.returns-in_err-applied-clause-outcome
 returns-in_err-applied-clause-outcome g c =
     let p = err_from_is_err_and c.from_residual-in_err-applied.result c.from_residual-in_err-applied.ensures.1 in
-    rw (p.1, p.2) (c.in_err-applied.ensures.room c.args.hooks.now c.args.params.now c.in_ok-found.ensures.answer (c.in_ok-meet_pre.ensures.pre c.args.hooks.now (record { sound = c.requires.sound; schema = c.requires.schema; accepted = (accepted_for c.args.arena.now c.args.plan.now.schema (rule_of c.args.plan.now.table) c.requires.schema c.rule.ensures.planned); params = c.requires.params; answer = c.in_ok-found.ensures.answer })), refl)
+    rw (p.1, p.2) ((c.in_err-applied.ensures.ready c.args.hooks.now (readable_at _ _ c.requires.sound c.requires.schema c.rule.ensures.planned c.requires.params c.in_ok-found.ensures.answer)).refused, refl)
 
 pub returns-in_err-applied-clause-most : goal.returns-in_err-applied-clause-most
-returns-in_err-applied-clause-most g c most budget =
-    found_within c.args.arena.now (rule_of c.args.plan.now.table) c.args.hooks.now c.args.params.now c.requires.sound (accepted_for c.args.arena.now c.args.plan.now.schema (rule_of c.args.plan.now.table) c.requires.schema c.rule.ensures.planned) c.in_ok-found.found c.in_ok-found.ensures.answer most 0 c.args.steps.now c.find.new.steps c.meet_pre.new.steps c.meet_pre.new.steps budget (omega arith) (c.in_ok-found.ensures.cost c.args.params.now)
-    (c.in_ok-meet_pre.ensures.cost c.args.hooks.now) (omega arith)
+returns-in_err-applied-clause-most g c most budget = (c.in_err-applied.ensures.ready c.args.hooks.now (readable_at _ _ c.requires.sound c.requires.schema c.rule.ensures.planned c.requires.params c.in_ok-found.ensures.answer)).within most c.args.steps.now budget (c.in_ok-found.ensures.cost c.args.params.now)
 
-pub edits-requires-clause-readable : goal.edits-requires-clause-readable
-edits-requires-clause-readable g c = (c.args.hooks.now, (record { sound = c.requires.sound; schema = c.requires.schema; accepted = (accepted_for c.args.arena.now c.args.plan.now.schema (rule_of c.args.plan.now.table) c.requires.schema c.rule.ensures.planned); params = c.requires.params; answer = c.in_ok-found.ensures.answer }))
+pub returns-in_err-applied-clause-rises : goal.returns-in_err-applied-clause-rises
+returns-in_err-applied-clause-rises g c = rises_twice _ _ _ c.in_ok-found.ensures.least (c.in_err-applied.ensures.ready c.args.hooks.now (readable_at _ _ c.requires.sound c.requires.schema c.rule.ensures.planned c.requires.params c.in_ok-found.ensures.answer)).rises
 
-pub returns-in_err-edits-clause-outcome : goal.returns-in_err-edits-clause-outcome
-returns-in_err-edits-clause-outcome g c =
-    let p = err_from_is_err_and c.from_residual-in_err-edits.result c.from_residual-in_err-edits.ensures.1 in
-    let ended = c.in_err-edits.ensures.edits c.args.hooks.now (record { sound = c.requires.sound; schema = c.requires.schema; accepted = (accepted_for c.args.arena.now c.args.plan.now.schema (rule_of c.args.plan.now.table) c.requires.schema c.rule.ensures.planned); params = c.requires.params; answer = c.in_ok-found.ensures.answer }) in
-    rw (p.1, p.2) (ended.refused (c.in_ok-applied.ensures.room c.args.hooks.now c.args.params.now c.in_ok-found.ensures.answer (c.in_ok-meet_pre.ensures.pre c.args.hooks.now (record { sound = c.requires.sound; schema = c.requires.schema; accepted = (accepted_for c.args.arena.now c.args.plan.now.schema (rule_of c.args.plan.now.table) c.requires.schema c.rule.ensures.planned); params = c.requires.params; answer = c.in_ok-found.ensures.answer }))).ready, refl)
-
-pub returns-in_err-edits-clause-rises : goal.returns-in_err-edits-clause-rises
-returns-in_err-edits-clause-rises g c =
-    let ended = c.in_err-edits.ensures.edits c.args.hooks.now (record { sound = c.requires.sound; schema = c.requires.schema; accepted = (accepted_for c.args.arena.now c.args.plan.now.schema (rule_of c.args.plan.now.table) c.requires.schema c.rule.ensures.planned); params = c.requires.params; answer = c.in_ok-found.ensures.answer }) in
-    let rises = ended.rises in
-    let found_at = c.in_ok-found.ensures.least in
-    let read_at = c.in_ok-meet_pre.ensures.least in
-    omega (arith, rises, found_at, read_at)
-
-pub returns-in_err-edits-clause-most : goal.returns-in_err-edits-clause-most
-returns-in_err-edits-clause-most g c most budget =
-    let ended = c.in_err-edits.ensures.edits c.args.hooks.now (record { sound = c.requires.sound; schema = c.requires.schema; accepted = (accepted_for c.args.arena.now c.args.plan.now.schema (rule_of c.args.plan.now.table) c.requires.schema c.rule.ensures.planned); params = c.requires.params; answer = c.in_ok-found.ensures.answer }) in
-    ready_within c.args.arena.now (rule_of c.args.plan.now.table) c.args.hooks.now c.args.params.now c.requires.sound (accepted_for c.args.arena.now c.args.plan.now.schema (rule_of c.args.plan.now.table) c.requires.schema c.rule.ensures.planned) c.in_ok-found.found c.in_ok-found.ensures.answer c.count.ensures.lawful.schema (c.in_ok-applied.ensures.room c.args.hooks.now c.args.params.now c.in_ok-found.ensures.answer (c.in_ok-meet_pre.ensures.pre c.args.hooks.now (record { sound = c.requires.sound; schema = c.requires.schema; accepted = (accepted_for c.args.arena.now c.args.plan.now.schema (rule_of c.args.plan.now.table) c.requires.schema c.rule.ensures.planned); params = c.requires.params; answer = c.in_ok-found.ensures.answer }))).ready most c.args.steps.now c.find.new.steps c.meet_pre.new.steps c.edits.new.steps budget (c.in_ok-found.ensures.cost c.args.params.now)
-    (c.in_ok-meet_pre.ensures.cost c.args.hooks.now) (ended_within _ c.args.hooks.now _ _ _ ended)
-
-pub returns-in_err-edits-clause-untouched : goal.returns-in_err-edits-clause-untouched
-returns-in_err-edits-clause-untouched g c =
-    let p = err_from_is_err_and c.from_residual-in_err-edits.result c.from_residual-in_err-edits.ensures.1 in
+pub returns-in_err-applied-clause-untouched : goal.returns-in_err-applied-clause-untouched
+returns-in_err-applied-clause-untouched g c =
+    let p = err_from_is_err_and c.from_residual-in_err-applied.result c.from_residual-in_err-applied.ensures.1 in
     rw p.1 (λ apart. refl)
 
 pub overflow_add-next : goal.overflow_add-next
 overflow_add-next g c =
-    let room = c.in_ok-applied.ensures.room c.args.hooks.now c.args.params.now c.in_ok-found.ensures.answer (c.in_ok-meet_pre.ensures.pre c.args.hooks.now (record { sound = c.requires.sound; schema = c.requires.schema; accepted = (accepted_for c.args.arena.now c.args.plan.now.schema (rule_of c.args.plan.now.table) c.requires.schema c.rule.ensures.planned); params = c.requires.params; answer = c.in_ok-found.ensures.answer })) in
-    let fit = room.ready.names_fit in
-    let added = room.added_is in
-    let removed = room.removed_is in
-    let next = c.next.ensures.next in
-    omega (arith, fit, added, next)
+    let fits = names_there _ _ (readable_at _ _ c.requires.sound c.requires.schema c.rule.ensures.planned c.requires.params c.in_ok-found.ensures.answer) _ _ _ _ _ (c.in_ok-applied.ensures.ready c.args.hooks.now (readable_at _ _ c.requires.sound c.requires.schema c.rule.ensures.planned c.requires.params c.in_ok-found.ensures.answer)) _ c.next.ensures.next in
+    omega (arith, fits)
 
 pub reserve-requires-clause-darts : goal.reserve-requires-clause-darts
-reserve-requires-clause-darts g c =
-    let fits = c.in_ok-applied.ensures.fits in
-    let few = c.next.ensures.lawful.few_darts in
-    let more = c.saturating_sub-more.ensures in
-    omega (arith, fits, few, more)
+reserve-requires-clause-darts g c = darts_fit c.args.arena.now.count c.args.arena.now.spare c.in_ok-applied.applied.added c.in_ok-applied.applied.removed _ (c.in_ok-applied.ensures.ready c.args.hooks.now (readable_at _ _ c.requires.sound c.requires.schema c.rule.ensures.planned c.requires.params c.in_ok-found.ensures.answer)).few c.next.ensures.lawful.few_darts c.saturating_sub-more.ensures
 
 pub reserve-requires-clause-names : goal.reserve-requires-clause-names
-reserve-requires-clause-names g c =
-    let room = c.in_ok-applied.ensures.room c.args.hooks.now c.args.params.now c.in_ok-found.ensures.answer (c.in_ok-meet_pre.ensures.pre c.args.hooks.now (record { sound = c.requires.sound; schema = c.requires.schema; accepted = (accepted_for c.args.arena.now c.args.plan.now.schema (rule_of c.args.plan.now.table) c.requires.schema c.rule.ensures.planned); params = c.requires.params; answer = c.in_ok-found.ensures.answer })) in
-    let fit = room.ready.names_fit in
-    let added = room.added_is in
-    let removed = room.removed_is in
-    let next = c.next.ensures.next in
-    omega (arith, fit, added, next)
+reserve-requires-clause-names g c = names_there _ _ (readable_at _ _ c.requires.sound c.requires.schema c.rule.ensures.planned c.requires.params c.in_ok-found.ensures.answer) _ _ _ _ _ (c.in_ok-applied.ensures.ready c.args.hooks.now (readable_at _ _ c.requires.sound c.requires.schema c.rule.ensures.planned c.requires.params c.in_ok-found.ensures.answer)) _ c.next.ensures.next
 
 pub returns-in_err-reserve-clause-rises : goal.returns-in_err-reserve-clause-rises
 returns-in_err-reserve-clause-rises g c =
-    let rises = ((c.in_ok-edits.ensures.edits c.args.hooks.now (record { sound = c.requires.sound; schema = c.requires.schema; accepted = (accepted_for c.args.arena.now c.args.plan.now.schema (rule_of c.args.plan.now.table) c.requires.schema c.rule.ensures.planned); params = c.requires.params; answer = c.in_ok-found.ensures.answer }))).rises in
-    let found_at = c.in_ok-found.ensures.least in
-    let read_at = c.in_ok-meet_pre.ensures.least in
-    omega (arith, rises, found_at, read_at)
+    let ready = c.in_ok-applied.ensures.ready c.args.hooks.now (readable_at _ _ c.requires.sound c.requires.schema c.rule.ensures.planned c.requires.params c.in_ok-found.ensures.answer) in
+    rises_thrice _ _ _ _ c.in_ok-found.ensures.least ready.rises ready.edited.rises
 
 pub returns-in_err-reserve-clause-most : goal.returns-in_err-reserve-clause-most
-returns-in_err-reserve-clause-most g c most budget =
-    ready_within c.args.arena.now (rule_of c.args.plan.now.table) c.args.hooks.now c.args.params.now c.requires.sound (accepted_for c.args.arena.now c.args.plan.now.schema (rule_of c.args.plan.now.table) c.requires.schema c.rule.ensures.planned) c.in_ok-found.found c.in_ok-found.ensures.answer c.count.ensures.lawful.schema (c.in_ok-applied.ensures.room c.args.hooks.now c.args.params.now c.in_ok-found.ensures.answer (c.in_ok-meet_pre.ensures.pre c.args.hooks.now (record { sound = c.requires.sound; schema = c.requires.schema; accepted = (accepted_for c.args.arena.now c.args.plan.now.schema (rule_of c.args.plan.now.table) c.requires.schema c.rule.ensures.planned); params = c.requires.params; answer = c.in_ok-found.ensures.answer }))).ready most c.args.steps.now c.find.new.steps c.meet_pre.new.steps c.edits.new.steps budget (c.in_ok-found.ensures.cost c.args.params.now)
-    (c.in_ok-meet_pre.ensures.cost c.args.hooks.now) (read_within _ c.args.hooks.now c.in_ok-edits.edits _ _ (c.in_ok-edits.ensures.edits c.args.hooks.now (record { sound = c.requires.sound; schema = c.requires.schema; accepted = (accepted_for c.args.arena.now c.args.plan.now.schema (rule_of c.args.plan.now.table) c.requires.schema c.rule.ensures.planned); params = c.requires.params; answer = c.in_ok-found.ensures.answer })))
+returns-in_err-reserve-clause-most g c most budget = within_ready _ _ (readable_at _ _ c.requires.sound c.requires.schema c.rule.ensures.planned c.requires.params c.in_ok-found.ensures.answer) _ _ _ _ _ (c.in_ok-applied.ensures.ready c.args.hooks.now (readable_at _ _ c.requires.sound c.requires.schema c.rule.ensures.planned c.requires.params c.in_ok-found.ensures.answer)) c.next.ensures.lawful.schema most c.args.steps.now budget (c.in_ok-found.ensures.cost c.args.params.now)
 
 pub returns-in_err-reserve-clause-untouched : goal.returns-in_err-reserve-clause-untouched
 returns-in_err-reserve-clause-untouched g c =
@@ -117,121 +65,166 @@ pub returns-in_err-reserve-clause-sound : goal.returns-in_err-reserve-clause-sou
 returns-in_err-reserve-clause-sound g c = sound_again c.args.arena.now c.reserve.new.self c.reserve.ensures.map c.requires.sound
 
 pub returns-in_err-reserve-clause-spare_stays : goal.returns-in_err-reserve-clause-spare_stays
-returns-in_err-reserve-clause-spare_stays g c =
-    let count = ap (λ m. m.count) c.reserve.ensures.map in
-    let spare = c.reserve.ensures.spare_stays in
-    omega (arith, count, spare)
+returns-in_err-reserve-clause-spare_stays g c = spare_stays c.args.arena.now.count c.args.arena.now.spare _ _ (ap (λ m. m.count) c.reserve.ensures.map) c.reserve.ensures.spare_stays
 
 pub returns-in_err-reserve-clause-no_more : goal.returns-in_err-reserve-clause-no_more
 returns-in_err-reserve-clause-no_more g c =
     let p = err_from_is_err_and c.from_residual-in_err-reserve.result c.from_residual-in_err-reserve.ensures.1 in
-    let room = c.in_ok-applied.ensures.room c.args.hooks.now c.args.params.now c.in_ok-found.ensures.answer (c.in_ok-meet_pre.ensures.pre c.args.hooks.now (record { sound = c.requires.sound; schema = c.requires.schema; accepted = (accepted_for c.args.arena.now c.args.plan.now.schema (rule_of c.args.plan.now.table) c.requires.schema c.rule.ensures.planned); params = c.requires.params; answer = c.in_ok-found.ensures.answer })) in
-    let next = c.next.ensures.next in
-    let more = c.saturating_sub-more.ensures in
-    rw p.1 (ForResult _ _ _ room (omega (arith, more, c.reserve.ensures.spare_most)) (omega (arith, next, c.reserve.ensures.reserved_most)))
+    rw p.1 (ForResult _ _ _ (c.in_ok-applied.ensures.ready c.args.hooks.now (readable_at _ _ c.requires.sound c.requires.schema c.rule.ensures.planned c.requires.params c.in_ok-found.ensures.answer)).room
+    (spare_most c.args.arena.now.spare c.in_ok-applied.applied.added c.in_ok-applied.applied.removed _ _ c.saturating_sub-more.ensures c.reserve.ensures.spare_most)
+    (reserved_most c.args.arena.now.next c.args.arena.now.reserved _ c.in_ok-applied.applied.added _ c.next.ensures.next c.reserve.ensures.reserved_most))
 
 pub commit-requires-clause-edits : goal.commit-requires-clause-edits
-commit-requires-clause-edits g c = (((c.in_ok-edits.ensures.edits c.args.hooks.now (record { sound = c.requires.sound; schema = c.requires.schema; accepted = (accepted_for c.args.arena.now c.args.plan.now.schema (rule_of c.args.plan.now.table) c.requires.schema c.rule.ensures.planned); params = c.requires.params; answer = c.in_ok-found.ensures.answer }))).pending, rows_there _ c.args.hooks.now c.in_ok-edits.edits _ _ (c.in_ok-edits.ensures.edits c.args.hooks.now (record { sound = c.requires.sound; schema = c.requires.schema; accepted = (accepted_for c.args.arena.now c.args.plan.now.schema (rule_of c.args.plan.now.table) c.requires.schema c.rule.ensures.planned); params = c.requires.params; answer = c.in_ok-found.ensures.answer })) c.reserve.new.self c.in_ok-reserve.ensures.map, ((c.in_ok-edits.ensures.edits c.args.hooks.now (record { sound = c.requires.sound; schema = c.requires.schema; accepted = (accepted_for c.args.arena.now c.args.plan.now.schema (rule_of c.args.plan.now.table) c.requires.schema c.rule.ensures.planned); params = c.requires.params; answer = c.in_ok-found.ensures.answer }))).edits_of)
+commit-requires-clause-edits g c = edits_there _ _ (readable_at _ _ c.requires.sound c.requires.schema c.rule.ensures.planned c.requires.params c.in_ok-found.ensures.answer) _ _ _ _ _ (c.in_ok-applied.ensures.ready c.args.hooks.now (readable_at _ _ c.requires.sound c.requires.schema c.rule.ensures.planned c.requires.params c.in_ok-found.ensures.answer)) c.reserve.new.self c.in_ok-reserve.ensures.map
 
 pub commit-requires-clause-names : goal.commit-requires-clause-names
-commit-requires-clause-names g c =
-    let room = c.in_ok-applied.ensures.room c.args.hooks.now c.args.params.now c.in_ok-found.ensures.answer (c.in_ok-meet_pre.ensures.pre c.args.hooks.now (record { sound = c.requires.sound; schema = c.requires.schema; accepted = (accepted_for c.args.arena.now c.args.plan.now.schema (rule_of c.args.plan.now.table) c.requires.schema c.rule.ensures.planned); params = c.requires.params; answer = c.in_ok-found.ensures.answer })) in
-    let fit = room.ready.names_fit in
-    let added = room.added_is in
-    let removed = room.removed_is in
-    let are = edits_here _ c.args.hooks.now c.in_ok-edits.edits _ _ (c.in_ok-edits.ensures.edits c.args.hooks.now (record { sound = c.requires.sound; schema = c.requires.schema; accepted = (accepted_for c.args.arena.now c.args.plan.now.schema (rule_of c.args.plan.now.table) c.requires.schema c.rule.ensures.planned); params = c.requires.params; answer = c.in_ok-found.ensures.answer })) in
-    let of = are.added_is in
-    let gone = are.removed_is in
-    let next = c.next.ensures.next in
-    let same = ap (λ m. m.next) c.in_ok-reserve.ensures.map in
-    let names = c.in_ok-reserve.ensures.names in
-    omega (arith, added, of, next, same, names)
+commit-requires-clause-names g c = names_reserved c.args.arena.now.next c.args.arena.now.reserved _ c.in_ok-applied.applied.added _ _ _ (new_is _ _ (readable_at _ _ c.requires.sound c.requires.schema c.rule.ensures.planned c.requires.params c.in_ok-found.ensures.answer) _ _ _ _ _ (c.in_ok-applied.ensures.ready c.args.hooks.now (readable_at _ _ c.requires.sound c.requires.schema c.rule.ensures.planned c.requires.params c.in_ok-found.ensures.answer))) c.next.ensures.next (ap (λ m. m.next) c.in_ok-reserve.ensures.map) c.in_ok-reserve.ensures.names
 
 pub commit-requires-clause-room : goal.commit-requires-clause-room
-commit-requires-clause-room g c =
-    let room = c.in_ok-applied.ensures.room c.args.hooks.now c.args.params.now c.in_ok-found.ensures.answer (c.in_ok-meet_pre.ensures.pre c.args.hooks.now (record { sound = c.requires.sound; schema = c.requires.schema; accepted = (accepted_for c.args.arena.now c.args.plan.now.schema (rule_of c.args.plan.now.table) c.requires.schema c.rule.ensures.planned); params = c.requires.params; answer = c.in_ok-found.ensures.answer })) in
-    let fit = room.ready.names_fit in
-    let added = room.added_is in
-    let removed = room.removed_is in
-    let are = edits_here _ c.args.hooks.now c.in_ok-edits.edits _ _ (c.in_ok-edits.ensures.edits c.args.hooks.now (record { sound = c.requires.sound; schema = c.requires.schema; accepted = (accepted_for c.args.arena.now c.args.plan.now.schema (rule_of c.args.plan.now.table) c.requires.schema c.rule.ensures.planned); params = c.requires.params; answer = c.in_ok-found.ensures.answer })) in
-    let of = are.added_is in
-    let gone = are.removed_is in
-    let more = c.saturating_sub-more.ensures in
-    let darts = c.in_ok-reserve.ensures.darts in
-    omega (arith, added, removed, of, gone, more, darts)
+commit-requires-clause-room g c = room_reserved c.args.arena.now.spare c.in_ok-applied.applied.added c.in_ok-applied.applied.removed _ _ _ _ (new_is _ _ (readable_at _ _ c.requires.sound c.requires.schema c.rule.ensures.planned c.requires.params c.in_ok-found.ensures.answer) _ _ _ _ _ (c.in_ok-applied.ensures.ready c.args.hooks.now (readable_at _ _ c.requires.sound c.requires.schema c.rule.ensures.planned c.requires.params c.in_ok-found.ensures.answer))) (old_is _ _ (readable_at _ _ c.requires.sound c.requires.schema c.rule.ensures.planned c.requires.params c.in_ok-found.ensures.answer) _ _ _ _ _ (c.in_ok-applied.ensures.ready c.args.hooks.now (readable_at _ _ c.requires.sound c.requires.schema c.rule.ensures.planned c.requires.params c.in_ok-found.ensures.answer))) c.saturating_sub-more.ensures c.in_ok-reserve.ensures.darts
 
 pub returns-clause-outcome : goal.returns-clause-outcome
-returns-clause-outcome g c =
-    is_done c.args.arena.now c.commit.new.arena c.args.plan.now.table c.args.hooks.now c.args.params.now c.in_ok-found.found c.in_ok-applied.applied.added c.in_ok-applied.applied.removed ((c.in_ok-edits.ensures.edits c.args.hooks.now (record { sound = c.requires.sound; schema = c.requires.schema; accepted = (accepted_for c.args.arena.now c.args.plan.now.schema (rule_of c.args.plan.now.table) c.requires.schema c.rule.ensures.planned); params = c.requires.params; answer = c.in_ok-found.ensures.answer }))).pending ((c.in_ok-edits.ensures.edits c.args.hooks.now (record { sound = c.requires.sound; schema = c.requires.schema; accepted = (accepted_for c.args.arena.now c.args.plan.now.schema (rule_of c.args.plan.now.table) c.requires.schema c.rule.ensures.planned); params = c.requires.params; answer = c.in_ok-found.ensures.answer }))).is
-    (values_right _ c.args.hooks.now c.in_ok-edits.edits _ _ (c.in_ok-edits.ensures.edits c.args.hooks.now (record { sound = c.requires.sound; schema = c.requires.schema; accepted = (accepted_for c.args.arena.now c.args.plan.now.schema (rule_of c.args.plan.now.table) c.requires.schema c.rule.ensures.planned); params = c.requires.params; answer = c.in_ok-found.ensures.answer }))) (c.in_ok-applied.ensures.room c.args.hooks.now c.args.params.now c.in_ok-found.ensures.answer (c.in_ok-meet_pre.ensures.pre c.args.hooks.now (record { sound = c.requires.sound; schema = c.requires.schema; accepted = (accepted_for c.args.arena.now c.args.plan.now.schema (rule_of c.args.plan.now.table) c.requires.schema c.rule.ensures.planned); params = c.requires.params; answer = c.in_ok-found.ensures.answer }))) (c.commit.ensures.unfolded ((c.in_ok-edits.ensures.edits c.args.hooks.now (record { sound = c.requires.sound; schema = c.requires.schema; accepted = (accepted_for c.args.arena.now c.args.plan.now.schema (rule_of c.args.plan.now.table) c.requires.schema c.rule.ensures.planned); params = c.requires.params; answer = c.in_ok-found.ensures.answer }))).pending (rows_there _ c.args.hooks.now c.in_ok-edits.edits _ _ (c.in_ok-edits.ensures.edits c.args.hooks.now (record { sound = c.requires.sound; schema = c.requires.schema; accepted = (accepted_for c.args.arena.now c.args.plan.now.schema (rule_of c.args.plan.now.table) c.requires.schema c.rule.ensures.planned); params = c.requires.params; answer = c.in_ok-found.ensures.answer })) c.reserve.new.self c.in_ok-reserve.ensures.map) ((c.in_ok-edits.ensures.edits c.args.hooks.now (record { sound = c.requires.sound; schema = c.requires.schema; accepted = (accepted_for c.args.arena.now c.args.plan.now.schema (rule_of c.args.plan.now.table) c.requires.schema c.rule.ensures.planned); params = c.requires.params; answer = c.in_ok-found.ensures.answer }))).edits_of)
+returns-clause-outcome g c = done _ _ (readable_at _ _ c.requires.sound c.requires.schema c.rule.ensures.planned c.requires.params c.in_ok-found.ensures.answer) _ _ _ _ _ (c.in_ok-applied.ensures.ready c.args.hooks.now (readable_at _ _ c.requires.sound c.requires.schema c.rule.ensures.planned c.requires.params c.in_ok-found.ensures.answer)) c.reserve.new.self c.commit.new.arena c.in_ok-reserve.ensures.map c.commit.ensures.unfolded
 
 pub returns-clause-sound : goal.returns-clause-sound
-returns-clause-sound g c = applications_keep_sound_maps (application_of c.args.arena.now (rule_of c.args.plan.now.table) c.args.hooks.now c.args.params.now) _ _ _ c.next.ensures.lawful.schema c.requires.sound (accepted_for c.args.arena.now c.args.plan.now.schema (rule_of c.args.plan.now.table) c.requires.schema c.rule.ensures.planned) c.requires.params
-    (is_done c.args.arena.now c.commit.new.arena c.args.plan.now.table c.args.hooks.now c.args.params.now c.in_ok-found.found c.in_ok-applied.applied.added c.in_ok-applied.applied.removed ((c.in_ok-edits.ensures.edits c.args.hooks.now (record { sound = c.requires.sound; schema = c.requires.schema; accepted = (accepted_for c.args.arena.now c.args.plan.now.schema (rule_of c.args.plan.now.table) c.requires.schema c.rule.ensures.planned); params = c.requires.params; answer = c.in_ok-found.ensures.answer }))).pending ((c.in_ok-edits.ensures.edits c.args.hooks.now (record { sound = c.requires.sound; schema = c.requires.schema; accepted = (accepted_for c.args.arena.now c.args.plan.now.schema (rule_of c.args.plan.now.table) c.requires.schema c.rule.ensures.planned); params = c.requires.params; answer = c.in_ok-found.ensures.answer }))).is
-    (values_right _ c.args.hooks.now c.in_ok-edits.edits _ _ (c.in_ok-edits.ensures.edits c.args.hooks.now (record { sound = c.requires.sound; schema = c.requires.schema; accepted = (accepted_for c.args.arena.now c.args.plan.now.schema (rule_of c.args.plan.now.table) c.requires.schema c.rule.ensures.planned); params = c.requires.params; answer = c.in_ok-found.ensures.answer }))) (c.in_ok-applied.ensures.room c.args.hooks.now c.args.params.now c.in_ok-found.ensures.answer (c.in_ok-meet_pre.ensures.pre c.args.hooks.now (record { sound = c.requires.sound; schema = c.requires.schema; accepted = (accepted_for c.args.arena.now c.args.plan.now.schema (rule_of c.args.plan.now.table) c.requires.schema c.rule.ensures.planned); params = c.requires.params; answer = c.in_ok-found.ensures.answer }))) (c.commit.ensures.unfolded ((c.in_ok-edits.ensures.edits c.args.hooks.now (record { sound = c.requires.sound; schema = c.requires.schema; accepted = (accepted_for c.args.arena.now c.args.plan.now.schema (rule_of c.args.plan.now.table) c.requires.schema c.rule.ensures.planned); params = c.requires.params; answer = c.in_ok-found.ensures.answer }))).pending (rows_there _ c.args.hooks.now c.in_ok-edits.edits _ _ (c.in_ok-edits.ensures.edits c.args.hooks.now (record { sound = c.requires.sound; schema = c.requires.schema; accepted = (accepted_for c.args.arena.now c.args.plan.now.schema (rule_of c.args.plan.now.table) c.requires.schema c.rule.ensures.planned); params = c.requires.params; answer = c.in_ok-found.ensures.answer })) c.reserve.new.self c.in_ok-reserve.ensures.map) ((c.in_ok-edits.ensures.edits c.args.hooks.now (record { sound = c.requires.sound; schema = c.requires.schema; accepted = (accepted_for c.args.arena.now c.args.plan.now.schema (rule_of c.args.plan.now.table) c.requires.schema c.rule.ensures.planned); params = c.requires.params; answer = c.in_ok-found.ensures.answer }))).edits_of))
+returns-clause-sound g c =
+    applications_keep_sound_maps (application_of c.args.arena.now (rule_of c.args.plan.now.table) c.args.hooks.now c.args.params.now) _ _ _ c.next.ensures.lawful.schema c.requires.sound (accepted_for c.args.arena.now c.args.plan.now.schema (rule_of c.args.plan.now.table) c.requires.schema c.rule.ensures.planned) c.requires.params
+    (done _ _ (readable_at _ _ c.requires.sound c.requires.schema c.rule.ensures.planned c.requires.params c.in_ok-found.ensures.answer) _ _ _ _ _ (c.in_ok-applied.ensures.ready c.args.hooks.now (readable_at _ _ c.requires.sound c.requires.schema c.rule.ensures.planned c.requires.params c.in_ok-found.ensures.answer)) c.reserve.new.self c.commit.new.arena c.in_ok-reserve.ensures.map c.commit.ensures.unfolded)
 
 pub returns-clause-schema : goal.returns-clause-schema
 returns-clause-schema g c = c.commit.ensures.schema ∙ ap (λ m. m.schema) c.in_ok-reserve.ensures.map
 
 pub returns-clause-most : goal.returns-clause-most
-returns-clause-most g c most budget =
-    ready_within c.args.arena.now (rule_of c.args.plan.now.table) c.args.hooks.now c.args.params.now c.requires.sound (accepted_for c.args.arena.now c.args.plan.now.schema (rule_of c.args.plan.now.table) c.requires.schema c.rule.ensures.planned) c.in_ok-found.found c.in_ok-found.ensures.answer c.count.ensures.lawful.schema (c.in_ok-applied.ensures.room c.args.hooks.now c.args.params.now c.in_ok-found.ensures.answer (c.in_ok-meet_pre.ensures.pre c.args.hooks.now (record { sound = c.requires.sound; schema = c.requires.schema; accepted = (accepted_for c.args.arena.now c.args.plan.now.schema (rule_of c.args.plan.now.table) c.requires.schema c.rule.ensures.planned); params = c.requires.params; answer = c.in_ok-found.ensures.answer }))).ready most c.args.steps.now c.find.new.steps c.meet_pre.new.steps c.commit.new.steps budget (c.in_ok-found.ensures.cost c.args.params.now)
-    (c.in_ok-meet_pre.ensures.cost c.args.hooks.now) (committed_within _ c.args.hooks.now c.in_ok-edits.edits _ _ (c.in_ok-edits.ensures.edits c.args.hooks.now (record { sound = c.requires.sound; schema = c.requires.schema; accepted = (accepted_for c.args.arena.now c.args.plan.now.schema (rule_of c.args.plan.now.table) c.requires.schema c.rule.ensures.planned); params = c.requires.params; answer = c.in_ok-found.ensures.answer })) c.commit.new.steps c.commit.ensures.most)
+returns-clause-most g c most budget = within_done _ _ (readable_at _ _ c.requires.sound c.requires.schema c.rule.ensures.planned c.requires.params c.in_ok-found.ensures.answer) _ _ _ _ _ (c.in_ok-applied.ensures.ready c.args.hooks.now (readable_at _ _ c.requires.sound c.requires.schema c.rule.ensures.planned c.requires.params c.in_ok-found.ensures.answer)) c.next.ensures.lawful.schema most c.args.steps.now budget (c.in_ok-found.ensures.cost c.args.params.now) c.commit.new.steps c.commit.ensures.most
 
 pub returns-clause-rises : goal.returns-clause-rises
 returns-clause-rises g c =
-    let least = c.commit.ensures.least in
-    let rises = ((c.in_ok-edits.ensures.edits c.args.hooks.now (record { sound = c.requires.sound; schema = c.requires.schema; accepted = (accepted_for c.args.arena.now c.args.plan.now.schema (rule_of c.args.plan.now.table) c.requires.schema c.rule.ensures.planned); params = c.requires.params; answer = c.in_ok-found.ensures.answer }))).rises in
-    let found_at = c.in_ok-found.ensures.least in
-    let read_at = c.in_ok-meet_pre.ensures.least in
-    omega (arith, least, rises, found_at, read_at)
+    let ready = c.in_ok-applied.ensures.ready c.args.hooks.now (readable_at _ _ c.requires.sound c.requires.schema c.rule.ensures.planned c.requires.params c.in_ok-found.ensures.answer) in
+    rises_to_the_end _ _ _ _ _ _ _ c.in_ok-found.ensures.least ready.rises ready.edited.rises c.commit.ensures.least
 
 pub returns-clause-spare : goal.returns-clause-spare
-returns-clause-spare g c =
-    let room = c.in_ok-applied.ensures.room c.args.hooks.now c.args.params.now c.in_ok-found.ensures.answer (c.in_ok-meet_pre.ensures.pre c.args.hooks.now (record { sound = c.requires.sound; schema = c.requires.schema; accepted = (accepted_for c.args.arena.now c.args.plan.now.schema (rule_of c.args.plan.now.table) c.requires.schema c.rule.ensures.planned); params = c.requires.params; answer = c.in_ok-found.ensures.answer })) in
-    let fit = room.ready.names_fit in
-    let added = room.added_is in
-    let removed = room.removed_is in
-    let are = edits_here _ c.args.hooks.now c.in_ok-edits.edits _ _ (c.in_ok-edits.ensures.edits c.args.hooks.now (record { sound = c.requires.sound; schema = c.requires.schema; accepted = (accepted_for c.args.arena.now c.args.plan.now.schema (rule_of c.args.plan.now.table) c.requires.schema c.rule.ensures.planned); params = c.requires.params; answer = c.in_ok-found.ensures.answer })) in
-    let of = are.added_is in
-    let gone = are.removed_is in
-    let more = c.saturating_sub-more.ensures in
-    let darts = c.in_ok-reserve.ensures.darts in
-    let spare = c.commit.ensures.spare in
-    omega (arith, added, removed, of, gone, more, darts, spare)
+returns-clause-spare g c = spare_then c.args.arena.now.spare c.in_ok-applied.applied.added c.in_ok-applied.applied.removed _ _ _ _ _ (new_is _ _ (readable_at _ _ c.requires.sound c.requires.schema c.rule.ensures.planned c.requires.params c.in_ok-found.ensures.answer) _ _ _ _ _ (c.in_ok-applied.ensures.ready c.args.hooks.now (readable_at _ _ c.requires.sound c.requires.schema c.rule.ensures.planned c.requires.params c.in_ok-found.ensures.answer))) (old_is _ _ (readable_at _ _ c.requires.sound c.requires.schema c.rule.ensures.planned c.requires.params c.in_ok-found.ensures.answer) _ _ _ _ _ (c.in_ok-applied.ensures.ready c.args.hooks.now (readable_at _ _ c.requires.sound c.requires.schema c.rule.ensures.planned c.requires.params c.in_ok-found.ensures.answer))) c.saturating_sub-more.ensures c.in_ok-reserve.ensures.darts c.commit.ensures.spare
 
 pub returns-clause-reserved : goal.returns-clause-reserved
-returns-clause-reserved g c =
-    let next = c.next.ensures.next in
-    let names = c.in_ok-reserve.ensures.names in
-    let reserved = c.commit.ensures.reserved in
-    omega (arith, next, names, reserved)
+returns-clause-reserved g c = reserved_then c.args.arena.now.next c.args.arena.now.reserved _ c.in_ok-applied.applied.added _ _ c.next.ensures.next c.in_ok-reserve.ensures.names c.commit.ensures.reserved
 
 pub returns-clause-spare_stays : goal.returns-clause-spare_stays
-returns-clause-spare_stays g c =
-    let before = ap (λ m. m.count) c.in_ok-reserve.ensures.map in
-    let stays = c.in_ok-reserve.ensures.spare_stays in
-    let count = c.commit.ensures.count in
-    let spare = c.commit.ensures.spare in
-    omega (arith, before, stays, count, spare)
+returns-clause-spare_stays g c = spare_stays_then c.args.arena.now.count c.args.arena.now.spare _ _ _ _ _ _ (ap (λ m. m.count) c.in_ok-reserve.ensures.map) c.in_ok-reserve.ensures.spare_stays c.commit.ensures.count c.commit.ensures.spare
 
 pub returns-clause-reserved_stays : goal.returns-clause-reserved_stays
-returns-clause-reserved_stays g c =
-    let stays = c.in_ok-reserve.ensures.reserved_stays in
-    let reserved = c.commit.ensures.reserved in
-    omega (arith, stays, reserved)
+returns-clause-reserved_stays g c = reserved_stays _ _ _ c.in_ok-reserve.ensures.reserved_stays c.commit.ensures.reserved
 
 pub returns-clause-least : goal.returns-clause-least
 returns-clause-least g c =
-    let room = c.in_ok-applied.ensures.room c.args.hooks.now c.args.params.now c.in_ok-found.ensures.answer (c.in_ok-meet_pre.ensures.pre c.args.hooks.now (record { sound = c.requires.sound; schema = c.requires.schema; accepted = (accepted_for c.args.arena.now c.args.plan.now.schema (rule_of c.args.plan.now.table) c.requires.schema c.rule.ensures.planned); params = c.requires.params; answer = c.in_ok-found.ensures.answer })) in
-    let fit = room.ready.names_fit in
-    let added = room.added_is in
-    let removed = room.removed_is in
-    let are = edits_here _ c.args.hooks.now c.in_ok-edits.edits _ _ (c.in_ok-edits.ensures.edits c.args.hooks.now (record { sound = c.requires.sound; schema = c.requires.schema; accepted = (accepted_for c.args.arena.now c.args.plan.now.schema (rule_of c.args.plan.now.table) c.requires.schema c.rule.ensures.planned); params = c.requires.params; answer = c.in_ok-found.ensures.answer })) in
-    let of = are.added_is in
-    let gone = are.removed_is in
-    let least = c.commit.ensures.least in
-    let found_at = c.in_ok-found.ensures.least in
-    let read_at = c.in_ok-meet_pre.ensures.least in
-    let rises = ((c.in_ok-edits.ensures.edits c.args.hooks.now (record { sound = c.requires.sound; schema = c.requires.schema; accepted = (accepted_for c.args.arena.now c.args.plan.now.schema (rule_of c.args.plan.now.table) c.requires.schema c.rule.ensures.planned); params = c.requires.params; answer = c.in_ok-found.ensures.answer }))).rises in
-    omega (arith, added, removed, of, gone, least, found_at, read_at, rises)
+    let ready = c.in_ok-applied.ensures.ready c.args.hooks.now (readable_at _ _ c.requires.sound c.requires.schema c.rule.ensures.planned c.requires.params c.in_ok-found.ensures.answer) in
+    steps_of_darts _ _ _ _ _ _ _ _ _ c.in_ok-found.ensures.least ready.rises ready.edited.rises c.commit.ensures.least (new_is _ _ (readable_at _ _ c.requires.sound c.requires.schema c.rule.ensures.planned c.requires.params c.in_ok-found.ensures.answer) _ _ _ _ _ (c.in_ok-applied.ensures.ready c.args.hooks.now (readable_at _ _ c.requires.sound c.requires.schema c.rule.ensures.planned c.requires.params c.in_ok-found.ensures.answer))) (old_is _ _ (readable_at _ _ c.requires.sound c.requires.schema c.rule.ensures.planned c.requires.params c.in_ok-found.ensures.answer) _ _ _ _ _ (c.in_ok-applied.ensures.ready c.args.hooks.now (readable_at _ _ c.requires.sound c.requires.schema c.rule.ensures.planned c.requires.params c.in_ok-found.ensures.answer)))
+
+pub returns-in_err-fit-clause-outcome : goal.returns-in_err-fit-clause-outcome
+returns-in_err-fit-clause-outcome g c =
+    let p = err_from_is_err_and c.from_residual.result c.from_residual.ensures.1 in
+    rw (p.1, p.2) (tt, refl)
+
+pub returns-in_err-fit-clause-sound : goal.returns-in_err-fit-clause-sound
+returns-in_err-fit-clause-sound g c = c.requires.sound
+
+pub returns-in_err-fit-clause-most : goal.returns-in_err-fit-clause-most
+returns-in_err-fit-clause-most g c most budget = no_less _ _
+
+pub returns-in_err-fit-clause-rises : goal.returns-in_err-fit-clause-rises
+returns-in_err-fit-clause-rises g c = stays _
+
+pub returns-in_err-fit-clause-room : goal.returns-in_err-fit-clause-room
+returns-in_err-fit-clause-room g c = c.fit.ensures.kept
+
+pub returns-in_err-fit-clause-least : goal.returns-in_err-fit-clause-least
+returns-in_err-fit-clause-least g c = rw (err_from_is_err_and c.from_residual.result c.from_residual.ensures.1).1 tt
+
+pub returns-in_err-fit-clause-spare : goal.returns-in_err-fit-clause-spare
+returns-in_err-fit-clause-spare g c = rw (err_from_is_err_and c.from_residual.result c.from_residual.ensures.1).1 tt
+
+pub returns-in_err-fit-clause-reserved : goal.returns-in_err-fit-clause-reserved
+returns-in_err-fit-clause-reserved g c = rw (err_from_is_err_and c.from_residual.result c.from_residual.ensures.1).1 tt
+
+pub returns-in_err-fit-clause-no_more : goal.returns-in_err-fit-clause-no_more
+returns-in_err-fit-clause-no_more g c = rw (err_from_is_err_and c.from_residual.result c.from_residual.ensures.1).1 (AsBefore refl)
+
+pub returns-in_err-fit-clause-untouched : goal.returns-in_err-fit-clause-untouched
+returns-in_err-fit-clause-untouched g c = rw (err_from_is_err_and c.from_residual.result c.from_residual.ensures.1).1 (λ apart. refl)
+
+pub returns-in_err-fit-clause-spare_stays : goal.returns-in_err-fit-clause-spare_stays
+returns-in_err-fit-clause-spare_stays g c = stays _
+
+pub returns-in_err-fit-clause-reserved_stays : goal.returns-in_err-fit-clause-reserved_stays
+returns-in_err-fit-clause-reserved_stays g c = stays _
+
+pub returns-in_err-fit-clause-schema : goal.returns-in_err-fit-clause-schema
+returns-in_err-fit-clause-schema g c = refl
+
+pub returns-in_err-found-clause-least : goal.returns-in_err-found-clause-least
+returns-in_err-found-clause-least g c = rw (err_from_is_err_and c.from_residual-in_err-found.result c.from_residual-in_err-found.ensures.1).1 tt
+
+pub returns-in_err-found-clause-spare : goal.returns-in_err-found-clause-spare
+returns-in_err-found-clause-spare g c = rw (err_from_is_err_and c.from_residual-in_err-found.result c.from_residual-in_err-found.ensures.1).1 tt
+
+pub returns-in_err-found-clause-reserved : goal.returns-in_err-found-clause-reserved
+returns-in_err-found-clause-reserved g c = rw (err_from_is_err_and c.from_residual-in_err-found.result c.from_residual-in_err-found.ensures.1).1 tt
+
+pub returns-in_err-found-clause-no_more : goal.returns-in_err-found-clause-no_more
+returns-in_err-found-clause-no_more g c = rw (err_from_is_err_and c.from_residual-in_err-found.result c.from_residual-in_err-found.ensures.1).1 (AsBefore refl)
+
+pub returns-in_err-found-clause-untouched : goal.returns-in_err-found-clause-untouched
+returns-in_err-found-clause-untouched g c = rw (err_from_is_err_and c.from_residual-in_err-found.result c.from_residual-in_err-found.ensures.1).1 (λ apart. refl)
+
+pub returns-in_err-found-clause-spare_stays : goal.returns-in_err-found-clause-spare_stays
+returns-in_err-found-clause-spare_stays g c = stays _
+
+pub returns-in_err-found-clause-reserved_stays : goal.returns-in_err-found-clause-reserved_stays
+returns-in_err-found-clause-reserved_stays g c = stays _
+
+pub returns-in_err-found-clause-schema : goal.returns-in_err-found-clause-schema
+returns-in_err-found-clause-schema g c = refl
+
+pub returns-in_err-found-clause-sound : goal.returns-in_err-found-clause-sound
+returns-in_err-found-clause-sound g c = c.requires.sound
+
+pub returns-in_err-found-clause-rises : goal.returns-in_err-found-clause-rises
+returns-in_err-found-clause-rises g c = c.in_err-found.ensures.least
+
+pub returns-in_err-applied-clause-least : goal.returns-in_err-applied-clause-least
+returns-in_err-applied-clause-least g c = rw (err_from_is_err_and c.from_residual-in_err-applied.result c.from_residual-in_err-applied.ensures.1).1 tt
+
+pub returns-in_err-applied-clause-spare : goal.returns-in_err-applied-clause-spare
+returns-in_err-applied-clause-spare g c = rw (err_from_is_err_and c.from_residual-in_err-applied.result c.from_residual-in_err-applied.ensures.1).1 tt
+
+pub returns-in_err-applied-clause-reserved : goal.returns-in_err-applied-clause-reserved
+returns-in_err-applied-clause-reserved g c = rw (err_from_is_err_and c.from_residual-in_err-applied.result c.from_residual-in_err-applied.ensures.1).1 tt
+
+pub returns-in_err-applied-clause-no_more : goal.returns-in_err-applied-clause-no_more
+returns-in_err-applied-clause-no_more g c = rw (err_from_is_err_and c.from_residual-in_err-applied.result c.from_residual-in_err-applied.ensures.1).1 (AsBefore refl)
+
+pub returns-in_err-applied-clause-spare_stays : goal.returns-in_err-applied-clause-spare_stays
+returns-in_err-applied-clause-spare_stays g c = stays _
+
+pub returns-in_err-applied-clause-reserved_stays : goal.returns-in_err-applied-clause-reserved_stays
+returns-in_err-applied-clause-reserved_stays g c = stays _
+
+pub returns-in_err-applied-clause-schema : goal.returns-in_err-applied-clause-schema
+returns-in_err-applied-clause-schema g c = refl
+
+pub returns-in_err-applied-clause-sound : goal.returns-in_err-applied-clause-sound
+returns-in_err-applied-clause-sound g c = c.requires.sound
+
+pub returns-in_err-reserve-clause-least : goal.returns-in_err-reserve-clause-least
+returns-in_err-reserve-clause-least g c = rw (err_from_is_err_and c.from_residual-in_err-reserve.result c.from_residual-in_err-reserve.ensures.1).1 tt
+
+pub returns-in_err-reserve-clause-spare : goal.returns-in_err-reserve-clause-spare
+returns-in_err-reserve-clause-spare g c = rw (err_from_is_err_and c.from_residual-in_err-reserve.result c.from_residual-in_err-reserve.ensures.1).1 tt
+
+pub returns-in_err-reserve-clause-reserved : goal.returns-in_err-reserve-clause-reserved
+returns-in_err-reserve-clause-reserved g c = rw (err_from_is_err_and c.from_residual-in_err-reserve.result c.from_residual-in_err-reserve.ensures.1).1 tt
+
+pub returns-in_err-reserve-clause-schema : goal.returns-in_err-reserve-clause-schema
+returns-in_err-reserve-clause-schema g c = ap (λ m. m.schema) c.reserve.ensures.map
+
+pub returns-in_err-reserve-clause-reserved_stays : goal.returns-in_err-reserve-clause-reserved_stays
+returns-in_err-reserve-clause-reserved_stays g c = c.reserve.ensures.reserved_stays

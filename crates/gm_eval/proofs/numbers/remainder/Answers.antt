@@ -1,17 +1,19 @@
-use Rattle.std.proofs.Common.{◌≡◌, pos, ◌<ℤ◌, neg_ℤ, ap₂, ◌∙◌, arith}
-use Rattle.std.specs.Int.{int_rem_euclid}
-use Rattle.std.proofs.lemmas.Int.{ints}
-use Rattle.gm_eval.proofs.Floors.{rest_below}
+use Rattle.std.proofs.Common.{◌≡◌, neg_ℤ, ap, ap₂, ◌∙◌, rules}
+use Rattle.std.specs.Int.{int_rem_euclid, w128}
+use Rattle.std.proofs.lemmas.Int.{to_z-of_z}
+use Rattle.gm_eval.proofs.Casts.{above, below, negated, opposite_is, wide_is}
+use Rattle.gm_eval.proofs.Floors.{rest_above, rest_below}
 use Rattle.gm_eval.proofs.numbers.remainder.Goals as goal
+
+pub returns-then-divisor-gt0 : goal.returns-then-divisor-gt0
+returns-then-divisor-gt0 c =
+    let at = c.rem_euclid in
+    let fits = c.ranges.divisor in
+    to_z-of_z w128 at.result (record { sfits = at.type_inv }) ∙ at.ensures.value ∙ ap₂ int_rem_euclid (wide_is c.args.number c.ranges.number) (wide_is c.args.divisor fits) ∙ rest_above c.args.number c.args.divisor (above c.args.divisor fits c.if-divisor-gt0.true)
 
 pub returns-else-divisor-gt0 : goal.returns-else-divisor-gt0
 returns-else-divisor-gt0 c =
-    let fits = c.ranges.number.sfits in
-    let fits' = c.ranges.divisor.sfits in
-    let nonzero = c.requires.divisor in
-    let test = c.if-divisor-gt0.false in
-    let same = c.rem_euclid-else-divisor-gt0.ensures.value in
-    let range = c.rem_euclid-else-divisor-gt0.type_inv in
-    let below : c.args.divisor <ℤ pos 0 = grind (arith, ints) in
-    let parts : c.rem_euclid-else-divisor-gt0.result ≡ int_rem_euclid (neg_ℤ c.args.number) (neg_ℤ c.args.divisor) = same ∙ ap₂ int_rem_euclid (omega (arith, ints)) (omega (arith, ints)) in
-    omega (arith, ints, rest_below c.args.number c.args.divisor below, parts)
+    let at = c.rem_euclid-else-divisor-gt0 in
+    let fits = c.ranges.divisor in
+    let parts : at.result ≡ int_rem_euclid (neg_ℤ c.args.number) (neg_ℤ c.args.divisor) = at.ensures.value ∙ ap₂ int_rem_euclid (opposite_is c.args.number c.ranges.number) (opposite_is c.args.divisor fits) in
+    negated at.result (record { sfits = at.type_inv }) (search rules) ∙ ap neg_ℤ parts ∙ rest_below c.args.number c.args.divisor (below c.args.divisor fits c.requires.divisor c.if-divisor-gt0.false)

@@ -1,6 +1,7 @@
-use Rattle.std.proofs.Common.{◌<◌, FitsSigned, w64, rules, ap, ◌∙◌, arith}
+use Rattle.std.proofs.Common.{◌<◌, FitsSigned, List, w64, rules, ap, ◌∙◌, arith}
+use Rattle.std.proofs.lemmas.List.{take_all}
 use Rattle.gm_arena.specs.declared.slot.Slot.{Slot}
-use Rattle.gm_eval.specs.Sums.{part, part_at}
+use Rattle.gm_eval.specs.Sums.{part, part_at, parts_at, sum_of}
 use Rattle.gm_eval.proofs.Sums.{more_fits, small_more, sum_step}
 use Rattle.gm_eval.proofs.totals.add_up.Goals as goal
 
@@ -34,4 +35,17 @@ loop-slot-preserved g c =
       y_small = small_more index c.loop-slot.totals.y c.parts-x.result.1 few i.y_small fits_y;
       z_small = small_more index c.loop-slot.totals.z c.parts-x.result.2 few i.z_small fits_z;
       cost = omega (arith, i.cost, c.value.ensures.cost);
+    }
+
+pub returns : goal.returns
+returns g c =
+    let i = c.loop-slot.invariant in
+    let m = c.args.arena.now in
+    let e = c.args.embed in
+    let all = take_all c.loop-slot.slot-index c.args.slots.now c.loop-slot-test.false in
+    record {
+      x = i.x ∙ ap (λ (slots : List Slot). sum_of (parts_at m e 0 slots)) all;
+      y = i.y ∙ ap (λ (slots : List Slot). sum_of (parts_at m e 1 slots)) all;
+      z = i.z ∙ ap (λ (slots : List Slot). sum_of (parts_at m e 2 slots)) all;
+      cost = omega (arith, i.cost, c.loop-slot-test.false, c.loop-slot.auto.slot-index-end);
     }

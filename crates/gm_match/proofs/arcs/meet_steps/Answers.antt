@@ -4,16 +4,22 @@ use Rattle.gm_model.specs.Structure.{IsFirstBad}
 use Rattle.gm_match.specs.Firsts.{AreMetBy}
 use Rattle.gm_match.specs.Firsts.IsFirstStep.{NotMet}
 use Rattle.gm_match.proofs.Stepping.{same_count}
+use Rattle.gm_match.proofs.TurnsMet.{turns_met}
 use Rattle.gm_match.proofs.arcs.meet_steps.Goals as goal
+
+pub loop-node-preserved-then-turns_alone : goal.loop-node-preserved-then-turns_alone
+loop-node-preserved-then-turns_alone g c =
+    let met = turns_met c.args.arena.now c.args.plan.now c.requires.matchable c.args.found.now c.requires.candidate c.loop-node.node (c.turns_alone.ensures.alone c.if-turns_alone.true) in
+    record { met = below_more _ _ c.loop-node.invariant.met met; cost = omega (arith, c.loop-node.invariant.cost); least = c.loop-node.invariant.least }
 
 pub broken_position-requires-clause-node : goal.broken_position-requires-clause-node
 broken_position-requires-clause-node g c =
-    let same = same_count (rule_of c.args.plan.now.table) _ _ c.left_nodes-node-end.ensures.left c.requires.laid.nodes in
+    let same = same_count (rule_of c.args.plan.now.table) _ _ c.left_nodes-node-end.ensures.left c.requires.candidate.1.laid.nodes in
     omega (arith, same)
 
 pub returns-in-Some-clause-steps : goal.returns-in-Some-clause-steps
 returns-in-Some-clause-steps g c =
-    let same = same_count (rule_of c.args.plan.now.table) _ _ c.left_nodes-node-end.ensures.left c.requires.laid.nodes in
+    let same = same_count (rule_of c.args.plan.now.table) _ _ c.left_nodes-node-end.ensures.left c.requires.candidate.1.laid.nodes in
     let first = c.in-Some.ensures.first in
     let bad : IsFirstBad (AreMetBy c.args.arena.now (rule_of c.args.plan.now.table) c.args.found.now) c.args.found.now.nodes c.loop-node.node =
     record { within = omega (arith, same); fails = λ met. first.position.fails (met _ first.position.within); before = c.loop-node.invariant.met } in
@@ -24,5 +30,5 @@ loop-node-preserved g c = record { met = below_more _ _ c.loop-node.invariant.me
 
 pub returns-clause-steps : goal.returns-clause-steps
 returns-clause-steps g c =
-    let same = same_count (rule_of c.args.plan.now.table) _ _ c.left_nodes-node-end.ensures.left c.requires.laid.nodes in
+    let same = same_count (rule_of c.args.plan.now.table) _ _ c.left_nodes-node-end.ensures.left c.requires.candidate.1.laid.nodes in
     λ x h. c.loop-node.invariant.met x (omega (arith, same))

@@ -1,4 +1,5 @@
 use Rattle.std.proofs.Common.{◌≡◌, ℕ, Some, ◌+◌, ◌*◌, ◌<◌, ◌≤◌, [], length, sym, subst, ap, ◌∙◌, arith}
+use Rattle.std.proofs.lemmas.Result.{IfOk-weaker}
 use Rattle.gm_model.specs.Rules.{rule_of, width}
 use Rattle.std.specs.List.{slice_get}
 use Rattle.gm_plan.specs.Plans.{IsLeftCount}
@@ -7,9 +8,20 @@ use Rattle.gm_walk.proofs.NameLemmas.{name_there}
 use Rattle.gm_match.specs.Layout.{AreRows, dart_in, stepped}
 use Rattle.gm_match.proofs.Costs.{rows_cost}
 use Rattle.gm_match.proofs.Growing.{first_next, later_next, none_yet, one_first, one_more}
+use Rattle.gm_match.proofs.OneNode.{walk_rows}
 use Rattle.gm_match.proofs.Placing.{some_node}
 use Rattle.gm_match.proofs.Stepping.{same_count}
 use Rattle.gm_match.proofs.candidates.slots.Goals as goal
+
+pub returns-then-nodes-eq1-clause-slots : goal.returns-then-nodes-eq1-clause-slots
+returns-then-nodes-eq1-clause-slots g c =
+    let m = c.args.arena.now in
+    let rule = rule_of c.args.plan.now.table in
+    let hooks = names_of m c.args.darts.now in
+    let walk = c.args.walk.now in
+    let turns = c.args.turns.now in
+    let one : IsLeftCount rule 1 = subst (IsLeftCount rule) c.if-nodes-eq1.true c.left_nodes-nodes.ensures.left in
+    IfOk-weaker c.walk_slots.result _ _ (λ slots same. (1, one, subst (AreRows m rule hooks (names_of m walk) turns 1 (length walk)) (sym same) (walk_rows m c.args.plan.now.schema rule c.requires.matchable.planned one walk hooks turns c.requires.walk c.requires.starts))) c.walk_slots.ensures.slots
 
 pub loop-position-init : goal.loop-position-init
 loop-position-init g c =

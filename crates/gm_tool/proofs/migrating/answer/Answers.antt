@@ -1,12 +1,13 @@
-use Rattle.std.proofs.Common.{inr, refl}
+use Rattle.std.proofs.Common.{inr, refl, ◌∙◌}
 use Rattle.std.proofs.lemmas.Result.{err_from_is_err_and}
 use Rattle.gm_host.specs.Count.{Rises}
 use Rattle.gm_tool.specs.Loads.{FailsAt}
 use Rattle.gm_tool.specs.Migrating.{migrate_names_of, IsMigrateStatus}
 use Rattle.gm_tool.specs.Stops.{reply_of}
 use Rattle.gm_tool.proofs.LoadCounts.{always}
-use Rattle.gm_tool.proofs.Migrations.{stopped_migration, unmade_migration, saved_migration, migrated_bytes}
-use Rattle.gm_tool.proofs.Saving.{map_saved, stop_is_sound, stop_status, stop_is_no_run}
+use Rattle.gm_tool.proofs.Migrations.{stopped_migration, unmade_migration, saved_migration, migrated_bytes, unmade_is_sound, migrated_status}
+use Rattle.gm_tool.proofs.Saving.{map_saved, saving_is_sound, unsaved, stop_is_sound, stop_status, stop_is_no_run}
+use Rattle.gm_tool.proofs.StepBounds.{if_done}
 use Rattle.gm_tool.proofs.StepWords.{read_shown, printed_shown}
 use Rattle.gm_tool.proofs.migrating.answer.Goals as goal
 
@@ -54,3 +55,29 @@ returns-in-Err-clause-most g c = read_shown (g.S.Store.holds c.args.store.now) c
 
 pub returns-in-Err-clause-no_save_fault : goal.returns-in-Err-clause-no_save_fault
 returns-in-Err-clause-no_save_fault g c = rw c.stopped.ensures (always c.load_map.ensures.no_save_fault (reply_of c.in-Err.stop))
+
+pub returns-in_err-made-clause-statuses : goal.returns-in_err-made-clause-statuses
+returns-in_err-made-clause-statuses g c = rw (err_from_is_err_and c.from_residual.result c.from_residual.ensures.1).1 tt
+
+pub returns-in_err-made-clause-map : goal.returns-in_err-made-clause-map
+returns-in_err-made-clause-map g c = rw (err_from_is_err_and c.from_residual.result c.from_residual.ensures.1).1 tt
+
+pub returns-in_err-made-clause-no_save_fault : goal.returns-in_err-made-clause-no_save_fault
+returns-in_err-made-clause-no_save_fault g c = rw (err_from_is_err_and c.from_residual.result c.from_residual.ensures.1).1 tt
+
+pub returns-in_err-made-clause-sound : goal.returns-in_err-made-clause-sound
+returns-in_err-made-clause-sound g c =
+    let p = err_from_is_err_and c.from_residual.result c.from_residual.ensures.1 in
+    rw (p.1, p.2) (unmade_is_sound _ c.in_err-made.field-0.0 _ _ c.in_err-made.ensures.made)
+
+pub returns-clause-statuses : goal.returns-clause-statuses
+returns-clause-statuses g c = migrated_status _ _ c.args.files.out.now _ _ c.in_ok-made.made c.saved.result c.in_ok-made.ensures.made c.saved.ensures.saved
+
+pub returns-clause-sound : goal.returns-clause-sound
+returns-clause-sound g c = saving_is_sound _ _ c.args.files.out.now c.in_ok-made.made _ c.saved.result _ (rw c.load_map.ensures.no_save_fault at c.saved.ensures.saved)
+
+pub returns-clause-no_memory : goal.returns-clause-no_memory
+returns-clause-no_memory g c none = unsaved _ _ c.args.files.out.now c.in_ok-made.made _ c.saved.result c.saved.ensures.saved none ∙ c.load_map.ensures.held
+
+pub returns-clause-no_save_fault : goal.returns-clause-no_save_fault
+returns-clause-no_save_fault g c = if_done (λ same. same ∙ c.load_map.ensures.no_save_fault) c.saved.result c.saved.ensures.no_save_fault

@@ -1,7 +1,7 @@
 use Rattle.std.proofs.lemmas.Result.{err_from_is_err_and}
 use Rattle.gm_tool.specs.Loads.{FailsAt}
 use Rattle.gm_tool.specs.Refusals.{command_in}
-use Rattle.gm_tool.proofs.Asking.{not_loaded, loaded, load_is_sound, judged_is_sound, judged_refuses}
+use Rattle.gm_tool.proofs.Asking.{not_loaded, loaded, load_is_sound, judged_is_sound, judged_refuses, judged_status}
 use Rattle.gm_tool.proofs.StepWords.{unloaded_shown, loaded_shown}
 use Rattle.gm_tool.proofs.program.reply_on.Goals as goal
 
@@ -33,3 +33,12 @@ returns-in_err-bytes-clause-show_most g c show = unloaded_shown (g.S.Store.holds
 pub returns-clause-show_most : goal.returns-clause-show_most
 returns-clause-show_most g c show =
     loaded_shown (g.S.Store.holds c.args.store.now) c.args.file.now c.in_ok-bytes.bytes.items _ _ c.in_ok-bytes.ensures.loading.1 (c.judged.ensures.show_most show)
+
+pub returns-clause-statuses : goal.returns-clause-statuses
+returns-clause-statuses g c = judged_status c.in_ok-bytes.bytes.items (command_in c.args.command) c.judged.result c.judged.ensures.judged
+
+pub returns-in_err-bytes-clause-statuses : goal.returns-in_err-bytes-clause-statuses
+returns-in_err-bytes-clause-statuses g c = rw (err_from_is_err_and c.from_residual.result c.from_residual.ensures.1).1 tt
+
+pub returns-in_err-bytes-clause-rule_refused : goal.returns-in_err-bytes-clause-rule_refused
+returns-in_err-bytes-clause-rule_refused g c = rw (err_from_is_err_and c.from_residual.result c.from_residual.ensures.1).1 tt

@@ -8,7 +8,7 @@ use Rattle.gm_tool.specs.declared.refusal.NoText.TheVariants as nothing
 use Rattle.gm_tool.specs.declared.refusal.Refusal.TheVariants as refusals
 use Rattle.gm_tool.proofs.LoadCounts.{counts_of, counts_none, always}
 use Rattle.gm_tool.proofs.StepWords.{within_of, least_of, within_none, least_none, file_shown, none_shown, migrated_within, none_migrated, grid_within, none_gridded, grid_least, no_grid_least}
-use Rattle.gm_tool.proofs.Asking.{file_is_no_run, file_is_no_migrate, file_is_no_grid, run_is_no_migrate, run_is_no_grid, migrate_is_no_grid, reads_some, grid_reads_no_one, file_text, run_text, migrate_text, grid_text, usage_text, grid_status, grid_refused, grid_no_usage, grid_cause, grid_holds, file_lacks, run_lacks, migrate_lacks, file_refused, run_refused, migrate_refused, migrate_status, file_holds, run_holds, migrate_holds}
+use Rattle.gm_tool.proofs.Asking.{file_is_no_run, file_is_no_migrate, file_is_no_grid, run_is_no_migrate, run_is_no_grid, migrate_is_no_grid, reads_some, grid_reads_no_one, run_reads_no_one, sound_no_usage, file_text, run_text, migrate_text, grid_text, usage_text, grid_status, grid_refused, grid_no_usage, grid_cause, grid_holds, file_lacks, run_lacks, migrate_lacks, file_refused, run_refused, migrate_refused, migrate_status, file_holds, run_holds, migrate_holds}
 use Rattle.gm_tool.proofs.program.reply_to.Goals as goal
 
 pub returns-in-Some-clause-text : goal.returns-in-Some-clause-text
@@ -229,3 +229,25 @@ returns-in_default-run_of-clause-grid_most g c = none_gridded (words_of c.args.w
 
 pub returns-in-Some-clause-none_loaded : goal.returns-in-Some-clause-none_loaded
 returns-in-Some-clause-none_loaded g c none = absurd (reads_some (words_of c.args.words.now) (inl (command_in c.in-Some.command, c.in-Some.file.now, c.in-Some.ensures)) none)
+
+pub returns-in-Some-clause-usage : goal.returns-in-Some-clause-usage
+returns-in-Some-clause-usage g c usage = absurd (sound_no_usage c.reply_on.result _ _ c.reply_on.ensures.sound usage)
+
+pub returns-in-Some-clause-no_command : goal.returns-in-Some-clause-no_command
+returns-in-Some-clause-no_command g c none = absurd (none (inl (command_in c.in-Some.command, c.in-Some.file.now, c.in-Some.ensures)))
+
+pub returns-in-Some-migrate_of-clause-usage : goal.returns-in-Some-migrate_of-clause-usage
+returns-in-Some-migrate_of-clause-usage g c usage = absurd (sound_no_usage c.answer-in-Some-migrate_of.result _ _ c.answer-in-Some-migrate_of.ensures.sound usage)
+
+pub returns-in_default-run_of-clause-one_load : goal.returns-in_default-run_of-clause-one_load
+returns-in_default-run_of-clause-one_load g c one = absurd (elim one [ inl file ↦ c.in_default.ensures file | inr migrate ↦ c.in_default-migrate_of.ensures migrate ])
+
+pub returns-in_default-run_of-clause-usage : goal.returns-in_default-run_of-clause-usage
+returns-in_default-run_of-clause-usage g c usage either =
+    elim either [ inl file ↦ c.in_default.ensures file | inr (inl (inl run)) ↦ c.in_default-run_of.ensures run | inr (inl (inr migrate)) ↦ c.in_default-migrate_of.ensures migrate | inr (inr grid) ↦ c.in_default-grid_of.ensures grid ]
+
+pub returns-clause-one_load : goal.returns-clause-one_load
+returns-clause-one_load g c one = absurd (run_reads_no_one (words_of c.args.words.now) (names_of c.in-Some-run_of.files) c.in-Some-run_of.ensures one)
+
+pub returns-clause-usage : goal.returns-clause-usage
+returns-clause-usage g c usage = absurd (sound_no_usage c.answer-2.result _ _ c.answer-2.ensures.sound usage)

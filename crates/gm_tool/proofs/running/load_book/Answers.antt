@@ -20,3 +20,9 @@ pub returns-clause-from : goal.returns-clause-from
 returns-clause-from g c =
     read_from TheBook c.args.name.now IsReadBook IsBadBook _ (g.S.Store.holds c.args.store.now) c.in_ok-bytes.bytes.items c.read.result c.in_ok-bytes.ensures.loading
     (rw c.as_slice.ensures.value at c.read.ensures.book) (rw c.as_slice.ensures.value at c.read.ensures.stop)
+
+pub returns-in_err-bytes-clause-read : goal.returns-in_err-bytes-clause-read
+returns-in_err-bytes-clause-read g c = rw (err_from_is_err_and c.from_residual.result c.from_residual.ensures.1).1 tt
+
+pub returns-in_err-bytes-clause-declared : goal.returns-in_err-bytes-clause-declared
+returns-in_err-bytes-clause-declared g c = rw (err_from_is_err_and c.from_residual.result c.from_residual.ensures.1).1 tt

@@ -28,3 +28,9 @@ returns-in_err-bytes-clause-most g c = unread_within (g.S.Store.holds c.args.sto
 pub returns-clause-most : goal.returns-clause-most
 returns-clause-most g c =
     loaded_within (g.S.Store.holds c.args.store.now) c.args.name.now c.in_ok-bytes.bytes.items _ _ c.in_ok-bytes.ensures.loading.1 (rw c.as_slice.ensures.value at c.read.ensures.most)
+
+pub returns-in_err-bytes-clause-read : goal.returns-in_err-bytes-clause-read
+returns-in_err-bytes-clause-read g c = rw (err_from_is_err_and c.from_residual.result c.from_residual.ensures.1).1 tt
+
+pub returns-in_err-bytes-clause-least : goal.returns-in_err-bytes-clause-least
+returns-in_err-bytes-clause-least g c = rw (err_from_is_err_and c.from_residual.result c.from_residual.ensures.1).1 tt

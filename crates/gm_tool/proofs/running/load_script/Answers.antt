@@ -21,3 +21,6 @@ pub returns-clause-from : goal.returns-clause-from
 returns-clause-from g c =
     read_from TheScript c.args.name.now (IsReadScript (map rule_of c.args.book.now.rules)) (IsBadScript (map rule_of c.args.book.now.rules)) _ (g.S.Store.holds c.args.store.now) c.in_ok-bytes.bytes.items c.read.result c.in_ok-bytes.ensures.loading
     (rw c.as_slice.ensures.value at c.read.ensures.script) (rw c.as_slice.ensures.value at c.read.ensures.stop)
+
+pub returns-in_err-bytes-clause-read : goal.returns-in_err-bytes-clause-read
+returns-in_err-bytes-clause-read g c = rw (err_from_is_err_and c.from_residual.result c.from_residual.ensures.1).1 tt

@@ -1,5 +1,4 @@
-use Rattle.std.proofs.Common.{◌<◌, ◌∙◌, arith}
-use Rattle.gm_walk.proofs.CountLemmas.{names_counted}
+use Rattle.std.proofs.Common.{◌<◌, arith}
 use Rattle.gm_walk.proofs.MetLemmas.{steps_in_all}
 use Rattle.gm_walk.proofs.WordLemmas.{set_within}
 use Rattle.gm_walk.proofs.orbit_count.orbits.Goals as goal
@@ -12,5 +11,4 @@ count_unseen-requires-clause-mask g c =
 pub returns-clause-cost : goal.returns-clause-cost
 returns-clause-cost g c =
     let m = c.args.arena.now in
-    let counted = names_counted m c.deref.result.now (c.deref.ensures.value ∙ c.in_ok-names.ensures.names) c.bound.ensures.lawful in
-    steps_in_all m.schema.dim c.args.steps.now c.names.new.steps c.count_unseen.new.steps _ m.count counted c.names.ensures.cost c.count_unseen.ensures.cost
+    steps_in_all m.schema.dim c.args.steps.now c.names.new.steps c.count_unseen.new.steps m.count c.names.ensures.cost c.count_unseen.ensures.cost

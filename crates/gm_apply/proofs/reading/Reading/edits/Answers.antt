@@ -1,9 +1,33 @@
-use Rattle.std.proofs.Common.{◌≡◌, length, ap, subst, sym, ◌∙◌, arith}
+use Rattle.std.proofs.Common.{◌≡◌, length, refl, ap, subst, sym, ◌∙◌, arith}
 use Rattle.std.proofs.lemmas.Result.{err_from_is_err_and}
 use Rattle.gm_model.specs.declared.schema.Schema.{Schema}
 use Rattle.gm_apply.specs.Reads.{HasRead}
-use Rattle.gm_apply.proofs.Giving.{every_one, ended_editing, has_edits}
+use Rattle.gm_apply.proofs.Asking.{none_read}
+use Rattle.gm_apply.proofs.Giving.{every_one, ended_building, ended_editing, has_edits}
 use Rattle.gm_apply.proofs.reading.Reading.edits.Goals as goal
+
+pub build-requires-clause-schema : goal.build-requires-clause-schema
+build-requires-clause-schema g c = c.requires.readable.1.schema
+
+pub build-requires-clause-sound : goal.build-requires-clause-sound
+build-requires-clause-sound g c = c.requires.readable.1.sound
+
+pub build-requires-clause-matched : goal.build-requires-clause-matched
+build-requires-clause-matched g c = (c.requires.readable.0, c.requires.readable.1.answer.matched)
+
+pub returns-in_err-pending-clause-edits : goal.returns-in_err-pending-clause-edits
+returns-in_err-pending-clause-edits g c hooks readable =
+    let p = err_from_is_err_and c.from_residual.result c.from_residual.ensures.1 in
+    rw (p.1, p.2) (ended_building c.args.self.now hooks _ _ c.build.ensures.no_step)
+
+pub returns-in_err-pending-clause-room : goal.returns-in_err-pending-clause-room
+returns-in_err-pending-clause-room g c = refl
+
+pub loop-embed-init : goal.loop-embed-init
+loop-embed-init g c = record {
+  read = λ hooks readable. subst (λ n. HasRead c.args.self.now hooks c.in_ok-pending.pending 0 0 0 c.args.steps.now n) (sym c.build.ensures.no_step) (none_read c.args.self.now hooks c.in_ok-pending.pending c.args.steps.now c.in_ok-pending.ensures.pending);
+  room = refl;
+}
 
 pub give_values-requires-clause-embed : goal.give_values-requires-clause-embed
 give_values-requires-clause-embed g c =
@@ -17,6 +41,9 @@ pub returns-in_err-give_values-clause-edits : goal.returns-in_err-give_values-cl
 returns-in_err-give_values-clause-edits g c hooks readable =
     let p = err_from_is_err_and c.from_residual-in_err-give_values.result c.from_residual-in_err-give_values.ensures.1 in
     rw (p.1, p.2) (c.in_err-give_values.ensures.given hooks c.args.steps.now readable (c.loop-embed.invariant.read hooks readable))
+
+pub returns-in_err-give_values-clause-room : goal.returns-in_err-give_values-clause-room
+returns-in_err-give_values-clause-room g c = c.in_err-give_values.ensures.room ∙ c.loop-embed.invariant.room
 
 pub loop-embed-preserved : goal.loop-embed-preserved
 loop-embed-preserved g c = record {
@@ -45,3 +72,9 @@ returns-clause-edits g c hooks readable =
     let whole : c.loop-embed.embed ≡ length c.args.self.now.arena.now.schema.embeds = omega (arith, c.loop-embed-test.false, c.loop-embed.auto.embed-end, many) in
     let read = subst (λ n. HasRead c.args.self.now hooks c.loop-embed.pending n n 0 c.args.steps.now c.loop-embed.steps) whole (c.loop-embed.invariant.read hooks readable) in
     has_edits c.args.self.now hooks c.loop-embed.pending c.args.steps.now c.loop-embed.steps read c.into_edits.new.steps c.into_edits.ensures.least c.into_edits.ensures.cost c.in_ok-into_edits.field-0 c.in_ok-into_edits.ensures.edits
+
+pub returns-in_err-into_edits-clause-room : goal.returns-in_err-into_edits-clause-room
+returns-in_err-into_edits-clause-room g c = c.loop-embed.invariant.room
+
+pub returns-clause-room : goal.returns-clause-room
+returns-clause-room g c = c.loop-embed.invariant.room

@@ -1,13 +1,34 @@
-use Rattle.std.proofs.Common.{length, List, ap, ◌∙◌, refl, arith}
+use Rattle.std.proofs.Common.{length, List, ap, ◌∙◌, refl, sym, subst, arith}
 use Rattle.gm_arena.specs.declared.slot.Slot.{Slot}
 use Rattle.std.specs.Int.{int_max, int_min}
 use Rattle.std.specs.List.{fold}
 use Rattle.gm_model.specs.declared.value.Kind.TheVariants as kinds
 use Rattle.gm_eval.specs.Sums.{part_at, parts_at}
 use Rattle.gm_walk.specs.Lent.{slots_of}
+use Rattle.gm_walk.specs.Walks.{AreLive}
+use Rattle.gm_walk.proofs.NameLemmas.{live_at}
 use Rattle.gm_eval.proofs.Collected.{least_found, greatest_found, within}
-use Rattle.gm_eval.proofs.Ready.{kind_at, kinds_at, mask_small, number_of_embed}
+use Rattle.gm_eval.proofs.Ready.{kind_at, kinds_at, mask_small, number_of_embed, term_here}
 use Rattle.gm_eval.proofs.reader.Reader.extremes.Goals as goal
+
+pub slot-from-requires : goal.slot-from-requires
+slot-from-requires g c =
+    let ready = c.requires.ready in
+    record { here = ready.here; term = term_here c.args.self.now _ ready c.args.term.now ready.typed.has_kind.in_range.1 }
+
+pub walk_mask-walk-requires : goal.walk_mask-walk-requires
+walk_mask-walk-requires g c = record {
+  live = live_at c.args.self.now.arena.now c.slot-from.result.at _ c.slot-from.ensures.slot;
+  mask = λ label small h. c.requires.ready.typed.has_kind.in_range.0 label h;
+  fits = c.requires.fits;
+}
+
+pub extremes-requires : goal.extremes-requires
+extremes-requires g c = record {
+  first = live_at c.args.self.now.arena.now c.slot-from.result.at _ c.slot-from.ensures.slot;
+  live = subst (AreLive c.args.self.now.arena.now) (sym c.slots.ensures.value) c.walk_mask-walk.ensures.live;
+  embed = c.requires.ready.typed.has_kind.in_range.2;
+}
 
 pub returns-clause-least : goal.returns-clause-least
 returns-clause-least g c =

@@ -1,13 +1,42 @@
-use Rattle.std.proofs.Common.{◌≡◌, ◌<◌, ℕ, ℤ, length, List, Some, get_or, slice_get, ap, subst, sym, ◌∙◌, refl, arith}
-use Rattle.std.proofs.lemmas.Option.{slice_get-get_or}
+use Rattle.std.proofs.Common.{◌≡◌, ◌≤◌, ℕ, ℤ, length, List, Some, get_or, slice_get, ap, subst, sym, ◌∙◌, refl, arith}
 use Rattle.gm_arena.specs.declared.slot.Slot.{Slot}
 use Rattle.gm_model.specs.declared.schema.Embed.{Embed}
 use Rattle.gm_model.specs.declared.schema.Schema.{Schema}
 use Rattle.gm_eval.specs.Sums.{parts_at, sum_of}
 use Rattle.gm_walk.specs.Lent.{slots_of}
+use Rattle.gm_walk.specs.Walks.{AreLive}
+use Rattle.gm_walk.proofs.NameLemmas.{live_at}
 use Rattle.gm_eval.proofs.Collected.{sum_found, within}
-use Rattle.gm_eval.proofs.Ready.{kind_at, kinds_at, mask_small, sum_kind_of}
+use Rattle.gm_eval.proofs.Ready.{embed_read, kind_at, kinds_at, mask_small, sum_kind_of, sum_known, term_here}
 use Rattle.gm_eval.proofs.reader.Reader.sum.Goals as goal
+
+pub slot-from-requires : goal.slot-from-requires
+slot-from-requires g c =
+    let ready = c.requires.ready in
+    record { here = ready.here; term = term_here c.args.self.now _ ready c.args.term.now ready.typed.has_kind.in_range.1 }
+
+pub walk_mask-walk-requires : goal.walk_mask-walk-requires
+walk_mask-walk-requires g c = record {
+  live = live_at c.args.self.now.arena.now c.slot-from.result.at _ c.slot-from.ensures.slot;
+  mask = λ label small h. c.requires.ready.typed.has_kind.in_range.0 label h;
+  fits = c.requires.fits;
+}
+
+pub add_up-requires : goal.add_up-requires
+add_up-requires g c =
+    let same = sym c.slots.ensures.value in
+    record {
+      live = subst (AreLive c.args.self.now.arena.now) same c.walk_mask-walk.ensures.live;
+      few = subst (λ (slots : List Slot). length slots ≤ 4294967295) same c.slots.ensures.most;
+      embed = c.requires.ready.typed.has_kind.in_range.2;
+    }
+
+pub value-requires : goal.value-requires
+value-requires g c =
+    let reader = c.args.self.now in
+    let ready = c.requires.ready in
+    let embeds = c.as_slice.ensures ∙ ap (λ (schema : Schema). schema.embeds) c.schema.ensures in
+    record { kind = sum_known reader c.args.mask c.args.term.now c.args.embed ready _ (embed_read reader.arena.now.schema.embeds c.as_slice.result.now c.args.embed c.index-as_slice-embed.result embeds ready.typed.has_kind.in_range.2) }
 
 pub returns-clause-value : goal.returns-clause-value
 returns-clause-value g c =
@@ -19,7 +48,7 @@ returns-clause-value g c =
     let few = mask_small reader _ ready c.args.mask ready.typed.has_kind.in_range.0 in
     let embeds : c.as_slice.result.now ≡ m.schema.embeds = c.as_slice.ensures ∙ ap (λ (schema : Schema). schema.embeds) c.schema.ensures in
     let embed : Embed = get_or c.as_slice.result.now e c.index-as_slice-embed.result in
-    let at : slice_get m.schema.embeds e ≡ Some embed = subst (λ (xs : List Embed). slice_get xs e ≡ Some embed) embeds (slice_get-get_or c.as_slice.result.now e c.index-as_slice-embed.result (subst (λ (xs : List Embed). e < length xs) (sym embeds) ready.typed.has_kind.in_range.2)) in
+    let at : slice_get m.schema.embeds e ≡ Some embed = embed_read m.schema.embeds c.as_slice.result.now e c.index-as_slice-embed.result embeds ready.typed.has_kind.in_range.2 in
     let sum = sum_kind_of reader c.args.mask term e ready embed at in
     let slots = slots_of c.walk_mask-walk.result in
     let same = c.slots.ensures.value in

@@ -9,7 +9,7 @@ loop-embed-init g c = record { so_far = rw c.new-values.ensures.items (none_belo
 
 pub returns-in_err-put_new_values-clause-cost : goal.returns-in_err-put_new_values-clause-cost
 returns-in_err-put_new_values-clause-cost g c = λ reached s.
-    let low : c.loop-embed.embed < length c.args.self.now.map.schema.embeds = omega (arith, c.loop-embed-test.true, c.embeds-embed-end.ensures) in
+    let low : c.loop-embed.embed < length c.args.self.now.map.schema.embeds = omega (arith, c.loop-embed-test.true, c.embeds-embed-end.ensures.embeds) in
     omega (
       arith,
       c.loop-embed.invariant.cost reached s,
@@ -21,7 +21,7 @@ returns-in_err-put_new_values-clause-cost g c = λ reached s.
 
 pub loop-embed-preserved : goal.loop-embed-preserved
 loop-embed-preserved g c =
-    let low : c.loop-embed.embed < length c.args.self.now.map.schema.embeds = omega (arith, c.loop-embed-test.true, c.embeds-embed-end.ensures) in
+    let low : c.loop-embed.embed < length c.args.self.now.map.schema.embeds = omega (arith, c.loop-embed-test.true, c.embeds-embed-end.ensures.embeds) in
     record {
       so_far = more_below c.args.self.now c.loop-embed.embed c.loop-embed.values.items c.put_new_values.new.values.items low c.loop-embed.invariant.so_far c.in_ok-put_new_values.ensures.values;
       cost = λ reached s.
@@ -35,9 +35,9 @@ loop-embed-preserved g c =
     }
 
 pub returns-clause-values : goal.returns-clause-values
-returns-clause-values g c = all_below c.args.self.now c.loop-embed.embed c.loop-embed.values.items (omega (arith, c.loop-embed-test.false, c.loop-embed.auto.embed-end, c.embeds-embed-end.ensures)) c.loop-embed.invariant.so_far
+returns-clause-values g c = all_below c.args.self.now c.loop-embed.embed c.loop-embed.values.items (omega (arith, c.loop-embed-test.false, c.loop-embed.auto.embed-end, c.embeds-embed-end.ensures.embeds)) c.loop-embed.invariant.so_far
 
 pub returns-clause-cost : goal.returns-clause-cost
 returns-clause-cost g c = λ reached s.
-    let whole : take c.loop-embed.embed s.counts ≡ s.counts = take_all c.loop-embed.embed s.counts (omega (arith, s.each, c.loop-embed-test.false, c.loop-embed.auto.embed-end, c.embeds-embed-end.ensures)) in
+    let whole : take c.loop-embed.embed s.counts ≡ s.counts = take_all c.loop-embed.embed s.counts (omega (arith, s.each, c.loop-embed-test.false, c.loop-embed.auto.embed-end, c.embeds-embed-end.ensures.embeds)) in
     omega (arith, c.loop-embed.invariant.cost reached s, ap sum whole, s.sum_is)

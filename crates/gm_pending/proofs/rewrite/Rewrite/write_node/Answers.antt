@@ -1,23 +1,23 @@
 use Rattle.std.proofs.Common.{◌≡◌, ◌<◌, arith}
-use Rattle.gm_pending.specs.Collected.{concat_below, arcs_of}
+use Rattle.gm_pending.specs.Collected.{concat_below, labels, arcs_at}
 use Rattle.gm_pending.proofs.Concat.{contains_concat}
 use Rattle.gm_pending.proofs.Writing.{none_written, more_written, still_writable}
 use Rattle.gm_pending.proofs.rewrite.Rewrite.write_node.Goals as goal
 
-pub loop-position-init : goal.loop-position-init
-loop-position-init g c = none_written c.args.arena.now c.args.made.now c.args.steps.now
+pub loop-label-init : goal.loop-label-init
+loop-label-init g c = none_written c.args.arena.now c.args.made.now c.args.steps.now
 
-pub write_instance-requires-clause-arcs : goal.write_instance-requires-clause-arcs
-write_instance-requires-clause-arcs g c =
-    let within : c.loop-position.position < c.args.self.now.placed.positions = omega (arith, c.loop-position-test.true, c.positions-position-end.ensures) in
-    λ arc among. still_writable c.args.arena.now c.args.made.now c.args.steps.now (concat_below (arcs_of c.args.self.now c.args.arcs c.args.node) c.loop-position.position) c.loop-position.arena c.loop-position.steps c.loop-position.invariant arc
-    (c.requires.arcs arc (contains_concat (arcs_of c.args.self.now c.args.arcs c.args.node) (c.args.self.now.placed.positions) c.loop-position.position arc within among))
+pub write_step-requires-clause-arcs : goal.write_step-requires-clause-arcs
+write_step-requires-clause-arcs g c =
+    let within : c.loop-label.label < labels c.args.self.now = omega (arith, c.loop-label-test.true, c.labels-label-end.ensures) in
+    λ arc among. still_writable c.args.arena.now c.args.made.now c.args.steps.now (concat_below (arcs_at c.args.self.now c.args.arcs c.args.node) c.loop-label.label) c.loop-label.arena c.loop-label.steps c.loop-label.invariant arc
+    (c.requires.arcs arc (contains_concat (arcs_at c.args.self.now c.args.arcs c.args.node) (labels c.args.self.now) c.loop-label.label arc within among))
 
-pub loop-position-preserved : goal.loop-position-preserved
-loop-position-preserved g c = more_written c.args.arena.now c.args.made.now c.args.steps.now (arcs_of c.args.self.now c.args.arcs c.args.node) c.loop-position.position c.loop-position.arena c.write_instance.new.arena c.loop-position.steps c.write_instance.new.steps c.loop-position.invariant c.write_instance.ensures.map c.write_instance.ensures.cost
+pub loop-label-preserved : goal.loop-label-preserved
+loop-label-preserved g c = more_written c.args.arena.now c.args.made.now c.args.steps.now (arcs_at c.args.self.now c.args.arcs c.args.node) c.loop-label.label c.loop-label.arena c.write_step.new.arena c.loop-label.steps c.write_step.new.steps c.loop-label.invariant c.write_step.ensures.map c.write_step.ensures.cost
 
 pub returns : goal.returns
 returns g c =
-    let end : c.loop-position.position ≡ c.args.self.now.placed.positions = omega (arith, c.loop-position-test.false, c.loop-position.auto.position-end, c.positions-position-end.ensures) in
-    let written = rw end at c.loop-position.invariant in
+    let end : c.loop-label.label ≡ labels c.args.self.now = omega (arith, c.loop-label-test.false, c.loop-label.auto.label-end, c.labels-label-end.ensures) in
+    let written = rw end at c.loop-label.invariant in
     record { map = written.map; cost = written.cost }

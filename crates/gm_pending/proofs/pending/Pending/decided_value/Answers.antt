@@ -1,0 +1,17 @@
+use Rattle.std.proofs.Common.{◌≡◌, IsSome, Some, sym, ◌∙◌, subst}
+use Rattle.gm_pending.specs.Sources.{given_of}
+use Rattle.gm_pending.proofs.Reached.{get_within}
+use Rattle.gm_pending.proofs.Valued.{value_decided, has_given}
+use Rattle.gm_pending.proofs.pending.Pending.decided_value.Goals as goal
+
+pub given-requires : goal.given-requires
+given-requires c =
+    let app = c.args.self.now in
+    let kept = get_within app.map.schema.embeds c.args.embed c.answer-asked.ensures.embed in
+    let there = has_given app c.answer-asked.ensures.prepared c.args.embed kept.0 kept.1 c.answer-asked.result.now.marks (c.answer-asked.ensures.reached kept.0 kept.1) c.args.at c.requires.dart c.in_ok-index.index c.in_ok-index.ensures.decider c.requires.given in
+    subst (λ ds. IsSome (given_of ds c.in_ok-index.index)) (sym (c.deref.ensures.value ∙ c.answer-asked.ensures.deciders)) there
+
+pub returns-clause-value : goal.returns-clause-value
+returns-clause-value c = λ kept at.
+    let given = subst (λ ds. given_of ds c.in_ok-index.index ≡ Some c.given.result) (c.deref.ensures.value ∙ c.answer-asked.ensures.deciders) c.given.ensures in
+    value_decided c.args.self.now c.answer-asked.ensures.prepared c.args.embed kept at c.answer-asked.result.now.marks (c.answer-asked.ensures.reached kept at) c.args.at c.requires.dart c.in_ok-index.index c.in_ok-index.ensures.decider c.given.result given
