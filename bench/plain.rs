@@ -16,6 +16,7 @@ const MOST_DARTS: usize = 1 << 20;
 
 type Point = [i64; 3];
 
+/// A file, read in pieces. Behind what is read stands a newline, so that a number ends there.
 struct Input {
     file: File,
     piece: Vec<u8>,
@@ -23,43 +24,61 @@ struct Input {
     end: usize,
 }
 
+/// No number and no word that is read is longer.
+const LONGEST: usize = 64;
+
 impl Input {
     fn open(path: &str) -> Input {
-        Input { file: File::open(path).expect("open"), piece: vec![0; PIECE], at: 0, end: 0 }
+        let mut piece = vec![0; PIECE + 1];
+        piece[0] = b'\n';
+        Input { file: File::open(path).expect("open"), piece, at: 0, end: 0 }
     }
 
+    /// Has so many bytes in the piece, where the file has them.
     #[inline(always)]
-    fn byte(&mut self) -> Option<u8> {
-        if self.at == self.end {
-            self.end = self.file.read(&mut self.piece).expect("read");
-            self.at = 0;
-            if self.end == 0 {
-                return None;
-            }
+    fn look_ahead(&mut self) {
+        if self.end - self.at < LONGEST {
+            self.refill();
         }
-        self.at += 1;
-        Some(self.piece[self.at - 1])
+    }
+
+    #[cold]
+    fn refill(&mut self) {
+        self.piece.copy_within(self.at..self.end, 0);
+        self.end -= self.at;
+        self.at = 0;
+        while self.end < PIECE {
+            let count = self.file.read(&mut self.piece[self.end..PIECE]).expect("read");
+            if count == 0 {
+                break;
+            }
+            self.end += count;
+        }
+        self.piece[self.end] = b'\n';
     }
 
     #[inline(always)]
     fn number(&mut self) -> i64 {
-        let mut byte = self.byte().expect("a number");
-        while matches!(byte, b' ' | b'\n' | b'(' | b')') {
-            byte = self.byte().expect("a number");
-        }
-        let negative = byte == b'-';
-        if negative {
-            byte = self.byte().expect("a digit");
-        }
+        self.look_ahead();
+        let bytes = &self.piece[self.at..=self.end];
+        let mut at = bytes.iter().position(|byte| !matches!(byte, b' ' | b'\n' | b'(' | b')')).expect("a number");
+        let negative = bytes[at] == b'-';
+        at += usize::from(negative);
+        let first = at;
         let mut number: i64 = 0;
-        loop {
-            assert!(byte.is_ascii_digit(), "a digit");
-            number = number.checked_mul(10).and_then(|n| n.checked_add((byte - b'0').into())).expect("64 bits");
-            match self.byte() {
-                Some(next) if !matches!(next, b' ' | b'\n' | b')') => byte = next,
-                _ => return if negative { -number } else { number },
-            }
+        while bytes[at].is_ascii_digit() {
+            let digit = i64::from(bytes[at] - b'0');
+            number = if at - first < 18 {
+                10 * number + digit
+            } else {
+                number.checked_mul(10).and_then(|n| n.checked_add(digit)).expect("64 bits")
+            };
+            at += 1;
         }
+        assert!(at > first, "a digit");
+        // What ends a number belongs to it, but for the newline behind all that is read.
+        self.at = self.end.min(self.at + at + 1);
+        if negative { -number } else { number }
     }
 
     fn point(&mut self) -> Point {
@@ -69,14 +88,17 @@ impl Input {
     /// The next word; none at the end.
     fn word(&mut self, word: &mut Vec<u8>) -> bool {
         word.clear();
-        loop {
-            match self.byte() {
-                Some(b' ' | b'\n') if word.is_empty() => {}
-                Some(b' ' | b'\n') => return true,
-                Some(byte) => word.push(byte),
-                None => return !word.is_empty(),
-            }
-        }
+        self.look_ahead();
+        let bytes = &self.piece[self.at..self.end];
+        let is_blank = |byte: &u8| matches!(byte, b' ' | b'\n');
+        let Some(start) = bytes.iter().position(|byte| !is_blank(byte)) else {
+            self.at = self.end;
+            return false;
+        };
+        let length = bytes[start..].iter().position(is_blank).unwrap_or(bytes.len() - start);
+        word.extend_from_slice(&bytes[start..start + length]);
+        self.at += start + length;
+        true
     }
 }
 
@@ -84,6 +106,18 @@ struct Output<W: Write> {
     to: W,
     piece: Vec<u8>,
 }
+
+/// The digits of the numbers below 100, two for each.
+const PAIRS: [u8; 200] = {
+    let mut pairs = [b'0'; 200];
+    let mut number = 0;
+    while number < 100 {
+        pairs[2 * number] += (number / 10) as u8;
+        pairs[2 * number + 1] += (number % 10) as u8;
+        number += 1;
+    }
+    pairs
+};
 
 impl<W: Write> Output<W> {
     fn new(to: W) -> Output<W> {
@@ -95,13 +129,15 @@ impl<W: Write> Output<W> {
         let mut digits = [0; 20];
         let mut at = digits.len();
         let mut rest = number.unsigned_abs();
-        loop {
+        while rest >= 10 {
+            let pair = 2 * (rest % 100) as usize;
+            rest /= 100;
+            at -= 2;
+            digits[at..at + 2].copy_from_slice(&PAIRS[pair..pair + 2]);
+        }
+        if rest > 0 || at == digits.len() {
             at -= 1;
-            digits[at] = b'0' + (rest % 10) as u8;
-            rest /= 10;
-            if rest == 0 {
-                break;
-            }
+            digits[at] = b'0' + rest as u8;
         }
         if number < 0 {
             at -= 1;
@@ -424,6 +460,11 @@ fn squares(size: i64) -> Map {
     const BEYOND: [(i64, i64); 8] = [(0, -1), (0, -1), (1, 0), (1, 0), (0, 1), (0, 1), (-1, 0), (-1, 0)];
     const CORNER: [(i64, i64); 8] = [(0, 0), (1, 0), (1, 0), (1, 1), (1, 1), (0, 1), (0, 1), (0, 0)];
     let mut map = Map { has_points: true, ..Map::default() };
+    let darts = 24 * (size * size) as usize;
+    map.names.reserve_exact(darts);
+    map.neighbours.reserve_exact(darts);
+    map.points.reserve_exact(darts);
+    map.slots.reserve_exact(darts);
     for square in 0..size * size {
         let (row, column, first) = (square / size, square % size, 8 * square as u32);
         for dart in 0..8 {

@@ -1,11 +1,11 @@
 -- One more dart: the arena stays sound, and its map has this one dart more.
-use Rattle.std.proofs.Common.{◌≡◌, ◌≢◌, ℕ, zero, suc, ◌+◌, ◌-◌, ◌<◌, List, ◌∷◌, set, map, take, length, replicate, max, Some, None, refl, sym, ap, subst, ◌∙◌, inl, inr, arith, All}
+use Rattle.std.proofs.Common.{◌≡◌, ◌≢◌, ℕ, zero, suc, ◌+◌, ◌-◌, ◌*◌, ◌<◌, ◌≤◌, List, ◌∷◌, set, map, length, replicate, max, Some, None, refl, sym, ap, subst, ◌∙◌, inl, inr, arith, All}
 use Rattle.std.specs.Option.{option_map, IsSome}
 use Rattle.std.specs.FinMap as map
 use Rattle.std.proofs.lemmas.Bool.{cases_eq}
 use Rattle.std.proofs.lemmas.Option.{none-some, same_Some}
-use Rattle.std.proofs.lemmas.List.{length-set, get_or-set_same, get_or-set_other, take-replicate}
-use Rattle.std.proofs.lemmas.List.Elements.{All-take, All-replicate}
+use Rattle.std.proofs.lemmas.List.{length-set, get_or-set_same, get_or-set_other}
+use Rattle.std.proofs.lemmas.List.Elements.{All-replicate}
 use Rattle.slab.specs.Slab.{Slab, get, slab_len, Updates}
 use Rattle.gm_model.specs.declared.schema.Schema.{Schema}
 use Rattle.gm_model.specs.declared.value.Value.{Value}
@@ -13,18 +13,14 @@ use Rattle.gm_arena.specs.declared.slot.Slot.{Slot}
 use Rattle.gm_arena.specs.declared.arena.Place.{Place}
 use Rattle.gm_arena.specs.Lawful.{AreGoodValues}
 use Rattle.gm_arena.specs.Edits.{free_dart, with_dart}
-use Rattle.gm_arena.specs.Inside.{no_slot, slot_in, name_in, part_of, dart_in, darts_in, slots_in, map_of, IsPlaced, FitTogether}
+use Rattle.gm_arena.specs.Inside.{no_slot, slot_in, name_in, part_of, dart_in, darts_in, slots_in, map_of, IsPlaced, IsWritten, FitTogether}
 use Rattle.gm_arena.proofs.FilledLemmas.{same_maps, get-insert_same, get-insert_other, len-insert_new}
-use Rattle.gm_arena.proofs.InsideLemmas.{nowhere, dart_at, darts_get, slot_at, name_in-get, is_some_at, some_of}
-use Rattle.gm_arena.proofs.ValueLemmas.{IsWritten}
+use Rattle.gm_arena.proofs.InsideLemmas.{nowhere, dart_at, darts_get, slot_at, name_in-get, is_some_at, some_of, links_there, values_there}
+use Rattle.gm_arena.proofs.ValueLemmas.{reached}
 use Rattle.gm_arena.proofs.ChangeLemmas.{slots_alike, name_alike, dart_alike, other_dart}
 
 abbrev pub new_place : ℕ → Place
 new_place name = record { name = name }
-
--- a new dart's neighbours: each is the dart itself
-abbrev pub own_links : ℕ → ℕ → List Slot
-own_links labels slot = take labels (replicate 8 (record { at = slot }))
 
 map-replicate : {A B : Type 0} (f : A → B) (n : ℕ) (x : A) → map f (replicate n x) ≡ replicate n (f x)
 map-replicate f zero x = refl
@@ -34,8 +30,8 @@ module _ (schema : Schema) (labels width : ℕ) (places : Slab Place) (neighbour
     (name : ℕ) (new_name : map.get (darts_in labels width places neighbours values table) name ≡ None) (reserved : name < length table) (some_room : 0 < spare)
     (slot : ℕ) (places' : Slab Place) (free : get places slot ≡ None) (updates : Updates places places' slot (Some (new_place name)))
     (more : slab_len places' ≡ slab_len places + 1) (below : slot < places'.capacity) (capacity : places'.capacity ≡ places.capacity)
-    (neighbours' : List Slot) (linked : IsWritten labels slot neighbours (own_links labels slot) neighbours')
-    (values' own : List Value) (kinds : AreGoodValues schema own) (written : IsWritten width slot values own values') where
+    (neighbours' : List Slot) (linked : IsWritten labels slot neighbours (replicate labels (record { at = slot })) neighbours') (links_reach : slot * labels + labels ≤ length neighbours')
+    (values' own : List Value) (kinds : AreGoodValues schema own) (written : IsWritten width slot values own values') (values_reach : slot * width + width ≤ length values') where
   none : get places no_slot ≡ None
   none = nowhere schema labels width places neighbours values table next spare bound sound
 
@@ -74,14 +70,11 @@ module _ (schema : Schema) (labels width : ℕ) (places : Slab Place) (neighbour
   names_same : (other : ℕ) (p : Place) → get places other ≡ Some p → All (λ (s : Slot). name_in places' s.at ≡ name_in places s.at) (part_of labels neighbours other)
   names_same other p e k d h = name_alike places places' _ (updates.others _ (was_apart _ ((sound.placed other p e).live k d h)))
 
-  front : own_links labels slot ≡ replicate labels (record { at = slot })
-  front = take-replicate labels 8 (record { at = slot }) sound.sized.few
-
   dart_here : dart_in labels width places' neighbours' values' slot ≡ free_dart schema.dim name own
   dart_here =
       let name_of = λ (s : Slot). name_in places' s.at in
       let alphas : map name_of (part_of labels neighbours' slot) ≡ replicate (schema.dim + 1) name =
-      ap (map name_of) (linked.here ∙ front) ∙ (map-replicate name_of labels (record { at = slot })
+      ap (map name_of) linked.here ∙ (map-replicate name_of labels (record { at = slot })
       ∙ (ap (replicate labels) (name_in-get places' slot (new_place name) updates.changed) ∙ ap (λ n. replicate n name) sound.sized.one_each)) in
       λ i. record { alphas = alphas i; values = written.here i }
 
@@ -96,7 +89,7 @@ module _ (schema : Schema) (labels width : ℕ) (places : Slab Place) (neighbour
     | inr apart ↦
         other_dart labels width places places' neighbours neighbours' values values' table (set table name slot) none none' other (entry_other other apart)
         (updates.others (slot_in table other) (slot_free other))
-        (λ p e. dart_alike labels width places places' neighbours neighbours' values values' _ (linked.others _ (slot_free other)) (names_same _ p e) (written.others _ (slot_free other)))
+        (λ p e. dart_alike labels width places places' neighbours neighbours' values values' _ (linked.others _ (slot_free other) (links_there schema labels width places neighbours values table next spare bound sound _ p e)) (names_same _ p e) (written.others _ (slot_free other) (values_there schema labels width places neighbours values table next spare bound sound _ p e)))
         ∙ sym (get-insert_other (darts_in labels width places neighbours values table) name (free_dart schema.dim name own) other apart)
   ])
 
@@ -110,8 +103,7 @@ module _ (schema : Schema) (labels width : ℕ) (places : Slab Place) (neighbour
     placed_here : IsPlaced labels places' neighbours' (set table name slot) next' bound' slot (new_place name)
     placed_here = record {
       found = entry_here;
-      live = subst (All (λ (s : Slot). IsSome (get places' s.at))) (sym linked.here) (All-take (λ (s : Slot). IsSome (get places' s.at)) labels (replicate 8 (record { at = slot }))
-          (All-replicate (λ (s : Slot). IsSome (get places' s.at)) 8 (record { at = slot }) (is_some_at _ _ updates.changed)));
+      live = subst (All (λ (s : Slot). IsSome (get places' s.at))) (sym linked.here) (All-replicate (λ (s : Slot). IsSome (get places' s.at)) labels (record { at = slot }) (is_some_at _ _ updates.changed));
       below_next = omega (arith, next_is);
       below_bound = omega (arith, bound_is);
       below_capacity = below;
@@ -122,7 +114,7 @@ module _ (schema : Schema) (labels width : ℕ) (places : Slab Place) (neighbour
         let was = sound.placed other p e in
         record {
           found = entry_other p.name (name_apart other p e) ∙ was.found;
-          live = subst (All (λ (s : Slot). IsSome (get places' s.at))) (sym (linked.others other (was_apart other (is_some_at _ _ e)))) (λ k d h. live _ (was.live k d h));
+          live = subst (All (λ (s : Slot). IsSome (get places' s.at))) (sym (linked.others other (was_apart other (is_some_at _ _ e)) (links_there schema labels width places neighbours values table next spare bound sound other p e))) (λ k d h. live _ (was.live k d h));
           below_next = omega (arith, next_is, was.below_next);
           below_bound = omega (arith, bound_is, was.below_bound);
           below_capacity = omega (arith, capacity, was.below_capacity);
@@ -148,11 +140,12 @@ module _ (schema : Schema) (labels width : ℕ) (places : Slab Place) (neighbour
         | inl e ↦ rw e (subst (AreGoodValues schema) (sym written.here) kinds)
         | inr apart ↦
             let was : IsSome (get places other) = rw (updates.others other apart) at h in
-            subst (AreGoodValues schema) (sym (written.others other apart)) (sound.valued other was)
+            let p : (p : Place) × (get places other ≡ Some p) = some_of _ was in
+            subst (AreGoodValues schema) (sym (written.others other apart (values_there schema labels width places neighbours values table next spare bound sound other p.0 p.1))) (sound.valued other was)
       ];
       fits = rw capacity sound.fits;
-      linked = rw (capacity, linked.long) sound.linked;
-      long = rw (capacity, written.long) sound.long;
+      linked = reached bound bound' slot labels (length neighbours) (length neighbours') sound.linked linked.long links_reach bound_is;
+      long = reached bound bound' slot width (length values) (length values') sound.long written.long values_reach bound_is;
       room = omega (arith, more, capacity, sound.room, some_room);
       counted =
           let added = ap map.len darts_with ∙ len-insert_new (darts_in labels width places neighbours values table) name (free_dart schema.dim name own) new_name in

@@ -1,5 +1,5 @@
 -- Another neighbour of one dart: the arena stays sound, and its map has this one neighbour.
-use Rattle.std.proofs.Common.{◌≡◌, ℕ, ◌<◌, List, set, map, Some, None, refl, sym, ap, subst, ◌∙◌, inl, inr, All}
+use Rattle.std.proofs.Common.{◌≡◌, ℕ, ◌<◌, List, set, map, Some, None, refl, sym, ap, subst, ◌∙◌, inl, inr, arith, All}
 use Rattle.std.specs.Option.{option_map, IsSome}
 use Rattle.std.specs.FinMap as map
 use Rattle.std.proofs.lemmas.Bool.{cases_eq}
@@ -12,10 +12,9 @@ use Rattle.gm_arena.specs.declared.slot.Slot.{Slot}
 use Rattle.gm_arena.specs.declared.arena.Place.{Place}
 use Rattle.gm_arena.specs.ArenaMap.{Dart}
 use Rattle.gm_arena.specs.Edits.{turned, put_if, with_alpha}
-use Rattle.gm_arena.specs.Inside.{no_slot, name_in, part_of, dart_in, darts_in, map_of, IsPlaced, FitTogether}
+use Rattle.gm_arena.specs.Inside.{no_slot, name_in, part_of, dart_in, darts_in, map_of, IsPlaced, IsWritten, FitTogether}
 use Rattle.gm_arena.proofs.FilledLemmas.{same_maps, get-insert_same, get-insert_other, len-insert_again}
-use Rattle.gm_arena.proofs.InsideLemmas.{nowhere, dart_at, darts_get}
-use Rattle.gm_arena.proofs.ValueLemmas.{IsWritten}
+use Rattle.gm_arena.proofs.InsideLemmas.{nowhere, dart_at, darts_get, links_there}
 use Rattle.gm_arena.proofs.ChangeLemmas.{dart_alike, other_dart, other_slot}
 
 module _ (schema : Schema) (labels width : ℕ) (places : Slab Place) (neighbours : List Slot) (values : List Value) (table : List ℕ) (next spare bound : ℕ) (sound : FitTogether schema labels width places neighbours values table next spare bound)
@@ -35,7 +34,7 @@ module _ (schema : Schema) (labels width : ℕ) (places : Slab Place) (neighbour
         found = p.found;
         live = elim (cases_eq other slot) [
           | inl same ↦ rw same live_here
-          | inr apart ↦ subst (All (λ (s : Slot). IsSome (get places s.at))) (sym (written.others other apart)) p.live
+          | inr apart ↦ subst (All (λ (s : Slot). IsSome (get places s.at))) (sym (written.others other apart (links_there schema labels width places neighbours values table next spare bound sound other now e))) p.live
         ];
         below_next = p.below_next;
         below_bound = p.below_bound;
@@ -60,7 +59,7 @@ module _ (schema : Schema) (labels width : ℕ) (places : Slab Place) (neighbour
         ∙ (ap Some dart_here ∙ sym (get-insert_same _ place.name _)))))
     | inr apart ↦
         other_dart labels width places places neighbours neighbours' values values table table none none name refl refl
-        (λ p e. dart_alike labels width places places neighbours neighbours' values values _ (written.others _ (other_slot schema labels width places neighbours values table next spare bound sound slot place name here apart)) (λ k d h. refl) refl)
+        (λ p e. dart_alike labels width places places neighbours neighbours' values values _ (written.others _ (other_slot schema labels width places neighbours values table next spare bound sound slot place name here apart) (links_there schema labels width places neighbours values table next spare bound sound _ p e)) (λ k d h. refl) refl)
         ∙ sym (get-insert_other _ place.name _ name apart)
   ])
 
@@ -71,7 +70,7 @@ module _ (schema : Schema) (labels width : ℕ) (places : Slab Place) (neighbour
     named = sound.named;
     valued = sound.valued;
     fits = sound.fits;
-    linked = rw written.long sound.linked;
+    linked = omega (arith, written.long, sound.linked);
     long = sound.long;
     room = sound.room;
     counted = sound.counted ∙ sym (ap map.len darts_turned ∙ len-insert_again _ place.name _ _ (dart_at schema labels width places neighbours values table next spare bound sound slot place here));

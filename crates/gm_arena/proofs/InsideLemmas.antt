@@ -18,6 +18,7 @@ use Rattle.gm_arena.specs.ArenaMap.{Dart, IsLiveName, name_at, alpha}
 use Rattle.gm_arena.specs.Lawful.{IsLawful, IsLawfulDart, AreGoodValues}
 use Rattle.gm_arena.specs.Inside.{no_slot, slot_in, name_in, part_of, dart_in, darts_in, slots_in, map_of, FitTogether}
 use Rattle.gm_arena.proofs.FilledLemmas.{get-filled}
+use Rattle.gm_arena.proofs.ValueLemmas.{stretch}
 
 pub some_of : {A : Type 0} (o : Option A) → IsSome o → (x : A) × (o ≡ Some x)
 some_of None h = absurd (cc)
@@ -75,10 +76,10 @@ name_at_in places slot = ap (λ o. unwrap_or o 0) (get-slots places slot) ∙ un
     unwrapped None = refl
     unwrapped (Some p) = refl
 
--- a key has its whole part of a list that is long enough
-pub part_long : {A : Type 0} (width : ℕ) (items : List A) (capacity slot : ℕ) → slot < capacity → capacity * width ≤ length items → length (part_of width items slot) ≡ width
-part_long width items capacity slot below long =
-    let fits = mul-le (slot + 1) width capacity width (omega arith) (omega arith) in
+-- a slot below the bound has its whole part of a list that is long enough
+pub part_long : {A : Type 0} (width : ℕ) (items : List A) (bound slot : ℕ) → slot < bound → bound * width ≤ length items → length (part_of width items slot) ≡ width
+part_long width items bound slot below long =
+    let fits = mul-le (slot + 1) width bound width (omega arith) (omega arith) in
     length-take-le width (drop (slot * width) items) (omega (arith, fits, long, length-drop (slot * width) items))
 
 -- where no key is that of no slot, a name's dart is the one that the table leads to
@@ -95,6 +96,14 @@ module _ (schema : Schema) (labels width : ℕ) (places : Slab Place) (neighbour
   nowhere = none_of _ (λ h.
       let place : (p : Place) × (get places no_slot ≡ Some p) = some_of _ h in
       absurd (omega (arith, (sound.placed no_slot place.0 place.1).below_capacity, sound.fits)))
+
+  -- the neighbours of a key are there
+  pub links_there : (slot : ℕ) (place : Place) → get places slot ≡ Some place → slot * labels + labels ≤ length neighbours
+  links_there slot place e = stretch slot bound labels (length neighbours) (sound.placed slot place e).below_bound sound.linked
+
+  -- and its values
+  pub values_there : (slot : ℕ) (place : Place) → get places slot ≡ Some place → slot * width + width ≤ length values
+  values_there slot place e = stretch slot bound width (length values) (sound.placed slot place e).below_bound sound.long
 
   -- a name's dart is the one that the table leads to
   pub get-darts : (name : ℕ) → map.get (darts_in labels width places neighbours values table) name ≡ option_map (λ (p : Place). dart_in labels width places neighbours values (slot_in table name)) (get places (slot_in table name))
@@ -141,7 +150,7 @@ module _ (schema : Schema) (labels width : ℕ) (places : Slab Place) (neighbour
       let h = held name dart e in
       let placed = sound.placed h.slot h.place h.here in
       record {
-        whole = ap (λ (d : Dart). length d.alphas) h.is ∙ (length-map _ _ ∙ (part_long labels neighbours places.capacity h.slot placed.below_capacity sound.linked ∙ sound.sized.one_each));
+        whole = ap (λ (d : Dart). length d.alphas) h.is ∙ (length-map _ _ ∙ (part_long labels neighbours bound h.slot placed.below_bound sound.linked ∙ sound.sized.one_each));
         neighbours = subst (λ (d : Dart). All IsLive d.alphas) (sym h.is)
             (All-map IsLive (λ (s : Slot). name_in places s.at) (part_of labels neighbours h.slot) (All-weaker _ _ (λ s live. live_name s.at live) _ placed.live));
         valued = subst (λ (d : Dart). AreGoodValues schema d.values) (sym h.is) (sound.valued h.slot (is_some_at _ _ h.here));
@@ -176,7 +185,7 @@ module _ (schema : Schema) (labels width : ℕ) (places : Slab Place) (neighbour
   alpha_at slot place label other e h =
       let placed = sound.placed slot place e in
       let front = part_of labels neighbours slot in
-      let long : label < length front = rw (part_long labels neighbours places.capacity slot placed.below_capacity sound.linked) h in
+      let long : label < length front = rw (part_long labels neighbours bound slot placed.below_bound sound.linked) h in
       let same : get_or front label other ≡ get_or neighbours (slot * labels + label) other =
       get_or-take labels (drop (slot * labels) neighbours) label other h ∙ get_or-drop (slot * labels) neighbours label other in
       let to : (p : Place) × (get places (get_or front label other).at ≡ Some p) = some_of _ (placed.live label other long) in
@@ -191,7 +200,7 @@ module _ (schema : Schema) (labels width : ℕ) (places : Slab Place) (neighbour
   pub value_at : (slot : ℕ) (place : Place) (e : ℕ) (other : Value) → get places slot ≡ Some place → e < width → get_or values (slot * width + e) other ≡ value (map_of schema labels width places neighbours values table next spare bound) e (name_at (map_of schema labels width places neighbours values table next spare bound) slot)
   value_at slot place e other at h =
       let front = part_of width values slot in
-      let long : e < length front = rw (part_long width values places.capacity slot (sound.placed slot place at).below_capacity sound.long) h in
+      let long : e < length front = rw (part_long width values bound slot (sound.placed slot place at).below_bound sound.long) h in
       sym (get_or-take width (drop (slot * width) values) e other h ∙ get_or-drop (slot * width) values e other)
       ∙ get_or_default front e other (Int (pos 0)) long
       ∙ sym (ap (value (map_of schema labels width places neighbours values table next spare bound) e) (name_at_in places slot ∙ name_in-get places slot place at)

@@ -36,8 +36,8 @@ module _ (schema : Schema) (places : Slab Place) (slots : places.slots ≡ []) w
     named = λ name h. absurd (h refl);
     valued = λ slot h. absurd (false≢true (rw vacant at h));
     fits = omega (arith, capacity);
-    linked = rw capacity (omega arith);
-    long = rw capacity (omega arith);
+    linked = omega arith;
+    long = omega arith;
     room = omega (arith, capacity, count);
     counted = count ∙ sym (ap map.len filled_none ∙ map.len-empty nat_cmp _);
     few_darts = omega (arith, count);

@@ -47,7 +47,7 @@ module _ (schema : Schema) (labels width : ℕ) (places : Slab Place) (neighbour
       let m = map_of schema labels width places neighbours values table next spare bound in
       let old = other_live other now e in
       let placed = sound.placed other now old.1 in
-      let within : k < labels = rw (part_long labels neighbours places.capacity other placed.below_capacity sound.linked) at h in
+      let within : k < labels = rw (part_long labels neighbours bound other placed.below_bound sound.linked) at h in
       let read : (get_or (part_of labels neighbours other) k d).at ≡ (get_or neighbours (other * labels + k) d).at =
       ap (λ (s : Slot). s.at) (get_or-take labels (drop (other * labels) neighbours) k d within ∙ get_or-drop (other * labels) neighbours k d) in
       let leads = alpha_at schema labels width places neighbours values table next spare bound sound other now k d old.1 within in
@@ -106,8 +106,8 @@ module _ (schema : Schema) (labels width : ℕ) (places : Slab Place) (neighbour
         let now : (p : Place) × (get places' other ≡ Some p) = some_of _ h in
         sound.valued other (is_some_at _ _ (other_live other now.0 now.1).1);
     fits = rw capacity sound.fits;
-    linked = rw capacity sound.linked;
-    long = rw capacity sound.long;
+    linked = sound.linked;
+    long = sound.long;
     room = omega (arith, capacity, fewer, sound.room);
     counted =
         let removed = ap map.len darts_without ∙ len-remove_one _ place.name _ (dart_at schema labels width places neighbours values table next spare bound sound slot place here) in

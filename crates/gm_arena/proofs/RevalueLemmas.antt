@@ -19,11 +19,11 @@ use Rattle.gm_arena.specs.declared.slot.Slot.{Slot}
 use Rattle.gm_arena.specs.declared.arena.Place.{Place}
 use Rattle.gm_arena.specs.ArenaMap.{Dart}
 use Rattle.gm_arena.specs.Edits.{revalued, put_if, with_value}
-use Rattle.gm_arena.specs.Inside.{no_slot, part_of, dart_in, darts_in, map_of, FitTogether}
+use Rattle.gm_arena.specs.Inside.{no_slot, part_of, dart_in, darts_in, map_of, IsWritten, FitTogether}
 use Rattle.gm_arena.specs.Lawful.{AreGoodValues}
 use Rattle.gm_arena.proofs.FilledLemmas.{same_maps, get-insert_same, get-insert_other, len-insert_again}
-use Rattle.gm_arena.proofs.InsideLemmas.{nowhere, dart_at, darts_get}
-use Rattle.gm_arena.proofs.ValueLemmas.{IsWritten, length-values}
+use Rattle.gm_arena.proofs.InsideLemmas.{nowhere, dart_at, darts_get, values_there, some_of}
+use Rattle.gm_arena.proofs.ValueLemmas.{length-values}
 use Rattle.gm_arena.proofs.ChangeLemmas.{dart_alike, other_dart, other_slot}
 
 -- the values stay good with another of the embedding
@@ -64,7 +64,7 @@ module _ (schema : Schema) (labels width : ℕ) (places : Slab Place) (neighbour
         ∙ (ap Some dart_here ∙ sym (get-insert_same _ place.name _)))))
     | inr apart ↦
         other_dart labels width places places neighbours neighbours values values' table table none none name refl refl
-        (λ p f. dart_alike labels width places places neighbours neighbours values values' _ refl (λ k d h. refl) (written.others _ (other_slot schema labels width places neighbours values table next spare bound sound slot place name here apart)))
+        (λ p f. dart_alike labels width places places neighbours neighbours values values' _ refl (λ k d h. refl) (written.others _ (other_slot schema labels width places neighbours values table next spare bound sound slot place name here apart) (values_there schema labels width places neighbours values table next spare bound sound _ p f)))
         ∙ sym (get-insert_other _ place.name _ name apart)
   ])
 
@@ -75,11 +75,13 @@ module _ (schema : Schema) (labels width : ℕ) (places : Slab Place) (neighbour
     named = sound.named;
     valued = λ other live. elim (cases_eq other slot) [
       | inl same ↦ rw same (subst (AreGoodValues schema) (sym written.here) (revalued_good schema (part_of width values slot) e embed v (sound.valued slot (rw same at live)) at is))
-      | inr apart ↦ subst (AreGoodValues schema) (sym (written.others other apart)) (sound.valued other live)
+      | inr apart ↦
+          let p : (p : Place) × (get places other ≡ Some p) = some_of _ live in
+          subst (AreGoodValues schema) (sym (written.others other apart (values_there schema labels width places neighbours values table next spare bound sound other p.0 p.1))) (sound.valued other live)
     ];
     fits = sound.fits;
     linked = sound.linked;
-    long = rw written.long sound.long;
+    long = omega (arith, written.long, sound.long);
     room = sound.room;
     counted = sound.counted ∙ sym (ap map.len darts_revalued ∙ len-insert_again _ place.name _ _ (dart_at schema labels width places neighbours values table next spare bound sound slot place here));
     few_darts = sound.few_darts;

@@ -1,5 +1,5 @@
 -- How an arena keeps its map: names in a slab with their neighbours and values beside them, and a table from names to slots. No public clause cites this module.
-use Rattle.std.specs.Prelude.{◌≡◌, ◌≢◌, ℕ, ◌+◌, ◌*◌, ◌<◌, ◌≤◌, List, map, length, take, drop, ◌==◌, if◌then◌else◌, Option, Some, None, IsSome, All, slice_index_or}
+use Rattle.std.specs.Prelude.{◌≡◌, ◌≢◌, ℕ, ◌+◌, ◌*◌, ◌<◌, ◌≤◌, List, ◌++◌, map, length, take, drop, ◌==◌, if◌then◌else◌, Option, Some, None, IsSome, All, slice_index_or}
 use Rattle.std.specs.Option.{option_map, option_map_or}
 use Rattle.std.specs.Ordering.{nat_cmp}
 use Rattle.std.specs.FinMap.{FinMap, len}
@@ -35,6 +35,16 @@ name_in places slot = option_map_or (λ (p : Place). p.name) (get places slot) 0
 -- what a slot has of a list with so many for each
 abbrev pub part_of : {A : Type 0} → ℕ → List A → ℕ → List A
 part_of width items slot = take width (drop (slot * width) items)
+
+-- a list with these from an index on, over what it had there
+abbrev pub written_at : {A : Type 0} → ℕ → List A → List A → List A
+written_at at own items = take at items ++ (own ++ drop (length own) (drop at items))
+
+-- the slot has these, and each other slot what it had
+pub record IsWritten {A : Type 0} (width slot : ℕ) (items own items' : List A) : Type 0 where
+  pub here : part_of width items' slot ≡ own
+  pub others : (other : ℕ) → other ≢ slot → other * width + width ≤ length items → part_of width items' other ≡ part_of width items other
+  pub long : length items ≤ length items'
 
 abbrev pub dart_in : ℕ → ℕ → Slab Place → List Slot → List Value → ℕ → Dart
 dart_in labels width places neighbours values slot = record {
@@ -82,12 +92,18 @@ pub record FitTogether (schema : Schema) (labels width : ℕ) (places : Slab Pla
   -- a slot in the table holds a place of this name
   pub named : (name : ℕ) → slot_in table name ≢ no_slot → (place : Place) × (get places (slot_in table name) ≡ Some place) × (place.name ≡ name)
   pub valued : (slot : ℕ) → IsSome (get places slot) → AreGoodValues schema (part_of width values slot)
-  -- each key fits the table, and has room for its neighbours and values
+  -- each key fits the table
   pub fits : places.capacity ≤ no_slot
-  pub linked : places.capacity * labels ≤ length neighbours
-  pub long : places.capacity * width ≤ length values
+  -- each slot that was ever in use has its neighbours and values
+  pub linked : bound * labels ≤ length neighbours
+  pub long : bound * width ≤ length values
   pub room : HasRoomFor places spare
   pub counted : slab_len places ≡ len (darts_in labels width places neighbours values table)
   pub few_darts : slab_len places + spare ≤ most_darts
   pub few_names : next ≤ most_names
   pub few_reserved : length table ≤ most_names
+
+-- without memory each key can get its neighbours and values
+pub record HasParts (capacity labels width links values : ℕ) : Type 0 where
+  pub linked : capacity * labels ≤ links
+  pub long : capacity * width ≤ values

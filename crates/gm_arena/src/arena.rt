@@ -1,8 +1,9 @@
-ghost use Rattle.std.specs.Prelude.{◌≡◌, ℕ, ◌+◌, ◌*◌, ◌<◌, ◌≤◌, ◌-◌, ◌++◌, [], length, replicate, take, max, map, Some, None, All, MatchOption, IfOk, OnOk, OnErr};
+ghost use Rattle.std.specs.Prelude.{◌≡◌, ℕ, ◌+◌, ◌*◌, ◌<◌, ◌≤◌, ◌-◌, ◌++◌, ◌∷◌, [], length, replicate, take, max, map, Some, None, All, MatchOption, IfOk, OnOk, OnErr};
 ghost use Rattle.std.specs.FinMap.{get, keys};
 ghost use Rattle.slab.specs.Slab.{HasRoomFor, slab_len};
 ghost use Rattle.gm_model.specs.Limits.{most_darts, most_names};
-ghost use Rattle.gm_arena.specs.Inside.{no_slot, names_in};
+ghost use Rattle.std.specs.Vec.{vec_capacity};
+ghost use Rattle.gm_arena.specs.Inside.{no_slot, names_in, written_at, IsWritten, HasParts};
 
 use crate::slot::Slot;
 use crate::steps::Steps;
@@ -11,8 +12,6 @@ use slab::Slab;
 use std::alloc::Global;
 use std::marker::Model;
 use std::sync::ledger::Ledger;
-
-const MOST_LABELS: usize = 8;
 
 /// What the table has at a name that no live dart has.
 const NO_SLOT: u32 = u32::MAX;
@@ -32,9 +31,10 @@ pub struct Arena {
     /// The number of embeddings.
     width: usize,
     places: Slab<Place>,
-    /// The neighbours of the slots one after another, `labels` for each. Where no dart is, fillers.
+    /// The neighbours of the slots one after another, `labels` for each. What stands where no dart
+    /// is has no meaning, and there is none for slots that were never in use.
     neighbours: Vec<Slot>,
-    /// The values of the slots one after another, `width` for each. Where no dart is, fillers.
+    /// The values of the slots one after another, `width` for each, in the same way.
     values: Vec<Value>,
     /// The slot of each reserved name, or `NO_SLOT`.
     table: Vec<u32>,
@@ -62,11 +62,12 @@ impl Model for Arena {
 
     ghost coded = { arena_code };
 
-    ghost use Rattle.gm_arena.specs.Inside.{map_of, FitTogether};
+    ghost use Rattle.std.specs.Vec.{vec_capacity};
+    ghost use Rattle.gm_arena.specs.Inside.{map_of, FitTogether, HasParts};
 
     ghost view = { λ a. map_of a.schema a.labels a.width a.places a.neighbours.items a.values.items a.table.items a.next a.spare a.bound };
 
-    ghost invariant = { λ a. FitTogether a.schema a.labels a.width a.places a.neighbours.items a.values.items a.table.items a.next a.spare a.bound };
+    ghost invariant = { λ a. FitTogether a.schema a.labels a.width a.places a.neighbours.items a.values.items a.table.items a.next a.spare a.bound × HasParts a.places.capacity a.labels a.width (vec_capacity a.neighbours) (vec_capacity a.values) };
 }
 
 impl Arena {
@@ -247,10 +248,8 @@ impl Arena {
         steps.tick();
         let key = self.places.insert_reserved(Place { name });
         let own = Slot { at: key as u32 };
-        self.neighbours[key * self.labels..key * self.labels + self.labels].copy_from_slice(
-            &[own; MOST_LABELS][..self.labels],
-        );
-        self.values[key * self.width..key * self.width + self.width].copy_from_slice(values);
+        free(&mut self.neighbours, self.labels, own);
+        write_values(&mut self.values, key, values);
         self.table[name as usize] = own.at;
         self.next = self.next.max(name + 1);
         self.spare -= 1;
@@ -337,8 +336,87 @@ fn pad_table(table: &mut Vec<u32>, names: usize) -> Result<(), OutOfMemory>
     Ok(())
 }
 
+/// Makes each neighbour of the slot the slot itself. It takes no memory.
+fn free(neighbours: &mut Vec<Slot>, labels: usize, own: Slot)
+    requires { own.at * labels + labels ≤ vec_capacity neighbours.old }
+    ensures written { IsWritten labels own.at neighbours.old.items (replicate labels own) neighbours.new.items }
+    ensures reaches { own.at * labels + labels ≤ length neighbours.new.items }
+    ensures capacity { vec_capacity neighbours.new ≡ vec_capacity neighbours.old }
+{
+    let start = own.at as usize * labels;
+    if start < neighbours.len() {
+        lengthen(neighbours, start + labels, own);
+        fill(neighbours, start, labels, own);
+    } else {
+        // What this adds leads to the slot itself already.
+        lengthen(neighbours, start + labels, own);
+    }
+}
+
+/// Writes so many copies over what stands from an index on.
+fn fill(neighbours: &mut Vec<Slot>, start: usize, labels: usize, own: Slot)
+    requires { start + labels ≤ length neighbours.old.items }
+    ensures items { neighbours.new.items ≡ written_at start (replicate labels own) neighbours.old.items }
+    ensures capacity { vec_capacity neighbours.new ≡ vec_capacity neighbours.old }
+{
+    for label in 0..labels {
+        neighbours[start + label] = own;
+    }
+}
+
+/// Gives the slot these values, as many as each slot has. It takes no memory.
+fn write_values(held: &mut Vec<Value>, slot: usize, values: &[Value])
+    requires { slot * length values.now + length values.now ≤ vec_capacity held.old }
+    ensures written { IsWritten (length values.now) slot held.old.items values.now held.new.items }
+    ensures reaches { slot * length values.now + length values.now ≤ length held.new.items }
+    ensures capacity { vec_capacity held.new ≡ vec_capacity held.old }
+{
+    let start = slot * values.len();
+    if start < held.len() {
+        lengthen(held, start + values.len(), Value::Int(0));
+        overwrite(held, start, values);
+    } else {
+        lengthen(held, start, Value::Int(0));
+        append(held, values);
+    }
+}
+
+/// Writes the values over what stands from an index on.
+fn overwrite(held: &mut Vec<Value>, start: usize, values: &[Value])
+    requires { start + length values.now ≤ length held.old.items }
+    ensures items { held.new.items ≡ written_at start values.now held.old.items }
+    ensures capacity { vec_capacity held.new ≡ vec_capacity held.old }
+{
+    for (at, value) in values.iter().enumerate() {
+        held[start + at] = *value;
+    }
+}
+
+/// Puts the values behind what there is. It takes no memory.
+fn append(held: &mut Vec<Value>, values: &[Value])
+    requires { length held.old.items + length values.now ≤ vec_capacity held.old }
+    ensures items { held.new.items ≡ held.old.items ++ values.now }
+    ensures capacity { vec_capacity held.new ≡ vec_capacity held.old }
+{
+    for value in values {
+        held.push_reserved(*value);
+    }
+}
+
+/// Makes the vector at least so long, by fillers. It takes no memory.
+fn lengthen<T: Copy>(vector: &mut Vec<T>, long: usize, filler: T)
+    requires { long ≤ vec_capacity vector.old }
+    ensures items { vector.new.items ≡ vector.old.items ++ replicate (long - length vector.old.items) filler }
+    ensures capacity { vec_capacity vector.new ≡ vec_capacity vector.old }
+{
+    for _at in vector.len()..long {
+        vector.push_reserved(filler);
+    }
+}
+
 /// Makes room for so many more places, the keys of which fit a slot, and for their neighbours and
-/// values. The room doubles, but not past the most darts of an arena.
+/// values. The room doubles, but not past the most darts of an arena. A refused call may have made
+/// room for neighbours and values.
 fn reserve_places(
     places: &mut Slab<Place>,
     neighbours: &mut Vec<Slot>,
@@ -351,16 +429,14 @@ fn reserve_places(
     requires few { slab_len places.old + more ≤ most_darts }
     requires labels { labels ≤ 8 }
     requires width { width ≤ 8 }
-    requires linked { places.old.capacity * labels ≤ length neighbours.old.items }
-    requires long { places.old.capacity * width ≤ length values.old.items }
+    requires parts { HasParts places.old.capacity labels width (vec_capacity neighbours.old) (vec_capacity values.old) }
     ensures room { OnOk result (HasRoomFor places.new more) }
     ensures fits { places.new.capacity ≤ no_slot }
-    ensures linked { places.new.capacity * labels ≤ length neighbours.new.items }
-    ensures long { places.new.capacity * width ≤ length values.new.items }
+    ensures parts { HasParts places.new.capacity labels width (vec_capacity neighbours.new) (vec_capacity values.new) }
     ensures slots { places.new.slots ≡ places.old.slots }
     ensures within { OnOk result (length places.new.slots ≤ places.new.capacity) }
-    ensures neighbours { take (length neighbours.old.items) neighbours.new.items ≡ neighbours.old.items }
-    ensures values { take (length values.old.items) values.new.items ≡ values.old.items }
+    ensures neighbours { neighbours.new.items ≡ neighbours.old.items }
+    ensures values { values.new.items ≡ values.old.items }
     ensures err { OnErr result (places.new ≡ places.old) }
 {
     if places.capacity() - places.len() >= more {
@@ -374,21 +450,20 @@ fn reserve_places(
     if grown.capacity() > NO_SLOT as usize {
         return Err(OutOfMemory);
     }
-    pad(neighbours, grown.capacity() * labels, Slot { at: 0 })?;
-    pad(values, grown.capacity() * width, Value::Int(0))?;
+    widen(neighbours, grown.capacity() * labels)?;
+    widen(values, grown.capacity() * width)?;
     *places = grown;
     Ok(())
 }
 
-/// Makes the vector at least so long, by fillers and no more memory than they need.
-fn pad<T: Copy>(vector: &mut Vec<T>, long: usize, filler: T) -> Result<(), OutOfMemory>
-    ensures kept { take (length vector.old.items) vector.new.items ≡ vector.old.items }
-    ensures grows { length vector.old.items ≤ length vector.new.items }
-    ensures long { OnOk result (long ≤ length vector.new.items) }
+/// Makes the capacity at least so great, and asks for no more memory than that needs.
+fn widen<T>(vector: &mut Vec<T>, capacity: usize) -> Result<(), OutOfMemory>
+    ensures items { vector.new.items ≡ vector.old.items }
+    ensures grows { vec_capacity vector.old ≤ vec_capacity vector.new }
+    ensures room { OnOk result (capacity ≤ vec_capacity vector.new) }
 {
-    if vector.len() < long {
-        vector.reserve_exact(long - vector.len())?;
-        vector.resize(long, filler)?;
+    if vector.capacity() < capacity {
+        vector.reserve_exact(capacity - vector.len())?;
     }
     Ok(())
 }

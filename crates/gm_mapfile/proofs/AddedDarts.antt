@@ -1,5 +1,5 @@
 -- One line more: its dart is added with its values, or its name is there already.
-use Rattle.std.proofs.Common.{◌≡◌, ℕ, ◌+◌, ◌-◌, ◌*◌, ◌/◌, ◌<◌, ◌≤◌, min, true, List, [], ◌∷◌, ◌++◌, length, take, drop, Option, Some, None, is_some, inl, inr, refl, sym, ap, subst, ◌∙◌, arith}
+use Rattle.std.proofs.Common.{◌≡◌, ℕ, ◌+◌, ◌-◌, ◌*◌, ◌/◌, ◌<◌, ◌≤◌, ℤ, min, true, List, [], ◌∷◌, ◌++◌, length, drop, Option, Some, None, is_some, inl, inr, refl, sym, ap, subst, ◌∙◌, arith}
 use Rattle.std.specs.Prelude.{MatchOption}
 use Rattle.std.specs.FinMap.{get}
 use Rattle.std.specs.List.{AllByRecursion}
@@ -16,7 +16,8 @@ use Rattle.gm_mapfile.specs.MapText.{DartRow, bare, rows_of, dart_of}
 use Rattle.gm_mapfile.specs.Building.{IsFresh, IsNextLeast, AreAdded, AreValued}
 use Rattle.gm_mapfile.proofs.Adding.{none_added, none_next, next_more, added_more, added_again}
 use Rattle.gm_mapfile.specs.Rows.{row_in, valued, darts_in}
-use Rattle.gm_mapfile.proofs.Chunks.{lines_cut, next_among, darts_line}
+use Rattle.gm_mapfile.specs.Packed.{size_of_line}
+use Rattle.gm_mapfile.proofs.Chunks.{lines_cut, next_among, first_values, darts_line}
 use Rattle.gm_mapfile.proofs.Darts.{rows_append, live_dart, dart_of_push_new, dart_of_push_other, dart_of_push_again}
 use Rattle.gm_mapfile.proofs.Named.{none_of}
 
@@ -76,17 +77,17 @@ module _ (n : ℕ) (darts : List DartRow) (dart : DartRow) (m : ArenaMap) (found
 abbrev pub AreGood : Schema → List DartRow → Type 0
 AreGood schema darts = AllByRecursion (λ (dart : DartRow). AreGoodValues schema dart.values) darts
 
-module _ (schema : Schema) (all line rest : List ℕ) (values others : List Value) (cut : all ≡ line ++ rest) (wide : length line ≡ schema.dim + 2) (left : others ≡ drop (length schema.embeds) values) where
+module _ (schema : Schema) (all line rest : List ℕ) (words others : List ℤ) (cut : all ≡ line ++ rest) (wide : length line ≡ schema.dim + 2) (left : others ≡ drop (size_of_line schema.embeds) words) where
   abbrev pub own : DartRow
-  own = valued (row_in line) (take (length schema.embeds) values)
+  own = valued (row_in line) (first_values schema words)
 
-  line_and_left : darts_in schema all values ≡ own ∷ darts_in schema rest others
-  line_and_left = darts_line schema all line rest values cut wide ∙ ap (λ vs. own ∷ darts_in schema rest vs) (sym left)
+  line_and_left : darts_in schema all words ≡ own ∷ darts_in schema rest others
+  line_and_left = darts_line schema all line rest words cut wide ∙ ap (λ ws. own ∷ darts_in schema rest ws) (sym left)
 
-  pub line_split : (front whole : List DartRow) → front ++ darts_in schema all values ≡ whole → (front ++ own ∷ []) ++ darts_in schema rest others ≡ whole
-  line_split front whole so_far = next_among front whole (darts_in schema all values) (darts_in schema rest others) own so_far line_and_left
+  pub line_split : (front whole : List DartRow) → front ++ darts_in schema all words ≡ whole → (front ++ own ∷ []) ++ darts_in schema rest others ≡ whole
+  line_split front whole so_far = next_among front whole (darts_in schema all words) (darts_in schema rest others) own so_far line_and_left
 
-  pub line_good : AreGood schema (darts_in schema all values) → AreGoodValues schema own.values × AreGood schema (darts_in schema rest others)
+  pub line_good : AreGood schema (darts_in schema all words) → AreGoodValues schema own.values × AreGood schema (darts_in schema rest others)
   line_good good = subst (AreGood schema) line_and_left good
 
   lines : length all / (schema.dim + 2) ≡ length rest / (schema.dim + 2) + 1
@@ -95,13 +96,13 @@ module _ (schema : Schema) (all line rest : List ℕ) (values others : List Valu
   pub line_spare : (spare : ℕ) → length all / (schema.dim + 2) ≤ spare → (0 < spare) × (length rest / (schema.dim + 2) ≤ spare - 1)
   line_spare spare room = (omega (arith, lines, room), omega (arith, lines, room))
 
-  pub line_long : length values ≡ length all / (schema.dim + 2) * length schema.embeds → length others ≡ length rest / (schema.dim + 2) * length schema.embeds
+  pub line_long : length words ≡ length all / (schema.dim + 2) * size_of_line schema.embeds → length others ≡ length rest / (schema.dim + 2) * size_of_line schema.embeds
   line_long long =
-      let more : length values ≡ (length rest / (schema.dim + 2) + 1) * length schema.embeds = long ∙ ap (λ k. k * length schema.embeds) lines in
-      ap length left ∙ omega (arith, more, length-drop (length schema.embeds) values)
+      let more : length words ≡ (length rest / (schema.dim + 2) + 1) * size_of_line schema.embeds = long ∙ ap (λ k. k * size_of_line schema.embeds) lines in
+      ap length left ∙ omega (arith, more, length-drop (size_of_line schema.embeds) words)
 
--- a line's values are there
-pub line_values : (schema : Schema) (all line rest : List ℕ) (values : List Value) → all ≡ line ++ rest → length line ≡ schema.dim + 2 → length values ≡ length all / (schema.dim + 2) * length schema.embeds → length schema.embeds ≤ length values
-line_values schema all line rest values cut wide long =
-    let more : length values ≡ (length rest / (schema.dim + 2) + 1) * length schema.embeds = long ∙ ap (λ k. k * length schema.embeds) (lines_cut schema.dim all line rest cut wide) in
+-- a line's words are there
+pub line_words : (schema : Schema) (all line rest : List ℕ) (words : List ℤ) → all ≡ line ++ rest → length line ≡ schema.dim + 2 → length words ≡ length all / (schema.dim + 2) * size_of_line schema.embeds → size_of_line schema.embeds ≤ length words
+line_words schema all line rest words cut wide long =
+    let more : length words ≡ (length rest / (schema.dim + 2) + 1) * size_of_line schema.embeds = long ∙ ap (λ k. k * size_of_line schema.embeds) (lines_cut schema.dim all line rest cut wide) in
     omega (arith, more)

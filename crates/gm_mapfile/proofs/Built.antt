@@ -1,7 +1,6 @@
--- What was built of numbers and values, said of the darts that these are.
-use Rattle.std.proofs.Common.{◌≡◌, ℕ, ◌+◌, ◌*◌, ◌≤◌, List, length, Option, Some, None, sym, ap₂, subst, ◌∙◌, arith}
+-- What was built of numbers and packed values, said of the darts that these are.
+use Rattle.std.proofs.Common.{◌≡◌, ℕ, ◌+◌, ◌*◌, ◌≤◌, ℤ, List, length, Option, Some, None, sym, ap₂, subst, ◌∙◌, arith}
 use Rattle.gm_model.specs.declared.schema.Schema.{Schema}
-use Rattle.gm_model.specs.declared.value.Value.{Value}
 use Rattle.gm_arena.specs.ArenaMap.{ArenaMap}
 use Rattle.gm_mapfile.specs.declared.fault.MapFault.TheVariants as faults
 use Rattle.gm_mapfile.specs.MapText.{Version, First, Second, DartRow, rows_of}
@@ -12,15 +11,15 @@ use Rattle.gm_mapfile.specs.Building.{IsNextLeast, IsNextSet, IsLeastNotBelowSta
 use Rattle.gm_mapfile.proofs.Chunks.{rows_of_darts_in, length_darts_in}
 use Rattle.gm_mapfile.proofs.Whole.{link_ready, held_after, lack_after, set_schema}
 
-module _ (schema : Schema) (numbers xs : List ℕ) (values vs : List Value) (numbers_are : xs ≡ numbers) (values_are : vs ≡ values) where
+module _ (schema : Schema) (numbers xs : List ℕ) (words vs : List ℤ) (numbers_are : xs ≡ numbers) (words_are : vs ≡ words) where
   abbrev darts : List DartRow
-  darts = darts_in schema numbers values
+  darts = darts_in schema numbers words
 
   rows_are : (s : Schema) → s ≡ schema → rows_in s.dim xs ≡ rows_of darts
-  rows_are s same = ap₂ (λ (t : Schema) ys. rows_in t.dim ys) same numbers_are ∙ sym (rows_of_darts_in schema numbers values)
+  rows_are s same = ap₂ (λ (t : Schema) ys. rows_in t.dim ys) same numbers_are ∙ sym (rows_of_darts_in schema numbers words)
 
   many : (s : Schema) → s ≡ schema → length (rows_in s.dim xs) ≡ length darts
-  many s same = ap₂ (λ (t : Schema) ys. length (rows_in t.dim ys)) same numbers_are ∙ sym (length_darts_in schema numbers values)
+  many s same = ap₂ (λ (t : Schema) ys. length (rows_in t.dim ys)) same numbers_are ∙ sym (length_darts_in schema numbers words)
 
   pub steps_added : (s : Schema) (before after : ℕ) → s ≡ schema → after ≤ before + 2 * length (rows_in s.dim xs) → after ≤ before + (2 * schema.dim + 5) * length darts
   steps_added s before after same most = omega (arith, many s same, most)
@@ -41,7 +40,7 @@ module _ (schema : Schema) (numbers xs : List ℕ) (values vs : List Value) (num
     twice_of d added = (added_here (Some d) added).twice
 
     valued_here : AreValued (darts_in start.schema xs vs) old → AreValued darts old
-    valued_here valued = subst (λ s. AreValued (darts_in s numbers values) old) start_is (subst (λ ys. AreValued (darts_in start.schema ys values) old) numbers_are (subst (λ us. AreValued (darts_in start.schema xs us) old) values_are valued))
+    valued_here valued = subst (λ s. AreValued (darts_in s numbers words) old) start_is (subst (λ ys. AreValued (darts_in start.schema ys words) old) numbers_are (subst (λ us. AreValued (darts_in start.schema xs us) old) words_are valued))
 
     module _ (version : Version) (added : AreAdded start.schema.dim (rows_in start.schema.dim xs) old None) where
       pub live_of : AreLive (rows_in old.schema.dim xs) old

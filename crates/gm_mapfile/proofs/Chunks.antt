@@ -1,5 +1,5 @@
--- The rows of numbers, line by line, and the darts of numbers and values.
-use Rattle.std.proofs.Common.{◌≡◌, ℕ, suc, ◌+◌, ◌*◌, ◌/◌, ◌<◌, List, [], ◌∷◌, ◌++◌, length, take, drop, get_or, All, refl, sym, ap, ap₂, subst, ◌∙◌, arith}
+-- The rows of numbers, line by line, and the darts of numbers and packed values.
+use Rattle.std.proofs.Common.{◌≡◌, ℕ, suc, ◌+◌, ◌*◌, ◌/◌, ◌<◌, ℤ, List, [], ◌∷◌, ◌++◌, length, take, drop, get_or, All, refl, sym, ap, ap₂, subst, ◌∙◌, arith}
 use Rattle.std.proofs.Math.Nat.{add-div_left, div-eq_of_lt}
 use Rattle.std.proofs.Math.Seq.{take-append_seam, drop-append_seam}
 use Rattle.std.specs.List.{AllByRecursion}
@@ -8,11 +8,13 @@ use Rattle.gm_model.specs.declared.schema.Embed.{Embed}
 use Rattle.gm_model.specs.declared.schema.Schema.{Schema}
 use Rattle.gm_model.specs.declared.value.Value.{Value}
 use Rattle.gm_model.specs.GMap.{Row}
-use Rattle.gm_model.specs.Values.{kind_of}
+use Rattle.gm_arena.specs.Lawful.{AreGoodValues}
 use Rattle.gm_mapfile.specs.MapText.{DartRow, bare, rows_of}
-use Rattle.gm_mapfile.specs.MapReading.{AreOfKinds, IsWhole}
-use Rattle.gm_mapfile.specs.Draft.{line_in, numbers_of, values_of}
+use Rattle.gm_mapfile.specs.MapReading.{IsWhole}
+use Rattle.gm_mapfile.specs.Draft.{line_in, numbers_of, words_of_darts}
+use Rattle.gm_mapfile.specs.Packed.{packed, size_of_line, values_in}
 use Rattle.gm_mapfile.specs.Rows.{row_in, rows_from, rows_in, valued, darts_from, darts_in}
+use Rattle.gm_mapfile.proofs.Unpacked.{length_packed, values_back}
 
 -- each dart has so many neighbours
 abbrev pub AreLong : ℕ → List DartRow → Type 0
@@ -104,58 +106,57 @@ alphas_long n (name ∷ alphas) long = omega (arith, long)
 
 -- ---- darts with their values
 
-pub rows_of_valued : (w : ℕ) (rows : List Row) (values : List Value) → rows_of (darts_from w rows values) ≡ rows
-rows_of_valued w [] values = refl
-rows_of_valued w (row ∷ rows) values = ap (λ (others : List Row). row ∷ others) (rows_of_valued w rows (drop w values))
+pub rows_of_valued : (embeds : List Embed) (rows : List Row) (words : List ℤ) → rows_of (darts_from embeds rows words) ≡ rows
+rows_of_valued embeds [] words = refl
+rows_of_valued embeds (row ∷ rows) words = ap (λ (others : List Row). row ∷ others) (rows_of_valued embeds rows (drop (size_of_line embeds) words))
 
-pub rows_of_darts_in : (schema : Schema) (numbers : List ℕ) (values : List Value) → rows_of (darts_in schema numbers values) ≡ rows_in schema.dim numbers
-rows_of_darts_in schema numbers values = rows_of_valued (length schema.embeds) (rows_in schema.dim numbers) values
+pub rows_of_darts_in : (schema : Schema) (numbers : List ℕ) (words : List ℤ) → rows_of (darts_in schema numbers words) ≡ rows_in schema.dim numbers
+rows_of_darts_in schema numbers words = rows_of_valued schema.embeds (rows_in schema.dim numbers) words
 
-pub length_darts_in : (schema : Schema) (numbers : List ℕ) (values : List Value) → length (darts_in schema numbers values) ≡ length (rows_in schema.dim numbers)
-length_darts_in schema numbers values = sym (length-map (darts_in schema numbers values) bare) ∙ ap length (rows_of_darts_in schema numbers values)
+pub length_darts_in : (schema : Schema) (numbers : List ℕ) (words : List ℤ) → length (darts_in schema numbers words) ≡ length (rows_in schema.dim numbers)
+length_darts_in schema numbers words = sym (length-map (darts_in schema numbers words) bare) ∙ ap length (rows_of_darts_in schema numbers words)
+
+-- the values of the first line
+abbrev pub first_values : Schema → List ℤ → List Value
+first_values schema words = values_in schema.embeds (take (size_of_line schema.embeds) words)
 
 -- one line and the darts of the rest
-pub darts_line : (schema : Schema) (all line rest : List ℕ) (values : List Value) → all ≡ line ++ rest → length line ≡ schema.dim + 2
-    → darts_in schema all values ≡ valued (row_in line) (take (length schema.embeds) values) ∷ darts_in schema rest (drop (length schema.embeds) values)
-darts_line schema all line rest values split long = ap (λ rows. darts_from (length schema.embeds) rows values) (ap (rows_in schema.dim) split ∙ rows_line schema.dim line rest long)
+pub darts_line : (schema : Schema) (all line rest : List ℕ) (words : List ℤ) → all ≡ line ++ rest → length line ≡ schema.dim + 2
+    → darts_in schema all words ≡ valued (row_in line) (first_values schema words) ∷ darts_in schema rest (drop (size_of_line schema.embeds) words)
+darts_line schema all line rest words split long = ap (λ rows. darts_from schema.embeds rows words) (ap (rows_in schema.dim) split ∙ rows_line schema.dim line rest long)
 
-pub darts_end : (schema : Schema) (rest : List ℕ) (values : List Value) → length rest < schema.dim + 2 → darts_in schema rest values ≡ []
-darts_end schema rest values short = ap (λ rows. darts_from (length schema.embeds) rows values) (rows_end schema.dim rest short)
-
--- darts of one width are those of their rows and values
-abbrev pub AreWide : ℕ → List DartRow → Type 0
-AreWide w darts = AllByRecursion (λ (dart : DartRow). length dart.values ≡ w) darts
-
-darts_of_values : (w : ℕ) (darts : List DartRow) → AreWide w darts → darts_from w (rows_of darts) (values_of darts) ≡ darts
-darts_of_values w [] wide = refl
-darts_of_values w (dart ∷ darts) wide =
-    let front : take w (dart.values ++ values_of darts) ≡ dart.values = ap (λ k. take k (dart.values ++ values_of darts)) (sym wide.0) ∙ take-append_seam dart.values (values_of darts) in
-    let back : drop w (dart.values ++ values_of darts) ≡ values_of darts = ap (λ k. drop k (dart.values ++ values_of darts)) (sym wide.0) ∙ drop-append_seam dart.values (values_of darts) in
-    ap₂ (λ v vs. valued (bare dart) v ∷ darts_from w (rows_of darts) vs) front back ∙ ap (λ others. dart ∷ others) (darts_of_values w darts wide.1)
-
-length_values_of : (w : ℕ) (darts : List DartRow) → AreWide w darts → length (values_of darts) ≡ length darts * w
-length_values_of w [] wide = omega arith
-length_values_of w (dart ∷ darts) wide = omega (arith, length-append dart.values (values_of darts), wide.0, length_values_of w darts wide.1)
+pub darts_end : (schema : Schema) (rest : List ℕ) (words : List ℤ) → length rest < schema.dim + 2 → darts_in schema rest words ≡ []
+darts_end schema rest words short = ap (λ rows. darts_from schema.embeds rows words) (rows_end schema.dim rest short)
 
 module _ (schema : Schema) where
-  wide_of_kinds : (values : List Value) → AreOfKinds schema.embeds values → length values ≡ length schema.embeds
-  wide_of_kinds values kinds = sym (length-map values kind_of) ∙ (ap length kinds ∙ length-map schema.embeds (λ (embed : Embed). embed.kind))
+  -- darts with good values are those of their rows and words
+  darts_of_words : (darts : List DartRow) → AllByRecursion (λ (dart : DartRow). AreGoodValues schema dart.values) darts → darts_from schema.embeds (rows_of darts) (words_of_darts darts) ≡ darts
+  darts_of_words [] good = refl
+  darts_of_words (dart ∷ darts) good =
+      let size = size_of_line schema.embeds in
+      let own = packed dart.values in
+      let more = words_of_darts darts in
+      let long : length own ≡ size = length_packed schema.embeds dart.values good.0.kinds in
+      let front : take size (own ++ more) ≡ own = ap (λ k. take k (own ++ more)) (sym long) ∙ take-append_seam own more in
+      let back : drop size (own ++ more) ≡ more = ap (λ k. drop k (own ++ more)) (sym long) ∙ drop-append_seam own more in
+      let values : values_in schema.embeds (take size (own ++ more)) ≡ dart.values = ap (values_in schema.embeds) front ∙ values_back schema.embeds dart.values good.0.kinds good.0.ranges in
+      ap₂ (λ v vs. valued (bare dart) v ∷ darts_from schema.embeds (rows_of darts) vs) values back ∙ ap (λ others. dart ∷ others) (darts_of_words darts good.1)
+
+  length_words_of : (darts : List DartRow) → AllByRecursion (IsWhole schema) darts → length (words_of_darts darts) ≡ length darts * size_of_line schema.embeds
+  length_words_of [] whole = omega arith
+  length_words_of (dart ∷ darts) whole = omega (arith, length-append (packed dart.values) (words_of_darts darts), length_packed schema.embeds dart.values whole.0.1, length_words_of darts whole.1)
 
   pub long_of_whole : (darts : List DartRow) → AllByRecursion (IsWhole schema) darts → AreLong schema.dim darts
   long_of_whole [] whole = tt
   long_of_whole (dart ∷ darts) whole = (whole.0.0, long_of_whole darts whole.1)
 
-  wide_of_whole : (darts : List DartRow) → AllByRecursion (IsWhole schema) darts → AreWide (length schema.embeds) darts
-  wide_of_whole [] whole = tt
-  wide_of_whole (dart ∷ darts) whole = (wide_of_kinds dart.values whole.0.1, wide_of_whole darts whole.1)
+  -- whole darts with good values are those of their numbers and words
+  pub darts_of_lines : (darts : List DartRow) → AllByRecursion (IsWhole schema) darts → AllByRecursion (λ (dart : DartRow). AreGoodValues schema dart.values) darts → darts_in schema (numbers_of darts) (words_of_darts darts) ≡ darts
+  darts_of_lines darts whole good =
+      ap (λ rows. darts_from schema.embeds rows (words_of_darts darts)) (rows_of_lines schema.dim darts (long_of_whole darts whole))
+      ∙ darts_of_words darts good
 
-  -- whole darts are those of their numbers and values
-  pub darts_of_lines : (darts : List DartRow) → AllByRecursion (IsWhole schema) darts → darts_in schema (numbers_of darts) (values_of darts) ≡ darts
-  darts_of_lines darts whole =
-      ap (λ rows. darts_from (length schema.embeds) rows (values_of darts)) (rows_of_lines schema.dim darts (long_of_whole darts whole))
-      ∙ darts_of_values (length schema.embeds) darts (wide_of_whole darts whole)
-
-  pub values_of_lines : (darts : List DartRow) → AllByRecursion (IsWhole schema) darts → length (values_of darts) ≡ length (numbers_of darts) / (schema.dim + 2) * length schema.embeds
-  values_of_lines darts whole =
-      length_values_of (length schema.embeds) darts (wide_of_whole darts whole)
-      ∙ ap (λ k. k * length schema.embeds) (sym (lines_of_rows schema.dim darts (long_of_whole darts whole)))
+  pub words_of_lines : (darts : List DartRow) → AllByRecursion (IsWhole schema) darts → length (words_of_darts darts) ≡ length (numbers_of darts) / (schema.dim + 2) * size_of_line schema.embeds
+  words_of_lines darts whole =
+      length_words_of darts whole
+      ∙ ap (λ k. k * size_of_line schema.embeds) (sym (lines_of_rows schema.dim darts (long_of_whole darts whole)))

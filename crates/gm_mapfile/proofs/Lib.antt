@@ -1,3 +1,4 @@
+pub mod Unpacked
 pub mod GoodListing
 pub mod MapMoves
 pub mod MapLed

@@ -1,5 +1,5 @@
 -- A draft whose lines are taken in another order lists the same darts in another order, and an arena of the one is an arena of the other.
-use Rattle.std.proofs.Common.{◌≡◌, ℕ, zero, suc, ◌+◌, ◌-◌, ◌*◌, ◌/◌, ◌<◌, ◌≤◌, List, [], ◌∷◌, ◌++◌, length, map, take, drop, slice_index_or, Option, is_some, All, refl, sym, ap, ap₂, subst, ◌∙◌, arith}
+use Rattle.std.proofs.Common.{◌≡◌, ℕ, zero, suc, ◌+◌, ◌-◌, ◌*◌, ◌/◌, ◌<◌, ◌≤◌, ℤ, List, [], ◌∷◌, ◌++◌, length, map, take, drop, slice_index_or, Option, is_some, All, refl, sym, ap, ap₂, subst, ◌∙◌, arith}
 use Rattle.std.specs.Prelude.{IsPermutation}
 use Rattle.std.specs.Option.{option_map, option_map_or}
 use Rattle.std.proofs.Math.Nat.{div-mul-le_self, mul-div_left}
@@ -11,7 +11,6 @@ use Rattle.std.proofs.lemmas.List.Elements.{All-take, All-drop, All-append, All-
 use Rattle.std.proofs.lemmas.List.Sorted.{IsPermutation-map, length_permutation, sum_by-IsPermutation}
 use Rattle.gm_model.specs.Breaches.{IsFirstWithoutTarget}
 use Rattle.gm_model.specs.declared.schema.Schema.{Schema}
-use Rattle.gm_model.specs.declared.value.Value.{Value}
 use Rattle.gm_model.specs.GMap.{Row, IsLive, alpha, row_of}
 use Rattle.gm_model.specs.Limits.{most_names}
 use Rattle.gm_arena.specs.ArenaMap.{ArenaMap}
@@ -22,6 +21,7 @@ use Rattle.gm_mapfile.specs.Faults.{IsNameFault}
 use Rattle.gm_mapfile.specs.MapFaults.{rows_named, AreNamedOnce, IsLeastTwice, IsLeastNotBelow, AreBelowStated}
 use Rattle.gm_mapfile.specs.MapText.{Version, First, Second, DartRow, bare, rows_of, dart_of}
 use Rattle.gm_mapfile.specs.Ordering.{counted_from, on_line, on_lines}
+use Rattle.gm_mapfile.specs.Packed.{size_of_line, values_in}
 use Rattle.gm_mapfile.specs.Rows.{row_in, rows_from, rows_in, valued, darts_from, darts_in}
 use Rattle.gm_mapfile.specs.declared.fault.MapFault.{MapFault}
 use Rattle.gm_mapfile.specs.declared.ordering.Line.{Line}
@@ -92,46 +92,48 @@ order_of schema numbers seen lines width same wide order =
 
 -- ---- the darts of lines
 
-module _ (schema : Schema) (numbers : List ℕ) (values : List Value) where
+module _ (schema : Schema) (numbers : List ℕ) (words : List ℤ) where
+  abbrev size : ℕ
+  size = size_of_line schema.embeds
+
   abbrev dart_on : ℕ → DartRow
-  dart_on line = valued (row_in (on_line (schema.dim + 2) numbers line)) (on_line (length schema.embeds) values line)
+  dart_on line = valued (row_in (on_line (schema.dim + 2) numbers line)) (values_in schema.embeds (on_line size words line))
 
   behind : {A : Type 0} (width line : ℕ) (all : List A) → drop width (drop (line * width) all) ≡ drop (suc line * width) all
   behind width line all = drop-drop width (line * width) all ∙ ap (λ k. drop k all) (omega arith)
 
-  darts_counted : (start many : ℕ) → darts_from (length schema.embeds) (rows_from schema.dim many (drop (start * (schema.dim + 2)) numbers)) (drop (start * length schema.embeds) values) ≡ map dart_on (counted_from start many)
+  darts_counted : (start many : ℕ) → darts_from schema.embeds (rows_from schema.dim many (drop (start * (schema.dim + 2)) numbers)) (drop (start * size) words) ≡ map dart_on (counted_from start many)
   darts_counted start zero = refl
   darts_counted start (suc many) =
-      let first : valued (row_in (take (schema.dim + 2) (drop (start * (schema.dim + 2)) numbers))) (take (length schema.embeds) (drop (start * length schema.embeds) values)) ≡ dart_on start =
-      ap₂ (λ l v. valued (row_in l) v) (sym (is_taken (schema.dim + 2) numbers start)) (sym (is_taken (length schema.embeds) values start)) in
-      let rest = ap₂ (λ ns vs. darts_from (length schema.embeds) (rows_from schema.dim many ns) vs) (behind (schema.dim + 2) start numbers) (behind (length schema.embeds) start values) in
+      let first : valued (row_in (take (schema.dim + 2) (drop (start * (schema.dim + 2)) numbers))) (values_in schema.embeds (take size (drop (start * size) words))) ≡ dart_on start =
+      ap₂ (λ l ws. valued (row_in l) (values_in schema.embeds ws)) (sym (is_taken (schema.dim + 2) numbers start)) (sym (is_taken size words start)) in
+      let rest = ap₂ (λ ns ws. darts_from schema.embeds (rows_from schema.dim many ns) ws) (behind (schema.dim + 2) start numbers) (behind size start words) in
       ap₂ (λ (dart : DartRow) (darts : List DartRow). dart ∷ darts) first (rest ∙ darts_counted (suc start) many)
 
-  darts_all : darts_in schema numbers values ≡ map dart_on (counted_from 0 (length numbers / (schema.dim + 2)))
+  darts_all : darts_in schema numbers words ≡ map dart_on (counted_from 0 (length numbers / (schema.dim + 2)))
   darts_all =
       let many = length numbers / (schema.dim + 2) in
       let first : 0 ≡ 0 * (schema.dim + 2) = omega arith in
-      let own : 0 ≡ 0 * length schema.embeds = omega arith in
-      ap₂ (λ a b. darts_from (length schema.embeds) (rows_from schema.dim many (drop a numbers)) (drop b values)) first own ∙ darts_counted 0 many
+      let own : 0 ≡ 0 * size = omega arith in
+      ap₂ (λ a b. darts_from schema.embeds (rows_from schema.dim many (drop a numbers)) (drop b words)) first own ∙ darts_counted 0 many
 
-  pub darts_on_lines : (lines : List ℕ) → AreWithin (schema.dim + 2) numbers lines → AreWithin (length schema.embeds) values lines
-      → darts_in schema (on_lines (schema.dim + 2) numbers lines) (on_lines (length schema.embeds) values lines) ≡ map dart_on lines
-  darts_on_lines [] within within' = ap (λ rows. darts_from (length schema.embeds) rows []) (rows_end schema.dim [] (omega arith))
+  pub darts_on_lines : (lines : List ℕ) → AreWithin (schema.dim + 2) numbers lines → AreWithin (size_of_line schema.embeds) words lines
+      → darts_in schema (on_lines (schema.dim + 2) numbers lines) (on_lines (size_of_line schema.embeds) words lines) ≡ map dart_on lines
+  darts_on_lines [] within within' = ap (λ rows. darts_from schema.embeds rows []) (rows_end schema.dim [] (omega arith))
   darts_on_lines (line ∷ lines) within within' =
-      let w = length schema.embeds in
       let own = on_line (schema.dim + 2) numbers line in
-      let vs = on_line w values line in
+      let ws = on_line size words line in
       let others = on_lines (schema.dim + 2) numbers lines in
-      let more = on_lines w values lines in
+      let more = on_lines size words lines in
       let long : length own ≡ schema.dim + 2 = length_on_line (schema.dim + 2) numbers line within.0 in
-      let long' : length vs ≡ w = length_on_line w values line within'.0 in
-      let front : take w (vs ++ more) ≡ vs = ap (λ k. take k (vs ++ more)) (sym long') ∙ take-append_seam vs more in
-      let back : drop w (vs ++ more) ≡ more = ap (λ k. drop k (vs ++ more)) (sym long') ∙ drop-append_seam vs more in
-      ap (λ rows. darts_from w rows (vs ++ more)) (rows_line schema.dim own others long)
-      ∙ (ap₂ (λ v rest. valued (row_in own) v ∷ darts_from w (rows_in schema.dim others) rest) front back
+      let long' : length ws ≡ size = length_on_line size words line within'.0 in
+      let front : take size (ws ++ more) ≡ ws = ap (λ k. take k (ws ++ more)) (sym long') ∙ take-append_seam ws more in
+      let back : drop size (ws ++ more) ≡ more = ap (λ k. drop k (ws ++ more)) (sym long') ∙ drop-append_seam ws more in
+      ap (λ rows. darts_from schema.embeds rows (ws ++ more)) (rows_line schema.dim own others long)
+      ∙ (ap₂ (λ v rest. valued (row_in own) (values_in schema.embeds v) ∷ darts_from schema.embeds (rows_in schema.dim others) rest) front back
       ∙ ap (λ darts. dart_on line ∷ darts) (darts_on_lines lines within.1 within'.1))
 
-  module _ (room : AreInRoom schema numbers values) (lines : List ℕ) (same : IsPermutation (counted_from 0 (length numbers / (schema.dim + 2))) lines) where
+  module _ (room : AreInRoom schema numbers words) (lines : List ℕ) (same : IsPermutation (counted_from 0 (length numbers / (schema.dim + 2))) lines) where
     each_below : AllByRecursion (λ line. line < length numbers / (schema.dim + 2)) lines
     each_below = moved (λ line. line < length numbers / (schema.dim + 2)) (counted_from 0 (length numbers / (schema.dim + 2))) lines same (counted_below 0 (length numbers / (schema.dim + 2)) (length numbers / (schema.dim + 2)) (omega arith))
 
@@ -144,19 +146,19 @@ module _ (schema : Schema) (numbers : List ℕ) (values : List Value) where
     pub numbers_within : AreWithin (schema.dim + 2) numbers lines
     numbers_within = within_all (schema.dim + 2) numbers (div-mul-le_self (length numbers) (schema.dim + 2)) lines each_below
 
-    pub values_within : AreWithin (length schema.embeds) values lines
-    values_within = within_all (length schema.embeds) values (omega (arith, room.long)) lines each_below
+    pub words_within : AreWithin (size_of_line schema.embeds) words lines
+    words_within = within_all size words (omega (arith, room.long)) lines each_below
 
     abbrev new_numbers : List ℕ
     new_numbers = on_lines (schema.dim + 2) numbers lines
 
-    abbrev new_values : List Value
-    new_values = on_lines (length schema.embeds) values lines
+    abbrev new_words : List ℤ
+    new_words = on_lines size words lines
 
-    pub darts_moved : IsPermutation (darts_in schema numbers values) (darts_in schema (on_lines (schema.dim + 2) numbers lines) (on_lines (length schema.embeds) values lines))
+    pub darts_moved : IsPermutation (darts_in schema numbers words) (darts_in schema (on_lines (schema.dim + 2) numbers lines) (on_lines (size_of_line schema.embeds) words lines))
     darts_moved =
-        subst (λ darts. IsPermutation darts (darts_in schema new_numbers new_values)) (sym darts_all)
-        (subst (IsPermutation (map dart_on (counted_from 0 (length numbers / (schema.dim + 2))))) (sym (darts_on_lines lines numbers_within values_within)) (IsPermutation-map dart_on (counted_from 0 (length numbers / (schema.dim + 2))) lines same))
+        subst (λ darts. IsPermutation darts (darts_in schema new_numbers new_words)) (sym darts_all)
+        (subst (IsPermutation (map dart_on (counted_from 0 (length numbers / (schema.dim + 2))))) (sym (darts_on_lines lines numbers_within words_within)) (IsPermutation-map dart_on (counted_from 0 (length numbers / (schema.dim + 2))) lines same))
 
     lines_are : length new_numbers / (schema.dim + 2) ≡ length lines
     lines_are = ap (λ k. k / (schema.dim + 2)) (length_on_lines (schema.dim + 2) numbers lines numbers_within) ∙ mul-div_left (length lines) (omega arith)
@@ -164,12 +166,12 @@ module _ (schema : Schema) (numbers : List ℕ) (values : List Value) where
     as_many : length lines ≡ length numbers / (schema.dim + 2)
     as_many = length_permutation (counted_from 0 (length numbers / (schema.dim + 2))) lines same ∙ length_counted 0 (length numbers / (schema.dim + 2))
 
-    pub room_moved : AreInRoom schema (on_lines (schema.dim + 2) numbers lines) (on_lines (length schema.embeds) values lines)
+    pub room_moved : AreInRoom schema (on_lines (schema.dim + 2) numbers lines) (on_lines (size_of_line schema.embeds) words lines)
     room_moved = record {
       few = omega (arith, lines_are, as_many, room.few);
       small = all_on_lines (schema.dim + 2) numbers (λ x. x < most_names) room.small lines;
-      long = length_on_lines (length schema.embeds) values lines values_within ∙ ap (λ k. k * length schema.embeds) (sym lines_are);
-      good = moved (λ (dart : DartRow). AreGoodValues schema dart.values) (darts_in schema numbers values) (darts_in schema new_numbers new_values) darts_moved room.good;
+      long = length_on_lines size words lines words_within ∙ ap (λ k. k * size) (sym lines_are);
+      good = moved (λ (dart : DartRow). AreGoodValues schema dart.values) (darts_in schema numbers words) (darts_in schema new_numbers new_words) darts_moved room.good;
     }
 
 -- ---- what holds of the darts in the one order
@@ -234,22 +236,22 @@ module _ (darts others : List DartRow) (same : IsPermutation darts others) where
 
 -- ---- what is said of a draft in another order
 
-module _ (stated stated' : Option ℕ) (schema schema' : Schema) (darts : List DartRow) (numbers : List ℕ) (values : List Value) (stated_is : stated' ≡ stated) (schema_is : schema' ≡ schema)
-    (same : IsPermutation darts (darts_in schema numbers values)) where
-  same_others : IsPermutation darts (darts_in schema' numbers values)
-  same_others = subst (λ s. IsPermutation darts (darts_in s numbers values)) (sym schema_is) same
+module _ (stated stated' : Option ℕ) (schema schema' : Schema) (darts : List DartRow) (numbers : List ℕ) (words : List ℤ) (stated_is : stated' ≡ stated) (schema_is : schema' ≡ schema)
+    (same : IsPermutation darts (darts_in schema numbers words)) where
+  same_others : IsPermutation darts (darts_in schema' numbers words)
+  same_others = subst (λ s. IsPermutation darts (darts_in s numbers words)) (sym schema_is) same
 
-  pub held_in : (m : ArenaMap) → IsHeld (version_in stated') schema' (darts_in schema' numbers values) m → IsHeld (version_in stated) schema darts m
+  pub held_in : (m : ArenaMap) → IsHeld (version_in stated') schema' (darts_in schema' numbers words) m → IsHeld (version_in stated) schema darts m
   held_in m held =
       subst (λ s. IsHeld (version_in stated) s darts m) schema_is
-      (subst (λ o. IsHeld (version_in o) schema' darts m) stated_is (held_moved darts (darts_in schema' numbers values) same_others (version_in stated') schema' m held))
+      (subst (λ o. IsHeld (version_in o) schema' darts m) stated_is (held_moved darts (darts_in schema' numbers words) same_others (version_in stated') schema' m held))
 
-  pub fault_in : (fault : MapFault) → IsNameFault (version_in stated') schema'.dim (darts_in schema' numbers values) fault → IsNameFault (version_in stated) schema.dim darts fault
+  pub fault_in : (fault : MapFault) → IsNameFault (version_in stated') schema'.dim (darts_in schema' numbers words) fault → IsNameFault (version_in stated) schema.dim darts fault
   fault_in fault h =
       subst (λ (s : Schema). IsNameFault (version_in stated) s.dim darts fault) schema_is
-      (subst (λ o. IsNameFault (version_in o) schema'.dim darts fault) stated_is (fault_moved darts (darts_in schema' numbers values) same_others (version_in stated') schema'.dim fault h))
+      (subst (λ o. IsNameFault (version_in o) schema'.dim darts fault) stated_is (fault_moved darts (darts_in schema' numbers words) same_others (version_in stated') schema'.dim fault h))
 
-  pub most_in : (before after : ℕ) → after ≤ before + (2 * schema'.dim + 5) * length (darts_in schema' numbers values) → after ≤ before + (2 * schema.dim + 5) * length darts
+  pub most_in : (before after : ℕ) → after ≤ before + (2 * schema'.dim + 5) * length (darts_in schema' numbers words) → after ≤ before + (2 * schema.dim + 5) * length darts
   most_in before after h =
-      subst (λ k. after ≤ before + (2 * schema.dim + 5) * k) (length_permutation darts (darts_in schema numbers values) same)
-      (subst (λ (s : Schema). after ≤ before + (2 * s.dim + 5) * length (darts_in s numbers values)) schema_is h)
+      subst (λ k. after ≤ before + (2 * schema.dim + 5) * k) (length_permutation darts (darts_in schema numbers words) same)
+      (subst (λ (s : Schema). after ≤ before + (2 * s.dim + 5) * length (darts_in s numbers words)) schema_is h)

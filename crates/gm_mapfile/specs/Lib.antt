@@ -2,6 +2,7 @@ pub mod MapText
 pub mod Name
 pub mod MapFaults
 pub mod Words
+pub mod Packed
 pub mod Draft
 pub mod MapReading
 pub mod Rows

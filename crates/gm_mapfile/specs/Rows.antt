@@ -1,12 +1,14 @@
--- The darts that an arena holds as a list, and the darts of which numbers and values are the lines.
-use Rattle.std.specs.Prelude.{ℕ, zero, suc, ◌+◌, ◌/◌, List, [], ◌∷◌, map, length, take, drop}
+-- The darts that an arena holds as a list, and the darts of which numbers and packed values are the lines.
+use Rattle.std.specs.Prelude.{ℕ, zero, suc, ◌+◌, ◌/◌, ℤ, List, [], ◌∷◌, map, length, take, drop}
 use Rattle.std.specs.Option.{option_map_or}
 use Rattle.std.specs.FinMap.{entries, get}
+use Rattle.gm_model.specs.declared.schema.Embed.{Embed}
 use Rattle.gm_model.specs.declared.schema.Schema.{Schema}
 use Rattle.gm_model.specs.declared.value.Value.{Value}
 use Rattle.gm_model.specs.GMap.{Row}
 use Rattle.gm_arena.specs.ArenaMap.{ArenaMap, Dart}
 use Rattle.gm_mapfile.specs.MapText.{DartRow, ListedMap}
+use Rattle.gm_mapfile.specs.Packed.{size_of_line, values_in}
 
 abbrev pub dart_of_entry : ℕ × Dart → DartRow
 dart_of_entry e = record { name = e.0; alphas = e.1.alphas; values = e.1.values }
@@ -27,7 +29,7 @@ dart_at m name = record {
   values = option_map_or (λ (dart : Dart). dart.values) (get m.darts name) [];
 }
 
--- ---- darts written as numbers and values
+-- ---- darts written as numbers and packed values
 
 -- a line is a name and its neighbours
 abbrev pub row_in : List ℕ → Row
@@ -47,11 +49,11 @@ rows_in n numbers = rows_from n (length numbers / (n + 2)) numbers
 abbrev pub valued : Row → List Value → DartRow
 valued row values = record { name = row.name; alphas = row.alphas; values = values }
 
--- the darts of the rows, with w values each
-abbrev pub darts_from : ℕ → List Row → List Value → List DartRow
-darts_from w [] values = []
-darts_from w (row ∷ rows) values = valued row (take w values) ∷ darts_from w rows (drop w values)
+-- the darts of the rows, with a value of each embedding, from its words
+abbrev pub darts_from : List Embed → List Row → List ℤ → List DartRow
+darts_from embeds [] words = []
+darts_from embeds (row ∷ rows) words = valued row (values_in embeds (take (size_of_line embeds) words)) ∷ darts_from embeds rows (drop (size_of_line embeds) words)
 
 -- the darts of all whole lines
-abbrev pub darts_in : Schema → List ℕ → List Value → List DartRow
-darts_in schema numbers values = darts_from (length schema.embeds) (rows_in schema.dim numbers) values
+abbrev pub darts_in : Schema → List ℕ → List ℤ → List DartRow
+darts_in schema numbers words = darts_from schema.embeds (rows_in schema.dim numbers) words

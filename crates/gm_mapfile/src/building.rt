@@ -6,7 +6,11 @@
 ghost use Rattle.gm_model.specs.Limits.{most_names};
 ghost use Rattle.gm_model.specs.Maps.{IsSchema};
 ghost use Rattle.std.specs.Prelude.{◌≡◌, ◌+◌, ◌*◌, ◌/◌, ◌<◌, ◌≤◌, length, min, nat_lt, if◌then◌else◌, All, None, MatchOption, IfOk, IfErr, IfSome};
+ghost use Rattle.std.specs.FinMap.{get};
 ghost use Rattle.gm_arena.specs.ArenaMap.{IsLiveName};
+ghost use Rattle.gm_arena.specs.Edits.{with_dart};
+ghost use Rattle.gm_arena.specs.Lawful.{AreGoodValues};
+ghost use Rattle.gm_mapfile.specs.Packed.{size_of_line, values_in};
 ghost use Rattle.gm_mapfile.specs.Draft.{version_in};
 ghost use Rattle.gm_mapfile.specs.MapFaults.{AreBelowStated};
 ghost use Rattle.gm_mapfile.specs.Rows.{rows_in, darts_in};
@@ -16,6 +20,7 @@ ghost use Rattle.gm_mapfile.specs.Building.{AreInRoom, AreSlotsLive, AreWhole, A
 use crate::fault::MapFault;
 use crate::name::Name;
 use crate::ordering::in_order;
+use crate::packed::{MOST_EMBEDS, line_size, unpack_line};
 use crate::reading::Draft;
 use gm_arena::{Arena, Slot, Steps};
 use gm_model::Value;
@@ -31,11 +36,11 @@ pub(crate) fn build<L: Ledger>(
     steps: &mut Steps<L>,
 ) -> Result<Arena, MapFault>
     requires schema { IsSchema draft.schema }
-    requires room { AreInRoom draft.schema draft.numbers.items draft.values.items }
+    requires room { AreInRoom draft.schema draft.numbers.items draft.words.items }
     requires next { IfSome draft.stated (λ next. next ≤ most_names) }
-    ensures held { IfOk result (IsHeld (version_in draft.stated) draft.schema (darts_in draft.schema draft.numbers.items draft.values.items)) }
-    ensures fault { IfErr result (IsNameFault (version_in draft.stated) draft.schema.dim (darts_in draft.schema draft.numbers.items draft.values.items)) }
-    ensures most { steps.new ≤ steps.old + (2 * draft.schema.dim + 5) * length (darts_in draft.schema draft.numbers.items draft.values.items) }
+    ensures held { IfOk result (IsHeld (version_in draft.stated) draft.schema (darts_in draft.schema draft.numbers.items draft.words.items)) }
+    ensures fault { IfErr result (IsNameFault (version_in draft.stated) draft.schema.dim (darts_in draft.schema draft.numbers.items draft.words.items)) }
+    ensures most { steps.new ≤ steps.old + (2 * draft.schema.dim + 5) * length (darts_in draft.schema draft.numbers.items draft.words.items) }
     ensures least { IfOk result (λ arena. steps.old + arena.count ≤ steps.new) }
 {
     let sorted = in_order(alloc, draft)?;
@@ -49,24 +54,24 @@ fn build_lines<L: Ledger>(
     steps: &mut Steps<L>,
 ) -> Result<Arena, MapFault>
     requires schema { IsSchema draft.schema }
-    requires room { AreInRoom draft.schema draft.numbers.items draft.values.items }
+    requires room { AreInRoom draft.schema draft.numbers.items draft.words.items }
     requires next { IfSome draft.stated (λ next. next ≤ most_names) }
-    ensures held { IfOk result (IsHeld (version_in draft.stated) draft.schema (darts_in draft.schema draft.numbers.items draft.values.items)) }
-    ensures fault { IfErr result (IsNameFault (version_in draft.stated) draft.schema.dim (darts_in draft.schema draft.numbers.items draft.values.items)) }
-    ensures most { steps.new ≤ steps.old + (2 * draft.schema.dim + 5) * length (darts_in draft.schema draft.numbers.items draft.values.items) }
+    ensures held { IfOk result (IsHeld (version_in draft.stated) draft.schema (darts_in draft.schema draft.numbers.items draft.words.items)) }
+    ensures fault { IfErr result (IsNameFault (version_in draft.stated) draft.schema.dim (darts_in draft.schema draft.numbers.items draft.words.items)) }
+    ensures most { steps.new ≤ steps.old + (2 * draft.schema.dim + 5) * length (darts_in draft.schema draft.numbers.items draft.words.items) }
     ensures least { IfOk result (λ arena. steps.old + arena.count ≤ steps.new) }
 {
     let Draft {
         stated,
         schema,
         numbers,
-        values,
+        words,
     } = draft;
-    let (numbers, values) = (numbers.as_slice(), values.as_slice());
+    let (numbers, words) = (numbers.as_slice(), words.as_slice());
     let width = schema.dim.top() as usize + 2;
     let mut arena = Arena::new(alloc, schema);
     arena.reserve((numbers.len() / width) as u32, names_end(numbers))?;
-    if let Some(dart) = add_darts(&mut arena, numbers, values, steps) {
+    if let Some(dart) = add_darts(&mut arena, numbers, words, steps) {
         return Err(MapFault::DartTwice { dart });
     }
     if let Some(dart) = set_stated(&mut arena, numbers, stated) {
@@ -96,34 +101,54 @@ fn names_end(numbers: &[Name]) -> u32
 fn add_darts<L: Ledger>(
     arena: &mut Arena,
     numbers: &[Name],
-    values: &[Value],
+    words: &[i64],
     steps: &mut Steps<L>,
 ) -> Option<u32>
     requires fresh { IsFresh arena.old }
-    requires room { AreInRoom arena.old.schema numbers.now values.now }
+    requires embeds { length arena.old.schema.embeds ≤ 8 }
+    requires room { AreInRoom arena.old.schema numbers.now words.now }
     requires spare { length numbers.now / (arena.old.schema.dim + 2) ≤ arena.old.spare }
     requires reserved { All (λ x. x < arena.old.reserved) numbers.now }
     ensures schema { arena.new.schema ≡ arena.old.schema }
     ensures added { AreAdded arena.old.schema.dim (rows_in arena.old.schema.dim numbers.now) arena.new result }
-    ensures values { AreValued (darts_in arena.old.schema numbers.now values.now) arena.new }
+    ensures values { AreValued (darts_in arena.old.schema numbers.now words.now) arena.new }
     ensures next { IsNextLeast arena.new }
     ensures most { steps.new ≤ steps.old + 2 * length (rows_in arena.old.schema.dim numbers.now) }
     ensures least { steps.old + length (rows_in arena.old.schema.dim numbers.now) ≤ steps.new }
 {
-    let embeds = arena.schema().embeds.as_slice().len();
-    let mut rest = values;
+    let size = line_size(arena.schema().embeds.as_slice());
+    let mut rest = words;
     let mut twice: Option<u32> = None;
     for line in numbers.chunks_exact(arena.schema().dim.top() as usize + 2) {
         let name = line[0].number();
-        let (own, others) = rest.split_at(embeds);
+        let (own, others) = rest.split_at(size);
         rest = others;
         if arena.slot_of(name, steps).is_none() {
-            arena.add(name, own, steps);
+            add_packed(arena, name, own, steps);
         } else {
             twice = Some(lesser(twice, name));
         }
     }
     twice
+}
+
+/// Adds the dart with the values that the words stand for, free for every label.
+fn add_packed<L: Ledger>(arena: &mut Arena, name: u32, words: &[i64], steps: &mut Steps<L>) -> Slot
+    requires room { 0 < arena.old.spare }
+    requires reserved { name < arena.old.reserved }
+    requires new_name { get arena.old.darts name ≡ None }
+    requires embeds { length arena.old.schema.embeds ≤ 8 }
+    requires words { size_of_line arena.old.schema.embeds ≤ length words.now }
+    requires values { AreGoodValues arena.old.schema (values_in arena.old.schema.embeds words.now) }
+    ensures slot { get arena.old.slots result.at ≡ None }
+    ensures map { arena.new ≡ with_dart arena.old result.at name (values_in arena.old.schema.embeds words.now) }
+    ensures cost { steps.new ≡ steps.old + 1 }
+{
+    let embeds = arena.schema().embeds.as_slice();
+    let count = embeds.len();
+    let mut row = [Value::Int(0); MOST_EMBEDS];
+    unpack_line(embeds, words, &mut row);
+    arena.add(name, &row[..count], steps)
 }
 
 /// The lesser of the name and of one that was found before.

@@ -6,6 +6,7 @@ mod fault;
 mod laws;
 mod name;
 mod ordering;
+mod packed;
 mod printing;
 mod reading;
 mod values;

@@ -10,6 +10,7 @@ ghost use Rattle.gm_mapfile.specs.Rows.{darts_in};
 ghost use Rattle.gm_mapfile.specs.declared.ordering.Line.{Line};
 
 use crate::name::Name;
+use crate::packed::line_size;
 use crate::reading::Draft;
 use gm_model::OutOfMemory;
 use std::alloc::Global;
@@ -24,11 +25,12 @@ struct Line {
 
 /// The draft with its lines in ascending order of their names.
 pub(crate) fn in_order(alloc: Global, draft: Draft) -> Result<Draft, OutOfMemory>
-    requires room { AreInRoom draft.schema draft.numbers.items draft.values.items }
+    requires embeds { length draft.schema.embeds ≤ 8 }
+    requires room { AreInRoom draft.schema draft.numbers.items draft.words.items }
     ensures stated { IfOk result (λ sorted. sorted.stated ≡ draft.stated) }
     ensures schema { IfOk result (λ sorted. sorted.schema ≡ draft.schema) }
-    ensures room { IfOk result (λ sorted. AreInRoom draft.schema sorted.numbers.items sorted.values.items) }
-    ensures darts { IfOk result (λ sorted. IsPermutation (darts_in draft.schema draft.numbers.items draft.values.items) (darts_in draft.schema sorted.numbers.items sorted.values.items)) }
+    ensures room { IfOk result (λ sorted. AreInRoom draft.schema sorted.numbers.items sorted.words.items) }
+    ensures darts { IfOk result (λ sorted. IsPermutation (darts_in draft.schema draft.numbers.items draft.words.items) (darts_in draft.schema sorted.numbers.items sorted.words.items)) }
 {
     if is_ascending(&draft) {
         Ok(draft)
@@ -39,28 +41,29 @@ pub(crate) fn in_order(alloc: Global, draft: Draft) -> Result<Draft, OutOfMemory
 
 /// The draft with its lines brought into ascending order of their names.
 fn ordered(alloc: Global, draft: Draft) -> Result<Draft, OutOfMemory>
-    requires room { AreInRoom draft.schema draft.numbers.items draft.values.items }
+    requires embeds { length draft.schema.embeds ≤ 8 }
+    requires room { AreInRoom draft.schema draft.numbers.items draft.words.items }
     ensures stated { IfOk result (λ sorted. sorted.stated ≡ draft.stated) }
     ensures schema { IfOk result (λ sorted. sorted.schema ≡ draft.schema) }
-    ensures room { IfOk result (λ sorted. AreInRoom draft.schema sorted.numbers.items sorted.values.items) }
-    ensures darts { IfOk result (λ sorted. IsPermutation (darts_in draft.schema draft.numbers.items draft.values.items) (darts_in draft.schema sorted.numbers.items sorted.values.items)) }
+    ensures room { IfOk result (λ sorted. AreInRoom draft.schema sorted.numbers.items sorted.words.items) }
+    ensures darts { IfOk result (λ sorted. IsPermutation (darts_in draft.schema draft.numbers.items draft.words.items) (darts_in draft.schema sorted.numbers.items sorted.words.items)) }
 {
     let Draft {
         stated,
         schema,
         numbers,
-        values,
+        words,
     } = draft;
     let width = schema.dim.top() as usize + 2;
-    let embeds = schema.embeds.as_slice().len();
+    let size = line_size(schema.embeds.as_slice());
     let lines = lines_by_name(alloc, numbers.as_slice(), width)?;
     let numbers = taken(alloc, lines.as_slice(), numbers, width)?;
-    let values = taken(alloc, lines.as_slice(), values, embeds)?;
+    let words = taken(alloc, lines.as_slice(), words, size)?;
     Ok(Draft {
         stated,
         schema,
         numbers,
-        values,
+        words,
     })
 }
 

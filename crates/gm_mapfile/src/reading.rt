@@ -20,12 +20,13 @@ ghost use Rattle.gm_mapfile.specs.declared.version.MapVersion.{MapVersion};
 use crate::building::build;
 use crate::fault::MapFault;
 use crate::name::Name;
+use crate::packed::line_size;
 use crate::values::read_values;
 use crate::version::MapVersion;
 use crate::words::{Numeral, read_number, read_word};
 use gm_arena::{Arena, Steps};
 use gm_laws::check_map;
-use gm_model::{Embed, LimitKind, MOST_DARTS, MOST_NAMES, Schema, Value};
+use gm_model::{Embed, LimitKind, MOST_DARTS, MOST_NAMES, Schema};
 use gm_text::{Lexer, SchemaFault, read_schema};
 use std::alloc::Global;
 use std::sync::ledger::Ledger;
@@ -38,8 +39,8 @@ pub(crate) struct Draft {
     pub schema: Schema,
     /// For each dart its name, and then its neighbours from label 0 on.
     pub numbers: Vec<Name>,
-    /// For each dart its values, by embedding.
-    pub values: Vec<Value>,
+    /// For each dart its values, packed, by embedding.
+    pub words: Vec<i64>,
 }
 
 /// What stands before the darts.
@@ -52,7 +53,7 @@ struct Head {
 /// The lines of the darts.
 struct Lines {
     numbers: Vec<Name>,
-    values: Vec<Value>,
+    words: Vec<i64>,
 }
 
 /// The format and its version: whether it is the second.
@@ -156,19 +157,19 @@ fn read_darts(
 ) -> Result<Lines, SchemaFault>
     requires schema { IsSchema schema.now }
     requires few { count ≤ most_darts }
-    ensures reads { IfOk result (λ lines. ReadsDarts schema.now count lexer.old lexer.new lines.numbers.items lines.values.items) }
+    ensures reads { IfOk result (λ lines. ReadsDarts schema.now count lexer.old lexer.new lines.numbers.items lines.words.items) }
     ensures stops { IfErr result (Misses (darts_wants schema.now count) lexer.old) }
 {
     let embeds = schema.embeds.as_slice();
     let width = schema.dim.top() as usize + 2;
     let room = count.min(bytes / (2 * width) + 1);
     let mut numbers = Vec::with_capacity(alloc, room * width)?;
-    let mut values = Vec::with_capacity(alloc, room * embeds.len())?;
+    let mut words = Vec::with_capacity(alloc, room * line_size(embeds))?;
     for _ in 0..count {
         read_names(lexer, width, &mut numbers)?;
-        read_values(lexer, embeds, &mut values)?;
+        read_values(lexer, embeds, &mut words)?;
     }
-    Ok(Lines { numbers, values })
+    Ok(Lines { numbers, words })
 }
 
 /// Nothing but the end.
@@ -184,7 +185,7 @@ fn read_end(lexer: &mut Lexer<'_>) -> Result<(), SchemaFault>
 }
 
 fn read_all(alloc: Global, bytes: &[u8]) -> Result<Draft, SchemaFault>
-    ensures reads { IfOk result (λ draft. ReadsMap (record { text = bytes.now; place = 0 }) draft.stated draft.schema draft.numbers.items draft.values.items) }
+    ensures reads { IfOk result (λ draft. ReadsMap (record { text = bytes.now; place = 0 }) draft.stated draft.schema draft.numbers.items draft.words.items) }
     ensures stops { IfErr result (Stops start (record { text = bytes.now; place = 0 })) }
     ensures schema { IfOk result (λ draft. IsSchema draft.schema) }
     ensures next { IfOk result (λ draft. IfSome draft.stated (λ next. next ≤ most_names)) }
@@ -195,19 +196,19 @@ fn read_all(alloc: Global, bytes: &[u8]) -> Result<Draft, SchemaFault>
         schema,
         count,
     } = read_head(alloc, &mut lexer)?;
-    let Lines { numbers, values } = read_darts(alloc, &mut lexer, &schema, count, bytes.len())?;
+    let Lines { numbers, words } = read_darts(alloc, &mut lexer, &schema, count, bytes.len())?;
     read_end(&mut lexer)?;
     Ok(Draft {
         stated,
         schema,
         numbers,
-        values,
+        words,
     })
 }
 
 /// The darts that the text lists, or its first fault from left to right.
 pub(crate) fn read_text(alloc: Global, bytes: &[u8]) -> Result<Draft, SchemaFault>
-    ensures draft { IfOk result (λ draft. IsDraft bytes.now (version_in draft.stated) draft.schema draft.numbers.items draft.values.items) }
+    ensures draft { IfOk result (λ draft. IsDraft bytes.now (version_in draft.stated) draft.schema draft.numbers.items draft.words.items) }
     ensures schema { IfOk result (λ draft. IsSchema draft.schema) }
     ensures next { IfOk result (λ draft. IfSome draft.stated (λ next. next ≤ most_names)) }
     ensures fault { IfErr result (IsFaultIn bytes.now) }

@@ -9,6 +9,7 @@ ghost use Rattle.gm_mapfile.specs.MapText.{signed};
 ghost use Rattle.gm_mapfile.specs.Words.{IsSignedNext, IsNoSignedNext};
 ghost use Rattle.gm_mapfile.specs.MapReading.{Takes, Misses, TheSign, Component, value_wants, values_wants, ReadsValues};
 
+use crate::packed::pack;
 use crate::words::{Numeral, next_token, read_number, read_sign, small_numeral};
 use gm_model::{Embed, Kind, LimitKind, TokenKind, Value};
 use gm_text::{Lexer, SchemaFault};
@@ -157,17 +158,18 @@ fn read_value(lexer: &mut Lexer<'_>, kind: Kind) -> Result<Value, SchemaFault>
     }
 }
 
-/// A value of each embedding, behind those before them.
+/// The words of a value of each embedding, behind those before them.
 pub(crate) fn read_values(
     lexer: &mut Lexer<'_>,
     embeds: &[Embed],
-    values: &mut Vec<Value>,
+    words: &mut Vec<i64>,
 ) -> Result<(), SchemaFault>
-    ensures reads { OnOk result (ReadsValues embeds.now lexer.old lexer.new values.old.items values.new.items) }
+    ensures reads { OnOk result (ReadsValues embeds.now lexer.old lexer.new words.old.items words.new.items) }
     ensures stops { IfErr result (Misses (values_wants embeds.now) lexer.old) }
 {
     for embed in embeds {
-        values.push(read_value(lexer, embed.kind)?)?;
+        let value = read_value(lexer, embed.kind)?;
+        pack(value, words)?;
     }
     Ok(())
 }

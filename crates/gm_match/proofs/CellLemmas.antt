@@ -1,8 +1,8 @@
 -- How a list of rows grows by a row, and what holds of each of its entries.
-use Rattle.std.proofs.Common.{◌≡◌, ℕ, zero, suc, ◌+◌, ◌*◌, ◌/◌, ◌%◌, ◌<◌, ◌≤◌, List, [], ◌++◌, length, get_or, replicate, take, Some, set, sym, ap, subst, ◌∙◌, inl, inr, arith, length-append, length-set, get_or-set_same, get_or-set_other}
+use Rattle.std.proofs.Common.{◌≡◌, ℕ, zero, suc, ◌+◌, ◌*◌, ◌/◌, ◌%◌, ◌<◌, ◌≤◌, List, [], ◌∷◌, ◌++◌, length, get_or, take, Some, sym, ap, subst, ◌∙◌, inl, inr, arith, length-append}
 use Rattle.std.proofs.Math.Nat.{mul-le-mul_right}
 use Rattle.std.proofs.lemmas.Bool.{cases_lt}
-use Rattle.std.proofs.lemmas.List.{get_or_append_left, get_or-append-add, get_or-take, get_or-replicate, length-take-le, length-replicate}
+use Rattle.std.proofs.lemmas.List.{get_or_append_left, get_or_push, get_or-append-add, get_or-take, length-take-le, length_push}
 use Rattle.std.proofs.lemmas.Nat.{div-add-mod'}
 use Rattle.std.proofs.lemmas.Option.{slice_get-get_or, slice_get_within, get_or_from_slice_get}
 use Rattle.std.specs.List.{slice_get, All}
@@ -27,22 +27,22 @@ module _ {X : Type 0} where
     no_rows = record { long = omega arith; each = λ p x h k. absurd (omega arith) }
 
     -- one row more
-    pub one_row : (rows : ℕ) (list row : List X) → AreCells P rows width list → width ≤ length row → IsRow (P rows) width row → AreCells P (rows + 1) width (list ++ take width row)
+    pub one_row : (rows : ℕ) (list row : List X) → AreCells P rows width list → length row ≡ width → IsRow (P rows) width row → AreCells P (rows + 1) width (list ++ row)
     one_row rows list row cells wide has = record {
-      long = omega (arith, cells.long, length-append list (take width row), length-take-le width row wide);
+      long = omega (arith, cells.long, length-append list row, wide);
       each = λ p x h k. elim (cases_lt p rows) [
         | inl less ↦ earlier p x (cells.each p x less k)
         | inr more ↦ last p x (omega arith) k (has x k)
       ];
     }
       where
-        earlier : (p x : ℕ) → (v : X) × (slice_get list (p * width + x) ≡ Some v) × P p x v → (v : X) × (slice_get (list ++ take width row) (p * width + x) ≡ Some v) × P p x v
-        earlier p x (v, e, h) = (v, get_left list (take width row) (p * width + x) v e, h)
+        earlier : (p x : ℕ) → (v : X) × (slice_get list (p * width + x) ≡ Some v) × P p x v → (v : X) × (slice_get (list ++ row) (p * width + x) ≡ Some v) × P p x v
+        earlier p x (v, e, h) = (v, get_left list row (p * width + x) v e, h)
 
-        last : (p x : ℕ) → rows ≡ p → x < width → (v : X) × (slice_get row x ≡ Some v) × P rows x v → (v : X) × (slice_get (list ++ take width row) (p * width + x) ≡ Some v) × P p x v
+        last : (p x : ℕ) → rows ≡ p → x < width → (v : X) × (slice_get row x ≡ Some v) × P rows x v → (v : X) × (slice_get (list ++ row) (p * width + x) ≡ Some v) × P p x v
         last p x same k (v, e, h) =
             let at : length list + x ≡ p * width + x = ap (λ n. n + x) (sym cells.long) ∙ ap (λ n. n * width + x) same in
-            (v, subst (λ n. slice_get (list ++ take width row) n ≡ Some v) at (get_right list (take width row) x v (get_front row width x v wide k e)), subst (λ q. P q x v) same h)
+            (v, subst (λ n. slice_get (list ++ row) n ≡ Some v) at (get_right list row x v e), subst (λ q. P q x v) same h)
 
     row_of_entry : (rows k : ℕ) → 0 < width → k < rows * width → k / width < rows
     row_of_entry rows k some h = elim (cases_lt (k / width) rows) [
@@ -68,17 +68,11 @@ module _ {X : Type 0} where
         go (v, e, has) = subst Q (sym (get_or_from_slice_get list k v d (subst (λ n. slice_get list n ≡ Some v) (div-add-mod' k width) e))) (implies (k / width) (k % width) v has)
 
   -- one entry more in a row
-  pub one_entry : (P : ℕ → X → Type 0) (width : ℕ) (row : List X) (v : X) → IsRow P width row → width < length row → P width v → IsRow P (width + 1) (set row width v)
-  one_entry P width row v has room here x h = elim (cases_lt x width) [ inl less ↦ earlier x less (has x less) | inr more ↦ last x (omega arith) ]
+  pub one_entry : (P : ℕ → X → Type 0) (row : List X) (v : X) → IsRow P (length row) row → P (length row) v → IsRow P (length row + 1) (row ++ v ∷ [])
+  one_entry P row v has here x h = elim (cases_lt x (length row)) [ inl less ↦ earlier (has x less) | inr more ↦ last (omega arith) ]
     where
-      earlier : (x : ℕ) → x < width → (w : X) × (slice_get row x ≡ Some w) × P x w → (w : X) × (slice_get (set row width v) x ≡ Some w) × P x w
-      earlier x less (w, e, k) =
-          let apart : x ≡ width → ⊥ = λ same. omega arith in
-          (w, slice_get-get_or (set row width v) x w (rw length-set (omega arith)) ∙ ap Some (get_or-set_other row width x v w apart ∙ get_or_from_slice_get row x w w e), k)
+      earlier : (w : X) × (slice_get row x ≡ Some w) × P x w → (w : X) × (slice_get (row ++ v ∷ []) x ≡ Some w) × P x w
+      earlier (w, e, k) = (w, get_left row (v ∷ []) x w e, k)
 
-      last : (x : ℕ) → width ≡ x → (w : X) × (slice_get (set row width v) x ≡ Some w) × P x w
-      last x same = (v, subst (λ n. slice_get (set row width v) n ≡ Some v) same (slice_get-get_or (set row width v) width v (rw length-set room) ∙ ap Some (get_or-set_same row width v v room)), subst (λ n. P n v) same here)
-
-  -- a list of one entry, again and again
-  pub same_entry : (n : ℕ) (v : X) (x : ℕ) → x < n → slice_get (replicate n v) x ≡ Some v
-  same_entry n v x h = slice_get-get_or (replicate n v) x v (omega (arith, length-replicate n v)) ∙ ap Some (get_or-replicate n x v v h)
+      last : length row ≡ x → (w : X) × (slice_get (row ++ v ∷ []) x ≡ Some w) × P x w
+      last same = (v, slice_get-get_or (row ++ v ∷ []) x v (omega (arith, length_push row v)) ∙ ap Some (get_or_push row v v x same), subst (λ n. P n v) same here)

@@ -1,5 +1,5 @@
 -- The steps of the parts of matching, put together.
-use Rattle.std.proofs.Common.{◌≡◌, ℕ, ◌+◌, ◌*◌, ◌≤◌, ◌-◌, subst, arith}
+use Rattle.std.proofs.Common.{ℕ, ◌+◌, ◌*◌, ◌≤◌, arith}
 use Rattle.std.proofs.Math.Nat.{mul-le-mul_left, mul-le-mul_right}
 
 -- of the walk, and of a part of what follows it: `labels` is the number of labels, `nodes` that of the rule's nodes
@@ -29,10 +29,3 @@ found_cost labels nodes k start looked found label some a b = omega (arith, look
 -- and the tests
 pub met_cost : (labels nodes k start looked found met : ℕ) → 1 ≤ labels → 1 ≤ k → looked ≤ start + nodes → found ≤ looked + 6 * labels * (nodes * k) → met ≤ found + labels * (nodes * k) → met ≤ start + 8 * labels * (nodes * k + 1)
 met_cost labels nodes k start looked found met label some a b c = omega (arith, look_part labels nodes k label some, b, c)
-
--- as many steps as the rows that were made took are no more than those that all rows may take
-pub rows_cost : (steps start rows all nodes : ℕ) → 1 ≤ nodes → rows ≤ all → steps + rows ≤ start + rows * nodes → steps + all ≤ start + all * nodes
-rows_cost steps start rows all nodes some few cost = subst (λ n. steps + n ≤ start + n * nodes) more (omega (arith, mul-le-mul_left (all - rows) some))
-  where
-    more : rows + (all - rows) ≡ all
-    more = omega arith

@@ -5,10 +5,11 @@ pub mod CellLemmas
 pub mod Costs
 pub mod Paths
 pub mod FirstTurns
+pub mod Marking
+pub mod ForcedMet
 pub mod Growing
 pub mod OneNode
 pub mod Placing
 pub mod Stepping
 pub mod Taking
 pub mod Turning
-pub mod TurnsMet

@@ -8,6 +8,7 @@ use Rattle.std.specs.List.{slice_get, Contains}
 use Rattle.gm_model.specs.declared.rule.Link.{Link}
 use Rattle.gm_model.specs.declared.rule.Side.TheVariants.{Left}
 use Rattle.gm_model.specs.declared.schema.Schema.{Schema}
+use Rattle.gm_model.specs.declared.step.Step.TheVariants.{Exp}
 use Rattle.gm_model.specs.Matches.{IsPathTo}
 use Rattle.gm_model.specs.Orbits.{follow}
 use Rattle.gm_model.specs.Rules.{Rule, has_word, IsLinked}
@@ -21,7 +22,7 @@ use Rattle.gm_plan.proofs.Distinct.{few_below}
 use Rattle.gm_theory.proofs.Candidates.{hook_left}
 use Rattle.gm_theory.proofs.LeastPaths.{hook_path, same_path}
 use Rattle.gm_theory.proofs.Lists.{contained_at}
-use Rattle.gm_theory.proofs.RuleLinks.{linked_in_range}
+use Rattle.gm_theory.proofs.RuleLinks.{linked_in_range, linked_step}
 use Rattle.gm_theory.proofs.RuleSteps.{word_below}
 use Rattle.gm_match.specs.Layout.{dart_in}
 use Rattle.gm_match.specs.Outcome.{name_of}
@@ -30,10 +31,10 @@ pub follow_more : (alphas : ℕ → ℕ → ℕ) (path : List ℕ) (i d : ℕ) �
 follow_more alphas [] i d = refl
 follow_more alphas (j ∷ path) i d = follow_more alphas path i (alphas j d)
 
--- the last link of a path
-last_link : (rule : Rule) (x : ℕ) (path : List ℕ) (i y : ℕ) → Leads rule.left_links x (path ++ i ∷ []) y → (z : ℕ) × IsLinked rule.left_links z i y
-last_link rule x [] i y (z, linked, e) = (x, subst (IsLinked rule.left_links x i) e linked)
-last_link rule x (j ∷ path) i y (z, linked, leads) = last_link rule z path i y leads
+-- the last link of a path, and what is before it
+last_link : (rule : Rule) (x : ℕ) (path : List ℕ) (i y : ℕ) → Leads rule.left_links x (path ++ i ∷ []) y → (z : ℕ) × Leads rule.left_links x path z × IsLinked rule.left_links z i y
+last_link rule x [] i y (z, linked, e) = (x, refl, subst (IsLinked rule.left_links x i) e linked)
+last_link rule x (j ∷ path) i y (z, linked, leads) = let rest = last_link rule z path i y leads in (rest.0, (z, linked, rest.1), rest.2)
 
 -- ---- a row in which one slot is set
 
@@ -56,6 +57,20 @@ module _ (schema : Schema) (rule : Rule) (planned : IsPlanned schema rule) where
   pub path_left : (x h : ℕ) (path : List ℕ) → IsPathTo rule x h path → IsTrue (has_word rule Left x)
   path_left x h path to = lead_left h path x to.leads (hook_left schema rule planned.accepted.in_range planned.accepted.incidence to.index h to.hook_at)
 
+  -- at a node there is one link at most with a label, so a list of labels leads to one node at most
+  one_linked : (x i y z : ℕ) → IsLinked rule.left_links x i y → IsLinked rule.left_links x i z → y ≡ z
+  one_linked x i y z linked other = let same : Exp y ≡ Exp z = sym (linked_step schema rule planned.accepted.in_range planned.accepted.incidence Left x i y linked) ∙ linked_step schema rule planned.accepted.in_range planned.accepted.incidence Left x i z other in cc
+
+  one_end : (x : ℕ) (path : List ℕ) (y z : ℕ) → Leads rule.left_links x path y → Leads rule.left_links x path z → y ≡ z
+  one_end x [] y z e f = sym e ∙ f
+  one_end x (i ∷ path) y z (u, linked, leads) (v, other, further) = one_end u path y z leads (subst (λ w. Leads rule.left_links w path z) (one_linked x i v u other linked) further)
+
+  -- the link that ends a path is one of the rule
+  pub last_linked : (link : Link) → IsLastLink rule link → IsLinked rule.left_links link.from link.label link.to
+  last_linked link last =
+      let end = last_link rule last.hook last.front link.label link.to last.to_end.leads in
+      subst (λ z. IsLinked rule.left_links z link.label link.to) (one_end last.hook last.front end.0 link.from end.1 last.to_from.leads) end.2
+
   pub hook_within : (t h : ℕ) → slice_get rule.hooks t ≡ Some h → h < 32
   hook_within t h at = omega (arith, word_below rule Left h (hook_left schema rule planned.accepted.in_range planned.accepted.incidence t h at), planned.within.nodes)
 
@@ -65,7 +80,7 @@ module _ (schema : Schema) (rule : Rule) (planned : IsPlanned schema rule) where
       last : IsLastLink rule link
       last = are.ends t link at
 
-      end : (z : ℕ) × IsLinked rule.left_links z link.label link.to
+      end : (z : ℕ) × Leads rule.left_links last.hook last.front z × IsLinked rule.left_links z link.label link.to
       end = last_link rule last.hook last.front link.label link.to last.to_end.leads
 
       pub from_within : link.from < 32
@@ -75,7 +90,7 @@ module _ (schema : Schema) (rule : Rule) (planned : IsPlanned schema rule) where
       to_within = omega (arith, word_below rule Left link.to (path_left link.to last.hook (last.front ++ link.label ∷ []) last.to_end), planned.within.nodes)
 
       pub low_label : link.label ≤ schema.dim
-      low_label = (linked_in_range schema rule planned.accepted.in_range planned.accepted.incidence Left end.0 link.label link.to end.1).2
+      low_label = (linked_in_range schema rule planned.accepted.in_range planned.accepted.incidence Left end.0 link.label link.to end.2).2
 
     -- a hook or a link for each left node
     pub few_links : length rule.hooks + length links ≤ length rule.nodes

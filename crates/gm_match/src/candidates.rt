@@ -1,4 +1,4 @@
-ghost use Rattle.std.specs.Prelude.{◌≡◌, ℕ, List, ◌+◌, ◌*◌, ◌<◌, ◌≤◌, length, slice_get, slice_index, Some, IfOk};
+ghost use Rattle.std.specs.Prelude.{◌≡◌, ℕ, List, ◌++◌, ◌+◌, ◌*◌, ◌<◌, ◌≤◌, length, slice_get, slice_index, Some, IfOk, vec_capacity};
 ghost use Rattle.std.specs.List.{Contains};
 ghost use Rattle.gm_arena.specs.ArenaAsMap.{as_map};
 ghost use Rattle.gm_arena.specs.Lawful.{IsLawful};
@@ -9,18 +9,16 @@ ghost use Rattle.gm_plan.specs.Plans.{IsLeftCount};
 ghost use Rattle.gm_walk.specs.Lent.{slots_of};
 ghost use Rattle.gm_walk.specs.Room.{Fits};
 ghost use Rattle.gm_walk.specs.Walks.{IsWord, AreLive, along, names_of};
-ghost use Rattle.gm_match.specs.Cells.{AreCells, IsRow};
+ghost use Rattle.gm_match.specs.Cells.{AreCells};
 ghost use Rattle.gm_match.specs.Layout.{AreMatchable, AreRows, HaveFirstTurns, IsClosed, IsTurn, IsCandidateAt, LeadBefore, IsFirstTo};
 
 use crate::rows::{first_row, later_row};
 use gm_arena::{Arena, Slot, Steps};
-use gm_model::{Letter, OutOfMemory, Word};
+use gm_model::{Letter, MOST_NODES, OutOfMemory, Word};
 use gm_plan::{Instances, Plan};
 use gm_walk::{Scratch, Walk, walk_word};
 use std::alloc::Global;
 use std::sync::ledger::Ledger;
-
-const MOST_PLACES: usize = 8;
 
 /// The candidate from the darts of the hooks.
 pub(crate) fn candidate<L: Ledger>(
@@ -95,37 +93,39 @@ fn turns<L: Ledger>(
     let places = word.len() as usize;
     let mut turns = Vec::with_capacity(alloc, walk.slots().len() * places)?;
     for slot in walk.slots() {
-        let row = turn(arena, walk, *slot, word, steps);
-        turns.extend_from_slice(&row[..places])?;
+        push_turns(arena, walk, *slot, word, &mut turns, steps);
     }
     Ok(turns)
 }
 
-/// The positions to which the position of the slot turns, by place.
-fn turn<L: Ledger>(
+/// Puts the positions to which the slot's position turns, by place, behind those of the positions
+/// before it, into the room that there is for them.
+fn push_turns<L: Ledger>(
     arena: &Arena,
     walk: &Walk<'_>,
     slot: Slot,
     word: &Word,
+    turns: &mut Vec<u32>,
     steps: &mut Steps<L>,
-) -> [u32; MOST_PLACES]
+)
     requires lawful { IsLawful arena.now }
     requires live { AreLive arena.now (slots_of walk.now) }
     requires word { IsWord arena.now.schema.dim word.now }
     requires closed { IsClosed arena.now word.now (slots_of walk.now) }
     requires walked { Contains (slots_of walk.now) slot }
-    ensures row { (p : ℕ) → slice_get (slots_of walk.now) p ≡ Some slot → IsRow (IsTurn arena.now word.now (names_of arena.now (slots_of walk.now)) p) (length word.now) result }
-    ensures len { length result ≡ 8 }
+    requires room { length turns.old.items + length word.now ≤ vec_capacity turns.old }
+    ensures turns { let IsTurnOf = IsTurn arena.now word.now (names_of arena.now (slots_of walk.now)) in (p : ℕ)
+        → slice_get (slots_of walk.now) p ≡ Some slot → AreCells IsTurnOf p (length word.now) turns.old.items
+        → AreCells IsTurnOf (p + 1) (length word.now) turns.new.items }
+    ensures capacity { vec_capacity turns.new ≡ vec_capacity turns.old }
     ensures cost { steps.new ≡ steps.old + length word.now }
 {
-    let mut row = [0; MOST_PLACES];
     for place in 0..word.len() {
         let Letter::At(label) = word.letter(place) else {
             unreachable!()
         };
-        row[place as usize] = walk.place(arena.alpha(slot, label, steps)).unwrap();
+        turns.push_reserved(walk.place(arena.alpha(slot, label, steps)).unwrap());
     }
-    row
 }
 
 /// The slots of the left nodes, by position and node. The turns are those of the walk.
@@ -157,15 +157,27 @@ fn slots<L: Ledger>(
         return walk_slots(alloc, walk);
     }
     let mut slots = Vec::with_capacity(alloc, walk.len() * nodes)?;
-    let row = first_row(plan, arena, darts, steps);
-    slots.extend_from_slice(&row[..nodes])?;
+    let mut row = [darts[0]; MOST_NODES];
+    first_row(plan, arena, darts, &mut row, steps);
+    push_row(&row[..nodes], &mut slots);
     let mut turn = 0;
     for position in 1..walk.len() {
         turn = next_turn(plan, turns, turn, position as u32);
-        let row = later_row(plan, arena, walk[position], &slots, turn, steps);
-        slots.extend_from_slice(&row[..nodes])?;
+        later_row(plan, arena, walk[position], &slots, turn, &mut row, steps);
+        push_row(&row[..nodes], &mut slots);
     }
     Ok(slots)
+}
+
+/// Puts the row's slots behind the others, into the room that there is for them.
+fn push_row(row: &[Slot], slots: &mut Vec<Slot>)
+    requires room { length slots.old.items + length row.now ≤ vec_capacity slots.old }
+    ensures items { slots.new.items ≡ slots.old.items ++ row.now }
+    ensures capacity { vec_capacity slots.new ≡ vec_capacity slots.old }
+{
+    for slot in row {
+        slots.push_reserved(*slot);
+    }
 }
 
 /// The slots of the only left node, by position: it is the hook, which lies along the walk.

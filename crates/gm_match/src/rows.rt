@@ -11,61 +11,62 @@ use gm_model::{Letter, MOST_NODES, Side};
 use gm_plan::Plan;
 use std::sync::ledger::Ledger;
 
-/// The slots of position 0, by node: each hook has its own dart.
+/// Writes the slots of position 0 into the row, by node: each hook has its own dart.
 pub(crate) fn first_row<L: Ledger>(
     plan: &Plan<'_>,
     arena: &Arena,
     darts: &[Slot],
+    row: &mut [Slot; MOST_NODES],
     steps: &mut Steps<L>,
-) -> [Slot; MOST_NODES]
+)
     requires matchable { AreMatchable arena.now plan.now }
-    requires some { 0 < length darts.now }
     requires count { length darts.now ≡ length (rule_of plan.now.table).hooks }
     requires live { AreLive arena.now darts.now }
-    ensures darts { (t h : ℕ) → slice_get (rule_of plan.now.table).hooks t ≡ Some h → dart_in arena.now result h ≡ slice_index (names_of arena.now darts.now) t }
-    ensures row { IsForcedRow arena.now (rule_of plan.now.table) result }
+    requires row { AreLive arena.now row.old }
+    ensures darts { (t h : ℕ) → slice_get (rule_of plan.now.table).hooks t ≡ Some h → dart_in arena.now row.new h ≡ slice_index (names_of arena.now darts.now) t }
+    ensures row { IsForcedRow arena.now (rule_of plan.now.table) row.new }
     ensures cost { steps.new + length (rule_of plan.now.table).hooks ≤ steps.old + length (rule_of plan.now.table).nodes }
     ensures least { steps.old ≤ steps.new }
 {
     let hooks = plan.rule().hooks.as_slice();
-    let mut row = [darts[0]; MOST_NODES];
     for (index, dart) in darts.iter().enumerate() {
         row[hooks[index] as usize] = *dart;
     }
-    follow_paths(plan, arena, &mut row, steps);
-    row
+    follow_paths(plan, arena, row, steps);
 }
 
-/// The slots of a later position, by node. The first hook has the walk's slot, and each other one
-/// is led by its own letter from where the slots so far have it at the turn's position.
+/// Writes the slots of a later position into the row, by node. The first hook has the walk's slot,
+/// and each other one is led by its own letter from where the slots so far have it at the turn's
+/// position.
 pub(crate) fn later_row<L: Ledger>(
     plan: &Plan<'_>,
     arena: &Arena,
     first: Slot,
     slots: &[Slot],
     turn: usize,
+    row: &mut [Slot; MOST_NODES],
     steps: &mut Steps<L>,
-) -> [Slot; MOST_NODES]
+)
     requires matchable { AreMatchable arena.now plan.now }
     requires some { 0 < length (rule_of plan.now.table).hooks }
     requires first { IsLiveSlot arena.now first.at }
     requires slots { AreLive arena.now slots.now }
     requires turn { 1 < length (rule_of plan.now.table).hooks → IsTurnAmong (rule_of plan.now.table) slots.now turn }
-    ensures first { (h : ℕ) → first_hook (rule_of plan.now.table) ≡ Some h → dart_in arena.now result h ≡ name_at arena.now first.at }
+    requires row { AreLive arena.now row.old }
+    ensures first { (h : ℕ) → first_hook (rule_of plan.now.table) ≡ Some h → dart_in arena.now row.new h ≡ name_at arena.now first.at }
     ensures later { (t h nodes : ℕ) → 0 < t → slice_get (rule_of plan.now.table).hooks t ≡ Some h → IsLeftCount (rule_of plan.now.table) nodes
-        → dart_in arena.now result h ≡ stepped arena.now (rule_of plan.now.table) nodes slots.now turn h }
-    ensures row { IsForcedRow arena.now (rule_of plan.now.table) result }
+        → dart_in arena.now row.new h ≡ stepped arena.now (rule_of plan.now.table) nodes slots.now turn h }
+    ensures row { IsForcedRow arena.now (rule_of plan.now.table) row.new }
     ensures cost { steps.new + 1 ≤ steps.old + length (rule_of plan.now.table).nodes }
     ensures least { steps.old ≤ steps.new }
 {
     let hooks = plan.rule().hooks.as_slice();
-    let mut row = [first; MOST_NODES];
+    row[hooks[0] as usize] = first;
     for index in 1..hooks.len() {
         let hook = hooks[index];
         row[hook as usize] = step_hook(plan, arena, hook, slots, turn, steps);
     }
-    follow_paths(plan, arena, &mut row, steps);
-    row
+    follow_paths(plan, arena, row, steps);
 }
 
 /// The slot to which the hook's own letter at the turn's place leads from the turn's position.

@@ -63,6 +63,16 @@ answered_at [] e asked h = none_some (Some asked) h
 answered_at (x ∷ answers) zero asked h = ap deciders_in (some_same x (Some asked) h)
 answered_at (x ∷ answers) (suc e) asked h = answered_at answers e asked h
 
+pub unanswered_at : (answers : List (Option Asked)) (e : ℕ) → slice_get answers e ≡ Some None → slice_index_or (map deciders_in answers) e None ≡ None
+unanswered_at [] e h = none_some None h
+unanswered_at (x ∷ answers) zero h = ap deciders_in (some_same x None h)
+unanswered_at (x ∷ answers) (suc e) h = unanswered_at answers e h
+
+-- an embedding with a decider was asked for
+pub some_decider : (entry : Option (List Decider)) (k : ℕ) → k < length (unwrap_or entry []) → IsSome entry
+some_decider None k h = absurd (omega arith)
+some_decider (Some deciders) k h = refl
+
 pub answered_reached : (m : ArenaMap) (table : RuleTable) (placed : Placed) (answers : List (Option Asked)) (e : ℕ) (asked : Asked) (embed : Embed) → IsEmbedAt m.schema e embed → slice_get answers e ≡ Some (Some asked) → AreAnswers (pending_as m table placed answers) answers →
     AreReached (pending_as m table placed answers) e embed (deciders_of (pending_as m table placed answers) e) asked.marks
 answered_reached m table placed answers e asked embed at there all =

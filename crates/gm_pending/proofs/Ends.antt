@@ -1,6 +1,5 @@
 -- The end of a right node at a position is its dart of the result.
-use Rattle.std.proofs.Common.{◌≡◌, ℕ, zero, suc, ◌+◌, ◌-◌, ◌*◌, ◌<◌, ◌≤◌, ◌⊎◌, false, not, ◌&&◌, [], length, Some, None, IsTrue, refl, sym, ap, inl, inr, arith, ◌∙◌, List, Option}
-use Rattle.std.specs.Option.{option_map}
+use Rattle.std.proofs.Common.{◌≡◌, ℕ, zero, suc, ◌+◌, ◌-◌, ◌*◌, ◌<◌, ◌≤◌, ◌⊎◌, false, not, ◌&&◌, [], length, Some, None, IsTrue, refl, sym, ap, inl, inr, arith, ◌∙◌}
 use Rattle.std.proofs.lemmas.Bool.{cases_lt, lt-ltb, le-ltb}
 use Rattle.gm_model.specs.declared.rule.Side.TheVariants.{Left, Right}
 use Rattle.gm_model.specs.declared.step.Step.{Step}
@@ -17,31 +16,23 @@ use Rattle.gm_theory.proofs.RuleSteps.{word_below}
 use Rattle.gm_theory.proofs.Tests.{and_true, both_true, true_or_false, true_not, not_both}
 use Rattle.gm_pending.specs.declared.rewrite.Arcs.{Arcs}
 use Rattle.gm_pending.specs.declared.rewrite.Arcs.TheVariants.{Freed, Made}
-use Rattle.gm_pending.specs.Arcs.End.{New}
-use Rattle.gm_pending.specs.Collected.{RewriteOf, as_list, concat_below, slot_in, rewrite_of, rule_at, end_of, is_steady, made_step, written_step, leads_to, arc_between, arc_by, arc_at, arcs_at, removed_of, removed_in}
+use Rattle.gm_pending.specs.Collected.{RewriteOf, as_list, concat_below, slot_in, rewrite_of, rule_at, end_of, is_steady, made_step, written_step, arc_by, arc_at, arcs_at, removed_of, removed_in}
 use Rattle.gm_pending.specs.EditLists.{IsResultEnd, end_name}
-use Rattle.gm_pending.specs.Written.{slot_of}
 use Rattle.gm_pending.specs.Results.{PendingOf, IsPrepared, IsRightInstance, rule_in, place_in, scene_in}
 use Rattle.gm_pending.proofs.Darts.{stays_there}
 use Rattle.gm_pending.proofs.Law.{law}
+use Rattle.gm_pending.proofs.Lefts.{not_left}
 use Rattle.gm_pending.proofs.Numbers.{number_below}
 
 module _ (app : PendingOf) (prepared : IsPrepared app) where
   -- the left nodes come first, and each other node is added
-  not_left : (x : ℕ) → app.placed.nodes ≤ x → has_word (rule_in app) Left x ≡ false
-  not_left x h = go (true_or_false (has_word (rule_in app) Left x))
-    where
-      go : IsTrue (has_word (rule_in app) Left x) ⊎ (has_word (rule_in app) Left x ≡ false) → has_word (rule_in app) Left x ≡ false
-      go (inl l) = absurd (let below : x < app.placed.nodes = (prepared.matched.nodes x).0 l in omega arith)
-      go (inr a) = a
-
   pub other_added : (x : ℕ) → app.placed.nodes ≤ x → x < length (rule_in app).nodes → IsTrue (is_added (rule_in app) x)
   other_added x h b = elim (prepared.planned.accepted.in_range.some_word x b) [
-    | inl l ↦ not_both (has_word (rule_in app) Left x) l (not_left x h)
-    | inr r ↦ and_true (not (has_word (rule_in app) Left x)) (has_word (rule_in app) Right x) (true_not (has_word (rule_in app) Left x) (not_left x h)) r
+    | inl l ↦ not_both (has_word (rule_in app) Left x) l (not_left (rule_in app) app.placed.nodes x prepared.matched.nodes h)
+    | inr r ↦ and_true (not (has_word (rule_in app) Left x)) (has_word (rule_in app) Right x) (true_not (has_word (rule_in app) Left x) (not_left (rule_in app) app.placed.nodes x prepared.matched.nodes h)) r
   ]
 
-  left_not_added : (x : ℕ) → x < app.placed.nodes → is_added (rule_in app) x ≡ false
+  pub left_not_added : (x : ℕ) → x < app.placed.nodes → is_added (rule_in app) x ≡ false
   left_not_added x h = let l : IsTrue (has_word (rule_in app) Left x) = (prepared.matched.nodes x).1 h in rw l refl
 
   pub added_number : (x : ℕ) → x ≤ length (rule_in app).nodes → added_before (rule_in app) x ≡ x - app.placed.nodes
@@ -74,19 +65,8 @@ module _ (app : PendingOf) (prepared : IsPrepared app) where
 
 -- ---- what the code makes of them
 
-slot_is : (placed : Placed) (x p : ℕ) (slot : Slot) → slot_at placed x p ≡ Some slot → slot_in placed x p ≡ slot
+pub slot_is : (placed : Placed) (x p : ℕ) (slot : Slot) → slot_at placed x p ≡ Some slot → slot_in placed x p ≡ slot
 slot_is placed x p slot e = get_or_from_slice_get placed.slots (p * placed.nodes + x) slot (record { at = 0 }) e
-
-module _ (rewrite : RewriteOf) (made : List Slot) (x p : ℕ) where
-  pub left_slot : (slot : Slot) → x < rewrite.placed.nodes → slot_at rewrite.placed x p ≡ Some slot → slot ≡ slot_of made (end_of rewrite x p)
-  left_slot slot h e = rw (lt-ltb x rewrite.placed.nodes h) (sym (slot_is rewrite.placed x p slot e))
-
-  pub added_end : (left positions : ℕ) → left ≡ rewrite.placed.nodes → left ≤ x → positions ≡ rewrite.placed.positions → end_of rewrite x p ≡ New ((x - left) * positions + p)
-  added_end left positions e h k = rw (le-ltb x rewrite.placed.nodes (omega arith), e, k) refl
-
--- the arc that is told at a position is the one of the list
-pub arc_told : (rewrite : RewriteOf) (arcs : Arcs) (x i p : ℕ) (step : Step) (to : Option (ℕ × ℕ)) → step ≡ written_step rewrite arcs x i → to ≡ leads_to rewrite arcs x p step → option_map (arc_between rewrite x p i) to ≡ arc_at rewrite arcs x i p
-arc_told rewrite arcs x i p step to e f = ap (option_map (arc_between rewrite x p i)) (f ∙ ap (leads_to rewrite arcs x p) e)
 
 -- a step that is absent has no arcs
 pub no_arcs : (rewrite : RewriteOf) (arcs : Arcs) (x i : ℕ) (step : Step) → step ≡ written_step rewrite arcs x i → step ≡ Absent → arcs_at rewrite arcs x i ≡ []

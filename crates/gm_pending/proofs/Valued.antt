@@ -1,15 +1,17 @@
 -- The value of a dart of the result: that of its deciding instance, or an old one.
-use Rattle.std.proofs.Common.{◌≡◌, ℕ, ◌<◌, ◌⊎◌, not, List, length, Contains, Option, Some, None, IsSome, MatchOption, slice_get, refl, sym, ◌∙◌, ap, subst, inl, inr}
+use Rattle.std.proofs.Common.{◌≡◌, ℕ, ◌<◌, ◌⊎◌, not, List, length, Contains, Option, Some, None, IfSome, IsSome, IsTrue, slice_get, refl, sym, ◌∙◌, ap, subst, inl, inr}
 use Rattle.gm_model.specs.declared.rule.Side.TheVariants.{Left, Right}
 use Rattle.gm_model.specs.declared.schema.Embed.{Embed}
 use Rattle.gm_model.specs.declared.value.Value.{Value}
-use Rattle.gm_model.specs.Components.{IsTogether, IsAssigned, IsKeeper, IsNew, IsUnassigned, IsInherited}
+use Rattle.gm_model.specs.Components.{IsTogether, IsAssigned, IsKeeper, IsUnassigned, IsInherited}
 use Rattle.gm_model.specs.Maps.{IsEmbedAt, type_of}
 use Rattle.gm_model.specs.NewValues.{IsUndecided, LiesIn, IsValueAfter, Decided, Kept, Added}
-use Rattle.gm_model.specs.Rules.{has_word, width, hook_label}
+use Rattle.gm_model.specs.Rules.{has_word, is_preserved, width, hook_label}
 use Rattle.gm_arena.specs.ArenaAsMap.{as_map, value}
 use Rattle.gm_arena.specs.ArenaMap.{name_at}
+use Rattle.gm_plan.specs.InArena.{slot_number}
 use Rattle.gm_theory.proofs.Lists.{get_contained}
+use Rattle.gm_theory.proofs.NoFault.{one_keeper}
 use Rattle.gm_theory.proofs.Tests.{both_true}
 use Rattle.gm_theory.proofs.ValuesAcross.{new_together}
 use Rattle.gm_theory.proofs.ValuesReadOff.{read_off}
@@ -20,22 +22,26 @@ use Rattle.gm_pending.specs.declared.decider.Decider.{Decider}
 use Rattle.gm_pending.specs.declared.marks.Reached.{Reached}
 use Rattle.gm_pending.specs.Marks.{key_of, HasKey, IsMarkedBy}
 use Rattle.gm_pending.specs.Reached.{AreReached}
-use Rattle.gm_pending.specs.Sources.{HasSourceNode, IsKeeperFor, IsSourceOf, given_of}
+use Rattle.gm_pending.specs.Sources.{HasSourceNode, IsKeeperFor, IsOldValue, IsSourceOf, IsSourceValue, given_of}
 use Rattle.gm_pending.specs.Results.{PendingOf, IsPrepared, AreAllGiven, IsDecidedIn, IsGivenIn, IsResultDart, IsUnfoldedIn, IsValueIn, deciders_of, rule_in, place_in, scene_in, name_of}
 use Rattle.gm_pending.proofs.Darts.{live_dart}
 use Rattle.gm_pending.proofs.Law.{law}
 use Rattle.gm_pending.proofs.NewValues.{some_unfolding}
+use Rattle.gm_pending.proofs.Reached.{get_within}
 use Rattle.gm_pending.proofs.Spread.{dart_after, label_within, same_key, same_name}
 
--- the keeper that was found for the embedding of this number is that of its type
-module _ (app : PendingOf) (e x : ℕ) (keeper : Option ℕ) (found : IsKeeperFor app e x keeper) where
-  pub keeper_is : (k : ℕ) → keeper ≡ Some k → (embed : Embed) → IsEmbedAt app.map.schema e embed → IsKeeper (rule_in app) (type_of embed) x k
-  keeper_is k is embed at = subst (λ (found : Option ℕ). MatchOption found (IsNew (rule_in app) (type_of embed) x) (IsKeeper (rule_in app) (type_of embed) x)) is (found embed at)
+-- what was found for the embedding of this number is a preserved node, if it is one
+module _ (app : PendingOf) (e x : ℕ) where
+  pub keeper_preserved : (keeper : Option ℕ) → IsKeeperFor app e x keeper → e < length app.map.schema.embeds → IfSome keeper (λ k. IsTrue (is_preserved (rule_in app) k))
+  keeper_preserved None found low = tt
+  keeper_preserved (Some k) found low = let kept = get_within app.map.schema.embeds e low in (found kept.0 kept.1).preserved
 
-  pub keeper_not_none : keeper ≡ None → (embed : Embed) → IsEmbedAt app.map.schema e embed → (k : ℕ) → IsKeeper (rule_in app) (type_of embed) x k → ⊥
-  keeper_not_none is embed at k kept =
-      let none : IsNew (rule_in app) (type_of embed) x = subst (λ (found : Option ℕ). MatchOption found (IsNew (rule_in app) (type_of embed) x) (IsKeeper (rule_in app) (type_of embed) x)) is (found embed at) in
-      none k kept.together kept.preserved
+  -- and the source of the new dart at a position is the keeper's dart there
+  pub keeper_source : (keeper : Option ℕ) (p : ℕ) (v : Value) → IsKeeperFor app e x keeper → IfSome keeper (λ k. IsOldValue app e (slot_number app.placed k p) v) → (embed : Embed) → IsEmbedAt app.map.schema e embed → IsSourceValue app e embed (New x p) v
+  keeper_source None p v found is embed at slot (other, kept, lies) = absurd (found embed at other kept.together kept.preserved)
+  keeper_source (Some k) p v found is embed at slot (other, kept, lies) =
+      let same : k ≡ other = one_keeper (rule_in app) (type_of embed) x k other (found embed at) kept in
+      subst (λ s. IsOldValue app e s v) (ap (λ z. slot_number app.placed z p) same ∙ lies) is
 
 module _ (app : PendingOf) (prepared : IsPrepared app) (e : ℕ) (embed : Embed) (at_embed : IsEmbedAt app.map.schema e embed) (reached : List Reached) (all : AreReached app e embed (deciders_of app e) reached) (at : At) (dart : IsResultDart app at) where
   -- ---- a dart that is reached

@@ -1,9 +1,9 @@
 -- Edits that are written one after another, as they are told, and what they leave so far.
-use Rattle.std.proofs.Common.{◌≡◌, ℕ, zero, suc, ◌+◌, ◌<◌, List, [], ◌∷◌, ◌++◌, length, unwrap_or, refl, sym, ap, ◌∙◌, subst, inl, inr, arith, length-append}
+use Rattle.std.proofs.Common.{◌≡◌, ℕ, zero, suc, ◌+◌, ◌<◌, List, [], ◌∷◌, ◌++◌, length, unwrap_or, refl, sym, ap, ap₂, ◌∙◌, subst, inl, inr, arith, length-append}
 use Rattle.std.specs.FinMap.{get}
 use Rattle.std.proofs.lemmas.Bool.{cases_eq}
 use Rattle.gm_arena.specs.declared.slot.Slot.{Slot}
-use Rattle.gm_arena.specs.ArenaMap.{ArenaMap}
+use Rattle.gm_arena.specs.ArenaMap.{ArenaMap, name_at}
 use Rattle.gm_arena.specs.Edits.{with_alpha}
 use Rattle.gm_pending.specs.Arcs.{Arc}
 use Rattle.gm_pending.specs.Arcs.{End}
@@ -49,6 +49,11 @@ module _ (start : ArenaMap) (made : List Slot) (begun : ℕ) where
 
   pub more_written : (f : ℕ → List Arc) (k : ℕ) (now after : ArenaMap) (steps steps' : ℕ) → AreWritten (concat_below f k) now steps → after ≡ with_arcs (end_at now made) now (f k) → steps' ≡ steps + length (f k) → AreWritten (concat_below f (k + 1)) after steps'
   more_written f k now after steps steps' written map cost = subst (λ arcs. AreWritten arcs after steps') (concat_next f k) (then_written (concat_below f k) now steps written (f k) after steps' map cost)
+
+  -- one more arc of those that are told position by position
+  pub one_written : (arc : ℕ → Arc) (k : ℕ) (now after : ArenaMap) (steps steps' : ℕ) (from to : Slot) → AreWritten (concat_below (λ p. arc p ∷ []) k) now steps → from ≡ slot_of made (arc k).from → to ≡ slot_of made (arc k).to → after ≡ with_alpha now (name_at now from.at) (arc k).label (name_at now to.at) → steps' ≡ steps + 1 →
+      AreWritten (concat_below (λ p. arc p ∷ []) (k + 1)) after steps'
+  one_written arc k now after steps steps' from to written e f map cost = more_written (λ p. arc p ∷ []) k now after steps steps' written (map ∙ ap₂ (λ (a b : Slot). with_alpha now (name_at now a.at) (arc k).label (name_at now b.at)) e f) cost
 
 -- ---- darts
 

@@ -1,5 +1,5 @@
 -- The edits of an application, node by node, label by label and position by position: they are told by its rule and its instances alone. No public clause cites this module.
-use Rattle.std.specs.Prelude.{◌≡◌, ℕ, zero, suc, ◌+◌, ◌-◌, ◌*◌, ◌≤◌, if◌then◌else◌, nat_lt, Bool, true, false, not, ◌&&◌, ◌==◌, List, [], ◌∷◌, ◌++◌, length, Option, Some, None, slice_index_or}
+use Rattle.std.specs.Prelude.{◌≡◌, ℕ, zero, suc, ◌+◌, ◌-◌, ◌*◌, ◌≤◌, if◌then◌else◌, nat_lt, Bool, true, false, not, ◌&&◌, ◌==◌, List, [], ◌∷◌, ◌++◌, drop, length, Option, Some, None, slice_index_or}
 use Rattle.std.specs.Option.{option_map}
 use Rattle.gm_model.specs.declared.rule.RuleTable.{RuleTable}
 use Rattle.gm_model.specs.declared.rule.Side.TheVariants.{Left, Right}
@@ -108,6 +108,10 @@ module _ (rewrite : RewriteOf) where
   abbrev pub arc_between : ℕ → ℕ → ℕ → ℕ × ℕ → Arc
   arc_between x p i to = record { from = end_of x p; label = i; to = end_of to.0 to.1 }
 
+  -- the arcs from node x, at each position to this instance
+  abbrev pub arcs_to : ℕ → ℕ → (ℕ → ℕ × ℕ) → List Arc
+  arcs_to x i to = concat_below (λ p. arc_between x p i (to p) ∷ []) rewrite.placed.positions
+
   abbrev pub arc_by : Arcs → ℕ → ℕ → ℕ → Step → Option Arc
   arc_by arcs x p i s = option_map (arc_between x p i) (leads_to arcs x p s)
 
@@ -140,3 +144,18 @@ module _ (rewrite : RewriteOf) where
 
   abbrev pub all_removed : List Slot
   all_removed = concat_below removed_in (length rule_at.nodes)
+
+  -- ---- the table of slots: those of the left nodes, by node and then by position, and behind them those of the new darts by their number
+
+  abbrev pub left_slots_of : ℕ → List Slot
+  left_slots_of x = concat_below (λ p. slot_in rewrite.placed x p ∷ []) rewrite.placed.positions
+
+  abbrev pub left_slots : List Slot
+  left_slots = concat_below left_slots_of rewrite.placed.nodes
+
+  -- the slots of the new darts in the table
+  abbrev pub made_in : List Slot → List Slot
+  made_in slots = drop (length left_slots) slots
+
+  abbrev pub AreSlots : List Slot → Type 0
+  AreSlots slots = slots ≡ left_slots ++ made_in slots

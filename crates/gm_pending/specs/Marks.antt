@@ -7,13 +7,17 @@ use Rattle.gm_pending.specs.declared.at.At.{At}
 use Rattle.gm_pending.specs.declared.at.At.TheVariants.{Old, New}
 use Rattle.gm_pending.specs.declared.marks.Reached.{Reached}
 
-abbrev pub reached_by : At → ℕ → Reached
-reached_by at k = record { at = at; decider = k }
-
 -- the number of a dart
 abbrev pub key_of : At → ℕ
 key_of (Old slot) = slot.at * 512
 key_of (New x p) = p * 512 + x + 1
+
+abbrev pub reached_by : At → ℕ → Reached
+reached_by at k = record { at = at; decider = k; key = key_of at }
+
+-- each entry keeps the number of its dart
+abbrev pub AreKeyed : List Reached → Type 0
+AreKeyed reached = (entry : Reached) → Contains reached entry → entry.key ≡ key_of entry.at
 
 -- an entry of the list has this key
 abbrev pub HasKey : List Reached → ℕ → Type 0
@@ -35,7 +39,8 @@ pub record IsIndex (reached : List Reached) (deciders : BTreeMap ℕ ℕ) : Type
   pub marked : (entry : Reached) → Contains reached entry → get nat_cmp deciders (key_of entry.at) ≡ Some entry.decider
   pub only : (key k : ℕ) → get nat_cmp deciders key ≡ Some k → IsMarkedBy reached key k
 
--- each key comes once; and where there is a map, it has all of them
+-- each key is its dart's, and comes once; and where there is a map, it has all of them
 pub record AreMarked (reached : List Reached) (deciders : Option (BTreeMap ℕ ℕ)) : Type 0 where
+  pub keyed : AreKeyed reached
   pub distinct : HasDistinctKeys reached
   pub indexed : IfSome deciders (IsIndex reached)

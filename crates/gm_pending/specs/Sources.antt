@@ -5,6 +5,8 @@ use Rattle.gm_model.specs.declared.schema.Embed.{Embed}
 use Rattle.gm_model.specs.declared.value.Value.{Value}
 use Rattle.gm_model.specs.Components.{IsKeeper, IsNew}
 use Rattle.gm_model.specs.Maps.{IsEmbedAt, type_of}
+use Rattle.gm_arena.specs.ArenaAsMap.{value}
+use Rattle.gm_arena.specs.ArenaMap.{name_at}
 use Rattle.gm_plan.specs.InArena.{slot_number}
 use Rattle.gm_pending.specs.declared.at.At.{At}
 use Rattle.gm_pending.specs.declared.at.At.TheVariants.{Old, New}
@@ -23,6 +25,14 @@ HasSourceNode app embed (New x p) = (keeper : ℕ) × IsKeeper (rule_in app) (ty
 abbrev pub IsSourceOf : PendingOf → Embed → At → ℕ → Type 0
 IsSourceOf app embed (Old old) slot = slot ≡ old.at
 IsSourceOf app embed (New x p) slot = (keeper : ℕ) × IsKeeper (rule_in app) (type_of embed) x keeper × (slot_number app.placed keeper p ≡ slot)
+
+-- it is the value of the old dart at the slot
+abbrev pub IsOldValue : PendingOf → ℕ → ℕ → Value → Type 0
+IsOldValue app e slot v = v ≡ value app.map e (name_at app.map slot)
+
+-- and that is where the dart has its value from, if it has it from an old one
+abbrev pub IsSourceValue : PendingOf → ℕ → Embed → At → Value → Type 0
+IsSourceValue app e embed at v = (slot : ℕ) → IsSourceOf app embed at slot → IsOldValue app e slot v
 
 -- no deciding instance reaches the dart
 abbrev pub IsUnreached : PendingOf → ℕ → Embed → At → Type 0

@@ -1,15 +1,17 @@
 //! The commit: the edits of an application, written one by one as they are told.
-ghost use Rattle.std.specs.Prelude.{◌≡◌, ℕ, ◌+◌, ◌-◌, ◌*◌, ◌<◌, ◌≤◌, [], length, IfSome};
+ghost use Rattle.std.specs.Prelude.{◌≡◌, ℕ, ◌+◌, ◌-◌, ◌*◌, ◌<◌, ◌≤◌, ◌++◌, [], length, drop};
 ghost use Rattle.std.specs.List.{Contains};
-ghost use Rattle.std.specs.Option.{option_map};
 ghost use Rattle.std.specs.Vec.{vec_capacity};
+ghost use Rattle.gm_model.specs.declared.step.Step.TheVariants.{Imp};
 ghost use Rattle.gm_model.specs.Maps.{IsGeneralised};
 ghost use Rattle.gm_arena.specs.ArenaAsMap.{as_map};
 ghost use Rattle.gm_arena.specs.Inside.{part_of};
 ghost use Rattle.gm_arena.specs.Lawful.{AreGoodValues};
+ghost use Rattle.gm_plan.specs.Placed.{turn_at};
 ghost use Rattle.gm_pending.specs.Arcs.{Arc};
 ghost use Rattle.gm_pending.specs.declared.edits.ValueAt.{ValueAt};
-ghost use Rattle.gm_pending.specs.Collected.{as_list, arc_between, rule_at, arcs_at, arcs_in, all_arcs, removed_in, all_removed};
+ghost use Rattle.gm_pending.specs.declared.rewrite.Arcs.TheVariants.{Freed, Made};
+ghost use Rattle.gm_pending.specs.Collected.{rule_at, written_step, arc_between, arcs_to, arcs_at, arcs_in, all_arcs, removed_in, all_removed, left_slots, made_in, AreSlots};
 ghost use Rattle.gm_pending.specs.EditLists.{AreEditsHere, AreEditsOf, HasSameRows, IsReachedSumIn, IsResultOf};
 ghost use Rattle.gm_pending.specs.Results.{PendingOf, rule_in};
 ghost use Rattle.gm_pending.specs.Written.{IsWritable, IsSettable, CanRemove, IsExtended, end_at, with_arcs, with_values, without_darts};
@@ -44,25 +46,40 @@ impl Edits<'_> {
             added,
             added_values,
             values,
-            mut made,
+            mut slots,
         } = self;
-        rewrite.write(Arcs::Freed, &[], arena, steps);
-        rewrite.remove(arena, steps);
-        add_darts(arena, added, &added_values, &mut made, steps);
-        rewrite.write(Arcs::Made, &made, arena, steps);
+        rewrite.clear(&slots, arena, steps);
+        add_darts(arena, added, &added_values, &mut slots, steps);
+        rewrite.write(Arcs::Made, &slots, arena, steps);
         set_values(&values, arena, steps);
     }
 }
 
 impl Rewrite<'_> {
-    /// Makes each arc's end the neighbour of its other end. The slots of new darts are in `made`.
-    fn write<L: Ledger>(&self, arcs: Arcs, made: &[Slot], arena: &mut Arena, steps: &mut Steps<L>)
-        requires { (arc : Arc) → Contains (all_arcs self.now arcs) arc → IsWritable arena.old made.now arc }
-        ensures map { arena.new ≡ with_arcs (end_at arena.old made.now) arena.old (all_arcs self.now arcs) }
+    /// Removes the darts that go, once the arcs that led to them are freed.
+    fn clear<L: Ledger>(&self, slots: &[Slot], arena: &mut Arena, steps: &mut Steps<L>)
+        requires slots { slots.now ≡ left_slots self.now }
+        requires freed { (arc : Arc) → Contains (all_arcs self.now Freed) arc → IsWritable arena.old [] arc }
+        requires removed { CanRemove (with_arcs (end_at arena.old []) arena.old (all_arcs self.now Freed)) (all_removed self.now) }
+        ensures map { arena.new ≡ without_darts (with_arcs (end_at arena.old []) arena.old (all_arcs self.now Freed)) (all_removed self.now) }
+        ensures cost { steps.new ≡ steps.old + length (all_arcs self.now Freed) + length (all_removed self.now) }
+    {
+        if self.plan.removed() == 0 {
+            return;
+        }
+        self.write(Arcs::Freed, slots, arena, steps);
+        self.remove(arena, steps);
+    }
+
+    /// Makes each arc's end the neighbour of its other end.
+    fn write<L: Ledger>(&self, arcs: Arcs, slots: &[Slot], arena: &mut Arena, steps: &mut Steps<L>)
+        requires slots { AreSlots self.now slots.now }
+        requires arcs { (arc : Arc) → Contains (all_arcs self.now arcs) arc → IsWritable arena.old (made_in self.now slots.now) arc }
+        ensures map { arena.new ≡ with_arcs (end_at arena.old (made_in self.now slots.now)) arena.old (all_arcs self.now arcs) }
         ensures cost { steps.new ≡ steps.old + length (all_arcs self.now arcs) }
     {
         for node in 0..self.nodes() {
-            self.write_node(arcs, node, made, arena, steps);
+            self.write_node(arcs, node, slots, arena, steps);
         }
     }
 
@@ -70,17 +87,18 @@ impl Rewrite<'_> {
         &self,
         arcs: Arcs,
         node: u8,
-        made: &[Slot],
+        slots: &[Slot],
         arena: &mut Arena,
         steps: &mut Steps<L>,
     )
         requires node { node < length (rule_at self.now).nodes }
-        requires arcs { (arc : Arc) → Contains (arcs_in self.now arcs node) arc → IsWritable arena.old made.now arc }
-        ensures map { arena.new ≡ with_arcs (end_at arena.old made.now) arena.old (arcs_in self.now arcs node) }
+        requires slots { AreSlots self.now slots.now }
+        requires arcs { (arc : Arc) → Contains (arcs_in self.now arcs node) arc → IsWritable arena.old (made_in self.now slots.now) arc }
+        ensures map { arena.new ≡ with_arcs (end_at arena.old (made_in self.now slots.now)) arena.old (arcs_in self.now arcs node) }
         ensures cost { steps.new ≡ steps.old + length (arcs_in self.now arcs node) }
     {
         for label in 0..self.labels() {
-            self.write_step(arcs, node, label, made, arena, steps);
+            self.write_step(arcs, node, label, slots, arena, steps);
         }
     }
 
@@ -90,49 +108,75 @@ impl Rewrite<'_> {
         arcs: Arcs,
         node: u8,
         label: u8,
-        made: &[Slot],
+        slots: &[Slot],
         arena: &mut Arena,
         steps: &mut Steps<L>,
     )
         requires node { node < length (rule_at self.now).nodes }
         requires label { label ≤ self.now.dim }
-        requires arcs { (arc : Arc) → Contains (arcs_at self.now arcs node label) arc → IsWritable arena.old made.now arc }
-        ensures map { arena.new ≡ with_arcs (end_at arena.old made.now) arena.old (arcs_at self.now arcs node label) }
+        requires slots { AreSlots self.now slots.now }
+        requires arcs { (arc : Arc) → Contains (arcs_at self.now arcs node label) arc → IsWritable arena.old (made_in self.now slots.now) arc }
+        ensures map { arena.new ≡ with_arcs (end_at arena.old (made_in self.now slots.now)) arena.old (arcs_at self.now arcs node label) }
         ensures cost { steps.new ≡ steps.old + length (arcs_at self.now arcs node label) }
     {
-        let step = self.written_step(arcs, node, label);
-        if step == Step::Absent {
-            return;
-        }
-        for position in 0..self.positions() {
-            let to = self.leads_to(arcs, step, node, position, label);
-            self.write_arc(node, position, label, to, made, arena, steps);
+        match (arcs, self.written_step(arcs, node, label)) {
+            (_, Step::Absent) => {}
+            (Arcs::Freed, _) => self.link_nodes(node, label, node, slots, arena, steps),
+            (Arcs::Made, Step::Exp(other)) => {
+                self.link_nodes(node, label, other, slots, arena, steps)
+            }
+            (Arcs::Made, Step::Imp(place)) => {
+                self.link_turns(node, label, place, slots, arena, steps)
+            }
         }
     }
 
-    /// Writes the arc from an instance to another, where there is one.
-    fn write_arc<L: Ledger>(
+    /// Gives each dart of the node a neighbour of the other node: that at the same position. Where
+    /// both are one node, each dart becomes its own neighbour.
+    fn link_nodes<L: Ledger>(
         &self,
         node: u8,
-        position: u32,
         label: u8,
-        to: Option<(u8, u32)>,
-        made: &[Slot],
+        other: u8,
+        slots: &[Slot],
         arena: &mut Arena,
         steps: &mut Steps<L>,
     )
-        requires position { position < self.now.placed.positions }
-        requires within { IfSome to (λ other. other.1 < self.now.placed.positions) }
-        requires arc { (arc : Arc) → Contains (as_list (option_map (arc_between self.now node position label) to)) arc → IsWritable arena.old made.now arc }
-        ensures map { arena.new ≡ with_arcs (end_at arena.old made.now) arena.old (as_list (option_map (arc_between self.now node position label) to)) }
-        ensures cost { steps.new ≡ steps.old + length (as_list (option_map (arc_between self.now node position label) to)) }
+        requires slots { AreSlots self.now slots.now }
+        requires arcs { (p : ℕ) → p < self.now.placed.positions → IsWritable arena.old (made_in self.now slots.now) (arc_between self.now node p label (other, p)) }
+        ensures map { arena.new ≡ with_arcs (end_at arena.old (made_in self.now slots.now)) arena.old (arcs_to self.now node label (λ p. (other, p))) }
+        ensures cost { steps.new ≡ steps.old + length (arcs_to self.now node label (λ p. (other, p))) }
     {
-        let Some((other, there)) = to else {
-            return;
-        };
-        let from = self.slot(node, position, made);
-        let to = self.slot(other, there, made);
-        arena.set_alpha(from, label, to, steps);
+        let from = self.slots_of(node, slots);
+        let to = self.slots_of(other, slots);
+        for position in 0..self.positions() {
+            let at = position as usize;
+            arena.set_alpha(from[at], label, to[at], steps);
+        }
+    }
+
+    /// Gives each dart of the node a neighbour of the same node: that at the position to which its
+    /// own turns at the place.
+    fn link_turns<L: Ledger>(
+        &self,
+        node: u8,
+        label: u8,
+        place: u8,
+        slots: &[Slot],
+        arena: &mut Arena,
+        steps: &mut Steps<L>,
+    )
+        requires step { Imp place ≡ written_step self.now Made node label }
+        requires slots { AreSlots self.now slots.now }
+        requires arcs { (p : ℕ) → p < self.now.placed.positions → IsWritable arena.old (made_in self.now slots.now) (arc_between self.now node p label (node, turn_at self.now.placed p place)) }
+        ensures map { arena.new ≡ with_arcs (end_at arena.old (made_in self.now slots.now)) arena.old (arcs_to self.now node label (λ p. (node, turn_at self.now.placed p place))) }
+        ensures cost { steps.new ≡ steps.old + length (arcs_to self.now node label (λ p. (node, turn_at self.now.placed p place))) }
+    {
+        let own = self.slots_of(node, slots);
+        for position in 0..self.positions() {
+            let turned = self.found.turn(position, place);
+            arena.set_alpha(own[position as usize], label, own[turned as usize], steps);
+        }
     }
 
     /// Removes the darts that go.
@@ -155,33 +199,33 @@ impl Rewrite<'_> {
             return;
         }
         for position in 0..self.positions() {
-            arena.remove(self.removed_slot(node, position), steps);
+            arena.remove(self.left_slot(node, position), steps);
         }
     }
 }
 
-/// Adds so many darts with their values, and puts their slots into the room that `made` has.
+/// Adds so many darts with their values, and puts their slots into the room behind the others.
 fn add_darts<L: Ledger>(
     arena: &mut Arena,
     added: usize,
     values: &[Value],
-    made: &mut Vec<Slot>,
+    slots: &mut Vec<Slot>,
     steps: &mut Steps<L>,
 )
     requires long { length values.now ≡ added * length arena.old.schema.embeds }
     requires values { (number : ℕ) → number < added → AreGoodValues arena.old.schema (part_of (length arena.old.schema.embeds) values.now number) }
     requires names { arena.old.next + added ≤ arena.old.reserved }
     requires room { added ≤ arena.old.spare }
-    requires none { made.old.items ≡ [] }
-    requires capacity { added ≤ vec_capacity made.old }
-    ensures map { IsExtended arena.old values.now made.new.items arena.new }
-    ensures made { length made.new.items ≡ added }
+    requires capacity { length slots.old.items + added ≤ vec_capacity slots.old }
+    ensures slots { slots.new.items ≡ slots.old.items ++ drop (length slots.old.items) slots.new.items }
+    ensures map { IsExtended arena.old values.now (drop (length slots.old.items) slots.new.items) arena.new }
+    ensures made { length (drop (length slots.old.items) slots.new.items) ≡ added }
     ensures cost { steps.new ≡ steps.old + added }
 {
     let width = arena.schema().embeds.as_slice().len();
     for number in 0..added {
         let own = &values[number * width..number * width + width];
-        made.push_reserved(arena.add(arena.next(), own, steps));
+        slots.push_reserved(arena.add(arena.next(), own, steps));
     }
 }
 

@@ -29,14 +29,15 @@ pub struct Edits<'a> {
     pub(crate) added_values: Vec<Value>,
     /// The values that darts of the old map get.
     pub(crate) values: Vec<ValueAt>,
-    /// Room for the slots of the new darts, by their number.
-    pub(crate) made: Vec<Slot>,
+    /// The slots of the left nodes, by node and then by position, and room for those of the new
+    /// darts behind them.
+    pub(crate) slots: Vec<Slot>,
 }
 
 impl<'a> Model for Edits<'a> {
-    ghost use Rattle.std.specs.Prelude.{◌≡◌, ◌≤◌, []};
+    ghost use Rattle.std.specs.Prelude.{◌≡◌, ◌+◌, ◌≤◌, length};
     ghost use Rattle.std.specs.Vec.{vec_capacity};
-    ghost use Rattle.gm_pending.specs.Collected.{all_arcs, all_removed};
+    ghost use Rattle.gm_pending.specs.Collected.{all_arcs, all_removed, left_slots};
     ghost use Rattle.gm_pending.specs.declared.rewrite.Arcs.TheVariants.{Freed, Made};
     ghost use Rattle.gm_pending.specs.EditLists.{EditLists, edit_lists};
 
@@ -44,7 +45,7 @@ impl<'a> Model for Edits<'a> {
 
     ghost view = { λ e. edit_lists (all_arcs e.rewrite Freed) (all_removed e.rewrite) e.added e.added_values.items (all_arcs e.rewrite Made) e.values.items };
 
-    ghost invariant = { λ e. (e.made.items ≡ []) × (e.added ≤ vec_capacity e.made) };
+    ghost invariant = { λ e. (e.slots.items ≡ left_slots e.rewrite) × (length e.slots.items + e.added ≤ vec_capacity e.slots) };
 }
 
 impl<'a> Pending<'a, '_> {
@@ -68,15 +69,16 @@ impl<'a> Pending<'a, '_> {
         ensures least { steps.old ≤ steps.new }
     {
         let added = self.plan.added() as usize * self.found.positions() as usize;
-        let made = Vec::with_capacity(self.alloc, added)?;
+        let rewrite = self.rewrite();
+        let slots = rewrite.left_slots(self.alloc)?;
         let added_values = self.added_values(added, steps)?;
-        let values = self.new_values(steps)?;
+        let values = self.new_values()?;
         Ok(Edits {
-            rewrite: self.rewrite(),
+            rewrite,
             added,
             added_values,
             values,
-            made,
+            slots,
         })
     }
 

@@ -2,14 +2,15 @@
 ghost use Rattle.std.specs.Prelude.{◌≡◌, ℕ, ◌+◌, ◌*◌, ◌<◌, ◌≤◌, length, IfOk, OnOk, IsTrue};
 ghost use Rattle.gm_model.specs.Rules.{is_added};
 ghost use Rattle.gm_model.specs.Unfolding.{added_nodes};
-ghost use Rattle.gm_pending.specs.EditLists.{AllGiven, AreAddedValues, AreNewValues, IsReachedSumIn};
-ghost use Rattle.gm_pending.specs.Gathered.{AreGathered, HasReached, new_number};
+ghost use Rattle.gm_pending.specs.EditLists.{AllGiven, AreAddedValues, AreNewValues};
+ghost use Rattle.gm_pending.specs.Gathered.{AreDecidedBelow, AreGathered, AreKeptValues, new_number};
 ghost use Rattle.gm_pending.specs.Results.{IsPrepared, rule_in};
 ghost use Rattle.gm_pending.specs.Sources.{AreKeepers};
 
 use crate::at::At;
 use crate::edits::ValueAt;
 use crate::pending::Pending;
+use crate::values::given;
 use gm_arena::Steps;
 use gm_model::{OutOfMemory, Value};
 use std::sync::ledger::Ledger;
@@ -41,37 +42,56 @@ impl Pending<'_, '_> {
         if self.embeds() == 0 {
             return Ok(Vec::new(self.alloc));
         }
-        let room = added.saturating_mul(self.embeds() as usize);
-        let mut values = Vec::with_capacity(self.alloc, room)?;
-        for node in self.left_nodes()..self.nodes() {
-            self.put_values_of_node(node, &mut values, steps)?;
+        let mut values = self.kept_values(added, steps)?;
+        for embed in 0..self.embeds() {
+            self.put_given_values(embed, &mut values);
         }
         Ok(values)
     }
 
-    /// Puts the values of an added node's new darts, by position, behind those of the earlier ones.
-    fn put_values_of_node<L: Ledger>(
+    /// The values that so many new darts have in orbits without a deciding instance, by their
+    /// number and by embedding. Where an added node has no keeper, they may be any.
+    fn kept_values<L: Ledger>(
+        &self,
+        added: usize,
+        steps: &mut Steps<L>,
+    ) -> Result<Vec<Value>, OutOfMemory>
+        requires { added ≡ self.now.placed.positions * added_nodes (rule_in self.now) }
+        ensures values { IfOk result (λ values. AreKeptValues self.now added values.items) }
+        ensures cost { steps.new ≤ steps.old + added * length self.now.map.schema.embeds }
+        ensures least { steps.old ≤ steps.new }
+    {
+        let room = added.saturating_mul(self.embeds() as usize);
+        let mut values = Vec::with_capacity(self.alloc, room)?;
+        for node in self.left_nodes()..self.nodes() {
+            self.put_kept_values_of_node(node, &mut values, steps)?;
+        }
+        Ok(values)
+    }
+
+    /// Puts the kept values of an added node's new darts, by position, behind those of the earlier
+    /// ones.
+    fn put_kept_values_of_node<L: Ledger>(
         &self,
         node: u8,
         values: &mut Vec<Value>,
         steps: &mut Steps<L>,
     ) -> Result<(), OutOfMemory>
         requires added { IsTrue (is_added (rule_in self.now) node) }
-        requires given { AllGiven self.now }
-        requires earlier { AreAddedValues self.now (new_number self.now node 0) values.old.items }
-        ensures values { OnOk result (AreAddedValues self.now (new_number self.now node self.now.placed.positions) values.new.items) }
+        requires earlier { AreKeptValues self.now (new_number self.now node 0) values.old.items }
+        ensures values { OnOk result (AreKeptValues self.now (new_number self.now node self.now.placed.positions) values.new.items) }
         ensures cost { steps.new ≤ steps.old + self.now.placed.positions * length self.now.map.schema.embeds }
         ensures least { steps.old ≤ steps.new }
     {
         let keepers = self.keepers(node);
         for position in 0..self.positions() {
-            self.put_values_of_dart(node, position, &keepers, values, steps)?;
+            self.put_kept_values_of_dart(node, position, &keepers, values, steps)?;
         }
         Ok(())
     }
 
-    /// Puts the values of a new dart, by embedding, behind those of the earlier ones.
-    fn put_values_of_dart<L: Ledger>(
+    /// Puts the kept values of a new dart, by embedding, behind those of the earlier ones.
+    fn put_kept_values_of_dart<L: Ledger>(
         &self,
         node: u8,
         position: u32,
@@ -82,17 +102,45 @@ impl Pending<'_, '_> {
         requires added { IsTrue (is_added (rule_in self.now) node) }
         requires position { position < self.now.placed.positions }
         requires keepers { AreKeepers self.now node keepers.now }
-        requires given { AllGiven self.now }
-        requires earlier { AreAddedValues self.now (new_number self.now node position) values.old.items }
-        ensures values { OnOk result (AreAddedValues self.now (new_number self.now node position + 1) values.new.items) }
+        requires earlier { AreKeptValues self.now (new_number self.now node position) values.old.items }
+        ensures values { OnOk result (AreKeptValues self.now (new_number self.now node position + 1) values.new.items) }
         ensures cost { steps.new ≤ steps.old + length self.now.map.schema.embeds }
         ensures least { steps.old ≤ steps.new }
     {
         for embed in 0..self.embeds() {
             let keeper = keepers[embed as usize];
-            values.push(self.new_value(node, position, embed, keeper, steps))?;
+            values.push(self.kept_value(keeper, position, embed, steps))?;
         }
         Ok(())
+    }
+
+    /// Puts the values of the embedding that were given, at all new darts in orbits with a deciding
+    /// instance.
+    fn put_given_values(&self, embed: u8, values: &mut [Value])
+        requires embed { embed < length self.now.map.schema.embeds }
+        requires given { AllGiven self.now }
+        requires earlier { AreDecidedBelow self.now embed values.old }
+        ensures { AreDecidedBelow self.now (embed + 1) values.new }
+    {
+        let asked = self.answer(embed);
+        let width = self.embeds() as usize;
+        for entry in asked.marks.as_slice() {
+            if let At::New { node, position } = entry.at {
+                let number = self.new_number(node, position);
+                values[number * width + embed as usize] = given(&asked.deciders, entry.decider);
+            }
+        }
+    }
+
+    /// The number of an added node's new dart at a position.
+    fn new_number(&self, node: u8, position: u32) -> usize
+        requires added { IsTrue (is_added (rule_in self.now) node) }
+        requires position { position < self.now.placed.positions }
+        ensures number { result ≡ new_number self.now node position }
+        ensures most { result < self.now.placed.positions * added_nodes (rule_in self.now) }
+    {
+        let positions = self.positions() as usize;
+        (node - self.left_nodes()) as usize * positions + position as usize
     }
 
     /// The keepers of an added node, by embedding.
@@ -108,38 +156,27 @@ impl Pending<'_, '_> {
     }
 
     /// The values that old darts get.
-    pub(crate) fn new_values<L: Ledger>(
-        &self,
-        steps: &mut Steps<L>,
-    ) -> Result<Vec<ValueAt>, OutOfMemory>
+    pub(crate) fn new_values(&self) -> Result<Vec<ValueAt>, OutOfMemory>
         requires given { AllGiven self.now }
         ensures values { IfOk result (λ values. AreNewValues self.now values.items) }
-        ensures cost { (reached : ℕ) → IsReachedSumIn self.now reached → steps.new ≤ steps.old + reached }
-        ensures least { steps.old ≤ steps.new }
     {
         let mut values = Vec::new(self.alloc);
         for embed in 0..self.embeds() {
-            self.put_new_values(embed, &mut values, steps)?;
+            self.put_new_values(embed, &mut values)?;
         }
         Ok(values)
     }
 
     /// Puts the values of the embedding that old darts get behind those of the earlier ones.
-    fn put_new_values<L: Ledger>(
-        &self,
-        embed: u8,
-        values: &mut Vec<ValueAt>,
-        steps: &mut Steps<L>,
-    ) -> Result<(), OutOfMemory>
+    fn put_new_values(&self, embed: u8, values: &mut Vec<ValueAt>) -> Result<(), OutOfMemory>
         requires embed { embed < length self.now.map.schema.embeds }
         requires given { AllGiven self.now }
         ensures values { OnOk result (AreGathered self.now embed values.old.items values.new.items) }
-        ensures cost { (count : ℕ) → HasReached self.now embed count → steps.new ≤ steps.old + count }
-        ensures least { steps.old ≤ steps.new }
     {
-        for entry in self.answer(embed).marks.as_slice() {
+        let asked = self.answer(embed);
+        for entry in asked.marks.as_slice() {
             if let At::Old(slot) = entry.at {
-                let value = self.value(entry.at, embed, steps);
+                let value = given(&asked.deciders, entry.decider);
                 values.push(ValueAt { slot, embed, value })?;
             }
         }

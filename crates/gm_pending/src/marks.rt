@@ -1,7 +1,7 @@
 //! The darts of a result that are reached from deciding instances.
 ghost use Rattle.std.specs.Prelude.{◌≡◌, List, ◌∷◌, ◌++◌, ◌<◌, [], length, slice_get, Some, MatchOption, IfOk, IfSome, OnOk, OnErr};
 ghost use Rattle.gm_pending.specs.declared.marks.Reached.{Reached};
-ghost use Rattle.gm_pending.specs.Marks.{key_of, reached_by, HasKey, IsIndex, IsMarkedBy, IsMarkedMore, HasDistinctKeys};
+ghost use Rattle.gm_pending.specs.Marks.{key_of, HasKey, AreKeyed, IsIndex, IsMarkedBy, IsMarkedMore, HasDistinctKeys};
 
 use crate::at::At;
 use gm_model::OutOfMemory;
@@ -14,6 +14,8 @@ use std::marker::Model;
 pub(crate) struct Reached {
     pub(crate) at: At,
     pub(crate) decider: u32,
+    /// The number of the dart. It is kept, so that a search only compares numbers.
+    key: u64,
 }
 
 /// So many darts are looked through one after another, since that is faster than any index.
@@ -81,9 +83,17 @@ impl Marks {
         ensures decider { MatchOption result (HasKey self.now (key_of at) → ⊥) (IsMarkedBy self.now (key_of at)) }
         ensures distinct { HasDistinctKeys self.now }
     {
+        self.decider_by(key(at))
+    }
+
+    /// The index of the instance that decides the orbit of the dart with this key.
+    fn decider_by(&self, wanted: u64) -> Option<u32>
+        ensures decider { MatchOption result (HasKey self.now wanted → ⊥) (IsMarkedBy self.now wanted) }
+        ensures distinct { HasDistinctKeys self.now }
+    {
         match &self.deciders {
-            Some(deciders) => deciders.get(&key(at)).copied(),
-            None => decider_among(&self.reached, key(at)),
+            Some(deciders) => deciders.get(&wanted).copied(),
+            None => decider_among(&self.reached, wanted),
         }
     }
 
@@ -93,44 +103,73 @@ impl Marks {
         ensures err { OnErr result (self.new ≡ self.old) }
         ensures distinct { HasDistinctKeys self.old }
     {
-        if self.decider(at).is_some() {
+        let key = key(at);
+        if self.decider_by(key).is_some() {
             return Ok(());
         }
-        self.add(at, decider)
+        self.add(Reached { at, decider, key })
     }
 
     /// Adds a dart. Where memory was wanting, nothing is added.
-    fn add(&mut self, at: At, decider: u32) -> Result<(), OutOfMemory>
-        requires { HasKey self.old (key_of at) → ⊥ }
-        ensures ok { OnOk result (self.new ≡ self.old ++ reached_by at decider ∷ []) }
+    fn add(&mut self, entry: Reached) -> Result<(), OutOfMemory>
+        requires key { entry.key ≡ key_of entry.at }
+        requires absent { HasKey self.old (key_of entry.at) → ⊥ }
+        ensures ok { OnOk result (self.new ≡ self.old ++ entry ∷ []) }
         ensures err { OnErr result (self.new ≡ self.old) }
     {
-        self.index_many()?;
-        self.reached.try_reserve(1)?;
-        self.deciders = put(self.deciders.take(), at, decider)?;
-        self.reached.push_reserved(Reached { at, decider });
+        if self.deciders.is_none() && self.reached.len() < FEW {
+            push(&mut self.reached, entry)
+        } else {
+            self.add_to_many(entry)
+        }
+    }
+
+    /// Adds a dart to the darts and to their index.
+    fn add_to_many(&mut self, entry: Reached) -> Result<(), OutOfMemory>
+        requires key { entry.key ≡ key_of entry.at }
+        requires absent { HasKey self.old (key_of entry.at) → ⊥ }
+        ensures ok { OnOk result (self.new ≡ self.old ++ entry ∷ []) }
+        ensures err { OnErr result (self.new ≡ self.old) }
+    {
+        self.index_all()?;
+        self.reached.reserve(1)?;
+        self.deciders = put(self.deciders.take(), entry)?;
+        self.reached.push_reserved(entry);
         Ok(())
     }
 
-    /// Makes the index, where there are more than a few darts.
-    fn index_many(&mut self) -> Result<(), OutOfMemory>
+    /// Makes the index, where there is none yet.
+    fn index_all(&mut self) -> Result<(), OutOfMemory>
         ensures { self.new ≡ self.old }
     {
-        if self.deciders.is_none() && self.reached.len() >= FEW {
+        if self.deciders.is_none() {
             self.deciders = Some(index(self.alloc, &self.reached)?);
         }
         Ok(())
     }
 }
 
+/// Puts a dart behind the others. The first one makes room for a few at once.
+fn push(reached: &mut Vec<Reached>, entry: Reached) -> Result<(), OutOfMemory>
+    ensures ok { OnOk result (reached.new.items ≡ reached.old.items ++ entry ∷ []) }
+    ensures err { OnErr result (reached.new.items ≡ reached.old.items) }
+{
+    if reached.is_empty() {
+        reached.reserve(FEW)?;
+    }
+    reached.push(entry)?;
+    Ok(())
+}
+
 /// The index of the deciding instance of each dart, by its key.
 fn index(alloc: Global, reached: &[Reached]) -> Result<BTreeMap<u64, u32>, OutOfMemory>
-    requires { HasDistinctKeys reached.now }
+    requires keyed { AreKeyed reached.now }
+    requires distinct { HasDistinctKeys reached.now }
     ensures { IfOk result (IsIndex reached.now) }
 {
     let mut deciders = BTreeMap::new(alloc);
     for entry in reached {
-        deciders.insert(key(entry.at), entry.decider)?;
+        deciders.insert(entry.key, entry.decider)?;
     }
     Ok(deciders)
 }
@@ -138,24 +177,25 @@ fn index(alloc: Global, reached: &[Reached]) -> Result<BTreeMap<u64, u32>, OutOf
 /// The index with one more dart, where there is one.
 fn put(
     deciders: Option<BTreeMap<u64, u32>>,
-    at: At,
-    decider: u32,
+    entry: Reached,
 ) -> Result<Option<BTreeMap<u64, u32>>, OutOfMemory>
-    ensures { IfOk result (λ more. (reached : List Reached) → (HasKey reached (key_of at) → ⊥) → IfSome deciders (IsIndex reached) → IfSome more (IsIndex (reached ++ reached_by at decider ∷ []))) }
+    requires { entry.key ≡ key_of entry.at }
+    ensures { IfOk result (λ more. (reached : List Reached) → (HasKey reached (key_of entry.at) → ⊥) → IfSome deciders (IsIndex reached) → IfSome more (IsIndex (reached ++ entry ∷ []))) }
 {
     let Some(mut deciders) = deciders else {
         return Ok(None);
     };
-    deciders.insert(key(at), decider)?;
+    deciders.insert(entry.key, entry.decider)?;
     Ok(Some(deciders))
 }
 
 /// The index of the deciding instance of the dart with this key.
 fn decider_among(reached: &[Reached], wanted: u64) -> Option<u32>
+    requires { AreKeyed reached.now }
     ensures { MatchOption result (HasKey reached.now wanted → ⊥) (IsMarkedBy reached.now wanted) }
 {
     for entry in reached {
-        if key(entry.at) == wanted {
+        if entry.key == wanted {
             return Some(entry.decider);
         }
     }

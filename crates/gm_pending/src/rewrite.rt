@@ -1,13 +1,16 @@
-ghost use Rattle.std.specs.Prelude.{◌≡◌, ℕ, ◌+◌, ◌<◌, ◌≤◌, length, IfSome, IsTrue};
+ghost use Rattle.std.specs.Prelude.{◌≡◌, ℕ, ◌+◌, ◌*◌, ◌<◌, ◌≤◌, ◌++◌, length, slice_index_or, IfOk, IsTrue};
+ghost use Rattle.std.specs.Vec.{vec_capacity};
 ghost use Rattle.gm_model.specs.declared.rule.Side.TheVariants.{Left, Right};
 ghost use Rattle.gm_model.specs.declared.step.Step.{Step};
 ghost use Rattle.gm_model.specs.Rules.{has_word, is_removed};
-ghost use Rattle.gm_pending.specs.Collected.{rule_at, end_of, is_steady, freed_step, made_step, written_step, leads_to, slot_in};
+ghost use Rattle.gm_model.specs.Unfolding.{added_nodes};
+ghost use Rattle.gm_pending.specs.Collected.{rule_at, end_of, is_steady, freed_step, made_step, written_step, slot_in, left_slots_of, left_slots, made_in, AreSlots};
 ghost use Rattle.gm_pending.specs.Written.{HasSlot, slot_of};
 
 use gm_arena::Slot;
-use gm_model::{Side, Step};
+use gm_model::{OutOfMemory, Side, Step};
 use gm_plan::{Instances, Plan};
+use std::alloc::Global;
 use std::marker::Model;
 
 /// Which arcs of an application are meant.
@@ -114,50 +117,51 @@ impl Rewrite<'_> {
             && self.plan.step(Side::Left, node, label) == self.plan.step(Side::Right, node, label)
     }
 
-    /// The instance to which the arc of such a step leads at the position.
-    pub(crate) fn leads_to(
-        &self,
-        arcs: Arcs,
-        step: Step,
-        node: u8,
-        position: u32,
-        label: u8,
-    ) -> Option<(u8, u32)>
-        requires step { step ≡ written_step self.now arcs node label }
-        requires position { position < self.now.placed.positions }
-        ensures leads { result ≡ leads_to self.now arcs node position step }
-        ensures within { IfSome result (λ to. to.1 < self.now.placed.positions) }
-    {
-        match (arcs, step) {
-            (_, Step::Absent) => None,
-            (Arcs::Freed, _) => Some((node, position)),
-            (Arcs::Made, Step::Exp(other)) => Some((other, position)),
-            (Arcs::Made, Step::Imp(place)) => Some((node, self.found.turn(position, place))),
-        }
-    }
-
-    /// The slot of a node that is removed.
-    pub(crate) fn removed_slot(&self, node: u8, position: u32) -> Slot
-        requires removed { IsTrue (is_removed (rule_at self.now) node) }
+    /// The slot of a left node.
+    pub(crate) fn left_slot(&self, node: u8, position: u32) -> Slot
+        requires left { IsTrue (has_word (rule_at self.now) Left node) }
         requires position { position < self.now.placed.positions }
         ensures { result ≡ slot_in self.now.placed node position }
     {
         self.found.slot(node, position)
     }
 
-    /// The slot of an instance. Those of new darts are in `made`.
-    pub(crate) fn slot(&self, node: u8, position: u32, made: &[Slot]) -> Slot
-        requires position { position < self.now.placed.positions }
-        requires made { HasSlot made.now (end_of self.now node position) }
-        ensures { result ≡ slot_of made.now (end_of self.now node position) }
+    /// The slots of the left nodes, with room for those of the added ones behind them.
+    pub(crate) fn left_slots(&self, alloc: Global) -> Result<Vec<Slot>, OutOfMemory>
+        ensures slots { IfOk result (λ slots. slots.items ≡ left_slots self.now) }
+        ensures room { IfOk result (λ slots. length slots.items + added_nodes (rule_at self.now) * self.now.placed.positions ≤ vec_capacity slots) }
     {
         let left = self.plan.left_nodes();
-        if node < left {
-            self.found.slot(node, position)
-        } else {
-            let block = (node - left) as usize * self.found.positions() as usize;
-            made[block + position as usize]
+        let nodes = left as usize + self.plan.added() as usize;
+        let mut slots = Vec::with_capacity(alloc, nodes * self.positions() as usize)?;
+        for node in 0..left {
+            self.put_left_slots(node, &mut slots);
         }
+        Ok(slots)
+    }
+
+    /// Puts the slots of a left node behind the others, where there is room for them.
+    fn put_left_slots(&self, node: u8, slots: &mut Vec<Slot>)
+        requires left { IsTrue (has_word (rule_at self.now) Left node) }
+        requires room { length slots.old.items + self.now.placed.positions ≤ vec_capacity slots.old }
+        ensures slots { slots.new.items ≡ slots.old.items ++ left_slots_of self.now node }
+        ensures capacity { vec_capacity slots.new ≡ vec_capacity slots.old }
+    {
+        for position in 0..self.positions() {
+            slots.push_reserved(self.left_slot(node, position));
+        }
+    }
+
+    /// The slots of a node by position, from the table of all slots.
+    pub(crate) fn slots_of<'s>(&self, node: u8, slots: &'s [Slot]) -> &'s [Slot]
+        requires slots { AreSlots self.now slots.now }
+        requires made { (p : ℕ) → p < self.now.placed.positions → HasSlot (made_in self.now slots.now) (end_of self.now node p) }
+        ensures long { length result.now ≡ self.now.placed.positions }
+        ensures slots { (p : ℕ) → p < self.now.placed.positions → slice_index_or result.now p (record { at = 0 }) ≡ slot_of (made_in self.now slots.now) (end_of self.now node p) }
+    {
+        let positions = self.found.positions() as usize;
+        let start = node as usize * positions;
+        &slots[start..start + positions]
     }
 
     pub(crate) fn is_removed(&self, node: u8) -> bool

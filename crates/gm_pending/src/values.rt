@@ -1,12 +1,11 @@
 //! The values of a result, as the values that were given to its deciding instances make them.
-ghost use Rattle.std.specs.Prelude.{◌≡◌, ◌+◌, ◌<◌, ◌≤◌, length, map, slice_get, Some, IsSome, IsTrue, MatchOption};
+ghost use Rattle.std.specs.Prelude.{◌≡◌, ◌+◌, ◌<◌, ◌≤◌, length, map, slice_get, Some, IfSome, IsSome, IsTrue, MatchOption};
 ghost use Rattle.gm_model.specs.declared.schema.Embed.{Embed};
 ghost use Rattle.gm_model.specs.Maps.{IsEmbedAt};
 ghost use Rattle.gm_model.specs.Values.{IsValueOf};
 ghost use Rattle.gm_pending.specs.declared.decider.Decider.{Decider};
 ghost use Rattle.gm_pending.specs.Reached.{AreReached};
-ghost use Rattle.gm_pending.specs.Sources.{HasSourceNode, IsKeeperFor, IsSourceOf, IsUnreached, given_of};
-ghost use Rattle.gm_pending.specs.declared.at.At.TheVariants.{New};
+ghost use Rattle.gm_pending.specs.Sources.{HasSourceNode, IsKeeperFor, IsOldValue, IsSourceOf, IsUnreached, given_of};
 ghost use Rattle.gm_model.specs.Rules.{is_added, is_preserved};
 ghost use Rattle.gm_arena.specs.ArenaMap.{IsLiveSlot};
 ghost use Rattle.gm_plan.specs.InArena.{slot_number};
@@ -58,33 +57,27 @@ impl Pending<'_, '_> {
         }
     }
 
-    /// The value of an added node's new dart at a position, as `value` has it. The node's keeper
-    /// for the embedding is given, since it is the same at all positions.
-    pub(crate) fn new_value<L: Ledger>(
+    /// The value of a keeper's old dart at a position. Where there is no keeper, it may be any.
+    pub(crate) fn kept_value<L: Ledger>(
         &self,
-        node: u8,
+        keeper: Option<u8>,
         position: u32,
         embed: u8,
-        keeper: Option<u8>,
         steps: &mut Steps<L>,
     ) -> Value
-        requires added { IsTrue (is_added (rule_in self.now) node) }
+        requires preserved { IfSome keeper (λ node. IsTrue (is_preserved (rule_in self.now) node)) }
         requires position { position < self.now.placed.positions }
-        requires given { AreAllGiven self.now embed }
-        requires keeper { IsKeeperFor self.now embed node keeper }
-        ensures value { (kept : Embed) → IsEmbedAt self.now.map.schema embed kept → IsValueIn self.now embed kept (name_of self.now (New node position)) result }
+        requires embed { embed < length self.now.map.schema.embeds }
+        ensures value { IfSome keeper (λ node. IsOldValue self.now embed (slot_number self.now.placed node position) result) }
         ensures cost { steps.new ≤ steps.old + 1 }
         ensures least { steps.old ≤ steps.new }
     {
-        if let Some(value) = self.decided_value(At::New { node, position }, embed) {
-            return value;
-        }
         match keeper {
-            Some(keeper) => {
-                let slot = self.kept_slot(keeper, position);
+            Some(node) => {
+                let slot = self.kept_slot(node, position);
                 self.arena.value(slot, embed, steps)
             }
-            None => unreachable!(),
+            None => Value::Int(0),
         }
     }
 

@@ -1,5 +1,5 @@
 -- What comparing the held lines with a book comes to: the script that the text stands for, or the first disagreement.
-use Rattle.std.proofs.Common.{◌≡◌, ◌≢◌, ℕ, zero, suc, ◌<◌, Bool, true, false, cond, eqb, List, [], ◌∷◌, ◌++◌, length, map, slice_get, Option, Some, None, Result, Ok, Err, refl, sym, ap, ◌∙◌, arith}
+use Rattle.std.proofs.Common.{◌≡◌, ℕ, zero, suc, ◌<◌, Bool, true, false, cond, eqb, List, [], ◌∷◌, ◌++◌, length, map, slice_get, Option, Some, None, Result, Ok, Err, refl, sym, ap, ◌∙◌, arith}
 use Rattle.std.proofs.lemmas.Bool.{eqb-true, eqb-false}
 use Rattle.std.specs.Option.{option_map, option_and_then}
 use Rattle.gm_model.specs.declared.rule.Param.{Param}
@@ -7,11 +7,10 @@ use Rattle.gm_model.specs.declared.script.Line.{Line}
 use Rattle.gm_model.specs.declared.value.Kind.{Kind}
 use Rattle.gm_model.specs.declared.value.Kind.TheVariants as kinds
 use Rattle.gm_model.specs.declared.value.Value.{Value}
-use Rattle.gm_model.specs.Tokens.{bytes_of}
 use Rattle.gm_model.specs.Rules.{Rule}
-use Rattle.gm_script.specs.ScriptText.{ValueForm, Plain, Truth, Pair, Triple, LineForm, value_as, index_of, AreParams, IsOfRule, IsLine, AreLines, Disagreement, UnknownRuleAt, HookCountAt, ParamsAt, Disagrees, UnknownRule, HookCount, Params}
+use Rattle.gm_script.specs.ScriptText.{ValueForm, Plain, Truth, Pair, Triple, LineForm, value_as, index_of, AreParams, IsOfRule, IsLine, AreLines, Disagreement, HookCountAt, Disagrees, UnknownRule, HookCount, Params}
 use Rattle.gm_script.specs.Comparing.{value_for, params_for, line_with, line_of_rule, line_at, line_for, lines_for, ◌>>=◌}
-use Rattle.gm_script.specs.Lines.{value_held, IsHeldLine, AreHeld}
+use Rattle.gm_script.proofs.HeldLines.{value_held, IsHeldLine, AreHeld}
 use Rattle.gm_script.specs.Reading.{HeldLine}
 use Rattle.gm_script.proofs.Indices.{index_below}
 

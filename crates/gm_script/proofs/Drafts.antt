@@ -1,17 +1,13 @@
 -- What is written in a script so far, and how a symbol that can stand next is written behind it.
-use Rattle.std.proofs.Common.{◌≡◌, ℕ, ◌+◌, Bool, true, false, List, [], ◌∷◌, ◌++◌, length, map, Option, Some, None, refl, sym, ap, ◌∙◌, arith, codes}
-use Rattle.std.specs.List.{AllByRecursion}
-use Rattle.gm_model.specs.Names.{reserved, Mention, IsFree, is_among}
-use Rattle.gm_model.specs.Symbols.{Symbol, Word, Numeral, Sign}
+use Rattle.std.proofs.Common.{◌≡◌, ℕ, ◌+◌, Bool, true, false, List, [], ◌∷◌, ◌++◌, length, map, Option, Some, None, refl, sym, ◌∙◌, arith, codes}
+use Rattle.gm_model.specs.Names.{IsFree}
 use Rattle.gm_model.specs.Reading.{Part}
-use Rattle.gm_script.specs.ScriptText.{ValueForm, Plain, Truth, Pair, Triple, LineForm, Role, Fixed, ApplyAt, RuleAt, Hook, Size, word, number, sign, the_end, spell_signed, spell_value, spell_values, spell_params, spell_line, spell_lines, spelling, IsForm}
+use Rattle.gm_script.specs.ScriptText.{ValueForm, Plain, Pair, Triple, LineForm, Role, Fixed, ApplyAt, RuleAt, Hook, word, number, sign, spell_signed, spell_values, spell_lines, IsForm}
 use Rattle.gm_text.specs.ValueText.{Signed}
-use Rattle.gm_script.specs.Reading.{sight_of, next_spot, can_end, is_minus, lines_at, role_in}
-use Rattle.gm_script.specs.declared.sight.Sight.{Sight}
-use Rattle.gm_script.specs.declared.sight.Sight.TheVariants as sights
+use Rattle.gm_script.specs.Reading.{is_minus, lines_at}
 use Rattle.gm_script.specs.declared.spot.Spot.{Spot}
 use Rattle.gm_script.specs.declared.spot.Spot.TheVariants as spots
-use Rattle.gm_script.proofs.Spelling.{hooks_more, values_more, lines_more}
+use Rattle.gm_script.proofs.Spelling.{lines_more}
 
 -- the whole lines, the line that is being read, and the numbers of its vector
 pub record Draft : Type 0 where

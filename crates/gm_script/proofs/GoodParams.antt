@@ -1,11 +1,10 @@
 -- The values of a line that a text stands for are values of its rule's parameters, each in the range of its kind.
-use Rattle.std.proofs.Common.{◌≡◌, ℕ, zero, suc, ◌+◌, ◌<◌, ◌≤◌, ◌^◌, Bool, true, false, cond, ℤ, pos, negsuc, FitsSigned, w64, List, [], ◌∷◌, ◌++◌, map, Some, None, slice_get, refl, sym, ap, subst, ◌∙◌, arith, codes}
+use Rattle.std.proofs.Common.{◌≡◌, ℕ, zero, suc, ◌+◌, ◌<◌, ◌≤◌, Bool, true, false, cond, ℤ, pos, negsuc, FitsSigned, w64, List, [], ◌∷◌, ◌++◌, map, Some, None, slice_get, refl, sym, subst, ◌∙◌, arith, codes}
 use Rattle.std.specs.Prelude.{IsTrue, ◌&&◌, nat_lt, nat_abs, int_le}
 use Rattle.std.specs.List.{AllByRecursion, AllZip}
 use Rattle.std.proofs.lemmas.Bool.Decides.{nat_tests}
 use Rattle.std.proofs.lemmas.Bool.{and_parts}
 use Rattle.std.proofs.lemmas.Option.{same_Some}
-use Rattle.gm_model.specs.declared.limit.LimitKind.{LimitKind}
 use Rattle.gm_model.specs.declared.limit.LimitKind.TheVariants as limits
 use Rattle.gm_model.specs.declared.rule.Param.{Param}
 use Rattle.gm_model.specs.declared.script.Line.{Line}
@@ -19,7 +18,7 @@ use Rattle.gm_model.specs.Rules.{Rule}
 use Rattle.gm_model.specs.Symbols.{Numeral}
 use Rattle.gm_model.specs.Values.{IsValueOf}
 use Rattle.gm_text.specs.ValueText.{Signed, integer, greatest, is_channel}
-use Rattle.gm_script.specs.ScriptText.{ValueForm, Plain, Truth, Pair, Triple, LineForm, Role, Fixed, Hook, Size, limit_of, number, sign, the_end, spell_signed, spell_value, spell_values, spell_params, spell_lines, IsSentence, value_as, colour, AreParams, IsLine, AreLines, ScriptText}
+use Rattle.gm_script.specs.ScriptText.{ValueForm, Plain, Truth, Pair, Triple, LineForm, Role, Hook, Size, limit_of, number, sign, the_end, spell_signed, spell_value, spell_values, spell_params, spell_lines, IsSentence, value_as, colour, AreParams, IsLine, AreLines, ScriptText}
 
 abbrev AreWithin : List (Part Role) → Type 0
 AreWithin parts = IsWithin IsSentence limit_of parts

@@ -1,10 +1,10 @@
 -- The texts of scripts are read by states.
-use Rattle.std.proofs.Common.{◌≡◌, ℕ, ◌+◌, Bool, true, false, cond, List, [], ◌∷◌, ◌++◌, Option, Some, None, refl, sym, ap, subst, ◌∙◌}
+use Rattle.std.proofs.Common.{◌≡◌, ℕ, ◌+◌, Bool, true, false, cond, List, [], ◌∷◌, Option, Some, None, refl, sym, ap, subst, ◌∙◌}
 use Rattle.std.specs.Option.{option_map}
 use Rattle.gm_model.specs.Symbols.{Symbol, Word, Numeral, Sign, Gone, Stray, End}
 use Rattle.gm_model.specs.Reading.{Part}
 use Rattle.gm_script.specs.ScriptText.{LineForm, Role, Fixed, ApplyAt, RuleAt, limit_of, the_end, spelling, IsForm, IsSentence}
-use Rattle.gm_text.specs.Machine.{Leads, IsGrammar}
+use Rattle.gm_text.specs.Machine.{IsGrammar}
 use Rattle.gm_script.specs.Reading.{State, At, Ended, can_end, lines_at, move, next_spot, sight_of, role_in, role_at, never}
 use Rattle.gm_script.specs.declared.sight.Sight.{Sight}
 use Rattle.gm_script.specs.declared.sight.Sight.TheVariants as sights

@@ -1,17 +1,16 @@
 -- The texts of scripts lead from the first state to the last.
-use Rattle.std.proofs.Common.{◌≡◌, ℕ, ◌+◌, Bool, true, false, if◌then◌else◌, List, [], ◌∷◌, ◌++◌, map, Option, Some, refl, sym, ap, subst, ◌∙◌, codes}
+use Rattle.std.proofs.Common.{◌≡◌, ℕ, ◌+◌, Bool, true, false, if◌then◌else◌, List, [], ◌∷◌, ◌++◌, map, Some, refl, sym, subst, ◌∙◌, codes}
 use Rattle.std.proofs.lemmas.Bool.{cond_both}
 use Rattle.std.proofs.lemmas.Slice.Eq.{bytes_eq-Decides}
 use Rattle.std.specs.Str.{bytes_eq}
 use Rattle.gm_model.specs.Names.{reserved, is_among}
 use Rattle.gm_model.specs.Symbols.{Word}
 use Rattle.gm_model.specs.Reading.{Part}
-use Rattle.gm_script.specs.ScriptText.{ValueForm, Plain, Truth, Pair, Triple, LineForm, Role, Fixed, ApplyAt, RuleAt, Hook, Size, limit_of, word, number, sign, the_end, spell_signed, spell_value, spell_values, spell_params, spell_line, spell_lines, spelling, IsForm, IsSentence}
+use Rattle.gm_script.specs.ScriptText.{ValueForm, Plain, Truth, Pair, Triple, LineForm, Role, RuleAt, Hook, Size, limit_of, word, number, sign, the_end, spell_signed, spell_value, spell_values, spell_params, spell_line, spell_lines, IsForm, IsSentence}
 use Rattle.gm_text.specs.ValueText.{Signed}
 use Rattle.gm_text.specs.Machine.{Leads}
 use Rattle.gm_script.specs.Reading.{State, At, Ended, can_end, move, role_at, never, next_name, sight_of_word}
 use Rattle.gm_script.specs.declared.sight.Sight.{Sight}
-use Rattle.gm_script.specs.declared.sight.Sight.TheVariants as sights
 use Rattle.gm_script.specs.declared.spot.Spot.{Spot}
 use Rattle.gm_script.specs.declared.spot.Spot.TheVariants as spots
 

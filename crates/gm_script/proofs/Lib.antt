@@ -4,6 +4,7 @@ pub mod Drafts
 pub mod Steps
 pub mod Leads
 pub mod Grammar
+pub mod HeldLines
 pub mod Held
 pub mod Tokens
 pub mod Limits

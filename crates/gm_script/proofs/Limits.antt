@@ -1,12 +1,11 @@
 -- The limit that the reader tests is the one that the symbol passes in its role.
-use Rattle.std.proofs.Common.{◌≡◌, ℕ, ◌+◌, ◌-◌, ◌^◌, ◌<◌, ◌≤◌, min, Bool, true, false, leb, ltb, List, length, Option, Some, None, refl, sym, ap, subst, ◌∙◌, arith, codes}
+use Rattle.std.proofs.Common.{◌≡◌, ℕ, ◌-◌, ◌^◌, ◌<◌, ◌≤◌, min, Bool, true, false, List, length, Option, Some, None, refl, subst, arith, codes}
 use Rattle.std.specs.Prelude.{nat_le, nat_lt}
 use Rattle.std.proofs.lemmas.Bool.Decides.{nat_tests}
-use Rattle.gm_model.specs.declared.limit.LimitKind.{LimitKind}
-use Rattle.gm_model.specs.Symbols.{Symbol, Word, Numeral, Sign}
+use Rattle.gm_model.specs.Symbols.{Symbol, Word, Numeral}
 use Rattle.gm_script.specs.ScriptText.{limit_of}
 use Rattle.gm_text.specs.ValueText.{greatest}
-use Rattle.gm_script.specs.Reading.{number_limit, limit_in, next_spot, sight_of, role_in, lines_at, hold, Held}
+use Rattle.gm_script.specs.Reading.{limit_in, next_spot, sight_of, role_in, lines_at, hold, Held}
 use Rattle.gm_model.specs.declared.token.Token.{Token}
 use Rattle.gm_script.specs.declared.sight.Sight.{Sight}
 use Rattle.gm_script.specs.declared.sight.Sight.TheVariants as sights

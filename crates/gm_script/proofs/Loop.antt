@@ -1,23 +1,211 @@
--- Lines that are compared one after another.
-use Rattle.std.proofs.Common.{◌≡◌, ℕ, List, [], ◌∷◌, ◌++◌, Result, Ok, Err, refl, sym, ap, ◌∙◌, append_assoc}
+-- Lines that are compared as they are read: what was read and compared so far, and what that says at each end.
+use Rattle.std.proofs.Common.{◌≡◌, ℕ, ◌-◌, List, [], ◌∷◌, ◌++◌, true, false, Option, Some, None, is_some, Result, Ok, Err, IfOk, IfErr, Vec, Global, refl, sym, ap, subst, ◌∙◌, arith}
+use Rattle.std.proofs.lemmas.List.{append-nil}
+use Rattle.gm_model.specs.declared.limit.LimitKind.{LimitKind}
 use Rattle.gm_model.specs.declared.script.Line.{Line}
+use Rattle.gm_model.specs.declared.token.Token.{Token}
+use Rattle.gm_model.specs.Tokens.{Item, Lexed, EndAt, items_of}
 use Rattle.gm_model.specs.Rules.{Rule}
-use Rattle.gm_script.specs.ScriptText.{Disagreement}
-use Rattle.gm_script.specs.Comparing.{line_for, lines_for, ◌>>=◌}
-use Rattle.gm_script.specs.Reading.{HeldLine}
+use Rattle.gm_script.specs.ScriptText.{ScriptText, Disagreement}
+use Rattle.gm_script.specs.Comparing.{line_for, lines_for}
+use Rattle.gm_script.specs.Comparing as comparing
+use Rattle.gm_script.specs.Faults.{of_text, IsFaultOf, Says, Compares, unless}
+use Rattle.gm_script.specs.Reading.{HeldLine, Held, Stop, sight_of, symbol_at, next_spot, limit_in, hold, hold_apply, hold_number, hold_vector, taken, taken_at, finished, read_from, ended_by, put_first, nothing, lines_of, Fails, IsStray, ◌>>=◌, IsInText}
+use Rattle.gm_text.specs.Cursor.{Cursor}
+use Rattle.gm_text.specs.Lexing.{rest_of}
+use Rattle.gm_script.specs.declared.fault.ScriptFault.{ScriptFault}
+use Rattle.gm_script.specs.declared.fault.ScriptFault.TheVariants as faults
+use Rattle.gm_script.specs.declared.reader.TextFault.{TextFault}
+use Rattle.gm_script.specs.declared.reader.TextFault.TheVariants as texts
+use Rattle.gm_script.specs.declared.sight.Sight.{Sight}
+use Rattle.gm_script.specs.declared.sight.Sight.TheVariants as sights
+use Rattle.gm_script.specs.declared.spot.Spot.{Spot}
+use Rattle.gm_script.specs.declared.spot.Spot.TheVariants as spots
+use Rattle.gm_script.proofs.Lines as lines
+use Rattle.gm_script.proofs.Lines.{front_moves}
+use Rattle.gm_script.proofs.Script.{script_is, fault_is}
 
--- what all come to, where the first have come to these lines
-abbrev pub with_front : List Line → Result (List Line) Disagreement → Result (List Line) Disagreement
-with_front front (Ok lines) = Ok (front ++ lines)
-with_front front (Err fault) = Err fault
+-- ---- a further line
 
-both_fronts : (front : List Line) (line : Line) (rest : Result (List Line) Disagreement) → with_front front (rest >>= λ lines. Ok (line ∷ lines)) ≡ with_front (front ++ line ∷ []) rest
-both_fronts front line (Ok lines) = ap Ok (sym (append_assoc front (line ∷ []) lines))
-both_fronts front line (Err fault) = refl
+says_on : {X Y : Type 0} (fault : ScriptFault) (answer : Result X Disagreement) (more : X → Result Y Disagreement) → Says fault answer → Says fault (comparing.◌>>=◌ answer more)
+says_on (faults.Text place) answer more says = says
+says_on (faults.Limit what place) answer more says = says
+says_on (faults.UnknownRule place) answer more says = rw says refl
+says_on (faults.HookCount place) answer more says = rw says refl
+says_on (faults.Params place) answer more says = rw says refl
+says_on faults.OutOfMemory answer more says = tt
 
-module _ (text : List ℕ) (rules : List Rule) (held : HeldLine) (others : List HeldLine) (front : List Line) (all : Result (List Line) Disagreement)
-    (so_far : with_front front (lines_for text rules (held ∷ others)) ≡ all) where
-  pub goes_on : (line : Line) → line_for text rules held ≡ Ok line → with_front (front ++ line ∷ []) (lines_for text rules others) ≡ all
-  goes_on line e =
-      let same : with_front front (Ok line >>= λ first. lines_for text rules others >>= λ lines. Ok (first ∷ lines)) ≡ all = rw e at so_far in
-      sym (both_fronts front line (lines_for text rules others)) ∙ same
+-- ---- a token that is held
+
+abbrev NameIn : List ℕ → Held → Type 0
+NameIn text held = IsInText text held.line.name
+
+module _ (text : List ℕ) (token : Token) (inside : IsInText text token) (held : Held) (named : NameIn text held) where
+  number_named : (spot : Spot) (n : ℕ) → NameIn text (hold_number spot n held)
+  number_named spots.Rule n = named
+  number_named spots.Open n = named
+  number_named spots.OpenMinus n = named
+  number_named spots.First n = named
+  number_named spots.FirstMinus n = named
+  number_named spots.Second n = named
+  number_named spots.SecondMinus n = named
+  number_named _ n = named
+
+  apply_named : (spot : Spot) → NameIn text (hold_apply spot token held)
+  apply_named spots.Apply = inside
+  apply_named _ = inside
+
+  vector_named : (spot : Spot) → NameIn text (hold_vector spot held)
+  vector_named spots.Second = named
+  vector_named _ = named
+
+  held_named : (spot : Spot) (sight : Sight) → NameIn text (hold spot sight token held)
+  held_named spot sights.Name = inside
+  held_named spot sights.Apply = apply_named spot
+  held_named spot (sights.Number n) = number_named spot n
+  held_named spot (sights.Truth b) = named
+  held_named spot sights.Close = vector_named spot
+  held_named spot _ = named
+
+  taken_named : (to : Option Spot) (limit : Option LimitKind) (sight : Sight) (next : Held) → taken to limit sight token held ≡ Ok next → NameIn text next
+  taken_named None limit sight next e = absurd cc
+  taken_named (Some spot) (Some what) sight next e = absurd cc
+  taken_named (Some spot) None sight next e =
+      let same : record (hold held.spot sight token held) { spot = spot } ≡ next = cc e in
+      subst (NameIn text) same (held_named held.spot sight)
+
+-- ---- what was read so far
+
+-- what all come to, where these have ended before
+abbrev pub behind : List HeldLine → Result (List HeldLine) Stop → Result (List HeldLine) Stop
+behind before (Ok others) = Ok (before ++ others)
+behind before (Err stop) = Err stop
+
+behind_none : (read : Result (List HeldLine) Stop) → behind [] read ≡ read
+behind_none (Ok others) = refl
+behind_none (Err stop) = refl
+
+behind_more : (before : List HeldLine) (line : Option HeldLine) (read : Result (List HeldLine) Stop) → behind (before ++ put_first line []) read ≡ behind before (read >>= λ others. Ok (put_first line others))
+behind_more before line (Ok others) = ap Ok (front_moves before line others)
+behind_more before line (Err stop) = refl
+
+behind_fails : (before : List HeldLine) (fault : TextFault) (read : Result (List HeldLine) Stop) → Fails fault read → Fails fault (behind before read)
+behind_fails before texts.OutOfMemory read e = tt
+behind_fails before (texts.Text place) read e = rw e refl
+behind_fails before (texts.Limit what place) read e = rw e refl
+
+fails_on : {X Y : Type 0} (fault : TextFault) (read : Result X Stop) (more : X → Result Y Stop) → Fails fault read → Fails fault (read >>= more)
+fails_on texts.OutOfMemory read more e = tt
+fails_on (texts.Text place) read more e = rw e refl
+fails_on (texts.Limit what place) read more e = rw e refl
+
+module _ (text : List ℕ) (rules : List Rule) where
+  abbrev pub Holds : Result (List Line) ScriptFault → List HeldLine → Type 0
+  Holds compared helds = Compares (λ (lines : List Line). lines) compared (lines_for text rules helds)
+
+  lines_more : (helds : List HeldLine) (held : HeldLine) → lines_for text rules (helds ++ held ∷ []) ≡ comparing.◌>>=◌ (lines_for text rules helds) (λ lines. comparing.◌>>=◌ (line_for text rules held) (λ line. Ok (lines ++ line ∷ [])))
+  lines_more [] held = refl
+  lines_more (first ∷ helds) held =
+      by (line_for text rules first) (lines_for text rules helds) (line_for text rules held) (lines_for text rules (helds ++ held ∷ [])) (lines_more helds held)
+    where
+      by : (one : Result Line Disagreement) (some : Result (List Line) Disagreement) (last : Result Line Disagreement) (all : Result (List Line) Disagreement)
+          → all ≡ comparing.◌>>=◌ some (λ lines. comparing.◌>>=◌ last (λ line. Ok (lines ++ line ∷ [])))
+          → comparing.◌>>=◌ one (λ line. comparing.◌>>=◌ all (λ lines. Ok (line ∷ lines)))
+          ≡ comparing.◌>>=◌ (comparing.◌>>=◌ one (λ line. comparing.◌>>=◌ some (λ lines. Ok (line ∷ lines)))) (λ lines. comparing.◌>>=◌ last (λ line. Ok (lines ++ line ∷ [])))
+      by (Err fault) some last all e = refl
+      by (Ok line) (Err fault) last all e = rw e refl
+      by (Ok line) (Ok lines) (Err fault) all e = rw e refl
+      by (Ok line) (Ok lines) (Ok other) all e = rw e refl
+
+  module _ (helds : List HeldLine) (held : HeldLine) where
+    fault_stays : (fault : ScriptFault) → Holds (Err fault) helds → Holds (Err fault) (helds ++ held ∷ [])
+    fault_stays fault says = rw (lines_more helds held) (says_on fault (lines_for text rules helds) (λ lines. comparing.◌>>=◌ (line_for text rules held) (λ line. Ok (lines ++ line ∷ []))) says)
+
+    pub stays : (old : Option ScriptFault) (lines : List Line) → is_some old ≡ true → Holds (unless old lines) helds → Holds (unless old lines) (helds ++ held ∷ [])
+    stays None lines there holds = absurd cc
+    stays (Some fault) lines there holds = fault_stays fault holds
+
+    pub line_added : (old : Option ScriptFault) (lines : List Line) (line : Line) → is_some old ≡ false → Holds (unless old lines) helds → line_for text rules held ≡ Ok line → Holds (unless old (lines ++ line ∷ [])) (helds ++ held ∷ [])
+    line_added None lines line there e f = lines_more helds held ∙ rw (e, f) refl
+    line_added (Some fault) lines line there e f = absurd cc
+
+    pub fault_added : (old : Option ScriptFault) (lines : List Line) (fault : ScriptFault) → is_some old ≡ false → Holds (unless old lines) helds → Says fault (line_for text rules held) → Holds (Err fault) (helds ++ held ∷ [])
+    fault_added None lines fault there e says = rw (lines_more helds held, e) (says_on fault (line_for text rules held) (λ line. Ok (lines ++ line ∷ [])) says)
+    fault_added (Some other) lines fault there e says = absurd cc
+
+  -- these lines have ended before what is held, and are compared
+  pub record IsSoFar (held : Held) (items : List Item) (compared : Result (List Line) ScriptFault) : Type 0 where
+    pub before : List HeldLine
+    pub read : behind before (read_from text held items) ≡ lines_of text
+    pub holds : Holds compared before
+    pub named : IsInText text held.line.name
+
+  pub starts : IsSoFar nothing (items_of text) (Ok [])
+  starts = record { before = []; read = behind_none (lines_of text); holds = refl; named = record { order = omega arith; within = omega arith } }
+
+  -- ---- a fault of the text
+
+  module _ (held : Held) (items : List Item) (compared : Result (List Line) ScriptFault) (so_far : IsSoFar held items compared) (fault : TextFault) where
+    fails : Fails fault (read_from text held items) → IsFaultOf text rules (of_text fault)
+    fails e = lines.fault_is text rules fault (subst (Fails fault) so_far.read (behind_fails so_far.before fault (read_from text held items) e))
+
+  pub stray_fails : (held : Held) (cursor : Cursor) (compared : Result (List Line) ScriptFault) → IsSoFar held (rest_of cursor) compared → (fault : TextFault) → IsStray cursor fault → IsFaultOf text rules (of_text fault)
+  stray_fails held cursor compared so_far (texts.Text place) stray = fails held (rest_of cursor) compared so_far (texts.Text place) (rw stray refl)
+  stray_fails held cursor compared so_far (texts.Limit what place) stray = absurd stray
+  stray_fails held cursor compared so_far texts.OutOfMemory stray = absurd stray
+
+  pub token_fails : (held : Held) (token : Token) (items : List Item) (compared : Result (List Line) ScriptFault) → IsSoFar held (Lexed token ∷ items) compared
+      → (fault : TextFault) → Fails fault (taken_at (sight_of (symbol_at text token)) token held) → IsFaultOf text rules (of_text fault)
+  token_fails held token items compared so_far fault e =
+      fails held (Lexed token ∷ items) compared so_far fault
+      (fails_on fault (taken_at (sight_of (symbol_at text token)) token held) (λ next. read_from text next items >>= λ others. Ok (put_first (ended_by held.spot (sight_of (symbol_at text token)) held.line) others)) e)
+
+  pub end_fails : (held : Held) (place : ℕ) (compared : Result (List Line) ScriptFault) → IsSoFar held (EndAt place ∷ []) compared
+      → (fault : TextFault) → Fails fault (finished held.spot place held) → IsFaultOf text rules (of_text fault)
+  end_fails held place compared so_far fault e = fails held (EndAt place ∷ []) compared so_far fault (fails_on fault (finished held.spot place held) (λ line. Ok (put_first line [])) e)
+
+  -- ---- a token, and the end
+
+  -- a further line is compared, if there is one
+  abbrev pub Adds : Option HeldLine → Result (List Line) ScriptFault → Result (List Line) ScriptFault → Type 0
+  Adds line old new = (helds : List HeldLine) → Holds old helds → Holds new (helds ++ put_first line [])
+
+  pub adds_none : (compared : Result (List Line) ScriptFault) → Adds None compared compared
+  adds_none compared helds holds = rw (append-nil helds) holds
+
+  pub goes_on : (held next : Held) (token : Token) (items : List Item) (old new : Result (List Line) ScriptFault) → IsInText text token → IsSoFar held (Lexed token ∷ items) old
+      → taken_at (sight_of (symbol_at text token)) token held ≡ Ok next → Adds (ended_by held.spot (sight_of (symbol_at text token)) held.line) old new → IsSoFar next items new
+  goes_on held next token items old new inside so_far e adds =
+      let line = ended_by held.spot (sight_of (symbol_at text token)) held.line in
+      let step : read_from text held (Lexed token ∷ items) ≡ (read_from text next items >>= λ others. Ok (put_first line others)) = rw e refl in
+      record {
+        before = so_far.before ++ put_first line [];
+        read = behind_more so_far.before line (read_from text next items) ∙ ap (behind so_far.before) (sym step) ∙ so_far.read;
+        holds = adds so_far.before so_far.holds;
+        named = taken_named text token inside held so_far.named (next_spot held.spot (sight_of (symbol_at text token))) (limit_in held.spot held.begun (sight_of (symbol_at text token)) (token.end - token.start)) (sight_of (symbol_at text token)) next e;
+      }
+
+  -- all lines are compared
+  pub record IsDone (compared : Result (List Line) ScriptFault) : Type 0 where
+    pub helds : List HeldLine
+    pub read : lines_of text ≡ Ok helds
+    pub holds : Holds compared helds
+
+  pub ends : (held : Held) (place : ℕ) (last : Option HeldLine) (old new : Result (List Line) ScriptFault) → IsSoFar held (EndAt place ∷ []) old
+      → finished held.spot place held ≡ Ok last → Adds last old new → IsDone new
+  ends held place last old new so_far e adds =
+      let step : read_from text held (EndAt place ∷ []) ≡ Ok (put_first last []) = rw e refl in
+      record { helds = so_far.before ++ put_first last []; read = sym so_far.read ∙ ap (behind so_far.before) step; holds = adds so_far.before so_far.holds }
+
+  module _ (compared : Result (List Line) ScriptFault) (done : IsDone compared) where
+    pub done_script : (result : Result (Vec Line Global) ScriptFault) → IfOk result (λ all. compared ≡ Ok all.items) → IfOk result (λ all. ScriptText text rules all.items)
+    done_script (Ok all) e =
+        let holds : Holds (Ok all.items) done.helds = rw e at done.holds in
+        script_is text rules done.helds (lines.lines_are text done.helds done.read) all.items holds
+    done_script (Err fault) e = tt
+
+    pub done_fault : (result : Result (Vec Line Global) ScriptFault) → IfErr result (λ fault. compared ≡ Err fault) → IfErr result (IsFaultOf text rules)
+    done_fault (Ok all) e = tt
+    done_fault (Err fault) e =
+        let holds : Holds (Err fault) done.helds = rw e at done.holds in
+        fault_is text rules done.helds (lines.lines_are text done.helds done.read) fault holds

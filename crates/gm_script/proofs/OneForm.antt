@@ -1,11 +1,10 @@
 -- A text has its lines written in one way at most.
-use Rattle.std.proofs.Common.{◌≡◌, ◌≢◌, ℕ, suc, ◌+◌, Bool, true, false, if◌then◌else◌, List, [], ◌∷◌, ◌++◌, map, Option, Some, refl, sym, ap, subst, ◌∙◌, codes}
+use Rattle.std.proofs.Common.{◌≡◌, ◌≢◌, ℕ, ◌+◌, Bool, true, false, if◌then◌else◌, List, [], ◌∷◌, ◌++◌, map, Some, refl, sym, ap, subst, ◌∙◌, codes}
 use Rattle.gm_model.specs.Symbols.{Symbol, Word, Numeral, Sign, Stray, End, Mark, symbols, marks_of}
 use Rattle.gm_model.specs.Reading.{Part, symbols_in}
-use Rattle.gm_model.specs.Names.{Mention}
-use Rattle.gm_script.specs.ScriptText.{ValueForm, Plain, Truth, Pair, Triple, LineForm, Role, Fixed, ApplyAt, RuleAt, Hook, Size, limit_of, word, number, sign, the_end, spell_signed, spell_value, spell_values, spell_params, spell_line, spell_lines, spelling, IsPlacedAt, ArePlaced, IsWritten}
+use Rattle.gm_script.specs.ScriptText.{ValueForm, Plain, Truth, Pair, Triple, LineForm, Role, Fixed, ApplyAt, RuleAt, Hook, Size, word, number, sign, the_end, spell_signed, spell_value, spell_values, spell_params, spell_lines, spelling, IsPlacedAt, ArePlaced, IsWritten}
 use Rattle.gm_text.specs.ValueText.{Signed}
-use Rattle.gm_script.specs.Reading.{State, At, Ended, move, sight_of, role_in, role_at, never}
+use Rattle.gm_script.specs.Reading.{State, At, Ended, move, sight_of, role_in, role_at}
 use Rattle.gm_script.specs.declared.sight.Sight.{Sight}
 use Rattle.gm_script.specs.declared.sight.Sight.TheVariants as sights
 use Rattle.gm_script.specs.declared.spot.Spot.{Spot}

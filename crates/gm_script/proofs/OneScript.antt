@@ -1,16 +1,16 @@
 -- A text stands for one script at most under a book, and has one first disagreement at most with it.
-use Rattle.std.proofs.Common.{◌≡◌, ◌≢◌, ℕ, zero, suc, ◌+◌, ◌-◌, Bool, true, false, cond, eqb, eq-eqb, List, [], ◌∷◌, ◌++◌, length, drop, map, Option, Some, None, Result, Ok, Err, refl, sym, ap, subst, ◌∙◌, arith}
+use Rattle.std.proofs.Common.{◌≡◌, ◌≢◌, ℕ, zero, suc, ◌-◌, Bool, true, false, eqb, eq-eqb, List, [], ◌∷◌, ◌++◌, length, drop, Option, Some, None, Result, Ok, Err, refl, sym, ap, subst, ◌∙◌}
 use Rattle.std.proofs.lemmas.Bool.{eqb-true}
 use Rattle.gm_model.specs.declared.limit.LimitKind.{LimitKind}
 use Rattle.gm_model.specs.declared.script.Line.{Line}
 use Rattle.gm_model.specs.declared.token.Token.{Token}
 use Rattle.gm_model.specs.declared.value.Value.{Value}
-use Rattle.gm_model.specs.Tokens.{Item, Lexed, StrayAt, EndAt, Front, Gap, Lexeme, Stray, front_of, size_of, item_before, items_from, items_of, bytes_of}
+use Rattle.gm_model.specs.Tokens.{Item, Lexed, StrayAt, EndAt, Front, Gap, Lexeme, Stray, front_of, size_of, item_before, items_from, items_of}
 use Rattle.gm_model.specs.Rules.{Rule}
-use Rattle.gm_script.specs.ScriptText.{LineForm, IsLine, AreLines, AreParams, Disagreement, UnknownRuleAt, HookCountAt, ParamsAt, Disagrees, UnknownRule, HookCount, Params, IsWritten, ScriptText, StandsForNoScript, IsFirstDisagreement}
-use Rattle.gm_script.specs.Comparing.{params_for, line_with, line_of_rule, line_at, line_for, lines_for, ◌>>=◌}
-use Rattle.gm_script.specs.Lines.{value_held, IsHeldLine, AreHeld}
-use Rattle.gm_script.specs.Reading.{HeldLine, Held, Stop, Ends, Passes, Lost, finished, taken, taken_at, sight_of, symbol_at, read_from, lines_of, nothing}
+use Rattle.gm_script.specs.ScriptText.{LineForm, IsLine, AreLines, Disagreement, Disagrees, UnknownRule, HookCount, Params, IsWritten, ScriptText, StandsForNoScript, IsFirstDisagreement}
+use Rattle.gm_script.specs.Comparing.{params_for, line_for, lines_for}
+use Rattle.gm_script.proofs.HeldLines.{IsHeldLine, AreHeld}
+use Rattle.gm_script.specs.Reading.{HeldLine, Held, Stop, Ends, Passes, Lost, finished, taken, taken_at, sight_of, symbol_at, read_from, ended_by, put_first, lines_of, nothing}
 use Rattle.gm_script.specs.Reading as reading
 use Rattle.gm_script.specs.declared.sight.Sight.{Sight}
 use Rattle.gm_script.specs.declared.spot.Spot.{Spot}
@@ -91,7 +91,7 @@ whole_from place taken [] = tt
 whole_from place (suc taken) (b ∷ bytes) = whole_from (suc place) taken bytes
 whole_from place zero (b ∷ bytes) = whole_before place (front_of b bytes) (items_from (suc place) (size_of (front_of b bytes) - 1) bytes) (whole_from (suc place) (size_of (front_of b bytes) - 1) bytes)
 
-end_found : (spot : Spot) (place : ℕ) (held : Held) → finished spot place held ≡ Err Lost → ⊥
+end_found : (spot : Spot) (place : ℕ) (held : Held) → reading.◌>>=◌ (finished spot place held) (λ line. Ok (put_first line [])) ≡ Err Lost → ⊥
 end_found spots.Start place held e = absurd cc
 end_found spots.Rule place held e = absurd cc
 end_found spots.Value place held e = absurd cc
@@ -102,6 +102,12 @@ token_found (Ok held) found next later e = later held e
 token_found (Err (Ends place)) found next later e = absurd cc
 token_found (Err (Passes what place)) found next later e = absurd cc
 token_found (Err Lost) found next later e = found refl
+
+more_found : (line : Option HeldLine) (read : Result (List HeldLine) Stop) → read ≢ Err Lost → reading.◌>>=◌ read (λ lines. Ok (put_first line lines)) ≡ Err Lost → ⊥
+more_found line (Ok lines) found e = absurd cc
+more_found line (Err (Ends place)) found e = absurd cc
+more_found line (Err (Passes what place)) found e = absurd cc
+more_found line (Err Lost) found e = found refl
 
 taken_found : (next : Option Spot) (limit : Option LimitKind) (sight : Sight) (token : Token) (held : Held)
     → taken next limit sight token held ≢ Err Lost
@@ -115,7 +121,9 @@ never_lost text (StrayAt place ∷ items) held are e = absurd cc
 never_lost text (EndAt place ∷ []) held are e = end_found held.spot place held e
 never_lost text (EndAt place ∷ item ∷ items) held are e = absurd are
 never_lost text (Lexed token ∷ items) held are e =
-    token_found (taken_at (sight_of (symbol_at text token)) token held) (taken_found _ _ (sight_of (symbol_at text token)) token held) (λ next. read_from text next items) (λ next f. never_lost text items next are f) e
+    let line = ended_by held.spot (sight_of (symbol_at text token)) held.line in
+    token_found (taken_at (sight_of (symbol_at text token)) token held) (taken_found _ _ (sight_of (symbol_at text token)) token held) (λ next. reading.◌>>=◌ (read_from text next items) (λ lines. Ok (put_first line lines)))
+    (λ next f. more_found line (read_from text next items) (never_lost text items next are) f) e
 
 -- ---- lines that are written are held
 

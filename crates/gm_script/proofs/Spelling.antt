@@ -1,5 +1,5 @@
 -- What is spelled where one more hook, value or line stands behind others.
-use Rattle.std.proofs.Common.{◌≡◌, ℕ, ◌+◌, true, false, List, [], ◌∷◌, ◌++◌, length, map, refl, ap, ◌∙◌, arith, append_assoc}
+use Rattle.std.proofs.Common.{◌≡◌, ℕ, ◌+◌, List, [], ◌∷◌, ◌++◌, length, map, refl, ap, ◌∙◌, arith}
 use Rattle.gm_model.specs.Reading.{Part}
 use Rattle.gm_script.specs.ScriptText.{ValueForm, LineForm, Role, Hook, number, spell_value, spell_values, spell_line, spell_lines}
 

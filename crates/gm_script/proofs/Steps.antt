@@ -1,9 +1,9 @@
 -- Each symbol that can stand next is written behind what is written so far.
-use Rattle.std.proofs.Common.{◌≡◌, ℕ, ◌+◌, ◌^◌, ◌-◌, min, Bool, true, false, List, [], ◌∷◌, ◌++◌, length, map, Option, Some, None, refl, sym, ap, subst, codes}
+use Rattle.std.proofs.Common.{◌≡◌, ℕ, ◌+◌, ◌^◌, ◌-◌, min, Bool, true, false, List, [], ◌∷◌, ◌++◌, map, Some, None, refl, sym, ap, subst, codes}
 use Rattle.gm_model.specs.Names.{reserved, is_among}
 use Rattle.gm_model.specs.Symbols.{Symbol, Word, Numeral, Sign}
 use Rattle.gm_model.specs.Reading.{Part}
-use Rattle.gm_script.specs.ScriptText.{ValueForm, LineForm, Plain, Truth, Pair, Triple, Role, Fixed, ApplyAt, RuleAt, Hook, number, word, the_end, spell_value, spell_values, spell_lines, spelling, IsForm}
+use Rattle.gm_script.specs.ScriptText.{ValueForm, LineForm, Plain, Truth, Pair, Triple, Role, Fixed, ApplyAt, RuleAt, Hook, number, word, the_end, spell_value, spell_lines, spelling, IsForm}
 use Rattle.gm_script.specs.Reading.{sight_of, next_spot, can_end, role_in}
 use Rattle.gm_script.specs.declared.sight.Sight.{Sight}
 use Rattle.gm_script.specs.declared.sight.Sight.TheVariants as sights

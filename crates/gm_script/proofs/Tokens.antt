@@ -1,10 +1,8 @@
 -- The tokens of a text lie in it.
-use Rattle.std.proofs.Common.{◌≡◌, ℕ, zero, suc, ◌+◌, ◌-◌, ◌≤◌, List, [], ◌∷◌, length, drop, arith}
-use Rattle.gm_model.specs.declared.token.Token.{Token}
-use Rattle.gm_model.specs.declared.token.TokenKind.{TokenKind}
-use Rattle.gm_model.specs.Tokens.{Item, Lexed, StrayAt, EndAt, Front, Gap, Lexeme, Stray, front_of, size_of, item_before, items_from, items_of}
+use Rattle.std.proofs.Common.{ℕ, zero, suc, ◌+◌, ◌-◌, ◌≤◌, List, [], ◌∷◌, length, drop, arith}
+use Rattle.gm_model.specs.Tokens.{Item, Lexed, Front, Gap, Lexeme, Stray, front_of, size_of, item_before, items_from, items_of}
 use Rattle.gm_text.proofs.Fronts.{size_of-front_of}
-use Rattle.gm_script.specs.Lines.{IsInText}
+use Rattle.gm_script.specs.Reading.{IsInText}
 
 -- each token of the items lies in the text
 abbrev pub AreInText : List ℕ → List Item → Type 0

@@ -1,5 +1,5 @@
 -- How the lines that a text lists are compared with a book, one after another: the lines that they are, or the first disagreement.
-use Rattle.std.specs.Prelude.{◌≡◌, ℕ, ◌==◌, if◌then◌else◌, List, [], ◌∷◌, length, map, Option, Some, None, Result, Ok, Err, slice_get}
+use Rattle.std.specs.Prelude.{ℕ, ◌==◌, if◌then◌else◌, List, [], ◌∷◌, length, Option, Some, None, Result, Ok, Err, slice_get}
 use Rattle.std.specs.Option.{option_map, option_and_then}
 use Rattle.gm_model.specs.declared.rule.Param.{Param}
 use Rattle.gm_model.specs.declared.script.Line.{Line}

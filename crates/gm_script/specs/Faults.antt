@@ -1,5 +1,5 @@
 -- Which fault of a script is the first of its text under a book.
-use Rattle.std.specs.Prelude.{◌≡◌, ℕ, List, Option, Some, None, MatchOption, Result, Ok, Err}
+use Rattle.std.specs.Prelude.{◌≡◌, ℕ, List, Option, Some, None, Result, Ok, Err}
 use Rattle.gm_model.specs.Rules.{Rule}
 use Rattle.gm_script.specs.ScriptText.{IsTextFault, IsLimitFault, Disagreement, UnknownRuleAt, HookCountAt, ParamsAt, IsFirstDisagreement}
 use Rattle.gm_script.specs.declared.fault.ScriptFault.{ScriptFault}
@@ -34,3 +34,8 @@ Says faults.OutOfMemory compared = Unit {0}
 abbrev pub Compares : {X Y : Type 0} → (X → Y) → Result X ScriptFault → Result Y Disagreement → Type 0
 Compares view (Ok x) compared = compared ≡ Ok (view x)
 Compares view (Err fault) compared = Says fault compared
+
+-- the value, unless there is a fault
+abbrev pub unless : {X : Type 0} → Option ScriptFault → X → Result X ScriptFault
+unless None x = Ok x
+unless (Some fault) x = Err fault

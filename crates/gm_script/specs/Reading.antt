@@ -187,11 +187,10 @@ pub record HeldLine : Type 0 where
   pub hooks : List ℕ
   pub values : List Value
 
--- what was read last, how many lines have begun, the whole ones, the one that is being read, and the numbers of its vector
+-- what was read last, how many lines have begun, the one that is being read, and the numbers of its vector
 pub record Held : Type 0 where
   pub spot : Spot
   pub begun : ℕ
-  pub lines : List HeldLine
   pub line : HeldLine
   pub x : ℤ
   pub y : ℤ
@@ -207,9 +206,6 @@ new_line token = record { place = token.start; name = token; hooks = []; values 
 abbrev pub begun : Token → Held → Held
 begun token held = record held { begun = held.begun + 1; line = new_line token }
 
-abbrev pub closed : Held → Held
-closed held = record held { lines = held.lines ++ held.line ∷ [] }
-
 abbrev pub named : Token → Held → Held
 named token held = record held { line = record held.line { name = token } }
 
@@ -222,8 +218,7 @@ with_value value held = record held { line = record held.line { values = held.li
 -- the word `apply`, a rule's name only directly behind another
 abbrev pub hold_apply : Spot → Token → Held → Held
 hold_apply spots.Apply token held = named token held
-hold_apply spots.Start token held = begun token held
-hold_apply _ token held = begun token (closed held)
+hold_apply _ token held = begun token held
 
 -- a hook, a number of a vector, or one by itself
 abbrev pub hold_number : Spot → ℕ → Held → Held
@@ -249,6 +244,28 @@ hold spot (sights.Truth b) token held = with_value (values.Bool b) held
 hold spot sights.Close token held = hold_vector spot held
 hold _ _ token held = held
 
+-- ---- which lines are whole
+
+-- the line that is whole where the next begins or the text ends
+abbrev pub whole_line : Spot → HeldLine → Option HeldLine
+whole_line spots.Start line = None
+whole_line _ line = Some line
+
+-- the line before the word `apply`, unless this is a rule's name
+abbrev pub before_apply : Spot → HeldLine → Option HeldLine
+before_apply spots.Apply line = None
+before_apply spot line = whole_line spot line
+
+-- the line that ends where this is seen behind the spot
+abbrev pub ended_by : Spot → Sight → HeldLine → Option HeldLine
+ended_by spot sights.Apply line = before_apply spot line
+ended_by spot _ line = None
+
+-- the line, if there is one, and the others behind it
+abbrev pub put_first : Option HeldLine → List HeldLine → List HeldLine
+put_first None lines = lines
+put_first (Some line) lines = line ∷ lines
+
 -- ---- what reading comes to
 
 -- why reading stops
@@ -269,10 +286,9 @@ taken (Some spot) None sight token held = Ok (record (hold held.spot sight token
 abbrev pub taken_at : Sight → Token → Held → Result Held Stop
 taken_at sight token held = taken (next_spot held.spot sight) (limit_in held.spot held.begun sight (token.end - token.start)) sight token held
 
--- at the end of the text
-abbrev pub finished : Spot → ℕ → Held → Result (List HeldLine) Stop
-finished spots.Start place held = Ok held.lines
-finished spot place held = if can_end spot then Ok (held.lines ++ held.line ∷ []) else Err (Ends place)
+-- the last line, if there is one, where the text ends
+abbrev pub finished : Spot → ℕ → Held → Result (Option HeldLine) Stop
+finished spot place held = if can_end spot then Ok (whole_line spot held.line) else Err (Ends place)
 
 infixl 10 ◌>>=◌
 abbrev pub ◌>>=◌ : {A B : Type 0} → Result A Stop → (A → Result B Stop) → Result B Stop
@@ -282,25 +298,32 @@ abbrev pub ◌>>=◌ : {A B : Type 0} → Result A Stop → (A → Result B Stop
 abbrev pub symbol_at : List ℕ → Token → Symbol
 symbol_at text token = symbol_of_kind token.kind (bytes_of text token)
 
--- all items from here on
+-- the lines that end from here on
 abbrev pub read_from : List ℕ → Held → List Item → Result (List HeldLine) Stop
 read_from text held [] = Err Lost
 read_from text held (StrayAt place ∷ items) = Err (Ends place)
-read_from text held (EndAt place ∷ []) = finished held.spot place held
+read_from text held (EndAt place ∷ []) = finished held.spot place held >>= λ line. Ok (put_first line [])
 read_from text held (EndAt place ∷ item ∷ items) = Err Lost
-read_from text held (Lexed token ∷ items) = taken_at (sight_of (symbol_at text token)) token held >>= λ next. read_from text next items
+read_from text held (Lexed token ∷ items) =
+    taken_at (sight_of (symbol_at text token)) token held >>= λ next. read_from text next items
+    >>= λ lines. Ok (put_first (ended_by held.spot (sight_of (symbol_at text token)) held.line) lines)
 
 abbrev pub no_token : Token
 no_token = record { kind = tokens.Name; start = 0; end = 0 }
 
 abbrev pub nothing : Held
-nothing = record { spot = spots.Start; begun = 0; lines = []; line = new_line no_token; x = pos 0; y = pos 0; z = pos 0 }
+nothing = record { spot = spots.Start; begun = 0; line = new_line no_token; x = pos 0; y = pos 0; z = pos 0 }
 
 -- the lines of a text
 abbrev pub lines_of : List ℕ → Result (List HeldLine) Stop
 lines_of text = read_from text nothing (items_of text)
 
 -- ---- what a reader of the code answers
+
+-- the token lies in the text
+pub record IsInText (text : List ℕ) (token : Token) : Type 0 where
+  pub order : token.start ≤ token.end
+  pub within : token.end ≤ length text
 
 -- the token is the next item, and lies in the text
 pub record IsNext (before : Cursor) (token : Token) (behind : Cursor) : Type 0 where

@@ -1,5 +1,5 @@
 -- How a script is written: the grammar of its texts with their limits, and the lines that a text stands for under a book of rules, or the first fault in which it disagrees with the book.
-use Rattle.std.specs.Prelude.{◌≡◌, ◌≢◌, ℕ, ◌+◌, ◌^◌, Bool, true, false, ◌&&◌, nat_lt, nat_le, if◌then◌else◌, ℤ, pos, neg_ℤ, int_le, nat_abs, List, [], ◌∷◌, ◌++◌, length, map, take, Option, Some, None, codes, slice_get}
+use Rattle.std.specs.Prelude.{◌≡◌, ◌≢◌, ℕ, ◌+◌, ◌^◌, Bool, true, false, ◌&&◌, nat_lt, nat_le, if◌then◌else◌, ℤ, nat_abs, List, [], ◌∷◌, ◌++◌, length, map, take, Option, Some, None, codes, slice_get}
 use Rattle.std.specs.List.{position, AllByRecursion}
 use Rattle.std.specs.Str.{bytes_eq}
 use Rattle.gm_model.specs.declared.limit.LimitKind.{LimitKind}

@@ -1,20 +1,19 @@
-//! The lines that a text lists, compared with a book.
-ghost use Rattle.std.specs.Prelude.{◌≡◌, ◌<◌, ℕ, List, Some, length, map, All, IfOk, IfErr, IfSome, bytes_eq};
+//! The lines of a text, compared with a book one after another.
+ghost use Rattle.std.specs.Prelude.{◌≡◌, ◌<◌, ◌++◌, ◌∷◌, ℕ, List, [], Some, length, map, OnOk, IfOk, IfErr, IfSome, bytes_eq};
 ghost use Rattle.std.specs.HashMap as hash;
 ghost use Rattle.gm_model.specs.Rules.{rule_of};
-ghost use Rattle.gm_script.specs.ScriptText.{index_of, ScriptText};
+ghost use Rattle.gm_script.specs.ScriptText.{index_of};
 ghost use Rattle.gm_script.specs.Comparing.{line_of_rule, line_for, lines_for};
-ghost use Rattle.gm_script.specs.Faults.{Compares, IsFaultOf};
-ghost use Rattle.gm_script.specs.Lines.{IsInText};
+ghost use Rattle.gm_script.specs.Faults.{Compares};
+ghost use Rattle.gm_script.specs.Reading.{HeldLine, IsInText};
 
 use crate::fault::ScriptFault;
 use crate::reader::DraftLine;
-use crate::reading::read_lines;
-use crate::rules::indices_by_name;
 use crate::values::params_of;
-use gm_model::{Book, Items, Line, RuleTable, Script};
+use gm_model::{Items, Line, RuleTable};
 use std::alloc::Global;
 use std::collections::HashMap;
+use std::marker::Model;
 
 fn index_named(rules: &[RuleTable], indices: &HashMap<&[u8], u16>, name: &[u8]) -> Option<u16>
     requires { (bytes : List ℕ) → hash.get_by (λ k. bytes_eq bytes k.now) indices.now ≡ index_of (map rule_of rules.now) bytes }
@@ -59,36 +58,68 @@ fn line_of(
     }
 }
 
-fn lines_of(
-    alloc: Global,
-    bytes: &[u8],
-    drafts: Vec<DraftLine>,
-    rules: &[RuleTable],
-    indices: &HashMap<&[u8], u16>,
-) -> Result<Vec<Line>, ScriptFault>
-    requires in_text { All (λ draft. IsInText bytes.now draft.name) drafts.items }
-    requires indices { (name : List ℕ) → hash.get_by (λ k. bytes_eq name k.now) indices.now ≡ index_of (map rule_of rules.now) name }
-    ensures { Compares (λ lines. lines.items) result (lines_for bytes.now (map rule_of rules.now) drafts.items) }
-{
-    let mut lines = Vec::with_capacity(alloc, drafts.len())?;
-    for draft in drafts {
-        lines.push(line_of(bytes, draft, rules, indices)?)?;
-    }
-    Ok(lines)
+/// What comparing lines with a book came to so far: the lines, or the first disagreement.
+#[derive(Drop)]
+pub(crate) struct Compared {
+    lines: Vec<Line>,
+    fault: Option<ScriptFault>,
 }
 
-/// The script that the text stands for under the book. A fault of the text, by its grammar and
-/// limits, comes before any of its lines is compared with the book. A book's text has so few rules
-/// that a line can name each; of more than 65,536, the first so many.
-pub fn read_script(alloc: Global, bytes: &[u8], book: &Book) -> Result<Script, ScriptFault>
-    ensures script { IfOk result (λ script. ScriptText bytes.now (map rule_of book.now.rules) script.lines) }
-    ensures fault { IfErr result (IsFaultOf bytes.now (map rule_of book.now.rules)) }
-{
-    let drafts = read_lines(alloc, bytes)?;
-    let rules = book.rules.as_slice();
-    let indices = indices_by_name(alloc, rules)?;
-    let lines = lines_of(alloc, bytes, drafts, rules, &indices)?;
-    Ok(Script {
-        lines: Items::new(lines),
-    })
+impl Model for Compared {
+    ghost use Rattle.std.specs.Prelude.{List, Result};
+    ghost use Rattle.gm_model.specs.declared.script.Line.{Line};
+    ghost use Rattle.gm_script.specs.declared.fault.ScriptFault.{ScriptFault};
+    ghost use Rattle.gm_script.specs.Faults.{unless};
+
+    ghost Value = { Result (List Line) ScriptFault };
+
+    ghost view = { λ compared. unless compared.fault compared.lines.items };
+}
+
+impl Compared {
+    /// No line is compared.
+    pub(crate) fn new(alloc: Global) -> Compared
+        ensures { result ≡ Ok [] }
+    {
+        Compared {
+            lines: Vec::new(alloc),
+            fault: None,
+        }
+    }
+
+    /// Compares a further line. Behind one that disagrees none is kept.
+    pub(crate) fn add(
+        &mut self,
+        bytes: &[u8],
+        draft: DraftLine,
+        rules: &[RuleTable],
+        indices: &HashMap<&[u8], u16>,
+    ) -> Result<(), ScriptFault>
+        requires in_text { IsInText bytes.now draft.name }
+        requires indices { (name : List ℕ) → hash.get_by (λ k. bytes_eq name k.now) indices.now ≡ index_of (map rule_of rules.now) name }
+        ensures ok { (before : List HeldLine) → Compares (λ lines. lines) self.old (lines_for bytes.now (map rule_of rules.now) before)
+            → OnOk result (Compares (λ lines. lines) self.new (lines_for bytes.now (map rule_of rules.now) (before ++ draft ∷ []))) }
+        ensures err { IfErr result (λ fault. fault ≡ ScriptFault.OutOfMemory) }
+    {
+        if self.fault.is_some() {
+            return Ok(());
+        }
+        match line_of(bytes, draft, rules, indices) {
+            Ok(line) => self.lines.push(line)?,
+            Err(fault) => self.fault = Some(fault),
+        }
+        Ok(())
+    }
+
+    /// The lines, where none disagrees.
+    pub(crate) fn finish(self) -> Result<Vec<Line>, ScriptFault>
+        ensures lines { IfOk result (λ lines. self ≡ Ok lines.items) }
+        ensures fault { IfErr result (λ fault. self ≡ Err fault) }
+    {
+        let Compared { lines, fault } = self;
+        match fault {
+            None => Ok(lines),
+            Some(fault) => Err(fault),
+        }
+    }
 }

@@ -11,6 +11,6 @@ mod sight;
 mod spot;
 mod values;
 
-pub use comparing::read_script;
 pub use fault::ScriptFault;
 pub use laws::{one_first_fault_at_most, one_script_at_most, values_fit_their_parameters};
+pub use reading::read_script;

@@ -1,5 +1,6 @@
 //! What a script says so far, as its tokens are read one after another.
 ghost use Rattle.std.specs.Prelude.{◌≡◌, ◌-◌, ◌<◌, ◌≤◌, OnOk, IfErr, if◌then◌else◌};
+ghost use Rattle.gm_model.specs.declared.token.Token.{Token};
 ghost use Rattle.gm_text.specs.ValueText as numbers;
 ghost use Rattle.gm_script.specs.Reading as reading;
 ghost use Rattle.gm_script.specs.Reading.{Gives};
@@ -15,7 +16,7 @@ const MOST_NAME_BYTES: usize = 32;
 
 const MOST_LINES: usize = 100_000;
 
-/// Why a text lists no lines: its first fault from left to right, or want of memory.
+/// Why a text's lines can't be read: its first fault from left to right, or want of memory.
 #[derive(Drop)]
 pub(crate) enum TextFault {
     /// No script goes on with what stands at the place.
@@ -67,14 +68,13 @@ impl DraftLine {
     }
 }
 
-/// The whole lines of a script, and the one that is being read.
+/// The line of a script that is being read.
 #[derive(Drop)]
 pub(crate) struct Reader {
     alloc: Global,
     spot: Spot,
     /// How many lines have begun.
     begun: usize,
-    lines: Vec<DraftLine>,
     line: DraftLine,
     /// The numbers of the vector that is being read.
     x: i64,
@@ -87,7 +87,7 @@ impl Model for Reader {
 
     ghost Value = { Held };
 
-    ghost view = { λ reader. record { spot = reader.spot; begun = reader.begun; lines = reader.lines.items; line = reader.line; x = reader.x; y = reader.y; z = reader.z } };
+    ghost view = { λ reader. record { spot = reader.spot; begun = reader.begun; line = reader.line; x = reader.x; y = reader.y; z = reader.z } };
 }
 
 impl Reader {
@@ -99,11 +99,26 @@ impl Reader {
             alloc,
             spot: Spot::Start,
             begun: 0,
-            lines: Vec::new(alloc),
             line: DraftLine::new(alloc, NO_TOKEN),
             x: 0,
             y: 0,
             z: 0,
+        }
+    }
+
+    /// The line that ends where this is seen next, if one does. It is held no longer, and what is
+    /// read next is the same.
+    pub(crate) fn end_line(&mut self, sight: Sight) -> Option<DraftLine>
+        ensures ended { result ≡ reading.ended_by self.old.spot sight self.old.line }
+        ensures next { (token : Token) → reading.taken_at sight token self.new ≡ reading.taken_at sight token self.old }
+    {
+        match (sight, self.spot) {
+            (Sight::Apply, Spot::Start | Spot::Apply) => None,
+            (Sight::Apply, _) => {
+                let none = DraftLine::new(self.alloc, NO_TOKEN);
+                Some(mem::replace(&mut self.line, none))
+            }
+            _ => None,
         }
     }
 
@@ -124,23 +139,19 @@ impl Reader {
         Ok(())
     }
 
-    /// The lines, where the text ends at this place.
-    pub(crate) fn finish(self, place: usize) -> Result<Vec<DraftLine>, TextFault>
-        ensures { Gives (λ lines. lines.items) result (reading.finished self.spot place self) }
+    /// The last line, if there is one, where the text ends at this place.
+    pub(crate) fn finish(self, place: usize) -> Result<Option<DraftLine>, TextFault>
+        ensures { Gives (λ line. line) result (reading.finished self.spot place self) }
     {
-        let Reader {
-            spot,
-            mut lines,
-            line,
-            ..
-        } = self;
+        let Reader { spot, line, .. } = self;
         if !spot.can_end() {
             return Err(TextFault::Text { place });
         }
-        if spot != Spot::Start {
-            lines.push(line)?;
-        }
-        Ok(lines)
+        Ok(if spot == Spot::Start {
+            None
+        } else {
+            Some(line)
+        })
     }
 
     fn limit(&self, sight: Sight, token: Token) -> Option<LimitKind>
@@ -168,53 +179,37 @@ impl Reader {
         match sight {
             Sight::Name => self.name(token),
             Sight::Apply => self.apply(token),
-            Sight::Number(n) => self.number(n),
-            Sight::Truth(b) => self.value(Value::Bool(b)),
-            Sight::Close => self.vector(),
-            _ => Ok(()),
+            Sight::Number(n) => self.number(n)?,
+            Sight::Truth(b) => self.value(Value::Bool(b))?,
+            Sight::Close => self.vector()?,
+            _ => {}
         }
+        Ok(())
     }
 
     /// Holds the word `apply`, which can be a rule's name.
-    fn apply(&mut self, token: Token) -> Result<(), TextFault>
+    fn apply(&mut self, token: Token)
         requires { reading.limit_in self.old.spot self.old.begun Sight.Apply (token.end - token.start) ≡ None }
-        ensures ok { OnOk result (self.new ≡ reading.hold_apply self.old.spot token self.old) }
-        ensures err { IfErr result (λ fault. fault ≡ TextFault.OutOfMemory) }
+        ensures { self.new ≡ reading.hold_apply self.old.spot token self.old }
     {
         match self.spot {
             Spot::Apply => self.name(token),
-            Spot::Start => self.begin(token),
-            _ => self.begin_next(token),
+            _ => self.begin(token),
         }
     }
 
-    fn begin(&mut self, apply: Token) -> Result<(), TextFault>
+    fn begin(&mut self, apply: Token)
         requires { self.old.begun < 100000 }
-        ensures ok { OnOk result (self.new ≡ reading.begun apply self.old) }
-        ensures err { IfErr result (λ fault. fault ≡ TextFault.OutOfMemory) }
+        ensures { self.new ≡ reading.begun apply self.old }
     {
         self.begun += 1;
         self.line = DraftLine::new(self.alloc, apply);
-        Ok(())
     }
 
-    fn begin_next(&mut self, apply: Token) -> Result<(), TextFault>
-        requires { self.old.begun < 100000 }
-        ensures ok { OnOk result (self.new ≡ reading.begun apply (reading.closed self.old)) }
-        ensures err { IfErr result (λ fault. fault ≡ TextFault.OutOfMemory) }
-    {
-        self.begun += 1;
-        let line = mem::replace(&mut self.line, DraftLine::new(self.alloc, apply));
-        self.lines.push(line)?;
-        Ok(())
-    }
-
-    fn name(&mut self, name: Token) -> Result<(), TextFault>
-        ensures ok { OnOk result (self.new ≡ reading.named name self.old) }
-        ensures err { IfErr result (λ fault. fault ≡ TextFault.OutOfMemory) }
+    fn name(&mut self, name: Token)
+        ensures { self.new ≡ reading.named name self.old }
     {
         self.line.name = name;
-        Ok(())
     }
 
     /// Holds a hook, or a number of a value.

@@ -1,17 +1,25 @@
 //! The text of a script, read from left to right up to its first fault.
 //!
-//! `read_lines` knows the grammar and its limits alone. Whether the lines agree with a book is
-//! tested afterwards.
-ghost use Rattle.std.specs.Prelude.{◌≡◌, ◌∷◌, [], length, IfOk, IfErr, MatchOption};
+//! The reader knows the grammar and its limits alone. Each line is compared with the book as soon
+//! as it is whole, and where one disagrees, the text is read on: a fault of the text comes first.
+ghost use Rattle.std.specs.Prelude.{◌≡◌, ◌∷◌, ℕ, List, [], length, map, IfOk, IfErr, MatchOption, bytes_eq};
+ghost use Rattle.std.specs.HashMap as hash;
+ghost use Rattle.gm_model.specs.Rules.{rule_of};
 ghost use Rattle.gm_model.specs.Tokens.{EndAt};
 ghost use Rattle.gm_text.specs.Lexing.{rest_of};
-ghost use Rattle.gm_script.specs.Lines.{AreOfText, IsFaultIn};
-ghost use Rattle.gm_script.specs.Reading.{Gives, IsNext, IsStray, lines_of};
+ghost use Rattle.gm_script.specs.ScriptText.{index_of, ScriptText};
+ghost use Rattle.gm_script.specs.Faults.{IsFaultOf};
+ghost use Rattle.gm_script.specs.Reading.{IsNext, IsStray};
 
-use crate::reader::{DraftLine, Reader, TextFault};
+use crate::comparing::Compared;
+use crate::fault::ScriptFault;
+use crate::reader::{Reader, TextFault};
+use crate::rules::indices_by_name;
 use crate::sight::sight_of;
+use gm_model::{Book, Items, Line, RuleTable, Script};
 use gm_text::{Lexer, Token};
 use std::alloc::Global;
+use std::collections::HashMap;
 
 fn next_token(lexer: &mut Lexer<'_>) -> Result<Option<Token>, TextFault>
     ensures text { lexer.new.text ≡ lexer.old.text }
@@ -26,21 +34,45 @@ fn next_token(lexer: &mut Lexer<'_>) -> Result<Option<Token>, TextFault>
     }
 }
 
-fn read_all(alloc: Global, bytes: &[u8]) -> Result<Vec<DraftLine>, TextFault>
-    ensures { Gives (λ lines. lines.items) result (lines_of bytes.now) }
+/// The lines of the script that the text stands for under these rules, whose indices by name are
+/// given.
+fn read_lines(
+    alloc: Global,
+    bytes: &[u8],
+    rules: &[RuleTable],
+    indices: &HashMap<&[u8], u16>,
+) -> Result<Vec<Line>, ScriptFault>
+    requires indices { (name : List ℕ) → hash.get_by (λ k. bytes_eq name k.now) indices.now ≡ index_of (map rule_of rules.now) name }
+    ensures script { IfOk result (λ lines. ScriptText bytes.now (map rule_of rules.now) lines.items) }
+    ensures fault { IfErr result (IsFaultOf bytes.now (map rule_of rules.now)) }
 {
     let mut lexer = Lexer::new(bytes);
     let mut reader = Reader::new(alloc);
+    let mut compared = Compared::new(alloc);
     while let Some(token) = next_token(&mut lexer)? {
-        reader.take(sight_of(&lexer, &token), token)?;
+        let sight = sight_of(&lexer, &token);
+        if let Some(line) = reader.end_line(sight) {
+            compared.add(bytes, line, rules, indices)?;
+        }
+        reader.take(sight, token)?;
     }
-    reader.finish(lexer.place())
+    if let Some(last) = reader.finish(lexer.place())? {
+        compared.add(bytes, last, rules, indices)?;
+    }
+    compared.finish()
 }
 
-/// The lines that the text lists, or its first fault from left to right.
-pub(crate) fn read_lines(alloc: Global, bytes: &[u8]) -> Result<Vec<DraftLine>, TextFault>
-    ensures lines { IfOk result (λ lines. AreOfText bytes.now lines.items) }
-    ensures fault { IfErr result (IsFaultIn bytes.now) }
+/// The script that the text stands for under the book. A fault of the text, by its grammar and
+/// limits, comes before any disagreement of a line with the book. A book's text has so few rules
+/// that a line can name each; of more than 65,536, the first so many.
+pub fn read_script(alloc: Global, bytes: &[u8], book: &Book) -> Result<Script, ScriptFault>
+    ensures script { IfOk result (λ script. ScriptText bytes.now (map rule_of book.now.rules) script.lines) }
+    ensures fault { IfErr result (IsFaultOf bytes.now (map rule_of book.now.rules)) }
 {
-    read_all(alloc, bytes)
+    let rules = book.rules.as_slice();
+    let indices = indices_by_name(alloc, rules)?;
+    let lines = read_lines(alloc, bytes, rules, &indices)?;
+    Ok(Script {
+        lines: Items::new(lines),
+    })
 }

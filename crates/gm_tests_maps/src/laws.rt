@@ -1,6 +1,9 @@
 //! Maps of dimension 2 that keep the laws, and maps that break one.
-ghost use Rattle.std.specs.Prelude.{◌≡◌, ◌+◌, ◌<◌, ◌≤◌, length};
+ghost use Rattle.std.specs.Prelude.{◌≡◌, ◌+◌, ◌<◌, ◌≤◌, [], ◌∷◌, length, map};
+ghost use Rattle.gm_model.specs.declared.schema.Embed.{Embed};
+ghost use Rattle.gm_model.specs.declared.value.Kind.TheVariants.{Vec3};
 
+use crate::expect::expect_same;
 use crate::schemas::embedded;
 use gm_arena::{Arena, Steps};
 use gm_laws::{LawFault, MapBreach, check_map};
@@ -70,7 +73,40 @@ const BENT: [(i64, i64); 8] = [
     (0, 0),
 ];
 
-/// The answer for the map of these rows. The greatest name has the first slot.
+/// The points of the darts of a square, and the law that it breaks.
+const POINTED: [(&[(i64, i64)], Option<MapBreach>); 2] = [
+    (&STRAIGHT, None),
+    (
+        &BENT,
+        Some(MapBreach::Embedding {
+            embed: 0,
+            dart: 1,
+            other: 2,
+        }),
+    ),
+];
+
+/// Fills an empty arena with the map of these rows. The greatest name has the first slot.
+fn fill<L: Ledger>(
+    rt: &impl Abort,
+    arena: &mut Arena,
+    rows: &[&[u32]],
+    steps: &mut Steps<L>,
+) -> Result<(), Fail>
+    requires rows { length rows.now ≤ 8 }
+    requires empty { arena.old.count ≡ 0 }
+    requires embeds { arena.old.schema.embeds ≡ [] }
+{
+    arena.reserve(8, 8)?;
+    for back in 0..rows.len() {
+        let name = (rows.len() - 1 - back) as u32;
+        assert!(rt; arena.slot_of(name, steps).is_none());
+        arena.add(name, &[], steps);
+    }
+    link(arena, rows, steps)
+}
+
+/// The answer for the map of these rows.
 fn answer<L: Ledger>(
     rt: &impl Abort,
     alloc: Global,
@@ -80,14 +116,27 @@ fn answer<L: Ledger>(
     requires { length rows.now ≤ 8 }
 {
     let mut arena = Arena::new(alloc, schema(alloc, 2)?);
-    arena.reserve(8, 8)?;
-    for back in 0..rows.len() {
-        let name = (rows.len() - 1 - back) as u32;
-        assert!(rt; arena.slot_of(name, steps).is_none());
-        arena.add(name, &[], steps);
-    }
-    link(&mut arena, rows, steps)?;
+    fill(rt, &mut arena, rows, steps)?;
     Ok(check_map(alloc, &arena, steps))
+}
+
+/// Fills an empty arena with the square with these points.
+fn fill_pointed<L: Ledger>(
+    rt: &impl Abort,
+    arena: &mut Arena,
+    points: &[(i64, i64)],
+    steps: &mut Steps<L>,
+) -> Result<(), Fail>
+    requires points { length points.now ≤ 8 }
+    requires empty { arena.old.count ≡ 0 }
+    requires kinds { map (λ (e : Embed). e.kind) arena.old.schema.embeds ≡ Vec3 ∷ [] }
+{
+    arena.reserve(8, 8)?;
+    for (name, (x, y)) in points.iter().enumerate() {
+        assert!(rt; arena.slot_of(name as u32, steps).is_none());
+        arena.add(name as u32, &[Value::Vec3(*x, *y, 0)], steps);
+    }
+    link(arena, &SQUARE, steps)
 }
 
 /// The answer for the square with these points.
@@ -100,13 +149,39 @@ fn pointed_answer<L: Ledger>(
     requires { length points.now ≤ 8 }
 {
     let mut arena = Arena::new(alloc, embedded(rt, alloc, 2, Mask { bits: 6 }, Kind::Vec3)?);
-    arena.reserve(8, 8)?;
-    for (name, (x, y)) in points.iter().enumerate() {
-        assert!(rt; arena.slot_of(name as u32, steps).is_none());
-        arena.add(name as u32, &[Value::Vec3(*x, *y, 0)], steps);
-    }
-    link(&mut arena, &SQUARE, steps)?;
+    fill_pointed(rt, &mut arena, points, steps)?;
     Ok(check_map(alloc, &arena, steps))
+}
+
+/// The answer is that this law is broken, or that none is.
+fn expect_breach(rt: &impl Abort, answer: Result<(), LawFault>, breach: Option<MapBreach>) {
+    expect_same(rt, &answer.err(), &breach.map(LawFault::Breach));
+}
+
+fn check_rows<L: Ledger>(
+    rt: &impl Abort,
+    alloc: Global,
+    maps: &[(&[&[u32]], Option<MapBreach>)],
+    steps: &mut Steps<L>,
+) -> Result<(), Fail> {
+    for (rows, breach) in maps {
+        assert!(rt; rows.len() <= 8);
+        expect_breach(rt, answer(rt, alloc, rows, steps)?, *breach);
+    }
+    Ok(())
+}
+
+fn check_points<L: Ledger>(
+    rt: &impl Abort,
+    alloc: Global,
+    maps: &[(&[(i64, i64)], Option<MapBreach>)],
+    steps: &mut Steps<L>,
+) -> Result<(), Fail> {
+    for (points, breach) in maps {
+        assert!(rt; points.len() <= 8);
+        expect_breach(rt, pointed_answer(rt, alloc, points, steps)?, *breach);
+    }
+    Ok(())
 }
 
 fn check_maps<L: Ledger>(
@@ -120,21 +195,8 @@ fn check_maps<L: Ledger>(
     requires some { 0 < blank.parts }
 {
     let mut steps: Steps<L> = Steps::start(handle, blank);
-    for (rows, breach) in MAPS {
-        assert!(rt; rows.len() <= 8);
-        let answer = answer(rt, alloc, rows, &mut steps)?;
-        assert_eq!(rt; answer.err(), breach.map(LawFault::Breach));
-    }
-    assert_eq!(rt; pointed_answer(rt, alloc, &STRAIGHT, &mut steps)?, Ok(()));
-    assert_eq!(rt;
-        pointed_answer(rt, alloc, &BENT, &mut steps)?,
-        Err(LawFault::Breach(MapBreach::Embedding {
-            embed: 0,
-            dart: 1,
-            other: 2,
-        }))
-    );
-    Ok(())
+    check_rows(rt, alloc, &MAPS, &mut steps)?;
+    check_points(rt, alloc, &POINTED, &mut steps)
 }
 
 #[test]

@@ -5,6 +5,8 @@
 #[cfg(test)]
 mod arena;
 #[cfg(test)]
+mod expect;
+#[cfg(test)]
 mod laws;
 #[cfg(test)]
 mod schemas;

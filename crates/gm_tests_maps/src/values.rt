@@ -1,10 +1,16 @@
 //! Values of operators on numbers, read at a dart of a square.
-ghost use Rattle.std.specs.Prelude.{◌≡◌, ◌<◌, IfOk, IsTrue, IsSome};
+ghost use Rattle.std.specs.Prelude.{◌≡◌, ℕ, ◌<◌, [], IfOk, IsTrue, IsSome};
 ghost use Rattle.gm_model.specs.Kinds.{binary_kind};
 ghost use Rattle.gm_model.specs.Trees.{Binary, Number, tree_of};
 ghost use Rattle.gm_model.specs.declared.value.Kind.TheVariants.{Int};
+ghost use Rattle.gm_model.specs.Maps.{IsGeneralised};
+ghost use Rattle.gm_arena.specs.ArenaAsMap.{as_map};
+ghost use Rattle.gm_arena.specs.ArenaMap.{IsLiveSlot};
+ghost use Rattle.gm_eval.specs.Places.{IsTypedFor};
+ghost use Rattle.gm_walk.specs.Room.{Fits};
 
-use gm_arena::{Arena, Steps};
+use crate::expect::expect_same;
+use gm_arena::{Arena, Slot, Steps};
 use gm_eval::eval;
 use gm_laws::check_map;
 use gm_model::{BinOp, Expr, Value};
@@ -61,6 +67,55 @@ fn operation(alloc: Global, op: BinOp, left: i64, right: i64) -> Result<Expr, Fa
     Ok(Expr::Binary(op, left, right))
 }
 
+/// A scratch with room for walks through the map.
+fn fitting(alloc: Global, arena: &Arena) -> Result<Scratch, Fail>
+    ensures { IfOk result (λ scratch. Fits scratch arena.now) }
+{
+    let mut scratch = Scratch::new(alloc);
+    scratch.fit(arena)?;
+    Ok(scratch)
+}
+
+/// The value of the expression, read at the dart at this slot.
+fn evaluated<L: Ledger>(
+    alloc: Global,
+    arena: &Arena,
+    slot: Slot,
+    expr: &Expr,
+    scratch: &mut Scratch,
+    steps: &mut Steps<L>,
+) -> Result<Option<Value>, Fail>
+    requires generalised { IsGeneralised (as_map arena.now) }
+    requires live { IsLiveSlot arena.now slot.at }
+    requires typed { (nodes : ℕ) → IsTypedFor arena.now.schema nodes [] (tree_of expr.now) }
+    requires fits { Fits scratch.old arena.now }
+{
+    let slots = [slot].to_vec(alloc)?;
+    let found = Instances::new(slots, Vec::new(alloc), 1, 0);
+    Ok(eval(arena, &found, 0, &[], expr, scratch, steps))
+}
+
+/// The value of the row's operation, read at the dart at this slot.
+fn operated<L: Ledger>(
+    alloc: Global,
+    arena: &Arena,
+    slot: Slot,
+    row: &Row,
+    scratch: &mut Scratch,
+    steps: &mut Steps<L>,
+) -> Result<Option<Value>, Fail>
+    requires generalised { IsGeneralised (as_map arena.now) }
+    requires live { IsLiveSlot arena.now slot.at }
+    requires fits { Fits scratch.old arena.now }
+{
+    let (left, op, right, _) = *row;
+    if !takes_numbers(op) {
+        return Err(Fail::from("no operator on numbers"));
+    }
+    let expr = operation(alloc, op, left, right)?;
+    evaluated(alloc, arena, slot, &expr, scratch, steps)
+}
+
 /// The value of the row's operation, read at the dart of this name.
 fn value_at<L: Ledger>(
     rt: &impl Abort,
@@ -71,28 +126,21 @@ fn value_at<L: Ledger>(
     steps: &mut Steps<L>,
 ) -> Result<Option<Value>, Fail> {
     assert!(rt; check_map(alloc, arena, steps).is_ok());
-    let (left, op, right, _) = *row;
-    if !takes_numbers(op) {
-        return Err(Fail::from("no operator on numbers"));
-    }
-    let mut slots = Vec::new(alloc);
-    slots.push(arena.slot_of(name, steps).ok_or("no dart")?)?;
-    let found = Instances::new(slots, Vec::new(alloc), 1, 0);
-    let expr = operation(alloc, op, left, right)?;
-    let mut scratch = Scratch::new(alloc);
-    scratch.fit(arena)?;
-    Ok(eval(arena, &found, 0, &[], &expr, &mut scratch, steps))
+    let slot = arena.slot_of(name, steps).expect(rt, "a dart");
+    let mut scratch = fitting(alloc, arena)?;
+    operated(alloc, arena, slot, row, &mut scratch, steps)
 }
 
+/// The operation of each row has its value at the dart with the name 2.
 fn expect_each<L: Ledger>(
     rt: &impl Abort,
     alloc: Global,
+    map: &Arena,
     rows: &[Row],
     steps: &mut Steps<L>,
 ) -> Result<(), Fail> {
-    let map = map_of(alloc, 2, &SQUARE, steps)?;
     for row in rows {
-        assert_eq!(rt; value_at(rt, alloc, &map, 2, row, steps)?, row.3);
+        expect_same(rt, &value_at(rt, alloc, map, 2, row, steps)?, &row.3);
     }
     Ok(())
 }
@@ -108,7 +156,8 @@ fn all_values<L: Ledger>(
     requires some { 0 < blank.parts }
 {
     let mut steps: Steps<L> = Steps::start(handle, blank);
-    expect_each(rt, alloc, &ROWS, &mut steps)
+    let map = map_of(alloc, 2, &SQUARE, &mut steps)?;
+    expect_each(rt, alloc, &map, &ROWS, &mut steps)
 }
 
 #[test]

@@ -7,7 +7,7 @@ use std::alloc::Global;
 use std::process::Abort;
 use std::test::Fail;
 
-const VERDICTS: [Verdict; 10] = [
+static VERDICTS: [Verdict; 10] = [
     // A square is cut into four, with the letters in order, and then with two exchanged.
     Verdict {
         dim: 2,

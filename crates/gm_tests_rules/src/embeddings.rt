@@ -106,7 +106,7 @@ const SEWN_ALONG: RuleRow = RuleRow {
     right_links: &[(0, 2, 1), (0, 0, 0), (1, 0, 1), (0, 3, 0), (1, 3, 1)],
 };
 
-const SOURCES: [Verdict; 9] = [
+static SOURCES: [Verdict; 9] = [
     Verdict {
         types: &[VERTEX],
         rule: CENTRE,
@@ -171,7 +171,7 @@ const SOURCES: [Verdict; 9] = [
     },
 ];
 
-const ASSIGNMENTS: [Verdict; 8] = [
+static ASSIGNMENTS: [Verdict; 8] = [
     Verdict {
         types: &[VERTEX],
         rule: THREE,
@@ -239,7 +239,7 @@ const ASSIGNMENTS: [Verdict; 8] = [
     },
 ];
 
-const MERGES: [Verdict; 10] = [
+static MERGES: [Verdict; 10] = [
     Verdict {
         types: &[VERTEX],
         rule: TURNED,

@@ -7,7 +7,7 @@ use std::alloc::Global;
 use std::process::Abort;
 use std::test::Fail;
 
-const VERDICTS: [Verdict; 18] = [
+static VERDICTS: [Verdict; 18] = [
     Verdict {
         dim: 2,
         rule: RuleRow {

@@ -18,7 +18,7 @@ const TRIANGULATION: RuleRow = RuleRow {
     right_links: &[(0, 1, 1), (1, 0, 2)],
 };
 
-const VERDICTS: [Verdict; 3] = [
+static VERDICTS: [Verdict; 3] = [
     Verdict {
         dim: 2,
         rule: TRIANGULATION,
@@ -240,14 +240,14 @@ const ABREAST: Planned = Planned {
     order: &[2, 3, 4],
 };
 
-const WITH_PATHS: [Planned; 5] = [THREE_LINKS, SQUARE, TRIANGLE, LATER_HOOK, ABREAST];
+static WITH_PATHS: [Planned; 5] = [THREE_LINKS, SQUARE, TRIANGLE, LATER_HOOK, ABREAST];
 
 #[test]
 fn paths(rt: HostRuntime) -> Result<(), Fail> {
     compare_each(&rt, rt.alloc(), &WITH_PATHS)
 }
 
-const WITHOUT_PATHS: [Planned; 2] = [
+static WITHOUT_PATHS: [Planned; 2] = [
     Planned {
         dim: 2,
         rule: TRIANGULATION,
@@ -283,7 +283,7 @@ struct Stepped {
     step: Step,
 }
 
-const STEPPED: [Stepped; 4] = [
+static STEPPED: [Stepped; 4] = [
     Stepped {
         side: Side::Left,
         node: 0,

@@ -23,7 +23,7 @@ use Rattle.gm_walk.proofs.WalkLemmas.{place_cases}
 
 -- ---- one dart
 
-distinct_push : (xs : List ℕ) (x : ℕ) → HasNoRepeats xs → (Contains xs x → ⊥) → HasNoRepeats (xs ++ x ∷ [])
+pub distinct_push : (xs : List ℕ) (x : ℕ) → HasNoRepeats xs → (Contains xs x → ⊥) → HasNoRepeats (xs ++ x ∷ [])
 distinct_push xs x distinct new p q less within same = elim (place_cases xs x q within) [
   | inl k ↦ distinct p q less k (sym (get_or_append_left xs (x ∷ []) 0 p (omega arith)) ∙ (same ∙ get_or_append_left xs (x ∷ []) 0 q k))
   | inr end ↦

@@ -7,3 +7,4 @@ pub mod OrbitLemmas
 pub mod GrowLemmas
 pub mod SeenLemmas
 pub mod MetLemmas
+pub mod RingLemmas

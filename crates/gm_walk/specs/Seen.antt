@@ -1,5 +1,5 @@
 -- How orbits are counted: which darts were seen, in the list of those that were walked. No public clause cites this module.
-use Rattle.std.specs.Prelude.{◌≡◌, ℕ, ◌<◌, ◌≤◌, List, length, slice_get, slice_index, Some, IsTrue}
+use Rattle.std.specs.Prelude.{◌≡◌, ℕ, ◌<◌, ◌≤◌, ◌⊎◌, List, length, slice_get, slice_index, Some, IsTrue}
 use Rattle.std.specs.List.{Contains}
 use Rattle.gm_model.specs.declared.word.Letter.{Letter}
 use Rattle.gm_model.specs.declared.word.Letter.TheVariants.{At}
@@ -32,6 +32,16 @@ pub record HasGrownTo (m : ArenaMap) (word : List Letter) (d q : ℕ) (old new :
   pub there : Contains new d
   pub closed : (p place : ℕ) → length old ≤ p → p < q → p < length new → place < length word → Contains new (along m word (slice_index new p) place)
   pub only : (o : Labels) → HasLettersOf o word → (p : ℕ) → length old ≤ p → p < length new → IsInOrbit (alpha m) o d (slice_index new p)
+
+-- The new list has the neighbour of d along the first label, and nothing behind the old one but darts to which the two labels
+-- lead from d. Of each of these it has both neighbours.
+pub record HasFollowed (m : ArenaMap) (first second d : ℕ) (old new : List ℕ) : Type 0 where
+  pub longer : length old ≤ length new
+  pub front : (p : ℕ) → p < length old → slice_index new p ≡ slice_index old p
+  pub distinct : HasNoRepeats old → HasNoRepeats new
+  pub there : Contains new (alpha m first d)
+  pub closed : (p i : ℕ) → length old ≤ p → p < length new → (i ≡ first) ⊎ (i ≡ second) → Contains new (alpha m i (slice_index new p))
+  pub only : (o : Labels) → IsTrue (o first) → IsTrue (o second) → (p : ℕ) → length old ≤ p → p < length new → IsInOrbit (alpha m) o d (slice_index new p)
 
 -- the darts that were seen are the orbits of the first names, each dart once
 pub record AreSeen (m : ArenaMap) (o : Labels) (word : List Letter) (names : List ℕ) (p : ℕ) (darts : List ℕ) : Type 0 where

@@ -7,11 +7,13 @@ use Rattle.gm_arena.specs.Lawful.{AreGoodValues}
 use Rattle.gm_arena.specs.declared.slot.Slot.{Slot}
 use Rattle.gm_model.specs.declared.schema.Schema.{Schema}
 use Rattle.gm_mapfile.specs.MapText.{rows_of}
+use Rattle.gm_mapfile.specs.Packed.{size_of_line, values_in}
 use Rattle.gm_mapfile.specs.Rows.{row_in, valued, darts_in}
 use Rattle.gm_mapfile.specs.Building.{AreAdded, AreValued}
-use Rattle.gm_mapfile.proofs.Chunks.{below_first, below_rest, name_of_line, read_at, none_left, darts_end, rows_of_darts_in, length_darts_in}
+use Rattle.gm_mapfile.proofs.Chunks.{first_values, below_first, below_rest, name_of_line, read_at, none_left, darts_end, rows_of_darts_in, length_darts_in}
 use Rattle.gm_mapfile.proofs.Adding.{answered_none, answered_some}
-use Rattle.gm_mapfile.proofs.AddedDarts.{HasDarts, has_none, has_more_named, has_again_named, line_split, line_good, line_spare, line_long, line_values}
+use Rattle.gm_mapfile.proofs.AddedDarts.{HasDarts, has_none, has_more_named, has_again_named, line_split, line_good, line_spare, line_long, line_words}
+use Rattle.gm_mapfile.proofs.Unpacked.{size_read}
 use Rattle.gm_mapfile.proofs.building.add_darts.Goals as goal
 
 pub loop-line-init : goal.loop-line-init
@@ -21,8 +23,8 @@ loop-line-init g c =
     let rest : chunks_exact_rest c.into_iter-line-iterator.result ≡ c.args.numbers.now = cc (c.into_iter-line-iterator.ensures.into_iter_gives, c.chunks_exact-line-items.ensures.rest) in
     record {
       front = [];
-      size = cc (c.into_iter-line-iterator.ensures.into_iter_gives, c.chunks_exact-line-items.ensures.size, c.top.ensures.value, c.schema.ensures, c.schema-2.ensures);
-      split = ap (λ numbers. darts_in schema numbers c.args.values.now) rest;
+      size = cc (c.into_iter-line-iterator.ensures.into_iter_gives, c.chunks_exact-line-items.ensures.size, c.top.ensures.value, c.schema-2.ensures);
+      split = ap (λ numbers. darts_in schema numbers c.args.words.now) rest;
       schema = refl;
       room = rw rest c.requires.spare;
       reserved = rw rest c.requires.reserved;
@@ -38,24 +40,24 @@ split_at-requires g c =
     let schema = c.args.arena.now.schema in
     let before = c.loop-line.invariant in
     let steps = c.in-Some.ensures.steps in
-    let within = line_values schema _ c.in-Some.line.now _ c.loop-line.rest.now steps.1.0 (steps.1.1 ∙ before.size) before.long in
-    omega (arith, within, ap length c.as_slice-embeds.ensures, ap (λ (s : Schema). length s.embeds) c.schema.ensures)
+    let within = line_words schema _ c.in-Some.line.now _ c.loop-line.rest.now steps.1.0 (steps.1.1 ∙ before.size) before.long in
+    omega (arith, within, size_read c.line_size-size.result c.as_slice.result.now c.schema.result.now c.args.arena.now.schema c.line_size-size.ensures.size c.as_slice.ensures c.schema.ensures)
 
-pub add-requires-clause-reserved : goal.add-requires-clause-reserved
-add-requires-clause-reserved g c =
+pub add_packed-requires-clause-reserved : goal.add_packed-requires-clause-reserved
+add_packed-requires-clause-reserved g c =
     let steps = c.in-Some.ensures.steps in
     let long : length c.in-Some.line.now ≡ c.args.arena.now.schema.dim + 2 = steps.1.1 ∙ c.loop-line.invariant.size in
     rw (read_at c.in-Some.line.now 0 _ _ (omega (arith, long)) c.index-line-0.is c.number-name.ensures) (below_first c.loop-line.arena.reserved _ c.in-Some.line.now _ c.loop-line.invariant.reserved steps.1.0 (omega (arith, long)))
 
-pub add-requires-clause-values : goal.add-requires-clause-values
-add-requires-clause-values g c =
+pub add_packed-requires-clause-values : goal.add_packed-requires-clause-values
+add_packed-requires-clause-values g c =
     let schema = c.args.arena.now.schema in
     let before = c.loop-line.invariant in
     let steps = c.in-Some.ensures.steps in
-    let embeds : length c.as_slice-embeds.result.now ≡ length schema.embeds = ap length c.as_slice-embeds.ensures ∙ ap (λ (s : Schema). length s.embeds) c.schema.ensures in
-    let own : c.split_at.result.0.now ≡ take (length schema.embeds) c.loop-line.rest.now = c.split_at.ensures.front ∙ ap (λ k. take k c.loop-line.rest.now) embeds in
-    let good = line_good schema _ c.in-Some.line.now _ c.loop-line.rest.now (drop (length schema.embeds) c.loop-line.rest.now) steps.1.0 (steps.1.1 ∙ before.size) refl before.good in
-    subst (λ s. AreGoodValues s c.split_at.result.0.now) (sym before.schema) (subst (AreGoodValues schema) (sym own) good.0)
+    let size : c.line_size-size.result ≡ size_of_line schema.embeds = size_read c.line_size-size.result c.as_slice.result.now c.schema.result.now c.args.arena.now.schema c.line_size-size.ensures.size c.as_slice.ensures c.schema.ensures in
+    let own : c.split_at.result.0.now ≡ take (size_of_line schema.embeds) c.loop-line.rest.now = c.split_at.ensures.front ∙ ap (λ k. take k c.loop-line.rest.now) size in
+    let good = line_good schema _ c.in-Some.line.now _ c.loop-line.rest.now (drop (size_of_line schema.embeds) c.loop-line.rest.now) steps.1.0 (steps.1.1 ∙ before.size) refl before.good in
+    subst (λ (s : Schema). AreGoodValues s (values_in s.embeds c.split_at.result.0.now)) (sym before.schema) (subst (λ ws. AreGoodValues schema (values_in schema.embeds ws)) (sym own) good.0)
 
 pub loop-line-preserved-then-is_none : goal.loop-line-preserved-then-is_none
 loop-line-preserved-then-is_none g c =
@@ -66,30 +68,31 @@ loop-line-preserved-then-is_none g c =
     let line = c.in-Some.line.now in
     let name = c.number-name.result in
     let named = name_of_line line ∙ sym (read_at c.in-Some.line.now 0 _ _ (omega (arith, steps.1.1, before.size)) c.index-line-0.is c.number-name.ensures) in
-    let values = c.loop-line.rest.now in
+    let words = c.loop-line.rest.now in
     let others = c.split_at.result.1.now in
     let wide : length line ≡ n + 2 = steps.1.1 ∙ before.size in
-    let embeds : length c.as_slice-embeds.result.now ≡ length schema.embeds = ap length c.as_slice-embeds.ensures ∙ ap (λ (s : Schema). length s.embeds) c.schema.ensures in
-    let left : others ≡ drop (length schema.embeds) values = c.split_at.ensures.back ∙ ap (λ k. drop k values) embeds in
-    let own : take (length schema.embeds) values ≡ c.split_at.result.0.now = sym (c.split_at.ensures.front ∙ ap (λ k. take k values) embeds) in
-    let dart = valued (row_in line) (take (length schema.embeds) values) in
+    let size : c.line_size-size.result ≡ size_of_line schema.embeds = size_read c.line_size-size.result c.as_slice.result.now c.schema.result.now c.args.arena.now.schema c.line_size-size.ensures.size c.as_slice.ensures c.schema.ensures in
+    let left : others ≡ drop (size_of_line schema.embeds) words = c.split_at.ensures.back ∙ ap (λ k. drop k words) size in
+    let own : first_values schema words ≡ values_in c.loop-line.arena.schema.embeds c.split_at.result.0.now =
+    ap (values_in schema.embeds) (sym (c.split_at.ensures.front ∙ ap (λ k. take k words) size)) ∙ ap (λ (s : Schema). values_in s.embeds c.split_at.result.0.now) (sym before.schema) in
+    let dart = valued (row_in line) (first_values schema words) in
     let new_name = answered_none (get c.loop-line.arena.darts name ≡ None) (λ (s : Slot). IsAt c.loop-line.arena s.at name) c.slot_of.result c.slot_of.ensures.slot (c.is_none.ensures ∙ ap not c.if-is_none.true) in
     let m = c.loop-line.arena in
-    let after = c.add.ensures.map in
-    let room = line_spare schema _ line _ values others steps.1.0 wide left m.spare before.room in
+    let after = c.add_packed.ensures.map in
+    let room = line_spare schema _ line _ words others steps.1.0 wide left m.spare before.room in
     record {
       front = before.front ++ dart ∷ [];
       size = steps.0 ∙ before.size;
-      split = line_split schema _ line _ values others steps.1.0 wide left before.front _ before.split;
+      split = line_split schema _ line _ words others steps.1.0 wide left before.front _ before.split;
       schema = ap (λ (x : ArenaMap). x.schema) after ∙ before.schema;
       room = rw after room.1;
       reserved = rw after (below_rest m.reserved _ line _ before.reserved steps.1.0);
-      long = line_long schema _ line _ values others steps.1.0 wide left before.long;
-      good = (line_good schema _ line _ values others steps.1.0 wide left before.good).1;
+      long = line_long schema _ line _ words others steps.1.0 wide left before.long;
+      good = (line_good schema _ line _ words others steps.1.0 wide left before.good).1;
       has = subst (λ x. HasDarts n (before.front ++ dart ∷ []) x c.loop-line.twice) (sym after)
-          (has_more_named n before.front dart m c.loop-line.twice before.has c.add.result.at name c.split_at.result.0.now (ap (λ (s : Schema). s.dim) before.schema) named own new_name);
-      most = omega (arith, before.most, length_push before.front dart, c.slot_of.ensures.cost, c.add.ensures.cost);
-      least = omega (arith, before.least, length_push before.front dart, c.slot_of.ensures.cost, c.add.ensures.cost);
+          (has_more_named n before.front dart m c.loop-line.twice before.has c.add_packed.result.at name (values_in m.schema.embeds c.split_at.result.0.now) (ap (λ (s : Schema). s.dim) before.schema) named own new_name);
+      most = omega (arith, before.most, length_push before.front dart, c.slot_of.ensures.cost, c.add_packed.ensures.cost);
+      least = omega (arith, before.least, length_push before.front dart, c.slot_of.ensures.cost, c.add_packed.ensures.cost);
     }
 
 pub loop-line-preserved : goal.loop-line-preserved
@@ -101,24 +104,24 @@ loop-line-preserved g c =
     let line = c.in-Some.line.now in
     let name = c.number-name.result in
     let named = name_of_line line ∙ sym (read_at c.in-Some.line.now 0 _ _ (omega (arith, steps.1.1, before.size)) c.index-line-0.is c.number-name.ensures) in
-    let values = c.loop-line.rest.now in
+    let words = c.loop-line.rest.now in
     let others = c.split_at.result.1.now in
     let wide : length line ≡ n + 2 = steps.1.1 ∙ before.size in
-    let embeds : length c.as_slice-embeds.result.now ≡ length schema.embeds = ap length c.as_slice-embeds.ensures ∙ ap (λ (s : Schema). length s.embeds) c.schema.ensures in
-    let left : others ≡ drop (length schema.embeds) values = c.split_at.ensures.back ∙ ap (λ k. drop k values) embeds in
-    let dart = valued (row_in line) (take (length schema.embeds) values) in
+    let size : c.line_size-size.result ≡ size_of_line schema.embeds = size_read c.line_size-size.result c.as_slice.result.now c.schema.result.now c.args.arena.now.schema c.line_size-size.ensures.size c.as_slice.ensures c.schema.ensures in
+    let left : others ≡ drop (size_of_line schema.embeds) words = c.split_at.ensures.back ∙ ap (λ k. drop k words) size in
+    let dart = valued (row_in line) (first_values schema words) in
     let m = c.loop-line.arena in
     let there = answered_some (get m.darts name ≡ None) (λ (s : Slot). IsAt m s.at name) c.slot_of.result c.slot_of.ensures.slot c.if-is_none.ensures in
-    let room = line_spare schema _ line _ values others steps.1.0 wide left m.spare before.room in
+    let room = line_spare schema _ line _ words others steps.1.0 wide left m.spare before.room in
     record {
       front = before.front ++ dart ∷ [];
       size = steps.0 ∙ before.size;
-      split = line_split schema _ line _ values others steps.1.0 wide left before.front _ before.split;
+      split = line_split schema _ line _ words others steps.1.0 wide left before.front _ before.split;
       schema = before.schema;
       room = omega (arith, room.1);
       reserved = below_rest m.reserved _ line _ before.reserved steps.1.0;
-      long = line_long schema _ line _ values others steps.1.0 wide left before.long;
-      good = (line_good schema _ line _ values others steps.1.0 wide left before.good).1;
+      long = line_long schema _ line _ words others steps.1.0 wide left before.long;
+      good = (line_good schema _ line _ words others steps.1.0 wide left before.good).1;
       has = has_again_named n before.front dart m c.loop-line.twice before.has name c.lesser.result named (before.has.added.slots there.0.at name there.1) c.lesser.ensures;
       most = omega (arith, before.most, length_push before.front dart, c.slot_of.ensures.cost);
       least = omega (arith, before.least, length_push before.front dart, c.slot_of.ensures.cost);
@@ -129,8 +132,8 @@ returns-clause-added g c =
     let schema = c.args.arena.now.schema in
     let before = c.loop-line.invariant in
     let steps = c.in-None.ensures.steps in
-    let whole = none_left before.front (darts_in schema c.args.numbers.now c.args.values.now) _ before.split (darts_end schema _ c.loop-line.rest.now (omega (arith, steps.1.0, before.size))) in
-    let rows = ap rows_of whole ∙ rows_of_darts_in schema c.args.numbers.now c.args.values.now in
+    let whole = none_left before.front (darts_in schema c.args.numbers.now c.args.words.now) _ before.split (darts_end schema _ c.loop-line.rest.now (omega (arith, steps.1.0, before.size))) in
+    let rows = ap rows_of whole ∙ rows_of_darts_in schema c.args.numbers.now c.args.words.now in
     subst (λ rows. AreAdded schema.dim rows c.loop-line.arena c.loop-line.twice) rows before.has.added
 
 pub returns-clause-values : goal.returns-clause-values
@@ -138,7 +141,7 @@ returns-clause-values g c =
     let schema = c.args.arena.now.schema in
     let before = c.loop-line.invariant in
     let steps = c.in-None.ensures.steps in
-    let whole = none_left before.front (darts_in schema c.args.numbers.now c.args.values.now) _ before.split (darts_end schema _ c.loop-line.rest.now (omega (arith, steps.1.0, before.size))) in
+    let whole = none_left before.front (darts_in schema c.args.numbers.now c.args.words.now) _ before.split (darts_end schema _ c.loop-line.rest.now (omega (arith, steps.1.0, before.size))) in
     subst (λ darts. AreValued darts c.loop-line.arena) whole before.has.valued
 
 pub returns-clause-most : goal.returns-clause-most
@@ -146,13 +149,13 @@ returns-clause-most g c =
     let schema = c.args.arena.now.schema in
     let before = c.loop-line.invariant in
     let steps = c.in-None.ensures.steps in
-    let whole = none_left before.front (darts_in schema c.args.numbers.now c.args.values.now) _ before.split (darts_end schema _ c.loop-line.rest.now (omega (arith, steps.1.0, before.size))) in
-    omega (arith, before.most, ap length whole, length_darts_in schema c.args.numbers.now c.args.values.now)
+    let whole = none_left before.front (darts_in schema c.args.numbers.now c.args.words.now) _ before.split (darts_end schema _ c.loop-line.rest.now (omega (arith, steps.1.0, before.size))) in
+    omega (arith, before.most, ap length whole, length_darts_in schema c.args.numbers.now c.args.words.now)
 
 pub returns-clause-least : goal.returns-clause-least
 returns-clause-least g c =
     let schema = c.args.arena.now.schema in
     let before = c.loop-line.invariant in
     let steps = c.in-None.ensures.steps in
-    let whole = none_left before.front (darts_in schema c.args.numbers.now c.args.values.now) _ before.split (darts_end schema _ c.loop-line.rest.now (omega (arith, steps.1.0, before.size))) in
-    omega (arith, before.least, ap length whole, length_darts_in schema c.args.numbers.now c.args.values.now)
+    let whole = none_left before.front (darts_in schema c.args.numbers.now c.args.words.now) _ before.split (darts_end schema _ c.loop-line.rest.now (omega (arith, steps.1.0, before.size))) in
+    omega (arith, before.least, ap length whole, length_darts_in schema c.args.numbers.now c.args.words.now)

@@ -12,7 +12,7 @@ returns-in_err-read_names-clause-stops c =
     let l = c.loop in
     let fault = c.in_err-read_names.field-0.0 in
     let misses = subst (λ (n : ℕ). Misses (replicate (n + 2) (TheNumber DartName)) l.lexer fault) c.top.ensures.value c.in_err-read_names.ensures.stops in
-    rw (p.1, p.2) (stop_at_names c.args.schema.now l.counter c.args.lexer.now l.lexer l.numbers.items l.values.items l.invariant c.args.count fault c.loop-test.true misses)
+    rw (p.1, p.2) (stop_at_names c.args.schema.now l.counter c.args.lexer.now l.lexer l.numbers.items l.words.items l.invariant c.args.count fault c.loop-test.true misses)
 
 pub returns-in_err-read_values-clause-stops : goal.returns-in_err-read_values-clause-stops
 returns-in_err-read_values-clause-stops c =
@@ -23,14 +23,14 @@ returns-in_err-read_values-clause-stops c =
     let names = c.read_names.new.names.items in
     let reads = subst (λ (n : ℕ). ReadsNames (n + 2) l.lexer behind l.numbers.items names) c.top.ensures.value c.in_ok-read_names.ensures.reads in
     let misses = subst (λ (embeds : List Embed). Misses (values_wants embeds) behind fault) c.as_slice-embeds.ensures c.in_err-read_values.ensures.stops in
-    rw (p.1, p.2) (stop_at_values c.args.schema.now l.counter c.args.lexer.now l.lexer l.numbers.items l.values.items l.invariant c.args.count fault names behind c.loop-test.true reads misses)
+    rw (p.1, p.2) (stop_at_values c.args.schema.now l.counter c.args.lexer.now l.lexer l.numbers.items l.words.items l.invariant c.args.count fault names behind c.loop-test.true reads misses)
 
 pub loop-preserved : goal.loop-preserved
 loop-preserved c =
     let l = c.loop in
     let behind = c.read_names.new.lexer in
     let names = c.read_names.new.names.items in
-    let values = c.read_values.new.values.items in
+    let values = c.read_values.new.words.items in
     let reads = subst (λ (n : ℕ). ReadsNames (n + 2) l.lexer behind l.numbers.items names) c.top.ensures.value c.in_ok-read_names.ensures.reads in
-    let more = subst (λ (embeds : List Embed). ReadsValues embeds behind c.read_values.new.lexer l.values.items values) c.as_slice-embeds.ensures c.in_ok-read_values.ensures.reads in
-    lines_more c.args.schema.now l.counter c.args.lexer.now l.lexer l.numbers.items l.values.items l.invariant names values behind c.read_values.new.lexer reads more
+    let more = subst (λ (embeds : List Embed). ReadsValues embeds behind c.read_values.new.lexer l.words.items values) c.as_slice-embeds.ensures c.in_ok-read_values.ensures.reads in
+    lines_more c.args.schema.now l.counter c.args.lexer.now l.lexer l.numbers.items l.words.items l.invariant names values behind c.read_values.new.lexer reads more

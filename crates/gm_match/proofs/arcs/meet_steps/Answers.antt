@@ -1,16 +1,19 @@
-use Rattle.std.proofs.Common.{below_more, arith}
+use Rattle.std.proofs.Common.{false, below_more, arith}
 use Rattle.gm_model.specs.Rules.{rule_of}
 use Rattle.gm_model.specs.Structure.{IsFirstBad}
 use Rattle.gm_match.specs.Firsts.{AreMetBy}
 use Rattle.gm_match.specs.Firsts.IsFirstStep.{NotMet}
+use Rattle.gm_match.proofs.ForcedMet.{met_beside, all_met}
 use Rattle.gm_match.proofs.Stepping.{same_count}
-use Rattle.gm_match.proofs.TurnsMet.{turns_met}
 use Rattle.gm_match.proofs.arcs.meet_steps.Goals as goal
 
-pub loop-node-preserved-then-turns_alone : goal.loop-node-preserved-then-turns_alone
-loop-node-preserved-then-turns_alone g c =
-    let met = turns_met c.args.arena.now c.args.plan.now c.requires.matchable c.args.found.now c.requires.candidate c.loop-node.node (c.turns_alone.ensures.alone c.if-turns_alone.true) in
+pub loop-node-preserved-then-not-contains : goal.loop-node-preserved-then-not-contains
+loop-node-preserved-then-not-contains g c =
+    let met = all_met c.args.arena.now c.args.plan.now c.requires.matchable c.args.found.now c.requires.candidate c.loop-node.node c.tested_labels-tested.result c.tested_labels-tested.ensures.forced (λ i inside. c.if-not-contains.ensures.cases i false (omega arith) inside) in
     record { met = below_more _ _ c.loop-node.invariant.met met; cost = omega (arith, c.loop-node.invariant.cost); least = c.loop-node.invariant.least }
+
+pub broken_position-requires-clause-beside : goal.broken_position-requires-clause-beside
+broken_position-requires-clause-beside g c = met_beside c.args.arena.now c.args.plan.now c.requires.matchable c.args.found.now c.requires.candidate c.loop-node.node c.tested_labels-tested.result c.tested_labels-tested.ensures.forced
 
 pub broken_position-requires-clause-node : goal.broken_position-requires-clause-node
 broken_position-requires-clause-node g c =

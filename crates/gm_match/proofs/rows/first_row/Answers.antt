@@ -1,5 +1,5 @@
-use Rattle.std.proofs.Common.{◌<◌, get_or, length, refl, ◌∙◌, arith, length-set}
-use Rattle.std.proofs.lemmas.List.Elements.{All-get_or, All-replicate, All-set}
+use Rattle.std.proofs.Common.{◌<◌, get_or, length, ◌∙◌, arith, length-set}
+use Rattle.std.proofs.lemmas.List.Elements.{All-get_or, All-set}
 use Rattle.std.proofs.lemmas.Option.{slice_get_within}
 use Rattle.gm_arena.specs.declared.slot.Slot.{Slot}
 use Rattle.gm_arena.specs.ArenaMap.{IsLiveSlot}
@@ -11,8 +11,8 @@ use Rattle.gm_match.proofs.rows.first_row.Goals as goal
 
 pub loop-index-init : goal.loop-index-init
 loop-index-init g c = record {
-  whole = refl;
-  live = All-replicate (λ (s : Slot). IsLiveSlot c.args.arena.now s.at) 32 _ (All-get_or (λ (s : Slot). IsLiveSlot c.args.arena.now s.at) c.args.darts.now 0 (record { at = 0 }) c.requires.some c.requires.live);
+  whole = c.told-row;
+  live = c.requires.row;
   placed = λ t h none at. absurd (omega arith);
 }
 

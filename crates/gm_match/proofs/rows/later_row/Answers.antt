@@ -1,26 +1,36 @@
 use Rattle.std.proofs.Common.{◌<◌, inl, inr, get_or, length, refl, ap, ◌∙◌, arith, length-set}
 use Rattle.std.proofs.lemmas.Bool.{cases_eq}
-use Rattle.std.proofs.lemmas.List.Elements.{All-replicate, All-set}
+use Rattle.std.proofs.lemmas.List.Elements.{All-set}
 use Rattle.std.proofs.lemmas.Option.{slice_get_within}
 use Rattle.gm_arena.specs.declared.slot.Slot.{Slot}
 use Rattle.gm_arena.specs.ArenaMap.{IsLiveSlot}
 use Rattle.gm_model.specs.Rules.{rule_of}
 use Rattle.gm_match.specs.Layout.{stepped}
-use Rattle.gm_match.specs.Outcome.{name_of}
-use Rattle.gm_match.proofs.CellLemmas.{same_entry}
 use Rattle.gm_match.proofs.Growing.{one_hook, own_set, other_stays}
 use Rattle.gm_match.proofs.Hooks.{hook_there, hooks_long}
 use Rattle.gm_match.proofs.Paths.{hook_within}
 use Rattle.gm_match.proofs.rows.later_row.Goals as goal
 
 pub loop-index-init : goal.loop-index-init
-loop-index-init g c = record {
-  whole = refl;
-  live = All-replicate (λ (s : Slot). IsLiveSlot c.args.arena.now s.at) 32 c.args.first c.requires.first;
-  first = λ h at. ap (name_of c.args.arena.now) (same_entry 32 c.args.first h (hook_within c.args.plan.now.schema (rule_of c.args.plan.now.table) c.requires.matchable.planned 0 h at));
-  later = λ t h nodes some less at counts. absurd (omega (arith, some, less));
-  cost = omega arith;
-}
+loop-index-init g c =
+    let m = c.args.arena.now in
+    let rule = rule_of c.args.plan.now.table in
+    let planned = c.requires.matchable.planned in
+    let hook = get_or c.as_slice-hooks.result.now 0 0 in
+    let at = hook_there c.args.plan.now.table c.rule.result.now c.as_slice-hooks.result.now c.rule.ensures.rule c.as_slice-hooks.ensures 0 c.requires.some in
+    let within : hook < length c.args.row.now = omega (arith, c.told-row, hook_within c.args.plan.now.schema rule planned 0 hook at) in
+    record {
+      whole = length-set _ _ _ ∙ c.told-row;
+      live = All-set (λ (s : Slot). IsLiveSlot m s.at) c.args.row.now hook c.args.first c.requires.first c.requires.row;
+      first = λ h first. own_set m rule.hooks planned.accepted.in_range.hooks_differ c.args.row.now 0 hook at c.args.first within 0 h first refl;
+      later = λ t h nodes some less at counts. absurd (omega (arith, some, less));
+      cost = omega arith;
+    }
+
+pub bounds-row-hooks : goal.bounds-row-hooks
+bounds-row-hooks g c =
+    let at = hook_there c.args.plan.now.table c.rule.result.now c.as_slice-hooks.result.now c.rule.ensures.rule c.as_slice-hooks.ensures 0 c.requires.some in
+    hook_within c.args.plan.now.schema (rule_of c.args.plan.now.table) c.requires.matchable.planned 0 _ at
 
 pub step_hook-requires-clause-turn : goal.step_hook-requires-clause-turn
 step_hook-requires-clause-turn g c =

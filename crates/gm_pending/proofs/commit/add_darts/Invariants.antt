@@ -1,12 +1,15 @@
-use Rattle.std.proofs.Common.{◌≡◌, ◌+◌, ◌≤◌, length}
+use Rattle.std.proofs.Common.{◌≡◌, ◌+◌, ◌≤◌, ◌++◌, List, length}
 use Rattle.std.specs.Vec.{vec_capacity}
+use Rattle.gm_arena.specs.declared.slot.Slot.{Slot}
 use Rattle.gm_pending.specs.Written.{IsExtended}
 use Rattle.gm_pending.proofs.commit.add_darts.Given as goal
 
 abbrev pub invariant-loop-number : goal.invariant-loop-number
 invariant-loop-number g l = record {
-  extended : IsExtended l.fn.arena l.values l.made.items l.arena;
-  made : length l.made.items ≡ l.number;
-  capacity : l.added ≤ vec_capacity l.made;
-  cost : l.steps ≡ l.fn.steps + length l.made.items;
+  made : List Slot;
+  slots : l.slots.items ≡ l.fn.slots.items ++ made;
+  extended : IsExtended l.fn.arena l.values made l.arena;
+  long : length made ≡ l.number;
+  capacity : length l.fn.slots.items + l.added ≤ vec_capacity l.slots;
+  cost : l.steps ≡ l.fn.steps + length made;
 }

@@ -1,4 +1,4 @@
-use Rattle.std.proofs.Common.{◌≡◌, ℕ, map, Option, Some, None, IfSome, ◌∙◌, ◌<◌, length, refl, sym}
+use Rattle.std.proofs.Common.{◌≡◌, ℕ, map, Option, Some, None, IfSome, ◌∙◌, ◌<◌, length, sym}
 use Rattle.gm_model.specs.Rules.{rule_of}
 use Rattle.gm_script.specs.ScriptText.{index_of}
 use Rattle.gm_script.proofs.Indices.{index_within}

@@ -22,8 +22,11 @@ unwrap-slot-requires g c = has_slot (λ d. ℕ) c.args.arena.now c.args.names.no
 pub overflow_add-orbits : goal.overflow_add-orbits
 overflow_add-orbits g c = omega (arith, c.loop-name.invariant.few, c.loop-name-test.true, few_names c.args.arena.now c.args.names.now c.requires.names c.count.ensures.lawful)
 
-pub take_in_orbit-requires-clause-word : goal.take_in_orbit-requires-clause-word
-take_in_orbit-requires-clause-word g c = rw c.word_of-word.ensures (is_word c.args.arena.now.schema.dim c.args.mask (λ label few h. c.requires.mask label h))
+pub take_in_unseen-requires-clause-word : goal.take_in_unseen-requires-clause-word
+take_in_unseen-requires-clause-word g c = rw c.word_of-word.ensures (is_word c.args.arena.now.schema.dim c.args.mask (λ label few h. c.requires.mask label h))
+
+pub take_in_unseen-requires-clause-unseen : goal.take_in_unseen-requires-clause-unseen
+take_in_unseen-requires-clause-unseen g c = has_no_place c.loop-name.scratch.walked c.unwrap-slot.result c.place.result c.place.ensures (c.is_none.ensures ∙ ap not c.if-is_none.true)
 
 pub prove-unreachable-requires : goal.prove-unreachable-requires
 prove-unreachable-requires g c = c.if-prove.true (names_counted c.args.arena.now c.args.names.now c.requires.names c.count.ensures.lawful ∙ sym c.count.ensures.count)
@@ -60,10 +63,10 @@ loop-name-preserved g c =
     let letters = letters_are c.args.mask (λ j h. omega (arith, c.requires.mask j h, lawful.dim.1)) in
     elim c.if-is_none.branch [
       | then-is_none w ↦
-          let e = w.take_in_orbit.ensures in
+          let e = w.take_in_unseen.ensures in
           let lacks = has_no_place walked slot c.place.result c.place.ensures (c.is_none.ensures ∙ ap not w.if-is_none.true) in
           let unseen = names_lack m lawful walked slot d i.live at lacks in
-          let slots = w.take_in_orbit.new.scratch.walked in
+          let slots = w.take_in_unseen.new.scratch.walked in
           let new = names_of m slots in
           let grown : HasGrownTo m word d (length new) old new = rw (length-map, ← here, ← c.word_of-word.ensures) e.grown in
           record {
@@ -72,7 +75,7 @@ loop-name-preserved g c =
             live = rw w.scratch-is e.live;
             seen = rw w.scratch-is (seen_now m c.requires.generalised o c.requires.mask word letters names c.requires.names p old i.seen new grown);
             room = rw w.scratch-is (rw e.bound i.room);
-            cost = rw (w.scratch-is, w.steps-is) (steps_more (4 * (m.schema.dim + 1)) c.args.steps.now p c.loop-name.steps w.take_in_orbit.new.steps (length walked) (length slots) i.cost (omega (arith, c.slot_of.ensures.cost, e.cost)));
+            cost = rw (w.scratch-is, w.steps-is) (steps_more (4 * (m.schema.dim + 1)) c.args.steps.now p c.loop-name.steps w.take_in_unseen.new.steps (length walked) (length slots) i.cost (omega (arith, c.slot_of.ensures.cost, e.cost)));
             least = omega (arith, w.steps-is, i.least, c.slot_of.ensures.cost, e.least);
           }
       | else-is_none w ↦

@@ -9,7 +9,7 @@ index-requires g c = key_at c.self.inside.places _ (rw (← c.self.view_is) at c
 pub slice_bounds-result-end : goal.slice_bounds-result-end
 slice_bounds-result-end g c =
     let s = c.self.inside in
-    let within : c.args.slot.at * s.labels + s.labels ≤ length s.neighbours.items = links_within _ _ _ _ _ _ _ _ _ _ c.self.invariant c.args.slot.at (rw (← c.self.view_is) at c.requires) in
+    let within : c.args.slot.at * s.labels + s.labels ≤ length s.neighbours.items = links_within _ _ _ _ _ _ _ _ _ _ c.self.invariant.0 c.args.slot.at (rw (← c.self.view_is) at c.requires) in
     omega (arith, within, s.neighbours.ok.0)
 
 pub returns-clause-name : goal.returns-clause-name
@@ -20,9 +20,9 @@ back n k = omega arith
 
 pub returns-clause-dart : goal.returns-clause-dart
 returns-clause-dart g c =
-    rw (← c.self.view_is, back, back, c.deref.ensures.value, c.deref-2.ensures.value) (row_at _ _ _ _ _ _ _ _ _ _ c.self.invariant c.args.slot.at c.index.result.now c.index.ensures)
+    rw (← c.self.view_is, back, back, c.deref.ensures.value, c.deref-2.ensures.value) (row_at _ _ _ _ _ _ _ _ _ _ c.self.invariant.0 c.args.slot.at c.index.result.now c.index.ensures)
 
 pub returns-clause-live : goal.returns-clause-live
 returns-clause-live g c =
-    let placed = c.self.invariant.placed c.args.slot.at c.index.result.now c.index.ensures in
+    let placed = c.self.invariant.0.placed c.args.slot.at c.index.result.now c.index.ensures in
     rw (← c.self.view_is, back, c.deref.ensures.value) (λ k d h. live_at c.self.inside.places _ (placed.live k d h))

@@ -6,14 +6,14 @@ use Rattle.gm_arena.proofs.arena.Arena.slot_of.Goals as goal
 pub returns-in-Some-clause-slot : goal.returns-in-Some-clause-slot
 returns-in-Some-clause-slot g c =
     let read : c.in-Some.slot.now ≡ slot_in c.self.inside.table.items c.args.name = c.in-Some.ensures.lookup.4 (omega arith) no_slot ∙ ap (λ xs. get_or xs c.args.name no_slot) c.deref.ensures.value in
-    rw (← c.self.view_is) (slot_named _ _ _ _ _ _ _ _ _ _ c.self.invariant c.args.name c.in-Some.slot.now (sym read) c.if-slot.true)
+    rw (← c.self.view_is) (slot_named _ _ _ _ _ _ _ _ _ _ c.self.invariant.0 c.args.name c.in-Some.slot.now (sym read) c.if-slot.true)
 
 pub returns-in_default-clause-slot : goal.returns-in_default-clause-slot
 returns-in_default-clause-slot g c =
     let read : c.in-Some.slot.now ≡ slot_in c.self.inside.table.items c.args.name = c.in-Some.ensures.lookup.4 (omega arith) no_slot ∙ ap (λ xs. get_or xs c.args.name no_slot) c.deref.ensures.value in
-    rw (← c.self.view_is) (no_dart _ _ _ _ _ _ _ _ _ _ c.self.invariant c.args.name (sym read ∙ c.if-slot.false))
+    rw (← c.self.view_is) (no_dart _ _ _ _ _ _ _ _ _ _ c.self.invariant.0 c.args.name (sym read ∙ c.if-slot.false))
 
 pub returns-in_default-2-clause-slot : goal.returns-in_default-2-clause-slot
 returns-in_default-2-clause-slot g c =
     let read = (rw c.in_default.is at c.get.ensures.lookup.4) (omega arith) no_slot ∙ ap (λ xs. get_or xs c.args.name no_slot) c.deref.ensures.value in
-    rw (← c.self.view_is) (no_dart _ _ _ _ _ _ _ _ _ _ c.self.invariant c.args.name (sym read))
+    rw (← c.self.view_is) (no_dart _ _ _ _ _ _ _ _ _ _ c.self.invariant.0 c.args.name (sym read))

@@ -1,9 +1,9 @@
 use Rattle.gm_pending.specs.Marks.{HasKey, key_of}
-use Rattle.gm_pending.proofs.Reached.{distinct_more}
+use Rattle.gm_pending.proofs.Reached.{marked_few}
 use Rattle.gm_pending.proofs.marks.Marks.add.Goals as goal
 
-pub invariant_of-self-2 : goal.invariant_of-self-2
-invariant_of-self-2 c =
+pub invariant_of-self : goal.invariant_of-self
+invariant_of-self c =
     let reached = c.self.inside.reached.items in
-    let absent : HasKey reached (key_of c.args.at) → ⊥ = rw (c.self.view_is, c.in_ok-index_many.ensures) c.requires in
-    rw (c.push_reserved.ensures.items, c.try_reserve.ensures.items) (record { distinct = distinct_more reached c.self.invariant.distinct c.args.at c.args.decider absent; indexed = c.in_ok-self-inside.ensures reached absent (rw c.take.ensures.value c.self.invariant.indexed) })
+    let absent : HasKey reached (key_of c.args.entry.at) → ⊥ = rw c.self.view_is c.requires.absent in
+    marked_few reached c.push.new.reached.items c.self.inside.deciders c.args.entry c.push.result c.if-is_none.ensures c.self.invariant c.requires.key absent c.push.ensures.ok c.push.ensures.err

@@ -1,45 +1,48 @@
-use Rattle.std.proofs.Common.{◌≡◌, ℕ, ◌+◌, ◌*◌, ◌≤◌, length, subst, ◌∙◌, sym, arith}
-use Rattle.std.proofs.lemmas.Nat.{mul-le}
+use Rattle.std.proofs.Common.{◌≡◌, ℕ, ◌+◌, List, ◌++◌, length, take, drop, subst, sym, ◌∙◌, arith}
+use Rattle.std.proofs.lemmas.List.{take-append-le, take_all}
+use Rattle.gm_model.specs.declared.value.Value.{Value}
 use Rattle.gm_pending.specs.EditLists.{AreAddedValues}
-use Rattle.gm_pending.specs.Gathered.{new_number}
-use Rattle.gm_pending.specs.Results.{PendingOf, rule_in}
-use Rattle.gm_pending.proofs.AddedDarts.{first_dart, next_node, all_darts, few_darts}
-use Rattle.gm_pending.proofs.AddedValues.{none_added}
+use Rattle.gm_pending.specs.Gathered.{AreDecidedBelow, AreKeptValues}
+use Rattle.gm_pending.proofs.AddedValues.{no_values}
+use Rattle.gm_pending.proofs.GivenValues.{none_decided, all_decided}
 use Rattle.gm_pending.proofs.pending.Pending.added_values.Goals as goal
-use Rattle.gm_pending.proofs.pending.Pending.added_values.Given.{Over}
 
--- the darts of one node more
-in_turn : (app : PendingOf) (x width start before after : ℕ) → app.placed.nodes ≤ x → before ≤ start + new_number app x 0 * width → after ≤ before + app.placed.positions * width → after ≤ start + new_number app (x + 1) 0 * width
-in_turn app x width start before after h so_far more =
-    let next : new_number app (x + 1) 0 ≡ new_number app x 0 + app.placed.positions = next_node app x h ∙ omega arith in
-    let all : (new_number app x 0 + app.placed.positions) * width ≡ new_number app x 0 * width + app.placed.positions * width = grind arith in
-    rw next (omega (arith, all))
-
-pub loop-node-init : goal.loop-node-init
-loop-node-init g c =
-    let none : new_number c.args.self.now c.left_nodes-node.result 0 ≡ 0 = rw c.left_nodes-node.ensures.left (first_dart c.args.self.now) in
-    record { right = omega (arith, c.left_nodes-node.ensures.left); so_far = rw (none, c.in_ok-values.ensures.items) (none_added c.args.self.now); cost = omega arith; least = omega arith }
-
-pub returns-in_err-put_values_of_node-clause-cost : goal.returns-in_err-put_values_of_node-clause-cost
-returns-in_err-put_values_of_node-clause-cost g c =
-    let few : new_number c.args.self.now (c.loop-node.node + 1) 0 ≤ c.args.added = omega (arith, c.requires.added, few_darts c.args.self.now c.nodes-node-end.ensures.prepared (c.loop-node.node + 1) (omega (arith, c.loop-node-test.true, c.nodes-node-end.ensures.nodes))) in
-    omega (arith, in_turn c.args.self.now c.loop-node.node _ c.args.steps.now c.loop-node.steps c.put_values_of_node.new.steps c.loop-node.invariant.right c.loop-node.invariant.cost c.put_values_of_node.ensures.cost, mul-le (new_number c.args.self.now (c.loop-node.node + 1) 0) (length c.args.self.now.map.schema.embeds) c.args.added (length c.args.self.now.map.schema.embeds) few (omega arith))
-
-pub loop-node-preserved : goal.loop-node-preserved
-loop-node-preserved g c = record {
-  right = omega (arith, c.loop-node.invariant.right);
-  so_far = subst (λ n. AreAddedValues c.args.self.now n c.put_values_of_node.new.values.items) (sym (next_node c.args.self.now c.loop-node.node c.loop-node.invariant.right)) c.in_ok-put_values_of_node.ensures.values;
-  cost = in_turn c.args.self.now c.loop-node.node _ c.args.steps.now c.loop-node.steps c.put_values_of_node.new.steps c.loop-node.invariant.right c.loop-node.invariant.cost c.put_values_of_node.ensures.cost;
-  least = omega (arith, c.loop-node.invariant.least, c.put_values_of_node.ensures.least);
-}
-
-all_put : (g : Over) (c : goal.After-loop-node g) → new_number c.args.self.now c.loop-node.node 0 ≡ c.args.added
-all_put g c =
-    let end : c.loop-node.node ≡ length (rule_in c.args.self.now).nodes = omega (arith, c.loop-node-test.false, c.loop-node.auto.node-end, c.nodes-node-end.ensures.nodes, c.left_nodes-node.ensures.most) in
-    rw (end, c.requires.added) (all_darts c.args.self.now c.nodes-node-end.ensures.prepared)
+pub loop-embed-init : goal.loop-embed-init
+loop-embed-init g c = none_decided c.args.self.now _ (subst (λ n. AreKeptValues c.args.self.now n c.in_ok-values.values.items) c.requires.added c.in_ok-values.ensures.values)
 
 pub returns-clause-values : goal.returns-clause-values
-returns-clause-values g c = subst (λ n. AreAddedValues c.args.self.now n c.loop-node.values.items) (all_put g c) c.loop-node.invariant.so_far
+returns-clause-values g c =
+    let whole : c.loop-embed.embed ≡ length c.args.self.now.map.schema.embeds = omega (arith, c.loop-embed-test.false, c.loop-embed.auto.embed-end, c.embeds-embed-end.ensures.embeds) in
+    subst (λ n. AreAddedValues c.args.self.now n c.loop-embed.values.items) (sym c.requires.added) (all_decided c.args.self.now c.loop-embed.embed c.loop-embed.values.items whole c.loop-embed.invariant)
+
+pub returns-then-embeds-eq0-clause-values : goal.returns-then-embeds-eq0-clause-values
+returns-then-embeds-eq0-clause-values g c = subst (AreAddedValues c.args.self.now c.args.added) (sym c.new.ensures.items) (no_values c.args.self.now c.args.added (omega (arith, c.if-embeds-eq0.true, c.embeds.ensures.embeds)))
+
+pub returns-then-embeds-eq0-clause-cost : goal.returns-then-embeds-eq0-clause-cost
+returns-then-embeds-eq0-clause-cost g c = omega arith
+
+pub kept_values-requires : goal.kept_values-requires
+kept_values-requires g c = c.requires.added
+
+pub returns-in_err-values-clause-cost : goal.returns-in_err-values-clause-cost
+returns-in_err-values-clause-cost g c = c.kept_values.ensures.cost
+
+pub put_given_values-requires-clause-embed : goal.put_given_values-requires-clause-embed
+put_given_values-requires-clause-embed g c = omega (arith, c.loop-embed-test.true, c.embeds-embed-end.ensures.embeds)
+
+pub put_given_values-requires-clause-given : goal.put_given_values-requires-clause-given
+put_given_values-requires-clause-given g c = c.requires.given
+
+pub put_given_values-requires-clause-earlier : goal.put_given_values-requires-clause-earlier
+put_given_values-requires-clause-earlier g c = rw c.deref_mut.ensures.value c.loop-embed.invariant
+
+-- what is written through a slice of all values is all of them
+all_written : (len : ℕ) (values written : List Value) → len ≡ length values → length written ≡ length values → take len (written ++ drop (length written) values) ≡ written
+all_written len values written is same = take-append-le len written (drop (length written) values) (omega (arith, is, same)) ∙ take_all len written (omega (arith, is, same))
+
+pub loop-embed-preserved : goal.loop-embed-preserved
+loop-embed-preserved g c =
+    subst (AreDecidedBelow c.args.self.now (c.loop-embed.embed + 1)) (sym (all_written c.loop-embed.values.len c.loop-embed.values.items c.put_given_values.new.values c.loop-embed.values.ok.0 (c.put_given_values.ensures.long ∙ sym c.loop-embed.invariant.long))) c.put_given_values.ensures
 
 pub returns-clause-cost : goal.returns-clause-cost
-returns-clause-cost g c = subst (λ n. c.loop-node.steps ≤ c.args.steps.now + n * length c.args.self.now.map.schema.embeds) (all_put g c) c.loop-node.invariant.cost
+returns-clause-cost g c = c.kept_values.ensures.cost

@@ -1,12 +1,5 @@
-use Rattle.std.proofs.Common.{◌+◌, ◌*◌, ◌≤◌, length}
-use Rattle.gm_pending.specs.EditLists.{AreAddedValues}
-use Rattle.gm_pending.specs.Gathered.{new_number}
+use Rattle.gm_pending.specs.Gathered.{AreDecidedBelow}
 use Rattle.gm_pending.proofs.pending.Pending.added_values.Given as goal
 
-abbrev pub invariant-loop-node : goal.invariant-loop-node
-invariant-loop-node g l = record {
-  right : l.self.placed.nodes ≤ l.node;
-  so_far : AreAddedValues l.self (new_number l.self l.node 0) l.values.items;
-  cost : l.steps ≤ l.fn.steps + new_number l.self l.node 0 * length l.self.map.schema.embeds;
-  least : l.fn.steps ≤ l.steps;
-}
+abbrev pub invariant-loop-embed : goal.invariant-loop-embed
+invariant-loop-embed g l = AreDecidedBelow l.self l.embed l.values.items

@@ -1,9 +1,11 @@
-use Rattle.std.proofs.Common.{◌≡◌, ◌<◌, Some, slice_get, length, refl, sym, ◌∙◌, ap, subst}
+use Rattle.std.proofs.Common.{◌≡◌, ◌<◌, Some, slice_get, length, refl, sym, ◌∙◌, ap, subst, [], None, arith}
 use Rattle.gm_model.specs.Maps.{IsEmbedAt}
 use Rattle.gm_pending.specs.Reached.{AreReached}
 use Rattle.gm_pending.specs.Results.{IsPrepared, PendingOf, deciders_of}
-use Rattle.gm_pending.proofs.Answered.{answered_reached, asked_embed, asked_within}
+use Rattle.gm_pending.proofs.Answered.{answered_reached, asked_embed, asked_within, answered_at, unanswered_at}
 use Rattle.gm_pending.proofs.Answering.{read_there}
+use Rattle.std.specs.Prelude.{unwrap_or}
+use Rattle.std.proofs.lemmas.Bool.{false≢true}
 use Rattle.gm_pending.proofs.pending.Pending.answer.Goals as goal
 
 pub returns-clause-reached : goal.returns-clause-reached
@@ -16,3 +18,29 @@ returns-clause-reached c = λ kept at.
 
 pub returns-clause-embed : goal.returns-clause-embed
 returns-clause-embed c = asked_embed c.args.self.now (subst IsPrepared c.self.view_is c.self.invariant.0) c.args.embed c.requires
+
+pub unreachable-requires : goal.unreachable-requires
+unreachable-requires c =
+    let s = c.self.inside in
+    let items = s.asked.items in
+    let asked = rw (← c.self.view_is) at c.requires in
+    let within : c.args.embed < length items = asked_within s.arena.now s.plan.now.table s.found.now items c.args.embed asked in
+    let there : slice_get items c.args.embed ≡ Some None = read_there items items c.args.embed c.index.result.now c.index.ensures refl within ∙ ap Some c.in-None.is in
+    false≢true (rw (unanswered_at items c.args.embed there) at asked)
+
+pub returns-clause-deciders : goal.returns-clause-deciders
+returns-clause-deciders c =
+    let s = c.self.inside in
+    let items = s.asked.items in
+    let within : c.args.embed < length items = asked_within s.arena.now s.plan.now.table s.found.now items c.args.embed (rw (← c.self.view_is) at c.requires) in
+    let there : slice_get items c.args.embed ≡ Some (Some c.in-Some.asked) = read_there items items c.args.embed c.index.result.now c.index.ensures refl within ∙ ap Some c.in-Some.is in
+    subst (λ (a : PendingOf). c.in-Some.asked.deciders.items ≡ deciders_of a c.args.embed) c.self.view_is (sym (ap (λ o. unwrap_or o []) (answered_at items c.args.embed c.in-Some.asked there)))
+
+pub returns-clause-prepared : goal.returns-clause-prepared
+returns-clause-prepared c = subst IsPrepared c.self.view_is c.self.invariant.0
+
+pub index-requires : goal.index-requires
+index-requires c =
+    let s = c.self.inside in
+    let within : c.args.embed < length s.asked.items = asked_within s.arena.now s.plan.now.table s.found.now s.asked.items c.args.embed (rw (← c.self.view_is) at c.requires) in
+    omega (arith, within, s.asked.ok.0)

@@ -1,11 +1,12 @@
-use Rattle.std.proofs.Common.{sym, ◌∙◌, ap, subst, arith}
+use Rattle.std.proofs.Common.{sym, ◌∙◌, ap, subst, arith, ◌<◌, List, length}
 use Rattle.gm_model.specs.declared.schema.Embed.{Embed}
 use Rattle.gm_model.specs.declared.schema.Schema.{Schema}
 use Rattle.gm_theory.proofs.Lists.{some_same, contained_at}
 use Rattle.gm_pending.specs.Reached.{AreReached}
-use Rattle.gm_pending.specs.Results.{PendingOf, AreDeciders, IsWithinReach}
+use Rattle.gm_pending.specs.Results.{PendingOf, AreDeciders, IsWithinReach, IsPrepared}
 use Rattle.gm_pending.proofs.Answering.{read_there}
-use Rattle.gm_pending.proofs.Decided.{are_deciders, are_reached, within_reach}
+use Rattle.gm_pending.proofs.Decided.{are_deciders, are_reached, within_reach, none_decided}
+use Rattle.gm_pending.proofs.Exits.{unless_ok}
 use Rattle.gm_pending.proofs.pending.Pending.decide.Goals as goal
 
 pub returns-in_err-outcome-clause-cost : goal.returns-in_err-outcome-clause-cost
@@ -53,3 +54,42 @@ returns-clause-ungiven g c = λ decider among. c.in_ok-outcome.ensures.decided.u
 
 pub returns-clause-few : goal.returns-clause-few
 returns-clause-few g c = c.in_ok-outcome.ensures.decided.few
+
+pub bounds-as_slice-embed : goal.bounds-as_slice-embed
+bounds-as_slice-embed g c =
+    subst (λ (es : List Embed). c.args.embed < length es) (sym (c.as_slice.ensures ∙ ap (λ (s : Schema). s.embeds) c.schema.ensures ∙ ap (λ (a : PendingOf). a.map.schema.embeds) c.self.view_is)) c.requires
+
+pub decide_nodes-outcome-requires-clause-embed : goal.decide_nodes-outcome-requires-clause-embed
+decide_nodes-outcome-requires-clause-embed g c =
+    read_there c.as_slice.result.now c.args.self.now.map.schema.embeds c.args.embed c.index-as_slice-embed.result c.index-as_slice-embed.is
+    (c.as_slice.ensures ∙ ap (λ (s : Schema). s.embeds) c.schema.ensures ∙ ap (λ (a : PendingOf). a.map.schema.embeds) c.self.view_is) c.requires
+
+pub returns-in_err-outcome-clause-least : goal.returns-in_err-outcome-clause-least
+returns-in_err-outcome-clause-least g c = c.decide_nodes-outcome.ensures.least
+
+pub returns-in_err-outcome-clause-prepared : goal.returns-in_err-outcome-clause-prepared
+returns-in_err-outcome-clause-prepared g c = c.decide_nodes-outcome.ensures.prepared
+
+pub returns-clause-least : goal.returns-clause-least
+returns-clause-least g c = c.decide_nodes-outcome.ensures.least
+
+pub returns-clause-prepared : goal.returns-clause-prepared
+returns-clause-prepared g c = c.decide_nodes-outcome.ensures.prepared
+
+pub decide_nodes-outcome-requires-clause-earlier : goal.decide_nodes-outcome-requires-clause-earlier
+decide_nodes-outcome-requires-clause-earlier g c =
+    let here = read_there c.as_slice.result.now c.args.self.now.map.schema.embeds c.args.embed c.index-as_slice-embed.result c.index-as_slice-embed.is
+    (c.as_slice.ensures ∙ ap (λ (s : Schema). s.embeds) c.schema.ensures ∙ ap (λ (a : PendingOf). a.map.schema.embeds) c.self.view_is) c.requires in
+    rw (c.new.ensures.items, c.new-2.ensures) (none_decided c.args.self.now (subst IsPrepared c.self.view_is c.self.invariant.0) c.args.embed c.index-as_slice-embed.result here)
+
+pub returns-in_err-outcome-clause-deciders : goal.returns-in_err-outcome-clause-deciders
+returns-in_err-outcome-clause-deciders g c = unless_ok _ c.from_residual.result c.from_residual.ensures.0
+
+pub returns-in_err-outcome-clause-reached : goal.returns-in_err-outcome-clause-reached
+returns-in_err-outcome-clause-reached g c = unless_ok _ c.from_residual.result c.from_residual.ensures.0
+
+pub returns-in_err-outcome-clause-ungiven : goal.returns-in_err-outcome-clause-ungiven
+returns-in_err-outcome-clause-ungiven g c = unless_ok _ c.from_residual.result c.from_residual.ensures.0
+
+pub returns-in_err-outcome-clause-few : goal.returns-in_err-outcome-clause-few
+returns-in_err-outcome-clause-few g c = unless_ok _ c.from_residual.result c.from_residual.ensures.0

@@ -3,6 +3,7 @@ use Rattle.gm_pending.specs.Reached.{IsSpreadTo}
 use Rattle.gm_pending.specs.Results.{name_of}
 use Rattle.gm_pending.specs.Marks.{key_of}
 use Rattle.gm_pending.proofs.Decided.{assigned_right, decided_reached, instance_decides, instance_passed, key_absent, key_there, on_ok, some_grown}
+use Rattle.gm_pending.proofs.Exits.{never_ok}
 use Rattle.gm_pending.proofs.pending.Pending.decide_instance.Goals as goal
 
 pub place-at-requires : goal.place-at-requires
@@ -42,3 +43,57 @@ returns-clause-reached g c =
     (c.requires.assigned, c.requires.position) c.place-at.ensures.dart c.place-at.ensures.name c.reach.ensures.darts
     (decided_reached app c.labels.ensures.prepared c.args.embed c.args.declared.now c.requires.embed c.args.asked.now.deciders.items c.args.asked.now.marks c.args.node c.args.position c.requires.earlier)
     (λ result unfolded. c.reach.ensures.grown result unfolded (c.requires.earlier.walked result unfolded).closed)
+
+pub returns-then-is_some-clause-darts : goal.returns-then-is_some-clause-darts
+returns-then-is_some-clause-darts g c = c.requires.earlier.darts
+
+pub returns-then-is_some-clause-cost : goal.returns-then-is_some-clause-cost
+returns-then-is_some-clause-cost g c = omega arith
+
+pub returns-then-is_some-clause-least : goal.returns-then-is_some-clause-least
+returns-then-is_some-clause-least g c = omega arith
+
+pub returns-then-len-clause-darts : goal.returns-then-len-clause-darts
+returns-then-len-clause-darts g c = c.requires.earlier.darts
+
+pub returns-then-len-clause-cost : goal.returns-then-len-clause-cost
+returns-then-len-clause-cost g c = omega arith
+
+pub returns-then-len-clause-least : goal.returns-then-len-clause-least
+returns-then-len-clause-least g c = omega arith
+
+pub returns-in_err-push-clause-darts : goal.returns-in_err-push-clause-darts
+returns-in_err-push-clause-darts g c = c.requires.earlier.darts
+
+pub returns-in_err-push-clause-cost : goal.returns-in_err-push-clause-cost
+returns-in_err-push-clause-cost g c = omega arith
+
+pub returns-in_err-push-clause-least : goal.returns-in_err-push-clause-least
+returns-in_err-push-clause-least g c = omega arith
+
+pub reach-requires-clause-embed : goal.reach-requires-clause-embed
+reach-requires-clause-embed g c = c.requires.embed
+
+pub reach-requires-clause-dart : goal.reach-requires-clause-dart
+reach-requires-clause-dart g c = c.place-at.ensures.dart
+
+pub reach-requires-clause-darts : goal.reach-requires-clause-darts
+reach-requires-clause-darts g c = c.requires.earlier.darts
+
+pub reach-requires-clause-absent : goal.reach-requires-clause-absent
+reach-requires-clause-absent g c = key_absent c.args.asked.now.marks (key_of c.place-at.result) c.decider.result c.decider.ensures.decider (sym c.is_some.ensures ∙ c.if-is_some.false)
+
+pub returns-clause-darts : goal.returns-clause-darts
+returns-clause-darts g c = c.reach.ensures.darts
+
+pub returns-clause-cost : goal.returns-clause-cost
+returns-clause-cost g c = c.reach.ensures.cost
+
+pub returns-clause-least : goal.returns-clause-least
+returns-clause-least g c = c.reach.ensures.least
+
+pub returns-then-len-clause-decided : goal.returns-then-len-clause-decided
+returns-then-len-clause-decided g c = tt
+
+pub returns-in_err-push-clause-decided : goal.returns-in_err-push-clause-decided
+returns-in_err-push-clause-decided g c = never_ok _ c.from_residual.result c.from_residual.ensures.0

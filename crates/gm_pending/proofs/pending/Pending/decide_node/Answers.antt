@@ -13,3 +13,36 @@ returns-clause-decided g c =
 
 pub returns-clause-reached : goal.returns-clause-reached
 returns-clause-reached g c = decided_reached c.args.self.now c.positions-position-end.ensures.prepared c.args.embed c.args.declared.now c.requires.embed c.loop-position.asked.deciders.items c.loop-position.asked.marks c.args.node c.loop-position.position c.loop-position.invariant.decided
+
+pub loop-position-init : goal.loop-position-init
+loop-position-init g c = record { decided = c.requires.earlier; cost = omega arith; least = omega arith }
+
+pub decide_instance-requires-clause-embed : goal.decide_instance-requires-clause-embed
+decide_instance-requires-clause-embed g c = c.requires.embed
+
+pub decide_instance-requires-clause-assigned : goal.decide_instance-requires-clause-assigned
+decide_instance-requires-clause-assigned g c = c.requires.assigned
+
+pub decide_instance-requires-clause-position : goal.decide_instance-requires-clause-position
+decide_instance-requires-clause-position g c = omega (arith, c.loop-position-test.true, c.positions-position-end.ensures.positions)
+
+pub returns-in_err-decide_instance-clause-darts : goal.returns-in_err-decide_instance-clause-darts
+returns-in_err-decide_instance-clause-darts g c = c.decide_instance.ensures.darts
+
+pub returns-in_err-decide_instance-clause-reached : goal.returns-in_err-decide_instance-clause-reached
+returns-in_err-decide_instance-clause-reached g c = c.decide_instance.ensures.reached
+
+pub returns-in_err-decide_instance-clause-cost : goal.returns-in_err-decide_instance-clause-cost
+returns-in_err-decide_instance-clause-cost g c = omega (arith, c.loop-position.invariant.cost, c.decide_instance.ensures.cost)
+
+pub returns-in_err-decide_instance-clause-least : goal.returns-in_err-decide_instance-clause-least
+returns-in_err-decide_instance-clause-least g c = omega (arith, c.loop-position.invariant.least, c.decide_instance.ensures.least)
+
+pub returns-clause-darts : goal.returns-clause-darts
+returns-clause-darts g c = c.loop-position.invariant.decided.darts
+
+pub returns-clause-cost : goal.returns-clause-cost
+returns-clause-cost g c = c.loop-position.invariant.cost
+
+pub returns-clause-least : goal.returns-clause-least
+returns-clause-least g c = c.loop-position.invariant.least

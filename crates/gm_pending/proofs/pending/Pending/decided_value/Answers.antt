@@ -15,3 +15,21 @@ pub returns-clause-value : goal.returns-clause-value
 returns-clause-value c = λ kept at.
     let given = subst (λ ds. given_of ds c.in_ok-index.index ≡ Some c.given.result) (c.deref.ensures.value ∙ c.answer-asked.ensures.deciders) c.given.ensures in
     value_decided c.args.self.now c.answer-asked.ensures.prepared c.args.embed kept at c.answer-asked.result.now.marks (c.answer-asked.ensures.reached kept at) c.args.at c.requires.dart c.in_ok-index.index c.in_ok-index.ensures.decider c.given.result given
+
+pub answer-asked-requires : goal.answer-asked-requires
+answer-asked-requires c = c.requires.given.0
+
+pub returns-in_err-index-clause-value : goal.returns-in_err-index-clause-value
+returns-in_err-index-clause-value c = λ kept at. rw c.from_residual.ensures (c.answer-asked.result.now.marks, c.answer-asked.ensures.reached kept at, c.in_err-index.ensures.decider)
+
+pub returns-in_err-index-clause-embed : goal.returns-in_err-index-clause-embed
+returns-in_err-index-clause-embed c = c.answer-asked.ensures.embed
+
+pub returns-in_err-index-clause-prepared : goal.returns-in_err-index-clause-prepared
+returns-in_err-index-clause-prepared c = c.answer-asked.ensures.prepared
+
+pub returns-clause-embed : goal.returns-clause-embed
+returns-clause-embed c = c.answer-asked.ensures.embed
+
+pub returns-clause-prepared : goal.returns-clause-prepared
+returns-clause-prepared c = c.answer-asked.ensures.prepared

@@ -3,6 +3,9 @@ use Rattle.gm_model.specs.Maps.{IsEmbedAt}
 use Rattle.gm_pending.specs.declared.decider.Decider.{Decider}
 use Rattle.gm_pending.specs.Results.{PendingOf, AreDeciders, IsWithinReach}
 use Rattle.gm_pending.proofs.Answering.{kept_answers, kept_asked, kept_deciders, kept_prepared, good_if_ungiven}
+use Rattle.gm_pending.proofs.Exits.{never_ok, on_err, unless_ok}
+use Rattle.std.proofs.lemmas.List.{length-map}
+use Rattle.gm_pending.specs.Answered.{deciders_in}
 use Rattle.gm_pending.proofs.pending.Pending.deciding.Goals as goal
 
 pub returns-in_err-asked-clause-cost : goal.returns-in_err-asked-clause-cost
@@ -60,3 +63,58 @@ returns-clause-count g c =
     let good = good_if_ungiven asked.deciders.items c.in_ok-asked.ensures.ungiven in
     let here = kept_deciders s.arena.now s.plan.now.table s.found.now s.asked.items c.args.embed asked c.look_up.new.self c.self.view_is c.self.invariant.0 c.self.invariant.2 within c.keep.new.answers.items c.keep.ensures c.in_ok-asked.ensures.deciders c.in_ok-asked.ensures.reached (λ x p embed v at given. good x p embed v given) in
     omega (arith, c.len-count.ensures, asked.deciders.ok.0, ap (λ (ds : List Decider). length ds) here)
+
+pub returns-in_err-look_up-clause-cost : goal.returns-in_err-look_up-clause-cost
+returns-in_err-look_up-clause-cost g c = λ kept at result count unfolded counted. omega arith
+
+pub returns-in_err-look_up-clause-least : goal.returns-in_err-look_up-clause-least
+returns-in_err-look_up-clause-least g c = omega arith
+
+pub decide-requires : goal.decide-requires
+decide-requires g c = subst (λ (a : PendingOf). c.args.embed < length a.map.schema.embeds) (sym c.in_ok-look_up.ensures) c.requires.embed
+
+pub returns-in_err-asked-clause-least : goal.returns-in_err-asked-clause-least
+returns-in_err-asked-clause-least g c = c.decide.ensures.least
+
+pub returns-clause-least : goal.returns-clause-least
+returns-clause-least g c = c.decide.ensures.least
+
+pub returns-in_err-look_up-clause-asked : goal.returns-in_err-look_up-clause-asked
+returns-in_err-look_up-clause-asked g c = never_ok _ c.from_residual.result c.from_residual.ensures.0
+
+pub returns-in_err-look_up-clause-deciders : goal.returns-in_err-look_up-clause-deciders
+returns-in_err-look_up-clause-deciders g c = never_ok _ c.from_residual.result c.from_residual.ensures.0
+
+pub returns-in_err-look_up-clause-ungiven : goal.returns-in_err-look_up-clause-ungiven
+returns-in_err-look_up-clause-ungiven g c = never_ok _ c.from_residual.result c.from_residual.ensures.0
+
+pub returns-in_err-look_up-clause-count : goal.returns-in_err-look_up-clause-count
+returns-in_err-look_up-clause-count g c = unless_ok _ c.from_residual.result c.from_residual.ensures.0
+
+pub returns-in_err-look_up-clause-err : goal.returns-in_err-look_up-clause-err
+returns-in_err-look_up-clause-err g c = on_err c.from_residual.result c.in_err-look_up.ensures
+
+pub returns-in_err-asked-clause-asked : goal.returns-in_err-asked-clause-asked
+returns-in_err-asked-clause-asked g c = never_ok _ c.from_residual-in_err-asked.result c.from_residual-in_err-asked.ensures.0
+
+pub returns-in_err-asked-clause-deciders : goal.returns-in_err-asked-clause-deciders
+returns-in_err-asked-clause-deciders g c = never_ok _ c.from_residual-in_err-asked.result c.from_residual-in_err-asked.ensures.0
+
+pub returns-in_err-asked-clause-ungiven : goal.returns-in_err-asked-clause-ungiven
+returns-in_err-asked-clause-ungiven g c = never_ok _ c.from_residual-in_err-asked.result c.from_residual-in_err-asked.ensures.0
+
+pub returns-in_err-asked-clause-count : goal.returns-in_err-asked-clause-count
+returns-in_err-asked-clause-count g c = unless_ok _ c.from_residual-in_err-asked.result c.from_residual-in_err-asked.ensures.0
+
+pub returns-in_err-asked-clause-err : goal.returns-in_err-asked-clause-err
+returns-in_err-asked-clause-err g c = on_err c.from_residual-in_err-asked.result c.in_ok-look_up.ensures
+
+pub keep-requires : goal.keep-requires
+keep-requires g c =
+    let s = c.self.inside in
+    let here = subst (λ (a : PendingOf). c.args.embed < length a.map.schema.embeds) (sym c.in_ok-look_up.ensures) c.requires.embed in
+    let within : c.args.embed < length s.arena.now.schema.embeds = subst (λ (a : PendingOf). c.args.embed < length a.map.schema.embeds) (sym c.self.view_is) here in
+    omega (arith, within, length-map s.asked.items deciders_in, c.self.invariant.0.each)
+
+pub returns-clause-err : goal.returns-clause-err
+returns-clause-err g c = tt

@@ -1,10 +1,11 @@
-use Rattle.std.proofs.Common.{◌≡◌, ℕ, ◌+◌, ◌*◌, ◌<◌, ◌≤◌, length, subst, ap, ap₂, ◌∙◌, arith, mul_comm}
+use Rattle.std.proofs.Common.{◌≡◌, ℕ, ◌+◌, ◌*◌, ◌<◌, ◌≤◌, length, subst, sym, ap, ap₂, ◌∙◌, arith, mul_comm}
 use Rattle.std.proofs.lemmas.Nat.{mul-le}
 use Rattle.gm_model.specs.Unfolding.{added_nodes}
 use Rattle.gm_pending.specs.declared.rewrite.Arcs.TheVariants.{Freed, Made}
-use Rattle.gm_pending.specs.Collected.{all_arcs, all_removed}
+use Rattle.gm_pending.specs.Collected.{RewriteOf, all_arcs, all_removed, rule_at}
 use Rattle.gm_pending.specs.Results.{PendingOf, IsPrepared, rule_in}
 use Rattle.gm_pending.proofs.Collected.{are_edits, few_added}
+use Rattle.gm_pending.proofs.Exits.{unless_ok}
 use Rattle.gm_pending.proofs.pending.Pending.edits.Goals as goal
 
 -- where there are 8 embeddings at most and 2 labels at least, the values of added darts take few steps
@@ -34,8 +35,8 @@ returns-in_err-values-clause-cost g c =
     ap₂ (λ a b. a * b) (c.added.ensures ∙ ap (λ (a : PendingOf). added_nodes (rule_in a)) c.self.view_is) (c.positions.ensures.value ∙ ap (λ (a : PendingOf). a.placed.positions) c.self.view_is)
     ∙ mul_comm (added_nodes (rule_in app)) app.placed.positions in
     λ reached sum.
-    few_reads c.args.steps.now c.new_values.new.steps app.map.schema.dim (length app.map.schema.embeds) (added_nodes (rule_in app)) (length (rule_in app).nodes) app.placed.positions (c.added.result * c.positions.result) reached
-    prepared.lawful.dim.0 prepared.lawful.schema.count (few_added app prepared (length (rule_in app).nodes)) added (omega (arith, c.added_values.ensures.cost, c.new_values.ensures.cost reached sum))
+    few_reads c.args.steps.now c.added_values.new.steps app.map.schema.dim (length app.map.schema.embeds) (added_nodes (rule_in app)) (length (rule_in app).nodes) app.placed.positions (c.added.result * c.positions.result) reached
+    prepared.lawful.dim.0 prepared.lawful.schema.count (few_added app prepared (length (rule_in app).nodes)) added (omega (arith, c.added_values.ensures.cost))
 
 pub returns-clause-cost : goal.returns-clause-cost
 returns-clause-cost g c =
@@ -45,8 +46,8 @@ returns-clause-cost g c =
     ap₂ (λ a b. a * b) (c.added.ensures ∙ ap (λ (a : PendingOf). added_nodes (rule_in a)) c.self.view_is) (c.positions.ensures.value ∙ ap (λ (a : PendingOf). a.placed.positions) c.self.view_is)
     ∙ mul_comm (added_nodes (rule_in app)) app.placed.positions in
     λ reached sum.
-    few_reads c.args.steps.now c.new_values.new.steps app.map.schema.dim (length app.map.schema.embeds) (added_nodes (rule_in app)) (length (rule_in app).nodes) app.placed.positions (c.added.result * c.positions.result) reached
-    prepared.lawful.dim.0 prepared.lawful.schema.count (few_added app prepared (length (rule_in app).nodes)) added (omega (arith, c.added_values.ensures.cost, c.new_values.ensures.cost reached sum))
+    few_reads c.args.steps.now c.added_values.new.steps app.map.schema.dim (length app.map.schema.embeds) (added_nodes (rule_in app)) (length (rule_in app).nodes) app.placed.positions (c.added.result * c.positions.result) reached
+    prepared.lawful.dim.0 prepared.lawful.schema.count (few_added app prepared (length (rule_in app).nodes)) added (omega (arith, c.added_values.ensures.cost))
 
 pub returns-clause-edits : goal.returns-clause-edits
 returns-clause-edits g c =
@@ -55,4 +56,51 @@ returns-clause-edits g c =
     let added : c.added.result * c.positions.result ≡ app.placed.positions * added_nodes (rule_in app) =
     ap₂ (λ a b. a * b) (c.added.ensures ∙ ap (λ (a : PendingOf). added_nodes (rule_in a)) c.self.view_is) (c.positions.ensures.value ∙ ap (λ (a : PendingOf). a.placed.positions) c.self.view_is)
     ∙ mul_comm (added_nodes (rule_in app)) app.placed.positions in
-    are_edits app prepared _ c.in_ok-added_values.ensures.values c.in_ok-values.ensures.values (ap (λ r. all_arcs r Freed) c.rewrite.ensures) (ap all_removed c.rewrite.ensures) (ap (λ r. all_arcs r Made) c.rewrite.ensures) added
+    are_edits app prepared _ c.in_ok-added_values.ensures.values c.in_ok-values.ensures.values (ap (λ r. all_arcs r Freed) c.rewrite-rewrite.ensures) (ap all_removed c.rewrite-rewrite.ensures) (ap (λ r. all_arcs r Made) c.rewrite-rewrite.ensures) added
+
+pub returns-in_err-slots-clause-edits : goal.returns-in_err-slots-clause-edits
+returns-in_err-slots-clause-edits g c = unless_ok _ c.from_residual.result c.from_residual.ensures.0
+
+pub returns-in_err-slots-clause-cost : goal.returns-in_err-slots-clause-cost
+returns-in_err-slots-clause-cost g c = λ reached sum. omega arith
+
+pub returns-in_err-slots-clause-least : goal.returns-in_err-slots-clause-least
+returns-in_err-slots-clause-least g c = omega arith
+
+pub added_values-requires-clause-added : goal.added_values-requires-clause-added
+added_values-requires-clause-added g c =
+    let app = c.args.self.now in
+    ap₂ (λ a b. a * b) (c.added.ensures ∙ ap (λ (a : PendingOf). added_nodes (rule_in a)) c.self.view_is) (c.positions.ensures.value ∙ ap (λ (a : PendingOf). a.placed.positions) c.self.view_is)
+    ∙ mul_comm (added_nodes (rule_in app)) app.placed.positions
+
+pub added_values-requires-clause-given : goal.added_values-requires-clause-given
+added_values-requires-clause-given g c = c.requires.given
+
+pub returns-in_err-added_values-clause-edits : goal.returns-in_err-added_values-clause-edits
+returns-in_err-added_values-clause-edits g c = unless_ok _ c.from_residual-in_err-added_values.result c.from_residual-in_err-added_values.ensures.0
+
+pub returns-in_err-added_values-clause-least : goal.returns-in_err-added_values-clause-least
+returns-in_err-added_values-clause-least g c = c.added_values.ensures.least
+
+pub new_values-requires : goal.new_values-requires
+new_values-requires g c = record { given = c.requires.given }
+
+pub returns-in_err-values-clause-edits : goal.returns-in_err-values-clause-edits
+returns-in_err-values-clause-edits g c = unless_ok _ c.from_residual-in_err-values.result c.from_residual-in_err-values.ensures.0
+
+pub returns-in_err-values-clause-least : goal.returns-in_err-values-clause-least
+returns-in_err-values-clause-least g c = c.added_values.ensures.least
+
+pub returns-clause-least : goal.returns-clause-least
+returns-clause-least g c = c.added_values.ensures.least
+
+pub overflow_mul-added : goal.overflow_mul-added
+overflow_mul-added g c = omega (arith, mul-le c.added.result c.positions.result 255 4294967295 (omega arith) (omega arith))
+
+pub invariant_of-result : goal.invariant_of-result
+invariant_of-result g c =
+    let own = c.rewrite-rewrite.result in
+    let added : c.added.result * c.positions.result ≡ added_nodes (rule_at own) * own.placed.positions =
+    ap₂ (λ a b. a * b) (c.added.ensures ∙ ap (λ (a : PendingOf). added_nodes (rule_in a)) c.self.view_is ∙ sym (ap (λ (r : RewriteOf). added_nodes (rule_at r)) c.rewrite-rewrite.ensures))
+    (c.positions.ensures.value ∙ ap (λ (a : PendingOf). a.placed.positions) c.self.view_is ∙ sym (ap (λ (r : RewriteOf). r.placed.positions) c.rewrite-rewrite.ensures)) in
+    (c.in_ok-slots.ensures.slots, rw added c.in_ok-slots.ensures.room)

@@ -3,7 +3,7 @@ use Rattle.std.specs.Prelude.{unwrap_or}
 use Rattle.gm_model.specs.Maps.{IsEmbedAt}
 use Rattle.gm_pending.specs.Answered.{pending_as}
 use Rattle.gm_pending.specs.Results.{PendingOf, deciders_of, given_at, with_deciders}
-use Rattle.gm_pending.proofs.Answered.{answered_at}
+use Rattle.gm_pending.proofs.Answered.{answered_at, asked_within, some_decider}
 use Rattle.gm_pending.proofs.Answering.{read_there}
 use Rattle.gm_pending.proofs.Giving.{given_set, given_answers, given_is, given_prepared}
 use Rattle.gm_pending.proofs.pending.Pending.give.Goals as goal
@@ -38,3 +38,9 @@ invariant_of-self c =
           c.take_out.new.answers.items c.keep.new.answers.items _ c.take_out.ensures.rest c.keep.ensures (given_set asked.deciders.items c.args.index c.index_mut.result.now c.args.value read) refl,
       c.self.invariant.3,
     )
+
+pub take_out-requires : goal.take_out-requires
+take_out-requires c =
+    let s = c.self.inside in
+    asked_within s.arena.now s.plan.now.table s.found.now s.asked.items c.args.embed
+    (some_decider _ c.args.index (subst (λ (a : PendingOf). c.args.index < length (deciders_of a c.args.embed)) (sym c.self.view_is) c.requires.index))

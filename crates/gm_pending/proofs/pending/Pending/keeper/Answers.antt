@@ -1,16 +1,18 @@
-use Rattle.std.proofs.Common.{◌≡◌, MatchOption, sym, ◌∙◌, ap, subst}
+use Rattle.std.proofs.Common.{◌≡◌, MatchOption, sym, ◌∙◌, ap, subst, ◌<◌, List, length, IsTrue, not}
 use Rattle.gm_model.specs.declared.rule.RuleTable.{RuleTable}
 use Rattle.gm_model.specs.declared.schema.Embed.{Embed}
 use Rattle.gm_model.specs.declared.schema.Schema.{Schema}
 use Rattle.gm_model.specs.Components.{IsKeeper, IsNew}
 use Rattle.gm_model.specs.Labels.{has}
 use Rattle.gm_model.specs.Maps.{type_of}
-use Rattle.gm_model.specs.Rules.{rule_of}
+use Rattle.gm_model.specs.Rules.{rule_of, has_word}
 use Rattle.gm_embcheck.specs.Bounds.{HasBounds}
 use Rattle.gm_embcheck.proofs.InRange.{has_bounds}
 use Rattle.gm_theory.proofs.Lists.{some_same}
 use Rattle.gm_pending.specs.Results.{PendingOf, rule_in}
 use Rattle.gm_pending.proofs.Answering.{read_there}
+use Rattle.gm_model.specs.declared.rule.Side.TheVariants.{Left, Right}
+use Rattle.gm_theory.proofs.Tests.{both_true}
 use Rattle.gm_pending.proofs.pending.Pending.keeper.Goals as goal
 
 pub keeper_of-requires-clause-bounds : goal.keeper_of-requires-clause-bounds
@@ -27,3 +29,13 @@ returns c = λ kept at.
     let table : c.rule.result.now ≡ app.table = c.rule.ensures.rule ∙ ap (λ (a : PendingOf). a.table) c.self.view_is in
     subst (λ (k : Embed). MatchOption c.keeper_of.result (IsNew (rule_in app) (type_of k) c.args.node) (IsKeeper (rule_in app) (type_of k) c.args.node)) (some_same declared kept (sym here ∙ at))
     (subst (λ (t : RuleTable). MatchOption c.keeper_of.result (IsNew (rule_of t) (has declared.mask) c.args.node) (IsKeeper (rule_of t) (has declared.mask) c.args.node)) table c.keeper_of.ensures)
+
+pub bounds-as_slice-embed : goal.bounds-as_slice-embed
+bounds-as_slice-embed c =
+    subst (λ (es : List Embed). c.args.embed < length es) (sym (c.as_slice.ensures ∙ ap (λ (s : Schema). s.embeds) c.schema.ensures ∙ ap (λ (a : PendingOf). a.map.schema.embeds) c.self.view_is)) c.requires.embed
+
+pub keeper_of-requires-clause-right : goal.keeper_of-requires-clause-right
+keeper_of-requires-clause-right c =
+    let app = c.args.self.now in
+    let right = (both_true (not (has_word (rule_in app) Left c.args.node)) (has_word (rule_in app) Right c.args.node) c.requires.added).1 in
+    rw c.rule.ensures.rule (subst (λ (a : PendingOf). IsTrue (has_word (rule_in a) Right c.args.node)) (sym c.self.view_is) right)

@@ -2,8 +2,9 @@ use Rattle.std.proofs.Common.{◌≢◌, ℕ, MatchOption, subst}
 use Rattle.gm_model.specs.Rules.{rule_of}
 use Rattle.gm_plan.specs.InArena.{slot_number}
 use Rattle.gm_pending.specs.Lookup.{IsWithin, IsAtSlot}
-use Rattle.gm_pending.specs.Results.{PendingOf}
+use Rattle.gm_pending.specs.Results.{PendingOf, IsPrepared}
 use Rattle.gm_pending.proofs.Darts.{one_left_count}
+use Rattle.gm_pending.specs.Answered.{IsLookedUp}
 use Rattle.gm_pending.proofs.pending.Pending.left_instance.Goals as goal
 
 pub instance_at-requires : goal.instance_at-requires
@@ -11,3 +12,15 @@ instance_at-requires c = one_left_count (rule_of c.self.inside.plan.now.table) _
 
 pub returns-in-Some-clause-instance : goal.returns-in-Some-clause-instance
 returns-in-Some-clause-instance c = subst (λ (a : PendingOf). MatchOption c.find.result ((x p : ℕ) → IsWithin a.placed x p → slot_number a.placed x p ≢ c.args.slot.at) (λ i. IsAtSlot a.placed c.args.slot.at i.0 i.1)) c.self.view_is c.find.ensures
+
+pub find-requires : goal.find-requires
+find-requires c = subst (IsLookedUp c.self.inside.found.now) c.in-Some.is c.self.invariant.3
+
+pub returns-in-Some-clause-prepared : goal.returns-in-Some-clause-prepared
+returns-in-Some-clause-prepared c = subst IsPrepared c.self.view_is c.self.invariant.0
+
+pub returns-in-None-clause-prepared : goal.returns-in-None-clause-prepared
+returns-in-None-clause-prepared c = subst IsPrepared c.self.view_is c.self.invariant.0
+
+pub returns-in-None-clause-instance : goal.returns-in-None-clause-instance
+returns-in-None-clause-instance c = subst (λ (a : PendingOf). MatchOption c.instance_at.result ((x p : ℕ) → IsWithin a.placed x p → slot_number a.placed x p ≢ c.args.slot.at) (λ i. IsAtSlot a.placed c.args.slot.at i.0 i.1)) c.self.view_is c.instance_at.ensures

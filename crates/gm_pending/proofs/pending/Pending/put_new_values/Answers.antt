@@ -1,60 +1,61 @@
-use Rattle.std.proofs.Common.{◌≡◌, subst, sym, ◌∙◌, arith}
+use Rattle.std.proofs.Common.{◌≡◌, IsSome, Some, get_or, subst, sym, ◌∙◌, arith}
 use Rattle.std.proofs.lemmas.Option.{slice_get-get_or}
 use Rattle.gm_pending.specs.declared.at.At.TheVariants.{Old, New}
 use Rattle.gm_pending.specs.Gathered.{AreAllReached}
+use Rattle.gm_pending.specs.Reached.{AreReached}
 use Rattle.gm_pending.specs.Results.{IsValueIn, deciders_of, name_of}
+use Rattle.gm_pending.specs.Sources.{given_of}
 use Rattle.gm_pending.proofs.Gathered.{all_reached, none_gathered, old_gathered, new_passed, all_gathered}
-use Rattle.gm_pending.proofs.Whole.{contains_at}
+use Rattle.gm_pending.proofs.GivenValues.{entry_given, entry_value}
 use Rattle.gm_pending.proofs.pending.Pending.put_new_values.Goals as goal
 use Rattle.gm_pending.proofs.pending.Pending.put_new_values.Goals.{in-Old+in_ok-push, in_default}
 
 pub loop-entry-init : goal.loop-entry-init
-loop-entry-init g c =
+loop-entry-init c =
     let app = c.args.self.now in
     let reached : AreAllReached app c.args.embed c.as_slice-entry-items.result.now = rw c.as_slice-entry-items.ensures.reached
-    (all_reached app c.answer.ensures.prepared c.args.embed (deciders_of app c.args.embed) c.answer.result.now.marks c.requires.embed c.as_slice-entry-items.ensures.distinct (λ kept at. c.answer.ensures.reached kept at)) in
+    (all_reached app c.answer-asked.ensures.prepared c.args.embed (deciders_of app c.args.embed) c.answer-asked.result.now.marks c.requires.embed c.as_slice-entry-items.ensures.distinct (λ kept at. c.answer-asked.ensures.reached kept at)) in
     record {
       reached = reached;
+      there = λ embed at. subst (AreReached app c.args.embed embed (deciders_of app c.args.embed)) (sym c.as_slice-entry-items.ensures.reached) (c.answer-asked.ensures.reached embed at);
       so_far = none_gathered app c.args.embed c.as_slice-entry-items.result.now reached c.args.values.now.items;
-      cost = omega arith;
-      least = omega arith;
     }
 
-pub value-value-requires-clause-dart : goal.value-value-requires-clause-dart
-value-value-requires-clause-dart g c = c.loop-entry.invariant.reached.dart _ (contains_at c.as_slice-entry-items.result.now c.loop-entry.entry-index _ c.loop-entry-test.true)
-
-pub returns-in_err-push-clause-cost : goal.returns-in_err-push-clause-cost
-returns-in_err-push-clause-cost g c = λ count counted.
-    omega (arith, c.value-value.ensures.cost, c.loop-entry.invariant.cost, c.loop-entry-test.true, c.loop-entry.invariant.reached.few count counted)
+pub given-value-requires : goal.given-value-requires
+given-value-requires c =
+    let here = slice_get-get_or c.as_slice-entry-items.result.now c.loop-entry.entry-index (record { at = Old (record { at = 0 }); decider = 0; key = 0 }) c.loop-entry-test.true in
+    let entry = get_or c.as_slice-entry-items.result.now c.loop-entry.entry-index (record { at = Old (record { at = 0 }); decider = 0; key = 0 }) in
+    let there = entry_given c.args.self.now c.answer-asked.ensures.prepared c.args.embed c.as_slice-entry-items.result.now c.requires.embed c.loop-entry.invariant.there c.loop-entry.entry-index _ here (c.requires.given c.args.embed c.requires.embed) in
+    subst (λ ds. IsSome (given_of ds entry.decider)) (sym (c.deref.ensures.value ∙ c.answer-asked.ensures.deciders)) there
 
 pub loop-entry-preserved : goal.loop-entry-preserved
-loop-entry-preserved g c =
+loop-entry-preserved c =
     let app = c.args.self.now in
     let items = c.as_slice-entry-items.result.now in
     let now = c.loop-entry.invariant in
-    let here = slice_get-get_or items c.loop-entry.entry-index (record { at = Old (record { at = 0 }); decider = 0 }) c.loop-entry-test.true in
+    let here = slice_get-get_or items c.loop-entry.entry-index (record { at = Old (record { at = 0 }); decider = 0; key = 0 }) c.loop-entry-test.true in
+    let entry = get_or items c.loop-entry.entry-index (record { at = Old (record { at = 0 }); decider = 0; key = 0 }) in
     elim c.match-entry.branch [
       | in-Old+in_ok-push w ↦
+          let given = subst (λ ds. given_of ds entry.decider ≡ Some w.given-value.result) (w.deref.ensures.value ∙ c.answer-asked.ensures.deciders) w.given-value.ensures in
+          let value = entry_value app c.answer-asked.ensures.prepared c.args.embed items c.requires.embed now.there c.loop-entry.entry-index _ here w.given-value.result given in
           let more = old_gathered app c.args.embed items now.reached c.loop-entry.entry-index c.args.values.now.items c.loop-entry.values.items now.so_far _ here
-          w.in-Old.slot w.value-value.result w.in-Old.is c.requires.embed (λ embed at. subst (λ a. IsValueIn app c.args.embed embed (name_of app a) w.value-value.result) w.in-Old.is (w.value-value.ensures.value embed at)) in
+          w.in-Old.slot w.given-value.result w.in-Old.is c.requires.embed (λ embed at. subst (λ a. IsValueIn app c.args.embed embed (name_of app a) w.given-value.result) w.in-Old.is (value embed at)) in
           record {
             reached = now.reached;
+            there = now.there;
             so_far = rw (w.values-is, w.in_ok-push.ensures.items) more;
-            cost = omega (arith, w.steps-is, w.value-value.ensures.cost, now.cost);
-            least = omega (arith, w.steps-is, w.value-value.ensures.least, now.least);
           }
       | in_default w ↦ record {
         reached = now.reached;
+        there = now.there;
         so_far = rw w.values-is (new_passed app c.args.embed items now.reached c.loop-entry.entry-index c.args.values.now.items c.loop-entry.values.items now.so_far _ here
             (λ slot is. absurd (let both : New w.in_default.field-0 w.in_default.field-1 ≡ Old slot = sym w.in_default.is ∙ is in cc)));
-        cost = omega (arith, w.steps-is, now.cost);
-        least = omega (arith, w.steps-is, now.least);
       }
     ]
 
-pub returns-clause-values : goal.returns-clause-values
-returns-clause-values g c = all_gathered c.args.self.now c.args.embed c.as_slice-entry-items.result.now c.loop-entry.invariant.reached c.answer.ensures.prepared c.loop-entry.entry-index c.args.values.now.items c.loop-entry.values.items
-    (omega (arith, c.loop-entry-test.false, c.loop-entry.auto.entry-index-end)) c.loop-entry.invariant.so_far
-
-pub returns-clause-cost : goal.returns-clause-cost
-returns-clause-cost g c = λ count counted. omega (arith, c.loop-entry.invariant.cost, c.loop-entry.auto.entry-index-end, c.loop-entry.invariant.reached.few count counted)
+pub returns : goal.returns
+returns c = record {
+  values = all_gathered c.args.self.now c.args.embed c.as_slice-entry-items.result.now c.loop-entry.invariant.reached c.answer-asked.ensures.prepared c.loop-entry.entry-index c.args.values.now.items c.loop-entry.values.items
+      (omega (arith, c.loop-entry-test.false, c.loop-entry.auto.entry-index-end)) c.loop-entry.invariant.so_far;
+}

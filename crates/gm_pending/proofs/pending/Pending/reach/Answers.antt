@@ -1,9 +1,10 @@
-use Rattle.std.proofs.Common.{◌≡◌, ◌+◌, ◌<◌, length, sym, subst, arith}
+use Rattle.std.proofs.Common.{◌≡◌, ◌+◌, ◌<◌, length, sym, subst, arith, ◌*◌, ◌≤◌}
 use Rattle.std.proofs.lemmas.Option.{slice_get_within}
 use Rattle.gm_pending.specs.Reached.{IsSpreadTo}
 use Rattle.gm_pending.specs.Results.{name_of}
 use Rattle.gm_pending.proofs.Following.{stays_longer, walked_cost, walked_on, walked_some}
 use Rattle.gm_pending.proofs.Spread.{marked_kept, marked_darts, nothing_grown, spread_starts}
+use Rattle.gm_theory.proofs.Lists.{get_contained}
 use Rattle.gm_pending.proofs.pending.Pending.reach.Goals as goal
 
 pub returns-in_err-mark-clause-darts : goal.returns-in_err-mark-clause-darts
@@ -59,3 +60,48 @@ returns-clause-spread g c =
     let l = c.loop-next in
     let end : l.next ≡ length l.marks = omega (arith, l.invariant.within, c.loop-next-test.false, c.len.ensures.len) in
     λ result unfolded closed. subst (λ n. IsSpreadTo c.args.self.now c.args.declared.now result c.args.marks.now l.marks c.args.index (name_of c.args.self.now c.args.at) n 0) end (l.invariant.spread result unfolded closed)
+
+pub get-from-requires : goal.get-from-requires
+get-from-requires g c = omega (arith, c.loop-next-test.true, c.len.ensures.len)
+
+pub spread-requires-clause-embed : goal.spread-requires-clause-embed
+spread-requires-clause-embed g c = c.requires.embed
+
+pub spread-requires-clause-darts : goal.spread-requires-clause-darts
+spread-requires-clause-darts g c = c.loop-next.invariant.darts
+
+pub spread-requires-clause-from : goal.spread-requires-clause-from
+spread-requires-clause-from g c = get_contained c.loop-next.marks c.loop-next.next c.get-from.result c.get-from.ensures
+
+pub returns-in_err-mark-clause-cost : goal.returns-in_err-mark-clause-cost
+returns-in_err-mark-clause-cost g c = rw c.in_err-mark.ensures.err (omega arith)
+
+pub returns-in_err-mark-clause-least : goal.returns-in_err-mark-clause-least
+returns-in_err-mark-clause-least g c = omega arith
+
+pub returns-in_err-spread-clause-darts : goal.returns-in_err-spread-clause-darts
+returns-in_err-spread-clause-darts g c = c.spread.ensures.darts
+
+pub returns-in_err-spread-clause-least : goal.returns-in_err-spread-clause-least
+returns-in_err-spread-clause-least g c = omega (arith, c.loop-next.invariant.least, c.spread.ensures.least)
+
+pub overflow_add-next : goal.overflow_add-next
+overflow_add-next g c = omega (arith, c.loop-next-test.true)
+
+pub loop-next-smaller : goal.loop-next-smaller
+loop-next-smaller g c = omega (arith, c.loop-next-test.true)
+
+pub returns-clause-darts : goal.returns-clause-darts
+returns-clause-darts g c = c.loop-next.invariant.darts
+
+pub returns-clause-grown : goal.returns-clause-grown
+returns-clause-grown g c = λ result unfolded closed. (c.loop-next.invariant.spread result unfolded closed).grown
+
+pub returns-clause-cost : goal.returns-clause-cost
+returns-clause-cost g c =
+    let l = c.loop-next in
+    let end : l.next ≡ length l.marks = omega (arith, l.invariant.within, c.loop-next-test.false, c.len.ensures.len) in
+    subst (λ n. l.steps + (c.args.self.now.map.schema.dim + 1) * length c.args.marks.now ≤ c.args.steps.now + (c.args.self.now.map.schema.dim + 1) * n) end l.invariant.cost
+
+pub returns-clause-least : goal.returns-clause-least
+returns-clause-least g c = c.loop-next.invariant.least

@@ -51,3 +51,33 @@ returns-clause-longer g c = stays_longer c.args.marks.now c.loop-label.marks c.l
 
 pub returns-in_err-mark-clause-longer : goal.returns-in_err-mark-clause-longer
 returns-in_err-mark-clause-longer g c = rw c.in_err-mark.ensures.err (stays_longer c.args.marks.now c.loop-label.marks c.loop-label.invariant.kept)
+
+pub loop-label-init : goal.loop-label-init
+loop-label-init g c = record {
+  darts = c.requires.darts;
+  kept = λ j entry f. f;
+  followed = λ result before d n unfolded there late spread. spread;
+  cost = omega arith;
+  least = omega arith;
+}
+
+pub alpha-to-requires-clause-label : goal.alpha-to-requires-clause-label
+alpha-to-requires-clause-label g c = omega (arith, c.loop-label-test.true, c.labels-label-end.ensures.labels)
+
+pub returns-in_err-mark-clause-cost : goal.returns-in_err-mark-clause-cost
+returns-in_err-mark-clause-cost g c = omega (arith, c.loop-label.invariant.cost, c.alpha-to.ensures.cost, c.loop-label-test.true, c.labels-label-end.ensures.labels)
+
+pub returns-in_err-mark-clause-least : goal.returns-in_err-mark-clause-least
+returns-in_err-mark-clause-least g c = omega (arith, c.loop-label.invariant.least, c.alpha-to.ensures.least)
+
+pub returns-clause-darts : goal.returns-clause-darts
+returns-clause-darts g c = c.loop-label.invariant.darts
+
+pub returns-clause-grown : goal.returns-clause-grown
+returns-clause-grown g c = followed_some c.args.self.now c.labels-label-end.ensures.prepared c.args.embed c.args.declared.now c.requires.embed c.args.from c.args.marks.now c.loop-label.marks c.loop-label.label c.loop-label.invariant.followed
+
+pub returns-clause-cost : goal.returns-clause-cost
+returns-clause-cost g c = omega (arith, c.loop-label.invariant.cost, c.loop-label.auto.label-end, c.labels-label-end.ensures.labels)
+
+pub returns-clause-least : goal.returns-clause-least
+returns-clause-least g c = c.loop-label.invariant.least

@@ -1,6 +1,8 @@
-use Rattle.std.proofs.Common.{◌≡◌, ℕ, ◌+◌, ◌<◌, true, [], ◌∷◌, length, refl, sym, ap, ◌∙◌, arith}
+use Rattle.std.proofs.Common.{◌≡◌, ℕ, ◌+◌, ◌<◌, true, not, [], ◌∷◌, length, refl, sym, ap, ◌∙◌, arith}
 use Rattle.gm_arena.specs.ArenaMap.{ArenaMap}
-use Rattle.gm_model.specs.Rules.{is_removed}
+use Rattle.gm_model.specs.declared.rule.Side.TheVariants.{Left, Right}
+use Rattle.gm_model.specs.Rules.{has_word, is_removed}
+use Rattle.gm_theory.proofs.Tests.{both_true}
 use Rattle.gm_pending.specs.Collected.{RewriteOf, concat_below, removed_in, removed_of, rule_at, slot_in}
 use Rattle.gm_pending.specs.Written.{CanRemove, without_darts}
 use Rattle.gm_pending.proofs.Ends.{none_removed}
@@ -28,17 +30,20 @@ returns-then-not-is_removed-clause-map g c = rw (none_removed c.args.self.now c.
 pub returns-then-not-is_removed-clause-cost : goal.returns-then-not-is_removed-clause-cost
 returns-then-not-is_removed-clause-cost g c = rw (none_removed c.args.self.now c.args.node (sym c.is_removed.ensures ∙ c.if-not-is_removed.true)) (omega arith)
 
+pub left_slot-requires-clause-left : goal.left_slot-requires-clause-left
+left_slot-requires-clause-left g c = (both_true (has_word (rule_at c.args.self.now) Left c.args.node) (not (has_word (rule_at c.args.self.now) Right c.args.node)) (sym c.is_removed.ensures ∙ c.if-not-is_removed.false)).0
+
 pub remove-requires-clause-live : goal.remove-requires-clause-live
-remove-requires-clause-live g c = rw c.removed_slot.ensures (can_remove_next c.args.self.now c.args.node c.args.arena.now c.args.steps.now c.loop-position.position c.loop-position.arena c.loop-position.steps
+remove-requires-clause-live g c = rw c.left_slot.ensures (can_remove_next c.args.self.now c.args.node c.args.arena.now c.args.steps.now c.loop-position.position c.loop-position.arena c.loop-position.steps
     (sym c.is_removed.ensures ∙ c.if-not-is_removed.false) (omega (arith, c.loop-position-test.true, c.positions-position-end.ensures)) c.requires c.loop-position.invariant).0
 
 pub remove-requires-clause-alone : goal.remove-requires-clause-alone
-remove-requires-clause-alone g c = rw c.removed_slot.ensures (can_remove_next c.args.self.now c.args.node c.args.arena.now c.args.steps.now c.loop-position.position c.loop-position.arena c.loop-position.steps
+remove-requires-clause-alone g c = rw c.left_slot.ensures (can_remove_next c.args.self.now c.args.node c.args.arena.now c.args.steps.now c.loop-position.position c.loop-position.arena c.loop-position.steps
     (sym c.is_removed.ensures ∙ c.if-not-is_removed.false) (omega (arith, c.loop-position-test.true, c.positions-position-end.ensures)) c.requires c.loop-position.invariant).1
 
 pub loop-position-preserved : goal.loop-position-preserved
 loop-position-preserved g c =
     let removed : is_removed (rule_at c.args.self.now) c.args.node ≡ true = sym c.is_removed.ensures ∙ c.if-not-is_removed.false in
-    let here : removed_of c.args.self.now c.args.node c.loop-position.position ≡ c.removed_slot.result ∷ [] = rw (removed, c.removed_slot.ensures) refl in
+    let here : removed_of c.args.self.now c.args.node c.loop-position.position ≡ c.left_slot.result ∷ [] = rw (removed, c.left_slot.ensures) refl in
     more_gone c.args.arena.now c.args.steps.now (removed_of c.args.self.now c.args.node) c.loop-position.position c.loop-position.arena c.remove.new.self c.loop-position.steps c.remove.new.steps c.loop-position.invariant
     (c.remove.ensures.map ∙ ap (without_darts c.loop-position.arena) (sym here)) (c.remove.ensures.cost ∙ ap (λ slots. c.loop-position.steps + length slots) (sym here))

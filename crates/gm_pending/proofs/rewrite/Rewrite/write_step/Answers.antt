@@ -1,40 +1,43 @@
-use Rattle.std.proofs.Common.{◌≡◌, ◌+◌, ◌<◌, length, refl, rules, ap, subst, ◌∙◌, arith}
-use Rattle.std.specs.List.{Contains}
-use Rattle.gm_pending.specs.Collected.{concat_below, as_list, arc_at}
+use Rattle.std.proofs.Common.{◌≡◌, ◌≢◌, rules, refl, arith}
 use Rattle.gm_model.specs.declared.step.Step.TheVariants.{Absent}
-use Rattle.gm_pending.specs.Written.{end_at, with_arcs}
-use Rattle.gm_pending.proofs.Concat.{contains_concat}
-use Rattle.gm_pending.proofs.Ends.{arc_told, no_arcs}
-use Rattle.gm_pending.proofs.Writing.{none_written, more_written, still_writable}
+use Rattle.gm_plan.specs.Placed.{turn_at}
+use Rattle.gm_pending.specs.declared.rewrite.Arcs.TheVariants.{Freed}
+use Rattle.gm_pending.specs.Collected.{arcs_at, made_in}
+use Rattle.gm_pending.proofs.Ends.{no_arcs}
+use Rattle.gm_pending.proofs.StepArcs.{freed_arcs, linked_arcs, turned_arcs, writable_at, all_written}
 use Rattle.gm_pending.proofs.rewrite.Rewrite.write_step.Goals as goal
 
-pub loop-position-init : goal.loop-position-init
-loop-position-init g c = none_written c.args.arena.now c.args.made.now c.args.steps.now
+pub link_nodes-requires-in-Freed-default-clause-arcs : goal.link_nodes-requires-in-Freed-default-clause-arcs
+link_nodes-requires-in-Freed-default-clause-arcs g c =
+    let freed : c.args.arcs ≡ Freed = search rules in
+    let some : c.written_step.result ≢ Absent = search rules in
+    writable_at c.args.self.now c.args.node c.args.label c.args.arena.now (made_in c.args.self.now c.args.slots.now) _ (λ p. (c.args.node, p)) (freed_arcs c.args.self.now c.args.node c.args.label c.args.arcs c.written_step.result freed some c.written_step.ensures) c.requires.arcs
 
-pub returns-then-eq-clause-map : goal.returns-then-eq-clause-map
-returns-then-eq-clause-map g c =
-    let absent : c.written_step-step.result ≡ Absent = search rules in
-    rw (no_arcs c.args.self.now c.args.arcs c.args.node c.args.label c.written_step-step.result c.written_step-step.ensures absent) refl
+pub link_nodes-requires-clause-arcs : goal.link_nodes-requires-clause-arcs
+link_nodes-requires-clause-arcs g c = writable_at c.args.self.now c.args.node c.args.label c.args.arena.now (made_in c.args.self.now c.args.slots.now) _ (λ p. (c.in-Made-Exp.other, p)) (linked_arcs c.args.self.now c.args.node c.args.label c.args.arcs c.written_step.result c.in-Made-Exp.other c.in-Made-Exp.is-0 c.in-Made-Exp.is-1 c.written_step.ensures) c.requires.arcs
 
-pub returns-then-eq-clause-cost : goal.returns-then-eq-clause-cost
-returns-then-eq-clause-cost g c =
-    let absent : c.written_step-step.result ≡ Absent = search rules in
-    rw (no_arcs c.args.self.now c.args.arcs c.args.node c.args.label c.written_step-step.result c.written_step-step.ensures absent) (omega arith)
+pub link_turns-requires-clause-arcs : goal.link_turns-requires-clause-arcs
+link_turns-requires-clause-arcs g c = writable_at c.args.self.now c.args.node c.args.label c.args.arena.now (made_in c.args.self.now c.args.slots.now) _ (λ p. (c.args.node, turn_at c.args.self.now.placed p c.in-Made-Imp.place)) (turned_arcs c.args.self.now c.args.node c.args.label c.args.arcs c.written_step.result c.in-Made-Imp.place c.in-Made-Imp.is-0 c.in-Made-Imp.is-1 c.written_step.ensures) c.requires.arcs
 
-pub write_arc-requires-clause-arc : goal.write_arc-requires-clause-arc
-write_arc-requires-clause-arc g c =
-    let within : c.loop-position.position < c.args.self.now.placed.positions = omega (arith, c.loop-position-test.true, c.positions-position-end.ensures) in
-    let to = arc_told c.args.self.now c.args.arcs c.args.node c.args.label c.loop-position.position c.written_step-step.result c.leads_to-to.result c.written_step-step.ensures c.leads_to-to.ensures.leads in
-    λ a among. still_writable c.args.arena.now c.args.made.now c.args.steps.now (concat_below (λ p. as_list (arc_at c.args.self.now c.args.arcs c.args.node c.args.label p)) c.loop-position.position) c.loop-position.arena c.loop-position.steps c.loop-position.invariant a
-    (c.requires.arcs a (contains_concat (λ p. as_list (arc_at c.args.self.now c.args.arcs c.args.node c.args.label p)) (c.args.self.now.placed.positions) c.loop-position.position a within (subst (λ o. Contains (as_list o) a) to among)))
+pub returns-in_default-Absent-clause-map : goal.returns-in_default-Absent-clause-map
+returns-in_default-Absent-clause-map g c = rw (no_arcs c.args.self.now c.args.arcs c.args.node c.args.label c.written_step.result c.written_step.ensures c.in_default-Absent.is-1) refl
 
-pub loop-position-preserved : goal.loop-position-preserved
-loop-position-preserved g c =
-    let to = arc_told c.args.self.now c.args.arcs c.args.node c.args.label c.loop-position.position c.written_step-step.result c.leads_to-to.result c.written_step-step.ensures c.leads_to-to.ensures.leads in
-    more_written c.args.arena.now c.args.made.now c.args.steps.now (λ p. as_list (arc_at c.args.self.now c.args.arcs c.args.node c.args.label p)) c.loop-position.position c.loop-position.arena c.write_arc.new.arena c.loop-position.steps c.write_arc.new.steps c.loop-position.invariant (c.write_arc.ensures.map ∙ ap (λ o. with_arcs (end_at c.loop-position.arena c.args.made.now) c.loop-position.arena (as_list o)) to) (c.write_arc.ensures.cost ∙ ap (λ o. c.loop-position.steps + length (as_list o)) to)
+pub returns-in_default-Absent-clause-cost : goal.returns-in_default-Absent-clause-cost
+returns-in_default-Absent-clause-cost g c = rw (no_arcs c.args.self.now c.args.arcs c.args.node c.args.label c.written_step.result c.written_step.ensures c.in_default-Absent.is-1) (omega arith)
 
-pub returns : goal.returns
-returns g c =
-    let end : c.loop-position.position ≡ c.args.self.now.placed.positions = omega (arith, c.loop-position-test.false, c.loop-position.auto.position-end, c.positions-position-end.ensures) in
-    let written = rw end at c.loop-position.invariant in
+pub returns-in-Made-Exp : goal.returns-in-Made-Exp
+returns-in-Made-Exp g c =
+    let written = all_written c.args.self.now c.args.node c.args.label c.args.arena.now (made_in c.args.self.now c.args.slots.now) (arcs_at c.args.self.now c.args.arcs c.args.node c.args.label) (λ p. (c.in-Made-Exp.other, p)) (linked_arcs c.args.self.now c.args.node c.args.label c.args.arcs c.written_step.result c.in-Made-Exp.other c.in-Made-Exp.is-0 c.in-Made-Exp.is-1 c.written_step.ensures) c.link_nodes.new.arena c.args.steps.now c.link_nodes.new.steps c.link_nodes.ensures.map c.link_nodes.ensures.cost in
+    record { map = written.map; cost = written.cost }
+
+pub returns-in-Made-Imp : goal.returns-in-Made-Imp
+returns-in-Made-Imp g c =
+    let written = all_written c.args.self.now c.args.node c.args.label c.args.arena.now (made_in c.args.self.now c.args.slots.now) (arcs_at c.args.self.now c.args.arcs c.args.node c.args.label) (λ p. (c.args.node, turn_at c.args.self.now.placed p c.in-Made-Imp.place)) (turned_arcs c.args.self.now c.args.node c.args.label c.args.arcs c.written_step.result c.in-Made-Imp.place c.in-Made-Imp.is-0 c.in-Made-Imp.is-1 c.written_step.ensures) c.link_turns.new.arena c.args.steps.now c.link_turns.new.steps c.link_turns.ensures.map c.link_turns.ensures.cost in
+    record { map = written.map; cost = written.cost }
+
+pub returns-in-Freed-default : goal.returns-in-Freed-default
+returns-in-Freed-default g c =
+    let freed : c.args.arcs ≡ Freed = search rules in
+    let some : c.written_step.result ≢ Absent = search rules in
+    let written = all_written c.args.self.now c.args.node c.args.label c.args.arena.now (made_in c.args.self.now c.args.slots.now) (arcs_at c.args.self.now c.args.arcs c.args.node c.args.label) (λ p. (c.args.node, p)) (freed_arcs c.args.self.now c.args.node c.args.label c.args.arcs c.written_step.result freed some c.written_step.ensures) c.link_nodes-in-Freed-default.new.arena c.args.steps.now c.link_nodes-in-Freed-default.new.steps c.link_nodes-in-Freed-default.ensures.map c.link_nodes-in-Freed-default.ensures.cost in
     record { map = written.map; cost = written.cost }

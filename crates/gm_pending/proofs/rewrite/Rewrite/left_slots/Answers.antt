@@ -1,0 +1,27 @@
+use Rattle.std.proofs.Common.{◌≡◌, ◌*◌, length, ap, ◌∙◌, arith}
+use Rattle.gm_model.specs.Rules.{rule_of}
+use Rattle.gm_model.specs.Unfolding.{added_nodes}
+use Rattle.gm_pending.specs.Collected.{RewriteOf, concat_below, left_slots_of, rule_at}
+use Rattle.gm_pending.proofs.Darts.{one_left_count}
+use Rattle.gm_pending.proofs.Table.{some_long, one_more, rest_of_room}
+use Rattle.gm_pending.proofs.rewrite.Rewrite.left_slots.Goals as goal
+
+pub put_left_slots-requires-clause-room : goal.put_left_slots-requires-clause-room
+put_left_slots-requires-clause-room c =
+    let own = c.args.self.now in
+    let long : length c.loop-node.slots.items ≡ c.loop-node.node * own.placed.positions = ap length c.loop-node.invariant.items ∙ some_long own c.loop-node.node in
+    rw long (one_more c.loop-node.node c.left_nodes-left.result (added_nodes (rule_at own)) own.placed.positions _ c.loop-node-test.true c.loop-node.invariant.room)
+
+pub returns-clause-slots : goal.returns-clause-slots
+returns-clause-slots c =
+    let own = c.args.self.now in
+    let left : c.left_nodes-left.result ≡ own.placed.nodes = one_left_count (rule_of c.self.inside.plan.now.table) c.left_nodes-left.result c.self.inside.found.now.nodes c.left_nodes-left.ensures.left c.self.invariant.nodes ∙ ap (λ (r : RewriteOf). r.placed.nodes) c.self.view_is in
+    let end : c.loop-node.node ≡ own.placed.nodes = omega (arith, c.loop-node-test.false, c.loop-node.auto.node-end, left) in
+    c.loop-node.invariant.items ∙ ap (concat_below (left_slots_of own)) end
+
+pub returns-clause-room : goal.returns-clause-room
+returns-clause-room c =
+    let own = c.args.self.now in
+    let end : c.loop-node.node ≡ c.left_nodes-left.result = omega (arith, c.loop-node-test.false, c.loop-node.auto.node-end) in
+    let long : length c.loop-node.slots.items ≡ c.left_nodes-left.result * own.placed.positions = ap length c.loop-node.invariant.items ∙ some_long own c.loop-node.node ∙ ap (λ n. n * own.placed.positions) end in
+    rw long (rest_of_room c.left_nodes-left.result (added_nodes (rule_at own)) own.placed.positions _ c.loop-node.invariant.room)
