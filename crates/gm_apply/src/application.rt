@@ -81,6 +81,8 @@ pub fn apply<L: Ledger>(
     let more = applied.added.saturating_sub(applied.removed);
     arena.reserve(more, arena.next() + applied.added)?;
     edits.commit(arena, steps);
+    let (slots, turns) = found.into_rows();
+    scratch.keep_rows(slots, turns);
     Ok(applied)
 }
 

@@ -2,12 +2,14 @@ pub mod FilledLemmas
 pub mod InsideLemmas
 pub mod ChangeLemmas
 pub mod AlphaLemmas
+pub mod LinkLemmas
 pub mod RemoveLemmas
 pub mod ReserveLemmas
 pub mod RevalueLemmas
 pub mod NewLemmas
 pub mod ValueLemmas
 pub mod AddLemmas
+pub mod DenseLemmas
 pub mod NameLemmas
 pub mod MapLemmas
 pub mod Keys

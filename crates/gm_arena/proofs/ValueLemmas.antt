@@ -1,10 +1,10 @@
 -- The parts that the slots have of a list, after those of one slot were written.
-use Rattle.std.proofs.Common.{◌≡◌, ℕ, ◌+◌, ◌-◌, ◌*◌, ◌<◌, ◌≤◌, List, [], ◌∷◌, ◌++◌, get_or, set, take, drop, length, max, replicate, refl, sym, ap, ap₂, ◌∙◌, inl, inr, arith, length-append, length-drop}
+use Rattle.std.proofs.Common.{◌≡◌, ℕ, ◌+◌, ◌-◌, ◌*◌, ◌<◌, ◌≤◌, List, ◌++◌, set, take, drop, length, max, refl, sym, ap, ap₂, ◌∙◌, inl, inr, arith, length-append, length-drop, [], ◌∷◌}
 use Rattle.std.proofs.lemmas.Bool.{cases_lt}
 use Rattle.std.proofs.lemmas.Nat.{mul-le}
 use Rattle.std.proofs.Math.Seq.{take-set-lt}
-use Rattle.std.proofs.lemmas.List.{append_assoc, append-nil, drop_all, drop-drop, drop-set, drop-take, drop-set-lt, drop-set-add, take_all, take_more, take-append-drop, take-set, take-set-le, take-take, take_at, drop_at, drop-replicate, length-replicate, length_push, length-set, length-take-le, length-map}
-use Rattle.std.proofs.lemmas.Slice.{take-put_mid, take-put_mid_below, drop-put_mid, between-put_mid}
+use Rattle.std.proofs.lemmas.List.{drop-take, drop-set-lt, drop-set-add, take-set-le, take-take, take_at, get_or-set_same, length-set, length-take-le, length-map, take_more, take-set}
+use Rattle.std.proofs.lemmas.Slice.{take-put_mid_below, drop-put_mid, between-put_mid}
 use Rattle.gm_model.specs.declared.schema.Schema.{Schema}
 use Rattle.gm_model.specs.declared.value.Value.{Value}
 use Rattle.gm_arena.specs.Lawful.{AreGoodValues}
@@ -26,39 +26,28 @@ part_kept width values values' slot kept long =
     ∙ (ap (drop from) (sym (take-take (from + width) (length values) values' long) ∙ ap (take (from + width)) kept)
     ∙ drop-take from width values)
 
--- one more entry behind those that were written
-pub written_more : {A : Type 0} (at : ℕ) (own items : List A) (x : A) → at ≤ length items → written_at (at + length own) (x ∷ []) (written_at at own items) ≡ written_at at (own ++ x ∷ []) items
-written_more at own items x h =
-    let whole = written_at at own items in
+-- a slice of a vector's entries was written, and the vector has as many as before
+pub written_slice : {A : Type 0} (at wide count : ℕ) (items lent own : List A) → lent ≡ items → count ≡ length items → at + wide ≤ length items → length own ≡ wide
+    → take count ((take at lent ++ (own ++ drop (at + wide - at) (drop at lent))) ++ drop (length (take at lent ++ (own ++ drop (at + wide - at) (drop at lent)))) items) ≡ written_at at own items
+written_slice at wide count items lent own same is within long =
     let rest = drop (length own) (drop at items) in
-    let front : take (at + length own) whole ≡ take at items ++ own = take-put_mid at (length own) items own (at + length own) refl h in
-    let back : drop (at + length own) whole ≡ rest = drop-put_mid at (length own) items own (at + length own) (omega arith) h refl ∙ sym (drop-drop (length own) at items) in
-    let more : length (own ++ x ∷ []) ≡ 1 + length own = length_push own x ∙ omega arith in
-    ap (λ xs. xs ++ (x ∷ drop 1 (drop (at + length own) whole))) front
-    ∙ (ap (λ xs. (take at items ++ own) ++ (x ∷ drop 1 xs)) back
-    ∙ (append_assoc (take at items) own (x ∷ drop 1 rest)
-    ∙ ap (λ xs. take at items ++ xs) (sym (append_assoc own (x ∷ []) (drop 1 rest)) ∙ ap (λ xs. (own ++ x ∷ []) ++ xs) (drop-drop 1 (length own) (drop at items) ∙ ap (λ n. drop n (drop at items)) (omega (arith, more))))))
+    let whole = written_at at own items in
+    let back : at + wide - at ≡ length own = omega (arith, long) in
+    let full : length whole ≡ count = omega (arith, is, within, long, length-append (take at items) (own ++ rest), length-append own rest, length-drop (length own) (drop at items), length-drop at items, length-take-le at items (omega (arith, within))) in
+    ap₂ (λ n xs. take count ((take at xs ++ (own ++ drop n (drop at xs))) ++ drop (length (take at xs ++ (own ++ drop n (drop at xs)))) items)) back same
+    ∙ take_at whole (drop (length whole) items) count full
 
--- the same of the first entries of a list
-pub written_next : {A : Type 0} (at : ℕ) (values items base : List A) (n : ℕ) (d : A) → n < length values → at ≤ length base → items ≡ written_at at (take n values) base
-    → written_at (at + n) (get_or values n d ∷ []) items ≡ written_at at (take (n + 1) values) base
-written_next at values items base n d within long so_far =
-    let count : length (take n values) ≡ n = length-take-le n values (omega (arith, within)) in
-    ap₂ (λ k xs. written_at (at + k) (get_or values n d ∷ []) xs) (sym count) so_far
-    ∙ (written_more at (take n values) base (get_or values n d) long ∙ ap (λ xs. written_at at xs base) (sym (take_more values n d within)))
+-- the length of a slice
+pub length-slice : {A : Type 0} (at wide : ℕ) (items lent : List A) → lent ≡ items → at + wide ≤ length items → length (take (at + wide - at) (drop at lent)) ≡ wide
+length-slice at wide items lent same within =
+    let back : at + wide - at ≡ wide = omega arith in
+    ap₂ (λ n xs. length (take n (drop at xs))) back same ∙ length-take-le wide (drop at items) (omega (arith, within, length-drop at items))
 
--- one entry within
-pub written_one : {A : Type 0} (at : ℕ) (items : List A) (x : A) → at < length items → set items at x ≡ written_at at (x ∷ []) items
-written_one at items x h =
-    sym (take-append-drop at (set items at x)) ∙ (ap (λ xs. xs ++ drop at (set items at x)) (take-set items at x)
-    ∙ ap (λ xs. take at items ++ xs) (drop-set items at x h ∙ ap (λ xs. x ∷ xs) (ap (λ n. drop n items) (omega arith) ∙ sym (drop-drop 1 at items))))
-
--- entries behind a list's end
-pub written_behind : {A : Type 0} (at : ℕ) (own items : List A) → length items ≡ at → items ++ own ≡ written_at at own items
-written_behind at own items e =
-    let rest : drop (length own) (drop at items) ≡ [] = ap (drop (length own)) (drop_all at items (omega (arith, e))) ∙ drop_all (length own) [] (omega arith) in
-    ap (λ xs. xs ++ own) (sym (take_all at items (omega (arith, e))))
-    ∙ ap (λ xs. take at items ++ xs) (sym (append-nil own) ∙ ap (λ xs. own ++ xs) (sym rest))
+-- one more entry was written, behind the first ones
+pub one_more : {A : Type 0} (items : List A) (at : ℕ) (x : A) → at < length items → take (at + 1) (set items at x) ≡ take at items ++ x ∷ []
+one_more items at x h =
+    let here : at < length (set items at x) = rw length-set h in
+    take_more (set items at x) at x here ∙ ap₂ (λ xs y. xs ++ y ∷ []) (take-set items at x) (get_or-set_same items at x x h)
 
 module _ {A : Type 0} (width : ℕ) (items grown own more : List A) (slot : ℕ) (longer : grown ≡ items ++ more) (wide : length own ≡ width) (long : slot * width ≤ length grown) where
   kept : take (length items) grown ≡ items
@@ -87,21 +76,6 @@ module _ {A : Type 0} (width : ℕ) (items grown own more : List A) (slot : ℕ)
     ];
     long = omega (arith, length_written, ap length longer, length-append items more);
   }
-
--- a list that was lengthened by copies has them in each part behind its old end
-pub filled_up : {A : Type 0} (width : ℕ) (items : List A) (slot : ℕ) (x : A) → length items ≤ slot * width → IsWritten width slot items (replicate width x) (items ++ replicate (slot * width + width - length items) x)
-filled_up width items slot x before =
-    let more = slot * width + width - length items in
-    let gap = slot * width - length items in
-    record {
-      here =
-          let from : slot * width ≡ length items + gap = omega (arith, before) in
-          let rest : more - gap ≡ width = omega (arith, before) in
-          ap (take width) (ap (λ n. drop n (items ++ replicate more x)) from ∙ sym (drop-drop gap (length items) _) ∙ ap (drop gap) (drop_at items (replicate more x) (length items) refl) ∙ drop-replicate gap more x ∙ ap (λ n. replicate n x) rest)
-          ∙ take_all width (replicate width x) (omega (arith, length-replicate width x));
-      others = λ other apart within. part_kept width items _ other (take_at items (replicate more x) (length items) refl) within;
-      long = omega (arith, length-append items (replicate more x));
-    }
 
 -- the parts below so many stay, also with one more
 pub reached : (count count' slot width long long' : ℕ) → count * width ≤ long → long ≤ long' → slot * width + width ≤ long' → count' ≡ max count (slot + 1) → count' * width ≤ long'

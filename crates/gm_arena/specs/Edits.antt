@@ -1,11 +1,12 @@
 -- What the calls that change an arena make of it.
-use Rattle.std.specs.Prelude.{◌≢◌, ℕ, ◌+◌, ◌-◌, ◌≤◌, max, List, Option, Some, None, replicate, slice_set}
+use Rattle.std.specs.Prelude.{◌≢◌, ℕ, ◌+◌, ◌-◌, ◌≤◌, max, List, [], ◌∷◌, Option, Some, None, replicate, slice_set}
 use Rattle.std.specs.Option.{option_map}
 use Rattle.std.specs.Ordering.{nat_cmp}
 use Rattle.std.specs.FinMap.{FinMap, get, empty, insert, remove}
 use Rattle.gm_model.specs.declared.schema.Schema.{Schema}
 use Rattle.gm_model.specs.declared.value.Value.{Value}
-use Rattle.gm_arena.specs.ArenaMap.{ArenaMap, Dart, IsLiveName, alpha}
+use Rattle.gm_arena.specs.declared.slot.Slot.{Slot}
+use Rattle.gm_arena.specs.ArenaMap.{ArenaMap, Dart, IsLiveName, name_at, alpha}
 
 -- no darts, and no room
 abbrev pub empty_map : Schema → ArenaMap
@@ -48,6 +49,11 @@ abbrev pub with_alpha : ArenaMap → ℕ → ℕ → ℕ → ArenaMap
 with_alpha m name label to = record m {
   darts = put_if m.darts name (option_map (λ dart. turned dart label to) (get m.darts name));
 }
+
+-- with the second of each two slots as the neighbour of the first, a later one in the place of an earlier one
+abbrev pub with_alphas : ArenaMap → ℕ → List (Slot × Slot) → ArenaMap
+with_alphas m label [] = m
+with_alphas m label (two ∷ more) = with_alphas (with_alpha m (name_at m two.0.at) label (name_at m two.1.at)) label more
 
 -- the dart with another value of this embedding
 abbrev pub revalued : Dart → ℕ → Value → Dart

@@ -1,5 +1,5 @@
 -- How an arena keeps its map: names in a slab with their neighbours and values beside them, and a table from names to slots. No public clause cites this module.
-use Rattle.std.specs.Prelude.{◌≡◌, ◌≢◌, ℕ, ◌+◌, ◌*◌, ◌<◌, ◌≤◌, List, ◌++◌, map, length, take, drop, ◌==◌, if◌then◌else◌, Option, Some, None, IsSome, All, slice_index_or}
+use Rattle.std.specs.Prelude.{◌≡◌, ◌≢◌, ℕ, ◌+◌, ◌*◌, ◌<◌, ◌≤◌, List, [], ◌∷◌, ◌++◌, map, length, take, drop, ◌==◌, if◌then◌else◌, Option, Some, None, IsSome, All, slice_index_or, slice_set}
 use Rattle.std.specs.Option.{option_map, option_map_or}
 use Rattle.std.specs.Ordering.{nat_cmp}
 use Rattle.std.specs.FinMap.{FinMap, len}
@@ -45,6 +45,11 @@ pub record IsWritten {A : Type 0} (width slot : ℕ) (items own items' : List A)
   pub here : part_of width items' slot ≡ own
   pub others : (other : ℕ) → other ≢ slot → other * width + width ≤ length items → part_of width items' other ≡ part_of width items other
   pub long : length items ≤ length items'
+
+-- the neighbours with the second of each two slots as that of the first
+abbrev pub linked : ℕ → ℕ → List (Slot × Slot) → List Slot → List Slot
+linked labels label [] neighbours = neighbours
+linked labels label (two ∷ more) neighbours = linked labels label more (slice_set neighbours (two.0.at * labels + label) two.1)
 
 abbrev pub dart_in : ℕ → ℕ → Slab Place → List Slot → List Value → ℕ → Dart
 dart_in labels width places neighbours values slot = record {

@@ -1,9 +1,10 @@
-ghost use Rattle.std.specs.Prelude.{◌≡◌, ℕ, ◌+◌, ◌*◌, ◌<◌, ◌≤◌, ◌-◌, ◌++◌, ◌∷◌, [], length, replicate, take, max, map, Some, None, All, MatchOption, IfOk, OnOk, OnErr};
+ghost use Rattle.std.specs.Prelude.{◌≡◌, ℕ, ◌+◌, ◌*◌, ◌<◌, ◌≤◌, ◌-◌, ◌++◌, ◌∷◌, [], length, replicate, take, max, map, Some, None, All, MatchOption, IfOk, IsTrue, OnOk, OnErr};
 ghost use Rattle.std.specs.FinMap.{get, keys};
+ghost use Rattle.std.specs.List.{zip};
 ghost use Rattle.slab.specs.Slab.{HasRoomFor, slab_len};
 ghost use Rattle.gm_model.specs.Limits.{most_darts, most_names};
 ghost use Rattle.std.specs.Vec.{vec_capacity};
-ghost use Rattle.gm_arena.specs.Inside.{no_slot, names_in, written_at, IsWritten, HasParts};
+ghost use Rattle.gm_arena.specs.Inside.{no_slot, names_in, linked, IsWritten, HasParts};
 
 use crate::slot::Slot;
 use crate::steps::Steps;
@@ -15,6 +16,9 @@ use std::sync::ledger::Ledger;
 
 /// What the table has at a name that no live dart has.
 const NO_SLOT: u32 = u32::MAX;
+
+/// How many entries are filled past what a slot needs.
+const AHEAD: usize = 256;
 
 #[derive(Clone, Copy)]
 struct Place {
@@ -77,7 +81,7 @@ impl Arena {
     ghost use Rattle.gm_model.specs.Values.{IsValueOf};
     ghost use Rattle.gm_arena.specs.ArenaAsMap.{value};
     ghost use Rattle.gm_arena.specs.Lawful.{IsLawful, AreGoodValues};
-    ghost use Rattle.gm_arena.specs.Edits.{empty_map, with_dart, with_alpha, with_value, without_dart, IsAlone};
+    ghost use Rattle.gm_arena.specs.Edits.{empty_map, with_dart, with_alpha, with_alphas, with_value, without_dart, IsAlone};
 
     /// An arena without darts, whose next name is 0. It takes no memory.
     pub fn new(alloc: Global, schema: Schema) -> Arena
@@ -127,6 +131,16 @@ impl Arena {
         ensures lawful { IsLawful self.now }
     {
         self.bound
+    }
+
+    /// Whether each slot below the bound has a live dart, as in a map from which none was removed. It
+    /// counts no step.
+    pub fn is_dense(&self) -> bool
+        ensures live { IsTrue result → (at : ℕ) → at < self.now.bound → IsLiveSlot self.now at }
+        ensures count { IsTrue result → self.now.bound ≡ self.now.count }
+    {
+        // As many darts as slots, and no dart at or above the bound: none of these is without one.
+        self.places.len() == self.bound
     }
 
     /// The names of the live darts, ascending. It counts one step for each dart.
@@ -236,6 +250,7 @@ impl Arena {
     }
 
     /// Adds a dart that is free for every label. It takes no memory.
+    #[inline(always)]
     pub fn add<L: Ledger>(&mut self, name: u32, values: &[Value], steps: &mut Steps<L>) -> Slot
         requires room { 0 < self.old.spare }
         requires reserved { name < self.old.reserved }
@@ -267,6 +282,28 @@ impl Arena {
     {
         steps.tick();
         self.neighbours[slot.at as usize * self.labels + label as usize] = to;
+    }
+
+    /// Makes each dart at `to` the neighbour of the dart at the same place of `from`, and changes
+    /// nothing at those. Where a dart comes twice in `from`, the last one counts. It counts one step
+    /// for each.
+    pub fn set_alphas<L: Ledger>(
+        &mut self,
+        from: &[Slot],
+        label: u8,
+        to: &[Slot],
+        steps: &mut Steps<L>,
+    )
+        requires label { label ≤ self.old.schema.dim }
+        requires live { All (λ (s : Slot). IsLiveSlot self.old s.at) from.now }
+        requires to_live { All (λ (s : Slot). IsLiveSlot self.old s.at) to.now }
+        requires long { length to.now ≡ length from.now }
+        ensures map { self.new ≡ with_alphas self.old label (zip from.now to.now) }
+        ensures cost { steps.new ≡ steps.old + length from.now }
+    {
+        steps.tick_times(from.len() as u64);
+        let neighbours = self.neighbours.as_mut_slice();
+        link(neighbours, self.labels, label as usize, from, to);
     }
 
     /// Sets the value of the dart at a slot, of an embedding by its index in the schema. The other
@@ -341,27 +378,11 @@ fn free(neighbours: &mut Vec<Slot>, labels: usize, own: Slot)
     requires { own.at * labels + labels ≤ vec_capacity neighbours.old }
     ensures written { IsWritten labels own.at neighbours.old.items (replicate labels own) neighbours.new.items }
     ensures reaches { own.at * labels + labels ≤ length neighbours.new.items }
-    ensures capacity { vec_capacity neighbours.new ≡ vec_capacity neighbours.old }
+    ensures capacity { vec_capacity neighbours.old ≤ vec_capacity neighbours.new }
 {
     let start = own.at as usize * labels;
-    if start < neighbours.len() {
-        lengthen(neighbours, start + labels, own);
-        fill(neighbours, start, labels, own);
-    } else {
-        // What this adds leads to the slot itself already.
-        lengthen(neighbours, start + labels, own);
-    }
-}
-
-/// Writes so many copies over what stands from an index on.
-fn fill(neighbours: &mut Vec<Slot>, start: usize, labels: usize, own: Slot)
-    requires { start + labels ≤ length neighbours.old.items }
-    ensures items { neighbours.new.items ≡ written_at start (replicate labels own) neighbours.old.items }
-    ensures capacity { vec_capacity neighbours.new ≡ vec_capacity neighbours.old }
-{
-    for label in 0..labels {
-        neighbours[start + label] = own;
-    }
+    lengthen(neighbours, start + labels, own);
+    neighbours[start..start + labels].fill(own);
 }
 
 /// Gives the slot these values, as many as each slot has. It takes no memory.
@@ -369,48 +390,64 @@ fn write_values(held: &mut Vec<Value>, slot: usize, values: &[Value])
     requires { slot * length values.now + length values.now ≤ vec_capacity held.old }
     ensures written { IsWritten (length values.now) slot held.old.items values.now held.new.items }
     ensures reaches { slot * length values.now + length values.now ≤ length held.new.items }
-    ensures capacity { vec_capacity held.new ≡ vec_capacity held.old }
+    ensures capacity { vec_capacity held.old ≤ vec_capacity held.new }
 {
-    let start = slot * values.len();
-    if start < held.len() {
-        lengthen(held, start + values.len(), Value::Int(0));
-        overwrite(held, start, values);
-    } else {
-        lengthen(held, start, Value::Int(0));
-        append(held, values);
+    let width = values.len();
+    if width == 0 {
+        return;
     }
+    let start = slot * width;
+    lengthen(held, start + width, Value::Int(0));
+    overwrite(&mut held[start..start + width], values);
 }
 
-/// Writes the values over what stands from an index on.
-fn overwrite(held: &mut Vec<Value>, start: usize, values: &[Value])
-    requires { start + length values.now ≤ length held.old.items }
-    ensures items { held.new.items ≡ written_at start values.now held.old.items }
-    ensures capacity { vec_capacity held.new ≡ vec_capacity held.old }
+/// Writes the values over a slice that is as long. They are so few that a loop takes less than a
+/// call that copies any number.
+fn overwrite(part: &mut [Value], values: &[Value])
+    requires { length part.old ≡ length values.now }
+    ensures { part.new ≡ values.now }
 {
     for (at, value) in values.iter().enumerate() {
-        held[start + at] = *value;
-    }
-}
-
-/// Puts the values behind what there is. It takes no memory.
-fn append(held: &mut Vec<Value>, values: &[Value])
-    requires { length held.old.items + length values.now ≤ vec_capacity held.old }
-    ensures items { held.new.items ≡ held.old.items ++ values.now }
-    ensures capacity { vec_capacity held.new ≡ vec_capacity held.old }
-{
-    for value in values {
-        held.push_reserved(*value);
+        part[at] = *value;
     }
 }
 
 /// Makes the vector at least so long, by fillers. It takes no memory.
 fn lengthen<T: Copy>(vector: &mut Vec<T>, long: usize, filler: T)
     requires { long ≤ vec_capacity vector.old }
-    ensures items { vector.new.items ≡ vector.old.items ++ replicate (long - length vector.old.items) filler }
-    ensures capacity { vec_capacity vector.new ≡ vec_capacity vector.old }
+    ensures items { vector.new.items ≡ vector.old.items ++ replicate (length vector.new.items - length vector.old.items) filler }
+    ensures long { long ≤ length vector.new.items }
+    ensures capacity { vec_capacity vector.old ≤ vec_capacity vector.new }
 {
-    for _at in vector.len()..long {
-        vector.push_reserved(filler);
+    if vector.len() < long {
+        fill_ahead(vector, long, filler);
+    }
+}
+
+/// Makes the vector so long and some entries longer, where it has room, so that the next slots find
+/// their parts there. It takes no memory.
+#[cold]
+#[inline(never)]
+fn fill_ahead<T: Copy>(vector: &mut Vec<T>, long: usize, filler: T)
+    requires shorter { length vector.old.items ≤ long }
+    requires room { long ≤ vec_capacity vector.old }
+    ensures items { vector.new.items ≡ vector.old.items ++ replicate (length vector.new.items - length vector.old.items) filler }
+    ensures long { long ≤ length vector.new.items }
+    ensures capacity { vec_capacity vector.old ≤ vec_capacity vector.new }
+{
+    let ahead = (vector.capacity() - long).min(AHEAD);
+    let _filled = vector.resize(long + ahead, filler);
+}
+
+/// Makes each slot of `to` the neighbour of that at the same place of `from`, one after another.
+fn link(neighbours: &mut [Slot], labels: usize, label: usize, from: &[Slot], to: &[Slot])
+    requires label { label < labels }
+    requires within { All (λ (s : Slot). s.at * labels + labels ≤ length neighbours.old) from.now }
+    requires long { length to.now ≡ length from.now }
+    ensures { neighbours.new ≡ linked labels label (zip from.now to.now) neighbours.old }
+{
+    for (at, slot) in from.iter().enumerate() {
+        neighbours[slot.at as usize * labels + label] = to[at];
     }
 }
 

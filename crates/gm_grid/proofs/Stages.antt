@@ -6,7 +6,7 @@ use Rattle.std.specs.FinMap.{get, get-empty}
 use Rattle.std.proofs.lemmas.Bool.{cases_eq, cases_lt}
 use Rattle.gm_model.specs.declared.schema.Schema.{Schema}
 use Rattle.gm_model.specs.declared.value.Value.{Value}
-use Rattle.gm_arena.specs.ArenaMap.{ArenaMap, Dart, IsLiveName}
+use Rattle.gm_arena.specs.ArenaMap.{ArenaMap, Dart, IsAt, IsLiveName}
 use Rattle.gm_arena.specs.Edits.{empty_map, with_dart, with_alpha, free_dart, turned}
 use Rattle.gm_arena.proofs.InsideLemmas.{some_of}
 use Rattle.gm_arena.proofs.MapLemmas.{get-with_dart_same, get-with_dart_other, get-with_alpha_same, get-with_alpha_other}
@@ -64,6 +64,9 @@ live_turned a d label to e live = elim (cases_eq e d) [
       subst (IsLiveName (with_alpha a d label to)) (sym same) (ap is_some (get-with_alpha_same a d label to ∙ ap (option_map (λ dart. turned dart label to)) was.1))
   | inr apart ↦ ap is_some (get-with_alpha_other a d label to e apart) ∙ live
 ]
+
+pub at_turned : (a after : ArenaMap) (d label to slot e : ℕ) → after ≡ with_alpha a d label to → IsAt a slot e → IsAt after slot e
+at_turned a after d label to slot e is at = subst (λ (m : ArenaMap). IsAt m slot e) (sym is) at
 
 module _ (m d : ℕ) (a one two three : ArenaMap) (along around across : ℕ)
     (first : one ≡ with_alpha a d 0 along) (second : two ≡ with_alpha one d 1 around) (third : three ≡ with_alpha two d 2 across) where

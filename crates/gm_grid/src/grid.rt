@@ -1,7 +1,7 @@
 //! The arena of a grid, and all that is run on it.
-ghost use Rattle.std.specs.Prelude.{◌≡◌, ◌+◌, ◌*◌, ◌<◌, ◌≤◌, IfOk};
+ghost use Rattle.std.specs.Prelude.{◌≡◌, ℕ, ◌+◌, ◌*◌, ◌<◌, ◌≤◌, IfOk};
 ghost use Rattle.gm_model.specs.Maps.{IsSound};
-ghost use Rattle.gm_arena.specs.ArenaMap.{IsLiveName};
+ghost use Rattle.gm_arena.specs.ArenaMap.{IsAt, IsLiveName, IsLiveSlot};
 ghost use Rattle.gm_arena.specs.ArenaAsMap.{as_map};
 ghost use Rattle.gm_arena.specs.Edits.{with_alpha};
 ghost use Rattle.gm_grid.specs.GridMap.{IsGridMap, dart_count};
@@ -12,7 +12,7 @@ use crate::book::make_book;
 use crate::pattern::{neighbour_at, place_of, point_at};
 use crate::schema::make_schema;
 use crate::script::make_script;
-use gm_arena::{Arena, Steps};
+use gm_arena::{Arena, Slot, Steps};
 use gm_model::{Book, OutOfMemory, Script};
 use std::alloc::Global;
 use std::sync::ledger::Ledger;
@@ -48,8 +48,8 @@ pub fn make_grid<L: Ledger>(alloc: Global, m: u8, steps: &mut Steps<L>) -> Resul
 fn build<L: Ledger>(alloc: Global, m: u32, steps: &mut Steps<L>) -> Result<Arena, OutOfMemory>
     requires { m ≤ 100 }
     ensures linked { IfOk result (AreLinked m (dart_count m)) }
-    ensures least { IfOk result (λ _. steps.new ≡ steps.old + 10 * dart_count m) }
-    ensures most { steps.new ≤ steps.old + 10 * dart_count m }
+    ensures least { IfOk result (λ _. steps.new ≡ steps.old + 8 * dart_count m) }
+    ensures most { steps.new ≤ steps.old + 8 * dart_count m }
 {
     let mut arena = Arena::new(alloc, make_schema(alloc)?);
     // There is room for what the script adds as well, so that none of its lines has to make it.
@@ -86,7 +86,7 @@ fn link_darts<L: Ledger>(arena: &mut Arena, m: u32, steps: &mut Steps<L>)
     requires most { m ≤ 100 }
     requires free { AreLinked m 0 arena.old }
     ensures linked { AreLinked m (dart_count m) arena.new }
-    ensures cost { steps.new ≡ steps.old + 9 * dart_count m }
+    ensures cost { steps.new ≡ steps.old + 7 * dart_count m }
 {
     for name in 0..8 * (m * m) {
         link_dart(arena, m, name, steps);
@@ -98,23 +98,23 @@ fn link_dart<L: Ledger>(arena: &mut Arena, m: u32, name: u32, steps: &mut Steps<
     requires below { name < dart_count m }
     requires before { AreLinked m name arena.old }
     ensures linked { AreLinked m (name + 1) arena.new }
-    ensures cost { steps.new ≡ steps.old + 9 }
+    ensures cost { steps.new ≡ steps.old + 7 }
 {
     let place = place_of(m, name);
-    link(arena, name, 0, neighbour_at(m, 0, place), steps);
-    link(arena, name, 1, neighbour_at(m, 1, place), steps);
-    link(arena, name, 2, neighbour_at(m, 2, place), steps);
+    let slot = arena.slot_of(name, steps).unwrap();
+    link(arena, slot, 0, neighbour_at(m, 0, place), steps);
+    link(arena, slot, 1, neighbour_at(m, 1, place), steps);
+    link(arena, slot, 2, neighbour_at(m, 2, place), steps);
 }
 
-/// Makes the one dart the neighbour of the other.
-fn link<L: Ledger>(arena: &mut Arena, name: u32, label: u8, to: u32, steps: &mut Steps<L>)
-    requires live { IsLiveName arena.old name }
+/// Makes the dart of this name the neighbour of the one at the slot.
+fn link<L: Ledger>(arena: &mut Arena, slot: Slot, label: u8, to: u32, steps: &mut Steps<L>)
+    requires live { IsLiveSlot arena.old slot.at }
     requires to_live { IsLiveName arena.old to }
     requires label { label ≤ arena.old.schema.dim }
-    ensures map { arena.new ≡ with_alpha arena.old name label to }
-    ensures cost { steps.new ≡ steps.old + 3 }
+    ensures map { (name : ℕ) → IsAt arena.old slot.at name → arena.new ≡ with_alpha arena.old name label to }
+    ensures cost { steps.new ≡ steps.old + 2 }
 {
-    let slot = arena.slot_of(name, steps).unwrap();
     let target = arena.slot_of(to, steps).unwrap();
     arena.set_alpha(slot, label, target, steps);
 }

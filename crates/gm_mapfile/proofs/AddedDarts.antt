@@ -1,11 +1,11 @@
 -- One line more: its dart is added with its values, or its name is there already.
-use Rattle.std.proofs.Common.{◌≡◌, ℕ, ◌+◌, ◌-◌, ◌*◌, ◌/◌, ◌<◌, ◌≤◌, ℤ, min, true, List, [], ◌∷◌, ◌++◌, length, drop, Option, Some, None, is_some, inl, inr, refl, sym, ap, subst, ◌∙◌, arith}
+use Rattle.std.proofs.Common.{◌≡◌, ℕ, ◌+◌, ◌-◌, ◌*◌, ◌/◌, ◌<◌, ◌≤◌, ℤ, min, true, List, [], ◌∷◌, ◌++◌, length, take, drop, Option, Some, None, is_some, inl, inr, refl, sym, ap, subst, ◌∙◌, arith}
 use Rattle.std.specs.Prelude.{MatchOption}
 use Rattle.std.specs.FinMap.{get}
 use Rattle.std.specs.List.{AllByRecursion}
 use Rattle.std.specs.Option.{option_map}
 use Rattle.std.proofs.lemmas.Bool.{cases_eq}
-use Rattle.std.proofs.lemmas.List.{length-drop}
+use Rattle.std.proofs.lemmas.List.{length-drop, length-take-le}
 use Rattle.gm_model.specs.declared.schema.Schema.{Schema}
 use Rattle.gm_model.specs.declared.value.Value.{Value}
 use Rattle.gm_arena.specs.ArenaMap.{ArenaMap, Dart}
@@ -17,6 +17,7 @@ use Rattle.gm_mapfile.specs.Building.{IsFresh, IsNextLeast, AreAdded, AreValued}
 use Rattle.gm_mapfile.proofs.Adding.{none_added, none_next, next_more, added_more, added_again}
 use Rattle.gm_mapfile.specs.Rows.{row_in, valued, darts_in}
 use Rattle.gm_mapfile.specs.Packed.{size_of_line}
+use Rattle.gm_mapfile.specs.Packed as packing
 use Rattle.gm_mapfile.proofs.Chunks.{lines_cut, next_among, first_values, darts_line}
 use Rattle.gm_mapfile.proofs.Darts.{rows_append, live_dart, dart_of_push_new, dart_of_push_other, dart_of_push_again}
 use Rattle.gm_mapfile.proofs.Named.{none_of}
@@ -106,3 +107,22 @@ pub line_words : (schema : Schema) (all line rest : List ℕ) (words : List ℤ)
 line_words schema all line rest words cut wide long =
     let more : length words ≡ (length rest / (schema.dim + 2) + 1) * size_of_line schema.embeds = long ∙ ap (λ k. k * size_of_line schema.embeds) (lines_cut schema.dim all line rest cut wide) in
     omega (arith, more)
+
+pub schema_kept : (m new : ArenaMap) (slot name : ℕ) (values : List Value) (schema : Schema) → new ≡ with_dart m slot name values → m.schema ≡ schema → new.schema ≡ schema
+schema_kept m new slot name values schema is same = ap (λ (x : ArenaMap). x.schema) is ∙ same
+
+-- the words of a line and those behind it, where they are cut by a number that is read before
+module _ (schema : Schema) (size : ℕ) (words own others : List ℤ) (is : size ≡ size_of_line schema.embeds) where
+  pub behind_read : others ≡ drop size words → others ≡ drop (size_of_line schema.embeds) words
+  behind_read cut = cut ∙ ap (λ k. drop k words) is
+
+  pub values_read : (read : Schema) → read ≡ schema → own ≡ take size words → first_values schema words ≡ packing.values_in read.embeds own
+  values_read read same cut = sym (ap (λ (s : Schema). packing.values_in s.embeds own) same ∙ (ap (packing.values_in schema.embeds) cut ∙ ap (λ k. packing.values_in schema.embeds (take k words)) is))
+
+  pub good_read : (read : Schema) → read ≡ schema → own ≡ take size words → AreGoodValues schema (first_values schema words) → AreGoodValues read (packing.values_in read.embeds own)
+  good_read read same cut good = subst (λ (s : Schema). AreGoodValues s (packing.values_in s.embeds own)) (sym same) (subst (AreGoodValues schema) (values_read schema refl cut) good)
+
+  pub own_long : (read : Schema) → read ≡ schema → own ≡ take size words → size_of_line schema.embeds ≤ length words → size_of_line read.embeds ≤ length own
+  own_long read same cut long =
+      let taken : length own ≡ size = ap length cut ∙ length-take-le size words (omega (arith, is, long)) in
+      subst (λ (s : Schema). size_of_line s.embeds ≤ length own) (sym same) (omega (arith, taken, is))

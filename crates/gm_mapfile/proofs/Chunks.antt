@@ -81,6 +81,10 @@ name_of_line (name ∷ alphas) = refl
 pub read_at : (line : List ℕ) (i name number : ℕ) → i < length line → name ≡ get_or line i name → number ≡ name → number ≡ get_or line i 0
 read_at line i name number within at same = same ∙ get_or_read line i name within at 0
 
+-- the name of a line, as it is read
+pub name_read : (line : List ℕ) (at name : ℕ) → 0 < length line → at ≡ get_or line 0 at → name ≡ at → (row_in line).name ≡ name
+name_read line at name some is same = name_of_line line ∙ sym (read_at line 0 at name some is same)
+
 pub alphas_of_line : (line : List ℕ) → (row_in line).alphas ≡ drop 1 line
 alphas_of_line [] = refl
 alphas_of_line (name ∷ alphas) = refl

@@ -106,6 +106,10 @@ pub on_ok : {T E : Type 0} {P : T → Type 0} {Q : Type 0} (r : Result T E) → 
 on_ok (Ok x) f p = f x p
 on_ok (Err e) f p = p
 
+pub ok_more : {T E : Type 0} {P Q : Type 0} (r : Result T E) → (P → Q) → OnOk r P → OnOk r Q
+ok_more (Ok x) f p = f p
+ok_more (Err e) f p = p
+
 pub if_err : {T E : Type 0} {P Q : E → Type 0} (r : Result T E) → ((e : E) → P e → Q e) → IfErr r P → IfErr r Q
 if_err (Ok x) f p = p
 if_err (Err e) f p = f e p

@@ -120,13 +120,16 @@ lines_with m k front text after within before last =
     ∙ ap (λ xs. front ++ xs) (ap (λ xs. flat_map line_of (take k darts) ++ xs) dart ∙ sym more)))
 
 -- the steps of so many darts
-pub printed_within : (n count before k after : ℕ) → k ≤ count → after ≤ before + count + (n + 3) * k → after ≤ before + 8 * ((n + 1) * (n + 1)) * (count + 1)
-printed_within n count before k after few h =
+pub printed_within : (n count before after : ℕ) → after ≤ before + count + (n + 3) * count → after ≤ before + 8 * ((n + 1) * (n + 1)) * (count + 1)
+printed_within n count before after h =
     let square : n + 1 ≤ (n + 1) * (n + 1) = omega (arith, mul-le 1 (n + 1) (n + 1) (n + 1) (omega arith) (omega arith)) in
     let each : n + 4 ≤ 8 * ((n + 1) * (n + 1)) = omega (arith, square) in
-    let all : (n + 3) * k ≤ (n + 3) * count = mul-le (n + 3) k (n + 3) count (omega arith) few in
     let more : (n + 4) * count ≡ (n + 3) * count + count = omega arith in
-    omega (arith, h, all, more, mul-le (n + 4) count (8 * ((n + 1) * (n + 1))) (count + 1) each (omega arith))
+    omega (arith, h, more, mul-le (n + 4) count (8 * ((n + 1) * (n + 1))) (count + 1) each (omega arith))
+
+-- no more darts than there are
+pub steps_within : (each before k count after : ℕ) → k ≤ count → after ≤ before + each * k → after ≤ before + each * count
+steps_within each before k count after few h = omega (arith, h, mul-le each k each count (omega arith) few)
 
 -- so many steps for each of one dart more
 pub steps_with : (each before start after count : ℕ) → start ≤ before + each * count → after ≤ start + each → after ≤ before + each * (count + 1)
@@ -139,12 +142,16 @@ steps_with each before start after count first last =
 abbrev pub header : MapVersion → ArenaMap → List ℕ
 header version m = head_line version ++ (schema.canonical m.schema ++ (next_line version m.next ++ (codes "darts " ++ (decimal m.count ++ codes "\n"))))
 
-pub whole_text : (version : MapVersion) (m : ArenaMap) (k : ℕ) (text : List ℕ) → IsLawful m → length (darts_of m) ≤ k → text ≡ header version m ++ flat_map line_of (take k (darts_of m)) → text ≡ canonical version (listed_of m)
-whole_text version m k text lawful long is =
+pub whole_text : (version : MapVersion) (m : ArenaMap) → IsLawful m → header version m ++ flat_map line_of (darts_of m) ≡ canonical version (listed_of m)
+whole_text version m lawful =
     let lines = flat_map line_of (darts_of m) in
-    is ∙ (ap (λ darts. header version m ++ flat_map line_of darts) (whole_taken (darts_of m) k long)
-    ∙ (regroup (head_line version) (schema.canonical m.schema) (next_line version m.next) (codes "darts ") (decimal m.count) (codes "\n") lines
-    ∙ ap (λ n. head_line version ++ (schema.canonical m.schema ++ (next_line version m.next ++ (codes "darts " ++ (decimal n ++ (codes "\n" ++ lines)))))) (sym (darts_counted m lawful))))
+    regroup (head_line version) (schema.canonical m.schema) (next_line version m.next) (codes "darts ") (decimal m.count) (codes "\n") lines
+    ∙ ap (λ n. head_line version ++ (schema.canonical m.schema ++ (next_line version m.next ++ (codes "darts " ++ (decimal n ++ (codes "\n" ++ lines)))))) (sym (darts_counted m lawful))
   where
     regroup : (a b c d e f g : List ℕ) → (a ++ (b ++ (c ++ (d ++ (e ++ f))))) ++ g ≡ a ++ (b ++ (c ++ (d ++ (e ++ (f ++ g)))))
     regroup a b c d e f g = simp append_assoc
+
+-- the header and the lines, behind what stood there before
+pub text_with : (version : MapVersion) (m : ArenaMap) (old middle new : List ℕ) → IsLawful m → middle ≡ old ++ header version m → new ≡ middle ++ flat_map line_of (darts_of m) → new ≡ old ++ canonical version (listed_of m)
+text_with version m old middle new lawful first last =
+    last ∙ (ap (λ xs. xs ++ flat_map line_of (darts_of m)) first ∙ (append_assoc old (header version m) (flat_map line_of (darts_of m)) ∙ ap (λ xs. old ++ xs) (whole_text version m lawful)))

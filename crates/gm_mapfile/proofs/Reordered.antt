@@ -1,5 +1,5 @@
 -- A draft whose lines are taken in another order lists the same darts in another order, and an arena of the one is an arena of the other.
-use Rattle.std.proofs.Common.{◌≡◌, ℕ, zero, suc, ◌+◌, ◌-◌, ◌*◌, ◌/◌, ◌<◌, ◌≤◌, ℤ, List, [], ◌∷◌, ◌++◌, length, map, take, drop, slice_index_or, Option, is_some, All, refl, sym, ap, ap₂, subst, ◌∙◌, arith}
+use Rattle.std.proofs.Common.{◌≡◌, ℕ, zero, suc, ◌+◌, ◌-◌, ◌*◌, ◌/◌, ◌<◌, ◌≤◌, ℤ, List, [], ◌∷◌, ◌++◌, length, map, take, drop, slice_index_or, is_some, All, refl, sym, ap, ap₂, subst, ◌∙◌, arith}
 use Rattle.std.specs.Prelude.{IsPermutation}
 use Rattle.std.specs.Option.{option_map, option_map_or}
 use Rattle.std.proofs.Math.Nat.{div-mul-le_self, mul-div_left}
@@ -16,7 +16,6 @@ use Rattle.gm_model.specs.Limits.{most_names}
 use Rattle.gm_arena.specs.ArenaMap.{ArenaMap}
 use Rattle.gm_arena.specs.Lawful.{AreGoodValues}
 use Rattle.gm_mapfile.specs.Building.{AreInRoom, IsHeld}
-use Rattle.gm_mapfile.specs.Draft.{version_in}
 use Rattle.gm_mapfile.specs.Faults.{IsNameFault}
 use Rattle.gm_mapfile.specs.MapFaults.{rows_named, AreNamedOnce, IsLeastTwice, IsLeastNotBelow, AreBelowStated}
 use Rattle.gm_mapfile.specs.MapText.{Version, First, Second, DartRow, bare, rows_of, dart_of}
@@ -75,7 +74,7 @@ module _ {A : Type 0} (width : ℕ) (all : List A) where
       (all_on_lines P each lines)
 
 -- what holds of the places of lines holds of the lines
-pub lines_within : {A : Type 0} (width : ℕ) (all : List A) (lines : List Line) → AreWithin width all (map (λ (line : Line). line.at) lines) → All (λ (line : Line). line.at * width + width ≤ length all) lines
+lines_within : {A : Type 0} (width : ℕ) (all : List A) (lines : List Line) → AreWithin width all (map (λ (line : Line). line.at) lines) → All (λ (line : Line). line.at * width + width ≤ length all) lines
 lines_within width all lines within = All-from_recursion (λ (line : Line). line.at * width + width ≤ length all) lines (go lines within)
   where
     go : (some : List Line) → AreWithin width all (map (λ (line : Line). line.at) some) → AllByRecursion (λ (line : Line). line.at * width + width ≤ length all) some
@@ -89,6 +88,16 @@ pub order_of : (schema : Schema) (numbers seen : List ℕ) (lines : List Line) (
 order_of schema numbers seen lines width same wide order =
     subst (λ w. IsPermutation (counted_from 0 (length numbers / w)) (map (λ (line : Line). line.at) lines)) wide
     (subst (λ (xs : List ℕ). IsPermutation (counted_from 0 (length xs / width)) (map (λ (line : Line). line.at) lines)) same order)
+
+-- what was taken, where the lines and their width are read before
+pub taken_of : {A : Type 0} (all : List A) (lines seen : List Line) (width wide : ℕ) (taken : List A) → seen ≡ lines → width ≡ wide → taken ≡ on_lines width all (map (λ (line : Line). line.at) seen) → on_lines wide all (map (λ (line : Line). line.at) lines) ≡ taken
+taken_of all lines seen width wide taken same as_wide is =
+    sym (is ∙ (ap (λ ls. on_lines width all (map (λ (line : Line). line.at) ls)) same ∙ ap (λ w. on_lines w all (map (λ (line : Line). line.at) lines)) as_wide))
+
+pub within_of : {A : Type 0} (all : List A) (lines seen : List Line) (width wide : ℕ) → seen ≡ lines → width ≡ wide → AreWithin wide all (map (λ (line : Line). line.at) lines) → All (λ (line : Line). line.at * width + width ≤ length all) seen
+within_of all lines seen width wide same as_wide within =
+    subst (λ ls. All (λ (line : Line). line.at * width + width ≤ length all) ls) (sym same)
+    (subst (λ w. All (λ (line : Line). line.at * w + w ≤ length all) lines) (sym as_wide) (lines_within wide all lines within))
 
 -- ---- the darts of lines
 
@@ -174,6 +183,22 @@ module _ (schema : Schema) (numbers : List ℕ) (words : List ℤ) where
       good = moved (λ (dart : DartRow). AreGoodValues schema dart.values) (darts_in schema numbers words) (darts_in schema new_numbers new_words) darts_moved room.good;
     }
 
+-- the same of what was taken of the numbers and of the words
+module _ (schema : Schema) (numbers : List ℕ) (words : List ℤ) (room : AreInRoom schema numbers words) (lines : List Line) (order : IsPermutation (counted_from 0 (length numbers / (schema.dim + 2))) (map (λ (line : Line). line.at) lines))
+    (new_numbers : List ℕ) (new_words : List ℤ) (numbers_are : on_lines (schema.dim + 2) numbers (map (λ (line : Line). line.at) lines) ≡ new_numbers) (words_are : on_lines (size_of_line schema.embeds) words (map (λ (line : Line). line.at) lines) ≡ new_words) where
+  abbrev places : List ℕ
+  places = map (λ (line : Line). line.at) lines
+
+  pub room_in : AreInRoom schema new_numbers new_words
+  room_in =
+      subst (AreInRoom schema new_numbers) words_are
+      (subst (λ ns. AreInRoom schema ns (on_lines (size_of_line schema.embeds) words places)) numbers_are (room_moved schema numbers words room places order))
+
+  pub darts_ordered : IsPermutation (darts_in schema numbers words) (darts_in schema new_numbers new_words)
+  darts_ordered =
+      subst (λ ws. IsPermutation (darts_in schema numbers words) (darts_in schema new_numbers ws)) words_are
+      (subst (λ ns. IsPermutation (darts_in schema numbers words) (darts_in schema ns (on_lines (size_of_line schema.embeds) words places))) numbers_are (darts_moved schema numbers words room places order))
+
 -- ---- what holds of the darts in the one order
 
 named_moved : (darts others : List DartRow) → IsPermutation darts others → (d : ℕ) → rows_named (rows_of others) d ≡ rows_named (rows_of darts) d
@@ -234,24 +259,11 @@ module _ (darts others : List DartRow) (same : IsPermutation darts others) where
   fault_moved version n (faults.Breach breach) h = absurd h
   fault_moved version n faults.OutOfMemory h = tt
 
--- ---- what is said of a draft in another order
+  -- steps for so many darts
+  pub most_moved : (each before after : ℕ) → after ≤ before + each * length others → after ≤ before + each * length darts
+  most_moved each before after = subst (λ k. after ≤ before + each * k) (length_permutation darts others same)
 
-module _ (stated stated' : Option ℕ) (schema schema' : Schema) (darts : List DartRow) (numbers : List ℕ) (words : List ℤ) (stated_is : stated' ≡ stated) (schema_is : schema' ≡ schema)
-    (same : IsPermutation darts (darts_in schema numbers words)) where
-  same_others : IsPermutation darts (darts_in schema' numbers words)
-  same_others = subst (λ s. IsPermutation darts (darts_in s numbers words)) (sym schema_is) same
-
-  pub held_in : (m : ArenaMap) → IsHeld (version_in stated') schema' (darts_in schema' numbers words) m → IsHeld (version_in stated) schema darts m
-  held_in m held =
-      subst (λ s. IsHeld (version_in stated) s darts m) schema_is
-      (subst (λ o. IsHeld (version_in o) schema' darts m) stated_is (held_moved darts (darts_in schema' numbers words) same_others (version_in stated') schema' m held))
-
-  pub fault_in : (fault : MapFault) → IsNameFault (version_in stated') schema'.dim (darts_in schema' numbers words) fault → IsNameFault (version_in stated) schema.dim darts fault
-  fault_in fault h =
-      subst (λ (s : Schema). IsNameFault (version_in stated) s.dim darts fault) schema_is
-      (subst (λ o. IsNameFault (version_in o) schema'.dim darts fault) stated_is (fault_moved darts (darts_in schema' numbers words) same_others (version_in stated') schema'.dim fault h))
-
-  pub most_in : (before after : ℕ) → after ≤ before + (2 * schema'.dim + 5) * length (darts_in schema' numbers words) → after ≤ before + (2 * schema.dim + 5) * length darts
-  most_in before after h =
-      subst (λ k. after ≤ before + (2 * schema.dim + 5) * k) (length_permutation darts (darts_in schema numbers words) same)
-      (subst (λ (s : Schema). after ≤ before + (2 * s.dim + 5) * length (darts_in s numbers words)) schema_is h)
+-- the numbers and words as they are lent
+pub same_read : (darts : List DartRow) (schema : Schema) (numbers xs : List ℕ) (words vs : List ℤ) → xs ≡ numbers → vs ≡ words → IsPermutation darts (darts_in schema numbers words) → IsPermutation darts (darts_in schema xs vs)
+same_read darts schema numbers xs words vs numbers_are words_are same =
+    subst (λ ns. IsPermutation darts (darts_in schema ns vs)) (sym numbers_are) (subst (λ ws. IsPermutation darts (darts_in schema numbers ws)) (sym words_are) same)

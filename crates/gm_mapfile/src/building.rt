@@ -5,7 +5,7 @@
 //! their neighbours. Each pass looks a name up in the arena.
 ghost use Rattle.gm_model.specs.Limits.{most_names};
 ghost use Rattle.gm_model.specs.Maps.{IsSchema};
-ghost use Rattle.std.specs.Prelude.{◌≡◌, ◌+◌, ◌*◌, ◌/◌, ◌<◌, ◌≤◌, length, min, nat_lt, if◌then◌else◌, All, None, MatchOption, IfOk, IfErr, IfSome};
+ghost use Rattle.std.specs.Prelude.{◌≡◌, ◌+◌, ◌*◌, ◌/◌, ◌<◌, ◌≤◌, length, min, nat_lt, if◌then◌else◌, All, None, MatchOption, IfOk, IfErr, IfSome, OnOk};
 ghost use Rattle.std.specs.FinMap.{get};
 ghost use Rattle.gm_arena.specs.ArenaMap.{IsLiveName};
 ghost use Rattle.gm_arena.specs.Edits.{with_dart};
@@ -23,7 +23,7 @@ use crate::ordering::in_order;
 use crate::packed::{MOST_EMBEDS, line_size, unpack_line};
 use crate::reading::Draft;
 use gm_arena::{Arena, Slot, Steps};
-use gm_model::Value;
+use gm_model::{Schema, Value};
 use std::alloc::Global;
 use std::sync::ledger::Ledger;
 
@@ -43,44 +43,71 @@ pub(crate) fn build<L: Ledger>(
     ensures most { steps.new ≤ steps.old + (2 * draft.schema.dim + 5) * length (darts_in draft.schema draft.numbers.items draft.words.items) }
     ensures least { IfOk result (λ arena. steps.old + arena.count ≤ steps.new) }
 {
-    let sorted = in_order(alloc, draft)?;
-    build_lines(alloc, sorted, steps)
-}
-
-/// The same, with the darts added and linked in the order of the lines.
-fn build_lines<L: Ledger>(
-    alloc: Global,
-    draft: Draft,
-    steps: &mut Steps<L>,
-) -> Result<Arena, MapFault>
-    requires schema { IsSchema draft.schema }
-    requires room { AreInRoom draft.schema draft.numbers.items draft.words.items }
-    requires next { IfSome draft.stated (λ next. next ≤ most_names) }
-    ensures held { IfOk result (IsHeld (version_in draft.stated) draft.schema (darts_in draft.schema draft.numbers.items draft.words.items)) }
-    ensures fault { IfErr result (IsNameFault (version_in draft.stated) draft.schema.dim (darts_in draft.schema draft.numbers.items draft.words.items)) }
-    ensures most { steps.new ≤ steps.old + (2 * draft.schema.dim + 5) * length (darts_in draft.schema draft.numbers.items draft.words.items) }
-    ensures least { IfOk result (λ arena. steps.old + arena.count ≤ steps.new) }
-{
     let Draft {
         stated,
         schema,
-        numbers,
-        words,
+        mut numbers,
+        mut words,
     } = draft;
+    in_order(alloc, &schema, &mut numbers, &mut words)?;
     let (numbers, words) = (numbers.as_slice(), words.as_slice());
+    build_lines(alloc, schema, stated, numbers, words, steps)
+}
+
+/// The same of the lines in their order, where the text may state the next name.
+fn build_lines<L: Ledger>(
+    alloc: Global,
+    schema: Schema,
+    stated: Option<u32>,
+    numbers: &[Name],
+    words: &[i64],
+    steps: &mut Steps<L>,
+) -> Result<Arena, MapFault>
+    requires schema { IsSchema schema }
+    requires room { AreInRoom schema numbers.now words.now }
+    requires next { IfSome stated (λ next. next ≤ most_names) }
+    ensures held { IfOk result (IsHeld (version_in stated) schema (darts_in schema numbers.now words.now)) }
+    ensures fault { IfErr result (IsNameFault (version_in stated) schema.dim (darts_in schema numbers.now words.now)) }
+    ensures most { steps.new ≤ steps.old + (2 * schema.dim + 5) * length (darts_in schema numbers.now words.now) }
+    ensures least { IfOk result (λ arena. steps.old + arena.count ≤ steps.new) }
+{
     let width = schema.dim.top() as usize + 2;
     let mut arena = Arena::new(alloc, schema);
     arena.reserve((numbers.len() / width) as u32, names_end(numbers))?;
-    if let Some(dart) = add_darts(&mut arena, numbers, words, steps) {
+    fill(&mut arena, stated, numbers, words, steps)?;
+    Ok(arena)
+}
+
+/// Adds the darts of the lines to an arena without darts, sets the next name where it is stated, and
+/// links the darts. The arena is borrowed, so that no way out has to drop it.
+fn fill<L: Ledger>(
+    arena: &mut Arena,
+    stated: Option<u32>,
+    numbers: &[Name],
+    words: &[i64],
+    steps: &mut Steps<L>,
+) -> Result<(), MapFault>
+    requires fresh { IsFresh arena.old }
+    requires embeds { length arena.old.schema.embeds ≤ 8 }
+    requires room { AreInRoom arena.old.schema numbers.now words.now }
+    requires spare { length numbers.now / (arena.old.schema.dim + 2) ≤ arena.old.spare }
+    requires reserved { All (λ x. x < arena.old.reserved) numbers.now }
+    requires next { IfSome stated (λ next. next ≤ most_names) }
+    ensures held { OnOk result (IsHeld (version_in stated) arena.old.schema (darts_in arena.old.schema numbers.now words.now) arena.new) }
+    ensures fault { IfErr result (IsNameFault (version_in stated) arena.old.schema.dim (darts_in arena.old.schema numbers.now words.now)) }
+    ensures most { steps.new ≤ steps.old + (2 * arena.old.schema.dim + 5) * length (darts_in arena.old.schema numbers.now words.now) }
+    ensures least { OnOk result (steps.old + arena.new.count ≤ steps.new) }
+{
+    if let Some(dart) = add_darts(arena, numbers, words, steps) {
         return Err(MapFault::DartTwice { dart });
     }
-    if let Some(dart) = set_stated(&mut arena, numbers, stated) {
+    if let Some(dart) = set_stated(arena, numbers, stated) {
         return Err(MapFault::Next { dart });
     }
-    if let Some((dart, label)) = link_darts(&mut arena, numbers, steps) {
+    if let Some((dart, label)) = link_darts(arena, numbers, steps) {
         return Err(MapFault::NoTarget { dart, label });
     }
-    Ok(arena)
+    Ok(())
 }
 
 /// One more than the greatest of the numbers, or 0 where there is none.
@@ -117,6 +144,7 @@ fn add_darts<L: Ledger>(
     ensures least { steps.old + length (rows_in arena.old.schema.dim numbers.now) ≤ steps.new }
 {
     let size = line_size(arena.schema().embeds.as_slice());
+    let mut row = [Value::Int(0); MOST_EMBEDS];
     let mut rest = words;
     let mut twice: Option<u32> = None;
     for line in numbers.chunks_exact(arena.schema().dim.top() as usize + 2) {
@@ -124,7 +152,7 @@ fn add_darts<L: Ledger>(
         let (own, others) = rest.split_at(size);
         rest = others;
         if arena.slot_of(name, steps).is_none() {
-            add_packed(arena, name, own, steps);
+            add_packed(arena, name, own, &mut row, steps);
         } else {
             twice = Some(lesser(twice, name));
         }
@@ -132,8 +160,15 @@ fn add_darts<L: Ledger>(
     twice
 }
 
-/// Adds the dart with the values that the words stand for, free for every label.
-fn add_packed<L: Ledger>(arena: &mut Arena, name: u32, words: &[i64], steps: &mut Steps<L>) -> Slot
+/// Adds the dart with the values that the words stand for, free for every label. The row is lent for
+/// the values, whatever it holds.
+fn add_packed<L: Ledger>(
+    arena: &mut Arena,
+    name: u32,
+    words: &[i64],
+    row: &mut [Value; MOST_EMBEDS],
+    steps: &mut Steps<L>,
+) -> Slot
     requires room { 0 < arena.old.spare }
     requires reserved { name < arena.old.reserved }
     requires new_name { get arena.old.darts name ≡ None }
@@ -146,8 +181,7 @@ fn add_packed<L: Ledger>(arena: &mut Arena, name: u32, words: &[i64], steps: &mu
 {
     let embeds = arena.schema().embeds.as_slice();
     let count = embeds.len();
-    let mut row = [Value::Int(0); MOST_EMBEDS];
-    unpack_line(embeds, words, &mut row);
+    unpack_line(embeds, words, row);
     arena.add(name, &row[..count], steps)
 }
 

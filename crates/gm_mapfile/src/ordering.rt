@@ -2,7 +2,7 @@
 //!
 //! A text may list its darts in any order. In the order of their names they come to stand side by
 //! side in the arena, as whoever goes through a map by name then finds them.
-ghost use Rattle.std.specs.Prelude.{◌≡◌, ◌+◌, ◌*◌, ◌/◌, ◌<◌, ◌≤◌, length, map, All, IsPermutation, IfOk};
+ghost use Rattle.std.specs.Prelude.{◌≡◌, ◌+◌, ◌*◌, ◌/◌, ◌<◌, ◌≤◌, ◌++◌, length, map, All, IsPermutation, IfOk, OnOk};
 ghost use Rattle.gm_model.specs.Limits.{most_darts};
 ghost use Rattle.gm_mapfile.specs.Building.{AreInRoom};
 ghost use Rattle.gm_mapfile.specs.Ordering.{counted_from, on_lines};
@@ -11,9 +11,8 @@ ghost use Rattle.gm_mapfile.specs.declared.ordering.Line.{Line};
 
 use crate::name::Name;
 use crate::packed::line_size;
-use crate::reading::Draft;
-use gm_model::OutOfMemory;
-use std::alloc::Global;
+use gm_model::{OutOfMemory, Schema};
+use std::alloc::{AllocError, Global};
 
 /// Where a dart's line stands.
 #[derive(Clone, Copy)]
@@ -23,59 +22,50 @@ struct Line {
     at: u32,
 }
 
-/// The draft with its lines in ascending order of their names.
-pub(crate) fn in_order(alloc: Global, draft: Draft) -> Result<Draft, OutOfMemory>
-    requires embeds { length draft.schema.embeds ≤ 8 }
-    requires room { AreInRoom draft.schema draft.numbers.items draft.words.items }
-    ensures stated { IfOk result (λ sorted. sorted.stated ≡ draft.stated) }
-    ensures schema { IfOk result (λ sorted. sorted.schema ≡ draft.schema) }
-    ensures room { IfOk result (λ sorted. AreInRoom draft.schema sorted.numbers.items sorted.words.items) }
-    ensures darts { IfOk result (λ sorted. IsPermutation (darts_in draft.schema draft.numbers.items draft.words.items) (darts_in draft.schema sorted.numbers.items sorted.words.items)) }
+/// Brings the lines into ascending order of their names.
+pub(crate) fn in_order(
+    alloc: Global,
+    schema: &Schema,
+    numbers: &mut Vec<Name>,
+    words: &mut Vec<i64>,
+) -> Result<(), OutOfMemory>
+    requires embeds { length schema.now.embeds ≤ 8 }
+    requires room { AreInRoom schema.now numbers.old.items words.old.items }
+    ensures room { OnOk result (AreInRoom schema.now numbers.new.items words.new.items) }
+    ensures darts { OnOk result (IsPermutation (darts_in schema.now numbers.old.items words.old.items) (darts_in schema.now numbers.new.items words.new.items)) }
 {
-    if is_ascending(&draft) {
-        Ok(draft)
-    } else {
-        ordered(alloc, draft)
+    if is_ascending(numbers.as_slice(), schema.dim.top() as usize + 2) {
+        return Ok(());
     }
+    order(alloc, schema, numbers, words)
 }
 
-/// The draft with its lines brought into ascending order of their names.
-fn ordered(alloc: Global, draft: Draft) -> Result<Draft, OutOfMemory>
-    requires embeds { length draft.schema.embeds ≤ 8 }
-    requires room { AreInRoom draft.schema draft.numbers.items draft.words.items }
-    ensures stated { IfOk result (λ sorted. sorted.stated ≡ draft.stated) }
-    ensures schema { IfOk result (λ sorted. sorted.schema ≡ draft.schema) }
-    ensures room { IfOk result (λ sorted. AreInRoom draft.schema sorted.numbers.items sorted.words.items) }
-    ensures darts { IfOk result (λ sorted. IsPermutation (darts_in draft.schema draft.numbers.items draft.words.items) (darts_in draft.schema sorted.numbers.items sorted.words.items)) }
+/// The same, whatever order they have.
+fn order(
+    alloc: Global,
+    schema: &Schema,
+    numbers: &mut Vec<Name>,
+    words: &mut Vec<i64>,
+) -> Result<(), OutOfMemory>
+    requires embeds { length schema.now.embeds ≤ 8 }
+    requires room { AreInRoom schema.now numbers.old.items words.old.items }
+    ensures room { OnOk result (AreInRoom schema.now numbers.new.items words.new.items) }
+    ensures darts { OnOk result (IsPermutation (darts_in schema.now numbers.old.items words.old.items) (darts_in schema.now numbers.new.items words.new.items)) }
 {
-    let Draft {
-        stated,
-        schema,
-        numbers,
-        words,
-    } = draft;
     let width = schema.dim.top() as usize + 2;
     let size = line_size(schema.embeds.as_slice());
     let lines = lines_by_name(alloc, numbers.as_slice(), width)?;
-    let numbers = taken(alloc, lines.as_slice(), numbers, width)?;
-    let words = taken(alloc, lines.as_slice(), words, size)?;
-    Ok(Draft {
-        stated,
-        schema,
-        numbers,
-        words,
-    })
+    order_lines(alloc, lines.as_slice(), width, numbers)?;
+    order_lines(alloc, lines.as_slice(), size, words)
 }
 
 /// Whether the lines stand in ascending order of their names. Both orders are right, so nothing
 /// rests on the answer but the time that is taken.
-fn is_ascending(draft: &Draft) -> bool {
+fn is_ascending(numbers: &[Name], width: usize) -> bool
+    requires { 0 < width }
+{
     let mut least = 0;
-    for line in draft
-        .numbers
-        .as_slice()
-        .chunks_exact(draft.schema.dim.top() as usize + 2)
-    {
+    for line in numbers.chunks_exact(width) {
         let name = line[0].number();
         if name < least {
             return false;
@@ -113,20 +103,35 @@ fn lines_by_name(alloc: Global, numbers: &[Name], width: usize) -> Result<Vec<Li
     Ok(lines)
 }
 
-/// What stands on the lines, where each has so many elements of all. Those are let go at the end.
-fn taken<T: Copy>(
+/// Puts what stands on the lines in the place of all, where each has so many elements of it.
+fn order_lines<T: Copy>(
     alloc: Global,
     lines: &[Line],
-    all: Vec<T>,
     width: usize,
-) -> Result<Vec<T>, OutOfMemory>
-    requires { All (λ (line : Line). line.at * width + width ≤ length all.items) lines.now }
-    ensures { IfOk result (λ taken. taken.items ≡ on_lines width all.items (map (λ (line : Line). line.at) lines.now)) }
+    all: &mut Vec<T>,
+) -> Result<(), OutOfMemory>
+    requires { All (λ (line : Line). line.at * width + width ≤ length all.old.items) lines.now }
+    ensures { OnOk result (all.new.items ≡ on_lines width all.old.items (map (λ (line : Line). line.at) lines.now)) }
 {
     let mut taken = Vec::with_capacity(alloc, all.len())?;
+    take_lines(lines, width, all.as_slice(), &mut taken)?;
+    *all = taken;
+    Ok(())
+}
+
+/// Appends what stands on the lines, where each has so many elements of all.
+fn take_lines<T: Copy>(
+    lines: &[Line],
+    width: usize,
+    all: &[T],
+    taken: &mut Vec<T>,
+) -> Result<(), AllocError>
+    requires { All (λ (line : Line). line.at * width + width ≤ length all.now) lines.now }
+    ensures { OnOk result (taken.new.items ≡ taken.old.items ++ on_lines width all.now (map (λ (line : Line). line.at) lines.now)) }
+{
     for line in lines {
         let start = line.at as usize * width;
         taken.extend_from_slice(&all[start..start + width])?;
     }
-    Ok(taken)
+    Ok(())
 }

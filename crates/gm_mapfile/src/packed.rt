@@ -1,6 +1,6 @@
 //! Values packed by their kinds: a draft holds those of each dart, and a vector of three takes three
 //! words where a colour or a number takes one.
-ghost use Rattle.std.specs.Prelude.{◌≡◌, ◌≤◌, ◌++◌, length, take, OnOk};
+ghost use Rattle.std.specs.Prelude.{◌≡◌, ◌≤◌, [], ◌∷◌, ◌++◌, length, take, OnOk};
 ghost use Rattle.gm_mapfile.specs.Packed.{words_of, size_of, size_of_line, value_in, values_in, colour_in};
 
 use gm_model::{Embed, Kind, Value};
@@ -38,15 +38,21 @@ pub(crate) fn pack(value: Value, words: &mut Vec<i64>) -> Result<(), AllocError>
     ensures { OnOk result (words.new.items ≡ words.old.items ++ words_of value) }
 {
     match value {
-        Value::Int(x) => words.push(x)?,
-        Value::Bool(truth) => words.push(i64::from(truth))?,
-        Value::Vec2(x, y) => words.extend_from_slice(&[x, y])?,
-        Value::Vec3(x, y, z) => words.extend_from_slice(&[x, y, z])?,
+        Value::Int(x) => put_word(words, x),
+        Value::Bool(truth) => put_word(words, i64::from(truth)),
+        Value::Vec2(x, y) => words.extend_from_slice(&[x, y]),
+        Value::Vec3(x, y, z) => words.extend_from_slice(&[x, y, z]),
         Value::Rgb(red, green, blue) => {
             let colour = (u32::from(red) * 256 + u32::from(green)) * 256 + u32::from(blue);
-            words.push(i64::from(colour))?;
+            put_word(words, i64::from(colour))
         }
     }
+}
+
+fn put_word(words: &mut Vec<i64>, word: i64) -> Result<(), AllocError>
+    ensures { OnOk result (words.new.items ≡ words.old.items ++ word ∷ []) }
+{
+    words.push(word)?;
     Ok(())
 }
 

@@ -8,7 +8,7 @@ ghost use Rattle.gm_mapfile.specs.MapText.{canonical, head_line, next_line, line
 ghost use Rattle.gm_arena.specs.ArenaMap.{IsLiveName, IsLiveSlot, name_at};
 ghost use Rattle.gm_arena.specs.declared.slot.Slot.{Slot};
 ghost use Rattle.gm_arena.specs.Lawful.{IsLawful};
-ghost use Rattle.gm_mapfile.specs.Rows.{listed_of, dart_at};
+ghost use Rattle.gm_mapfile.specs.Rows.{darts_of, listed_of, dart_at};
 
 use crate::version::MapVersion;
 use gm_arena::{Arena, Row, Slot, Steps};
@@ -39,11 +39,45 @@ pub fn print_map<L: Ledger>(
 {
     let names = arena.names(alloc, steps)?;
     let mut text = Text::with_capacity(alloc, room_for(arena, &names))?;
-    print_header(&mut text, arena, version)?;
-    for name in &names {
-        print_dart(&mut text, arena, *name, steps)?;
-    }
+    print_text(&mut text, arena, version, &names, steps)?;
     Ok(text.into_bytes())
+}
+
+/// The header, and a line for each of the names.
+fn print_text<L: Ledger>(
+    text: &mut Text,
+    arena: &Arena,
+    version: MapVersion,
+    names: &[u32],
+    steps: &mut Steps<L>,
+) -> Result<(), OutOfMemory>
+    requires lawful { IsLawful arena.now }
+    requires names { names.now ≡ keys arena.now.darts }
+    ensures text { OnOk result (text.new ≡ text.old ++ canonical version (listed_of arena.now)) }
+    ensures most { steps.new ≤ steps.old + (arena.now.schema.dim + 3) * arena.now.count }
+    ensures least { steps.old ≤ steps.new }
+{
+    print_header(text, arena, version)?;
+    print_lines(text, arena, names, steps)
+}
+
+/// A line for each of the names.
+fn print_lines<L: Ledger>(
+    text: &mut Text,
+    arena: &Arena,
+    names: &[u32],
+    steps: &mut Steps<L>,
+) -> Result<(), OutOfMemory>
+    requires lawful { IsLawful arena.now }
+    requires names { names.now ≡ keys arena.now.darts }
+    ensures lines { OnOk result (text.new ≡ text.old ++ flat_map line_of (darts_of arena.now)) }
+    ensures most { steps.new ≤ steps.old + (arena.now.schema.dim + 3) * arena.now.count }
+    ensures least { steps.old ≤ steps.new }
+{
+    for name in names {
+        print_dart(text, arena, *name, steps)?;
+    }
+    Ok(())
 }
 
 /// As many bytes as the text has without values, or a few more: each name stands once for its dart
@@ -85,18 +119,39 @@ fn digits_of(name: u32) -> usize
 fn print_header(text: &mut Text, arena: &Arena, version: MapVersion) -> Result<(), OutOfMemory>
     ensures { OnOk result (text.new ≡ text.old ++ (head_line version ++ (schema.canonical arena.now.schema ++ (next_line version arena.now.next ++ (codes "darts " ++ (decimal arena.now.count ++ codes "\n")))))) }
 {
+    print_version(text, version)?;
+    print_schema(text, arena.schema())?;
+    print_next(text, version, arena.next())?;
+    print_count(text, arena.count())
+}
+
+fn print_version(text: &mut Text, version: MapVersion) -> Result<(), OutOfMemory>
+    ensures { OnOk result (text.new ≡ text.old ++ head_line version) }
+{
     text.put(match version {
         MapVersion::One => b"gmap 1\n",
         MapVersion::Two => b"gmap 2\n",
-    })?;
-    print_schema(text, arena.schema())?;
+    })
+}
+
+/// The next name, which the second version states.
+fn print_next(text: &mut Text, version: MapVersion, next: u32) -> Result<(), OutOfMemory>
+    ensures { OnOk result (text.new ≡ text.old ++ next_line version next) }
+{
     if version == MapVersion::Two {
         text.put(b"next ")?;
-        text.number(u64::from(arena.next()))?;
+        text.number(u64::from(next))?;
         text.put(b"\n")?;
     }
+    Ok(())
+}
+
+/// How many darts there are.
+fn print_count(text: &mut Text, count: u32) -> Result<(), OutOfMemory>
+    ensures { OnOk result (text.new ≡ text.old ++ (codes "darts " ++ (decimal count ++ codes "\n"))) }
+{
     text.put(b"darts ")?;
-    text.number(u64::from(arena.count()))?;
+    text.number(u64::from(count))?;
     text.put(b"\n")
 }
 

@@ -13,3 +13,4 @@ pub mod Placing
 pub mod Stepping
 pub mod Taking
 pub mod Turning
+pub mod Testing

@@ -1,11 +1,12 @@
 -- How the slots that are taken grow, and what a slot that is taken already tells.
-use Rattle.std.proofs.Common.{◌≡◌, ℕ, ◌+◌, ◌*◌, ◌/◌, ◌%◌, ◌<◌, ◌⊎◌, inl, inr, List, [], ◌∷◌, ◌++◌, length, get_or, Some, sym, ap, subst, ◌∙◌, arith}
+use Rattle.std.proofs.Common.{◌≡◌, ℕ, ◌+◌, ◌*◌, ◌/◌, ◌%◌, ◌<◌, ◌⊎◌, inl, inr, List, [], ◌∷◌, ◌++◌, length, get_or, Option, Some, sym, ap, subst, ◌∙◌, arith}
 use Rattle.std.proofs.Math.Nat.{mul-le-mul_right}
 use Rattle.std.proofs.lemmas.Bool.{cases_lt, cases_order}
 use Rattle.std.proofs.lemmas.List.{get_or_push, length_push}
 use Rattle.std.proofs.lemmas.Nat.{div-add-mod'}
 use Rattle.std.proofs.lemmas.Option.{slice_get-get_or, slice_get_within, get_or_from_slice_get}
 use Rattle.std.specs.List.{slice_get, All, Contains}
+use Rattle.std.specs.Option.{MatchOption}
 use Rattle.gm_model.specs.Orbits.{IsPairBefore}
 use Rattle.gm_arena.specs.declared.slot.Slot.{Slot}
 use Rattle.gm_plan.specs.Placed.{Placed, slot_at}
@@ -117,6 +118,10 @@ module _ (found : Placed) where
 
 pub slot_below : (found : Placed) (bound : ℕ) → All (λ (s : Slot). s.at < bound) found.slots → (x p : ℕ) (s : Slot) → slot_at found x p ≡ Some s → s.at < bound
 slot_below found bound all x p s e = let at = p * found.nodes + x in subst (λ (t : Slot). t.at < bound) (get_or_from_slice_get found.slots at s s e) (all at s (slice_get_within found.slots at s e))
+
+-- the place that is told of a slot
+pub placed : (slots : List Slot) (s : Slot) (answer : Option ℕ) (place : ℕ) → MatchOption answer (Contains slots s → ⊥) (λ p. slice_get slots p ≡ Some s) → answer ≡ Some place → slice_get slots place ≡ Some s
+placed slots s answer place told e = subst (λ o. MatchOption o (Contains slots s → ⊥) (λ p. slice_get slots p ≡ Some s)) e told
 
 pub bound_kept : (old : Room) (s : Slot) (new : Room) → TakesIn old s new → new.bound ≡ old.bound
 bound_kept old s new (Known c e) = ap (λ (r : Room). r.bound) e

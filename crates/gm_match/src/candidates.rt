@@ -1,4 +1,4 @@
-ghost use Rattle.std.specs.Prelude.{◌≡◌, ℕ, List, ◌++◌, ◌+◌, ◌*◌, ◌<◌, ◌≤◌, length, slice_get, slice_index, Some, IfOk, vec_capacity};
+ghost use Rattle.std.specs.Prelude.{◌≡◌, ℕ, List, ◌++◌, ◌+◌, ◌*◌, ◌<◌, ◌≤◌, [], length, slice_get, slice_index, Some, IfOk, OnOk, vec_capacity};
 ghost use Rattle.std.specs.List.{Contains};
 ghost use Rattle.gm_arena.specs.ArenaAsMap.{as_map};
 ghost use Rattle.gm_arena.specs.Lawful.{IsLawful};
@@ -42,18 +42,21 @@ pub(crate) fn candidate<L: Ledger>(
     ensures room { scratch.new.bound ≡ scratch.old.bound }
 {
     let word = plan.rule().hook_word().unwrap();
+    let (slots, turns) = scratch.lend_rows(alloc);
     let walk = walk_word(arena, darts[0], &word, scratch, steps);
-    along_walk(alloc, plan, arena, darts, &walk, &word, steps)
+    along_walk(plan, arena, darts, &walk, &word, slots, turns, steps)
 }
 
-/// The candidate along the walk of the first hook, from the darts of the hooks.
+/// The candidate along the walk of the first hook, from the darts of the hooks, in the room of two
+/// empty vectors.
 fn along_walk<L: Ledger>(
-    alloc: Global,
     plan: &Plan<'_>,
     arena: &Arena,
     darts: &[Slot],
     walk: &Walk<'_>,
     word: &Word,
+    mut slots: Vec<Slot>,
+    mut turns: Vec<u32>,
     steps: &mut Steps<L>,
 ) -> Result<Instances, OutOfMemory>
     requires matchable { AreMatchable arena.now plan.now }
@@ -63,39 +66,42 @@ fn along_walk<L: Ledger>(
     requires word { word.now ≡ hook_word (rule_of plan.now.table) }
     requires walk { IsWalk (along arena.now word.now) (length word.now) (slice_index (names_of arena.now darts.now) 0) (names_of arena.now (slots_of walk.now)) }
     requires walked { AreLive arena.now (slots_of walk.now) }
+    requires no_slots { slots.items ≡ [] }
+    requires no_turns { turns.items ≡ [] }
     ensures candidate { IfOk result (IsCandidateAt arena.now (rule_of plan.now.table) (names_of arena.now darts.now)) }
     ensures cost { let positions = length (slots_of walk.now) in
         steps.new ≤ steps.old + positions * length word.now + positions * length (rule_of plan.now.table).nodes }
     ensures least { steps.old ≤ steps.new }
 {
-    let turns = turns(alloc, arena, walk, word, steps)?;
-    let slots = slots(alloc, plan, arena, darts, walk.slots(), &turns, steps)?;
+    fill_turns(arena, walk, word, &mut turns, steps)?;
+    fill_slots(plan, arena, darts, walk.slots(), &turns, &mut slots, steps)?;
     let positions = walk.slots().len() as u32;
     Ok(Instances::new(slots, turns, positions, word.len()))
 }
 
-/// The positions to which each position turns, by place.
-fn turns<L: Ledger>(
-    alloc: Global,
+/// Puts the positions to which each position turns, by place, into the empty vector.
+fn fill_turns<L: Ledger>(
     arena: &Arena,
     walk: &Walk<'_>,
     word: &Word,
+    turns: &mut Vec<u32>,
     steps: &mut Steps<L>,
-) -> Result<Vec<u32>, OutOfMemory>
+) -> Result<(), OutOfMemory>
     requires lawful { IsLawful arena.now }
     requires live { AreLive arena.now (slots_of walk.now) }
     requires word { IsWord arena.now.schema.dim word.now }
     requires closed { IsClosed arena.now word.now (slots_of walk.now) }
-    ensures turns { IfOk result (λ turns. AreCells (IsTurn arena.now word.now (names_of arena.now (slots_of walk.now))) (length (slots_of walk.now)) (length word.now) turns.items) }
+    requires empty { turns.old.items ≡ [] }
+    ensures turns { OnOk result (AreCells (IsTurn arena.now word.now (names_of arena.now (slots_of walk.now))) (length (slots_of walk.now)) (length word.now) turns.new.items) }
     ensures cost { steps.new ≤ steps.old + length (slots_of walk.now) * length word.now }
     ensures least { steps.old ≤ steps.new }
 {
     let places = word.len() as usize;
-    let mut turns = Vec::with_capacity(alloc, walk.slots().len() * places)?;
+    turns.reserve(walk.slots().len() * places)?;
     for slot in walk.slots() {
-        push_turns(arena, walk, *slot, word, &mut turns, steps);
+        push_turns(arena, walk, *slot, word, turns, steps);
     }
-    Ok(turns)
+    Ok(())
 }
 
 /// Puts the positions to which the slot's position turns, by place, behind those of the positions
@@ -128,16 +134,17 @@ fn push_turns<L: Ledger>(
     }
 }
 
-/// The slots of the left nodes, by position and node. The turns are those of the walk.
-fn slots<L: Ledger>(
-    alloc: Global,
+/// Puts the slots of the left nodes, by position and node, into the empty vector. The turns are those
+/// of the walk.
+fn fill_slots<L: Ledger>(
     plan: &Plan<'_>,
     arena: &Arena,
     darts: &[Slot],
     walk: &[Slot],
     turns: &[u32],
+    slots: &mut Vec<Slot>,
     steps: &mut Steps<L>,
-) -> Result<Vec<Slot>, OutOfMemory>
+) -> Result<(), OutOfMemory>
     requires matchable { AreMatchable arena.now plan.now }
     requires some { 0 < length darts.now }
     requires count { length darts.now ≡ length (rule_of plan.now.table).hooks }
@@ -147,26 +154,27 @@ fn slots<L: Ledger>(
     requires walk { AreLive arena.now walk.now }
     requires starts { slice_index (names_of arena.now walk.now) 0 ≡ slice_index (names_of arena.now darts.now) 0 }
     requires turns { HaveFirstTurns turns.now (length walk.now) (width (rule_of plan.now.table)) }
-    ensures slots { IfOk result (λ slots. (nodes : ℕ) × IsLeftCount (rule_of plan.now.table) nodes
-        × AreRows arena.now (rule_of plan.now.table) (names_of arena.now darts.now) (names_of arena.now walk.now) turns.now nodes (length walk.now) slots.items) }
+    requires empty { slots.old.items ≡ [] }
+    ensures slots { OnOk result ((nodes : ℕ) × IsLeftCount (rule_of plan.now.table) nodes
+        × AreRows arena.now (rule_of plan.now.table) (names_of arena.now darts.now) (names_of arena.now walk.now) turns.now nodes (length walk.now) slots.new.items) }
     ensures cost { steps.new + length walk.now ≤ steps.old + length walk.now * length (rule_of plan.now.table).nodes }
     ensures least { steps.old ≤ steps.new }
 {
     let nodes = plan.left_nodes() as usize;
     if nodes == 1 {
-        return walk_slots(alloc, walk);
+        return fill_along(walk, slots);
     }
-    let mut slots = Vec::with_capacity(alloc, walk.len() * nodes)?;
+    slots.reserve(walk.len() * nodes)?;
     let mut row = [darts[0]; MOST_NODES];
     first_row(plan, arena, darts, &mut row, steps);
-    push_row(&row[..nodes], &mut slots);
+    push_row(&row[..nodes], slots);
     let mut turn = 0;
     for position in 1..walk.len() {
         turn = next_turn(plan, turns, turn, position as u32);
-        later_row(plan, arena, walk[position], &slots, turn, &mut row, steps);
-        push_row(&row[..nodes], &mut slots);
+        later_row(plan, arena, walk[position], slots, turn, &mut row, steps);
+        push_row(&row[..nodes], slots);
     }
-    Ok(slots)
+    Ok(())
 }
 
 /// Puts the row's slots behind the others, into the room that there is for them.
@@ -180,11 +188,14 @@ fn push_row(row: &[Slot], slots: &mut Vec<Slot>)
     }
 }
 
-/// The slots of the only left node, by position: it is the hook, which lies along the walk.
-fn walk_slots(alloc: Global, walk: &[Slot]) -> Result<Vec<Slot>, OutOfMemory>
-    ensures slots { IfOk result (λ slots. slots.items ≡ walk.now) }
+/// Puts the slots of the only left node, by position, into the empty vector: it is the hook, which lies
+/// along the walk.
+fn fill_along(walk: &[Slot], slots: &mut Vec<Slot>) -> Result<(), OutOfMemory>
+    requires empty { slots.old.items ≡ [] }
+    ensures slots { OnOk result (slots.new.items ≡ walk.now) }
 {
-    Ok(walk.to_vec(alloc)?)
+    slots.extend_from_slice(walk)?;
+    Ok(())
 }
 
 /// The first turn to the position, where those before `from` lead to earlier positions. With one

@@ -41,7 +41,8 @@ fn take_node(found: &Instances, node: u8, scratch: &mut Scratch) -> Result<(), M
     let positions = found.positions();
     for position in 0..positions {
         let slot = found.slot(node, position);
-        if let Some(place) = scratch.place(slot) {
+        if !scratch.take_new(slot) {
+            let place = scratch.place(slot).unwrap();
             return Err(MatchFault::Same {
                 node: (place / positions) as u8,
                 position: place % positions,
@@ -49,7 +50,6 @@ fn take_node(found: &Instances, node: u8, scratch: &mut Scratch) -> Result<(), M
                 position2: position,
             });
         }
-        scratch.take_in(slot);
     }
     Ok(())
 }

@@ -10,6 +10,7 @@ use Rattle.gm_model.specs.Rules.{has_word, is_added, is_removed, step}
 use Rattle.gm_model.specs.Unfolding.{IsStep, IsGone, IsCutAt, IsMadeArc, added_before, added_nodes}
 use Rattle.gm_arena.specs.declared.slot.Slot.{Slot}
 use Rattle.gm_arena.specs.ArenaMap.{IsLiveSlot, name_at, alpha}
+use Rattle.gm_plan.specs.Changes.{is_same}
 use Rattle.gm_plan.specs.Counts.{removed_before, removed_nodes}
 use Rattle.gm_plan.specs.InArena.{slot_number}
 use Rattle.gm_plan.specs.Placed.{turn_at}
@@ -20,7 +21,7 @@ use Rattle.gm_pending.specs.Arcs.{Arc}
 use Rattle.gm_pending.specs.Arcs.End.{Old}
 use Rattle.gm_pending.specs.declared.rewrite.Arcs.{Arcs}
 use Rattle.gm_pending.specs.declared.rewrite.Arcs.TheVariants.{Freed, Made}
-use Rattle.gm_pending.specs.Collected.{RewriteOf, as_list, concat_below, slot_in, rewrite_of, end_of, labels, is_same, is_steady, freed_by, arc_by, arc_at, arcs_at, arcs_in, all_arcs, removed_at, removed_of, removed_in, all_removed}
+use Rattle.gm_pending.specs.Collected.{RewriteOf, as_list, concat_below, slot_in, rewrite_of, end_of, labels, is_steady, freed_by, arc_by, arc_at, arcs_at, arcs_in, all_arcs, removed_at, removed_of, removed_in, all_removed}
 use Rattle.gm_pending.specs.EditLists.{EditLists, AreAddedValues, AreArcs, AreDistinct, AreNewValues, AreRemoved, AreEditsOf, IsOldEnd, IsResultEnd, IsFreed, IsThere, IsNewArc, end_name}
 use Rattle.gm_pending.specs.Results.{PendingOf, IsPrepared, IsRightInstance, rule_in, scene_in}
 use Rattle.gm_pending.proofs.Concat.{concat_contains, contains_concat, list_contains, contains_list, length_concat, length_same, length_list, distinct_concat, distinct_list}

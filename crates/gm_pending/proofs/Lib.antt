@@ -33,4 +33,5 @@ pub mod Ends
 pub mod StepArcs
 pub mod Unremoved
 pub mod Writing
+pub mod ManyArcs
 pub mod Collected

@@ -1,13 +1,13 @@
 -- The edits of an application, node by node, label by label and position by position: they are told by its rule and its instances alone. No public clause cites this module.
-use Rattle.std.specs.Prelude.{◌≡◌, ℕ, zero, suc, ◌+◌, ◌-◌, ◌*◌, ◌≤◌, if◌then◌else◌, nat_lt, Bool, true, false, not, ◌&&◌, ◌==◌, List, [], ◌∷◌, ◌++◌, drop, length, Option, Some, None, slice_index_or}
+use Rattle.std.specs.Prelude.{◌≡◌, ℕ, zero, suc, ◌+◌, ◌-◌, ◌*◌, ◌≤◌, if◌then◌else◌, nat_lt, Bool, List, [], ◌∷◌, ◌++◌, drop, length, Option, Some, None, slice_index_or}
 use Rattle.std.specs.Option.{option_map}
 use Rattle.gm_model.specs.declared.rule.RuleTable.{RuleTable}
-use Rattle.gm_model.specs.declared.rule.Side.TheVariants.{Left, Right}
 use Rattle.gm_model.specs.declared.schema.Schema.{Schema}
 use Rattle.gm_model.specs.declared.step.Step.{Step}
 use Rattle.gm_model.specs.declared.step.Step.TheVariants.{Absent, Exp, Imp}
-use Rattle.gm_model.specs.Rules.{Rule, rule_of, has_word, is_removed, step, width}
+use Rattle.gm_model.specs.Rules.{Rule, rule_of, is_removed, width}
 use Rattle.gm_arena.specs.declared.slot.Slot.{Slot}
+use Rattle.gm_plan.specs.Changes as changes
 use Rattle.gm_plan.specs.Placed.{Placed, turn_at}
 use Rattle.gm_plan.specs.Plans.{IsLeftCount, IsPlanned}
 use Rattle.gm_pending.specs.Arcs.{Arc}
@@ -54,17 +54,6 @@ pub record IsFitted (schema : Schema) (rewrite : RewriteOf) : Type 0 where
 
 -- ---- the edits
 
-abbrev pub is_same : Step → Step → Bool
-is_same Absent Absent = true
-is_same Absent (Exp z) = false
-is_same Absent (Imp k) = false
-is_same (Exp y) Absent = false
-is_same (Exp y) (Exp z) = y == z
-is_same (Exp y) (Imp k) = false
-is_same (Imp m) Absent = false
-is_same (Imp m) (Exp z) = false
-is_same (Imp m) (Imp k) = m == k
-
 module _ (rewrite : RewriteOf) where
   abbrev pub rule_at : Rule
   rule_at = rule_of rewrite.table
@@ -73,22 +62,19 @@ module _ (rewrite : RewriteOf) where
   abbrev pub end_of : ℕ → ℕ → End
   end_of x p = if nat_lt x rewrite.placed.nodes then Old (slot_in rewrite.placed x p) else New ((x - rewrite.placed.nodes) * rewrite.placed.positions + p)
 
-  -- a left step of node x, where it leads to darts that are removed
+  -- what the rule changes
+
   abbrev pub freed_by : ℕ → Step → Step
-  freed_by x Absent = Absent
-  freed_by x (Exp y) = if is_removed rule_at y then Exp y else Absent
-  freed_by x (Imp m) = if is_removed rule_at x then Imp m else Absent
+  freed_by = changes.freed_by rule_at
 
   abbrev pub freed_step : ℕ → ℕ → Step
-  freed_step x i = if has_word rule_at Left x then freed_by x (step rule_at Left x i) else Absent
+  freed_step = changes.freed_step rule_at
 
-  -- the step is the same on both sides
   abbrev pub is_steady : ℕ → ℕ → Bool
-  is_steady x i = has_word rule_at Left x && is_same (step rule_at Left x i) (step rule_at Right x i)
+  is_steady = changes.is_steady rule_at
 
-  -- a right step that isn't steady
   abbrev pub made_step : ℕ → ℕ → Step
-  made_step x i = if has_word rule_at Right x && not (is_steady x i) then step rule_at Right x i else Absent
+  made_step = changes.made_step rule_at
 
   -- the step whose arcs are written
   abbrev pub written_step : Arcs → ℕ → ℕ → Step

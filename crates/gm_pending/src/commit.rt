@@ -149,10 +149,7 @@ impl Rewrite<'_> {
     {
         let from = self.slots_of(node, slots);
         let to = self.slots_of(other, slots);
-        for position in 0..self.positions() {
-            let at = position as usize;
-            arena.set_alpha(from[at], label, to[at], steps);
-        }
+        arena.set_alphas(from, label, to, steps);
     }
 
     /// Gives each dart of the node a neighbour of the same node: that at the position to which its

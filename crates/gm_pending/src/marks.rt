@@ -98,6 +98,7 @@ impl Marks {
     }
 
     /// Adds a dart, unless it is there. Where memory was wanting, nothing is added.
+    #[inline]
     pub(crate) fn mark(&mut self, at: At, decider: u32) -> Result<(), OutOfMemory>
         ensures ok { OnOk result (IsMarkedMore self.old self.new at decider) }
         ensures err { OnErr result (self.new ≡ self.old) }
@@ -125,6 +126,7 @@ impl Marks {
     }
 
     /// Adds a dart to the darts and to their index.
+    #[cold]
     fn add_to_many(&mut self, entry: Reached) -> Result<(), OutOfMemory>
         requires key { entry.key ≡ key_of entry.at }
         requires absent { HasKey self.old (key_of entry.at) → ⊥ }

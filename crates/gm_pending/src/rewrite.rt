@@ -4,7 +4,7 @@ ghost use Rattle.gm_model.specs.declared.rule.Side.TheVariants.{Left, Right};
 ghost use Rattle.gm_model.specs.declared.step.Step.{Step};
 ghost use Rattle.gm_model.specs.Rules.{has_word, is_removed};
 ghost use Rattle.gm_model.specs.Unfolding.{added_nodes};
-ghost use Rattle.gm_pending.specs.Collected.{rule_at, end_of, is_steady, freed_step, made_step, written_step, slot_in, left_slots_of, left_slots, made_in, AreSlots};
+ghost use Rattle.gm_pending.specs.Collected.{rule_at, end_of, freed_step, made_step, written_step, slot_in, left_slots_of, left_slots, made_in, AreSlots};
 ghost use Rattle.gm_pending.specs.Written.{HasSlot, slot_of};
 
 use gm_arena::Slot;
@@ -82,39 +82,16 @@ impl Rewrite<'_> {
         requires label { label ≤ self.now.dim }
         ensures { result ≡ freed_step self.now node label }
     {
-        if node >= self.plan.left_nodes() {
-            return Step::Absent;
-        }
-        let step = self.plan.step(Side::Left, node, label);
-        let is_freed = match step {
-            Step::Absent => false,
-            Step::Exp(other) => self.is_removed(other),
-            Step::Imp(_) => self.is_removed(node),
-        };
-        if is_freed { step } else { Step::Absent }
+        self.plan.freed_step(node, label)
     }
 
-    /// The right step, unless it is steady.
+    /// The right step, unless it is the same on the left.
     fn made_step(&self, node: u8, label: u8) -> Step
         requires node { node < length (rule_at self.now).nodes }
         requires label { label ≤ self.now.dim }
         ensures { result ≡ made_step self.now node label }
     {
-        if self.is_right(node) && !self.is_steady(node, label) {
-            self.plan.step(Side::Right, node, label)
-        } else {
-            Step::Absent
-        }
-    }
-
-    /// Whether the step is the same on both sides.
-    fn is_steady(&self, node: u8, label: u8) -> bool
-        requires node { node < length (rule_at self.now).nodes }
-        requires label { label ≤ self.now.dim }
-        ensures { result ≡ is_steady self.now node label }
-    {
-        node < self.plan.left_nodes()
-            && self.plan.step(Side::Left, node, label) == self.plan.step(Side::Right, node, label)
+        self.plan.made_step(node, label)
     }
 
     /// The slot of a left node.
@@ -156,6 +133,7 @@ impl Rewrite<'_> {
     pub(crate) fn slots_of<'s>(&self, node: u8, slots: &'s [Slot]) -> &'s [Slot]
         requires slots { AreSlots self.now slots.now }
         requires made { (p : ℕ) → p < self.now.placed.positions → HasSlot (made_in self.now slots.now) (end_of self.now node p) }
+        ensures some { 1 ≤ self.now.placed.positions }
         ensures long { length result.now ≡ self.now.placed.positions }
         ensures slots { (p : ℕ) → p < self.now.placed.positions → slice_index_or result.now p (record { at = 0 }) ≡ slot_of (made_in self.now slots.now) (end_of self.now node p) }
     {

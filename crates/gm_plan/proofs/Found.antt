@@ -9,7 +9,7 @@ use Rattle.gm_model.specs.declared.schema.Schema.{Schema}
 use Rattle.gm_model.specs.declared.step.Step.{Step}
 use Rattle.gm_model.specs.declared.step.Step.TheVariants.{Exp}
 use Rattle.gm_model.specs.Matches.{IsPathTo, IsPathBefore}
-use Rattle.gm_model.specs.Rules.{Rule, has_word, IsLinked}
+use Rattle.gm_model.specs.Rules.{Rule, has_word, step, IsLinked}
 use Rattle.gm_model.specs.Structure.{Leads, IsJoined, any_label}
 use Rattle.gm_plan.specs.Paths.{IsLastLink, ArePaths}
 use Rattle.gm_plan.specs.Plans.{IsPlanned, AreSteps}
@@ -47,8 +47,8 @@ module _ (schema : Schema) (rule : Rule) (planned : IsPlanned schema rule) where
 
     step_is_linked : (x i y : ℕ) → row_step rows x i ≡ Exp y → IsLinked rule.left_links x i y
     step_is_linked x i y e =
-        let within : (x < length rule.nodes) × (i < 8) = row_step_within rule Left (length rule.nodes) rows are x i y e in
-        step_linked rule Left x i y (sym (row_step_is rule Left (length rule.nodes) rows are x i within.0 within.1) ∙ e)
+        let within : (x < length rule.nodes) × (i < 8) = row_step_within (step rule Left) (length rule.nodes) rows are x i y e in
+        step_linked rule Left x i y (sym (row_step_is (step rule Left) (length rule.nodes) rows are x i within.0 within.1) ∙ e)
 
     pub labels_below : (labels : ℕ) → labels ≡ schema.dim + 1 → HasLabelsBelow labels rows
     labels_below labels is x i y e = omega (arith, is, (in_range x i y (step_is_linked x i y e)).2)
@@ -64,7 +64,7 @@ module _ (schema : Schema) (rule : Rule) (planned : IsPlanned schema rule) where
     lead_steps x [] y l = l
     lead_steps x (i ∷ path) y (z, e, l) =
         let range : IsTrue (has_word rule Left x) × IsTrue (has_word rule Left z) × (i ≤ schema.dim) = in_range x i z e in
-        (z, row_step_is rule Left (length rule.nodes) rows are x i (word_below rule Left x range.0) (omega (arith, range.2)) ∙ linked_step schema rule planned.accepted.in_range planned.accepted.incidence Left x i z e, lead_steps z path y l)
+        (z, row_step_is (step rule Left) (length rule.nodes) rows are x i (word_below rule Left x range.0) (omega (arith, range.2)) ∙ linked_step schema rule planned.accepted.in_range planned.accepted.incidence Left x i z e, lead_steps z path y l)
 
     lead_word : (x : ℕ) (path : List ℕ) (y : ℕ) → Leads rule.left_links x path y → IsTrue (has_word rule Left x) → IsTrue (has_word rule Left y)
     lead_word x [] y l h = subst (λ w. IsTrue (has_word rule Left w)) l h

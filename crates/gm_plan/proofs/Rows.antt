@@ -1,23 +1,21 @@
 -- What a table of rows has at a node and a label.
-use Rattle.std.proofs.Common.{◌≡◌, ℕ, zero, suc, ◌+◌, ◌<◌, inl, inr, List, [], ◌∷◌, ◌++◌, length, Option, Some, None, get_or, refl, sym, subst, ◌∙◌, arith}
+use Rattle.std.proofs.Common.{◌≡◌, ◌≢◌, ℕ, zero, suc, ◌+◌, ◌<◌, inl, inr, List, [], ◌∷◌, ◌++◌, length, Option, Some, None, get_or, set, refl, ap, sym, subst, ◌∙◌, arith}
 use Rattle.std.proofs.lemmas.Bool.{cases_lt}
-use Rattle.std.proofs.lemmas.List.{get_or_past, length_push}
+use Rattle.std.proofs.lemmas.List.{get_or-set_other, get_or-set_same, get_or_past, length-set, length_push}
 use Rattle.std.proofs.lemmas.Option.{get_or_from_slice_get, same_Some, slice_get-get_or, slice_get_within}
 use Rattle.std.specs.List.{slice_get}
 use Rattle.std.specs.Option.{option_and_then}
-use Rattle.gm_model.specs.declared.rule.Side.{Side}
 use Rattle.gm_model.specs.declared.step.Step.{Step}
 use Rattle.gm_model.specs.declared.step.Step.TheVariants.{Absent, Exp}
-use Rattle.gm_model.specs.Rules.{Rule, step}
-use Rattle.gm_plan.specs.Plans.{AreSteps}
+use Rattle.gm_plan.specs.Plans.{AreRows}
 use Rattle.gm_plan.specs.Searches.{row_step}
 
 cell : (rows : List (List Step)) (x i : ℕ) (row : Option (List Step)) (s : Step) → slice_get rows x ≡ row → option_and_then (λ row. slice_get row i) row ≡ Some s → row_step rows x i ≡ s
 cell rows x i None s e f = absurd (cc)
 cell rows x i (Some row) s e f = rw (get_or_from_slice_get rows x row [] e) (get_or_from_slice_get row i s Absent f)
 
-pub row_step_is : (rule : Rule) (side : Side) (count : ℕ) (rows : List (List Step)) → AreSteps rule side count rows → (x i : ℕ) → x < count → i < 8 → row_step rows x i ≡ step rule side x i
-row_step_is rule side count rows are x i h k = cell rows x i (slice_get rows x) (step rule side x i) refl (are.here x i h k)
+pub row_step_is : (f : ℕ → ℕ → Step) (count : ℕ) (rows : List (List Step)) → AreRows f count rows → (x i : ℕ) → x < count → i < 8 → row_step rows x i ≡ f x i
+row_step_is f count rows are x i h k = cell rows x i (slice_get rows x) (f x i) refl (are.here x i h k)
 
 absent_not : (y : ℕ) → Absent ≡ Exp y → ⊥
 absent_not y e = cc
@@ -35,9 +33,9 @@ row_new [] row (suc x) e = absurd (omega arith)
 row_new (r ∷ rows) row zero e = absurd (omega arith)
 row_new (r ∷ rows) row (suc x) e = row_new rows row x (omega arith)
 
-pub row_more : (rule : Rule) (side : Side) (count : ℕ) (rows : List (List Step)) (row : List Step) → AreSteps rule side count rows → length row ≡ 8 →
-    ((i : ℕ) → i < 8 → slice_get row i ≡ Some (step rule side count i)) → AreSteps rule side (count + 1) (rows ++ row ∷ [])
-row_more rule side count rows row are long here = record {
+pub row_more : (f : ℕ → ℕ → Step) (count : ℕ) (rows : List (List Step)) (row : List Step) → AreRows f count rows → length row ≡ 8 →
+    ((i : ℕ) → i < 8 → slice_get row i ≡ Some (f count i)) → AreRows f (count + 1) (rows ++ row ∷ [])
+row_more f count rows row are long here = record {
   long = omega (arith, length_push rows row, are.long);
   row_long = λ x r e. elim (cases_lt x (length rows)) [
     | inl b ↦ are.row_long x r (sym (row_old rows row x b) ∙ e)
@@ -54,6 +52,24 @@ row_more rule side count rows row are long here = record {
   ];
 }
 
+-- one cell of a row more
+pub cell_more : (f : ℕ → Step) (row : List Step) (n : ℕ) (s : Step) → n < length row → s ≡ f n →
+    ((i : ℕ) → i < n → slice_get row i ≡ Some (f i)) → (i : ℕ) → i < n + 1 → slice_get (set row n s) i ≡ Some (f i)
+cell_more f row n s within is here i b = elim (cases_lt i n) [
+  | inl c ↦
+      let other : i ≢ n = omega (arith, c) in
+      there (get_or-set_other row n i s Absent other ∙ get_or_from_slice_get row i (f i) Absent (here i c))
+  | inr c ↦
+      let last : i ≡ n = omega (arith, b, c) in
+      there (rw last (get_or-set_same row n s Absent within ∙ is))
+]
+  where
+    inside : i < length (set row n s)
+    inside = rw length-set (omega (arith, b, within))
+
+    there : get_or (set row n s) i Absent ≡ f i → slice_get (set row n s) i ≡ Some (f i)
+    there e = slice_get-get_or (set row n s) i Absent inside ∙ ap Some e
+
 -- ---- link steps
 
 -- a link step stands in a row
@@ -63,8 +79,8 @@ row_below rows x i y e = elim (cases_lt x (length rows)) [
   | inr b ↦ absurd (absent_not y (subst (λ row. get_or row i Absent ≡ Exp y) (get_or_past rows x [] b) e))
 ]
 
-pub row_step_within : (rule : Rule) (side : Side) (count : ℕ) (rows : List (List Step)) → AreSteps rule side count rows → (x i y : ℕ) → row_step rows x i ≡ Exp y → (x < count) × (i < 8)
-row_step_within rule side count rows are x i y e = (subst (λ n. x < n) are.long within, label)
+pub row_step_within : (f : ℕ → ℕ → Step) (count : ℕ) (rows : List (List Step)) → AreRows f count rows → (x i y : ℕ) → row_step rows x i ≡ Exp y → (x < count) × (i < 8)
+row_step_within f count rows are x i y e = (subst (λ n. x < n) are.long within, label)
   where
     within : x < length rows
     within = row_below rows x i y e

@@ -11,6 +11,7 @@ use Rattle.gm_model.specs.Acceptance.{IsAccepted}
 use Rattle.gm_model.specs.Rules.{Rule, has_word, step}
 use Rattle.gm_model.specs.Structure.{IsWithinLimits}
 use Rattle.gm_model.specs.Unfolding.{added_nodes}
+use Rattle.gm_plan.specs.Changes.{freed_step, made_step}
 use Rattle.gm_plan.specs.Counts.{removed_nodes}
 use Rattle.gm_plan.specs.Paths.{ArePaths}
 
@@ -29,11 +30,15 @@ pub record IsPlanned (schema : Schema) (rule : Rule) : Type 0 where
 
 -- ---- the tables
 
--- the rows have the steps of the first nodes at the labels 0 to 7
-pub record AreSteps (rule : Rule) (side : Side) (count : ℕ) (rows : List (List Step)) : Type 0 where
+-- the rows have what `f` gives the first nodes at the labels 0 to 7
+pub record AreRows (f : ℕ → ℕ → Step) (count : ℕ) (rows : List (List Step)) : Type 0 where
   pub long : length rows ≡ count
   pub row_long : (x : ℕ) (row : List Step) → slice_get rows x ≡ Some row → length row ≡ 8
-  pub here : (x i : ℕ) → x < count → i < 8 → option_and_then (λ row. slice_get row i) (slice_get rows x) ≡ Some (step rule side x i)
+  pub here : (x i : ℕ) → x < count → i < 8 → option_and_then (λ row. slice_get row i) (slice_get rows x) ≡ Some (f x i)
+
+-- the rows have the steps of the first nodes on the side
+abbrev pub AreSteps : Rule → Side → ℕ → List (List Step) → Type 0
+AreSteps rule side = AreRows (step rule side)
 
 -- the nodes below the count are the left nodes
 abbrev pub IsLeftCount : Rule → ℕ → Type 0
@@ -44,9 +49,11 @@ pub record AreCounts (rule : Rule) (left added removed : ℕ) : Type 0 where
   pub added_is : added ≡ added_nodes rule
   pub removed_is : removed ≡ removed_nodes rule
 
-pub record IsCompiled (schema : Schema) (rule : Rule) (left right : List (List Step)) (paths : List Link) (left_nodes added removed : ℕ) : Type 0 where
+pub record IsCompiled (schema : Schema) (rule : Rule) (left right made freed : List (List Step)) (paths : List Link) (left_nodes added removed : ℕ) : Type 0 where
   pub planned : IsPlanned schema rule
   pub left_steps : AreSteps rule Left (length rule.nodes) left
   pub right_steps : AreSteps rule Right (length rule.nodes) right
+  pub made_steps : AreRows (made_step rule) (length rule.nodes) made
+  pub freed_steps : AreRows (freed_step rule) (length rule.nodes) freed
   pub are_paths : ArePaths rule paths
   pub are_counts : AreCounts rule left_nodes added removed

@@ -79,4 +79,18 @@ impl Instances {
     {
         self.turns[position as usize * self.places as usize + place as usize]
     }
+    /// The vectors that the instances were made of.
+    pub fn into_rows(self) -> (Vec<Slot>, Vec<u32>)
+        ensures slots { result.0.items ≡ self.slots }
+        ensures turns { result.1.items ≡ self.turns }
+    {
+        let Instances {
+            slots,
+            turns,
+            positions: _,
+            nodes: _,
+            places: _,
+        } = self;
+        (slots, turns)
+    }
 }

@@ -2,6 +2,7 @@
 //! node; and where an application's instances lie.
 #![tactic(auto)]
 
+mod changes;
 mod compiler;
 mod instances;
 mod laws;

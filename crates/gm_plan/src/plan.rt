@@ -1,6 +1,7 @@
 ghost use Rattle.std.specs.Prelude.{◌≡◌, ℕ, ◌<◌, ◌≤◌, ◌↔◌, length, MatchOption, IfOk, IsTrue};
 ghost use Rattle.std.specs.List.{Contains};
 
+use crate::changes::{freed_steps, made_steps};
 use crate::paths::{Paths, least_paths, link_to};
 use crate::sides::{Row, count_added, count_left, count_removed, side_steps};
 use gm_model::{Link, OutOfMemory, RuleTable, Schema, Side, Step};
@@ -17,6 +18,8 @@ pub struct Plan<'b> {
     rule: &'b RuleTable,
     left: Vec<Row>,
     right: Vec<Row>,
+    made: Vec<Row>,
+    freed: Vec<Row>,
     paths: Paths,
     left_nodes: u8,
     added: u8,
@@ -35,13 +38,14 @@ impl<'b> Model for Plan<'b> {
 
     ghost view = { λ a. record { schema = a.schema.now; table = a.rule.now } };
 
-    ghost invariant = { λ a. IsCompiled a.schema.now (rule_of a.rule.now) a.left.items a.right.items a.paths.items a.left_nodes a.added a.removed };
+    ghost invariant = { λ a. IsCompiled a.schema.now (rule_of a.rule.now) a.left.items a.right.items a.made.items a.freed.items a.paths.items a.left_nodes a.added a.removed };
 }
 
 impl<'b> Plan<'b> {
     ghost use Rattle.gm_model.specs.declared.rule.Side.TheVariants.{Left};
     ghost use Rattle.gm_model.specs.Rules.{rule_of, has_word, link_from, step};
     ghost use Rattle.gm_model.specs.Unfolding.{added_nodes};
+    ghost use Rattle.gm_plan.specs.Changes.{freed_step, made_step};
     ghost use Rattle.gm_plan.specs.Counts.{removed_nodes};
     ghost use Rattle.gm_plan.specs.Paths.{ArePaths, IsLastLink};
     ghost use Rattle.gm_plan.specs.Plans.{IsPlanned, IsLeftCount, plan_of};
@@ -57,12 +61,16 @@ impl<'b> Plan<'b> {
     {
         let left = side_steps(alloc, rule, Side::Left)?;
         let right = side_steps(alloc, rule, Side::Right)?;
+        let made = made_steps(alloc, rule, left.as_slice(), right.as_slice())?;
+        let freed = freed_steps(alloc, rule, left.as_slice())?;
         let paths = least_paths(alloc, schema, rule, left.as_slice())?;
         Ok(Plan {
             schema,
             rule,
             left,
             right,
+            made,
+            freed,
             paths,
             left_nodes: count_left(rule),
             added: count_added(rule),
@@ -125,6 +133,26 @@ impl<'b> Plan<'b> {
             Side::Left => self.left[node as usize][label as usize],
             Side::Right => self.right[node as usize][label as usize],
         }
+    }
+
+    /// The right step of the node at the label, unless it is the same on the left: an application
+    /// makes its arcs.
+    pub fn made_step(&self, node: u8, label: u8) -> Step
+        requires node { node < length (rule_of self.now.table).nodes }
+        requires label { label < 8 }
+        ensures { result ≡ made_step (rule_of self.now.table) node label }
+    {
+        self.made[node as usize][label as usize]
+    }
+
+    /// The left step of the node at the label, where it leads to darts that are removed: an
+    /// application frees its arcs.
+    pub fn freed_step(&self, node: u8, label: u8) -> Step
+        requires node { node < length (rule_of self.now.table).nodes }
+        requires label { label < 8 }
+        ensures { result ≡ freed_step (rule_of self.now.table) node label }
+    {
+        self.freed[node as usize][label as usize]
     }
 
     /// The last link of the least path to each left node but the hooks, in an order in which each

@@ -1,5 +1,5 @@
 -- The first rule with a name, where one more rule stands behind others.
-use Rattle.std.proofs.Common.{◌≡◌, ℕ, zero, suc, ◌+◌, ◌^◌, ◌≤◌, ◌<◌, map, get_or, slice_get, min, Bool, true, false, cond, leb, List, [], ◌∷◌, ◌++◌, length, take, Option, Some, None, is_some, refl, sym, ap, ◌∙◌, arith}
+use Rattle.std.proofs.Common.{◌≡◌, ℕ, zero, suc, ◌+◌, ◌^◌, ◌≤◌, ◌<◌, map, get_or, slice_get, min, Bool, true, false, cond, leb, List, [], ◌∷◌, ◌++◌, length, take, Option, Some, None, IfSome, is_some, refl, sym, ap, ◌∙◌, arith}
 use Rattle.std.proofs.lemmas.Bool.{leb-true, leb-false}
 use Rattle.std.proofs.lemmas.Iterator.Adapters.{position_from-zero}
 use Rattle.std.proofs.lemmas.List.{take_all, length-take, length-map}
@@ -153,10 +153,20 @@ index_below rules name j e =
     let there : j < 0 + length (take (2 ^ 16) rules) = from_within test 0 j (take (2 ^ 16) rules) (sym (position_from-zero test (take (2 ^ 16) rules)) ∙ e) in
     omega (arith, there, length-take {A = Rule})
 
-pub index_within : (rules : List RuleTable) (name : List ℕ) (j : ℕ) → index_of (map rule_of rules) name ≡ Some j → j < length rules
+index_within : (rules : List RuleTable) (name : List ℕ) (j : ℕ) → index_of (map rule_of rules) name ≡ Some j → j < length rules
 index_within rules name j e =
     let there : j < length (map rule_of rules) = index_below (map rule_of rules) name j e in
     omega (arith, there, length-map rules rule_of)
+
+pub within : (rules : List RuleTable) (name : List ℕ) (found : Option ℕ) → found ≡ index_of (map rule_of rules) name → IfSome found (λ k. k < length rules)
+within rules name None e = tt
+within rules name (Some k) e = index_within rules name k (sym e)
+
+-- where the rules are few, all have an index
+pub index_of_few : (rules : List RuleTable) (name : List ℕ) → length rules ≤ 8 → index_of (map rule_of rules) name ≡ at rules name
+index_of_few rules name few =
+    let all : take (2 ^ 16) rules ≡ rules = take_all (2 ^ 16) rules (omega (arith, few)) in
+    index_is rules name ∙ ap (λ (listed : List RuleTable). at listed name) all
 
 pub get_map : (rules : List RuleTable) (j : ℕ) (rule : RuleTable) → j < length rules → rule ≡ get_or rules j rule → slice_get (map rule_of rules) j ≡ Some (rule_of rule)
 get_map [] j rule inside is = absurd (omega arith)

@@ -1,27 +1,20 @@
 //! The lines of a text, compared with a book one after another.
-ghost use Rattle.std.specs.Prelude.{◌≡◌, ◌<◌, ◌++◌, ◌∷◌, ℕ, List, [], Some, length, map, OnOk, IfOk, IfErr, IfSome, bytes_eq};
-ghost use Rattle.std.specs.HashMap as hash;
+ghost use Rattle.std.specs.Prelude.{◌≡◌, ◌++◌, ◌∷◌, List, [], Some, map, OnOk, IfOk, IfErr};
 ghost use Rattle.gm_model.specs.Rules.{rule_of};
-ghost use Rattle.gm_script.specs.ScriptText.{index_of};
 ghost use Rattle.gm_script.specs.Comparing.{line_of_rule, line_for, lines_for};
 ghost use Rattle.gm_script.specs.Faults.{Compares};
 ghost use Rattle.gm_script.specs.Reading.{HeldLine, IsInText};
 
 use crate::fault::ScriptFault;
-use crate::reader::DraftLine;
+use crate::reader::{DraftLine, MOST_LINES};
+use crate::rules::RulesByName;
 use crate::values::params_of;
 use gm_model::{Items, Line, RuleTable};
 use std::alloc::Global;
-use std::collections::HashMap;
 use std::marker::Model;
 
-fn index_named(rules: &[RuleTable], indices: &HashMap<&[u8], u16>, name: &[u8]) -> Option<u16>
-    requires { (bytes : List ℕ) → hash.get_by (λ k. bytes_eq bytes k.now) indices.now ≡ index_of (map rule_of rules.now) bytes }
-    ensures index { result ≡ index_of (map rule_of rules.now) name.now }
-    ensures within { IfSome result (λ k. k < length rules.now) }
-{
-    indices.get(name).copied()
-}
+/// The bytes of the shortest line, `apply a`, and a blank behind it.
+const LEAST_LINE_BYTES: usize = 8;
 
 /// The line, whose rule has this index.
 fn line_with(draft: DraftLine, index: u16, rule: &RuleTable) -> Result<Line, ScriptFault>
@@ -41,19 +34,13 @@ fn line_with(draft: DraftLine, index: u16, rule: &RuleTable) -> Result<Line, Scr
     })
 }
 
-fn line_of(
-    bytes: &[u8],
-    draft: DraftLine,
-    rules: &[RuleTable],
-    indices: &HashMap<&[u8], u16>,
-) -> Result<Line, ScriptFault>
+fn line_of(bytes: &[u8], draft: DraftLine, rules: &RulesByName<'_>) -> Result<Line, ScriptFault>
     requires in_text { IsInText bytes.now draft.name }
-    requires indices { (name : List ℕ) → hash.get_by (λ k. bytes_eq name k.now) indices.now ≡ index_of (map rule_of rules.now) name }
     ensures { Compares (λ line. line) result (line_for bytes.now (map rule_of rules.now) draft) }
 {
     let name = draft.name;
-    match index_named(rules, indices, &bytes[name.start..name.end]) {
-        Some(index) => line_with(draft, index, &rules[index as usize]),
+    match rules.index_of(&bytes[name.start..name.end]) {
+        Some(index) => line_with(draft, index, &rules.as_slice()[index as usize]),
         None => Err(ScriptFault::UnknownRule { place: name.start }),
     }
 }
@@ -77,14 +64,17 @@ impl Model for Compared {
 }
 
 impl Compared {
-    /// No line is compared.
-    pub(crate) fn new(alloc: Global) -> Compared
-        ensures { result ≡ Ok [] }
+    /// No line is compared. There is room for the lines of any text of this length.
+    pub(crate) fn new(alloc: Global, length: usize) -> Result<Compared, ScriptFault>
+        ensures ok { IfOk result (λ compared. compared ≡ Ok []) }
+        ensures err { IfErr result (λ fault. fault ≡ ScriptFault.OutOfMemory) }
     {
-        Compared {
-            lines: Vec::new(alloc),
+        // Behind each line but the last stands a byte at least that parts it from the next `apply`.
+        let most = (length / LEAST_LINE_BYTES + 1).min(MOST_LINES);
+        Ok(Compared {
+            lines: Vec::with_capacity(alloc, most)?,
             fault: None,
-        }
+        })
     }
 
     /// Compares a further line. Behind one that disagrees none is kept.
@@ -92,11 +82,9 @@ impl Compared {
         &mut self,
         bytes: &[u8],
         draft: DraftLine,
-        rules: &[RuleTable],
-        indices: &HashMap<&[u8], u16>,
+        rules: &RulesByName<'_>,
     ) -> Result<(), ScriptFault>
         requires in_text { IsInText bytes.now draft.name }
-        requires indices { (name : List ℕ) → hash.get_by (λ k. bytes_eq name k.now) indices.now ≡ index_of (map rule_of rules.now) name }
         ensures ok { (before : List HeldLine) → Compares (λ lines. lines) self.old (lines_for bytes.now (map rule_of rules.now) before)
             → OnOk result (Compares (λ lines. lines) self.new (lines_for bytes.now (map rule_of rules.now) (before ++ draft ∷ []))) }
         ensures err { IfErr result (λ fault. fault ≡ ScriptFault.OutOfMemory) }
@@ -104,7 +92,7 @@ impl Compared {
         if self.fault.is_some() {
             return Ok(());
         }
-        match line_of(bytes, draft, rules, indices) {
+        match line_of(bytes, draft, rules) {
             Ok(line) => self.lines.push(line)?,
             Err(fault) => self.fault = Some(fault),
         }

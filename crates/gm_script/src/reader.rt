@@ -14,7 +14,7 @@ use std::mem;
 
 const MOST_NAME_BYTES: usize = 32;
 
-const MOST_LINES: usize = 100_000;
+pub(crate) const MOST_LINES: usize = 100_000;
 
 /// Why a text's lines can't be read: its first fault from left to right, or want of memory.
 #[derive(Drop)]

@@ -2,24 +2,22 @@
 //!
 //! The reader knows the grammar and its limits alone. Each line is compared with the book as soon
 //! as it is whole, and where one disagrees, the text is read on: a fault of the text comes first.
-ghost use Rattle.std.specs.Prelude.{◌≡◌, ◌∷◌, ℕ, List, [], length, map, IfOk, IfErr, MatchOption, bytes_eq};
-ghost use Rattle.std.specs.HashMap as hash;
+ghost use Rattle.std.specs.Prelude.{◌≡◌, ◌∷◌, [], length, map, IfOk, IfErr, MatchOption};
 ghost use Rattle.gm_model.specs.Rules.{rule_of};
 ghost use Rattle.gm_model.specs.Tokens.{EndAt};
 ghost use Rattle.gm_text.specs.Lexing.{rest_of};
-ghost use Rattle.gm_script.specs.ScriptText.{index_of, ScriptText};
+ghost use Rattle.gm_script.specs.ScriptText.{ScriptText};
 ghost use Rattle.gm_script.specs.Faults.{IsFaultOf};
 ghost use Rattle.gm_script.specs.Reading.{IsNext, IsStray};
 
 use crate::comparing::Compared;
 use crate::fault::ScriptFault;
 use crate::reader::{Reader, TextFault};
-use crate::rules::indices_by_name;
+use crate::rules::RulesByName;
 use crate::sight::sight_of;
-use gm_model::{Book, Items, Line, RuleTable, Script};
+use gm_model::{Book, Items, Line, Script};
 use gm_text::{Lexer, Token};
 use std::alloc::Global;
-use std::collections::HashMap;
 
 fn next_token(lexer: &mut Lexer<'_>) -> Result<Option<Token>, TextFault>
     ensures text { lexer.new.text ≡ lexer.old.text }
@@ -34,30 +32,27 @@ fn next_token(lexer: &mut Lexer<'_>) -> Result<Option<Token>, TextFault>
     }
 }
 
-/// The lines of the script that the text stands for under these rules, whose indices by name are
-/// given.
+/// The lines of the script that the text stands for under these rules.
 fn read_lines(
     alloc: Global,
     bytes: &[u8],
-    rules: &[RuleTable],
-    indices: &HashMap<&[u8], u16>,
+    rules: &RulesByName<'_>,
 ) -> Result<Vec<Line>, ScriptFault>
-    requires indices { (name : List ℕ) → hash.get_by (λ k. bytes_eq name k.now) indices.now ≡ index_of (map rule_of rules.now) name }
     ensures script { IfOk result (λ lines. ScriptText bytes.now (map rule_of rules.now) lines.items) }
     ensures fault { IfErr result (IsFaultOf bytes.now (map rule_of rules.now)) }
 {
     let mut lexer = Lexer::new(bytes);
     let mut reader = Reader::new(alloc);
-    let mut compared = Compared::new(alloc);
+    let mut compared = Compared::new(alloc, bytes.len())?;
     while let Some(token) = next_token(&mut lexer)? {
         let sight = sight_of(&lexer, &token);
         if let Some(line) = reader.end_line(sight) {
-            compared.add(bytes, line, rules, indices)?;
+            compared.add(bytes, line, rules)?;
         }
         reader.take(sight, token)?;
     }
     if let Some(last) = reader.finish(lexer.place())? {
-        compared.add(bytes, last, rules, indices)?;
+        compared.add(bytes, last, rules)?;
     }
     compared.finish()
 }
@@ -69,9 +64,8 @@ pub fn read_script(alloc: Global, bytes: &[u8], book: &Book) -> Result<Script, S
     ensures script { IfOk result (λ script. ScriptText bytes.now (map rule_of book.now.rules) script.lines) }
     ensures fault { IfErr result (IsFaultOf bytes.now (map rule_of book.now.rules)) }
 {
-    let rules = book.rules.as_slice();
-    let indices = indices_by_name(alloc, rules)?;
-    let lines = read_lines(alloc, bytes, rules, &indices)?;
+    let rules = RulesByName::new(alloc, book.rules.as_slice())?;
+    let lines = read_lines(alloc, bytes, &rules)?;
     Ok(Script {
         lines: Items::new(lines),
     })

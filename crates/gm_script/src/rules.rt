@@ -1,18 +1,101 @@
 //! The rules of a book by their names.
-ghost use Rattle.std.specs.Prelude.{◌≡◌, ℕ, List, map, bytes_eq, IfOk};
+ghost use Rattle.std.specs.Prelude.{◌≡◌, ◌<◌, ◌≤◌, ℕ, List, length, map, bytes_eq, IfOk, IfSome};
 ghost use Rattle.std.specs.HashMap as hash;
+ghost use Rattle.std.specs.List.{position};
+ghost use Rattle.gm_model.specs.declared.rule.RuleTable.{RuleTable};
 ghost use Rattle.gm_model.specs.Rules.{rule_of};
 ghost use Rattle.gm_script.specs.ScriptText.{index_of};
 
 use gm_model::RuleTable;
 use std::alloc::{AllocError, AllocFailed, Global};
 use std::collections::HashMap;
+use std::marker::Model;
 
 /// A line of a script names a rule by 16 bits.
 const MOST_RULES: usize = 1 << 16;
 
+/// Among so few rules, comparing a name with each is faster than hashing it.
+const FEW_RULES: usize = 8;
+
+/// The rules of a book, of which each is found by its name. Contracts see the rules.
+#[derive(Drop)]
+pub(crate) struct RulesByName<'a> {
+    rules: &'a [RuleTable],
+    /// Empty where the rules are few.
+    indices: HashMap<&'a [u8], u16>,
+}
+
+impl<'a> Model for RulesByName<'a> {
+    ghost use Rattle.std.specs.Prelude.{◌≡◌, ◌<◌, ℕ, List, length, map, bytes_eq};
+    ghost use Rattle.std.specs.HashMap as hash;
+    ghost use Rattle.std.specs.Coded.{codes};
+    ghost use Rattle.gm_model.specs.contracts.expr.Expr as expr_block;
+    ghost use Rattle.gm_model.specs.declared.rule.RuleTable.{RuleTable};
+    ghost use Rattle.gm_model.specs.Rules.{rule_of};
+    ghost use Rattle.gm_script.specs.ScriptText.{index_of};
+
+    ghost Value = { List RuleTable };
+
+    ghost coded = { Prim.hlevel (codes, expr_block.the_row.coded) };
+
+    ghost view = { λ book. book.rules.now };
+
+    ghost invariant = { λ book. 8 < length book.rules.now → (name : List ℕ) → hash.get_by (λ k. bytes_eq name k.now) book.indices ≡ index_of (map rule_of book.rules.now) name };
+}
+
+impl<'a> RulesByName<'a> {
+    pub(crate) fn new(alloc: Global, rules: &'a [RuleTable]) -> Result<RulesByName<'a>, AllocError>
+        ensures { IfOk result (λ book. book ≡ rules.now) }
+    {
+        let indices = if rules.len() > FEW_RULES {
+            indices_by_name(alloc, rules)?
+        } else {
+            HashMap::new(alloc)
+        };
+        Ok(RulesByName { rules, indices })
+    }
+
+    /// The rules.
+    pub(crate) fn as_slice(&self) -> &'a [RuleTable]
+        ensures { result.now ≡ self.now }
+    {
+        self.rules
+    }
+
+    /// The index of the rule with the name, of rules with one name that of the first.
+    pub(crate) fn index_of(&self, name: &[u8]) -> Option<u16>
+        ensures index { result ≡ index_of (map rule_of self.now) name.now }
+        ensures within { IfSome result (λ k. k < length self.now) }
+    {
+        if self.rules.len() > FEW_RULES {
+            self.indices.get(name).copied()
+        } else {
+            first_named(self.rules, name)
+        }
+    }
+}
+
+/// The place of the first rule with the name.
+fn place_named(rules: &[RuleTable], name: &[u8]) -> Option<usize>
+    ensures place { result ≡ position (λ (rule : RuleTable). bytes_eq name.now rule.name) rules.now }
+    ensures within { IfSome result (λ k. k < length rules.now) }
+{
+    rules.iter().position(|rule| name == rule.name.bytes())
+}
+
+/// The index of the first of few rules with the name.
+fn first_named(rules: &[RuleTable], name: &[u8]) -> Option<u16>
+    requires { length rules.now ≤ 8 }
+    ensures { result ≡ index_of (map rule_of rules.now) name.now }
+{
+    match place_named(rules, name) {
+        Some(place) => Some(place as u16),
+        None => None,
+    }
+}
+
 /// The index of each rule by its name, of rules with one name that of the first.
-pub(crate) fn indices_by_name<'a>(
+fn indices_by_name<'a>(
     alloc: Global,
     rules: &'a [RuleTable],
 ) -> Result<HashMap<&'a [u8], u16>, AllocError>

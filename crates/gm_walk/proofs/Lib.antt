@@ -5,6 +5,8 @@ pub mod WordLemmas
 pub mod CountLemmas
 pub mod OrbitLemmas
 pub mod GrowLemmas
-pub mod SeenLemmas
 pub mod MetLemmas
+pub mod LeadLemmas
 pub mod RingLemmas
+pub mod SlotLemmas
+pub mod WalkedLemmas

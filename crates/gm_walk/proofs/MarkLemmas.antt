@@ -1,5 +1,5 @@
 -- What a queue and its marks keep when a slot comes or goes, and what a mark tells of its slot.
-use Rattle.std.proofs.Common.{◌≡◌, ℕ, ◌+◌, ◌-◌, ◌<◌, ◌≤◌, ◌⊎◌, ◌==◌, List, [], ◌∷◌, ◌++◌, Option, Some, None, cond, length, get_or, set, replicate, slice_get, refl, sym, ap, subst, ◌∙◌, inl, inr, arith, length-append, length-set, get_or-set_same, get_or-set_other}
+use Rattle.std.proofs.Common.{◌≡◌, ℕ, zero, suc, ◌+◌, ◌-◌, ◌<◌, ◌≤◌, ◌⊎◌, ◌==◌, List, [], ◌∷◌, ◌++◌, Option, Some, None, cond, length, get_or, set, replicate, slice_get, refl, sym, ap, subst, ◌∙◌, inl, inr, arith, length-append, length-set, get_or-set_same, get_or-set_other}
 use Rattle.std.specs.List.{Contains}
 use Rattle.std.specs.Option.{MatchOption, SomeIff}
 use Rattle.std.proofs.lemmas.Bool.{cases_eq, cases_lt, ne_eqb}
@@ -44,38 +44,6 @@ module _ (queue marks : List ℕ) (slot : ℕ) where
         omega (arith, length_push queue slot, length-set marks slot (length queue + 1), m.counted);
   }
 
-  -- the last slot of the queue has a mark
-  pub last_within : IsMarked (queue ++ slot ∷ []) marks → slot < length marks
-  last_within m = rw (sym (get_or_push queue slot 0 (length queue) refl)) (m.within (length queue) (omega (arith, length_push queue slot)))
-
-  -- the last slot of the queue goes
-  pub popped : IsMarked (queue ++ slot ∷ []) marks → IsMarked queue (set marks slot 0)
-  popped m =
-      let longer : length (queue ++ slot ∷ []) ≡ length queue + 1 = length_push queue slot in
-      let within : slot < length marks = last_within m in
-      let last : get_or (queue ++ slot ∷ []) (length queue) 0 ≡ slot = get_or_push queue slot 0 (length queue) refl in
-      let mark : get_or marks slot 0 ≡ length queue + 1 = ap (λ s. get_or marks s 0) (sym last) ∙ m.marked (length queue) (omega arith) in
-      record {
-        within = λ p l. rw length-set (subst (λ s. s < length marks) (get_or_append_left queue (slot ∷ []) 0 p l) (m.within p (omega arith)));
-        marked = λ p l.
-            let old : get_or marks (get_or queue p 0) 0 ≡ p + 1 = ap (λ s. get_or marks s 0) (sym (get_or_append_left queue (slot ∷ []) 0 p l)) ∙ m.marked p (omega arith) in
-            let apart : get_or queue p 0 ≡ slot → ⊥ = λ e. let one : get_or marks slot 0 ≡ p + 1 = ap (λ s. get_or marks s 0) (sym e) ∙ old in omega arith in
-            get_or-set_other marks slot (get_or queue p 0) 0 0 apart ∙ old;
-        queued = λ s p h. elim (cases_eq s slot) [
-          | inl e ↦ let none : 0 ≡ p + 1 = sym (get_or-set_same marks slot 0 0 within) ∙ (ap (λ s. get_or (set marks slot 0) s 0) (sym e) ∙ h) in absurd (omega arith)
-          | inr apart ↦
-              let old = m.queued s p (sym (get_or-set_other marks slot s 0 0 apart) ∙ h) in
-              elim (place_cases queue slot p old.0) [
-                | inl l ↦ (l, sym (get_or_append_left queue (slot ∷ []) 0 p l) ∙ old.1)
-                | inr e ↦ absurd (apart (sym old.1 ∙ get_or_push queue slot 0 p (sym e)))
-              ]
-        ];
-        counted =
-            let one : unmarked (set marks slot 0) + cond {A = ℕ} (get_or marks slot 0 == 0) 1 0 ≡ unmarked marks + 1 = sum_by-set (λ mark. cond (mark == 0) 1 0) marks slot 0 0 within in
-            let was : cond {A = ℕ} (get_or marks slot 0 == 0) 1 0 ≡ 0 = ap (λ b. cond b 1 0) (ne_eqb (get_or marks slot 0) 0 (λ e. omega arith)) in
-            omega (arith, length-set marks slot 0, m.counted);
-      }
-
 unmarked-replicate : (n : ℕ) → unmarked (replicate n 0) ≡ n
 unmarked-replicate n = sum_by-replicate (λ mark. cond (mark == 0) 1 0) n 0 ∙ omega arith
 
@@ -93,6 +61,46 @@ more_marks queue marks more m = record {
   ];
   counted = omega (arith, m.counted, length-append marks (replicate more 0), length-replicate {A = ℕ} more 0, sum_by-append (λ mark. cond (mark == 0) 1 0) marks (replicate more 0), unmarked-replicate more);
 }
+
+-- ---- clearing
+
+-- before p, the marks of the queue's slots went
+pub record IsClearedTo (p : ℕ) (queue marks : List ℕ) : Type 0 where
+  pub within : (q : ℕ) → q < length queue → get_or queue q 0 < length marks
+  pub left : (slot q : ℕ) → get_or marks slot 0 ≡ q + 1 → (p ≤ q) × (q < length queue) × (get_or queue q 0 ≡ slot)
+
+pub cleared_none : (queue marks : List ℕ) → IsMarked queue marks → IsClearedTo 0 queue marks
+cleared_none queue marks m = record { within = m.within; left = λ slot q e. let k = m.queued slot q e in (omega arith, k.0, k.1) }
+
+pub cleared_more : (p : ℕ) (queue marks : List ℕ) → p < length queue → IsClearedTo p queue marks → IsClearedTo (p + 1) queue (set marks (get_or queue p 0) 0)
+cleared_more p queue marks here c =
+    let gone = get_or queue p 0 in
+    record {
+      within = λ q h. rw length-set (c.within q h);
+      left = λ slot q h. elim (cases_eq slot gone) [
+        | inl e ↦ let none : 0 ≡ q + 1 = sym (get_or-set_same marks gone 0 0 (c.within p here)) ∙ (ap (λ s. get_or (set marks gone 0) s 0) (sym e) ∙ h) in absurd (omega arith)
+        | inr apart ↦
+            let old = c.left slot q (sym (get_or-set_other marks gone slot 0 0 apart) ∙ h) in
+            let other : p ≡ q → ⊥ = λ same. apart (sym old.2 ∙ ap (λ k. get_or queue k 0) (sym same)) in
+            (elim (cases_eq p q) [ inl same ↦ absurd (other same) | inr differ ↦ omega (arith, old.0) ], old.1, old.2)
+      ];
+    }
+
+all_zero : (marks : List ℕ) → ((slot q : ℕ) → get_or marks slot 0 ≡ q + 1 → ⊥) → marks ≡ replicate (length marks) 0
+all_zero [] none = refl
+all_zero (zero ∷ marks) none = ap (λ xs. 0 ∷ xs) (all_zero marks (λ slot q h. none (suc slot) q h))
+all_zero (suc x ∷ marks) none = absurd (none 0 x (omega arith))
+
+pub cleared_all : (p : ℕ) (queue marks : List ℕ) → length queue ≤ p → IsClearedTo p queue marks → IsMarked [] marks
+cleared_all p queue marks past c = record {
+  within = λ q h. absurd (omega arith);
+  marked = λ q h. absurd (omega arith);
+  queued = λ slot q h. absurd (none slot q h);
+  counted = let all : unmarked marks ≡ length marks = ap unmarked (all_zero marks none) ∙ unmarked-replicate (length marks) in omega (arith, all);
+}
+  where
+    none : (slot q : ℕ) → get_or marks slot 0 ≡ q + 1 → ⊥
+    none slot q h = let old = c.left slot q h in omega (arith, old.0, old.1)
 
 -- ---- slots
 

@@ -1,11 +1,11 @@
 -- The walk of slots as the walk of the names at them.
-use Rattle.std.proofs.Common.{◌≡◌, ℕ, ◌+◌, ◌<◌, ◌≤◌, true, false, List, [], ◌∷◌, Option, Some, None, length, get_or, unwrap_or, slice_get, refl, sym, ap, subst, ◌∙◌, arith}
+use Rattle.std.proofs.Common.{◌≡◌, ℕ, ◌+◌, ◌<◌, ◌≤◌, ◌↔◌, Bool, false, IsTrue, List, [], ◌∷◌, ◌++◌, Option, Some, None, length, get_or, unwrap_or, slice_get, refl, sym, ap, subst, ◌∙◌, arith}
 use Rattle.std.specs.List.{Contains}
-use Rattle.std.specs.Option.{IsSome, MatchOption, is_some, option_map}
+use Rattle.std.specs.Option.{IsSome, option_map}
 use Rattle.std.specs.FinMap.{get}
+use Rattle.std.proofs.lemmas.Bool.{false≢true}
 use Rattle.std.proofs.lemmas.List.{length-map, length_push, map_push, get_or-map, get_or_append_left}
 use Rattle.std.proofs.lemmas.List.Elements.{All-push}
-use Rattle.std.proofs.lemmas.Option.{slice_get-get_or, slice_get_within}
 use Rattle.gm_model.specs.declared.word.Letter.{Letter}
 use Rattle.gm_model.specs.declared.word.Letter.TheVariants.{At}
 use Rattle.gm_model.specs.Orbits.{IsWalkTo}
@@ -19,18 +19,26 @@ use Rattle.gm_walk.specs.Walks.{AreLive, along, names_of}
 use Rattle.gm_walk.proofs.MarkLemmas.{same_slot}
 use Rattle.gm_walk.proofs.WalkLemmas.{known, added}
 
--- what the place of a slot says of the slots
-module _ (slots : List Slot) (slot : Slot) where
-  pub has_no_place : (place : Option ℕ) → MatchOption place (Contains slots slot → ⊥) (λ p. slice_get slots p ≡ Some slot) → is_some place ≡ false → Contains slots slot → ⊥
-  has_no_place None told e = told
-  has_no_place (Some p) told e = absurd (cc)
+-- the slot is the last that was walked, behind others, none of which it is
+pub record IsNewLast (before : List Slot) (slot : Slot) (walked : List Slot) : Type 0 where
+  pub lacks : Contains before slot → ⊥
+  pub last : walked ≡ before ++ slot ∷ []
 
-  pub has_place : (place : Option ℕ) → MatchOption place (Contains slots slot → ⊥) (λ p. slice_get slots p ≡ Some slot) → is_some place ≡ true → Contains slots slot
-  has_place None told e = absurd (cc)
-  has_place (Some p) told e =
-      let within = slice_get_within slots p slot told in
-      let same : Some (get_or slots p slot) ≡ Some slot = sym (slice_get-get_or slots p slot within) ∙ told in
-      (p, within, (cc))
+-- what the answer of taking a slot in says of it
+module _ (old : Room) (slot : Slot) (new : Room) (answer : Bool) (takes : TakesIn old slot new) (says : IsTrue answer ↔ (Contains old.walked slot → ⊥)) where
+  pub is_new : IsTrue answer → IsNewLast old.walked slot new.walked
+  is_new told = go takes
+    where
+      go : TakesIn old slot new → IsNewLast old.walked slot new.walked
+      go (Known c e) = absurd (says.0 told c)
+      go (Added c e) = record { lacks = c; last = ap (λ (r : Room). r.walked) e }
+
+  pub not_new : answer ≡ false → Contains old.walked slot × (new ≡ old)
+  not_new denied = go takes
+    where
+      go : TakesIn old slot new → Contains old.walked slot × (new ≡ old)
+      go (Known c e) = (c, e)
+      go (Added c e) = absurd (false≢true (sym denied ∙ says.1 c))
 
 module _ (m : ArenaMap) where
   pub name_there : (slots : List Slot) (p : ℕ) (d : Slot) → p < length slots → get_or (names_of m slots) p 0 ≡ name_at m (get_or slots p d).at

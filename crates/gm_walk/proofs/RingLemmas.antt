@@ -7,17 +7,13 @@ use Rattle.std.proofs.lemmas.List.Elements.{Contains-push}
 use Rattle.gm_model.specs.declared.word.Letter.{Letter}
 use Rattle.gm_model.specs.declared.word.Letter.TheVariants.{At}
 use Rattle.gm_model.specs.Maps.{IsGeneralised}
-use Rattle.gm_model.specs.Orbits.{Labels, HasNoRepeats, IsInOrbit}
+use Rattle.gm_model.specs.Orbits.{Labels, IsInOrbit}
 use Rattle.gm_model.specs.Rules.{label_of}
 use Rattle.gm_arena.specs.ArenaAsMap.{as_map}
 use Rattle.gm_arena.specs.ArenaMap.{ArenaMap, IsLiveName, alpha}
-use Rattle.gm_arena.specs.declared.slot.Slot.{Slot}
-use Rattle.gm_walk.specs.Room.{Room, TakesIn}
-use Rattle.gm_walk.specs.Room.TakesIn.{Known, Added}
-use Rattle.gm_walk.specs.Seen.{HasLettersOf, HasFollowed, HasGrownTo}
+use Rattle.gm_walk.specs.Seen.{HasLettersOf, HasFollowed, HasGrownBy}
 use Rattle.gm_walk.specs.Walks.{along}
-use Rattle.gm_walk.proofs.GrowLemmas.{HasTaken, distinct_push, contains_on}
-use Rattle.gm_walk.proofs.GrowLemmas.HasTaken.{There, Pushed}
+use Rattle.gm_walk.proofs.GrowLemmas.{contains_on}
 use Rattle.gm_walk.proofs.OrbitLemmas.{orbit_join}
 use Rattle.gm_walk.proofs.WalkLemmas.{place_cases}
 
@@ -28,26 +24,12 @@ two_letters (x ∷ []) i j two first second = absurd (omega arith)
 two_letters (x ∷ (y ∷ [])) i j two first second = cc
 two_letters (x ∷ (y ∷ (z ∷ word))) i j two first second = absurd (omega arith)
 
--- the steps of both ends, where one slot at least was taken in
-pub ring_steps : (n start after old new : ℕ) → old + 1 ≤ new → after + old ≤ start + 1 + new → after + 4 * (n + 1) * old ≤ start + 4 * (n + 1) * new
-ring_steps n start after old new more cost = go (new - old) (omega arith)
+-- the steps of both ends
+pub ring_steps : (n start after old new : ℕ) → old < new → after + old ≤ start + 1 + new → after + 4 * (n + 1) * old ≤ start + 4 * (n + 1) * new
+ring_steps n start after old new more cost = go (new - old - 1) (omega arith)
   where
-    go : (k : ℕ) → new ≡ old + k → after + 4 * (n + 1) * old ≤ start + 4 * (n + 1) * new
+    go : (k : ℕ) → new ≡ old + k + 1 → after + 4 * (n + 1) * old ≤ start + 4 * (n + 1) * new
     go k e = rw e (omega (arith, more, cost))
-
--- what is taken in where it was not walked is pushed
-pub pushed : (old : List ℕ) (x : ℕ) (new : List ℕ) → (Contains old x → ⊥) → HasTaken old x new → new ≡ old ++ x ∷ []
-pushed old x new lacks (There c e) = absurd (lacks c)
-pushed old x new lacks (Pushed c e) = e
-
-pub one_longer : (old : Room) (slot : Slot) (new : Room) → (Contains old.walked slot → ⊥) → TakesIn old slot new → length new.walked ≡ length old.walked + 1
-one_longer old slot new lacks (Known c e) = absurd (lacks c)
-one_longer old slot new lacks (Added c e) = ap (λ (r : Room). length r.walked) e ∙ length_push old.walked slot
-
--- a slot that is taken in is among those that were walked
-pub taken_there : (old : Room) (slot : Slot) (new : Room) → TakesIn old slot new → Contains new.walked slot
-taken_there old slot new (Known c e) = subst (λ (r : Room). Contains r.walked slot) (sym e) c
-taken_there old slot new (Added c e) = subst (λ (r : Room). Contains r.walked slot) (sym e) (Contains-push old.walked slot)
 
 -- the neighbour is in the list, or it is the next one
 abbrev pub IsMet : List ℕ → ℕ → ℕ → Type 0
@@ -57,7 +39,6 @@ IsMet darts next d = Contains darts d ⊎ (next ≡ d)
 pub record IsFollowing (m : ArenaMap) (first second d : ℕ) (old new : List ℕ) (next behind ahead : ℕ) : Type 0 where
   pub longer : length old ≤ length new
   pub front : (p : ℕ) → p < length old → get_or new p 0 ≡ get_or old p 0
-  pub distinct : HasNoRepeats old → HasNoRepeats new
   pub there : IsMet new next (alpha m first d)
   pub closed : (p i : ℕ) → length old ≤ p → p < length new → (i ≡ first) ⊎ (i ≡ second) → IsMet new next (alpha m i (get_or new p 0))
   pub only : (o : Labels) → IsTrue (o first) → IsTrue (o second) → (p : ℕ) → length old ≤ p → p < length new → IsInOrbit (alpha m) o d (get_or new p 0)
@@ -73,7 +54,6 @@ module _ (m : ArenaMap) (gmap : IsGeneralised (as_map m)) (first second d : ℕ)
   following_first few live c = record {
     longer = omega arith;
     front = λ p h. refl;
-    distinct = λ h. h;
     there = inr refl;
     closed = λ p i h k. absurd (omega arith);
     only = λ o f s p h k. absurd (omega arith);
@@ -88,7 +68,6 @@ module _ (m : ArenaMap) (gmap : IsGeneralised (as_map m)) (first second d : ℕ)
     followed c = record {
       longer = g.longer;
       front = g.front;
-      distinct = g.distinct;
       there = met (alpha m first d) g.there;
       closed = λ p i h k label. met (alpha m i (get_or now p 0)) (g.closed p i h k label);
       only = g.only;
@@ -99,11 +78,10 @@ module _ (m : ArenaMap) (gmap : IsGeneralised (as_map m)) (first second d : ℕ)
         met e (inr is) = subst (Contains now) is c
 
     -- it is taken in, and its neighbour ahead is the next
-    pub following_on : (new : List ℕ) → (Contains now next → ⊥) → new ≡ now ++ next ∷ [] → ahead ≤ m.schema.dim → IsLiveName m next → IsFollowing m first second d old new (alpha m ahead next) ahead behind
-    following_on new lacks e few live = subst (λ new. IsFollowing m first second d old new (alpha m ahead next) ahead behind) (sym e) (record {
+    pub following_on : ahead ≤ m.schema.dim → IsLiveName m next → IsFollowing m first second d old (now ++ next ∷ []) (alpha m ahead next) ahead behind
+    following_on few live = record {
       longer = omega (arith, g.longer, length_push now next);
       front = λ p h. get_or_append_left now (next ∷ []) 0 p (omega (arith, g.longer)) ∙ g.front p h;
-      distinct = λ h. distinct_push now next (g.distinct h) lacks;
       there = met (alpha m first d) g.there;
       closed = λ p i h k label. elim (place_cases now next p k) [
         | inl less ↦ subst (λ x. IsMet (now ++ next ∷ []) (alpha m ahead next) (alpha m i x)) (sym (get_or_append_left now (next ∷ []) 0 p less)) (met (alpha m i (get_or now p 0)) (g.closed p i h less label))
@@ -116,7 +94,7 @@ module _ (m : ArenaMap) (gmap : IsGeneralised (as_map m)) (first second d : ℕ)
       back = subst (Contains (now ++ next ∷ [])) (sym (gmap.back next ahead live few)) (Contains-push now next);
       leads = λ o f s. orbit_join (alpha m) o d next (alpha m ahead next) (g.leads o f s) (one_on (alpha m) o ahead next (alpha m ahead next) (inside o f s g.turns) refl);
       turns = swapped g.turns;
-    })
+    }
       where
         Turns : ℕ → ℕ → Type 0
         Turns behind ahead = ((behind ≡ first) × (ahead ≡ second)) ⊎ ((behind ≡ second) × (ahead ≡ first))
@@ -146,16 +124,19 @@ module _ (m : ArenaMap) (gmap : IsGeneralised (as_map m)) (first second d : ℕ)
         both i (inl same) = inl (subst (λ i. Contains (now ++ next ∷ []) (alpha m i next)) (sym same) (kept (alpha m behind next) g.back))
         both i (inr same) = inr (ap (λ i. alpha m i next) (sym same))
 
--- both ends of a dart that was taken in are its orbit
-module _ (m : ArenaMap) (first second d : ℕ) (old one two new : List ℕ) (taken : HasTaken old d one) (lacks : Contains old d → ⊥) (there : HasFollowed m first second d one two) (back : HasFollowed m second first d two new) where
+-- both ends of a dart are its orbit
+module _ (m : ArenaMap) (first second d : ℕ) (old two new : List ℕ) (there : HasFollowed m first second d (old ++ d ∷ []) two) (back : HasFollowed m second first d two new) where
+  abbrev one : List ℕ
+  one = old ++ d ∷ []
+
   abbrev pub word : List Letter
   word = At first ∷ At second ∷ []
 
-  begins : (one ≡ old ++ d ∷ []) × (length one ≡ length old + 1)
-  begins = let e = pushed old d one lacks taken in (e, ap length e ∙ length_push old d)
+  longer : length one ≡ length old + 1
+  longer = length_push old d
 
   starts : (p : ℕ) → length old ≤ p → p < length one → get_or one p 0 ≡ d
-  starts p h k = ap (λ xs. get_or xs p 0) begins.0 ∙ get_or_push old d 0 p (omega (arith, begins.1))
+  starts p h k = get_or_push old d 0 p (omega (arith, longer))
 
   kept : (e : ℕ) → Contains two e → Contains new e
   kept = contains_on two new back.longer back.front
@@ -175,15 +156,14 @@ module _ (m : ArenaMap) (first second d : ℕ) (old one two new : List ℕ) (tak
     ]
   ]
 
-  pub ring_grown : HasGrownTo m word d (length new) old new
+  pub ring_grown : HasGrownBy m word d old new
   ring_grown = record {
-    longer = omega (arith, begins.1, there.longer, back.longer);
+    longer = omega (arith, longer, there.longer, back.longer);
     front = λ p h.
-        back.front p (omega (arith, begins.1, there.longer))
-        ∙ (there.front p (omega (arith, begins.1)) ∙ (ap (λ xs. get_or xs p 0) begins.0 ∙ get_or_append_left old (d ∷ []) 0 p h));
-    distinct = λ h. back.distinct (there.distinct (subst HasNoRepeats (sym begins.0) (distinct_push old d h lacks)));
-    there = kept d (contains_on one two there.longer there.front d (subst (λ xs. Contains xs d) (sym begins.0) (Contains-push old d)));
-    closed = λ p place h q k within. elim (cases_lt place 1) [
+        back.front p (omega (arith, longer, there.longer))
+        ∙ (there.front p (omega (arith, longer)) ∙ get_or_append_left old (d ∷ []) 0 p h);
+    there = kept d (contains_on one two there.longer there.front d (Contains-push old d));
+    closed = λ p place h k within. elim (cases_lt place 1) [
       | inl less ↦ (let zero : 0 ≡ place = omega arith in subst (λ place. Contains new (along m word (get_or new p 0) place)) zero (near p first h k (inl refl)))
       | inr more ↦ (let one : 1 ≡ place = omega arith in subst (λ place. Contains new (along m word (get_or new p 0) place)) one (near p second h k (inr refl)))
     ];

@@ -1,21 +1,22 @@
-//! Counting orbits: a dart that is in no orbit that was walked so far is the least of its own.
+//! Counting orbits: a dart that is in no orbit that was met so far is the least of its own.
 
-ghost use Rattle.std.specs.Prelude.{◌≡◌, ℕ, ◌+◌, ◌*◌, ◌≤◌, [], ◌∷◌, length, IfOk, IfSome, IsTrue};
+ghost use Rattle.std.specs.Prelude.{◌≡◌, ℕ, List, ◌+◌, ◌*◌, ◌<◌, ◌≤◌, [], ◌∷◌, ◌++◌, length, replicate, slice_index_or, false, All, IfOk, IfSome, IsTrue};
 ghost use Rattle.std.specs.FinMap.{keys};
 ghost use Rattle.std.specs.List.{Contains};
 ghost use Rattle.gm_model.specs.Labels.{has};
 ghost use Rattle.gm_model.specs.declared.word.Letter.TheVariants.{At};
 ghost use Rattle.gm_model.specs.Maps.{IsDart, IsGeneralised};
-ghost use Rattle.gm_model.specs.Orbits.{HasOrbits};
+ghost use Rattle.gm_model.specs.Orbits.{HasNoRepeats, HasOrbits};
+ghost use Rattle.gm_arena.specs.declared.slot.Slot.{Slot};
 ghost use Rattle.gm_arena.specs.ArenaAsMap.{as_map};
-ghost use Rattle.gm_arena.specs.ArenaMap.{IsLiveSlot, alpha, name_at};
+ghost use Rattle.gm_arena.specs.ArenaMap.{ArenaMap, IsLiveSlot, alpha, name_at};
 ghost use Rattle.gm_arena.specs.Lawful.{IsLawful};
 ghost use Rattle.gm_walk.specs.Room.{Fits};
-ghost use Rattle.gm_walk.specs.Seen.{HasFollowed, HasGrownTo};
+ghost use Rattle.gm_walk.specs.Seen.{HasFollowed, HasGrownBy, HasSeen, IsClosed, seen_count};
 ghost use Rattle.gm_walk.specs.Walks.{IsWord, names_of, AreLive};
 
 use crate::scratch::Scratch;
-use crate::walk::{take_in_neighbours, word_of};
+use crate::walk::{walk_word, word_of};
 use gm_arena::{Arena, Slot, Steps};
 use gm_model::{Letter, Mask, OutOfMemory, Word};
 use std::alloc::Global;
@@ -37,22 +38,70 @@ pub fn orbits<L: Ledger>(
     ensures least { steps.old ≤ steps.new }
     ensures room { Fits scratch.new arena.now }
 {
+    // One byte for each slot, so that a count touches little memory.
+    let mut seen = none_seen(alloc, arena.bound())?;
+    if arena.is_dense() {
+        return Ok(count_slots(arena, mask, &mut seen, scratch, steps));
+    }
     let names = arena.names(alloc, steps)?;
-    Ok(count_unseen(arena, &names, mask, scratch, steps))
+    Ok(count_names(arena, &names, mask, &mut seen, scratch, steps))
 }
 
-/// How many of the darts are in the orbit of no earlier one. The scratch keeps all orbits so far,
-/// one behind another, so that each dart is walked once and nothing is cleared in between.
-fn count_unseen<L: Ledger>(
+/// For each slot whether it was seen: none was.
+fn none_seen(alloc: Global, slots: usize) -> Result<Vec<bool>, OutOfMemory>
+    ensures { IfOk result (λ seen. seen.items ≡ replicate slots false) }
+{
+    Ok(vec![in alloc; false; slots]?)
+}
+
+/// How many orbits over the labels of the mask the live darts have, where each slot has one and none
+/// was seen yet. It needs no names.
+fn count_slots<L: Ledger>(
+    arena: &Arena,
+    mask: Mask,
+    seen: &mut [bool],
+    scratch: &mut Scratch,
+    steps: &mut Steps<L>,
+) -> u32
+    requires generalised { IsGeneralised (as_map arena.now) }
+    requires live { (at : ℕ) → at < arena.now.bound → IsLiveSlot arena.now at }
+    requires count { arena.now.bound ≡ arena.now.count }
+    requires mask { (label : ℕ) → IsTrue (has mask label) → label ≤ arena.now.schema.dim }
+    requires seen { seen.old ≡ replicate arena.now.bound false }
+    requires fits { Fits scratch.old arena.now }
+    ensures orbits { HasOrbits (IsDart (as_map arena.now)) (as_map arena.now).alpha (has mask) result }
+    ensures cost { steps.new ≤ steps.old + (4 * (arena.now.schema.dim + 1) + 1) * arena.now.count }
+    ensures least { steps.old ≤ steps.new }
+    ensures room { Fits scratch.new arena.now }
+{
+    let word = word_of(mask);
+    let pair = pair_of(&word);
+    let mut orbits = 0;
+    for at in 0..arena.bound() {
+        // An orbit that was met was seen whole, so its other darts aren't walked from again.
+        if !seen[at] {
+            let slot = Slot { at: at as u32 };
+            see_orbit(arena, slot, &word, pair, seen, scratch, steps);
+            orbits += 1;
+        }
+    }
+    orbits
+}
+
+/// How many orbits over the labels of the mask the live darts have, of which these are the names,
+/// where no slot was seen yet.
+fn count_names<L: Ledger>(
     arena: &Arena,
     names: &[u32],
     mask: Mask,
+    seen: &mut [bool],
     scratch: &mut Scratch,
     steps: &mut Steps<L>,
 ) -> u32
     requires generalised { IsGeneralised (as_map arena.now) }
     requires names { names.now ≡ keys arena.now.darts }
     requires mask { (label : ℕ) → IsTrue (has mask label) → label ≤ arena.now.schema.dim }
+    requires seen { seen.old ≡ replicate arena.now.bound false }
     requires fits { Fits scratch.old arena.now }
     ensures orbits { HasOrbits (IsDart (as_map arena.now)) (as_map arena.now).alpha (has mask) result }
     ensures cost { steps.new ≤ steps.old + (4 * (arena.now.schema.dim + 1) + 1) * arena.now.count }
@@ -61,42 +110,46 @@ fn count_unseen<L: Ledger>(
 {
     prove!(names.len() == arena.count() as usize);
     let word = word_of(mask);
-    scratch.clear();
+    let pair = pair_of(&word);
     let mut orbits = 0;
     for name in names {
         let slot = arena.slot_of(*name, steps).unwrap();
-        if scratch.place(slot).is_none() {
-            take_in_unseen(arena, slot, &word, scratch, steps);
+        if !seen[slot.at as usize] {
+            see_orbit(arena, slot, &word, pair, seen, scratch, steps);
             orbits += 1;
         }
     }
     orbits
 }
 
-/// Takes in the orbit of a live slot that was not walked so far, along the labels of the word.
-fn take_in_unseen<L: Ledger>(
+/// Sees the orbit of a slot that wasn't seen, along the labels of the word. Where these are two,
+/// `pair` has them.
+fn see_orbit<L: Ledger>(
     arena: &Arena,
     from: Slot,
     word: &Word,
+    pair: Option<(u8, u8)>,
+    seen: &mut [bool],
     scratch: &mut Scratch,
     steps: &mut Steps<L>,
 )
     requires generalised { IsGeneralised (as_map arena.now) }
     requires lawful { IsLawful arena.now }
     requires from { IsLiveSlot arena.now from.at }
-    requires unseen { Contains scratch.old.walked from → ⊥ }
-    requires live { AreLive arena.now scratch.old.walked }
     requires word { IsWord arena.now.schema.dim word.now }
+    requires pair { IfSome pair (λ labels. word.now ≡ At labels.0 ∷ At labels.1 ∷ []) }
+    requires long { length seen.old ≡ arena.now.bound }
+    requires unseen { slice_index_or seen.old from.at false ≡ false }
     requires fits { Fits scratch.old arena.now }
-    ensures grown { HasGrownTo arena.now word.now (name_at arena.now from.at) (length scratch.new.walked) (names_of arena.now scratch.old.walked) (names_of arena.now scratch.new.walked) }
-    ensures live { AreLive arena.now scratch.new.walked }
-    ensures bound { scratch.new.bound ≡ scratch.old.bound }
-    ensures cost { steps.new + 4 * (arena.now.schema.dim + 1) * length scratch.old.walked ≤ steps.old + 4 * (arena.now.schema.dim + 1) * length scratch.new.walked }
+    ensures seen { (before : List ℕ) → HasSeen arena.now seen.old before → IsClosed arena.now word.now before → (after : List ℕ) × HasSeen arena.now seen.new after × HasGrownBy arena.now word.now (name_at arena.now from.at) before after }
+    ensures cost { (before : List ℕ) → HasSeen arena.now seen.old before → IsClosed arena.now word.now before → steps.new + 4 * (arena.now.schema.dim + 1) * seen_count seen.old ≤ steps.old + 4 * (arena.now.schema.dim + 1) * seen_count seen.new }
     ensures least { steps.old ≤ steps.new }
+    ensures long { length seen.new ≡ length seen.old }
+    ensures bound { scratch.new.bound ≡ scratch.old.bound }
 {
-    match pair_of(word) {
-        Some((first, second)) => take_in_ring(arena, from, first, second, scratch, steps),
-        None => take_in_orbit(arena, from, word, scratch, steps),
+    match pair {
+        Some((first, second)) => see_ring(arena, from, first, second, seen, steps),
+        None => see_walk(arena, from, word, seen, scratch, steps),
     }
 }
 
@@ -113,14 +166,14 @@ fn pair_of(word: &Word) -> Option<(u8, u8)>
     }
 }
 
-/// Takes in the orbit of a live slot that was not walked so far, along two labels: it is a path or a
-/// ring, of which the slot is one place, so it is followed along its two ends.
-fn take_in_ring<L: Ledger>(
+/// Sees the orbit of a slot that wasn't seen, along two labels: it is a path or a ring, of which the
+/// slot is one place, so it is followed along its two ends.
+fn see_ring<L: Ledger>(
     arena: &Arena,
     from: Slot,
     first: u8,
     second: u8,
-    scratch: &mut Scratch,
+    seen: &mut [bool],
     steps: &mut Steps<L>,
 )
     requires generalised { IsGeneralised (as_map arena.now) }
@@ -128,81 +181,83 @@ fn take_in_ring<L: Ledger>(
     requires from { IsLiveSlot arena.now from.at }
     requires first { first ≤ arena.now.schema.dim }
     requires second { second ≤ arena.now.schema.dim }
-    requires unseen { Contains scratch.old.walked from → ⊥ }
-    requires live { AreLive arena.now scratch.old.walked }
-    requires fits { Fits scratch.old arena.now }
-    ensures grown { HasGrownTo arena.now (At first ∷ At second ∷ []) (name_at arena.now from.at) (length scratch.new.walked) (names_of arena.now scratch.old.walked) (names_of arena.now scratch.new.walked) }
-    ensures ends { Contains (names_of arena.now scratch.new.walked) (alpha arena.now second (name_at arena.now from.at)) }
-    ensures live { AreLive arena.now scratch.new.walked }
-    ensures bound { scratch.new.bound ≡ scratch.old.bound }
-    ensures cost { steps.new + 4 * (arena.now.schema.dim + 1) * length scratch.old.walked ≤ steps.old + 4 * (arena.now.schema.dim + 1) * length scratch.new.walked }
+    requires long { length seen.old ≡ arena.now.bound }
+    requires unseen { slice_index_or seen.old from.at false ≡ false }
+    ensures seen { (before : List ℕ) → HasSeen arena.now seen.old before → (after : List ℕ) × HasSeen arena.now seen.new after × HasGrownBy arena.now (At first ∷ At second ∷ []) (name_at arena.now from.at) before after }
+    ensures cost { steps.new + 4 * (arena.now.schema.dim + 1) * seen_count seen.old ≤ steps.old + 4 * (arena.now.schema.dim + 1) * seen_count seen.new }
     ensures least { steps.old ≤ steps.new }
+    ensures long { length seen.new ≡ length seen.old }
 {
-    scratch.take_in(from);
-    follow(arena, from, first, second, scratch, steps);
-    follow(arena, from, second, first, scratch, steps);
+    prove!((from.at as usize) < arena.bound());
+    seen[from.at as usize] = true;
+    follow(arena, from, first, second, seen, steps);
+    follow(arena, from, second, first, seen, steps);
 }
 
-/// Takes in the slots to which two labels lead in turns from a slot that was walked, the first of
-/// them first, up to one that was walked already.
+/// Sees the slots to which two labels lead in turns from a slot that was seen, the first of them
+/// first, up to one that was seen already.
 fn follow<L: Ledger>(
     arena: &Arena,
     from: Slot,
     first: u8,
     second: u8,
-    scratch: &mut Scratch,
+    seen: &mut [bool],
     steps: &mut Steps<L>,
 )
     requires generalised { IsGeneralised (as_map arena.now) }
     requires lawful { IsLawful arena.now }
     requires from { IsLiveSlot arena.now from.at }
-    requires walked { Contains (names_of arena.now scratch.old.walked) (name_at arena.now from.at) }
     requires first { first ≤ arena.now.schema.dim }
     requires second { second ≤ arena.now.schema.dim }
-    requires live { AreLive arena.now scratch.old.walked }
-    requires fits { Fits scratch.old arena.now }
-    ensures followed { HasFollowed arena.now first second (name_at arena.now from.at) (names_of arena.now scratch.old.walked) (names_of arena.now scratch.new.walked) }
-    ensures live { AreLive arena.now scratch.new.walked }
-    ensures bound { scratch.new.bound ≡ scratch.old.bound }
-    ensures longer { length scratch.old.walked ≤ length scratch.new.walked }
-    ensures cost { steps.new + length scratch.old.walked ≡ steps.old + 1 + length scratch.new.walked }
+    requires long { length seen.old ≡ arena.now.bound }
+    ensures followed { (before : List ℕ) → HasSeen arena.now seen.old before → Contains before (name_at arena.now from.at) → (after : List ℕ) × HasSeen arena.now seen.new after × HasFollowed arena.now first second (name_at arena.now from.at) before after }
+    ensures long { length seen.new ≡ length seen.old }
+    ensures more { seen_count seen.old ≤ seen_count seen.new }
+    ensures cost { steps.new + seen_count seen.old ≡ steps.old + 1 + seen_count seen.new }
 {
     let (mut label, mut other) = (second, first);
     let mut next = arena.alpha(from, first, steps);
-    while scratch.place(next).is_none() {
-        scratch.take_in(next);
-        // What was walked has room, so the room that is left goes down.
-        prove!(scratch.walked().len() <= u32::MAX as usize);
+    while !seen[next.at as usize] {
+        seen[next.at as usize] = true;
         // Where one label led to, only the other leads on.
         next = arena.alpha(next, label, steps);
         (label, other) = (other, label);
     }
 }
 
-/// Takes in the orbit of a live slot along the labels of the word, behind the slots that were walked.
-fn take_in_orbit<L: Ledger>(
+/// Sees the orbit of a slot that wasn't seen, along the labels of the word. The scratch keeps its room.
+fn see_walk<L: Ledger>(
     arena: &Arena,
     from: Slot,
     word: &Word,
+    seen: &mut [bool],
     scratch: &mut Scratch,
     steps: &mut Steps<L>,
 )
+    requires generalised { IsGeneralised (as_map arena.now) }
     requires lawful { IsLawful arena.now }
     requires from { IsLiveSlot arena.now from.at }
-    requires live { AreLive arena.now scratch.old.walked }
     requires word { IsWord arena.now.schema.dim word.now }
+    requires long { length seen.old ≡ arena.now.bound }
+    requires unseen { slice_index_or seen.old from.at false ≡ false }
     requires fits { Fits scratch.old arena.now }
-    ensures grown { HasGrownTo arena.now word.now (name_at arena.now from.at) (length scratch.new.walked) (names_of arena.now scratch.old.walked) (names_of arena.now scratch.new.walked) }
-    ensures live { AreLive arena.now scratch.new.walked }
-    ensures bound { scratch.new.bound ≡ scratch.old.bound }
-    ensures cost { steps.new + 4 * (arena.now.schema.dim + 1) * length scratch.old.walked ≤ steps.old + 4 * (arena.now.schema.dim + 1) * length scratch.new.walked }
+    ensures seen { (before : List ℕ) → HasSeen arena.now seen.old before → IsClosed arena.now word.now before → (after : List ℕ) × HasSeen arena.now seen.new after × HasGrownBy arena.now word.now (name_at arena.now from.at) before after }
+    ensures cost { (before : List ℕ) → HasSeen arena.now seen.old before → IsClosed arena.now word.now before → steps.new + 4 * (arena.now.schema.dim + 1) * seen_count seen.old ≤ steps.old + 4 * (arena.now.schema.dim + 1) * seen_count seen.new }
     ensures least { steps.old ≤ steps.new }
+    ensures long { length seen.new ≡ length seen.old }
+    ensures bound { scratch.new.bound ≡ scratch.old.bound }
 {
-    prove!((from.at as usize) < arena.bound());
-    let mut at = scratch.walked().len();
-    scratch.take_in(from);
-    while at < scratch.walked().len() {
-        take_in_neighbours(arena, at, word, scratch, steps);
-        at += 1;
+    let walk = walk_word(arena, from, word, scratch, steps);
+    see_slots(walk.slots(), seen);
+}
+
+/// Marks the slots as seen.
+fn see_slots(slots: &[Slot], seen: &mut [bool])
+    requires within { All (λ (slot : Slot). slot.at < length seen.old) slots.now }
+    ensures seen { (m : ArenaMap) (before : List ℕ) → IsLawful m → AreLive m slots.now → HasSeen m seen.old before → HasNoRepeats (before ++ names_of m slots.now) → HasSeen m seen.new (before ++ names_of m slots.now) }
+    ensures long { length seen.new ≡ length seen.old }
+{
+    for slot in slots {
+        seen[slot.at as usize] = true;
     }
 }

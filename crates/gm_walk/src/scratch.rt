@@ -1,11 +1,13 @@
-ghost use Rattle.std.specs.Prelude.{◌≡◌, ◌<◌, ◌≤◌, [], length, slice_get, MatchOption, Some, IsOk, OnOk};
+ghost use Rattle.std.specs.Prelude.{◌≡◌, ◌<◌, ◌≤◌, [], length, slice_get, MatchOption, Some, IsOk, OnOk, IsTrue, ◌↔◌};
 ghost use Rattle.std.specs.List.{Contains};
+ghost use Rattle.gm_walk.specs.Marks.{IsMarked, numbers};
 ghost use Rattle.gm_walk.specs.Room.{Fits, TakesIn};
 
 use gm_arena::{Arena, Slot};
 use gm_model::OutOfMemory;
 use std::alloc::Global;
 use std::marker::Model;
+use std::mem;
 
 /// The room in which walks are made, one after another. Contracts see for how many slots it has
 /// room, and the slots of the last walk.
@@ -14,6 +16,9 @@ pub struct Scratch {
     queue: Vec<Slot>,
     /// For each slot one more than its place in the queue, or 0 where it has none.
     marks: Vec<u32>,
+    /// Empty, or what was given back of what was lent for rows: it is kept for its room alone.
+    slots: Vec<Slot>,
+    turns: Vec<u32>,
 }
 
 impl Model for Scratch {
@@ -40,7 +45,30 @@ impl Scratch {
         Scratch {
             queue: Vec::new(alloc),
             marks: Vec::new(alloc),
+            slots: Vec::new(alloc),
+            turns: Vec::new(alloc),
         }
+    }
+
+    /// Two empty vectors, with the room that they had when they were last given back.
+    pub fn lend_rows(&mut self, alloc: Global) -> (Vec<Slot>, Vec<u32>)
+        ensures slots { result.0.items ≡ [] }
+        ensures turns { result.1.items ≡ [] }
+        ensures stays { self.new ≡ self.old }
+    {
+        let mut slots = mem::replace(&mut self.slots, Vec::new(alloc));
+        let mut turns = mem::replace(&mut self.turns, Vec::new(alloc));
+        slots.clear();
+        turns.clear();
+        (slots, turns)
+    }
+
+    /// Keeps the room of two vectors for the next ones that are lent. What is in them is forgotten.
+    pub fn keep_rows(&mut self, slots: Vec<Slot>, turns: Vec<u32>)
+        ensures { self.new ≡ self.old }
+    {
+        self.slots = slots;
+        self.turns = turns;
     }
 
     /// Makes room for walks in the arena, and in any arena with no greater bound. A scratch that
@@ -70,9 +98,8 @@ impl Scratch {
     pub fn clear(&mut self)
         ensures { self.new ≡ record self.old { walked = [] } }
     {
-        while let Some(slot) = self.queue.pop() {
-            self.marks[slot.at as usize] = 0;
-        }
+        unmark(&self.queue, &mut self.marks);
+        self.queue.clear();
     }
 
     /// Puts the slot behind those that were walked, unless it is among them. It takes no memory.
@@ -80,12 +107,24 @@ impl Scratch {
         requires { slot.at < self.old.bound }
         ensures { TakesIn self.old slot self.new }
     {
+        self.take_new(slot);
+    }
+
+    /// Puts the slot behind those that were walked, unless it is among them, and tells whether it
+    /// was new. It takes no memory.
+    pub fn take_new(&mut self, slot: Slot) -> bool
+        requires { slot.at < self.old.bound }
+        ensures taken { TakesIn self.old slot self.new }
+        ensures new { IsTrue result ↔ (Contains self.old.walked slot → ⊥) }
+    {
         let place = self.queue.len() as u32;
         let mark = &mut self.marks[slot.at as usize];
-        if *mark == 0 {
-            *mark = place + 1;
-            self.queue.push_reserved(slot);
+        if *mark != 0 {
+            return false;
         }
+        *mark = place + 1;
+        self.queue.push_reserved(slot);
+        true
     }
 
     pub(crate) fn walked(&self) -> &[Slot]
@@ -102,5 +141,16 @@ impl Scratch {
         ensures { MatchOption result (Contains self.now.walked slot → ⊥) (λ place. slice_get self.now.walked place ≡ Some slot) }
     {
         self.marks.get(slot.at as usize)?.checked_sub(1)
+    }
+}
+
+/// Takes the marks of the slots away, which are all that are marked.
+fn unmark(slots: &[Slot], marks: &mut [u32])
+    requires marked { IsMarked (numbers slots.now) marks.old }
+    ensures none { IsMarked [] marks.new }
+    ensures long { length marks.new ≡ length marks.old }
+{
+    for slot in slots {
+        marks[slot.at as usize] = 0;
     }
 }

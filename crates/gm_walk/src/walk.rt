@@ -1,4 +1,4 @@
-ghost use Rattle.std.specs.Prelude.{◌≡◌, ℕ, ◌+◌, ◌*◌, ◌<◌, ◌≤◌, length, slice_get, slice_index, MatchOption, Some, IsTrue};
+ghost use Rattle.std.specs.Prelude.{◌≡◌, ℕ, ◌+◌, ◌*◌, ◌<◌, ◌≤◌, length, slice_get, MatchOption, Some, IsTrue};
 ghost use Rattle.std.specs.List.{Contains};
 ghost use Rattle.gm_arena.specs.ArenaMap.{IsLiveSlot, name_at};
 ghost use Rattle.gm_arena.specs.Lawful.{IsLawful};
@@ -6,7 +6,6 @@ ghost use Rattle.gm_model.specs.Labels.{has};
 ghost use Rattle.gm_model.specs.Orbits.{IsWalk};
 ghost use Rattle.gm_walk.specs.Room.{Fits};
 ghost use Rattle.gm_walk.specs.Lent.{slots_of, bound_of, lender_of};
-ghost use Rattle.gm_walk.specs.Seen.{HasGrown};
 ghost use Rattle.gm_walk.specs.Walks.{IsWord, letters_of, along, names_of, AreLive, IsWalkedTo};
 
 use crate::scratch::Scratch;
@@ -103,7 +102,6 @@ pub(crate) fn take_in_neighbours<L: Ledger>(
     requires word { IsWord arena.now.schema.dim word.now }
     requires fits { Fits scratch.old arena.now }
     ensures walk { (d : ℕ) → IsWalkedTo arena.now word.now d at scratch.old.walked → IsWalkedTo arena.now word.now d (at + 1) scratch.new.walked }
-    ensures grown { HasGrown arena.now word.now (slice_index (names_of arena.now scratch.old.walked) at) (length word.now) (names_of arena.now scratch.old.walked) (names_of arena.now scratch.new.walked) }
     ensures longer { length scratch.old.walked ≤ length scratch.new.walked }
     ensures live { AreLive arena.now scratch.new.walked }
     ensures bound { scratch.new.bound ≡ scratch.old.bound }

@@ -5,5 +5,5 @@ use Rattle.gm_grid.proofs.grid.link_darts.Given as goal
 abbrev pub invariant-loop-name : goal.invariant-loop-name
 invariant-loop-name g l = record {
   linked : AreLinked l.m l.name l.arena;
-  cost : l.steps ≡ l.fn.steps + 9 * l.name;
+  cost : l.steps ≡ l.fn.steps + 7 * l.name;
 }

@@ -1,18 +1,17 @@
-use Rattle.std.proofs.Common.{◌≡◌, not, ◌+◌, ◌∷◌, [], ◌++◌, length, take, drop, None, refl, sym, ap, subst, ◌∙◌, arith}
+use Rattle.std.proofs.Common.{◌≡◌, not, ◌+◌, ◌≤◌, ◌∷◌, [], ◌++◌, length, drop, None, refl, sym, ap, subst, ◌∙◌, arith}
 use Rattle.std.proofs.lemmas.List.{length_push}
 use Rattle.std.specs.FinMap.{get}
 use Rattle.std.specs.Slice.Iter.{chunks_exact_rest}
-use Rattle.gm_arena.specs.ArenaMap.{ArenaMap, IsAt}
-use Rattle.gm_arena.specs.Lawful.{AreGoodValues}
+use Rattle.gm_arena.specs.ArenaMap.{IsAt}
 use Rattle.gm_arena.specs.declared.slot.Slot.{Slot}
 use Rattle.gm_model.specs.declared.schema.Schema.{Schema}
 use Rattle.gm_mapfile.specs.MapText.{rows_of}
 use Rattle.gm_mapfile.specs.Packed.{size_of_line, values_in}
 use Rattle.gm_mapfile.specs.Rows.{row_in, valued, darts_in}
 use Rattle.gm_mapfile.specs.Building.{AreAdded, AreValued}
-use Rattle.gm_mapfile.proofs.Chunks.{first_values, below_first, below_rest, name_of_line, read_at, none_left, darts_end, rows_of_darts_in, length_darts_in}
+use Rattle.gm_mapfile.proofs.Chunks.{first_values, below_first, below_rest, name_read, read_at, none_left, darts_end, rows_of_darts_in, length_darts_in}
 use Rattle.gm_mapfile.proofs.Adding.{answered_none, answered_some}
-use Rattle.gm_mapfile.proofs.AddedDarts.{HasDarts, has_none, has_more_named, has_again_named, line_split, line_good, line_spare, line_long, line_words}
+use Rattle.gm_mapfile.proofs.AddedDarts.{HasDarts, has_none, has_more_named, has_again_named, line_split, line_good, line_spare, line_long, line_words, behind_read, values_read, good_read, own_long, schema_kept}
 use Rattle.gm_mapfile.proofs.Unpacked.{size_read}
 use Rattle.gm_mapfile.proofs.building.add_darts.Goals as goal
 
@@ -54,10 +53,33 @@ add_packed-requires-clause-values g c =
     let schema = c.args.arena.now.schema in
     let before = c.loop-line.invariant in
     let steps = c.in-Some.ensures.steps in
-    let size : c.line_size-size.result ≡ size_of_line schema.embeds = size_read c.line_size-size.result c.as_slice.result.now c.schema.result.now c.args.arena.now.schema c.line_size-size.ensures.size c.as_slice.ensures c.schema.ensures in
-    let own : c.split_at.result.0.now ≡ take (size_of_line schema.embeds) c.loop-line.rest.now = c.split_at.ensures.front ∙ ap (λ k. take k c.loop-line.rest.now) size in
+    let size = size_read c.line_size-size.result c.as_slice.result.now c.schema.result.now schema c.line_size-size.ensures.size c.as_slice.ensures c.schema.ensures in
     let good = line_good schema _ c.in-Some.line.now _ c.loop-line.rest.now (drop (size_of_line schema.embeds) c.loop-line.rest.now) steps.1.0 (steps.1.1 ∙ before.size) refl before.good in
-    subst (λ (s : Schema). AreGoodValues s (values_in s.embeds c.split_at.result.0.now)) (sym before.schema) (subst (λ ws. AreGoodValues schema (values_in schema.embeds ws)) (sym own) good.0)
+    good_read schema c.line_size-size.result c.loop-line.rest.now c.split_at.result.0.now c.split_at.result.1.now size c.loop-line.arena.schema before.schema c.split_at.ensures.front good.0
+
+pub add_packed-requires-clause-room : goal.add_packed-requires-clause-room
+add_packed-requires-clause-room g c =
+    let schema = c.args.arena.now.schema in
+    let before = c.loop-line.invariant in
+    let steps = c.in-Some.ensures.steps in
+    let words = c.loop-line.rest.now in
+    (line_spare schema _ c.in-Some.line.now _ words (drop (size_of_line schema.embeds) words) steps.1.0 (steps.1.1 ∙ before.size) refl c.loop-line.arena.spare before.room).0
+
+pub add_packed-requires-clause-new_name : goal.add_packed-requires-clause-new_name
+add_packed-requires-clause-new_name g c =
+    answered_none (get c.loop-line.arena.darts c.number-name.result ≡ None) (λ (s : Slot). IsAt c.loop-line.arena s.at c.number-name.result) c.slot_of.result c.slot_of.ensures.slot (c.is_none.ensures ∙ ap not c.if-is_none.true)
+
+pub add_packed-requires-clause-embeds : goal.add_packed-requires-clause-embeds
+add_packed-requires-clause-embeds g c = subst (λ (s : Schema). length s.embeds ≤ 8) (sym c.loop-line.invariant.schema) c.requires.embeds
+
+pub add_packed-requires-clause-words : goal.add_packed-requires-clause-words
+add_packed-requires-clause-words g c =
+    let schema = c.args.arena.now.schema in
+    let before = c.loop-line.invariant in
+    let steps = c.in-Some.ensures.steps in
+    let words = c.loop-line.rest.now in
+    let size = size_read c.line_size-size.result c.as_slice.result.now c.schema.result.now schema c.line_size-size.ensures.size c.as_slice.ensures c.schema.ensures in
+    own_long schema c.line_size-size.result words c.split_at.result.0.now c.split_at.result.1.now size c.loop-line.arena.schema before.schema c.split_at.ensures.front (line_words schema _ c.in-Some.line.now _ words steps.1.0 (steps.1.1 ∙ before.size) before.long)
 
 pub loop-line-preserved-then-is_none : goal.loop-line-preserved-then-is_none
 loop-line-preserved-then-is_none g c =
@@ -67,14 +89,13 @@ loop-line-preserved-then-is_none g c =
     let steps = c.in-Some.ensures.steps in
     let line = c.in-Some.line.now in
     let name = c.number-name.result in
-    let named = name_of_line line ∙ sym (read_at c.in-Some.line.now 0 _ _ (omega (arith, steps.1.1, before.size)) c.index-line-0.is c.number-name.ensures) in
+    let named = name_read line _ name (omega (arith, steps.1.1, before.size)) c.index-line-0.is c.number-name.ensures in
     let words = c.loop-line.rest.now in
     let others = c.split_at.result.1.now in
     let wide : length line ≡ n + 2 = steps.1.1 ∙ before.size in
-    let size : c.line_size-size.result ≡ size_of_line schema.embeds = size_read c.line_size-size.result c.as_slice.result.now c.schema.result.now c.args.arena.now.schema c.line_size-size.ensures.size c.as_slice.ensures c.schema.ensures in
-    let left : others ≡ drop (size_of_line schema.embeds) words = c.split_at.ensures.back ∙ ap (λ k. drop k words) size in
-    let own : first_values schema words ≡ values_in c.loop-line.arena.schema.embeds c.split_at.result.0.now =
-    ap (values_in schema.embeds) (sym (c.split_at.ensures.front ∙ ap (λ k. take k words) size)) ∙ ap (λ (s : Schema). values_in s.embeds c.split_at.result.0.now) (sym before.schema) in
+    let size = size_read c.line_size-size.result c.as_slice.result.now c.schema.result.now schema c.line_size-size.ensures.size c.as_slice.ensures c.schema.ensures in
+    let left = behind_read schema c.line_size-size.result words c.split_at.result.0.now others size c.split_at.ensures.back in
+    let own = values_read schema c.line_size-size.result words c.split_at.result.0.now others size c.loop-line.arena.schema before.schema c.split_at.ensures.front in
     let dart = valued (row_in line) (first_values schema words) in
     let new_name = answered_none (get c.loop-line.arena.darts name ≡ None) (λ (s : Slot). IsAt c.loop-line.arena s.at name) c.slot_of.result c.slot_of.ensures.slot (c.is_none.ensures ∙ ap not c.if-is_none.true) in
     let m = c.loop-line.arena in
@@ -84,7 +105,7 @@ loop-line-preserved-then-is_none g c =
       front = before.front ++ dart ∷ [];
       size = steps.0 ∙ before.size;
       split = line_split schema _ line _ words others steps.1.0 wide left before.front _ before.split;
-      schema = ap (λ (x : ArenaMap). x.schema) after ∙ before.schema;
+      schema = schema_kept m c.add_packed.new.arena c.add_packed.result.at name (values_in m.schema.embeds c.split_at.result.0.now) schema after before.schema;
       room = rw after room.1;
       reserved = rw after (below_rest m.reserved _ line _ before.reserved steps.1.0);
       long = line_long schema _ line _ words others steps.1.0 wide left before.long;
@@ -103,12 +124,12 @@ loop-line-preserved g c =
     let steps = c.in-Some.ensures.steps in
     let line = c.in-Some.line.now in
     let name = c.number-name.result in
-    let named = name_of_line line ∙ sym (read_at c.in-Some.line.now 0 _ _ (omega (arith, steps.1.1, before.size)) c.index-line-0.is c.number-name.ensures) in
+    let named = name_read line _ name (omega (arith, steps.1.1, before.size)) c.index-line-0.is c.number-name.ensures in
     let words = c.loop-line.rest.now in
     let others = c.split_at.result.1.now in
     let wide : length line ≡ n + 2 = steps.1.1 ∙ before.size in
-    let size : c.line_size-size.result ≡ size_of_line schema.embeds = size_read c.line_size-size.result c.as_slice.result.now c.schema.result.now c.args.arena.now.schema c.line_size-size.ensures.size c.as_slice.ensures c.schema.ensures in
-    let left : others ≡ drop (size_of_line schema.embeds) words = c.split_at.ensures.back ∙ ap (λ k. drop k words) size in
+    let size = size_read c.line_size-size.result c.as_slice.result.now c.schema.result.now schema c.line_size-size.ensures.size c.as_slice.ensures c.schema.ensures in
+    let left = behind_read schema c.line_size-size.result words c.split_at.result.0.now others size c.split_at.ensures.back in
     let dart = valued (row_in line) (first_values schema words) in
     let m = c.loop-line.arena in
     let there = answered_some (get m.darts name ≡ None) (λ (s : Slot). IsAt m s.at name) c.slot_of.result c.slot_of.ensures.slot c.if-is_none.ensures in
@@ -126,6 +147,12 @@ loop-line-preserved g c =
       most = omega (arith, before.most, length_push before.front dart, c.slot_of.ensures.cost);
       least = omega (arith, before.least, length_push before.front dart, c.slot_of.ensures.cost);
     }
+
+pub returns-clause-schema : goal.returns-clause-schema
+returns-clause-schema g c = c.loop-line.invariant.schema
+
+pub returns-clause-next : goal.returns-clause-next
+returns-clause-next g c = c.loop-line.invariant.has.next
 
 pub returns-clause-added : goal.returns-clause-added
 returns-clause-added g c =

@@ -1,25 +1,33 @@
+use Rattle.std.proofs.Common.{◌+◌, ◌*◌}
+use Rattle.gm_mapfile.specs.Draft.{version_in}
 use Rattle.gm_mapfile.specs.Rows.{darts_in}
 use Rattle.gm_mapfile.proofs.Joined.{if_err, if_ok_both}
-use Rattle.gm_mapfile.proofs.Reordered.{held_in, fault_in, most_in}
+use Rattle.gm_mapfile.proofs.Reordered.{same_read, held_moved, fault_moved, most_moved}
 use Rattle.gm_mapfile.proofs.building.build.Goals as goal
 
 pub returns-clause-held : goal.returns-clause-held
 returns-clause-held g c =
-    let d = c.args.draft in
-    let s = c.in_ok-sorted.sorted in
-    let e = c.in_ok-sorted.ensures in
-    if_ok_both c.build_lines.result (λ m held _. held_in d.stated s.stated d.schema s.schema (darts_in d.schema d.numbers.items d.words.items) s.numbers.items s.words.items e.stated e.schema e.darts m held) c.build_lines.ensures.held c.build_lines.ensures.held
+    let schema = c.args.draft.schema in
+    let darts = darts_in schema c.args.draft.numbers.items c.args.draft.words.items in
+    let xs = c.as_slice-numbers.result.now in
+    let vs = c.as_slice-words.result.now in
+    let same = same_read darts schema c.in_order.new.numbers.items xs c.in_order.new.words.items vs c.as_slice-numbers.ensures.value c.as_slice-words.ensures.value c.in_ok-in_order.ensures.darts in
+    if_ok_both c.build_lines.result (λ m held _. held_moved darts (darts_in schema xs vs) same (version_in c.args.draft.stated) schema m held) c.build_lines.ensures.held c.build_lines.ensures.held
 
 pub returns-clause-fault : goal.returns-clause-fault
 returns-clause-fault g c =
-    let d = c.args.draft in
-    let s = c.in_ok-sorted.sorted in
-    let e = c.in_ok-sorted.ensures in
-    if_err c.build_lines.result (fault_in d.stated s.stated d.schema s.schema (darts_in d.schema d.numbers.items d.words.items) s.numbers.items s.words.items e.stated e.schema e.darts) c.build_lines.ensures.fault
+    let schema = c.args.draft.schema in
+    let darts = darts_in schema c.args.draft.numbers.items c.args.draft.words.items in
+    let xs = c.as_slice-numbers.result.now in
+    let vs = c.as_slice-words.result.now in
+    let same = same_read darts schema c.in_order.new.numbers.items xs c.in_order.new.words.items vs c.as_slice-numbers.ensures.value c.as_slice-words.ensures.value c.in_ok-in_order.ensures.darts in
+    if_err c.build_lines.result (fault_moved darts (darts_in schema xs vs) same (version_in c.args.draft.stated) schema.dim) c.build_lines.ensures.fault
 
 pub returns-clause-most : goal.returns-clause-most
 returns-clause-most g c =
-    let d = c.args.draft in
-    let s = c.in_ok-sorted.sorted in
-    let e = c.in_ok-sorted.ensures in
-    most_in d.stated s.stated d.schema s.schema (darts_in d.schema d.numbers.items d.words.items) s.numbers.items s.words.items e.stated e.schema e.darts c.args.steps.now c.build_lines.new.steps c.build_lines.ensures.most
+    let schema = c.args.draft.schema in
+    let darts = darts_in schema c.args.draft.numbers.items c.args.draft.words.items in
+    let xs = c.as_slice-numbers.result.now in
+    let vs = c.as_slice-words.result.now in
+    let same = same_read darts schema c.in_order.new.numbers.items xs c.in_order.new.words.items vs c.as_slice-numbers.ensures.value c.as_slice-words.ensures.value c.in_ok-in_order.ensures.darts in
+    most_moved darts (darts_in schema xs vs) same (2 * schema.dim + 5) c.args.steps.now c.build_lines.new.steps c.build_lines.ensures.most

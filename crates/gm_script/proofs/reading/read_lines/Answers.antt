@@ -10,7 +10,7 @@ use Rattle.gm_script.proofs.reading.read_lines.Goals.{in-Some-end_line+in_ok-add
 
 pub returns-in_err-token-clause-fault : goal.returns-in_err-token-clause-fault
 returns-in_err-token-clause-fault c =
-    let p = err_from_is_err_and c.from_residual.result c.from_residual.ensures.1 in
+    let p = err_from_is_err_and c.from_residual-in_err-token.result c.from_residual-in_err-token.ensures.1 in
     rw (p.1, p.2) (stray_fails c.args.bytes.now (map rule_of c.args.rules.now) c.loop-compared.reader c.loop-compared.lexer c.loop-compared.compared c.loop-compared.invariant.so_far c.in_err-token.field-0.0 c.in_err-token.ensures.stray)
 
 pub returns-in_err-take-clause-fault : goal.returns-in_err-take-clause-fault
@@ -54,13 +54,13 @@ pub returns-clause-script : goal.returns-clause-script
 returns-clause-script c =
     let at_end : (rest_of c.loop-compared.lexer ≡ EndAt (length c.loop-compared.lexer.text) ∷ []) × (c.next_token.new.lexer.place ≡ length c.loop-compared.lexer.text) = rw c.in_default.is at c.in_ok-token.ensures.found in
     let place : c.place.result ≡ length c.loop-compared.lexer.text = c.place.ensures.value ∙ at_end.1 in
-    let adds : Adds c.args.bytes.now (map rule_of c.args.rules.now) c.in_ok-last.field-0 c.loop-compared.compared c.match-branch-6.compared =
-    elim c.match-branch-6.branch [
+    let adds : Adds c.args.bytes.now (map rule_of c.args.rules.now) c.in_ok-last.field-0 c.loop-compared.compared c.match-branch-7.compared =
+    elim c.match-branch-7.branch [
       | in-Some-2+in_ok-add-2 w ↦ rw (w.compared-is, w.in-Some-2.is) w.in_ok-add-2.ensures.ok
       | in_default-2 w ↦ rw (w.compared-is, w.in_default-2.is) (adds_none c.args.bytes.now (map rule_of c.args.rules.now) c.loop-compared.compared)
     ] in
-    done_script c.args.bytes.now (map rule_of c.args.rules.now) c.match-branch-6.compared
-    (ends c.args.bytes.now (map rule_of c.args.rules.now) c.loop-compared.reader (length c.loop-compared.lexer.text) c.in_ok-last.field-0 c.loop-compared.compared c.match-branch-6.compared (rw at_end.0 at c.loop-compared.invariant.so_far)
+    done_script c.args.bytes.now (map rule_of c.args.rules.now) c.match-branch-7.compared
+    (ends c.args.bytes.now (map rule_of c.args.rules.now) c.loop-compared.reader (length c.loop-compared.lexer.text) c.in_ok-last.field-0 c.loop-compared.compared c.match-branch-7.compared (rw at_end.0 at c.loop-compared.invariant.so_far)
     (rw place at c.in_ok-last.ensures) adds)
     c.finish-2.result c.finish-2.ensures.lines
 
@@ -68,12 +68,12 @@ pub returns-clause-fault : goal.returns-clause-fault
 returns-clause-fault c =
     let at_end : (rest_of c.loop-compared.lexer ≡ EndAt (length c.loop-compared.lexer.text) ∷ []) × (c.next_token.new.lexer.place ≡ length c.loop-compared.lexer.text) = rw c.in_default.is at c.in_ok-token.ensures.found in
     let place : c.place.result ≡ length c.loop-compared.lexer.text = c.place.ensures.value ∙ at_end.1 in
-    let adds : Adds c.args.bytes.now (map rule_of c.args.rules.now) c.in_ok-last.field-0 c.loop-compared.compared c.match-branch-6.compared =
-    elim c.match-branch-6.branch [
+    let adds : Adds c.args.bytes.now (map rule_of c.args.rules.now) c.in_ok-last.field-0 c.loop-compared.compared c.match-branch-7.compared =
+    elim c.match-branch-7.branch [
       | in-Some-2+in_ok-add-2 w ↦ rw (w.compared-is, w.in-Some-2.is) w.in_ok-add-2.ensures.ok
       | in_default-2 w ↦ rw (w.compared-is, w.in_default-2.is) (adds_none c.args.bytes.now (map rule_of c.args.rules.now) c.loop-compared.compared)
     ] in
-    done_fault c.args.bytes.now (map rule_of c.args.rules.now) c.match-branch-6.compared
-    (ends c.args.bytes.now (map rule_of c.args.rules.now) c.loop-compared.reader (length c.loop-compared.lexer.text) c.in_ok-last.field-0 c.loop-compared.compared c.match-branch-6.compared (rw at_end.0 at c.loop-compared.invariant.so_far)
+    done_fault c.args.bytes.now (map rule_of c.args.rules.now) c.match-branch-7.compared
+    (ends c.args.bytes.now (map rule_of c.args.rules.now) c.loop-compared.reader (length c.loop-compared.lexer.text) c.in_ok-last.field-0 c.loop-compared.compared c.match-branch-7.compared (rw at_end.0 at c.loop-compared.invariant.so_far)
     (rw place at c.in_ok-last.ensures) adds)
     c.finish-2.result c.finish-2.ensures.fault

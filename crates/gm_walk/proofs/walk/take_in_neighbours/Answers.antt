@@ -1,12 +1,8 @@
-use Rattle.std.proofs.Common.{◌≡◌, List, length, get_or, refl, sym, ap, subst, Some, ◌∙◌, arith}
+use Rattle.std.proofs.Common.{◌≡◌, length, get_or, refl, sym, ap, subst, Some, ◌∙◌, arith}
 use Rattle.std.proofs.lemmas.List.{get_or_default}
-use Rattle.gm_arena.specs.ArenaMap.{name_at}
-use Rattle.gm_arena.specs.declared.slot.Slot.{Slot}
 use Rattle.gm_model.specs.Orbits.{IsWalkTo}
-use Rattle.gm_walk.specs.Seen.{HasGrown}
 use Rattle.gm_walk.specs.Walks.{along, names_of}
-use Rattle.gm_walk.proofs.NameLemmas.{live_at, name_there, at_place, live_after, longer_after, same_after, bound_after, walk_after}
-use Rattle.gm_walk.proofs.GrowLemmas.{grown_none, grown_more, name_taken}
+use Rattle.gm_walk.proofs.NameLemmas.{live_at, at_place, live_after, longer_after, same_after, bound_after, walk_after}
 use Rattle.gm_walk.proofs.WalkLemmas.{next_dart}
 use Rattle.gm_walk.proofs.walk.take_in_neighbours.Goals as goal
 
@@ -17,7 +13,6 @@ loop-place-init g c = record {
   longer = omega arith;
   here = λ d. get_or_default c.args.scratch.now.walked c.args.at d (record { at = 0 }) c.requires.within ∙ ap (λ xs. get_or xs c.args.at (record { at = 0 })) (sym c.walked.ensures.value);
   walk = λ d w. w;
-  grown = grown_none c.args.arena.now c.args.word.now _ _;
   bound = refl;
   cost = omega arith;
 }
@@ -35,9 +30,6 @@ loop-place-preserved g c =
       walk = λ d w. walk_after c.args.arena.now _ _ _ takes c.requires.lawful c.args.word.now d c.args.at c.loop-place.place _ i.live i.within (i.here _)
           (omega (arith, c.loop-place-test.true, c.len-place-end.ensures.value))
           (at_place c.args.arena.now c.args.word.now c.loop-place.place c.in-At.label _ _ (c.letter.ensures ∙ ap Some c.in-At.is) c.alpha.ensures.neighbour) (i.walk d w);
-      grown = grown_more c.args.arena.now c.args.word.now _ c.loop-place.place _ _ _ (omega (arith, c.loop-place-test.true, c.len-place-end.ensures.value)) i.grown
-          (name_taken c.args.arena.now c.requires.lawful _ _ _ _ i.live
-          (at_place c.args.arena.now c.args.word.now c.loop-place.place c.in-At.label _ _ (c.letter.ensures ∙ ap Some c.in-At.is) c.alpha.ensures.neighbour) takes);
       bound = bound_after c.args.arena.now _ _ _ takes ∙ i.bound;
       cost = omega (arith, i.cost, c.alpha.ensures.cost);
     }
@@ -48,15 +40,3 @@ returns-clause-walk g c =
     let m = c.args.arena.now in
     let word = c.args.word.now in
     λ d w. next_dart _ _ d c.args.at _ (subst (λ l. IsWalkTo (along m word) (length word) d c.args.at l (names_of m c.loop-place.scratch.walked)) end (c.loop-place.invariant.walk d w))
-
-pub returns-clause-grown : goal.returns-clause-grown
-returns-clause-grown g c =
-    let end : c.loop-place.place ≡ length c.args.word.now = omega (arith, c.loop-place-test.false, c.loop-place.auto.place-end, c.len-place-end.ensures.value) in
-    let m = c.args.arena.now in
-    let word = c.args.word.now in
-    let old = names_of m c.args.scratch.now.walked in
-    let new = names_of m c.loop-place.scratch.walked in
-    let slot = get_or c.walked.result.now c.args.at (record { at = 0 }) in
-    let is : name_at m slot.at ≡ get_or old c.args.at 0 =
-    ap (λ (xs : List Slot). name_at m (get_or xs c.args.at (record { at = 0 })).at) c.walked.ensures.value ∙ sym (name_there m c.args.scratch.now.walked c.args.at (record { at = 0 }) c.requires.within) in
-    subst (λ x. HasGrown m word x (length word) old new) is (subst (λ l. HasGrown m word (name_at m slot.at) l old new) end c.loop-place.invariant.grown)

@@ -1,7 +1,0 @@
-use Rattle.std.proofs.Common.{◌≡◌, map, take}
-use Rattle.gm_mapfile.specs.Ordering.{on_lines}
-use Rattle.gm_mapfile.specs.declared.ordering.Line.{Line}
-use Rattle.gm_mapfile.proofs.ordering.taken.Given as goal
-
-abbrev pub invariant-loop-line : goal.invariant-loop-line
-invariant-loop-line g l = l.taken.items ≡ on_lines l.width l.fn.all.items (map (λ (line : Line). line.at) (take l.line-index l.lines))
