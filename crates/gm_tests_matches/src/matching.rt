@@ -144,7 +144,9 @@ fn matched<L: Ledger>(
     steps: &mut Steps<L>,
 ) -> Result<Result<Vec<u32>, MatchFault>, Fail> {
     assert!(rt; is_fit(arena.schema(), rule));
-    assert!(rt; check_map(alloc, arena, steps).is_ok());
+    let Ok(()) = check_map(alloc, arena, steps) else {
+        return Err("a map".into());
+    };
     let plan = compile(alloc, arena.schema(), rule)?;
     assert!(rt; hooks.len() == plan.hooks() as usize);
     let mut scratch = Scratch::new(alloc);
