@@ -1,7 +1,8 @@
 -- The assignment of a node's table that is found is the one of the rule's node.
-use Rattle.std.proofs.Common.{◌≡◌, ℕ, ◌<◌, List, length, map, Option, Some, None, refl, sym, subst, ap, ◌∙◌}
+use Rattle.std.proofs.Common.{◌≡◌, ◌≢◌, ℕ, ◌+◌, ◌<◌, ◌⊎◌, inl, inr, List, length, map, get_or, Option, Some, None, refl, sym, subst, ap, ◌∙◌, arith}
 use Rattle.std.specs.List.{slice_get}
 use Rattle.std.specs.Option.{option_map}
+use Rattle.std.proofs.lemmas.Bool.{cases_eq}
 use Rattle.std.proofs.lemmas.Option.{slice_get-map, slice_get-get_or, slice_get_within, get_or_from_slice_get}
 use Rattle.gm_model.specs.declared.rule.Set.{Set}
 use Rattle.gm_model.specs.Components.{IsAssigned}
@@ -32,3 +33,17 @@ module _ (rule : Rule) (x : ℕ) (node : RuleNode) (sets : List Set) (here : sli
 -- an assigned node is one of the rule's
 pub assigned_within : (rule : Rule) (e x : ℕ) → IsAssigned rule e x → x < length rule.nodes
 assigned_within rule e x (tree, (node, at, c)) = slice_get_within rule.nodes x node at
+
+-- ---- the search among the assignments of a node
+
+module _ (sets : List Set) (e i : ℕ) (here : Set) (there : here ≡ get_or sets i here) where
+  -- where none of the first has the embedding, and the next hasn't either
+  pub none_more : here.embed ≢ e → ((k : ℕ) (s : Set) → k < i → slice_get sets k ≡ Some s → s.embed ≢ e) → (k : ℕ) (s : Set) → k < i + 1 → slice_get sets k ≡ Some s → s.embed ≢ e
+  none_more apart before k s less at = go (cases_eq k i)
+    where
+      go : (k ≡ i) ⊎ (k ≡ i → ⊥) → s.embed ≢ e
+      go (inl same) = subst (λ (t : Set). t.embed ≢ e) (there ∙ ap (λ n. get_or sets n here) (sym same) ∙ get_or_from_slice_get sets k s here at) apart
+      go (inr other) = before k s (omega (arith, less, other)) at
+
+  pub among_them : i < length sets → (k : ℕ) × (slice_get sets k ≡ Some here)
+  among_them within = (i, slice_get-get_or sets i here within ∙ ap Some (sym there))

@@ -9,6 +9,7 @@ pub mod ValueFaults
 pub mod RuleFaults
 pub mod RuleNames
 pub mod Lines
+pub mod Mapped
 pub mod Printable
 pub mod CanonicalForm
 pub mod SpelledValues

@@ -1,3 +1,4 @@
+pub mod Exits
 pub mod FreeLemmas
 pub mod LabelLemmas
 pub mod LeastLemmas

@@ -2,7 +2,7 @@
 use Rattle.std.proofs.Common.{◌≡◌, ◌≢◌, ℕ, ◌+◌, ◌*◌, ◌%◌, ◌<◌, ◌≤◌, ◌⊎◌, ◌==◌, cond, List, [], ◌∷◌, ◌++◌, Some, length, get_or, set, refl, sym, ap, subst, ◌∙◌, inl, inr, arith}
 use Rattle.std.proofs.lemmas.Bool.{cases_lt, cases_eq, ne_eqb}
 use Rattle.std.proofs.lemmas.List.{get_or_append_left, get_or_push, get_or-set_same, get_or-set_other, length_push}
-use Rattle.std.proofs.lemmas.List.Sums.{sum_by-set}
+use Rattle.std.proofs.lemmas.List.Sums.{sum_by-set, count_by-le-length}
 use Rattle.gm_model.specs.Maps.{IsGeneralised}
 use Rattle.gm_model.specs.Orbits.{IsPairBefore}
 use Rattle.gm_arena.specs.ArenaAsMap.{as_map}
@@ -317,3 +317,7 @@ longer_after slot k marks marks' queue queue' (Added h e f) = omega (arith, ap (
 pub same_after : (slot : Slot) (k : ℕ) (marks marks' : List ℕ) (queue queue' : List Visit) → Reaches slot k marks queue marks' queue' → (p : ℕ) → p < length queue → get_or queue' p nowhere ≡ get_or queue p nowhere
 same_after slot k marks marks' queue queue' (Known h e f) p less = ap (λ xs. get_or xs p nowhere) f
 same_after slot k marks marks' queue queue' (Added h e f) p less = ap (λ xs. get_or xs p nowhere) f ∙ get_or_append_left queue (record { slot = slot; length = k } ∷ []) nowhere p less
+
+-- no walk of the queue is as long as there are marks
+pub short_queue : (m : ArenaMap) (d : ℕ) (old marks : List ℕ) (queue : List Visit) → IsFound m d old marks queue → (p : ℕ) → p < length queue → length_in queue p < length old
+short_queue m d old marks queue f p within = omega (arith, f.low p within, within, f.counted, count_by-le-length (λ mark. mark == 0) old)

@@ -319,3 +319,21 @@ even_is marks slot = ap (λ q. get_or marks q 0) (omega arith)
 
 pub room_in : (marks old : List ℕ) (bound slot : ℕ) → length marks ≡ length old → old ≡ replicate (2 * bound) 0 → slot < bound → 2 * slot + 1 < length marks
 room_in marks old bound slot long e less = omega (arith, long, ap length e, length-replicate {A = ℕ} (2 * bound) 0)
+
+pub zeros_long : (marks : List ℕ) (bound : ℕ) → marks ≡ replicate (2 * bound) 0 → length marks ≡ 2 * bound
+zeros_long marks bound e = ap length e ∙ length-replicate {A = ℕ} (2 * bound) 0
+
+zero_at : (n place : ℕ) → ◌≡◌ {A = ℕ} (get_or (replicate n 0) place 0) 0
+zero_at n place = elim (cases_lt place n) [
+  | inl less ↦ get_or-replicate n place 0 0 less
+  | inr past ↦ get_or_past (replicate n 0) place 0 (omega (arith, past, length-replicate {A = ℕ} n 0))
+]
+
+-- before the first search
+pub none_settled : (m : ArenaMap) (names : List ℕ) (bound : ℕ) → IsSettled m names 0 (replicate (2 * bound) 0)
+none_settled m names bound = record {
+  done = λ q slot less at. absurd (omega (arith, less));
+  step = λ slot to k i live some. absurd (some (zero_at (2 * bound) (2 * slot + k % 2)));
+  once = λ slot k live some. absurd (some (zero_at (2 * bound) (2 * slot + k % 2)));
+  led = λ slot k live some. absurd (some (zero_at (2 * bound) (2 * slot + k % 2)));
+}

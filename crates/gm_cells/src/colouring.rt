@@ -27,15 +27,33 @@ pub fn orient<L: Ledger>(
 {
     let names = arena.names(alloc, steps)?;
     let mut marks = no_marks(alloc, arena.bound())?;
-    match first_odd(alloc, arena, &names, &mut marks, steps)? {
+    orient_by(alloc, arena, &names, &mut marks, steps)
+}
+
+/// The same by the names of all darts and marks of which none is set. Both are borrowed, so that no
+/// way out has to drop them.
+fn orient_by<L: Ledger>(
+    alloc: Global,
+    arena: &Arena,
+    names: &[u32],
+    marks: &mut [u32],
+    steps: &mut Steps<L>,
+) -> Result<Orientation, OutOfMemory>
+    requires generalised { IsGeneralised (as_map arena.now) }
+    requires names { names.now ≡ keys arena.now.darts }
+    requires marks { marks.old ≡ replicate (2 * arena.now.bound) 0 }
+    requires few { arena.now.bound ≤ 1073741824 }
+    ensures orientation { IfOk result (IsOrientation (as_map arena.now)) }
+{
+    match first_odd(alloc, arena, names, marks, steps)? {
         None => {
-            let first = first_colour(alloc, arena, &names, &marks, steps)?;
+            let first = first_colour(alloc, arena, names, marks, steps)?;
             Ok(Orientation::Two {
                 first: Items::new(first),
             })
         }
         Some(slot) => {
-            let labels = least_odd_walk(alloc, arena, slot, &marks, steps)?;
+            let labels = least_odd_walk(alloc, arena, slot, marks, steps)?;
             Ok(Orientation::Odd {
                 start: arena.name_of(slot, steps),
                 labels: Items::new(labels),

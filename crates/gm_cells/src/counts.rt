@@ -4,7 +4,6 @@ ghost use Rattle.std.specs.Prelude.{◌+◌, ◌*◌, ◌≤◌, IfOk};
 ghost use Rattle.gm_arena.specs.ArenaAsMap.{as_map};
 ghost use Rattle.gm_cells.specs.Cells.{AreCounts, HasCells};
 ghost use Rattle.gm_model.specs.Maps.{IsGeneralised};
-ghost use Rattle.gm_walk.specs.Room.{Fits};
 
 use crate::free::count_free;
 use crate::masks::mask_without;
@@ -25,7 +24,8 @@ pub struct Counts {
     pub free: Items<u32>,
 }
 
-/// Counts the cells, components and free darts of a generalised map. The scratch keeps its room.
+/// Counts the cells, components and free darts of a generalised map. The scratch keeps its room, and
+/// gets more where it walks.
 pub fn count<L: Ledger>(
     alloc: Global,
     arena: &Arena,
@@ -33,9 +33,8 @@ pub fn count<L: Ledger>(
     steps: &mut Steps<L>,
 ) -> Result<Counts, OutOfMemory>
     requires generalised { IsGeneralised (as_map arena.now) }
-    requires fits { Fits scratch.old arena.now }
     ensures counts { IfOk result (AreCounts (as_map arena.now)) }
-    ensures room { Fits scratch.new arena.now }
+    ensures room { scratch.old.bound ≤ scratch.new.bound }
 {
     let darts = arena.count();
     let cells = count_cells(alloc, arena, scratch, steps)?;
@@ -53,7 +52,8 @@ pub fn count<L: Ledger>(
     })
 }
 
-/// By label, how many cells it leaves: the orbits over all other labels. The scratch keeps its room.
+/// By label, how many cells it leaves: the orbits over all other labels. The scratch keeps its room,
+/// and gets more where it walks.
 pub fn count_cells<L: Ledger>(
     alloc: Global,
     arena: &Arena,
@@ -61,11 +61,10 @@ pub fn count_cells<L: Ledger>(
     steps: &mut Steps<L>,
 ) -> Result<Vec<u32>, OutOfMemory>
     requires generalised { IsGeneralised (as_map arena.now) }
-    requires fits { Fits scratch.old arena.now }
     ensures cells { IfOk result (λ cells. HasCells (as_map arena.now) cells.items) }
     ensures cost { steps.new ≤ steps.old + (arena.now.schema.dim + 1) * (8 * (arena.now.schema.dim + 1) * arena.now.count) }
     ensures least { steps.old ≤ steps.new }
-    ensures room { Fits scratch.new arena.now }
+    ensures room { scratch.old.bound ≤ scratch.new.bound }
 {
     let top = arena.schema().dim.top();
     let mut cells = Vec::new(alloc);

@@ -8,6 +8,10 @@ pub on_err : {T E P : Type 0} (r : Result T E) → P → OnErr r P
 on_err (Ok x) p = tt
 on_err (Err e) p = p
 
+-- the part behind those that are done is written too
+pub written_behind : (before done part : List ℕ) {middle after : List ℕ} → middle ≡ before ++ done → after ≡ middle ++ part → after ≡ before ++ (done ++ part)
+written_behind before done part so_far more = rw (more, so_far) (append_assoc before done part)
+
 -- within the part behind those that are done
 pub cut_behind : (before done : List ℕ) {middle part after : List ℕ} → middle ≡ before ++ done → IsCutShort middle part after → IsCutShort before (done ++ part) after
 cut_behind before done so_far cut = record {
@@ -16,6 +20,13 @@ cut_behind before done so_far cut = record {
   text_is = rw cut.text_is (sym (append_assoc done cut.front cut.rest));
   after_is = rw (cut.after_is, so_far) (append_assoc before done cut.front);
 }
+
+-- the same of a part with what leads to it
+pub written_behind_lead : (before done lead part : List ℕ) {middle after : List ℕ} → middle ≡ before ++ done → after ≡ middle ++ (lead ++ part) → after ≡ before ++ (done ++ lead ++ part)
+written_behind_lead before done lead part {after = after} so_far more = rw (append_assoc done lead part) (written_behind before done (lead ++ part) so_far more)
+
+pub cut_behind_lead : (before done lead part : List ℕ) {middle after : List ℕ} → middle ≡ before ++ done → IsCutShort middle (lead ++ part) after → IsCutShort before (done ++ lead ++ part) after
+cut_behind_lead before done lead part {after = after} so_far cut = rw (append_assoc done lead part) (cut_behind before done so_far cut)
 
 -- before a part that isn't begun
 pub cut_before : {before text after : List ℕ} (rest : List ℕ) → IsCutShort before text after → IsCutShort before (text ++ rest) after

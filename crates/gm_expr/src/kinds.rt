@@ -1,15 +1,16 @@
 //! The kind of an expression, by the table of kinds.
 ghost use Rattle.std.specs.Prelude.{◌≡◌, slice_get};
 ghost use Rattle.std.specs.Option.{option_map, option_and_then};
-ghost use Rattle.gm_model.specs.Kinds.{binary_kind, choice_kind, common, numeric, of_bools, of_ints, only_int, param_kinds, product_kind, quotient_kind, sum_kind, tree_kind, triple_kind, unary_kind};
+ghost use Rattle.gm_model.specs.Kinds.{binary_kind, choice_kind, common, numeric, of_bools, of_ints, only_int, param_kinds, product_kind, quotient_kind, sum_kind, tree_kind, triple_kind, unary_kind, with_three, with_two};
 ghost use Rattle.gm_model.specs.Trees.{tree_of};
 ghost use Rattle.gm_model.specs.declared.schema.Embed.{Embed};
-ghost use Rattle.gm_model.specs.declared.value.Kind.TheVariants.{Bool};
+ghost use Rattle.gm_model.specs.declared.value.Kind.TheVariants.{Bool, Vec2};
 
-use gm_model::{BinOp, Embed, Expr, Kind, Param, Schema, UnOp};
+use gm_model::{BinOp, Expr, Kind, Param, Schema, UnOp};
 
 /// The kind of an expression of a rule with these parameters, over the schema. `None` where the
 /// table of kinds gives it none, and where a number stands for no parameter or embedding.
+#[cycle(kind)]
 pub fn type_expr(schema: &Schema, params: &[Param], expr: &Expr) -> Option<Kind>
     ensures { result ≡ tree_kind schema.now.embeds (param_kinds params.now) (tree_of expr.now) }
 {
@@ -17,40 +18,91 @@ pub fn type_expr(schema: &Schema, params: &[Param], expr: &Expr) -> Option<Kind>
         Expr::Bool(_) | Expr::Same(_, _) => Some(Kind::Bool),
         Expr::Int(_) | Expr::Count(_, _) => Some(Kind::Int),
         Expr::Param(at) => param_kind(params, *at),
-        Expr::Field(_, embed) => value_kind(schema.embeds.as_slice(), *embed),
-        Expr::Sum(_, _, embed) => kind_of_sum(value_kind(schema.embeds.as_slice(), *embed)?),
-        Expr::Least(_, _, embed) | Expr::Greatest(_, _, embed) => {
-            kind_of_extreme(value_kind(schema.embeds.as_slice(), *embed)?)
+        Expr::Field(_, embed) => value_kind(schema, *embed),
+        Expr::Sum(_, _, embed) => type_sum(schema, *embed),
+        Expr::Least(_, _, embed) | Expr::Greatest(_, _, embed) => type_extreme(schema, *embed),
+        Expr::Unary(op, part) => type_unary(schema, params, *op, part),
+        Expr::Binary(op, left, right) => type_binary(schema, params, *op, left, right),
+        Expr::If(condition, then, other) => type_choice(schema, params, condition, then, other),
+        Expr::MakeVec2(x, y) => type_pair(schema, params, x, y),
+        Expr::MakeVec3(x, y, z) => type_triple(schema, params, Kind::Vec3, x, y, z),
+        Expr::MakeRgb(red, green, blue) => {
+            type_triple(schema, params, Kind::Rgb, red, green, blue)
         }
-        Expr::Unary(op, part) => kind_of_unary(*op, type_expr(schema, params, part)?),
-        Expr::Binary(op, left, right) => kind_of_binary(
-            *op,
-            type_expr(schema, params, left)?,
-            type_expr(schema, params, right)?,
-        ),
-        Expr::If(condition, then, other) => kind_of_choice(
-            type_expr(schema, params, condition)?,
-            type_expr(schema, params, then)?,
-            type_expr(schema, params, other)?,
-        ),
-        Expr::MakeVec2(x, y) => kind_from_two(
-            Kind::Vec2,
-            type_expr(schema, params, x)?,
-            type_expr(schema, params, y)?,
-        ),
-        Expr::MakeVec3(x, y, z) => kind_from_three(
-            Kind::Vec3,
-            type_expr(schema, params, x)?,
-            type_expr(schema, params, y)?,
-            type_expr(schema, params, z)?,
-        ),
-        Expr::MakeRgb(red, green, blue) => kind_from_three(
-            Kind::Rgb,
-            type_expr(schema, params, red)?,
-            type_expr(schema, params, green)?,
-            type_expr(schema, params, blue)?,
-        ),
     }
+}
+
+#[cycle(kind)]
+fn type_unary(schema: &Schema, params: &[Param], op: UnOp, part: &Expr) -> Option<Kind>
+    ensures { result ≡ option_and_then (unary_kind op) (tree_kind schema.now.embeds (param_kinds params.now) (tree_of part.now)) }
+{
+    kind_of_unary(op, type_expr(schema, params, part)?)
+}
+
+#[cycle(kind)]
+fn type_binary(
+    schema: &Schema,
+    params: &[Param],
+    op: BinOp,
+    left: &Expr,
+    right: &Expr,
+) -> Option<Kind>
+    ensures { result ≡ with_two (binary_kind op) (tree_kind schema.now.embeds (param_kinds params.now) (tree_of left.now)) (tree_kind schema.now.embeds (param_kinds params.now) (tree_of right.now)) }
+{
+    let left = type_expr(schema, params, left)?;
+    kind_of_binary(op, left, type_expr(schema, params, right)?)
+}
+
+#[cycle(kind)]
+fn type_choice(
+    schema: &Schema,
+    params: &[Param],
+    condition: &Expr,
+    then: &Expr,
+    other: &Expr,
+) -> Option<Kind>
+    ensures { result ≡ with_three choice_kind (tree_kind schema.now.embeds (param_kinds params.now) (tree_of condition.now)) (tree_kind schema.now.embeds (param_kinds params.now) (tree_of then.now)) (tree_kind schema.now.embeds (param_kinds params.now) (tree_of other.now)) }
+{
+    let condition = type_expr(schema, params, condition)?;
+    let then = type_expr(schema, params, then)?;
+    kind_of_choice(condition, then, type_expr(schema, params, other)?)
+}
+
+#[cycle(kind)]
+fn type_pair(schema: &Schema, params: &[Param], x: &Expr, y: &Expr) -> Option<Kind>
+    ensures { result ≡ with_two (of_ints Vec2) (tree_kind schema.now.embeds (param_kinds params.now) (tree_of x.now)) (tree_kind schema.now.embeds (param_kinds params.now) (tree_of y.now)) }
+{
+    let x = type_expr(schema, params, x)?;
+    kind_from_two(Kind::Vec2, x, type_expr(schema, params, y)?)
+}
+
+#[cycle(kind)]
+fn type_triple(
+    schema: &Schema,
+    params: &[Param],
+    kind: Kind,
+    first: &Expr,
+    second: &Expr,
+    third: &Expr,
+) -> Option<Kind>
+    ensures { result ≡ with_three (triple_kind kind) (tree_kind schema.now.embeds (param_kinds params.now) (tree_of first.now)) (tree_kind schema.now.embeds (param_kinds params.now) (tree_of second.now)) (tree_kind schema.now.embeds (param_kinds params.now) (tree_of third.now)) }
+{
+    let first = type_expr(schema, params, first)?;
+    let second = type_expr(schema, params, second)?;
+    kind_from_three(kind, first, second, type_expr(schema, params, third)?)
+}
+
+fn type_sum(schema: &Schema, embed: u8) -> Option<Kind>
+    ensures { result ≡ option_and_then sum_kind (option_map (λ (embed : Embed). embed.kind) (slice_get schema.now.embeds embed)) }
+{
+    kind_of_sum(value_kind(schema, embed)?)
+}
+
+/// The kind of a least or a greatest value.
+fn type_extreme(schema: &Schema, embed: u8) -> Option<Kind>
+    ensures { result ≡ option_and_then only_int (option_map (λ (embed : Embed). embed.kind) (slice_get schema.now.embeds embed)) }
+{
+    kind_of_extreme(value_kind(schema, embed)?)
 }
 
 fn param_kind(params: &[Param], at: u8) -> Option<Kind>
@@ -59,10 +111,10 @@ fn param_kind(params: &[Param], at: u8) -> Option<Kind>
     Some(params.get(usize::from(at))?.kind)
 }
 
-fn value_kind(embeds: &[Embed], embed: u8) -> Option<Kind>
-    ensures { result ≡ option_map (λ (embed : Embed). embed.kind) (slice_get embeds.now embed) }
+fn value_kind(schema: &Schema, embed: u8) -> Option<Kind>
+    ensures { result ≡ option_map (λ (embed : Embed). embed.kind) (slice_get schema.now.embeds embed) }
 {
-    Some(embeds.get(usize::from(embed))?.kind)
+    Some(schema.embeds.as_slice().get(usize::from(embed))?.kind)
 }
 
 /// Numbers, and vectors of numbers.

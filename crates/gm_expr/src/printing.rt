@@ -57,6 +57,23 @@ fn print_param(out: &mut Text, params: &[Param], at: u8) -> Result<(), OutOfMemo
     out.put(params[usize::from(at)].name.bytes())
 }
 
+/// An expression behind what leads to it.
+#[cycle(print)]
+fn print_behind(
+    out: &mut Text,
+    schema: &Schema,
+    rule: &RuleTable,
+    lead: &[u8],
+    expr: &Expr,
+) -> Result<(), OutOfMemory>
+    requires { IsNamed schema.now (rule_of rule.now) (tree_of expr.now) }
+    ensures ok { OnOk result (out.new ≡ out.old ++ (lead.now ++ expr_text schema.now (rule_of rule.now) (tree_of expr.now))) }
+    ensures err { OnErr result (IsCutShort out.old (lead.now ++ expr_text schema.now (rule_of rule.now) (tree_of expr.now)) out.new) }
+{
+    out.put(lead)?;
+    print_expr(out, schema, rule, expr)
+}
+
 /// The part of another expression at a place that asks for a level.
 #[cycle(print)]
 fn print_part(
@@ -73,8 +90,7 @@ fn print_part(
     if level_of(part) >= least {
         return print_expr(out, schema, rule, part);
     }
-    out.put(b"(")?;
-    print_expr(out, schema, rule, part)?;
+    print_behind(out, schema, rule, b"(", part)?;
     out.put(b")")
 }
 
@@ -129,12 +145,9 @@ fn print_if(
     ensures ok { OnOk result (out.new ≡ out.old ++ expr_text schema.now (rule_of rule.now) (If (tree_of condition.now) (tree_of then.now) (tree_of other.now))) }
     ensures err { OnErr result (IsCutShort out.old (expr_text schema.now (rule_of rule.now) (If (tree_of condition.now) (tree_of then.now) (tree_of other.now))) out.new) }
 {
-    out.put(b"if ")?;
-    print_expr(out, schema, rule, condition)?;
-    out.put(b" then ")?;
-    print_expr(out, schema, rule, then)?;
-    out.put(b" else ")?;
-    print_expr(out, schema, rule, other)
+    print_behind(out, schema, rule, b"if ", condition)?;
+    print_behind(out, schema, rule, b" then ", then)?;
+    print_behind(out, schema, rule, b" else ", other)
 }
 
 #[cycle(print)]
@@ -150,10 +163,8 @@ fn print_pair(
     ensures ok { OnOk result (out.new ≡ out.old ++ expr_text schema.now (rule_of rule.now) (MakeVec2 (tree_of x.now) (tree_of y.now))) }
     ensures err { OnErr result (IsCutShort out.old (expr_text schema.now (rule_of rule.now) (MakeVec2 (tree_of x.now) (tree_of y.now))) out.new) }
 {
-    out.put(b"vec2(")?;
-    print_expr(out, schema, rule, x)?;
-    out.put(b", ")?;
-    print_expr(out, schema, rule, y)?;
+    print_behind(out, schema, rule, b"vec2(", x)?;
+    print_behind(out, schema, rule, b", ", y)?;
     out.put(b")")
 }
 
@@ -174,11 +185,8 @@ fn print_triple(
     ensures ok { OnOk result (out.new ≡ out.old ++ triple_text head.now (expr_text schema.now (rule_of rule.now) (tree_of first.now)) (expr_text schema.now (rule_of rule.now) (tree_of second.now)) (expr_text schema.now (rule_of rule.now) (tree_of third.now))) }
     ensures err { OnErr result (IsCutShort out.old (triple_text head.now (expr_text schema.now (rule_of rule.now) (tree_of first.now)) (expr_text schema.now (rule_of rule.now) (tree_of second.now)) (expr_text schema.now (rule_of rule.now) (tree_of third.now))) out.new) }
 {
-    out.put(head)?;
-    print_expr(out, schema, rule, first)?;
-    out.put(b", ")?;
-    print_expr(out, schema, rule, second)?;
-    out.put(b", ")?;
-    print_expr(out, schema, rule, third)?;
+    print_behind(out, schema, rule, head, first)?;
+    print_behind(out, schema, rule, b", ", second)?;
+    print_behind(out, schema, rule, b", ", third)?;
     out.put(b")")
 }

@@ -1,11 +1,12 @@
 -- One dart more of a grid, added or linked.
-use Rattle.std.proofs.Common.{◌≡◌, ◌≢◌, ℕ, ◌+◌, ◌<◌, ◌≤◌, List, [], ◌∷◌, Some, is_some, inl, inr, refl, sym, ap, ap₂, subst, ◌∙◌, arith}
+use Rattle.std.proofs.Common.{◌≡◌, ◌≢◌, ℕ, ◌+◌, ◌<◌, ◌≤◌, List, [], ◌∷◌, Option, None, Some, MatchOption, is_some, inl, inr, refl, sym, ap, ap₂, subst, ◌∙◌, arith}
 use Rattle.std.specs.Option.{option_map}
 use Rattle.std.specs.Ordering.{nat_cmp}
 use Rattle.std.specs.FinMap.{get, get-empty}
 use Rattle.std.proofs.lemmas.Bool.{cases_eq, cases_lt}
 use Rattle.gm_model.specs.declared.schema.Schema.{Schema}
 use Rattle.gm_model.specs.declared.value.Value.{Value}
+use Rattle.gm_arena.specs.declared.slot.Slot.{Slot}
 use Rattle.gm_arena.specs.ArenaMap.{ArenaMap, Dart, IsAt, IsLiveName}
 use Rattle.gm_arena.specs.Edits.{empty_map, with_dart, with_alpha, free_dart, turned}
 use Rattle.gm_arena.proofs.InsideLemmas.{some_of}
@@ -64,6 +65,10 @@ live_turned a d label to e live = elim (cases_eq e d) [
       subst (IsLiveName (with_alpha a d label to)) (sym same) (ap is_some (get-with_alpha_same a d label to ∙ ap (option_map (λ dart. turned dart label to)) was.1))
   | inr apart ↦ ap is_some (get-with_alpha_other a d label to e apart) ∙ live
 ]
+
+-- the dart whose slot was found is at it
+pub at_slot : (a : ArenaMap) (d : ℕ) (found : Option Slot) (slot : Slot) → found ≡ Some slot → MatchOption found (get a.darts d ≡ None) (λ s. IsAt a s.at d) → IsAt a slot.at d
+at_slot a d found slot is at = subst (λ o. MatchOption o (get a.darts d ≡ None) (λ (s : Slot). IsAt a s.at d)) is at
 
 pub at_turned : (a after : ArenaMap) (d label to slot e : ℕ) → after ≡ with_alpha a d label to → IsAt a slot e → IsAt after slot e
 at_turned a after d label to slot e is at = subst (λ (m : ArenaMap). IsAt m slot e) (sym is) at

@@ -39,9 +39,9 @@ pub fn make_grid<L: Ledger>(alloc: Global, m: u8, steps: &mut Steps<L>) -> Resul
 {
     let m = m as u32;
     Ok(Grid {
-        book: make_book(alloc)?,
-        script: make_script(alloc, m)?,
         arena: build(alloc, m, steps)?,
+        script: make_script(alloc, m)?,
+        book: make_book(alloc)?,
     })
 }
 

@@ -2,3 +2,4 @@ pub mod NameLemmas
 pub mod FirstLemmas
 pub mod RowLemmas
 pub mod EmbeddedLemmas
+pub mod CostLemmas

@@ -1,4 +1,4 @@
-ghost use Rattle.std.specs.Prelude.{◌≡◌, ◌+◌, ◌*◌, ◌<◌, ◌≤◌, length, slice_get, Some, MatchOption};
+ghost use Rattle.std.specs.Prelude.{◌≡◌, ◌↔◌, ◌+◌, ◌*◌, ◌<◌, ◌≤◌, true, length, slice_get, Some, MatchOption};
 ghost use Rattle.std.specs.FinMap.{keys};
 ghost use Rattle.gm_model.specs.Maps.{IsEmbedAt};
 ghost use Rattle.gm_arena.specs.ArenaMap.{IsLiveSlot, name_at};
@@ -82,14 +82,32 @@ fn label_not_alike<L: Ledger>(
 {
     let own = value_at(arena, slot, embed, steps);
     for label in 0..arena.schema().dim.top() + 1 {
-        if mask.has(label) {
-            let to = arena.alpha(slot, label, steps);
-            if value_at(arena, to, embed, steps) != own {
-                return Some(label);
-            }
+        if mask.has(label) && !has_same(arena, slot, label, embed, own, steps) {
+            return Some(label);
         }
     }
     None
+}
+
+/// Whether the dart's neighbour along the label has the dart's own value of the embedding.
+fn has_same<L: Ledger>(
+    arena: &Arena,
+    slot: Slot,
+    label: u8,
+    embed: usize,
+    own: Value,
+    steps: &mut Steps<L>,
+) -> bool
+    requires lawful { IsLawful arena.now }
+    requires live { IsLiveSlot arena.now slot.at }
+    requires label { label ≤ arena.now.schema.dim }
+    requires embed { embed < length arena.now.schema.embeds }
+    requires own { own ≡ value arena.now embed (name_at arena.now slot.at) }
+    ensures same { (result ≡ true) ↔ HasSame arena.now embed (name_at arena.now slot.at) label }
+    ensures cost { steps.new ≡ steps.old + 2 }
+{
+    let to = arena.alpha(slot, label, steps);
+    value_at(arena, to, embed, steps) == own
 }
 
 /// The dart's value of the embedding.

@@ -1,8 +1,9 @@
 -- Words that say why bytes stand for no map, put behind a text.
-use Rattle.std.proofs.Common.{◌≡◌, ℕ, ◌<◌, List, [], ◌∷◌, ◌++◌, length, get_or, Option, Some, Result, Ok, Err, codes, sym, ap, subst, ◌∙◌}
+use Rattle.std.proofs.Common.{◌≡◌, ℕ, ◌<◌, List, [], ◌∷◌, ◌++◌, length, get_or, Option, Some, Result, Ok, Err, codes, sym, ap, subst, append_assoc, ◌∙◌}
 use Rattle.std.specs.Option.{option_map_or}
 use Rattle.std.specs.Prelude.{OnOk, decimal, slice_get}
 use Rattle.std.proofs.lemmas.Option.{slice_get_within, slice_get-get_or}
+use Rattle.std.proofs.lemmas.Result.{on_ok_weaker}
 use Rattle.gm_laws.specs.declared.breach.MapBreach.TheVariants as breaches
 use Rattle.gm_mapfile.specs.Faults.{IsBreachOf}
 use Rattle.gm_mapfile.specs.MapFaults.{TextFault, Unshared, IsFirstFault, AtUnshared, fault_words}
@@ -18,6 +19,13 @@ use Rattle.gm_text.specs.SchemaText.{passed_of}
 use Rattle.gm_text.proofs.OneSchema.{one_schema}
 use Rattle.gm_lines.specs.FaultLines.{PutsMapFault, HasEmbed, IsEmbedName, IsTokenMark}
 use Rattle.gm_lines.specs.Refusing.{BadMap}
+
+-- words, and then more of them
+pub onward : {T E : Type 0} (result : Result T E) (start words more whole first after : List ℕ) → first ≡ start ++ words → words ++ more ≡ whole → OnOk result (after ≡ first ++ more) → OnOk result (after ≡ start ++ whole)
+onward result start words more whole first after begun is h = on_ok_weaker result (λ last. last ∙ ap (λ bytes. bytes ++ more) begun ∙ append_assoc start words more ∙ ap (λ bytes. start ++ bytes) is) h
+
+pub four_more : (words a b c d : List ℕ) → words ++ (a ++ b ++ c ++ d) ≡ words ++ a ++ b ++ c ++ d
+four_more words a b c d = sym (append_assoc words (a ++ b ++ c) d) ∙ ap (λ bytes. bytes ++ d) (sym (append_assoc words (a ++ b) c) ∙ ap (λ bytes. bytes ++ c) (sym (append_assoc words a b)))
 
 pub puts : {T E : Type 0} (result : Result T E) (bytes old new : List ℕ) (fault : TextFault) → IsFirstFault bytes fault → OnOk result (new ≡ old ++ fault_words fault) → OnOk result (PutsMapFault bytes old new)
 puts (Ok x) bytes old new fault first is = (fault_words fault, BadMap fault first, is)

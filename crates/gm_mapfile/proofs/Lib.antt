@@ -9,6 +9,7 @@ pub mod DartNumbers
 pub mod OneListing
 pub mod MapWithin
 pub mod MapRows
+pub mod Exits
 pub mod FormWithin
 pub mod MapReadings
 pub mod Listed

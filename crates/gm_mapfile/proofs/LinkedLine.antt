@@ -1,6 +1,7 @@
 -- One line more: its dart is linked to all of its neighbours, or one of them is no dart.
 use Rattle.std.proofs.Common.{◌≡◌, ℕ, ◌+◌, ◌-◌, ◌*◌, ◌≤◌, cond, ltb, List, [], ◌∷◌, ◌++◌, length, take, drop, get_or, Option, None, refl, sym, ap, subst, ◌∙◌, arith}
 use Rattle.std.specs.Prelude.{MatchOption}
+use Rattle.std.proofs.lemmas.List.{length-take, length-drop}
 use Rattle.std.proofs.Math.Seq.{take-length}
 use Rattle.gm_model.specs.GMap.{Row, row_of, IsLive}
 use Rattle.gm_mapfile.specs.MapFaults.{AreNamedOnce}
@@ -18,6 +19,9 @@ neighbours_in line = take (length line - 1) (drop 1 line)
 neighbours_of_line : (line : List ℕ) → (row_in line).alphas ≡ neighbours_in line
 neighbours_of_line [] = refl
 neighbours_of_line (name ∷ alphas) = let long : length (name ∷ alphas) - 1 ≡ length alphas = omega arith in sym (ap (λ k. take k alphas) long ∙ take-length alphas)
+
+pub neighbours_long : (line : List ℕ) (n : ℕ) → length line ≡ n + 2 → length (neighbours_in line) ≡ n + 1
+neighbours_long line n long = omega (arith, long, length-take (length line - 1) (drop 1 line), length-drop 1 line)
 
 -- so many steps for each of one line more
 pub steps_more : (each before start after count more : ℕ) → more ≡ count + 1 → start ≤ before + each * count → after ≤ start + each → after ≤ before + each * more

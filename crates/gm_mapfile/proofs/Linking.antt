@@ -8,7 +8,7 @@ use Rattle.std.proofs.lemmas.List.{get_or_default, get_or-set_same, length-set}
 use Rattle.gm_model.specs.GMap.{Row, row_of, IsLive}
 use Rattle.gm_model.specs.GMap as written
 use Rattle.gm_model.specs.Orbits.{IsPairBefore}
-use Rattle.gm_arena.specs.ArenaMap.{ArenaMap, Dart, IsAt, IsLiveName, name_at, alpha}
+use Rattle.gm_arena.specs.ArenaMap.{ArenaMap, Dart, IsAt, IsLiveName, IsLiveSlot, name_at, alpha}
 use Rattle.gm_arena.specs.Edits.{with_alpha, turned}
 use Rattle.gm_arena.proofs.InsideLemmas.{some_of, some_from_map}
 use Rattle.gm_arena.proofs.MapLemmas.{name_at-is, get-with_alpha_same, get-with_alpha_other, alpha-with_alpha_other, alpha-with_alpha_label}
@@ -194,3 +194,23 @@ linked_at n old m m' name neighbours label slot to_slot so_far at to_at is slots
     let there : name_at m to_slot ≡ slice_index neighbours label = name_at-is m to_slot (slice_index neighbours label) to_at in
     let target : IsLiveName old (slice_index neighbours label) = slots to_slot (slice_index neighbours label) (sym (ap (λ s. get s to_slot) slots_are) ∙ to_at) in
     subst (λ x. IsDartLinked n old x name neighbours (label + 1)) (sym (is ∙ ap₂ (λ a b. with_alpha m a label b) own there)) (linked_more n old m name neighbours label so_far live within target)
+
+-- ---- what is live, and what isn't
+
+pub not_live : (o : Option Dart) → o ≡ None → is_some o ≡ true → ⊥
+not_live o e live = let none : false ≡ true = rw e at live in absurd cc
+
+pub no_target : (n : ℕ) (old m : ArenaMap) (name : ℕ) (neighbours : List ℕ) (label there : ℕ) → IsDartLinked n old m name neighbours label → there ≡ slice_index neighbours label → get m.darts there ≡ None → label ≤ n → IsLabelWithoutTarget n old neighbours label
+no_target n old m name neighbours label there so_far is none within = record {
+  within = within;
+  fails = λ live. not_live _ (subst (λ d. get m.darts d ≡ None) is none) (so_far.relinked.live _ ∙ live);
+  before = so_far.targets;
+}
+
+pub slot_live : (n : ℕ) (old m : ArenaMap) (slot name : ℕ) → IsRelinked n old m → IsAt old slot name → IsLiveSlot m slot
+slot_live n old m slot name state at =
+    let here : get m.slots slot ≡ Some name = ap (λ (x : ArenaMap). get x.slots slot) state.frame ∙ at in
+    rw here refl
+
+pub slots_live : (n : ℕ) (old m : ArenaMap) → IsRelinked n old m → AreSlotsLive old → AreSlotsLive m
+slots_live n old m state slots slot name at = state.live name ∙ slots slot name (sym (ap (λ (x : ArenaMap). get x.slots slot) state.frame) ∙ at)

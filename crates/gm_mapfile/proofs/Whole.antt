@@ -19,6 +19,10 @@ use Rattle.gm_mapfile.proofs.NamesOf.{live_named, named_live}
 pub fresh_map : (schema : Schema) (spare reserved : ℕ) (m : ArenaMap) → m ≡ record (empty_map schema) { spare = spare; reserved = reserved } → IsFresh m
 fresh_map schema spare reserved m is = subst IsFresh (sym is) (record { none = get-empty nat_cmp; no_slots = get-empty nat_cmp; count = refl; next = refl })
 
+-- room leaves an arena as it was
+pub still_fresh : (old m : ArenaMap) (spare reserved : ℕ) → m ≡ record old { spare = spare; reserved = reserved } → IsFresh old → IsFresh m
+still_fresh old m spare reserved is fresh = subst IsFresh (sym is) (record { none = fresh.none; no_slots = fresh.no_slots; count = fresh.count; next = fresh.next })
+
 pub first_without : (n : ℕ) (old : ArenaMap) (rows : List Row) (d i : ℕ) → AreLive rows old → IsFirstLack n old rows d i → IsFirstWithoutTarget n (IsLive rows) (written.alpha rows) d i
 first_without n old rows d i live lack = record {
   live = lack.live;

@@ -71,15 +71,39 @@ fn build_lines<L: Ledger>(
     ensures most { steps.new ≤ steps.old + (2 * schema.dim + 5) * length (darts_in schema numbers.now words.now) }
     ensures least { IfOk result (λ arena. steps.old + arena.count ≤ steps.new) }
 {
-    let width = schema.dim.top() as usize + 2;
     let mut arena = Arena::new(alloc, schema);
-    arena.reserve((numbers.len() / width) as u32, names_end(numbers))?;
-    fill(&mut arena, stated, numbers, words, steps)?;
+    if let Err(fault) = fill_with_room(&mut arena, stated, numbers, words, steps) {
+        drop(arena);
+        return Err(fault);
+    }
     Ok(arena)
 }
 
+/// Makes room for the darts of the lines in an arena without darts, and fills it. The arena is
+/// borrowed, so that no way out has to drop it.
+fn fill_with_room<L: Ledger>(
+    arena: &mut Arena,
+    stated: Option<u32>,
+    numbers: &[Name],
+    words: &[i64],
+    steps: &mut Steps<L>,
+) -> Result<(), MapFault>
+    requires fresh { IsFresh arena.old }
+    requires embeds { length arena.old.schema.embeds ≤ 8 }
+    requires room { AreInRoom arena.old.schema numbers.now words.now }
+    requires next { IfSome stated (λ next. next ≤ most_names) }
+    ensures held { OnOk result (IsHeld (version_in stated) arena.old.schema (darts_in arena.old.schema numbers.now words.now) arena.new) }
+    ensures fault { IfErr result (IsNameFault (version_in stated) arena.old.schema.dim (darts_in arena.old.schema numbers.now words.now)) }
+    ensures most { steps.new ≤ steps.old + (2 * arena.old.schema.dim + 5) * length (darts_in arena.old.schema numbers.now words.now) }
+    ensures least { OnOk result (steps.old + arena.new.count ≤ steps.new) }
+{
+    let width = arena.schema().dim.top() as usize + 2;
+    arena.reserve((numbers.len() / width) as u32, names_end(numbers))?;
+    fill(arena, stated, numbers, words, steps)
+}
+
 /// Adds the darts of the lines to an arena without darts, sets the next name where it is stated, and
-/// links the darts. The arena is borrowed, so that no way out has to drop it.
+/// links the darts.
 fn fill<L: Ledger>(
     arena: &mut Arena,
     stated: Option<u32>,

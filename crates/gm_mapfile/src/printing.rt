@@ -175,7 +175,7 @@ fn print_dart<L: Ledger>(
     } = arena.row(slot, steps);
     let mut line = [0; LINE];
     let start = write_names(&mut line, arena, name, alphas, steps);
-    text.put(&line[start..])?;
+    put_from(text, &line, start)?;
     print_values(text, values)?;
     text.put(b"\n")
 }
@@ -236,7 +236,7 @@ fn print_integer(text: &mut Text, x: i64) -> Result<(), OutOfMemory>
     let mut bytes = [0; VALUE];
     let first = write_signed(&mut bytes, x, VALUE);
     let start = write_byte(&mut bytes, b' ', first);
-    text.put(&bytes[start..])
+    put_from(text, &bytes, start)
 }
 
 fn print_pair(text: &mut Text, x: i64, y: i64) -> Result<(), OutOfMemory>
@@ -247,7 +247,7 @@ fn print_pair(text: &mut Text, x: i64, y: i64) -> Result<(), OutOfMemory>
     let second = write_signed(&mut bytes, y, end);
     let first = write_behind(&mut bytes, x, second);
     let start = write_bracket(&mut bytes, first);
-    text.put(&bytes[start..])
+    put_from(text, &bytes, start)
 }
 
 fn print_triple(text: &mut Text, x: i64, y: i64, z: i64) -> Result<(), OutOfMemory>
@@ -257,6 +257,14 @@ fn print_triple(text: &mut Text, x: i64, y: i64, z: i64) -> Result<(), OutOfMemo
     let end = write_byte(&mut bytes, b')', VALUE);
     let first = write_triple(&mut bytes, x, y, z, end);
     let start = write_bracket(&mut bytes, first);
+    put_from(text, &bytes, start)
+}
+
+/// Appends the bytes from a place on.
+fn put_from(text: &mut Text, bytes: &[u8], start: usize) -> Result<(), OutOfMemory>
+    requires { start ≤ length bytes.now }
+    ensures { OnOk result (text.new ≡ text.old ++ drop start bytes.now) }
+{
     text.put(&bytes[start..])
 }
 
@@ -287,6 +295,8 @@ fn write_triple(bytes: &mut [u8], x: i64, y: i64, z: i64, end: usize) -> usize
 }
 
 /// Writes a number and a blank, so that they end at `end`. The answer is where they begin.
+// Inlined, it takes some 10 instructions less.
+#[inline(always)]
 fn write_behind(bytes: &mut [u8], x: i64, end: usize) -> usize
     requires room { 21 ≤ end }
     requires within { end ≤ length bytes.old }

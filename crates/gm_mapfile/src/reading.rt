@@ -252,6 +252,9 @@ pub fn read_map<L: Ledger>(
     let version = version_told(draft.stated);
     let arena = build(alloc, draft, steps)?;
     prove!(arena.next() <= MOST_NAMES);
-    check_map(alloc, &arena, steps)?;
+    if let Err(fault) = check_map(alloc, &arena, steps) {
+        drop(arena);
+        return Err(fault.into());
+    }
     Ok(MapRead { arena, version })
 }

@@ -23,6 +23,8 @@ struct Signed {
 }
 
 /// Most are small, without a minus.
+// Inlined, as `read_number` is.
+#[inline(always)]
 fn read_signed(lexer: &mut Lexer<'_>) -> Result<Signed, SchemaFault>
     ensures next { IfOk result (λ found. IsSignedNext lexer.old found.minus found.size found.place lexer.new) }
     ensures none { IfErr result (IsNoSignedNext lexer.old) }
@@ -38,6 +40,7 @@ fn read_signed(lexer: &mut Lexer<'_>) -> Result<Signed, SchemaFault>
 }
 
 /// A number by its tokens.
+#[cold]
 fn read_signed_numeral(lexer: &mut Lexer<'_>) -> Result<Signed, SchemaFault>
     ensures next { IfOk result (λ found. IsSignedNext lexer.old found.minus found.size found.place lexer.new) }
     ensures none { IfErr result (IsNoSignedNext lexer.old) }
@@ -74,6 +77,8 @@ fn signed_value(minus: bool, size: u64) -> Option<i64>
 }
 
 /// A component of a value, of a colour or not.
+// Inlined, as `read_number` is.
+#[inline(always)]
 fn read_component(lexer: &mut Lexer<'_>, colour: bool) -> Result<i64, SchemaFault>
     ensures takes { IfOk result (λ n. Takes (Component colour ∷ []) (n ∷ []) lexer.old lexer.new) }
     ensures channel { IfOk result (λ n. IsTrue colour → IsTrue (is_channel n)) }

@@ -1,7 +1,7 @@
 -- What is answered, from what the parts of matching have found.
-use Rattle.std.proofs.Common.{◌≡◌, ℕ, ◌+◌, ◌*◌, ◌<◌, ◌≤◌, ◌⊎◌, inl, inr, Bool, true, false, IsTrue, List, [], ◌∷◌, length, get_or, None, Some, refl, sym, ap, subst, ◌∙◌, arith}
+use Rattle.std.proofs.Common.{◌≡◌, ℕ, ◌+◌, ◌*◌, ◌<◌, ◌≤◌, ◌⊎◌, inl, inr, Bool, true, false, IsTrue, List, [], ◌∷◌, length, get_or, take, None, Some, refl, sym, ap, subst, ◌∙◌, arith}
 use Rattle.std.proofs.lemmas.Bool.{eqb-true}
-use Rattle.std.proofs.lemmas.List.{length-map}
+use Rattle.std.proofs.lemmas.List.{length-map, length-take}
 use Rattle.std.proofs.lemmas.Option.{slice_get-get_or, slice_get_within, get_or_from_slice_get}
 use Rattle.std.specs.FinMap.{get}
 use Rattle.std.specs.List.{slice_get, All, Contains}
@@ -52,6 +52,13 @@ pub no_items : {A : Type 0} (xs : List A) → length xs ≡ 0 → xs ≡ []
 no_items [] e = refl
 no_items (x ∷ xs) e = absurd (omega arith)
 
+pub none_within : (items : List ℕ) (n : ℕ) → items ≡ [] → All (λ q. q < n) items
+none_within items n none k d h = absurd (omega (arith, ap length none))
+
+-- what is taken is no longer than what it is taken from
+pub within_taken : {A : Type 0} (n : ℕ) (xs : List A) → length (take n xs) ≡ n → n ≤ length xs
+within_taken n xs e = omega (arith, length-take n xs)
+
 pub is_nil : (xs : List ℕ) (empty : Bool) → empty ≡ (length xs == 0) → empty ≡ true → xs ≡ []
 is_nil xs empty is e = no_items xs (eqb-true (length xs) 0 (sym is ∙ e))
 
@@ -75,6 +82,9 @@ sound_of m schema rule generalised same planned = record {
 }
 
 -- ---- hook darts
+
+pub as_many : (m : ArenaMap) (hooks : List ℕ) (slots : List Slot) → AreHookSlots m hooks slots → length slots ≡ length hooks
+as_many m hooks slots are = sym (length-map slots (λ (s : Slot). name_at m s.at)) ∙ ap length are.names
 
 -- the slots of hook darts are those of live darts
 pub named_live : (m : ArenaMap) (hooks : List ℕ) (slots : List Slot) → IsLawful m → AreHookSlots m hooks slots → AreDarts m hooks (length hooks)

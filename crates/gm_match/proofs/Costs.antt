@@ -1,5 +1,5 @@
 -- The steps of the parts of matching, put together.
-use Rattle.std.proofs.Common.{ℕ, ◌+◌, ◌*◌, ◌≤◌, arith}
+use Rattle.std.proofs.Common.{◌≡◌, ℕ, ◌+◌, ◌*◌, ◌<◌, ◌≤◌, arith}
 use Rattle.std.proofs.Math.Nat.{mul-le-mul_left, mul-le-mul_right}
 
 -- of the walk, and of a part of what follows it: `labels` is the number of labels, `nodes` that of the rule's nodes
@@ -29,3 +29,84 @@ found_cost labels nodes k start looked found label some a b = omega (arith, look
 -- and the tests
 pub met_cost : (labels nodes k start looked found met : ℕ) → 1 ≤ labels → 1 ≤ k → looked ≤ start + nodes → found ≤ looked + 6 * labels * (nodes * k) → met ≤ found + labels * (nodes * k) → met ≤ start + 8 * labels * (nodes * k + 1)
 met_cost labels nodes k start looked found met label some a b c = omega (arith, look_part labels nodes k label some, b, c)
+
+-- without a hook nothing is looked up
+pub no_cost : (start looked hooks more : ℕ) → looked ≤ start + hooks → hooks ≡ 0 → looked ≤ start + more
+no_cost start looked hooks more cost none = omega arith
+
+-- ---- rows
+
+pub some_node : {darts hooks nodes : ℕ} → 0 < darts → darts ≡ hooks → hooks ≤ nodes → 1 ≤ nodes
+some_node some count few = omega (arith, some, count, few)
+
+pub row_cost : (start rows nodes : ℕ) → 1 ≤ nodes → start + rows ≤ start + rows * nodes
+row_cost start rows nodes some = omega (arith, mul-le-mul_left rows some)
+
+pub row_room : (rows nodes most : ℕ) → rows ≤ 4294967295 → nodes ≤ most → most ≤ 32 → rows * nodes < 18446744073709551616
+row_room rows nodes most few less low = omega (arith, mul-le-mul_right nodes few, less, low)
+
+pub rows_cost : (width row rows start after : ℕ) → row ≤ rows → after ≤ start + row * width → after ≤ start + rows * width
+rows_cost width row rows start after most a = omega (arith, mul-le-mul_right width most, a)
+
+-- ---- tests, node by node
+
+pub nothing_below : {k : ℕ} → k < 0 → ⊥
+nothing_below h = omega (arith, h)
+
+pub part_cost : (labels positions node left nodes start before after : ℕ) → node < left → left ≤ nodes → before ≤ start + labels * (node * positions) → after ≤ before + labels * positions → after ≤ start + labels * (nodes * positions)
+part_cost labels positions node left nodes start before after within most a b =
+    let part : (node + 1) * positions ≤ nodes * positions = mul-le-mul_right positions (omega (arith, within, most)) in
+    omega (arith, mul-le-mul_left labels part, a, b)
+
+pub whole_cost : (labels positions node left nodes start after : ℕ) → node ≤ left → left ≤ nodes → after ≤ start + labels * (node * positions) → after ≤ start + labels * (nodes * positions)
+whole_cost labels positions node left nodes start after within most a =
+    let part : node * positions ≤ nodes * positions = mul-le-mul_right positions (omega (arith, within, most)) in
+    omega (arith, mul-le-mul_left labels part, a)
+
+-- ---- one label after another
+
+pub low_label : {label dim : ℕ} → label ≤ dim → dim ≤ 7 → label < 8
+low_label most low = omega (arith, most, low)
+
+pub one_step : (before after : ℕ) → after ≡ before + 1 → after ≤ before + 1
+one_step before after e = omega (arith, e)
+
+pub one_least : (before after : ℕ) → after ≡ before + 1 → before ≤ after
+one_least before after e = omega (arith, e)
+
+pub label_below : {label top own : ℕ} → label < top + 1 → top ≡ own → own ≤ 7 → label < 8
+label_below less e low = omega (arith, less, e, low)
+
+pub label_most : {label top own dim : ℕ} → label < top + 1 → top ≡ own → own ≡ dim → label ≤ dim
+label_most less e f = omega (arith, less, e, f)
+
+pub label_within : {label top own dim : ℕ} → label < top + 1 → top ≡ own → own ≡ dim → label < dim + 1
+label_within less e f = omega (arith, less, e, f)
+
+pub label_before : {label top own dim other : ℕ} → top + 1 ≤ label → top ≡ own → own ≡ dim → other < dim + 1 → other < label
+label_before all e f less = omega (arith, all, e, f, less)
+
+pub label_cost : (label labels start before after : ℕ) → before ≤ start + label → after ≤ before + 1 → label < labels → after ≤ start + labels
+label_cost label labels start before after a b less = omega (arith, a, b, less)
+
+pub labels_cost : (label top own dim start after : ℕ) → after ≤ start + label → label ≤ top + 1 → top ≡ own → own ≡ dim → after ≤ start + (dim + 1)
+labels_cost label top own dim start after a most e f = omega (arith, a, most, e, f)
+
+-- ---- one position after another
+
+pub position_cost : (labels position positions start before after : ℕ) → position < positions → before ≤ start + labels * position → after ≤ before + labels → after ≤ start + labels * positions
+position_cost labels position positions start before after within a b = omega (arith, mul-le-mul_left labels within, a, b)
+
+pub positions_cost : (labels position positions start after : ℕ) → position ≤ positions → after ≤ start + labels * position → after ≤ start + labels * positions
+positions_cost labels position positions start after most a = omega (arith, mul-le-mul_left labels most, a)
+
+-- ---- one hook after another
+
+pub none_between : {t : ℕ} → 0 < t → t < 1 → ⊥
+none_between some less = omega (arith, some, less)
+
+pub hooks_cost : (index hooks nodes start before after : ℕ) → index ≤ hooks → before + 1 ≡ start + index → after + hooks ≤ before + nodes → after + 1 ≤ start + nodes
+hooks_cost index hooks nodes start before after most a b = omega (arith, most, a, b)
+
+pub hooks_least : (index start before after : ℕ) → 1 ≤ index → before + 1 ≡ start + index → before ≤ after → start ≤ after
+hooks_least index start before after some a b = omega (arith, some, a, b)

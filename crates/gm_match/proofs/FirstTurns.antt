@@ -1,7 +1,7 @@
 -- Which turn is the first that leads to a position.
 use Rattle.std.proofs.Common.{◌≡◌, ◌≢◌, ℕ, suc, ◌+◌, ◌*◌, ◌/◌, ◌%◌, ◌<◌, ◌≤◌, ◌⊎◌, inl, inr, List, length, Some, sym, ap, subst, ◌∙◌, arith}
-use Rattle.std.proofs.Math.Nat.{mod-lt, mul-le-mul_right}
-use Rattle.std.proofs.lemmas.Bool.{cases_order}
+use Rattle.std.proofs.Math.Nat.{mod-lt, le_antisymm, mul-le-mul_right}
+use Rattle.std.proofs.lemmas.Bool.{cases_lt, cases_order}
 use Rattle.std.proofs.lemmas.Nat.{div-add-mod', mul-add-lt}
 use Rattle.std.proofs.lemmas.Option.{get_or_from_slice_get}
 use Rattle.std.specs.List.{slice_get}
@@ -12,7 +12,7 @@ use Rattle.gm_arena.specs.ArenaMap.{ArenaMap}
 use Rattle.gm_theory.proofs.Walks.{contains_before, same_place}
 use Rattle.gm_walk.specs.Walks.{along}
 use Rattle.gm_match.specs.Cells.{AreCells}
-use Rattle.gm_match.specs.Layout.{HaveFirstTurns, IsFirstTo, IsTurn}
+use Rattle.gm_match.specs.Layout.{HaveFirstTurns, LeadBefore, IsFirstTo, IsTurn}
 
 -- earlier turns are those of earlier pairs of a position and a place
 pair_before : (k places q l : ℕ) → l < places → k < q * places + l → IsPairBefore (k / places) (k % places) q l
@@ -72,3 +72,17 @@ module _ (m : ArenaMap) (word : List Letter) (d : ℕ) (walk turns : List ℕ) (
               by (k, below, there, leads) =
                   let at : slice_index turns j ≡ k = ap (slice_index turns) (sym (div-add-mod' j (length word))) ∙ get_or_from_slice_get turns (j / length word * length word + j % length word) k 0 (lands (j / length word) (j % length word) k within low there leads) in
                   subst (λ n. n < p) (sym at) below
+
+-- ---- the search for the first turn
+
+pub not_before : (turns : List ℕ) (from p k : ℕ) → LeadBefore turns from p → IsFirstTo turns p k → from ≤ k
+not_before turns from p k before first = elim (cases_lt k from) [
+  | inl less ↦ absurd (omega (arith, before k less, get_or_from_slice_get turns k p 0 first.here))
+  | inr more ↦ more
+]
+
+pub not_here : (turns : List ℕ) (turn p k : ℕ) → IsFirstTo turns p k → turn ≤ k → slice_index turns turn ≢ p → turn + 1 ≤ k
+not_here turns turn p k first most other = elim (cases_lt turn k) [
+  | inl less ↦ omega (arith, less)
+  | inr more ↦ absurd (other (ap (slice_index turns) (le_antisymm most more) ∙ get_or_from_slice_get turns k p 0 first.here))
+]

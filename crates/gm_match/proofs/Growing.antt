@@ -1,5 +1,5 @@
 -- How the slots of the left nodes grow by a row, where each row is that of the candidate.
-use Rattle.std.proofs.Common.{◌≡◌, ◌≢◌, ℕ, ◌+◌, ◌*◌, ◌/◌, ◌%◌, ◌<◌, ◌≤◌, ◌⊎◌, inl, inr, List, [], ◌++◌, get_or, length, take, set, Some, sym, ap, subst, ◌∙◌, arith, length-append}
+use Rattle.std.proofs.Common.{◌≡◌, ◌≢◌, ℕ, ◌+◌, ◌*◌, ◌/◌, ◌%◌, ◌<◌, ◌≤◌, ◌⊎◌, inl, inr, List, [], ◌++◌, get_or, length, take, set, Some, Result, Ok, Err, true≢false, sym, ap, subst, ◌∙◌, arith, length-append}
 use Rattle.std.proofs.Math.Nat.{mul-le-mul_right}
 use Rattle.std.proofs.lemmas.Bool.{cases_eq, cases_lt, cases_order}
 use Rattle.std.proofs.lemmas.List.{length-take-le}
@@ -7,6 +7,7 @@ use Rattle.std.proofs.lemmas.List.Elements.{All-append, All-take}
 use Rattle.std.proofs.lemmas.Nat.{mul-add-lt}
 use Rattle.std.proofs.lemmas.Option.{slice_get-get_or, slice_get_within, get_or_from_slice_get}
 use Rattle.std.specs.List.{slice_get}
+use Rattle.std.specs.Result.{IsErr, OnOk}
 use Rattle.std.specs.Prelude.{slice_index}
 use Rattle.gm_model.specs.declared.rule.Side.TheVariants.{Left}
 use Rattle.gm_model.specs.declared.schema.Schema.{Schema}
@@ -65,6 +66,14 @@ one_first turns p k l a b = elim (cases_order k l) [
 ]
 
 -- ---- one row more
+
+-- a row has room for the left nodes
+pub wide_row : (nodes most : ℕ) (row : List Slot) → nodes ≤ most → most ≤ 32 → length row ≡ 32 → nodes ≤ length row
+wide_row nodes most row few low long = omega (arith, few, low, long)
+
+pub none_ok : {T E : Type 0} (r : Result T E) (P : Type 0) → IsErr r → OnOk r P
+none_ok (Ok x) P e = absurd (true≢false (sym e))
+none_ok (Err y) P e = tt
 
 module _ (m : ArenaMap) (schema : Schema) (rule : Rule) (planned : IsPlanned schema rule) (hooks walk turns : List ℕ) (nodes : ℕ) (counts : IsLeftCount rule nodes) where
   -- the hooks of a row lie where those of the candidate do at the next position

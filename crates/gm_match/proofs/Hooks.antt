@@ -5,6 +5,7 @@ use Rattle.std.proofs.lemmas.Bool.{cases_lt}
 use Rattle.std.proofs.lemmas.Nat.{div-add-mod', mul-add-lt}
 use Rattle.std.proofs.lemmas.Option.{slice_get-get_or}
 use Rattle.std.specs.List.{slice_get, Contains}
+use Rattle.std.specs.Option.{IsSome}
 use Rattle.gm_model.specs.declared.rule.RuleTable.{RuleTable}
 use Rattle.gm_model.specs.declared.rule.Side.TheVariants.{Left}
 use Rattle.gm_model.specs.declared.schema.Schema.{Schema}
@@ -31,6 +32,11 @@ some_place turn rows (suc places) less = omega arith
 -- the word that a rule's table answers for a node
 pub word_letters : (table other : RuleTable) (x : ℕ) (answer : Option (List Letter)) (word : List Letter) → other ≡ table → answer ≡ word_at (rule_of other) Left x → answer ≡ Some word → letters (rule_of table) Left x ≡ word
 word_letters table other x answer word same is_answer is_word = rw (← same, ← is_answer, is_word) refl
+
+-- a hook has one
+pub own_word : (schema : Schema) (table other : RuleTable) (x : ℕ) (answer : Option (List Letter)) → IsPlanned schema (rule_of table) → Contains (rule_of table).hooks x → other ≡ table → answer ≡ word_at (rule_of other) Left x → IsSome answer
+own_word schema table other x answer planned among same is_answer =
+    subst IsSome (sym (is_answer ∙ ap (λ t. word_at (rule_of t) Left x) same)) (hook_left schema (rule_of table) planned.accepted.in_range planned.accepted.incidence among.0 x (contained_at (rule_of table).hooks x among))
 
 -- the hooks that a rule's table answers
 pub hook_there : (table other : RuleTable) (hooks : List ℕ) → other ≡ table → hooks ≡ other.hooks → (t : ℕ) → t < length (rule_of table).hooks → slice_get (rule_of table).hooks t ≡ Some (get_or hooks t 0)

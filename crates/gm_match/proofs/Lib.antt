@@ -13,4 +13,3 @@ pub mod Placing
 pub mod Stepping
 pub mod Taking
 pub mod Turning
-pub mod Testing

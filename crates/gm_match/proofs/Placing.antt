@@ -5,7 +5,7 @@ use Rattle.std.proofs.lemmas.Nat.{div-mul-add, mod-mul-add}
 use Rattle.std.proofs.lemmas.List.{length-map, get_or-map}
 use Rattle.std.proofs.lemmas.Option.{slice_get-get_or, slice_get_within, get_or_from_slice_get}
 use Rattle.std.specs.List.{slice_get, Contains}
-use Rattle.std.specs.Option.{option_and_then, unwrap_or}
+use Rattle.std.specs.Option.{IsSome, option_and_then, unwrap_or}
 use Rattle.std.specs.Prelude.{slice_index}
 use Rattle.gm_model.specs.declared.rule.RuleTable.{RuleTable}
 use Rattle.gm_model.specs.declared.rule.Side.TheVariants.{Left}
@@ -84,6 +84,14 @@ module _ (schema : Schema) (rule : Rule) (planned : IsPlanned schema rule) (has 
 -- the word that a rule's table answers
 pub word_is : (table other : RuleTable) (answer : Option (List Letter)) (word : List Letter) → other ≡ table → answer ≡ option_and_then (word_at (rule_of other) Left) (first_hook (rule_of other)) → answer ≡ Some word → word ≡ hook_word (rule_of table)
 word_is table other answer word same is_hook some = ap (λ o. unwrap_or o []) (sym some ∙ is_hook) ∙ ap (λ t. hook_word (rule_of t)) same
+
+-- the first hook has one
+pub hook_has_word : (schema : Schema) (table other : RuleTable) (answer : Option (List Letter)) → IsPlanned schema (rule_of table) → 0 < length (rule_of table).hooks → other ≡ table → answer ≡ option_and_then (word_at (rule_of other) Left) (first_hook (rule_of other)) → IsSome answer
+hook_has_word schema table other answer planned some same is_hook =
+    let rule = rule_of table in
+    let first : first_hook rule ≡ Some (slice_index rule.hooks 0) = slice_get-get_or rule.hooks 0 0 some in
+    let left = hook_left schema rule planned.accepted.in_range planned.accepted.incidence 0 (slice_index rule.hooks 0) first in
+    subst IsSome (sym (is_hook ∙ ap (λ t. option_and_then (word_at (rule_of t) Left) (first_hook (rule_of t))) same ∙ ap (option_and_then (word_at rule Left)) first)) left
 
 -- ---- the candidate
 

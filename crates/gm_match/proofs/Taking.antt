@@ -1,12 +1,12 @@
 -- How the slots that are taken grow, and what a slot that is taken already tells.
-use Rattle.std.proofs.Common.{◌≡◌, ℕ, ◌+◌, ◌*◌, ◌/◌, ◌%◌, ◌<◌, ◌⊎◌, inl, inr, List, [], ◌∷◌, ◌++◌, length, get_or, Option, Some, sym, ap, subst, ◌∙◌, arith}
+use Rattle.std.proofs.Common.{◌≡◌, ℕ, ◌+◌, ◌*◌, ◌/◌, ◌%◌, ◌<◌, ◌≤◌, ◌⊎◌, inl, inr, List, [], ◌∷◌, ◌++◌, length, get_or, Option, Some, None, refl, sym, ap, subst, ◌∙◌, arith}
 use Rattle.std.proofs.Math.Nat.{mul-le-mul_right}
 use Rattle.std.proofs.lemmas.Bool.{cases_lt, cases_order}
 use Rattle.std.proofs.lemmas.List.{get_or_push, length_push}
 use Rattle.std.proofs.lemmas.Nat.{div-add-mod'}
 use Rattle.std.proofs.lemmas.Option.{slice_get-get_or, slice_get_within, get_or_from_slice_get}
 use Rattle.std.specs.List.{slice_get, All, Contains}
-use Rattle.std.specs.Option.{MatchOption}
+use Rattle.std.specs.Option.{MatchOption, IsSome}
 use Rattle.gm_model.specs.Orbits.{IsPairBefore}
 use Rattle.gm_arena.specs.declared.slot.Slot.{Slot}
 use Rattle.gm_plan.specs.Placed.{Placed, slot_at}
@@ -87,9 +87,25 @@ module _ (found : Placed) where
     slot_taken old new same (Known c e) lacks = absurd (lacks (subst (λ ws. Contains ws s) same c))
     slot_taken old new same (Added c e) lacks = subst (IsTaken found x (p + 1)) (sym (ap (λ (r : Room). r.walked) e ∙ ap (λ ws. ws ++ s ∷ []) same)) (one_more lacks)
 
-    -- a slot that was taken is that of an earlier instance
+    -- a slot that was taken is at the place of an earlier instance
+    pub earlier : (place : ℕ) → slice_get slots place ≡ Some s → IsPairBefore (place / found.positions) (place % found.positions) x p
+    earlier place e = elim (cases_order (place / found.positions) x) [
+      | inl same ↦ inr (same, let b : place / found.positions * found.positions ≡ x * found.positions = ap (λ n. n * found.positions) same in omega (arith, parts, below))
+      | inr (inl less) ↦ inl less
+      | inr (inr more) ↦ absurd (omega (arith, mul-le-mul_right found.positions more, parts, below))
+    ]
+      where
+        parts : place / found.positions * found.positions + place % found.positions ≡ place
+        parts = div-add-mod' place found.positions
+
+        below : place < x * found.positions + p
+        below = omega (arith, slice_get_within slots place s e, taken.long)
+
+    pub earlier_node : (place : ℕ) → slice_get slots place ≡ Some s → place / found.positions ≤ x
+    earlier_node place e = elim (earlier place e) [ inl less ↦ omega arith | inr (same, _) ↦ omega arith ]
+
     pub taken_twice : (place : ℕ) → x < found.nodes → slice_get slots place ≡ Some s → IsFirstTwice found (faults.Same (place / found.positions) (place % found.positions) x p)
-    taken_twice place node e = Twice y q x p node q_in within before (sym (taken.here y q before q_in) ∙ ap (slice_get slots) parts ∙ e ∙ sym here) taken.distinct
+    taken_twice place node e = Twice y q x p node q_in within (earlier place e) (sym (taken.here y q (earlier place e) q_in) ∙ ap (slice_get slots) parts ∙ e ∙ sym here) taken.distinct
       where
         y : ℕ
         y = place / found.positions
@@ -106,22 +122,17 @@ module _ (found : Placed) where
         q_in : place % found.positions < found.positions
         q_in = omega arith
 
-        below : place < x * found.positions + p
-        below = omega (arith, slice_get_within slots place s e, taken.long)
-
-        before : IsPairBefore (place / found.positions) (place % found.positions) x p
-        before = elim (cases_order (place / found.positions) x) [
-          | inl same ↦ inr (same, let b : place / found.positions * found.positions ≡ x * found.positions = ap (λ n. n * found.positions) same in omega (arith, parts, below))
-          | inr (inl less) ↦ inl less
-          | inr (inr more) ↦ absurd (omega (arith, mul-le-mul_right found.positions more, parts, below))
-        ]
-
 pub slot_below : (found : Placed) (bound : ℕ) → All (λ (s : Slot). s.at < bound) found.slots → (x p : ℕ) (s : Slot) → slot_at found x p ≡ Some s → s.at < bound
 slot_below found bound all x p s e = let at = p * found.nodes + x in subst (λ (t : Slot). t.at < bound) (get_or_from_slice_get found.slots at s s e) (all at s (slice_get_within found.slots at s e))
 
 -- the place that is told of a slot
 pub placed : (slots : List Slot) (s : Slot) (answer : Option ℕ) (place : ℕ) → MatchOption answer (Contains slots s → ⊥) (λ p. slice_get slots p ≡ Some s) → answer ≡ Some place → slice_get slots place ≡ Some s
 placed slots s answer place told e = subst (λ o. MatchOption o (Contains slots s → ⊥) (λ p. slice_get slots p ≡ Some s)) e told
+
+-- a slot that is among those taken has a place
+pub known_place : (slots : List Slot) (s : Slot) (answer : Option ℕ) → MatchOption answer (Contains slots s → ⊥) (λ p. slice_get slots p ≡ Some s) → Contains slots s → IsSome answer
+known_place slots s (Some p) told among = refl
+known_place slots s None told among = absurd (told among)
 
 pub bound_kept : (old : Room) (s : Slot) (new : Room) → TakesIn old s new → new.bound ≡ old.bound
 bound_kept old s new (Known c e) = ap (λ (r : Room). r.bound) e

@@ -1,5 +1,5 @@
 -- Which left steps a candidate meets as it is made, and which is the first that isn't met, by node, position and label.
-use Rattle.std.specs.Prelude.{◌≡◌, ℕ, ◌+◌, ◌≤◌, Bool, false, List, Some, slice_index_or}
+use Rattle.std.specs.Prelude.{◌≡◌, ℕ, ◌+◌, ◌<◌, ◌≤◌, Bool, false, List, Some, slice_index_or}
 use Rattle.gm_model.specs.declared.rule.Side.TheVariants.{Left}
 use Rattle.gm_model.specs.declared.step.Step.TheVariants.{Absent, Imp}
 use Rattle.gm_model.specs.Matches.{IsMetAt}
@@ -32,6 +32,10 @@ module _ (m : ArenaMap) (rule : Rule) (found : Placed) where
   -- each left step of node x is met at position p
   abbrev pub AreMetAt : ℕ → ℕ → Type 0
   AreMetAt x p = AreGood (IsMetAt (as_map m) rule (place_of m found) x p) (m.schema.dim + 1)
+
+  -- the left steps of node x at the labels that aren't marked are met at each position
+  abbrev pub AreMetBeside : ℕ → List Bool → Type 0
+  AreMetBeside x marks = (p i : ℕ) → p < found.positions → i ≤ m.schema.dim → slice_index_or marks i false ≡ false → IsMetAt (as_map m) rule (place_of m found) x p i
 
   -- each left step of node x is met at each position
   abbrev pub AreMetBy : ℕ → Type 0

@@ -3,4 +3,3 @@ pub mod Firsts
 pub mod Layout
 pub mod Outcome
 pub mod Taken
-pub mod Tests

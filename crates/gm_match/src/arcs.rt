@@ -1,32 +1,21 @@
-ghost use Rattle.std.specs.Prelude.{◌≡◌, ℕ, List, ◌+◌, ◌*◌, ◌<◌, ◌≤◌, ◌↔◌, length, take, MatchOption, MatchResult, IsTrue};
-ghost use Rattle.std.specs.List.{All};
+ghost use Rattle.std.specs.Prelude.{◌≡◌, ℕ, List, ◌+◌, ◌*◌, ◌<◌, ◌≤◌, ◌↔◌, length, MatchOption, MatchResult, IsTrue};
 ghost use Rattle.gm_arena.specs.ArenaAsMap.{as_map};
 ghost use Rattle.gm_arena.specs.ArenaMap.{IsLiveSlot, name_at, alpha};
 ghost use Rattle.gm_arena.specs.Lawful.{IsLawful};
 ghost use Rattle.gm_model.specs.declared.rule.Side.TheVariants.{Left};
-ghost use Rattle.gm_model.specs.Maps.{IsGeneralised};
-ghost use Rattle.gm_model.specs.Matches.{IsStepMet};
+ghost use Rattle.gm_model.specs.Matches.{IsMetAt};
 ghost use Rattle.gm_model.specs.Rules.{rule_of, has_word};
 ghost use Rattle.gm_model.specs.Structure.{AreGood, IsFirstBad};
 ghost use Rattle.gm_plan.specs.Plans.{IsPlanned};
-ghost use Rattle.gm_walk.specs.Walks.{AreLive};
 ghost use Rattle.gm_match.specs.Outcome.{place_of};
-ghost use Rattle.gm_match.specs.Layout.{AreMatchable, IsCandidateAt};
-ghost use Rattle.gm_match.specs.Firsts.{IsForcedStep, AreForcedBeside, AreMet, IsFirstStep};
-ghost use Rattle.gm_match.specs.Tests.{AreTests, IsTestable, AreTestsMet, IsFirstTest};
+ghost use Rattle.gm_match.specs.Layout.{AreMatchable, IsLaid, IsCandidateAt};
+ghost use Rattle.gm_match.specs.Firsts.{IsForcedStep, AreForcedBeside, AreMetBeside, AreMetAt, AreMetBy, AreMet, IsFirstAt, IsFirstStep};
 
 use crate::fault::MatchFault;
 use gm_arena::{Arena, Slot, Steps};
 use gm_model::{MOST_LABELS, Side, Step};
 use gm_plan::{Instances, Plan};
 use std::sync::ledger::Ledger;
-
-/// A left step that needs a test: the candidate doesn't meet it as it is made.
-#[derive(Clone, Copy)]
-struct Test {
-    label: u8,
-    step: Step,
-}
 
 /// Tests the left steps of the candidate, but for those that it meets as it is made.
 pub(crate) fn meet_steps<L: Ledger>(
@@ -44,14 +33,11 @@ pub(crate) fn meet_steps<L: Ledger>(
     ensures least { steps.old ≤ steps.new }
 {
     for node in 0..plan.left_nodes() {
-        let (tests, count) = tests_of(plan, node);
-        if let Some((position, label)) = broken_position(
-            arena,
-            found,
-            node,
-            &tests[..count],
-            steps,
-        ) {
+        let tested = tested_labels(plan, node);
+        if !tested.contains(&true) {
+            continue;
+        }
+        if let Some((position, label)) = broken_position(plan, arena, found, node, &tested, steps) {
             return Err(MatchFault::Arc {
                 node,
                 position,
@@ -60,32 +46,6 @@ pub(crate) fn meet_steps<L: Ledger>(
         }
     }
     Ok(())
-}
-
-/// The left steps of the node that need a test, by label: so many of the array's first.
-fn tests_of(plan: &Plan<'_>, node: u8) -> ([Test; MOST_LABELS], usize)
-    requires planned { IsPlanned plan.now.schema (rule_of plan.now.table) }
-    requires left { IsTrue (has_word (rule_of plan.now.table) Left node) }
-    ensures tests { AreTests (rule_of plan.now.table) node (plan.now.schema.dim + 1) (take result.1 result.0) }
-    ensures long { length result.0 ≡ 8 }
-    ensures few { result.1 ≤ plan.now.schema.dim + 1 }
-    ensures low { plan.now.schema.dim < 8 }
-{
-    let tested = tested_labels(plan, node);
-    let none = Test {
-        label: 0,
-        step: Step::Absent,
-    };
-    let mut tests = [none; MOST_LABELS];
-    let mut count = 0;
-    for label in 0..plan.schema().dim.top() + 1 {
-        if tested[label as usize] {
-            let step = plan.step(Side::Left, node, label);
-            tests[count] = Test { label, step };
-            count += 1;
-        }
-    }
-    (tests, count)
 }
 
 /// At which labels the left step of the node needs a test: the candidate meets each other one as it
@@ -131,92 +91,93 @@ fn is_walked(plan: &Plan<'_>, node: u8, label: u8) -> bool
     }
 }
 
-/// The first position at which a test of the node fails, and the label of the first that does there.
+/// The first position and label at which a left step of the node is broken. Those at the labels
+/// that aren't to be tested are met.
 fn broken_position<L: Ledger>(
+    plan: &Plan<'_>,
     arena: &Arena,
     found: &Instances,
     node: u8,
-    tests: &[Test],
+    tested: &[bool; MOST_LABELS],
     steps: &mut Steps<L>,
 ) -> Option<(u32, u8)>
-    requires lawful { IsLawful arena.now }
-    requires generalised { IsGeneralised (as_map arena.now) }
-    requires live { AreLive arena.now found.now.slots }
+    requires matchable { AreMatchable arena.now plan.now }
+    requires laid { IsLaid arena.now (rule_of plan.now.table) found.now }
     requires node { node < found.now.nodes }
-    requires tests { All (IsTestable arena.now found.now) tests.now }
-    requires few { length tests.now ≤ arena.now.schema.dim + 1 }
+    requires beside { AreMetBeside arena.now (rule_of plan.now.table) found.now node tested.now }
     ensures first { MatchOption result
-        (AreGood (AreTestsMet arena.now found.now tests.now node) found.now.positions)
-        (λ at. IsFirstBad (AreTestsMet arena.now found.now tests.now node) found.now.positions at.0 × IsFirstTest arena.now found.now tests.now node at.0 at.1) }
+        (AreMetBy arena.now (rule_of plan.now.table) found.now node)
+        (λ at. IsFirstAt arena.now (rule_of plan.now.table) found.now node at.0 at.1) }
     ensures cost { steps.new ≤ steps.old + (arena.now.schema.dim + 1) * found.now.positions }
     ensures least { steps.old ≤ steps.new }
 {
-    if tests.is_empty() {
-        return None;
-    }
     for position in 0..found.positions() {
-        if let Some(label) = broken_label(arena, found, node, position, tests, steps) {
+        if let Some(label) = broken_label(plan, arena, found, node, position, tested, steps) {
             return Some((position, label));
         }
     }
     None
 }
 
-/// The label of the first test of the node that fails at the position.
+/// The first label at which the left step of the node is broken at the position. Those at the labels
+/// that aren't to be tested are met.
 fn broken_label<L: Ledger>(
+    plan: &Plan<'_>,
     arena: &Arena,
     found: &Instances,
     node: u8,
     position: u32,
-    tests: &[Test],
+    tested: &[bool; MOST_LABELS],
     steps: &mut Steps<L>,
 ) -> Option<u8>
-    requires lawful { IsLawful arena.now }
-    requires generalised { IsGeneralised (as_map arena.now) }
-    requires live { AreLive arena.now found.now.slots }
+    requires matchable { AreMatchable arena.now plan.now }
+    requires laid { IsLaid arena.now (rule_of plan.now.table) found.now }
     requires node { node < found.now.nodes }
     requires position { position < found.now.positions }
-    requires tests { All (IsTestable arena.now found.now) tests.now }
+    requires beside { AreMetBeside arena.now (rule_of plan.now.table) found.now node tested.now }
     ensures first { MatchOption result
-        (AreTestsMet arena.now found.now tests.now node position)
-        (IsFirstTest arena.now found.now tests.now node position) }
-    ensures cost { steps.new ≤ steps.old + length tests.now }
+        (AreMetAt arena.now (rule_of plan.now.table) found.now node position)
+        (IsFirstBad (IsMetAt (as_map arena.now) (rule_of plan.now.table) (place_of arena.now found.now) node position) (arena.now.schema.dim + 1)) }
+    ensures cost { steps.new ≤ steps.old + (arena.now.schema.dim + 1) }
     ensures least { steps.old ≤ steps.new }
 {
-    for test in tests {
-        if !is_met(arena, found, node, position, *test, steps) {
-            return Some(test.label);
+    for label in 0..arena.schema().dim.top() + 1 {
+        if !tested[label as usize] {
+            continue;
+        }
+        if !is_met(plan, arena, found, node, position, label, steps) {
+            return Some(label);
         }
     }
     None
 }
 
-/// Whether the test of the node is met at the position.
+/// Whether the left step of the node at the label is met at the position.
 fn is_met<L: Ledger>(
+    plan: &Plan<'_>,
     arena: &Arena,
     found: &Instances,
     node: u8,
     position: u32,
-    test: Test,
+    label: u8,
     steps: &mut Steps<L>,
 ) -> bool
-    requires lawful { IsLawful arena.now }
-    requires generalised { IsGeneralised (as_map arena.now) }
-    requires live { AreLive arena.now found.now.slots }
+    requires matchable { AreMatchable arena.now plan.now }
+    requires laid { IsLaid arena.now (rule_of plan.now.table) found.now }
     requires node { node < found.now.nodes }
     requires position { position < found.now.positions }
-    requires test { IsTestable arena.now found.now test }
-    ensures met { IsTrue result ↔ IsStepMet (alpha arena.now) (place_of arena.now found.now) node position test.label test.step }
+    requires label { label ≤ arena.now.schema.dim }
+    ensures met { IsTrue result ↔ IsMetAt (as_map arena.now) (rule_of plan.now.table) (place_of arena.now found.now) node position label }
     ensures cost { steps.new ≤ steps.old + 1 }
     ensures least { steps.old ≤ steps.new }
 {
     let from = found.slot(node, position);
-    match test.step {
+    match plan.step(Side::Left, node, label) {
         Step::Absent => true,
-        Step::Exp(other) => leads(arena, from, test.label, found.slot(other, position), steps),
+        Step::Exp(other) => leads(arena, from, label, found.slot(other, position), steps),
         Step::Imp(place) => {
             let turned = found.turn(position, place);
-            leads(arena, from, test.label, found.slot(node, turned), steps)
+            leads(arena, from, label, found.slot(node, turned), steps)
         }
     }
 }

@@ -4,8 +4,10 @@ use Rattle.std.proofs.lemmas.Slice.Eq.{bytes_eq-Decides}
 use Rattle.std.specs.Str.{bytes_eq}
 use Rattle.gm_model.specs.declared.expr.BinOp.{BinOp}
 use Rattle.gm_model.specs.declared.expr.BinOp.TheVariants as ops
+use Rattle.gm_model.specs.declared.token.TokenKind.{TokenKind}
+use Rattle.gm_model.specs.declared.token.TokenKind.TheVariants as tokens
 use Rattle.gm_model.specs.Names.{reserved, is_among}
-use Rattle.gm_model.specs.Symbols.{Symbol, Word, Numeral, Sign, Gone, Stray, End}
+use Rattle.gm_model.specs.Symbols.{Symbol, Word, Numeral, Sign, Gone, Stray, End, symbol_of_kind}
 use Rattle.gm_parse.specs.declared.key.Collector.TheVariants as collectors
 use Rattle.gm_parse.specs.declared.key.Key.{Key}
 use Rattle.gm_parse.specs.declared.key.Key.TheVariants as keys
@@ -150,3 +152,10 @@ name_is symbol e = go (key_of symbol) (keyed symbol) e
     go k (Named w free is) e = (w, free, is)
     go k (Spelled one own is) e = let no_way : true ≡ false = sym own ∙ ap is_fixed e in absurd cc
     go k Otherwise e = absurd cc
+
+-- the kind of a token that is a number to expressions
+pub kind_of_number : (kind : TokenKind) (bytes : List ℕ) → key_of (symbol_of_kind kind bytes) ≡ keys.Number → kind ≡ tokens.Number
+kind_of_number tokens.Number bytes is = refl
+kind_of_number tokens.Name bytes is = let (n, symbol) = number_is (Word bytes) is in absurd cc
+kind_of_number tokens.Gone bytes is = absurd cc
+kind_of_number tokens.Sign bytes is = let (n, symbol) = number_is (Sign bytes) is in absurd cc

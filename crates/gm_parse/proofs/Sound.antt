@@ -84,6 +84,13 @@ IsGoodPartial least (places.Field ending) partial = HasField ending × IsGoodLea
 IsGoodPartial least places.Close partial = IsGoodTerm partial.2 × IsFree partial.3
 IsGoodPartial least _ partial = Unit {0}
 
+-- what can't be
+never : false ≡ true → ⊥
+never e = absurd cc
+
+nowhere : (next : State) → None ≡ Some next → ⊥
+nowhere next e = absurd cc
+
 module _ (n : ℕ) where
   abbrev spell_head : (ending : Ending) → Head ending → List (Part Role) → List (Part Role)
   spell_head endings.Close head rest = word (codes "count") ∷ rest
@@ -218,7 +225,7 @@ module _ (n : ℕ) where
         go : (need : Need) → IsNeeded need (least_of frames) → move_by (state_at o c (places.Operand need)) (places.Operand need) keys.Not ≡ Some next → Next (λ rest. spell_frames n frames rest) (word (codes "not")) next
         go needs.Any low moves = as_next _ _ (state_at o c (places.Operand needs.NoIf)) next moves (inner (omega (arith, low)))
         go needs.NoIf low moves = as_next _ _ (state_at o c (places.Operand needs.NoIf)) next moves (inner low)
-        go needs.Tight low moves = absurd cc
+        go needs.Tight low moves = absurd (nowhere next moves)
     operand_next need keys.If part at next needed key role moves =
         put _ part (word (codes "if")) next (the_part part (Word (codes "if")) Fixed (fixed_is part.symbol keys.If key refl) role) (go need needed moves)
       where
@@ -229,8 +236,8 @@ module _ (n : ℕ) where
               zip = record { frames = IfOf ∷ frames; partial = tt; good = (low, good); fits = omega arith; brackets = ap (λ (bs : List Bracket). brackets.If ∷ bs) open_are; compared = refl };
               spells = λ rest. refl;
             })
-        go needs.NoIf low moves = absurd cc
-        go needs.Tight low moves = absurd cc
+        go needs.NoIf low moves = absurd (nowhere next moves)
+        go needs.Tight low moves = absurd (nowhere next moves)
     operand_next need keys.Same part at next needed key role moves =
         put _ part (word (codes "same")) next (the_part part (Word (codes "same")) Fixed (fixed_is part.symbol keys.Same key refl) role)
         (as_next _ _ (state_at o c places.Same) next moves (stays (places.Operand need) places.Same tt tt (word (codes "same")) tt (λ rest. refl)))
@@ -240,7 +247,7 @@ module _ (n : ℕ) where
     operand_next need (keys.Collect collector) part at next needed key role moves =
         put _ part (word (collector_word collector)) next (the_part part (Word (collector_word collector)) Fixed (fixed_is part.symbol (keys.Collect collector) key refl) role)
         (as_next _ _ (state_at o c (places.Orbit endings.FieldClose)) next moves (stays (places.Operand need) (places.Orbit endings.FieldClose) tt collector (word (collector_word collector)) tt (λ rest. refl)))
-    operand_next need _ part at next needed key role moves = absurd cc
+    operand_next need _ part at next needed key role moves = absurd (nowhere next moves)
 
   -- ---- behind an operand
 
@@ -254,12 +261,12 @@ module _ (n : ℕ) where
       go op false moves less = refl
       go ops.Or true moves less = absurd (omega (arith, less))
       go ops.And true moves less = absurd (omega (arith, less))
-      go ops.Eq true moves less = absurd cc
-      go ops.Ne true moves less = absurd cc
-      go ops.Lt true moves less = absurd cc
-      go ops.Le true moves less = absurd cc
-      go ops.Gt true moves less = absurd cc
-      go ops.Ge true moves less = absurd cc
+      go ops.Eq true moves less = absurd (nowhere next moves)
+      go ops.Ne true moves less = absurd (nowhere next moves)
+      go ops.Lt true moves less = absurd (nowhere next moves)
+      go ops.Le true moves less = absurd (nowhere next moves)
+      go ops.Gt true moves less = absurd (nowhere next moves)
+      go ops.Ge true moves less = absurd (nowhere next moves)
       go ops.Add true moves less = absurd (omega (arith, less))
       go ops.Sub true moves less = absurd (omega (arith, less))
       go ops.Mul true moves less = absurd (omega (arith, less))
@@ -319,12 +326,12 @@ module _ (n : ℕ) where
       put _ part (sign (codes ")")) next (the_part part (Sign (codes ")")) Fixed (fixed_is part.symbol keys.Close key refl) role)
       (as_next _ _ (state_at (brackets_of frames) (compared_in frames) places.Behind) next moves
       (record { zip = record { frames = frames; partial = CallForm function (Further arguments form); good = h.frames.1; fits = ((h.frames.0.0, (h.frames.0.1, h.form)), omega arith); brackets = refl; compared = refl }; spells = λ rest. refl }))
-  closed_next form part IfOf frames next opens key role h moves = absurd cc
-  closed_next form part (ThenOf c) frames next opens key role h moves = absurd cc
-  closed_next form part (LeftOf op left) frames next opens key role h moves = absurd cc
-  closed_next form part MinusOf frames next opens key role h moves = absurd cc
-  closed_next form part NotOf frames next opens key role h moves = absurd cc
-  closed_next form part (ElseOf c a) frames next opens key role h moves = absurd cc
+  closed_next form part IfOf frames next opens key role h moves = absurd (nowhere next moves)
+  closed_next form part (ThenOf c) frames next opens key role h moves = absurd (nowhere next moves)
+  closed_next form part (LeftOf op left) frames next opens key role h moves = absurd (never opens)
+  closed_next form part MinusOf frames next opens key role h moves = absurd (never opens)
+  closed_next form part NotOf frames next opens key role h moves = absurd (never opens)
+  closed_next form part (ElseOf c a) frames next opens key role h moves = absurd (never opens)
 
   comma_next : (form : Form) (part : Part Role) (frame : Frame) (frames : List Frame) (next : State) → is_open frame ≡ true → key_of part.symbol ≡ keys.Comma → part.role ≡ Fixed → IsHeld (held (frame ∷ frames) form)
       → comma_move (brackets_of (frame ∷ frames)) ≡ Some next → Next (λ rest. spell_frames n (frame ∷ frames) (spell n form rest)) part next
@@ -336,13 +343,13 @@ module _ (n : ℕ) where
       put _ part (sign (codes ",")) next (the_part part (Sign (codes ",")) Fixed (fixed_is part.symbol keys.Comma key refl) role)
       (as_next _ _ (state_at (brackets.Call (compared_in frames) ∷ brackets_of frames) false (places.Operand needs.Any)) next moves
       (record { zip = record { frames = FurtherOf function (Further arguments form) ∷ frames; partial = tt; good = ((h.frames.0.0, (h.frames.0.1, h.form)), h.frames.1); fits = omega arith; brackets = refl; compared = refl }; spells = λ rest. refl }))
-  comma_next form part GroupOf frames next opens key role h moves = absurd cc
-  comma_next form part IfOf frames next opens key role h moves = absurd cc
-  comma_next form part (ThenOf c) frames next opens key role h moves = absurd cc
-  comma_next form part (LeftOf op left) frames next opens key role h moves = absurd cc
-  comma_next form part MinusOf frames next opens key role h moves = absurd cc
-  comma_next form part NotOf frames next opens key role h moves = absurd cc
-  comma_next form part (ElseOf c a) frames next opens key role h moves = absurd cc
+  comma_next form part GroupOf frames next opens key role h moves = absurd (nowhere next moves)
+  comma_next form part IfOf frames next opens key role h moves = absurd (nowhere next moves)
+  comma_next form part (ThenOf c) frames next opens key role h moves = absurd (nowhere next moves)
+  comma_next form part (LeftOf op left) frames next opens key role h moves = absurd (never opens)
+  comma_next form part MinusOf frames next opens key role h moves = absurd (never opens)
+  comma_next form part NotOf frames next opens key role h moves = absurd (never opens)
+  comma_next form part (ElseOf c a) frames next opens key role h moves = absurd (never opens)
 
   then_next : (form : Form) (part : Part Role) (frame : Frame) (frames : List Frame) (next : State) → is_open frame ≡ true → key_of part.symbol ≡ keys.Then → part.role ≡ Fixed → IsHeld (held (frame ∷ frames) form)
       → then_move (brackets_of (frame ∷ frames)) ≡ Some next → Next (λ rest. spell_frames n (frame ∷ frames) (spell n form rest)) part next
@@ -350,14 +357,14 @@ module _ (n : ℕ) where
       put _ part (word (codes "then")) next (the_part part (Word (codes "then")) Fixed (fixed_is part.symbol keys.Then key refl) role)
       (as_next _ _ (state_at (brackets.Then ∷ brackets_of frames) false (places.Operand needs.Any)) next moves
       (record { zip = record { frames = ThenOf form ∷ frames; partial = tt; good = ((h.form, h.frames.0), h.frames.1); fits = omega arith; brackets = refl; compared = refl }; spells = λ rest. refl }))
-  then_next form part GroupOf frames next opens key role h moves = absurd cc
-  then_next form part (FirstOf function) frames next opens key role h moves = absurd cc
-  then_next form part (FurtherOf function arguments) frames next opens key role h moves = absurd cc
-  then_next form part (ThenOf c) frames next opens key role h moves = absurd cc
-  then_next form part (LeftOf op left) frames next opens key role h moves = absurd cc
-  then_next form part MinusOf frames next opens key role h moves = absurd cc
-  then_next form part NotOf frames next opens key role h moves = absurd cc
-  then_next form part (ElseOf c a) frames next opens key role h moves = absurd cc
+  then_next form part GroupOf frames next opens key role h moves = absurd (nowhere next moves)
+  then_next form part (FirstOf function) frames next opens key role h moves = absurd (nowhere next moves)
+  then_next form part (FurtherOf function arguments) frames next opens key role h moves = absurd (nowhere next moves)
+  then_next form part (ThenOf c) frames next opens key role h moves = absurd (nowhere next moves)
+  then_next form part (LeftOf op left) frames next opens key role h moves = absurd (never opens)
+  then_next form part MinusOf frames next opens key role h moves = absurd (never opens)
+  then_next form part NotOf frames next opens key role h moves = absurd (never opens)
+  then_next form part (ElseOf c a) frames next opens key role h moves = absurd (never opens)
 
   else_next : (form : Form) (part : Part Role) (frame : Frame) (frames : List Frame) (next : State) → is_open frame ≡ true → key_of part.symbol ≡ keys.Else → part.role ≡ Fixed → IsHeld (held (frame ∷ frames) form)
       → else_move (brackets_of (frame ∷ frames)) ≡ Some next → Next (λ rest. spell_frames n (frame ∷ frames) (spell n form rest)) part next
@@ -365,14 +372,14 @@ module _ (n : ℕ) where
       put _ part (word (codes "else")) next (the_part part (Word (codes "else")) Fixed (fixed_is part.symbol keys.Else key refl) role)
       (as_next _ _ (state_at (brackets_of frames) false (places.Operand needs.Any)) next moves
       (record { zip = record { frames = ElseOf c form ∷ frames; partial = tt; good = ((h.frames.0.0, h.form, h.frames.0.1), h.frames.1); fits = omega arith; brackets = refl; compared = refl }; spells = λ rest. refl }))
-  else_next form part IfOf frames next opens key role h moves = absurd cc
-  else_next form part GroupOf frames next opens key role h moves = absurd cc
-  else_next form part (FirstOf function) frames next opens key role h moves = absurd cc
-  else_next form part (FurtherOf function arguments) frames next opens key role h moves = absurd cc
-  else_next form part (LeftOf op left) frames next opens key role h moves = absurd cc
-  else_next form part MinusOf frames next opens key role h moves = absurd cc
-  else_next form part NotOf frames next opens key role h moves = absurd cc
-  else_next form part (ElseOf c a) frames next opens key role h moves = absurd cc
+  else_next form part IfOf frames next opens key role h moves = absurd (nowhere next moves)
+  else_next form part GroupOf frames next opens key role h moves = absurd (nowhere next moves)
+  else_next form part (FirstOf function) frames next opens key role h moves = absurd (nowhere next moves)
+  else_next form part (FurtherOf function arguments) frames next opens key role h moves = absurd (nowhere next moves)
+  else_next form part (LeftOf op left) frames next opens key role h moves = absurd (never opens)
+  else_next form part MinusOf frames next opens key role h moves = absurd (never opens)
+  else_next form part NotOf frames next opens key role h moves = absurd (never opens)
+  else_next form part (ElseOf c a) frames next opens key role h moves = absurd (never opens)
 
   module _ (frames : List Frame) (form : Form) (is_held : IsHeld (held frames form)) (low : 8 ≤ level_of form) (c : Bool) (compared_is : c ≡ compared_in frames) where
     abbrev Spelt : List (Part Role) → List (Part Role)
@@ -398,9 +405,9 @@ module _ (n : ℕ) where
     fixed_role where_it_is key at part fixed role = role ∙ go key fixed
       where
         go : (key : Key) → is_fixed key ≡ true → key_role n where_it_is key at ≡ Fixed
-        go keys.Number fixed = absurd cc
-        go keys.Name fixed = absurd cc
-        go keys.Other fixed = absurd cc
+        go keys.Number fixed = absurd (never fixed)
+        go keys.Name fixed = absurd (never fixed)
+        go keys.Other fixed = absurd (never fixed)
         go _ fixed = refl
 
     behind_next : (place : Place) (key : Key) (part : Part Role) (at : ℕ) (next : State) → key_of part.symbol ≡ key → part.role ≡ key_role n place key at
@@ -415,7 +422,7 @@ module _ (n : ℕ) where
     behind_next place keys.Comma part at next key role moves = at_bracket part next comma_move (λ frame others whole opens h is. comma_next whole part frame others next opens key role h is) refl moves
     behind_next place keys.Then part at next key role moves = at_bracket part next then_move (λ frame others whole opens h is. then_next whole part frame others next opens key role h is) refl moves
     behind_next place keys.Else part at next key role moves = at_bracket part next else_move (λ frame others whole opens h is. else_next whole part frame others next opens key role h is) refl moves
-    behind_next place _ part at next key role moves = absurd cc
+    behind_next place _ part at next key role moves = absurd (nowhere next moves)
 
   -- ---- dart terms
 
@@ -462,11 +469,11 @@ module _ (n : ℕ) where
 
     same_next : (key : Key) (part : Part Role) (at : ℕ) (next : State) → key_of part.symbol ≡ key → part.role ≡ key_role n places.Same key at → Moves places.Same key next → NextOf places.Same tt part next
     same_next keys.Open part at next is role moves = by_sign keys.Open places.Same (places.Node endings.Comma) tt tt part next is refl role moves tt (λ rest. refl)
-    same_next _ part at next is role moves = absurd cc
+    same_next _ part at next is role moves = absurd (nowhere next moves)
 
     orbit_next : (ending : Ending) (head : Head ending) (key : Key) (part : Part Role) (at : ℕ) (next : State) → key_of part.symbol ≡ key → part.role ≡ key_role n (places.Orbit ending) key at → Moves (places.Orbit ending) key next → NextOf (places.Orbit ending) head part next
     orbit_next ending head (keys.Operator ops.Lt) part at next is role moves = by_sign (keys.Operator ops.Lt) (places.Orbit ending) (places.Label ending) head (head, []) part next is refl role moves tt (λ rest. refl)
-    orbit_next ending head _ part at next is role moves = absurd cc
+    orbit_next ending head _ part at next is role moves = absurd (nowhere next moves)
 
     label_next : (ending : Ending) (head : Head ending) (orbit : List LabelForm) (key : Key) (part : Part Role) (at : ℕ) (next : State) → key_of part.symbol ≡ key → part.role ≡ key_role n (places.Label ending) key at → Moves (places.Label ending) key next
         → NextOf (places.Label ending) (head, orbit) part next
@@ -474,7 +481,7 @@ module _ (n : ℕ) where
         by_number (LabelAt n at) (places.Label ending) (places.Label ending) (head, orbit) (λ label. (head, orbit ++ record { label = label; place = at } ∷ [])) part next is role moves (λ value. tt)
         (λ value rest. ap (λ (ps : List (Part Role)). spell_head ending head (sign (codes "<") ∷ ps)) (labels_behind orbit (record { label = value; place = at }) rest))
     label_next ending head orbit (keys.Operator ops.Gt) part at next is role moves = by_sign (keys.Operator ops.Gt) (places.Label ending) (places.Open ending) (head, orbit) (head, orbit) part next is refl role moves tt (λ rest. refl)
-    label_next ending head orbit _ part at next is role moves = absurd cc
+    label_next ending head orbit _ part at next is role moves = absurd (nowhere next moves)
 
     open_next : (ending : Ending) (head : Head ending) (orbit : List LabelForm) (key : Key) (part : Part Role) (at : ℕ) (next : State) → key_of part.symbol ≡ key → part.role ≡ key_role n (places.Open ending) key at → Moves (places.Open ending) key next
         → NextOf (places.Open ending) (head, orbit) part next
@@ -482,13 +489,13 @@ module _ (n : ℕ) where
     open_next endings.FieldClose head orbit keys.Open part at next is role moves = by_sign keys.Open (places.Open endings.FieldClose) (places.Node endings.FieldClose) (head, orbit) (head, orbit) part next is refl role moves tt (λ rest. refl)
     open_next endings.Comma head orbit keys.Open part at next is role moves = absurd head
     open_next endings.Field head orbit keys.Open part at next is role moves = absurd head
-    open_next ending head orbit _ part at next is role moves = absurd cc
+    open_next ending head orbit _ part at next is role moves = absurd (nowhere next moves)
 
     node_next : (ending : Ending) (lead : Lead ending) → IsGoodLead ending lead → (key : Key) (part : Part Role) (at : ℕ) (next : State) → key_of part.symbol ≡ key → part.role ≡ key_role n (places.Node ending) key at → Moves (places.Node ending) key next
         → NextOf (places.Node ending) lead part next
     node_next ending lead good_lead keys.Name part at next is role moves =
         by_name (places.Node ending) (places.BehindNode ending) lead (λ mention. (lead, record { node = mention; path = [] })) part at next is role moves (λ mention free. (good_lead, free)) (λ mention rest. refl)
-    node_next ending lead good_lead _ part at next is role moves = absurd cc
+    node_next ending lead good_lead _ part at next is role moves = absurd (nowhere next moves)
 
     path_next : (ending : Ending) (lead : Lead ending) (term : TermForm) → IsGoodLead ending lead → IsGoodTerm term → (part : Part Role) (next : State) → key_of part.symbol ≡ keys.At → part.role ≡ Fixed → Some (state_at o c (places.Step ending)) ≡ Some next
         → NextOf (places.BehindNode ending) (lead, term) part next
@@ -505,14 +512,14 @@ module _ (n : ℕ) where
     term_next endings.Field lead term good_lead good_term keys.Dot part at next is role moves = by_sign keys.Dot (places.BehindNode endings.Field) (places.Field endings.Field) (lead, term) (lead, term) part next is refl role moves (tt, good_lead, good_term) (λ rest. refl)
     term_next endings.FieldClose lead term good_lead good_term keys.Dot part at next is role moves =
         by_sign keys.Dot (places.BehindNode endings.FieldClose) (places.Field endings.FieldClose) (lead, term) (lead, term) part next is refl role moves (tt, good_lead, good_term) (λ rest. refl)
-    term_next ending lead term good_lead good_term _ part at next is role moves = absurd cc
+    term_next ending lead term good_lead good_term _ part at next is role moves = absurd (nowhere next moves)
 
     step_next : (ending : Ending) (lead : Lead ending) (term : TermForm) → IsGoodLead ending lead → IsGoodTerm term → (key : Key) (part : Part Role) (at : ℕ) (next : State) → key_of part.symbol ≡ key → part.role ≡ key_role n (places.Step ending) key at
         → Moves (places.Step ending) key next → NextOf (places.Step ending) (lead, term) part next
     step_next ending lead term good_lead good_term keys.Number part at next is role moves =
         by_number (StepAt n) (places.Step ending) (places.BehindNode ending) (lead, term) (λ label. (lead, record { node = term.node; path = term.path ++ label ∷ [] })) part next is role moves (λ value. (good_lead, good_term))
         (λ value rest. ap (λ (ps : List (Part Role)). spell_lead ending lead (name term.node ∷ ps)) (path_behind term.path value rest))
-    step_next ending lead term good_lead good_term _ part at next is role moves = absurd cc
+    step_next ending lead term good_lead good_term _ part at next is role moves = absurd (nowhere next moves)
 
     field_next : (ending : Ending) (lead : Lead ending) (term : TermForm) → HasField ending → IsGoodTerm term → (key : Key) (part : Part Role) (at : ℕ) (next : State) → key_of part.symbol ≡ key → part.role ≡ key_role n (places.Field ending) key at
         → Moves (places.Field ending) key next → NextOf (places.Field ending) (lead, term) part next
@@ -522,13 +529,13 @@ module _ (n : ℕ) where
         by_name (places.Field endings.FieldClose) places.Close (lead, term) (λ embed. (lead.0, lead.1, term, embed)) part at next is role moves (λ embed free. (good_term, free)) (λ embed rest. refl)
     field_next endings.Comma lead term has good_term key part at next is role moves = absurd has
     field_next endings.Close lead term has good_term key part at next is role moves = absurd has
-    field_next ending lead term has good_term _ part at next is role moves = absurd cc
+    field_next ending lead term has good_term _ part at next is role moves = absurd (nowhere next moves)
 
     close_next : (partial : Partial places.Close) → IsGoodTerm partial.2 → IsFree partial.3 → (key : Key) (part : Part Role) (at : ℕ) (next : State) → key_of part.symbol ≡ key → part.role ≡ key_role n places.Close key at → Moves places.Close key next
         → NextOf places.Close partial part next
     close_next partial good_term free keys.Close part at next is role moves =
         by_sign keys.Close places.Close places.Behind partial (CollectForm partial.0 partial.1 partial.2 partial.3) part next is refl role moves ((good_term, free), omega arith) (λ rest. refl)
-    close_next partial good_term free _ part at next is role moves = absurd cc
+    close_next partial good_term free _ part at next is role moves = absurd (nowhere next moves)
 
     name_next : (mention : Mention) → IsFree mention → (key : Key) (part : Part Role) (at : ℕ) (next : State) → key_of part.symbol ≡ key → part.role ≡ key_role n places.BehindName key at → Moves places.BehindName key next → NextOf places.BehindName mention part next
     name_next mention free keys.Open part at next is role moves =
@@ -585,10 +592,10 @@ module _ (n : ℕ) where
       no_bracket (FurtherOf function arguments) others opens e = absurd cc
       no_bracket IfOf others opens e = absurd cc
       no_bracket (ThenOf c) others opens e = absurd cc
-      no_bracket (LeftOf op left) others opens e = absurd cc
-      no_bracket MinusOf others opens e = absurd cc
-      no_bracket NotOf others opens e = absurd cc
-      no_bracket (ElseOf c a) others opens e = absurd cc
+      no_bracket (LeftOf op left) others opens e = absurd (never opens)
+      no_bracket MinusOf others opens e = absurd (never opens)
+      no_bracket NotOf others opens e = absurd (never opens)
+      no_bracket (ElseOf c a) others opens e = absurd (never opens)
 
       go : (others : List Frame) (whole : Form) → IsSettled others → [] ≡ brackets_of others → IsHeld (held others whole) → IsSpelled (spell_frames n others (spell n whole []))
       go others whole settled e h = elim settled as (λ (fs : List Frame) (s : IsSettled fs). [] ≡ brackets_of fs → IsHeld (held fs whole) → IsSpelled (spell_frames n fs (spell n whole []))) [

@@ -5,3 +5,4 @@ pub mod Reading
 pub mod Meaning
 pub mod Answers
 pub mod Taking
+pub mod Tables

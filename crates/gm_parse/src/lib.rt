@@ -10,6 +10,7 @@ mod key;
 mod place;
 mod skipping;
 mod state;
+mod table;
 mod tokens;
 
 pub use env::Env;
@@ -18,4 +19,5 @@ pub use function::Function;
 pub use key::{Collector, Key};
 pub use skipping::{advance, skip_expr};
 pub use state::State;
+pub use table::meaning_or;
 pub use tokens::{key_at, value};

@@ -13,6 +13,7 @@ ghost use Rattle.gm_parse.specs.Spelling.{limit_in, limit_of};
 
 use crate::key::{Collector, Key};
 use crate::place::Place;
+use crate::table::meaning_or;
 use gm_model::{BinOp, Dim, LimitKind, Token, TokenKind};
 use gm_text::Lexer;
 
@@ -20,6 +21,43 @@ use gm_text::Lexer;
 const RESERVED: [&[u8]; 19] = [
     b"rule", b"left", b"right", b"hook", b"with", b"pre", b"and", b"or", b"not", b"if", b"then",
     b"else", b"true", b"false", b"sum", b"count", b"min", b"max", b"same",
+];
+
+/// What the reserved words of expressions are to them.
+static KEYWORDS: [(&[u8], Key); 13] = [
+    (b"true", Key::Truth(true)),
+    (b"false", Key::Truth(false)),
+    (b"if", Key::If),
+    (b"then", Key::Then),
+    (b"else", Key::Else),
+    (b"not", Key::Not),
+    (b"and", Key::Operator(BinOp::And)),
+    (b"or", Key::Operator(BinOp::Or)),
+    (b"same", Key::Same),
+    (b"count", Key::Count),
+    (b"sum", Key::Collect(Collector::Sum)),
+    (b"min", Key::Collect(Collector::Least)),
+    (b"max", Key::Collect(Collector::Greatest)),
+];
+
+/// What the signs of expressions are to them.
+static SIGNS: [(&[u8], Key); 16] = [
+    (b"(", Key::Open),
+    (b")", Key::Close),
+    (b",", Key::Comma),
+    (b".", Key::Dot),
+    (b"@", Key::At),
+    (b"+", Key::Operator(BinOp::Add)),
+    (b"-", Key::Operator(BinOp::Sub)),
+    (b"*", Key::Operator(BinOp::Mul)),
+    (b"/", Key::Operator(BinOp::Div)),
+    (b"%", Key::Operator(BinOp::Rem)),
+    (b"==", Key::Operator(BinOp::Eq)),
+    (b"!=", Key::Operator(BinOp::Ne)),
+    (b"<", Key::Operator(BinOp::Lt)),
+    (b"<=", Key::Operator(BinOp::Le)),
+    (b">", Key::Operator(BinOp::Gt)),
+    (b">=", Key::Operator(BinOp::Ge)),
 ];
 
 const MOST_TOKENS: usize = 256;
@@ -55,22 +93,7 @@ fn is_reserved(word: &[u8]) -> bool
 fn key_of_reserved(word: &[u8]) -> Key
     ensures { result ≡ keyword word.now }
 {
-    match word {
-        b"true" => Key::Truth(true),
-        b"false" => Key::Truth(false),
-        b"if" => Key::If,
-        b"then" => Key::Then,
-        b"else" => Key::Else,
-        b"not" => Key::Not,
-        b"and" => Key::Operator(BinOp::And),
-        b"or" => Key::Operator(BinOp::Or),
-        b"same" => Key::Same,
-        b"count" => Key::Count,
-        b"sum" => Key::Collect(Collector::Sum),
-        b"min" => Key::Collect(Collector::Least),
-        b"max" => Key::Collect(Collector::Greatest),
-        _ => Key::Other,
-    }
+    meaning_or(&KEYWORDS, word, Key::Other)
 }
 
 fn key_of_word(word: &[u8]) -> Key
@@ -86,25 +109,7 @@ fn key_of_word(word: &[u8]) -> Key
 fn key_of_sign(sign: &[u8]) -> Key
     ensures { result ≡ sign_key sign.now }
 {
-    match sign {
-        b"(" => Key::Open,
-        b")" => Key::Close,
-        b"," => Key::Comma,
-        b"." => Key::Dot,
-        b"@" => Key::At,
-        b"+" => Key::Operator(BinOp::Add),
-        b"-" => Key::Operator(BinOp::Sub),
-        b"*" => Key::Operator(BinOp::Mul),
-        b"/" => Key::Operator(BinOp::Div),
-        b"%" => Key::Operator(BinOp::Rem),
-        b"==" => Key::Operator(BinOp::Eq),
-        b"!=" => Key::Operator(BinOp::Ne),
-        b"<" => Key::Operator(BinOp::Lt),
-        b"<=" => Key::Operator(BinOp::Le),
-        b">" => Key::Operator(BinOp::Gt),
-        b">=" => Key::Operator(BinOp::Ge),
-        _ => Key::Other,
-    }
+    meaning_or(&SIGNS, sign, Key::Other)
 }
 
 /// What the token is to expressions.

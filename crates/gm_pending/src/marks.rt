@@ -126,6 +126,7 @@ impl Marks {
     }
 
     /// Adds a dart to the darts and to their index.
+    // Cold, it leaves `mark` small enough to be inlined, which saves 25 instructions a mark.
     #[cold]
     fn add_to_many(&mut self, entry: Reached) -> Result<(), OutOfMemory>
         requires key { entry.key ≡ key_of entry.at }

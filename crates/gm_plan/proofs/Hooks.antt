@@ -1,11 +1,14 @@
 -- The hooks of a rule that is planned.
-use Rattle.std.proofs.Common.{ℕ, ◌<◌, ◌≤◌, IsTrue, length}
-use Rattle.std.specs.List.{Contains}
+use Rattle.std.proofs.Common.{◌≡◌, ℕ, ◌<◌, ◌≤◌, IsTrue, List, length, sym, subst}
+use Rattle.std.proofs.Math.Nat.{lt_of_lt_of_le}
+use Rattle.std.proofs.lemmas.Option.{slice_get-get_or}
+use Rattle.std.specs.List.{All, Contains}
 use Rattle.gm_model.specs.declared.rule.Side.TheVariants.{Left}
 use Rattle.gm_model.specs.declared.schema.Schema.{Schema}
 use Rattle.gm_model.specs.Rules.{Rule, has_word}
 use Rattle.gm_plan.specs.Plans.{IsPlanned}
 use Rattle.gm_plan.proofs.Distinct.{few_below}
+use Rattle.gm_theory.proofs.Lists.{get_contained}
 use Rattle.gm_theory.proofs.RuleLinks.{contains_has}
 use Rattle.gm_theory.proofs.RuleSteps.{word_below}
 
@@ -18,3 +21,6 @@ module _ (schema : Schema) (rule : Rule) (planned : IsPlanned schema rule) where
 
   pub few_hooks : length rule.hooks ≤ length rule.nodes
   few_hooks = few_below rule.hooks (length rule.nodes) planned.accepted.in_range.hooks_differ hook_below
+
+  pub low_hooks : (hooks : List ℕ) → hooks ≡ rule.hooks → All (λ h. h < 32) hooks
+  low_hooks hooks same = subst (All (λ h. h < 32)) (sym same) (λ k d h. lt_of_lt_of_le (hook_below _ (get_contained rule.hooks k _ (slice_get-get_or rule.hooks k d h))) planned.within.nodes)

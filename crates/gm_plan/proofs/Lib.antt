@@ -1,3 +1,4 @@
+pub mod Changed
 pub mod Distinct
 pub mod Extended
 pub mod Found

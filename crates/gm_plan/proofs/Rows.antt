@@ -1,5 +1,6 @@
 -- What a table of rows has at a node and a label.
-use Rattle.std.proofs.Common.{◌≡◌, ◌≢◌, ℕ, zero, suc, ◌+◌, ◌<◌, inl, inr, List, [], ◌∷◌, ◌++◌, length, Option, Some, None, get_or, set, refl, ap, sym, subst, ◌∙◌, arith}
+use Rattle.std.proofs.Common.{◌≡◌, ◌≢◌, ℕ, zero, suc, ◌+◌, ◌<◌, ◌≤◌, inl, inr, List, [], ◌∷◌, ◌++◌, length, Option, Some, None, get_or, set, refl, ap, sym, subst, ◌∙◌, arith}
+use Rattle.std.proofs.Math.Nat.{le_antisymm}
 use Rattle.std.proofs.lemmas.Bool.{cases_lt}
 use Rattle.std.proofs.lemmas.List.{get_or-set_other, get_or-set_same, get_or_past, length-set, length_push}
 use Rattle.std.proofs.lemmas.Option.{get_or_from_slice_get, same_Some, slice_get-get_or, slice_get_within}
@@ -17,10 +18,28 @@ cell rows x i (Some row) s e f = rw (get_or_from_slice_get rows x row [] e) (get
 pub row_step_is : (f : ℕ → ℕ → Step) (count : ℕ) (rows : List (List Step)) → AreRows f count rows → (x i : ℕ) → x < count → i < 8 → row_step rows x i ≡ f x i
 row_step_is f count rows are x i h k = cell rows x i (slice_get rows x) (f x i) refl (are.here x i h k)
 
+-- and what a row that was read has at a label
+pub read_row : (f : ℕ → ℕ → Step) (count : ℕ) (rows : List (List Step)) → AreRows f count rows → (x i : ℕ) → x < count → i < 8 → (row : List Step) → row ≡ get_or rows x row → get_or row i Absent ≡ f x i
+read_row f count rows are x i h k row read = get_or_from_slice_get row i (f x i) Absent (sym (ap (option_and_then (λ (r : List Step). slice_get r i)) at) ∙ are.here x i h k)
+  where
+    at : slice_get rows x ≡ Some row
+    at = slice_get-get_or rows x row (subst (λ n. x < n) (sym are.long) h) ∙ ap Some (sym read)
+
 absent_not : (y : ℕ) → Absent ≡ Exp y → ⊥
 absent_not y e = cc
 
 -- ---- one row more
+
+pub no_rows : (f : ℕ → ℕ → Step) (rows : List (List Step)) → rows ≡ [] → AreRows f 0 rows
+no_rows f rows none = subst (AreRows f 0) (sym none) (record {
+  long = refl;
+  row_long = λ x row e. absurd (omega (arith, slice_get_within [] x row e));
+  here = λ x i h k. absurd (omega (arith, h));
+})
+
+-- so many rows as were counted
+pub all_rows : (f : ℕ → ℕ → Step) (rows : List (List Step)) (done end count : ℕ) → AreRows f done rows → done ≤ end → end ≤ done → end ≡ count → AreRows f count rows
+all_rows f rows done end count are most least e = subst (λ n. AreRows f n rows) (le_antisymm most least ∙ e) are
 
 row_old : (rows : List (List Step)) (row : List Step) (x : ℕ) → x < length rows → slice_get (rows ++ row ∷ []) x ≡ slice_get rows x
 row_old [] row x h = absurd (omega arith)

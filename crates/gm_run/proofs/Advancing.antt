@@ -12,6 +12,7 @@ use Rattle.gm_model.specs.Acceptance.{IsAccepted}
 use Rattle.gm_model.specs.Applications.{Application, Cause, IsDone, IsRefused, IsBudget}
 use Rattle.gm_model.specs.Applications as causes
 use Rattle.gm_model.specs.Kinds.{AreGoodParams}
+use Rattle.gm_model.specs.Limits.{most_darts}
 use Rattle.gm_model.specs.Maps.{Map, IsSound}
 use Rattle.gm_model.specs.Rules.{Rule, rule_of}
 use Rattle.gm_model.specs.Runs.{IsOutcome, IsLineOutcome, IsLineBudget, IsRun, IsRunBudget, changed_darts}
@@ -96,12 +97,16 @@ module _ (rules : List Rule) (m n : ArenaMap) (line : Line) (rule : Rule) (rule_
 
 -- ---- the line's plan
 
-module _ (plans : List PlanOf) (line : Line) (plan : PlanOf) (good : IsGoodLine (rules_of plans) line) (is : plan ≡ get_or plans line.rule plan) where
-  named : line.rule < length plans
-  named = omega (arith, slice_get_within (rules_of plans) line.rule good.rule good.rule_is, length-map plans (λ (p : PlanOf). rule_of p.table))
+-- an arena has no more darts than a map may have
+pub never_more : (m : ArenaMap) (n : ℕ) → IsLawful m → n ≡ m.count → most_darts < n → ⊥
+never_more m n lawful same over = let few = lawful.few_darts in omega (arith, few, same, over)
 
+pub named : (plans : List PlanOf) (line : Line) → IsGoodLine (rules_of plans) line → line.rule < length plans
+named plans line good = omega (arith, slice_get_within (rules_of plans) line.rule good.rule good.rule_is, length-map plans (λ (p : PlanOf). rule_of p.table))
+
+module _ (plans : List PlanOf) (line : Line) (plan : PlanOf) (good : IsGoodLine (rules_of plans) line) (is : plan ≡ get_or plans line.rule plan) where
   rule_is : slice_get (rules_of plans) line.rule ≡ Some (rule_of plan.table)
-  rule_is = slice_get-map (λ (p : PlanOf). rule_of p.table) plans line.rule ∙ ap (option_map (λ (p : PlanOf). rule_of p.table)) (slice_get-get_or plans line.rule plan named ∙ ap Some (sym is))
+  rule_is = slice_get-map (λ (p : PlanOf). rule_of p.table) plans line.rule ∙ ap (option_map (λ (p : PlanOf). rule_of p.table)) (slice_get-get_or plans line.rule plan (named plans line good) ∙ ap Some (sym is))
 
   same_rule : good.rule ≡ rule_of plan.table
   same_rule = same_Some good.rule (rule_of plan.table) (sym good.rule_is ∙ rule_is)
@@ -113,18 +118,18 @@ module _ (plans : List PlanOf) (line : Line) (plan : PlanOf) (good : IsGoodLine 
   pub params_fit : (params : List Value) → params ≡ line.params → AreGoodParams (rule_of plan.table) params
   params_fit params same = subst (AreGoodParams (rule_of plan.table)) (sym same) (subst (λ (r : Rule). AreGoodParams r line.params) same_rule good.params)
 
+  pub plan_for : (schema : Schema) → ArePlansFor schema plans → IsPlanFor schema plan
+  plan_for schema all_for = subst (IsPlanFor schema) (sym is) (all_for line.rule plan (named plans line good))
+
 module _ (plans : List PlanOf) (m n : ArenaMap) (line : Line) (plan : PlanOf) (all_for : ArePlansFor m.schema plans) (good : IsGoodLine (rules_of plans) line) (is : plan ≡ get_or plans line.rule plan)
     (hooks : List ℕ) (params : List Value) (same_hooks : hooks ≡ line.hooks) (same_params : params ≡ line.params) (start steps : ℕ)
     (lawful : IsLawful m) (sound : IsSound (as_map m)) (planned : IsPlanned plan.schema (rule_of plan.table))
     (within : (most : ℕ) → IsBudget (matches.application_of m (rule_of plan.table) hooks params) most → steps ≤ start + most) where
-  plan_for : IsPlanFor m.schema plan
-  plan_for = subst (IsPlanFor m.schema) (sym is) (all_for line.rule plan (named plans line plan good is))
-
   suits : Suits (rule_of plan.table) (as_map m)
   suits = record {
     of_schema = lawful.schema;
     sound = sound;
-    accepted = subst (λ (s : Schema). IsAccepted s (rule_of plan.table)) (sym plan_for) planned.accepted;
+    accepted = subst (λ (s : Schema). IsAccepted s (rule_of plan.table)) (sym (plan_for plans line plan good is m.schema all_for)) planned.accepted;
   }
 
   same_app : matches.application_of m (rule_of plan.table) hooks params ≡ matches.application_of m (rule_of plan.table) line.hooks line.params
@@ -158,6 +163,10 @@ module _ (plans : List PlanOf) (m n : ArenaMap) (line : Line) (plan : PlanOf) (a
 -- ---- one line more
 
 module _ (rules : List Rule) where
+  -- who is past the last line has run all
+  pub run_of_all : (before after : Map) (lines : List Line) (outcomes : List Outcome) (start steps k : ℕ) → length lines ≤ k → HasRun rules before (take k lines) outcomes after start steps → HasRun rules before lines outcomes after start steps
+  run_of_all before after lines outcomes start steps k past run = subst (λ ls. HasRun rules before ls outcomes after start steps) (take_all k lines past) run
+
   run_on : (before between after : Map) (lines : List Line) (outcomes : List runs.Outcome) (line : Line) (outcome : runs.Outcome) → IsRun rules before lines outcomes between → IsLineOutcome rules between line outcome after
       → IsRun rules before (lines ++ line ∷ []) (outcomes ++ outcome ∷ []) after
   run_on before between after [] [] line outcome e last = (after, subst (λ (m : Map). IsLineOutcome rules m line outcome after) e last, refl)

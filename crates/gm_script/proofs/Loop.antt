@@ -13,6 +13,7 @@ use Rattle.gm_script.specs.Faults.{of_text, IsFaultOf, Says, Compares, unless}
 use Rattle.gm_script.specs.Reading.{HeldLine, Held, Stop, sight_of, symbol_at, next_spot, limit_in, hold, hold_apply, hold_number, hold_vector, taken, taken_at, finished, read_from, ended_by, put_first, nothing, lines_of, Fails, IsStray, ◌>>=◌, IsInText}
 use Rattle.gm_text.specs.Cursor.{Cursor}
 use Rattle.gm_text.specs.Lexing.{rest_of}
+use Rattle.gm_script.specs.SoFar.{behind, Holds, IsSoFar}
 use Rattle.gm_script.specs.declared.fault.ScriptFault.{ScriptFault}
 use Rattle.gm_script.specs.declared.fault.ScriptFault.TheVariants as faults
 use Rattle.gm_script.specs.declared.reader.TextFault.{TextFault}
@@ -76,11 +77,6 @@ module _ (text : List ℕ) (token : Token) (inside : IsInText text token) (held 
 
 -- ---- what was read so far
 
--- what all come to, where these have ended before
-abbrev pub behind : List HeldLine → Result (List HeldLine) Stop → Result (List HeldLine) Stop
-behind before (Ok others) = Ok (before ++ others)
-behind before (Err stop) = Err stop
-
 behind_none : (read : Result (List HeldLine) Stop) → behind [] read ≡ read
 behind_none (Ok others) = refl
 behind_none (Err stop) = refl
@@ -100,9 +96,6 @@ fails_on (texts.Text place) read more e = rw e refl
 fails_on (texts.Limit what place) read more e = rw e refl
 
 module _ (text : List ℕ) (rules : List Rule) where
-  abbrev pub Holds : Result (List Line) ScriptFault → List HeldLine → Type 0
-  Holds compared helds = Compares (λ (lines : List Line). lines) compared (lines_for text rules helds)
-
   lines_more : (helds : List HeldLine) (held : HeldLine) → lines_for text rules (helds ++ held ∷ []) ≡ comparing.◌>>=◌ (lines_for text rules helds) (λ lines. comparing.◌>>=◌ (line_for text rules held) (λ line. Ok (lines ++ line ∷ [])))
   lines_more [] held = refl
   lines_more (first ∷ helds) held =
@@ -118,49 +111,42 @@ module _ (text : List ℕ) (rules : List Rule) where
       by (Ok line) (Ok lines) (Ok other) all e = rw e refl
 
   module _ (helds : List HeldLine) (held : HeldLine) where
-    fault_stays : (fault : ScriptFault) → Holds (Err fault) helds → Holds (Err fault) (helds ++ held ∷ [])
+    fault_stays : (fault : ScriptFault) → Holds text rules (Err fault) helds → Holds text rules (Err fault) (helds ++ held ∷ [])
     fault_stays fault says = rw (lines_more helds held) (says_on fault (lines_for text rules helds) (λ lines. comparing.◌>>=◌ (line_for text rules held) (λ line. Ok (lines ++ line ∷ []))) says)
 
-    pub stays : (old : Option ScriptFault) (lines : List Line) → is_some old ≡ true → Holds (unless old lines) helds → Holds (unless old lines) (helds ++ held ∷ [])
+    pub stays : (old : Option ScriptFault) (lines : List Line) → is_some old ≡ true → Holds text rules (unless old lines) helds → Holds text rules (unless old lines) (helds ++ held ∷ [])
     stays None lines there holds = absurd cc
     stays (Some fault) lines there holds = fault_stays fault holds
 
-    pub line_added : (old : Option ScriptFault) (lines : List Line) (line : Line) → is_some old ≡ false → Holds (unless old lines) helds → line_for text rules held ≡ Ok line → Holds (unless old (lines ++ line ∷ [])) (helds ++ held ∷ [])
+    pub line_added : (old : Option ScriptFault) (lines : List Line) (line : Line) → is_some old ≡ false → Holds text rules (unless old lines) helds → line_for text rules held ≡ Ok line → Holds text rules (unless old (lines ++ line ∷ [])) (helds ++ held ∷ [])
     line_added None lines line there e f = lines_more helds held ∙ rw (e, f) refl
     line_added (Some fault) lines line there e f = absurd cc
 
-    pub fault_added : (old : Option ScriptFault) (lines : List Line) (fault : ScriptFault) → is_some old ≡ false → Holds (unless old lines) helds → Says fault (line_for text rules held) → Holds (Err fault) (helds ++ held ∷ [])
+    pub fault_added : (old : Option ScriptFault) (lines : List Line) (fault : ScriptFault) → is_some old ≡ false → Holds text rules (unless old lines) helds → Says fault (line_for text rules held) → Holds text rules (Err fault) (helds ++ held ∷ [])
     fault_added None lines fault there e says = rw (lines_more helds held, e) (says_on fault (line_for text rules held) (λ line. Ok (lines ++ line ∷ [])) says)
     fault_added (Some other) lines fault there e says = absurd cc
 
-  -- these lines have ended before what is held, and are compared
-  pub record IsSoFar (held : Held) (items : List Item) (compared : Result (List Line) ScriptFault) : Type 0 where
-    pub before : List HeldLine
-    pub read : behind before (read_from text held items) ≡ lines_of text
-    pub holds : Holds compared before
-    pub named : IsInText text held.line.name
-
-  pub starts : IsSoFar nothing (items_of text) (Ok [])
+  pub starts : IsSoFar text rules nothing (items_of text) (Ok [])
   starts = record { before = []; read = behind_none (lines_of text); holds = refl; named = record { order = omega arith; within = omega arith } }
 
   -- ---- a fault of the text
 
-  module _ (held : Held) (items : List Item) (compared : Result (List Line) ScriptFault) (so_far : IsSoFar held items compared) (fault : TextFault) where
+  module _ (held : Held) (items : List Item) (compared : Result (List Line) ScriptFault) (so_far : IsSoFar text rules held items compared) (fault : TextFault) where
     fails : Fails fault (read_from text held items) → IsFaultOf text rules (of_text fault)
     fails e = lines.fault_is text rules fault (subst (Fails fault) so_far.read (behind_fails so_far.before fault (read_from text held items) e))
 
-  pub stray_fails : (held : Held) (cursor : Cursor) (compared : Result (List Line) ScriptFault) → IsSoFar held (rest_of cursor) compared → (fault : TextFault) → IsStray cursor fault → IsFaultOf text rules (of_text fault)
+  pub stray_fails : (held : Held) (cursor : Cursor) (compared : Result (List Line) ScriptFault) → IsSoFar text rules held (rest_of cursor) compared → (fault : TextFault) → IsStray cursor fault → IsFaultOf text rules (of_text fault)
   stray_fails held cursor compared so_far (texts.Text place) stray = fails held (rest_of cursor) compared so_far (texts.Text place) (rw stray refl)
   stray_fails held cursor compared so_far (texts.Limit what place) stray = absurd stray
   stray_fails held cursor compared so_far texts.OutOfMemory stray = absurd stray
 
-  pub token_fails : (held : Held) (token : Token) (items : List Item) (compared : Result (List Line) ScriptFault) → IsSoFar held (Lexed token ∷ items) compared
+  pub token_fails : (held : Held) (token : Token) (items : List Item) (compared : Result (List Line) ScriptFault) → IsSoFar text rules held (Lexed token ∷ items) compared
       → (fault : TextFault) → Fails fault (taken_at (sight_of (symbol_at text token)) token held) → IsFaultOf text rules (of_text fault)
   token_fails held token items compared so_far fault e =
       fails held (Lexed token ∷ items) compared so_far fault
       (fails_on fault (taken_at (sight_of (symbol_at text token)) token held) (λ next. read_from text next items >>= λ others. Ok (put_first (ended_by held.spot (sight_of (symbol_at text token)) held.line) others)) e)
 
-  pub end_fails : (held : Held) (place : ℕ) (compared : Result (List Line) ScriptFault) → IsSoFar held (EndAt place ∷ []) compared
+  pub end_fails : (held : Held) (place : ℕ) (compared : Result (List Line) ScriptFault) → IsSoFar text rules held (EndAt place ∷ []) compared
       → (fault : TextFault) → Fails fault (finished held.spot place held) → IsFaultOf text rules (of_text fault)
   end_fails held place compared so_far fault e = fails held (EndAt place ∷ []) compared so_far fault (fails_on fault (finished held.spot place held) (λ line. Ok (put_first line [])) e)
 
@@ -168,13 +154,13 @@ module _ (text : List ℕ) (rules : List Rule) where
 
   -- a further line is compared, if there is one
   abbrev pub Adds : Option HeldLine → Result (List Line) ScriptFault → Result (List Line) ScriptFault → Type 0
-  Adds line old new = (helds : List HeldLine) → Holds old helds → Holds new (helds ++ put_first line [])
+  Adds line old new = (helds : List HeldLine) → Holds text rules old helds → Holds text rules new (helds ++ put_first line [])
 
   pub adds_none : (compared : Result (List Line) ScriptFault) → Adds None compared compared
   adds_none compared helds holds = rw (append-nil helds) holds
 
-  pub goes_on : (held next : Held) (token : Token) (items : List Item) (old new : Result (List Line) ScriptFault) → IsInText text token → IsSoFar held (Lexed token ∷ items) old
-      → taken_at (sight_of (symbol_at text token)) token held ≡ Ok next → Adds (ended_by held.spot (sight_of (symbol_at text token)) held.line) old new → IsSoFar next items new
+  pub goes_on : (held next : Held) (token : Token) (items : List Item) (old new : Result (List Line) ScriptFault) → IsInText text token → IsSoFar text rules held (Lexed token ∷ items) old
+      → taken_at (sight_of (symbol_at text token)) token held ≡ Ok next → Adds (ended_by held.spot (sight_of (symbol_at text token)) held.line) old new → IsSoFar text rules next items new
   goes_on held next token items old new inside so_far e adds =
       let line = ended_by held.spot (sight_of (symbol_at text token)) held.line in
       let step : read_from text held (Lexed token ∷ items) ≡ (read_from text next items >>= λ others. Ok (put_first line others)) = rw e refl in
@@ -189,9 +175,9 @@ module _ (text : List ℕ) (rules : List Rule) where
   pub record IsDone (compared : Result (List Line) ScriptFault) : Type 0 where
     pub helds : List HeldLine
     pub read : lines_of text ≡ Ok helds
-    pub holds : Holds compared helds
+    pub holds : Holds text rules compared helds
 
-  pub ends : (held : Held) (place : ℕ) (last : Option HeldLine) (old new : Result (List Line) ScriptFault) → IsSoFar held (EndAt place ∷ []) old
+  pub ends : (held : Held) (place : ℕ) (last : Option HeldLine) (old new : Result (List Line) ScriptFault) → IsSoFar text rules held (EndAt place ∷ []) old
       → finished held.spot place held ≡ Ok last → Adds last old new → IsDone new
   ends held place last old new so_far e adds =
       let step : read_from text held (EndAt place ∷ []) ≡ Ok (put_first last []) = rw e refl in
@@ -200,12 +186,12 @@ module _ (text : List ℕ) (rules : List Rule) where
   module _ (compared : Result (List Line) ScriptFault) (done : IsDone compared) where
     pub done_script : (result : Result (Vec Line Global) ScriptFault) → IfOk result (λ all. compared ≡ Ok all.items) → IfOk result (λ all. ScriptText text rules all.items)
     done_script (Ok all) e =
-        let holds : Holds (Ok all.items) done.helds = rw e at done.holds in
+        let holds : Holds text rules (Ok all.items) done.helds = rw e at done.holds in
         script_is text rules done.helds (lines.lines_are text done.helds done.read) all.items holds
     done_script (Err fault) e = tt
 
     pub done_fault : (result : Result (Vec Line Global) ScriptFault) → IfErr result (λ fault. compared ≡ Err fault) → IfErr result (IsFaultOf text rules)
     done_fault (Ok all) e = tt
     done_fault (Err fault) e =
-        let holds : Holds (Err fault) done.helds = rw e at done.holds in
+        let holds : Holds text rules (Err fault) done.helds = rw e at done.holds in
         fault_is text rules done.helds (lines.lines_are text done.helds done.read) fault holds

@@ -2,3 +2,4 @@ pub mod ScriptText
 pub mod Reading
 pub mod Comparing
 pub mod Faults
+pub mod SoFar

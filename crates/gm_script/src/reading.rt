@@ -2,13 +2,14 @@
 //!
 //! The reader knows the grammar and its limits alone. Each line is compared with the book as soon
 //! as it is whole, and where one disagrees, the text is read on: a fault of the text comes first.
-ghost use Rattle.std.specs.Prelude.{◌≡◌, ◌∷◌, [], length, map, IfOk, IfErr, MatchOption};
+ghost use Rattle.std.specs.Prelude.{◌≡◌, ◌∷◌, [], length, map, OnOk, IfOk, IfErr, MatchOption};
 ghost use Rattle.gm_model.specs.Rules.{rule_of};
 ghost use Rattle.gm_model.specs.Tokens.{EndAt};
 ghost use Rattle.gm_text.specs.Lexing.{rest_of};
 ghost use Rattle.gm_script.specs.ScriptText.{ScriptText};
 ghost use Rattle.gm_script.specs.Faults.{IsFaultOf};
-ghost use Rattle.gm_script.specs.Reading.{IsNext, IsStray};
+ghost use Rattle.gm_script.specs.Reading.{nothing, IsNext, IsStray};
+ghost use Rattle.gm_script.specs.SoFar.{IsSoFar};
 
 use crate::comparing::Compared;
 use crate::fault::ScriptFault;
@@ -32,6 +33,46 @@ fn next_token(lexer: &mut Lexer<'_>) -> Result<Option<Token>, TextFault>
     }
 }
 
+/// Reads the text to its end, and compares each line but the last.
+fn read_tokens(
+    bytes: &[u8],
+    rules: &RulesByName<'_>,
+    reader: &mut Reader,
+    compared: &mut Compared,
+) -> Result<(), ScriptFault>
+    requires reader { reader.old ≡ nothing }
+    requires compared { compared.old ≡ Ok [] }
+    ensures so_far { OnOk result (IsSoFar bytes.now (map rule_of rules.now) reader.new (EndAt (length bytes.now) ∷ []) compared.new) }
+    ensures fault { IfErr result (IsFaultOf bytes.now (map rule_of rules.now)) }
+{
+    let mut lexer = Lexer::new(bytes);
+    while let Some(token) = next_token(&mut lexer)? {
+        let sight = sight_of(&lexer, &token);
+        if let Some(line) = reader.end_line(sight) {
+            compared.add(bytes, line, rules)?;
+        }
+        reader.take(sight, token)?;
+    }
+    Ok(())
+}
+
+/// The lines of the text, which is read to its end, where none disagrees.
+fn finish(
+    bytes: &[u8],
+    rules: &RulesByName<'_>,
+    reader: Reader,
+    mut compared: Compared,
+) -> Result<Vec<Line>, ScriptFault>
+    requires so_far { IsSoFar bytes.now (map rule_of rules.now) reader (EndAt (length bytes.now) ∷ []) compared }
+    ensures script { IfOk result (λ lines. ScriptText bytes.now (map rule_of rules.now) lines.items) }
+    ensures fault { IfErr result (IsFaultOf bytes.now (map rule_of rules.now)) }
+{
+    if let Some(last) = reader.finish(bytes.len())? {
+        compared.add(bytes, last, rules)?;
+    }
+    compared.finish()
+}
+
 /// The lines of the script that the text stands for under these rules.
 fn read_lines(
     alloc: Global,
@@ -41,20 +82,10 @@ fn read_lines(
     ensures script { IfOk result (λ lines. ScriptText bytes.now (map rule_of rules.now) lines.items) }
     ensures fault { IfErr result (IsFaultOf bytes.now (map rule_of rules.now)) }
 {
-    let mut lexer = Lexer::new(bytes);
-    let mut reader = Reader::new(alloc);
     let mut compared = Compared::new(alloc, bytes.len())?;
-    while let Some(token) = next_token(&mut lexer)? {
-        let sight = sight_of(&lexer, &token);
-        if let Some(line) = reader.end_line(sight) {
-            compared.add(bytes, line, rules)?;
-        }
-        reader.take(sight, token)?;
-    }
-    if let Some(last) = reader.finish(lexer.place())? {
-        compared.add(bytes, last, rules)?;
-    }
-    compared.finish()
+    let mut reader = Reader::new(alloc);
+    read_tokens(bytes, rules, &mut reader, &mut compared)?;
+    finish(bytes, rules, reader, compared)
 }
 
 /// The script that the text stands for under the book. A fault of the text, by its grammar and

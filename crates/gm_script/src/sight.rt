@@ -1,4 +1,4 @@
-ghost use Rattle.std.specs.Prelude.{◌≡◌, ◌≤◌, length, take, drop};
+ghost use Rattle.std.specs.Prelude.{◌≡◌, ◌≤◌, ◌||◌, length, bytes_eq};
 ghost use Rattle.gm_model.specs.Tokens.{bytes_of, IsLexeme};
 ghost use Rattle.gm_model.specs.Names as names;
 ghost use Rattle.gm_model.specs.Symbols.{symbol_of_kind};
@@ -42,50 +42,49 @@ pub(crate) fn sight_of(lexer: &Lexer<'_>, token: &Token) -> Sight
 fn sight_of_word(bytes: &[u8]) -> Sight
     ensures { result ≡ reading.sight_of_word bytes.now }
 {
-    match bytes {
-        b"apply" => Sight::Apply,
-        b"with" => Sight::With,
-        b"true" => Sight::Truth(true),
-        b"false" => Sight::Truth(false),
-        _ if is_reserved(bytes) => Sight::Other,
-        _ => Sight::Name,
+    if bytes == b"apply".as_slice() {
+        Sight::Apply
+    } else if bytes == b"with".as_slice() {
+        Sight::With
+    } else if bytes == b"true".as_slice() {
+        Sight::Truth(true)
+    } else if bytes == b"false".as_slice() {
+        Sight::Truth(false)
+    } else if is_reserved(bytes) {
+        Sight::Other
+    } else {
+        Sight::Name
     }
 }
 
-fn is_reserved(bytes: &[u8]) -> bool
-    ensures { result ≡ is_among names.reserved bytes.now }
+/// Whether the word is one of the formats: it names no rule.
+fn is_reserved(word: &[u8]) -> bool
+    ensures { result ≡ is_among names.reserved word.now }
 {
-    is_word_of_rules(bytes) || is_word_of_expressions(bytes)
+    match word.first() {
+        Some(b'a') => word == b"and".as_slice(),
+        Some(b'c') => word == b"count".as_slice(),
+        Some(b'e') => word == b"else".as_slice(),
+        Some(b'f') => word == b"false".as_slice(),
+        Some(b'h') => word == b"hook".as_slice(),
+        Some(b'i') => word == b"if".as_slice(),
+        Some(b'l') => word == b"left".as_slice(),
+        Some(b'm') => is_either(word, b"min", b"max"),
+        Some(b'n') => word == b"not".as_slice(),
+        Some(b'o') => word == b"or".as_slice(),
+        Some(b'p') => word == b"pre".as_slice(),
+        Some(b'r') => is_either(word, b"rule", b"right"),
+        Some(b's') => is_either(word, b"sum", b"same"),
+        Some(b't') => is_either(word, b"then", b"true"),
+        Some(b'w') => word == b"with".as_slice(),
+        _ => false,
+    }
 }
 
-fn is_word_of_rules(bytes: &[u8]) -> bool
-    ensures { result ≡ is_among (take 6 names.reserved) bytes.now }
+fn is_either(word: &[u8], one: &[u8], other: &[u8]) -> bool
+    ensures { result ≡ (bytes_eq word.now one.now || bytes_eq word.now other.now) }
 {
-    matches!(
-        bytes,
-        b"rule" | b"left" | b"right" | b"hook" | b"with" | b"pre"
-    )
-}
-
-fn is_word_of_expressions(bytes: &[u8]) -> bool
-    ensures { result ≡ is_among (drop 6 names.reserved) bytes.now }
-{
-    matches!(
-        bytes,
-        b"and"
-            | b"or"
-            | b"not"
-            | b"if"
-            | b"then"
-            | b"else"
-            | b"true"
-            | b"false"
-            | b"sum"
-            | b"count"
-            | b"min"
-            | b"max"
-            | b"same"
-    )
+    word == one || word == other
 }
 
 fn sight_of_sign(bytes: &[u8]) -> Sight

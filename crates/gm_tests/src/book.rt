@@ -1,4 +1,5 @@
 //! Books read from their texts, and the texts that they are printed as.
+use crate::expect::expect_bytes;
 use gm_book::{print_book, read_book};
 use std::alloc::Global;
 use std::process::Abort;
@@ -54,17 +55,31 @@ b -0- c
 pre not a.pos == a@0.pos
 ";
 
-fn check_text(rt: &impl Abort, alloc: Global, text: &[u8], canonical: &[u8]) -> Result<(), Fail> {
+/// What is printed of the book that the text stands for.
+fn printed(alloc: Global, text: &[u8]) -> Result<Vec<u8>, Fail> {
     let book = read_book(alloc, text)?;
-    let printed = print_book(alloc, &book)?;
-    assert_eq!(rt; printed.as_slice(), canonical);
+    let printed = print_book(alloc, &book);
+    drop(book);
+    Ok(printed?)
+}
+
+fn check_text(rt: &impl Abort, alloc: Global, text: &[u8], canonical: &[u8]) -> Result<(), Fail> {
+    let printed = printed(alloc, text)?;
+    expect_bytes(rt, printed.as_slice(), canonical);
     Ok(())
 }
 
+/// The texts of books, and what is printed of them.
+static BOOKS: [(&[u8], &[u8]); 3] = [
+    (PRINTED, PRINTED),
+    (PRINTED_SEWING, PRINTED_SEWING),
+    (CENTRE, PRINTED_CENTRE),
+];
+
 #[test]
 fn a_book_is_read_and_printed(rt: HostRuntime) -> Result<(), Fail> {
-    let alloc = rt.alloc();
-    check_text(&rt, alloc, PRINTED, PRINTED)?;
-    check_text(&rt, alloc, PRINTED_SEWING, PRINTED_SEWING)?;
-    check_text(&rt, alloc, CENTRE, PRINTED_CENTRE)
+    for (text, canonical) in &BOOKS {
+        check_text(&rt, rt.alloc(), *text, *canonical)?;
+    }
+    Ok(())
 }

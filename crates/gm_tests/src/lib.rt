@@ -4,6 +4,8 @@
 #[cfg(test)]
 mod book;
 #[cfg(test)]
+mod expect;
+#[cfg(test)]
 mod host;
 #[cfg(test)]
 mod mapfile;

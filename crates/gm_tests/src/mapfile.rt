@@ -1,6 +1,7 @@
 //! Texts that are read and printed, and texts that are refused, with their first faults.
 ghost use Rattle.std.specs.Prelude.{◌≡◌, ◌<◌};
 
+use crate::expect::{expect_bytes, expect_holds, expect_same};
 use gm_arena::Steps;
 use gm_laws::MapBreach;
 use gm_mapfile::{MapFault, MapRead, MapVersion, print_map, read_map};
@@ -82,10 +83,10 @@ type Case = (&'static [u8], &'static [u8], MapVersion, u8, u32, u32);
 
 fn expect_map(rt: &impl Abort, read: &MapRead, case: &Case) {
     let (_, _, version, dim, count, next) = case;
-    assert_eq!(rt; read.version, *version);
-    assert_eq!(rt; read.arena.schema().dim.top(), *dim);
-    assert_eq!(rt; read.arena.count(), *count);
-    assert_eq!(rt; read.arena.next(), *next);
+    expect_same(rt, &read.version, version);
+    expect_same(rt, &read.arena.schema().dim.top(), dim);
+    expect_same(rt, &read.arena.count(), count);
+    expect_same(rt, &read.arena.next(), next);
 }
 
 fn check_text<L: Ledger>(
@@ -96,8 +97,19 @@ fn check_text<L: Ledger>(
 ) -> Result<(), Fail> {
     let read = read_map(alloc, case.0, steps)?;
     expect_map(rt, &read, case);
+    expect_printed(rt, alloc, steps, &read, case)
+}
+
+/// The map is printed as the case tells.
+fn expect_printed<L: Ledger>(
+    rt: &impl Abort,
+    alloc: Global,
+    steps: &mut Steps<L>,
+    read: &MapRead,
+    case: &Case,
+) -> Result<(), Fail> {
     let printed = print_map(alloc, &read.arena, read.version, steps)?;
-    assert!(rt; printed.as_slice() == case.1);
+    expect_bytes(rt, printed.as_slice(), case.1);
     Ok(())
 }
 
@@ -119,7 +131,7 @@ fn check_texts<L: Ledger>(
     Ok(())
 }
 
-const MAPS: [Case; 6] = [
+static MAPS: [Case; 6] = [
     (SQUARE, SQUARE, MapVersion::One, 2, 8, 8),
     (SQUARE_IN_DISORDER, SQUARE, MapVersion::One, 2, 8, 8),
     (
@@ -161,7 +173,7 @@ fn a_map_is_read_and_printed(rt: HostRuntime) -> Result<(), Fail> {
     check_texts::<Brand>(&rt, rt.alloc(), &rt, Blank::new(1), &MAPS)
 }
 
-const MAPS_WITH_VALUES: [Case; 4] = [
+static MAPS_WITH_VALUES: [Case; 4] = [
     (QUAD_WITH_POINTS, QUAD_WITH_POINTS, MapVersion::One, 2, 8, 8),
     (EACH_KIND, EACH_KIND, MapVersion::Two, 1, 1, 5),
     (EIGHT, EIGHT, MapVersion::Two, 7, 0, 16_777_216),
@@ -188,7 +200,9 @@ fn converted<L: Ledger>(
     version: MapVersion,
 ) -> Result<Vec<u8>, Fail> {
     let read = read_map(alloc, text, steps)?;
-    Ok(print_map(alloc, &read.arena, version, steps)?)
+    let printed = print_map(alloc, &read.arena, version, steps);
+    drop(read);
+    Ok(printed?)
 }
 
 const FAR_PAIR_CONVERTED: &[u8] = b"gmap 2
@@ -212,9 +226,19 @@ fn check_migration<L: Ledger>(
 {
     let mut steps: Steps<L> = Steps::start(handle, blank);
     let second = converted(alloc, &mut steps, FAR_PAIR, MapVersion::Two)?;
-    assert_eq!(rt; second.as_slice(), FAR_PAIR_CONVERTED);
-    let back = converted(alloc, &mut steps, second.as_slice(), MapVersion::One)?;
-    assert_eq!(rt; back.as_slice(), FAR_PAIR);
+    expect_bytes(rt, second.as_slice(), FAR_PAIR_CONVERTED);
+    expect_back(rt, alloc, &mut steps, second.as_slice())
+}
+
+/// The map that was read in the second version is printed in the first.
+fn expect_back<L: Ledger>(
+    rt: &impl Abort,
+    alloc: Global,
+    steps: &mut Steps<L>,
+    second: &[u8],
+) -> Result<(), Fail> {
+    let back = converted(alloc, steps, second, MapVersion::One)?;
+    expect_bytes(rt, back.as_slice(), FAR_PAIR);
     Ok(())
 }
 
@@ -223,12 +247,19 @@ fn a_map_is_printed_in_the_other_version(rt: HostRuntime) -> Result<(), Fail> {
     check_migration::<Brand>(&rt, rt.alloc(), &rt, Blank::new(1))
 }
 
+/// The place of a fault of the text.
+fn place_of(fault: Option<MapFault>) -> Option<usize> {
+    match fault {
+        Some(MapFault::Text { place }) => Some(place),
+        _ => None,
+    }
+}
+
 /// The text ends too early, at its end or at the token that is cut.
 fn check_cut<L: Ledger>(rt: &impl Abort, alloc: Global, steps: &mut Steps<L>, text: &[u8]) {
-    match read_map(alloc, text, steps) {
-        Err(MapFault::Text { place }) => assert!(rt; place <= text.len()),
-        _ => panic!(rt; "no early end"),
-    }
+    let place = place_of(read_map(alloc, text, steps).err());
+    let place = place.expect(rt, "an early end");
+    expect_holds(rt, place <= text.len());
 }
 
 /// Each text that a text begins with, but for its last byte.
@@ -253,7 +284,7 @@ type Refused = (&'static [u8], MapFault);
 
 fn check_fault<L: Ledger>(rt: &impl Abort, alloc: Global, steps: &mut Steps<L>, refused: &Refused) {
     let (text, fault) = refused;
-    assert_eq!(rt; read_map(alloc, *text, steps).err(), Some(*fault));
+    expect_same(rt, &read_map(alloc, *text, steps).err(), &Some(*fault));
 }
 
 fn check_faults<L: Ledger>(
@@ -273,7 +304,7 @@ fn check_faults<L: Ledger>(
     }
 }
 
-const TEXTS: [Refused; 21] = [
+static TEXTS: [Refused; 21] = [
     (b"", MapFault::Text { place: 0 }),
     (b"Gmap 1", MapFault::Text { place: 0 }),
     (b"gmap 1", MapFault::Text { place: 6 }),
@@ -350,7 +381,7 @@ fn the_first_fault_of_the_text_is_answered(rt: HostRuntime) {
     check_faults::<Brand>(&rt, rt.alloc(), &rt, Blank::new(1), &TEXTS);
 }
 
-const DARTS: [Refused; 9] = [
+static DARTS: [Refused; 9] = [
     (
         b"gmap 1 dim 1 darts 4 7 9 9 3 3 3 7 7 7 3 3 3",
         MapFault::DartTwice { dart: 3 },
@@ -402,7 +433,7 @@ fn the_first_fault_of_the_darts_is_answered(rt: HostRuntime) {
     check_faults::<Brand>(&rt, rt.alloc(), &rt, Blank::new(1), &DARTS);
 }
 
-const SCHEMAS: [Refused; 12] = [
+static SCHEMAS: [Refused; 12] = [
     (
         b"gmap 1 dim 2 embed a <3> int",
         MapFault::Limit {
@@ -467,7 +498,7 @@ fn the_first_fault_of_a_schema_is_answered(rt: HostRuntime) {
     check_faults::<Brand>(&rt, rt.alloc(), &rt, Blank::new(1), &SCHEMAS);
 }
 
-const VALUES: [Refused; 11] = [
+static VALUES: [Refused; 11] = [
     (
         b"gmap 1 dim 1 embed w <> int darts 1 0 0 0 9223372036854775808",
         MapFault::Limit {
@@ -534,7 +565,7 @@ fn the_first_fault_of_a_value_is_answered(rt: HostRuntime) {
     check_faults::<Brand>(&rt, rt.alloc(), &rt, Blank::new(1), &VALUES);
 }
 
-const NAMES_AND_ORBITS: [Refused; 8] = [
+static NAMES_AND_ORBITS: [Refused; 8] = [
     (
         b"gmap 2 dim 1 next 3 darts 1 3 3 3",
         MapFault::Next { dart: 3 },

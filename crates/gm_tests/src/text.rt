@@ -1,4 +1,5 @@
 //! Tokens, their bytes and values, and text that grows.
+use crate::expect::{expect_bytes, expect_holds, expect_same, expect_same_at};
 use gm_model::TokenKind::{Gone, Name, Number, Sign};
 use gm_text::{LexFault, Lexer, Text, Token, TokenKind};
 use std::process::Abort;
@@ -10,7 +11,7 @@ type Entry = (
     Result<Option<Token>, LexFault>,
 );
 
-const ENTRIES: [Entry; 13] = [
+static ENTRIES: [Entry; 13] = [
     (b"", &[], Ok(None)),
     (b"12ab", &[(Number, 0, 2), (Name, 2, 4)], Ok(None)),
     (b"_a", &[(Gone, 0, 1), (Name, 1, 2)], Ok(None)),
@@ -37,9 +38,9 @@ const ENTRIES: [Entry; 13] = [
 /// The token is seen, and then taken.
 fn check_token(rt: &impl Abort, text: &[u8], lexer: &mut Lexer<'_>, token: Token) {
     let want = Ok(Some(token));
-    assert_eq!(rt; lexer.peek(), want, "in {text:?}");
-    assert_eq!(rt; lexer.next(), want);
-    assert_eq!(rt; lexer.place(), token.end);
+    expect_same_at(rt, &lexer.peek(), &want, &text);
+    expect_same_at(rt, &lexer.next(), &want, &text);
+    expect_same_at(rt, &lexer.place(), &token.end, &text);
 }
 
 fn check_entry(rt: &impl Abort, entry: &Entry) {
@@ -53,7 +54,7 @@ fn check_entry(rt: &impl Abort, entry: &Entry) {
         };
         check_token(rt, *text, &mut lexer, token);
     }
-    assert_eq!(rt; lexer.next(), *last, "at the end of {text:?}");
+    expect_same_at(rt, &lexer.next(), last, text);
 }
 
 #[test]
@@ -66,7 +67,7 @@ fn texts_and_their_tokens(rt: HostRuntime) {
 /// A text, the bytes of its first token, and the number that they write.
 type Written = (&'static [u8], &'static [u8], Option<u64>);
 
-const WRITTEN: [Written; 6] = [
+static WRITTEN: [Written; 6] = [
     (b" 0 ", b"0", Some(0)),
     (b" 0012+", b"0012", Some(12)),
     (b"#1\n9a", b"9", Some(9)),
@@ -83,11 +84,11 @@ fn check_written(rt: &impl Abort, written: &Written) {
     let (text, bytes, value) = written;
     let mut lexer = Lexer::new(*text);
     let Ok(Some(token)) = lexer.next() else {
-        panic!(rt; "no token in {text:?}");
+        panic!(rt; "no token");
     };
-    assert_eq!(rt; lexer.text(&token), *bytes);
+    expect_bytes(rt, lexer.text(&token), bytes);
     if token.kind == TokenKind::Number {
-        assert_eq!(rt; lexer.number(&token), *value);
+        expect_same(rt, &lexer.number(&token), value);
     }
 }
 
@@ -105,7 +106,7 @@ enum Piece<'a> {
     Signed(i64),
 }
 
-const PIECES: [Piece; 8] = [
+static PIECES: [Piece; 8] = [
     Piece::Bytes(b"a "),
     Piece::Number(0),
     Piece::Bytes(b" "),
@@ -124,17 +125,23 @@ fn is_put(text: &mut Text, piece: &Piece) -> bool {
     }
 }
 
+/// The text is empty, and grows by the pieces to 48 bytes.
+fn put_each(rt: &impl Abort, text: &mut Text, pieces: &[Piece]) {
+    expect_holds(rt, text.is_empty());
+    for piece in pieces {
+        expect_holds(rt, is_put(text, piece));
+    }
+    expect_same(rt, &text.len(), &48);
+    expect_holds(rt, !text.is_empty());
+}
+
 #[test]
 fn text_grows(rt: HostRuntime) {
     let mut text = Text::new(rt.alloc());
-    assert!(rt; text.is_empty());
-    for piece in &PIECES {
-        assert!(rt; is_put(&mut text, piece));
-    }
-    assert_eq!(rt; text.len(), 48);
-    assert!(rt; !text.is_empty());
-    assert!(rt;
-        text.into_bytes().as_slice()
-            == b"a 0 18446744073709551615 -1-92233720368547758087".as_slice()
+    put_each(&rt, &mut text, &PIECES);
+    expect_bytes(
+        &rt,
+        text.into_bytes().as_slice(),
+        b"a 0 18446744073709551615 -1-92233720368547758087",
     );
 }

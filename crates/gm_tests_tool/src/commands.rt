@@ -1,11 +1,8 @@
 //! Commands on one file, run over a store and a sink in memory.
 
+use crate::expect::{Case, expect, expect_each, expect_end_into};
 use gm_host::{MemSink, MemStore};
-use gm_tool::with_new_counter;
-use std::alloc::Global;
-use std::marker::Brand;
-use std::process::{Abort, ExitCode};
-use std::sync::ledger::Blank;
+use std::process::Abort;
 use std::test::Fail;
 
 pub(crate) const SQUARE: &str =
@@ -19,66 +16,7 @@ pub(crate) const EMPTY: &str = "gmap 1\ndim 2\ndarts 0\n";
 
 const DROP: &str = "book 1\ndim 2\nrule drop\nleft\na <0 1> hook\na -2- a\nright\n";
 
-/// The words of a line, between single blanks.
-pub(crate) fn words_of(alloc: Global, line: &str) -> Result<Vec<String>, Fail> {
-    let mut owned = Vec::new(alloc);
-    for word in line.split_whitespace() {
-        owned.push(String::from_str(alloc, word)?)?;
-    }
-    Ok(owned)
-}
-
-/// How the program ends on the words, run over a step counter of their own.
-pub(crate) fn run(
-    host: &HostRuntime,
-    words: &[String],
-    store: &mut MemStore,
-    out: &mut MemSink,
-) -> ExitCode {
-    with_new_counter::<MemStore, MemSink, Brand>(host, words, store, out, Blank::new(1))
-}
-
-/// A text, and the status and the text put of a command on it.
-#[derive(Drop)]
-pub(crate) struct Case<'a> {
-    pub(crate) text: &'a str,
-    pub(crate) status: u8,
-    pub(crate) put: &'a str,
-}
-
-/// The words of the line are run over a store that holds the text as MAP and as BOOK.
-fn expect(rt: &impl Abort, host: &HostRuntime, line: &str, case: &Case) -> Result<(), Fail> {
-    let alloc = host.alloc();
-    let text = case.text.as_bytes();
-    let mut store = MemStore::new(alloc);
-    let mut out = MemSink::new(alloc);
-    store.hold("MAP", text)?;
-    store.hold("BOOK", text)?;
-    let words = words_of(alloc, line)?;
-    let ended = run(host, words.as_slice(), &mut store, &mut out);
-    assert_eq!(rt; ended, ExitCode::from(case.status), "{}", case.text);
-    assert_eq!(rt; out.bytes(), case.put.as_bytes(), "{}", case.text);
-    assert_eq!(rt; store.bytes("MAP"), Some(text));
-    assert_eq!(rt; store.bytes("BOOK"), Some(text));
-    Ok(())
-}
-
-/// Each line is run on each case.
-pub(crate) fn expect_each(
-    rt: &impl Abort,
-    host: &HostRuntime,
-    lines: &[&str],
-    cases: &[Case],
-) -> Result<(), Fail> {
-    for line in lines {
-        for case in cases {
-            expect(rt, host, line, case)?;
-        }
-    }
-    Ok(())
-}
-
-const MAPS: [Case; 25] = [
+static MAPS: [Case; 25] = [
     Case {
         text: SQUARE,
         status: 0,
@@ -213,7 +151,7 @@ fn maps_shown_and_refused(rt: HostRuntime) -> Result<(), Fail> {
 
 /// The square alone, and with two opposite edges glued to a band that turns over; maps without darts; an
 /// edge beside a face that is glued to itself; and texts of no map.
-const CELLS: [Case; 7] = [
+static CELLS: [Case; 7] = [
     Case {
         text: SQUARE,
         status: 0,
@@ -256,7 +194,7 @@ fn cells_counted_and_maps_oriented(rt: HostRuntime) -> Result<(), Fail> {
     expect_each(&rt, &rt, &["cells MAP"], &CELLS)
 }
 
-const NO_COMMANDS: [&str; 15] = [
+static NO_COMMANDS: [&str; 15] = [
     "",
     "show",
     "show MAP MAP",
@@ -274,7 +212,7 @@ const NO_COMMANDS: [&str; 15] = [
     "--help",
 ];
 
-pub(crate) const USAGE: [Case; 1] = [Case {
+pub(crate) static USAGE: [Case; 1] = [Case {
     text: SQUARE,
     status: 2,
     put: "refused usage\n",
@@ -285,7 +223,7 @@ fn words_that_are_no_command(rt: HostRuntime) -> Result<(), Fail> {
     expect_each(&rt, &rt, &NO_COMMANDS, &USAGE)
 }
 
-const BOOKS: [Case; 13] = [
+static BOOKS: [Case; 13] = [
     Case {
         text: "book 1 dim 2 embed pos <2 1> vec3 embed w <> int rule keep left a <0 1> hook right a <0 1>",
         status: 0,
@@ -358,7 +296,7 @@ fn books_printed(rt: HostRuntime) -> Result<(), Fail> {
     expect_each(&rt, &rt, &["book BOOK"], &BOOKS)
 }
 
-const NO_BOOKS: [Case; 28] = [
+static NO_BOOKS: [Case; 28] = [
     Case {
         text: "",
         status: 4,
@@ -508,7 +446,7 @@ fn texts_of_no_book(rt: HostRuntime) -> Result<(), Fail> {
 
 /// Books of one rule at most, and then of more: each rule has its line, whatever the lines before it
 /// say.
-const CHECKS: [Case; 25] = [
+static CHECKS: [Case; 25] = [
     Case {
         text: "book 1 dim 2",
         status: 0,
@@ -651,21 +589,25 @@ fn stop_of(length: usize) -> usize {
     }
 }
 
-/// A text that is cut is refused at its last token or its end, unless only its last line end is
-/// gone.
+/// The square's text, of which so many bytes are there, is refused at its last token or its end,
+/// unless only its last line end is gone.
+fn expect_cut(rt: &impl Abort, host: &HostRuntime, length: usize) -> Result<(), Fail> {
+    let text = SQUARE.get(..length).ok_or("no cut")?;
+    let stop = stop_of(length);
+    let line = format!(in host.alloc(); "refused MAP text {stop}\n")?;
+    let whole = length + 1 >= SQUARE.len();
+    let (status, put) = if whole {
+        (0, SQUARE)
+    } else {
+        (4, line.as_str())
+    };
+    expect(rt, host, "show MAP", &Case { text, status, put })
+}
+
 #[test]
 fn square_cut_at_every_length(rt: HostRuntime) -> Result<(), Fail> {
     for length in 0..=SQUARE.len() {
-        let text = SQUARE.get(..length).ok_or("no cut")?;
-        let stop = stop_of(length);
-        let line = format!(in rt.alloc(); "refused MAP text {stop}\n")?;
-        let whole = length + 1 >= SQUARE.len();
-        let (status, put) = if whole {
-            (0, SQUARE)
-        } else {
-            (4, line.as_str())
-        };
-        expect(&rt, &rt, "show MAP", &Case { text, status, put })?;
+        expect_cut(&rt, &rt, length)?;
     }
     Ok(())
 }
@@ -679,14 +621,14 @@ struct Fault<'a> {
     puts: [&'a str; 4],
 }
 
-const COMMANDS: [(&str, &str); 4] = [
+static COMMANDS: [(&str, &str); 4] = [
     ("show FILE", SQUARE),
     ("book FILE", DROP),
     ("check FILE", DROP),
     ("cells FILE", SQUARE),
 ];
 
-const FAULTS: [Fault; 6] = [
+static FAULTS: [Fault; 6] = [
     Fault {
         held: false,
         load_fails: false,
@@ -741,38 +683,58 @@ const FAULTS: [Fault; 6] = [
     },
 ];
 
-/// The command meets the fault on the text.
-fn expect_fault(
-    rt: &impl Abort,
-    host: &HostRuntime,
-    command: (&str, &str),
-    fault: &Fault,
-    put: &str,
-) -> Result<(), Fail> {
-    let alloc = host.alloc();
-    let (line, text) = command;
-    let mut store = MemStore::new(alloc);
-    let mut out = MemSink::new(alloc);
+/// The file is there, and its load fails, as the fault tells.
+fn set_load(store: &mut MemStore, text: &str, fault: &Fault) -> Result<(), Fail> {
     if fault.held {
         store.hold("FILE", text.as_bytes())?;
     }
     if fault.load_fails {
         store.fail_load(0)?;
     }
-    if let Some(kept) = fault.put_keeps {
+    Ok(())
+}
+
+/// The first put keeps so many bytes and fails, where a number is given.
+fn set_put(out: &mut MemSink, keeps: Option<usize>) -> Result<(), Fail> {
+    if let Some(kept) = keeps {
         out.fail_put(0, kept)?;
     }
-    let words = words_of(alloc, line)?;
-    let ended = run(host, words.as_slice(), &mut store, &mut out);
-    assert_eq!(rt; ended, ExitCode::from(fault.status), "{line}");
-    assert_eq!(rt; out.bytes(), put.as_bytes(), "{line}");
     Ok(())
+}
+
+/// The command meets the fault on the text.
+fn expect_fault(
+    rt: &impl Abort,
+    host: &HostRuntime,
+    command: &(&str, &str),
+    fault: &Fault,
+    put: &str,
+) -> Result<(), Fail> {
+    let mut store = MemStore::new(host.alloc());
+    let mut out = MemSink::new(host.alloc());
+    expect_fault_over(rt, host, &mut store, &mut out, command, fault, put)
+}
+
+/// The command meets the fault on the text, over the empty store and sink.
+fn expect_fault_over(
+    rt: &impl Abort,
+    host: &HostRuntime,
+    store: &mut MemStore,
+    out: &mut MemSink,
+    command: &(&str, &str),
+    fault: &Fault,
+    put: &str,
+) -> Result<(), Fail> {
+    let (line, text) = *command;
+    set_load(store, text, fault)?;
+    set_put(out, fault.put_keeps)?;
+    expect_end_into(rt, host, line, store, out, &(fault.status, put), line)
 }
 
 fn expect_faults(rt: &impl Abort, host: &HostRuntime, faults: &[Fault]) -> Result<(), Fail> {
     for fault in faults {
         for (command, put) in COMMANDS.iter().zip(&fault.puts) {
-            expect_fault(rt, host, *command, fault, put)?;
+            expect_fault(rt, host, command, fault, put)?;
         }
     }
     Ok(())

@@ -1,11 +1,12 @@
 //! Grids, for which nothing is loaded and nothing saved.
 
-use crate::commands::{USAGE, expect_each};
+use crate::commands::USAGE;
+use crate::expect::expect_each;
 use crate::runs::{Failure, Trial, try_each};
 use std::test::Fail;
 
 /// A load or a save that would fail shows nothing, since there is none.
-const GRIDS: [Trial; 4] = [
+static GRIDS: [Trial; 4] = [
     Trial {
         line: "grid 1",
         failure: Failure::Nothing,
@@ -45,7 +46,7 @@ fn grids_triangulated(rt: HostRuntime) -> Result<(), Fail> {
     try_each(&rt, &rt, &GRIDS)
 }
 
-const NO_GRIDS: [&str; 9] = [
+static NO_GRIDS: [&str; 9] = [
     "grid",
     "grid 0",
     "grid 01",

@@ -1,9 +1,10 @@
 //! Migrations of maps over a store and a sink in memory.
 
-use crate::commands::{EMPTY, POINTS, SQUARE, run, words_of};
+use crate::commands::{EMPTY, POINTS, SQUARE};
+use crate::expect::{expect_end, expect_held};
 use crate::runs::{Failure, Trial, try_each};
-use gm_host::{MemSink, MemStore};
-use std::process::{Abort, ExitCode};
+use gm_host::MemStore;
+use std::process::Abort;
 use std::test::Fail;
 
 /// The text of a map, and the status, the text put and the map saved.
@@ -15,17 +16,22 @@ struct Migration<'a> {
 }
 
 fn expect_migration(rt: &impl Abort, host: &HostRuntime, case: &Migration) -> Result<(), Fail> {
-    let alloc = host.alloc();
-    let mut store = MemStore::new(alloc);
-    let mut out = MemSink::new(alloc);
+    let mut store = MemStore::new(host.alloc());
+    expect_migration_over(rt, host, &mut store, case)
+}
+
+/// The map is migrated over the empty store, into which its text is put.
+fn expect_migration_over(
+    rt: &impl Abort,
+    host: &HostRuntime,
+    store: &mut MemStore,
+    case: &Migration,
+) -> Result<(), Fail> {
     store.hold("MAP", case.text.as_bytes())?;
-    let words = words_of(alloc, "migrate MAP OUT")?;
-    let ended = run(host, words.as_slice(), &mut store, &mut out);
-    let saved = case.saved.map(|text| text.as_bytes());
-    assert_eq!(rt; ended, ExitCode::from(case.status), "{}", case.text);
-    assert_eq!(rt; out.bytes(), case.put.as_bytes(), "{}", case.text);
-    assert_eq!(rt; store.bytes("OUT"), saved, "{}", case.text);
-    assert_eq!(rt; store.bytes("MAP"), Some(case.text.as_bytes()));
+    let end = (case.status, case.put);
+    expect_end(rt, host, "migrate MAP OUT", store, &end, case.text)?;
+    expect_held(rt, store, "OUT", case.saved, case.text);
+    expect_held(rt, store, "MAP", Some(case.text), case.text);
     Ok(())
 }
 
@@ -38,7 +44,7 @@ fn migrate_each(rt: &impl Abort, host: &HostRuntime, cases: &[Migration]) -> Res
 
 /// Maps in the first version, whose next name is one above their greatest, and in the second, whose
 /// stated next name is kept.
-const MIGRATIONS: [Migration; 6] = [
+static MIGRATIONS: [Migration; 6] = [
     Migration {
         text: SQUARE,
         status: 0,
@@ -87,7 +93,7 @@ fn maps_migrated(rt: HostRuntime) -> Result<(), Fail> {
 }
 
 /// Texts of no map, after which nothing is saved.
-const NO_MAPS: [Migration; 4] = [
+static NO_MAPS: [Migration; 4] = [
     Migration {
         text: "gmap 1 dim 2 darts 1",
         status: 4,
@@ -127,7 +133,7 @@ const DONE: &str = "migrated darts 8 next 8\n";
 
 /// A load that fails, a file that is not there, saves and puts that fail, a migration that saves over
 /// its own map, and words that are no migration.
-const TRIALS: [Trial; 13] = [
+static TRIALS: [Trial; 13] = [
     Trial {
         line: "migrate MAP OUT",
         failure: Failure::Nothing,

@@ -1,9 +1,9 @@
 //! Runs of scripts over a store and a sink in memory.
 
-use crate::commands::{EMPTY, POINTS, SQUARE, run, words_of};
+use crate::commands::{EMPTY, POINTS, SQUARE};
+use crate::expect::{expect_end, expect_end_into, expect_held};
 use gm_host::{MemSink, MemStore};
-use std::alloc::Global;
-use std::process::{Abort, ExitCode};
+use std::process::Abort;
 use std::test::Fail;
 
 const TRIANGULATED: &str =
@@ -54,12 +54,13 @@ const UNSEW: &str =
 
 const DONE: &str = "1 T done added 16 removed 0\napplied 1 refused 0 darts 24 next 24\n";
 
-fn files(alloc: Global, map: &str, book: &str, script: &str) -> Result<MemStore, Fail> {
-    let mut store = MemStore::new(alloc);
+/// The texts of a map, a book and a script are put into the store.
+fn hold_files(store: &mut MemStore, texts: &[&str; 3]) -> Result<(), Fail> {
+    let [map, book, script] = *texts;
     store.hold("MAP", map.as_bytes())?;
     store.hold("BOOK", book.as_bytes())?;
     store.hold("SCRIPT", script.as_bytes())?;
-    Ok(store)
+    Ok(())
 }
 
 /// The texts of a map, a book and a script, and the status, the text put and the map saved.
@@ -71,20 +72,31 @@ pub(crate) struct Run<'a> {
 }
 
 fn expect_run(rt: &impl Abort, host: &HostRuntime, case: &Run) -> Result<(), Fail> {
-    let alloc = host.alloc();
-    let [map, book, script] = case.texts;
-    let mut store = files(alloc, map, book, script)?;
-    let mut out = MemSink::new(alloc);
-    let words = words_of(alloc, "run MAP BOOK SCRIPT OUT")?;
-    let ended = run(host, words.as_slice(), &mut store, &mut out);
-    let saved = case.saved.map(|text| text.as_bytes());
-    assert_eq!(rt; ended, ExitCode::from(case.status), "{}", case.put);
-    assert_eq!(rt; out.bytes(), case.put.as_bytes(), "{}", case.put);
-    assert_eq!(rt; store.bytes("OUT"), saved, "{}", case.put);
-    assert_eq!(rt; store.bytes("MAP"), Some(map.as_bytes()));
-    assert_eq!(rt; store.bytes("BOOK"), Some(book.as_bytes()));
-    assert_eq!(rt; store.bytes("SCRIPT"), Some(script.as_bytes()));
+    let mut store = MemStore::new(host.alloc());
+    expect_run_over(rt, host, &mut store, case)
+}
+
+/// The script is run over the empty store, into which the texts are put.
+fn expect_run_over(
+    rt: &impl Abort,
+    host: &HostRuntime,
+    store: &mut MemStore,
+    case: &Run,
+) -> Result<(), Fail> {
+    hold_files(store, &case.texts)?;
+    let end = (case.status, case.put);
+    expect_end(rt, host, "run MAP BOOK SCRIPT OUT", store, &end, case.put)?;
+    expect_held(rt, store, "OUT", case.saved, case.put);
+    expect_files(rt, store, &case.texts);
     Ok(())
+}
+
+/// The texts of the map, the book and the script are still those.
+fn expect_files(rt: &impl Abort, store: &MemStore, texts: &[&str; 3]) {
+    let [map, book, script] = *texts;
+    expect_held(rt, store, "MAP", Some(map), map);
+    expect_held(rt, store, "BOOK", Some(book), book);
+    expect_held(rt, store, "SCRIPT", Some(script), script);
 }
 
 pub(crate) fn run_each(rt: &impl Abort, host: &HostRuntime, cases: &[Run]) -> Result<(), Fail> {
@@ -94,7 +106,7 @@ pub(crate) fn run_each(rt: &impl Abort, host: &HostRuntime, cases: &[Run]) -> Re
     Ok(())
 }
 
-const RUNS: [Run; 14] = [
+static RUNS: [Run; 14] = [
     Run {
         texts: [
             "gmap 2 dim 1 embed v <0> int next 4 darts 1 0 0 0 -5",
@@ -208,7 +220,7 @@ fn scripts_run(rt: HostRuntime) -> Result<(), Fail> {
 }
 
 /// Rules over embeddings, which keep values and give them to new darts.
-const RUNS_OVER_EMBEDDINGS: [Run; 4] = [
+static RUNS_OVER_EMBEDDINGS: [Run; 4] = [
     // The new darts have the colour of the face that is triangulated.
     Run {
         texts: [PAINTED, PAINTED_T, "apply T 0"],
@@ -255,7 +267,7 @@ fn scripts_run_over_embeddings(rt: HostRuntime) -> Result<(), Fail> {
     run_each(&rt, &rt, &RUNS_OVER_EMBEDDINGS)
 }
 
-const NO_RUNS: [Run; 13] = [
+static NO_RUNS: [Run; 13] = [
     Run {
         texts: ["gmap 1 dim 2 darts 1", "", ""],
         status: 4,
@@ -377,26 +389,43 @@ pub(crate) struct Trial<'a> {
     pub(crate) holds: Option<&'a str>,
 }
 
-fn expect_trial(rt: &impl Abort, host: &HostRuntime, trial: &Trial) -> Result<(), Fail> {
-    let alloc = host.alloc();
-    let mut store = files(alloc, POINTS, POINTS_T, "apply T 0")?;
-    let mut out = MemSink::new(alloc);
-    match trial.failure {
+/// The square with points, and one application of their rule.
+static TRIAL_TEXTS: [&str; 3] = [POINTS, POINTS_T, "apply T 0"];
+
+/// The failure is set for a store and a sink.
+fn set_failure(store: &mut MemStore, out: &mut MemSink, failure: &Failure) -> Result<(), Fail> {
+    match failure {
         Failure::Nothing => {}
-        Failure::Load(call) => store.fail_load(call)?,
-        Failure::Save(kept) => store.fail_save(0, kept)?,
-        Failure::Put(kept) => out.fail_put(0, kept)?,
+        Failure::Load(call) => store.fail_load(*call)?,
+        Failure::Save(kept) => store.fail_save(0, *kept)?,
+        Failure::Put(kept) => out.fail_put(0, *kept)?,
         Failure::LoadAndPut(call, kept) => {
-            store.fail_load(call)?;
-            out.fail_put(0, kept)?;
+            store.fail_load(*call)?;
+            out.fail_put(0, *kept)?;
         }
     }
-    let words = words_of(alloc, trial.line)?;
-    let ended = run(host, words.as_slice(), &mut store, &mut out);
-    let holds = trial.holds.map(|text| text.as_bytes());
-    assert_eq!(rt; ended, ExitCode::from(trial.status), "{}", trial.line);
-    assert_eq!(rt; out.bytes(), trial.put.as_bytes(), "{}", trial.line);
-    assert_eq!(rt; store.bytes(trial.file), holds, "{}", trial.line);
+    Ok(())
+}
+
+fn expect_trial(rt: &impl Abort, host: &HostRuntime, trial: &Trial) -> Result<(), Fail> {
+    let mut store = MemStore::new(host.alloc());
+    let mut out = MemSink::new(host.alloc());
+    expect_trial_over(rt, host, &mut store, &mut out, trial)
+}
+
+/// The line is run over the empty store and sink, for which the failure is set.
+fn expect_trial_over(
+    rt: &impl Abort,
+    host: &HostRuntime,
+    store: &mut MemStore,
+    out: &mut MemSink,
+    trial: &Trial,
+) -> Result<(), Fail> {
+    hold_files(store, &TRIAL_TEXTS)?;
+    set_failure(store, out, &trial.failure)?;
+    let end = (trial.status, trial.put);
+    expect_end_into(rt, host, trial.line, store, out, &end, trial.line)?;
+    expect_held(rt, store, trial.file, trial.holds, trial.line);
     Ok(())
 }
 
@@ -410,7 +439,7 @@ pub(crate) fn try_each(rt: &impl Abort, host: &HostRuntime, trials: &[Trial]) ->
 /// Loads that fail, files that are not there, saves that fail and keep nothing, some of the bytes or all,
 /// puts that fail behind a load that fails and behind a save, and at last a run that saves over its own
 /// map.
-const TRIALS: [Trial; 14] = [
+static TRIALS: [Trial; 14] = [
     Trial {
         line: "run MAP BOOK SCRIPT OUT",
         failure: Failure::Load(0),
@@ -531,7 +560,7 @@ fn loads_saves_and_puts(rt: HostRuntime) -> Result<(), Fail> {
 }
 
 /// Words that are no run.
-const WRONG_LINES: [Trial; 6] = [
+static WRONG_LINES: [Trial; 6] = [
     Trial {
         line: "run",
         failure: Failure::Nothing,

@@ -1,11 +1,15 @@
 //! Books with expressions, and runs of them over maps with values. What is awaited is an independent
 //! program's answer.
 
-use crate::commands::{Case, POINTS, expect_each};
+use crate::commands::POINTS;
+use crate::expect::{Case, expect, expect_each};
 use crate::runs::{POINTS_T, Run, TRIANGULATED_POINTS, run_each};
+use std::alloc::Global;
+use std::process::Abort;
 use std::test::Fail;
 
-const EXPRESSIONS: [Case; 45] = [
+/// Preconditions.
+static EXPRESSIONS: [Case; 12] = [
     Case {
         text: "book 1 dim 2 embed pos <1 2> vec2 embed n <1 2> int rule r left a <> hook right a <> pre 1 - -2 == 3 and --2 == 2",
         status: 0,
@@ -66,6 +70,10 @@ const EXPRESSIONS: [Case; 45] = [
         status: 0,
         put: "book 1\ndim 2\nembed pos <1 2> vec2\nembed n <1 2> int\nrule r\nleft\na <> hook\nright\na <>\npre -9223372036854775807 < 0\n",
     },
+];
+
+/// Preconditions that are none.
+static NO_EXPRESSIONS: [Case; 21] = [
     Case {
         text: "book 1 dim 2 embed pos <1 2> vec2 embed n <1 2> int rule r left a <> hook right a <> pre 1 == 2 == 3",
         status: 4,
@@ -171,6 +179,10 @@ const EXPRESSIONS: [Case; 45] = [
         status: 4,
         put: "refused BOOK unknown 89\n",
     },
+];
+
+/// Assignments, and preconditions of rules without values.
+static ASSIGNMENTS: [Case; 12] = [
     Case {
         text: "book 1 dim 2 embed pos <1 2> vec2 embed n <1 2> int rule r left a <> hook right a <> with pos = vec2(x(a.pos), 1) with n = a.n pre true",
         status: 0,
@@ -235,10 +247,12 @@ const EXPRESSIONS: [Case; 45] = [
 
 #[test]
 fn expressions_in_books(rt: HostRuntime) -> Result<(), Fail> {
-    expect_each(&rt, &rt, &["book BOOK"], &EXPRESSIONS)
+    expect_each(&rt, &rt, &["book BOOK"], &EXPRESSIONS)?;
+    expect_each(&rt, &rt, &["book BOOK"], &NO_EXPRESSIONS)?;
+    expect_each(&rt, &rt, &["book BOOK"], &ASSIGNMENTS)
 }
 
-const VALUES: [Run; 16] = [
+static VALUES: [Run; 16] = [
     Run {
         texts: [POINTS, POINTS_T, "apply T 0"],
         status: 0,
@@ -408,24 +422,31 @@ fn runs_with_values(rt: HostRuntime) -> Result<(), Fail> {
 
 /// How many brackets are opened in a precondition, and what is put: an expression has 256 tokens at
 /// most.
-const OPENED: [(usize, &str); 2] = [
+static OPENED: [(usize, &str); 2] = [
     (256, "refused BOOK text 306\n"),
     (300, "refused BOOK limit expression 306\n"),
 ];
 
+/// The text of a book whose precondition opens so many brackets.
+fn opened_text(alloc: Global, count: usize) -> Result<String, Fail> {
+    let opened = "(".repeat(alloc, count)?;
+    Ok(format!(in alloc; "book 1 dim 1 rule r left a <> hook right a <> pre {opened}")?)
+}
+
+fn expect_opened(rt: &impl Abort, host: &HostRuntime, count: usize, put: &str) -> Result<(), Fail> {
+    let text = opened_text(host.alloc(), count)?;
+    let case = Case {
+        text: text.as_str(),
+        status: 4,
+        put,
+    };
+    expect(rt, host, "book BOOK", &case)
+}
+
 #[test]
 fn brackets_opened(rt: HostRuntime) -> Result<(), Fail> {
-    for (count, put) in OPENED {
-        let opened = "(".repeat(rt.alloc(), count)?;
-        let text = format!(in rt.alloc();
-            "book 1 dim 1 rule r left a <> hook right a <> pre {opened}"
-        )?;
-        let case = Case {
-            text: text.as_str(),
-            status: 4,
-            put,
-        };
-        expect_each(&rt, &rt, &["book BOOK"], &[case])?;
+    for (count, put) in &OPENED {
+        expect_opened(&rt, &rt, *count, *put)?;
     }
     Ok(())
 }

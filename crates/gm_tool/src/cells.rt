@@ -69,6 +69,5 @@ fn counts_of<L: Ledger>(
     ensures { IfOk result (AreCounts (as_map arena.now)) }
 {
     let mut scratch = Scratch::new(alloc);
-    scratch.fit(arena)?;
     count(alloc, arena, &mut scratch, steps)
 }

@@ -104,7 +104,6 @@ fn cells_of<L: Ledger>(
     ensures least { steps.old ≤ steps.new }
 {
     let mut scratch = Scratch::new(alloc);
-    scratch.fit(arena)?;
     count_cells(alloc, arena, &mut scratch, steps)
 }
 

@@ -1,6 +1,7 @@
 //! An expression joined of whole parts, each in a box of its own.
 //!
 //! Boxes are made here alone, since arms of a match that can fail several times are dear to prove.
+//! Where memory is wanting, what is left is dropped by a call, as in the functions of arguments.
 ghost use Rattle.std.specs.Prelude.{◌≡◌, IfOk};
 ghost use Rattle.gm_model.specs.Trees.{tree_of, Unary, Binary, If, MakeVec2, MakeVec3, MakeRgb};
 
@@ -13,13 +14,51 @@ fn boxed(alloc: Global, part: Expr) -> Result<Box<Expr>, OutOfMemory>
     Ok(Box::new(alloc, part)?)
 }
 
+/// The box with a second one behind it.
+fn two_with(alloc: Global, first: Box<Expr>, b: Expr) -> Result<(Box<Expr>, Box<Expr>), OutOfMemory>
+    ensures first { IfOk result (λ both. tree_of both.0.value ≡ tree_of first.value) }
+    ensures second { IfOk result (λ both. tree_of both.1.value ≡ tree_of b) }
+{
+    match boxed(alloc, b) {
+        Ok(second) => Ok((first, second)),
+        Err(error) => {
+            drop(first);
+            Err(error)
+        }
+    }
+}
+
 fn two(alloc: Global, a: Expr, b: Expr) -> Result<(Box<Expr>, Box<Expr>), OutOfMemory>
     ensures first { IfOk result (λ both. tree_of both.0.value ≡ tree_of a) }
     ensures second { IfOk result (λ both. tree_of both.1.value ≡ tree_of b) }
 {
-    let first = boxed(alloc, a)?;
-    let second = boxed(alloc, b)?;
-    Ok((first, second))
+    match boxed(alloc, a) {
+        Ok(first) => two_with(alloc, first, b),
+        Err(error) => {
+            drop(b);
+            Err(error)
+        }
+    }
+}
+
+/// The box with two further ones behind it.
+fn three_with(
+    alloc: Global,
+    first: Box<Expr>,
+    b: Expr,
+    c: Expr,
+) -> Result<(Box<Expr>, Box<Expr>, Box<Expr>), OutOfMemory>
+    ensures first { IfOk result (λ all. tree_of all.0.value ≡ tree_of first.value) }
+    ensures second { IfOk result (λ all. tree_of all.1.value ≡ tree_of b) }
+    ensures third { IfOk result (λ all. tree_of all.2.value ≡ tree_of c) }
+{
+    match two(alloc, b, c) {
+        Ok((second, third)) => Ok((first, second, third)),
+        Err(error) => {
+            drop(first);
+            Err(error)
+        }
+    }
 }
 
 fn three(
@@ -32,9 +71,13 @@ fn three(
     ensures second { IfOk result (λ all. tree_of all.1.value ≡ tree_of b) }
     ensures third { IfOk result (λ all. tree_of all.2.value ≡ tree_of c) }
 {
-    let first = boxed(alloc, a)?;
-    let (second, third) = two(alloc, b, c)?;
-    Ok((first, second, third))
+    match boxed(alloc, a) {
+        Ok(first) => three_with(alloc, first, b, c),
+        Err(error) => {
+            drop((b, c));
+            Err(error)
+        }
+    }
 }
 
 pub(crate) fn unary(alloc: Global, op: UnOp, part: Expr) -> Result<Expr, OutOfMemory>

@@ -10,10 +10,22 @@ ghost use Rattle.gm_parse.specs.Meaning.{names_in, number_of};
 
 use crate::partial::Named;
 use gm_model::{Embed, Node, Param, UnOp};
-use gm_parse::{Env, Function};
+use gm_parse::{Env, Function, meaning_or};
 
 /// A number of a node, a parameter or an embedding is one byte.
 const MOST: usize = 256;
+
+static FUNCTIONS: [(&[u8], Option<Function>); 9] = [
+    (b"vec2", Some(Function::Vec2)),
+    (b"vec3", Some(Function::Vec3)),
+    (b"rgb", Some(Function::Rgb)),
+    (b"x", Some(Function::Part(UnOp::X))),
+    (b"y", Some(Function::Part(UnOp::Y))),
+    (b"z", Some(Function::Part(UnOp::Z))),
+    (b"red", Some(Function::Part(UnOp::Red))),
+    (b"green", Some(Function::Part(UnOp::Green))),
+    (b"blue", Some(Function::Part(UnOp::Blue))),
+];
 
 fn embed_index(embeds: &[Embed], name: &[u8]) -> Option<usize>
     ensures value { result ≡ position (λ (embed : Embed). bytes_eq name.now embed.name) embeds.now }
@@ -84,18 +96,7 @@ pub(crate) fn node_named(env: &Env<'_>, name: &[u8]) -> Option<u8>
 fn function_named(name: &[u8]) -> Option<Function>
     ensures { result ≡ meaning.function_named name.now }
 {
-    match name {
-        b"vec2" => Some(Function::Vec2),
-        b"vec3" => Some(Function::Vec3),
-        b"rgb" => Some(Function::Rgb),
-        b"x" => Some(Function::Part(UnOp::X)),
-        b"y" => Some(Function::Part(UnOp::Y)),
-        b"z" => Some(Function::Part(UnOp::Z)),
-        b"red" => Some(Function::Part(UnOp::Red)),
-        b"green" => Some(Function::Part(UnOp::Green)),
-        b"blue" => Some(Function::Part(UnOp::Blue)),
-        _ => None,
-    }
+    meaning_or(&FUNCTIONS, name, None)
 }
 
 /// All that the name at the place can stand for.

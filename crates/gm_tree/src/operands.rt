@@ -71,7 +71,7 @@ pub(crate) fn lead_of(head: Head, mask: Mask) -> Lead
 }
 
 /// The term with a further label.
-pub(crate) fn go_along(term: DartTerm, label: u8) -> Result<DartTerm, OutOfMemory>
+fn go_along(term: DartTerm, label: u8) -> Result<DartTerm, OutOfMemory>
     ensures { IfOk result (λ longer. longer ≡ record term { path = term.path ++ label ∷ [] }) }
 {
     let DartTerm { node, path } = term;
@@ -81,6 +81,19 @@ pub(crate) fn go_along(term: DartTerm, label: u8) -> Result<DartTerm, OutOfMemor
         node,
         path: Path::new(labels),
     })
+}
+
+/// What is read behind the term with a further label.
+pub(crate) fn go_along_behind(lead: Lead, term: DartTerm, label: u8) -> Result<Partial, OutOfMemory>
+    ensures { IfOk result (λ partial. building.part_of partial ≡ building.BehindTerm lead (record term { path = term.path ++ label ∷ [] })) }
+{
+    match go_along(term, label) {
+        Ok(term) => Ok(Partial::BehindTerm(lead, term)),
+        Err(error) => {
+            drop(lead);
+            Err(error)
+        }
+    }
 }
 
 /// What a term and `)` end.

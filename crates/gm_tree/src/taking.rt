@@ -10,7 +10,7 @@ ghost use Rattle.gm_parse.specs.Reading.{key_of};
 use crate::builder::Builder;
 use crate::names::{embed_named, look_up, node_named};
 use crate::operands::{
-    end_collected, end_field, end_term, go_along, label_at, lead_of, number_at, term_at,
+    end_collected, end_field, end_term, go_along_behind, label_at, lead_of, number_at, term_at,
 };
 use crate::partial::{Head, Lead, Partial};
 use crate::stack::put;
@@ -155,10 +155,7 @@ impl Builder {
         ensures { IfOk result (λ partial. work_of self.new partial ≡ building.behind_term (names_in env.now.schema.now env.now.params.now env.now.nodes.now) (frames_of self.old.waiting.items) (option_map name_fault self.old.least) lead term key (mark_at lexer.now.text token.now)) }
     {
         match key {
-            Key::Number => {
-                let term = go_along(term, label_at(lexer, token))?;
-                Ok(Partial::BehindTerm(lead, term))
-            }
+            Key::Number => go_along_behind(lead, term, label_at(lexer, token)),
             Key::Comma => Ok(Partial::BeforeTerm(Lead::Second(term))),
             Key::Close => Ok(end_term(lead, term)),
             Key::Name => Ok(self.field(env, lexer.text(token), token.start, lead, term)),

@@ -8,10 +8,10 @@ use Rattle.std.proofs.lemmas.Option.{slice_get_within}
 use Rattle.gm_model.specs.declared.word.Letter.{Letter}
 use Rattle.gm_model.specs.declared.word.Letter.TheVariants.{At}
 use Rattle.gm_model.specs.Maps.{IsGeneralised}
-use Rattle.gm_model.specs.Orbits.{Labels, HasCount, HasOrbits, IsInOrbit, IsLead, IsPathIn, follow}
+use Rattle.gm_model.specs.Orbits.{Labels, HasOrbits, IsInOrbit, IsLead, IsPathIn, follow}
 use Rattle.gm_arena.specs.ArenaAsMap.{as_map}
 use Rattle.gm_arena.specs.ArenaMap.{ArenaMap, IsLiveName, alpha}
-use Rattle.gm_walk.specs.Seen.{HasLettersOf, IsClosed, HasGrownBy}
+use Rattle.gm_walk.specs.Seen.{HasLettersOf, HasMet, IsClosed, IsMetLead, HasGrownBy}
 use Rattle.gm_walk.proofs.CountLemmas.{count_alike}
 use Rattle.gm_walk.proofs.GrowLemmas.{contains_on, distinct_push, grown_closed, grown_only, label_there}
 use Rattle.gm_walk.proofs.OrbitLemmas.{live_along, orbit_back, orbit_join}
@@ -52,16 +52,6 @@ least_place f (suc n) =
         ],
       )
     ]
-
--- d is the least dart of an orbit and was met
-abbrev pub IsMetLead : ArenaMap → Labels → List ℕ → ℕ → Type 0
-IsMetLead m o darts d = IsLead (IsLiveName m) (alpha m) o d × Contains darts d
-
--- the darts that were met are live, and are so many whole orbits
-pub record HasMet (m : ArenaMap) (o : Labels) (word : List Letter) (darts : List ℕ) (count : ℕ) : Type 0 where
-  pub closed : IsClosed m word darts
-  pub live : (d : ℕ) → Contains darts d → IsLiveName m d
-  pub leads : HasCount (IsMetLead m o darts) count
 
 pub nothing_met : (m : ArenaMap) (o : Labels) (word : List Letter) → HasMet m o word [] 0
 nothing_met m o word = record {

@@ -96,3 +96,7 @@ letters_are mask few = record { has = to; only = from }
       where
         some_same : (x y : Letter) → Some x ≡ Some y → x ≡ y
         some_same x y e = cc
+
+-- and those of a word that is its letters
+pub letters_of_word : (mask : Mask) (word : List Letter) (n : ℕ) → n ≤ 7 → ((i : ℕ) → IsTrue (has mask i) → i ≤ n) → word ≡ letters_of mask → HasLettersOf (has mask) word
+letters_of_word mask word n most few is = subst (HasLettersOf (has mask)) (sym is) (letters_are mask (λ i h. let k = few i h in omega (arith, k, most)))

@@ -3,8 +3,8 @@ use Rattle.std.specs.Prelude.{◌≡◌, ℕ, ◌<◌, ◌≤◌, ◌⊎◌, ◌
 use Rattle.std.specs.List.{Contains, count_by}
 use Rattle.gm_model.specs.declared.word.Letter.{Letter}
 use Rattle.gm_model.specs.declared.word.Letter.TheVariants.{At}
-use Rattle.gm_model.specs.Orbits.{Labels, HasNoRepeats, IsInOrbit}
-use Rattle.gm_arena.specs.ArenaMap.{ArenaMap, IsAt, alpha}
+use Rattle.gm_model.specs.Orbits.{Labels, HasCount, HasNoRepeats, IsInOrbit, IsLead}
+use Rattle.gm_arena.specs.ArenaMap.{ArenaMap, IsAt, IsLiveName, alpha}
 use Rattle.gm_walk.specs.Walks.{along}
 
 -- how many slots were seen
@@ -42,3 +42,13 @@ pub record HasFollowed (m : ArenaMap) (first second d : ℕ) (old new : List ℕ
   pub there : Contains new (alpha m first d)
   pub closed : (p i : ℕ) → length old ≤ p → p < length new → (i ≡ first) ⊎ (i ≡ second) → Contains new (alpha m i (slice_index new p))
   pub only : (o : Labels) → IsTrue (o first) → IsTrue (o second) → (p : ℕ) → length old ≤ p → p < length new → IsInOrbit (alpha m) o d (slice_index new p)
+
+-- d is the least dart of an orbit and was met
+abbrev pub IsMetLead : ArenaMap → Labels → List ℕ → ℕ → Type 0
+IsMetLead m o darts d = IsLead (IsLiveName m) (alpha m) o d × Contains darts d
+
+-- the darts that were met are live, and are so many whole orbits
+pub record HasMet (m : ArenaMap) (o : Labels) (word : List Letter) (darts : List ℕ) (count : ℕ) : Type 0 where
+  pub closed : IsClosed m word darts
+  pub live : (d : ℕ) → Contains darts d → IsLiveName m d
+  pub leads : HasCount (IsMetLead m o darts) count

@@ -1,19 +1,19 @@
 //! Counting orbits: a dart that is in no orbit that was met so far is the least of its own.
 
-ghost use Rattle.std.specs.Prelude.{◌≡◌, ℕ, List, ◌+◌, ◌*◌, ◌<◌, ◌≤◌, [], ◌∷◌, ◌++◌, length, replicate, slice_index_or, false, All, IfOk, IfSome, IsTrue};
+ghost use Rattle.std.specs.Prelude.{◌≡◌, ℕ, List, ◌+◌, ◌*◌, ◌<◌, ◌≤◌, [], ◌∷◌, ◌++◌, length, replicate, slice_index_or, false, None, All, IfOk, IfSome, IsTrue};
 ghost use Rattle.std.specs.FinMap.{keys};
 ghost use Rattle.std.specs.List.{Contains};
 ghost use Rattle.gm_model.specs.Labels.{has};
 ghost use Rattle.gm_model.specs.declared.word.Letter.TheVariants.{At};
 ghost use Rattle.gm_model.specs.Maps.{IsDart, IsGeneralised};
-ghost use Rattle.gm_model.specs.Orbits.{HasNoRepeats, HasOrbits};
+ghost use Rattle.gm_model.specs.Orbits.{Labels, HasNoRepeats, HasOrbits};
 ghost use Rattle.gm_arena.specs.declared.slot.Slot.{Slot};
 ghost use Rattle.gm_arena.specs.ArenaAsMap.{as_map};
 ghost use Rattle.gm_arena.specs.ArenaMap.{ArenaMap, IsLiveSlot, alpha, name_at};
 ghost use Rattle.gm_arena.specs.Lawful.{IsLawful};
 ghost use Rattle.gm_walk.specs.Room.{Fits};
-ghost use Rattle.gm_walk.specs.Seen.{HasFollowed, HasGrownBy, HasSeen, IsClosed, seen_count};
-ghost use Rattle.gm_walk.specs.Walks.{IsWord, names_of, AreLive};
+ghost use Rattle.gm_walk.specs.Seen.{HasFollowed, HasGrownBy, HasLettersOf, HasMet, HasSeen, IsClosed, seen_count};
+ghost use Rattle.gm_walk.specs.Walks.{IsWord, letters_of, names_of, AreLive};
 
 use crate::scratch::Scratch;
 use crate::walk::{walk_word, word_of};
@@ -22,7 +22,8 @@ use gm_model::{Letter, Mask, OutOfMemory, Word};
 use std::alloc::Global;
 use std::sync::ledger::Ledger;
 
-/// How many orbits over the labels of the mask the live darts have. The scratch keeps its room.
+/// How many orbits over the labels of the mask the live darts have. The scratch keeps its room, and
+/// gets more where it walks: an orbit over two labels needs none.
 pub fn orbits<L: Ledger>(
     alloc: Global,
     arena: &Arena,
@@ -32,19 +33,22 @@ pub fn orbits<L: Ledger>(
 ) -> Result<u32, OutOfMemory>
     requires generalised { IsGeneralised (as_map arena.now) }
     requires mask { (label : ℕ) → label ≤ 7 → IsTrue (has mask label) → label ≤ arena.now.schema.dim }
-    requires fits { Fits scratch.old arena.now }
     ensures orbits { IfOk result (HasOrbits (IsDart (as_map arena.now)) (as_map arena.now).alpha (has mask)) }
     ensures cost { steps.new ≤ steps.old + 8 * (arena.now.schema.dim + 1) * arena.now.count }
     ensures least { steps.old ≤ steps.new }
-    ensures room { Fits scratch.new arena.now }
+    ensures room { scratch.old.bound ≤ scratch.new.bound }
 {
+    let pair = pair_of(&word_of(mask));
+    if pair.is_none() {
+        scratch.fit(arena)?;
+    }
     // One byte for each slot, so that a count touches little memory.
     let mut seen = none_seen(alloc, arena.bound())?;
     if arena.is_dense() {
-        return Ok(count_slots(arena, mask, &mut seen, scratch, steps));
+        return Ok(count_slots(arena, mask, pair, &mut seen, scratch, steps));
     }
     let names = arena.names(alloc, steps)?;
-    Ok(count_names(arena, &names, mask, &mut seen, scratch, steps))
+    Ok(count_names(arena, &names, mask, pair, &mut seen, scratch, steps))
 }
 
 /// For each slot whether it was seen: none was.
@@ -59,6 +63,7 @@ fn none_seen(alloc: Global, slots: usize) -> Result<Vec<bool>, OutOfMemory>
 fn count_slots<L: Ledger>(
     arena: &Arena,
     mask: Mask,
+    pair: Option<(u8, u8)>,
     seen: &mut [bool],
     scratch: &mut Scratch,
     steps: &mut Steps<L>,
@@ -67,23 +72,19 @@ fn count_slots<L: Ledger>(
     requires live { (at : ℕ) → at < arena.now.bound → IsLiveSlot arena.now at }
     requires count { arena.now.bound ≡ arena.now.count }
     requires mask { (label : ℕ) → IsTrue (has mask label) → label ≤ arena.now.schema.dim }
+    requires pair { IfSome pair (λ labels. letters_of mask ≡ At labels.0 ∷ At labels.1 ∷ []) }
     requires seen { seen.old ≡ replicate arena.now.bound false }
-    requires fits { Fits scratch.old arena.now }
+    requires fits { pair ≡ None → Fits scratch.old arena.now }
     ensures orbits { HasOrbits (IsDart (as_map arena.now)) (as_map arena.now).alpha (has mask) result }
     ensures cost { steps.new ≤ steps.old + (4 * (arena.now.schema.dim + 1) + 1) * arena.now.count }
     ensures least { steps.old ≤ steps.new }
-    ensures room { Fits scratch.new arena.now }
+    ensures bound { scratch.new.bound ≡ scratch.old.bound }
 {
     let word = word_of(mask);
-    let pair = pair_of(&word);
     let mut orbits = 0;
     for at in 0..arena.bound() {
-        // An orbit that was met was seen whole, so its other darts aren't walked from again.
-        if !seen[at] {
-            let slot = Slot { at: at as u32 };
-            see_orbit(arena, slot, &word, pair, seen, scratch, steps);
-            orbits += 1;
-        }
+        let slot = Slot { at: at as u32 };
+        orbits += see_new(arena, slot, &word, pair, seen, scratch, steps);
     }
     orbits
 }
@@ -94,6 +95,7 @@ fn count_names<L: Ledger>(
     arena: &Arena,
     names: &[u32],
     mask: Mask,
+    pair: Option<(u8, u8)>,
     seen: &mut [bool],
     scratch: &mut Scratch,
     steps: &mut Steps<L>,
@@ -101,25 +103,56 @@ fn count_names<L: Ledger>(
     requires generalised { IsGeneralised (as_map arena.now) }
     requires names { names.now ≡ keys arena.now.darts }
     requires mask { (label : ℕ) → IsTrue (has mask label) → label ≤ arena.now.schema.dim }
+    requires pair { IfSome pair (λ labels. letters_of mask ≡ At labels.0 ∷ At labels.1 ∷ []) }
     requires seen { seen.old ≡ replicate arena.now.bound false }
-    requires fits { Fits scratch.old arena.now }
+    requires fits { pair ≡ None → Fits scratch.old arena.now }
     ensures orbits { HasOrbits (IsDart (as_map arena.now)) (as_map arena.now).alpha (has mask) result }
     ensures cost { steps.new ≤ steps.old + (4 * (arena.now.schema.dim + 1) + 1) * arena.now.count }
     ensures least { steps.old ≤ steps.new }
-    ensures room { Fits scratch.new arena.now }
+    ensures bound { scratch.new.bound ≡ scratch.old.bound }
 {
     prove!(names.len() == arena.count() as usize);
     let word = word_of(mask);
-    let pair = pair_of(&word);
     let mut orbits = 0;
     for name in names {
         let slot = arena.slot_of(*name, steps).unwrap();
-        if !seen[slot.at as usize] {
-            see_orbit(arena, slot, &word, pair, seen, scratch, steps);
-            orbits += 1;
-        }
+        orbits += see_new(arena, slot, &word, pair, seen, scratch, steps);
     }
     orbits
+}
+
+/// Sees the orbit of a slot along the labels of the word, and answers how many orbits more were met:
+/// one, or none where the slot was seen. Where the labels are two, `pair` has them.
+#[inline]
+fn see_new<L: Ledger>(
+    arena: &Arena,
+    from: Slot,
+    word: &Word,
+    pair: Option<(u8, u8)>,
+    seen: &mut [bool],
+    scratch: &mut Scratch,
+    steps: &mut Steps<L>,
+) -> u32
+    requires generalised { IsGeneralised (as_map arena.now) }
+    requires lawful { IsLawful arena.now }
+    requires from { IsLiveSlot arena.now from.at }
+    requires word { IsWord arena.now.schema.dim word.now }
+    requires pair { IfSome pair (λ labels. word.now ≡ At labels.0 ∷ At labels.1 ∷ []) }
+    requires long { length seen.old ≡ arena.now.bound }
+    requires fits { pair ≡ None → Fits scratch.old arena.now }
+    ensures met { (o : Labels) (before : List ℕ) (count : ℕ) → HasLettersOf o word.now → ((label : ℕ) → IsTrue (o label) → label ≤ arena.now.schema.dim) → HasSeen arena.now seen.old before → HasMet arena.now o word.now before count → (after : List ℕ) × HasSeen arena.now seen.new after × HasMet arena.now o word.now after (count + result) × ((d : ℕ) → Contains before d → Contains after d) × Contains after (name_at arena.now from.at) }
+    ensures one { result ≤ 1 }
+    ensures cost { (before : List ℕ) → HasSeen arena.now seen.old before → IsClosed arena.now word.now before → steps.new + 4 * (arena.now.schema.dim + 1) * seen_count seen.old ≤ steps.old + 4 * (arena.now.schema.dim + 1) * seen_count seen.new }
+    ensures least { steps.old ≤ steps.new }
+    ensures long { length seen.new ≡ length seen.old }
+    ensures bound { scratch.new.bound ≡ scratch.old.bound }
+{
+    // An orbit that was met was seen whole, so its other darts aren't walked from again.
+    if seen[from.at as usize] {
+        return 0;
+    }
+    see_orbit(arena, from, word, pair, seen, scratch, steps);
+    1
 }
 
 /// Sees the orbit of a slot that wasn't seen, along the labels of the word. Where these are two,
@@ -140,7 +173,7 @@ fn see_orbit<L: Ledger>(
     requires pair { IfSome pair (λ labels. word.now ≡ At labels.0 ∷ At labels.1 ∷ []) }
     requires long { length seen.old ≡ arena.now.bound }
     requires unseen { slice_index_or seen.old from.at false ≡ false }
-    requires fits { Fits scratch.old arena.now }
+    requires fits { pair ≡ None → Fits scratch.old arena.now }
     ensures seen { (before : List ℕ) → HasSeen arena.now seen.old before → IsClosed arena.now word.now before → (after : List ℕ) × HasSeen arena.now seen.new after × HasGrownBy arena.now word.now (name_at arena.now from.at) before after }
     ensures cost { (before : List ℕ) → HasSeen arena.now seen.old before → IsClosed arena.now word.now before → steps.new + 4 * (arena.now.schema.dim + 1) * seen_count seen.old ≤ steps.old + 4 * (arena.now.schema.dim + 1) * seen_count seen.new }
     ensures least { steps.old ≤ steps.new }

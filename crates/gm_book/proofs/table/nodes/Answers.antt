@@ -1,5 +1,16 @@
+use Rattle.std.proofs.Common.{[], refl}
+use Rattle.gm_model.specs.Rules.{node_of}
+use Rattle.gm_forms.specs.declared.key.NameKey.{NameKey}
+use Rattle.gm_forms.specs.BookText.{node_in}
+use Rattle.gm_forms.specs.Forms.{rule_form_of}
+use Rattle.gm_book.proofs.Mapped.{seen_more}
 use Rattle.gm_book.proofs.RuleNames.{good_at}
 use Rattle.gm_book.proofs.table.nodes.Goals as goal
 
 pub node-requires-clause-good : goal.node-requires-clause-good
 node-requires-clause-good c = good_at c.args.names.now c.loop-name.name-index _ c.requires.good c.loop-name-test.true
+
+pub loop-name-preserved : goal.loop-name-preserved
+loop-name-preserved c =
+    seen_more (λ (key : NameKey). key.bytes.now) (node_in (rule_form_of c.args.text.now c.args.rule.now) (λ node. [])) c.args.names.now c.loop-name.name-index _ _ c.loop-name-test.true refl
+    node_of c.loop-name.nodes.items c.push.new.self.items c.node.result c.loop-name.invariant c.node.ensures c.in_ok-push.ensures.items

@@ -1,8 +1,10 @@
-use Rattle.std.proofs.Common.{ℕ, get_or, sym, subst, ◌∙◌, arith}
+use Rattle.std.proofs.Common.{◌≡◌, ℕ, length, get_or, refl, sym, subst, ◌∙◌, arith}
 use Rattle.gm_arena.proofs.MapLemmas.{name_at-is}
 use Rattle.gm_cells.specs.Search.{IsFresh, IsSearched}
+use Rattle.gm_cells.specs.Settled.{IsSettled}
 use Rattle.gm_walk.proofs.CountLemmas.{has_slot, name_of_slot}
-use Rattle.gm_cells.proofs.SettledLemmas.{none_at, skipped, fresh_here, odd_here, settled_here, even_is, room_in}
+use Rattle.gm_cells.proofs.SettledLemmas.{none_at, skipped, fresh_here, odd_here, settled_here, even_is, room_in, zeros_long, none_settled}
+use Rattle.gm_cells.proofs.Exits.{unless_ok}
 use Rattle.gm_cells.proofs.colouring.first_odd.Goals as goal
 use Rattle.gm_cells.proofs.colouring.first_odd.Goals.{then-marks-even-eq0+then-marks-even-eq0-2+in_ok-search+else-marks-even-ne0, else-marks-even-eq0, else-marks-even-eq0-via-then-marks-even-eq0+else-marks-even-eq0-2, else-marks-even-eq0-via-else-marks-even-eq0}
 
@@ -66,3 +68,78 @@ loop-name-preserved g c =
         ]);
       }
     ]
+
+pub loop-name-init : goal.loop-name-init
+loop-name-init g c = record {
+  long = refl;
+  settled = subst (IsSettled c.args.arena.now c.args.names.now 0) (sym c.requires.marks) (none_settled c.args.arena.now c.args.names.now c.args.arena.now.bound);
+}
+
+pub offset_bounds-marks-even : goal.offset_bounds-marks-even
+offset_bounds-marks-even g c =
+    let at = name_of_slot c.args.arena.now (get_or c.args.names.now c.loop-name.name-index 0) c.slot_of.result c.unwrap-slot.result c.slot_of.ensures.slot c.unwrap-slot.ensures in
+    omega (arith, c.bound.ensures.lawful.below_bound _ _ at, c.requires.few)
+
+pub overflow_mul-even : goal.overflow_mul-even
+overflow_mul-even g c =
+    let at = name_of_slot c.args.arena.now (get_or c.args.names.now c.loop-name.name-index 0) c.slot_of.result c.unwrap-slot.result c.slot_of.ensures.slot c.unwrap-slot.ensures in
+    omega (arith, c.bound.ensures.lawful.below_bound _ _ at, c.requires.few)
+
+pub overflow_cast-even : goal.overflow_cast-even
+overflow_cast-even g c =
+    let at = name_of_slot c.args.arena.now (get_or c.args.names.now c.loop-name.name-index 0) c.slot_of.result c.unwrap-slot.result c.slot_of.ensures.slot c.unwrap-slot.ensures in
+    omega (arith, c.bound.ensures.lawful.below_bound _ _ at, c.requires.few)
+
+pub overflow_add-even : goal.overflow_add-even
+overflow_add-even g c =
+    let at = name_of_slot c.args.arena.now (get_or c.args.names.now c.loop-name.name-index 0) c.slot_of.result c.unwrap-slot.result c.slot_of.ensures.slot c.unwrap-slot.ensures in
+    omega (arith, c.bound.ensures.lawful.below_bound _ _ at, c.requires.few)
+
+pub offset_bounds-marks-even-then-marks-even-eq0 : goal.offset_bounds-marks-even-then-marks-even-eq0
+offset_bounds-marks-even-then-marks-even-eq0 g c =
+    let at = name_of_slot c.args.arena.now (get_or c.args.names.now c.loop-name.name-index 0) c.slot_of.result c.unwrap-slot.result c.slot_of.ensures.slot c.unwrap-slot.ensures in
+    omega (arith, c.bound.ensures.lawful.below_bound _ _ at, c.requires.few)
+
+pub overflow_add-even-then-marks-even-eq0-2 : goal.overflow_add-even-then-marks-even-eq0-2
+overflow_add-even-then-marks-even-eq0-2 g c =
+    let at = name_of_slot c.args.arena.now (get_or c.args.names.now c.loop-name.name-index 0) c.slot_of.result c.unwrap-slot.result c.slot_of.ensures.slot c.unwrap-slot.ensures in
+    omega (arith, c.bound.ensures.lawful.below_bound _ _ at, c.requires.few)
+
+pub offset_bounds-marks-even-then-marks-even-eq0-2 : goal.offset_bounds-marks-even-then-marks-even-eq0-2
+offset_bounds-marks-even-then-marks-even-eq0-2 g c =
+    let at = name_of_slot c.args.arena.now (get_or c.args.names.now c.loop-name.name-index 0) c.slot_of.result c.unwrap-slot.result c.slot_of.ensures.slot c.unwrap-slot.ensures in
+    omega (arith, c.bound.ensures.lawful.below_bound _ _ at, c.requires.few)
+
+pub search-requires-clause-generalised : goal.search-requires-clause-generalised
+search-requires-clause-generalised g c = c.requires.generalised
+
+pub search-requires-clause-live : goal.search-requires-clause-live
+search-requires-clause-live g c =
+    let at = name_of_slot c.args.arena.now (get_or c.args.names.now c.loop-name.name-index 0) c.slot_of.result c.unwrap-slot.result c.slot_of.ensures.slot c.unwrap-slot.ensures in
+    rw at refl
+
+pub search-requires-clause-long : goal.search-requires-clause-long
+search-requires-clause-long g c = c.loop-name.invariant.long ∙ zeros_long c.args.marks.now c.args.arena.now.bound c.requires.marks
+
+pub search-requires-clause-few : goal.search-requires-clause-few
+search-requires-clause-few g c = omega (arith, c.loop-name.invariant.long, zeros_long c.args.marks.now c.args.arena.now.bound c.requires.marks, c.requires.few)
+
+pub returns-in_err-search-clause-odd : goal.returns-in_err-search-clause-odd
+returns-in_err-search-clause-odd g c = unless_ok _ c.from_residual.result c.from_residual.ensures.0
+
+pub returns-in_err-search-clause-long : goal.returns-in_err-search-clause-long
+returns-in_err-search-clause-long g c = c.search.ensures.long ∙ c.loop-name.invariant.long
+
+pub returns-then-marks-even-ne0-clause-long : goal.returns-then-marks-even-ne0-clause-long
+returns-then-marks-even-ne0-clause-long g c = c.search.ensures.long ∙ c.loop-name.invariant.long
+
+pub loop-name-smaller : goal.loop-name-smaller
+loop-name-smaller g c = omega (arith, c.loop-name-test.true)
+
+pub returns-clause-odd : goal.returns-clause-odd
+returns-clause-odd g c =
+    let all : c.loop-name.name-index ≡ length c.args.names.now = omega (arith, c.loop-name-test.false, c.loop-name.auto.name-index-end) in
+    subst (λ p. IsSettled c.args.arena.now c.args.names.now p c.loop-name.marks) all c.loop-name.invariant.settled
+
+pub returns-clause-long : goal.returns-clause-long
+returns-clause-long g c = c.loop-name.invariant.long

@@ -1,8 +1,9 @@
-use Rattle.std.proofs.Common.{◌∙◌, ◌+◌, ap, length, arith}
+use Rattle.std.proofs.Common.{◌≡◌, ◌∙◌, ◌+◌, ◌*◌, ◌≤◌, ap, length, subst, arith}
 use Rattle.std.proofs.lemmas.List.{length_push}
 use Rattle.gm_arena.specs.ArenaAsMap.{as_map}
 use Rattle.gm_cells.specs.Cells.{HasCellsOf}
-use Rattle.gm_cells.proofs.LabelLemmas.{by_label_more, cells_counted, mask_within}
+use Rattle.gm_cells.proofs.LabelLemmas.{by_label_more, by_label_all, cells_counted, mask_within, one_turn_more}
+use Rattle.gm_cells.proofs.Exits.{unless_ok}
 use Rattle.gm_cells.proofs.counts.count_cells.Goals as goal
 
 pub orbits-requires-clause-mask : goal.orbits-requires-clause-mask
@@ -21,5 +22,67 @@ loop-label-preserved g c =
       each = by_label_more (HasCellsOf map) c.loop-label.cells.items _ label count i.one_each c.in_ok-push.ensures.items i.each cells;
       cost = let before = i.cost in let here = c.orbits.ensures.cost in omega (arith, before, here);
       least = let before = i.least in let here = c.orbits.ensures.least in omega (arith, before, here);
-      room = c.orbits.ensures.room;
+      room = let before = i.room in let here = c.orbits.ensures.room in omega (arith, before, here);
     }
+
+pub loop-label-init : goal.loop-label-init
+loop-label-init g c = record {
+  one_each = ap length c.new-cells.ensures.items;
+  each = λ i less. absurd (omega (arith, less));
+  cost = omega arith;
+  least = omega arith;
+  room = omega arith;
+}
+
+pub orbits-requires-clause-generalised : goal.orbits-requires-clause-generalised
+orbits-requires-clause-generalised g c = c.requires.generalised
+
+pub returns-in_err-orbits-clause-cells : goal.returns-in_err-orbits-clause-cells
+returns-in_err-orbits-clause-cells g c = unless_ok _ c.from_residual.result c.from_residual.ensures.0
+
+pub returns-in_err-orbits-clause-cost : goal.returns-in_err-orbits-clause-cost
+returns-in_err-orbits-clause-cost g c =
+    let m = c.args.arena.now in
+    let low : c.loop-label.label ≤ m.schema.dim = omega (arith, c.loop-label-test.true, c.top-top.ensures.value ∙ ap (λ s. s.dim) c.schema.ensures) in
+    one_turn_more c.loop-label.label m.schema.dim (8 * (m.schema.dim + 1) * m.count) c.args.steps.now c.loop-label.steps c.orbits.new.steps low c.loop-label.invariant.cost c.orbits.ensures.cost
+
+pub returns-in_err-orbits-clause-least : goal.returns-in_err-orbits-clause-least
+returns-in_err-orbits-clause-least g c = omega (arith, c.loop-label.invariant.least, c.orbits.ensures.least)
+
+pub returns-in_err-orbits-clause-room : goal.returns-in_err-orbits-clause-room
+returns-in_err-orbits-clause-room g c = omega (arith, c.loop-label.invariant.room, c.orbits.ensures.room)
+
+pub returns-in_err-push-clause-cells : goal.returns-in_err-push-clause-cells
+returns-in_err-push-clause-cells g c = unless_ok _ c.from_residual-in_err-push.result c.from_residual-in_err-push.ensures.0
+
+pub returns-in_err-push-clause-cost : goal.returns-in_err-push-clause-cost
+returns-in_err-push-clause-cost g c =
+    let m = c.args.arena.now in
+    let low : c.loop-label.label ≤ m.schema.dim = omega (arith, c.loop-label-test.true, c.top-top.ensures.value ∙ ap (λ s. s.dim) c.schema.ensures) in
+    one_turn_more c.loop-label.label m.schema.dim (8 * (m.schema.dim + 1) * m.count) c.args.steps.now c.loop-label.steps c.orbits.new.steps low c.loop-label.invariant.cost c.orbits.ensures.cost
+
+pub returns-in_err-push-clause-least : goal.returns-in_err-push-clause-least
+returns-in_err-push-clause-least g c = omega (arith, c.loop-label.invariant.least, c.orbits.ensures.least)
+
+pub returns-in_err-push-clause-room : goal.returns-in_err-push-clause-room
+returns-in_err-push-clause-room g c = omega (arith, c.loop-label.invariant.room, c.orbits.ensures.room)
+
+pub loop-label-smaller : goal.loop-label-smaller
+loop-label-smaller g c = omega (arith, c.loop-label-test.true)
+
+pub returns-clause-cells : goal.returns-clause-cells
+returns-clause-cells g c =
+    let all = c.top-top.ensures.value ∙ ap (λ s. s.dim) c.schema.ensures in
+    by_label_all (HasCellsOf (as_map c.args.arena.now)) c.args.arena.now.schema.dim c.loop-label.label c.loop-label.cells.items (omega (arith, c.loop-label-test.false, c.loop-label.auto.label-end, all)) c.loop-label.invariant.one_each c.loop-label.invariant.each
+
+pub returns-clause-cost : goal.returns-clause-cost
+returns-clause-cost g c =
+    let all = c.top-top.ensures.value ∙ ap (λ s. s.dim) c.schema.ensures in
+    let end : c.loop-label.label ≡ c.args.arena.now.schema.dim + 1 = omega (arith, c.loop-label-test.false, c.loop-label.auto.label-end, all) in
+    subst (λ label. c.loop-label.steps ≤ c.args.steps.now + label * (8 * (c.args.arena.now.schema.dim + 1) * c.args.arena.now.count)) end c.loop-label.invariant.cost
+
+pub returns-clause-least : goal.returns-clause-least
+returns-clause-least g c = c.loop-label.invariant.least
+
+pub returns-clause-room : goal.returns-clause-room
+returns-clause-room g c = c.loop-label.invariant.room

@@ -1,8 +1,10 @@
-use Rattle.std.proofs.Common.{◌≡◌, ◌≢◌, ◌+◌, ◌*◌, ◌<◌, ◌≤◌, length, sym, ap, subst, ◌∙◌, arith}
-use Rattle.gm_arena.specs.ArenaMap.{IsAt, alpha, name_at}
+use Rattle.std.proofs.Common.{◌≡◌, ◌≢◌, ◌+◌, ◌*◌, ◌<◌, ◌≤◌, length, refl, sym, ap, subst, ◌∙◌, arith}
+use Rattle.std.proofs.lemmas.List.{get_or_read}
+use Rattle.gm_arena.specs.ArenaMap.{IsAt, IsLiveSlot, alpha, name_at}
 use Rattle.gm_cells.specs.declared.search.Visit.{Visit}
-use Rattle.gm_cells.specs.Search.{Reaches, dart_in}
+use Rattle.gm_cells.specs.Search.{Reaches, nowhere, dart_in}
 use Rattle.gm_cells.proofs.SearchLemmas.{stays_there, reached_there, next_visit, longer_after, same_after}
+use Rattle.gm_cells.proofs.Exits.{never_ok}
 use Rattle.gm_cells.proofs.search.visit_neighbours.Goals as goal
 use Rattle.gm_cells.proofs.search.visit_neighbours.Goals.{then-to-visit+in_ok-reach, else-to-visit}
 
@@ -39,3 +41,42 @@ pub returns-clause-searching : goal.returns-clause-searching
 returns-clause-searching g c =
     let top_is = c.top-label-end.ensures.value ∙ ap (λ s. s.dim) c.schema.ensures in
     λ d old s. next_visit c.args.arena.now d old c.args.at c.loop-label.label _ _ (omega (arith, top_is, c.loop-label-test.false, c.loop-label.auto.label-end)) c.loop-label.invariant.within (c.loop-label.invariant.searching d old s)
+
+pub loop-label-init : goal.loop-label-init
+loop-label-init g c = record {
+  long = refl;
+  within = c.requires.within;
+  here = sym (get_or_read c.args.queue.now.items c.args.at _ c.requires.within c.index-visit.ensures nowhere);
+  searching = λ d old s. s;
+}
+
+pub alpha-to-requires-clause-live : goal.alpha-to-requires-clause-live
+alpha-to-requires-clause-live g c = subst (λ (v : Visit). IsLiveSlot c.args.arena.now v.slot.at) (sym (get_or_read c.args.queue.now.items c.args.at _ c.requires.within c.index-visit.ensures nowhere)) c.requires.live
+
+pub alpha-to-requires-clause-label : goal.alpha-to-requires-clause-label
+alpha-to-requires-clause-label g c = omega (arith, c.loop-label-test.true, c.top-label-end.ensures.value ∙ ap (λ s. s.dim) c.schema.ensures)
+
+pub overflow_add-visit : goal.overflow_add-visit
+overflow_add-visit g c =
+    let few = subst (λ (v : Visit). v.length < 2147483648) (sym (get_or_read c.args.queue.now.items c.args.at _ c.requires.within c.index-visit.ensures nowhere)) c.requires.few in
+    omega (arith, few)
+
+pub reach-requires-clause-within : goal.reach-requires-clause-within
+reach-requires-clause-within g c = omega (arith, c.loop-label.invariant.long, c.requires.long, c.requires.lawful.below_bound _ _ c.alpha-to.ensures.neighbour)
+
+pub reach-requires-clause-few : goal.reach-requires-clause-few
+reach-requires-clause-few g c =
+    let few = subst (λ (v : Visit). v.length < 2147483648) (sym (get_or_read c.args.queue.now.items c.args.at _ c.requires.within c.index-visit.ensures nowhere)) c.requires.few in
+    omega (arith, few)
+
+pub returns-in_err-reach-clause-searching : goal.returns-in_err-reach-clause-searching
+returns-in_err-reach-clause-searching g c = never_ok _ c.from_residual.result c.from_residual.ensures.0
+
+pub returns-in_err-reach-clause-long : goal.returns-in_err-reach-clause-long
+returns-in_err-reach-clause-long g c = c.reach.ensures.long ∙ c.loop-label.invariant.long
+
+pub loop-label-smaller : goal.loop-label-smaller
+loop-label-smaller g c = omega (arith, c.loop-label-test.true)
+
+pub returns-clause-long : goal.returns-clause-long
+returns-clause-long g c = c.loop-label.invariant.long

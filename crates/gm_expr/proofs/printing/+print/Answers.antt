@@ -1,137 +1,230 @@
-use Rattle.std.proofs.Common.{◌≡◌, ◌++◌, codes, append_assoc, refl, subst}
-use Rattle.std.specs.Prelude.{OnErr}
+use Rattle.std.proofs.Common.{◌≡◌, ◌++◌, ℕ, true, List, codes, refl, subst, arith}
+use Rattle.std.proofs.lemmas.Bool.Decides.{nat_tests}
+use Rattle.std.specs.Prelude.{nat_lt, OnOk, OnErr}
 use Rattle.std.proofs.lemmas.Result.{on_err_weaker, on_ok_weaker}
 use Rattle.gm_model.specs.Rules.{rule_of}
-use Rattle.gm_model.specs.Trees.{tree_of}
-use Rattle.gm_expr.specs.ExprText.{IsCutShort, expr_text, head_of, sign_of, tail_of, wrapped}
-use Rattle.gm_parse.specs.Levels.{least_on_left, least_on_right}
-use Rattle.gm_expr.proofs.Cuts.{cut_at_once, cut_before, cut_behind, on_err}
+use Rattle.gm_model.specs.Trees.{Tree, tree_of}
+use Rattle.gm_expr.specs.ExprText.{IsCutShort, expr_text, head_of, level, sign_of, tail_of, wrapped}
+use Rattle.gm_parse.specs.Levels.{least_of_part, least_on_left, least_on_right}
+use Rattle.gm_expr.proofs.Cuts.{cut_at_once, cut_before, cut_behind, cut_behind_lead, on_err, written_behind, written_behind_lead}
 use Rattle.gm_expr.proofs.printing.+print.Goals as goal
+
+-- ---- behind a lead
+
+pub print_behind-returns-in_err-put-clause-err : goal.print_behind-returns-in_err-put-clause-err
+print_behind-returns-in_err-put-clause-err t c =
+    on_err _ (cut_at_once _ c.in_err-put.ensures.err)
+
+pub print_behind-returns-clause-ok : goal.print_behind-returns-clause-ok
+print_behind-returns-clause-ok t c =
+    let text = expr_text c.args.schema.now (rule_of c.args.rule.now) (tree_of c.args.expr.now) in
+    on_ok_weaker c.print_expr.result (λ (more : c.print_expr.new.out ≡ c.put.new.self ++ text). written_behind c.args.out.now c.args.lead.now text c.in_ok-put.ensures.ok more) c.print_expr.ensures.ok
+
+pub print_behind-returns-clause-err : goal.print_behind-returns-clause-err
+print_behind-returns-clause-err t c =
+    let text = expr_text c.args.schema.now (rule_of c.args.rule.now) (tree_of c.args.expr.now) in
+    on_err_weaker c.print_expr.result (λ (cut : IsCutShort c.put.new.self text c.print_expr.new.out). cut_behind c.args.out.now c.args.lead.now c.in_ok-put.ensures.ok cut) c.print_expr.ensures.err
 
 -- ---- an operator and its part
 
 pub print_unary-returns-in_err-put-clause-err : goal.print_unary-returns-in_err-put-clause-err
-print_unary-returns-in_err-put-clause-err t c = on_err _ (cut_at_once _ c.in_err-put.ensures.err)
+print_unary-returns-in_err-put-clause-err t c =
+    on_err _ (cut_at_once _ c.in_err-put.ensures.err)
 
-pub print_unary-returns-in_err-print_part-clause-err :
-    goal.print_unary-returns-in_err-print_part-clause-err
+pub print_unary-returns-in_err-print_part-clause-err : goal.print_unary-returns-in_err-print_part-clause-err
 print_unary-returns-in_err-print_part-clause-err t c =
     let tree = tree_of c.args.part.now in
     let text = expr_text c.args.schema.now (rule_of c.args.rule.now) tree in
-    let so_far : c.put.new.self ≡ c.args.out.now ++ head_of c.args.op = rw (c.in_ok-put.ensures.ok, c.head.ensures) refl in
-    let part = subst (λ least. IsCutShort c.put.new.self (wrapped least tree text) c.print_part.new.out) c.least_within.ensures c.in_err-print_part.ensures.err in
-    on_err _ (cut_before (tail_of c.args.op) (cut_behind c.args.out.now (head_of c.args.op) so_far part))
+    let head : c.put.new.self ≡ c.args.out.now ++ head_of c.args.op = rw (c.in_ok-put.ensures.ok, c.head.ensures) refl in
+    let cut = subst (λ least. IsCutShort c.put.new.self (wrapped least tree text) c.print_part.new.out) c.least_within.ensures c.in_err-print_part.ensures.err in
+    on_err _ (cut_before (tail_of c.args.op) (cut_behind c.args.out.now (head_of c.args.op) head cut))
+
+pub print_unary-returns-clause-ok : goal.print_unary-returns-clause-ok
+print_unary-returns-clause-ok t c =
+    let part = wrapped (least_of_part c.args.op) (tree_of c.args.part.now) (expr_text c.args.schema.now (rule_of c.args.rule.now) (tree_of c.args.part.now)) in
+    let head : c.put.new.self ≡ c.args.out.now ++ head_of c.args.op = rw (c.in_ok-put.ensures.ok, c.head.ensures) refl in
+    let more : c.print_part.new.out ≡ c.put.new.self ++ part = rw (c.in_ok-print_part.ensures.ok, c.least_within.ensures) refl in
+    let so_far = written_behind c.args.out.now (head_of c.args.op) part head more in
+    on_ok_weaker c.put-2.result
+    (λ (tail : c.put-2.new.self ≡ c.print_part.new.out ++ tail_of c.args.op). written_behind c.args.out.now (head_of c.args.op ++ part) (tail_of c.args.op) so_far tail)
+    (subst (λ (bytes : List ℕ). OnOk c.put-2.result (c.put-2.new.self ≡ c.print_part.new.out ++ bytes)) c.tail.ensures c.put-2.ensures.ok)
+
+pub print_unary-returns-clause-err : goal.print_unary-returns-clause-err
+print_unary-returns-clause-err t c =
+    let part = wrapped (least_of_part c.args.op) (tree_of c.args.part.now) (expr_text c.args.schema.now (rule_of c.args.rule.now) (tree_of c.args.part.now)) in
+    let head : c.put.new.self ≡ c.args.out.now ++ head_of c.args.op = rw (c.in_ok-put.ensures.ok, c.head.ensures) refl in
+    let more : c.print_part.new.out ≡ c.put.new.self ++ part = rw (c.in_ok-print_part.ensures.ok, c.least_within.ensures) refl in
+    let so_far = written_behind c.args.out.now (head_of c.args.op) part head more in
+    on_err_weaker c.put-2.result
+    (λ (same : c.put-2.new.self ≡ c.print_part.new.out). cut_behind c.args.out.now (head_of c.args.op ++ part) so_far (cut_at_once (tail_of c.args.op) same))
+    c.put-2.ensures.err
 
 -- ---- an operator and its two parts
 
-pub print_binary-returns-in_err-print_part-clause-err :
-    goal.print_binary-returns-in_err-print_part-clause-err
+pub print_binary-returns-in_err-print_part-clause-err : goal.print_binary-returns-in_err-print_part-clause-err
 print_binary-returns-in_err-print_part-clause-err t c =
-    let schema = c.args.schema.now in
-    let rule = rule_of c.args.rule.now in
-    let left = tree_of c.args.left.now in
-    let right = tree_of c.args.right.now in
-    let cut = subst (λ least. IsCutShort c.args.out.now (wrapped least left (expr_text schema rule left)) c.print_part.new.out) c.least_left.ensures c.in_err-print_part.ensures.err in
-    let sign = cut_before (sign_of c.args.op) cut in
-    on_err _ (cut_before (wrapped (least_on_right c.args.op) right (expr_text schema rule right)) sign)
+    let text = expr_text c.args.schema.now (rule_of c.args.rule.now) in
+    let left = wrapped (least_on_left c.args.op) (tree_of c.args.left.now) (text (tree_of c.args.left.now)) in
+    let right = wrapped (least_on_right c.args.op) (tree_of c.args.right.now) (text (tree_of c.args.right.now)) in
+    let cut = subst (λ least. IsCutShort c.args.out.now (wrapped least (tree_of c.args.left.now) (text (tree_of c.args.left.now))) c.print_part.new.out) c.least_left.ensures c.in_err-print_part.ensures.err in
+    on_err _ (cut_before right (cut_before (sign_of c.args.op) cut))
 
 pub print_binary-returns-in_err-put-clause-err : goal.print_binary-returns-in_err-put-clause-err
 print_binary-returns-in_err-put-clause-err t c =
-    let schema = c.args.schema.now in
-    let rule = rule_of c.args.rule.now in
-    let left = tree_of c.args.left.now in
-    let right = tree_of c.args.right.now in
-    let done = wrapped (least_on_left c.args.op) left (expr_text schema rule left) in
-    let so_far : c.print_part.new.out ≡ c.args.out.now ++ done = rw (c.in_ok-print_part.ensures.ok, c.least_left.ensures) refl in
-    let sign = cut_behind c.args.out.now done so_far (cut_at_once (sign_of c.args.op) c.in_err-put.ensures.err) in
-    on_err _ (cut_before (wrapped (least_on_right c.args.op) right (expr_text schema rule right)) sign)
+    let text = expr_text c.args.schema.now (rule_of c.args.rule.now) in
+    let left = wrapped (least_on_left c.args.op) (tree_of c.args.left.now) (text (tree_of c.args.left.now)) in
+    let right = wrapped (least_on_right c.args.op) (tree_of c.args.right.now) (text (tree_of c.args.right.now)) in
+    let first : c.print_part.new.out ≡ c.args.out.now ++ left = rw (c.in_ok-print_part.ensures.ok, c.least_left.ensures) refl in
+    on_err _ (cut_before right (cut_behind c.args.out.now left first (cut_at_once (sign_of c.args.op) c.in_err-put.ensures.err)))
+
+pub print_binary-print_part-requires-2 : goal.print_binary-print_part-requires-2
+print_binary-print_part-requires-2 t c =
+    (omega (arith, c.decreases), c.requires.right)
+
+pub print_binary-returns-clause-ok : goal.print_binary-returns-clause-ok
+print_binary-returns-clause-ok t c =
+    let text = expr_text c.args.schema.now (rule_of c.args.rule.now) in
+    let left = wrapped (least_on_left c.args.op) (tree_of c.args.left.now) (text (tree_of c.args.left.now)) in
+    let right = wrapped (least_on_right c.args.op) (tree_of c.args.right.now) (text (tree_of c.args.right.now)) in
+    let first : c.print_part.new.out ≡ c.args.out.now ++ left = rw (c.in_ok-print_part.ensures.ok, c.least_left.ensures) refl in
+    let sign : c.put.new.self ≡ c.print_part.new.out ++ sign_of c.args.op = rw (c.in_ok-put.ensures.ok, c.sign.ensures) refl in
+    let so_far = written_behind c.args.out.now left (sign_of c.args.op) first sign in
+    on_ok_weaker c.print_part-2.result
+    (λ (more : c.print_part-2.new.out ≡ c.put.new.self ++ right). written_behind c.args.out.now (left ++ sign_of c.args.op) right so_far more)
+    (subst (λ least. OnOk c.print_part-2.result (c.print_part-2.new.out ≡ c.put.new.self ++ wrapped least (tree_of c.args.right.now) (text (tree_of c.args.right.now)))) c.least_right.ensures c.print_part-2.ensures.ok)
 
 pub print_binary-returns-clause-err : goal.print_binary-returns-clause-err
 print_binary-returns-clause-err t c =
-    let schema = c.args.schema.now in
-    let rule = rule_of c.args.rule.now in
-    let left = tree_of c.args.left.now in
-    let right = tree_of c.args.right.now in
-    let text = expr_text schema rule right in
-    let done = wrapped (least_on_left c.args.op) left (expr_text schema rule left) ++ sign_of c.args.op in
-    let so_far : c.put.new.self ≡ c.args.out.now ++ done = rw (c.in_ok-put.ensures.ok, c.sign.ensures, c.in_ok-print_part.ensures.ok, c.least_left.ensures) (simp append_assoc) in
+    let text = expr_text c.args.schema.now (rule_of c.args.rule.now) in
+    let left = wrapped (least_on_left c.args.op) (tree_of c.args.left.now) (text (tree_of c.args.left.now)) in
+    let right = wrapped (least_on_right c.args.op) (tree_of c.args.right.now) (text (tree_of c.args.right.now)) in
+    let first : c.print_part.new.out ≡ c.args.out.now ++ left = rw (c.in_ok-print_part.ensures.ok, c.least_left.ensures) refl in
+    let sign : c.put.new.self ≡ c.print_part.new.out ++ sign_of c.args.op = rw (c.in_ok-put.ensures.ok, c.sign.ensures) refl in
+    let so_far = written_behind c.args.out.now left (sign_of c.args.op) first sign in
     on_err_weaker c.print_part-2.result
-    (λ (cut : IsCutShort c.put.new.self (wrapped (least_on_right c.args.op) right text) c.print_part-2.new.out). cut_behind c.args.out.now done so_far cut)
-    (subst (λ least. OnErr c.print_part-2.result (IsCutShort c.put.new.self (wrapped least right text) c.print_part-2.new.out)) c.least_right.ensures c.print_part-2.ensures.err)
+    (λ (cut : IsCutShort c.put.new.self right c.print_part-2.new.out). cut_behind c.args.out.now (left ++ sign_of c.args.op) so_far cut)
+    (subst (λ least. OnErr c.print_part-2.result (IsCutShort c.put.new.self (wrapped least (tree_of c.args.right.now) (text (tree_of c.args.right.now))) c.print_part-2.new.out)) c.least_right.ensures c.print_part-2.ensures.err)
 
--- ---- arguments
+-- ---- choices
 
-pub print_pair-returns-in_err-print_expr-2-clause-err :
-    goal.print_pair-returns-in_err-print_expr-2-clause-err
-print_pair-returns-in_err-print_expr-2-clause-err t c =
-    let done = codes "vec2(" ++ expr_text c.args.schema.now (rule_of c.args.rule.now) (tree_of c.args.x.now) ++ codes ", " in
-    let so_far : c.put-2.new.self ≡ c.args.out.now ++ done = rw (c.in_ok-put-2.ensures.ok, c.in_ok-print_expr.ensures.ok, c.in_ok-put.ensures.ok) (simp append_assoc) in
-    on_err _ (cut_before (codes ")") (cut_behind c.args.out.now done so_far c.in_err-print_expr-2.ensures.err))
+pub print_if-returns-in_err-print_behind-clause-err : goal.print_if-returns-in_err-print_behind-clause-err
+print_if-returns-in_err-print_behind-clause-err t c =
+    let text = expr_text c.args.schema.now (rule_of c.args.rule.now) in
+    on_err _ (cut_before (text (tree_of c.args.other.now)) (cut_before (codes " else ") (cut_before (text (tree_of c.args.then.now)) (cut_before (codes " then ") (c.in_err-print_behind.ensures.err)))))
 
-pub print_triple-returns-in_err-print_expr-clause-err :
-    goal.print_triple-returns-in_err-print_expr-clause-err
-print_triple-returns-in_err-print_expr-clause-err t c =
-    let schema = c.args.schema.now in
-    let rule = rule_of c.args.rule.now in
-    let cut = cut_behind c.args.out.now c.args.head.now c.in_ok-put.ensures.ok c.in_err-print_expr.ensures.err in
-    let second = cut_before (expr_text schema rule (tree_of c.args.second.now)) (cut_before (codes ", ") cut) in
-    let third = cut_before (expr_text schema rule (tree_of c.args.third.now)) (cut_before (codes ", ") second) in
-    on_err _ (cut_before (codes ")") third)
+pub print_if-returns-in_err-print_behind-2-clause-err : goal.print_if-returns-in_err-print_behind-2-clause-err
+print_if-returns-in_err-print_behind-2-clause-err t c =
+    let text = expr_text c.args.schema.now (rule_of c.args.rule.now) in
+    on_err _ (cut_before (text (tree_of c.args.other.now)) (cut_before (codes " else ") (cut_behind_lead c.args.out.now (codes "if " ++ text (tree_of c.args.condition.now)) (codes " then ") (text (tree_of c.args.then.now)) c.in_ok-print_behind.ensures.ok c.in_err-print_behind-2.ensures.err)))
 
-pub print_triple-returns-in_err-put-2-clause-err :
-    goal.print_triple-returns-in_err-put-2-clause-err
-print_triple-returns-in_err-put-2-clause-err t c =
-    let schema = c.args.schema.now in
-    let rule = rule_of c.args.rule.now in
-    let done = c.args.head.now ++ expr_text schema rule (tree_of c.args.first.now) in
-    let so_far : c.print_expr.new.out ≡ c.args.out.now ++ done = rw (c.in_ok-print_expr.ensures.ok, c.in_ok-put.ensures.ok) (simp append_assoc) in
-    let cut = cut_behind c.args.out.now done so_far (cut_at_once (codes ", ") c.in_err-put-2.ensures.err) in
-    let second = cut_before (expr_text schema rule (tree_of c.args.second.now)) cut in
-    let third = cut_before (expr_text schema rule (tree_of c.args.third.now)) (cut_before (codes ", ") second) in
-    on_err _ (cut_before (codes ")") third)
+pub print_if-print_behind-requires-2 : goal.print_if-print_behind-requires-2
+print_if-print_behind-requires-2 t c =
+    (omega (arith, c.decreases), c.requires.then)
 
-pub print_triple-returns-in_err-print_expr-2-clause-err :
-    goal.print_triple-returns-in_err-print_expr-2-clause-err
-print_triple-returns-in_err-print_expr-2-clause-err t c =
-    let schema = c.args.schema.now in
-    let rule = rule_of c.args.rule.now in
-    let done = c.args.head.now ++ expr_text schema rule (tree_of c.args.first.now) ++ codes ", " in
-    let so_far : c.put-2.new.self ≡ c.args.out.now ++ done = rw (c.in_ok-put-2.ensures.ok, c.in_ok-print_expr.ensures.ok, c.in_ok-put.ensures.ok) (simp append_assoc) in
-    let cut = cut_behind c.args.out.now done so_far c.in_err-print_expr-2.ensures.err in
-    let third = cut_before (expr_text schema rule (tree_of c.args.third.now)) (cut_before (codes ", ") cut) in
-    on_err _ (cut_before (codes ")") third)
+pub print_if-print_behind-requires-3 : goal.print_if-print_behind-requires-3
+print_if-print_behind-requires-3 t c =
+    (omega (arith, c.decreases), c.requires.other)
 
-pub print_triple-returns-in_err-put-3-clause-err :
-    goal.print_triple-returns-in_err-put-3-clause-err
-print_triple-returns-in_err-put-3-clause-err t c =
-    let schema = c.args.schema.now in
-    let rule = rule_of c.args.rule.now in
-    let done = c.args.head.now ++ expr_text schema rule (tree_of c.args.first.now) ++ codes ", " ++ expr_text schema rule (tree_of c.args.second.now) in
-    let so_far : c.print_expr-2.new.out ≡ c.args.out.now ++ done = rw (c.in_ok-print_expr-2.ensures.ok, c.in_ok-put-2.ensures.ok, c.in_ok-print_expr.ensures.ok, c.in_ok-put.ensures.ok) (simp append_assoc) in
-    let cut = cut_behind c.args.out.now done so_far (cut_at_once (codes ", ") c.in_err-put-3.ensures.err) in
-    on_err _ (cut_before (codes ")") (cut_before (expr_text schema rule (tree_of c.args.third.now)) cut))
+pub print_if-returns-clause-ok : goal.print_if-returns-clause-ok
+print_if-returns-clause-ok t c =
+    let text = expr_text c.args.schema.now (rule_of c.args.rule.now) in
+    let so_far_2 = written_behind_lead c.args.out.now (codes "if " ++ text (tree_of c.args.condition.now)) (codes " then ") (text (tree_of c.args.then.now)) c.in_ok-print_behind.ensures.ok c.in_ok-print_behind-2.ensures.ok in
+    on_ok_weaker c.print_behind-3.result
+    (λ (more : c.print_behind-3.new.out ≡ c.print_behind-2.new.out ++ (codes " else " ++ text (tree_of c.args.other.now))). written_behind_lead c.args.out.now (codes "if " ++ text (tree_of c.args.condition.now) ++ codes " then " ++ text (tree_of c.args.then.now)) (codes " else ") (text (tree_of c.args.other.now)) so_far_2 more)
+    c.print_behind-3.ensures.ok
 
-pub print_triple-returns-in_err-print_expr-3-clause-err :
-    goal.print_triple-returns-in_err-print_expr-3-clause-err
-print_triple-returns-in_err-print_expr-3-clause-err t c =
-    let schema = c.args.schema.now in
-    let rule = rule_of c.args.rule.now in
-    let done = c.args.head.now ++ expr_text schema rule (tree_of c.args.first.now) ++ codes ", " ++ expr_text schema rule (tree_of c.args.second.now) ++ codes ", " in
-    let so_far : c.put-3.new.self ≡ c.args.out.now ++ done = rw (c.in_ok-put-3.ensures.ok, c.in_ok-print_expr-2.ensures.ok, c.in_ok-put-2.ensures.ok, c.in_ok-print_expr.ensures.ok, c.in_ok-put.ensures.ok) (simp append_assoc) in
-    on_err _ (cut_before (codes ")") (cut_behind c.args.out.now done so_far c.in_err-print_expr-3.ensures.err))
+pub print_if-returns-clause-err : goal.print_if-returns-clause-err
+print_if-returns-clause-err t c =
+    let text = expr_text c.args.schema.now (rule_of c.args.rule.now) in
+    let so_far_2 = written_behind_lead c.args.out.now (codes "if " ++ text (tree_of c.args.condition.now)) (codes " then ") (text (tree_of c.args.then.now)) c.in_ok-print_behind.ensures.ok c.in_ok-print_behind-2.ensures.ok in
+    on_err_weaker c.print_behind-3.result
+    (λ (cut : IsCutShort c.print_behind-2.new.out (codes " else " ++ text (tree_of c.args.other.now)) c.print_behind-3.new.out). cut_behind_lead c.args.out.now (codes "if " ++ text (tree_of c.args.condition.now) ++ codes " then " ++ text (tree_of c.args.then.now)) (codes " else ") (text (tree_of c.args.other.now)) so_far_2 cut)
+    c.print_behind-3.ensures.err
+
+-- ---- two arguments
+
+pub print_pair-returns-in_err-print_behind-clause-err : goal.print_pair-returns-in_err-print_behind-clause-err
+print_pair-returns-in_err-print_behind-clause-err t c =
+    let text = expr_text c.args.schema.now (rule_of c.args.rule.now) in
+    on_err _ (cut_before (codes ")") (cut_before (text (tree_of c.args.y.now)) (cut_before (codes ", ") (c.in_err-print_behind.ensures.err))))
+
+pub print_pair-returns-in_err-print_behind-2-clause-err : goal.print_pair-returns-in_err-print_behind-2-clause-err
+print_pair-returns-in_err-print_behind-2-clause-err t c =
+    let text = expr_text c.args.schema.now (rule_of c.args.rule.now) in
+    on_err _ (cut_before (codes ")") (cut_behind_lead c.args.out.now (codes "vec2(" ++ text (tree_of c.args.x.now)) (codes ", ") (text (tree_of c.args.y.now)) c.in_ok-print_behind.ensures.ok c.in_err-print_behind-2.ensures.err))
+
+pub print_pair-print_behind-requires-2 : goal.print_pair-print_behind-requires-2
+print_pair-print_behind-requires-2 t c =
+    (omega (arith, c.decreases), c.requires.y)
+
+pub print_pair-returns-clause-ok : goal.print_pair-returns-clause-ok
+print_pair-returns-clause-ok t c =
+    let text = expr_text c.args.schema.now (rule_of c.args.rule.now) in
+    let so_far_2 = written_behind_lead c.args.out.now (codes "vec2(" ++ text (tree_of c.args.x.now)) (codes ", ") (text (tree_of c.args.y.now)) c.in_ok-print_behind.ensures.ok c.in_ok-print_behind-2.ensures.ok in
+    on_ok_weaker c.put.result
+    (λ (more : c.put.new.self ≡ c.print_behind-2.new.out ++ codes ")"). written_behind c.args.out.now (codes "vec2(" ++ text (tree_of c.args.x.now) ++ codes ", " ++ text (tree_of c.args.y.now)) (codes ")") so_far_2 more)
+    c.put.ensures.ok
+
+pub print_pair-returns-clause-err : goal.print_pair-returns-clause-err
+print_pair-returns-clause-err t c =
+    let text = expr_text c.args.schema.now (rule_of c.args.rule.now) in
+    let so_far_2 = written_behind_lead c.args.out.now (codes "vec2(" ++ text (tree_of c.args.x.now)) (codes ", ") (text (tree_of c.args.y.now)) c.in_ok-print_behind.ensures.ok c.in_ok-print_behind-2.ensures.ok in
+    on_err_weaker c.put.result
+    (λ (same : c.put.new.self ≡ c.print_behind-2.new.out). cut_behind c.args.out.now (codes "vec2(" ++ text (tree_of c.args.x.now) ++ codes ", " ++ text (tree_of c.args.y.now)) so_far_2 (cut_at_once (codes ")") same))
+    c.put.ensures.err
+
+-- ---- three arguments
+
+pub print_triple-returns-in_err-print_behind-clause-err : goal.print_triple-returns-in_err-print_behind-clause-err
+print_triple-returns-in_err-print_behind-clause-err t c =
+    let text = expr_text c.args.schema.now (rule_of c.args.rule.now) in
+    on_err _ (cut_before (codes ")") (cut_before (text (tree_of c.args.third.now)) (cut_before (codes ", ") (cut_before (text (tree_of c.args.second.now)) (cut_before (codes ", ") (c.in_err-print_behind.ensures.err))))))
+
+pub print_triple-returns-in_err-print_behind-2-clause-err : goal.print_triple-returns-in_err-print_behind-2-clause-err
+print_triple-returns-in_err-print_behind-2-clause-err t c =
+    let text = expr_text c.args.schema.now (rule_of c.args.rule.now) in
+    on_err _ (cut_before (codes ")") (cut_before (text (tree_of c.args.third.now)) (cut_before (codes ", ") (cut_behind_lead c.args.out.now (c.args.head.now ++ text (tree_of c.args.first.now)) (codes ", ") (text (tree_of c.args.second.now)) c.in_ok-print_behind.ensures.ok c.in_err-print_behind-2.ensures.err))))
+
+pub print_triple-returns-in_err-print_behind-3-clause-err : goal.print_triple-returns-in_err-print_behind-3-clause-err
+print_triple-returns-in_err-print_behind-3-clause-err t c =
+    let text = expr_text c.args.schema.now (rule_of c.args.rule.now) in
+    let so_far_2 = written_behind_lead c.args.out.now (c.args.head.now ++ text (tree_of c.args.first.now)) (codes ", ") (text (tree_of c.args.second.now)) c.in_ok-print_behind.ensures.ok c.in_ok-print_behind-2.ensures.ok in
+    on_err _ (cut_before (codes ")") (cut_behind_lead c.args.out.now (c.args.head.now ++ text (tree_of c.args.first.now) ++ codes ", " ++ text (tree_of c.args.second.now)) (codes ", ") (text (tree_of c.args.third.now)) so_far_2 c.in_err-print_behind-3.ensures.err))
+
+pub print_triple-print_behind-requires-2 : goal.print_triple-print_behind-requires-2
+print_triple-print_behind-requires-2 t c =
+    (omega (arith, c.decreases), c.requires.second)
+
+pub print_triple-print_behind-requires-3 : goal.print_triple-print_behind-requires-3
+print_triple-print_behind-requires-3 t c =
+    (omega (arith, c.decreases), c.requires.third)
 
 pub print_triple-returns-clause-ok : goal.print_triple-returns-clause-ok
 print_triple-returns-clause-ok t c =
-    let schema = c.args.schema.now in
-    let rule = rule_of c.args.rule.now in
-    let done = c.args.head.now ++ expr_text schema rule (tree_of c.args.first.now) ++ codes ", " ++ expr_text schema rule (tree_of c.args.second.now) ++ codes ", " ++ expr_text schema rule (tree_of c.args.third.now) in
-    let so_far : c.print_expr-3.new.out ≡ c.args.out.now ++ done = rw (c.in_ok-print_expr-3.ensures.ok, c.in_ok-put-3.ensures.ok, c.in_ok-print_expr-2.ensures.ok, c.in_ok-put-2.ensures.ok, c.in_ok-print_expr.ensures.ok, c.in_ok-put.ensures.ok) (simp append_assoc) in
-    on_ok_weaker c.put-4.result (λ (all : c.put-4.new.self ≡ c.print_expr-3.new.out ++ codes ")"). rw (all, so_far) (append_assoc c.args.out.now done (codes ")"))) c.put-4.ensures.ok
+    let text = expr_text c.args.schema.now (rule_of c.args.rule.now) in
+    let so_far_2 = written_behind_lead c.args.out.now (c.args.head.now ++ text (tree_of c.args.first.now)) (codes ", ") (text (tree_of c.args.second.now)) c.in_ok-print_behind.ensures.ok c.in_ok-print_behind-2.ensures.ok in
+    let so_far_3 = written_behind_lead c.args.out.now (c.args.head.now ++ text (tree_of c.args.first.now) ++ codes ", " ++ text (tree_of c.args.second.now)) (codes ", ") (text (tree_of c.args.third.now)) so_far_2 c.in_ok-print_behind-3.ensures.ok in
+    on_ok_weaker c.put.result
+    (λ (more : c.put.new.self ≡ c.print_behind-3.new.out ++ codes ")"). written_behind c.args.out.now (c.args.head.now ++ text (tree_of c.args.first.now) ++ codes ", " ++ text (tree_of c.args.second.now) ++ codes ", " ++ text (tree_of c.args.third.now)) (codes ")") so_far_3 more)
+    c.put.ensures.ok
 
 pub print_triple-returns-clause-err : goal.print_triple-returns-clause-err
 print_triple-returns-clause-err t c =
-    let schema = c.args.schema.now in
-    let rule = rule_of c.args.rule.now in
-    let done = c.args.head.now ++ expr_text schema rule (tree_of c.args.first.now) ++ codes ", " ++ expr_text schema rule (tree_of c.args.second.now) ++ codes ", " ++ expr_text schema rule (tree_of c.args.third.now) in
-    let so_far : c.print_expr-3.new.out ≡ c.args.out.now ++ done = rw (c.in_ok-print_expr-3.ensures.ok, c.in_ok-put-3.ensures.ok, c.in_ok-print_expr-2.ensures.ok, c.in_ok-put-2.ensures.ok, c.in_ok-print_expr.ensures.ok, c.in_ok-put.ensures.ok) (simp append_assoc) in
-    on_err_weaker c.put-4.result (λ (same : c.put-4.new.self ≡ c.print_expr-3.new.out). cut_behind c.args.out.now done so_far (cut_at_once (codes ")") same)) c.put-4.ensures.err
+    let text = expr_text c.args.schema.now (rule_of c.args.rule.now) in
+    let so_far_2 = written_behind_lead c.args.out.now (c.args.head.now ++ text (tree_of c.args.first.now)) (codes ", ") (text (tree_of c.args.second.now)) c.in_ok-print_behind.ensures.ok c.in_ok-print_behind-2.ensures.ok in
+    let so_far_3 = written_behind_lead c.args.out.now (c.args.head.now ++ text (tree_of c.args.first.now) ++ codes ", " ++ text (tree_of c.args.second.now)) (codes ", ") (text (tree_of c.args.third.now)) so_far_2 c.in_ok-print_behind-3.ensures.ok in
+    on_err_weaker c.put.result
+    (λ (same : c.put.new.self ≡ c.print_behind-3.new.out). cut_behind c.args.out.now (c.args.head.now ++ text (tree_of c.args.first.now) ++ codes ", " ++ text (tree_of c.args.second.now) ++ codes ", " ++ text (tree_of c.args.third.now)) so_far_3 (cut_at_once (codes ")") same))
+    c.put.ensures.err
+
+-- ---- parentheses
+
+cut_within : (least : ℕ) (tree : Tree) (text before after : List ℕ) → nat_lt (level tree) least ≡ true → IsCutShort before (codes "(" ++ text) after → IsCutShort before (wrapped least tree text) after
+cut_within least tree text before after lower cut = rw lower (cut_before (codes ")") cut)
+
+pub print_part-returns-in_err-print_behind-clause-err : goal.print_part-returns-in_err-print_behind-clause-err
+print_part-returns-in_err-print_behind-clause-err t c =
+    let tree = tree_of c.args.part.now in
+    let text = expr_text c.args.schema.now (rule_of c.args.rule.now) tree in
+    let lower : nat_lt (level tree) c.args.least ≡ true = grind (arith, nat_tests, c.if-level_of-least.false, c.level_of.ensures) in
+    on_err c.from_residual.result (cut_within c.args.least tree text c.args.out.now c.print_behind.new.out lower c.in_err-print_behind.ensures.err)

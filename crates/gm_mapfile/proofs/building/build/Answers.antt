@@ -1,6 +1,7 @@
 use Rattle.std.proofs.Common.{◌+◌, ◌*◌}
 use Rattle.gm_mapfile.specs.Draft.{version_in}
 use Rattle.gm_mapfile.specs.Rows.{darts_in}
+use Rattle.gm_mapfile.proofs.Exits.{unless_ok}
 use Rattle.gm_mapfile.proofs.Joined.{if_err, if_ok_both}
 use Rattle.gm_mapfile.proofs.Reordered.{same_read, held_moved, fault_moved, most_moved}
 use Rattle.gm_mapfile.proofs.building.build.Goals as goal
@@ -31,3 +32,9 @@ returns-clause-most g c =
     let vs = c.as_slice-words.result.now in
     let same = same_read darts schema c.in_order.new.numbers.items xs c.in_order.new.words.items vs c.as_slice-numbers.ensures.value c.as_slice-words.ensures.value c.in_ok-in_order.ensures.darts in
     most_moved darts (darts_in schema xs vs) same (2 * schema.dim + 5) c.args.steps.now c.build_lines.new.steps c.build_lines.ensures.most
+
+pub returns-in_err-in_order-clause-held : goal.returns-in_err-in_order-clause-held
+returns-in_err-in_order-clause-held g c = unless_ok _ c.from_residual.result c.from_residual.ensures.0
+
+pub returns-in_err-in_order-clause-least : goal.returns-in_err-in_order-clause-least
+returns-in_err-in_order-clause-least g c = unless_ok _ c.from_residual.result c.from_residual.ensures.0

@@ -1,36 +1,48 @@
-use Rattle.std.proofs.Common.{◌≡◌, ◌+◌, ◌*◌, ◌≤◌, length, sym, ap, subst, ◌∙◌, arith}
+use Rattle.std.proofs.Common.{◌≡◌, ◌+◌, ◌*◌, ◌≤◌, length, sym, ap, subst}
 use Rattle.gm_arena.specs.ArenaMap.{ArenaMap}
 use Rattle.gm_model.specs.declared.schema.Schema.{Schema}
 use Rattle.gm_mapfile.specs.Building.{AreInRoom, IsHeld}
 use Rattle.gm_mapfile.specs.Draft.{version_in}
 use Rattle.gm_mapfile.specs.Rows.{darts_in}
+use Rattle.gm_mapfile.specs.Faults.{IsNameFault}
 use Rattle.gm_mapfile.proofs.Whole.{fresh_map}
 use Rattle.gm_mapfile.proofs.building.build_lines.Goals as goal
 
-pub fill-requires-clause-fresh : goal.fill-requires-clause-fresh
-fill-requires-clause-fresh g c =
-    let new = c.reserve.new.self in
-    fresh_map _ new.spare new.reserved new (c.in_ok-reserve.ensures.map ∙ ap (λ (x : ArenaMap). record x { spare = new.spare; reserved = new.reserved }) c.new-arena.ensures)
+pub fill_with_room-requires-clause-fresh : goal.fill_with_room-requires-clause-fresh
+fill_with_room-requires-clause-fresh g c = fresh_map c.args.schema 0 0 c.new-arena.result c.new-arena.ensures
 
-pub fill-requires-clause-reserved : goal.fill-requires-clause-reserved
-fill-requires-clause-reserved g c = λ k d lt. omega (arith, c.names_end.ensures.above k d lt, c.in_ok-reserve.ensures.names)
+pub fill_with_room-requires-clause-embeds : goal.fill_with_room-requires-clause-embeds
+fill_with_room-requires-clause-embeds g c =
+    let schema_is : c.new-arena.result.schema ≡ c.args.schema = ap (λ (x : ArenaMap). x.schema) c.new-arena.ensures in
+    subst (λ (s : Schema). length s.embeds ≤ 8) (sym schema_is) c.requires.schema.count
 
-pub fill-requires-clause-room : goal.fill-requires-clause-room
-fill-requires-clause-room g c =
-    let schema_is : c.reserve.new.self.schema ≡ c.args.schema = ap (λ (x : ArenaMap). x.schema) c.in_ok-reserve.ensures.map ∙ ap (λ (x : ArenaMap). x.schema) c.new-arena.ensures in
+pub fill_with_room-requires-clause-room : goal.fill_with_room-requires-clause-room
+fill_with_room-requires-clause-room g c =
+    let schema_is : c.new-arena.result.schema ≡ c.args.schema = ap (λ (x : ArenaMap). x.schema) c.new-arena.ensures in
     subst (λ s. AreInRoom s c.args.numbers.now c.args.words.now) (sym schema_is) c.requires.room
 
-pub returns-in_err-fill-clause-most : goal.returns-in_err-fill-clause-most
-returns-in_err-fill-clause-most g c =
-    let schema_is : c.reserve.new.self.schema ≡ c.args.schema = ap (λ (x : ArenaMap). x.schema) c.in_ok-reserve.ensures.map ∙ ap (λ (x : ArenaMap). x.schema) c.new-arena.ensures in
-    subst (λ (s : Schema). c.fill.new.steps ≤ c.args.steps.now + (2 * s.dim + 5) * length (darts_in s c.args.numbers.now c.args.words.now)) schema_is c.fill.ensures.most
+pub fill_with_room-requires-clause-next : goal.fill_with_room-requires-clause-next
+fill_with_room-requires-clause-next g c = c.requires.next
+
+pub returns-in-Err-clause-fault : goal.returns-in-Err-clause-fault
+returns-in-Err-clause-fault g c =
+    let schema_is : c.new-arena.result.schema ≡ c.args.schema = ap (λ (x : ArenaMap). x.schema) c.new-arena.ensures in
+    subst (λ (s : Schema). IsNameFault (version_in c.args.stated) s.dim (darts_in s c.args.numbers.now c.args.words.now) c.in-Err.fault) schema_is c.in-Err.ensures.fault
 
 pub returns-clause-held : goal.returns-clause-held
 returns-clause-held g c =
-    let schema_is : c.reserve.new.self.schema ≡ c.args.schema = ap (λ (x : ArenaMap). x.schema) c.in_ok-reserve.ensures.map ∙ ap (λ (x : ArenaMap). x.schema) c.new-arena.ensures in
-    subst (λ s. IsHeld (version_in c.args.stated) s (darts_in s c.args.numbers.now c.args.words.now) c.fill.new.arena) schema_is c.in_ok-fill.ensures.held
+    let schema_is : c.new-arena.result.schema ≡ c.args.schema = ap (λ (x : ArenaMap). x.schema) c.new-arena.ensures in
+    subst (λ s. IsHeld (version_in c.args.stated) s (darts_in s c.args.numbers.now c.args.words.now) c.fill_with_room.new.arena) schema_is c.in_default.ensures.held
+
+pub returns-clause-least : goal.returns-clause-least
+returns-clause-least g c = c.in_default.ensures.least
+
+pub returns-in-Err-clause-most : goal.returns-in-Err-clause-most
+returns-in-Err-clause-most g c =
+    let schema_is : c.new-arena.result.schema ≡ c.args.schema = ap (λ (x : ArenaMap). x.schema) c.new-arena.ensures in
+    subst (λ (s : Schema). c.fill_with_room.new.steps ≤ c.args.steps.now + (2 * s.dim + 5) * length (darts_in s c.args.numbers.now c.args.words.now)) schema_is c.fill_with_room.ensures.most
 
 pub returns-clause-most : goal.returns-clause-most
 returns-clause-most g c =
-    let schema_is : c.reserve.new.self.schema ≡ c.args.schema = ap (λ (x : ArenaMap). x.schema) c.in_ok-reserve.ensures.map ∙ ap (λ (x : ArenaMap). x.schema) c.new-arena.ensures in
-    subst (λ (s : Schema). c.fill.new.steps ≤ c.args.steps.now + (2 * s.dim + 5) * length (darts_in s c.args.numbers.now c.args.words.now)) schema_is c.fill.ensures.most
+    let schema_is : c.new-arena.result.schema ≡ c.args.schema = ap (λ (x : ArenaMap). x.schema) c.new-arena.ensures in
+    subst (λ (s : Schema). c.fill_with_room.new.steps ≤ c.args.steps.now + (2 * s.dim + 5) * length (darts_in s c.args.numbers.now c.args.words.now)) schema_is c.fill_with_room.ensures.most

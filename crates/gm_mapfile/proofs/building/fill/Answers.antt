@@ -48,3 +48,24 @@ returns-clause-least g c =
     (held_of c.args.arena.now c.add_darts.new.arena c.args.numbers.now c.args.words.now c.add_darts.ensures.schema (version_in c.args.stated) c.in_default.ensures.added c.set_stated.new.arena c.in_default-set_stated.ensures.set
     c.link_darts.new.arena c.add_darts.ensures.values c.add_darts.ensures.next c.in_default-link_darts.ensures.relinked c.in_default-link_darts.ensures.linked)
     c.add_darts.ensures.least c.link_darts.ensures.least
+
+pub add_darts-requires-clause-fresh : goal.add_darts-requires-clause-fresh
+add_darts-requires-clause-fresh g c = c.requires.fresh
+
+pub add_darts-requires-clause-embeds : goal.add_darts-requires-clause-embeds
+add_darts-requires-clause-embeds g c = c.requires.embeds
+
+pub add_darts-requires-clause-room : goal.add_darts-requires-clause-room
+add_darts-requires-clause-room g c = c.requires.room
+
+pub add_darts-requires-clause-spare : goal.add_darts-requires-clause-spare
+add_darts-requires-clause-spare g c = c.requires.spare
+
+pub add_darts-requires-clause-reserved : goal.add_darts-requires-clause-reserved
+add_darts-requires-clause-reserved g c = c.requires.reserved
+
+pub set_stated-requires-clause-next : goal.set_stated-requires-clause-next
+set_stated-requires-clause-next g c = c.add_darts.ensures.next
+
+pub set_stated-requires-clause-most : goal.set_stated-requires-clause-most
+set_stated-requires-clause-most g c = c.requires.next

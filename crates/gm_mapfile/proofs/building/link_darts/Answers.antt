@@ -3,10 +3,10 @@ use Rattle.std.proofs.lemmas.List.{length_push}
 use Rattle.std.specs.Slice.Iter.{chunks_exact_rest}
 use Rattle.gm_arena.specs.ArenaMap.{ArenaMap}
 use Rattle.gm_mapfile.specs.Rows.{row_in, rows_in}
-use Rattle.gm_mapfile.specs.Building.{AreLinkedUnless}
+use Rattle.gm_mapfile.specs.Building.{AreLinkedUnless, AreWhole}
 use Rattle.gm_mapfile.proofs.Chunks.{one_more, no_more, read_at}
-use Rattle.gm_mapfile.proofs.Linking.{none_relinked}
-use Rattle.gm_mapfile.proofs.LinkedLine.{line_live, line_linked, line_lacks, steps_more}
+use Rattle.gm_mapfile.proofs.Linking.{none_relinked, slots_live}
+use Rattle.gm_mapfile.proofs.LinkedLine.{line_live, line_linked, line_lacks, steps_more, neighbours_long}
 use Rattle.gm_mapfile.proofs.building.link_darts.Goals as goal
 
 pub loop-line-init : goal.loop-line-init
@@ -88,3 +88,22 @@ returns-clause-most g c =
     let steps = c.in-None.ensures.steps in
     let whole = no_more n before.front (rows_in n c.args.numbers.now) _ before.split (omega (arith, steps.1.0, before.size)) in
     rw (ap length (sym whole)) before.most
+
+pub link_dart-requires-clause-slots : goal.link_dart-requires-clause-slots
+link_dart-requires-clause-slots g c = slots_live _ _ _ c.loop-line.invariant.relinked c.requires.added.slots
+
+pub link_dart-requires-clause-whole : goal.link_dart-requires-clause-whole
+link_dart-requires-clause-whole g c =
+    let before = c.loop-line.invariant in
+    subst (λ n. AreWhole n c.loop-line.arena) (sym (ap (λ (x : ArenaMap). x.schema.dim) before.relinked.frame)) before.relinked.whole
+
+pub link_dart-requires-clause-labels : goal.link_dart-requires-clause-labels
+link_dart-requires-clause-labels g c =
+    let before = c.loop-line.invariant in
+    neighbours_long c.in-Some.line.now _ (c.in-Some.ensures.steps.1.1 ∙ before.size ∙ ap (λ (x : ArenaMap). x.schema.dim + 2) (sym before.relinked.frame))
+
+pub returns-clause-relinked : goal.returns-clause-relinked
+returns-clause-relinked g c = c.loop-line.invariant.relinked
+
+pub returns-clause-least : goal.returns-clause-least
+returns-clause-least g c = c.loop-line.invariant.least

@@ -2,6 +2,7 @@ use Rattle.std.proofs.Common.{ℕ, ◌++◌, ◌∷◌, [], map, sym, ap, ◌∙
 use Rattle.std.proofs.lemmas.List.{map-append}
 use Rattle.gm_mapfile.specs.Ordering.{counted_from}
 use Rattle.gm_mapfile.specs.declared.ordering.Line.{Line}
+use Rattle.gm_mapfile.proofs.Exits.{unless_ok}
 use Rattle.gm_mapfile.proofs.Reordered.{counted_push}
 use Rattle.gm_mapfile.proofs.ordering.lines_of.Goals as goal
 
@@ -13,3 +14,9 @@ loop-at-preserved c =
     ∙ (map-append place l.lines.items _
     ∙ (ap (λ xs. xs ++ l.at ∷ []) l.invariant ∙ ap (λ x. counted_from 0 l.at ++ x ∷ []) (omega arith)
     ∙ sym (counted_push 0 l.at)))
+
+pub returns-in_err-lines : goal.returns-in_err-lines
+returns-in_err-lines c = unless_ok _ c.from_residual.result c.from_residual.ensures.0
+
+pub returns-in_err-push : goal.returns-in_err-push
+returns-in_err-push c = unless_ok _ c.from_residual-in_err-push.result c.from_residual-in_err-push.ensures.0

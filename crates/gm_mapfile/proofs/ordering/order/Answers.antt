@@ -1,5 +1,6 @@
 use Rattle.std.proofs.Common.{◌≡◌, ◌+◌, map, ap, ◌∙◌}
 use Rattle.gm_mapfile.specs.Packed.{size_of_line}
+use Rattle.gm_mapfile.proofs.Exits.{never_ok}
 use Rattle.gm_mapfile.proofs.Joined.{ok_more}
 use Rattle.gm_mapfile.specs.declared.ordering.Line.{Line}
 use Rattle.gm_mapfile.proofs.Reordered.{order_of, within_of, numbers_within, words_within, taken_of, room_in, darts_ordered}
@@ -57,3 +58,15 @@ returns-clause-darts c =
     (λ taken. darts_ordered schema numbers words c.requires.room lines order c.order_lines.new.all.items c.order_lines-2.new.all.items new_numbers
     (taken_of words lines c.as_slice-4.result.now c.line_size-size.result (size_of_line schema.embeds) c.order_lines-2.new.all.items c.as_slice-4.ensures.value (c.line_size-size.ensures.size ∙ ap size_of_line c.as_slice.ensures) taken))
     c.order_lines-2.ensures
+
+pub returns-in_err-lines-clause-room : goal.returns-in_err-lines-clause-room
+returns-in_err-lines-clause-room c = never_ok _ c.from_residual.result c.from_residual.ensures.0
+
+pub returns-in_err-lines-clause-darts : goal.returns-in_err-lines-clause-darts
+returns-in_err-lines-clause-darts c = never_ok _ c.from_residual.result c.from_residual.ensures.0
+
+pub returns-in_err-order_lines-clause-room : goal.returns-in_err-order_lines-clause-room
+returns-in_err-order_lines-clause-room c = never_ok _ c.from_residual-in_err-order_lines.result c.from_residual-in_err-order_lines.ensures.0
+
+pub returns-in_err-order_lines-clause-darts : goal.returns-in_err-order_lines-clause-darts
+returns-in_err-order_lines-clause-darts c = never_ok _ c.from_residual-in_err-order_lines.result c.from_residual-in_err-order_lines.ensures.0

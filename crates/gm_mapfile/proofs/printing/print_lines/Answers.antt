@@ -3,6 +3,7 @@ use Rattle.std.specs.List.{flat_map}
 use Rattle.gm_mapfile.specs.MapText.{line_of}
 use Rattle.gm_arena.specs.ArenaMap.{IsLiveName}
 use Rattle.gm_mapfile.specs.Rows.{darts_of, dart_at}
+use Rattle.gm_mapfile.proofs.Exits.{never_ok}
 use Rattle.gm_mapfile.proofs.Printed.{whole_taken, dart_at_place, lines_with, keys_counted, darts_counted, steps_within, steps_with}
 use Rattle.gm_mapfile.proofs.printing.print_lines.Goals as goal
 
@@ -46,3 +47,6 @@ returns-clause-most g c =
     let m = c.args.arena.now in
     let within : c.loop-name.name-index ≤ m.count = omega (arith, c.loop-name.auto.name-index-end, ap length c.requires.names, keys_counted m c.requires.lawful) in
     steps_within (m.schema.dim + 3) c.args.steps.now c.loop-name.name-index m.count c.loop-name.steps within c.loop-name.invariant.most
+
+pub returns-in_err-print_dart-clause-lines : goal.returns-in_err-print_dart-clause-lines
+returns-in_err-print_dart-clause-lines g c = never_ok _ c.from_residual.result c.from_residual.ensures.0

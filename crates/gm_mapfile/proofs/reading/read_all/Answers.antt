@@ -1,5 +1,6 @@
 use Rattle.std.proofs.lemmas.Result.{err_from_is_err_and}
 use Rattle.gm_text.specs.Cursor.{Cursor}
+use Rattle.gm_mapfile.proofs.Exits.{unless_ok}
 use Rattle.gm_mapfile.proofs.WholeText.{darts_stop, end_stop, map_reads}
 use Rattle.gm_mapfile.proofs.reading.read_all.Goals as goal
 
@@ -30,3 +31,30 @@ returns-clause-reads c =
     let there = c.read_head.new.lexer in
     let behind = c.read_darts.new.lexer in
     map_reads head.stated head.schema head.count old there (rw c.new-lexer.ensures at c.in_ok-stated.ensures.reads) behind lines.numbers.items lines.words.items c.in_ok-numbers.ensures.reads c.in_ok-read_end.ensures.ends
+
+pub returns-in_err-stated-clause-reads : goal.returns-in_err-stated-clause-reads
+returns-in_err-stated-clause-reads c = unless_ok _ c.from_residual.result c.from_residual.ensures.0
+
+pub returns-in_err-stated-clause-schema : goal.returns-in_err-stated-clause-schema
+returns-in_err-stated-clause-schema c = unless_ok _ c.from_residual.result c.from_residual.ensures.0
+
+pub returns-in_err-stated-clause-next : goal.returns-in_err-stated-clause-next
+returns-in_err-stated-clause-next c = unless_ok _ c.from_residual.result c.from_residual.ensures.0
+
+pub returns-in_err-numbers-clause-reads : goal.returns-in_err-numbers-clause-reads
+returns-in_err-numbers-clause-reads c = unless_ok _ c.from_residual-in_err-numbers.result c.from_residual-in_err-numbers.ensures.0
+
+pub returns-in_err-numbers-clause-schema : goal.returns-in_err-numbers-clause-schema
+returns-in_err-numbers-clause-schema c = unless_ok _ c.from_residual-in_err-numbers.result c.from_residual-in_err-numbers.ensures.0
+
+pub returns-in_err-numbers-clause-next : goal.returns-in_err-numbers-clause-next
+returns-in_err-numbers-clause-next c = unless_ok _ c.from_residual-in_err-numbers.result c.from_residual-in_err-numbers.ensures.0
+
+pub returns-in_err-read_end-clause-reads : goal.returns-in_err-read_end-clause-reads
+returns-in_err-read_end-clause-reads c = unless_ok _ c.from_residual-in_err-read_end.result c.from_residual-in_err-read_end.ensures.0
+
+pub returns-in_err-read_end-clause-schema : goal.returns-in_err-read_end-clause-schema
+returns-in_err-read_end-clause-schema c = unless_ok _ c.from_residual-in_err-read_end.result c.from_residual-in_err-read_end.ensures.0
+
+pub returns-in_err-read_end-clause-next : goal.returns-in_err-read_end-clause-next
+returns-in_err-read_end-clause-next c = unless_ok _ c.from_residual-in_err-read_end.result c.from_residual-in_err-read_end.ensures.0

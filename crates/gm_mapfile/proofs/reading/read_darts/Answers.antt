@@ -3,6 +3,7 @@ use Rattle.std.proofs.lemmas.Result.{err_from_is_err_and}
 use Rattle.gm_model.specs.declared.schema.Embed.{Embed}
 use Rattle.gm_mapfile.specs.MapText.{DartName}
 use Rattle.gm_mapfile.specs.MapReading.{TheNumber, Misses, values_wants, ReadsNames, ReadsValues}
+use Rattle.gm_mapfile.proofs.Exits.{unless_ok}
 use Rattle.gm_mapfile.proofs.DartReads.{lines_more, stop_at_names, stop_at_values}
 use Rattle.gm_mapfile.proofs.reading.read_darts.Goals as goal
 
@@ -34,3 +35,15 @@ loop-preserved c =
     let reads = subst (λ (n : ℕ). ReadsNames (n + 2) l.lexer behind l.numbers.items names) c.top.ensures.value c.in_ok-read_names.ensures.reads in
     let more = subst (λ (embeds : List Embed). ReadsValues embeds behind c.read_values.new.lexer l.words.items values) c.as_slice-embeds.ensures c.in_ok-read_values.ensures.reads in
     lines_more c.args.schema.now l.counter c.args.lexer.now l.lexer l.numbers.items l.words.items l.invariant names values behind c.read_values.new.lexer reads more
+
+pub returns-in_err-numbers-clause-reads : goal.returns-in_err-numbers-clause-reads
+returns-in_err-numbers-clause-reads c = unless_ok _ c.from_residual.result c.from_residual.ensures.0
+
+pub returns-in_err-words-clause-reads : goal.returns-in_err-words-clause-reads
+returns-in_err-words-clause-reads c = unless_ok _ c.from_residual-in_err-words.result c.from_residual-in_err-words.ensures.0
+
+pub returns-in_err-read_names-clause-reads : goal.returns-in_err-read_names-clause-reads
+returns-in_err-read_names-clause-reads c = unless_ok _ c.from_residual-in_err-read_names.result c.from_residual-in_err-read_names.ensures.0
+
+pub returns-in_err-read_values-clause-reads : goal.returns-in_err-read_values-clause-reads
+returns-in_err-read_values-clause-reads c = unless_ok _ c.from_residual-in_err-read_values.result c.from_residual-in_err-read_values.ensures.0

@@ -3,6 +3,7 @@ use Rattle.std.proofs.lemmas.Result.{err_from_is_err_and}
 use Rattle.gm_text.specs.Nested.{Outside}
 use Rattle.gm_text.specs.declared.schema_fault.SchemaFault.TheVariants as faults
 use Rattle.gm_mapfile.specs.MapReading.{start, into_schema, AtVersion}
+use Rattle.gm_mapfile.proofs.Exits.{unless_ok}
 use Rattle.gm_mapfile.proofs.Joined.{reads_then, stops_then}
 use Rattle.gm_mapfile.proofs.MapSteps.{format_reads, format_stops, first_reads, second_reads, version_stops, version_lacks}
 use Rattle.gm_mapfile.proofs.reading.read_format.Goals as goal
@@ -36,3 +37,9 @@ returns-in_default-clause-stops c =
     let there = c.read_word.new.lexer in
     let fault = version_stops there c.in_ok-value.field-0.value c.in_ok-value.field-0.place c.read_number.new.lexer c.in_ok-value.ensures.next (search rules) (search rules) in
     stops_then start (Outside AtVersion) c.args.lexer.now there (faults.Text c.in_ok-value.field-0.place) (format_reads c.args.lexer.now there c.in_ok-read_word.ensures.next) fault
+
+pub returns-in_err-read_word-clause-reads : goal.returns-in_err-read_word-clause-reads
+returns-in_err-read_word-clause-reads c = unless_ok _ c.from_residual.result c.from_residual.ensures.0
+
+pub returns-in_err-value-clause-reads : goal.returns-in_err-value-clause-reads
+returns-in_err-value-clause-reads c = unless_ok _ c.from_residual-in_err-value.result c.from_residual-in_err-value.ensures.0

@@ -4,6 +4,7 @@ use Rattle.gm_text.specs.Nested.{Outside}
 use Rattle.gm_text.specs.SchemaReading as schema
 use Rattle.gm_mapfile.specs.Draft.{version_in}
 use Rattle.gm_mapfile.specs.MapReading.{Head, start, into_schema, behind_schema, AtDarts, among, darts_wants}
+use Rattle.gm_mapfile.proofs.Exits.{unless_ok}
 use Rattle.gm_mapfile.proofs.Joined.{reads_then, stops_then}
 use Rattle.gm_mapfile.proofs.SchemaInside.{schema_reads, schema_stops, at_end, behind_reads, behind_stops}
 use Rattle.gm_mapfile.proofs.reading.read_head.Goals as goal
@@ -58,3 +59,51 @@ returns-clause-reads c =
     let reads = behind_reads second read behind stands.next stands.others stands.behind stands.ends new head [] wants further in
     let inside = schema_reads second there behind (schema.AtEmbeds read.dim read.embeds) c.in_ok-schema.ensures.runs in
     reads_then start (into_schema second) (among head [] wants) c.args.lexer.now there new c.in_ok-second.ensures.reads (reads_then (into_schema second) (at_end second read) (among head [] wants) there behind new inside reads)
+
+pub returns-in_err-second-clause-reads : goal.returns-in_err-second-clause-reads
+returns-in_err-second-clause-reads c = unless_ok _ c.from_residual.result c.from_residual.ensures.0
+
+pub returns-in_err-second-clause-schema : goal.returns-in_err-second-clause-schema
+returns-in_err-second-clause-schema c = unless_ok _ c.from_residual.result c.from_residual.ensures.0
+
+pub returns-in_err-second-clause-next : goal.returns-in_err-second-clause-next
+returns-in_err-second-clause-next c = unless_ok _ c.from_residual.result c.from_residual.ensures.0
+
+pub returns-in_err-second-clause-most : goal.returns-in_err-second-clause-most
+returns-in_err-second-clause-most c = unless_ok _ c.from_residual.result c.from_residual.ensures.0
+
+pub returns-in_err-schema-clause-reads : goal.returns-in_err-schema-clause-reads
+returns-in_err-schema-clause-reads c = unless_ok _ c.from_residual-in_err-schema.result c.from_residual-in_err-schema.ensures.0
+
+pub returns-in_err-schema-clause-schema : goal.returns-in_err-schema-clause-schema
+returns-in_err-schema-clause-schema c = unless_ok _ c.from_residual-in_err-schema.result c.from_residual-in_err-schema.ensures.0
+
+pub returns-in_err-schema-clause-next : goal.returns-in_err-schema-clause-next
+returns-in_err-schema-clause-next c = unless_ok _ c.from_residual-in_err-schema.result c.from_residual-in_err-schema.ensures.0
+
+pub returns-in_err-schema-clause-most : goal.returns-in_err-schema-clause-most
+returns-in_err-schema-clause-most c = unless_ok _ c.from_residual-in_err-schema.result c.from_residual-in_err-schema.ensures.0
+
+pub returns-in_err-stated-clause-reads : goal.returns-in_err-stated-clause-reads
+returns-in_err-stated-clause-reads c = unless_ok _ c.from_residual-in_err-stated.result c.from_residual-in_err-stated.ensures.0
+
+pub returns-in_err-stated-clause-schema : goal.returns-in_err-stated-clause-schema
+returns-in_err-stated-clause-schema c = unless_ok _ c.from_residual-in_err-stated.result c.from_residual-in_err-stated.ensures.0
+
+pub returns-in_err-stated-clause-next : goal.returns-in_err-stated-clause-next
+returns-in_err-stated-clause-next c = unless_ok _ c.from_residual-in_err-stated.result c.from_residual-in_err-stated.ensures.0
+
+pub returns-in_err-stated-clause-most : goal.returns-in_err-stated-clause-most
+returns-in_err-stated-clause-most c = unless_ok _ c.from_residual-in_err-stated.result c.from_residual-in_err-stated.ensures.0
+
+pub returns-in_err-count-clause-reads : goal.returns-in_err-count-clause-reads
+returns-in_err-count-clause-reads c = unless_ok _ c.from_residual-in_err-count.result c.from_residual-in_err-count.ensures.0
+
+pub returns-in_err-count-clause-schema : goal.returns-in_err-count-clause-schema
+returns-in_err-count-clause-schema c = unless_ok _ c.from_residual-in_err-count.result c.from_residual-in_err-count.ensures.0
+
+pub returns-in_err-count-clause-next : goal.returns-in_err-count-clause-next
+returns-in_err-count-clause-next c = unless_ok _ c.from_residual-in_err-count.result c.from_residual-in_err-count.ensures.0
+
+pub returns-in_err-count-clause-most : goal.returns-in_err-count-clause-most
+returns-in_err-count-clause-most c = unless_ok _ c.from_residual-in_err-count.result c.from_residual-in_err-count.ensures.0

@@ -1,5 +1,6 @@
 use Rattle.std.proofs.Common.{arith}
 use Rattle.std.proofs.lemmas.Result.{err_from_is_err_and}
+use Rattle.gm_mapfile.proofs.Exits.{unless_ok}
 use Rattle.gm_mapfile.proofs.MapSteps.{name_takes, name_lacks}
 use Rattle.gm_mapfile.proofs.reading.read_name.Goals as goal
 
@@ -10,3 +11,6 @@ returns-in_err-value-clause-misses c =
 
 pub returns-clause-takes : goal.returns-clause-takes
 returns-clause-takes c = rw c.new.ensures (name_takes c.args.lexer.now c.in_ok-value.field-0.value c.in_ok-value.field-0.place c.read_number.new.lexer c.in_ok-value.ensures.next (omega (arith, c.if-value-from.false, c.from.ensures)))
+
+pub returns-in_err-value-clause-takes : goal.returns-in_err-value-clause-takes
+returns-in_err-value-clause-takes c = unless_ok _ c.from_residual.result c.from_residual.ensures.0

@@ -1,6 +1,7 @@
 use Rattle.std.proofs.Common.{◌≡◌, ℕ, ◌+◌, List, subst, sym, arith}
 use Rattle.std.proofs.lemmas.Result.{err_from_is_err_and}
 use Rattle.gm_mapfile.specs.MapReading.{ReadsNames}
+use Rattle.gm_mapfile.proofs.Exits.{never_ok}
 use Rattle.gm_mapfile.proofs.DartReads.{names_none, names_more, names_stop}
 use Rattle.gm_mapfile.proofs.reading.read_names.Goals as goal
 
@@ -21,3 +22,9 @@ pub returns-clause-reads : goal.returns-clause-reads
 returns-clause-reads c =
     let all : c.loop.counter ≡ c.args.count = omega (arith, c.loop-test.false, c.loop.auto.counter-end) in
     subst (λ (k : ℕ). ReadsNames k c.args.lexer.now c.loop.lexer c.args.names.now.items c.loop.names.items) all c.loop.invariant
+
+pub returns-in_err-read_name-clause-reads : goal.returns-in_err-read_name-clause-reads
+returns-in_err-read_name-clause-reads c = never_ok _ c.from_residual.result c.from_residual.ensures.0
+
+pub returns-in_err-push-clause-reads : goal.returns-in_err-push-clause-reads
+returns-in_err-push-clause-reads c = never_ok _ c.from_residual-in_err-push.result c.from_residual-in_err-push.ensures.0

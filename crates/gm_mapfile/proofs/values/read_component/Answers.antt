@@ -2,6 +2,7 @@ use Rattle.std.proofs.Common.{rules, ◌≡◌, true, to_z, of_z}
 use Rattle.std.proofs.lemmas.Result.{err_from_is_err_and}
 use Rattle.std.specs.Int.{w64}
 use Rattle.gm_text.specs.ValueText.{is_channel}
+use Rattle.gm_mapfile.proofs.Exits.{unless_ok}
 use Rattle.gm_mapfile.proofs.ValueSteps.{component_lacks, component_takes}
 use Rattle.gm_mapfile.proofs.values.read_component.Goals.{else-colour-via-then-colour+else-value-gt255, then-value-lt0, else-value-lt0, else-colour-via-else-colour}
 use Rattle.gm_mapfile.proofs.values.read_component.Goals as goal
@@ -20,3 +21,9 @@ returns-clause-takes c =
     ] in
     let takes = component_takes c.args.colour c.args.lexer.now c.in_ok-minus.field-0.minus c.in_ok-minus.field-0.size c.in_ok-minus.field-0.place c.read_signed.new.lexer c.in_ok-minus.ensures.next c.in-Some.value c.in-Some.ensures.0 c.in-Some.ensures.1 channel in
     rw back takes
+
+pub returns-in_err-minus-clause-takes : goal.returns-in_err-minus-clause-takes
+returns-in_err-minus-clause-takes c = unless_ok _ c.from_residual.result c.from_residual.ensures.0
+
+pub returns-in_err-minus-clause-channel : goal.returns-in_err-minus-clause-channel
+returns-in_err-minus-clause-channel c = unless_ok _ c.from_residual.result c.from_residual.ensures.0

@@ -2,6 +2,7 @@ use Rattle.std.proofs.Common.{rules, ◌≡◌, [], ◌∷◌, false, to_z, of_z
 use Rattle.std.specs.Int.{w64}
 use Rattle.std.proofs.lemmas.Result.{err_from_is_err_and}
 use Rattle.gm_mapfile.specs.MapReading.{Component, TheSign}
+use Rattle.gm_mapfile.proofs.Exits.{unless_ok}
 use Rattle.gm_mapfile.proofs.Joined.{takes_then, misses_first, misses_then}
 use Rattle.gm_mapfile.proofs.values.read_pair.Goals as goal
 
@@ -40,3 +41,27 @@ returns-clause-takes c =
     let back-x : to_z w64 (of_z w64 c.in_ok-x.x) ≡ c.in_ok-x.x = search rules in
     let back-y : to_z w64 (of_z w64 c.in_ok-y.y) ≡ c.in_ok-y.y = search rules in
     rw (back-x, back-y) taken
+
+pub returns-in_err-read_bracket-clause-takes : goal.returns-in_err-read_bracket-clause-takes
+returns-in_err-read_bracket-clause-takes c = unless_ok _ c.from_residual.result c.from_residual.ensures.0
+
+pub returns-in_err-read_bracket-clause-kind : goal.returns-in_err-read_bracket-clause-kind
+returns-in_err-read_bracket-clause-kind c = unless_ok _ c.from_residual.result c.from_residual.ensures.0
+
+pub returns-in_err-x-clause-takes : goal.returns-in_err-x-clause-takes
+returns-in_err-x-clause-takes c = unless_ok _ c.from_residual-in_err-x.result c.from_residual-in_err-x.ensures.0
+
+pub returns-in_err-x-clause-kind : goal.returns-in_err-x-clause-kind
+returns-in_err-x-clause-kind c = unless_ok _ c.from_residual-in_err-x.result c.from_residual-in_err-x.ensures.0
+
+pub returns-in_err-y-clause-takes : goal.returns-in_err-y-clause-takes
+returns-in_err-y-clause-takes c = unless_ok _ c.from_residual-in_err-y.result c.from_residual-in_err-y.ensures.0
+
+pub returns-in_err-y-clause-kind : goal.returns-in_err-y-clause-kind
+returns-in_err-y-clause-kind c = unless_ok _ c.from_residual-in_err-y.result c.from_residual-in_err-y.ensures.0
+
+pub returns-in_err-read_bracket-2-clause-takes : goal.returns-in_err-read_bracket-2-clause-takes
+returns-in_err-read_bracket-2-clause-takes c = unless_ok _ c.from_residual-in_err-read_bracket-2.result c.from_residual-in_err-read_bracket-2.ensures.0
+
+pub returns-in_err-read_bracket-2-clause-kind : goal.returns-in_err-read_bracket-2-clause-kind
+returns-in_err-read_bracket-2-clause-kind c = unless_ok _ c.from_residual-in_err-read_bracket-2.result c.from_residual-in_err-read_bracket-2.ensures.0

@@ -2,6 +2,7 @@ use Rattle.std.proofs.Common.{rules, ◌≡◌, ◌≢◌, codes, arith}
 use Rattle.std.proofs.lemmas.Result.{err_from_is_err_and}
 use Rattle.gm_model.specs.declared.token.TokenKind.TheVariants as tokens
 use Rattle.gm_model.specs.Tokens.{bytes_of}
+use Rattle.gm_mapfile.proofs.Exits.{unless_ok}
 use Rattle.gm_mapfile.proofs.WordTokens.{sign_symbol, none_signed, number_stands, sign_stands, no_signed, plain_next, minus_next, minus_lacks}
 use Rattle.gm_mapfile.proofs.values.read_signed_numeral.Goals as goal
 
@@ -43,3 +44,9 @@ returns-in_default-2-clause-none c =
     let number : c.in_ok-token.token.kind ≢ tokens.Number = search rules in
     let other : c.in_ok-token.token.kind ≢ tokens.Sign = search rules in
     no_signed c.args.lexer.now c.next_token.new.lexer c.in_ok-token.token c.in_ok-token.ensures.next number (λ e. other (sign_symbol c.in_ok-token.token.kind (bytes_of c.next_token.new.lexer.text c.in_ok-token.token) (codes "-") e).0)
+
+pub returns-in_err-token-clause-next : goal.returns-in_err-token-clause-next
+returns-in_err-token-clause-next c = unless_ok _ c.from_residual.result c.from_residual.ensures.0
+
+pub returns-in_err-value-in-Sign-clause-next : goal.returns-in_err-value-in-Sign-clause-next
+returns-in_err-value-in-Sign-clause-next c = unless_ok _ c.from_residual-in_err-value-in-Sign.result c.from_residual-in_err-value-in-Sign.ensures.0

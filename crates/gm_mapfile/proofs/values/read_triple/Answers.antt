@@ -2,6 +2,7 @@ use Rattle.std.proofs.Common.{rules, ◌≡◌, [], ◌∷◌, to_z, of_z, codes
 use Rattle.std.specs.Int.{w64}
 use Rattle.std.proofs.lemmas.Result.{err_from_is_err_and}
 use Rattle.gm_mapfile.specs.MapReading.{Component, TheSign}
+use Rattle.gm_mapfile.proofs.Exits.{unless_ok}
 use Rattle.gm_mapfile.proofs.Joined.{takes_then, misses_first, misses_then}
 use Rattle.gm_mapfile.proofs.values.read_triple.Goals as goal
 
@@ -51,3 +52,33 @@ returns-clause-takes c =
     let back-y : to_z w64 (of_z w64 c.in_ok-y.y) ≡ c.in_ok-y.y = search rules in
     let back-z : to_z w64 (of_z w64 c.in_ok-z.z) ≡ c.in_ok-z.z = search rules in
     rw (back-x, back-y, back-z) taken
+
+pub returns-in_err-read_bracket-clause-takes : goal.returns-in_err-read_bracket-clause-takes
+returns-in_err-read_bracket-clause-takes c = unless_ok _ c.from_residual.result c.from_residual.ensures.0
+
+pub returns-in_err-read_bracket-clause-channels : goal.returns-in_err-read_bracket-clause-channels
+returns-in_err-read_bracket-clause-channels c = unless_ok _ c.from_residual.result c.from_residual.ensures.0
+
+pub returns-in_err-x-clause-takes : goal.returns-in_err-x-clause-takes
+returns-in_err-x-clause-takes c = unless_ok _ c.from_residual-in_err-x.result c.from_residual-in_err-x.ensures.0
+
+pub returns-in_err-x-clause-channels : goal.returns-in_err-x-clause-channels
+returns-in_err-x-clause-channels c = unless_ok _ c.from_residual-in_err-x.result c.from_residual-in_err-x.ensures.0
+
+pub returns-in_err-y-clause-takes : goal.returns-in_err-y-clause-takes
+returns-in_err-y-clause-takes c = unless_ok _ c.from_residual-in_err-y.result c.from_residual-in_err-y.ensures.0
+
+pub returns-in_err-y-clause-channels : goal.returns-in_err-y-clause-channels
+returns-in_err-y-clause-channels c = unless_ok _ c.from_residual-in_err-y.result c.from_residual-in_err-y.ensures.0
+
+pub returns-in_err-z-clause-takes : goal.returns-in_err-z-clause-takes
+returns-in_err-z-clause-takes c = unless_ok _ c.from_residual-in_err-z.result c.from_residual-in_err-z.ensures.0
+
+pub returns-in_err-z-clause-channels : goal.returns-in_err-z-clause-channels
+returns-in_err-z-clause-channels c = unless_ok _ c.from_residual-in_err-z.result c.from_residual-in_err-z.ensures.0
+
+pub returns-in_err-read_bracket-2-clause-takes : goal.returns-in_err-read_bracket-2-clause-takes
+returns-in_err-read_bracket-2-clause-takes c = unless_ok _ c.from_residual-in_err-read_bracket-2.result c.from_residual-in_err-read_bracket-2.ensures.0
+
+pub returns-in_err-read_bracket-2-clause-channels : goal.returns-in_err-read_bracket-2-clause-channels
+returns-in_err-read_bracket-2-clause-channels c = unless_ok _ c.from_residual-in_err-read_bracket-2.result c.from_residual-in_err-read_bracket-2.ensures.0

@@ -4,6 +4,7 @@ use Rattle.std.proofs.lemmas.Result.{err_from_is_err_and}
 use Rattle.gm_model.specs.declared.schema.Embed.{Embed}
 use Rattle.gm_mapfile.specs.MapReading.{Misses, values_wants, ReadsValues}
 use Rattle.gm_mapfile.specs.Packed.{words_of}
+use Rattle.gm_mapfile.proofs.Exits.{never_ok}
 use Rattle.gm_mapfile.proofs.DartReads.{values_none, values_more, values_stop, taken_to, taken_at}
 use Rattle.gm_mapfile.proofs.values.read_values.Goals as goal
 
@@ -35,3 +36,9 @@ pub returns-clause-reads : goal.returns-clause-reads
 returns-clause-reads c =
     let all = take_all c.loop-embed.embed-index c.args.embeds.now (omega (arith, c.loop-embed-test.false)) in
     subst (λ (es : List Embed). ReadsValues es c.args.lexer.now c.loop-embed.lexer c.args.words.now.items c.loop-embed.words.items) all c.loop-embed.invariant
+
+pub returns-in_err-value-clause-reads : goal.returns-in_err-value-clause-reads
+returns-in_err-value-clause-reads c = never_ok _ c.from_residual.result c.from_residual.ensures.0
+
+pub returns-in_err-pack-clause-reads : goal.returns-in_err-pack-clause-reads
+returns-in_err-pack-clause-reads c = never_ok _ c.from_residual-in_err-pack.result c.from_residual-in_err-pack.ensures.0

@@ -2,6 +2,7 @@ use Rattle.std.proofs.Common.{rules, ◌≡◌, ◌≢◌}
 use Rattle.gm_model.specs.declared.token.TokenKind.TheVariants as tokens
 use Rattle.gm_model.specs.Symbols.{Word}
 use Rattle.gm_model.specs.Tokens.{bytes_of}
+use Rattle.gm_mapfile.proofs.Exits.{unless_ok}
 use Rattle.gm_mapfile.proofs.WordTokens.{word_symbol, is_other, word_stands}
 use Rattle.gm_mapfile.proofs.words.read_word.Goals.{then-ne-via-then-ne, then-ne-via-else-ne+then-ne-2}
 use Rattle.gm_mapfile.proofs.words.read_word.Goals as goal
@@ -20,3 +21,6 @@ returns-clause-next c =
     let kind : c.in_ok-token.token.kind ≡ tokens.Name = search rules in
     let is : bytes_of c.next_token.new.lexer.text c.in_ok-token.token ≡ c.args.word.now = search rules in
     word_stands c.args.lexer.now c.next_token.new.lexer c.in_ok-token.token c.in_ok-token.ensures.next c.args.word.now kind is
+
+pub returns-in_err-token-clause-next : goal.returns-in_err-token-clause-next
+returns-in_err-token-clause-next c = unless_ok _ c.from_residual.result c.from_residual.ensures.0

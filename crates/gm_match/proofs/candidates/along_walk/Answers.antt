@@ -1,6 +1,9 @@
-use Rattle.std.proofs.Common.{◌+◌, ◌*◌, ◌<◌, ◌≤◌, length, ap, sym, subst, ◌∙◌, arith}
+use Rattle.std.proofs.Common.{◌+◌, ◌*◌, ◌<◌, ◌≤◌, List, length, ap, sym, subst, ◌∙◌, arith}
+use Rattle.std.proofs.Math.Nat.{le_trans, le-add_right}
 use Rattle.std.proofs.lemmas.List.{length-map}
 use Rattle.std.proofs.lemmas.List.Elements.{All-get_or}
+use Rattle.std.proofs.lemmas.Option.{get_or_from_slice_get}
+use Rattle.std.proofs.lemmas.Result.{IfOk-from_err}
 use Rattle.gm_model.specs.Rules.{rule_of}
 use Rattle.gm_arena.specs.declared.slot.Slot.{Slot}
 use Rattle.gm_arena.specs.ArenaMap.{IsLiveName, IsLiveSlot, name_at}
@@ -60,3 +63,64 @@ returns-clause-candidate g c =
 
 pub returns-clause-cost : goal.returns-clause-cost
 returns-clause-cost g c = omega (arith, c.fill_turns.ensures.cost, subst (λ xs. c.fill_slots.new.steps + length xs ≤ c.fill_turns.new.steps + length xs * length (rule_of c.args.plan.now.table).nodes) c.slots.ensures.value c.fill_slots.ensures.cost)
+
+pub fill_turns-requires-clause-lawful : goal.fill_turns-requires-clause-lawful
+fill_turns-requires-clause-lawful g c = c.requires.matchable.lawful
+
+pub fill_turns-requires-clause-live : goal.fill_turns-requires-clause-live
+fill_turns-requires-clause-live g c = c.requires.walked
+
+pub fill_turns-requires-clause-empty : goal.fill_turns-requires-clause-empty
+fill_turns-requires-clause-empty g c = c.requires.no_turns
+
+pub returns-in_err-fill_turns-clause-candidate : goal.returns-in_err-fill_turns-clause-candidate
+returns-in_err-fill_turns-clause-candidate g c = IfOk-from_err c.from_residual.result _ c.from_residual.ensures.0
+
+pub returns-in_err-fill_turns-clause-cost : goal.returns-in_err-fill_turns-clause-cost
+returns-in_err-fill_turns-clause-cost g c = le_trans c.fill_turns.ensures.cost (le-add_right _ _)
+
+pub returns-in_err-fill_turns-clause-least : goal.returns-in_err-fill_turns-clause-least
+returns-in_err-fill_turns-clause-least g c = c.fill_turns.ensures.least
+
+pub fill_slots-requires-clause-matchable : goal.fill_slots-requires-clause-matchable
+fill_slots-requires-clause-matchable g c = c.requires.matchable
+
+pub fill_slots-requires-clause-some : goal.fill_slots-requires-clause-some
+fill_slots-requires-clause-some g c = c.requires.some
+
+pub fill_slots-requires-clause-count : goal.fill_slots-requires-clause-count
+fill_slots-requires-clause-count g c = c.requires.count
+
+pub fill_slots-requires-clause-darts : goal.fill_slots-requires-clause-darts
+fill_slots-requires-clause-darts g c = c.requires.live
+
+pub fill_slots-requires-clause-few : goal.fill_slots-requires-clause-few
+fill_slots-requires-clause-few g c = rw c.slots.ensures.value c.slots.ensures.most
+
+pub fill_slots-requires-clause-starts : goal.fill_slots-requires-clause-starts
+fill_slots-requires-clause-starts g c = rw c.slots.ensures.value (get_or_from_slice_get (names_of c.args.arena.now (slots_of c.args.walk.now)) 0 _ 0 c.requires.walk.starts)
+
+pub fill_slots-requires-clause-empty : goal.fill_slots-requires-clause-empty
+fill_slots-requires-clause-empty g c = c.requires.no_slots
+
+pub returns-in_err-fill_slots-clause-candidate : goal.returns-in_err-fill_slots-clause-candidate
+returns-in_err-fill_slots-clause-candidate g c = IfOk-from_err c.from_residual-in_err-fill_slots.result _ c.from_residual-in_err-fill_slots.ensures.0
+
+pub returns-in_err-fill_slots-clause-least : goal.returns-in_err-fill_slots-clause-least
+returns-in_err-fill_slots-clause-least g c = le_trans c.fill_turns.ensures.least c.fill_slots.ensures.least
+
+pub new-requires-clause-some_position : goal.new-requires-clause-some_position
+new-requires-clause-some_position g c =
+    let some = some_position c.args.arena.now (rule_of c.args.plan.now.table) _ (slots_of c.args.walk.now) c.args.word.now c.requires.walk in
+    rw c.slots-2.ensures.value some
+
+pub new-requires-clause-slots : goal.new-requires-clause-slots
+new-requires-clause-slots g c =
+    let laid = c.in_ok-fill_slots.ensures.slots in
+    (laid.0, ap (λ (xs : List Slot). length xs * laid.0) (c.slots-2.ensures.value ∙ sym c.slots.ensures.value) ∙ laid.2.long)
+
+pub new-requires-clause-turns : goal.new-requires-clause-turns
+new-requires-clause-turns g c = rw (c.slots-2.ensures.value, c.len.ensures.value) c.in_ok-fill_turns.ensures.turns.long
+
+pub returns-clause-least : goal.returns-clause-least
+returns-clause-least g c = le_trans c.fill_turns.ensures.least c.fill_slots.ensures.least

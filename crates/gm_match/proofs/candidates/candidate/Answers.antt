@@ -1,15 +1,16 @@
-use Rattle.std.proofs.Common.{◌<◌, length, sym, subst, arith}
+use Rattle.std.proofs.Common.{◌<◌, length, sym, subst}
+use Rattle.std.proofs.Math.Nat.{le_trans}
 use Rattle.gm_model.specs.Orbits.{IsWalk}
-use Rattle.gm_model.specs.Rules.{rule_of}
 use Rattle.gm_walk.specs.Lent.{slots_of}
+use Rattle.gm_walk.specs.Room.{Fits}
 use Rattle.gm_walk.specs.Walks.{along, names_of}
 use Rattle.gm_walk.proofs.NameLemmas.{name_there}
-use Rattle.gm_match.proofs.Placing.{word_is, can_be_walked, walk_cost}
+use Rattle.gm_match.proofs.Placing.{hook_has_word, word_is, can_be_walked, walk_cost}
 use Rattle.gm_match.proofs.candidates.candidate.Goals as goal
 
 pub walk_word-walk-requires-clause-word : goal.walk_word-walk-requires-clause-word
 walk_word-walk-requires-clause-word g c =
-    let has : 0 < length (rule_of c.args.plan.now.table).hooks = omega (arith, c.requires.some, c.requires.count) in
+    let has = subst (λ n. 0 < n) c.requires.count c.requires.some in
     let word = c.unwrap-word.result in
     let is_word = word_is c.args.plan.now.table c.rule.result.now c.hook_word.result word c.rule.ensures.rule c.hook_word.ensures c.unwrap-word.ensures in
     can_be_walked c.args.arena.now c.args.plan.now c.requires.matchable has word is_word
@@ -26,7 +27,7 @@ along_walk-requires-clause-walk g c =
 
 pub returns-clause-cost : goal.returns-clause-cost
 returns-clause-cost g c =
-    let has : 0 < length (rule_of c.args.plan.now.table).hooks = omega (arith, c.requires.some, c.requires.count) in
+    let has = subst (λ n. 0 < n) c.requires.count c.requires.some in
     let word = c.unwrap-word.result in
     let is_word = word_is c.args.plan.now.table c.rule.result.now c.hook_word.result word c.rule.ensures.rule c.hook_word.ensures c.unwrap-word.ensures in
     let m = c.args.arena.now in
@@ -34,3 +35,39 @@ returns-clause-cost g c =
     let start = name_there m c.args.darts.now 0 (record { at = 0 }) c.requires.some in
     let walk = subst (λ d. IsWalk (along m word) (length word) d (names_of m slots)) (sym start) c.walk_word-walk.ensures.walk in
     walk_cost m c.args.plan.now c.requires.matchable has word is_word _ slots walk _ _ _ c.walk_word-walk.ensures.cost c.along_walk.ensures.cost
+
+pub unwrap-word-requires : goal.unwrap-word-requires
+unwrap-word-requires g c = hook_has_word c.args.plan.now.schema c.args.plan.now.table c.rule.result.now c.hook_word.result c.requires.matchable.planned (subst (λ n. 0 < n) c.requires.count c.requires.some) c.rule.ensures.rule c.hook_word.ensures
+
+pub walk_word-walk-requires-clause-live : goal.walk_word-walk-requires-clause-live
+walk_word-walk-requires-clause-live g c = c.requires.live 0 (record { at = 0 }) c.requires.some
+
+pub walk_word-walk-requires-clause-fits : goal.walk_word-walk-requires-clause-fits
+walk_word-walk-requires-clause-fits g c = subst (λ room. Fits room c.args.arena.now) (sym c.lend_rows-slots.ensures.stays) c.requires.fits
+
+pub along_walk-requires-clause-matchable : goal.along_walk-requires-clause-matchable
+along_walk-requires-clause-matchable g c = c.requires.matchable
+
+pub along_walk-requires-clause-some : goal.along_walk-requires-clause-some
+along_walk-requires-clause-some g c = c.requires.some
+
+pub along_walk-requires-clause-count : goal.along_walk-requires-clause-count
+along_walk-requires-clause-count g c = c.requires.count
+
+pub along_walk-requires-clause-live : goal.along_walk-requires-clause-live
+along_walk-requires-clause-live g c = c.requires.live
+
+pub along_walk-requires-clause-walked : goal.along_walk-requires-clause-walked
+along_walk-requires-clause-walked g c = c.walk_word-walk.ensures.live
+
+pub along_walk-requires-clause-no_slots : goal.along_walk-requires-clause-no_slots
+along_walk-requires-clause-no_slots g c = c.lend_rows-slots.ensures.slots
+
+pub along_walk-requires-clause-no_turns : goal.along_walk-requires-clause-no_turns
+along_walk-requires-clause-no_turns g c = c.lend_rows-slots.ensures.turns
+
+pub returns-clause-candidate : goal.returns-clause-candidate
+returns-clause-candidate g c = c.along_walk.ensures.candidate
+
+pub returns-clause-least : goal.returns-clause-least
+returns-clause-least g c = le_trans c.walk_word-walk.ensures.least c.along_walk.ensures.least

@@ -1,13 +1,16 @@
-use Rattle.std.proofs.Common.{ℕ, ◌+◌, ◌*◌, ◌≤◌, List, length, sym, ap, subst, ◌∙◌, arith}
+use Rattle.std.proofs.Common.{ℕ, ◌+◌, ◌*◌, ◌<◌, ◌≤◌, List, length, refl, sym, ap, subst, ◌∙◌, arith}
+use Rattle.std.proofs.Math.Nat.{le_trans}
 use Rattle.std.proofs.lemmas.Result.{err_from_is_err_and}
 use Rattle.std.specs.Prelude.{slice_index}
+use Rattle.gm_model.specs.declared.rule.RuleTable.{RuleTable}
 use Rattle.gm_model.specs.Matches.{along_hook}
 use Rattle.gm_model.specs.Orbits.{IsWalk}
 use Rattle.gm_model.specs.Rules.{rule_of, width}
 use Rattle.gm_arena.specs.ArenaAsMap.{as_map}
 use Rattle.gm_plan.proofs.Hooks.{few_hooks}
 use Rattle.gm_match.specs.Layout.{IsCandidateAt}
-use Rattle.gm_match.proofs.Answering.{sound_of, begun_of, is_nil, not_nil, no_items, slots_below, dart_cause, dart_missed, missed_cost, created, made_cost, tested_cost, step_cause, step_missed, twice_cause, twice_missed, one_node, answer}
+use Rattle.gm_match.proofs.Answering.{sound_of, begun_of, is_nil, not_nil, no_items, none_within, as_many, within_taken, slots_below, dart_cause, dart_missed, missed_cost, created, made_cost, tested_cost, step_cause, step_missed, twice_cause, twice_missed, one_node, answer}
+use Rattle.gm_match.proofs.Costs.{no_cost}
 use Rattle.gm_match.proofs.Stepping.{same_count}
 use Rattle.gm_match.proofs.matching.find.Goals as goal
 
@@ -169,3 +172,101 @@ returns-clause-cost g c =
     let found = c.in_ok-found.found in
     let at = subst (λ hs. IsCandidateAt m rule hs found) are.names c.in_ok-found.ensures.candidate in
     tested_cost m rule _ begun found at _ _ _ _ c.in_ok-darts.ensures.cost make c.meet_steps.ensures.cost
+
+pub prove-unreachable-requires : goal.prove-unreachable-requires
+prove-unreachable-requires g c = c.if-prove.true (c.requires.hooks ∙ sym (ap length (c.as_slice.ensures ∙ ap (λ (table : RuleTable). table.hooks) c.rule.ensures.rule)))
+
+pub returns-in_err-darts-clause-least : goal.returns-in_err-darts-clause-least
+returns-in_err-darts-clause-least g c = c.hook_darts.ensures.least
+
+pub returns-in_err-darts-clause-room : goal.returns-in_err-darts-clause-room
+returns-in_err-darts-clause-room g c = refl
+
+pub new-requires-then-is_empty-2-clause-slots : goal.new-requires-then-is_empty-2-clause-slots
+new-requires-then-is_empty-2-clause-slots g c = (0, sym (ap length c.new.ensures.items))
+
+pub new-requires-then-is_empty-2-clause-turns : goal.new-requires-then-is_empty-2-clause-turns
+new-requires-then-is_empty-2-clause-turns g c = sym (ap length c.new-then-is_empty.ensures.items)
+
+pub new-requires-then-is_empty-2-clause-turns_within : goal.new-requires-then-is_empty-2-clause-turns_within
+new-requires-then-is_empty-2-clause-turns_within g c = none_within c.new-then-is_empty.result.items 1 c.new-then-is_empty.ensures.items
+
+pub returns-then-is_empty-clause-none_missed : goal.returns-then-is_empty-clause-none_missed
+returns-then-is_empty-clause-none_missed g c = λ place matched. tt
+
+pub returns-then-is_empty-clause-cost : goal.returns-then-is_empty-clause-cost
+returns-then-is_empty-clause-cost g c =
+    let none = is_nil c.args.hooks.now c.is_empty.result c.is_empty.ensures c.if-is_empty.true in
+    λ params k has. no_cost _ _ _ _ c.in_ok-darts.ensures.cost (ap length none)
+
+pub returns-then-is_empty-clause-least : goal.returns-then-is_empty-clause-least
+returns-then-is_empty-clause-least g c = c.hook_darts.ensures.least
+
+pub returns-then-is_empty-clause-room : goal.returns-then-is_empty-clause-room
+returns-then-is_empty-clause-room g c = refl
+
+pub slice_bounds-darts-end : goal.slice_bounds-darts-end
+slice_bounds-darts-end g c = within_taken (length c.args.hooks.now) c.in_ok-darts.darts (as_many c.args.arena.now c.args.hooks.now _ c.in_ok-darts.ensures.darts)
+
+pub slice_bounds-darts-end-2 : goal.slice_bounds-darts-end-2
+slice_bounds-darts-end-2 g c = sym (as_many c.args.arena.now c.args.hooks.now _ c.in_ok-darts.ensures.darts)
+
+pub candidate-requires-clause-matchable : goal.candidate-requires-clause-matchable
+candidate-requires-clause-matchable g c = record { lawful = c.bound.ensures.lawful; generalised = c.requires.map; schema = c.requires.schema; planned = c.rule.ensures.planned }
+
+pub candidate-requires-clause-some : goal.candidate-requires-clause-some
+candidate-requires-clause-some g c =
+    let some = not_nil c.args.hooks.now c.is_empty.result c.is_empty.ensures c.if-is_empty.false in
+    subst (λ n. 0 < n) (sym (as_many c.args.arena.now c.args.hooks.now _ c.in_ok-darts.ensures.darts)) some
+
+pub candidate-requires-clause-count : goal.candidate-requires-clause-count
+candidate-requires-clause-count g c = as_many c.args.arena.now c.args.hooks.now _ c.in_ok-darts.ensures.darts ∙ c.requires.hooks
+
+pub candidate-requires-clause-live : goal.candidate-requires-clause-live
+candidate-requires-clause-live g c = c.in_ok-darts.ensures.darts.live
+
+pub candidate-requires-clause-fits : goal.candidate-requires-clause-fits
+candidate-requires-clause-fits g c = c.requires.fits
+
+pub returns-in_err-found-clause-answer : goal.returns-in_err-found-clause-answer
+returns-in_err-found-clause-answer g c =
+    let p = err_from_is_err_and c.from_residual-in_err-found.result c.from_residual-in_err-found.ensures.1 in
+    rw (p.1, p.2) (λ params. tt)
+
+pub returns-in_err-found-clause-none_missed : goal.returns-in_err-found-clause-none_missed
+returns-in_err-found-clause-none_missed g c =
+    let p = err_from_is_err_and c.from_residual-in_err-found.result c.from_residual-in_err-found.ensures.1 in
+    λ place matched. rw (p.1, p.2)
+
+pub returns-in_err-found-clause-least : goal.returns-in_err-found-clause-least
+returns-in_err-found-clause-least g c = le_trans c.hook_darts.ensures.least c.candidate.ensures.least
+
+pub returns-in_err-found-clause-room : goal.returns-in_err-found-clause-room
+returns-in_err-found-clause-room g c = c.candidate.ensures.room
+
+pub meet_steps-requires-clause-matchable : goal.meet_steps-requires-clause-matchable
+meet_steps-requires-clause-matchable g c = record { lawful = c.bound.ensures.lawful; generalised = c.requires.map; schema = c.requires.schema; planned = c.rule.ensures.planned }
+
+pub meet_steps-requires-clause-candidate : goal.meet_steps-requires-clause-candidate
+meet_steps-requires-clause-candidate g c = (_, c.in_ok-found.ensures.candidate)
+
+pub returns-in_err-meet_steps-clause-least : goal.returns-in_err-meet_steps-clause-least
+returns-in_err-meet_steps-clause-least g c = le_trans c.hook_darts.ensures.least (le_trans c.candidate.ensures.least c.meet_steps.ensures.least)
+
+pub returns-in_err-meet_steps-clause-room : goal.returns-in_err-meet_steps-clause-room
+returns-in_err-meet_steps-clause-room g c = c.candidate.ensures.room
+
+pub returns-in_err-take_once-clause-least : goal.returns-in_err-take_once-clause-least
+returns-in_err-take_once-clause-least g c = le_trans c.hook_darts.ensures.least (le_trans c.candidate.ensures.least c.meet_steps.ensures.least)
+
+pub returns-in_err-take_once-clause-room : goal.returns-in_err-take_once-clause-room
+returns-in_err-take_once-clause-room g c = c.take_once.ensures.room ∙ c.candidate.ensures.room
+
+pub returns-clause-none_missed : goal.returns-clause-none_missed
+returns-clause-none_missed g c = λ place matched. tt
+
+pub returns-clause-least : goal.returns-clause-least
+returns-clause-least g c = le_trans c.hook_darts.ensures.least (le_trans c.candidate.ensures.least c.meet_steps.ensures.least)
+
+pub returns-clause-room : goal.returns-clause-room
+returns-clause-room g c = c.take_once.ensures.room ∙ c.candidate.ensures.room

@@ -5,10 +5,10 @@ use Rattle.gm_model.specs.declared.word.Letter.TheVariants.{At}
 use Rattle.gm_model.specs.Rules.{rule_of, letters, label_at, width}
 use Rattle.gm_arena.specs.declared.slot.Slot.{Slot}
 use Rattle.gm_arena.specs.ArenaMap.{IsLiveSlot, name_at, alpha}
-use Rattle.gm_walk.proofs.NameLemmas.{at_name}
+use Rattle.gm_walk.proofs.NameLemmas.{at_name, live_at}
 use Rattle.gm_match.specs.Layout.{dart_in}
 use Rattle.gm_theory.proofs.Lists.{some_same}
-use Rattle.gm_match.proofs.Hooks.{turning, word_letters}
+use Rattle.gm_match.proofs.Hooks.{turning, own_word, word_letters}
 use Rattle.gm_match.proofs.Paths.{row_name}
 use Rattle.gm_match.proofs.Stepping.{same_count}
 use Rattle.gm_match.proofs.rows.step_hook.Goals as goal
@@ -128,3 +128,21 @@ returns-clause-stepped g c =
     ∙ ap (λ w. dart_in m slots (c.args.turn / w * nodes + c.args.hook)) (c.len-places.ensures.value ∙ t.long)
     ∙ ap (λ n. dart_in m slots (c.args.turn / width rule * n + c.args.hook)) (same_count rule nodes count c.left_nodes-nodes.ensures.left counts)
     )
+
+pub unwrap-word-requires : goal.unwrap-word-requires
+unwrap-word-requires g c = own_word c.args.plan.now.schema c.args.plan.now.table c.rule.result.now c.args.hook c.word.result c.requires.matchable.planned c.requires.hook c.rule.ensures.rule c.word.ensures
+
+pub nonzero_div-position : goal.nonzero_div-position
+nonzero_div-position g c =
+    let rule = rule_of c.args.plan.now.table in
+    let word = c.unwrap-word.result in
+    let is_word = word_letters c.args.plan.now.table c.rule.result.now c.args.hook c.word.result word c.rule.ensures.rule c.word.ensures c.unwrap-word.ensures in
+    let nodes = c.left_nodes-nodes.result in
+    let t = turning c.args.plan.now.schema rule c.requires.matchable.planned c.args.hook c.requires.hook word is_word c.args.turn nodes c.args.slots.now c.left_nodes-nodes.ensures.left (c.requires.turn nodes c.left_nodes-nodes.ensures.left) in
+    rw c.len-places.ensures.value t.some
+
+pub returns-clause-live : goal.returns-clause-live
+returns-clause-live g c = live_at c.args.arena.now c.alpha.result.at _ c.alpha.ensures.neighbour
+
+pub returns-clause-cost : goal.returns-clause-cost
+returns-clause-cost g c = c.alpha.ensures.cost

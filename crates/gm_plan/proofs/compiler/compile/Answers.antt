@@ -26,3 +26,24 @@ returns-in_err-new c =
       accepted = record { in_range = c.requires.in_range; typed = c.requires.typed; incidence = c.in_ok-check.ensures; squares = c.in_ok-check-2.ensures; sources = c.in_ok-check-3.ensures };
       within = c.requires.within;
     }))
+
+pub check-requires-clause-in_range : goal.check-requires-clause-in_range
+check-requires-clause-in_range c = c.requires.in_range
+
+pub check-requires-clause-within : goal.check-requires-clause-within
+check-requires-clause-within c = c.requires.within
+
+pub check-requires-2-clause-in_range : goal.check-requires-2-clause-in_range
+check-requires-2-clause-in_range c = c.requires.in_range
+
+pub check-requires-2-clause-within : goal.check-requires-2-clause-within
+check-requires-2-clause-within c = c.requires.within
+
+pub check-requires-3-clause-embeds : goal.check-requires-3-clause-embeds
+check-requires-3-clause-embeds c = c.requires.embeds
+
+pub check-requires-3-clause-in_range : goal.check-requires-3-clause-in_range
+check-requires-3-clause-in_range c = c.requires.in_range
+
+pub check-requires-3-clause-within : goal.check-requires-3-clause-within
+check-requires-3-clause-within c = c.requires.within

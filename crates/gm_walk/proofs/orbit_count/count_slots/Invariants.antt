@@ -2,18 +2,15 @@ use Rattle.std.proofs.Common.{◌≡◌, ◌+◌, ◌*◌, ◌<◌, ◌≤◌, �
 use Rattle.std.specs.List.{Contains}
 use Rattle.gm_arena.specs.ArenaMap.{name_at}
 use Rattle.gm_model.specs.Labels.{has}
-use Rattle.gm_walk.specs.Room.{Fits}
-use Rattle.gm_walk.specs.Seen.{HasSeen, seen_count}
-use Rattle.gm_walk.specs.Walks.{letters_of}
-use Rattle.gm_walk.proofs.LeadLemmas.{HasMet}
+use Rattle.gm_walk.specs.Seen.{HasMet, HasSeen, seen_count}
 use Rattle.gm_walk.proofs.orbit_count.count_slots.Given as goal
 
 abbrev pub invariant-loop-at : goal.invariant-loop-at
 invariant-loop-at g l = record {
   few : l.orbits ≤ l.at;
   long : length l.seen ≡ l.arena.bound;
-  seen : (darts : List ℕ) × HasSeen l.arena l.seen darts × HasMet l.arena (has l.fn.mask) (letters_of l.fn.mask) darts l.orbits × ((slot : ℕ) → slot < l.at → Contains darts (name_at l.arena slot));
-  room : Fits l.scratch l.arena;
+  seen : (darts : List ℕ) × HasSeen l.arena l.seen darts × HasMet l.arena (has l.fn.mask) l.word darts l.orbits × ((slot : ℕ) → slot < l.at → Contains darts (name_at l.arena slot));
+  room : l.scratch.bound ≡ l.fn.scratch.bound;
   cost : l.steps ≤ l.fn.steps + 4 * (l.arena.schema.dim + 1) * seen_count l.seen;
   least : l.fn.steps ≤ l.steps;
 }

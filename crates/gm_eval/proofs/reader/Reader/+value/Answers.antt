@@ -1,6 +1,8 @@
 use Rattle.std.proofs.Common.{pos, get_or, refl, sym, ◌∙◌, ap, ap₂, subst, arith, rules}
 use Rattle.std.proofs.lemmas.Int.{ints}
 use Rattle.std.proofs.lemmas.Option.{slice_get-get_or}
+use Rattle.gm_model.proofs.expr.Expr.TheLaws.{the_size}
+use Rattle.gm_model.specs.declared.expr.Expr.TheViews.{sized-Unary, sized-Binary, sized-If, sized-MakeVec2, sized-MakeVec3, sized-MakeRgb}
 use Rattle.gm_model.specs.declared.expr.Expr.{Expr}
 use Rattle.gm_model.specs.declared.value.Kind.TheVariants as kinds
 use Rattle.gm_model.specs.declared.value.Value.TheVariants.{Int, Bool}
@@ -257,6 +259,12 @@ value-returns-in-Greatest g t c =
       room = kept.room;
     }
 
+pub value-unary-requires : goal.value-unary-requires
+value-unary-requires g t c =
+    let same = ap tree_of c.in-Unary.is ∙ ap (λ (e : Expr). Unary c.in-Unary.op (tree_of e)) (sym c.deref.ensures) in
+    let ready = ready_as c.args.self.now c.args.expr.now _ same c.requires.ready in
+    λ κs lives. (omega (arith, c.decreases, ap the_size c.in-Unary.is, sized-Unary c.in-Unary.op c.in-Unary.part, ap the_size c.deref.ensures), (search rules, (ready, c.requires.fits)))
+
 pub value-returns-in-Unary : goal.value-returns-in-Unary
 value-returns-in-Unary g t c =
     let kept = c.unary.ensures in
@@ -267,6 +275,12 @@ value-returns-in-Unary g t c =
       least = kept.least;
       room = kept.room;
     }
+
+pub value-binary-requires : goal.value-binary-requires
+value-binary-requires g t c =
+    let same = ap tree_of c.in-Binary.is ∙ ap₂ (λ (e : Expr) (f : Expr). Binary c.in-Binary.op (tree_of e) (tree_of f)) (sym c.deref-in-Binary.ensures) (sym c.deref-in-Binary-2.ensures) in
+    let ready = ready_as c.args.self.now c.args.expr.now _ same c.requires.ready in
+    λ κs lives. (omega (arith, c.decreases, ap the_size c.in-Binary.is, sized-Binary c.in-Binary.op c.in-Binary.left c.in-Binary.right, ap the_size c.deref-in-Binary.ensures, ap the_size c.deref-in-Binary-2.ensures), (search rules, (ready, c.requires.fits)))
 
 pub value-returns-in-Binary : goal.value-returns-in-Binary
 value-returns-in-Binary g t c =
@@ -279,6 +293,12 @@ value-returns-in-Binary g t c =
       room = kept.room;
     }
 
+pub value-pair-requires : goal.value-pair-requires
+value-pair-requires g t c =
+    let same = ap tree_of c.in-MakeVec2.is ∙ ap₂ (λ (e : Expr) (f : Expr). MakeVec2 (tree_of e) (tree_of f)) (sym c.deref-in-MakeVec2.ensures) (sym c.deref-in-MakeVec2-2.ensures) in
+    let ready = ready_as c.args.self.now c.args.expr.now _ same c.requires.ready in
+    λ κs lives. (omega (arith, c.decreases, ap the_size c.in-MakeVec2.is, sized-MakeVec2 c.in-MakeVec2.x c.in-MakeVec2.y, ap the_size c.deref-in-MakeVec2.ensures, ap the_size c.deref-in-MakeVec2-2.ensures), (search rules, (ready, c.requires.fits)))
+
 pub value-returns-in-MakeVec2 : goal.value-returns-in-MakeVec2
 value-returns-in-MakeVec2 g t c =
     let kept = c.pair.ensures in
@@ -289,6 +309,12 @@ value-returns-in-MakeVec2 g t c =
       least = kept.least;
       room = kept.room;
     }
+
+pub value-choice-requires : goal.value-choice-requires
+value-choice-requires g t c =
+    let same = ap tree_of c.in-If.is ∙ three_trees If _ _ _ _ _ _ (sym c.deref-in-If.ensures) (sym c.deref-in-If-2.ensures) (sym c.deref-in-If-3.ensures) in
+    let ready = ready_as c.args.self.now c.args.expr.now _ same c.requires.ready in
+    λ κs lives. (omega (arith, c.decreases, ap the_size c.in-If.is, sized-If c.in-If.condition c.in-If.chosen c.in-If.other, ap the_size c.deref-in-If.ensures, ap the_size c.deref-in-If-2.ensures, ap the_size c.deref-in-If-3.ensures), (search rules, (ready, c.requires.fits)))
 
 pub value-returns-in-If : goal.value-returns-in-If
 value-returns-in-If g t c =
@@ -301,6 +327,12 @@ value-returns-in-If g t c =
       room = kept.room;
     }
 
+pub value-triple-requires : goal.value-triple-requires
+value-triple-requires g t c =
+    let same = ap tree_of c.in-MakeVec3.is ∙ three_trees MakeVec3 _ _ _ _ _ _ (sym c.deref-in-MakeVec3.ensures) (sym c.deref-in-MakeVec3-2.ensures) (sym c.deref-in-MakeVec3-3.ensures) in
+    let ready = ready_as c.args.self.now c.args.expr.now _ same c.requires.ready in
+    λ κs lives. (omega (arith, c.decreases, ap the_size c.in-MakeVec3.is, sized-MakeVec3 c.in-MakeVec3.x c.in-MakeVec3.y c.in-MakeVec3.z, ap the_size c.deref-in-MakeVec3.ensures, ap the_size c.deref-in-MakeVec3-2.ensures, ap the_size c.deref-in-MakeVec3-3.ensures), (search rules, (ready, c.requires.fits)))
+
 pub value-returns-in-MakeVec3 : goal.value-returns-in-MakeVec3
 value-returns-in-MakeVec3 g t c =
     let kept = c.triple.ensures in
@@ -311,6 +343,12 @@ value-returns-in-MakeVec3 g t c =
       least = kept.least;
       room = kept.room;
     }
+
+pub value-colour-requires : goal.value-colour-requires
+value-colour-requires g t c =
+    let same = ap tree_of c.in-MakeRgb.is ∙ three_trees MakeRgb _ _ _ _ _ _ (sym c.deref-in-MakeRgb.ensures) (sym c.deref-in-MakeRgb-2.ensures) (sym c.deref-in-MakeRgb-3.ensures) in
+    let ready = ready_as c.args.self.now c.args.expr.now _ same c.requires.ready in
+    λ κs lives. (omega (arith, c.decreases, ap the_size c.in-MakeRgb.is, sized-MakeRgb c.in-MakeRgb.red c.in-MakeRgb.green c.in-MakeRgb.blue, ap the_size c.deref-in-MakeRgb.ensures, ap the_size c.deref-in-MakeRgb-2.ensures, ap the_size c.deref-in-MakeRgb-3.ensures), (search rules, (ready, c.requires.fits)))
 
 pub value-returns-in-MakeRgb : goal.value-returns-in-MakeRgb
 value-returns-in-MakeRgb g t c =

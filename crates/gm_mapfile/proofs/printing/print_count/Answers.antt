@@ -1,0 +1,8 @@
+use Rattle.gm_mapfile.proofs.Exits.{never_ok}
+use Rattle.gm_mapfile.proofs.printing.print_count.Goals as goal
+
+pub returns-in_err-put : goal.returns-in_err-put
+returns-in_err-put c = never_ok _ c.from_residual.result c.from_residual.ensures.0
+
+pub returns-in_err-number : goal.returns-in_err-number
+returns-in_err-number c = never_ok _ c.from_residual-in_err-number.result c.from_residual-in_err-number.ensures.0

@@ -1,0 +1,7 @@
+use Rattle.std.proofs.Common.{sym, ◌∙◌}
+use Rattle.gm_model.specs.Tokens.{bytes_of}
+use Rattle.gm_parse.proofs.Keys.{kind_of_number}
+use Rattle.gm_parse.proofs.tokens.limit_of_key.Goals as goal
+
+pub value-requires-clause-kind : goal.value-requires-clause-kind
+value-requires-clause-kind c = kind_of_number c.args.token.now.kind (bytes_of c.args.lexer.now.text c.args.token.now) (sym c.requires.key ∙ c.in-Number.is)
