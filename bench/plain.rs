@@ -1,7 +1,8 @@
 //! A plain program that saves the maps of `gmr`, beside which `bench/beside` times it: dimension 2,
 //! at most one embedding of points on the vertices, and operations that are written by hand, with
 //! nothing proved. It reads and writes in pieces, and its report is its own. A text that is no map, a
-//! script that it doesn't know and a number past 64 bits end it.
+//! script that it doesn't know and a number past 64 bits end it. `grid` has a map of its own, without names
+//! and free places, in which nothing is looked up: the least that its work can cost.
 //!
 //!     plain show MAP            puts the map
 //!     plain run MAP SCRIPT OUT  applies the lines of the script, saves the map, puts a line for each
@@ -453,64 +454,108 @@ fn run(map_path: &str, script_path: &str, out: &str) {
     io::stdout().write_all(&report.to).expect("write");
 }
 
-fn squares(size: i64) -> Map {
-    const ALONG: [u32; 8] = [1, 0, 3, 2, 5, 4, 7, 6];
-    const AROUND: [u32; 8] = [7, 2, 1, 4, 3, 6, 5, 0];
-    const FACING: [u32; 8] = [5, 4, 7, 6, 1, 0, 3, 2];
-    const BEYOND: [(i64, i64); 8] = [(0, -1), (0, -1), (1, 0), (1, 0), (0, 1), (0, 1), (-1, 0), (-1, 0)];
-    const CORNER: [(i64, i64); 8] = [(0, 0), (1, 0), (1, 0), (1, 1), (1, 1), (0, 1), (0, 1), (0, 0)];
-    let mut map = Map { has_points: true, ..Map::default() };
-    let darts = 24 * (size * size) as usize;
-    map.names.reserve_exact(darts);
-    map.neighbours.reserve_exact(darts);
-    map.points.reserve_exact(darts);
-    map.slots.reserve_exact(darts);
-    for square in 0..size * size {
-        let (row, column, first) = (square / size, square % size, 8 * square as u32);
-        for dart in 0..8 {
-            map.add([1000 * (column + CORNER[dart].0), 1000 * (row + CORNER[dart].1), 0]);
-            let (x, y) = (column + BEYOND[dart].0, row + BEYOND[dart].1);
-            let is_inside = (0..size).contains(&x) && (0..size).contains(&y);
-            let across = if is_inside { 8 * (y * size + x) as u32 + FACING[dart] } else { first + dart as u32 };
-            map.neighbours[first as usize + dart] = [first + ALONG[dart], first + AROUND[dart], across];
-        }
-    }
-    map
+/// A map of squares, for `grid` alone: a dart is its place in the vectors, so that none has a name, and
+/// no face is bounded, so that its darts lie in a ring.
+struct Squares {
+    neighbours: Vec<[u32; 3]>,
+    points: Vec<Point>,
 }
 
-fn count_orbits(map: &Map, labels: &[usize], seen: &mut [usize], mark: usize) -> usize {
-    let mut orbits = 0;
-    let mut left = Vec::new();
-    for slot in 0..map.names.len() {
-        if seen[slot] == mark {
-            continue;
+impl Squares {
+    fn new(size: i64) -> Squares {
+        const ALONG: [u32; 8] = [1, 0, 3, 2, 5, 4, 7, 6];
+        const AROUND: [u32; 8] = [7, 2, 1, 4, 3, 6, 5, 0];
+        const FACING: [u32; 8] = [5, 4, 7, 6, 1, 0, 3, 2];
+        const BEYOND: [(i64, i64); 8] = [(0, -1), (0, -1), (1, 0), (1, 0), (0, 1), (0, 1), (-1, 0), (-1, 0)];
+        const CORNER: [(i64, i64); 8] = [(0, 0), (1, 0), (1, 0), (1, 1), (1, 1), (0, 1), (0, 1), (0, 0)];
+        let darts = 24 * (size * size) as usize;
+        let mut map = Squares { neighbours: Vec::with_capacity(darts), points: Vec::with_capacity(darts) };
+        for square in 0..size * size {
+            let (row, column, first) = (square / size, square % size, 8 * square as u32);
+            for dart in 0..8 {
+                let (x, y) = (column + BEYOND[dart].0, row + BEYOND[dart].1);
+                let is_inside = (0..size).contains(&x) && (0..size).contains(&y);
+                let across = if is_inside { 8 * (y * size + x) as u32 + FACING[dart] } else { first + dart as u32 };
+                map.neighbours.push([first + ALONG[dart], first + AROUND[dart], across]);
+                map.points.push([1000 * (column + CORNER[dart].0), 1000 * (row + CORNER[dart].1), 0]);
+            }
         }
-        orbits += 1;
-        seen[slot] = mark;
-        left.push(slot as u32);
-        while let Some(slot) = left.pop() {
-            for label in labels {
-                let other = map.alpha(*label, slot);
-                if seen[other as usize] != mark {
-                    seen[other as usize] = mark;
-                    left.push(other);
+        map
+    }
+
+    /// Puts a corner into the face of the dart, in the middle of its corners.
+    fn triangulate(&mut self, dart: u32, face: &mut Vec<u32>) {
+        face.clear();
+        let (mut next, mut label, mut middle) = (dart, 0, [0i64; 3]);
+        loop {
+            face.push(next);
+            for (sum, number) in middle.iter_mut().zip(self.points[next as usize]) {
+                *sum += number;
+            }
+            next = self.neighbours[next as usize][label];
+            label ^= 1;
+            if next == dart {
+                break;
+            }
+        }
+        let length = face.len();
+        let middle = middle.map(|sum| sum.div_euclid(length as i64));
+        let spokes = self.neighbours.len() as u32;
+        let centres = spokes + length as u32;
+        for place in 0..length {
+            let around = Squares::turn(place, 1, length);
+            self.neighbours.push([centres + place as u32, face[place], spokes + around]);
+            self.points.push(self.points[face[place] as usize]);
+            self.neighbours[face[place] as usize][1] = spokes + place as u32;
+        }
+        for place in 0..length {
+            let (along, around) = (Squares::turn(place, 0, length), Squares::turn(place, 1, length));
+            self.neighbours.push([spokes + place as u32, centres + along, centres + around]);
+            self.points.push(middle);
+        }
+    }
+
+    /// Where a label leads from a place of a ring that begins along the label 0.
+    fn turn(place: usize, label: usize, length: usize) -> u32 {
+        let is_onward = place % 2 == label;
+        (if is_onward { place + 1 } else { place + length - 1 } % length) as u32
+    }
+
+    /// How many orbits two labels have: each is a path or a ring, and is followed along its two ends.
+    fn count(&self, [first, second]: [usize; 2], seen: &mut [u8], mark: u8) -> usize {
+        let mut orbits = 0;
+        for from in 0..self.neighbours.len() {
+            if seen[from] == mark {
+                continue;
+            }
+            orbits += 1;
+            seen[from] = mark;
+            for (mut label, mut other) in [(first, second), (second, first)] {
+                let mut next = self.neighbours[from][label] as usize;
+                while seen[next] != mark {
+                    seen[next] = mark;
+                    next = self.neighbours[next][other] as usize;
+                    (label, other) = (other, label);
                 }
             }
         }
+        orbits
     }
-    orbits
 }
 
 fn grid(size: i64) {
-    let mut map = squares(size);
-    let mut walk = Walk::default();
-    let faces = 0..(size * size) as u32;
-    let applied = faces.filter(|face| triangulate(&mut map, &mut walk, 8 * face).is_some()).count();
-    map.check();
-    let mut seen = vec![0; map.names.len()];
-    let cells = [[1, 2], [0, 2], [0, 1]].map(|labels| count_orbits(&map, &labels, &mut seen, 3 * labels[0] + labels[1]));
-    let [points, edges, faces] = cells;
-    println!("grid {size} applied {applied} darts {} next {} cells {points} {edges} {faces}", map.names.len(), map.next);
+    let mut map = Squares::new(size);
+    let mut face = Vec::new();
+    let faces = (size * size) as u32;
+    for dart in 0..faces {
+        map.triangulate(8 * dart, &mut face);
+    }
+    let darts = map.neighbours.len();
+    let mut seen = vec![0; darts];
+    let points = map.count([1, 2], &mut seen, 1);
+    let edges = map.count([0, 2], &mut seen, 2);
+    let corners = map.count([0, 1], &mut seen, 3);
+    println!("grid {size} applied {faces} darts {darts} next {darts} cells {points} {edges} {corners}");
 }
 
 fn main() {

@@ -54,10 +54,33 @@ impl Reader<'_> {
         ensures least { steps.old ≤ steps.new }
         ensures room { scratch.new.bound ≡ scratch.old.bound }
     {
+        self.sum_and_count(mask, term, embed, scratch, steps).0
+    }
+
+    /// The sum of the embedding's values over the orbit of the term's dart, and how many darts the
+    /// orbit has. It is walked once.
+    pub(crate) fn sum_and_count<L: Ledger>(
+        &self,
+        mask: Mask,
+        term: &DartTerm,
+        embed: u8,
+        scratch: &mut Scratch,
+        steps: &mut Steps<L>,
+    ) -> (Option<Value>, Option<Value>)
+        requires ready { IsReady self.now (Sum mask term.now embed) }
+        requires fits { Fits scratch.old self.now.arena.now }
+        ensures sum { MatchOption result.0 (IsNone (HasValue (reading_of self.now) (Sum mask term.now embed))) (HasValue (reading_of self.now) (Sum mask term.now embed)) }
+        ensures count { MatchOption result.1 (IsNone (HasValue (reading_of self.now) (Count mask term.now))) (HasValue (reading_of self.now) (Count mask term.now)) }
+        ensures cost { IsWithinUnits (reading_of self.now) (Sum mask term.now embed) steps.old steps.new }
+        ensures least { steps.old ≤ steps.new }
+        ensures room { scratch.new.bound ≡ scratch.old.bound }
+    {
         let from = self.slot(term, steps);
         let walk = walk_mask(self.arena, from, mask, scratch, steps);
         let kind = self.arena.schema().embeds.as_slice()[embed as usize].kind;
-        add_up(self.arena, walk.slots(), embed, steps).value(kind)
+        let count = int(walk.slots().len() as i128);
+        let sum = add_up(self.arena, walk.slots(), embed, steps).value(kind);
+        (sum, count)
     }
 
     /// The least of the embedding's numbers over the orbit of the term's dart, and the greatest.

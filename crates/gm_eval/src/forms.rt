@@ -1,7 +1,7 @@
 //! The value of an expression, form by form, down its tree.
 
-ghost use Rattle.std.specs.Prelude.{◌≡◌, ◌≤◌};
-ghost use Rattle.gm_model.specs.Trees.{Unary, Binary, If, MakeVec2, MakeVec3, MakeRgb, tree_of};
+ghost use Rattle.std.specs.Prelude.{◌≡◌, ◌≤◌, IfSome, IsTrue};
+ghost use Rattle.gm_model.specs.Trees.{Count, Sum, Unary, Binary, If, MakeVec2, MakeVec3, MakeRgb, tree_of};
 ghost use Rattle.gm_walk.specs.Room.{Fits};
 ghost use Rattle.gm_eval.specs.Places.{IsWithinUnits};
 ghost use Rattle.gm_eval.specs.Readers.{AreNumbersThere, IsNumberThere, IsReady, IsTruthThere, IsValueThere, reading_of};
@@ -10,7 +10,7 @@ use crate::numbers::{rgb, vec2, vec3};
 use crate::operators::{binary, unary};
 use crate::reader::Reader;
 use gm_arena::Steps;
-use gm_model::{BinOp, Expr, UnOp, Value};
+use gm_model::{BinOp, DartTerm, Expr, Mask, UnOp, Value};
 use gm_walk::Scratch;
 use std::sync::ledger::Ledger;
 
@@ -90,9 +90,36 @@ impl Reader<'_> {
         ensures least { steps.old ≤ steps.new }
         ensures room { scratch.new.bound ≡ scratch.old.bound }
     {
+        if let Some((mask, term, embed)) = parts_of_mean(left, right) {
+            return self.of_mean(op, mask, term, embed, scratch, steps);
+        }
         let left = self.value(left, scratch, steps)?;
         let right = self.value(right, scratch, steps)?;
         binary(op, left, right)
+    }
+
+    /// The value of an operator of a sum and of the number of the darts that are summed over, as of a
+    /// mean. The orbit is walked once.
+    fn of_mean<L: Ledger>(
+        &self,
+        op: BinOp,
+        mask: Mask,
+        term: &DartTerm,
+        embed: u8,
+        scratch: &mut Scratch,
+        steps: &mut Steps<L>,
+    ) -> Option<Value>
+        requires ready { IsReady self.now (Binary op (Sum mask term.now embed) (Count mask term.now)) }
+        requires fits { Fits scratch.old self.now.arena.now }
+        ensures value { IsValueThere self.now (Binary op (Sum mask term.now embed) (Count mask term.now)) result }
+        ensures cost { IsWithinUnits (reading_of self.now) (Binary op (Sum mask term.now embed) (Count mask term.now)) steps.old steps.new }
+        ensures least { steps.old ≤ steps.new }
+        ensures room { scratch.new.bound ≡ scratch.old.bound }
+    {
+        let (sum, count) = self.sum_and_count(mask, term, embed, scratch, steps);
+        let Some(sum) = sum else { return None };
+        let Some(count) = count else { return None };
+        binary(op, sum, count)
     }
 
     /// The value of the part that the condition chooses. The other is not read.
@@ -248,4 +275,23 @@ impl Reader<'_> {
         let z = self.number(z, scratch, steps)?;
         Some((x, y, z))
     }
+}
+
+/// The orbit of a sum and of the number of its darts, and the embedding that is summed, where the two
+/// parts are these, as they are in a mean.
+fn parts_of_mean<'e>(left: &'e Expr, right: &'e Expr) -> Option<(Mask, &'e DartTerm, u8)>
+    ensures { IfSome result (λ mean. (tree_of left.now ≡ Sum mean.0 mean.1.now mean.2) × (tree_of right.now ≡ Count mean.0 mean.1.now)) }
+{
+    match (left, right) {
+        (Expr::Sum(mask, term, embed), Expr::Count(other, same))
+            if mask.bits == other.bits && is_same(term, same) => { Some((*mask, term, *embed)) }
+        _ => None,
+    }
+}
+
+/// Whether both terms are the same.
+fn is_same(term: &DartTerm, other: &DartTerm) -> bool
+    ensures { IsTrue result → term.now ≡ other.now }
+{
+    term.node == other.node && term.path.as_slice() == other.path.as_slice()
 }

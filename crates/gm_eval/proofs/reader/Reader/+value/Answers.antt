@@ -360,3 +360,6 @@ value-returns-in-MakeRgb g t c =
       least = kept.least;
       room = kept.room;
     }
+
+pub binary-returns-in-Some-clause-value : goal.binary-returns-in-Some-clause-value
+binary-returns-in-Some-clause-value g t c = rw (c.in-Some.ensures.0, c.in-Some.ensures.1) c.of_mean.ensures.value
