@@ -1,4 +1,3 @@
-pub mod Exits
 pub mod FreeLemmas
 pub mod LabelLemmas
 pub mod LeastLemmas

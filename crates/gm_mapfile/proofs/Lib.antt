@@ -9,7 +9,6 @@ pub mod DartNumbers
 pub mod OneListing
 pub mod MapWithin
 pub mod MapRows
-pub mod Exits
 pub mod FormWithin
 pub mod MapReadings
 pub mod Listed

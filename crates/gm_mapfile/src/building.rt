@@ -20,10 +20,10 @@ ghost use Rattle.gm_mapfile.specs.Building.{AreInRoom, AreSlotsLive, AreWhole, A
 use crate::fault::MapFault;
 use crate::name::Name;
 use crate::ordering::in_order;
-use crate::packed::{MOST_EMBEDS, line_size, unpack_line};
+use crate::packed::{line_size, unpack_line};
 use crate::reading::Draft;
 use gm_arena::{Arena, Slot, Steps};
-use gm_model::{Schema, Value};
+use gm_model::{MOST_EMBEDS, Schema, Value};
 use std::alloc::Global;
 use std::sync::ledger::Ledger;
 

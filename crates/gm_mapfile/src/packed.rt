@@ -3,11 +3,8 @@
 ghost use Rattle.std.specs.Prelude.{◌≡◌, ◌≤◌, [], ◌∷◌, ◌++◌, length, take, OnOk};
 ghost use Rattle.gm_mapfile.specs.Packed.{words_of, size_of, size_of_line, value_in, values_in, colour_in};
 
-use gm_model::{Embed, Kind, Value};
+use gm_model::{Embed, Kind, MOST_EMBEDS, Value};
 use std::alloc::AllocError;
-
-/// How many embeddings a schema has at most.
-pub(crate) const MOST_EMBEDS: usize = 8;
 
 /// How many words a value of the kind has.
 fn word_count(kind: Kind) -> usize

@@ -23,7 +23,7 @@ mod word;
 pub use dim::Dim;
 pub use expr::{BinOp, DartTerm, Expr, Path, UnOp};
 pub use items::Items;
-pub use limit::{LimitKind, MOST_DARTS, MOST_NAMES};
+pub use limit::{LimitKind, MOST_DARTS, MOST_EMBEDS, MOST_NAMES};
 pub use memory::OutOfMemory;
 pub use name::Name;
 pub use rule::{Book, Link, Node, Param, RuleFault, RuleTable, Set, Side};

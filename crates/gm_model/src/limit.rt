@@ -1,6 +1,9 @@
 /// How many darts a map can have.
 pub const MOST_DARTS: u32 = 1_048_576;
 
+/// How many embeddings a schema can have.
+pub const MOST_EMBEDS: usize = 8;
+
 /// The names of darts are below this number, so the next name of a map is at most this.
 pub const MOST_NAMES: u32 = 16_777_216;
 

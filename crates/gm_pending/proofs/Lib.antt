@@ -16,7 +16,6 @@ pub mod WithArcs
 pub mod WithValues
 pub mod NewValues
 pub mod WithoutDarts
-pub mod Exits
 pub mod Extended
 pub mod Numbers
 pub mod AddedDarts

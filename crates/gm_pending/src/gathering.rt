@@ -12,11 +12,8 @@ use crate::edits::ValueAt;
 use crate::pending::Pending;
 use crate::values::given;
 use gm_arena::Steps;
-use gm_model::{OutOfMemory, Value};
+use gm_model::{MOST_EMBEDS, OutOfMemory, Value};
 use std::sync::ledger::Ledger;
-
-/// How many embeddings a schema has at most.
-const MOST_EMBEDS: usize = 8;
 
 impl Pending<'_, '_> {
     /// The number of embeddings.

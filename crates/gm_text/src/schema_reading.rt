@@ -13,10 +13,10 @@ use crate::schema_fault::SchemaFault;
 use crate::schema_words::{
     is_declared, is_reserved, kind_named, next_token, reads_sign, reads_word, value, with_label,
 };
-use gm_model::{Dim, Embed, Items, Kind, LimitKind, Mask, Name, Schema, TokenKind};
+use gm_model::{
+    Dim, Embed, Items, Kind, LimitKind, MOST_EMBEDS, Mask, Name, Schema, TokenKind,
+};
 use std::alloc::Global;
-
-const MOST_EMBEDS: usize = 8;
 
 fn read_dim_word(lexer: &mut Lexer<'_>) -> Result<(), SchemaFault>
     ensures reads { IfOk result (λ _. (strict : Bool) → Reads strict states.AtDim lexer.old lexer.new states.AtTop) }

@@ -2,7 +2,7 @@ use Rattle.std.proofs.Common.{◌≡◌, ◌+◌, ℕ, true, get_or, sym, ap, su
 use Rattle.std.proofs.lemmas.Bool.{false≢true}
 use Rattle.gm_arena.specs.ArenaMap.{IsLiveName}
 use Rattle.gm_walk.proofs.CountLemmas.{has_slot, name_of_slot}
-use Rattle.gm_cells.proofs.Exits.{unless_ok}
+use Rattle.gm_model.proofs.Exits.{unless_ok}
 use Rattle.gm_cells.proofs.SettledLemmas.{AreListed, colour_of, colour_true, colour_false, listed_yes, listed_no, listed_none, first_colour_is, even_is}
 use Rattle.gm_cells.proofs.colouring.first_colour.Goals as goal
 use Rattle.gm_cells.proofs.colouring.first_colour.Goals.{then-marks-slot-ne0+in_ok-push, else-marks-slot-ne0}

@@ -4,7 +4,7 @@ use Rattle.gm_cells.specs.Search.{IsFresh, IsSearched}
 use Rattle.gm_cells.specs.Settled.{IsSettled}
 use Rattle.gm_walk.proofs.CountLemmas.{has_slot, name_of_slot}
 use Rattle.gm_cells.proofs.SettledLemmas.{none_at, skipped, fresh_here, odd_here, settled_here, even_is, room_in, zeros_long, none_settled}
-use Rattle.gm_cells.proofs.Exits.{unless_ok}
+use Rattle.gm_model.proofs.Exits.{unless_ok}
 use Rattle.gm_cells.proofs.colouring.first_odd.Goals as goal
 use Rattle.gm_cells.proofs.colouring.first_odd.Goals.{then-marks-even-eq0+then-marks-even-eq0-2+in_ok-search+else-marks-even-ne0, else-marks-even-eq0, else-marks-even-eq0-via-then-marks-even-eq0+else-marks-even-eq0-2, else-marks-even-eq0-via-else-marks-even-eq0}
 

@@ -3,7 +3,7 @@ use Rattle.std.proofs.lemmas.Option.{MatchOption-at_some, MatchOption-at_none}
 use Rattle.gm_arena.specs.ArenaAsMap.{as_map}
 use Rattle.gm_cells.specs.Colours.{AreOfFirstColour, IsFirstOdd}
 use Rattle.gm_cells.specs.Settled.{IsOddStart, IsSettled}
-use Rattle.gm_cells.proofs.Exits.{unless_ok}
+use Rattle.gm_model.proofs.Exits.{unless_ok}
 use Rattle.gm_cells.proofs.LeastLemmas.{first_odd_is}
 use Rattle.gm_cells.proofs.SettledLemmas.{zeros_long}
 use Rattle.gm_cells.proofs.colouring.orient_by.Goals as goal

@@ -4,7 +4,7 @@ use Rattle.gm_arena.specs.ArenaAsMap.{as_map}
 use Rattle.gm_cells.specs.Cells.{HasCells, HasFreeDarts}
 use Rattle.gm_model.specs.Maps.{IsDart}
 use Rattle.gm_model.specs.Orbits.{HasCount}
-use Rattle.gm_cells.proofs.Exits.{unless_ok}
+use Rattle.gm_model.proofs.Exits.{unless_ok}
 use Rattle.gm_cells.proofs.LabelLemmas.{components_counted, mask_within}
 use Rattle.gm_cells.proofs.counts.count.Goals as goal
 

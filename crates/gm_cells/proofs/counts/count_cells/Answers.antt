@@ -3,7 +3,7 @@ use Rattle.std.proofs.lemmas.List.{length_push}
 use Rattle.gm_arena.specs.ArenaAsMap.{as_map}
 use Rattle.gm_cells.specs.Cells.{HasCellsOf}
 use Rattle.gm_cells.proofs.LabelLemmas.{by_label_more, by_label_all, cells_counted, mask_within, one_turn_more}
-use Rattle.gm_cells.proofs.Exits.{unless_ok}
+use Rattle.gm_model.proofs.Exits.{unless_ok}
 use Rattle.gm_cells.proofs.counts.count_cells.Goals as goal
 
 pub orbits-requires-clause-mask : goal.orbits-requires-clause-mask

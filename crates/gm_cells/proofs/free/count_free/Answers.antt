@@ -3,7 +3,7 @@ use Rattle.std.proofs.lemmas.List.{length_push}
 use Rattle.gm_arena.specs.ArenaAsMap.{as_map}
 use Rattle.gm_cells.specs.Cells.{HasFree}
 use Rattle.gm_cells.proofs.LabelLemmas.{by_label_more, by_label_all}
-use Rattle.gm_cells.proofs.Exits.{unless_ok}
+use Rattle.gm_model.proofs.Exits.{unless_ok}
 use Rattle.gm_cells.proofs.free.count_free.Goals as goal
 
 pub loop-label-preserved : goal.loop-label-preserved

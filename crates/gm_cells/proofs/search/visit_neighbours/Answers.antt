@@ -4,7 +4,7 @@ use Rattle.gm_arena.specs.ArenaMap.{IsAt, IsLiveSlot, alpha, name_at}
 use Rattle.gm_cells.specs.declared.search.Visit.{Visit}
 use Rattle.gm_cells.specs.Search.{Reaches, nowhere, dart_in}
 use Rattle.gm_cells.proofs.SearchLemmas.{stays_there, reached_there, next_visit, longer_after, same_after}
-use Rattle.gm_cells.proofs.Exits.{never_ok}
+use Rattle.gm_model.proofs.Exits.{never_ok}
 use Rattle.gm_cells.proofs.search.visit_neighbours.Goals as goal
 use Rattle.gm_cells.proofs.search.visit_neighbours.Goals.{then-to-visit+in_ok-reach, else-to-visit}
 

@@ -1,7 +1,7 @@
 use Rattle.std.proofs.Common.{◌+◌, ◌*◌}
 use Rattle.gm_mapfile.specs.Draft.{version_in}
 use Rattle.gm_mapfile.specs.Rows.{darts_in}
-use Rattle.gm_mapfile.proofs.Exits.{unless_ok}
+use Rattle.gm_model.proofs.Exits.{unless_ok}
 use Rattle.gm_mapfile.proofs.Joined.{if_err, if_ok_both}
 use Rattle.gm_mapfile.proofs.Reordered.{same_read, held_moved, fault_moved, most_moved}
 use Rattle.gm_mapfile.proofs.building.build.Goals as goal

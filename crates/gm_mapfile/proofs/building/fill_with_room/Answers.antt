@@ -8,7 +8,7 @@ use Rattle.gm_mapfile.specs.Draft.{version_in}
 use Rattle.gm_mapfile.specs.Rows.{darts_in}
 use Rattle.gm_model.specs.Limits.{most_darts}
 use Rattle.gm_mapfile.specs.Faults.{IsNameFault}
-use Rattle.gm_mapfile.proofs.Exits.{never_ok}
+use Rattle.gm_model.proofs.Exits.{never_ok}
 use Rattle.gm_mapfile.proofs.Whole.{still_fresh}
 use Rattle.gm_mapfile.proofs.building.fill_with_room.Goals as goal
 

@@ -2,7 +2,7 @@ use Rattle.std.proofs.Common.{ℕ, ◌++◌, ◌∷◌, [], map, sym, ap, ◌∙
 use Rattle.std.proofs.lemmas.List.{map-append}
 use Rattle.gm_mapfile.specs.Ordering.{counted_from}
 use Rattle.gm_mapfile.specs.declared.ordering.Line.{Line}
-use Rattle.gm_mapfile.proofs.Exits.{unless_ok}
+use Rattle.gm_model.proofs.Exits.{unless_ok}
 use Rattle.gm_mapfile.proofs.Reordered.{counted_push}
 use Rattle.gm_mapfile.proofs.ordering.lines_of.Goals as goal
 

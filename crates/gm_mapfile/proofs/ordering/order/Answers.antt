@@ -1,6 +1,6 @@
 use Rattle.std.proofs.Common.{◌≡◌, ◌+◌, map, ap, ◌∙◌}
 use Rattle.gm_mapfile.specs.Packed.{size_of_line}
-use Rattle.gm_mapfile.proofs.Exits.{never_ok}
+use Rattle.gm_model.proofs.Exits.{never_ok}
 use Rattle.gm_mapfile.proofs.Joined.{ok_more}
 use Rattle.gm_mapfile.specs.declared.ordering.Line.{Line}
 use Rattle.gm_mapfile.proofs.Reordered.{order_of, within_of, numbers_within, words_within, taken_of, room_in, darts_ordered}

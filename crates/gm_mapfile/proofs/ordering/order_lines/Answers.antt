@@ -1,4 +1,4 @@
-use Rattle.gm_mapfile.proofs.Exits.{never_ok}
+use Rattle.gm_model.proofs.Exits.{never_ok}
 use Rattle.gm_mapfile.proofs.ordering.order_lines.Goals as goal
 
 pub returns-in_err-taken : goal.returns-in_err-taken

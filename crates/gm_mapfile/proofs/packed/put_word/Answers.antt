@@ -1,4 +1,4 @@
-use Rattle.gm_mapfile.proofs.Exits.{never_ok}
+use Rattle.gm_model.proofs.Exits.{never_ok}
 use Rattle.gm_mapfile.proofs.packed.put_word.Goals as goal
 
 pub returns-in_err-push : goal.returns-in_err-push

@@ -1,5 +1,5 @@
 use Rattle.std.proofs.Common.{arith}
-use Rattle.gm_mapfile.proofs.Exits.{never_ok}
+use Rattle.gm_model.proofs.Exits.{never_ok}
 use Rattle.gm_mapfile.proofs.Printed.{slots_long}
 use Rattle.gm_mapfile.proofs.printing.print_dart.Goals as goal
 

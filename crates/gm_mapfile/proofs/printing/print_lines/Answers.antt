@@ -3,7 +3,7 @@ use Rattle.std.specs.List.{flat_map}
 use Rattle.gm_mapfile.specs.MapText.{line_of}
 use Rattle.gm_arena.specs.ArenaMap.{IsLiveName}
 use Rattle.gm_mapfile.specs.Rows.{darts_of, dart_at}
-use Rattle.gm_mapfile.proofs.Exits.{never_ok}
+use Rattle.gm_model.proofs.Exits.{never_ok}
 use Rattle.gm_mapfile.proofs.Printed.{whole_taken, dart_at_place, lines_with, keys_counted, darts_counted, steps_within, steps_with}
 use Rattle.gm_mapfile.proofs.printing.print_lines.Goals as goal
 

@@ -1,4 +1,4 @@
-use Rattle.gm_mapfile.proofs.Exits.{never_ok}
+use Rattle.gm_model.proofs.Exits.{never_ok}
 use Rattle.gm_mapfile.proofs.printing.print_next.Goals as goal
 
 pub returns-in_err-put : goal.returns-in_err-put

@@ -1,4 +1,4 @@
-use Rattle.gm_mapfile.proofs.Exits.{never_ok}
+use Rattle.gm_model.proofs.Exits.{never_ok}
 use Rattle.gm_mapfile.proofs.Joined.{ok_more}
 use Rattle.gm_mapfile.proofs.Printed.{text_with}
 use Rattle.gm_mapfile.proofs.printing.print_text.Goals as goal

@@ -2,7 +2,7 @@ use Rattle.std.proofs.Common.{[], arith}
 use Rattle.std.proofs.lemmas.Result.{err_from_is_err_and}
 use Rattle.gm_text.specs.Nested.{Outside}
 use Rattle.gm_mapfile.specs.MapReading.{AtDarts, AtCount, among, darts_wants}
-use Rattle.gm_mapfile.proofs.Exits.{unless_ok}
+use Rattle.gm_model.proofs.Exits.{unless_ok}
 use Rattle.gm_mapfile.proofs.Joined.{reads_then, stops_then}
 use Rattle.gm_mapfile.proofs.MapSteps.{darts_reads, darts_stops, count_reads, count_lacks}
 use Rattle.gm_mapfile.proofs.reading.read_count.Goals as goal

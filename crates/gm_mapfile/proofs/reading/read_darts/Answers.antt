@@ -3,7 +3,7 @@ use Rattle.std.proofs.lemmas.Result.{err_from_is_err_and}
 use Rattle.gm_model.specs.declared.schema.Embed.{Embed}
 use Rattle.gm_mapfile.specs.MapText.{DartName}
 use Rattle.gm_mapfile.specs.MapReading.{TheNumber, Misses, values_wants, ReadsNames, ReadsValues}
-use Rattle.gm_mapfile.proofs.Exits.{unless_ok}
+use Rattle.gm_model.proofs.Exits.{unless_ok}
 use Rattle.gm_mapfile.proofs.DartReads.{lines_more, stop_at_names, stop_at_values}
 use Rattle.gm_mapfile.proofs.reading.read_darts.Goals as goal
 

@@ -4,7 +4,7 @@ use Rattle.gm_text.specs.Nested.{Outside}
 use Rattle.gm_text.specs.SchemaReading as schema
 use Rattle.gm_mapfile.specs.Draft.{version_in}
 use Rattle.gm_mapfile.specs.MapReading.{Head, start, into_schema, behind_schema, AtDarts, among, darts_wants}
-use Rattle.gm_mapfile.proofs.Exits.{unless_ok}
+use Rattle.gm_model.proofs.Exits.{unless_ok}
 use Rattle.gm_mapfile.proofs.Joined.{reads_then, stops_then}
 use Rattle.gm_mapfile.proofs.SchemaInside.{schema_reads, schema_stops, at_end, behind_reads, behind_stops}
 use Rattle.gm_mapfile.proofs.reading.read_head.Goals as goal

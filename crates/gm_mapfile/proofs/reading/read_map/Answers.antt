@@ -2,7 +2,7 @@ use Rattle.std.proofs.Common.{sym, subst, arith}
 use Rattle.std.proofs.lemmas.Result.{err_from_is_err_and}
 use Rattle.gm_mapfile.specs.Draft.{version_in}
 use Rattle.gm_mapfile.specs.Faults.{IsFaultOf}
-use Rattle.gm_mapfile.proofs.Exits.{unless_ok}
+use Rattle.gm_model.proofs.Exits.{unless_ok}
 use Rattle.gm_mapfile.proofs.ReadMap.{text_fault_of, in_room, name_fault_of, sound_of, text_of_held, law_fault_of, built_within, all_within}
 use Rattle.gm_mapfile.proofs.reading.read_map.Goals as goal
 

@@ -1,7 +1,7 @@
 use Rattle.std.proofs.Common.{◌≡◌, ℕ, ◌+◌, List, subst, sym, arith}
 use Rattle.std.proofs.lemmas.Result.{err_from_is_err_and}
 use Rattle.gm_mapfile.specs.MapReading.{ReadsNames}
-use Rattle.gm_mapfile.proofs.Exits.{never_ok}
+use Rattle.gm_model.proofs.Exits.{never_ok}
 use Rattle.gm_mapfile.proofs.DartReads.{names_none, names_more, names_stop}
 use Rattle.gm_mapfile.proofs.reading.read_names.Goals as goal
 

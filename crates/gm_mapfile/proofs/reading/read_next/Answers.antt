@@ -3,7 +3,7 @@ use Rattle.std.proofs.lemmas.Result.{err_from_is_err_and}
 use Rattle.gm_text.specs.Nested.{Outside}
 use Rattle.gm_mapfile.specs.MapText.{Second}
 use Rattle.gm_mapfile.specs.MapReading.{AtNext, AtNextName, AtDarts}
-use Rattle.gm_mapfile.proofs.Exits.{unless_ok}
+use Rattle.gm_model.proofs.Exits.{unless_ok}
 use Rattle.gm_mapfile.proofs.Joined.{reads_then, stops_then}
 use Rattle.gm_mapfile.proofs.MapSteps.{next_reads, next_stops, next_name_reads, next_name_lacks}
 use Rattle.gm_mapfile.proofs.reading.read_next.Goals as goal

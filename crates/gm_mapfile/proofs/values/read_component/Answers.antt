@@ -2,7 +2,7 @@ use Rattle.std.proofs.Common.{rules, ◌≡◌, true, to_z, of_z}
 use Rattle.std.proofs.lemmas.Result.{err_from_is_err_and}
 use Rattle.std.specs.Int.{w64}
 use Rattle.gm_text.specs.ValueText.{is_channel}
-use Rattle.gm_mapfile.proofs.Exits.{unless_ok}
+use Rattle.gm_model.proofs.Exits.{unless_ok}
 use Rattle.gm_mapfile.proofs.ValueSteps.{component_lacks, component_takes}
 use Rattle.gm_mapfile.proofs.values.read_component.Goals.{else-colour-via-then-colour+else-value-gt255, then-value-lt0, else-value-lt0, else-colour-via-else-colour}
 use Rattle.gm_mapfile.proofs.values.read_component.Goals as goal

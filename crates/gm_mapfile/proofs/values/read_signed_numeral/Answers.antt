@@ -2,7 +2,7 @@ use Rattle.std.proofs.Common.{rules, ◌≡◌, ◌≢◌, codes, arith}
 use Rattle.std.proofs.lemmas.Result.{err_from_is_err_and}
 use Rattle.gm_model.specs.declared.token.TokenKind.TheVariants as tokens
 use Rattle.gm_model.specs.Tokens.{bytes_of}
-use Rattle.gm_mapfile.proofs.Exits.{unless_ok}
+use Rattle.gm_model.proofs.Exits.{unless_ok}
 use Rattle.gm_mapfile.proofs.WordTokens.{sign_symbol, none_signed, number_stands, sign_stands, no_signed, plain_next, minus_next, minus_lacks}
 use Rattle.gm_mapfile.proofs.values.read_signed_numeral.Goals as goal
 

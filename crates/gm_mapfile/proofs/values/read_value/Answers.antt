@@ -1,7 +1,7 @@
 use Rattle.std.proofs.lemmas.Result.{err_from_is_err_and}
 use Rattle.std.specs.Int.{w64}
 use Rattle.std.proofs.Common.{rules, ◌≡◌, sym, to_z, of_z}
-use Rattle.gm_mapfile.proofs.Exits.{unless_ok}
+use Rattle.gm_model.proofs.Exits.{unless_ok}
 use Rattle.gm_mapfile.proofs.values.read_value.Goals as goal
 
 pub returns-in_err-read_component-in-Int-clause-takes : goal.returns-in_err-read_component-in-Int-clause-takes

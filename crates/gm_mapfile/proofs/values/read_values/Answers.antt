@@ -4,7 +4,7 @@ use Rattle.std.proofs.lemmas.Result.{err_from_is_err_and}
 use Rattle.gm_model.specs.declared.schema.Embed.{Embed}
 use Rattle.gm_mapfile.specs.MapReading.{Misses, values_wants, ReadsValues}
 use Rattle.gm_mapfile.specs.Packed.{words_of}
-use Rattle.gm_mapfile.proofs.Exits.{never_ok}
+use Rattle.gm_model.proofs.Exits.{never_ok}
 use Rattle.gm_mapfile.proofs.DartReads.{values_none, values_more, values_stop, taken_to, taken_at}
 use Rattle.gm_mapfile.proofs.values.read_values.Goals as goal
 

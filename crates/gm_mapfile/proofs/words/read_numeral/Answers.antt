@@ -1,6 +1,6 @@
 use Rattle.std.proofs.Common.{rules, ◌≡◌, ◌≢◌, arith}
 use Rattle.gm_model.specs.declared.token.TokenKind.TheVariants as tokens
-use Rattle.gm_mapfile.proofs.Exits.{unless_ok}
+use Rattle.gm_model.proofs.Exits.{unless_ok}
 use Rattle.gm_mapfile.proofs.WordTokens.{no_number, number_stands}
 use Rattle.gm_mapfile.proofs.words.read_numeral.Goals as goal
 

@@ -2,7 +2,7 @@ use Rattle.std.proofs.Common.{rules, ◌≡◌, ◌≢◌}
 use Rattle.gm_model.specs.declared.token.TokenKind.TheVariants as tokens
 use Rattle.gm_model.specs.Symbols.{Sign}
 use Rattle.gm_model.specs.Tokens.{bytes_of}
-use Rattle.gm_mapfile.proofs.Exits.{unless_ok}
+use Rattle.gm_model.proofs.Exits.{unless_ok}
 use Rattle.gm_mapfile.proofs.WordTokens.{sign_symbol, is_other, sign_stands}
 use Rattle.gm_mapfile.proofs.words.read_sign_token.Goals.{then-ne-via-then-ne, then-ne-via-else-ne+then-ne-2}
 use Rattle.gm_mapfile.proofs.words.read_sign_token.Goals as goal

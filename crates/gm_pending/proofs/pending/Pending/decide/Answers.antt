@@ -6,7 +6,7 @@ use Rattle.gm_pending.specs.Reached.{AreReached}
 use Rattle.gm_pending.specs.Results.{PendingOf, AreDeciders, IsWithinReach, IsPrepared}
 use Rattle.gm_pending.proofs.Answering.{read_there}
 use Rattle.gm_pending.proofs.Decided.{are_deciders, are_reached, within_reach, none_decided}
-use Rattle.gm_pending.proofs.Exits.{unless_ok}
+use Rattle.gm_model.proofs.Exits.{unless_ok}
 use Rattle.gm_pending.proofs.pending.Pending.decide.Goals as goal
 
 pub returns-in_err-outcome-clause-cost : goal.returns-in_err-outcome-clause-cost

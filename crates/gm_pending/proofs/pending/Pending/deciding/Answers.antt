@@ -3,7 +3,7 @@ use Rattle.gm_model.specs.Maps.{IsEmbedAt}
 use Rattle.gm_pending.specs.declared.decider.Decider.{Decider}
 use Rattle.gm_pending.specs.Results.{PendingOf, AreDeciders, IsWithinReach}
 use Rattle.gm_pending.proofs.Answering.{kept_answers, kept_asked, kept_deciders, kept_prepared, good_if_ungiven}
-use Rattle.gm_pending.proofs.Exits.{never_ok, on_err, unless_ok}
+use Rattle.gm_model.proofs.Exits.{never_ok, on_err, unless_ok}
 use Rattle.std.proofs.lemmas.List.{length-map}
 use Rattle.gm_pending.specs.Answered.{deciders_in}
 use Rattle.gm_pending.proofs.pending.Pending.deciding.Goals as goal

@@ -5,7 +5,7 @@ use Rattle.gm_pending.specs.declared.rewrite.Arcs.TheVariants.{Freed, Made}
 use Rattle.gm_pending.specs.Collected.{RewriteOf, all_arcs, all_removed, rule_at}
 use Rattle.gm_pending.specs.Results.{PendingOf, IsPrepared, rule_in}
 use Rattle.gm_pending.proofs.Collected.{are_edits, few_added}
-use Rattle.gm_pending.proofs.Exits.{unless_ok}
+use Rattle.gm_model.proofs.Exits.{unless_ok}
 use Rattle.gm_pending.proofs.pending.Pending.edits.Goals as goal
 
 -- where there are 8 embeddings at most and 2 labels at least, the values of added darts take few steps
