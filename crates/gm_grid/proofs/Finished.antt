@@ -9,7 +9,7 @@ use Rattle.gm_model.specs.declared.value.Value.TheVariants.{Int}
 use Rattle.gm_arena.specs.ArenaAsMap.{as_map}
 use Rattle.gm_arena.specs.ArenaMap.{ArenaMap, Dart}
 use Rattle.gm_grid.specs.GridMap.{dart, dart_count, neighbour, point, IsGridMap}
-use Rattle.gm_grid.specs.Building.{row_of, column_of, number_of, neighbour_of, linked_of, AreLinked}
+use Rattle.gm_grid.specs.Building.{row_of, column_of, number_of, neighbour_of, point_of, linked_of, AreLinked}
 
 module _ (m row column k : ℕ) (row_low : row < m) (column_low : column < m) (k_low : k < 8) where
   square : dart m row column k / 8 ≡ row * m + column
@@ -27,15 +27,18 @@ module _ (m row column k : ℕ) (row_low : row < m) (column_low : column < m) (k
   pub dart_below : dart m row column k < dart_count m
   dart_below = omega (arith, mul-add-lt row m column m row_low column_low)
 
+  pub neighbour_is : (i : ℕ) → neighbour m i row column k ≡ neighbour_of m i (dart m row column k)
+  neighbour_is i = rw (row_is, column_is, number_is) refl
+
+  pub point_named : point row column k ≡ point_of m (dart m row column k)
+  point_named = rw (row_is, column_is, number_is) refl
+
   module _ (a : ArenaMap) (all : AreLinked m (dart_count m) a) where
     here : get a.darts (dart m row column k) ≡ Some (linked_of m (dart m row column k))
     here = all.linked (dart m row column k) dart_below
 
-    by_square : (i : ℕ) → neighbour_of m i (dart m row column k) ≡ neighbour m i row column k
-    by_square i = rw (row_is, column_is, number_is) refl
-
     pub alpha_is : (i : ℕ) → i ≤ 2 → (as_map a).alpha i (dart m row column k) ≡ neighbour m i row column k
-    alpha_is i low = ap (λ o. option_map_or (λ (x : Dart). slice_index_or x.alphas i (dart m row column k)) o (dart m row column k)) here ∙ (label i low ∙ by_square i)
+    alpha_is i low = ap (λ o. option_map_or (λ (x : Dart). slice_index_or x.alphas i (dart m row column k)) o (dart m row column k)) here ∙ (label i low ∙ sym (neighbour_is i))
       where
         label : (i : ℕ) → i ≤ 2 → slice_index_or (linked_of m (dart m row column k)).alphas i (dart m row column k) ≡ neighbour_of m i (dart m row column k)
         label zero low = refl
@@ -44,7 +47,7 @@ module _ (m row column k : ℕ) (row_low : row < m) (column_low : column < m) (k
         label (suc (suc (suc i))) low = absurd (omega (arith, low))
 
     pub point_is : (as_map a).value 0 (dart m row column k) ≡ point row column k
-    point_is = ap (λ o. option_map_or (λ (x : Dart). slice_index_or x.values 0 (Int (pos 0))) o (Int (pos 0))) here ∙ rw (row_is, column_is, number_is) refl
+    point_is = ap (λ o. option_map_or (λ (x : Dart). slice_index_or x.values 0 (Int (pos 0))) o (Int (pos 0))) here ∙ sym point_named
 
 pub is_grid : (m : ℕ) (a : ArenaMap) → AreLinked m (dart_count m) a → IsGridMap m (as_map a)
 is_grid m a all = record {

@@ -1,5 +1,5 @@
 -- One dart more of a grid, added or linked.
-use Rattle.std.proofs.Common.{◌≡◌, ◌≢◌, ℕ, ◌+◌, ◌<◌, ◌≤◌, List, [], ◌∷◌, Option, None, Some, MatchOption, is_some, inl, inr, refl, sym, ap, ap₂, subst, ◌∙◌, arith}
+use Rattle.std.proofs.Common.{◌≡◌, ◌≢◌, ℕ, ◌+◌, ◌<◌, ◌≤◌, List, [], ◌∷◌, Option, None, Some, MatchOption, is_some, inl, inr, sym, ap, ap₂, subst, ◌∙◌, arith}
 use Rattle.std.specs.Option.{option_map}
 use Rattle.std.specs.Ordering.{nat_cmp}
 use Rattle.std.specs.FinMap.{get, get-empty}
@@ -11,16 +11,8 @@ use Rattle.gm_arena.specs.ArenaMap.{ArenaMap, Dart, IsAt, IsLiveName}
 use Rattle.gm_arena.specs.Edits.{empty_map, with_dart, with_alpha, free_dart, turned}
 use Rattle.gm_arena.proofs.InsideLemmas.{some_of}
 use Rattle.gm_arena.proofs.MapLemmas.{get-with_dart_same, get-with_dart_other, get-with_alpha_same, get-with_alpha_other}
-use Rattle.gm_grid.specs.GridMap.{grid_schema, dart_count, neighbour, point}
-use Rattle.gm_grid.specs.Building.{row_of, column_of, number_of, neighbour_of, point_of, free_of, linked_of, AreAdded, AreLinked}
-
--- ---- by the name
-
-pub neighbour_named : (m i d row column k : ℕ) → row ≡ row_of m d → column ≡ column_of m d → k ≡ number_of d → neighbour m i row column k ≡ neighbour_of m i d
-neighbour_named m i d row column k row_is column_is number_is = rw (row_is, column_is, number_is) refl
-
-pub point_named : (m d row column k : ℕ) → row ≡ row_of m d → column ≡ column_of m d → k ≡ number_of d → point row column k ≡ point_of m d
-point_named m d row column k row_is column_is number_is = rw (row_is, column_is, number_is) refl
+use Rattle.gm_grid.specs.GridMap.{grid_schema, dart_count}
+use Rattle.gm_grid.specs.Building.{neighbour_of, point_of, free_of, linked_of, AreAdded, AreLinked}
 
 -- ---- adding
 

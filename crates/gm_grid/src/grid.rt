@@ -4,12 +4,12 @@ ghost use Rattle.gm_model.specs.Maps.{IsSound};
 ghost use Rattle.gm_arena.specs.ArenaMap.{IsAt, IsLiveName, IsLiveSlot};
 ghost use Rattle.gm_arena.specs.ArenaAsMap.{as_map};
 ghost use Rattle.gm_arena.specs.Edits.{with_alpha};
-ghost use Rattle.gm_grid.specs.GridMap.{IsGridMap, dart_count};
+ghost use Rattle.gm_grid.specs.GridMap.{IsGridMap, dart, dart_count};
 ghost use Rattle.gm_grid.specs.GridBook.{IsGridBook, IsGridScript};
 ghost use Rattle.gm_grid.specs.Building.{AreAdded, AreLinked};
 
 use crate::book::make_book;
-use crate::pattern::{neighbour_at, place_of, point_at};
+use crate::pattern::{Place, name_of, neighbour_at, point_at};
 use crate::schema::make_schema;
 use crate::script::make_script;
 use gm_arena::{Arena, Slot, Steps};
@@ -66,19 +66,47 @@ fn add_darts<L: Ledger>(arena: &mut Arena, m: u32, steps: &mut Steps<L>)
     ensures added { AreAdded m (dart_count m) arena.new }
     ensures cost { steps.new ≡ steps.old + dart_count m }
 {
-    for name in 0..8 * (m * m) {
-        add_dart(arena, m, name, steps);
+    for square in 0..m * m {
+        add_square(arena, m, square, steps);
     }
 }
 
-fn add_dart<L: Ledger>(arena: &mut Arena, m: u32, name: u32, steps: &mut Steps<L>)
+/// Adds the darts of a square.
+fn add_square<L: Ledger>(arena: &mut Arena, m: u32, square: u32, steps: &mut Steps<L>)
     requires most { m ≤ 100 }
-    requires below { name < dart_count m }
-    requires before { AreAdded m name arena.old }
-    ensures added { AreAdded m (name + 1) arena.new }
+    requires below { square < m * m }
+    requires before { AreAdded m (8 * square) arena.old }
+    ensures added { AreAdded m (8 * square + 8) arena.new }
+    ensures cost { steps.new ≡ steps.old + 8 }
+{
+    let row = square / m;
+    let column = square % m;
+    for number in 0..8 {
+        add_dart(
+            arena,
+            m,
+            Place {
+                row,
+                column,
+                number,
+            },
+            steps,
+        );
+    }
+}
+
+fn add_dart<L: Ledger>(arena: &mut Arena, m: u32, place: Place, steps: &mut Steps<L>)
+    requires most { m ≤ 100 }
+    requires within { (place.row < m) × (place.column < m) × (place.number < 8) }
+    requires before { AreAdded m (dart m place.row place.column place.number) arena.old }
+    ensures added { AreAdded m (dart m place.row place.column place.number + 1) arena.new }
     ensures cost { steps.new ≡ steps.old + 1 }
 {
-    arena.add(name, &[point_at(place_of(m, name))], steps);
+    arena.add(
+        name_of(m, place.row, place.column, place.number),
+        &[point_at(place)],
+        steps,
+    );
 }
 
 /// Links each dart to its neighbours.
@@ -88,20 +116,45 @@ fn link_darts<L: Ledger>(arena: &mut Arena, m: u32, steps: &mut Steps<L>)
     ensures linked { AreLinked m (dart_count m) arena.new }
     ensures cost { steps.new ≡ steps.old + 7 * dart_count m }
 {
-    for name in 0..8 * (m * m) {
-        link_dart(arena, m, name, steps);
+    for square in 0..m * m {
+        link_square(arena, m, square, steps);
     }
 }
 
-fn link_dart<L: Ledger>(arena: &mut Arena, m: u32, name: u32, steps: &mut Steps<L>)
+/// Links the darts of a square.
+fn link_square<L: Ledger>(arena: &mut Arena, m: u32, square: u32, steps: &mut Steps<L>)
     requires most { m ≤ 100 }
-    requires below { name < dart_count m }
-    requires before { AreLinked m name arena.old }
-    ensures linked { AreLinked m (name + 1) arena.new }
+    requires below { square < m * m }
+    requires before { AreLinked m (8 * square) arena.old }
+    ensures linked { AreLinked m (8 * square + 8) arena.new }
+    ensures cost { steps.new ≡ steps.old + 56 }
+{
+    let row = square / m;
+    let column = square % m;
+    for number in 0..8 {
+        link_dart(
+            arena,
+            m,
+            Place {
+                row,
+                column,
+                number,
+            },
+            steps,
+        );
+    }
+}
+
+fn link_dart<L: Ledger>(arena: &mut Arena, m: u32, place: Place, steps: &mut Steps<L>)
+    requires most { m ≤ 100 }
+    requires within { (place.row < m) × (place.column < m) × (place.number < 8) }
+    requires before { AreLinked m (dart m place.row place.column place.number) arena.old }
+    ensures linked { AreLinked m (dart m place.row place.column place.number + 1) arena.new }
     ensures cost { steps.new ≡ steps.old + 7 }
 {
-    let place = place_of(m, name);
-    let slot = arena.slot_of(name, steps).unwrap();
+    let slot = arena
+        .slot_of(name_of(m, place.row, place.column, place.number), steps)
+        .unwrap();
     link(arena, slot, 0, neighbour_at(m, 0, place), steps);
     link(arena, slot, 1, neighbour_at(m, 1, place), steps);
     link(arena, slot, 2, neighbour_at(m, 2, place), steps);

@@ -1,7 +1,6 @@
 //! The pattern of the grid, dart by dart: where a dart lies, its neighbours and its point.
 ghost use Rattle.std.specs.Prelude.{◌≡◌, ◌+◌, ◌*◌, ◌<◌, ◌≤◌};
 ghost use Rattle.gm_grid.specs.GridMap.{across, neighbour, point, dart, dart_count};
-ghost use Rattle.gm_grid.specs.Building.{row_of, column_of, number_of};
 
 use gm_model::Value;
 
@@ -22,21 +21,6 @@ pub(crate) struct Place {
     pub(crate) row: u32,
     pub(crate) column: u32,
     pub(crate) number: u8,
-}
-
-/// Where the dart of this name lies in the grid of `m` rows.
-pub(crate) fn place_of(m: u32, name: u32) -> Place
-    requires below { name < dart_count m }
-    ensures row { result.row ≡ row_of m name }
-    ensures column { result.column ≡ column_of m name }
-    ensures number { result.number ≡ number_of name }
-    ensures within { (result.row < m) × (result.column < m) × (result.number < 8) }
-{
-    Place {
-        row: name / 8 / m,
-        column: name / 8 % m,
-        number: (name % 8) as u8,
-    }
 }
 
 /// The name of the dart there.

@@ -10,8 +10,9 @@ pub(crate) fn make_script(alloc: Global, m: u32) -> Result<Script, OutOfMemory>
     requires { m ≤ 100 }
     ensures { IfOk result (IsGridScript m) }
 {
-    let mut lines = Vec::new(alloc);
-    for square in 0..m * m {
+    let squares = m * m;
+    let mut lines = Vec::with_capacity(alloc, squares as usize)?;
+    for square in 0..squares {
         lines.push(line_of(alloc, square)?)?;
     }
     Ok(Script {

@@ -1,9 +1,9 @@
-use Rattle.std.proofs.Common.{◌≡◌, ◌+◌}
+use Rattle.std.proofs.Common.{◌≡◌, ◌+◌, ◌*◌}
 use Rattle.gm_grid.specs.Building.{AreAdded}
 use Rattle.gm_grid.proofs.grid.add_darts.Given as goal
 
-abbrev pub invariant-loop-name : goal.invariant-loop-name
-invariant-loop-name g l = record {
-  added : AreAdded l.m l.name l.arena;
-  cost : l.steps ≡ l.fn.steps + l.name;
+abbrev pub invariant-loop-square : goal.invariant-loop-square
+invariant-loop-square g l = record {
+  added : AreAdded l.m (8 * l.square) l.arena;
+  cost : l.steps ≡ l.fn.steps + 8 * l.square;
 }

@@ -2,8 +2,8 @@ use Rattle.std.proofs.Common.{◌≡◌, ◌+◌, ◌*◌}
 use Rattle.gm_grid.specs.Building.{AreLinked}
 use Rattle.gm_grid.proofs.grid.link_darts.Given as goal
 
-abbrev pub invariant-loop-name : goal.invariant-loop-name
-invariant-loop-name g l = record {
-  linked : AreLinked l.m l.name l.arena;
-  cost : l.steps ≡ l.fn.steps + 7 * l.name;
+abbrev pub invariant-loop-square : goal.invariant-loop-square
+invariant-loop-square g l = record {
+  linked : AreLinked l.m (8 * l.square) l.arena;
+  cost : l.steps ≡ l.fn.steps + 56 * l.square;
 }
