@@ -21,6 +21,7 @@ pub mod SchemaSound
 pub mod SchemaPrinted
 pub mod OneSchema
 pub mod SchemaMasks
+pub mod Runs
 pub mod SchemaAgain
 pub mod WorkedNested
 pub mod WorkedSchema

@@ -1,9 +1,12 @@
 -- Where a token leads that is what a state of a schema waits for, or isn't, and what it passes there.
-use Rattle.std.proofs.Common.{◌≡◌, ◌≢◌, ℕ, Bool, true, false, List, Some, None, refl, ap, codes}
+use Rattle.std.proofs.Common.{rules, ◌≡◌, ◌≢◌, ℕ, Bool, true, false, not, List, Some, None, refl, sym, ap, ◌∙◌, codes}
+use Rattle.std.proofs.lemmas.Bool.{false≢true}
+use denote.Enum.Bare.{sameb, same_true}
 use Rattle.std.specs.Str.{bytes_eq}
 use Rattle.std.proofs.lemmas.Slice.Eq.{bytes_eq-Decides}
 use Rattle.gm_model.specs.declared.limit.LimitKind.{LimitKind}
 use Rattle.gm_model.specs.declared.schema.Embed.{Embed}
+use Rattle.gm_model.specs.contracts.token.TokenKind.{the_type}
 use Rattle.gm_model.specs.declared.token.TokenKind.{TokenKind}
 use Rattle.gm_model.specs.declared.token.TokenKind.TheVariants as tokens
 use Rattle.gm_model.specs.declared.word.Mask.{Mask}
@@ -11,6 +14,24 @@ use Rattle.gm_model.specs.Symbols.{Symbol, Word, Numeral, Sign, Gone, Stray, End
 use Rattle.gm_text.specs.SchemaText.{Role, Fixed, LimitOf, Again, limit_of, is_again, no_labels}
 use Rattle.gm_text.specs.SchemaReading.{State, AtDim, AtTop, AtName, AtOrbit, AtLabel, AtKind, expect, move}
 use Rattle.gm_text.specs.SchemaAnswers.{judged}
+
+-- ---- of which kind it is
+
+holds : (b : Bool) → not b ≡ false → b ≡ true
+holds true e = refl
+holds false e = sym e
+
+pub kind_is : (a b : TokenKind) (r : Bool) → r ≡ not (sameb the_type a b) → r ≡ false → a ≡ b
+kind_is a b r is e = same_true the_type (search rules) a b (holds _ (sym is ∙ e))
+
+other : (b : TokenKind) → not (sameb the_type b b) ≡ true → ⊥
+other tokens.Name e = absurd (false≢true e)
+other tokens.Number e = absurd (false≢true e)
+other tokens.Gone e = absurd (false≢true e)
+other tokens.Sign e = absurd (false≢true e)
+
+pub kind_other : (a b : TokenKind) (r : Bool) → r ≡ not (sameb the_type a b) → r ≡ true → a ≢ b
+kind_other a b r is e same = let no : not (sameb the_type b b) ≡ true = sym (ap (λ k. not (sameb the_type k b)) same) ∙ sym is ∙ e in other b no
 
 -- ---- where it leads
 
@@ -48,12 +69,6 @@ no_name n declared tokens.Name bytes other = absurd (other refl)
 no_name n declared tokens.Number bytes other = refl
 no_name n declared tokens.Gone bytes other = refl
 no_name n declared tokens.Sign bytes other = refl
-
-pub no_kind : (n : ℕ) (declared : List Embed) (name : List ℕ) (mask : Mask) (kind : TokenKind) (bytes : List ℕ) → kind ≢ tokens.Name → move (AtKind n declared name mask) (symbol_of_kind kind bytes) ≡ None
-no_kind n declared name mask tokens.Name bytes other = absurd (other refl)
-no_kind n declared name mask tokens.Number bytes other = refl
-no_kind n declared name mask tokens.Gone bytes other = refl
-no_kind n declared name mask tokens.Sign bytes other = refl
 
 pub no_label : (n : ℕ) (declared : List Embed) (name : List ℕ) (mask : Mask) (kind : TokenKind) (bytes : List ℕ) → kind ≢ tokens.Number → symbol_of_kind kind bytes ≢ Sign (codes ">") → move (AtLabel n declared name mask) (symbol_of_kind kind bytes) ≡ None
 no_label n declared name mask tokens.Name bytes number other = refl

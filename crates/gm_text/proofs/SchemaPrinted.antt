@@ -2,7 +2,7 @@
 use Rattle.std.proofs.Common.{◌≡◌, ℕ, zero, suc, ◌+◌, ◌<◌, ◌≤◌, ◌-◌, Bool, true, false, cond, List, [], ◌∷◌, ◌++◌, length, take, drop, get_or, Result, Ok, Err, refl, sym, ap, subst, ◌∙◌, append_assoc, arith, add-one}
 use Rattle.std.proofs.lemmas.Grind.{flat_map-append}
 use Rattle.std.proofs.lemmas.List.{append-nil, drop_more, take-append-drop}
-use Rattle.std.specs.Prelude.{decimal, OnErr}
+use Rattle.std.specs.Prelude.{decimal, OnOk, OnErr}
 use Rattle.std.specs.List.{flat_map}
 use Rattle.gm_model.specs.declared.schema.Embed.{Embed}
 use Rattle.gm_model.specs.declared.word.Mask.{Mask}
@@ -75,9 +75,22 @@ cut_behind old between one other new is (done, left, spelled, appended) =
 pub cut_none : (old text new : List ℕ) → new ≡ old → IsCut old text new
 cut_none old text new same = ([], text, refl, same ∙ sym (append-nil old))
 
-pub on_err : {T E P Q : Type 0} (r : Result T E) → (P → Q) → OnErr r P → OnErr r Q
-on_err (Ok x) f p = p
-on_err (Err e) f p = f p
+-- text behind text
+pub joined : (old between new one other : List ℕ) → between ≡ old ++ one → new ≡ between ++ other → new ≡ old ++ (one ++ other)
+joined old between new one other first then = then ∙ ap (λ (bytes : List ℕ). bytes ++ other) first ∙ append_assoc old one other
+
+-- three pieces in one, and more behind them
+pub all_behind : (lead bytes end rest : List ℕ) → (lead ++ (bytes ++ end)) ++ rest ≡ lead ++ (bytes ++ (end ++ rest))
+all_behind lead bytes end rest = append_assoc lead (bytes ++ end) rest ∙ ap (λ (text : List ℕ). lead ++ text) (append_assoc bytes end rest)
+
+module _ {T E P Q : Type 0} where
+  pub ok_then : (r : Result T E) → (P → Q) → OnOk r P → OnOk r Q
+  ok_then (Ok x) f p = f p
+  ok_then (Err e) f p = p
+
+  pub err_then : (r : Result T E) → (P → Q) → OnErr r P → OnErr r Q
+  err_then (Ok x) f p = p
+  err_then (Err e) f p = f p
 
 -- ---- embeddings
 

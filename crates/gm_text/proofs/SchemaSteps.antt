@@ -73,7 +73,7 @@ stops_none strict state old fault part is =
 pub stops_token : (strict : Bool) (state : State) (old new : Cursor) (token : Token) → is_whole state ≡ false → IsNext old token new → move state (symbol_at new.text token) ≡ None → Stops strict state old (faults.Text token.start)
 stops_token strict state old new token part is none = stops_mark strict state old (mark_at new.text token) (marks_left new) is.marks none part
 
-passes_at : (strict : Bool) (state next : State) (mark : Mark) (rest : List Mark) (what : Passed) → move state mark.symbol ≡ Some next → judged strict (role_at state mark.symbol mark.place) mark.symbol ≡ Some what → (last : ℕ) → run_in strict state last (mark ∷ rest) ≡ Err (Passes what mark.place)
+pub passes_at : (strict : Bool) (state next : State) (mark : Mark) (rest : List Mark) (what : Passed) → move state mark.symbol ≡ Some next → judged strict (role_at state mark.symbol mark.place) mark.symbol ≡ Some what → (last : ℕ) → run_in strict state last (mark ∷ rest) ≡ Err (Passes what mark.place)
 passes_at strict state next mark rest what moves passes last = rw (moves, passes) refl
 
 pub limit_token : (strict : Bool) (state next : State) (old new : Cursor) (token : Token) (what : LimitKind) → IsNext old token new → move state (symbol_at new.text token) ≡ Some next
@@ -107,6 +107,15 @@ run_over strict state to last (mark ∷ marks) rest e =
       | On next is ↦ is (marks ++ rest) ∙ run_over strict next to mark.place marks rest (sym (is marks) ∙ e)
       | Off stop is ↦ let no_way : Err stop ≡ Ok to = sym (is marks) ∙ e in absurd cc
     ]
+
+pub reads_none : (strict : Bool) (state : State) (cursor : Cursor) → Reads strict state cursor cursor state
+reads_none strict state cursor = record {
+  before = [];
+  split = refl;
+  runs = λ last. refl;
+  text = refl;
+  onward = omega arith;
+}
 
 pub reads_then : (strict : Bool) (state middle to : State) (old between new : Cursor) → Reads strict state old between middle → Reads strict middle between new to → Reads strict state old new to
 reads_then strict state middle to old between new one two = record {

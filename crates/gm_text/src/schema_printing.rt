@@ -33,13 +33,19 @@ fn print_embed(out: &mut Text, embed: &Embed) -> Result<(), OutOfMemory>
     ensures ok { OnOk result (out.new ≡ out.old ++ embed_line embed.now) }
     ensures err { OnErr result (IsCut out.old (embed_line embed.now) out.new) }
 {
-    out.put(b"embed ")?;
-    out.put(embed.name.bytes())?;
-    out.put(b" <")?;
+    put_between(out, b"embed ", embed.name.bytes(), b" <")?;
     print_labels(out, embed.mask)?;
-    out.put(b"> ")?;
-    out.put(kind_word(embed.kind))?;
-    out.put(b"\n")
+    put_between(out, b"> ", kind_word(embed.kind), b"\n")
+}
+
+/// The bytes, between what leads to them and what stands behind them.
+fn put_between(out: &mut Text, lead: &[u8], bytes: &[u8], end: &[u8]) -> Result<(), OutOfMemory>
+    ensures ok { OnOk result (out.new ≡ out.old ++ (lead.now ++ (bytes.now ++ end.now))) }
+    ensures err { OnErr result (IsCut out.old (lead.now ++ (bytes.now ++ end.now)) out.new) }
+{
+    out.put(lead)?;
+    out.put(bytes)?;
+    out.put(end)
 }
 
 /// The labels of the mask in ascending order, with one blank between.

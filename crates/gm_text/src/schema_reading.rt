@@ -13,9 +13,7 @@ use crate::schema_fault::SchemaFault;
 use crate::schema_words::{
     is_declared, is_reserved, kind_named, next_token, reads_sign, reads_word, value, with_label,
 };
-use gm_model::{
-    Dim, Embed, Items, Kind, LimitKind, MOST_EMBEDS, Mask, Name, Schema, TokenKind,
-};
+use gm_model::{Dim, Embed, Items, Kind, LimitKind, MOST_EMBEDS, Mask, Name, Schema, TokenKind};
 use std::alloc::Global;
 
 fn read_dim_word(lexer: &mut Lexer<'_>) -> Result<(), SchemaFault>
@@ -144,13 +142,9 @@ fn read_kind(lexer: &mut Lexer<'_>) -> Result<Kind, SchemaFault>
     ensures within { IfOk result (λ kind. lexer.new.place ≤ length lexer.new.text) }
 {
     let token = next_token(lexer)?;
-    let place = token.start;
-    if token.kind != TokenKind::Name {
-        return Err(SchemaFault::Text { place });
-    }
-    match kind_named(lexer.text(&token)) {
+    match kind_named(lexer, &token) {
         Some(kind) => Ok(kind),
-        None => Err(SchemaFault::Text { place }),
+        None => Err(SchemaFault::Text { place: token.start }),
     }
 }
 

@@ -1,6 +1,9 @@
 //! The words and signs that stand in a schema, and what a token is.
-ghost use Rattle.std.specs.Prelude.{◌≡◌, ◌↔◌, ◌<◌, ◌≤◌, ◌^◌, ◌-◌, min, bytes_eq, IsTrue, IfOk, IfErr};
+ghost use Rattle.std.specs.Prelude.{◌≡◌, ◌↔◌, ℕ, ◌<◌, ◌≤◌, ◌^◌, ◌-◌, List, min, bytes_eq, IsTrue, IfOk, IfErr};
 ghost use Rattle.std.specs.List.{list_any};
+ghost use Rattle.std.specs.Option.{option_map};
+ghost use Rattle.gm_model.specs.declared.schema.Embed.{Embed};
+ghost use Rattle.gm_model.specs.declared.word.Mask.{Mask};
 ghost use Rattle.gm_model.specs.declared.token.TokenKind.TheVariants.{Number};
 ghost use Rattle.gm_model.specs.Names.{is_among, reserved};
 ghost use Rattle.gm_model.specs.Symbols.{Word, Sign, value_of};
@@ -75,16 +78,22 @@ pub(crate) fn is_declared(embeds: &[Embed], name: &[u8]) -> bool
     embeds.iter().any(|embed| name == embed.name.bytes())
 }
 
-/// The kind of an embedding with the word.
-pub(crate) fn kind_named(word: &[u8]) -> Option<Kind>
-    ensures { result ≡ reading.kind_named word.now }
+/// The kind of an embedding that the token names.
+pub(crate) fn kind_named(lexer: &Lexer<'_>, token: &Token) -> Option<Kind>
+    requires { IsToken lexer.now.text token.now }
+    ensures { (n : ℕ) (declared : List Embed) (name : List ℕ) (mask : Mask) →
+        reading.move (reading.AtKind n declared name mask) (symbol_at lexer.now.text token.now) ≡ option_map (reading.with_kind n declared name mask) result }
 {
-    match word {
-        b"int" => Some(Kind::Int),
-        b"vec2" => Some(Kind::Vec2),
-        b"vec3" => Some(Kind::Vec3),
-        b"rgb" => Some(Kind::Rgb),
-        _ => None,
+    if reads_word(lexer, token, b"int") {
+        Some(Kind::Int)
+    } else if reads_word(lexer, token, b"vec2") {
+        Some(Kind::Vec2)
+    } else if reads_word(lexer, token, b"vec3") {
+        Some(Kind::Vec3)
+    } else if reads_word(lexer, token, b"rgb") {
+        Some(Kind::Rgb)
+    } else {
+        None
     }
 }
 

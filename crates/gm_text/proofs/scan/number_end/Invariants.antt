@@ -1,13 +1,10 @@
-use Rattle.std.proofs.Common.{◌≡◌, ◌+◌, ◌-◌, ◌≤◌, length, drop}
-use Rattle.std.specs.List.{prefix_len}
+use Rattle.std.proofs.Common.{◌-◌, length}
 use Rattle.gm_model.specs.Tokens.{is_digit}
+use Rattle.gm_text.proofs.Runs.{IsRun}
 use Rattle.gm_text.proofs.scan.number_end.Given as goal
 
 abbrev pub invariant-loop-at : goal.invariant-loop-at
-invariant-loop-at l = record {
-  inside : l.at ≤ length l.text;
-  same : l.from + prefix_len is_digit (drop l.from l.text) ≡ l.at + prefix_len is_digit (drop l.at l.text);
-}
+invariant-loop-at l = IsRun is_digit l.text l.from l.at
 
 abbrev pub decreases-loop-at : goal.decreases-loop-at
 decreases-loop-at l = length l.text - l.at

@@ -1,68 +1,61 @@
-use Rattle.std.proofs.Common.{◌≡◌, ℕ, List, ◌++◌, ap, ◌∙◌, codes}
-use Rattle.std.proofs.lemmas.Result.{err_from_is_err_and}
-use Rattle.gm_text.specs.SchemaText.{kind_word, labels_in, labels_text, embed_line}
+use Rattle.std.proofs.Common.{◌≡◌, ℕ, List, ◌++◌, ap, subst, ◌∙◌, codes}
+use Rattle.gm_model.proofs.Exits.{never_ok, on_err}
+use Rattle.gm_text.specs.SchemaText.{kind_word, labels_in, labels_text}
 use Rattle.gm_text.specs.SchemaPrinting.{IsCut}
-use Rattle.gm_text.proofs.SchemaPrinted.{cut_here, cut_behind, cut_none, on_err}
+use Rattle.gm_text.proofs.SchemaPrinted.{all_behind, cut_here, cut_behind, joined, ok_then, err_then}
 use Rattle.gm_text.proofs.schema_printing.print_embed.Goals as goal
+
+pub returns-in_err-put_between-clause-ok : goal.returns-in_err-put_between-clause-ok
+returns-in_err-put_between-clause-ok c = never_ok _ c.from_residual.result c.from_residual.ensures.0
+
+pub returns-in_err-put_between-clause-err : goal.returns-in_err-put_between-clause-err
+returns-in_err-put_between-clause-err c =
+    let embed = c.args.embed.now in
+    let first = codes "embed " ++ (embed.name ++ codes " <") in
+    let rest = labels_text (labels_in embed.mask) ++ (codes "> " ++ (kind_word embed.kind ++ codes "\n")) in
+    let cut = subst (λ (name : List ℕ). IsCut c.args.out.now (codes "embed " ++ (name ++ codes " <")) c.put_between.new.out) c.bytes.ensures.value c.in_err-put_between.ensures.err in
+    on_err c.from_residual.result (subst (λ (text : List ℕ). IsCut c.args.out.now text c.put_between.new.out) (all_behind (codes "embed ") embed.name (codes " <") rest) (cut_here c.args.out.now first rest c.put_between.new.out cut))
+
+pub returns-in_err-print_labels-clause-ok : goal.returns-in_err-print_labels-clause-ok
+returns-in_err-print_labels-clause-ok c = never_ok _ c.from_residual-in_err-print_labels.result c.from_residual-in_err-print_labels.ensures.0
 
 pub returns-in_err-print_labels-clause-err : goal.returns-in_err-print_labels-clause-err
 returns-in_err-print_labels-clause-err c =
     let o = c.args.out.now in
     let embed = c.args.embed.now in
+    let first = codes "embed " ++ (embed.name ++ codes " <") in
     let labels = labels_text (labels_in embed.mask) in
-    let named : c.put-2.new.self ≡ c.put.new.self ++ embed.name = c.in_ok-put-2.ensures.ok ∙ ap (λ bytes. c.put.new.self ++ bytes) c.bytes.ensures.value in
-    let rest = codes "> " ++ (kind_word embed.kind ++ codes "\n") in
-    let before : (new : List ℕ) → IsCut c.put-3.new.self (labels ++ rest) new → IsCut o (embed_line embed) new = λ new cut.
-    cut_behind o c.put.new.self (codes "embed ") (embed.name ++ (codes " <" ++ (labels ++ rest))) new c.in_ok-put.ensures.ok
-    (cut_behind c.put.new.self c.put-2.new.self embed.name (codes " <" ++ (labels ++ rest)) new named
-    (cut_behind c.put-2.new.self c.put-3.new.self (codes " <") (labels ++ rest) new c.in_ok-put-3.ensures.ok cut)) in
-    let p = err_from_is_err_and c.from_residual-in_err-print_labels.result c.from_residual-in_err-print_labels.ensures.1 in
-    rw p.1 (before c.print_labels.new.out (cut_here c.put-3.new.self labels rest c.print_labels.new.out c.in_err-print_labels.ensures.err))
+    let end = codes "> " ++ (kind_word embed.kind ++ codes "\n") in
+    let named : c.put_between.new.out ≡ o ++ first = c.in_ok-put_between.ensures.ok ∙ ap (λ (name : List ℕ). o ++ (codes "embed " ++ (name ++ codes " <"))) c.bytes.ensures.value in
+    on_err c.from_residual-in_err-print_labels.result
+    (subst (λ (text : List ℕ). IsCut o text c.print_labels.new.out) (all_behind (codes "embed ") embed.name (codes " <") (labels ++ end))
+    (cut_behind o c.put_between.new.out first (labels ++ end) c.print_labels.new.out named (cut_here c.put_between.new.out labels end c.print_labels.new.out c.in_err-print_labels.ensures.err)))
 
-pub returns-in_err-put-4-clause-err : goal.returns-in_err-put-4-clause-err
-returns-in_err-put-4-clause-err c =
+pub returns-clause-ok : goal.returns-clause-ok
+returns-clause-ok c =
     let o = c.args.out.now in
     let embed = c.args.embed.now in
+    let first = codes "embed " ++ (embed.name ++ codes " <") in
     let labels = labels_text (labels_in embed.mask) in
-    let named : c.put-2.new.self ≡ c.put.new.self ++ embed.name = c.in_ok-put-2.ensures.ok ∙ ap (λ bytes. c.put.new.self ++ bytes) c.bytes.ensures.value in
-    let rest = codes "> " ++ (kind_word embed.kind ++ codes "\n") in
-    let before : (new : List ℕ) → IsCut c.put-3.new.self (labels ++ rest) new → IsCut o (embed_line embed) new = λ new cut.
-    cut_behind o c.put.new.self (codes "embed ") (embed.name ++ (codes " <" ++ (labels ++ rest))) new c.in_ok-put.ensures.ok
-    (cut_behind c.put.new.self c.put-2.new.self embed.name (codes " <" ++ (labels ++ rest)) new named
-    (cut_behind c.put-2.new.self c.put-3.new.self (codes " <") (labels ++ rest) new c.in_ok-put-3.ensures.ok cut)) in
-    let p = err_from_is_err_and c.from_residual-in_err-put-4.result c.from_residual-in_err-put-4.ensures.1 in
-    rw p.1 (before c.put-4.new.self (cut_behind c.put-3.new.self c.print_labels.new.out labels rest c.put-4.new.self c.in_ok-print_labels.ensures.ok (cut_none c.print_labels.new.out rest c.put-4.new.self c.in_err-put-4.ensures.err)))
-
-pub returns-in_err-put-5-clause-err : goal.returns-in_err-put-5-clause-err
-returns-in_err-put-5-clause-err c =
-    let o = c.args.out.now in
-    let embed = c.args.embed.now in
-    let labels = labels_text (labels_in embed.mask) in
-    let named : c.put-2.new.self ≡ c.put.new.self ++ embed.name = c.in_ok-put-2.ensures.ok ∙ ap (λ bytes. c.put.new.self ++ bytes) c.bytes.ensures.value in
-    let rest = codes "> " ++ (kind_word embed.kind ++ codes "\n") in
-    let before : (new : List ℕ) → IsCut c.put-3.new.self (labels ++ rest) new → IsCut o (embed_line embed) new = λ new cut.
-    cut_behind o c.put.new.self (codes "embed ") (embed.name ++ (codes " <" ++ (labels ++ rest))) new c.in_ok-put.ensures.ok
-    (cut_behind c.put.new.self c.put-2.new.self embed.name (codes " <" ++ (labels ++ rest)) new named
-    (cut_behind c.put-2.new.self c.put-3.new.self (codes " <") (labels ++ rest) new c.in_ok-put-3.ensures.ok cut)) in
-    let p = err_from_is_err_and c.from_residual-in_err-put-5.result c.from_residual-in_err-put-5.ensures.1 in
-    rw p.1
-    (before c.put-5.new.self (cut_behind c.put-3.new.self c.print_labels.new.out labels rest c.put-5.new.self c.in_ok-print_labels.ensures.ok
-    (cut_behind c.print_labels.new.out c.put-4.new.self (codes "> ") (kind_word embed.kind ++ codes "\n") c.put-5.new.self c.in_ok-put-4.ensures.ok (cut_none c.put-4.new.self (kind_word embed.kind ++ codes "\n") c.put-5.new.self c.in_err-put-5.ensures.err))))
+    let end = codes "> " ++ (kind_word embed.kind ++ codes "\n") in
+    let named : c.put_between.new.out ≡ o ++ first = c.in_ok-put_between.ensures.ok ∙ ap (λ (name : List ℕ). o ++ (codes "embed " ++ (name ++ codes " <"))) c.bytes.ensures.value in
+    ok_then c.put_between-2.result
+    (λ last. joined o c.put_between.new.out c.put_between-2.new.out first (labels ++ end) named
+    (joined c.put_between.new.out c.print_labels.new.out c.put_between-2.new.out labels end c.in_ok-print_labels.ensures.ok (last ∙ ap (λ (word : List ℕ). c.print_labels.new.out ++ (codes "> " ++ (word ++ codes "\n"))) c.kind_word.ensures))
+    ∙ ap (λ (text : List ℕ). o ++ text) (all_behind (codes "embed ") embed.name (codes " <") (labels ++ end)))
+    c.put_between-2.ensures.ok
 
 pub returns-clause-err : goal.returns-clause-err
 returns-clause-err c =
     let o = c.args.out.now in
     let embed = c.args.embed.now in
+    let first = codes "embed " ++ (embed.name ++ codes " <") in
     let labels = labels_text (labels_in embed.mask) in
-    let named : c.put-2.new.self ≡ c.put.new.self ++ embed.name = c.in_ok-put-2.ensures.ok ∙ ap (λ bytes. c.put.new.self ++ bytes) c.bytes.ensures.value in
-    let rest = codes "> " ++ (kind_word embed.kind ++ codes "\n") in
-    let before : (new : List ℕ) → IsCut c.put-3.new.self (labels ++ rest) new → IsCut o (embed_line embed) new = λ new cut.
-    cut_behind o c.put.new.self (codes "embed ") (embed.name ++ (codes " <" ++ (labels ++ rest))) new c.in_ok-put.ensures.ok
-    (cut_behind c.put.new.self c.put-2.new.self embed.name (codes " <" ++ (labels ++ rest)) new named
-    (cut_behind c.put-2.new.self c.put-3.new.self (codes " <") (labels ++ rest) new c.in_ok-put-3.ensures.ok cut)) in
-    let worded : c.put-5.new.self ≡ c.put-4.new.self ++ kind_word embed.kind = c.in_ok-put-5.ensures.ok ∙ ap (λ bytes. c.put-4.new.self ++ bytes) c.kind_word.ensures in
-    on_err c.put-6.result
-    (λ same. before c.put-6.new.self (cut_behind c.put-3.new.self c.print_labels.new.out labels rest c.put-6.new.self c.in_ok-print_labels.ensures.ok
-    (cut_behind c.print_labels.new.out c.put-4.new.self (codes "> ") (kind_word embed.kind ++ codes "\n") c.put-6.new.self c.in_ok-put-4.ensures.ok
-    (cut_behind c.put-4.new.self c.put-5.new.self (kind_word embed.kind) (codes "\n") c.put-6.new.self worded (cut_none c.put-5.new.self (codes "\n") c.put-6.new.self same)))))
-    c.put-6.ensures.err
+    let end = codes "> " ++ (kind_word embed.kind ++ codes "\n") in
+    let named : c.put_between.new.out ≡ o ++ first = c.in_ok-put_between.ensures.ok ∙ ap (λ (name : List ℕ). o ++ (codes "embed " ++ (name ++ codes " <"))) c.bytes.ensures.value in
+    err_then c.put_between-2.result
+    (λ cut. subst (λ (text : List ℕ). IsCut o text c.put_between-2.new.out) (all_behind (codes "embed ") embed.name (codes " <") (labels ++ end))
+    (cut_behind o c.put_between.new.out first (labels ++ end) c.put_between-2.new.out named
+    (cut_behind c.put_between.new.out c.print_labels.new.out labels end c.put_between-2.new.out c.in_ok-print_labels.ensures.ok
+    (subst (λ (word : List ℕ). IsCut c.print_labels.new.out (codes "> " ++ (word ++ codes "\n")) c.put_between-2.new.out) c.kind_word.ensures cut))))
+    c.put_between-2.ensures.err
