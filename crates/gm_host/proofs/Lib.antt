@@ -1,3 +1,4 @@
 mod Lookups
 mod Reading
 mod Saving
+mod Told

@@ -1,5 +1,5 @@
 -- What saves and writes leave.
-use Rattle.std.proofs.Common.{◌≡◌, ◌≢◌, ℕ, ◌-◌, cond, List, [], ◌∷◌, ◌++◌, length, take, drop, Option, Some, None, inl, inr, refl, sym, ap, ◌∙◌, subst, append_assoc, append-nil, take-append-drop}
+use Rattle.std.proofs.Common.{◌≡◌, ◌≢◌, ℕ, ◌-◌, cond, List, [], ◌∷◌, ◌++◌, length, take, drop, Option, Some, None, inl, inr, refl, sym, ap, ap₂, ◌∙◌, subst, append_assoc, append-nil, take-append-drop}
 use Rattle.std.specs.Prelude.{Result, Ok, Err, OnErr}
 use Rattle.std.proofs.lemmas.List.{take_rest}
 use Rattle.std.specs.Cmp.{eq_by_cmp_equiv}
@@ -9,9 +9,13 @@ use Rattle.std.specs.Io.KnownBytes.{Appends, Keeps}
 use Rattle.std.specs.Ordering.{nat_cmp, is_eq}
 use Rattle.std.specs.declared.cmp.Ordering.{Ordering}
 use Rattle.std.specs.declared.cmp.Ordering.TheVariants.{Less, Equal, Greater}
+use Rattle.gm_host.specs.Count.{counted}
 use Rattle.gm_host.specs.FileStore.{AppendsInPart}
 use Rattle.gm_host.specs.Files.{Files, told}
-use Rattle.gm_host.specs.MemStore.{kept_files}
+use Rattle.gm_host.specs.MemSink.{SinkState, Puts, after_unmade_put}
+use Rattle.gm_host.specs.MemStore.{StoreState, Saves, kept_files, after_save, after_failed_save, after_unmade_save}
+use Rattle.gm_host.specs.declared.fault.PutFault.TheVariants as put_fault
+use Rattle.gm_host.specs.declared.fault.SaveFault.TheVariants as fault
 use Rattle.gm_host.specs.Saves.{IsSaved, IsSavedInPart}
 
 -- ---- files in memory
@@ -70,3 +74,35 @@ split_on bytes done rest n e =
 pub on_any_error : {T E : Type 0} {P : Type 0} (answer : Result T E) → P → OnErr answer P
 on_any_error (Ok _) p = tt
 on_any_error (Err _) p = p
+
+-- ---- planned saves
+
+module _ {state before : StoreState} (is : state ≡ before) (name bytes : List ℕ) (files : Files) (saves : ℕ) (counts : saves ≡ counted state.saves) where
+  pub planned_save : (plan : Option (Option ℕ)) → plan ≡ None → files ≡ insert state.files name bytes → Saves plan before name bytes (Ok tt) (record state { files = files; saves = saves })
+  planned_save plan none kept =
+      let after : StoreState = record state { files = files; saves = saves } in
+      let made : after ≡ after_save before name bytes = ap₂ (λ fs n. record state { files = fs; saves = n }) kept counts ∙ ap (λ s. after_save s name bytes) is in
+      subst (λ p. Saves p before name bytes (Ok tt) after) (sym none) made
+
+  pub planned_fault : (plan : Option (Option ℕ)) (kept : Option ℕ) (faults : ℕ) → plan ≡ Some kept → files ≡ kept_files state.files name bytes kept → faults ≡ counted state.save_faults
+      → Saves plan before name bytes (Err fault.Failed) (record state { files = files; saves = saves; save_faults = faults })
+  planned_fault plan kept faults some held faulty =
+      let after : StoreState = record state { files = files; saves = saves; save_faults = faults } in
+      let failed : after ≡ after_failed_save before name bytes kept =
+      ap₂ (λ fs n. record state { files = fs; saves = n; save_faults = faults }) held counts
+      ∙ ap (λ n. record state { files = kept_files state.files name bytes kept; saves = counted state.saves; save_faults = n }) faulty
+      ∙ ap (λ s. after_failed_save s name bytes kept) is in
+      subst (λ p. Saves p before name bytes (Err fault.Failed) after) (sym some) failed
+
+  -- whether it was to fail or not
+  pub unmade_save : (plan : Option (Option ℕ)) → files ≡ state.files → Saves plan before name bytes (Err fault.OutOfMemory) (record state { files = files; saves = saves })
+  unmade_save None same = ap₂ (λ fs n. record state { files = fs; saves = n }) same counts ∙ ap after_unmade_save is
+  unmade_save (Some kept) same = ap₂ (λ fs n. record state { files = fs; saves = n }) same counts ∙ ap after_unmade_save is
+
+-- ---- planned puts
+
+-- a put for which memory was wanting is as planned, whether it was to fail or not
+pub unmade_put : {state before : SinkState} → state ≡ before → (bytes written : List ℕ) (puts : ℕ) → puts ≡ counted state.puts → (plan : Option ℕ) → written ≡ state.written
+    → Puts plan before bytes (Err put_fault.OutOfMemory) (record state { written = written; puts = puts })
+unmade_put {state = state} is bytes written puts counts None same = ap₂ (λ xs n. record state { written = xs; puts = n }) same counts ∙ ap after_unmade_put is
+unmade_put {state = state} is bytes written puts counts (Some kept) same = ap₂ (λ xs n. record state { written = xs; puts = n }) same counts ∙ ap after_unmade_put is

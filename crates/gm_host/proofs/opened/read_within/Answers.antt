@@ -1,5 +1,6 @@
 use Rattle.std.proofs.Common.{arith}
 use Rattle.std.proofs.lemmas.List.{length-take}
+use Rattle.std.proofs.lemmas.Result.{err_from_is_err_and}
 use Rattle.gm_host.proofs.Reading.{Consumes-nothing, Consumes-append}
 use Rattle.gm_host.proofs.opened.read_within.Goals as goal
 
@@ -12,3 +13,8 @@ loop-bytes-preserved g c = record {
   read = rw c.in_ok-extend_from_slice.ensures.items
       (Consumes-append _ _ _ _ _ c.loop-bytes.invariant.read c.in-Ok.ensures.bytes.0);
 }
+
+pub returns-in_err-extend_from_slice : goal.returns-in_err-extend_from_slice
+returns-in_err-extend_from_slice g c =
+    let p = err_from_is_err_and c.from_residual.result c.from_residual.ensures.1 in
+    rw (p.1, p.2) (record { within_limit = tt; all_bytes = tt; to_the_end = tt; never_absent = λ absent. absent; seen_length = tt; first_bytes = tt })

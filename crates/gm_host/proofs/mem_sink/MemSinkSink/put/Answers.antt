@@ -1,7 +1,11 @@
-use Rattle.std.proofs.Common.{sym, ◌∙◌, ◌≡◌, Some, None}
+use Rattle.std.proofs.Common.{sym, ap, ◌∙◌, ◌≡◌, Some, None, arith}
+use Rattle.std.proofs.lemmas.Bool.{false≢true}
+use Rattle.std.proofs.lemmas.Result.{err_from_is_err_and}
 use Rattle.std.specs.FinMap.{get, from_entries}
 use Rattle.std.specs.Ordering.{nat_cmp}
+use Rattle.gm_host.specs.MemSink.{SinkState}
 use Rattle.gm_host.proofs.Lookups.{get-from_tree}
+use Rattle.gm_host.proofs.Saving.{unmade_put}
 use Rattle.gm_host.proofs.mem_sink.MemSinkSink.put.Goals as goal
 
 pub returns-in_ok-extend_from_slice-in-Some-clause-as_planned :
@@ -17,3 +21,37 @@ returns-in_ok-extend_from_slice-in-None-clause-as_planned c =
     let planned : get (from_entries {R = nat_cmp} c.self.inside.planned.entries) c.self.inside.puts ≡ None =
     get-from_tree _ c.self.inside.planned ∙ sym c.get.ensures.value ∙ sym c.in-None.ensures in
     rw (← c.self.view_is, planned, c.in_ok-extend_from_slice-in-None.ensures.items, c.saturating_add-self-inside.ensures)
+
+pub returns-in_err-extend_from_slice-in-None : goal.returns-in_err-extend_from_slice-in-None
+returns-in_err-extend_from_slice-in-None c =
+    let p = err_from_is_err_and c.from_residual-in_err-extend_from_slice-in-None.result c.from_residual-in_err-extend_from_slice-in-None.ensures.1 in
+    let now = c.args.self.now in
+    let plan = get now.planned now.puts in
+    rw (p.1, p.2)
+    (record {
+      faults_never_fall = omega (arith, ap (λ (state : SinkState). state.faults) c.self.view_is);
+      ok = tt;
+      failed = tt;
+      kept = tt;
+      out_of_memory = ap Some (c.in_err-extend_from_slice-in-None.ensures.items ∙ ap (λ (state : SinkState). state.written) c.self.view_is);
+      enough_memory = λ never. absurd (false≢true never);
+      ok_no_fault = tt;
+      as_planned = unmade_put c.self.view_is c.args.bytes.now c.extend_from_slice-in-None.new.self.items c.saturating_add-self-inside.result c.saturating_add-self-inside.ensures plan c.in_err-extend_from_slice-in-None.ensures.items;
+    })
+
+pub returns-in_err-extend_from_slice-in-Some : goal.returns-in_err-extend_from_slice-in-Some
+returns-in_err-extend_from_slice-in-Some c =
+    let p = err_from_is_err_and c.from_residual.result c.from_residual.ensures.1 in
+    let now = c.args.self.now in
+    let plan = get now.planned now.puts in
+    rw (p.1, p.2)
+    (record {
+      faults_never_fall = omega (arith, ap (λ (state : SinkState). state.faults) c.self.view_is);
+      ok = tt;
+      failed = tt;
+      kept = tt;
+      out_of_memory = ap Some (c.in_err-extend_from_slice-in-Some.ensures.items ∙ ap (λ (state : SinkState). state.written) c.self.view_is);
+      enough_memory = λ never. absurd (false≢true never);
+      ok_no_fault = tt;
+      as_planned = unmade_put c.self.view_is c.args.bytes.now c.extend_from_slice.new.self.items c.saturating_add-self-inside.result c.saturating_add-self-inside.ensures plan c.in_err-extend_from_slice-in-Some.ensures.items;
+    })

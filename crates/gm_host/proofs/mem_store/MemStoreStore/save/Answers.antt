@@ -1,26 +1,76 @@
-use Rattle.std.proofs.Common.{sym, ◌∙◌, ◌≡◌, Some, None}
-use Rattle.std.specs.FinMap.{get, from_entries}
-use Rattle.std.specs.Ordering.{nat_cmp}
+use Rattle.std.proofs.Common.{sym, ap, subst, ◌∙◌, ◌≡◌, Some, None, arith}
+use Rattle.std.proofs.lemmas.Result.{err_from_is_err_and}
+use Rattle.std.specs.FinMap.{get}
+use Rattle.gm_host.specs.Files.{Files, told}
+use Rattle.gm_host.specs.MemStore.{StoreState}
+use Rattle.gm_host.specs.Saves.{IsSaved, IsSavedInPart}
 use Rattle.gm_host.proofs.Lookups.{get-from_tree}
-use Rattle.gm_host.proofs.Saving.{saved-insert, saved_in_part}
+use Rattle.gm_host.proofs.Saving.{saved-insert, saved_in_part, planned_save, planned_fault, unmade_save}
 use Rattle.gm_host.proofs.mem_store.MemStoreStore.save.Goals as goal
 
 pub returns-in_ok-hold_part-in-Some-clause-kept : goal.returns-in_ok-hold_part-in-Some-clause-kept
 returns-in_ok-hold_part-in-Some-clause-kept c =
-    rw (c.in_ok-hold_part-in-Some.ensures.ok, ← c.self.view_is) (saved_in_part c.self.inside.files c.args.name.now c.args.bytes.now c.in-Some.kept)
+    let name = c.args.name.now in
+    let bytes = c.args.bytes.now in
+    let part = subst (λ (later : Files). IsSavedInPart (told c.self.inside.files) name bytes (told later)) (sym c.in_ok-hold_part-in-Some.ensures.ok) (saved_in_part c.self.inside.files name bytes c.in-Some.kept) in
+    subst (λ (state : StoreState). IsSavedInPart (told state.files) name bytes (told c.hold_part.new.self)) c.self.view_is part
 
 pub returns-in_ok-hold_part-in-Some-clause-as_planned : goal.returns-in_ok-hold_part-in-Some-clause-as_planned
 returns-in_ok-hold_part-in-Some-clause-as_planned c =
-    let planned : get (from_entries {R = nat_cmp} c.self.inside.failing_saves.entries) c.self.inside.saves ≡ Some c.in-Some.kept =
-    get-from_tree _ c.self.inside.failing_saves ∙ sym c.get.ensures.value ∙ sym c.in-Some.ensures in
-    rw (← c.self.view_is, planned, c.in_ok-hold_part-in-Some.ensures.ok, c.saturating_add-self-inside.ensures, c.saturating_add-self-inside-in-Some.ensures)
+    let now = c.args.self.now in
+    let plan = get now.failing_saves now.saves in
+    let planned : plan ≡ Some c.in-Some.kept = ap (λ (state : StoreState). get state.failing_saves state.saves) (sym c.self.view_is) ∙ get-from_tree _ c.self.inside.failing_saves ∙ sym c.get.ensures.value ∙ sym c.in-Some.ensures in
+    planned_fault c.self.view_is c.args.name.now c.args.bytes.now c.hold_part.new.self c.saturating_add-self-inside.result c.saturating_add-self-inside.ensures plan c.in-Some.kept c.saturating_add-self-inside-in-Some.result planned c.in_ok-hold_part-in-Some.ensures.ok
+    c.saturating_add-self-inside-in-Some.ensures
 
 pub returns-in_ok-hold-in-None-clause-ok : goal.returns-in_ok-hold-in-None-clause-ok
 returns-in_ok-hold-in-None-clause-ok c =
-    rw (c.in_ok-hold-in-None.ensures.ok, ← c.self.view_is) (saved-insert c.self.inside.files c.args.name.now c.args.bytes.now)
+    let name = c.args.name.now in
+    let bytes = c.args.bytes.now in
+    let held = subst (λ (later : Files). IsSaved (told c.self.inside.files) name bytes (told later)) (sym c.in_ok-hold-in-None.ensures.ok) (saved-insert c.self.inside.files name bytes) in
+    subst (λ (state : StoreState). IsSaved (told state.files) name bytes (told c.hold.new.self)) c.self.view_is held
 
 pub returns-in_ok-hold-in-None-clause-as_planned : goal.returns-in_ok-hold-in-None-clause-as_planned
 returns-in_ok-hold-in-None-clause-as_planned c =
-    let planned : get (from_entries {R = nat_cmp} c.self.inside.failing_saves.entries) c.self.inside.saves ≡ None =
-    get-from_tree _ c.self.inside.failing_saves ∙ sym c.get.ensures.value ∙ sym c.in-None.ensures in
-    rw (← c.self.view_is, planned, c.in_ok-hold-in-None.ensures.ok, c.saturating_add-self-inside.ensures)
+    let now = c.args.self.now in
+    let plan = get now.failing_saves now.saves in
+    let planned : plan ≡ None = ap (λ (state : StoreState). get state.failing_saves state.saves) (sym c.self.view_is) ∙ get-from_tree _ c.self.inside.failing_saves ∙ sym c.get.ensures.value ∙ sym c.in-None.ensures in
+    planned_save c.self.view_is c.args.name.now c.args.bytes.now c.hold.new.self c.saturating_add-self-inside.result c.saturating_add-self-inside.ensures plan planned c.in_ok-hold-in-None.ensures.ok
+
+pub returns-in_err-hold-in-None : goal.returns-in_err-hold-in-None
+returns-in_err-hold-in-None c =
+    let p = err_from_is_err_and c.from_residual-in_err-hold-in-None.result c.from_residual-in_err-hold-in-None.ensures.1 in
+    let now = c.args.self.now in
+    let faults = ap (λ (state : StoreState). state.save_faults) c.self.view_is in
+    rw (p.1, p.2)
+    (record {
+      no_load = ap (λ (state : StoreState). state.loads) c.self.view_is;
+      no_load_fault = ap (λ (state : StoreState). state.load_faults) c.self.view_is;
+      faults_never_fall = omega (arith, faults);
+      ok = tt;
+      failed = tt;
+      kept = tt;
+      out_of_memory = ap told (c.in_err-hold-in-None.ensures.err ∙ ap (λ (state : StoreState). state.files) c.self.view_is);
+      no_fault = faults;
+      ok_no_fault = tt;
+      as_planned = unmade_save c.self.view_is c.args.name.now c.args.bytes.now c.hold.new.self c.saturating_add-self-inside.result c.saturating_add-self-inside.ensures (get now.failing_saves now.saves) c.in_err-hold-in-None.ensures.err;
+    })
+
+pub returns-in_err-hold_part-in-Some : goal.returns-in_err-hold_part-in-Some
+returns-in_err-hold_part-in-Some c =
+    let p = err_from_is_err_and c.from_residual.result c.from_residual.ensures.1 in
+    let now = c.args.self.now in
+    let faults = ap (λ (state : StoreState). state.save_faults) c.self.view_is in
+    rw (p.1, p.2)
+    (record {
+      no_load = ap (λ (state : StoreState). state.loads) c.self.view_is;
+      no_load_fault = ap (λ (state : StoreState). state.load_faults) c.self.view_is;
+      faults_never_fall = omega (arith, faults);
+      ok = tt;
+      failed = tt;
+      kept = tt;
+      out_of_memory = ap told (c.in_err-hold_part-in-Some.ensures.err ∙ ap (λ (state : StoreState). state.files) c.self.view_is);
+      no_fault = faults;
+      ok_no_fault = tt;
+      as_planned = unmade_save c.self.view_is c.args.name.now c.args.bytes.now c.hold_part.new.self c.saturating_add-self-inside.result c.saturating_add-self-inside.ensures (get now.failing_saves now.saves) c.in_err-hold_part-in-Some.ensures.err;
+    })
