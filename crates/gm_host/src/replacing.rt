@@ -1,10 +1,11 @@
 //! A save to a file of the system: written beside the file that stands there, and put in its place.
-ghost use Rattle.std.specs.Prelude.{◌≡◌, ◌++◌, ◌∷◌, IfOk, decimal};
+ghost use Rattle.std.specs.Prelude.{◌≡◌, ◌++◌, ◌∷◌, IfOk, OnOk, decimal};
 ghost use Rattle.std.specs.Io.KnownBytes.{Appends};
 ghost use Rattle.gm_host.specs.Saves.{IsOutOfMemory};
 
 use crate::fault::SaveFault;
 use crate::opened::write_made;
+use crate::whole::write_whole;
 use arrayvec::ArrayString;
 use std::fmt::Write as _;
 use std::fs::{Files, OpenFile, OpenOptions, Permissions};
@@ -57,10 +58,12 @@ fn writable_access<R: Files>(rt: &R, name: &str) -> io::Result<u32> {
 fn replace<R: Files>(rt: &R, name: &str, bytes: &[u8], access: Option<u32>) -> Result<(), SaveFault>
     ensures { ¬ IsOutOfMemory result }
 {
-    let Some((beside, file)) = make_beside(rt, name, access) else {
+    let Some((beside, mut file)) = make_beside(rt, name, access) else {
         return Err(SaveFault::Failed);
     };
-    if write_lasting(file, bytes, access).is_ok() && fs::rename(rt, beside.as_str(), name).is_ok() {
+    let lasting = write_lasting(&mut file, bytes, access).is_ok();
+    drop(file);
+    if lasting && fs::rename(rt, beside.as_str(), name).is_ok() {
         return Ok(());
     }
     // The answer tells of a fault already.
@@ -69,20 +72,18 @@ fn replace<R: Files>(rt: &R, name: &str, bytes: &[u8], access: Option<u32>) -> R
 }
 
 /// Writes all of the bytes to a file that was just made, and waits until the disk has them.
-fn write_lasting<F: Write + OpenFile + Drop>(
-    made: F,
+fn write_lasting<F: Write + OpenFile>(
+    made: &mut F,
     bytes: &[u8],
     access: Option<u32>,
-) -> Result<F, SaveFault>
-    ensures all_bytes { IfOk result (λ written. Appends (F.contents made) (F.contents written) bytes.now) }
-    ensures enough_memory { ¬ IsOutOfMemory result }
+) -> io::Result<()>
+    ensures { OnOk result (Appends (F.contents made.old) (F.contents made.new) bytes.now) }
 {
-    let file = write_made(Ok(made), bytes)?;
+    write_whole(made, bytes)?;
     if let Some(access) = access {
-        file.set_permissions(Permissions::from_mode(access))?;
+        made.set_permissions(Permissions::from_mode(access))?;
     }
-    file.sync_all()?;
-    Ok(file)
+    made.sync_all()
 }
 
 /// Makes a file under the first of the names beside this one that nothing has yet.
