@@ -232,29 +232,6 @@ fn skip_embeds(lexer: &mut Lexer<'_>, dim: Dim) -> Result<(), SchemaFault>
     Ok(())
 }
 
-fn read_ahead(alloc: Global, lexer: &mut Lexer<'_>) -> Result<Schema, SchemaFault>
-    ensures reads { IfOk result (λ schema. Reads true states.AtDim lexer.old lexer.new (states.AtEmbeds schema.dim schema.embeds)) }
-    ensures next { IfOk result (λ schema. EndsEmbeds lexer.new) }
-    ensures stops { IfErr result (StopsOrLost true states.AtDim lexer.old) }
-{
-    let dim = read_dim(lexer)?;
-    let embeds = read_embeds(alloc, lexer, dim)?;
-    Ok(Schema {
-        dim,
-        embeds: Items::new(embeds),
-    })
-}
-
-fn skip_ahead(lexer: &mut Lexer<'_>) -> Result<Dim, SchemaFault>
-    ensures reads { IfOk result (λ dim. SkipsSchema lexer.old lexer.new dim) }
-    ensures next { IfOk result (λ dim. EndsEmbeds lexer.new) }
-    ensures stops { IfErr result (Stops false states.AtDim lexer.old) }
-{
-    let dim = read_dim(lexer)?;
-    skip_embeds(lexer, dim)?;
-    Ok(dim)
-}
-
 /// The schema that stands next, which the lexer goes past, up to where no further embedding begins.
 /// What stands there isn't judged. After a refusal, whose fault is the first from left to right, the
 /// lexer is as before.
@@ -268,9 +245,13 @@ pub fn read_schema(alloc: Global, lexer: &mut Lexer<'_>) -> Result<Schema, Schem
     ensures refused { OnErr result (lexer.new ≡ lexer.old) }
 {
     let mut ahead = lexer.fork();
-    let schema = read_ahead(alloc, &mut ahead)?;
+    let dim = read_dim(&mut ahead)?;
+    let embeds = read_embeds(alloc, &mut ahead, dim)?;
     *lexer = ahead;
-    Ok(schema)
+    Ok(Schema {
+        dim,
+        embeds: Items::new(embeds),
+    })
 }
 
 /// The dimension of the schema that stands next, which the lexer goes past, up to where no further
@@ -285,7 +266,8 @@ pub fn skip_schema(lexer: &mut Lexer<'_>) -> Result<Dim, SchemaFault>
     ensures refused { OnErr result (lexer.new ≡ lexer.old) }
 {
     let mut ahead = lexer.fork();
-    let dim = skip_ahead(&mut ahead)?;
+    let dim = read_dim(&mut ahead)?;
+    skip_embeds(&mut ahead, dim)?;
     *lexer = ahead;
     Ok(dim)
 }
