@@ -30,13 +30,14 @@ impl Text {
         }
     }
 
-    /// No bytes, with room for so many, so that they are written without taking more memory.
-    pub fn with_capacity(alloc: Global, room: usize) -> Result<Text, OutOfMemory>
+    /// No bytes, in the room of these and with room for so many, so that they are written without
+    /// taking more memory. Memory that was written once takes less time to write than new memory.
+    pub fn in_place_of(mut bytes: Vec<u8>, room: usize) -> Result<Text, OutOfMemory>
         ensures { IfOk result (λ text. text ≡ []) }
     {
-        Ok(Text {
-            bytes: Vec::with_capacity(alloc, room)?,
-        })
+        bytes.clear();
+        bytes.reserve_exact(room)?;
+        Ok(Text { bytes })
     }
 
     /// How many bytes there are.

@@ -15,13 +15,13 @@ use crate::refusal::{NoText, Stop};
 use crate::reply::{Reply, reply_within_limit};
 use gm_arena::{Arena, Steps};
 use gm_lines::map_line;
-use gm_mapfile::{MapFault, MapRead, MapVersion, print_map, read_map};
+use gm_mapfile::{MapFault, MapRead, MapVersion, print_map_in_place_of, read_map};
 use gm_model::MOST_DARTS;
 use std::alloc::Global;
 use std::sync::ledger::Ledger;
 
-/// The canonical text of the map that a file's text stands for, or the line that refuses it. The
-/// file's text is let go before the map's is made, so that both are never held at once.
+/// The canonical text of the map that a file's text stands for, or the line that refuses it. It is
+/// written in the room of the file's text, so that both are never held at once.
 pub fn show<L: Ledger>(alloc: Global, bytes: Vec<u8>, steps: &mut Steps<L>) -> Result<Reply, NoText>
     ensures judged { IsJudged bytes.items Show result }
     ensures most { ShowsWithin bytes.items steps.old steps.new }
@@ -30,13 +30,13 @@ pub fn show<L: Ledger>(alloc: Global, bytes: Vec<u8>, steps: &mut Steps<L>) -> R
         Ok(read) => read,
         Err(fault) => return refused(alloc, bytes.as_slice(), fault),
     };
-    drop(bytes);
-    printed(alloc, &read.arena, read.version, steps)
+    printed(alloc, bytes, &read.arena, read.version, steps)
 }
 
-/// The canonical text of a map, which its owner lets go in one place.
+/// The canonical text of a map, which its owner lets go in one place, in the room of the bytes.
 fn printed<L: Ledger>(
     alloc: Global,
+    room: Vec<u8>,
     arena: &Arena,
     version: MapVersion,
     steps: &mut Steps<L>,
@@ -46,7 +46,7 @@ fn printed<L: Ledger>(
     ensures most { steps.new ≤ steps.old + printing arena.now.schema.dim arena.now.count }
 {
     prove!(arena.count() <= MOST_DARTS);
-    let text = print_map(alloc, arena, version, steps)?;
+    let text = print_map_in_place_of(room, alloc, arena, version, steps)?;
     reply_within_limit(0, text)
 }
 

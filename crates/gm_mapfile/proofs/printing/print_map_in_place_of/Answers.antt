@@ -1,7 +1,7 @@
 use Rattle.std.proofs.Common.{◌∙◌, arith}
 use Rattle.gm_model.proofs.Exits.{unless_ok}
 use Rattle.gm_mapfile.proofs.Printed.{printed_within}
-use Rattle.gm_mapfile.proofs.printing.print_map.Goals as goal
+use Rattle.gm_mapfile.proofs.printing.print_map_in_place_of.Goals as goal
 
 pub room_for-requires : goal.room_for-requires
 room_for-requires g c = c.deref.ensures.value ∙ c.in_ok-names.ensures.names
