@@ -2,6 +2,7 @@ pub mod OneBook
 pub mod Among
 pub mod Built
 pub mod Onward
+pub mod Items
 pub mod LeastOf
 pub mod ValueTokens
 pub mod LeastFault

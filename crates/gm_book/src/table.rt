@@ -106,13 +106,10 @@ fn hooks(
 {
     let mut hooks = Vec::new(alloc);
     for item in items {
-        if let Item::Node {
-            name,
-            hook: true,
-            ..
-        } = item
-        {
-            hooks.push(number(names, text, name))?;
+        if let Item::Node { name, hook, .. } = item {
+            if *hook {
+                hooks.push(number(names, text, name))?;
+            }
         }
     }
     Ok(hooks)

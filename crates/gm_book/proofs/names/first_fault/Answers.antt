@@ -1,14 +1,14 @@
 use Rattle.std.proofs.Common.{◌≡◌, ◌+◌, ◌∷◌, List, [], Option, None, map, drop, sym, ap, subst, ◌∙◌}
 use Rattle.std.proofs.lemmas.List.{drop_all}
 use Rattle.gm_forms.specs.declared.form.RuleForm.{RuleForm}
-use Rattle.gm_forms.specs.Forms.{rule_form_of}
+use Rattle.gm_forms.specs.Forms.{IsRuleIn, rule_form_of}
 use Rattle.gm_forms.specs.Held.{names_at, names_held}
 use Rattle.gm_book.specs.declared.names.NameFault.{NameFault}
 use Rattle.gm_book.specs.FirstNameFault.{IsLeast, IsFaultBehind, least_of}
 use Rattle.gm_book.specs.Fitting.{IsFitting, HasExprs}
 use Rattle.gm_book.proofs.ReadSets.{each_read}
 use Rattle.gm_book.proofs.LeastOf.{least_regrouped, least_with_none}
-use Rattle.gm_book.proofs.Onward.{left_on}
+use Rattle.gm_book.proofs.Onward.{left_on, each_on}
 use Rattle.gm_book.proofs.RuleFaults.{least_behind, none_behind}
 use Rattle.gm_book.proofs.names.first_fault.Goals as goal
 
@@ -16,6 +16,9 @@ pub loop-rule-init : goal.loop-rule-init
 loop-rule-init c = λ behind least.
     let rules = map (rule_form_of c.args.text.now) c.args.rules.now in
     subst (λ ns. IsLeast (IsFaultBehind c.args.schema.now.dim c.args.schema.now.embeds ns rules) behind) (ap names_at c.new-table.ensures.empty) least
+
+pub take_in_rule_name-requires-clause-within : goal.take_in_rule_name-requires-clause-within
+take_in_rule_name-requires-clause-within c = each_on (IsRuleIn c.args.text.now) c.args.rules.now c.loop-rule.rule-index c.rule-item.result c.rule-item.result c.requires.within c.loop-rule-test.true c.rule-item.is
 
 pub take_in_rule_name-requires-clause-fits : goal.take_in_rule_name-requires-clause-fits
 take_in_rule_name-requires-clause-fits c = each_read (IsFitting c.args.schema.now.dim) (rule_form_of c.args.text.now) c.args.rules.now c.loop-rule.rule-index c.rule-item.result c.rule-item.result c.requires.fits c.loop-rule-test.true c.rule-item.is

@@ -1,18 +1,25 @@
-use Rattle.std.proofs.Common.{◌≡◌, ◌+◌, ◌∷◌, List, Option, get_or, map, drop, sym, ap, ◌∙◌}
+use Rattle.std.proofs.Common.{◌≡◌, ◌+◌, ◌∷◌, List, Option, get_or, map, drop, refl, sym, ap, ◌∙◌}
 use Rattle.std.proofs.lemmas.List.{drop_more}
 use Rattle.gm_model.specs.declared.token.TokenKind.TheVariants.{Name}
 use Rattle.gm_model.specs.declared.value.Kind.TheVariants.{Int}
 use Rattle.gm_forms.specs.declared.form.ParamForm.{ParamForm}
 use Rattle.gm_forms.specs.BookText.{with_name}
-use Rattle.gm_forms.specs.Forms.{param_form_of, mention_of}
-use Rattle.gm_forms.specs.Held.{names_held}
+use Rattle.gm_forms.specs.Forms.{IsParamIn, param_form_of, mention_of}
+use Rattle.gm_forms.specs.Held.{names_at, names_held}
 use Rattle.gm_book.specs.declared.names.NameFault.{NameFault}
 use Rattle.gm_book.specs.FirstNameFault.{least_of, again_at, least_param}
-use Rattle.gm_book.proofs.LeastOf.{least_regrouped}
+use Rattle.gm_book.proofs.LeastOf.{least_regrouped, least_with_none}
+use Rattle.gm_book.proofs.Onward.{each_on, none_on}
 use Rattle.gm_book.proofs.names.params_fault.Goals as goal
 
 abbrev blank : ParamForm
 blank = record { name = record { kind = Name; start = 0; end = 0 }; kind = Int }
+
+pub loop-param-init : goal.loop-param-init
+loop-param-init c = ap (λ keys. least_param (names_at keys) (map (param_form_of c.args.text.now) c.args.params.now)) c.new-table.ensures.empty
+
+pub take_in-requires : goal.take_in-requires
+take_in-requires c = each_on (IsParamIn c.args.text.now) c.args.params.now c.loop-param.param-index _ blank c.requires c.loop-param-test.true refl
 
 pub loop-param-preserved : goal.loop-param-preserved
 loop-param-preserved c =
@@ -29,3 +36,9 @@ loop-param-preserved c =
     ∙ ap (λ ns. least_of (least_of l.fault (again_at names mention)) (least_param ns behind)) takes.held
     ∙ least_regrouped l.fault (again_at names mention) (least_param (with_name names mention.name) behind)
     ∙ ap (λ (ps : List ParamForm). least_of l.fault (least_param names (map (param_form_of text) ps))) (sym left) ∙ l.invariant
+
+pub returns : goal.returns
+returns c =
+    let l = c.loop-param in
+    sym (least_with_none l.fault)
+    ∙ none_on (param_form_of c.args.text.now) (λ forms. least_of l.fault (least_param (names_held l.table) forms)) c.args.params.now l.param-index _ c.loop-param-test.false l.invariant

@@ -1,8 +1,10 @@
-use Rattle.std.proofs.Common.{[], refl}
+use Rattle.std.proofs.Common.{[], map, refl, ap, ◌∙◌}
+use Rattle.std.proofs.lemmas.List.{take_all}
 use Rattle.gm_model.specs.Rules.{node_of}
 use Rattle.gm_forms.specs.declared.key.NameKey.{NameKey}
 use Rattle.gm_forms.specs.BookText.{node_in}
 use Rattle.gm_forms.specs.Forms.{rule_form_of}
+use Rattle.gm_forms.specs.Held.{names_at}
 use Rattle.gm_book.proofs.Mapped.{seen_more}
 use Rattle.gm_book.proofs.RuleNames.{good_at}
 use Rattle.gm_book.proofs.table.nodes.Goals as goal
@@ -14,3 +16,6 @@ pub loop-name-preserved : goal.loop-name-preserved
 loop-name-preserved c =
     seen_more (λ (key : NameKey). key.bytes.now) (node_in (rule_form_of c.args.text.now c.args.rule.now) (λ node. [])) c.args.names.now c.loop-name.name-index _ _ c.loop-name-test.true refl
     node_of c.loop-name.nodes.items c.push.new.self.items c.node.result c.loop-name.invariant c.node.ensures c.in_ok-push.ensures.items
+
+pub returns : goal.returns
+returns c = c.loop-name.invariant ∙ ap (λ names. map (node_in (rule_form_of c.args.text.now c.args.rule.now) (λ node. [])) (names_at names)) (take_all c.loop-name.name-index c.args.names.now c.loop-name-test.false)

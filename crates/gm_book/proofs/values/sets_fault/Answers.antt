@@ -4,14 +4,20 @@ use Rattle.gm_model.specs.declared.value.Kind.{Kind}
 use Rattle.gm_parse.specs.Meaning.{names_in}
 use Rattle.gm_forms.specs.declared.form.SetForm.{SetForm}
 use Rattle.gm_forms.specs.BookText.{IsSet, kind_of_embed}
-use Rattle.gm_forms.specs.Forms.{set_form_of}
+use Rattle.gm_forms.specs.Forms.{IsSetIn, set_form_of}
 use Rattle.gm_book.specs.declared.names.NameFault.{NameFault}
 use Rattle.gm_book.specs.FirstNameFault.{IsLeast, IsSetFault, IsValueFault, least_of}
 use Rattle.gm_book.proofs.LeastOf.{least_regrouped, least_with_none}
-use Rattle.gm_book.proofs.Onward.{left_on}
+use Rattle.gm_book.proofs.Onward.{left_on, each_on}
 use Rattle.gm_book.proofs.ReadSets.{each_read}
 use Rattle.gm_book.proofs.ValueFaults.{no_set, least_of_sets}
 use Rattle.gm_book.proofs.values.sets_fault.Goals as goal
+
+pub bytes_in-requires : goal.bytes_in-requires
+bytes_in-requires c = (each_on (IsSetIn c.args.text.now) c.args.sets.now c.loop-set.set-index c.set-item.result c.set-item.result c.requires.within c.loop-set-test.true c.set-item.is).0
+
+pub value_fault-requires-clause-within : goal.value_fault-requires-clause-within
+value_fault-requires-clause-within c = (each_on (IsSetIn c.args.text.now) c.args.sets.now c.loop-set.set-index c.set-item.result c.set-item.result c.requires.within c.loop-set-test.true c.set-item.is).1
 
 pub value_fault-requires-clause-expr : goal.value_fault-requires-clause-expr
 value_fault-requires-clause-expr c = (each_read (IsSet c.args.env.now.schema.now.dim) (set_form_of c.args.text.now) c.args.sets.now c.loop-set.set-index c.set-item.result c.set-item.result c.requires.exprs c.loop-set-test.true c.set-item.is).1
