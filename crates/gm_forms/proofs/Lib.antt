@@ -1,4 +1,5 @@
 pub mod Behind
+pub mod NameWords
 pub mod NamePlaces
 pub mod Onward
 pub mod Run

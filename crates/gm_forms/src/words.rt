@@ -7,12 +7,22 @@ ghost use Rattle.gm_text.specs.SchemaAnswers.{IsToken};
 ghost use Rattle.gm_forms.specs.Reading.{param_kind};
 
 use gm_model::Kind;
+use gm_parse::meaning_or;
 use gm_text::{Lexer, Token};
 
 /// The words of the formats that no name can be.
 const RESERVED: [&[u8]; 19] = [
     b"rule", b"left", b"right", b"hook", b"with", b"pre", b"and", b"or", b"not", b"if", b"then",
     b"else", b"true", b"false", b"sum", b"count", b"min", b"max", b"same",
+];
+
+/// The kinds of parameters, by their words.
+static KINDS: [(&[u8], Option<Kind>); 5] = [
+    (b"bool", Some(Kind::Bool)),
+    (b"int", Some(Kind::Int)),
+    (b"vec2", Some(Kind::Vec2)),
+    (b"vec3", Some(Kind::Vec3)),
+    (b"rgb", Some(Kind::Rgb)),
 ];
 
 /// Whether the token is this word or sign.
@@ -33,14 +43,7 @@ pub fn is_reserved(word: &[u8]) -> bool
 pub fn kind_named(word: &[u8]) -> Option<Kind>
     ensures { result ≡ param_kind word.now }
 {
-    match word {
-        b"bool" => Some(Kind::Bool),
-        b"int" => Some(Kind::Int),
-        b"vec2" => Some(Kind::Vec2),
-        b"vec3" => Some(Kind::Vec3),
-        b"rgb" => Some(Kind::Rgb),
-        _ => None,
-    }
+    meaning_or(&KINDS, word, None)
 }
 
 fn is_among(words: &[&[u8]], word: &[u8]) -> bool

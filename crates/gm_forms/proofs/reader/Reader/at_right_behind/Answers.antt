@@ -1,4 +1,4 @@
-use Rattle.std.proofs.Common.{rules, ◌≡◌, true, false, codes, refl, ap, map}
+use Rattle.std.proofs.Common.{◌≡◌, true, false, codes, refl, sym, ap, map, ◌∙◌}
 use Rattle.std.specs.Str.{bytes_eq}
 use Rattle.gm_model.specs.Tokens.{bytes_of}
 use Rattle.gm_forms.specs.Forms.{rule_form_of}
@@ -8,7 +8,7 @@ use Rattle.gm_forms.proofs.reader.Reader.at_right_behind.Goals as goal
 pub returns-clause-moves : goal.returns-clause-moves
 returns-clause-moves c =
     let text = c.args.lexer.now.text in
-    let plain : bytes_eq (bytes_of text c.args.token) (codes "with") ≡ false = search rules in
+    let plain : bytes_eq (bytes_of text c.args.token) (codes "with") ≡ false = sym c.reads.ensures ∙ c.if-reads.false in
     behind_moves text c.args.self.now.nodes c.args.self.now.draft c.put_node.new.self c.args.spot c.args.name c.args.word (bytes_of text c.args.token) c.args.token.start c.at_right_item.result c.at_right_item.new.self.nodes c.at_right_item.new.self.draft
     (ap (λ rs. map (rule_form_of text) rs.items) c.in_ok-put_node.ensures.rules) (rw c.requires.side (c.in_ok-put_node.ensures.current text)) (rw c.requires.side refl) (rw (c.requires.side) plain)
     c.at_right_item.ensures.moves
@@ -16,6 +16,6 @@ returns-clause-moves c =
 pub returns-then-reads-clause-moves : goal.returns-then-reads-clause-moves
 returns-then-reads-clause-moves c =
     let text = c.args.lexer.now.text in
-    let set : bytes_eq (bytes_of text c.args.token) (codes "with") ≡ true = search rules in
+    let set : bytes_eq (bytes_of text c.args.token) (codes "with") ≡ true = sym c.reads.ensures ∙ c.if-reads.true in
     with_moves text c.args.self.now.nodes c.args.self.now.draft c.put_node.new.self c.args.spot c.args.name c.args.word (bytes_of text c.args.token) c.args.token.start
     (ap (λ rs. map (rule_form_of text) rs.items) c.in_ok-put_node.ensures.rules) (rw c.requires.side (c.in_ok-put_node.ensures.current text)) c.requires.side set

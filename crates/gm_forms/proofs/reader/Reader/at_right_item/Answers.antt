@@ -1,4 +1,32 @@
+use Rattle.std.proofs.Common.{sym, ◌∙◌}
+use Rattle.gm_model.specs.Names.{reserved, is_among}
+use Rattle.gm_model.specs.Tokens.{bytes_of}
+use Rattle.gm_forms.specs.Standing.{rules_of, current_of}
+use Rattle.gm_forms.proofs.NameWords.{told, is_long, is_short, name_in, right_reserved, right_long, right_named, right_pre}
 use Rattle.gm_forms.proofs.reader.Reader.at_right_item.Goals as goal
 
 pub returns-then-reads-clause-within : goal.returns-then-reads-clause-within
 returns-then-reads-clause-within c state_in draft_in = (tt, c.in_ok-close.ensures.within c.args.lexer.now.text draft_in)
+
+pub returns-then-reads-2-clause-moves : goal.returns-then-reads-2-clause-moves
+returns-then-reads-2-clause-moves c last =
+    let text = c.args.lexer.now.text in
+    right_pre text c.args.token c.args.spot c.requires.side (sym c.reads.ensures ∙ c.if-reads.false) (sym c.reads-2.ensures ∙ c.if-reads-2.true) c.args.self.now.nodes (rules_of text c.args.self.now.draft) (current_of text c.args.self.now.draft) last
+
+pub returns-then-is_reserved-clause-moves : goal.returns-then-is_reserved-clause-moves
+returns-then-is_reserved-clause-moves c last =
+    let text = c.args.lexer.now.text in
+    right_reserved text c.args.token (told (is_among reserved) c.is_reserved.result _ c.text-word.result.now (bytes_of text c.args.token) c.is_reserved.ensures c.text-word.ensures c.if-is_reserved.true) c.args.spot c.requires.side (sym c.reads.ensures ∙ c.if-reads.false) (sym c.reads-2.ensures ∙ c.if-reads-2.false) c.args.self.now.nodes (rules_of text c.args.self.now.draft) (current_of text c.args.self.now.draft) last
+
+pub returns-then-word-gt-MOST_NAME_BYTES-clause-moves : goal.returns-then-word-gt-MOST_NAME_BYTES-clause-moves
+returns-then-word-gt-MOST_NAME_BYTES-clause-moves c last =
+    let text = c.args.lexer.now.text in
+    right_long text c.args.token (told (is_among reserved) c.is_reserved.result _ c.text-word.result.now (bytes_of text c.args.token) c.is_reserved.ensures c.text-word.ensures c.if-is_reserved.false) (is_long c.text-word.result.now (bytes_of text c.args.token) c.text-word.ensures c.if-word-gt-MOST_NAME_BYTES.true) c.args.spot c.requires.side (sym c.reads.ensures ∙ c.if-reads.false) (sym c.reads-2.ensures ∙ c.if-reads-2.false) c.args.self.now.nodes (rules_of text c.args.self.now.draft) (current_of text c.args.self.now.draft) last
+
+pub returns-clause-moves : goal.returns-clause-moves
+returns-clause-moves c last =
+    let text = c.args.lexer.now.text in
+    right_named text c.args.token (told (is_among reserved) c.is_reserved.result _ c.text-word.result.now (bytes_of text c.args.token) c.is_reserved.ensures c.text-word.ensures c.if-is_reserved.false) (is_short c.text-word.result.now (bytes_of text c.args.token) c.text-word.ensures c.if-word-gt-MOST_NAME_BYTES.false) c.args.spot c.requires.side (sym c.reads.ensures ∙ c.if-reads.false) (sym c.reads-2.ensures ∙ c.if-reads-2.false) c.args.self.now.nodes (rules_of text c.args.self.now.draft) (current_of text c.args.self.now.draft) last
+
+pub returns-clause-within : goal.returns-clause-within
+returns-clause-within c state_in draft_in = let text = c.args.lexer.now.text in (name_in text c.args.token c.text-word.result.now c.requires.token c.requires.kind c.text-word.ensures c.if-word-gt-MOST_NAME_BYTES.false, draft_in)
