@@ -1,5 +1,5 @@
 -- What a word comes to where a name can stand.
-use Rattle.std.proofs.Common.{◌≡◌, ℕ, ◌+◌, ◌<◌, ◌≤◌, Bool, true, false, List, [], length, nat_lt, Some, None, Ok, Err, codes, refl, sym, ap, subst, ◌∙◌, arith}
+use Rattle.std.proofs.Common.{◌≡◌, ℕ, ◌<◌, ◌≤◌, Bool, true, false, List, [], length, nat_lt, Some, None, Ok, Err, codes, refl, sym, ap, subst, ◌∙◌}
 use Rattle.std.proofs.lemmas.Bool.{lt-ltb, le-ltb}
 use Rattle.std.specs.Str.{bytes_eq}
 use Rattle.gm_model.specs.declared.limit.LimitKind.TheVariants as limits
@@ -106,14 +106,6 @@ module _ (text : List ℕ) (token : Token) where
           → Moves text nodes old (code.Name heading so_far) (word_mark text token) (Ok (code.Left heading so_far)) nodes new
       unfolding stepped
       name_named heading so_far nodes old new rules current last = rw (free, short, rules, current) refl
-
-      pub param_many : (heading : Heading) (so_far count : ℕ) → 8 ≤ count → Leads text (code.Param heading so_far count) (word_mark text token) (Err (faults.Limit limits.Parameters token.start))
-      unfolding stepped
-      param_many heading so_far count many nodes rules current last = rw (free, short, lt-ltb 8 (count + 1) (omega (arith, many))) refl
-
-      pub param_named : (heading : Heading) (so_far count : ℕ) → count < 8 → Leads text (code.Param heading so_far count) (word_mark text token) (Ok (code.Colon heading so_far (count + 1) token))
-      unfolding stepped
-      param_named heading so_far count few nodes rules current last = rw (free, short, le-ltb 8 (count + 1) (omega (arith, few))) refl
 
   -- ---- where a right item can stand
 
