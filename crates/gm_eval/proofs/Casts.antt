@@ -1,7 +1,7 @@
 -- What a number of 64 bits, or one reckoned from such, is after its casts: itself.
-use Rattle.std.proofs.Common.{◌≡◌, ◌≢◌, ℤ, pos, ◌-ℤ◌, ◌<ℤ◌, ◌≤ℤ◌, neg_ℤ, int_lt, true, false, FitsSigned, sym, ap, ap₂, ◌∙◌, arith, w64, to_z, of_z}
+use Rattle.std.proofs.Common.{◌≡◌, ◌≢◌, ◌≤◌, ◌^◌, unsigned_abs, ℤ, pos, negsuc, ◌*ℤ◌, ◌-ℤ◌, ◌<ℤ◌, ◌≤ℤ◌, neg_ℤ, int_lt, true, false, FitsSigned, sym, ap, ap₂, ◌∙◌, arith, w64, to_z, of_z}
 use Rattle.std.specs.Int.{w128}
-use Rattle.std.proofs.lemmas.Int.{ints, to_z-of_z}
+use Rattle.std.proofs.lemmas.Int.{fits_signed_mul, ints, to_z-of_z}
 
 -- as the code passes a number of 64 bits to a function, as it widens one, and as it negates that
 abbrev pub passed : ℤ → ℤ
@@ -33,3 +33,11 @@ below y fits nonzero h = let same : int_lt (pos 0) y ≡ false = ap (int_lt (pos
 -- the remainder of Euclid's quotient, negated
 pub negated : (r : ℤ) → FitsSigned w128 r → pos 0 ≤ℤ r → kept (pos 0 -ℤ kept r) ≡ neg_ℤ r
 negated r fits positive = omega (arith, ints)
+
+-- the product of two numbers of 64 bits
+at_most : (x : ℤ) → FitsSigned w64 x → unsigned_abs x ≤ 2 ^ 63
+at_most (pos n) fits = omega (arith, ints, fits)
+at_most (negsuc n) fits = omega (arith, ints, fits)
+
+pub product_is : (x y : ℤ) → FitsSigned w64 x → FitsSigned w64 y → kept (wide x *ℤ wide y) ≡ x *ℤ y
+product_is x y fits_x fits_y = ap₂ (λ u v. kept (u *ℤ v)) (wide_is x fits_x) (wide_is y fits_y) ∙ to_z-of_z w128 (x *ℤ y) (fits_signed_mul w128 x y (2 ^ 63) (2 ^ 63) (at_most x fits_x) (at_most y fits_y) (omega arith))

@@ -1,12 +1,14 @@
 -- What an operator gives, from what is known of its arguments.
-use Rattle.std.proofs.Common.{◌≡◌, ◌∷◌, [], ap, ap₂, ◌∙◌, ◌≢◌, IsTrue, not, ◌↔◌, ◌⊎◌, ℤ, pos, ◌*ℤ◌, ◌-ℤ◌, Bool, Option, Some, None, MatchOption, List, map, refl, sym, subst, inl, inr}
+use Rattle.std.proofs.Common.{◌≡◌, ℕ, IsSome, ◌∷◌, [], ap, ap₂, ◌∙◌, ◌≢◌, IsTrue, not, ◌↔◌, ◌⊎◌, ℤ, pos, ◌*ℤ◌, ◌-ℤ◌, Bool, Option, Some, None, MatchOption, List, map, refl, sym, subst, inl, inr}
+use Rattle.std.proofs.lemmas.Bool.{false≢true}
 use Rattle.gm_model.specs.declared.expr.BinOp.{BinOp}
 use Rattle.gm_model.specs.declared.expr.UnOp.{UnOp}
 use Rattle.gm_model.specs.declared.value.Value.{Value}
 use Rattle.gm_model.specs.declared.value.Value.TheVariants as values
 use Rattle.gm_model.specs.declared.expr.BinOp.TheVariants as ops
 use Rattle.gm_model.specs.declared.value.Kind.TheVariants as kinds
-use Rattle.gm_model.specs.Expressions.{IsUnary, IsBinary, IsTest, IsMade, IsScaled, IsQuotient, IsRemainder, by_component, components, floor}
+use Rattle.gm_model.specs.Expressions.{IsUnary, IsBinary, IsTest, IsMade, IsQuotient, IsRemainder, by_component, components, floor}
+use Rattle.gm_model.specs.Kinds.{numeric, product_kind}
 use Rattle.gm_model.specs.Values.{kind_of}
 use Rattle.gm_theory.proofs.ValuesUnique.{int_same}
 use Rattle.gm_eval.specs.Made.{IsNone}
@@ -37,8 +39,9 @@ by_either op op' op'' a o (inr e) h k = by_unary op op'' a o e k
 pub three : (x y z x' y' z' : ℤ) → x ≡ x' → y ≡ y' → z ≡ z' → (x ∷ y ∷ z ∷ []) ≡ (x' ∷ y' ∷ z' ∷ [])
 three x y z x' y' z' e f g = ap₂ ◌∷◌ e (ap₂ ◌∷◌ f (ap (λ u. u ∷ []) g))
 
-pub found_scaled : (number : ℤ) (value value' : Value) (parts : List ℤ) (o : Option Value) → value ≡ value' → parts ≡ map (λ u. number *ℤ u) (components value') → Found (IsMade (kind_of value') parts) o → Found (IsScaled number value) o
-found_scaled number value value' parts o e f h = subst (λ v. Found (IsScaled number v) o) (sym e) (subst (λ p. Found (IsMade (kind_of value') p) o) f h)
+-- each component by itself
+pub found_each : (f : ℤ → ℤ) (value value' : Value) (parts : List ℤ) (o : Option Value) → value ≡ value' → parts ≡ map f (components value') → Found (IsMade (kind_of value') parts) o → Found (IsMade (kind_of value) (map f (components value))) o
+found_each f value value' parts o e same h = subst (λ v. Found (IsMade (kind_of v) (map f (components v))) o) (sym e) (subst (λ p. Found (IsMade (kind_of value') p) o) same h)
 
 -- quotients by the number that the divisor is
 pub found_quotient : (a b : Value) (y : ℤ) (o : Option Value) → b ≡ values.Int y → y ≢ pos 0 → Found (IsMade (kind_of a) (map (λ x. floor x y) (components a))) o → Found (IsQuotient a b) o
@@ -66,3 +69,14 @@ pub found_by_parts : (f : ℤ → ℤ → ℤ) (left right left' right' : Value)
 found_by_parts f left right left' right' parts o e g same h =
     subst (λ v. Found (IsMade (kind_of v) (by_component f (components v) (components right))) o) (sym e)
     (subst (λ w. Found (IsMade (kind_of left') (by_component f (components left') (components w))) o) (sym g) (subst (λ p. Found (IsMade (kind_of left') p) o) same h))
+
+-- ---- what the kinds rule out
+
+pub not_numeric : (v : Value) → ((x : Bool) × (v ≡ values.Bool x)) ⊎ ((red : ℕ) × (green : ℕ) × (blue : ℕ) × (v ≡ values.Rgb red green blue)) → IsSome (numeric (kind_of v)) → ⊥
+not_numeric v (inl (x, e)) h = false≢true (subst (λ w. IsSome (numeric (kind_of w))) e h)
+not_numeric v (inr (red, green, blue, e)) h = false≢true (subst (λ w. IsSome (numeric (kind_of w))) e h)
+
+pub no_product : (a b : Value) → ((x : ℤ) → a ≡ values.Int x → ⊥) → ((x : ℤ) → b ≡ values.Int x → ⊥) → IsSome (product_kind (kind_of a) (kind_of b)) → ⊥
+no_product (values.Int x) b left right h = left x refl
+no_product a (values.Int y) left right h = right y refl
+no_product a b left right h = false≢true h

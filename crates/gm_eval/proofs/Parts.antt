@@ -1,5 +1,5 @@
 -- The value of a form from the values of its parts, and the units that its reading takes.
-use Rattle.std.proofs.Common.{◌≡◌, ℕ, ◌+◌, ◌*◌, ◌<◌, ◌≤◌, ◌⊎◌, ℤ, Bool, true, false, List, [], ◌∷◌, length, IsSome, Option, Some, None, refl, sym, ◌∙◌, ap, ap₂, subst, inl, inr, arith}
+use Rattle.std.proofs.Common.{◌≡◌, ℕ, ◌+◌, ◌*◌, ◌<◌, ◌≤◌, ◌⊎◌, ℤ, Bool, true, false, List, [], ◌∷◌, length, IsSome, MatchOption, Option, Some, None, refl, sym, ◌∙◌, ap, ap₂, subst, inl, inr, arith}
 use Rattle.std.specs.List.{AllZip}
 use Rattle.std.proofs.lemmas.List.{length-map}
 use Rattle.gm_model.specs.declared.expr.BinOp.{BinOp}
@@ -19,7 +19,7 @@ use Rattle.gm_theory.proofs.ReadingsTyped.{then_some, of_two, of_three, typed}
 use Rattle.gm_theory.proofs.ValuesUnique.{one_value, int_same}
 use Rattle.gm_eval.specs.declared.reader.Reader.{Reader}
 use Rattle.gm_eval.specs.Places.{IsWithinUnits}
-use Rattle.gm_eval.specs.Readers.{IsReady, IsInt, IsValueThere, reading_of}
+use Rattle.gm_eval.specs.Readers.{AreNumbersThere, IsReady, IsInt, IsValueThere, reading_of}
 use Rattle.gm_eval.proofs.Costs.{both_within, one_within}
 use Rattle.gm_eval.proofs.Operated.{Found, found_as}
 use Rattle.gm_eval.proofs.Ready.{is_reading}
@@ -189,6 +189,9 @@ module _ (reader : Reader) where
       go (inr (inl (k, ut))) = both_within R.map.schema.dim s t old mid new (first s us) (second t ut)
       go (inr (inr (none, z))) = absurd (none (values.Bool false) no_there)
 
+  pub first_of_choice : (c a b : Tree) (old new : ℕ) → IsWithinUnits R c old new → IsWithinUnits R (If c a b) old new
+  first_of_choice c a b old new first u (s, t, us, side, sum) = subst (λ n. new ≤ old + 6 * (R.map.schema.dim + 1) * n) (sym sum) (one_within R.map.schema.dim s t old new (first s us))
+
   abbrev IsWithinBoth : Tree → Tree → ℕ → ℕ → Type 0
   IsWithinBoth a b old new = (u : ℕ) → (s : ℕ) × (t : ℕ) × HasUnits R a s × HasUnits R b t × (u ≡ s + t) → new ≤ old + 6 * (R.map.schema.dim + 1) * u
 
@@ -201,6 +204,10 @@ module _ (reader : Reader) where
   pub three_within : (a b c : Tree) (old mid late new : ℕ) → IsWithinUnits R a old mid → IsWithinUnits R b mid late → IsWithinUnits R c late new → IsWithinUnits R (MakeVec3 a b c) old new
   three_within a b c old mid late new first second third u (s, t, w, us, ut, uw, sum) =
       subst (λ n. new ≤ old + 6 * (R.map.schema.dim + 1) * n) (sym sum) (both_within R.map.schema.dim (s + t) w old late new (both_within R.map.schema.dim s t old mid late (first s us) (second t ut)) (third w uw))
+
+  pub start_within : (a b c : Tree) (old new : ℕ) → IsWithinUnits R a old new → IsWithinUnits R (MakeVec3 a b c) old new
+  start_within a b c old new first u (s, t, w, us, ut, uw, sum) =
+      subst (λ n. new ≤ old + 6 * (R.map.schema.dim + 1) * n) (sym sum) (one_within R.map.schema.dim (s + t) w old new (one_within R.map.schema.dim s t old new (first s us)))
 
   pub front_within : (a b c : Tree) (old mid new : ℕ) → IsWithinUnits R a old mid → IsWithinUnits R b mid new → IsWithinUnits R (MakeVec3 a b c) old new
   front_within a b c old mid new first second u (s, t, w, us, ut, uw, sum) =
@@ -227,5 +234,31 @@ module _ (reader : Reader) where
   pub none_there : (tree : Tree) (o : Option Value) → o ≡ None → HasNoValue R tree → IsValueThere reader tree o
   none_there tree o e none = subst (IsValueThere reader tree) (sym e) none
 
-  pub no_other : (tree : Tree) (v w : Value) → HasValue R tree v → HasValue R tree w → v ≡ w
-  no_other tree v w h k = one tree v w h k
+  pub no_choice : (c a b : Tree) (o : Option Value) → o ≡ None → ((truth : Bool) → HasValue R c (values.Bool truth) → ⊥) → IsValueThere reader (If c a b) o
+  no_choice c a b o e none = none_there (If c a b) o e without
+    where
+      without : (v : Value) → HasValue R (If c a b) v → ⊥
+      without v (inl (t, k)) = none true t
+      without v (inr (f, k)) = none false f
+
+  pub no_numbers : (a b c : Tree) (n : Option (ℤ × ℤ × ℤ)) → n ≡ None → ((x y z : ℤ) → IsInt reader a x → IsInt reader b y → IsInt reader c z → ⊥) → AreNumbersThere reader a b c n
+  no_numbers a b c n e none = subst (AreNumbersThere reader a b c) (sym e) none
+
+  -- ---- what the answer for a part says of its value
+
+  pub is_there : (tree : Tree) (v : Value) (o : Option Value) → IsValueThere reader tree o → o ≡ Some v → HasValue R tree v
+  is_there tree v o there e = subst (IsValueThere reader tree) e there
+
+  pub not_there : (tree : Tree) (v : Value) (o : Option Value) → IsValueThere reader tree o → (o ≡ Some v → ⊥) → HasValue R tree v → ⊥
+  not_there tree v None none other h = none v h
+  not_there tree v (Some w) there other h = other (ap Some (one tree w v there h))
+
+  -- a number that was cast is the same
+  pub int_as : (tree : Tree) (x x' : ℤ) → x' ≡ x → IsInt reader tree x → IsInt reader tree x'
+  int_as tree x x' e h = subst (IsInt reader tree) (sym e) h
+
+  -- a triple or a colour, from the answer for its numbers
+  pub made_of_three : (kind : Kind) (a b c : Tree) (n : Option (ℤ × ℤ × ℤ)) (o : Option Value) → AreNumbersThere reader a b c n
+      → MatchOption n (o ≡ None) (λ xs. Found (IsMade kind (xs.0 ∷ xs.1 ∷ xs.2 ∷ [])) o) → Found (IsTriple kind a b c) o
+  made_of_three kind a b c None o none e = subst (Found (IsTriple kind a b c)) (sym e) (λ v (x, y, z, h, k, l, made). none x y z h k l)
+  made_of_three kind a b c (Some (x, y, z)) o (h, k, l) found = triple_there kind a b c x y z x y z o h k l refl refl refl found

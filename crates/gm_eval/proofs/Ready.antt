@@ -10,14 +10,13 @@ use Rattle.gm_model.specs.declared.value.Kind.TheVariants as kinds
 use Rattle.gm_model.specs.declared.word.Mask.{Mask}
 use Rattle.gm_model.specs.Kinds.{IsTermInRange, IsMaskInRange, embed_kind, only_int, param_kinds, sum_kind}
 use Rattle.gm_model.specs.Labels.{has}
-use Rattle.gm_model.specs.Trees.{Tree, Sum, Least}
+use Rattle.gm_model.specs.Trees.{Tree, Count, Sum, Least}
 use Rattle.gm_model.specs.Values.{IsValueOf, kind_of}
 use Rattle.gm_arena.specs.ArenaAsMap.{value}
-use Rattle.gm_arena.specs.ArenaMap.{IsAt, IsLiveSlot, name_at}
+use Rattle.gm_arena.specs.ArenaMap.{IsLiveSlot, name_at}
 use Rattle.gm_arena.proofs.ArenaIsMap.{is_map}
-use Rattle.gm_arena.proofs.MapLemmas.{IsLiveName-name_at, name_at-is}
+use Rattle.gm_arena.proofs.MapLemmas.{IsLiveName-name_at}
 use Rattle.gm_arena.specs.declared.slot.Slot.{Slot}
-use Rattle.gm_walk.proofs.NameLemmas.{live_at}
 use Rattle.gm_walk.specs.Walks.{AreLive}
 use Rattle.gm_theory.proofs.ReadingsTyped.{then_some}
 use Rattle.gm_theory.proofs.ValuesLists.{IsIn}
@@ -40,6 +39,12 @@ module _ (reader : Reader) (tree : Tree) (ready : IsReady reader tree) where
 
   pub mask_small : (mask : Mask) → IsMaskInRange reader.arena.now.schema ready.typed.rule mask → (i : ℕ) → IsTrue (has mask i) → i ≤ 7
   mask_small mask r i h = omega (arith, r i h, ready.here.lawful.dim.1)
+
+  -- the number of the darts of an orbit over which another form collects
+  pub count_ready : (mask : Mask) (term : DartTerm) → IsMaskInRange reader.arena.now.schema ready.typed.rule mask → IsTermInRange reader.arena.now.schema ready.typed.rule term → IsReady reader (Count mask term)
+  count_ready mask term labels path =
+      let t = ready.typed in
+      record { here = ready.here; typed = record { rule = t.rule; kind = kinds.Int; has_kind = record { in_range = (labels, path); kind_is = refl }; good_params = t.good_params; nodes_among = t.nodes_among } }
 
 -- the embedding of a kind that the table gives
 pub embed_of : (embeds : List Embed) (params : List Kind) (e : ℕ) (kind : Kind) → embed_kind embeds params e ≡ Some kind → (embed : Embed) × (slice_get embeds e ≡ Some embed) × (embed.kind ≡ kind)
@@ -83,6 +88,3 @@ module _ (reader : Reader) (here : IsHere reader) (e : ℕ) (embed : Embed) (kin
   -- the values at live slots have the embedding's kind
   pub kinds_at : (slots : List Slot) → AreLive reader.arena.now slots → (s : Slot) → IsIn s slots → kind_of (value reader.arena.now e (name_at reader.arena.now s.at)) ≡ kind
   kinds_at slots live s i = (value_of_kind reader here e s.at embed kind at same (all_in (λ (t : Slot). IsLiveSlot reader.arena.now t.at) slots s (recursion_from_All (λ (t : Slot). IsLiveSlot reader.arena.now t.at) slots live) i)).kind_is
-
-  pub kind_at : (slot name : ℕ) → IsAt reader.arena.now slot name → kind_of (value reader.arena.now e name) ≡ kind
-  kind_at slot name h = subst (λ d. kind_of (value reader.arena.now e d) ≡ kind) (name_at-is reader.arena.now slot name h) (value_of_kind reader here e slot embed kind at same (live_at reader.arena.now slot name h)).kind_is

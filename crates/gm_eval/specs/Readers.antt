@@ -1,13 +1,17 @@
 -- What holds where expressions are read. No public clause cites this module.
-use Rattle.std.specs.Prelude.{◌<◌, ◌≤◌, ℤ, Bool, All, Option, MatchOption}
+use Rattle.std.specs.Prelude.{◌≡◌, ◌<◌, ◌≤◌, ℤ, List, All, slice_get, Option, Some, MatchOption}
 use Rattle.gm_model.specs.declared.expr.DartTerm.{DartTerm}
 use Rattle.gm_model.specs.declared.value.Value.{Value}
-use Rattle.gm_model.specs.declared.value.Value.TheVariants.{Int, Bool as Truth}
-use Rattle.gm_model.specs.Expressions.{Reading, HasValue, HasNoValue}
+use Rattle.gm_model.specs.declared.value.Value.TheVariants.{Int}
+use Rattle.gm_model.specs.declared.word.Mask.{Mask}
+use Rattle.gm_model.specs.Expressions.{Reading, HasValue, HasNoValue, IsCollected, dart_at}
 use Rattle.gm_model.specs.Maps.{IsGeneralised}
+use Rattle.gm_model.specs.Orbits.{IsListOf}
 use Rattle.gm_model.specs.Trees.{Tree}
+use Rattle.gm_arena.specs.declared.slot.Slot.{Slot}
 use Rattle.gm_arena.specs.ArenaAsMap.{as_map}
 use Rattle.gm_arena.specs.Lawful.{IsLawful}
+use Rattle.gm_walk.specs.Walks.{AreLive, names_of}
 use Rattle.gm_eval.specs.declared.reader.Reader.{Reader}
 use Rattle.gm_eval.specs.Places.{AreLiveAt, IsTypedFor, reading_in}
 
@@ -31,6 +35,12 @@ pub record IsReady (reader : Reader) (tree : Tree) : Type 0 where
   pub here : IsHere reader
   pub typed : IsTypedFor reader.arena.now.schema reader.found.now.nodes reader.params.now tree
 
+-- the slots are those of the orbit of the term's dart, each once, and its own is the first
+pub record IsOrbit (reader : Reader) (mask : Mask) (term : DartTerm) (slots : List Slot) : Type 0 where
+  pub listed : IsListOf (IsCollected (reading_of reader) mask term) (names_of reader.arena.now slots)
+  pub first : slice_get (names_of reader.arena.now slots) 0 ≡ Some (dart_at (reading_of reader) term)
+  pub live : AreLive reader.arena.now slots
+
 -- ---- answers
 
 -- the answer is the value there, and none where there is none
@@ -40,12 +50,6 @@ IsValueThere reader tree result = MatchOption result (HasNoValue (reading_of rea
 -- the value there is this number
 abbrev pub IsInt : Reader → Tree → ℤ → Type 0
 IsInt reader tree x = HasValue (reading_of reader) tree (Int x)
-
-abbrev pub IsNumberThere : Reader → Tree → Option ℤ → Type 0
-IsNumberThere reader tree result = MatchOption result ((x : ℤ) → IsInt reader tree x → ⊥) (IsInt reader tree)
-
-abbrev pub IsTruthThere : Reader → Tree → Option Bool → Type 0
-IsTruthThere reader tree result = MatchOption result ((b : Bool) → HasValue (reading_of reader) tree (Truth b) → ⊥) (λ b. HasValue (reading_of reader) tree (Truth b))
 
 -- the answers are the numbers of three expressions there, and none where one of them is none
 abbrev pub AreNumbersThere : Reader → Tree → Tree → Tree → Option (ℤ × ℤ × ℤ) → Type 0

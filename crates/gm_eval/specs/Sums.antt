@@ -1,5 +1,5 @@
 -- Sums of the values at slots, by their components. No public clause cites this module.
-use Rattle.std.specs.Prelude.{ℕ, ℤ, pos, ◌+ℤ◌, List, [], ◌∷◌, map, slice_index_or}
+use Rattle.std.specs.Prelude.{ℕ, ℤ, pos, ◌+ℤ◌, List, [], ◌∷◌, map, get_or, slice_index_or}
 use Rattle.gm_model.specs.declared.value.Kind.{Kind}
 use Rattle.gm_model.specs.declared.value.Kind.TheVariants.{Int, Bool, Vec2, Vec3, Rgb}
 use Rattle.gm_model.specs.declared.value.Value.{Value}
@@ -31,3 +31,7 @@ part_at m e k slot = part k (value m e (name_at m slot.at))
 
 abbrev pub parts_at : ArenaMap → ℕ → ℕ → List Slot → List ℤ
 parts_at m e k slots = map (part_at m e k) slots
+
+-- an embedding's number at the first of the slots
+abbrev pub first_at : ArenaMap → ℕ → List Slot → ℤ
+first_at m e slots = part_at m e 0 (get_or slots 0 (record { at = 0 }))

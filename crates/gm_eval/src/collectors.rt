@@ -1,12 +1,13 @@
 //! What is collected over an orbit: how many darts it has, and sums and extremes of values.
 
-ghost use Rattle.std.specs.Prelude.{◌≡◌, ◌≤◌, MatchOption};
+ghost use Rattle.std.specs.Prelude.{◌≡◌, ◌+◌, ◌*◌, ◌≤◌, MatchOption, length};
 ghost use Rattle.gm_model.specs.Expressions.{HasValue};
 ghost use Rattle.gm_model.specs.Trees.{Count, Sum, Least, Greatest};
+ghost use Rattle.gm_walk.specs.Lent.{bound_of, lender_of, slots_of};
 ghost use Rattle.gm_walk.specs.Room.{Fits};
 ghost use Rattle.gm_eval.specs.Made.{IsNone};
 ghost use Rattle.gm_eval.specs.Places.{IsWithinUnits};
-ghost use Rattle.gm_eval.specs.Readers.{IsReady, reading_of};
+ghost use Rattle.gm_eval.specs.Readers.{IsOrbit, IsReady, reading_of};
 ghost use Rattle.gm_model.specs.declared.value.Value.TheVariants.{Int};
 
 use crate::numbers::int;
@@ -14,10 +15,30 @@ use crate::reader::Reader;
 use crate::totals::{add_up, extremes};
 use gm_arena::Steps;
 use gm_model::{DartTerm, Mask, Value};
-use gm_walk::{Scratch, walk_mask};
+use gm_walk::{Scratch, Walk, walk_mask};
 use std::sync::ledger::Ledger;
 
 impl Reader<'_> {
+    /// The walk of the orbit of the term's dart.
+    fn orbit<'s, L: Ledger>(
+        &self,
+        mask: Mask,
+        term: &DartTerm,
+        scratch: &'s mut Scratch,
+        steps: &mut Steps<L>,
+    ) -> Walk<'s>
+        requires ready { IsReady self.now (Count mask term.now) }
+        requires fits { Fits scratch.old self.now.arena.now }
+        ensures orbit { IsOrbit self.now mask term.now (slots_of result) }
+        ensures cost { steps.new ≤ steps.old + length term.now.path + 4 * (self.now.arena.now.schema.dim + 1) * length (slots_of result) }
+        ensures least { steps.old ≤ steps.new }
+        ensures room { bound_of result ≡ scratch.old.bound }
+        ensures lender { lender_of result ≡ scratch.entry.ghost_name }
+    {
+        let from = self.slot(term, steps);
+        walk_mask(self.arena, from, mask, scratch, steps)
+    }
+
     /// How many darts the orbit of the term's dart has.
     pub(crate) fn count<L: Ledger>(
         &self,
@@ -33,8 +54,7 @@ impl Reader<'_> {
         ensures least { steps.old ≤ steps.new }
         ensures room { scratch.new.bound ≡ scratch.old.bound }
     {
-        let from = self.slot(term, steps);
-        let walk = walk_mask(self.arena, from, mask, scratch, steps);
+        let walk = self.orbit(mask, term, scratch, steps);
         int(walk.slots().len() as i128)
     }
 
@@ -75,8 +95,7 @@ impl Reader<'_> {
         ensures least { steps.old ≤ steps.new }
         ensures room { scratch.new.bound ≡ scratch.old.bound }
     {
-        let from = self.slot(term, steps);
-        let walk = walk_mask(self.arena, from, mask, scratch, steps);
+        let walk = self.orbit(mask, term, scratch, steps);
         let kind = self.arena.schema().embeds.as_slice()[embed as usize].kind;
         let count = int(walk.slots().len() as i128);
         let sum = add_up(self.arena, walk.slots(), embed, steps).value(kind);
@@ -100,9 +119,8 @@ impl Reader<'_> {
         ensures not_less { steps.old ≤ steps.new }
         ensures room { scratch.new.bound ≡ scratch.old.bound }
     {
-        let from = self.slot(term, steps);
-        let walk = walk_mask(self.arena, from, mask, scratch, steps);
-        extremes(self.arena, from, walk.slots(), embed, steps)
+        let walk = self.orbit(mask, term, scratch, steps);
+        extremes(self.arena, walk.slots(), embed, steps)
     }
 
     /// The least of the embedding's numbers over the orbit of the term's dart.

@@ -1,10 +1,14 @@
 //! The value of an expression, form by form, down its tree.
 
-ghost use Rattle.std.specs.Prelude.{◌≡◌, ◌≤◌, IfSome, IsTrue};
-ghost use Rattle.gm_model.specs.Trees.{Count, Sum, Unary, Binary, If, MakeVec2, MakeVec3, MakeRgb, tree_of};
+ghost use Rattle.std.specs.Prelude.{◌≡◌, ◌≤◌, ℤ, Bool, [], ◌∷◌, IfSome, IsTrue, MatchOption, None, Some};
+ghost use Rattle.gm_model.specs.Expressions.{IsMade};
+ghost use Rattle.gm_model.specs.Trees.{Count, Sum, Unary, Binary, If, MakeVec2, MakeVec3, tree_of};
+ghost use Rattle.gm_model.specs.declared.value.Kind.TheVariants.{Vec3, Rgb};
+ghost use Rattle.gm_model.specs.declared.value.Value.TheVariants.{Int, Bool as Truth};
 ghost use Rattle.gm_walk.specs.Room.{Fits};
 ghost use Rattle.gm_eval.specs.Places.{IsWithinUnits};
-ghost use Rattle.gm_eval.specs.Readers.{AreNumbersThere, IsNumberThere, IsReady, IsTruthThere, IsValueThere, reading_of};
+ghost use Rattle.gm_eval.specs.Made.{IsNone};
+ghost use Rattle.gm_eval.specs.Readers.{AreNumbersThere, IsReady, IsValueThere, reading_of};
 
 use crate::numbers::{rgb, vec2, vec3};
 use crate::operators::{binary, unary};
@@ -48,8 +52,10 @@ impl Reader<'_> {
                 self.choice(condition, chosen, other, scratch, steps)
             }
             Expr::MakeVec2(x, y) => self.pair(x, y, scratch, steps),
-            Expr::MakeVec3(x, y, z) => self.triple(x, y, z, scratch, steps),
-            Expr::MakeRgb(red, green, blue) => self.colour(red, green, blue, scratch, steps),
+            Expr::MakeVec3(x, y, z) => triple(self.numbers(x, y, z, scratch, steps)),
+            Expr::MakeRgb(red, green, blue) => {
+                colour(self.numbers(red, green, blue, scratch, steps))
+            }
         }
     }
 
@@ -139,7 +145,7 @@ impl Reader<'_> {
         ensures least { steps.old ≤ steps.new }
         ensures room { scratch.new.bound ≡ scratch.old.bound }
     {
-        if self.truth(condition, scratch, steps)? {
+        if truth(self.value(condition, scratch, steps))? {
             self.value(chosen, scratch, steps)
         } else {
             self.value(other, scratch, steps)
@@ -162,93 +168,9 @@ impl Reader<'_> {
         ensures least { steps.old ≤ steps.new }
         ensures room { scratch.new.bound ≡ scratch.old.bound }
     {
-        let x = self.number(x, scratch, steps)?;
-        let y = self.number(y, scratch, steps)?;
+        let x = number(self.value(x, scratch, steps))?;
+        let y = number(self.value(y, scratch, steps))?;
         vec2(x as i128, y as i128)
-    }
-
-    /// The vector of three numbers.
-    #[cycle(value)]
-    fn triple<L: Ledger>(
-        &self,
-        x: &Expr,
-        y: &Expr,
-        z: &Expr,
-        scratch: &mut Scratch,
-        steps: &mut Steps<L>,
-    ) -> Option<Value>
-        requires ready { IsReady self.now (MakeVec3 (tree_of x.now) (tree_of y.now) (tree_of z.now)) }
-        requires fits { Fits scratch.old self.now.arena.now }
-        ensures value { IsValueThere self.now (MakeVec3 (tree_of x.now) (tree_of y.now) (tree_of z.now)) result }
-        ensures cost { IsWithinUnits (reading_of self.now) (MakeVec3 (tree_of x.now) (tree_of y.now) (tree_of z.now)) steps.old steps.new }
-        ensures least { steps.old ≤ steps.new }
-        ensures room { scratch.new.bound ≡ scratch.old.bound }
-    {
-        let (x, y, z) = self.numbers(x, y, z, scratch, steps)?;
-        vec3(x as i128, y as i128, z as i128)
-    }
-
-    /// The colour of three numbers.
-    #[cycle(value)]
-    fn colour<L: Ledger>(
-        &self,
-        red: &Expr,
-        green: &Expr,
-        blue: &Expr,
-        scratch: &mut Scratch,
-        steps: &mut Steps<L>,
-    ) -> Option<Value>
-        requires ready { IsReady self.now (MakeRgb (tree_of red.now) (tree_of green.now) (tree_of blue.now)) }
-        requires fits { Fits scratch.old self.now.arena.now }
-        ensures value { IsValueThere self.now (MakeRgb (tree_of red.now) (tree_of green.now) (tree_of blue.now)) result }
-        ensures cost { IsWithinUnits (reading_of self.now) (MakeRgb (tree_of red.now) (tree_of green.now) (tree_of blue.now)) steps.old steps.new }
-        ensures least { steps.old ≤ steps.new }
-        ensures room { scratch.new.bound ≡ scratch.old.bound }
-    {
-        let (red, green, blue) = self.numbers(red, green, blue, scratch, steps)?;
-        rgb(red, green, blue)
-    }
-
-    /// The number that the expression is; none where it is none.
-    #[cycle(value)]
-    fn number<L: Ledger>(
-        &self,
-        expr: &Expr,
-        scratch: &mut Scratch,
-        steps: &mut Steps<L>,
-    ) -> Option<i64>
-        requires ready { IsReady self.now (tree_of expr.now) }
-        requires fits { Fits scratch.old self.now.arena.now }
-        ensures value { IsNumberThere self.now (tree_of expr.now) result }
-        ensures cost { IsWithinUnits (reading_of self.now) (tree_of expr.now) steps.old steps.new }
-        ensures least { steps.old ≤ steps.new }
-        ensures room { scratch.new.bound ≡ scratch.old.bound }
-    {
-        match self.value(expr, scratch, steps)? {
-            Value::Int(number) => Some(number),
-            _ => None,
-        }
-    }
-
-    /// The truth that the expression is; none where it is none.
-    #[cycle(value)]
-    fn truth<L: Ledger>(
-        &self,
-        expr: &Expr,
-        scratch: &mut Scratch,
-        steps: &mut Steps<L>,
-    ) -> Option<bool>
-        requires ready { IsReady self.now (tree_of expr.now) }
-        requires fits { Fits scratch.old self.now.arena.now }
-        ensures value { IsTruthThere self.now (tree_of expr.now) result }
-        ensures cost { IsWithinUnits (reading_of self.now) (tree_of expr.now) steps.old steps.new }
-        ensures least { steps.old ≤ steps.new }
-        ensures room { scratch.new.bound ≡ scratch.old.bound }
-    {
-        match self.value(expr, scratch, steps)? {
-            Value::Bool(truth) => Some(truth),
-            _ => None,
-        }
     }
 
     /// The numbers that three expressions are; none where one of them is none.
@@ -270,11 +192,51 @@ impl Reader<'_> {
         ensures least { steps.old ≤ steps.new }
         ensures room { scratch.new.bound ≡ scratch.old.bound }
     {
-        let x = self.number(x, scratch, steps)?;
-        let y = self.number(y, scratch, steps)?;
-        let z = self.number(z, scratch, steps)?;
+        let x = number(self.value(x, scratch, steps))?;
+        let y = number(self.value(y, scratch, steps))?;
+        let z = number(self.value(z, scratch, steps))?;
         Some((x, y, z))
     }
+}
+
+/// The number that the value is; none where it is none.
+fn number(value: Option<Value>) -> Option<i64>
+    ensures { MatchOption result ((x : ℤ) → value ≡ Some (Int x) → ⊥) (λ x. value ≡ Some (Int x)) }
+{
+    match value? {
+        Value::Int(number) => Some(number),
+        _ => None,
+    }
+}
+
+/// The truth that the value is; none where it is none.
+fn truth(value: Option<Value>) -> Option<bool>
+    ensures { MatchOption result ((b : Bool) → value ≡ Some (Truth b) → ⊥) (λ b. value ≡ Some (Truth b)) }
+{
+    match value? {
+        Value::Bool(truth) => Some(truth),
+        _ => None,
+    }
+}
+
+/// The vector of three numbers; none where they are none.
+fn triple(numbers: Option<(i64, i64, i64)>) -> Option<Value>
+    ensures { MatchOption numbers (result ≡ None) (λ xs. MatchOption result
+        (IsNone (IsMade Vec3 (xs.0 ∷ xs.1 ∷ xs.2 ∷ [])))
+        (IsMade Vec3 (xs.0 ∷ xs.1 ∷ xs.2 ∷ []))) }
+{
+    let (x, y, z) = numbers?;
+    vec3(x as i128, y as i128, z as i128)
+}
+
+/// The colour of three numbers; none where they are none.
+fn colour(numbers: Option<(i64, i64, i64)>) -> Option<Value>
+    ensures { MatchOption numbers (result ≡ None) (λ xs. MatchOption result
+        (IsNone (IsMade Rgb (xs.0 ∷ xs.1 ∷ xs.2 ∷ [])))
+        (IsMade Rgb (xs.0 ∷ xs.1 ∷ xs.2 ∷ []))) }
+{
+    let (red, green, blue) = numbers?;
+    rgb(red, green, blue)
 }
 
 /// The orbit of a sum and of the number of its darts, and the embedding that is summed, where the two
@@ -282,11 +244,13 @@ impl Reader<'_> {
 fn parts_of_mean<'e>(left: &'e Expr, right: &'e Expr) -> Option<(Mask, &'e DartTerm, u8)>
     ensures { IfSome result (λ mean. (tree_of left.now ≡ Sum mean.0 mean.1.now mean.2) × (tree_of right.now ≡ Count mean.0 mean.1.now)) }
 {
-    match (left, right) {
-        (Expr::Sum(mask, term, embed), Expr::Count(other, same))
-            if mask.bits == other.bits && is_same(term, same) => { Some((*mask, term, *embed)) }
-        _ => None,
+    let (Expr::Sum(mask, term, embed), Expr::Count(other, same)) = (left, right) else {
+        return None;
+    };
+    if mask.bits != other.bits || !is_same(term, same) {
+        return None;
     }
+    Some((*mask, term, *embed))
 }
 
 /// Whether both terms are the same.

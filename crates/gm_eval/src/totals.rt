@@ -3,13 +3,12 @@
 ghost use Rattle.std.specs.Prelude.{◌≡◌, ◌+◌, ◌<◌, ◌≤◌, length, IsSome, MatchOption, Some};
 ghost use Rattle.std.specs.Int.{int_max, int_min};
 ghost use Rattle.std.specs.List.{fold};
-ghost use Rattle.gm_arena.specs.ArenaMap.{IsLiveSlot};
 ghost use Rattle.gm_model.specs.Expressions.{IsMade};
 ghost use Rattle.gm_model.specs.Kinds.{sum_kind};
 ghost use Rattle.gm_model.specs.declared.value.Kind.{Kind as KindOf};
 ghost use Rattle.gm_walk.specs.Walks.{AreLive};
 ghost use Rattle.gm_eval.specs.Made.{IsNone};
-ghost use Rattle.gm_eval.specs.Sums.{part, part_at, parts_at, parts_for, sum_of};
+ghost use Rattle.gm_eval.specs.Sums.{first_at, part, parts_at, parts_for, sum_of};
 
 use crate::numbers::{int, vec2, vec3};
 use gm_arena::{Arena, Slot, Steps};
@@ -66,22 +65,21 @@ pub(crate) fn add_up<L: Ledger>(
     totals
 }
 
-/// The least and the greatest of the embedding's numbers at the slots and at the first of them.
+/// The least and the greatest of the embedding's numbers at the slots, of which there is one at least.
 pub(crate) fn extremes<L: Ledger>(
     arena: &Arena,
-    first: Slot,
     slots: &[Slot],
     embed: u8,
     steps: &mut Steps<L>,
 ) -> (i64, i64)
-    requires first { IsLiveSlot arena.now first.at }
+    requires some { 1 ≤ length slots.now }
     requires live { AreLive arena.now slots.now }
     requires embed { embed < length arena.now.schema.embeds }
-    ensures least { result.0 ≡ fold int_min (part_at arena.now embed 0 first) (parts_at arena.now embed 0 slots.now) }
-    ensures greatest { result.1 ≡ fold int_max (part_at arena.now embed 0 first) (parts_at arena.now embed 0 slots.now) }
+    ensures least { result.0 ≡ fold int_min (first_at arena.now embed slots.now) (parts_at arena.now embed 0 slots.now) }
+    ensures greatest { result.1 ≡ fold int_max (first_at arena.now embed slots.now) (parts_at arena.now embed 0 slots.now) }
     ensures cost { steps.new ≡ steps.old + length slots.now + 1 }
 {
-    let mut least = parts(arena.value(first, embed, steps)).0;
+    let mut least = parts(arena.value(slots[0], embed, steps)).0;
     let mut greatest = least;
     for slot in slots {
         let number = parts(arena.value(*slot, embed, steps)).0;

@@ -4,7 +4,7 @@ use Rattle.std.specs.List.{fold}
 use Rattle.std.proofs.lemmas.Int.{to_z-of_z}
 use Rattle.std.proofs.lemmas.List.{take_all}
 use Rattle.gm_arena.specs.declared.slot.Slot.{Slot}
-use Rattle.gm_eval.specs.Sums.{part, part_at, parts_at}
+use Rattle.gm_eval.specs.Sums.{first_at, part, part_at, parts_at}
 use Rattle.gm_eval.proofs.Sums.{fold_step}
 use Rattle.gm_eval.proofs.totals.extremes.Goals as goal
 
@@ -30,7 +30,7 @@ returns g c =
     let e = c.args.embed in
     let all = take_all c.loop-slot.slot-index c.args.slots.now c.loop-slot-test.false in
     record {
-      least = i.least ∙ ap (λ (slots : List Slot). fold int_min (part_at m e 0 c.args.first) (parts_at m e 0 slots)) all;
-      greatest = i.greatest ∙ ap (λ (slots : List Slot). fold int_max (part_at m e 0 c.args.first) (parts_at m e 0 slots)) all;
+      least = i.least ∙ ap (λ (slots : List Slot). fold int_min (first_at m e c.args.slots.now) (parts_at m e 0 slots)) all;
+      greatest = i.greatest ∙ ap (λ (slots : List Slot). fold int_max (first_at m e c.args.slots.now) (parts_at m e 0 slots)) all;
       cost = omega (arith, i.cost, c.loop-slot-test.false, c.loop-slot.auto.slot-index-end);
     }

@@ -6,28 +6,20 @@ use Rattle.gm_model.specs.declared.schema.Schema.{Schema}
 use Rattle.gm_eval.specs.Sums.{parts_at, sum_of}
 use Rattle.gm_walk.specs.Lent.{slots_of}
 use Rattle.gm_walk.specs.Walks.{AreLive}
-use Rattle.gm_walk.proofs.NameLemmas.{live_at}
 use Rattle.gm_eval.proofs.Collected.{count_found, sum_found, within}
-use Rattle.gm_eval.proofs.Ready.{embed_read, kind_at, kinds_at, mask_small, sum_kind_of, sum_known, term_here}
+use Rattle.gm_eval.proofs.Ready.{count_ready, embed_read, kinds_at, sum_kind_of, sum_known}
 use Rattle.gm_eval.proofs.reader.Reader.sum_and_count.Goals as goal
 
-pub slot-from-requires : goal.slot-from-requires
-slot-from-requires g c =
+pub orbit-walk-requires-clause-ready : goal.orbit-walk-requires-clause-ready
+orbit-walk-requires-clause-ready g c =
     let ready = c.requires.ready in
-    record { here = ready.here; term = term_here c.args.self.now _ ready c.args.term.now ready.typed.has_kind.in_range.1 }
-
-pub walk_mask-walk-requires : goal.walk_mask-walk-requires
-walk_mask-walk-requires g c = record {
-  live = live_at c.args.self.now.arena.now c.slot-from.result.at _ c.slot-from.ensures.slot;
-  mask = λ label small h. c.requires.ready.typed.has_kind.in_range.0 label h;
-  fits = c.requires.fits;
-}
+    count_ready c.args.self.now _ ready c.args.mask c.args.term.now ready.typed.has_kind.in_range.0 ready.typed.has_kind.in_range.1
 
 pub add_up-requires : goal.add_up-requires
 add_up-requires g c =
     let same = sym c.slots-2.ensures.value in
     record {
-      live = subst (AreLive c.args.self.now.arena.now) same c.walk_mask-walk.ensures.live;
+      live = subst (AreLive c.args.self.now.arena.now) same c.orbit-walk.ensures.orbit.live;
       few = subst (λ (slots : List Slot). length slots ≤ 4294967295) same c.slots-2.ensures.most;
       embed = c.requires.ready.typed.has_kind.in_range.2;
     }
@@ -46,30 +38,27 @@ returns-clause-sum g c =
     let e = c.args.embed in
     let term = c.args.term.now in
     let ready = c.requires.ready in
-    let few = mask_small reader _ ready c.args.mask ready.typed.has_kind.in_range.0 in
     let embeds : c.as_slice.result.now ≡ m.schema.embeds = c.as_slice.ensures ∙ ap (λ (schema : Schema). schema.embeds) c.schema.ensures in
     let embed : Embed = get_or c.as_slice.result.now e c.index-as_slice-embed.result in
     let at : slice_get m.schema.embeds e ≡ Some embed = embed_read m.schema.embeds c.as_slice.result.now e c.index-as_slice-embed.result embeds ready.typed.has_kind.in_range.2 in
     let sum = sum_kind_of reader c.args.mask term e ready embed at in
-    let slots = slots_of c.walk_mask-walk.result in
+    let slots = slots_of c.orbit-walk.result in
     let same = c.slots-2.ensures.value in
     let part_sum : ℕ → List Slot → ℤ = λ k xs. sum_of (parts_at m e k xs) in
-    sum_found reader c.args.mask term c.slot-from.result.at slots c.slot-from.ensures.slot few c.walk_mask-walk.ensures.walk e embed.kind (kinds_at reader ready.here e embed embed.kind at refl slots c.walk_mask-walk.ensures.live)
-    sum.0 c.add_up.result.x c.add_up.result.y c.add_up.result.z c.value-sum.result (kind_at reader ready.here e embed embed.kind at refl c.slot-from.result.at _ c.slot-from.ensures.slot) sum.1
+    sum_found reader c.args.mask term slots c.orbit-walk.ensures.orbit e embed.kind (kinds_at reader ready.here e embed embed.kind at refl slots c.orbit-walk.ensures.orbit.live)
+    sum.0 c.add_up.result.x c.add_up.result.y c.add_up.result.z c.value-sum.result sum.1
     (c.add_up.ensures.x ∙ ap (part_sum 0) same) (c.add_up.ensures.y ∙ ap (part_sum 1) same) (c.add_up.ensures.z ∙ ap (part_sum 2) same) (c.value-sum.ensures sum.0 sum.1)
 
 pub returns-clause-cost : goal.returns-clause-cost
 returns-clause-cost g c =
     let reader = c.args.self.now in
     let ready = c.requires.ready in
-    let few = mask_small reader _ ready c.args.mask ready.typed.has_kind.in_range.0 in
     let same = ap (λ (slots : List Slot). length slots) c.slots-2.ensures.value in
-    within reader c.args.mask c.args.term.now c.slot-from.result.at (slots_of c.walk_mask-walk.result) c.slot-from.ensures.slot few c.walk_mask-walk.ensures.walk _ _ (omega (arith, c.slot-from.ensures.cost, c.walk_mask-walk.ensures.cost, c.add_up.ensures.cost, same))
+    within reader c.args.mask c.args.term.now (slots_of c.orbit-walk.result) c.orbit-walk.ensures.orbit _ _ (omega (arith, c.orbit-walk.ensures.cost, c.add_up.ensures.cost, same))
 
 pub returns-clause-count : goal.returns-clause-count
 returns-clause-count g c =
     let reader = c.args.self.now in
     let ready = c.requires.ready in
-    let few = mask_small reader _ ready c.args.mask ready.typed.has_kind.in_range.0 in
     let same = ap (λ (slots : List Slot). length slots) c.slots.ensures.value in
-    count_found reader c.args.mask c.args.term.now c.slot-from.result.at (slots_of c.walk_mask-walk.result) c.slot-from.ensures.slot few c.walk_mask-walk.ensures.walk _ c.int-count.result (omega (arith, ints, same, c.slots.ensures.most)) c.int-count.ensures
+    count_found reader c.args.mask c.args.term.now (slots_of c.orbit-walk.result) c.orbit-walk.ensures.orbit _ c.int-count.result (omega (arith, ints, same, c.slots.ensures.most)) c.int-count.ensures
