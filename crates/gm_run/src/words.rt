@@ -23,8 +23,13 @@ pub(crate) fn put_outcome(
 {
     match outcome {
         Outcome::Done(Applied { added, removed }) => {
-            put_number(text, b"done added ", u64::from(added))?;
-            put_number(text, b" removed ", u64::from(removed))
+            put_numbers(
+                text,
+                b"done added ",
+                u64::from(added),
+                b" removed ",
+                u64::from(removed),
+            )
         }
         Outcome::Refused(refusal) => {
             text.put(b"refused ")?;
@@ -64,12 +69,10 @@ fn put_cause(
         Refusal::PreNoValue => text.put(b"pre-no-value"),
         Refusal::PreFalse => text.put(b"pre-false"),
         Refusal::FullDarts { live, more } => {
-            put_number(text, b"full-darts live ", u64::from(live))?;
-            put_number(text, b" more ", more)
+            put_numbers(text, b"full-darts live ", u64::from(live), b" more ", more)
         }
         Refusal::FullNames { next, more } => {
-            put_number(text, b"full-names next ", u64::from(next))?;
-            put_number(text, b" more ", more)
+            put_numbers(text, b"full-names next ", u64::from(next), b" more ", more)
         }
         Refusal::NoValue { embed, node } => {
             put_embed(text, b"no-value ", schema, embed)?;
@@ -118,4 +121,18 @@ pub(crate) fn put_number(text: &mut Text, words: &[u8], number: u64) -> Result<(
 {
     text.put(words)?;
     text.number(number)
+}
+
+/// Appends words and a number, and then others.
+fn put_numbers(
+    text: &mut Text,
+    words: &[u8],
+    number: u64,
+    more_words: &[u8],
+    more: u64,
+) -> Result<(), OutOfMemory>
+    ensures { OnOk result (text.new ≡ text.old ++ (words.now ++ decimal number ++ more_words.now ++ decimal more)) }
+{
+    put_number(text, words, number)?;
+    put_number(text, more_words, more)
 }

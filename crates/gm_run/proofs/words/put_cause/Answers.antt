@@ -3,6 +3,7 @@ use Rattle.std.specs.Prelude.{decimal, OnOk}
 use Rattle.gm_model.specs.Reports.{instance_words}
 use Rattle.gm_model.specs.Rules.{rule_of}
 use Rattle.gm_run.specs.Printing.{refusal_words}
+use Rattle.gm_model.proofs.Exits.{never_ok}
 use Rattle.gm_run.proofs.Told.{onward}
 use Rattle.gm_run.proofs.words.put_cause.Goals as goal
 
@@ -27,18 +28,23 @@ pub returns-in-PreNoValue : goal.returns-in-PreNoValue
 returns-in-PreNoValue c =
     subst (λ r. OnOk c.put.result (c.put.new.self ≡ c.args.text.now ++ refusal_words c.args.schema.now (rule_of c.args.rule.now).nodes r)) (sym c.in-PreNoValue.is) c.put.ensures.ok
 
-pub returns-in_ok-put_number-in-FullDarts : goal.returns-in_ok-put_number-in-FullDarts
-returns-in_ok-put_number-in-FullDarts c =
-    let put = c.put_number-in-FullDarts-2 in
+pub returns-in-FullDarts : goal.returns-in-FullDarts
+returns-in-FullDarts c =
+    let put = c.put_numbers in
     subst (λ r. OnOk put.result (put.new.text ≡ c.args.text.now ++ refusal_words c.args.schema.now (rule_of c.args.rule.now).nodes r)) (sym c.in-FullDarts.is)
-    (onward put.result c.args.text.now (codes "full-darts live " ++ decimal c.in-FullDarts.live) (codes " more " ++ decimal c.in-FullDarts.more) _ c.put_number-in-FullDarts.new.text put.new.text
-    (subst (λ n. c.put_number-in-FullDarts.new.text ≡ c.args.text.now ++ (codes "full-darts live " ++ decimal n)) c.from-in-FullDarts.ensures c.in_ok-put_number-in-FullDarts.ensures)
-    (sym (append_assoc (codes "full-darts live " ++ decimal c.in-FullDarts.live) (codes " more ") (decimal c.in-FullDarts.more))) put.ensures)
+    (subst (λ n. OnOk put.result (put.new.text ≡ c.args.text.now ++ (codes "full-darts live " ++ decimal n ++ codes " more " ++ decimal c.in-FullDarts.more))) c.from-in-FullDarts.ensures put.ensures)
 
-pub returns-in_ok-put_number-in-FullNames : goal.returns-in_ok-put_number-in-FullNames
-returns-in_ok-put_number-in-FullNames c =
-    let put = c.put_number-in-FullNames-2 in
+pub returns-in-FullNames : goal.returns-in-FullNames
+returns-in-FullNames c =
+    let put = c.put_numbers-in-FullNames in
     subst (λ r. OnOk put.result (put.new.text ≡ c.args.text.now ++ refusal_words c.args.schema.now (rule_of c.args.rule.now).nodes r)) (sym c.in-FullNames.is)
-    (onward put.result c.args.text.now (codes "full-names next " ++ decimal c.in-FullNames.next) (codes " more " ++ decimal c.in-FullNames.more) _ c.put_number-in-FullNames.new.text put.new.text
-    (subst (λ n. c.put_number-in-FullNames.new.text ≡ c.args.text.now ++ (codes "full-names next " ++ decimal n)) c.from-in-FullNames.ensures c.in_ok-put_number-in-FullNames.ensures)
-    (sym (append_assoc (codes "full-names next " ++ decimal c.in-FullNames.next) (codes " more ") (decimal c.in-FullNames.more))) put.ensures)
+    (subst (λ n. OnOk put.result (put.new.text ≡ c.args.text.now ++ (codes "full-names next " ++ decimal n ++ codes " more " ++ decimal c.in-FullNames.more))) c.from-in-FullNames.ensures put.ensures)
+
+pub returns-in_err-put_instance-in-Arc : goal.returns-in_err-put_instance-in-Arc
+returns-in_err-put_instance-in-Arc c = never_ok _ c.from_residual.result c.from_residual.ensures.0
+
+pub returns-in_err-put_instance-in-Same : goal.returns-in_err-put_instance-in-Same
+returns-in_err-put_instance-in-Same c = never_ok _ c.from_residual-in_err-put_instance-in-Same.result c.from_residual-in_err-put_instance-in-Same.ensures.0
+
+pub returns-in_err-put_embed-in-NoValue : goal.returns-in_err-put_embed-in-NoValue
+returns-in_err-put_embed-in-NoValue c = never_ok _ c.from_residual-in_err-put_embed-in-NoValue.result c.from_residual-in_err-put_embed-in-NoValue.ensures.0
