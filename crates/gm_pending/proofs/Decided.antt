@@ -206,6 +206,21 @@ module _ (app : PendingOf) (prepared : IsPrepared app) where
           | inr other ↦ inl (inl (omega arith))
         ]
 
+    -- a node of which each instance is marked
+    pub node_marked : (deciders : List Decider) (reached : List Reached) (x p : ℕ) → IsDecidedUpTo app e embed deciders reached x p → ((result : Unfolded) → IsUnfoldedIn app result → (q : ℕ) → q < app.placed.positions → (k : ℕ) × HasMark app reached (name x q) k) → IsDecidedUpTo app e embed deciders reached (x + 1) 0
+    node_marked deciders reached x p so_far marked = passed deciders reached x p (x + 1) 0 so_far later between
+      where
+        later : (a b : ℕ) → IsPairBefore a b x p → IsPairBefore a b (x + 1) 0
+        later a b (inl h) = inl (omega arith)
+        later a b (inr h) = inl (omega (arith, h.0))
+
+        between : (result : Unfolded) → IsUnfoldedIn app result → (a b : ℕ) → IsPairBefore a b (x + 1) 0 → IsAssignedAt a b → IsPairBefore a b x p ⊎ ((k : ℕ) × HasMark app reached (name a b) k)
+        between result unfolded a b (inr h) assigned = absurd (omega (arith, h.1))
+        between result unfolded a b (inl h) assigned = elim (cases_eq a x) [
+          | inl same ↦ inr (subst (λ y. (k : ℕ) × HasMark app reached (name y b) k) (sym same) (marked result unfolded b assigned.1))
+          | inr other ↦ inl (inl (omega arith))
+        ]
+
     module _ (deciders : List Decider) (reached : List Reached) (x p : ℕ) (at : At) (so_far : IsDecidedUpTo app e embed deciders reached x p) (assigned : IsAssignedAt x p) (dart : IsResultDart app at) (named : name_of app at ≡ name x p) where
       mark_of_key : HasKey reached (key_of at) → (k : ℕ) × HasMark app reached (name x p) k
       mark_of_key (entry, among, key) = (entry.decider, (entry, among, same_name app prepared entry.at at (so_far.darts entry among) dart key ∙ named, refl))

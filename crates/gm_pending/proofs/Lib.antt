@@ -6,6 +6,7 @@ pub mod Following
 pub mod Giving
 pub mod Law
 pub mod Lefts
+pub mod Letters
 pub mod Reached
 pub mod Spread
 pub mod Valued
@@ -18,6 +19,7 @@ pub mod NewValues
 pub mod WithoutDarts
 pub mod Extended
 pub mod Numbers
+pub mod OneOrbit
 pub mod AddedDarts
 pub mod AddedValues
 pub mod GivenValues

@@ -62,6 +62,27 @@ module _ (app : PendingOf) where
   abbrev pub IsFollowed : Embed → Reached → List Reached → List Reached → Type 0
   IsFollowed embed from old new = (result : Unfolded) (before : List Reached) (d n : ℕ) → IsUnfoldedIn app result → slice_get old n ≡ Some from → length before ≤ n → IsSpreadTo embed result before old from.decider d n 0 → IsGrown embed result before new from.decider d
 
+  -- ---- a node whose instances are one orbit
+
+  -- arcs of the type lead from instances of node x to its instances alone, and from the first to each
+  pub record IsOneOrbit (embed : Embed) (result : Unfolded) (x : ℕ) : Type 0 where
+    pub closed : (p i : ℕ) → p < app.placed.positions → IsTrue (type_of embed i) → (q : ℕ) × (q < app.placed.positions) × (result.alpha i ((scene_in app).name_of x p) ≡ (scene_in app).name_of x q)
+    pub joined : (p : ℕ) → p < app.placed.positions → IsInOrbit result.alpha (type_of embed) ((scene_in app).name_of x 0) ((scene_in app).name_of x p)
+
+  -- in each unfolding
+  abbrev pub IsAlwaysOneOrbit : Embed → ℕ → Type 0
+  IsAlwaysOneOrbit embed x = (result : Unfolded) → IsUnfoldedIn app result → IsOneOrbit embed result x
+
+  -- no instance of node x is marked
+  abbrev pub IsUnmarked : List Reached → ℕ → Type 0
+  IsUnmarked reached x = (p k : ℕ) → p < app.placed.positions → HasMark reached ((scene_in app).name_of x p) k → ⊥
+
+  -- entries were added: those of the instances of node x at the positions before p, with this index
+  pub record AreMarkedTo (before after : List Reached) (x k p : ℕ) : Type 0 where
+    pub kept : (j : ℕ) (entry : Reached) → slice_get before j ≡ Some entry → slice_get after j ≡ Some entry
+    pub more : (j : ℕ) (entry : Reached) → length before ≤ j → slice_get after j ≡ Some entry → (entry.decider ≡ k) × (q : ℕ) × (q < p) × (name_of app entry.at ≡ (scene_in app).name_of x q)
+    pub all : (q : ℕ) → q < p → HasMark after ((scene_in app).name_of x q) k
+
   -- ---- the walks from the instances before one
 
   module _ (e : ℕ) (embed : Embed) where

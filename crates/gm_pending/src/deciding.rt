@@ -1,15 +1,17 @@
 //! Which instances decide the values of a result, and which of its darts they reach.
-ghost use Rattle.std.specs.Prelude.{◌≡◌, ℕ, ◌+◌, ◌*◌, ◌<◌, ◌≤◌, length, Some, None, IfOk, OnOk, OnErr};
+ghost use Rattle.std.specs.Prelude.{◌≡◌, ℕ, ◌+◌, ◌*◌, ◌<◌, ◌≤◌, [], ◌∷◌, ◌++◌, length, Some, None, IfOk, IsTrue, OnOk, OnErr};
 ghost use Rattle.std.specs.List.{Contains};
 ghost use Rattle.gm_model.specs.declared.schema.Embed.{Embed};
+ghost use Rattle.gm_model.specs.declared.rule.Side.TheVariants.{Right};
 ghost use Rattle.gm_model.specs.Components.{IsAssigned};
 ghost use Rattle.gm_model.specs.Maps.{IsEmbedAt};
+ghost use Rattle.gm_model.specs.Rules.{has_word};
 ghost use Rattle.gm_theory.specs.Theorem.{Unfolded};
 ghost use Rattle.gm_pending.specs.declared.decider.Decider.{Decider};
 ghost use Rattle.gm_pending.specs.declared.marks.Reached.{Reached};
 ghost use Rattle.gm_pending.specs.Marks.{key_of, HasKey};
-ghost use Rattle.gm_pending.specs.Reached.{AreReached, AreResultDarts, AreSomeReached, IsClosed, IsGrown, IsSpreadTo, IsFollowedTo, IsFollowed, IsDecidedUpTo};
-ghost use Rattle.gm_pending.specs.Results.{IsPrepared, AreDeciders, IsAsked, IsResultDart, IsUnfoldedIn, IsWithinReach, deciders_of, with_deciders, name_of, rule_in};
+ghost use Rattle.gm_pending.specs.Reached.{AreReached, AreResultDarts, AreSomeReached, IsClosed, IsGrown, IsSpreadTo, IsFollowedTo, IsFollowed, IsDecidedUpTo, IsAlwaysOneOrbit, IsUnmarked, AreMarkedTo};
+ghost use Rattle.gm_pending.specs.Results.{IsPrepared, AreDeciders, IsAsked, IsResultDart, IsUnfoldedIn, IsWithinReach, deciders_of, ungiven, with_deciders, name_of, rule_in};
 
 use crate::asked::{Asked, keep};
 use crate::at::At;
@@ -128,8 +130,53 @@ impl Pending<'_, '_> {
         ensures cost { steps.new + (self.now.map.schema.dim + 1) * length asked.old.marks ≤ steps.old + (self.now.map.schema.dim + 1) * length asked.new.marks }
         ensures least { steps.old ≤ steps.new }
     {
+        if self.is_one_orbit(embed, declared, node) {
+            return self.decide_orbit(embed, declared, node, asked);
+        }
         for position in 0..self.positions() {
             self.decide_instance(embed, declared, node, position, asked, steps)?;
+        }
+        Ok(())
+    }
+
+    /// Looks at the instances of a node that are one orbit: the first decides it, unless an earlier
+    /// instance of another node reached them.
+    fn decide_orbit(
+        &self,
+        embed: u8,
+        declared: &Embed,
+        node: u8,
+        asked: &mut Asked,
+    ) -> Result<(), OutOfMemory>
+        requires embed { IsEmbedAt self.now.map.schema embed declared.now }
+        requires assigned { IsAssigned (rule_in self.now) embed node }
+        requires orbit { IsAlwaysOneOrbit self.now declared.now node }
+        requires earlier { IsDecidedUpTo self.now embed declared.now asked.old.deciders.items asked.old.marks node 0 }
+        ensures decided { OnOk result (IsDecidedUpTo self.now embed declared.now asked.new.deciders.items asked.new.marks (node + 1) 0) }
+        ensures darts { AreResultDarts self.now asked.new.marks }
+        ensures reached { AreSomeReached self.now embed declared.now asked.new.marks }
+        ensures longer { length asked.old.marks ≤ length asked.new.marks }
+    {
+        // The application tells here what its type keeps.
+        prove!(self.positions() >= 1);
+        if asked.marks.decider(self.place(node, 0)).is_some() {
+            return Ok(());
+        }
+        let index = add_decider(&mut asked.deciders, node, 0)?;
+        self.mark_instances(node, index, &mut asked.marks)
+    }
+
+    /// Marks the instances of a right node, of which none is marked.
+    fn mark_instances(&self, node: u8, index: u32, marks: &mut Marks) -> Result<(), OutOfMemory>
+        requires right { IsTrue (has_word (rule_in self.now) Right node) }
+        requires darts { AreResultDarts self.now marks.old }
+        requires unmarked { IsUnmarked self.now marks.old node }
+        ensures darts { AreResultDarts self.now marks.new }
+        ensures all { OnOk result (AreMarkedTo self.now marks.old marks.new node index self.now.placed.positions) }
+        ensures some { (p : ℕ) × (p ≤ self.now.placed.positions) × AreMarkedTo self.now marks.old marks.new node index p }
+    {
+        for position in 0..self.positions() {
+            marks.mark_new(self.place(node, position), index)?;
         }
         Ok(())
     }
@@ -160,16 +207,7 @@ impl Pending<'_, '_> {
         if asked.marks.decider(at).is_some() {
             return Ok(());
         }
-        // So many instances take more memory than there is.
-        if asked.deciders.len() >= u32::MAX as usize {
-            return Err(OutOfMemory);
-        }
-        let index = asked.deciders.len() as u32;
-        asked.deciders.push(Decider {
-            node,
-            position,
-            value: None,
-        })?;
+        let index = add_decider(&mut asked.deciders, node, position)?;
         self.reach(at, index, embed, declared, &mut asked.marks, steps)
     }
 
@@ -232,4 +270,28 @@ impl Pending<'_, '_> {
         }
         Ok(())
     }
+}
+
+/// Adds a deciding instance, which has no value yet, and answers its index.
+fn add_decider(
+    deciders: &mut Vec<Decider>,
+    node: u8,
+    position: u32,
+) -> Result<u32, OutOfMemory>
+    ensures added { OnOk result (deciders.new.items ≡ deciders.old.items ++ ungiven node position ∷ []) }
+    ensures index { IfOk result (λ index. index ≡ length deciders.old.items) }
+    ensures few { OnOk result (length deciders.old.items < 4294967295) }
+    ensures err { OnErr result (deciders.new.items ≡ deciders.old.items) }
+{
+    // So many instances take more memory than there is.
+    if deciders.len() >= u32::MAX as usize {
+        return Err(OutOfMemory);
+    }
+    let index = deciders.len() as u32;
+    deciders.push(Decider {
+        node,
+        position,
+        value: None,
+    })?;
+    Ok(index)
 }

@@ -12,6 +12,7 @@ mod edits;
 mod gathering;
 mod lookup;
 mod marks;
+mod orbit;
 mod pending;
 mod rewrite;
 mod values;

@@ -1,7 +1,7 @@
 //! The darts of a result that are reached from deciding instances.
 ghost use Rattle.std.specs.Prelude.{◌≡◌, List, ◌∷◌, ◌++◌, ◌<◌, [], length, slice_get, Some, MatchOption, IfOk, IfSome, OnOk, OnErr};
 ghost use Rattle.gm_pending.specs.declared.marks.Reached.{Reached};
-ghost use Rattle.gm_pending.specs.Marks.{key_of, HasKey, AreKeyed, IsIndex, IsMarkedBy, IsMarkedMore, HasDistinctKeys};
+ghost use Rattle.gm_pending.specs.Marks.{key_of, reached_by, HasKey, AreKeyed, IsIndex, IsMarkedBy, IsMarkedMore, HasDistinctKeys};
 
 use crate::at::At;
 use gm_model::OutOfMemory;
@@ -109,6 +109,19 @@ impl Marks {
             return Ok(());
         }
         self.add(Reached { at, decider, key })
+    }
+
+    /// Adds a dart that isn't there. Where memory was wanting, nothing is added.
+    pub(crate) fn mark_new(&mut self, at: At, decider: u32) -> Result<(), OutOfMemory>
+        requires absent { HasKey self.old (key_of at) → ⊥ }
+        ensures ok { OnOk result (self.new ≡ self.old ++ reached_by at decider ∷ []) }
+        ensures err { OnErr result (self.new ≡ self.old) }
+    {
+        self.add(Reached {
+            at,
+            decider,
+            key: key(at),
+        })
     }
 
     /// Adds a dart. Where memory was wanting, nothing is added.

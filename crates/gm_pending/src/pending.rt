@@ -152,6 +152,7 @@ impl<'a, 'm> Pending<'a, 'm> {
     /// The number of positions.
     pub(crate) fn positions(&self) -> u32
         ensures positions { result ≡ self.now.placed.positions }
+        ensures some { 1 ≤ self.now.placed.positions }
         ensures prepared { IsPrepared self.now }
     {
         self.found.positions()

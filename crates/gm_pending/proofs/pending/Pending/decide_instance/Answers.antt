@@ -18,28 +18,25 @@ returns-then-is_some-clause-decided g c =
 pub returns-then-is_some-clause-reached : goal.returns-then-is_some-clause-reached
 returns-then-is_some-clause-reached g c = decided_reached c.args.self.now c.labels.ensures.prepared c.args.embed c.args.declared.now c.requires.embed c.args.asked.now.deciders.items c.args.asked.now.marks c.args.node c.args.position c.requires.earlier
 
-pub returns-then-len-clause-reached : goal.returns-then-len-clause-reached
-returns-then-len-clause-reached g c = decided_reached c.args.self.now c.labels.ensures.prepared c.args.embed c.args.declared.now c.requires.embed c.args.asked.now.deciders.items c.args.asked.now.marks c.args.node c.args.position c.requires.earlier
-
-pub returns-in_err-push-clause-reached : goal.returns-in_err-push-clause-reached
-returns-in_err-push-clause-reached g c = decided_reached c.args.self.now c.labels.ensures.prepared c.args.embed c.args.declared.now c.requires.embed c.args.asked.now.deciders.items c.args.asked.now.marks c.args.node c.args.position c.requires.earlier
+pub returns-in_err-index-clause-reached : goal.returns-in_err-index-clause-reached
+returns-in_err-index-clause-reached g c = decided_reached c.args.self.now c.labels.ensures.prepared c.args.embed c.args.declared.now c.requires.embed c.args.asked.now.deciders.items c.args.asked.now.marks c.args.node c.args.position c.requires.earlier
 
 pub returns-clause-decided : goal.returns-clause-decided
 returns-clause-decided g c =
     let app = c.args.self.now in
     let marks = c.args.asked.now.marks in
     let deciders = c.args.asked.now.deciders.items in
-    on_ok c.reach.result c.reach.ensures.spread (λ spread. rw c.in_ok-push.ensures.items
+    on_ok c.reach.result c.reach.ensures.spread (λ spread. rw c.in_ok-index.ensures.added
     (instance_decides app c.labels.ensures.prepared c.args.embed c.args.declared.now c.requires.embed deciders marks c.args.node c.args.position c.place-at.result
     c.requires.earlier (c.requires.assigned, c.requires.position) c.place-at.ensures.dart c.place-at.ensures.name c.reach.new.marks
     (key_absent marks (key_of c.place-at.result) c.decider.result c.decider.ensures.decider (sym c.is_some.ensures ∙ c.if-is_some.false))
-    c.reach.ensures.darts (omega (arith, c.if-len.false, c.len.ensures, c.args.asked.now.deciders.ok.0))
-    (λ result unfolded. subst (λ k. IsSpreadTo app c.args.declared.now result marks c.reach.new.marks k (name_of app c.place-at.result) (length c.reach.new.marks) 0) (omega (arith, c.len-index.ensures, c.args.asked.now.deciders.ok.0)) (spread result unfolded (c.requires.earlier.walked result unfolded).closed))))
+    c.reach.ensures.darts c.in_ok-index.ensures.few
+    (λ result unfolded. subst (λ k. IsSpreadTo app c.args.declared.now result marks c.reach.new.marks k (name_of app c.place-at.result) (length c.reach.new.marks) 0) c.in_ok-index.ensures.index (spread result unfolded (c.requires.earlier.walked result unfolded).closed))))
 
 pub returns-clause-reached : goal.returns-clause-reached
 returns-clause-reached g c =
     let app = c.args.self.now in
-    some_grown app c.labels.ensures.prepared c.args.embed c.args.declared.now c.requires.embed c.args.asked.now.marks c.reach.new.marks c.len-index.result c.args.node c.args.position c.place-at.result
+    some_grown app c.labels.ensures.prepared c.args.embed c.args.declared.now c.requires.embed c.args.asked.now.marks c.reach.new.marks c.in_ok-index.index c.args.node c.args.position c.place-at.result
     (c.requires.assigned, c.requires.position) c.place-at.ensures.dart c.place-at.ensures.name c.reach.ensures.darts
     (decided_reached app c.labels.ensures.prepared c.args.embed c.args.declared.now c.requires.embed c.args.asked.now.deciders.items c.args.asked.now.marks c.args.node c.args.position c.requires.earlier)
     (λ result unfolded. c.reach.ensures.grown result unfolded (c.requires.earlier.walked result unfolded).closed)
@@ -53,23 +50,14 @@ returns-then-is_some-clause-cost g c = omega arith
 pub returns-then-is_some-clause-least : goal.returns-then-is_some-clause-least
 returns-then-is_some-clause-least g c = omega arith
 
-pub returns-then-len-clause-darts : goal.returns-then-len-clause-darts
-returns-then-len-clause-darts g c = c.requires.earlier.darts
+pub returns-in_err-index-clause-darts : goal.returns-in_err-index-clause-darts
+returns-in_err-index-clause-darts g c = c.requires.earlier.darts
 
-pub returns-then-len-clause-cost : goal.returns-then-len-clause-cost
-returns-then-len-clause-cost g c = omega arith
+pub returns-in_err-index-clause-cost : goal.returns-in_err-index-clause-cost
+returns-in_err-index-clause-cost g c = omega arith
 
-pub returns-then-len-clause-least : goal.returns-then-len-clause-least
-returns-then-len-clause-least g c = omega arith
-
-pub returns-in_err-push-clause-darts : goal.returns-in_err-push-clause-darts
-returns-in_err-push-clause-darts g c = c.requires.earlier.darts
-
-pub returns-in_err-push-clause-cost : goal.returns-in_err-push-clause-cost
-returns-in_err-push-clause-cost g c = omega arith
-
-pub returns-in_err-push-clause-least : goal.returns-in_err-push-clause-least
-returns-in_err-push-clause-least g c = omega arith
+pub returns-in_err-index-clause-least : goal.returns-in_err-index-clause-least
+returns-in_err-index-clause-least g c = omega arith
 
 pub reach-requires-clause-embed : goal.reach-requires-clause-embed
 reach-requires-clause-embed g c = c.requires.embed
@@ -92,8 +80,5 @@ returns-clause-cost g c = c.reach.ensures.cost
 pub returns-clause-least : goal.returns-clause-least
 returns-clause-least g c = c.reach.ensures.least
 
-pub returns-then-len-clause-decided : goal.returns-then-len-clause-decided
-returns-then-len-clause-decided g c = tt
-
-pub returns-in_err-push-clause-decided : goal.returns-in_err-push-clause-decided
-returns-in_err-push-clause-decided g c = never_ok _ c.from_residual.result c.from_residual.ensures.0
+pub returns-in_err-index-clause-decided : goal.returns-in_err-index-clause-decided
+returns-in_err-index-clause-decided g c = never_ok _ c.from_residual.result c.from_residual.ensures.0

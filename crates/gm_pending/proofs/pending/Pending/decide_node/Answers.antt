@@ -1,6 +1,7 @@
-use Rattle.std.proofs.Common.{◌≡◌, subst, arith}
+use Rattle.std.proofs.Common.{◌≡◌, length, subst, arith}
 use Rattle.gm_pending.specs.Reached.{IsDecidedUpTo}
 use Rattle.gm_pending.proofs.Decided.{decided_reached, node_decided}
+use Rattle.gm_pending.proofs.OneOrbit.{longer_cost}
 use Rattle.gm_pending.proofs.pending.Pending.decide_node.Goals as goal
 
 pub returns-clause-decided : goal.returns-clause-decided
@@ -46,3 +47,30 @@ returns-clause-cost g c = c.loop-position.invariant.cost
 
 pub returns-clause-least : goal.returns-clause-least
 returns-clause-least g c = c.loop-position.invariant.least
+
+pub decide_orbit-requires-clause-embed : goal.decide_orbit-requires-clause-embed
+decide_orbit-requires-clause-embed g c = c.requires.embed
+
+pub decide_orbit-requires-clause-assigned : goal.decide_orbit-requires-clause-assigned
+decide_orbit-requires-clause-assigned g c = c.requires.assigned
+
+pub decide_orbit-requires-clause-orbit : goal.decide_orbit-requires-clause-orbit
+decide_orbit-requires-clause-orbit g c = c.is_one_orbit.ensures c.if-is_one_orbit.true
+
+pub decide_orbit-requires-clause-earlier : goal.decide_orbit-requires-clause-earlier
+decide_orbit-requires-clause-earlier g c = c.requires.earlier
+
+pub returns-then-is_one_orbit-clause-decided : goal.returns-then-is_one_orbit-clause-decided
+returns-then-is_one_orbit-clause-decided g c = c.decide_orbit.ensures.decided
+
+pub returns-then-is_one_orbit-clause-darts : goal.returns-then-is_one_orbit-clause-darts
+returns-then-is_one_orbit-clause-darts g c = c.decide_orbit.ensures.darts
+
+pub returns-then-is_one_orbit-clause-reached : goal.returns-then-is_one_orbit-clause-reached
+returns-then-is_one_orbit-clause-reached g c = c.decide_orbit.ensures.reached
+
+pub returns-then-is_one_orbit-clause-cost : goal.returns-then-is_one_orbit-clause-cost
+returns-then-is_one_orbit-clause-cost g c = longer_cost c.args.self.now.map.schema.dim c.args.steps.now (length c.args.asked.now.marks) (length c.decide_orbit.new.asked.marks) c.decide_orbit.ensures.longer
+
+pub returns-then-is_one_orbit-clause-least : goal.returns-then-is_one_orbit-clause-least
+returns-then-is_one_orbit-clause-least g c = omega arith
