@@ -10,6 +10,10 @@ use Rattle.gm_pending.specs.declared.decider.Decider.{Decider}
 use Rattle.gm_pending.specs.declared.marks.Reached.{Reached}
 use Rattle.gm_pending.specs.Results.{PendingOf, IsResultDart, IsUnfoldedIn, IsDecidedIn, IsReachedIn, name_of, rule_in, scene_in}
 
+-- a deciding instance that has no value yet
+abbrev pub ungiven : ℕ → ℕ → Decider
+ungiven x p = record { node = x; position = p; value = None }
+
 module _ (app : PendingOf) where
   -- each entry is a dart of the result
   abbrev pub AreResultDarts : List Reached → Type 0

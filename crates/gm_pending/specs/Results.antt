@@ -121,10 +121,6 @@ given_at [] k v = []
 given_at (decider ∷ deciders) zero v = record { node = decider.node; position = decider.position; value = Some v } ∷ deciders
 given_at (decider ∷ deciders) (suc k) v = decider ∷ given_at deciders k v
 
--- a deciding instance without a value
-abbrev pub ungiven : ℕ → ℕ → Decider
-ungiven x p = record { node = x; position = p; value = None }
-
 -- where it lies
 abbrev pub place_of : Decider → ℕ × ℕ
 place_of decider = (decider.node, decider.position)

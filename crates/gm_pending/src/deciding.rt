@@ -10,8 +10,8 @@ ghost use Rattle.gm_theory.specs.Theorem.{Unfolded};
 ghost use Rattle.gm_pending.specs.declared.decider.Decider.{Decider};
 ghost use Rattle.gm_pending.specs.declared.marks.Reached.{Reached};
 ghost use Rattle.gm_pending.specs.Marks.{key_of, HasKey};
-ghost use Rattle.gm_pending.specs.Reached.{AreReached, AreResultDarts, AreSomeReached, IsClosed, IsGrown, IsSpreadTo, IsFollowedTo, IsFollowed, IsDecidedUpTo, IsAlwaysOneOrbit, IsUnmarked, AreMarkedTo};
-ghost use Rattle.gm_pending.specs.Results.{IsPrepared, AreDeciders, IsAsked, IsResultDart, IsUnfoldedIn, IsWithinReach, deciders_of, ungiven, with_deciders, name_of, rule_in};
+ghost use Rattle.gm_pending.specs.Reached.{AreReached, AreResultDarts, AreSomeReached, IsClosed, IsGrown, IsSpreadTo, IsFollowedTo, IsFollowed, IsDecidedUpTo, IsAlwaysOneOrbit, IsUnmarked, AreMarkedTo, ungiven};
+ghost use Rattle.gm_pending.specs.Results.{IsPrepared, AreDeciders, IsAsked, IsResultDart, IsUnfoldedIn, IsWithinReach, deciders_of, with_deciders, name_of, rule_in};
 
 use crate::asked::{Asked, keep};
 use crate::at::At;
@@ -273,11 +273,7 @@ impl Pending<'_, '_> {
 }
 
 /// Adds a deciding instance, which has no value yet, and answers its index.
-fn add_decider(
-    deciders: &mut Vec<Decider>,
-    node: u8,
-    position: u32,
-) -> Result<u32, OutOfMemory>
+fn add_decider(deciders: &mut Vec<Decider>, node: u8, position: u32) -> Result<u32, OutOfMemory>
     ensures added { OnOk result (deciders.new.items ≡ deciders.old.items ++ ungiven node position ∷ []) }
     ensures index { IfOk result (λ index. index ≡ length deciders.old.items) }
     ensures few { OnOk result (length deciders.old.items < 4294967295) }

@@ -1,7 +1,6 @@
-use Rattle.std.proofs.Common.{◌≡◌, ◌+◌, ◌∷◌, [], ◌++◌, length, refl, sym, ◌∙◌, subst, arith}
+use Rattle.std.proofs.Common.{◌∷◌, [], ◌++◌, length, refl, sym, ◌∙◌, subst, arith}
 use Rattle.gm_pending.specs.Marks.{key_of}
-use Rattle.gm_pending.specs.Reached.{AreMarkedTo, IsGrown, IsSpreadTo}
-use Rattle.gm_pending.specs.Results.{ungiven}
+use Rattle.gm_pending.specs.Reached.{AreMarkedTo, IsGrown, IsSpreadTo, ungiven}
 use Rattle.gm_pending.proofs.Decided.{assigned_right, decided_reached, instance_decides, key_absent, key_there, node_marked, on_ok, some_grown}
 use Rattle.gm_pending.proofs.Following.{stays_longer}
 use Rattle.gm_pending.proofs.OneOrbit.{all_marked, none_marked, orbit_grown, orbit_spread}
@@ -20,7 +19,7 @@ returns-then-is_some-clause-decided c =
     let right = assigned_right app prepared c.args.embed declared c.requires.embed c.args.node c.requires.assigned in
     node_marked app prepared c.args.embed declared c.requires.embed c.args.asked.now.deciders.items marks c.args.node 0 earlier
     (λ result unfolded. all_marked app prepared c.args.node right c.args.embed declared c.requires.embed c.requires.orbit marks c.place.result c.positions.ensures.some c.place.ensures.name c.place.ensures.dart earlier.darts
-        (key_there marks (key_of c.place.result) c.decider.result c.decider.ensures.decider (sym c.is_some.ensures ∙ c.if-is_some.true)) result unfolded (earlier.walked result unfolded).closed)
+    (key_there marks (key_of c.place.result) c.decider.result c.decider.ensures.decider (sym c.is_some.ensures ∙ c.if-is_some.true)) result unfolded (earlier.walked result unfolded).closed)
 
 pub returns-then-is_some-clause-reached : goal.returns-then-is_some-clause-reached
 returns-then-is_some-clause-reached c = decided_reached c.args.self.now c.positions.ensures.prepared c.args.embed c.args.declared.now c.requires.embed c.args.asked.now.deciders.items c.args.asked.now.marks c.args.node 0 c.requires.earlier
@@ -56,12 +55,12 @@ returns-clause-decided c =
     let right = assigned_right app prepared embed declared c.requires.embed node c.requires.assigned in
     let absent = key_absent marks (key_of at) c.decider.result c.decider.ensures.decider (sym c.is_some.ensures ∙ c.if-is_some.false) in
     on_ok c.mark_instances.result c.mark_instances.ensures.all (λ all.
-        let marked = subst (λ k. AreMarkedTo app marks after node k app.placed.positions) c.in_ok-index.ensures.index all in
-        let decided = instance_decides app prepared embed declared c.requires.embed deciders marks node 0 at c.requires.earlier (c.requires.assigned, omega (arith, c.positions.ensures.some)) c.place.ensures.dart c.place.ensures.name
-        after absent c.mark_instances.ensures.darts c.in_ok-index.ensures.few
-        (λ result unfolded. subst (λ d. IsSpreadTo app declared result marks after (length deciders) d (length after) 0) (sym c.place.ensures.name)
-            (orbit_spread app prepared node right embed declared c.requires.embed c.requires.orbit marks after (length deciders) app.placed.positions marked result unfolded c.positions.ensures.some refl (c.requires.earlier.walked result unfolded).closed)) in
-        rw c.in_ok-index.ensures.added (node_marked app prepared embed declared c.requires.embed (deciders ++ ungiven node 0 ∷ []) after node 1 decided (λ result unfolded q h. (length deciders, marked.all q h))))
+    let marked = subst (λ k. AreMarkedTo app marks after node k app.placed.positions) c.in_ok-index.ensures.index all in
+    let decided = instance_decides app prepared embed declared c.requires.embed deciders marks node 0 at c.requires.earlier (c.requires.assigned, omega (arith, c.positions.ensures.some)) c.place.ensures.dart c.place.ensures.name
+    after absent c.mark_instances.ensures.darts c.in_ok-index.ensures.few
+    (λ result unfolded. subst (λ d. IsSpreadTo app declared result marks after (length deciders) d (length after) 0) (sym c.place.ensures.name)
+    (orbit_spread app prepared node right embed declared c.requires.embed c.requires.orbit marks after (length deciders) app.placed.positions marked result unfolded c.positions.ensures.some refl (c.requires.earlier.walked result unfolded).closed)) in
+    rw c.in_ok-index.ensures.added (node_marked app prepared embed declared c.requires.embed (deciders ++ ungiven node 0 ∷ []) after node 1 decided (λ result unfolded q h. (length deciders, marked.all q h))))
 
 pub returns-clause-reached : goal.returns-clause-reached
 returns-clause-reached c =
@@ -78,7 +77,7 @@ returns-clause-reached c =
     (c.requires.assigned, omega (arith, c.positions.ensures.some)) c.place.ensures.dart c.place.ensures.name c.mark_instances.ensures.darts
     (decided_reached app prepared embed declared c.requires.embed c.args.asked.now.deciders.items marks node 0 c.requires.earlier)
     (λ result unfolded. subst (λ d. IsGrown app declared result marks after c.in_ok-index.index d) (sym c.place.ensures.name)
-        (orbit_grown app prepared node right embed declared c.requires.embed c.requires.orbit marks after c.in_ok-index.index some.0 some.2 result unfolded some.1))
+    (orbit_grown app prepared node right embed declared c.requires.embed c.requires.orbit marks after c.in_ok-index.index some.0 some.2 result unfolded some.1))
 
 pub returns-clause-longer : goal.returns-clause-longer
 returns-clause-longer c = stays_longer c.args.asked.now.marks c.mark_instances.new.marks c.mark_instances.ensures.some.2.kept

@@ -1,4 +1,4 @@
-use Rattle.std.proofs.Common.{◌≡◌, inr, refl, subst, arith}
+use Rattle.std.proofs.Common.{◌≡◌, inr, subst, arith}
 use Rattle.gm_pending.specs.Reached.{AreMarkedTo}
 use Rattle.gm_pending.proofs.OneOrbit.{next_absent, next_marked, none_marked_yet}
 use Rattle.gm_pending.proofs.Spread.{marked_darts}
