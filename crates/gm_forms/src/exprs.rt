@@ -15,10 +15,10 @@ use crate::form_fault::FormFault;
 use crate::reader::MOST_NAME_BYTES;
 use crate::state::{Heading, Spot, State};
 use crate::tally::Tally;
-use crate::words::{is_reserved, reads};
+use crate::words::reads;
 use gm_model::{Dim, LimitKind, Side};
 use gm_parse::skip_expr;
-use gm_text::{Lexer, Token};
+use gm_text::{Lexer, Token, is_reserved};
 
 /// The spot on the right side.
 pub fn on_right(spot: Spot) -> Spot

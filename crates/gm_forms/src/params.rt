@@ -11,9 +11,9 @@ use crate::form_fault::FormFault;
 use crate::reader::MOST_NAME_BYTES;
 use crate::state::{Heading, State};
 use crate::tally::Tally;
-use crate::words::{is_reserved, kind_named, reads};
+use crate::words::{kind_named, reads};
 use gm_model::LimitKind;
-use gm_text::{Lexer, Token};
+use gm_text::{Lexer, Token, is_reserved};
 
 const MOST_PARAMS: u8 = 8;
 

@@ -17,9 +17,9 @@ use crate::params::{at_colon, at_comma, at_kind, at_open, at_param};
 use crate::signs::{at_dash, at_number, at_sign, at_word_end, gone};
 use crate::state::{Heading, Spot, State};
 use crate::tally::Tally;
-use crate::words::{is_reserved, reads};
+use crate::words::reads;
 use gm_model::{LimitKind, Side, Word};
-use gm_text::{Lexer, Token, TokenKind};
+use gm_text::{Lexer, Token, TokenKind, is_reserved};
 use std::alloc::Global;
 
 pub const MOST_NAME_BYTES: usize = 32;

@@ -1,7 +1,5 @@
 //! Words and signs of the formats.
 ghost use Rattle.std.specs.Prelude.{◌≡◌, bytes_eq};
-ghost use Rattle.std.specs.List.{list_any};
-ghost use Rattle.gm_model.specs.Names.{is_among, reserved};
 ghost use Rattle.gm_model.specs.Tokens.{bytes_of};
 ghost use Rattle.gm_text.specs.SchemaAnswers.{IsToken};
 ghost use Rattle.gm_forms.specs.Reading.{param_kind};
@@ -9,12 +7,6 @@ ghost use Rattle.gm_forms.specs.Reading.{param_kind};
 use gm_model::Kind;
 use gm_parse::meaning_or;
 use gm_text::{Lexer, Token};
-
-/// The words of the formats that no name can be.
-const RESERVED: [&[u8]; 19] = [
-    b"rule", b"left", b"right", b"hook", b"with", b"pre", b"and", b"or", b"not", b"if", b"then",
-    b"else", b"true", b"false", b"sum", b"count", b"min", b"max", b"same",
-];
 
 /// The kinds of parameters, by their words.
 static KINDS: [(&[u8], Option<Kind>); 5] = [
@@ -33,21 +25,9 @@ pub fn reads(lexer: &Lexer<'_>, token: Token, word: &[u8]) -> bool
     lexer.text(&token) == word
 }
 
-pub fn is_reserved(word: &[u8]) -> bool
-    ensures { result ≡ is_among reserved word.now }
-{
-    is_among(&RESERVED, word)
-}
-
 /// The kind of a parameter with the word.
 pub fn kind_named(word: &[u8]) -> Option<Kind>
     ensures { result ≡ param_kind word.now }
 {
     meaning_or(&KINDS, word, None)
-}
-
-fn is_among(words: &[&[u8]], word: &[u8]) -> bool
-    ensures { result ≡ list_any (λ other. bytes_eq word.now other.now) words.now }
-{
-    words.iter().any(|other| word == *other)
 }

@@ -1,8 +1,6 @@
 //! The tokens of expressions: what each is, and which limit it passes.
-ghost use Rattle.std.specs.Prelude.{◌≡◌, ℕ, ◌<◌, ◌≤◌, ◌^◌, ◌-◌, min, bytes_eq, IfOk, IfErr};
-ghost use Rattle.std.specs.List.{list_any};
+ghost use Rattle.std.specs.Prelude.{◌≡◌, ℕ, ◌<◌, ◌≤◌, ◌^◌, ◌-◌, min, IfOk, IfErr};
 ghost use Rattle.gm_model.specs.declared.token.TokenKind.TheVariants.{Number};
-ghost use Rattle.gm_model.specs.Names.{is_among, reserved};
 ghost use Rattle.gm_model.specs.Symbols.{Word, Numeral, value_of};
 ghost use Rattle.gm_model.specs.Tokens.{bytes_of};
 ghost use Rattle.gm_text.specs.SchemaAnswers.{IsNext, IsToken, symbol_at};
@@ -15,13 +13,7 @@ use crate::key::{Collector, Key};
 use crate::place::Place;
 use crate::table::meaning_or;
 use gm_model::{BinOp, Dim, LimitKind, Token, TokenKind};
-use gm_text::Lexer;
-
-/// The words of the formats that no name can be.
-const RESERVED: [&[u8]; 19] = [
-    b"rule", b"left", b"right", b"hook", b"with", b"pre", b"and", b"or", b"not", b"if", b"then",
-    b"else", b"true", b"false", b"sum", b"count", b"min", b"max", b"same",
-];
+use gm_text::{Lexer, is_reserved};
 
 /// What the reserved words of expressions are to them.
 static KEYWORDS: [(&[u8], Key); 13] = [
@@ -76,18 +68,6 @@ pub(crate) fn next_token(lexer: &mut Lexer<'_>) -> Result<Token, usize>
         Ok(None) => Err(lexer.place()),
         Err(fault) => Err(fault.place),
     }
-}
-
-fn is_among(words: &[&[u8]], word: &[u8]) -> bool
-    ensures { result ≡ list_any (λ other. bytes_eq word.now other.now) words.now }
-{
-    words.iter().any(|other| word == *other)
-}
-
-fn is_reserved(word: &[u8]) -> bool
-    ensures { result ≡ is_among reserved word.now }
-{
-    is_among(&RESERVED, word)
 }
 
 fn key_of_reserved(word: &[u8]) -> Key

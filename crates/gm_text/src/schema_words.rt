@@ -22,6 +22,9 @@ const RESERVED: [&[u8]; 19] = [
     b"else", b"true", b"false", b"sum", b"count", b"min", b"max", b"same",
 ];
 
+/// The most bytes of a reserved word.
+const LONGEST: usize = 5;
+
 /// The next token, which the lexer goes past.
 pub(crate) fn next_token(lexer: &mut Lexer<'_>) -> Result<Token, SchemaFault>
     ensures next { IfOk result (λ token. IsNext lexer.old token lexer.new) }
@@ -59,10 +62,11 @@ pub(crate) fn value(lexer: &Lexer<'_>, token: &Token) -> u64
     lexer.number(token).unwrap_or(u64::MAX)
 }
 
-pub(crate) fn is_reserved(word: &[u8]) -> bool
+/// Whether the word is one of the formats, which no name can be.
+pub fn is_reserved(word: &[u8]) -> bool
     ensures { result ≡ is_among reserved word.now }
 {
-    is_among(&RESERVED, word)
+    word.len() <= LONGEST && is_among(&RESERVED, word)
 }
 
 fn is_among(words: &[&[u8]], word: &[u8]) -> bool
