@@ -3,7 +3,7 @@ use std::marker::Model;
 
 /// Labels along which a dart term leads, the first of them first. It is made from a vector without
 /// taking memory. Contracts see the list of labels.
-#[derive(Debug, Drop)]
+#[derive(Drop)]
 pub struct Path {
     labels: Vec<u8>,
 }
@@ -43,7 +43,7 @@ impl Path {
 
 /// A dart of the map before an application: the one that the node is matched with at the position
 /// where the expression is read, and from there along the path.
-#[derive(Debug, Drop)]
+#[derive(Drop)]
 pub struct DartTerm {
     pub node: u8,
     pub path: Path,
@@ -84,7 +84,7 @@ pub enum BinOp {
 
 /// An expression. A number that stands for a parameter or an embedding is its index in the rule or
 /// in the schema. The number of `Int` isn't negative in an expression that was read.
-#[derive(Debug, Drop)]
+#[derive(Drop)]
 pub enum Expr {
     Int(i64),
     Bool(bool),

@@ -13,7 +13,7 @@ pub struct Param {
 }
 
 /// The assignment of an expression to an embedding, by its index in the schema.
-#[derive(Debug, Drop)]
+#[derive(Drop)]
 pub struct Set {
     pub embed: u8,
     pub expr: Expr,
@@ -21,7 +21,7 @@ pub struct Set {
 
 /// A node of a rule: preserved with both words, removed with the left one alone, added with the
 /// right one alone.
-#[derive(Debug, Drop)]
+#[derive(Drop)]
 pub struct Node {
     pub name: Name,
     pub left: Option<Word>,
@@ -40,7 +40,7 @@ pub struct Link {
 /// A rule as its text gives it, accepted or not. A number of a node is its index in `nodes`, where
 /// those with a left word come first. `hooks` are such numbers, in the order in which the left side
 /// has them.
-#[derive(Debug, Drop)]
+#[derive(Drop)]
 pub struct RuleTable {
     pub name: Name,
     pub params: Items<Param>,
@@ -53,7 +53,7 @@ pub struct RuleTable {
 
 /// A book of rules over one schema. The version is that of its text, 1 or 2: a rule of version 1
 /// has one hook at most.
-#[derive(Debug, Drop)]
+#[derive(Drop)]
 pub struct Book {
     pub version: u8,
     pub schema: Schema,
