@@ -4,7 +4,7 @@ ghost use Rattle.gm_walk.specs.Marks.{IsMarked, numbers};
 ghost use Rattle.gm_walk.specs.Room.{Fits, TakesIn};
 
 use gm_arena::{Arena, Slot};
-use gm_model::OutOfMemory;
+use gm_model::{MOST_DARTS, OutOfMemory};
 use std::alloc::Global;
 use std::marker::Model;
 use std::mem;
@@ -88,7 +88,11 @@ impl Scratch {
         if bound > u32::MAX as usize {
             return Err(OutOfMemory);
         }
-        self.queue.reserve(bound - self.queue.len())?;
+        // Room for all darts that an arena can have: what isn't touched takes no memory, and marks
+        // that never move leave no room behind.
+        let room = bound.max(MOST_DARTS as usize);
+        self.queue.reserve_exact(room - self.queue.len())?;
+        self.marks.reserve_exact(room - self.marks.len())?;
         self.marks.resize(bound, 0)?;
         Ok(())
     }
