@@ -76,6 +76,7 @@ impl Model for Arena {
 
 impl Arena {
     ghost use Rattle.gm_arena.specs.ArenaMap.{IsAt, IsLiveSlot, IsLiveName, name_at, alpha};
+    ghost use Rattle.gm_arena.specs.InOrder.{HasNoneFrom, IsFirstFrom};
     ghost use Rattle.gm_model.specs.declared.schema.Embed.{Embed};
     ghost use Rattle.gm_model.specs.Maps.{IsSchema, IsEmbedAt};
     ghost use Rattle.gm_model.specs.Values.{IsValueOf};
@@ -167,6 +168,22 @@ impl Arena {
             Some(slot) if *slot != NO_SLOT => Some(Slot { at: *slot }),
             _ => None,
         }
+    }
+
+    /// The slot of the live dart with the least name from `from` on; `None` where there is none. It
+    /// counts one step.
+    pub fn slot_from<L: Ledger>(&self, from: u32, steps: &mut Steps<L>) -> Option<Slot>
+        ensures slot { MatchOption result (HasNoneFrom self.now from) (λ s. IsFirstFrom self.now from s.at) }
+        ensures cost { steps.new ≡ steps.old + 1 }
+    {
+        steps.tick();
+        for name in from as usize..self.table.len() {
+            let slot = self.table[name];
+            if slot != NO_SLOT {
+                return Some(Slot { at: slot });
+            }
+        }
+        None
     }
 
     /// The name of the dart at a slot.

@@ -1,7 +1,7 @@
 //! The dart arena: the darts of a map in slots, each with its name, its neighbours and its values.
 //!
 //! Contracts speak of darts by name. Callers hold slots, which a live dart keeps until it is
-//! removed, so that no call but `slot_of` looks a name up.
+//! removed, so that no calls but `slot_of` and `slot_from` look a name up.
 #![tactic(auto)]
 
 mod arena;
