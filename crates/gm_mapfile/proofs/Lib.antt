@@ -28,6 +28,7 @@ pub mod DartReads
 pub mod SchemaInside
 pub mod WholeText
 pub mod Printed
+pub mod PrintedLines
 pub mod ArenaDarts
 pub mod SoundRows
 pub mod SchemaForms

@@ -13,11 +13,11 @@ use Rattle.gm_arena.specs.ArenaMap.{ArenaMap, Dart, IsLiveName}
 use Rattle.gm_arena.specs.Lawful.{IsLawful}
 use Rattle.gm_mapfile.specs.MapText.{MapText, canonical}
 use Rattle.gm_mapfile.specs.Printing.{renumbered, IsPrintableDart, IsPrintable}
-use Rattle.gm_mapfile.specs.Rows.{dart_of_entry, darts_of, listed_of, dart_at}
+use Rattle.gm_mapfile.specs.Rows.{dart_of_entry, darts_of, listed_of}
 use Rattle.gm_mapfile.specs.declared.version.MapVersion.{MapVersion}
 use Rattle.gm_mapfile.proofs.Again.{printed}
 use Rattle.gm_mapfile.proofs.ArenaDarts.{darts_ascending}
-use Rattle.gm_mapfile.proofs.Printed.{nobody, dart_at-is, dart_at_place, darts_counted}
+use Rattle.gm_mapfile.proofs.Printed.{nobody, dart_at, dart_at-is, dart_at_place, darts_counted}
 use Rattle.gm_mapfile.proofs.SoundRows.{as_listed}
 
 module _ (m : ArenaMap) (lawful : IsLawful m) where

@@ -12,14 +12,16 @@ use Rattle.std.proofs.lemmas.Nat.{mul-le}
 use Rattle.std.proofs.lemmas.List.{drop-set, drop_more, get_or-map, length-map, take_more, append-nil, append_assoc, length-drop, nil_from_length, take-append-drop}
 use Rattle.std.proofs.lemmas.List.Kept.{AllPairs-from_increasing}
 use Rattle.std.proofs.lemmas.List.Recursion.{found_at}
+use Rattle.gm_model.specs.declared.schema.Embed.{Embed}
 use Rattle.gm_model.specs.declared.value.Value.{Value}
+use Rattle.gm_model.specs.Values.{kind_of}
 use Rattle.gm_text.specs.SchemaText as schema
 use Rattle.gm_arena.specs.ArenaMap.{ArenaMap, Dart, IsAt, IsLiveName, name_at}
 use Rattle.gm_arena.specs.declared.slot.Slot.{Slot}
 use Rattle.gm_arena.specs.Lawful.{IsLawful}
 use Rattle.gm_arena.proofs.MapLemmas.{name_at-is}
 use Rattle.gm_mapfile.specs.MapText.{DartRow, names, dart_of, line_of, head_line, next_line, canonical}
-use Rattle.gm_mapfile.specs.Rows.{dart_of_entry, darts_of, listed_of, dart_at}
+use Rattle.gm_mapfile.specs.Rows.{dart_of_entry, darts_of, listed_of}
 use Rattle.gm_mapfile.specs.declared.version.MapVersion.{MapVersion}
 use Rattle.gm_mapfile.proofs.ArenaDarts.{dart_with, dart_of_arena, darts_ascending, names_of_arena}
 
@@ -37,26 +39,47 @@ short_name n small = length-decimal-le 10 n (omega arith) (omega (arith, small))
 pub short_size : (n : ℕ) → n ≤ 2 ^ 63 → length (decimal n) ≤ 19
 short_size n small = length-decimal-le 19 n (omega arith) (omega (arith, small)) (omega (arith, small))
 
--- one more before those that are written, with a blank before it
-pub name_before : (m : ArenaMap) (slots : List Slot) (left name at start : ℕ) (d : Slot) (old put : List ℕ) → 0 < left → left ≤ length slots → IsAt m (get_or slots (left - 1) d).at name → 0 < start → start ≤ length put
-    → drop start put ≡ decimal name ++ drop at old → drop at old ≡ flat_map (λ a. 32 ∷ decimal a) (drop left (map (λ (s : Slot). name_at m s.at) slots))
-    → drop (start - 1) (set put (start - 1) 32) ≡ flat_map (λ a. 32 ∷ decimal a) (drop (left - 1) (map (λ (s : Slot). name_at m s.at) slots))
-name_before m slots left name at start d old put some few there inside within written before =
+-- one item more before those that are written
+pub item_before : {A : Type 0} (each : A → List ℕ) (items : List A) (left : ℕ) (d : A) (rest : List ℕ) → 0 < left → left ≤ length items
+    → each (get_or items (left - 1) d) ++ (flat_map each (drop left items) ++ rest) ≡ flat_map each (drop (left - 1) items) ++ rest
+item_before each items left d rest some few =
+    let again : left - 1 + 1 ≡ left = omega (arith, some) in
+    let split : drop (left - 1) items ≡ get_or items (left - 1) d ∷ drop left items = drop_more items (left - 1) d (omega (arith, some, few)) ∙ ap (λ k. get_or items (left - 1) d ∷ drop k items) again in
+    sym (ap (λ xs. flat_map each xs ++ rest) split ∙ append_assoc (each (get_or items (left - 1) d)) (flat_map each (drop left items)) rest)
+
+-- one name more, with a blank before it
+pub name_before : (m : ArenaMap) (slots : List Slot) (left name at start : ℕ) (d : Slot) (old put rest : List ℕ) → 0 < left → left ≤ length slots → IsAt m (get_or slots (left - 1) d).at name → 0 < start → start ≤ length put
+    → drop start put ≡ decimal name ++ drop at old → drop at old ≡ flat_map (λ a. 32 ∷ decimal a) (drop left (map (λ (s : Slot). name_at m s.at) slots)) ++ rest
+    → drop (start - 1) (set put (start - 1) 32) ≡ flat_map (λ a. 32 ∷ decimal a) (drop (left - 1) (map (λ (s : Slot). name_at m s.at) slots)) ++ rest
+name_before m slots left name at start d old put rest some few there inside within written before =
     let f : Slot → ℕ = λ (s : Slot). name_at m s.at in
     let each : ℕ → List ℕ = λ a. 32 ∷ decimal a in
     let names = map f slots in
     let here : get_or names (left - 1) 0 ≡ name = get_or-map f slots (left - 1) d 0 (omega (arith, some, few)) ∙ name_at-is m (get_or slots (left - 1) d).at name there in
-    let again : left - 1 + 1 ≡ left = omega (arith, some) in
     let behind : start - 1 + 1 ≡ start = omega (arith, inside) in
-    let split : drop (left - 1) names ≡ name ∷ drop left names = drop_more names (left - 1) 0 (omega (arith, some, few, length-map slots f)) ∙ ap₂ (λ (x : ℕ) (k : ℕ). x ∷ drop k names) here again in
     drop-set put (start - 1) 32 (omega (arith, inside, within))
     ∙ (ap (λ k. 32 ∷ drop k put) behind
-    ∙ (ap (λ (xs : List ℕ). 32 ∷ xs) (written ∙ ap (λ (xs : List ℕ). decimal name ++ xs) before)
-    ∙ sym (ap (flat_map each) split)))
+    ∙ (ap (λ (xs : List ℕ). 32 ∷ xs) (written ∙ ap₂ (λ (x : ℕ) (xs : List ℕ). decimal x ++ xs) (sym here) before)
+    ∙ item_before each names left 0 rest some (omega (arith, few, length-map slots f))))
 
 -- a dart has a neighbour for each label
 pub slots_long : (m : ArenaMap) (name : ℕ) (slots : List Slot) (values : List Value) → IsLawful m → get m.darts name ≡ Some (record { alphas = map (λ (s : Slot). name_at m s.at) slots; values = values }) → length slots ≡ m.schema.dim + 1
 slots_long m name slots values lawful there = sym (length-map slots (λ (s : Slot). name_at m s.at)) ∙ (lawful.dart name _ there).whole
+
+-- and no more values than a schema has embeddings
+pub values_few : (m : ArenaMap) (name : ℕ) (slots : List Slot) (values : List Value) → IsLawful m → get m.darts name ≡ Some (record { alphas = map (λ (s : Slot). name_at m s.at) slots; values = values }) → length values ≤ 8
+values_few m name slots values lawful there =
+    let kinds = (lawful.dart name _ there).valued.kinds in
+    let same : length values ≡ length m.schema.embeds = sym (length-map values kind_of) ∙ (ap length kinds ∙ length-map m.schema.embeds (λ (e : Embed). e.kind)) in
+    omega (arith, same, lawful.schema.count)
+
+-- the dart of a name
+abbrev pub dart_at : ArenaMap → ℕ → DartRow
+dart_at m name = record {
+  name = name;
+  alphas = option_map_or (λ (dart : Dart). dart.alphas) (get m.darts name) [];
+  values = option_map_or (λ (dart : Dart). dart.values) (get m.darts name) [];
+}
 
 pub dart_at-is : (m : ArenaMap) (name : ℕ) (dart : Dart) → get m.darts name ≡ Some dart → dart_at m name ≡ dart_of_entry (name, dart)
 dart_at-is m name dart there =
@@ -120,22 +143,12 @@ lines_with m k front text after within before last =
     ∙ ap (λ xs. front ++ xs) (ap (λ xs. flat_map line_of (take k darts) ++ xs) dart ∙ sym more)))
 
 -- the steps of so many darts
-pub printed_within : (n count before after : ℕ) → after ≤ before + count + (n + 3) * count → after ≤ before + 8 * ((n + 1) * (n + 1)) * (count + 1)
+pub printed_within : (n count before after : ℕ) → after ≤ before + (n + 3) * count + 1 → after ≤ before + 8 * ((n + 1) * (n + 1)) * (count + 1)
 printed_within n count before after h =
     let square : n + 1 ≤ (n + 1) * (n + 1) = omega (arith, mul-le 1 (n + 1) (n + 1) (n + 1) (omega arith) (omega arith)) in
-    let each : n + 4 ≤ 8 * ((n + 1) * (n + 1)) = omega (arith, square) in
-    let more : (n + 4) * count ≡ (n + 3) * count + count = omega arith in
-    omega (arith, h, more, mul-le (n + 4) count (8 * ((n + 1) * (n + 1))) (count + 1) each (omega arith))
-
--- no more darts than there are
-pub steps_within : (each before k count after : ℕ) → k ≤ count → after ≤ before + each * k → after ≤ before + each * count
-steps_within each before k count after few h = omega (arith, h, mul-le each k each count (omega arith) few)
-
--- so many steps for each of one dart more
-pub steps_with : (each before start after count : ℕ) → start ≤ before + each * count → after ≤ start + each → after ≤ before + each * (count + 1)
-steps_with each before start after count first last =
-    let product : each * (count + 1) ≡ each * count + each = omega arith in
-    omega (arith, product, first, last)
+    let each : n + 3 ≤ 8 * ((n + 1) * (n + 1)) = omega (arith, square) in
+    let more : (n + 3) * (count + 1) ≡ (n + 3) * count + (n + 3) = omega arith in
+    omega (arith, h, more, mul-le (n + 3) (count + 1) (8 * ((n + 1) * (n + 1))) (count + 1) each (omega arith))
 
 -- ---- the whole text
 

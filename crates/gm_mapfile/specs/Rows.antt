@@ -1,7 +1,6 @@
 -- The darts that an arena holds as a list, and the darts of which numbers and packed values are the lines.
 use Rattle.std.specs.Prelude.{ℕ, zero, suc, ◌+◌, ◌/◌, ℤ, List, [], ◌∷◌, map, length, take, drop}
-use Rattle.std.specs.Option.{option_map_or}
-use Rattle.std.specs.FinMap.{entries, get}
+use Rattle.std.specs.FinMap.{entries}
 use Rattle.gm_model.specs.declared.schema.Embed.{Embed}
 use Rattle.gm_model.specs.declared.schema.Schema.{Schema}
 use Rattle.gm_model.specs.declared.value.Value.{Value}
@@ -20,14 +19,6 @@ darts_of m = map dart_of_entry (entries m.darts)
 -- the map in an arena, its darts in ascending order of their names
 abbrev pub listed_of : ArenaMap → ListedMap
 listed_of m = record { schema = m.schema; darts = darts_of m; next = m.next }
-
--- the dart of a name
-abbrev pub dart_at : ArenaMap → ℕ → DartRow
-dart_at m name = record {
-  name = name;
-  alphas = option_map_or (λ (dart : Dart). dart.alphas) (get m.darts name) [];
-  values = option_map_or (λ (dart : Dart). dart.values) (get m.darts name) [];
-}
 
 -- ---- darts written as numbers and packed values
 

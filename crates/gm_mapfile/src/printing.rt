@@ -2,13 +2,12 @@
 ghost use Rattle.std.specs.Prelude.{◌≡◌, ℕ, ◌+◌, ◌*◌, ◌<◌, ◌≤◌, ◌∷◌, ◌++◌, length, drop, map, All, OnOk, IfOk, codes, decimal};
 ghost use Rattle.std.specs.List.{flat_map};
 ghost use Rattle.std.specs.Fmt.{signed_decimal};
-ghost use Rattle.std.specs.FinMap.{keys};
 ghost use Rattle.gm_text.specs.SchemaText as schema;
 ghost use Rattle.gm_mapfile.specs.MapText.{canonical, head_line, next_line, line_of, value_text, truth_text};
-ghost use Rattle.gm_arena.specs.ArenaMap.{IsLiveName, IsLiveSlot, name_at};
+ghost use Rattle.gm_arena.specs.ArenaMap.{IsLiveSlot, name_at};
 ghost use Rattle.gm_arena.specs.declared.slot.Slot.{Slot};
 ghost use Rattle.gm_arena.specs.Lawful.{IsLawful};
-ghost use Rattle.gm_mapfile.specs.Rows.{darts_of, listed_of, dart_at};
+ghost use Rattle.gm_mapfile.specs.Rows.{darts_of, listed_of};
 
 use crate::version::MapVersion;
 use gm_arena::{Arena, Row, Slot, Steps};
@@ -18,12 +17,16 @@ use itoa::write_digits;
 use std::alloc::Global;
 use std::sync::ledger::Ledger;
 
-/// No more bytes are a dart's name and eight neighbours' names, ten digits and a blank each.
-const LINE: usize = 99;
+/// No more bytes are a name with a blank before it.
+const NAME: usize = 11;
 
 /// No more bytes are a value with a blank before it: three numbers of twenty bytes each, two signs
 /// and three blanks.
 const VALUE: usize = 65;
+
+/// No more bytes are a dart's line: its name and eight neighbours' names, eight values and the line
+/// feed.
+const LINE: usize = 9 * NAME + 8 * VALUE + 1;
 
 /// The canonical text of the map in the version, with one step or more for each dart: the schema,
 /// in the second version the next name, and a line for each dart in ascending order of their names.
@@ -37,13 +40,12 @@ pub fn print_map<L: Ledger>(
     ensures most { steps.new ≤ steps.old + 8 * ((arena.now.schema.dim + 1) * (arena.now.schema.dim + 1)) * (arena.now.count + 1) }
     ensures least { IfOk result (λ _. steps.old + arena.now.count ≤ steps.new) }
 {
-    print_map_in_place_of(Vec::new(alloc), alloc, arena, version, steps)
+    print_map_in_place_of(Vec::new(alloc), arena, version, steps)
 }
 
 /// The same text, written in the room of these bytes, such as those that the map was read from.
 pub fn print_map_in_place_of<L: Ledger>(
     bytes: Vec<u8>,
-    alloc: Global,
     arena: &Arena,
     version: MapVersion,
     steps: &mut Steps<L>,
@@ -52,65 +54,71 @@ pub fn print_map_in_place_of<L: Ledger>(
     ensures most { steps.new ≤ steps.old + 8 * ((arena.now.schema.dim + 1) * (arena.now.schema.dim + 1)) * (arena.now.count + 1) }
     ensures least { IfOk result (λ _. steps.old + arena.now.count ≤ steps.new) }
 {
-    let names = arena.names(alloc, steps)?;
-    let mut text = Text::in_place_of(bytes, room_for(arena, &names))?;
-    print_text(&mut text, arena, version, &names, steps)?;
+    let mut text = Text::in_place_of(bytes, room_for(arena))?;
+    print_text(&mut text, arena, version, steps)?;
     Ok(text.into_bytes())
 }
 
-/// The header, and a line for each of the names.
+/// The header, and a line for each dart.
 fn print_text<L: Ledger>(
     text: &mut Text,
     arena: &Arena,
     version: MapVersion,
-    names: &[u32],
     steps: &mut Steps<L>,
 ) -> Result<(), OutOfMemory>
-    requires lawful { IsLawful arena.now }
-    requires names { names.now ≡ keys arena.now.darts }
+    requires { IsLawful arena.now }
     ensures text { OnOk result (text.new ≡ text.old ++ canonical version (listed_of arena.now)) }
-    ensures most { steps.new ≤ steps.old + (arena.now.schema.dim + 3) * arena.now.count }
-    ensures least { steps.old ≤ steps.new }
+    ensures most { steps.new ≤ steps.old + (arena.now.schema.dim + 3) * arena.now.count + 1 }
+    ensures least { OnOk result (steps.old + arena.now.count ≤ steps.new) }
 {
     print_header(text, arena, version)?;
-    print_lines(text, arena, names, steps)
+    print_lines(text, arena, steps)
 }
 
-/// A line for each of the names.
+/// A line for each dart, in ascending order of their names.
 fn print_lines<L: Ledger>(
     text: &mut Text,
     arena: &Arena,
-    names: &[u32],
     steps: &mut Steps<L>,
 ) -> Result<(), OutOfMemory>
-    requires lawful { IsLawful arena.now }
-    requires names { names.now ≡ keys arena.now.darts }
+    requires { IsLawful arena.now }
     ensures lines { OnOk result (text.new ≡ text.old ++ flat_map line_of (darts_of arena.now)) }
-    ensures most { steps.new ≤ steps.old + (arena.now.schema.dim + 3) * arena.now.count }
-    ensures least { steps.old ≤ steps.new }
+    ensures most { steps.new ≤ steps.old + (arena.now.schema.dim + 3) * arena.now.count + 1 }
+    ensures least { OnOk result (steps.old + arena.now.count ≤ steps.new) }
 {
-    for name in names {
-        print_dart(text, arena, *name, steps)?;
+    let mut line = [0; LINE];
+    let mut from = 0;
+    while let Some(slot) = arena.slot_from(from, steps) {
+        let row = arena.row(slot, steps);
+        let start = write_line(&mut line, arena, row, steps);
+        put_from(text, &line, start)?;
+        from = row.name + 1;
     }
     Ok(())
 }
 
-/// As many bytes as the text has without values, or a few more: each name stands once for its dart
-/// and once for each label as a neighbour, with a blank or a line feed behind it. A value of small
-/// numbers takes no more than its share.
-fn room_for(arena: &Arena, names: &[u32]) -> usize
-    requires { names.now ≡ keys arena.now.darts }
+/// Appends the bytes from a place on.
+fn put_from(text: &mut Text, bytes: &[u8], start: usize) -> Result<(), OutOfMemory>
+    requires { start ≤ length bytes.now }
+    ensures { OnOk result (text.new ≡ text.old ++ drop start bytes.now) }
+{
+    text.put(&bytes[start..])
+}
+
+/// As many bytes as the text has without values, or more: each name stands once for its dart and
+/// once for each label as a neighbour, with a blank or a line feed behind it, and none is longer
+/// than the greatest. A value of small numbers takes no more than its share.
+fn room_for(arena: &Arena) -> usize
     ensures { IsLawful arena.now }
 {
     let header = 1024;
     let share = 12;
     let schema = arena.schema();
-    let values = arena.count() as usize * schema.embeds.as_slice().len();
-    let mut column = 0;
-    for name in names {
-        column += digits_of(*name) + 1;
-    }
-    header + column * (schema.dim.top() as usize + 2) + values * share
+    let names = schema.dim.top() as usize + 2;
+    let values = schema.embeds.as_slice().len();
+    let greatest = arena.next().saturating_sub(1);
+    let line = names * (digits_of(greatest) + 1) + values * share;
+    header + arena.count() as usize * line
 }
 
 /// How many decimal digits a name has.
@@ -170,46 +178,47 @@ fn print_count(text: &mut Text, count: u32) -> Result<(), OutOfMemory>
     text.put(b"\n")
 }
 
-fn print_dart<L: Ledger>(
-    text: &mut Text,
+/// Writes the line of a dart at the end of the bytes. The answer is where it begins.
+fn write_line<L: Ledger>(
+    line: &mut [u8; LINE],
     arena: &Arena,
-    name: u32,
+    row: Row<'_>,
     steps: &mut Steps<L>,
-) -> Result<(), OutOfMemory>
-    requires lawful { IsLawful arena.now }
-    requires live { IsLiveName arena.now name }
-    ensures line { OnOk result (text.new ≡ text.old ++ line_of (dart_at arena.now name)) }
-    ensures most { steps.new ≤ steps.old + (arena.now.schema.dim + 3) }
-    ensures least { steps.old ≤ steps.new }
+) -> usize
+    requires names { length row.alphas.now ≤ 8 }
+    requires values { length row.values.now ≤ 8 }
+    requires live { All (λ (s : Slot). IsLiveSlot arena.now s.at) row.alphas.now }
+    ensures within { result ≤ length line.new }
+    ensures line { drop result line.new ≡ line_of (record {
+      name = row.entry.name;
+      alphas = map (λ (s : Slot). name_at arena.now s.at) row.entry.alphas.now;
+      values = row.entry.values.now;
+    }) }
+    ensures cost { steps.new ≡ steps.old + length row.entry.alphas.now }
 {
-    let slot = arena.slot_of(name, steps).unwrap();
-    let Row {
-        name,
-        alphas,
-        values,
-    } = arena.row(slot, steps);
-    let mut line = [0; LINE];
-    let start = write_names(&mut line, arena, name, alphas, steps);
-    put_from(text, &line, start)?;
-    print_values(text, values)?;
-    text.put(b"\n")
+    let feed = write_byte(line, b'\n', LINE);
+    let first = write_values(line, row.values, feed);
+    write_names(line, arena, row.name, row.alphas, first, steps)
 }
 
-/// Writes the name and the neighbours' names at the end of the bytes. The answer is where they begin.
+/// Writes the name and the neighbours' names, so that they end at `end`. The answer is where they
+/// begin.
 fn write_names<L: Ledger>(
     line: &mut [u8],
     arena: &Arena,
     name: u32,
     neighbours: &[Slot],
+    end: usize,
     steps: &mut Steps<L>,
 ) -> usize
-    requires room { 11 * (length neighbours.now + 1) ≤ length line.old }
+    requires room { 11 * (length neighbours.now + 1) ≤ end }
+    requires within { end ≤ length line.old }
     requires live { All (λ (s : Slot). IsLiveSlot arena.now s.at) neighbours.now }
-    ensures within { result ≤ length line.new }
-    ensures names { drop result line.new ≡ decimal name ++ flat_map (λ a. 32 ∷ decimal a) (map (λ (s : Slot). name_at arena.now s.at) neighbours.now) }
+    ensures before { result ≤ end }
+    ensures written { drop result line.new ≡ decimal name ++ (flat_map (λ a. 32 ∷ decimal a) (map (λ (s : Slot). name_at arena.now s.at) neighbours.now) ++ drop end line.old) }
     ensures cost { steps.new ≡ steps.old + length neighbours.now }
 {
-    let mut at = line.len();
+    let mut at = end;
     let mut left = neighbours.len();
     while left > 0 {
         left -= 1;
@@ -220,93 +229,87 @@ fn write_names<L: Ledger>(
     write_digits(u64::from(name), line, at)
 }
 
-/// Each value behind a blank.
-fn print_values(text: &mut Text, values: &[Value]) -> Result<(), OutOfMemory>
-    ensures { OnOk result (text.new ≡ text.old ++ flat_map (λ v. 32 ∷ value_text v) values.now) }
+/// Writes each value behind a blank, so that they end at `end`. The answer is where they begin.
+fn write_values(line: &mut [u8], values: &[Value], end: usize) -> usize
+    requires room { 65 * length values.now ≤ end }
+    requires within { end ≤ length line.old }
+    ensures few { end ≤ result + 65 * length values.now }
+    ensures before { result ≤ end }
+    ensures written { drop result line.new ≡ flat_map (λ v. 32 ∷ value_text v) values.now ++ drop end line.old }
 {
-    for value in values {
-        print_value(text, *value)?;
+    let mut at = end;
+    let mut left = values.len();
+    while left > 0 {
+        left -= 1;
+        let first = write_value(line, values[left], at);
+        at = write_byte(line, b' ', first);
     }
-    Ok(())
+    at
 }
 
-/// A value behind a blank.
-fn print_value(text: &mut Text, value: Value) -> Result<(), OutOfMemory>
-    ensures { OnOk result (text.new ≡ text.old ++ (32 ∷ value_text value)) }
+/// Writes a value, so that it ends at `end`. The answer is where it begins.
+fn write_value(line: &mut [u8], value: Value, end: usize) -> usize
+    requires room { 64 ≤ end }
+    requires within { end ≤ length line.old }
+    ensures few { end ≤ result + 64 }
+    ensures before { result ≤ end }
+    ensures written { drop result line.new ≡ value_text value ++ drop end line.old }
 {
     match value {
-        Value::Int(x) => print_integer(text, x),
-        Value::Bool(truth) => text.put(if truth { b" true" } else { b" false" }),
-        Value::Vec2(x, y) => print_pair(text, x, y),
-        Value::Vec3(x, y, z) => print_triple(text, x, y, z),
-        Value::Rgb(red, green, blue) => {
-            print_triple(text, i64::from(red), i64::from(green), i64::from(blue))
-        }
+        Value::Int(x) => write_signed(line, x, end),
+        Value::Bool(truth) => write_truth(line, truth, end),
+        Value::Vec2(x, y) => write_pair(line, x, y, end),
+        Value::Vec3(x, y, z) => write_triple(line, x, y, z, end),
+        Value::Rgb(red, green, blue) => write_triple(
+            line,
+            i64::from(red),
+            i64::from(green),
+            i64::from(blue),
+            end,
+        ),
     }
 }
 
-fn print_integer(text: &mut Text, x: i64) -> Result<(), OutOfMemory>
-    ensures { OnOk result (text.new ≡ text.old ++ (32 ∷ signed_decimal x)) }
-{
-    let mut bytes = [0; VALUE];
-    let first = write_signed(&mut bytes, x, VALUE);
-    let start = write_byte(&mut bytes, b' ', first);
-    put_from(text, &bytes, start)
-}
-
-fn print_pair(text: &mut Text, x: i64, y: i64) -> Result<(), OutOfMemory>
-    ensures { OnOk result (text.new ≡ text.old ++ (32 ∷ (codes "(" ++ (signed_decimal x ++ (codes " " ++ (signed_decimal y ++ codes ")")))))) }
-{
-    let mut bytes = [0; VALUE];
-    let end = write_byte(&mut bytes, b')', VALUE);
-    let second = write_signed(&mut bytes, y, end);
-    let first = write_behind(&mut bytes, x, second);
-    let start = write_bracket(&mut bytes, first);
-    put_from(text, &bytes, start)
-}
-
-fn print_triple(text: &mut Text, x: i64, y: i64, z: i64) -> Result<(), OutOfMemory>
-    ensures { OnOk result (text.new ≡ text.old ++ (32 ∷ (codes "(" ++ (signed_decimal x ++ (codes " " ++ (signed_decimal y ++ (codes " " ++ (signed_decimal z ++ codes ")")))))))) }
-{
-    let mut bytes = [0; VALUE];
-    let end = write_byte(&mut bytes, b')', VALUE);
-    let first = write_triple(&mut bytes, x, y, z, end);
-    let start = write_bracket(&mut bytes, first);
-    put_from(text, &bytes, start)
-}
-
-/// Appends the bytes from a place on.
-fn put_from(text: &mut Text, bytes: &[u8], start: usize) -> Result<(), OutOfMemory>
-    requires { start ≤ length bytes.now }
-    ensures { OnOk result (text.new ≡ text.old ++ drop start bytes.now) }
-{
-    text.put(&bytes[start..])
-}
-
-/// Writes a blank and the sign before a value's numbers, so that they end at `end`. The answer is where
-/// they begin.
-fn write_bracket(bytes: &mut [u8], end: usize) -> usize
-    requires room { 2 ≤ end }
+fn write_truth(bytes: &mut [u8], truth: bool, end: usize) -> usize
+    requires room { 5 ≤ end }
     requires within { end ≤ length bytes.old }
-    ensures before { result + 2 ≡ end }
-    ensures written { drop result bytes.new ≡ 32 ∷ (40 ∷ drop end bytes.old) }
-{
-    let sign = write_byte(bytes, b'(', end);
-    write_byte(bytes, b' ', sign)
-}
-
-/// Writes three numbers with blanks between them, so that they end at `end`. The answer is where they
-/// begin.
-fn write_triple(bytes: &mut [u8], x: i64, y: i64, z: i64, end: usize) -> usize
-    requires room { 62 ≤ end }
-    requires within { end ≤ length bytes.old }
-    ensures few { end ≤ result + 62 }
+    ensures few { end ≤ result + 5 }
     ensures before { result ≤ end }
-    ensures written { drop result bytes.new ≡ signed_decimal x ++ (32 ∷ (signed_decimal y ++ (32 ∷ (signed_decimal z ++ drop end bytes.old)))) }
+    ensures written { drop result bytes.new ≡ truth_text truth ++ drop end bytes.old }
 {
-    let third = write_signed(bytes, z, end);
+    if truth {
+        return write_word(bytes, b"true", end);
+    }
+    write_word(bytes, b"false", end)
+}
+
+/// Writes two numbers in brackets, so that they end at `end`. The answer is where they begin.
+fn write_pair(bytes: &mut [u8], x: i64, y: i64, end: usize) -> usize
+    requires room { 43 ≤ end }
+    requires within { end ≤ length bytes.old }
+    ensures few { end ≤ result + 43 }
+    ensures before { result ≤ end }
+    ensures written { drop result bytes.new ≡ 40 ∷ (signed_decimal x ++ (32 ∷ (signed_decimal y ++ (41 ∷ drop end bytes.old)))) }
+{
+    let last = write_byte(bytes, b')', end);
+    let second = write_signed(bytes, y, last);
+    let first = write_behind(bytes, x, second);
+    write_byte(bytes, b'(', first)
+}
+
+/// Writes three numbers in brackets, so that they end at `end`. The answer is where they begin.
+fn write_triple(bytes: &mut [u8], x: i64, y: i64, z: i64, end: usize) -> usize
+    requires room { 64 ≤ end }
+    requires within { end ≤ length bytes.old }
+    ensures few { end ≤ result + 64 }
+    ensures before { result ≤ end }
+    ensures written { drop result bytes.new ≡ 40 ∷ (signed_decimal x ++ (32 ∷ (signed_decimal y ++ (32 ∷ (signed_decimal z ++ (41 ∷ drop end bytes.old)))))) }
+{
+    let last = write_byte(bytes, b')', end);
+    let third = write_signed(bytes, z, last);
     let second = write_behind(bytes, y, third);
-    write_behind(bytes, x, second)
+    let first = write_behind(bytes, x, second);
+    write_byte(bytes, b'(', first)
 }
 
 /// Writes a number and a blank, so that they end at `end`. The answer is where they begin.
@@ -347,4 +350,16 @@ fn write_byte(bytes: &mut [u8], byte: u8, end: usize) -> usize
 {
     bytes[end - 1] = byte;
     end - 1
+}
+
+/// Writes the bytes of a word, so that they end at `end`. The answer is where they begin.
+fn write_word(bytes: &mut [u8], word: &[u8], end: usize) -> usize
+    requires room { length word.now ≤ end }
+    requires within { end ≤ length bytes.old }
+    ensures before { result + length word.now ≡ end }
+    ensures written { drop result bytes.new ≡ word.now ++ drop end bytes.old }
+{
+    let start = end - word.len();
+    bytes[start..end].copy_from_slice(word);
+    start
 }

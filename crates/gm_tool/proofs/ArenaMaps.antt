@@ -15,12 +15,12 @@ use Rattle.gm_cells.specs.Cells.{AreCounts}
 use Rattle.gm_cells.specs.CellsText.{counts_text, orientation_text}
 use Rattle.gm_cells.specs.Colours.{IsOrientation}
 use Rattle.gm_mapfile.proofs.Printable.{arena_printed}
-use Rattle.gm_mapfile.proofs.Printed.{nobody, dart_at-is, dart_at_place}
+use Rattle.gm_mapfile.proofs.Printed.{nobody, dart_at, dart_at-is, dart_at_place}
 use Rattle.gm_mapfile.proofs.SoundRows.{same_map}
 use Rattle.gm_mapfile.specs.MapReading.{IsWhole}
 use Rattle.gm_mapfile.specs.MapText.{MapText, canonical}
 use Rattle.gm_mapfile.specs.Printing.{renumbered}
-use Rattle.gm_mapfile.specs.Rows.{darts_of, listed_of, dart_at}
+use Rattle.gm_mapfile.specs.Rows.{darts_of, listed_of}
 use Rattle.gm_mapfile.specs.declared.version.MapVersion.{MapVersion}
 use Rattle.gm_mapfile.specs.declared.version.MapVersion.TheVariants as versions
 use Rattle.gm_model.specs.Maps.{Map, IsSound}

@@ -30,12 +30,11 @@ pub fn show<L: Ledger>(alloc: Global, bytes: Vec<u8>, steps: &mut Steps<L>) -> R
         Ok(read) => read,
         Err(fault) => return refused(alloc, bytes.as_slice(), fault),
     };
-    printed(alloc, bytes, &read.arena, read.version, steps)
+    printed(bytes, &read.arena, read.version, steps)
 }
 
 /// The canonical text of a map, which its owner lets go in one place, in the room of the bytes.
 fn printed<L: Ledger>(
-    alloc: Global,
     room: Vec<u8>,
     arena: &Arena,
     version: MapVersion,
@@ -46,7 +45,7 @@ fn printed<L: Ledger>(
     ensures most { steps.new ≤ steps.old + printing arena.now.schema.dim arena.now.count }
 {
     prove!(arena.count() <= MOST_DARTS);
-    let text = print_map_in_place_of(room, alloc, arena, version, steps)?;
+    let text = print_map_in_place_of(room, arena, version, steps)?;
     reply_within_limit(0, text)
 }
 

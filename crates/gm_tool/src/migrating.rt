@@ -47,7 +47,7 @@ fn prepared<L: Ledger>(
     ensures most { steps.new ≤ steps.old + printing arena.now.schema.dim arena.now.count }
 {
     prove!(arena.count() <= MOST_DARTS);
-    let map = print_map_in_place_of(room, alloc, arena, MapVersion::Two, steps)?;
+    let map = print_map_in_place_of(room, arena, MapVersion::Two, steps)?;
     if map.len() > MOST_BYTES {
         return Err(NoText::Refused(Refusal::SizeOutput));
     }

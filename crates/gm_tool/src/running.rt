@@ -159,7 +159,7 @@ fn printed<L: Ledger>(
     prove!(arena.count() <= MOST_DARTS);
     let text = print_report(alloc, book, script, report)?;
     let room = mem::replace(room, Vec::new(alloc));
-    let map = print_map_in_place_of(room, alloc, arena, version, steps)?;
+    let map = print_map_in_place_of(room, arena, version, steps)?;
     within_limit(status_of(report.lines.as_slice()), text, map)
 }
 

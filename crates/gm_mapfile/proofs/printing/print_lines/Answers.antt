@@ -1,52 +1,49 @@
-use Rattle.std.proofs.Common.{◌≡◌, ◌+◌, ◌<◌, ◌≤◌, ◌++◌, length, get_or, sym, ap, subst, ◌∙◌, arith}
-use Rattle.std.specs.List.{flat_map}
-use Rattle.gm_mapfile.specs.MapText.{line_of}
-use Rattle.gm_arena.specs.ArenaMap.{IsLiveName}
-use Rattle.gm_mapfile.specs.Rows.{darts_of, dart_at}
-use Rattle.gm_model.proofs.Exits.{never_ok}
-use Rattle.gm_mapfile.proofs.Printed.{whole_taken, dart_at_place, lines_with, keys_counted, darts_counted, steps_within, steps_with}
+use Rattle.std.proofs.Common.{◌++◌, ap, ◌∙◌, arith}
+use Rattle.gm_mapfile.proofs.Printed.{slots_long, values_few}
+use Rattle.gm_mapfile.proofs.PrintedLines.{all_printed, all_steps, name_low, one_more, more_most}
 use Rattle.gm_mapfile.proofs.printing.print_lines.Goals as goal
 
-pub print_dart-requires-clause-live : goal.print_dart-requires-clause-live
-print_dart-requires-clause-live g c =
-    let m = c.args.arena.now in
-    let lawful = c.requires.lawful in
-    let named = c.requires.names in
-    let at = dart_at_place m c.loop-name.name-index (omega (arith, c.loop-name-test.true, ap length named, keys_counted m lawful, darts_counted m lawful)) in
-    subst (λ names. IsLiveName m (get_or names c.loop-name.name-index 0)) (sym named) at.1
+pub write_line-start-requires-clause-names : goal.write_line-start-requires-clause-names
+write_line-start-requires-clause-names g c =
+    let long = slots_long c.args.arena.now c.row-row.result.name c.row-row.result.alphas.now c.row-row.result.values.now c.requires c.row-row.ensures.dart in
+    omega (arith, long, c.requires.dim)
 
-pub returns-in_err-print_dart-clause-most : goal.returns-in_err-print_dart-clause-most
-returns-in_err-print_dart-clause-most g c =
-    let m = c.args.arena.now in
-    let within : c.loop-name.name-index + 1 ≤ m.count = omega (arith, c.loop-name-test.true, ap length c.requires.names, keys_counted m c.requires.lawful) in
-    steps_within (m.schema.dim + 3) c.args.steps.now (c.loop-name.name-index + 1) m.count c.print_dart.new.steps within
-    (steps_with (m.schema.dim + 3) c.args.steps.now c.loop-name.steps c.print_dart.new.steps c.loop-name.name-index c.loop-name.invariant.most c.print_dart.ensures.most)
+pub write_line-start-requires-clause-values : goal.write_line-start-requires-clause-values
+write_line-start-requires-clause-values g c = values_few c.args.arena.now c.row-row.result.name c.row-row.result.alphas.now c.row-row.result.values.now c.requires c.row-row.ensures.dart
 
-pub loop-name-preserved : goal.loop-name-preserved
-loop-name-preserved g c =
+pub returns-in_err-put_from-clause-most : goal.returns-in_err-put_from-clause-most
+returns-in_err-put_from-clause-most g c =
     let m = c.args.arena.now in
-    let lawful = c.requires.lawful in
-    let before = c.loop-name.invariant in
-    let within : c.loop-name.name-index < length (darts_of m) = omega (arith, c.loop-name-test.true, ap length c.requires.names, keys_counted m lawful, darts_counted m lawful) in
-    record {
-      lines = lines_with m c.loop-name.name-index c.args.text.now c.loop-name.text c.print_dart.new.text within before.lines
-          (subst (λ names. c.print_dart.new.text ≡ c.loop-name.text ++ line_of (dart_at m (get_or names c.loop-name.name-index 0))) c.requires.names c.in_ok-print_dart.ensures.line);
-      most = steps_with (m.schema.dim + 3) c.args.steps.now c.loop-name.steps c.print_dart.new.steps c.loop-name.name-index before.most c.in_ok-print_dart.ensures.most;
-      least = omega (arith, before.least, c.in_ok-print_dart.ensures.least);
-    }
+    let long = slots_long m c.row-row.result.name c.row-row.result.alphas.now c.row-row.result.values.now c.requires c.row-row.ensures.dart in
+    omega (
+      arith,
+      more_most m c.requires c.loop-slot.from c.args.text.now c.loop-slot.text c.args.steps.now c.loop-slot.steps c.loop-slot.invariant c.in-Some.slot.at c.row-row.result.name c.in-Some.ensures.slot c.row-row.ensures.name
+          c.write_line-start.new.steps (omega (arith, long, c.in-Some.ensures.cost, c.row-row.ensures.cost, c.write_line-start.ensures.cost)),
+    )
+
+pub overflow_add-from : goal.overflow_add-from
+overflow_add-from g c =
+    let held = c.requires.dart c.row-row.result.name _ c.row-row.ensures.dart in
+    omega (arith, held.below_next, c.requires.few_names)
+
+pub loop-slot-smaller : goal.loop-slot-smaller
+loop-slot-smaller g c =
+    let m = c.args.arena.now in
+    let held = c.requires.dart c.row-row.result.name _ c.row-row.ensures.dart in
+    let low = name_low m c.requires c.loop-slot.from c.args.text.now c.loop-slot.text c.args.steps.now c.loop-slot.steps c.loop-slot.invariant c.in-Some.slot.at c.row-row.result.name c.in-Some.ensures.slot c.row-row.ensures.name in
+    omega (arith, low, held.below_next)
+
+pub loop-slot-preserved : goal.loop-slot-preserved
+loop-slot-preserved g c =
+    let m = c.args.arena.now in
+    let long = slots_long m c.row-row.result.name c.row-row.result.alphas.now c.row-row.result.values.now c.requires c.row-row.ensures.dart in
+    one_more m c.requires c.loop-slot.from c.args.text.now c.loop-slot.text c.args.steps.now c.loop-slot.steps c.loop-slot.invariant c.in-Some.slot.at c.row-row.result.name c.in-Some.ensures.slot c.row-row.ensures.name
+    _ c.put_from.new.text c.write_line-start.new.steps c.row-row.ensures.dart (c.in_ok-put_from.ensures ∙ ap (λ xs. c.loop-slot.text ++ xs) c.write_line-start.ensures.line) (omega (arith, long, c.in-Some.ensures.cost, c.row-row.ensures.cost, c.write_line-start.ensures.cost)) (omega (arith, c.in-Some.ensures.cost, c.row-row.ensures.cost, c.write_line-start.ensures.cost))
 
 pub returns-clause-lines : goal.returns-clause-lines
 returns-clause-lines g c =
-    let m = c.args.arena.now in
-    let lawful = c.requires.lawful in
-    let long : length (darts_of m) ≤ c.loop-name.name-index = omega (arith, c.loop-name-test.false, ap length c.requires.names, keys_counted m lawful, darts_counted m lawful) in
-    c.loop-name.invariant.lines ∙ ap (λ darts. c.args.text.now ++ flat_map line_of darts) (whole_taken (darts_of m) c.loop-name.name-index long)
+    all_printed c.args.arena.now c.requires c.loop-slot.from c.args.text.now c.loop-slot.text c.args.steps.now c.loop-slot.steps c.loop-slot.invariant c.in_default.ensures.slot
 
-pub returns-clause-most : goal.returns-clause-most
-returns-clause-most g c =
-    let m = c.args.arena.now in
-    let within : c.loop-name.name-index ≤ m.count = omega (arith, c.loop-name.auto.name-index-end, ap length c.requires.names, keys_counted m c.requires.lawful) in
-    steps_within (m.schema.dim + 3) c.args.steps.now c.loop-name.name-index m.count c.loop-name.steps within c.loop-name.invariant.most
-
-pub returns-in_err-print_dart-clause-lines : goal.returns-in_err-print_dart-clause-lines
-returns-in_err-print_dart-clause-lines g c = never_ok _ c.from_residual.result c.from_residual.ensures.0
+pub returns-clause-least : goal.returns-clause-least
+returns-clause-least g c =
+    omega (arith, all_steps c.args.arena.now c.requires c.loop-slot.from c.args.text.now c.loop-slot.text c.args.steps.now c.loop-slot.steps c.loop-slot.invariant c.in_default.ensures.slot, c.in_default.ensures.cost)

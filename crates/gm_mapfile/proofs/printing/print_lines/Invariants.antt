@@ -1,12 +1,9 @@
-use Rattle.std.proofs.Common.{◌≡◌, ◌+◌, ◌*◌, ◌≤◌, ◌++◌, take}
-use Rattle.std.specs.List.{flat_map}
-use Rattle.gm_mapfile.specs.MapText.{line_of}
-use Rattle.gm_mapfile.specs.Rows.{darts_of}
+use Rattle.std.proofs.Common.{◌-◌}
+use Rattle.gm_mapfile.proofs.PrintedLines.{ArePrinted}
 use Rattle.gm_mapfile.proofs.printing.print_lines.Given as goal
 
-abbrev pub invariant-loop-name : goal.invariant-loop-name
-invariant-loop-name g l = record {
-  lines : l.text ≡ l.fn.text ++ flat_map line_of (take l.name-index (darts_of l.arena));
-  most : l.steps ≤ l.fn.steps + (l.arena.schema.dim + 3) * l.name-index;
-  least : l.fn.steps ≤ l.steps;
-}
+abbrev pub invariant-loop-slot : goal.invariant-loop-slot
+invariant-loop-slot g l = ArePrinted l.arena l.from l.fn.text l.text l.fn.steps l.steps
+
+abbrev pub decreases-loop-slot : goal.decreases-loop-slot
+decreases-loop-slot g l = l.arena.next - l.from

@@ -1,27 +1,17 @@
-use Rattle.std.proofs.Common.{◌∙◌, arith}
 use Rattle.gm_model.proofs.Exits.{unless_ok}
 use Rattle.gm_mapfile.proofs.Printed.{printed_within}
 use Rattle.gm_mapfile.proofs.printing.print_map_in_place_of.Goals as goal
 
-pub room_for-requires : goal.room_for-requires
-room_for-requires g c = c.deref.ensures.value ∙ c.in_ok-names.ensures.names
-
 pub returns-clause-most : goal.returns-clause-most
 returns-clause-most g c =
     let m = c.args.arena.now in
-    printed_within m.schema.dim m.count c.args.steps.now c.print_text.new.steps (omega (arith, c.print_text.ensures.most, c.names.ensures.cost))
-
-pub returns-in_err-names-clause-text : goal.returns-in_err-names-clause-text
-returns-in_err-names-clause-text g c = unless_ok _ c.from_residual.result c.from_residual.ensures.0
-
-pub returns-in_err-names-clause-least : goal.returns-in_err-names-clause-least
-returns-in_err-names-clause-least g c = unless_ok _ c.from_residual.result c.from_residual.ensures.0
+    printed_within m.schema.dim m.count c.args.steps.now c.print_text.new.steps c.print_text.ensures.most
 
 pub returns-in_err-text-clause-text : goal.returns-in_err-text-clause-text
-returns-in_err-text-clause-text g c = unless_ok _ c.from_residual-in_err-text.result c.from_residual-in_err-text.ensures.0
+returns-in_err-text-clause-text g c = unless_ok _ c.from_residual.result c.from_residual.ensures.0
 
 pub returns-in_err-text-clause-least : goal.returns-in_err-text-clause-least
-returns-in_err-text-clause-least g c = unless_ok _ c.from_residual-in_err-text.result c.from_residual-in_err-text.ensures.0
+returns-in_err-text-clause-least g c = unless_ok _ c.from_residual.result c.from_residual.ensures.0
 
 pub returns-in_err-print_text-clause-text : goal.returns-in_err-print_text-clause-text
 returns-in_err-print_text-clause-text g c = unless_ok _ c.from_residual-in_err-print_text.result c.from_residual-in_err-print_text.ensures.0

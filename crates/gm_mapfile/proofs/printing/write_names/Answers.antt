@@ -23,9 +23,10 @@ loop-left-preserved g c =
     let start = c.write_digits-at.ensures.start in
     record {
       within = omega (arith, before.within, start, c.write_digits-at.auto.buf, length-set c.write_digits-at.new.buf (c.write_digits-at.result - 1) 32);
+      before = omega (arith, before.before, start);
       room = omega (arith, short, before.room, start, c.loop-left-test.true);
       few = omega (arith, before.few);
-      names = name_before c.args.arena.now c.args.neighbours.now c.loop-left.left c.name_of-neighbour.result c.loop-left.at c.write_digits-at.result _ c.loop-left.line c.write_digits-at.new.buf c.loop-left-test.true before.few c.name_of-neighbour.ensures.name
+      names = name_before c.args.arena.now c.args.neighbours.now c.loop-left.left c.name_of-neighbour.result c.loop-left.at c.write_digits-at.result _ c.loop-left.line c.write_digits-at.new.buf _ c.loop-left-test.true before.few c.name_of-neighbour.ensures.name
           (omega (arith, short, before.room, start)) (omega (arith, before.within, start, c.write_digits-at.auto.buf)) (c.write_digits-at.ensures.written ∙ ap (λ n. decimal n ++ drop c.loop-left.at c.loop-left.line) c.from.ensures) before.names;
       cost = omega (arith, before.cost, c.name_of-neighbour.ensures.cost, c.loop-left-test.true);
     }
@@ -35,3 +36,6 @@ write_digits-requires g c =
     let before = c.loop-left.invariant in
     let short = short_name c.from-2.result (omega (arith, c.from-2.ensures, c.ranges.name.fits)) in
     (omega (arith, short, before.room), before.within)
+
+pub returns-clause-before : goal.returns-clause-before
+returns-clause-before g c = omega (arith, c.loop-left.invariant.before, c.write_digits.ensures.start)
