@@ -1,13 +1,14 @@
 -- What stands next before a lexer, by the token that it answers.
-use Rattle.std.proofs.Common.{◌≡◌, ◌≢◌, ℕ, ◌-◌, ◌^◌, ◌≤◌, min, true, false, List, [], ◌∷◌, Option, Some, None, refl, ap, ◌∙◌, arith}
+use Rattle.std.proofs.Common.{◌≡◌, ◌≢◌, ℕ, ◌-◌, ◌^◌, ◌≤◌, min, true, false, List, [], ◌∷◌, map, Option, Some, None, refl, sym, ap, ap₂, ◌∙◌, arith}
 use Rattle.std.specs.Prelude.{MatchOption}
 use Rattle.std.specs.Option.{unwrap_or}
 use Rattle.gm_model.specs.declared.token.Token.{Token}
 use Rattle.gm_model.specs.declared.token.TokenKind.{TokenKind}
 use Rattle.gm_model.specs.declared.token.TokenKind.TheVariants as tokens
-use Rattle.gm_model.specs.Symbols.{Symbol, Word, Numeral, Sign, Mark, symbol_of_kind, value_of}
+use Rattle.gm_model.specs.Symbols.{Symbol, Word, Numeral, Sign, Mark, mark_of, symbol_of_kind, value_of}
 use Rattle.gm_model.specs.Tokens.{bytes_of}
 use Rattle.gm_text.specs.Cursor.{Cursor}
+use Rattle.gm_text.specs.Lexing.{rest_of, IsSignRead}
 use Rattle.gm_text.specs.SchemaAnswers.{marks_left, symbol_at, mark_at, IsNext, IsNoToken, AtStray, AtEnd, IsNoneNext}
 use Rattle.gm_text.specs.declared.schema_fault.SchemaFault.{SchemaFault}
 use Rattle.gm_text.specs.declared.schema_fault.SchemaFault.TheVariants as faults
@@ -81,6 +82,13 @@ module _ (old new : Cursor) (token : Token) (next : IsNext old token new) where
 
     pub number_stands : IsNumberNext old value token.start new
     number_stands = (value_of (bytes_of new.text token), least, stands (Numeral (value_of (bytes_of new.text token))) (ap (λ k. symbol_of_kind k (bytes_of new.text token)) kind))
+
+-- ---- a sign that was read by its byte
+
+pub sign_next : (sign : ℕ) (old new : Cursor) (is : IsSignRead sign old new) → IsMarkNext (Sign (sign ∷ [])) is.place old new
+sign_next sign old new is =
+    ap (map (mark_of old.text)) is.answer
+    ∙ ap₂ (λ (bytes text : List ℕ). let mark : Mark = record { symbol = Sign bytes; place = is.place } in mark ∷ map (mark_of text) (rest_of new)) is.sign_is (sym is.text)
 
 -- ---- with a minus before it
 

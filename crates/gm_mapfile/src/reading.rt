@@ -135,6 +135,8 @@ fn read_name(lexer: &mut Lexer<'_>) -> Result<Name, SchemaFault>
 }
 
 /// So many names, behind those before them.
+// Inlined, as `read_number` is.
+#[inline(always)]
 fn read_names(lexer: &mut Lexer<'_>, count: usize, names: &mut Vec<Name>) -> Result<(), SchemaFault>
     ensures reads { OnOk result (ReadsNames count lexer.old lexer.new names.old.items names.new.items) }
     ensures stops { IfErr result (Misses (replicate count (TheNumber DartName)) lexer.old) }
@@ -148,6 +150,8 @@ fn read_names(lexer: &mut Lexer<'_>, count: usize, names: &mut Vec<Name>) -> Res
 /// The lines of so many darts. Where the header names more than the text can hold, no more room is
 /// taken than for what it holds: each number and each value has two bytes at least, with the blank
 /// behind it, but the last.
+// Apart, since within all that reads a map its loops would have no register left.
+#[inline(never)]
 fn read_darts(
     alloc: Global,
     lexer: &mut Lexer<'_>,

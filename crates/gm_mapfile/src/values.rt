@@ -22,25 +22,23 @@ struct Signed {
     place: usize,
 }
 
-/// Most are small, without a minus.
-// Inlined, as `read_number` is.
-#[inline(always)]
+/// A number with a minus before it or without. Most that come here have one.
 fn read_signed(lexer: &mut Lexer<'_>) -> Result<Signed, SchemaFault>
     ensures next { IfOk result (λ found. IsSignedNext lexer.old found.minus found.size found.place lexer.new) }
     ensures none { IfErr result (IsNoSignedNext lexer.old) }
 {
-    match small_numeral(lexer) {
-        Some(Numeral { value, place }) => Ok(Signed {
-            minus: false,
+    if lexer.small_sign(b'-') {
+        let Numeral { value, place } = read_number(lexer)?;
+        return Ok(Signed {
+            minus: true,
             size: value,
             place,
-        }),
-        None => read_signed_numeral(lexer),
+        });
     }
+    read_signed_numeral(lexer)
 }
 
 /// A number by its tokens.
-#[cold]
 fn read_signed_numeral(lexer: &mut Lexer<'_>) -> Result<Signed, SchemaFault>
     ensures next { IfOk result (λ found. IsSignedNext lexer.old found.minus found.size found.place lexer.new) }
     ensures none { IfErr result (IsNoSignedNext lexer.old) }
@@ -76,10 +74,27 @@ fn signed_value(minus: bool, size: u64) -> Option<i64>
     }
 }
 
-/// A component of a value, of a colour or not.
+/// A component of a value, of a colour or not. Most are small, without a minus.
 // Inlined, as `read_number` is.
 #[inline(always)]
 fn read_component(lexer: &mut Lexer<'_>, colour: bool) -> Result<i64, SchemaFault>
+    ensures takes { IfOk result (λ n. Takes (Component colour ∷ []) (n ∷ []) lexer.old lexer.new) }
+    ensures channel { IfOk result (λ n. IsTrue colour → IsTrue (is_channel n)) }
+    ensures misses { IfErr result (Misses (Component colour ∷ []) lexer.old) }
+{
+    let Some(Numeral { value, place }) = small_numeral(lexer) else {
+        return read_other_component(lexer, colour);
+    };
+    if colour && value > 255 {
+        let what = LimitKind::Channel;
+        return Err(SchemaFault::Limit { what, place });
+    }
+    Ok(value as i64)
+}
+
+/// A component that isn't small, or has a minus before it.
+#[cold]
+fn read_other_component(lexer: &mut Lexer<'_>, colour: bool) -> Result<i64, SchemaFault>
     ensures takes { IfOk result (λ n. Takes (Component colour ∷ []) (n ∷ []) lexer.old lexer.new) }
     ensures channel { IfOk result (λ n. IsTrue colour → IsTrue (is_channel n)) }
     ensures misses { IfErr result (Misses (Component colour ∷ []) lexer.old) }
@@ -97,6 +112,8 @@ fn read_component(lexer: &mut Lexer<'_>, colour: bool) -> Result<i64, SchemaFaul
 }
 
 /// A sign around the components of a value.
+// Inlined, as `read_number` is.
+#[inline(always)]
 fn read_bracket(lexer: &mut Lexer<'_>, sign: u8) -> Result<(), SchemaFault>
     requires sign { IsTrue (tokens.is_sign sign) }
     requires alone { (c : ℕ) → tokens.is_two_byte_sign sign c ≡ false }
@@ -107,6 +124,8 @@ fn read_bracket(lexer: &mut Lexer<'_>, sign: u8) -> Result<(), SchemaFault>
 }
 
 /// Three components behind the sign before them, with the sign behind them.
+// Inlined, as `read_number` is, so that vectors and colours are each read without a test which it is.
+#[inline(always)]
 fn read_triple(lexer: &mut Lexer<'_>, colour: bool) -> Result<(i64, i64, i64), SchemaFault>
     ensures takes { IfOk result (λ xs. Takes (TheSign (codes "(") ∷ Component colour ∷ Component colour ∷ Component colour ∷ TheSign (codes ")") ∷ []) (xs.0 ∷ xs.1 ∷ xs.2 ∷ []) lexer.old lexer.new) }
     ensures channels { IfOk result (λ xs. IsTrue colour → IsTrue (is_channel xs.0) × IsTrue (is_channel xs.1) × IsTrue (is_channel xs.2)) }
@@ -164,6 +183,8 @@ fn read_value(lexer: &mut Lexer<'_>, kind: Kind) -> Result<Value, SchemaFault>
 }
 
 /// The words of a value of each embedding, behind those before them.
+// Inlined, as `read_number` is.
+#[inline(always)]
 pub(crate) fn read_values(
     lexer: &mut Lexer<'_>,
     embeds: &[Embed],

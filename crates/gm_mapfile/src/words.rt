@@ -1,5 +1,5 @@
 //! The words and the numbers of a map's text, one token each.
-ghost use Rattle.std.specs.Prelude.{◌≡◌, ℕ, ◌-◌, ◌^◌, [], ◌∷◌, false, min, IsTrue, IfOk, IfErr, IfSome, IfNone};
+ghost use Rattle.std.specs.Prelude.{◌≡◌, ℕ, ◌-◌, ◌<◌, ◌^◌, [], ◌∷◌, false, min, IsTrue, IfOk, IfErr, IfSome, IfNone};
 ghost use Rattle.gm_model.specs.Symbols.{Word, Sign};
 ghost use Rattle.gm_model.specs.Tokens as tokens;
 ghost use Rattle.gm_text.specs.SchemaAnswers.{IsNext, IsNoneNext};
@@ -41,6 +41,8 @@ pub(crate) fn read_word(lexer: &mut Lexer<'_>, word: &[u8]) -> Result<(), Schema
 }
 
 /// A sign of the format that has one byte, which mostly stands next or behind one blank.
+// Inlined, as `read_number` is.
+#[inline(always)]
 pub(crate) fn read_sign(lexer: &mut Lexer<'_>, sign: u8) -> Result<(), SchemaFault>
     requires sign { IsTrue (tokens.is_sign sign) }
     requires alone { (c : ℕ) → tokens.is_two_byte_sign sign c ≡ false }
@@ -54,6 +56,7 @@ pub(crate) fn read_sign(lexer: &mut Lexer<'_>, sign: u8) -> Result<(), SchemaFau
 }
 
 /// A sign of the format by its token.
+#[cold]
 fn read_sign_token(lexer: &mut Lexer<'_>, sign: &[u8]) -> Result<(), SchemaFault>
     ensures next { IfOk result (λ _. StandsNext (Sign sign.now) lexer.old lexer.new) }
     ensures other { IfErr result (IsOtherNext (Sign sign.now) lexer.old) }
@@ -79,8 +82,11 @@ pub(crate) fn read_number(lexer: &mut Lexer<'_>) -> Result<Numeral, SchemaFault>
 }
 
 /// A number that stands next and is small, or else the lexer stays.
+// Inlined, as `read_number` is.
+#[inline(always)]
 pub(crate) fn small_numeral(lexer: &mut Lexer<'_>) -> Option<Numeral>
     ensures next { IfSome result (λ found. IsNumberNext lexer.old found.value found.place lexer.new) }
+    ensures small { IfSome result (λ found. found.value < 2 ^ 32) }
     ensures none { IfNone result (lexer.new ≡ lexer.old) }
 {
     let SmallNumber { value, place } = lexer.small_number()?;

@@ -1,5 +1,5 @@
 -- The value of digits: it grows with each digit, and it is the number of a decimal text.
-use Rattle.std.proofs.Common.{◌≡◌, ℕ, suc, ◌+◌, ◌-◌, ◌*◌, ◌^◌, ◌<◌, ◌≤◌, true, List, [], ◌∷◌, length, drop, get_or, refl, sym, ap, ◌∙◌, arith}
+use Rattle.std.proofs.Common.{◌≡◌, ℕ, suc, ◌+◌, ◌-◌, ◌*◌, ◌^◌, ◌<◌, ◌≤◌, Bool, true, false, List, [], ◌∷◌, length, drop, get_or, refl, sym, ap, ◌∙◌, arith}
 use Rattle.std.specs.List.{list_all, take_while}
 use Rattle.std.proofs.Math.Nat.{mul_assoc, pow-succ', pow-le-pow_right}
 use Rattle.std.proofs.lemmas.Bool.{and_parts, leb-true}
@@ -16,6 +16,14 @@ pub record IsDigit (b : ℕ) : Type 0 where
 
 pub digit_bounds : (b : ℕ) → is_digit b ≡ true → IsDigit b
 digit_bounds b h = let bounds = and_parts _ _ h in record { low = leb-true 48 b bounds.0; high = leb-true b 57 bounds.1 }
+
+-- what isn't told from a digit by its value is one
+pub is_digit_below : (b value : ℕ) → (is_digit b ≡ false → 9 < value) → value ≤ 9 → is_digit b ≡ true
+is_digit_below b value other small = go (is_digit b) refl
+  where
+    go : (r : Bool) → is_digit b ≡ r → is_digit b ≡ true
+    go true e = e
+    go false e = absurd (omega (arith, other e, small))
 
 -- what was read before is within the value
 pub value_after-grows : (n : ℕ) (digits : List ℕ) → n ≤ value_after n digits

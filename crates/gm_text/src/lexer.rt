@@ -8,7 +8,7 @@ ghost use Rattle.gm_text.specs.Lexing.{rest_of, items_read, after, stand_of, IsI
 
 use crate::bytes::is_digit;
 use crate::fault::LexFault;
-use crate::scan::{Small, behind_blank, gap_end, number_near, small_at, token_at};
+use crate::scan::{Small, behind_blank, gap_end, number_near, past_blank, small_at, token_at};
 use gm_model::Token;
 use std::marker::Model;
 
@@ -107,28 +107,33 @@ impl<'a> Lexer<'a> {
         }
     }
 
-    /// The number that stands next, which the lexer goes past, where it is below 100,000,000 and
-    /// nothing stands before it but one blank at most. `None` says nothing of what stands next, and
-    /// the lexer is then as before.
+    /// The number that stands next, which the lexer goes past, where it has eight digits at most,
+    /// nothing stands before it but one blank at most, and the text goes on for ten bytes at least.
+    /// `None` says nothing of what stands next, and the lexer is then as before.
+    // Inlined, as `small_at` is.
+    #[inline(always)]
     pub fn small_number(&mut self) -> Option<SmallNumber>
         ensures number { IfSome result (λ found. IsNumberRead found.value found.place self.old self.new) }
         ensures none { IfNone result (self.new ≡ self.old) }
     {
-        let start = behind_blank(self.source, self.at);
-        if start < self.source.len() && is_digit(self.source[start]) {
-            let Small { value, end } = small_at(self.source, start)?;
-            self.at = end;
-            return Some(SmallNumber {
-                value,
-                place: start,
-            });
+        // One test of the text's end serves the blank, each digit and what stands behind them.
+        if self.source.len() - self.at < 10 {
+            return None;
         }
-        None
+        let place = past_blank(self.source, self.at);
+        if !is_digit(self.source[place]) {
+            return None;
+        }
+        let Small { value, end } = small_at(self.source, place)?;
+        self.at = end;
+        Some(SmallNumber { value, place })
     }
 
     /// Whether this sign of one byte stands next, and nothing before it but one blank at most. The
     /// lexer then goes past it. `false` says nothing of what stands next, and the lexer is then as
     /// before.
+    // Inlined, as `small_at` is.
+    #[inline(always)]
     pub fn small_sign(&mut self, sign: u8) -> bool
         requires sign { IsTrue (tokens.is_sign sign) }
         requires alone { (c : ℕ) → tokens.is_two_byte_sign sign c ≡ false }

@@ -4,7 +4,9 @@ ghost use Rattle.gm_model.specs.Symbols.{value_of};
 ghost use Rattle.gm_model.specs.Tokens as tokens;
 ghost use Rattle.gm_text.specs.Lexing.{IsGap, IsTokenAt, front_at};
 
-use crate::bytes::{is_blank, is_digit, is_letter, is_name_byte, is_sign, is_two_byte_sign};
+use crate::bytes::{
+    digit_value, is_blank, is_digit, is_letter, is_name_byte, is_sign, is_two_byte_sign,
+};
 use gm_model::{Token, TokenKind};
 
 /// The first place from `from` on where neither a blank nor a comment stands.
@@ -55,27 +57,35 @@ pub struct Small {
     pub end: usize,
 }
 
-/// The number whose first digit stands at `start`, where it is below 100,000,000.
+/// The number whose first digit stands at `start`, where it has eight digits at most.
+// Inlined up to who reads a number, it takes some 20 instructions less: nothing goes by memory.
+#[inline(always)]
 pub fn small_at(text: &[u8], start: usize) -> Option<Small>
-    requires inside { start < length text.now }
+    requires inside { start + 8 < length text.now }
     requires digit { IsTrue (tokens.is_digit (slice_index text.now start)) }
     ensures end { IfSome result (λ small. small.end ≡ start + 1 + length (take_while tokens.is_digit (drop (start + 1) text.now))) }
     ensures within { IfSome result (λ small. small.end ≤ length text.now) }
     ensures value { IfSome result (λ small. small.value ≡ value_of (take_while tokens.is_digit (drop start text.now))) }
 {
     let mut value = u32::from(text[start] - b'0');
-    let mut at = start + 1;
-    while at < text.len() && is_digit(text[at]) {
-        if value > 9_999_999 {
-            return None;
+    for count in 1..8 {
+        let end = start + count;
+        let digit = digit_value(text[end]);
+        if digit > 9 {
+            return Some(Small { value, end });
         }
-        value = value * 10 + u32::from(text[at] - b'0');
-        at += 1;
+        value = value * 10 + digit;
     }
-    Some(Small { value, end: at })
+    let end = start + 8;
+    if is_digit(text[end]) {
+        return None;
+    }
+    Some(Small { value, end })
 }
 
 /// The place itself, or the next one where a blank stands at it.
+// Inlined, as `small_at` is.
+#[inline(always)]
 pub fn behind_blank(text: &[u8], from: usize) -> usize
     requires { from ≤ length text.now }
     ensures behind { from ≤ result }
@@ -83,7 +93,23 @@ pub fn behind_blank(text: &[u8], from: usize) -> usize
     ensures same { tokens.items_at text.now from ≡ tokens.items_at text.now result }
     ensures gap { IsGap text.now from result }
 {
-    if from < text.len() && is_blank(text[from]) {
+    if from < text.len() {
+        return past_blank(text, from);
+    }
+    from
+}
+
+/// The same where the text goes on.
+// Inlined, as `small_at` is.
+#[inline(always)]
+pub fn past_blank(text: &[u8], from: usize) -> usize
+    requires { from < length text.now }
+    ensures behind { from ≤ result }
+    ensures near { result ≤ from + 1 }
+    ensures same { tokens.items_at text.now from ≡ tokens.items_at text.now result }
+    ensures gap { IsGap text.now from result }
+{
+    if is_blank(text[from]) {
         return from + 1;
     }
     from
