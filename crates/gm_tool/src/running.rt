@@ -142,25 +142,29 @@ fn printed<L: Ledger>(
     alloc: Global,
     room: &mut Vec<u8>,
     book: &Book,
-    script: &Script,
-    report: &Report,
+    script: Script,
+    report: Report,
     arena: &Arena,
     version: MapVersion,
     steps: &mut Steps<L>,
 ) -> Result<Made, Stop>
-    requires printable { CanBePrinted book.now.schema (map rule_of book.now.rules) script.now.lines report.now.lines }
+    requires printable { CanBePrinted book.now.schema (map rule_of book.now.rules) script.lines report.lines }
     ensures lawful { IsLawful arena.now }
-    ensures texts { (told : List runs.Outcome) → Tells report.now.lines told → IsPrinted (run_status told)
-        (report_text book.now.schema (map rule_of book.now.rules) script.now.lines told report.now.darts report.now.next)
+    ensures texts { (told : List runs.Outcome) → Tells report.lines told → IsPrinted (run_status told)
+        (report_text book.now.schema (map rule_of book.now.rules) script.lines told report.darts report.next)
         (canonical version (listed_of arena.now)) result }
     ensures most { steps.new ≤ steps.old + printing arena.now.schema.dim arena.now.count }
     ensures least { IfOk result (λ _. steps.old + arena.now.count ≤ steps.new) }
 {
     prove!(arena.count() <= MOST_DARTS);
-    let text = print_report(alloc, book, script, report)?;
+    let text = print_report(alloc, book, &script, &report)?;
+    let status = status_of(report.lines.as_slice());
+    // The map's text, which is the longest, takes its room when theirs is free again.
+    drop(script);
+    drop(report);
     let room = mem::replace(room, Vec::new(alloc));
     let map = print_map_in_place_of(room, arena, version, steps)?;
-    within_limit(status_of(report.lines.as_slice()), text, map)
+    within_limit(status, text, map)
 }
 
 /// Applies the lines to the map, and makes the report and the text of the map that they leave.
@@ -169,21 +173,21 @@ fn applied<L: Ledger>(
     room: &mut Vec<u8>,
     plans: &[Plan<'_>],
     book: &Book,
-    script: &Script,
+    script: Script,
     arena: &mut Arena,
     version: MapVersion,
     steps: &mut Steps<L>,
 ) -> Result<Made, Stop>
-    requires { CanRun arena.old book.now script.now plans.now }
-    ensures run { IsRunOf (inputs_of version arena.old book.now script.now) result }
+    requires { CanRun arena.old book.now script plans.now }
+    ensures run { IsRunOf (inputs_of version arena.old book.now script) result }
     ensures map { IfOk result (λ made. IsMapBytes made.map.items) }
     ensures lawful { IsLawful arena.old }
-    ensures most { RunsWithin (inputs_of version arena.old book.now script.now) steps.old steps.new }
-    ensures least { IfOk result (λ _. RunsAtLeast (inputs_of version arena.old book.now script.now) steps.old steps.new) }
+    ensures most { RunsWithin (inputs_of version arena.old book.now script) steps.old steps.new }
+    ensures least { IfOk result (λ _. RunsAtLeast (inputs_of version arena.old book.now script) steps.old steps.new) }
 {
     prove!(arena.count() <= MOST_DARTS);
-    let report = gm_run::run(alloc, plans, script, arena, steps)?;
-    printed(alloc, room, book, script, &report, arena, version, steps)
+    let report = gm_run::run(alloc, plans, &script, arena, steps)?;
+    printed(alloc, room, book, script, report, arena, version, steps)
 }
 
 /// The map and the book are of one dimension, with the same embeddings in the same order.
@@ -279,7 +283,7 @@ fn prepared_behind<S: Store, L: Ledger>(
         room,
         plans.as_slice(),
         book,
-        &script,
+        script,
         &mut read.arena,
         read.version,
         steps,

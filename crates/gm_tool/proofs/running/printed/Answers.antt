@@ -17,4 +17,4 @@ returns-in_err-map-clause-texts g c told tells =
 pub returns-clause-texts : goal.returns-clause-texts
 returns-clause-texts g c told tells =
     fitted_printed _ _ _ c.within_limit.result
-    (rw (c.status_of.ensures told (subst (λ lines. Tells lines told) (sym c.as_slice.ensures) tells), c.in_ok-text.ensures told tells, c.in_ok-map.ensures.text) at c.within_limit.ensures)
+    (rw (c.status_of-status.ensures told (subst (λ lines. Tells lines told) (sym c.as_slice.ensures) tells), c.in_ok-text.ensures told tells, c.in_ok-map.ensures.text) at c.within_limit.ensures)
