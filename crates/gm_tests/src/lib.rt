@@ -1,17 +1,32 @@
-//! Tests of texts and files: their parts, their readers and printers, and what holds and takes them.
+//! Tests of calls of the libraries below the commands, and worked examples of the theorem. Rules and maps are
+//! made from rows.
 #![tactic(auto)]
 
 #[cfg(test)]
-mod book;
+mod applying;
+#[cfg(test)]
+mod arena;
+#[cfg(test)]
+mod examples;
 #[cfg(test)]
 mod expect;
 #[cfg(test)]
 mod host;
 #[cfg(test)]
-mod mapfile;
+mod maps;
+#[cfg(test)]
+mod matching;
 #[cfg(test)]
 mod model;
 #[cfg(test)]
-mod script;
+mod pending;
+#[cfg(test)]
+mod planning;
+#[cfg(test)]
+mod rules;
+#[cfg(test)]
+mod schemas;
 #[cfg(test)]
 mod text;
+#[cfg(test)]
+mod walks;

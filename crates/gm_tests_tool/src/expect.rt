@@ -37,33 +37,19 @@ fn run_line(
 /// How a line ends: its status, and the text that it puts.
 pub(crate) type End<'a> = (u8, &'a str);
 
-/// The line ends so over the store. A message shows what it is about.
+/// The line ends so over the store and the sink. A message shows the line.
 pub(crate) fn expect_end(
-    rt: &impl Abort,
-    host: &HostRuntime,
-    line: &str,
-    store: &mut MemStore,
-    end: &End,
-    about: &str,
-) -> Result<(), Fail> {
-    let mut out = MemSink::new(host.alloc());
-    expect_end_into(rt, host, line, store, &mut out, end, about)
-}
-
-/// The line ends so over the store and the sink.
-pub(crate) fn expect_end_into(
     rt: &impl Abort,
     host: &HostRuntime,
     line: &str,
     store: &mut MemStore,
     out: &mut MemSink,
     end: &End,
-    about: &str,
 ) -> Result<(), Fail> {
     let (status, put) = *end;
     let ended = run_line(host, line, store, out)?;
-    expect_status(rt, ended, status, about);
-    expect_put(rt, out, put, about);
+    expect_status(rt, ended, status, line);
+    expect_put(rt, out, put, line);
     Ok(())
 }
 
@@ -85,54 +71,4 @@ pub(crate) fn expect_held(
 ) {
     let held = text.map(|text| text.as_bytes());
     assert_eq!(rt; store.bytes(name), held, "{about}");
-}
-
-/// A text, and the status and the text put of a command on it.
-#[derive(Drop)]
-pub(crate) struct Case<'a> {
-    pub(crate) text: &'a str,
-    pub(crate) status: u8,
-    pub(crate) put: &'a str,
-}
-
-/// The line is run over a store that holds the text as MAP and as BOOK.
-pub(crate) fn expect(
-    rt: &impl Abort,
-    host: &HostRuntime,
-    line: &str,
-    case: &Case,
-) -> Result<(), Fail> {
-    let mut store = MemStore::new(host.alloc());
-    expect_over(rt, host, &mut store, line, case)
-}
-
-/// The line is run over the empty store, into which the text is put as MAP and as BOOK.
-fn expect_over(
-    rt: &impl Abort,
-    host: &HostRuntime,
-    store: &mut MemStore,
-    line: &str,
-    case: &Case,
-) -> Result<(), Fail> {
-    store.hold("MAP", case.text.as_bytes())?;
-    store.hold("BOOK", case.text.as_bytes())?;
-    expect_end(rt, host, line, store, &(case.status, case.put), case.text)?;
-    expect_held(rt, store, "MAP", Some(case.text), case.text);
-    expect_held(rt, store, "BOOK", Some(case.text), case.text);
-    Ok(())
-}
-
-/// Each line is run on each case.
-pub(crate) fn expect_each(
-    rt: &impl Abort,
-    host: &HostRuntime,
-    lines: &[&str],
-    cases: &[Case],
-) -> Result<(), Fail> {
-    for line in lines {
-        for case in cases {
-            expect(rt, host, line, case)?;
-        }
-    }
-    Ok(())
 }

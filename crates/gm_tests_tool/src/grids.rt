@@ -1,20 +1,10 @@
 //! Grids, for which nothing is loaded and nothing saved.
 
-use crate::commands::USAGE;
-use crate::expect::expect_each;
 use crate::runs::{Failure, Trial, try_each};
 use std::test::Fail;
 
 /// A load or a save that would fail shows nothing, since there is none.
-static GRIDS: [Trial; 4] = [
-    Trial {
-        line: "grid 1",
-        failure: Failure::Nothing,
-        status: 0,
-        put: "grid 1 applied 1 darts 24 next 24 cells 5 8 4\n",
-        file: "OUT",
-        holds: None,
-    },
+static GRIDS: [Trial; 3] = [
     Trial {
         line: "grid 2",
         failure: Failure::LoadAndPut(0, 4),
@@ -44,21 +34,4 @@ static GRIDS: [Trial; 4] = [
 #[test]
 fn grids_triangulated(rt: HostRuntime) -> Result<(), Fail> {
     try_each(&rt, &rt, &GRIDS)
-}
-
-static NO_GRIDS: [&str; 9] = [
-    "grid",
-    "grid 0",
-    "grid 01",
-    "grid +1",
-    "grid 1x",
-    "grid 101",
-    "grid 1000",
-    "grid 1 2",
-    "Grid 1",
-];
-
-#[test]
-fn words_that_are_no_grid(rt: HostRuntime) -> Result<(), Fail> {
-    expect_each(&rt, &rt, &NO_GRIDS, &USAGE)
 }

@@ -1,4 +1,4 @@
-//! Tests of the program's commands, over a store and a sink in memory.
+//! Tests of the program's commands where a store or a sink fails, and of what no command shows.
 #![tactic(auto)]
 
 #[cfg(test)]
@@ -8,8 +8,8 @@ mod expect;
 #[cfg(test)]
 mod grids;
 #[cfg(test)]
+mod mapfile;
+#[cfg(test)]
 mod migrations;
 #[cfg(test)]
 mod runs;
-#[cfg(test)]
-mod values;

@@ -1,0 +1,169 @@
+//! Walks in a square of eight darts.
+ghost use Rattle.std.specs.Prelude.{◌≡◌, ℕ, ◌<◌, ◌≤◌, IfOk, false};
+ghost use Rattle.gm_model.specs.Labels.{has};
+ghost use Rattle.gm_walk.specs.Lent.{slots_of};
+ghost use Rattle.gm_walk.specs.Room.{Fits};
+ghost use Rattle.gm_walk.specs.Walks.{AreLive, IsWord};
+
+use crate::expect::{expect_number, expect_same};
+use crate::maps::{SQUARE, map_of};
+use crate::rules::word;
+use gm_arena::{Arena, Slot, Steps};
+use gm_model::{Letter, Mask, Word};
+use gm_walk::{Scratch, Walk, walk_mask, walk_word};
+use std::alloc::Global;
+use std::marker::Brand;
+use std::process::Abort;
+use std::sync::ledger::{Blank, Ledger};
+use std::test::Fail;
+
+/// The word of these letters, which are labels of dimension 2.
+fn low_word(alloc: Global, letters: &str) -> Result<Word, Fail>
+    ensures { IfOk result (λ word. IsWord 2 word) }
+{
+    let word = word(alloc, letters)?.ok_or("no word")?;
+    for place in 0..word.len() {
+        match word.letter(place) {
+            Letter::At(label) if label <= 2 => {}
+            _ => return Err("no label of dimension 2".into()),
+        }
+    }
+    Ok(word)
+}
+
+/// The walk has these names, and the darts of the square have their places in it.
+fn expect_walk<L: Ledger>(
+    rt: &impl Abort,
+    arena: &Arena,
+    walk: &Walk<'_>,
+    names: &[u32],
+    steps: &mut Steps<L>,
+)
+    requires { AreLive arena.now (slots_of walk.now) }
+{
+    expect_names(rt, arena, walk.slots(), names, steps);
+    for name in 0..8 {
+        expect_place(rt, arena, walk, name, names, steps);
+    }
+}
+
+/// The darts at these slots have these names.
+fn expect_names<L: Ledger>(
+    rt: &impl Abort,
+    arena: &Arena,
+    slots: &[Slot],
+    names: &[u32],
+    steps: &mut Steps<L>,
+)
+    requires { AreLive arena.now slots.now }
+{
+    expect_number(rt, slots.len(), names.len());
+    for (place, slot) in slots.iter().enumerate() {
+        expect_number(
+            rt,
+            arena.name_of(*slot, steps) as usize,
+            names[place] as usize,
+        );
+    }
+}
+
+/// The dart of this name has the place in the walk that the name has among these.
+fn expect_place<L: Ledger>(
+    rt: &impl Abort,
+    arena: &Arena,
+    walk: &Walk<'_>,
+    name: u32,
+    names: &[u32],
+    steps: &mut Steps<L>,
+) {
+    let slot = arena.slot_of(name, steps).expect(rt, "a dart");
+    let place = names.iter().position(|other| *other == name);
+    expect_same(rt, &walk.place(slot).map(|place| place as usize), &place);
+}
+
+/// A name, a word or a mask, and the names of the walk that starts at the dart of the name.
+type Case<'a, T> = (u32, T, &'a [u32]);
+
+const WORDS: [Case<&str>; 4] = [
+    (0, "01", &[0, 1, 7, 2, 6, 3, 5, 4]),
+    (0, "", &[0]),
+    (3, "10", &[3, 4, 2, 5, 1, 6, 0, 7]),
+    (6, "02", &[6, 7]),
+];
+
+fn walk_words<L: Ledger>(
+    rt: &impl Abort,
+    alloc: Global,
+    arena: &Arena,
+    scratch: &mut Scratch,
+    steps: &mut Steps<L>,
+) -> Result<(), Fail>
+    requires dim { arena.now.schema.dim ≡ 2 }
+    requires fits { Fits scratch.old arena.now }
+    ensures { scratch.new.bound ≡ scratch.old.bound }
+{
+    for (from, letters, names) in &WORDS {
+        let from = arena.slot_of(*from, steps).expect(rt, "a dart");
+        let word = low_word(alloc, *letters)?;
+        let walk = walk_word(arena, from, &word, scratch, steps);
+        expect_walk(rt, arena, &walk, *names, steps);
+    }
+    Ok(())
+}
+
+const MASKS: [Case<Mask>; 3] = [
+    (0, Mask { bits: 3 }, &[0, 1, 7, 2, 6, 3, 5, 4]),
+    (3, Mask { bits: 6 }, &[3, 4]),
+    (5, Mask { bits: 0 }, &[5]),
+];
+
+/// The mask has no label above the dimension 2.
+fn expect_low(rt: &impl Abort, mask: Mask)
+    ensures { (label : ℕ) → 3 ≤ label → label < 8 → has mask label ≡ false }
+{
+    for label in 3..8 {
+        assert!(rt; !mask.has(label));
+    }
+}
+
+fn walk_masks<L: Ledger>(
+    rt: &impl Abort,
+    arena: &Arena,
+    scratch: &mut Scratch,
+    steps: &mut Steps<L>,
+)
+    requires dim { arena.now.schema.dim ≡ 2 }
+    requires fits { Fits scratch.old arena.now }
+    ensures { scratch.new.bound ≡ scratch.old.bound }
+{
+    for (from, mask, names) in &MASKS {
+        expect_low(rt, *mask);
+        let from = arena.slot_of(*from, steps).expect(rt, "a dart");
+        let walk = walk_mask(arena, from, *mask, scratch, steps);
+        expect_walk(rt, arena, &walk, *names, steps);
+    }
+}
+
+fn walk_square<L: Ledger>(
+    rt: &impl Abort,
+    alloc: Global,
+    handle: &HostRuntime,
+    blank: Blank,
+) -> Result<(), Fail>
+    requires name { blank.name ≡ L.name }
+    requires parts { blank.parts ≡ L.parts }
+    requires some { 0 < blank.parts }
+{
+    let mut steps: Steps<L> = Steps::start(handle, blank);
+    let arena = map_of(alloc, 2, &SQUARE, &mut steps)?;
+    let mut scratch = Scratch::new(alloc);
+    scratch.fit(&arena)?;
+    walk_words(rt, alloc, &arena, &mut scratch, &mut steps)?;
+    walk_masks(rt, &arena, &mut scratch, &mut steps);
+    Ok(())
+}
+
+#[test]
+fn a_square_is_walked(rt: HostRuntime) -> Result<(), Fail> {
+    walk_square::<Brand>(&rt, rt.alloc(), &rt, Blank::new(1))
+}

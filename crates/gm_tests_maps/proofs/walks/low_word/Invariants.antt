@@ -1,6 +1,0 @@
-use Rattle.std.specs.List.{AllWithin}
-use Rattle.gm_walk.specs.Walks.{IsLabelUpTo}
-use Rattle.gm_tests_maps.proofs.walks.low_word.Given as goal
-
-abbrev pub invariant-loop-place : goal.invariant-loop-place
-invariant-loop-place l = AllWithin (IsLabelUpTo 2) l.word 0 l.place
