@@ -1,8 +1,8 @@
 //! A plain program that saves the maps of `gmr`, beside which `bench/beside` times it: dimension 2,
 //! at most one embedding of points on the vertices, and operations that are written by hand, with
 //! nothing proved. It reads and writes in pieces, and its report is its own. A text that is no map, a
-//! script that it doesn't know and a number past 64 bits end it. `grid` has a map of its own, without names
-//! and free places, in which nothing is looked up: the least that its work can cost.
+//! script that it doesn't know and a number of more than 18 digits end it. `grid` has a map of its own,
+//! without names and free places, in which nothing is looked up: the least that its work can cost.
 //!
 //!     plain show MAP            puts the map
 //!     plain run MAP SCRIPT OUT  applies the lines of the script, saves the map, puts a line for each
@@ -20,7 +20,7 @@ type Point = [i64; 3];
 /// A file, read in pieces. Behind what is read stands a newline, so that a number ends there.
 struct Input {
     file: File,
-    piece: Vec<u8>,
+    piece: Box<[u8; PIECE + 1]>,
     at: usize,
     end: usize,
 }
@@ -30,7 +30,7 @@ const LONGEST: usize = 64;
 
 impl Input {
     fn open(path: &str) -> Input {
-        let mut piece = vec![0; PIECE + 1];
+        let mut piece: Box<[u8; PIECE + 1]> = vec![0; PIECE + 1].try_into().expect("as long");
         piece[0] = b'\n';
         Input { file: File::open(path).expect("open"), piece, at: 0, end: 0 }
     }
@@ -61,25 +61,28 @@ impl Input {
     #[inline(always)]
     fn number(&mut self) -> i64 {
         self.look_ahead();
-        let bytes = &self.piece[self.at..=self.end];
-        let mut at = bytes.iter().position(|byte| !matches!(byte, b' ' | b'\n' | b'(' | b')')).expect("a number");
-        let negative = bytes[at] == b'-';
+        let mut at = self.at;
+        let mut byte = self.piece[at];
+        while byte < b'-' {
+            at += 1;
+            byte = self.piece[at];
+        }
+        let negative = byte == b'-';
         at += usize::from(negative);
         let first = at;
-        let mut number: i64 = 0;
-        while bytes[at].is_ascii_digit() {
-            let digit = i64::from(bytes[at] - b'0');
-            number = if at - first < 18 {
-                10 * number + digit
-            } else {
-                number.checked_mul(10).and_then(|n| n.checked_add(digit)).expect("64 bits")
-            };
+        let mut number: u64 = 0;
+        loop {
+            let digit = self.piece[at].wrapping_sub(b'0');
+            if digit > 9 {
+                break;
+            }
+            number = 10 * number + u64::from(digit);
             at += 1;
         }
-        assert!(at > first, "a digit");
+        assert!(at > first && at < first + 19, "a number of 18 digits at most");
         // What ends a number belongs to it, but for the newline behind all that is read.
-        self.at = self.end.min(self.at + at + 1);
-        if negative { -number } else { number }
+        self.at = self.end.min(at + 1);
+        if negative { -(number as i64) } else { number as i64 }
     }
 
     fn point(&mut self) -> Point {
@@ -127,22 +130,31 @@ impl<W: Write> Output<W> {
 
     #[inline(always)]
     fn number(&mut self, number: i64) {
-        let mut digits = [0; 20];
-        let mut at = digits.len();
         let mut rest = number.unsigned_abs();
-        while rest >= 10 {
+        if number < 0 {
+            self.piece.push(b'-');
+        }
+        if rest < 10 {
+            self.piece.push(b'0' + rest as u8);
+            return;
+        }
+        let mut digits = [0u8; 20];
+        let mut at = 20;
+        while rest >= 100 {
             let pair = 2 * (rest % 100) as usize;
             rest /= 100;
             at -= 2;
-            digits[at..at + 2].copy_from_slice(&PAIRS[pair..pair + 2]);
+            digits[at] = PAIRS[pair];
+            digits[at + 1] = PAIRS[pair + 1];
         }
-        if rest > 0 || at == digits.len() {
+        if rest >= 10 {
+            let pair = 2 * rest as usize;
+            at -= 2;
+            digits[at] = PAIRS[pair];
+            digits[at + 1] = PAIRS[pair + 1];
+        } else {
             at -= 1;
             digits[at] = b'0' + rest as u8;
-        }
-        if number < 0 {
-            at -= 1;
-            digits[at] = b'-';
         }
         self.piece.extend_from_slice(&digits[at..]);
     }
