@@ -73,6 +73,8 @@ impl Scratch {
 
     /// Makes room for walks in the arena, and in any arena with no greater bound. A scratch that
     /// has the room already stays as it is.
+    // Inlined, the test alone is left of it where there is room.
+    #[inline(always)]
     pub fn fit(&mut self, arena: &Arena) -> Result<(), OutOfMemory>
         ensures fits { OnOk result (Fits self.new arena.now) }
         ensures kept { self.old.bound ≤ self.new.bound }
@@ -84,6 +86,18 @@ impl Scratch {
         if bound <= self.marks.len() {
             return Ok(());
         }
+        self.widen(bound)
+    }
+
+    /// Makes room for the slots below the bound, for which there is none yet.
+    #[cold]
+    #[inline(never)]
+    fn widen(&mut self, bound: usize) -> Result<(), OutOfMemory>
+        requires more { self.old.bound < bound }
+        ensures fits { OnOk result (bound ≤ self.new.bound) }
+        ensures kept { self.old.bound ≤ self.new.bound }
+        ensures walked { self.new.walked ≡ self.old.walked }
+    {
         // A place in a walk is a `u32`.
         if bound > u32::MAX as usize {
             return Err(OutOfMemory);
