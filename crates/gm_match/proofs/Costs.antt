@@ -16,7 +16,7 @@ module _ (labels nodes k places : ℕ) (some : 1 ≤ nodes) (label : 1 ≤ label
   slot_part : nodes * k ≤ labels * (nodes * k)
   slot_part = omega (arith, mul-le-mul_right (nodes * k) label)
 
-  pub candidate_cost : (start walked placed : ℕ) → walked ≤ start + 4 * labels * k → placed ≤ walked + k * places + k * nodes → placed ≤ start + 6 * labels * (nodes * k)
+  pub candidate_cost : (start walked placed : ℕ) → walked ≤ start + k * places → placed ≤ walked + k * nodes → placed ≤ start + 6 * labels * (nodes * k)
   candidate_cost start walked placed a b = omega (arith, walk_part, turn_part, slot_part)
 
 look_part : (labels nodes k : ℕ) → 1 ≤ labels → 1 ≤ k → nodes ≤ labels * (nodes * k)
@@ -44,9 +44,6 @@ row_cost start rows nodes some = omega (arith, mul-le-mul_left rows some)
 
 pub row_room : (rows nodes most : ℕ) → rows ≤ 4294967295 → nodes ≤ most → most ≤ 32 → rows * nodes < 18446744073709551616
 row_room rows nodes most few less low = omega (arith, mul-le-mul_right nodes few, less, low)
-
-pub rows_cost : (width row rows start after : ℕ) → row ≤ rows → after ≤ start + row * width → after ≤ start + rows * width
-rows_cost width row rows start after most a = omega (arith, mul-le-mul_right width most, a)
 
 -- ---- tests, node by node
 

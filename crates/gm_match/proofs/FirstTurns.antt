@@ -10,9 +10,10 @@ use Rattle.gm_model.specs.declared.word.Letter.{Letter}
 use Rattle.gm_model.specs.Orbits.{IsPairBefore, IsLeastStep, IsWalk}
 use Rattle.gm_arena.specs.ArenaMap.{ArenaMap}
 use Rattle.gm_theory.proofs.Walks.{contains_before, same_place}
+use Rattle.gm_walk.specs.Turns.{IsTurn}
 use Rattle.gm_walk.specs.Walks.{along}
-use Rattle.gm_match.specs.Cells.{AreCells}
-use Rattle.gm_match.specs.Layout.{HaveFirstTurns, LeadBefore, IsFirstTo, IsTurn}
+use Rattle.gm_walk.specs.Cells.{AreCells}
+use Rattle.gm_match.specs.Layout.{HaveFirstTurns, LeadBefore, IsFirstTo}
 
 -- earlier turns are those of earlier pairs of a position and a place
 pair_before : (k places q l : ℕ) → l < places → k < q * places + l → IsPairBefore (k / places) (k % places) q l

@@ -24,7 +24,7 @@ use Rattle.gm_walk.specs.Walks.{names_of}
 use Rattle.gm_walk.proofs.NameLemmas.{name_there}
 use Rattle.gm_match.specs.Layout.{AreRows, IsFirstTo, IsForcedRow, dart_in, dart_at, stepped}
 use Rattle.gm_match.specs.Outcome.{name_of}
-use Rattle.gm_match.proofs.CellLemmas.{get_left, get_right, get_front}
+use Rattle.gm_walk.proofs.CellLemmas.{get_left, get_right, get_front}
 use Rattle.gm_match.proofs.Hooks.{row_below}
 use Rattle.gm_match.proofs.Paths.{dart_set, dart_stays, path_left}
 

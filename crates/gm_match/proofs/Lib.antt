@@ -1,7 +1,6 @@
 pub mod Hooks
 pub mod InArena
 pub mod Answering
-pub mod CellLemmas
 pub mod Costs
 pub mod Paths
 pub mod FirstTurns
@@ -12,4 +11,3 @@ pub mod OneNode
 pub mod Placing
 pub mod Stepping
 pub mod Taking
-pub mod Turning

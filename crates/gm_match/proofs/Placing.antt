@@ -1,5 +1,5 @@
 -- The slots and turns that were made are those of the candidate.
-use Rattle.std.proofs.Common.{◌≡◌, ◌≢◌, ℕ, ◌+◌, ◌*◌, ◌/◌, ◌<◌, ◌≤◌, List, [], ◌∷◌, length, map, get_or, Option, Some, inl, refl, sym, ap, subst, ◌∙◌, arith}
+use Rattle.std.proofs.Common.{◌≡◌, ◌≢◌, ℕ, ◌+◌, ◌*◌, ◌/◌, ◌<◌, ◌≤◌, List, [], ◌∷◌, length, map, get_or, Option, Some, refl, sym, ap, subst, ◌∙◌, arith}
 use Rattle.std.proofs.Math.Nat.{mul-div_cancel_left}
 use Rattle.std.proofs.lemmas.Nat.{div-mul-add, mod-mul-add}
 use Rattle.std.proofs.lemmas.List.{length-map, get_or-map}
@@ -26,10 +26,11 @@ use Rattle.gm_plan.proofs.Distinct.{few_below}
 use Rattle.gm_theory.proofs.Candidates.{hook_left}
 use Rattle.gm_theory.proofs.RuleSteps.{word_below}
 use Rattle.gm_theory.proofs.Walks.{walk_unique}
+use Rattle.gm_walk.specs.Turns.{IsTurn}
 use Rattle.gm_walk.specs.Walks.{IsWord, IsLabelUpTo, along, names_of}
 use Rattle.gm_walk.proofs.WordLemmas.{plain_is_word}
-use Rattle.gm_match.specs.Cells.{AreCells}
-use Rattle.gm_match.specs.Layout.{AreMatchable, AreRows, HaveFirstTurns, IsClosed, IsFirstTo, IsTurn, IsCandidateAt, dart_at, stepped}
+use Rattle.gm_walk.specs.Cells.{AreCells}
+use Rattle.gm_match.specs.Layout.{AreMatchable, AreRows, HaveFirstTurns, IsFirstTo, IsCandidateAt, dart_at, stepped}
 use Rattle.gm_match.specs.Outcome.{name_of, place_of}
 use Rattle.gm_match.proofs.Costs.{candidate_cost}
 use Rattle.gm_match.proofs.FirstTurns.{have_first, is_first}
@@ -104,9 +105,6 @@ module _ (m : ArenaMap) (rule : Rule) (d : ℕ) (slots : List Slot) where
 
   pub some_position : (word : List Letter) → IsWalk (along m word) (length word) d (names_of m slots) → 1 ≤ length slots
   some_position word walk = omega (arith, slice_get_within (names_of m slots) 0 d walk.starts, names_long)
-
-  pub closed : (word : List Letter) → IsWalk (along m word) (length word) d (names_of m slots) → IsClosed m word slots
-  closed word walk q l q_in l_in = let within : q < length (names_of m slots) = omega (arith, names_long) in walk.closed q l (inl within) within l_in
 
   walk_long : (word : List Letter) (walk : List ℕ) → word ≡ hook_word rule → IsWalk (along m word) (length word) d (names_of m slots) → IsWalk (along_hook (as_map m) rule) (width rule) d walk → length slots ≡ length walk
   walk_long word walk e ours other = sym names_long ∙ ap length (walk_unique (along_hook (as_map m) rule) (width rule) d (names_of m slots) walk (subst (λ w. IsWalk (along m w) (length w) d (names_of m slots)) e ours) other)
@@ -201,8 +199,15 @@ module _ (m : ArenaMap) (plan : PlanOf) (able : AreMatchable m plan) (has : 0 < 
   some_nodes : 1 ≤ length (rule_of plan.table).nodes
   some_nodes = some_node plan.schema (rule_of plan.table) able.planned has
 
-  pub walk_cost : (d : ℕ) (slots : List Slot) → IsWalk (along m word) (length word) d (names_of m slots) →
-      (start walked placed : ℕ) → walked ≤ start + 4 * (m.schema.dim + 1) * length slots → placed ≤ walked + length slots * length word + length slots * length (rule_of plan.table).nodes →
-      (walk : List ℕ) → IsWalk (along_hook (as_map m) (rule_of plan.table)) (width (rule_of plan.table)) d walk → placed ≤ start + 6 * (m.schema.dim + 1) * (length (rule_of plan.table).nodes * length walk)
-  walk_cost d slots ours start walked placed walking placing walk is_walk = rw (← walk_long m (rule_of plan.table) d slots word walk is_hook ours is_walk)
-      (candidate_cost (m.schema.dim + 1) (length (rule_of plan.table).nodes) (length slots) (length word) some_nodes (omega arith) few start walked placed walking placing)
+  -- the steps of the walk, and of what is made along it
+  pub walk_cost : (d start walked : ℕ) → ((walk : List ℕ) → IsWalk (along m word) (length word) d walk → walked ≤ start + length walk * length word) →
+      (placed : ℕ) (walk : List ℕ) → IsWalk (along_hook (as_map m) (rule_of plan.table)) (width (rule_of plan.table)) d walk → placed ≤ walked + length walk * length (rule_of plan.table).nodes →
+      placed ≤ start + 6 * (m.schema.dim + 1) * (length (rule_of plan.table).nodes * length walk)
+  walk_cost d start walked walking placed walk is_walk placing =
+      candidate_cost (m.schema.dim + 1) (length (rule_of plan.table).nodes) (length walk) (length word) some_nodes (omega arith) few start walked placed
+      (walking walk (subst (λ w. IsWalk (along m w) (length w) d walk) (sym is_hook) is_walk)) placing
+
+  -- along the slots of the walk
+  pub along_cost : (d : ℕ) (slots : List Slot) → IsWalk (along m word) (length word) d (names_of m slots) → (walked placed : ℕ) → placed ≤ walked + length slots * length (rule_of plan.table).nodes →
+      (walk : List ℕ) → IsWalk (along_hook (as_map m) (rule_of plan.table)) (width (rule_of plan.table)) d walk → placed ≤ walked + length walk * length (rule_of plan.table).nodes
+  along_cost d slots ours walked placed placing walk is_walk = rw (← walk_long m (rule_of plan.table) d slots word walk is_hook ours is_walk) placing

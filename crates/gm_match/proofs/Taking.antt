@@ -15,7 +15,7 @@ use Rattle.gm_walk.specs.Room.TakesIn.{Known, Added}
 use Rattle.gm_match.specs.declared.fault.MatchFault.TheVariants as faults
 use Rattle.gm_match.specs.Taken.{IsTaken, IsFirstTwice}
 use Rattle.gm_match.specs.Taken.IsFirstTwice.{Twice}
-use Rattle.gm_match.proofs.CellLemmas.{get_left}
+use Rattle.gm_walk.proofs.CellLemmas.{get_left}
 
 -- the pairs before the next are those before this one, and this one
 before_next : (y q x p : ℕ) → IsPairBefore y q x (p + 1) → IsPairBefore y q x p ⊎ ((y ≡ x) × (q ≡ p))

@@ -1,9 +1,7 @@
 -- What the parts of matching have made: the hook darts, and the slots and turns of the candidate.
 use Rattle.std.specs.Prelude.{◌≡◌, ℕ, ◌+◌, ◌*◌, ◌/◌, ◌%◌, ◌<◌, List, length, None, Some, slice_get, slice_index}
 use Rattle.std.specs.FinMap.{get}
-use Rattle.std.specs.List.{Contains}
 use Rattle.gm_model.specs.declared.rule.Side.TheVariants.{Left}
-use Rattle.gm_model.specs.declared.word.Letter.{Letter}
 use Rattle.gm_model.specs.Maps.{IsGeneralised}
 use Rattle.gm_model.specs.Matches.{IsCandidate, IsPathTo}
 use Rattle.gm_model.specs.Orbits.{follow}
@@ -14,7 +12,7 @@ use Rattle.gm_arena.specs.ArenaMap.{ArenaMap, IsLiveName, alpha}
 use Rattle.gm_arena.specs.Lawful.{IsLawful}
 use Rattle.gm_plan.specs.Placed.{Placed}
 use Rattle.gm_plan.specs.Plans.{PlanOf, IsLeftCount, IsPlanned}
-use Rattle.gm_walk.specs.Walks.{AreLive, along, names_of}
+use Rattle.gm_walk.specs.Walks.{AreLive, names_of}
 use Rattle.gm_match.specs.declared.fault.MatchFault.{MatchFault}
 use Rattle.gm_match.specs.declared.fault.MatchFault.TheVariants as faults
 use Rattle.gm_match.specs.Outcome.{name_of, place_of}
@@ -42,15 +40,6 @@ pub data IsNoDart (m : ArenaMap) (hooks : List ℕ) : MatchFault → Type 0 wher
   Dead : (index d : ℕ) → slice_get hooks index ≡ Some d → get m.darts d ≡ None → AreDarts m hooks index → IsNoDart m hooks (faults.NoDart index)
 
 -- ---- turns
-
--- the neighbours of the walk's darts, by the places of the word, are darts of the walk
-abbrev pub IsClosed : ArenaMap → List Letter → List Slot → Type 0
-IsClosed m word slots = (q l : ℕ) → q < length slots → l < length word → Contains (names_of m slots) (along m word (slice_index (names_of m slots) q) l)
-
--- at place q of the walk is the neighbour at place l of the dart at place p
-pub record IsTurn (m : ArenaMap) (word : List Letter) (walk : List ℕ) (p l q : ℕ) : Type 0 where
-  pub within : q < length walk
-  pub leads : slice_index walk q ≡ along m word (slice_index walk p) l
 
 -- the first turns, so many of them, lead to positions before p
 abbrev pub LeadBefore : List ℕ → ℕ → ℕ → Type 0

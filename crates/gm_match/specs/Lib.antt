@@ -1,4 +1,3 @@
-pub mod Cells
 pub mod Firsts
 pub mod Layout
 pub mod Outcome

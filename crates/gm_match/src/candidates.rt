@@ -1,22 +1,21 @@
 ghost use Rattle.std.specs.Prelude.{◌≡◌, ℕ, List, ◌++◌, ◌+◌, ◌*◌, ◌<◌, ◌≤◌, [], length, slice_get, slice_index, Some, IfOk, OnOk, vec_capacity};
-ghost use Rattle.std.specs.List.{Contains};
 ghost use Rattle.gm_arena.specs.ArenaAsMap.{as_map};
 ghost use Rattle.gm_arena.specs.Lawful.{IsLawful};
 ghost use Rattle.gm_model.specs.Matches.{along_hook};
 ghost use Rattle.gm_model.specs.Orbits.{IsWalk};
 ghost use Rattle.gm_model.specs.Rules.{rule_of, hook_word, width};
 ghost use Rattle.gm_plan.specs.Plans.{IsLeftCount};
-ghost use Rattle.gm_walk.specs.Lent.{slots_of};
+ghost use Rattle.gm_walk.specs.Cells.{AreCells};
 ghost use Rattle.gm_walk.specs.Room.{Fits};
-ghost use Rattle.gm_walk.specs.Walks.{IsWord, AreLive, along, names_of};
-ghost use Rattle.gm_match.specs.Cells.{AreCells};
-ghost use Rattle.gm_match.specs.Layout.{AreMatchable, AreRows, HaveFirstTurns, IsClosed, IsTurn, IsCandidateAt, LeadBefore, IsFirstTo};
+ghost use Rattle.gm_walk.specs.Turns.{IsTurn};
+ghost use Rattle.gm_walk.specs.Walks.{AreLive, along, names_of};
+ghost use Rattle.gm_match.specs.Layout.{AreMatchable, AreRows, HaveFirstTurns, IsCandidateAt, LeadBefore, IsFirstTo};
 
 use crate::rows::{first_row, later_row};
 use gm_arena::{Arena, Slot, Steps};
-use gm_model::{Letter, MOST_NODES, OutOfMemory, Word};
+use gm_model::{MOST_NODES, OutOfMemory, Word};
 use gm_plan::{Instances, Plan};
-use gm_walk::{Scratch, Walk, walk_word};
+use gm_walk::{Scratch, walk_turns};
 use std::alloc::Global;
 use std::sync::ledger::Ledger;
 
@@ -42,21 +41,30 @@ pub(crate) fn candidate<L: Ledger>(
     ensures room { scratch.new.bound ≡ scratch.old.bound }
 {
     let word = plan.rule().hook_word().unwrap();
-    let (slots, turns) = scratch.lend_rows(alloc);
-    let walk = walk_word(arena, darts[0], &word, scratch, steps);
-    along_walk(plan, arena, darts, &walk, &word, slots, turns, steps)
+    let (slots, mut turns) = scratch.lend_rows(alloc);
+    walk_turns(arena, darts[0], &word, scratch, &mut turns, steps)?;
+    along_walk(
+        plan,
+        arena,
+        darts,
+        scratch.walked(),
+        &word,
+        slots,
+        turns,
+        steps,
+    )
 }
 
-/// The candidate along the walk of the first hook, from the darts of the hooks, in the room of two
-/// empty vectors.
+/// The candidate along the walk of the first hook, which has these turns, from the darts of the
+/// hooks, in the room of an empty vector.
 fn along_walk<L: Ledger>(
     plan: &Plan<'_>,
     arena: &Arena,
     darts: &[Slot],
-    walk: &Walk<'_>,
+    walk: &[Slot],
     word: &Word,
     mut slots: Vec<Slot>,
-    mut turns: Vec<u32>,
+    turns: Vec<u32>,
     steps: &mut Steps<L>,
 ) -> Result<Instances, OutOfMemory>
     requires matchable { AreMatchable arena.now plan.now }
@@ -64,74 +72,18 @@ fn along_walk<L: Ledger>(
     requires count { length darts.now ≡ length (rule_of plan.now.table).hooks }
     requires live { AreLive arena.now darts.now }
     requires word { word.now ≡ hook_word (rule_of plan.now.table) }
-    requires walk { IsWalk (along arena.now word.now) (length word.now) (slice_index (names_of arena.now darts.now) 0) (names_of arena.now (slots_of walk.now)) }
-    requires walked { AreLive arena.now (slots_of walk.now) }
+    requires walk { IsWalk (along arena.now word.now) (length word.now) (slice_index (names_of arena.now darts.now) 0) (names_of arena.now walk.now) }
+    requires walked { AreLive arena.now walk.now }
+    requires few { length walk.now ≤ 4294967295 }
     requires no_slots { slots.items ≡ [] }
-    requires no_turns { turns.items ≡ [] }
+    requires turns { AreCells (IsTurn arena.now word.now (names_of arena.now walk.now)) (length walk.now) (length word.now) turns.items }
     ensures candidate { IfOk result (IsCandidateAt arena.now (rule_of plan.now.table) (names_of arena.now darts.now)) }
-    ensures cost { let positions = length (slots_of walk.now) in
-        steps.new ≤ steps.old + positions * length word.now + positions * length (rule_of plan.now.table).nodes }
+    ensures cost { steps.new ≤ steps.old + length walk.now * length (rule_of plan.now.table).nodes }
     ensures least { steps.old ≤ steps.new }
 {
-    fill_turns(arena, walk, word, &mut turns, steps)?;
-    fill_slots(plan, arena, darts, walk.slots(), &turns, &mut slots, steps)?;
-    let positions = walk.slots().len() as u32;
+    fill_slots(plan, arena, darts, walk, &turns, &mut slots, steps)?;
+    let positions = walk.len() as u32;
     Ok(Instances::new(slots, turns, positions, word.len()))
-}
-
-/// Puts the positions to which each position turns, by place, into the empty vector.
-fn fill_turns<L: Ledger>(
-    arena: &Arena,
-    walk: &Walk<'_>,
-    word: &Word,
-    turns: &mut Vec<u32>,
-    steps: &mut Steps<L>,
-) -> Result<(), OutOfMemory>
-    requires lawful { IsLawful arena.now }
-    requires live { AreLive arena.now (slots_of walk.now) }
-    requires word { IsWord arena.now.schema.dim word.now }
-    requires closed { IsClosed arena.now word.now (slots_of walk.now) }
-    requires empty { turns.old.items ≡ [] }
-    ensures turns { OnOk result (AreCells (IsTurn arena.now word.now (names_of arena.now (slots_of walk.now))) (length (slots_of walk.now)) (length word.now) turns.new.items) }
-    ensures cost { steps.new ≤ steps.old + length (slots_of walk.now) * length word.now }
-    ensures least { steps.old ≤ steps.new }
-{
-    let places = word.len() as usize;
-    turns.reserve(walk.slots().len() * places)?;
-    for slot in walk.slots() {
-        push_turns(arena, walk, *slot, word, turns, steps);
-    }
-    Ok(())
-}
-
-/// Puts the positions to which the slot's position turns, by place, behind those of the positions
-/// before it, into the room that there is for them.
-fn push_turns<L: Ledger>(
-    arena: &Arena,
-    walk: &Walk<'_>,
-    slot: Slot,
-    word: &Word,
-    turns: &mut Vec<u32>,
-    steps: &mut Steps<L>,
-)
-    requires lawful { IsLawful arena.now }
-    requires live { AreLive arena.now (slots_of walk.now) }
-    requires word { IsWord arena.now.schema.dim word.now }
-    requires closed { IsClosed arena.now word.now (slots_of walk.now) }
-    requires walked { Contains (slots_of walk.now) slot }
-    requires room { length turns.old.items + length word.now ≤ vec_capacity turns.old }
-    ensures turns { let IsTurnOf = IsTurn arena.now word.now (names_of arena.now (slots_of walk.now)) in (p : ℕ)
-        → slice_get (slots_of walk.now) p ≡ Some slot → AreCells IsTurnOf p (length word.now) turns.old.items
-        → AreCells IsTurnOf (p + 1) (length word.now) turns.new.items }
-    ensures capacity { vec_capacity turns.new ≡ vec_capacity turns.old }
-    ensures cost { steps.new ≡ steps.old + length word.now }
-{
-    for place in 0..word.len() {
-        let Letter::At(label) = word.letter(place) else {
-            unreachable!()
-        };
-        turns.push_reserved(walk.place(arena.alpha(slot, label, steps)).unwrap());
-    }
 }
 
 /// Puts the slots of the left nodes, by position and node, into the empty vector. The turns are those

@@ -1,6 +1,8 @@
 pub mod MarkLemmas
 pub mod WalkLemmas
 pub mod NameLemmas
+pub mod CellLemmas
+pub mod TurnLemmas
 pub mod WordLemmas
 pub mod CountLemmas
 pub mod OrbitLemmas

@@ -107,6 +107,10 @@ cleared_all p queue marks past c = record {
 pub same_slot : (a b : Slot) → a.at ≡ b.at → a ≡ b
 same_slot a b e = λ i. record { at = e i }
 
+-- a slot that was put behind others is at the place that was their number
+pub last_there : (slots : List Slot) (slot : Slot) (p : ℕ) → p ≡ length slots → slice_get (slots ++ slot ∷ []) p ≡ Some slot
+last_there slots slot p end = slice_get-get_or (slots ++ slot ∷ []) p slot (omega (arith, end, length_push slots slot)) ∙ ap Some (get_or_push slots slot slot p (sym end))
+
 pub number_at : (slots : List Slot) (p : ℕ) (d : Slot) → p < length slots → get_or (numbers slots) p 0 ≡ (get_or slots p d).at
 number_at slots p d h = get_or-map (λ (s : Slot). s.at) slots p d 0 h
 
@@ -139,6 +143,9 @@ module _ (slots : List Slot) (marks : List ℕ) (m : IsMarked (numbers slots) ma
 
   pub has_mark : (get_or marks slot.at 0 ≡ 0 → ⊥) → Contains slots slot
   has_mark h = marked_contained (get_or marks slot.at 0 - 1) (elim (cases_lt 0 (get_or marks slot.at 0)) [ inl l ↦ omega arith | inr l ↦ absurd (h (omega arith)) ])
+
+  pub mark_tells : (mark : ℕ) → get_or marks slot.at 0 ≡ mark → (mark ≡ 0 → ⊥) → slice_get slots (mark - 1) ≡ Some slot
+  mark_tells mark e some = placed (mark - 1) (elim (cases_lt 0 mark) [ inl l ↦ omega (arith, e) | inr l ↦ absurd (some (omega arith)) ])
 
   -- one less than the mark is the place
   pub place_told : (mark : ℕ) (answer : Option ℕ) → get_or marks slot.at 0 ≡ mark → SomeIff answer (1 ≤ mark) (mark - 1) → MatchOption answer (Contains slots slot → ⊥) (λ place. slice_get slots place ≡ Some slot)

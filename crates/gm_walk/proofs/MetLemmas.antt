@@ -15,7 +15,7 @@ use Rattle.gm_walk.proofs.CountLemmas.{is_named}
 
 -- ---- lists without repeats
 
-few_among : (xs ys : List ℕ) → HasNoRepeats xs → ((d : ℕ) → Contains xs d → Contains ys d) → length xs ≤ length ys
+pub few_among : (xs ys : List ℕ) → HasNoRepeats xs → ((d : ℕ) → Contains xs d → Contains ys d) → length xs ≤ length ys
 few_among xs ys distinct among =
     length-le_from_is_member nat_eq_equiv xs ys (IsDistinct-from_AllPairs Decides-eqb xs differ) (λ d t. list_any-from_Contains nat_eq_equiv d ys (among d (Contains-from_any (λ a b f. eqb-true a b f) d xs t)))
   where

@@ -7,7 +7,7 @@ use Rattle.std.proofs.lemmas.Bool.{cases_lt, false≢true}
 use Rattle.std.proofs.lemmas.Nat.Bits.{bit_at_above}
 use Rattle.std.proofs.lemmas.List.{append-nil, length-map, take_more_set, map_push}
 use Rattle.std.proofs.lemmas.List.Elements.{All-map, All-filter, All-from_recursion, filter_more, filter_passes}
-use Rattle.std.proofs.lemmas.Option.{slice_get-get_or, slice_get-map, slice_get_within}
+use Rattle.std.proofs.lemmas.Option.{slice_get-get_or, slice_get-map, slice_get_within, get_or_from_slice_get}
 use Rattle.gm_model.specs.declared.word.Letter.{Letter}
 use Rattle.gm_model.specs.declared.word.Letter.TheVariants.{At, Gone}
 use Rattle.gm_model.specs.declared.word.Mask.{Mask}
@@ -100,3 +100,8 @@ letters_are mask few = record { has = to; only = from }
 -- and those of a word that is its letters
 pub letters_of_word : (mask : Mask) (word : List Letter) (n : ℕ) → n ≤ 7 → ((i : ℕ) → IsTrue (has mask i) → i ≤ n) → word ≡ letters_of mask → HasLettersOf (has mask) word
 letters_of_word mask word n most few is = subst (HasLettersOf (has mask)) (sym is) (letters_are mask (λ i h. let k = few i h in omega (arith, k, most)))
+
+-- ---- its letters
+
+pub is_letter : (n : ℕ) (word : List Letter) → IsWord n word → (l : ℕ) (letter : Letter) → slice_get word l ≡ Some letter → IsLabelUpTo n letter
+is_letter n word is l letter e = subst (IsLabelUpTo n) (get_or_from_slice_get word l letter letter e) (is l letter (slice_get_within word l letter e))

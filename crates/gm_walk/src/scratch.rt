@@ -145,7 +145,26 @@ impl Scratch {
         true
     }
 
-    pub(crate) fn walked(&self) -> &[Slot]
+    /// Puts the slot behind those that were walked, unless it is among them, and tells its place
+    /// among them, counted from 0. It takes no memory.
+    #[inline(always)]
+    pub fn take(&mut self, slot: Slot) -> u32
+        requires { slot.at < self.old.bound }
+        ensures taken { TakesIn self.old slot self.new }
+        ensures place { slice_get self.new.walked result ≡ Some slot }
+    {
+        let place = self.queue.len() as u32;
+        let mark = &mut self.marks[slot.at as usize];
+        if *mark != 0 {
+            return *mark - 1;
+        }
+        *mark = place + 1;
+        self.queue.push_reserved(slot);
+        place
+    }
+
+    /// The slots of the last walk, in its order, or those that were taken in since.
+    pub fn walked(&self) -> &[Slot]
         ensures value { result.now ≡ self.now.walked }
         ensures few { length self.now.walked ≤ self.now.bound }
         ensures most { length self.now.walked ≤ 4294967295 }

@@ -1,5 +1,4 @@
-use Rattle.std.proofs.Common.{◌+◌, ◌*◌, ◌<◌, ◌≤◌, List, length, ap, sym, subst, ◌∙◌, arith}
-use Rattle.std.proofs.Math.Nat.{le_trans, le-add_right}
+use Rattle.std.proofs.Common.{◌<◌, length, sym, subst, ◌∙◌, arith}
 use Rattle.std.proofs.lemmas.List.{length-map}
 use Rattle.std.proofs.lemmas.List.Elements.{All-get_or}
 use Rattle.std.proofs.lemmas.Option.{get_or_from_slice_get}
@@ -8,79 +7,44 @@ use Rattle.gm_model.specs.Rules.{rule_of}
 use Rattle.gm_arena.specs.declared.slot.Slot.{Slot}
 use Rattle.gm_arena.specs.ArenaMap.{IsLiveName, IsLiveSlot, name_at}
 use Rattle.gm_arena.proofs.MapLemmas.{IsLiveName-name_at}
-use Rattle.gm_walk.specs.Lent.{slots_of}
-use Rattle.gm_walk.specs.Walks.{AreLive, names_of}
+use Rattle.gm_walk.specs.Turns.{IsTurn}
+use Rattle.gm_walk.specs.Walks.{names_of}
+use Rattle.gm_walk.proofs.CellLemmas.{each_entry}
 use Rattle.gm_walk.proofs.NameLemmas.{name_there}
-use Rattle.gm_match.specs.Layout.{AreRows, IsTurn}
-use Rattle.gm_match.proofs.CellLemmas.{each_entry}
-use Rattle.gm_match.proofs.Placing.{IsTurned, names_begin, closed, some_position, firsts_of, is_candidate, can_be_walked}
+use Rattle.gm_match.proofs.Placing.{IsTurned, names_begin, some_position, firsts_of, is_candidate}
 use Rattle.gm_match.proofs.candidates.along_walk.Goals as goal
 
-pub fill_turns-requires-clause-word : goal.fill_turns-requires-clause-word
-fill_turns-requires-clause-word g c = can_be_walked c.args.arena.now c.args.plan.now c.requires.matchable (omega (arith, c.requires.some, c.requires.count)) c.args.word.now c.requires.word
-
-pub fill_turns-requires-clause-closed : goal.fill_turns-requires-clause-closed
-fill_turns-requires-clause-closed g c = closed c.args.arena.now (rule_of c.args.plan.now.table) _ (slots_of c.args.walk.now) c.args.word.now c.requires.walk
-
 pub fill_slots-requires-clause-some_position : goal.fill_slots-requires-clause-some_position
-fill_slots-requires-clause-some_position g c =
-    let some = some_position c.args.arena.now (rule_of c.args.plan.now.table) _ (slots_of c.args.walk.now) c.args.word.now c.requires.walk in
-    rw c.slots.ensures.value some
+fill_slots-requires-clause-some_position g c = some_position c.args.arena.now (rule_of c.args.plan.now.table) _ c.args.walk.now c.args.word.now c.requires.walk
 
 pub fill_slots-requires-clause-walk : goal.fill_slots-requires-clause-walk
-fill_slots-requires-clause-walk g c = subst (AreLive c.args.arena.now) (sym c.slots.ensures.value) c.requires.walked
+fill_slots-requires-clause-walk g c = c.requires.walked
 
 pub fill_slots-requires-clause-turns : goal.fill_slots-requires-clause-turns
-fill_slots-requires-clause-turns g c =
-    rw (c.slots.ensures.value, c.deref.ensures.value) (firsts_of c.args.arena.now (rule_of c.args.plan.now.table) _ (slots_of c.args.walk.now) c.args.word.now c.fill_turns.new.turns.items c.requires.word c.requires.walk c.in_ok-fill_turns.ensures.turns)
+fill_slots-requires-clause-turns g c = rw c.deref.ensures.value (firsts_of c.args.arena.now (rule_of c.args.plan.now.table) _ c.args.walk.now c.args.word.now c.args.turns.items c.requires.word c.requires.walk c.requires.turns)
 
 pub new-requires-clause-turns_within : goal.new-requires-clause-turns_within
 new-requires-clause-turns_within g c =
     let m = c.args.arena.now in
     let word = c.args.word.now in
-    let slots = slots_of c.args.walk.now in
-    each_entry (IsTurn m word (names_of m slots)) (length word) (λ q. q < length c.slots-2.result.now) (length slots) c.fill_turns.new.turns.items c.in_ok-fill_turns.ensures.turns
-    (λ p x q t. omega (arith, t.within, length-map slots (λ (s : Slot). name_at m s.at), ap length c.slots-2.ensures.value))
-
-pub returns-in_err-fill_slots-clause-cost : goal.returns-in_err-fill_slots-clause-cost
-returns-in_err-fill_slots-clause-cost g c = omega (arith, c.fill_turns.ensures.cost, subst (λ xs. c.fill_slots.new.steps + length xs ≤ c.fill_turns.new.steps + length xs * length (rule_of c.args.plan.now.table).nodes) c.slots.ensures.value c.fill_slots.ensures.cost)
+    let walk = c.args.walk.now in
+    each_entry (IsTurn m word (names_of m walk)) (length word) (λ q. q < length walk) (length walk) c.args.turns.items c.requires.turns
+    (λ p x q t. omega (arith, t.within, length-map walk (λ (s : Slot). name_at m s.at)))
 
 pub returns-clause-candidate : goal.returns-clause-candidate
 returns-clause-candidate g c =
     let word = c.args.word.now in
     let m = c.args.arena.now in
-    let slots = slots_of c.args.walk.now in
+    let walk = c.args.walk.now in
     let start = name_there m c.args.darts.now 0 (record { at = 0 }) c.requires.some in
     let rule = rule_of c.args.plan.now.table in
     let found = c.new.result in
     let begin = names_begin m c.args.darts.now c.requires.some in
     let live = subst (IsLiveName m) (sym start) (IsLiveName-name_at m _ c.requires.matchable.lawful (All-get_or (λ (s : Slot). IsLiveSlot m s.at) c.args.darts.now 0 (record { at = 0 }) c.requires.some c.requires.live)) in
-    let made : IsTurned m rule _ slots found word = record { walk = c.requires.walk; turns = rw c.new.ensures.turns c.in_ok-fill_turns.ensures.turns; places = c.new.ensures.places ∙ c.len.ensures.value } in
+    let made : IsTurned m rule _ walk found word = record { walk = c.requires.walk; turns = rw c.new.ensures.turns c.requires.turns; places = c.new.ensures.places ∙ c.len.ensures.value } in
     let laid = c.in_ok-fill_slots.ensures.slots in
-    let rows = subst (λ xs. AreRows m rule (names_of m c.args.darts.now) (names_of m xs) c.deref.result.now laid.0 (length xs) c.fill_slots.new.slots.items) c.slots.ensures.value laid.2 in
-    is_candidate m rule _ slots found (names_of m c.args.darts.now) begin.0 begin.1 (length-map c.args.darts.now (λ (s : Slot). name_at m s.at) ∙ c.requires.count) laid.0 laid.1 (rw (c.new.ensures.turns, ← c.deref.ensures.value, c.new.ensures.slots) rows)
-    (c.new.ensures.positions ∙ ap length c.slots-2.ensures.value) (rw (c.new.ensures.slots, c.new.ensures.positions) c.new.ensures.nodes) live (subst (IsTurned m rule _ slots found) c.requires.word made)
-
-pub returns-clause-cost : goal.returns-clause-cost
-returns-clause-cost g c = omega (arith, c.fill_turns.ensures.cost, subst (λ xs. c.fill_slots.new.steps + length xs ≤ c.fill_turns.new.steps + length xs * length (rule_of c.args.plan.now.table).nodes) c.slots.ensures.value c.fill_slots.ensures.cost)
-
-pub fill_turns-requires-clause-lawful : goal.fill_turns-requires-clause-lawful
-fill_turns-requires-clause-lawful g c = c.requires.matchable.lawful
-
-pub fill_turns-requires-clause-live : goal.fill_turns-requires-clause-live
-fill_turns-requires-clause-live g c = c.requires.walked
-
-pub fill_turns-requires-clause-empty : goal.fill_turns-requires-clause-empty
-fill_turns-requires-clause-empty g c = c.requires.no_turns
-
-pub returns-in_err-fill_turns-clause-candidate : goal.returns-in_err-fill_turns-clause-candidate
-returns-in_err-fill_turns-clause-candidate g c = IfOk-from_err c.from_residual.result _ c.from_residual.ensures.0
-
-pub returns-in_err-fill_turns-clause-cost : goal.returns-in_err-fill_turns-clause-cost
-returns-in_err-fill_turns-clause-cost g c = le_trans c.fill_turns.ensures.cost (le-add_right _ _)
-
-pub returns-in_err-fill_turns-clause-least : goal.returns-in_err-fill_turns-clause-least
-returns-in_err-fill_turns-clause-least g c = c.fill_turns.ensures.least
+    is_candidate m rule _ walk found (names_of m c.args.darts.now) begin.0 begin.1 (length-map c.args.darts.now (λ (s : Slot). name_at m s.at) ∙ c.requires.count) laid.0 laid.1 (rw (c.new.ensures.turns, ← c.deref.ensures.value, c.new.ensures.slots) laid.2)
+    c.new.ensures.positions (rw (c.new.ensures.slots, c.new.ensures.positions) c.new.ensures.nodes) live (subst (IsTurned m rule _ walk found) c.requires.word made)
 
 pub fill_slots-requires-clause-matchable : goal.fill_slots-requires-clause-matchable
 fill_slots-requires-clause-matchable g c = c.requires.matchable
@@ -95,32 +59,34 @@ pub fill_slots-requires-clause-darts : goal.fill_slots-requires-clause-darts
 fill_slots-requires-clause-darts g c = c.requires.live
 
 pub fill_slots-requires-clause-few : goal.fill_slots-requires-clause-few
-fill_slots-requires-clause-few g c = rw c.slots.ensures.value c.slots.ensures.most
+fill_slots-requires-clause-few g c = c.requires.few
 
 pub fill_slots-requires-clause-starts : goal.fill_slots-requires-clause-starts
-fill_slots-requires-clause-starts g c = rw c.slots.ensures.value (get_or_from_slice_get (names_of c.args.arena.now (slots_of c.args.walk.now)) 0 _ 0 c.requires.walk.starts)
+fill_slots-requires-clause-starts g c = get_or_from_slice_get (names_of c.args.arena.now c.args.walk.now) 0 _ 0 c.requires.walk.starts
 
 pub fill_slots-requires-clause-empty : goal.fill_slots-requires-clause-empty
 fill_slots-requires-clause-empty g c = c.requires.no_slots
 
 pub returns-in_err-fill_slots-clause-candidate : goal.returns-in_err-fill_slots-clause-candidate
-returns-in_err-fill_slots-clause-candidate g c = IfOk-from_err c.from_residual-in_err-fill_slots.result _ c.from_residual-in_err-fill_slots.ensures.0
+returns-in_err-fill_slots-clause-candidate g c = IfOk-from_err c.from_residual.result _ c.from_residual.ensures.0
+
+pub returns-in_err-fill_slots-clause-cost : goal.returns-in_err-fill_slots-clause-cost
+returns-in_err-fill_slots-clause-cost g c = omega (arith, c.fill_slots.ensures.cost)
 
 pub returns-in_err-fill_slots-clause-least : goal.returns-in_err-fill_slots-clause-least
-returns-in_err-fill_slots-clause-least g c = le_trans c.fill_turns.ensures.least c.fill_slots.ensures.least
+returns-in_err-fill_slots-clause-least g c = c.fill_slots.ensures.least
 
 pub new-requires-clause-some_position : goal.new-requires-clause-some_position
-new-requires-clause-some_position g c =
-    let some = some_position c.args.arena.now (rule_of c.args.plan.now.table) _ (slots_of c.args.walk.now) c.args.word.now c.requires.walk in
-    rw c.slots-2.ensures.value some
+new-requires-clause-some_position g c = some_position c.args.arena.now (rule_of c.args.plan.now.table) _ c.args.walk.now c.args.word.now c.requires.walk
 
 pub new-requires-clause-slots : goal.new-requires-clause-slots
-new-requires-clause-slots g c =
-    let laid = c.in_ok-fill_slots.ensures.slots in
-    (laid.0, ap (λ (xs : List Slot). length xs * laid.0) (c.slots-2.ensures.value ∙ sym c.slots.ensures.value) ∙ laid.2.long)
+new-requires-clause-slots g c = let laid = c.in_ok-fill_slots.ensures.slots in (laid.0, laid.2.long)
 
 pub new-requires-clause-turns : goal.new-requires-clause-turns
-new-requires-clause-turns g c = rw (c.slots-2.ensures.value, c.len.ensures.value) c.in_ok-fill_turns.ensures.turns.long
+new-requires-clause-turns g c = rw c.len.ensures.value c.requires.turns.long
+
+pub returns-clause-cost : goal.returns-clause-cost
+returns-clause-cost g c = omega (arith, c.fill_slots.ensures.cost)
 
 pub returns-clause-least : goal.returns-clause-least
-returns-clause-least g c = le_trans c.fill_turns.ensures.least c.fill_slots.ensures.least
+returns-clause-least g c = c.fill_slots.ensures.least

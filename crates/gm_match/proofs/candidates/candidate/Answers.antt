@@ -1,49 +1,38 @@
-use Rattle.std.proofs.Common.{◌<◌, length, sym, subst}
-use Rattle.std.proofs.Math.Nat.{le_trans}
+use Rattle.std.proofs.Common.{ℕ, ◌+◌, ◌*◌, ◌<◌, ◌≤◌, List, length, sym, subst}
+use Rattle.std.proofs.Math.Nat.{le_trans, le-add_right}
 use Rattle.gm_model.specs.Orbits.{IsWalk}
-use Rattle.gm_walk.specs.Lent.{slots_of}
+use Rattle.gm_model.specs.Rules.{rule_of}
 use Rattle.gm_walk.specs.Room.{Fits}
 use Rattle.gm_walk.specs.Walks.{along, names_of}
 use Rattle.gm_walk.proofs.NameLemmas.{name_there}
-use Rattle.gm_match.proofs.Placing.{hook_has_word, word_is, can_be_walked, walk_cost}
+use Rattle.gm_match.proofs.Placing.{hook_has_word, word_is, can_be_walked, walk_cost, along_cost}
 use Rattle.gm_match.proofs.candidates.candidate.Goals as goal
 
-pub walk_word-walk-requires-clause-word : goal.walk_word-walk-requires-clause-word
-walk_word-walk-requires-clause-word g c =
+pub unwrap-word-requires : goal.unwrap-word-requires
+unwrap-word-requires g c = hook_has_word c.args.plan.now.schema c.args.plan.now.table c.rule.result.now c.hook_word.result c.requires.matchable.planned (subst (λ n. 0 < n) c.requires.count c.requires.some) c.rule.ensures.rule c.hook_word.ensures
+
+pub walk_turns-requires-clause-word : goal.walk_turns-requires-clause-word
+walk_turns-requires-clause-word g c =
     let has = subst (λ n. 0 < n) c.requires.count c.requires.some in
     let word = c.unwrap-word.result in
     let is_word = word_is c.args.plan.now.table c.rule.result.now c.hook_word.result word c.rule.ensures.rule c.hook_word.ensures c.unwrap-word.ensures in
     can_be_walked c.args.arena.now c.args.plan.now c.requires.matchable has word is_word
 
-pub along_walk-requires-clause-word : goal.along_walk-requires-clause-word
-along_walk-requires-clause-word g c = word_is c.args.plan.now.table c.rule.result.now c.hook_word.result c.unwrap-word.result c.rule.ensures.rule c.hook_word.ensures c.unwrap-word.ensures
+pub walk_turns-requires-clause-live : goal.walk_turns-requires-clause-live
+walk_turns-requires-clause-live g c = c.requires.live 0 (record { at = 0 }) c.requires.some
 
-pub along_walk-requires-clause-walk : goal.along_walk-requires-clause-walk
-along_walk-requires-clause-walk g c =
-    let m = c.args.arena.now in
-    let word = c.unwrap-word.result in
-    let start = name_there m c.args.darts.now 0 (record { at = 0 }) c.requires.some in
-    subst (λ d. IsWalk (along m word) (length word) d (names_of m (slots_of c.walk_word-walk.result))) (sym start) c.walk_word-walk.ensures.walk
+pub walk_turns-requires-clause-fits : goal.walk_turns-requires-clause-fits
+walk_turns-requires-clause-fits g c = subst (λ room. Fits room c.args.arena.now) (sym c.lend_rows-slots.ensures.stays) c.requires.fits
 
-pub returns-clause-cost : goal.returns-clause-cost
-returns-clause-cost g c =
+pub returns-in_err-walk_turns-clause-cost : goal.returns-in_err-walk_turns-clause-cost
+returns-in_err-walk_turns-clause-cost g c = λ walk is_walk.
     let has = subst (λ n. 0 < n) c.requires.count c.requires.some in
     let word = c.unwrap-word.result in
     let is_word = word_is c.args.plan.now.table c.rule.result.now c.hook_word.result word c.rule.ensures.rule c.hook_word.ensures c.unwrap-word.ensures in
     let m = c.args.arena.now in
-    let slots = slots_of c.walk_word-walk.result in
     let start = name_there m c.args.darts.now 0 (record { at = 0 }) c.requires.some in
-    let walk = subst (λ d. IsWalk (along m word) (length word) d (names_of m slots)) (sym start) c.walk_word-walk.ensures.walk in
-    walk_cost m c.args.plan.now c.requires.matchable has word is_word _ slots walk _ _ _ c.walk_word-walk.ensures.cost c.along_walk.ensures.cost
-
-pub unwrap-word-requires : goal.unwrap-word-requires
-unwrap-word-requires g c = hook_has_word c.args.plan.now.schema c.args.plan.now.table c.rule.result.now c.hook_word.result c.requires.matchable.planned (subst (λ n. 0 < n) c.requires.count c.requires.some) c.rule.ensures.rule c.hook_word.ensures
-
-pub walk_word-walk-requires-clause-live : goal.walk_word-walk-requires-clause-live
-walk_word-walk-requires-clause-live g c = c.requires.live 0 (record { at = 0 }) c.requires.some
-
-pub walk_word-walk-requires-clause-fits : goal.walk_word-walk-requires-clause-fits
-walk_word-walk-requires-clause-fits g c = subst (λ room. Fits room c.args.arena.now) (sym c.lend_rows-slots.ensures.stays) c.requires.fits
+    let walked = subst (λ d. (walk : List ℕ) → IsWalk (along m word) (length word) d walk → c.walk_turns.new.steps ≤ c.args.steps.now + length walk * length word) (sym start) c.walk_turns.ensures.cost in
+    walk_cost m c.args.plan.now c.requires.matchable has word is_word _ _ _ walked _ walk is_walk (le-add_right _ _)
 
 pub along_walk-requires-clause-matchable : goal.along_walk-requires-clause-matchable
 along_walk-requires-clause-matchable g c = c.requires.matchable
@@ -57,17 +46,31 @@ along_walk-requires-clause-count g c = c.requires.count
 pub along_walk-requires-clause-live : goal.along_walk-requires-clause-live
 along_walk-requires-clause-live g c = c.requires.live
 
-pub along_walk-requires-clause-walked : goal.along_walk-requires-clause-walked
-along_walk-requires-clause-walked g c = c.walk_word-walk.ensures.live
+pub along_walk-requires-clause-word : goal.along_walk-requires-clause-word
+along_walk-requires-clause-word g c = word_is c.args.plan.now.table c.rule.result.now c.hook_word.result c.unwrap-word.result c.rule.ensures.rule c.hook_word.ensures c.unwrap-word.ensures
 
-pub along_walk-requires-clause-no_slots : goal.along_walk-requires-clause-no_slots
-along_walk-requires-clause-no_slots g c = c.lend_rows-slots.ensures.slots
+pub along_walk-requires-clause-walk : goal.along_walk-requires-clause-walk
+along_walk-requires-clause-walk g c =
+    let m = c.args.arena.now in
+    let word = c.unwrap-word.result in
+    let start = name_there m c.args.darts.now 0 (record { at = 0 }) c.requires.some in
+    rw c.walked.ensures.value (subst (λ d. IsWalk (along m word) (length word) d (names_of m c.walk_turns.new.scratch.walked)) (sym start) c.in_ok-walk_turns.ensures.walk)
 
-pub along_walk-requires-clause-no_turns : goal.along_walk-requires-clause-no_turns
-along_walk-requires-clause-no_turns g c = c.lend_rows-slots.ensures.turns
+pub returns-clause-cost : goal.returns-clause-cost
+returns-clause-cost g c = λ walk is_walk.
+    let has = subst (λ n. 0 < n) c.requires.count c.requires.some in
+    let word = c.unwrap-word.result in
+    let is_word = word_is c.args.plan.now.table c.rule.result.now c.hook_word.result word c.rule.ensures.rule c.hook_word.ensures c.unwrap-word.ensures in
+    let m = c.args.arena.now in
+    let slots = c.walk_turns.new.scratch.walked in
+    let start = name_there m c.args.darts.now 0 (record { at = 0 }) c.requires.some in
+    let walked = subst (λ d. (walk : List ℕ) → IsWalk (along m word) (length word) d walk → c.walk_turns.new.steps ≤ c.args.steps.now + length walk * length word) (sym start) c.walk_turns.ensures.cost in
+    let ours = subst (λ d. IsWalk (along m word) (length word) d (names_of m slots)) (sym start) c.in_ok-walk_turns.ensures.walk in
+    let placing = subst (λ xs. c.along_walk.new.steps ≤ c.walk_turns.new.steps + length xs * length (rule_of c.args.plan.now.table).nodes) c.walked.ensures.value c.along_walk.ensures.cost in
+    walk_cost m c.args.plan.now c.requires.matchable has word is_word _ _ _ walked _ walk is_walk (along_cost m c.args.plan.now c.requires.matchable has word is_word _ slots ours _ _ placing walk is_walk)
 
 pub returns-clause-candidate : goal.returns-clause-candidate
 returns-clause-candidate g c = c.along_walk.ensures.candidate
 
 pub returns-clause-least : goal.returns-clause-least
-returns-clause-least g c = le_trans c.walk_word-walk.ensures.least c.along_walk.ensures.least
+returns-clause-least g c = le_trans c.walk_turns.ensures.least c.along_walk.ensures.least

@@ -6,7 +6,7 @@ use Rattle.std.proofs.lemmas.List.{get_or_append_left, get_or_push, get_or-appen
 use Rattle.std.proofs.lemmas.Nat.{div-add-mod'}
 use Rattle.std.proofs.lemmas.Option.{slice_get-get_or, slice_get_within, get_or_from_slice_get}
 use Rattle.std.specs.List.{slice_get, All}
-use Rattle.gm_match.specs.Cells.{AreCells, IsRow}
+use Rattle.gm_walk.specs.Cells.{AreCells, IsRow}
 
 module _ {X : Type 0} where
   pub get_left : (xs ys : List X) (i : ℕ) (v : X) → slice_get xs i ≡ Some v → slice_get (xs ++ ys) i ≡ Some v
