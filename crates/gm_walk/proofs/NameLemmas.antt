@@ -1,11 +1,12 @@
 -- The walk of slots as the walk of the names at them.
-use Rattle.std.proofs.Common.{◌≡◌, ℕ, ◌+◌, ◌<◌, ◌≤◌, ◌↔◌, Bool, false, IsTrue, List, [], ◌∷◌, ◌++◌, Option, Some, None, length, get_or, unwrap_or, slice_get, refl, sym, ap, subst, ◌∙◌, arith}
+use Rattle.std.proofs.Common.{◌≡◌, ℕ, ◌+◌, ◌<◌, ◌≤◌, ◌⊎◌, ◌↔◌, inl, inr, Bool, false, IsTrue, List, [], ◌∷◌, ◌++◌, Option, Some, None, length, get_or, unwrap_or, slice_get, refl, sym, ap, subst, ◌∙◌, arith}
 use Rattle.std.specs.List.{Contains}
 use Rattle.std.specs.Option.{IsSome, option_map}
 use Rattle.std.specs.FinMap.{get}
-use Rattle.std.proofs.lemmas.Bool.{false≢true}
+use Rattle.std.proofs.lemmas.Bool.{cases_lt, false≢true}
 use Rattle.std.proofs.lemmas.List.{length-map, length_push, map_push, get_or-map, get_or_append_left}
 use Rattle.std.proofs.lemmas.List.Elements.{All-push}
+use Rattle.std.proofs.lemmas.Option.{slice_get_within, get_or_from_slice_get}
 use Rattle.gm_model.specs.declared.word.Letter.{Letter}
 use Rattle.gm_model.specs.declared.word.Letter.TheVariants.{At}
 use Rattle.gm_model.specs.Orbits.{IsWalkTo}
@@ -39,6 +40,18 @@ module _ (old : Room) (slot : Slot) (new : Room) (answer : Bool) (takes : TakesI
       go : TakesIn old slot new → Contains old.walked slot × (new ≡ old)
       go (Known c e) = (c, e)
       go (Added c e) = absurd (false≢true (sym denied ∙ says.1 c))
+
+-- a slot is new exactly where it is behind those that were walked
+pub new_at_end : (old : Room) (slot : Slot) (new : Room) → TakesIn old slot new → (p : ℕ) → slice_get new.walked p ≡ Some slot → (p ≡ length old.walked) ↔ (Contains old.walked slot → ⊥)
+new_at_end old slot new (Known c e) p at = let within = slice_get_within new.walked p slot at in ((λ end. absurd (omega (arith, end, within, ap (λ (r : Room). length r.walked) e))), (λ lacks. absurd (lacks c)))
+new_at_end old slot new (Added c e) p at = ((λ end. c), (λ lacks. go (cases_lt p (length old.walked))))
+  where
+    same : new.walked ≡ old.walked ++ slot ∷ []
+    same = ap (λ (r : Room). r.walked) e
+
+    go : (p < length old.walked) ⊎ (length old.walked ≤ p) → p ≡ length old.walked
+    go (inl less) = absurd (c (p, less, sym (get_or_append_left old.walked (slot ∷ []) slot p less) ∙ (ap (λ xs. get_or xs p slot) (sym same) ∙ get_or_from_slice_get new.walked p slot slot at)))
+    go (inr past) = omega (arith, past, slice_get_within new.walked p slot at, ap length same, length_push old.walked slot)
 
 module _ (m : ArenaMap) where
   pub name_there : (slots : List Slot) (p : ℕ) (d : Slot) → p < length slots → get_or (names_of m slots) p 0 ≡ name_at m (get_or slots p d).at

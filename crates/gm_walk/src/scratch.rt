@@ -125,7 +125,7 @@ impl Scratch {
         requires { slot.at < self.old.bound }
         ensures { TakesIn self.old slot self.new }
     {
-        self.take_new(slot);
+        self.take(slot);
     }
 
     /// Puts the slot behind those that were walked, unless it is among them, and tells whether it
@@ -135,14 +135,8 @@ impl Scratch {
         ensures taken { TakesIn self.old slot self.new }
         ensures new { IsTrue result ↔ (Contains self.old.walked slot → ⊥) }
     {
-        let place = self.queue.len() as u32;
-        let mark = &mut self.marks[slot.at as usize];
-        if *mark != 0 {
-            return false;
-        }
-        *mark = place + 1;
-        self.queue.push_reserved(slot);
-        true
+        let end = self.queue.len() as u32;
+        self.take(slot) == end
     }
 
     /// Puts the slot behind those that were walked, unless it is among them, and tells its place

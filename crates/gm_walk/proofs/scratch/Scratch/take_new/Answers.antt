@@ -1,40 +1,10 @@
-use Rattle.std.proofs.Common.{◌≡◌, ◌+◌, ◌<◌, length, get_or, refl, sym, ap, ◌∙◌, arith, length-set}
-use Rattle.std.proofs.lemmas.Bool.{false≢true}
-use Rattle.std.proofs.lemmas.List.{length-map, map_push, get_or_default}
-use Rattle.gm_arena.specs.declared.slot.Slot.{Slot}
-use Rattle.gm_walk.specs.Room.TakesIn.{Known, Added}
-use Rattle.gm_walk.specs.Marks.{numbers}
-use Rattle.gm_walk.proofs.MarkLemmas.{taken_in, not_contained, has_mark}
+use Rattle.std.proofs.Common.{◌≡◌, length, sym, ap, ◌∙◌, arith}
+use Rattle.std.proofs.lemmas.Bool.{eq-eqb, eqb-true}
+use Rattle.gm_walk.proofs.NameLemmas.{new_at_end}
 use Rattle.gm_walk.proofs.scratch.Scratch.take_new.Goals as goal
 
-pub invariant_of-self-2 : goal.invariant_of-self-2
-invariant_of-self-2 c =
-    let m = c.self.invariant.marked in
-    let within : c.args.slot.at < length c.self.inside.marks.items = omega (arith, ap (λ r. r.bound) c.self.view_is, c.requires) in
-    let free : get_or c.self.inside.marks.items c.args.slot.at 0 ≡ 0 = get_or_default c.self.inside.marks.items c.args.slot.at 0 c.index_mut-mark.result.now within ∙ (sym c.index_mut-mark.ensures.value ∙ c.if-mark-ne0.false) in
-    let long : c.len-place.result ≡ length (numbers c.self.inside.queue.items) = omega (arith, c.len-place.ensures, c.self.inside.queue.ok.0, length-map c.self.inside.queue.items (λ (s : Slot). s.at)) in
-    record {
-      marked = rw (c.push_reserved.ensures.items, map_push, long) (taken_in _ _ _ m within free);
-      room = rw (length-set, c.push_reserved.ensures.capacity) c.self.invariant.room;
-      few = rw length-set c.self.invariant.few;
-    }
-
-pub returns : goal.returns
-returns c =
-    let within : c.args.slot.at < length c.self.inside.marks.items = omega (arith, ap (λ r. r.bound) c.self.view_is, c.requires) in
-    let free : get_or c.self.inside.marks.items c.args.slot.at 0 ≡ 0 = get_or_default c.self.inside.marks.items c.args.slot.at 0 c.index_mut-mark.result.now within ∙ (sym c.index_mut-mark.ensures.value ∙ c.if-mark-ne0.false) in
-    let lacks = not_contained _ _ c.self.invariant.marked c.args.slot free in
-    rw (← c.self.view_is) (record {
-      taken = Added lacks (λ i. record { bound = length-set c.self.inside.marks.items c.args.slot.at (c.len-place.result + 1) i; walked = c.push_reserved.ensures.items i });
-      new = ((λ yes. lacks), (λ new. refl));
-    })
-
-pub returns-then-mark-ne0 : goal.returns-then-mark-ne0
-returns-then-mark-ne0 c =
-    let within : c.args.slot.at < length c.self.inside.marks.items = omega (arith, ap (λ r. r.bound) c.self.view_is, c.requires) in
-    let mark = get_or_default c.self.inside.marks.items c.args.slot.at 0 c.index_mut-mark.result.now within ∙ sym c.index_mut-mark.ensures.value in
-    let there = has_mark _ _ c.self.invariant.marked c.args.slot (λ e. c.if-mark-ne0.true (sym mark ∙ e)) in
-    rw (← c.self.view_is) (record {
-      taken = Known there (λ i. record { bound = length-set c.self.inside.marks.items c.args.slot.at c.index_mut-mark.result.now i; walked = c.self.inside.queue.items });
-      new = ((λ yes. absurd (false≢true yes)), (λ new. absurd (new there)));
-    })
+pub returns-clause-new : goal.returns-clause-new
+returns-clause-new c =
+    let end : c.len-end.result ≡ length c.args.self.now.walked = omega (arith, c.len-end.ensures, c.self.inside.queue.ok.0, ap (λ r. length r.walked) c.self.view_is) in
+    let told = new_at_end c.args.self.now c.args.slot c.take.new.self c.take.ensures.taken c.take.result c.take.ensures.place in
+    ((λ yes. told.0 (eqb-true _ _ yes ∙ end)), (λ lacks. eq-eqb _ _ (told.1 lacks ∙ sym end)))
