@@ -1,12 +1,9 @@
 -- The candidate meets each forced step. The first hook lies along the walk, to whose positions it turns; and each other node lies where its
 -- least path leads, whose last link leads back too.
-use Rattle.std.proofs.Common.{◌≡◌, ℕ, ◌<◌, ◌≤◌, ◌⊎◌, inl, inr, Bool, true, false, IsTrue, List, [], ◌∷◌, ◌++◌, length, Some, refl, sym, ap, subst, ◌∙◌, arith}
-use Rattle.std.proofs.lemmas.Bool.{cases_lt}
-use Rattle.std.proofs.Math.Bool.{beq}
-use Rattle.std.proofs.lemmas.List.{get_or_past}
+use Rattle.std.proofs.Common.{◌≡◌, ℕ, ◌<◌, ◌≤◌, ◌⊎◌, inl, inr, IsTrue, List, [], ◌∷◌, ◌++◌, Some, refl, sym, ap, subst, ◌∙◌, arith}
 use Rattle.std.proofs.lemmas.Option.{slice_get_within}
 use Rattle.std.specs.List.{slice_get}
-use Rattle.std.specs.Prelude.{slice_index, slice_index_or}
+use Rattle.std.specs.Prelude.{slice_index}
 use Rattle.gm_model.specs.declared.rule.Link.{Link}
 use Rattle.gm_model.specs.declared.rule.Side.TheVariants.{Left}
 use Rattle.gm_model.specs.declared.schema.Schema.{Schema}
@@ -20,12 +17,13 @@ use Rattle.gm_arena.proofs.MapLemmas.{IsLiveName-name_at}
 use Rattle.gm_plan.specs.Paths.{IsLastLink}
 use Rattle.gm_plan.specs.Placed.{Placed, slot_at, turn_at}
 use Rattle.gm_plan.specs.Plans.{PlanOf}
+use Rattle.gm_plan.specs.Tests.{IsForcedStep}
+use Rattle.gm_plan.specs.Tests.IsForcedStep.{Free, Turns, EndsOwn, EndsOther}
 use Rattle.gm_theory.proofs.Agreement.{IsCreatedBy, IsWalkedBy, positions_parts}
 use Rattle.gm_theory.proofs.Lists.{none_some}
 use Rattle.gm_theory.proofs.RuleLinks.{linked_in_range, linked_step}
 use Rattle.gm_theory.proofs.ValuesReadOff.{read_off}
-use Rattle.gm_match.specs.Firsts.{IsForcedStep, AreForcedBeside, AreMetBeside, AreMetBy}
-use Rattle.gm_match.specs.Firsts.IsForcedStep.{Free, Turns, EndsOwn, EndsOther}
+use Rattle.gm_match.specs.Firsts.{AreMetBy}
 use Rattle.gm_match.specs.Layout.{AreMatchable, IsCandidateAt}
 use Rattle.gm_match.specs.Outcome.{name_of, place_of}
 use Rattle.gm_match.proofs.Paths.{follow_more, last_linked}
@@ -102,17 +100,6 @@ module _ (m : ArenaMap) (plan : PlanOf) (able : AreMatchable m plan) (found : Pl
       let link : Link = link_from x i y in
       rw (linked_step plan.schema rule able.planned.accepted.in_range able.planned.accepted.incidence Left x i y (linked link last p within)) (leads_on link last p within, leads_back link last p within)
 
-  pub met_beside : (x : ℕ) (marks : List Bool) → AreForcedBeside plan.schema.dim rule x marks → AreMetBeside m rule found x marks
-  met_beside x marks forced p i within low unmarked = forced_met x p i within (forced i (subst (λ (s : Schema). i ≤ s.dim) able.schema low) unmarked)
-
-  -- where no label is marked, each step is met
-  pub all_met : (x : ℕ) (marks : List Bool) → AreForcedBeside plan.schema.dim rule x marks → ((i : ℕ) → i < length marks → beq (slice_index_or marks i false) true ≡ false) → AreMetBy m rule found x
-  all_met x marks forced none p within i low = met_beside x marks forced p i within (omega (arith, low)) (unmarked (cases_lt i (length marks)))
-    where
-      isnt_true : (b : Bool) → beq b true ≡ false → b ≡ false
-      isnt_true true e = e
-      isnt_true false e = refl
-
-      unmarked : (i < length marks) ⊎ (length marks ≤ i) → slice_index_or marks i false ≡ false
-      unmarked (inl inside) = isnt_true (slice_index_or marks i false) (none i inside)
-      unmarked (inr past) = get_or_past marks i false past
+  -- where all steps of a node are forced, each is met
+  pub all_met : (x : ℕ) → ((i : ℕ) → i < 8 → IsForcedStep rule x i) → AreMetBy m rule found x
+  all_met x forced p within i low = forced_met x p i within (forced i (omega (arith, low, able.lawful.dim.1)))

@@ -4,7 +4,6 @@ pub mod Answering
 pub mod Costs
 pub mod Paths
 pub mod FirstTurns
-pub mod Marking
 pub mod ForcedMet
 pub mod Growing
 pub mod OneNode

@@ -1,12 +1,12 @@
 -- When a step of the candidate is met, by slots, and which is the first that isn't.
-use Rattle.std.proofs.Common.{◌≡◌, ℕ, ◌+◌, ◌*◌, ◌<◌, ◌≤◌, ◌↔◌, inl, inr, Bool, true, IsTrue, List, length, get_or, Some, refl, sym, ap, subst, ◌∙◌, arith}
+use Rattle.std.proofs.Common.{◌≡◌, ℕ, ◌+◌, ◌*◌, ◌<◌, ◌≤◌, ◌↔◌, inl, inr, Bool, IsTrue, List, length, get_or, Some, sym, ap, subst, ◌∙◌, arith}
 use Rattle.std.proofs.lemmas.Bool.{cases_order}
 use Rattle.std.proofs.lemmas.Nat.{mul-add-lt}
 use Rattle.std.proofs.lemmas.Option.{slice_get-get_or, slice_get_within, get_or_from_slice_get}
 use Rattle.gm_model.specs.declared.rule.Side.TheVariants.{Left}
 use Rattle.gm_model.specs.declared.schema.Schema.{Schema}
 use Rattle.gm_model.specs.declared.step.Step.{Step}
-use Rattle.gm_model.specs.declared.step.Step.TheVariants.{Absent, Exp, Imp}
+use Rattle.gm_model.specs.declared.step.Step.TheVariants.{Exp, Imp}
 use Rattle.gm_model.specs.declared.value.Value.{Value}
 use Rattle.gm_model.specs.Applications.{IsStepBefore, IsFirstBroken}
 use Rattle.gm_model.specs.Maps.{IsGeneralised, dimension}
@@ -39,9 +39,6 @@ module _ (m : ArenaMap) (found : Placed) where
       (get_or found.slots at (record { at = 0 }), slice_get-get_or found.slots at (record { at = 0 }) within)
 
   -- ---- one step, by the slots
-
-  pub absent_met : (x p i : ℕ) (s : Step) → Absent ≡ s → IsTrue true ↔ IsStepMet (alpha m) (place_of m found) x p i s
-  absent_met x p i s e = subst (λ s'. IsTrue true ↔ IsStepMet (alpha m) (place_of m found) x p i s') e ((λ told. tt), (λ met. refl))
 
   module _ (lawful : IsLawful m) (generalised : IsGeneralised (as_map m)) (x p i : ℕ) (from : Slot) (here : slot_at found x p ≡ Some from) (live : IsLiveSlot m from.at) (label : i ≤ m.schema.dim) where
     pub linked_met : (y : ℕ) (to : Slot) (leads : Bool) → slot_at found y p ≡ Some to → IsTrue leads ↔ (alpha m i (name_at m from.at) ≡ name_at m to.at) → (s : Step) → Exp y ≡ s → IsTrue leads ↔ IsStepMet (alpha m) (place_of m found) x p i s

@@ -2,18 +2,16 @@ ghost use Rattle.std.specs.Prelude.{◌≡◌, ℕ, List, ◌+◌, ◌*◌, ◌<
 ghost use Rattle.gm_arena.specs.ArenaAsMap.{as_map};
 ghost use Rattle.gm_arena.specs.ArenaMap.{IsLiveSlot, name_at, alpha};
 ghost use Rattle.gm_arena.specs.Lawful.{IsLawful};
-ghost use Rattle.gm_model.specs.declared.rule.Side.TheVariants.{Left};
 ghost use Rattle.gm_model.specs.Matches.{IsMetAt};
-ghost use Rattle.gm_model.specs.Rules.{rule_of, has_word};
+ghost use Rattle.gm_model.specs.Rules.{rule_of};
 ghost use Rattle.gm_model.specs.Structure.{AreGood, IsFirstBad};
-ghost use Rattle.gm_plan.specs.Plans.{IsPlanned};
 ghost use Rattle.gm_match.specs.Outcome.{place_of};
-ghost use Rattle.gm_match.specs.Layout.{AreMatchable, IsLaid, IsCandidateAt};
-ghost use Rattle.gm_match.specs.Firsts.{IsForcedStep, AreForcedBeside, AreMetBeside, AreMetAt, AreMetBy, AreMet, IsFirstAt, IsFirstStep};
+ghost use Rattle.gm_match.specs.Layout.{AreMatchable, IsCandidateAt};
+ghost use Rattle.gm_match.specs.Firsts.{AreMetAt, AreMetBy, AreMet, IsFirstAt, IsFirstStep};
 
 use crate::fault::MatchFault;
 use gm_arena::{Arena, Slot, Steps};
-use gm_model::{MOST_LABELS, Side, Step};
+use gm_model::Step;
 use gm_plan::{Instances, Plan};
 use std::sync::ledger::Ledger;
 
@@ -33,11 +31,10 @@ pub(crate) fn meet_steps<L: Ledger>(
     ensures least { steps.old ≤ steps.new }
 {
     for node in 0..plan.left_nodes() {
-        let tested = tested_labels(plan, node);
-        if !tested.contains(&true) {
+        if !plan.has_tests(node) {
             continue;
         }
-        if let Some((position, label)) = broken_position(plan, arena, found, node, &tested, steps) {
+        if let Some((position, label)) = broken_position(plan, arena, found, node, steps) {
             return Err(MatchFault::Arc {
                 node,
                 position,
@@ -48,63 +45,17 @@ pub(crate) fn meet_steps<L: Ledger>(
     Ok(())
 }
 
-/// At which labels the left step of the node needs a test: the candidate meets each other one as it
-/// is made.
-fn tested_labels(plan: &Plan<'_>, node: u8) -> [bool; MOST_LABELS]
-    requires planned { IsPlanned plan.now.schema (rule_of plan.now.table) }
-    requires left { IsTrue (has_word (rule_of plan.now.table) Left node) }
-    ensures forced { AreForcedBeside plan.now.schema.dim (rule_of plan.now.table) node result }
-{
-    let mut tested = unwalked_labels(plan, node);
-    for link in plan.paths() {
-        if link.from == node || link.to == node {
-            tested[link.label as usize] = false;
-        }
-    }
-    tested
-}
-
-/// At which labels the node has a left step that the walk alone doesn't meet.
-fn unwalked_labels(plan: &Plan<'_>, node: u8) -> [bool; MOST_LABELS]
-    requires left { IsTrue (has_word (rule_of plan.now.table) Left node) }
-    ensures forced { AreForcedBeside plan.now.schema.dim (rule_of plan.now.table) node result }
-    ensures len { length result ≡ 8 }
-    ensures few { plan.now.schema.dim < 8 }
-{
-    let mut unwalked = [false; MOST_LABELS];
-    for label in 0..plan.schema().dim.top() + 1 {
-        unwalked[label as usize] = !is_walked(plan, node, label);
-    }
-    unwalked
-}
-
-/// Whether the node has no left step at the label, or is the first hook and turns there.
-fn is_walked(plan: &Plan<'_>, node: u8, label: u8) -> bool
-    requires left { IsTrue (has_word (rule_of plan.now.table) Left node) }
-    requires label { label < 8 }
-    ensures forced { IsTrue result → IsForcedStep (rule_of plan.now.table) node label }
-{
-    match plan.step(Side::Left, node, label) {
-        Step::Absent => true,
-        Step::Exp(_) => false,
-        Step::Imp(_) => plan.rule().hooks.as_slice()[0] == node,
-    }
-}
-
-/// The first position and label at which a left step of the node is broken. Those at the labels
-/// that aren't to be tested are met.
+/// The first position and label at which a left step of the node is broken.
 fn broken_position<L: Ledger>(
     plan: &Plan<'_>,
     arena: &Arena,
     found: &Instances,
     node: u8,
-    tested: &[bool; MOST_LABELS],
     steps: &mut Steps<L>,
 ) -> Option<(u32, u8)>
     requires matchable { AreMatchable arena.now plan.now }
-    requires laid { IsLaid arena.now (rule_of plan.now.table) found.now }
+    requires candidate { (hooks : List ℕ) × IsCandidateAt arena.now (rule_of plan.now.table) hooks found.now }
     requires node { node < found.now.nodes }
-    requires beside { AreMetBeside arena.now (rule_of plan.now.table) found.now node tested.now }
     ensures first { MatchOption result
         (AreMetBy arena.now (rule_of plan.now.table) found.now node)
         (λ at. IsFirstAt arena.now (rule_of plan.now.table) found.now node at.0 at.1) }
@@ -112,29 +63,26 @@ fn broken_position<L: Ledger>(
     ensures least { steps.old ≤ steps.new }
 {
     for position in 0..found.positions() {
-        if let Some(label) = broken_label(plan, arena, found, node, position, tested, steps) {
+        if let Some(label) = broken_label(plan, arena, found, node, position, steps) {
             return Some((position, label));
         }
     }
     None
 }
 
-/// The first label at which the left step of the node is broken at the position. Those at the labels
-/// that aren't to be tested are met.
+/// The first label at which the left step of the node is broken at the position.
 fn broken_label<L: Ledger>(
     plan: &Plan<'_>,
     arena: &Arena,
     found: &Instances,
     node: u8,
     position: u32,
-    tested: &[bool; MOST_LABELS],
     steps: &mut Steps<L>,
 ) -> Option<u8>
     requires matchable { AreMatchable arena.now plan.now }
-    requires laid { IsLaid arena.now (rule_of plan.now.table) found.now }
+    requires candidate { (hooks : List ℕ) × IsCandidateAt arena.now (rule_of plan.now.table) hooks found.now }
     requires node { node < found.now.nodes }
     requires position { position < found.now.positions }
-    requires beside { AreMetBeside arena.now (rule_of plan.now.table) found.now node tested.now }
     ensures first { MatchOption result
         (AreMetAt arena.now (rule_of plan.now.table) found.now node position)
         (IsFirstBad (IsMetAt (as_map arena.now) (rule_of plan.now.table) (place_of arena.now found.now) node position) (arena.now.schema.dim + 1)) }
@@ -142,9 +90,6 @@ fn broken_label<L: Ledger>(
     ensures least { steps.old ≤ steps.new }
 {
     for label in 0..arena.schema().dim.top() + 1 {
-        if !tested[label as usize] {
-            continue;
-        }
         if !is_met(plan, arena, found, node, position, label, steps) {
             return Some(label);
         }
@@ -152,7 +97,7 @@ fn broken_label<L: Ledger>(
     None
 }
 
-/// Whether the left step of the node at the label is met at the position.
+/// Whether the left step of the node at the label is met at the position. One that needs no test is.
 fn is_met<L: Ledger>(
     plan: &Plan<'_>,
     arena: &Arena,
@@ -163,7 +108,7 @@ fn is_met<L: Ledger>(
     steps: &mut Steps<L>,
 ) -> bool
     requires matchable { AreMatchable arena.now plan.now }
-    requires laid { IsLaid arena.now (rule_of plan.now.table) found.now }
+    requires candidate { (hooks : List ℕ) × IsCandidateAt arena.now (rule_of plan.now.table) hooks found.now }
     requires node { node < found.now.nodes }
     requires position { position < found.now.positions }
     requires label { label ≤ arena.now.schema.dim }
@@ -172,7 +117,7 @@ fn is_met<L: Ledger>(
     ensures least { steps.old ≤ steps.new }
 {
     let from = found.slot(node, position);
-    match plan.step(Side::Left, node, label) {
+    match plan.tested_step(node, label) {
         Step::Absent => true,
         Step::Exp(other) => leads(arena, from, label, found.slot(other, position), steps),
         Step::Imp(place) => {

@@ -10,3 +10,4 @@ pub mod PathLinks
 pub mod Ranks
 pub mod Rows
 pub mod Search
+pub mod Tested

@@ -14,6 +14,7 @@ use Rattle.gm_model.specs.Unfolding.{added_nodes}
 use Rattle.gm_plan.specs.Changes.{freed_step, made_step}
 use Rattle.gm_plan.specs.Counts.{removed_nodes}
 use Rattle.gm_plan.specs.Paths.{ArePaths}
+use Rattle.gm_plan.specs.Tests.{tested_step}
 
 -- a plan is that of a rule over a schema
 pub record PlanOf : Type 0 where
@@ -49,11 +50,12 @@ pub record AreCounts (rule : Rule) (left added removed : ℕ) : Type 0 where
   pub added_is : added ≡ added_nodes rule
   pub removed_is : removed ≡ removed_nodes rule
 
-pub record IsCompiled (schema : Schema) (rule : Rule) (left right made freed : List (List Step)) (paths : List Link) (left_nodes added removed : ℕ) : Type 0 where
+pub record IsCompiled (schema : Schema) (rule : Rule) (left right made freed tested : List (List Step)) (paths : List Link) (left_nodes added removed : ℕ) : Type 0 where
   pub planned : IsPlanned schema rule
   pub left_steps : AreSteps rule Left (length rule.nodes) left
   pub right_steps : AreSteps rule Right (length rule.nodes) right
   pub made_steps : AreRows (made_step rule) (length rule.nodes) made
   pub freed_steps : AreRows (freed_step rule) (length rule.nodes) freed
+  pub tested_steps : AreRows (tested_step rule paths) (length rule.nodes) tested
   pub are_paths : ArePaths rule paths
   pub are_counts : AreCounts rule left_nodes added removed

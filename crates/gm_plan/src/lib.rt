@@ -9,6 +9,7 @@ mod laws;
 mod paths;
 mod plan;
 mod sides;
+mod tests;
 
 pub use compiler::{PlanFault, compile};
 pub use instances::Instances;

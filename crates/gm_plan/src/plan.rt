@@ -1,9 +1,10 @@
-ghost use Rattle.std.specs.Prelude.{◌≡◌, ℕ, ◌<◌, ◌≤◌, ◌↔◌, length, MatchOption, IfOk, IsTrue};
+ghost use Rattle.std.specs.Prelude.{◌≡◌, ◌≢◌, false, ℕ, ◌<◌, ◌≤◌, ◌↔◌, length, MatchOption, IfOk, IsTrue};
 ghost use Rattle.std.specs.List.{Contains};
 
 use crate::changes::{freed_steps, made_steps};
 use crate::paths::{Paths, least_paths, link_to};
 use crate::sides::{Row, count_added, count_left, count_removed, side_steps};
+use crate::tests::{has_step, tested_steps};
 use gm_model::{Link, OutOfMemory, RuleTable, Schema, Side, Step};
 use std::alloc::Global;
 use std::marker::Model;
@@ -20,6 +21,7 @@ pub struct Plan<'b> {
     right: Vec<Row>,
     made: Vec<Row>,
     freed: Vec<Row>,
+    tested: Vec<Row>,
     paths: Paths,
     left_nodes: u8,
     added: u8,
@@ -38,17 +40,19 @@ impl<'b> Model for Plan<'b> {
 
     ghost view = { λ a. record { schema = a.schema.now; table = a.rule.now } };
 
-    ghost invariant = { λ a. IsCompiled a.schema.now (rule_of a.rule.now) a.left.items a.right.items a.made.items a.freed.items a.paths.items a.left_nodes a.added a.removed };
+    ghost invariant = { λ a. IsCompiled a.schema.now (rule_of a.rule.now) a.left.items a.right.items a.made.items a.freed.items a.tested.items a.paths.items a.left_nodes a.added a.removed };
 }
 
 impl<'b> Plan<'b> {
     ghost use Rattle.gm_model.specs.declared.rule.Side.TheVariants.{Left};
+    ghost use Rattle.gm_model.specs.declared.step.Step.TheVariants.{Absent};
     ghost use Rattle.gm_model.specs.Rules.{rule_of, has_word, link_from, step};
     ghost use Rattle.gm_model.specs.Unfolding.{added_nodes};
     ghost use Rattle.gm_plan.specs.Changes.{freed_step, made_step};
     ghost use Rattle.gm_plan.specs.Counts.{removed_nodes};
     ghost use Rattle.gm_plan.specs.Paths.{ArePaths, IsLastLink};
     ghost use Rattle.gm_plan.specs.Plans.{IsPlanned, IsLeftCount, plan_of};
+    ghost use Rattle.gm_plan.specs.Tests.{IsForcedStep};
 
     /// The plan of a rule that is accepted.
     pub(crate) fn new(
@@ -64,6 +68,7 @@ impl<'b> Plan<'b> {
         let made = made_steps(alloc, rule, left.as_slice(), right.as_slice())?;
         let freed = freed_steps(alloc, rule, left.as_slice())?;
         let paths = least_paths(alloc, schema, rule, left.as_slice())?;
+        let tested = tested_steps(alloc, rule, left.as_slice(), paths.as_slice())?;
         Ok(Plan {
             schema,
             rule,
@@ -71,6 +76,7 @@ impl<'b> Plan<'b> {
             right,
             made,
             freed,
+            tested,
             paths,
             left_nodes: count_left(rule),
             added: count_added(rule),
@@ -153,6 +159,25 @@ impl<'b> Plan<'b> {
         ensures { result ≡ freed_step (rule_of self.now.table) node label }
     {
         self.freed[node as usize][label as usize]
+    }
+
+    /// Whether a match has to test a left step of the node.
+    pub fn has_tests(&self, node: u8) -> bool
+        requires { node < length (rule_of self.now.table).nodes }
+        ensures { result ≡ false → (i : ℕ) → i < 8 → IsForcedStep (rule_of self.now.table) node i }
+    {
+        has_step(&self.tested[node as usize])
+    }
+
+    /// The left step of the node at the label, where a match has to test it, and else
+    /// `Step::Absent`: the candidate meets the step as it is made.
+    pub fn tested_step(&self, node: u8, label: u8) -> Step
+        requires node { node < length (rule_of self.now.table).nodes }
+        requires label { label < 8 }
+        ensures forced { result ≡ Absent → IsForcedStep (rule_of self.now.table) node label }
+        ensures kept { result ≢ Absent → result ≡ step (rule_of self.now.table) Left node label }
+    {
+        self.tested[node as usize][label as usize]
     }
 
     /// The last link of the least path to each left node but the hooks, in an order in which each

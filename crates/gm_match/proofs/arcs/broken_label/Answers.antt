@@ -2,19 +2,8 @@ use Rattle.std.proofs.Common.{sym, ap, ◌∙◌, below_more, arith}
 use Rattle.std.proofs.lemmas.Bool.{false≢true}
 use Rattle.std.proofs.Math.Nat.{le_refl, le_trans, le-add_right}
 use Rattle.gm_model.specs.declared.schema.Schema.{Schema}
-use Rattle.gm_match.proofs.Costs.{nothing_below, label_below, label_most, label_within, label_before, label_cost, labels_cost}
+use Rattle.gm_match.proofs.Costs.{nothing_below, label_most, label_within, label_before, label_cost, labels_cost}
 use Rattle.gm_match.proofs.arcs.broken_label.Goals as goal
-
-pub loop-label-preserved-then-not-tested-label : goal.loop-label-preserved-then-not-tested-label
-loop-label-preserved-then-not-tested-label g c =
-    let i = c.loop-label.invariant in
-    let top = ap (λ (schema : Schema). schema.dim) c.schema.ensures in
-    let low = label_most c.loop-label-test.true c.top-label-end.ensures.value top in
-    record {
-      met = below_more _ _ i.met (c.requires.beside c.args.position c.loop-label.label c.requires.position low c.if-not-tested-label.true);
-      cost = omega (arith, i.cost);
-      least = i.least;
-    }
 
 pub loop-label-preserved : goal.loop-label-preserved
 loop-label-preserved g c = record { met = below_more _ _ c.loop-label.invariant.met (c.is_met.ensures.met.0 c.if-not-is_met.false); cost = omega (arith, c.loop-label.invariant.cost, c.is_met.ensures.cost); least = omega (arith, c.loop-label.invariant.least, c.is_met.ensures.least) }
@@ -25,14 +14,11 @@ overflow_add-label-end g c = omega (arith, c.top-label-end.ensures.greatest)
 pub loop-label-init : goal.loop-label-init
 loop-label-init g c = record { met = λ x h. absurd (nothing_below h); cost = le-add_right _ _; least = le_refl _ }
 
-pub bounds-tested-label : goal.bounds-tested-label
-bounds-tested-label g c = label_below c.loop-label-test.true c.top-label-end.ensures.value c.top-label-end.ensures.greatest
-
 pub is_met-requires-clause-matchable : goal.is_met-requires-clause-matchable
 is_met-requires-clause-matchable g c = c.requires.matchable
 
-pub is_met-requires-clause-laid : goal.is_met-requires-clause-laid
-is_met-requires-clause-laid g c = c.requires.laid
+pub is_met-requires-clause-candidate : goal.is_met-requires-clause-candidate
+is_met-requires-clause-candidate g c = c.requires.candidate
 
 pub is_met-requires-clause-node : goal.is_met-requires-clause-node
 is_met-requires-clause-node g c = c.requires.node

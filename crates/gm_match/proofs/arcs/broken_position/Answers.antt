@@ -15,17 +15,14 @@ loop-position-init g c = record { met = λ x h. absurd (nothing_below h); cost =
 pub broken_label-requires-clause-matchable : goal.broken_label-requires-clause-matchable
 broken_label-requires-clause-matchable g c = c.requires.matchable
 
-pub broken_label-requires-clause-laid : goal.broken_label-requires-clause-laid
-broken_label-requires-clause-laid g c = c.requires.laid
+pub broken_label-requires-clause-candidate : goal.broken_label-requires-clause-candidate
+broken_label-requires-clause-candidate g c = c.requires.candidate
 
 pub broken_label-requires-clause-node : goal.broken_label-requires-clause-node
 broken_label-requires-clause-node g c = c.requires.node
 
 pub broken_label-requires-clause-position : goal.broken_label-requires-clause-position
 broken_label-requires-clause-position g c = subst (λ n. c.loop-position.position < n) c.positions-position-end.ensures.value c.loop-position-test.true
-
-pub broken_label-requires-clause-beside : goal.broken_label-requires-clause-beside
-broken_label-requires-clause-beside g c = c.requires.beside
 
 pub returns-in-Some-clause-first : goal.returns-in-Some-clause-first
 returns-in-Some-clause-first g c =

@@ -1,21 +1,20 @@
-use Rattle.std.proofs.Common.{◌+◌, false, below_more, arith}
+use Rattle.std.proofs.Common.{◌+◌, below_more, arith}
 use Rattle.std.proofs.Math.Nat.{le_refl, le_trans, le-add_right}
+use Rattle.gm_model.specs.declared.rule.Side.TheVariants.{Left}
 use Rattle.gm_model.specs.Rules.{rule_of}
 use Rattle.gm_model.specs.Structure.{IsFirstBad}
+use Rattle.gm_theory.proofs.RuleSteps.{word_below}
 use Rattle.gm_match.specs.Firsts.{AreMetBy}
 use Rattle.gm_match.specs.Firsts.IsFirstStep.{NotMet}
 use Rattle.gm_match.proofs.Costs.{nothing_below, part_cost, whole_cost}
-use Rattle.gm_match.proofs.ForcedMet.{met_beside, all_met}
+use Rattle.gm_match.proofs.ForcedMet.{all_met}
 use Rattle.gm_match.proofs.Stepping.{same_count}
 use Rattle.gm_match.proofs.arcs.meet_steps.Goals as goal
 
-pub loop-node-preserved-then-not-contains : goal.loop-node-preserved-then-not-contains
-loop-node-preserved-then-not-contains g c =
-    let met = all_met c.args.arena.now c.args.plan.now c.requires.matchable c.args.found.now c.requires.candidate c.loop-node.node c.tested_labels-tested.result c.tested_labels-tested.ensures.forced (λ i inside. c.if-not-contains.ensures.cases i false (omega arith) inside) in
+pub loop-node-preserved-then-not-has_tests : goal.loop-node-preserved-then-not-has_tests
+loop-node-preserved-then-not-has_tests g c =
+    let met = all_met c.args.arena.now c.args.plan.now c.requires.matchable c.args.found.now c.requires.candidate c.loop-node.node (c.has_tests.ensures c.if-not-has_tests.true) in
     record { met = below_more _ _ c.loop-node.invariant.met met; cost = omega (arith, c.loop-node.invariant.cost); least = c.loop-node.invariant.least }
-
-pub broken_position-requires-clause-beside : goal.broken_position-requires-clause-beside
-broken_position-requires-clause-beside g c = met_beside c.args.arena.now c.args.plan.now c.requires.matchable c.args.found.now c.requires.candidate c.loop-node.node c.tested_labels-tested.result c.tested_labels-tested.ensures.forced
 
 pub broken_position-requires-clause-node : goal.broken_position-requires-clause-node
 broken_position-requires-clause-node g c =
@@ -41,17 +40,14 @@ returns-clause-steps g c =
 pub loop-node-init : goal.loop-node-init
 loop-node-init g c = record { met = λ x h. absurd (nothing_below h); cost = le-add_right _ _; least = le_refl _ }
 
-pub tested_labels-tested-requires-clause-planned : goal.tested_labels-tested-requires-clause-planned
-tested_labels-tested-requires-clause-planned g c = c.requires.matchable.planned
-
-pub tested_labels-tested-requires-clause-left : goal.tested_labels-tested-requires-clause-left
-tested_labels-tested-requires-clause-left g c = (c.left_nodes-node-end.ensures.left c.loop-node.node).1 c.loop-node-test.true
+pub has_tests-requires : goal.has_tests-requires
+has_tests-requires g c = word_below (rule_of c.args.plan.now.table) Left _ ((c.left_nodes-node-end.ensures.left c.loop-node.node).1 c.loop-node-test.true)
 
 pub broken_position-requires-clause-matchable : goal.broken_position-requires-clause-matchable
 broken_position-requires-clause-matchable g c = c.requires.matchable
 
-pub broken_position-requires-clause-laid : goal.broken_position-requires-clause-laid
-broken_position-requires-clause-laid g c = c.requires.candidate.1.laid
+pub broken_position-requires-clause-candidate : goal.broken_position-requires-clause-candidate
+broken_position-requires-clause-candidate g c = c.requires.candidate
 
 pub returns-in-Some-clause-cost : goal.returns-in-Some-clause-cost
 returns-in-Some-clause-cost g c = part_cost (c.args.arena.now.schema.dim + 1) c.args.found.now.positions _ _ _ _ _ _ c.loop-node-test.true c.left_nodes-node-end.ensures.most c.loop-node.invariant.cost c.broken_position.ensures.cost

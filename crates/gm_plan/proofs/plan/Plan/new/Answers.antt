@@ -47,6 +47,15 @@ least_paths-requires-clause-rows c = subst (AreSteps (rule_of c.args.rule.now) L
 pub returns-in_err-paths : goal.returns-in_err-paths
 returns-in_err-paths c = IfOk-from_err c.from_residual-in_err-paths.result _ c.from_residual-in_err-paths.ensures.0
 
+pub tested_steps-requires-clause-few : goal.tested_steps-requires-clause-few
+tested_steps-requires-clause-few c = c.requires.within.nodes
+
+pub tested_steps-requires-clause-left : goal.tested_steps-requires-clause-left
+tested_steps-requires-clause-left c = subst (AreSteps (rule_of c.args.rule.now) Left (length (rule_of c.args.rule.now).nodes)) (sym c.as_slice-5.ensures.value) c.in_ok-left.ensures
+
+pub returns-in_err-tested : goal.returns-in_err-tested
+returns-in_err-tested c = IfOk-from_err c.from_residual-in_err-tested.result _ c.from_residual-in_err-tested.ensures.0
+
 pub count_left-requires-clause-within : goal.count_left-requires-clause-within
 count_left-requires-clause-within c = c.requires.within.nodes
 
@@ -66,6 +75,7 @@ invariant_of-result c = record {
   right_steps = c.in_ok-right.ensures;
   made_steps = c.in_ok-made.ensures;
   freed_steps = c.in_ok-freed.ensures;
+  tested_steps = rw (← c.as_slice-6.ensures) c.in_ok-tested.ensures;
   are_paths = c.in_ok-paths.ensures;
   are_counts = record { left_is = c.count_left.ensures; added_is = c.count_added.ensures; removed_is = c.count_removed.ensures };
 }
