@@ -14,6 +14,9 @@ use gm_model::{Book, Line, OutOfMemory, RuleTable, Schema, Script};
 use gm_text::Text;
 use std::alloc::Global;
 
+/// The bytes of most lines, and of the one that counts them.
+const LINE_BYTES: usize = 48;
+
 /// A line for each line of the script, numbered from 1, and one that counts them. What `run`
 /// answers can be printed.
 pub fn print_report(
@@ -26,7 +29,9 @@ pub fn print_report(
     ensures { IfOk result (λ text. (told : List runs.Outcome) → Tells report.now.lines told → text.items ≡ report_text book.now.schema (map rule_of book.now.rules) script.now.lines told report.now.darts report.now.next) }
 {
     let outcomes = report.lines.as_slice();
-    let mut text = Text::new(alloc);
+    // Room at once, so that a long report isn't copied as it grows. What isn't written takes no memory.
+    let room = (outcomes.len() + 1).saturating_mul(LINE_BYTES);
+    let mut text = Text::in_place_of(Vec::new(alloc), room)?;
     put_lines(&mut text, book, script.lines.as_slice(), outcomes)?;
     put_counts(&mut text, outcomes, report.darts, report.next)?;
     Ok(text.into_bytes())
