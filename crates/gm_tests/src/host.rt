@@ -1,5 +1,5 @@
 //! Stores and sinks, in memory and real.
-use crate::expect::{expect_bytes, expect_holds, expect_same, expect_word};
+use crate::expect::{expect_bytes, expect_holds, expect_number, expect_same, expect_word};
 use gm_host::{
     FileStore, LoadFault, MemSink, MemStore, PutFault, SaveFault, Sink, StdSink, Store, SureSink,
     SureStore,
@@ -10,7 +10,6 @@ use std::fs::Permissions;
 use std::io::{Print, Write};
 use std::os::unix::fs::{PermissionsExt, symlink};
 use std::process::Abort;
-use std::test::Fail;
 use std::{fs, io};
 
 /// A load of a name with a limit, and its answer: a word, and the bytes that it carries.
@@ -46,8 +45,13 @@ fn save_word<S: Store>(store: &mut S, name: &str, bytes: &[u8]) -> &'static str 
     }
 }
 
-/// A save of bytes under a name, its answer as a word, and what is held under the name then.
-type Save<'a> = (&'a str, &'a [u8], &'a str, Option<&'a [u8]>);
+/// A save of bytes under a name, and its answer as a word.
+type Save<'a> = (&'a str, &'a [u8], &'a str);
+
+fn assert_save<S: Store>(rt: &impl Abort, store: &mut S, save: &Save<'_>) {
+    let (name, bytes, word) = save;
+    expect_word(rt, save_word(store, *name, *bytes), *word);
+}
 
 /// One step of a test over a store in memory: what is set, what is called, or what is held.
 enum Deed<'a> {
@@ -61,38 +65,8 @@ enum Deed<'a> {
     Held(&'a str, Option<&'a [u8]>),
 }
 
-fn assert_mem_save(rt: &impl Abort, store: &mut MemStore, save: &Save) {
-    let (name, bytes, word, held) = save;
-    expect_word(rt, save_word(store, *name, *bytes), *word);
-    expect_same(rt, &store.bytes(*name), held);
-}
-
-fn do_deed(rt: &impl Abort, alloc: Global, store: &mut MemStore, deed: &Deed) -> Result<(), Fail> {
-    match deed {
-        Deed::Hold(name, bytes) => store.hold(*name, *bytes)?,
-        Deed::FailLoad(call) => store.fail_load(*call)?,
-        Deed::FailSave(call, kept) => store.fail_save(*call, *kept)?,
-        Deed::Load(load) => assert_load(rt, alloc, store, load),
-        Deed::Save(save) => assert_mem_save(rt, store, save),
-        Deed::Held(name, held) => expect_same(rt, &store.bytes(*name), held),
-    }
-    Ok(())
-}
-
-fn do_deeds(
-    rt: &impl Abort,
-    alloc: Global,
-    store: &mut MemStore,
-    deeds: &[Deed],
-) -> Result<(), Fail> {
-    for deed in deeds {
-        do_deed(rt, alloc, store, deed)?;
-    }
-    Ok(())
-}
-
-/// The third load fails, and of the loads behind those that are done first the second.
-static LOADS: [Deed; 15] = [
+static MEM_DEEDS: [Deed; 35] = [
+    // The third load fails, and of the loads behind those that are done first the second.
     Deed::Hold("m", b"xy"),
     Deed::Hold("m", b"abcde"),
     Deed::Hold("e", b""),
@@ -108,74 +82,78 @@ static LOADS: [Deed; 15] = [
     Deed::Load(("n", 5, "failed", b"")),
     Deed::Held("m", Some(b"abcde")),
     Deed::Held("n", None),
-];
-
-#[test]
-fn mem_store(rt: HostRuntime) -> Result<(), Fail> {
-    let mut store = MemStore::new(rt.alloc());
-    do_deeds(&rt, rt.alloc(), &mut store, &LOADS)
-}
-
-static SAVES: [Deed; 13] = [
+    // Saves that fail, and keep nothing, some of the bytes or all.
     Deed::FailSave(1, Some(9)),
     Deed::FailSave(1, None),
     Deed::FailSave(2, Some(2)),
     Deed::FailSave(4, Some(9)),
-    Deed::Save(("m", b"abc", "ok", Some(b"abc"))),
-    Deed::Save(("m", b"xyz", "failed", Some(b"abc"))),
-    Deed::Save(("m", b"def", "failed", Some(b"de"))),
-    Deed::Save(("n", b"g", "ok", Some(b"g"))),
-    Deed::Save(("n", b"hi", "failed", Some(b"hi"))),
-    Deed::Save(("n", b"", "ok", Some(b""))),
+    Deed::Save(("m", b"abc", "ok")),
+    Deed::Held("m", Some(b"abc")),
+    Deed::Save(("m", b"xyz", "failed")),
+    Deed::Held("m", Some(b"abc")),
+    Deed::Save(("m", b"def", "failed")),
+    Deed::Held("m", Some(b"de")),
+    Deed::Save(("n", b"g", "ok")),
+    Deed::Held("n", Some(b"g")),
+    Deed::Save(("n", b"hi", "failed")),
+    Deed::Held("n", Some(b"hi")),
+    Deed::Save(("n", b"", "ok")),
+    Deed::Held("n", Some(b"")),
     Deed::FailSave(5, None),
-    Deed::Save(("o", b"j", "ok", Some(b"j"))),
+    Deed::Save(("o", b"j", "ok")),
+    Deed::Held("o", Some(b"j")),
     Deed::Held("m", Some(b"de")),
 ];
 
+fn do_deed(rt: &impl Abort, alloc: Global, store: &mut MemStore, deed: &Deed) {
+    match deed {
+        Deed::Hold(name, bytes) => store.hold(*name, *bytes).expect(rt, "memory"),
+        Deed::FailLoad(call) => store.fail_load(*call).expect(rt, "memory"),
+        Deed::FailSave(call, kept) => store.fail_save(*call, *kept).expect(rt, "memory"),
+        Deed::Load(load) => assert_load(rt, alloc, store, load),
+        Deed::Save(save) => assert_save(rt, store, save),
+        Deed::Held(name, held) => expect_same(rt, &store.bytes(*name), held),
+    }
+}
+
 #[test]
-fn mem_store_saves(rt: HostRuntime) -> Result<(), Fail> {
+fn mem_store(rt: HostRuntime) {
     let mut store = MemStore::new(rt.alloc());
-    do_deeds(&rt, rt.alloc(), &mut store, &SAVES)
-}
-
-static SURE_LOADS: [Load; 3] = [
-    ("m", 5, "ok", b"abcde"),
-    ("m", 4, "too long", b"abcde"),
-    ("n", 5, "absent", b""),
-];
-
-fn check_sure_store(rt: &impl Abort, alloc: Global, store: &mut SureStore) -> Result<(), Fail> {
-    store.hold("m", b"abcde")?;
-    for load in &SURE_LOADS {
-        assert_load(rt, alloc, store, load);
+    for deed in &MEM_DEEDS {
+        do_deed(&rt, rt.alloc(), &mut store, deed);
     }
-    expect_same(rt, &store.bytes("m"), &Some(b"abcde".as_slice()));
-    Ok(())
 }
 
-#[test]
-fn sure_store(rt: HostRuntime) -> Result<(), Fail> {
-    let mut store = SureStore::new(rt.alloc());
-    check_sure_store(&rt, rt.alloc(), &mut store)
-}
-
-static SURE_SAVES: [Save; 2] = [
-    ("m", b"abc", "ok", Some(b"abc")),
-    ("m", b"de", "ok", Some(b"de")),
+/// A store that never fails, to which no failure can be set.
+static SURE_DEEDS: [Deed; 10] = [
+    Deed::Save(("m", b"abc", "ok")),
+    Deed::Held("m", Some(b"abc")),
+    Deed::Save(("m", b"de", "ok")),
+    Deed::Held("m", Some(b"de")),
+    Deed::Held("n", None),
+    Deed::Hold("m", b"abcde"),
+    Deed::Load(("m", 5, "ok", b"abcde")),
+    Deed::Load(("m", 4, "too long", b"abcde")),
+    Deed::Load(("n", 5, "absent", b"")),
+    Deed::Held("m", Some(b"abcde")),
 ];
 
-fn assert_sure_saves(rt: &impl Abort, store: &mut SureStore, saves: &[Save]) {
-    for (name, bytes, word, held) in saves {
-        expect_word(rt, save_word(store, *name, *bytes), *word);
-        expect_same(rt, &store.bytes(*name), held);
+fn do_sure_deed(rt: &impl Abort, alloc: Global, store: &mut SureStore, deed: &Deed) {
+    match deed {
+        Deed::Hold(name, bytes) => store.hold(*name, *bytes).expect(rt, "memory"),
+        Deed::Load(load) => assert_load(rt, alloc, store, load),
+        Deed::Save(save) => assert_save(rt, store, save),
+        Deed::Held(name, held) => expect_same(rt, &store.bytes(*name), held),
+        Deed::FailLoad(_) | Deed::FailSave(..) => expect_holds(rt, false),
     }
 }
 
 #[test]
-fn sure_store_saves(rt: HostRuntime) {
+fn sure_store(rt: HostRuntime) {
     let mut store = SureStore::new(rt.alloc());
-    assert_sure_saves(&rt, &mut store, &SURE_SAVES);
-    expect_same(&rt, &store.bytes("n"), &None);
+    for deed in &SURE_DEEDS {
+        do_sure_deed(&rt, rt.alloc(), &mut store, deed);
+    }
 }
 
 /// One step of a test over files: what is done to a file, or what holds of it.
@@ -185,9 +163,10 @@ enum Step<'a> {
     /// A link to the first name is made under the second.
     Link(&'a str, &'a str),
     SetMode(&'a str, u32),
-    /// A save of bytes as a file, and its answer as a word.
-    Save(&'a str, &'a [u8], &'a str),
+    Save(Save<'a>),
     Load(Load<'a>),
+    /// Bytes that are longer than one piece, of which a load reads a file, are saved and loaded.
+    Long(&'a str),
     /// Bytes put into a file that takes at most so many at once, and the answers as words.
     Put(&'a str, usize, &'a [(&'a [u8], &'a str)]),
     Held(&'a str, &'a [u8]),
@@ -195,6 +174,59 @@ enum Step<'a> {
     Mode(&'a str, u32),
     IsLink(&'a str),
 }
+
+static FILES: [Step; 42] = [
+    // Loads.
+    Step::Write("held.txt", "abcde"),
+    Step::Load(("held.txt", 5, "ok", b"abcde")),
+    Step::Load(("held.txt", 3, "too long", b"abcd")),
+    Step::Load(("missing.txt", 5, "failed", b"")),
+    Step::Load(("held.txt", 18_446_744_073_709_551_615, "ok", b"abcde")),
+    Step::Remove("held.txt"),
+    // Saves.
+    Step::Save(("saved.txt", b"abc", "ok")),
+    Step::Load(("saved.txt", 5, "ok", b"abc")),
+    Step::Save(("saved.txt", b"de", "ok")),
+    Step::Load(("saved.txt", 5, "ok", b"de")),
+    Step::Save(("missing/saved.txt", b"fg", "failed")),
+    Step::Load(("missing/saved.txt", 5, "failed", b"")),
+    Step::Remove("saved.txt"),
+    // A save leaves the files beside its own.
+    Step::Write("own.txt.0", "mine"),
+    Step::Save(("own.txt", b"abc", "ok")),
+    Step::Held("own.txt", b"abc"),
+    Step::Held("own.txt.0", b"mine"),
+    Step::Absent("own.txt.1"),
+    Step::Remove("own.txt"),
+    Step::Remove("own.txt.0"),
+    // A save that fails leaves nothing.
+    Step::Save(("", b"abc", "failed")),
+    Step::Absent(".0"),
+    // A save keeps who has access.
+    Step::Write("access.txt", "abc"),
+    Step::SetMode("access.txt", 0o640),
+    Step::Save(("access.txt", b"de", "ok")),
+    Step::Held("access.txt", b"de"),
+    Step::Mode("access.txt", 0o640),
+    Step::Remove("access.txt"),
+    // A save follows a link.
+    Step::Write("linked.txt", "abcde"),
+    Step::Link("linked.txt", "link.txt"),
+    Step::Save(("link.txt", b"fg", "ok")),
+    Step::Held("linked.txt", b"fg"),
+    Step::IsLink("link.txt"),
+    Step::Remove("link.txt"),
+    Step::Remove("linked.txt"),
+    // A file of more than one piece.
+    Step::Long("long.txt"),
+    Step::Remove("long.txt"),
+    // An output that takes two bytes at once, and one that takes none.
+    Step::Put("narrow.txt", 2, &[(b"abcde", "ok")]),
+    Step::Held("narrow.txt", b"abcde"),
+    Step::Remove("narrow.txt"),
+    Step::Put("closed.txt", 0, &[(b"abcde", "failed"), (b"", "ok")]),
+    Step::Remove("closed.txt"),
+];
 
 /// Does what is done to a file without a store, in the steps that do so.
 fn change(host: &HostRuntime, step: &Step) -> io::Result<()> {
@@ -209,174 +241,75 @@ fn change(host: &HostRuntime, step: &Step) -> io::Result<()> {
     }
 }
 
-fn assert_held(rt: &impl Abort, host: &HostRuntime, name: &str, bytes: &[u8]) -> Result<(), Fail> {
-    let held = fs::read(host, name)?;
+fn assert_held(rt: &impl Abort, host: &HostRuntime, name: &str, bytes: &[u8]) {
+    let held = fs::read(host, name).expect(rt, "a file");
     expect_bytes(rt, held.as_slice(), bytes);
-    Ok(())
 }
 
-fn assert_absent(rt: &impl Abort, host: &HostRuntime, name: &str) -> Result<(), Fail> {
-    expect_same(rt, &fs::exists(host, name)?, &false);
-    Ok(())
+fn assert_absent(rt: &impl Abort, host: &HostRuntime, name: &str) {
+    let exists = fs::exists(host, name).expect(rt, "a folder");
+    expect_holds(rt, !exists);
 }
 
-fn assert_mode(rt: &impl Abort, host: &HostRuntime, name: &str, mode: u32) -> Result<(), Fail> {
-    let found = fs::metadata(host, name)?.permissions().mode();
-    expect_same(rt, &(found & 0o777), &mode);
-    Ok(())
+fn assert_mode(rt: &impl Abort, host: &HostRuntime, name: &str, mode: u32) {
+    let held = fs::metadata(host, name).expect(rt, "a file");
+    expect_same(rt, &(held.permissions().mode() & 0o777), &mode);
 }
 
-fn assert_link(rt: &impl Abort, host: &HostRuntime, name: &str) -> Result<(), Fail> {
-    expect_holds(rt, fs::symlink_metadata(host, name)?.is_symlink());
-    Ok(())
+fn assert_link(rt: &impl Abort, host: &HostRuntime, name: &str) {
+    let held = fs::symlink_metadata(host, name).expect(rt, "a file");
+    expect_holds(rt, held.is_symlink());
 }
 
-fn take_step<S: Store>(
-    rt: &impl Abort,
-    host: &HostRuntime,
-    store: &mut S,
-    step: &Step,
-) -> Result<(), Fail> {
+/// What holds of a file, in the steps that tell it, and else what is done to it without a store.
+fn look(rt: &impl Abort, host: &HostRuntime, step: &Step) {
     match step {
-        Step::Save(name, bytes, word) => {
-            expect_word(rt, save_word(store, *name, *bytes), *word);
-            Ok(())
-        }
-        Step::Load(load) => {
-            assert_load(rt, host.alloc(), store, load);
-            Ok(())
-        }
-        Step::Put(name, width, puts) => assert_puts(rt, host, *name, *width, *puts),
         Step::Held(name, bytes) => assert_held(rt, host, *name, *bytes),
         Step::Absent(name) => assert_absent(rt, host, *name),
         Step::Mode(name, mode) => assert_mode(rt, host, *name, *mode),
         Step::IsLink(name) => assert_link(rt, host, *name),
-        Step::Write(..) | Step::Remove(..) | Step::Link(..) | Step::SetMode(..) => {
-            Ok(change(host, step)?)
-        }
+        Step::Put(name, width, puts) => assert_puts(rt, host, *name, *width, *puts),
+        _ => change(host, step).expect(rt, "a change"),
     }
 }
 
-fn take_steps(rt: &impl Abort, host: &HostRuntime, steps: &[Step]) -> Result<(), Fail> {
-    let mut store = FileStore::new(host);
-    for step in steps {
-        take_step(rt, host, &mut store, step)?;
+fn take_step<S: Store>(rt: &impl Abort, host: &HostRuntime, store: &mut S, step: &Step) {
+    match step {
+        Step::Save(save) => assert_save(rt, store, save),
+        Step::Load(load) => assert_load(rt, host.alloc(), store, load),
+        Step::Long(name) => save_long(rt, host.alloc(), store, *name),
+        _ => look(rt, host, step),
     }
-    Ok(())
-}
-
-static FILE_LOADS: [Step; 6] = [
-    Step::Write("held.txt", "abcde"),
-    Step::Load(("held.txt", 5, "ok", b"abcde")),
-    Step::Load(("held.txt", 3, "too long", b"abcd")),
-    Step::Load(("missing.txt", 5, "failed", b"")),
-    Step::Load(("held.txt", 18_446_744_073_709_551_615, "ok", b"abcde")),
-    Step::Remove("held.txt"),
-];
-
-#[test]
-fn file_store(rt: HostRuntime) -> Result<(), Fail> {
-    take_steps(&rt, &rt, &FILE_LOADS)
-}
-
-static FILE_SAVES: [Step; 7] = [
-    Step::Save("saved.txt", b"abc", "ok"),
-    Step::Load(("saved.txt", 5, "ok", b"abc")),
-    Step::Save("saved.txt", b"de", "ok"),
-    Step::Load(("saved.txt", 5, "ok", b"de")),
-    Step::Save("missing/saved.txt", b"fg", "failed"),
-    Step::Load(("missing/saved.txt", 5, "failed", b"")),
-    Step::Remove("saved.txt"),
-];
-
-#[test]
-fn file_store_saves(rt: HostRuntime) -> Result<(), Fail> {
-    take_steps(&rt, &rt, &FILE_SAVES)
-}
-
-static FILES_BESIDE: [Step; 7] = [
-    Step::Write("own.txt.0", "mine"),
-    Step::Save("own.txt", b"abc", "ok"),
-    Step::Held("own.txt", b"abc"),
-    Step::Held("own.txt.0", b"mine"),
-    Step::Absent("own.txt.1"),
-    Step::Remove("own.txt"),
-    Step::Remove("own.txt.0"),
-];
-
-#[test]
-fn saves_leave_files_beside(rt: HostRuntime) -> Result<(), Fail> {
-    take_steps(&rt, &rt, &FILES_BESIDE)
-}
-
-static NO_FILE: [Step; 2] = [Step::Save("", b"abc", "failed"), Step::Absent(".0")];
-
-#[test]
-fn failed_saves_leave_nothing(rt: HostRuntime) -> Result<(), Fail> {
-    take_steps(&rt, &rt, &NO_FILE)
-}
-
-static ACCESS: [Step; 6] = [
-    Step::Write("access.txt", "abc"),
-    Step::SetMode("access.txt", 0o640),
-    Step::Save("access.txt", b"de", "ok"),
-    Step::Held("access.txt", b"de"),
-    Step::Mode("access.txt", 0o640),
-    Step::Remove("access.txt"),
-];
-
-#[test]
-fn saves_keep_access(rt: HostRuntime) -> Result<(), Fail> {
-    take_steps(&rt, &rt, &ACCESS)
-}
-
-static LINKS: [Step; 7] = [
-    Step::Write("linked.txt", "abcde"),
-    Step::Link("linked.txt", "link.txt"),
-    Step::Save("link.txt", b"fg", "ok"),
-    Step::Held("linked.txt", b"fg"),
-    Step::IsLink("link.txt"),
-    Step::Remove("link.txt"),
-    Step::Remove("linked.txt"),
-];
-
-#[test]
-fn saves_follow_links(rt: HostRuntime) -> Result<(), Fail> {
-    take_steps(&rt, &rt, &LINKS)
 }
 
 /// Longer than one piece, of which a load reads a file.
 const LONG: usize = 65_537;
 
-/// As many sevens as are one byte too few, and then a nine.
-fn long_bytes(alloc: Global) -> Result<Vec<u8>, Fail> {
-    let mut bytes = vec![in alloc; 7u8; LONG]?;
-    bytes.push(9)?;
-    Ok(bytes)
+/// As many sevens as are one byte too few, and then a nine, are saved and loaded.
+fn save_long<S: Store>(rt: &impl Abort, alloc: Global, store: &mut S, name: &str) {
+    let mut bytes = vec![in alloc; 7u8; LONG].expect(rt, "memory");
+    bytes.push(9).expect(rt, "memory");
+    check_long(rt, alloc, store, name, bytes.as_slice());
 }
 
-/// The bytes are saved and loaded, and where they are too long, these are seen.
-fn check_long(rt: &impl Abort, host: &HostRuntime, bytes: &[u8], seen: &[u8]) {
-    let alloc = host.alloc();
+/// The bytes are saved and loaded, and where they are too long, all but the last are seen.
+fn check_long<S: Store>(rt: &impl Abort, alloc: Global, store: &mut S, name: &str, bytes: &[u8]) {
+    let seen = bytes.get(..LONG).expect(rt, "so many bytes");
+    assert_save(rt, store, &(name, bytes, "ok"));
+    assert_load(rt, alloc, store, &(name, LONG + 1, "ok", bytes));
+    assert_load(rt, alloc, store, &(name, LONG - 1, "too long", seen));
+}
+
+fn take_steps(rt: &impl Abort, host: &HostRuntime, steps: &[Step]) {
     let mut store = FileStore::new(host);
-    expect_word(rt, save_word(&mut store, "long.txt", bytes), "ok");
-    assert_load(rt, alloc, &mut store, &("long.txt", LONG + 1, "ok", bytes));
-    assert_load(
-        rt,
-        alloc,
-        &mut store,
-        &("long.txt", LONG - 1, "too long", seen),
-    );
+    for step in steps {
+        take_step(rt, host, &mut store, step);
+    }
 }
-
-static LONG_FILE: [Step; 1] = [Step::Remove("long.txt")];
 
 #[test]
-fn long_files(rt: HostRuntime) -> Result<(), Fail> {
-    let bytes = long_bytes(rt.alloc())?;
-    let seen = vec![in rt.alloc(); 7u8; LONG]?;
-    check_long(&rt, &rt, bytes.as_slice(), seen.as_slice());
-    take_steps(&rt, &rt, &LONG_FILE)
+fn files(rt: HostRuntime) {
+    take_steps(&rt, &rt, &FILES);
 }
 
 fn put_word<O: Sink>(sink: &mut O, bytes: &[u8]) -> &'static str {
@@ -401,11 +334,10 @@ static PUTS: [Put; 5] = [
     (b"", "ok", b"abcdeghi"),
 ];
 
-fn fail_puts(sink: &mut MemSink, failing: &[(u32, usize)]) -> Result<(), Fail> {
+fn fail_puts(rt: &impl Abort, sink: &mut MemSink, failing: &[(u32, usize)]) {
     for (call, kept) in failing {
-        sink.fail_put(*call, *kept)?;
+        sink.fail_put(*call, *kept).expect(rt, "memory");
     }
-    Ok(())
 }
 
 fn check_puts(rt: &impl Abort, sink: &mut MemSink, puts: &[Put]) {
@@ -416,11 +348,10 @@ fn check_puts(rt: &impl Abort, sink: &mut MemSink, puts: &[Put]) {
 }
 
 #[test]
-fn mem_sink(rt: HostRuntime) -> Result<(), Fail> {
+fn mem_sink(rt: HostRuntime) {
     let mut sink = MemSink::new(rt.alloc());
-    fail_puts(&mut sink, &FAILING_PUTS)?;
+    fail_puts(&rt, &mut sink, &FAILING_PUTS);
     check_puts(&rt, &mut sink, &PUTS);
-    Ok(())
 }
 
 static SURE_PUTS: [Put; 2] = [(b"abc", "ok", b"abc"), (b"de", "ok", b"abcde")];
@@ -473,32 +404,10 @@ fn assert_puts(
     name: &str,
     width: usize,
     puts: &[(&[u8], &str)],
-) -> Result<(), Fail> {
-    let file = fs::create(host, name)?;
+) {
+    let file = fs::create(host, name).expect(rt, "a new file");
     let narrow = Narrow { file, width };
     for (bytes, word) in puts {
         expect_word(rt, put_word(&mut StdSink::new(&narrow), *bytes), *word);
     }
-    Ok(())
-}
-
-static NARROW: [Step; 3] = [
-    Step::Put("narrow.txt", 2, &[(b"abcde", "ok")]),
-    Step::Held("narrow.txt", b"abcde"),
-    Step::Remove("narrow.txt"),
-];
-
-#[test]
-fn narrow_output(rt: HostRuntime) -> Result<(), Fail> {
-    take_steps(&rt, &rt, &NARROW)
-}
-
-static CLOSED: [Step; 2] = [
-    Step::Put("closed.txt", 0, &[(b"abcde", "failed"), (b"", "ok")]),
-    Step::Remove("closed.txt"),
-];
-
-#[test]
-fn closed_output(rt: HostRuntime) -> Result<(), Fail> {
-    take_steps(&rt, &rt, &CLOSED)
 }
