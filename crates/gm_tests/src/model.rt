@@ -1,96 +1,122 @@
 //! Labels, words, names, values, lists and dimensions.
+use crate::expect::{expect_bytes, expect_holds, expect_number, expect_same, expect_same_at};
 use gm_model::{Dim, Items, Kind, Letter, Mask, Name, Path, Value, Word};
+use std::alloc::Global;
+use std::process::Abort;
 
-#[test]
-fn masks_have_the_labels_of_their_bits(rt: HostRuntime) {
-    for (bits, label, want) in [
-        (0b0000_0110, 0, false),
-        (0b0000_0110, 1, true),
-        (0b0000_0110, 2, true),
-        (0b0000_0110, 3, false),
-        (0b1000_0000, 7, true),
-        (0b0111_1111, 7, false),
-    ] {
-        assert_eq!(rt; Mask { bits }.has(label), want, "{bits} {label}");
+/// What is asked, and what is wanted of it.
+enum Question<'a> {
+    /// Whether the mask has the label of this bit.
+    Has(Mask, u8, bool),
+    /// Whether the letters are a word.
+    Word(&'a [Letter], bool),
+    /// Whether the bytes are a name.
+    Name(&'a [u8], bool),
+    Kind(Value, Kind),
+}
+
+static QUESTIONS: [Question; 27] = [
+    Question::Has(Mask { bits: 0b0000_0110 }, 0, false),
+    Question::Has(Mask { bits: 0b0000_0110 }, 1, true),
+    Question::Has(Mask { bits: 0b0000_0110 }, 2, true),
+    Question::Has(Mask { bits: 0b0000_0110 }, 3, false),
+    Question::Has(Mask { bits: 0b1000_0000 }, 7, true),
+    Question::Has(Mask { bits: 0b0111_1111 }, 7, false),
+    Question::Word(
+        &[Letter::At(0), Letter::Gone, Letter::At(2), Letter::At(7)],
+        true,
+    ),
+    Question::Word(&[], true),
+    Question::Word(&[Letter::Gone], true),
+    Question::Word(&[Letter::Gone; 8], true),
+    Question::Word(&[Letter::Gone; 9], false),
+    Question::Word(&[Letter::Gone; 12], false),
+    Question::Name(b"pos", true),
+    Question::Name(b"left", true),
+    Question::Name(b"a_", true),
+    Question::Name(b"a123456789012345678901234567890_", true),
+    Question::Name(b"a1234567890123456789012345678901x", false),
+    Question::Name(b"", false),
+    Question::Name(b"_a", false),
+    Question::Name(b"0ab", false),
+    Question::Name(b"a b", false),
+    Question::Name(b"a-b", false),
+    Question::Kind(Value::Int(-1), Kind::Int),
+    Question::Kind(Value::Bool(true), Kind::Bool),
+    Question::Kind(Value::Vec2(1, 2), Kind::Vec2),
+    Question::Kind(Value::Vec3(1, 2, 3), Kind::Vec3),
+    Question::Kind(Value::Rgb(1, 2, 255), Kind::Rgb),
+];
+
+fn ask(rt: &impl Abort, question: &Question) {
+    match question {
+        Question::Has(mask, label, wanted) => ask_mask(rt, *mask, *label, *wanted),
+        Question::Word(letters, wanted) => ask_word(rt, *letters, *wanted),
+        Question::Name(bytes, wanted) => ask_name(rt, *bytes, *wanted),
+        Question::Kind(value, kind) => expect_same(rt, &value.kind(), kind),
     }
 }
 
-#[test]
-fn words_hold_up_to_eight_letters(rt: HostRuntime) {
-    let letters = [Letter::At(0), Letter::Gone, Letter::At(2), Letter::At(7)];
-    let word = Word::new(&letters);
-    assert!(rt; word.is_some());
+fn ask_mask(rt: &impl Abort, mask: Mask, label: u8, wanted: bool) {
+    assert!(rt; label <= 7);
+    expect_same_at(rt, &mask.has(label), &wanted, &(mask, label));
+}
+
+/// The letters are a word, as is wanted, which has them in their order.
+fn ask_word(rt: &impl Abort, letters: &[Letter], wanted: bool) {
+    let word = Word::new(letters);
+    expect_same_at(rt, &word.is_some(), &wanted, &letters);
     if let Some(word) = word {
-        assert_eq!(rt; word.len(), 4);
-        assert_eq!(rt; word.letter(1), Letter::Gone);
-        assert_eq!(rt; word.letter(3), Letter::At(7));
-        assert!(rt; word == word);
-    }
-    for (length, fits) in [(0, true), (1, true), (8, true), (9, false), (12, false)] {
-        let many = [Letter::Gone; 12];
-        assert_eq!(rt; Word::new(&many[..length]).is_some(), fits, "{length}");
+        expect_letters(rt, &word, letters);
     }
 }
 
-#[test]
-fn names_are_one_token_of_32_bytes_at_most(rt: HostRuntime) {
-    let longest = b"a123456789012345678901234567890_";
-    for (bytes, want) in [
-        (b"pos".as_slice(), true),
-        (b"left".as_slice(), true),
-        (b"a_".as_slice(), true),
-        (longest.as_slice(), true),
-        (b"a1234567890123456789012345678901x".as_slice(), false),
-        (b"".as_slice(), false),
-        (b"_a".as_slice(), false),
-        (b"0ab".as_slice(), false),
-        (b"a b".as_slice(), false),
-        (b"a-b".as_slice(), false),
-    ] {
-        let name = Name::new(bytes);
-        assert_eq!(rt; name.is_some(), want);
-        if let Some(name) = name {
-            assert!(rt; name.bytes() == bytes);
-        }
+fn expect_letters(rt: &impl Abort, word: &Word, letters: &[Letter]) {
+    expect_number(rt, word.len() as usize, letters.len());
+    expect_holds(rt, *word == *word);
+    for (place, letter) in letters.iter().enumerate() {
+        expect_same(rt, &word.letter(place as u8), letter);
     }
 }
 
-#[test]
-fn values_tell_their_kind(rt: HostRuntime) {
-    for (value, kind) in [
-        (Value::Int(-1), Kind::Int),
-        (Value::Bool(true), Kind::Bool),
-        (Value::Vec2(1, 2), Kind::Vec2),
-        (Value::Vec3(1, 2, 3), Kind::Vec3),
-        (Value::Rgb(1, 2, 255), Kind::Rgb),
-    ] {
-        assert_eq!(rt; value.kind(), kind);
+fn ask_name(rt: &impl Abort, bytes: &[u8], wanted: bool) {
+    let name = Name::new(bytes);
+    expect_same_at(rt, &name.is_some(), &wanted, &bytes);
+    if let Some(name) = name {
+        expect_bytes(rt, name.bytes(), bytes);
     }
 }
 
-#[test]
-fn lists_give_their_vector_back(rt: HostRuntime) {
-    let alloc = rt.alloc();
-    match (vec![in alloc; 3u8, 1, 2], vec![in alloc; 0u8, 2]) {
-        (Ok(numbers), Ok(labels)) => {
-            let items = Items::new(numbers);
-            assert!(rt; items.as_slice() == [3, 1, 2].as_slice());
-            assert!(rt; items.into_vec().as_slice() == [3, 1, 2].as_slice());
-            let path = Path::new(labels);
-            assert!(rt; path.as_slice() == [0, 2].as_slice());
-            assert!(rt; path.into_vec().as_slice() == [0, 2].as_slice());
-        }
-        (_, _) => assert!(rt; false),
+/// Lists give their vector back.
+fn check_lists(rt: &impl Abort, alloc: Global) {
+    let items = Items::new([3u8, 1, 2].to_vec(alloc).expect(rt, "memory"));
+    expect_bytes(rt, items.as_slice(), &[3, 1, 2]);
+    expect_bytes(rt, items.into_vec().as_slice(), &[3, 1, 2]);
+    let path = Path::new([0u8, 2].to_vec(alloc).expect(rt, "memory"));
+    expect_bytes(rt, path.as_slice(), &[0, 2]);
+    expect_bytes(rt, path.into_vec().as_slice(), &[0, 2]);
+}
+
+/// Dimensions are from 1 to 7.
+fn check_dim(rt: &impl Abort, n: u8) {
+    let dim = Dim::new(n);
+    expect_same_at(rt, &dim.is_some(), &(1..8).contains(&n), &n);
+    if let Some(dim) = dim {
+        expect_same(rt, &dim.top(), &n);
     }
 }
 
-#[test]
-fn dimensions_are_one_to_seven(rt: HostRuntime) {
+fn check_dims(rt: &impl Abort) {
     for n in 0..=255 {
-        let dim = Dim::new(n);
-        assert_eq!(rt; dim.is_some(), (1..8).contains(&n), "{n}");
-        if let Some(dim) = dim {
-            assert_eq!(rt; dim.top(), n);
-        }
+        check_dim(rt, n);
     }
+}
+
+#[test]
+fn words_and_values(rt: HostRuntime) {
+    for question in &QUESTIONS {
+        ask(&rt, question);
+    }
+    check_lists(&rt, rt.alloc());
+    check_dims(&rt);
 }
