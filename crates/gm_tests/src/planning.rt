@@ -1,147 +1,95 @@
 //! Plans of rules: the rules that have none, what a plan answers, and where instances lie.
-ghost use Rattle.std.specs.Prelude.{◌≡◌, length};
-ghost use Rattle.gm_model.specs.Rules.{rule_of};
+ghost use Rattle.std.specs.Prelude.{◌≡◌};
 
+use crate::expect::{expect_bytes, expect_number, expect_same};
 use crate::rules::{RuleRow, is_fit, rule, schema};
 use gm_arena::Slot;
-use gm_model::{RuleFault, Side, Step};
+use gm_model::{Link, RuleFault, RuleTable, Schema, Side, Step};
 use gm_plan::{Instances, Plan, PlanFault, compile};
 use std::alloc::Global;
 use std::process::Abort;
 use std::test::Fail;
 
-const TRIANGULATION: RuleRow = RuleRow {
-    nodes: &[("a", "01", "0_"), ("b", "-", "_2"), ("c", "-", "12")],
-    hooks: &[0],
-    left_links: &[],
-    right_links: &[(0, 1, 1), (1, 0, 2)],
-};
-
-/// A rule of a dimension, and its first fault, where it has one.
-struct Verdict<'a> {
-    dim: u8,
-    rule: RuleRow<'a>,
-    fault: Option<RuleFault>,
-}
-
-static VERDICTS: [Verdict; 3] = [
-    Verdict {
-        dim: 2,
-        rule: TRIANGULATION,
-        fault: None,
-    },
-    Verdict {
-        dim: 2,
-        rule: RuleRow {
-            nodes: &[("a", "01", "0_"), ("b", "-", "_2"), ("c", "-", "21")],
-            hooks: &[0],
-            left_links: &[],
-            right_links: &[(0, 1, 1), (1, 0, 2)],
-        },
-        fault: Some(RuleFault::Square {
-            node: 1,
-            i: 0,
-            j: 2,
-        }),
-    },
-    Verdict {
-        dim: 2,
-        rule: RuleRow {
-            nodes: &[("a", "01", "0_"), ("b", "-", "__"), ("c", "-", "12")],
-            hooks: &[0],
-            left_links: &[],
-            right_links: &[(0, 1, 1), (1, 0, 2)],
-        },
-        fault: Some(RuleFault::ArcMissing { node: 1, label: 2 }),
-    },
-];
-
-/// The fault of the rule, where it has one.
-fn fault(rt: &impl Abort, alloc: Global, verdict: &Verdict) -> Result<Option<PlanFault>, Fail> {
-    let schema = schema(alloc, verdict.dim)?;
-    let rule = rule(alloc, "r", &verdict.rule)?;
-    assert!(rt; is_fit(&schema, &rule));
-    Ok(compile(alloc, &schema, &rule).err())
-}
-
-fn judge_each(rt: &impl Abort, alloc: Global, verdicts: &[Verdict]) -> Result<(), Fail> {
-    for verdict in verdicts {
-        let wanted = verdict.fault.map(PlanFault::Rule);
-        assert_eq!(rt; fault(rt, alloc, verdict)?, wanted);
-    }
-    Ok(())
-}
-
-#[test]
-fn faults(rt: HostRuntime) -> Result<(), Fail> {
-    judge_each(&rt, rt.alloc(), &VERDICTS)
-}
-
-/// What the plan of a rule answers: the numbers of hooks and of left, added and removed nodes; what
-/// ends the least path to each left node; and the ends of the paths, in their order.
+/// What a plan answers: the numbers of hooks and of left, added and removed nodes; what ends the least
+/// path to each left node; the ends of the paths, in their order; and what nodes have at labels.
 struct Planned<'a> {
-    dim: u8,
-    rule: RuleRow<'a>,
     counts: [u8; 4],
     from: &'a [Option<(u8, u8)>],
     order: &'a [u8],
+    steps: &'a [(Side, u8, u8, Step)],
 }
 
-fn numbers(plan: &Plan<'_>) -> [u8; 4] {
-    [
-        plan.hooks(),
-        plan.left_nodes(),
-        plan.added(),
-        plan.removed(),
-    ]
+/// A rule of a dimension, and its plan or its first fault.
+struct Row<'a> {
+    dim: u8,
+    rule: RuleRow<'a>,
+    planned: Result<Planned<'a>, RuleFault>,
 }
 
-fn path_ends(alloc: Global, plan: &Plan<'_>) -> Result<Vec<Option<(u8, u8)>>, Fail> {
-    let mut ends = Vec::new(alloc);
-    for node in 0..plan.left_nodes() {
-        ends.push(plan.from(node))?;
-    }
-    Ok(ends)
-}
+const TRIANGULATION: Row = Row {
+    dim: 2,
+    rule: RuleRow {
+        nodes: &[("a", "01", "0_"), ("b", "-", "_2"), ("c", "-", "12")],
+        hooks: &[0],
+        left_links: &[],
+        right_links: &[(0, 1, 1), (1, 0, 2)],
+    },
+    planned: Ok(Planned {
+        counts: [1, 1, 2, 0],
+        from: &[None],
+        order: &[],
+        steps: &[
+            (Side::Left, 0, 1, Step::Imp(1)),
+            (Side::Right, 0, 1, Step::Exp(1)),
+            (Side::Left, 0, 2, Step::Absent),
+            (Side::Right, 2, 2, Step::Imp(1)),
+        ],
+    }),
+};
 
-fn path_order(alloc: Global, plan: &Plan<'_>) -> Result<Vec<u8>, Fail> {
-    let mut nodes = Vec::new(alloc);
-    for link in plan.paths() {
-        nodes.push(link.to)?;
-    }
-    Ok(nodes)
-}
+const SQUARE_LEFT_OPEN: Row = Row {
+    dim: 2,
+    rule: RuleRow {
+        nodes: &[("a", "01", "0_"), ("b", "-", "_2"), ("c", "-", "21")],
+        hooks: &[0],
+        left_links: &[],
+        right_links: &[(0, 1, 1), (1, 0, 2)],
+    },
+    planned: Err(RuleFault::Square {
+        node: 1,
+        i: 0,
+        j: 2,
+    }),
+};
 
-fn compare_plan(
-    rt: &impl Abort,
-    alloc: Global,
-    plan: &Plan<'_>,
-    planned: &Planned,
-) -> Result<(), Fail> {
-    assert_eq!(rt; plan.rule().hooks.as_slice(), planned.rule.hooks);
-    assert_eq!(rt; numbers(plan), planned.counts);
-    assert_eq!(rt; path_ends(alloc, plan)?.as_slice(), planned.from);
-    assert_eq!(rt; path_order(alloc, plan)?.as_slice(), planned.order);
-    Ok(())
-}
+const ARC_MISSING: Row = Row {
+    dim: 2,
+    rule: RuleRow {
+        nodes: &[("a", "01", "0_"), ("b", "-", "__"), ("c", "-", "12")],
+        hooks: &[0],
+        left_links: &[],
+        right_links: &[(0, 1, 1), (1, 0, 2)],
+    },
+    planned: Err(RuleFault::ArcMissing { node: 1, label: 2 }),
+};
 
-fn compare(rt: &impl Abort, alloc: Global, planned: &Planned) -> Result<(), Fail> {
-    let schema = schema(alloc, planned.dim)?;
-    let rule = rule(alloc, "r", &planned.rule)?;
-    assert!(rt; is_fit(&schema, &rule));
-    let plan = compile(alloc, &schema, &rule)?;
-    assert_eq!(rt; plan.schema().dim, schema.dim);
-    compare_plan(rt, alloc, &plan, planned)
-}
+const CREATION: Row = Row {
+    dim: 1,
+    rule: RuleRow {
+        nodes: &[("a", "-", ""), ("b", "-", "")],
+        hooks: &[],
+        left_links: &[],
+        right_links: &[(0, 0, 1), (0, 1, 0), (1, 1, 1)],
+    },
+    planned: Ok(Planned {
+        counts: [0, 0, 2, 0],
+        from: &[],
+        order: &[],
+        steps: &[],
+    }),
+};
 
-fn compare_each(rt: &impl Abort, alloc: Global, list: &[Planned]) -> Result<(), Fail> {
-    for planned in list {
-        compare(rt, alloc, planned)?;
-    }
-    Ok(())
-}
-
-const THREE_LINKS: Planned = Planned {
+const THREE_LINKS: Row = Row {
     dim: 1,
     rule: RuleRow {
         nodes: &[
@@ -154,13 +102,16 @@ const THREE_LINKS: Planned = Planned {
         left_links: &[(3, 1, 3), (3, 0, 1), (2, 1, 1), (0, 0, 2), (0, 1, 0)],
         right_links: &[],
     },
-    counts: [1, 4, 0, 4],
-    from: &[Some((2, 0)), Some((3, 0)), Some((1, 1)), None],
-    order: &[1, 2, 0],
+    planned: Ok(Planned {
+        counts: [1, 4, 0, 4],
+        from: &[Some((2, 0)), Some((3, 0)), Some((1, 1)), None],
+        order: &[1, 2, 0],
+        steps: &[],
+    }),
 };
 
 /// Two paths of one length: the one with the lesser label wins.
-const SQUARE: Planned = Planned {
+const SQUARE: Row = Row {
     dim: 1,
     rule: RuleRow {
         nodes: &[
@@ -173,13 +124,16 @@ const SQUARE: Planned = Planned {
         left_links: &[(0, 1, 1), (0, 0, 2), (1, 0, 3), (2, 1, 3)],
         right_links: &[],
     },
-    counts: [1, 4, 0, 4],
-    from: &[None, Some((0, 1)), Some((0, 0)), Some((2, 1))],
-    order: &[2, 1, 3],
+    planned: Ok(Planned {
+        counts: [1, 4, 0, 4],
+        from: &[None, Some((0, 1)), Some((0, 0)), Some((2, 1))],
+        order: &[2, 1, 3],
+        steps: &[],
+    }),
 };
 
 /// Paths of one link and of two: the shorter wins, though its label is greater.
-const TRIANGLE: Planned = Planned {
+const TRIANGLE: Row = Row {
     dim: 2,
     rule: RuleRow {
         nodes: &[("a", "", "-"), ("b", "", "-"), ("c", "", "-")],
@@ -194,13 +148,16 @@ const TRIANGLE: Planned = Planned {
         ],
         right_links: &[],
     },
-    counts: [1, 3, 0, 3],
-    from: &[None, Some((0, 0)), Some((0, 2))],
-    order: &[1, 2],
+    planned: Ok(Planned {
+        counts: [1, 3, 0, 3],
+        from: &[None, Some((0, 0)), Some((0, 2))],
+        order: &[1, 2],
+        steps: &[],
+    }),
 };
 
 /// Paths of one length from two hooks: that with the lesser label wins, though its hook is later.
-const LATER_HOOK: Planned = Planned {
+const LATER_HOOK: Row = Row {
     dim: 1,
     rule: RuleRow {
         nodes: &[("a", "", "-"), ("b", "", "-"), ("c", "", "-")],
@@ -208,14 +165,17 @@ const LATER_HOOK: Planned = Planned {
         left_links: &[(0, 1, 2), (1, 0, 2), (0, 0, 0), (1, 1, 1)],
         right_links: &[],
     },
-    counts: [2, 3, 0, 3],
-    from: &[None, None, Some((1, 0))],
-    order: &[2],
+    planned: Ok(Planned {
+        counts: [2, 3, 0, 3],
+        from: &[None, None, Some((1, 0))],
+        order: &[2],
+        steps: &[],
+    }),
 };
 
 /// Two nodes at the end of one label, each from its own hook. What lies behind both is nearest by
 /// the lesser second label, though it leads from the later node.
-const ABREAST: Planned = Planned {
+const ABREAST: Row = Row {
     dim: 2,
     rule: RuleRow {
         nodes: &[
@@ -241,101 +201,107 @@ const ABREAST: Planned = Planned {
         ],
         right_links: &[],
     },
-    counts: [2, 5, 0, 5],
-    from: &[None, None, Some((0, 0)), Some((1, 0)), Some((3, 1))],
-    order: &[2, 3, 4],
+    planned: Ok(Planned {
+        counts: [2, 5, 0, 5],
+        from: &[None, None, Some((0, 0)), Some((1, 0)), Some((3, 1))],
+        order: &[2, 3, 4],
+        steps: &[],
+    }),
 };
 
-static WITH_PATHS: [Planned; 5] = [THREE_LINKS, SQUARE, TRIANGLE, LATER_HOOK, ABREAST];
-
-#[test]
-fn paths(rt: HostRuntime) -> Result<(), Fail> {
-    compare_each(&rt, rt.alloc(), &WITH_PATHS)
-}
-
-static WITHOUT_PATHS: [Planned; 2] = [
-    Planned {
-        dim: 2,
-        rule: TRIANGULATION,
-        counts: [1, 1, 2, 0],
-        from: &[None],
-        order: &[],
-    },
-    // A creation.
-    Planned {
-        dim: 1,
-        rule: RuleRow {
-            nodes: &[("a", "-", ""), ("b", "-", "")],
-            hooks: &[],
-            left_links: &[],
-            right_links: &[(0, 0, 1), (0, 1, 0), (1, 1, 1)],
-        },
-        counts: [0, 0, 2, 0],
-        from: &[],
-        order: &[],
-    },
+static ROWS: [Row; 9] = [
+    TRIANGULATION,
+    SQUARE_LEFT_OPEN,
+    ARC_MISSING,
+    CREATION,
+    THREE_LINKS,
+    SQUARE,
+    TRIANGLE,
+    LATER_HOOK,
+    ABREAST,
 ];
 
-#[test]
-fn counts(rt: HostRuntime) -> Result<(), Fail> {
-    compare_each(&rt, rt.alloc(), &WITHOUT_PATHS)
+/// The rule of the row, in its dimension, is planned or refused.
+fn judge(rt: &impl Abort, alloc: Global, row: &Row) -> Result<(), Fail> {
+    let schema = schema(alloc, row.dim)?;
+    let rule = rule(alloc, "r", &row.rule)?;
+    judge_rule(rt, alloc, &schema, &rule, row);
+    Ok(())
 }
 
-/// What a node has at a label on a side.
-struct Stepped {
-    side: Side,
-    node: u8,
-    label: u8,
-    step: Step,
+fn judge_rule(rt: &impl Abort, alloc: Global, schema: &Schema, rule: &RuleTable, row: &Row) {
+    assert!(rt; is_fit(schema, rule));
+    let compiled = compile(alloc, schema, rule);
+    match &row.planned {
+        Ok(planned) => compare(rt, &compiled.expect(rt, "a plan"), row, planned),
+        Err(fault) => expect_same(rt, &compiled.err(), &Some(PlanFault::Rule(*fault))),
+    }
 }
 
-static STEPPED: [Stepped; 4] = [
-    Stepped {
-        side: Side::Left,
-        node: 0,
-        label: 1,
-        step: Step::Imp(1),
-    },
-    Stepped {
-        side: Side::Right,
-        node: 0,
-        label: 1,
-        step: Step::Exp(1),
-    },
-    Stepped {
-        side: Side::Left,
-        node: 0,
-        label: 2,
-        step: Step::Absent,
-    },
-    Stepped {
-        side: Side::Right,
-        node: 2,
-        label: 2,
-        step: Step::Imp(1),
-    },
-];
+fn compare(rt: &impl Abort, plan: &Plan<'_>, row: &Row, planned: &Planned) {
+    expect_same(rt, &plan.schema().dim.top(), &row.dim);
+    expect_bytes(rt, plan.rule().hooks.as_slice(), row.rule.hooks);
+    expect_bytes(rt, &numbers(plan), &planned.counts);
+    compare_from(rt, plan, planned.from);
+    compare_order(rt, plan.paths(), planned.order);
+    compare_steps(rt, plan, planned.steps);
+}
 
-fn step_each(rt: &impl Abort, plan: &Plan<'_>, list: &[Stepped])
-    requires { length (rule_of plan.now.table).nodes ≡ 3 }
-{
-    for stepped in list {
-        assert!(rt; stepped.node < 3 && stepped.label < 8);
-        let step = plan.step(stepped.side, stepped.node, stepped.label);
-        assert_eq!(rt; step, stepped.step);
+fn numbers(plan: &Plan<'_>) -> [u8; 4] {
+    [
+        plan.hooks(),
+        plan.left_nodes(),
+        plan.added(),
+        plan.removed(),
+    ]
+}
+
+/// The least paths to the left nodes have these ends.
+fn compare_from(rt: &impl Abort, plan: &Plan<'_>, from: &[Option<(u8, u8)>]) {
+    expect_number(rt, from.len(), plan.left_nodes() as usize);
+    for node in 0..plan.left_nodes() {
+        let wanted = from.get(node as usize).expect(rt, "a left node");
+        expect_same(rt, &plan.from(node), wanted);
+    }
+}
+
+/// The paths lead to these nodes.
+fn compare_order(rt: &impl Abort, paths: &[Link], order: &[u8]) {
+    expect_number(rt, paths.len(), order.len());
+    for (link, to) in paths.iter().zip(order) {
+        expect_same(rt, &link.to, to);
+    }
+}
+
+/// The nodes have these steps, each on a side and at a label.
+fn compare_steps(rt: &impl Abort, plan: &Plan<'_>, steps: &[(Side, u8, u8, Step)]) {
+    let nodes = plan.rule().node_count();
+    for (side, node, label, step) in steps {
+        assert!(rt; *node < nodes && *label < 8);
+        expect_same(rt, &plan.step(*side, *node, *label), step);
     }
 }
 
 #[test]
-fn steps(rt: HostRuntime) -> Result<(), Fail> {
-    let alloc = rt.alloc();
-    let schema = schema(alloc, 2)?;
-    let rule = rule(alloc, "r", &TRIANGULATION)?;
-    assert!(rt; is_fit(&schema, &rule));
-    assert_eq!(rt; rule.node_count(), 3);
-    let plan = compile(alloc, &schema, &rule)?;
-    step_each(&rt, &plan, &STEPPED);
+fn plans(rt: HostRuntime) -> Result<(), Fail> {
+    for row in &ROWS {
+        judge(&rt, rt.alloc(), row)?;
+    }
     Ok(())
+}
+
+/// Two positions, each with three slots and two turns.
+fn expect_instances(rt: &impl Abort, instances: &Instances)
+    requires positions { instances.now.positions ≡ 2 }
+    requires nodes { instances.now.nodes ≡ 3 }
+    requires places { instances.now.places ≡ 2 }
+{
+    expect_number(rt, instances.positions() as usize, 2);
+    expect_same(rt, &instances.slot(2, 0), &Slot { at: 9 });
+    expect_same(rt, &instances.slot(0, 1), &Slot { at: 2 });
+    expect_same(rt, &instances.turn(0, 1), &0);
+    expect_same(rt, &instances.turn(1, 0), &0);
+    expect_same(rt, &instances.turn(1, 1), &1);
 }
 
 #[test]
@@ -350,11 +316,6 @@ fn instances(rt: HostRuntime) -> Result<(), Fail> {
         Slot { at: 1 },
     ];
     let instances = Instances::new(slots.to_vec(alloc)?, [1, 0, 0, 1].to_vec(alloc)?, 2, 2);
-    assert_eq!(rt; instances.positions(), 2);
-    assert_eq!(rt; instances.slot(2, 0), Slot { at: 9 });
-    assert_eq!(rt; instances.slot(0, 1), Slot { at: 2 });
-    assert_eq!(rt; instances.turn(0, 1), 0);
-    assert_eq!(rt; instances.turn(1, 0), 0);
-    assert_eq!(rt; instances.turn(1, 1), 1);
+    expect_instances(&rt, &instances);
     Ok(())
 }
