@@ -1,19 +1,18 @@
 //! Applications in maps with little room left: done in a full one, and refused for want of darts or names.
-ghost use Rattle.std.specs.Prelude.{◌≡◌, ◌<◌, [], IsTrue};
+ghost use Rattle.std.specs.Prelude.{◌≡◌, [], IsTrue};
 
+use crate::expect::{expect_number, expect_same};
 use crate::maps::free_darts;
 use crate::rules::{RuleRow, is_fit, rule, schema};
 use gm_apply::{Applied, Refusal, apply};
 use gm_arena::{Arena, Steps};
 use gm_laws::check_map;
-use gm_model::{MOST_DARTS, RuleTable, Schema};
+use gm_model::{MOST_DARTS, Schema};
 use gm_plan::{Plan, compile};
 use gm_walk::Scratch;
 use std::alloc::Global;
-use std::marker::Brand;
 use std::process::Abort;
-use std::sync::ledger::{Blank, Ledger};
-use std::test::Fail;
+use std::sync::ledger::Ledger;
 
 const PAIR: RuleRow = RuleRow {
     nodes: &[("a", "-", ""), ("b", "-", "")],
@@ -41,7 +40,7 @@ fn expect_neighbours<L: Ledger>(
     for (label, to) in alphas.iter().enumerate() {
         assert!(rt; label <= arena.schema().dim.top() as usize);
         let found = arena.alpha(slot, label as u8, steps);
-        assert_eq!(rt; arena.name_of(found, steps), *to);
+        expect_number(rt, arena.name_of(found, steps) as usize, *to as usize);
     }
 }
 
@@ -71,31 +70,17 @@ fn answer_of<L: Ledger>(
     arena: &mut Arena,
     hooks: &[u32],
     steps: &mut Steps<L>,
-) -> Result<Result<Applied, Refusal>, Fail> {
+) -> Result<Applied, Refusal> {
     assert!(rt; are_same(arena.schema(), plan.schema()));
     assert!(rt; hooks.len() == plan.hooks() as usize);
     assert!(rt; plan.rule().params.as_slice().len() == 0);
     // The arena tells here what it holds.
     prove!(arena.count() <= MOST_DARTS);
     let Ok(()) = check_map(alloc, arena, steps) else {
-        return Err("a map".into());
+        panic!(rt; "no map");
     };
     let mut scratch = Scratch::new(alloc);
-    Ok(apply(alloc, plan, arena, hooks, &[], &mut scratch, steps))
-}
-
-fn apply_rule<L: Ledger>(
-    rt: &impl Abort,
-    alloc: Global,
-    arena: &mut Arena,
-    rule: &RuleTable,
-    hooks: &[u32],
-    steps: &mut Steps<L>,
-) -> Result<Result<Applied, Refusal>, Fail> {
-    let schema = schema(alloc, arena.schema().dim.top())?;
-    assert!(rt; is_fit(&schema, rule));
-    let plan = compile(alloc, &schema, rule)?;
-    answer_of(rt, alloc, &plan, arena, hooks, steps)
+    apply(alloc, plan, arena, hooks, &[], &mut scratch, steps)
 }
 
 /// What the application of the rule to the map answers.
@@ -106,9 +91,12 @@ fn applied<L: Ledger>(
     row: &RuleRow,
     hooks: &[u32],
     steps: &mut Steps<L>,
-) -> Result<Result<Applied, Refusal>, Fail> {
-    let rule = rule(alloc, "r", row)?;
-    apply_rule(rt, alloc, arena, &rule, hooks, steps)
+) -> Result<Applied, Refusal> {
+    let schema = schema(rt, alloc, arena.schema().dim.top());
+    let rule = rule(rt, alloc, row);
+    assert!(rt; is_fit(&schema, &rule));
+    let plan = compile(alloc, &schema, &rule).expect(rt, "a plan");
+    answer_of(rt, alloc, &plan, arena, hooks, steps)
 }
 
 /// What the application of a rule answers, and then how many darts the map has and which name comes
@@ -127,12 +115,11 @@ fn expect_answer<L: Ledger>(
     arena: &mut Arena,
     case: &Case,
     steps: &mut Steps<L>,
-) -> Result<(), Fail> {
-    let answer = applied(rt, alloc, arena, &case.rule, case.hooks, steps)?;
-    assert_eq!(rt; answer, case.answer);
-    assert_eq!(rt; arena.count(), case.count);
-    assert_eq!(rt; arena.next(), case.next);
-    Ok(())
+) {
+    let answer = applied(rt, alloc, arena, &case.rule, case.hooks, steps);
+    expect_same(rt, &answer, &case.answer);
+    expect_same(rt, &arena.count(), &case.count);
+    expect_same(rt, &arena.next(), &case.next);
 }
 
 /// Leaves one name for darts to come.
@@ -149,7 +136,7 @@ struct Crowd<'a> {
     case: Case<'a>,
 }
 
-const CROWDS: [Crowd; 3] = [
+static CROWDS: [Crowd; 3] = [
     Crowd {
         darts: 1_048_575,
         is_late: false,
@@ -194,43 +181,21 @@ const CROWDS: [Crowd; 3] = [
     },
 ];
 
-fn meet_crowd<L: Ledger>(
-    rt: &impl Abort,
-    alloc: Global,
-    crowd: &Crowd,
-    steps: &mut Steps<L>,
-) -> Result<(), Fail> {
+fn meet_crowd<L: Ledger>(rt: &impl Abort, alloc: Global, crowd: &Crowd, steps: &mut Steps<L>) {
     assert!(rt; crowd.darts <= 1_048_576);
-    let mut map = free_darts(alloc, 1, crowd.darts, steps)?;
+    let mut map = free_darts(rt, alloc, 1, crowd.darts, steps);
     if crowd.is_late {
         use_up_names(rt, &mut map);
     }
-    expect_answer(rt, alloc, &mut map, &crowd.case, steps)?;
+    expect_answer(rt, alloc, &mut map, &crowd.case, steps);
     if crowd.case.answer.is_err() {
         expect_free(rt, &map, crowd.darts, steps);
     }
-    Ok(())
 }
 
-fn meet_each<L: Ledger>(
-    rt: &impl Abort,
-    alloc: Global,
-    crowds: &[Crowd],
-    handle: &HostRuntime,
-    blank: Blank,
-) -> Result<(), Fail>
-    requires name { blank.name ≡ L.name }
-    requires parts { blank.parts ≡ L.parts }
-    requires some { 0 < blank.parts }
-{
-    let mut steps: Steps<L> = Steps::start(handle, blank);
-    for crowd in crowds {
-        meet_crowd(rt, alloc, crowd, &mut steps)?;
+/// Rules are applied to crowded maps.
+pub(crate) fn meet_each<L: Ledger>(rt: &impl Abort, alloc: Global, steps: &mut Steps<L>) {
+    for crowd in &CROWDS {
+        meet_crowd(rt, alloc, crowd, steps);
     }
-    Ok(())
-}
-
-#[test]
-fn a_full_map_is_rewritten(rt: HostRuntime) -> Result<(), Fail> {
-    meet_each::<Brand>(&rt, rt.alloc(), &CROWDS, &rt, Blank::new(1))
 }

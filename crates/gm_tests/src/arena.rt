@@ -1,6 +1,6 @@
 //! The square of eight darts: built, read, taken apart, and built again in the slots that are free.
 //! Values, and the arena that grows.
-ghost use Rattle.std.specs.Prelude.{◌≡◌, ℕ, ◌+◌, ◌<◌, ◌≤◌, [], ◌∷◌, OnOk, map};
+ghost use Rattle.std.specs.Prelude.{◌≡◌, ℕ, ◌+◌, ◌<◌, ◌≤◌, [], ◌∷◌, map};
 ghost use Rattle.gm_arena.specs.ArenaMap.{alpha};
 ghost use Rattle.gm_model.specs.declared.schema.Embed.{Embed};
 ghost use Rattle.gm_model.specs.declared.value.Kind.TheVariants.{Int};
@@ -12,10 +12,8 @@ use crate::schemas::embedded;
 use gm_arena::{Arena, Slot, Steps};
 use gm_model::{Kind, Mask, Value};
 use std::alloc::Global;
-use std::marker::Brand;
 use std::process::Abort;
-use std::sync::ledger::{Blank, Ledger};
-use std::test::Fail;
+use std::sync::ledger::Ledger;
 
 /// Adds eight darts without neighbours, by name from `first` on.
 fn add_eight<L: Ledger>(rt: &impl Abort, arena: &mut Arena, first: u32, steps: &mut Steps<L>)
@@ -108,12 +106,11 @@ fn names_are<L: Ledger>(
     arena: &Arena,
     first: u32,
     steps: &mut Steps<L>,
-) -> Result<(), Fail>
+)
     requires { first ≤ 8 }
 {
-    let names = arena.names(alloc, steps)?;
+    let names = arena.names(alloc, steps).expect(rt, "memory");
     names_follow(rt, names.as_slice(), first);
-    Ok(())
 }
 
 /// These are the eight names from `first` on.
@@ -135,56 +132,36 @@ fn expect_counts(rt: &impl Abort, arena: &Arena, count: usize, next: usize, boun
     expect_number(rt, arena.bound(), bound);
 }
 
-fn taken_apart<L: Ledger>(
-    rt: &impl Abort,
-    alloc: Global,
-    handle: &HostRuntime,
-    blank: Blank,
-) -> Result<(), Fail>
-    requires name { blank.name ≡ L.name }
-    requires parts { blank.parts ≡ L.parts }
-    requires some { 0 < blank.parts }
-{
-    let mut steps: Steps<L> = Steps::start(handle, blank);
-    let mut arena = Arena::new(alloc, schema(alloc, 2)?);
-    build_twice(rt, alloc, &mut arena, &mut steps)
+/// The square is built and taken apart, and its slots are used again.
+pub(crate) fn check_square<L: Ledger>(rt: &impl Abort, alloc: Global, steps: &mut Steps<L>) {
+    let mut arena = Arena::new(alloc, schema(rt, alloc, 2));
+    build_twice(rt, alloc, &mut arena, steps);
 }
 
 /// Puts the square into an empty arena, takes it apart, and fills the slots that are free.
-fn build_twice<L: Ledger>(
-    rt: &impl Abort,
-    alloc: Global,
-    arena: &mut Arena,
-    steps: &mut Steps<L>,
-) -> Result<(), Fail>
+fn build_twice<L: Ledger>(rt: &impl Abort, alloc: Global, arena: &mut Arena, steps: &mut Steps<L>)
     requires dim { arena.old.schema.dim ≡ 2 }
     requires embeds { arena.old.schema.embeds ≡ [] }
 {
-    build(rt, alloc, arena, steps)?;
+    build(rt, alloc, arena, steps);
     take_apart(rt, arena, steps);
-    build_again(rt, alloc, arena, steps)
+    build_again(rt, alloc, arena, steps);
 }
 
 /// Puts the square into an empty arena.
-fn build<L: Ledger>(
-    rt: &impl Abort,
-    alloc: Global,
-    arena: &mut Arena,
-    steps: &mut Steps<L>,
-) -> Result<(), Fail>
+fn build<L: Ledger>(rt: &impl Abort, alloc: Global, arena: &mut Arena, steps: &mut Steps<L>)
     requires dim { arena.old.schema.dim ≡ 2 }
     requires embeds { arena.old.schema.embeds ≡ [] }
-    ensures schema { OnOk result (arena.new.schema ≡ arena.old.schema) }
-    ensures names { OnOk result (16 ≤ arena.new.reserved) }
+    ensures schema { arena.new.schema ≡ arena.old.schema }
+    ensures names { 16 ≤ arena.new.reserved }
 {
     expect_counts(rt, arena, 0, 0, 0);
-    arena.reserve(8, 16)?;
+    arena.reserve(8, 16).expect(rt, "memory");
     add_eight(rt, arena, 0, steps);
-    link(arena, &SQUARE, steps)?;
+    link(rt, arena, &SQUARE, steps);
     read(rt, arena, steps);
-    names_are(rt, alloc, arena, 0, steps)?;
+    names_are(rt, alloc, arena, 0, steps);
     expect_counts(rt, arena, 8, 8, 8);
-    Ok(())
 }
 
 /// Removes all darts of the square.
@@ -201,22 +178,16 @@ fn take_apart<L: Ledger>(rt: &impl Abort, arena: &mut Arena, steps: &mut Steps<L
 }
 
 /// Adds eight darts with further names in the slots that are free.
-fn build_again<L: Ledger>(
-    rt: &impl Abort,
-    alloc: Global,
-    arena: &mut Arena,
-    steps: &mut Steps<L>,
-) -> Result<(), Fail>
+fn build_again<L: Ledger>(rt: &impl Abort, alloc: Global, arena: &mut Arena, steps: &mut Steps<L>)
     requires embeds { arena.old.schema.embeds ≡ [] }
     requires room { 8 ≤ arena.old.spare }
     requires names { 16 ≤ arena.old.reserved }
 {
     add_eight(rt, arena, 8, steps);
-    names_are(rt, alloc, arena, 8, steps)?;
+    names_are(rt, alloc, arena, 8, steps);
     expect_counts(rt, arena, 8, 16, 8);
     raise_next(rt, arena);
     expect_number(rt, arena.schema().dim.top() as usize, 2);
-    Ok(())
 }
 
 /// Raises the next name from 16 to 20.
@@ -227,40 +198,26 @@ fn raise_next(rt: &impl Abort, arena: &mut Arena) {
     expect_number(rt, arena.next() as usize, 20);
 }
 
-#[test]
-fn square_is_taken_apart_and_its_slots_are_used_again(rt: HostRuntime) -> Result<(), Fail> {
-    taken_apart::<Brand>(&rt, rt.alloc(), &rt, Blank::new(1))
-}
-
-fn values_stay<L: Ledger>(
-    rt: &impl Abort,
-    alloc: Global,
-    handle: &HostRuntime,
-    blank: Blank,
-) -> Result<(), Fail>
-    requires name { blank.name ≡ L.name }
-    requires parts { blank.parts ≡ L.parts }
-    requires some { 0 < blank.parts }
-{
-    let mut steps: Steps<L> = Steps::start(handle, blank);
-    let mut arena = Arena::new(alloc, embedded(rt, alloc, 1, Mask { bits: 0 }, Kind::Int)?);
-    grow(rt, &mut arena, &mut steps)
+/// Values stay while the arena grows.
+pub(crate) fn check_values<L: Ledger>(rt: &impl Abort, alloc: Global, steps: &mut Steps<L>) {
+    let schema = embedded(rt, alloc, 1, Mask { bits: 0 }, Kind::Int).expect(rt, "memory");
+    let mut arena = Arena::new(alloc, schema);
+    grow(rt, &mut arena, steps);
 }
 
 /// Adds two darts to an empty arena, which grows between them.
-fn grow<L: Ledger>(rt: &impl Abort, arena: &mut Arena, steps: &mut Steps<L>) -> Result<(), Fail>
+fn grow<L: Ledger>(rt: &impl Abort, arena: &mut Arena, steps: &mut Steps<L>)
     requires empty { arena.old.count ≡ 0 }
     requires kinds { map (λ (e : Embed). e.kind) arena.old.schema.embeds ≡ Int ∷ [] }
 {
-    arena.reserve(1, 6)?;
+    arena.reserve(1, 6).expect(rt, "memory");
     assert!(rt; arena.slot_of(5, steps).is_none());
     let first = arena.add(5, &[Value::Int(-7)], steps);
-    arena.reserve(100, 200)?;
+    arena.reserve(100, 200).expect(rt, "memory");
     assert!(rt; arena.slot_of(3, steps).is_none());
     let second = arena.add(3, &[Value::Int(9)], steps);
     expect_value(rt, arena, first, 5, Value::Int(-7), steps);
     expect_value(rt, arena, second, 3, Value::Int(9), steps);
-    Ok(())
 }
 
 /// The dart of the name is at the slot, and has this value alone.
@@ -277,9 +234,4 @@ fn expect_value<L: Ledger>(
     let row = arena.row(slot, steps);
     expect_number(rt, row.values.len(), 1);
     expect_same(rt, &row.values[0], &value);
-}
-
-#[test]
-fn values_stay_while_the_arena_grows(rt: HostRuntime) -> Result<(), Fail> {
-    values_stay::<Brand>(&rt, rt.alloc(), &rt, Blank::new(1))
 }

@@ -7,6 +7,8 @@ mod applying;
 #[cfg(test)]
 mod arena;
 #[cfg(test)]
+mod counted;
+#[cfg(test)]
 mod examples;
 #[cfg(test)]
 mod expect;

@@ -1,11 +1,11 @@
 //! Maps without embeddings.
-ghost use Rattle.std.specs.Prelude.{◌≡◌, ◌+◌, ◌≤◌, [], IfOk, length};
+ghost use Rattle.std.specs.Prelude.{◌≡◌, ◌+◌, ◌≤◌, [], length};
 
 use crate::rules::schema;
 use gm_arena::{Arena, Steps};
 use std::alloc::Global;
+use std::process::Abort;
 use std::sync::ledger::Ledger;
-use std::test::Fail;
 
 /// The neighbours of each dart of a square of eight darts, by name and label.
 pub(crate) const SQUARE: [&[u32]; 8] = [
@@ -21,76 +21,72 @@ pub(crate) const SQUARE: [&[u32]; 8] = [
 
 /// So many free darts, with the names from 0 on.
 pub(crate) fn free_darts<L: Ledger>(
+    rt: &impl Abort,
     alloc: Global,
     dim: u8,
     count: u32,
     steps: &mut Steps<L>,
-) -> Result<Arena, Fail>
+) -> Arena
     requires { count ≤ 1048576 }
-    ensures { IfOk result (λ arena. arena.schema.dim ≡ dim) }
+    ensures { result.schema.dim ≡ dim }
 {
-    let mut arena = Arena::new(alloc, schema(alloc, dim)?);
-    arena.reserve(count, count)?;
+    let mut arena = Arena::new(alloc, schema(rt, alloc, dim));
+    arena.reserve(count, count).expect(rt, "memory");
     for name in 0..count {
-        if arena.slot_of(name, steps).is_some() {
-            return Err("a dart stands twice".into());
-        }
+        assert!(rt; arena.slot_of(name, steps).is_none());
         arena.add(name, &[], steps);
     }
-    Ok(arena)
+    arena
 }
 
 /// The map in which each dart has these neighbours, by name from 0 on.
 pub(crate) fn map_of<L: Ledger>(
+    rt: &impl Abort,
     alloc: Global,
     dim: u8,
     rows: &[&[u32]],
     steps: &mut Steps<L>,
-) -> Result<Arena, Fail>
-    ensures { IfOk result (λ arena. arena.schema.dim ≡ dim) }
+) -> Arena
+    ensures { result.schema.dim ≡ dim }
 {
-    if rows.len() > 1000 {
-        return Err("too many darts".into());
-    }
-    let mut arena = free_darts(alloc, dim, rows.len() as u32, steps)?;
-    link(&mut arena, rows, steps)?;
-    Ok(arena)
+    assert!(rt; rows.len() <= 1000);
+    let mut arena = free_darts(rt, alloc, dim, rows.len() as u32, steps);
+    link(rt, &mut arena, rows, steps);
+    arena
 }
 
 /// Gives the darts these neighbours, by name from 0 on.
 pub(crate) fn link<L: Ledger>(
+    rt: &impl Abort,
     arena: &mut Arena,
     rows: &[&[u32]],
     steps: &mut Steps<L>,
-) -> Result<(), Fail>
+)
     requires { length rows.now ≤ 1000 }
     ensures schema { arena.new.schema ≡ arena.old.schema }
     ensures room { arena.new.spare ≡ arena.old.spare }
     ensures names { arena.new.reserved ≡ arena.old.reserved }
 {
     for (name, alphas) in rows.iter().enumerate() {
-        link_dart(arena, name as u32, alphas, steps)?;
+        link_dart(rt, arena, name as u32, alphas, steps);
     }
-    Ok(())
 }
 
 fn link_dart<L: Ledger>(
+    rt: &impl Abort,
     arena: &mut Arena,
     name: u32,
     alphas: &[u32],
     steps: &mut Steps<L>,
-) -> Result<(), Fail>
+)
     ensures schema { arena.new.schema ≡ arena.old.schema }
     ensures room { arena.new.spare ≡ arena.old.spare }
     ensures names { arena.new.reserved ≡ arena.old.reserved }
 {
     for (label, to) in alphas.iter().enumerate() {
-        if label > arena.schema().dim.top() as usize {
-            return Err("a label above the dimension".into());
-        }
-        let slot = arena.slot_of(name, steps).ok_or("no dart")?;
-        let to = arena.slot_of(*to, steps).ok_or("no neighbour")?;
+        assert!(rt; label <= arena.schema().dim.top() as usize);
+        let slot = arena.slot_of(name, steps).expect(rt, "a dart");
+        let to = arena.slot_of(*to, steps).expect(rt, "a neighbour");
         arena.set_alpha(slot, label as u8, to, steps);
     }
-    Ok(())
 }

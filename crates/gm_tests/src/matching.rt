@@ -1,21 +1,21 @@
 //! Rules with a match, in a square and in a map of dimension 3.
-ghost use Rattle.std.specs.Prelude.{◌≡◌, ◌<◌};
+ghost use Rattle.std.specs.Prelude.{◌≡◌};
+ghost use Rattle.gm_model.specs.Maps.{IsGeneralised};
 ghost use Rattle.gm_model.specs.Rules.{rule_of, width};
+ghost use Rattle.gm_arena.specs.ArenaAsMap.{as_map};
 ghost use Rattle.gm_walk.specs.Walks.{AreLive};
 
+use crate::expect::expect_same;
 use crate::maps::{SQUARE, map_of};
 use crate::rules::{RuleRow, is_fit, rule};
 use gm_arena::{Arena, Steps};
 use gm_laws::check_map;
-use gm_match::{MatchFault, find};
-use gm_model::RuleTable;
+use gm_match::find;
 use gm_plan::{Instances, Plan, compile};
 use gm_walk::Scratch;
 use std::alloc::Global;
-use std::marker::Brand;
 use std::process::Abort;
-use std::sync::ledger::{Blank, Ledger};
-use std::test::Fail;
+use std::sync::ledger::Ledger;
 
 /// Two sheets in space, each of two edges.
 const SHEETS: [&[u32]; 8] = [
@@ -88,13 +88,14 @@ const CREATION: RuleRow = RuleRow {
 
 /// For each position the names of its darts, and the positions to which it turns.
 fn listed<L: Ledger>(
+    rt: &impl Abort,
     alloc: Global,
     arena: &Arena,
     found: &Instances,
     nodes: u8,
     places: u8,
     steps: &mut Steps<L>,
-) -> Result<Vec<u32>, Fail>
+) -> Vec<u32>
     requires live { AreLive arena.now found.now.slots }
     requires nodes { nodes ≡ found.now.nodes }
     requires places { places ≡ found.now.places }
@@ -102,13 +103,14 @@ fn listed<L: Ledger>(
     let mut list = Vec::new(alloc);
     for position in 0..found.positions() {
         for node in 0..nodes {
-            list.push(arena.name_of(found.slot(node, position), steps))?;
+            let name = arena.name_of(found.slot(node, position), steps);
+            list.push(name).expect(rt, "memory");
         }
         for place in 0..places {
-            list.push(found.turn(position, place))?;
+            list.push(found.turn(position, place)).expect(rt, "memory");
         }
     }
-    Ok(list)
+    list
 }
 
 /// How many places the words of the rule have.
@@ -121,45 +123,43 @@ fn places(plan: &Plan<'_>) -> u8
     }
 }
 
-/// The match of the rule, listed.
+/// The match of the planned rule, listed.
 fn matched<L: Ledger>(
     rt: &impl Abort,
     alloc: Global,
     arena: &Arena,
-    rule: &RuleTable,
+    plan: &Plan<'_>,
     hooks: &[u32],
     steps: &mut Steps<L>,
-) -> Result<Result<Vec<u32>, MatchFault>, Fail> {
-    assert!(rt; is_fit(arena.schema(), rule));
-    let Ok(()) = check_map(alloc, arena, steps) else {
-        return Err("a map".into());
-    };
-    let plan = compile(alloc, arena.schema(), rule)?;
+) -> Vec<u32>
+    requires schema { arena.now.schema ≡ plan.now.schema }
+    requires generalised { IsGeneralised (as_map arena.now) }
+{
     assert!(rt; hooks.len() == plan.hooks() as usize);
     let mut scratch = Scratch::new(alloc);
-    scratch.fit(arena)?;
-    match find(alloc, &plan, arena, hooks, &mut scratch, steps) {
-        Ok(found) => {
-            let nodes = plan.left_nodes();
-            Ok(Ok(listed(alloc, arena, &found, nodes, places(&plan), steps)?))
-        }
-        Err(fault) => Ok(Err(fault)),
-    }
+    scratch.fit(arena).expect(rt, "memory");
+    let Ok(found) = find(alloc, plan, arena, hooks, &mut scratch, steps) else {
+        panic!(rt; "no match");
+    };
+    let nodes = plan.left_nodes();
+    listed(rt, alloc, arena, &found, nodes, places(plan), steps)
 }
 
 fn expect_match<L: Ledger>(
     rt: &impl Abort,
     alloc: Global,
     arena: &Arena,
-    row: &RuleRow,
-    hooks: &[u32],
-    names: &[u32],
+    fit: &Fit,
     steps: &mut Steps<L>,
-) -> Result<(), Fail> {
-    let rule = rule(alloc, "r", row)?;
-    let answer = matched(rt, alloc, arena, &rule, hooks, steps)?;
-    assert_eq!(rt; answer.ok().ok_or("a match")?.as_slice(), names);
-    Ok(())
+) {
+    let rule = rule(rt, alloc, &fit.rule);
+    assert!(rt; is_fit(arena.schema(), &rule));
+    let Ok(()) = check_map(alloc, arena, steps) else {
+        panic!(rt; "no map");
+    };
+    let plan = compile(alloc, arena.schema(), &rule).expect(rt, "a plan");
+    let names = matched(rt, alloc, arena, &plan, fit.hooks, steps);
+    expect_same(rt, &names.as_slice(), &fit.names);
 }
 
 /// Where a rule fits, and the names of the match and the turns of its positions.
@@ -171,7 +171,7 @@ struct Fit<'a> {
     names: &'a [u32],
 }
 
-const FITS: [Fit; 6] = [
+static FITS: [Fit; 7] = [
     Fit {
         dim: 2,
         rows: &SQUARE,
@@ -218,50 +218,20 @@ const FITS: [Fit; 6] = [
         hooks: &[0, 3, 5],
         names: &[0, 3, 5, 7, 1, 1, 2, 4, 6, 0],
     },
+    // A creation rule matches in any map, and takes no dart.
+    Fit {
+        dim: 2,
+        rows: &SQUARE,
+        rule: CREATION,
+        hooks: &[],
+        names: &[],
+    },
 ];
 
-fn match_each<L: Ledger>(
-    rt: &impl Abort,
-    alloc: Global,
-    fits: &[Fit],
-    steps: &mut Steps<L>,
-) -> Result<(), Fail> {
-    for fit in fits {
-        let map = map_of(alloc, fit.dim, fit.rows, steps)?;
-        expect_match(rt, alloc, &map, &fit.rule, fit.hooks, fit.names, steps)?;
+/// Each rule has its match.
+pub(crate) fn match_each<L: Ledger>(rt: &impl Abort, alloc: Global, steps: &mut Steps<L>) {
+    for fit in &FITS {
+        let map = map_of(rt, alloc, fit.dim, fit.rows, steps);
+        expect_match(rt, alloc, &map, fit, steps);
     }
-    Ok(())
-}
-
-/// A creation rule matches in any map, and takes no dart.
-fn match_nothing<L: Ledger>(
-    rt: &impl Abort,
-    alloc: Global,
-    steps: &mut Steps<L>,
-) -> Result<(), Fail> {
-    let map = map_of(alloc, 2, &SQUARE, steps)?;
-    let rule = rule(alloc, "r", &CREATION)?;
-    let created = matched(rt, alloc, &map, &rule, &[], steps)?;
-    assert!(rt; created.is_ok_and(|names| names.as_slice().is_empty()));
-    Ok(())
-}
-
-fn all_matches<L: Ledger>(
-    rt: &impl Abort,
-    alloc: Global,
-    handle: &HostRuntime,
-    blank: Blank,
-) -> Result<(), Fail>
-    requires name { blank.name ≡ L.name }
-    requires parts { blank.parts ≡ L.parts }
-    requires some { 0 < blank.parts }
-{
-    let mut steps: Steps<L> = Steps::start(handle, blank);
-    match_each(rt, alloc, &FITS, &mut steps)?;
-    match_nothing(rt, alloc, &mut steps)
-}
-
-#[test]
-fn matches(rt: HostRuntime) -> Result<(), Fail> {
-    all_matches::<Brand>(&rt, rt.alloc(), &rt, Blank::new(1))
 }

@@ -1,5 +1,5 @@
 //! Schemas without embeddings, and rules without expressions.
-ghost use Rattle.std.specs.Prelude.{◌≡◌, ◌==◌, ◌≤◌, [], All, None, IsTrue, IfOk, length};
+ghost use Rattle.std.specs.Prelude.{◌≡◌, ◌==◌, ◌≤◌, [], All, None, IsTrue, length};
 ghost use Rattle.std.specs.List.{list_all};
 ghost use Rattle.gm_model.specs.declared.rule.Node.{Node};
 ghost use Rattle.gm_model.specs.Kinds.{IsTyped};
@@ -8,7 +8,7 @@ ghost use Rattle.gm_model.specs.Structure.{IsInRange, IsWithinLimits};
 
 use gm_model::{Dim, Items, Letter, Link, Name, Node, RuleTable, Schema, Word};
 use std::alloc::Global;
-use std::test::Fail;
+use std::process::Abort;
 
 /// A rule. Each node has its name and its left and its right word, in which `_` is a place without
 /// a label and `-` is no word. A link is a node, a label and a node.
@@ -21,73 +21,83 @@ pub(crate) struct RuleRow<'a> {
 }
 
 /// The schema of a dimension, without embeddings.
-pub(crate) fn schema(alloc: Global, dim: u8) -> Result<Schema, Fail>
-    ensures dim { IfOk result (λ schema. schema.dim ≡ dim) }
-    ensures embeds { IfOk result (λ schema. schema.embeds ≡ []) }
+pub(crate) fn schema(rt: &impl Abort, alloc: Global, dim: u8) -> Schema
+    ensures dim { result.dim ≡ dim }
+    ensures embeds { result.embeds ≡ [] }
 {
-    Ok(Schema {
-        dim: Dim::new(dim).ok_or("no dimension")?,
+    Schema {
+        dim: Dim::new(dim).expect(rt, "a dimension"),
         embeds: Items::new(Vec::new(alloc)),
-    })
+    }
 }
 
 /// The name of these letters.
-fn name(letters: &str) -> Result<Name, Fail> {
-    Ok(Name::new(letters.as_bytes()).ok_or("no name")?)
+fn name(rt: &impl Abort, letters: &str) -> Name {
+    Name::new(letters.as_bytes()).expect(rt, "a name")
+}
+
+fn letter(byte: u8) -> Letter {
+    match byte {
+        b'_' => Letter::Gone,
+        digit => Letter::At(digit.wrapping_sub(b'0')),
+    }
 }
 
 /// The word of these digits and `_`, or none for `-`.
-pub(crate) fn word(alloc: Global, text: &str) -> Result<Option<Word>, Fail> {
+pub(crate) fn word(rt: &impl Abort, alloc: Global, text: &str) -> Option<Word> {
     if text == "-" {
-        return Ok(None);
+        return None;
     }
     let mut letters = Vec::new(alloc);
     for byte in text.as_bytes() {
-        letters.push(match *byte {
-            b'_' => Letter::Gone,
-            digit => Letter::At(digit.wrapping_sub(b'0')),
-        })?;
+        letters.push(letter(*byte)).expect(rt, "memory");
     }
-    Ok(Some(Word::new(&letters).ok_or("no word")?))
+    Some(Word::new(&letters).expect(rt, "a word"))
 }
 
 /// The links of these nodes, labels and nodes.
-fn links(alloc: Global, links: &[(u8, u8, u8)]) -> Result<Items<Link>, Fail> {
+fn links(rt: &impl Abort, alloc: Global, links: &[(u8, u8, u8)]) -> Items<Link> {
     let mut made = Vec::new(alloc);
     for (from, label, to) in links {
-        made.push(Link {
+        let link = Link {
             from: *from,
             label: *label,
             to: *to,
-        })?;
+        };
+        made.push(link).expect(rt, "memory");
     }
-    Ok(Items::new(made))
+    Items::new(made)
 }
 
-fn nodes(alloc: Global, rows: &[(&str, &str, &str)]) -> Result<Items<Node>, Fail> {
+fn node(rt: &impl Abort, alloc: Global, row: &(&str, &str, &str)) -> Node {
+    let (letters, left, right) = *row;
+    Node {
+        name: name(rt, letters),
+        left: word(rt, alloc, left),
+        right: word(rt, alloc, right),
+        sets: Items::new(Vec::new(alloc)),
+    }
+}
+
+fn nodes(rt: &impl Abort, alloc: Global, rows: &[(&str, &str, &str)]) -> Items<Node> {
     let mut made = Vec::new(alloc);
-    for (letters, left, right) in rows {
-        made.push(Node {
-            name: name(letters)?,
-            left: word(alloc, left)?,
-            right: word(alloc, right)?,
-            sets: Items::new(Vec::new(alloc)),
-        })?;
+    for row in rows {
+        made.push(node(rt, alloc, row)).expect(rt, "memory");
     }
-    Ok(Items::new(made))
+    Items::new(made)
 }
 
-/// The rule of the row, under this name, without parameters and expressions.
-pub(crate) fn rule(alloc: Global, letters: &str, row: &RuleRow<'_>) -> Result<RuleTable, Fail> {
-    Ok(RuleTable {
-        name: name(letters)?,
+/// The rule of the row, without parameters and expressions.
+pub(crate) fn rule(rt: &impl Abort, alloc: Global, row: &RuleRow<'_>) -> RuleTable {
+    RuleTable {
+        name: name(rt, "r"),
         params: Items::new(Vec::new(alloc)),
-        hooks: Items::new(row.hooks.to_vec(alloc)?),
-        left_links: links(alloc, row.left_links)?,
-        right_links: links(alloc, row.right_links)?,
-        nodes: nodes(alloc, row.nodes)?,
+        hooks: Items::new(row.hooks.to_vec(alloc).expect(rt, "memory")),
+        left_links: links(rt, alloc, row.left_links),
+        right_links: links(rt, alloc, row.right_links),
+        nodes: nodes(rt, alloc, row.nodes),
         pre: None,
-    })
+    }
 }
 
 /// Whether the rule has no expressions.

@@ -3,10 +3,9 @@ ghost use Rattle.std.specs.Prelude.{◌≡◌, ◌≢◌, ◌+◌, ◌^◌, ◌<
 ghost use Rattle.gm_model.specs.declared.schema.Embed.{Embed};
 ghost use Rattle.gm_model.specs.Maps.{IsSchema};
 
-use gm_model::{Dim, Embed, Items, Kind, Mask, Name, Schema};
+use gm_model::{Dim, Embed, Items, Kind, Mask, Name, OutOfMemory, Schema};
 use std::alloc::Global;
 use std::process::Abort;
-use std::test::Fail;
 
 /// The schema of a dimension with one embedding.
 pub(crate) fn embedded(
@@ -15,7 +14,7 @@ pub(crate) fn embedded(
     dim: u8,
     mask: Mask,
     kind: Kind,
-) -> Result<Schema, Fail>
+) -> Result<Schema, OutOfMemory>
     requires labels { mask.bits < 2 ^ (dim + 1) }
     requires kind { kind ≢ Kind.Bool }
     ensures lawful { IfOk result IsSchema }

@@ -1,5 +1,5 @@
 //! Walks in a square of eight darts.
-ghost use Rattle.std.specs.Prelude.{◌≡◌, ℕ, ◌<◌, ◌≤◌, IfOk, false};
+ghost use Rattle.std.specs.Prelude.{◌≡◌, ℕ, ◌<◌, ◌≤◌, false};
 ghost use Rattle.gm_model.specs.Labels.{has};
 ghost use Rattle.gm_walk.specs.Lent.{slots_of};
 ghost use Rattle.gm_walk.specs.Room.{Fits};
@@ -12,23 +12,21 @@ use gm_arena::{Arena, Slot, Steps};
 use gm_model::{Letter, Mask, Word};
 use gm_walk::{Scratch, Walk, walk_mask, walk_word};
 use std::alloc::Global;
-use std::marker::Brand;
 use std::process::Abort;
-use std::sync::ledger::{Blank, Ledger};
-use std::test::Fail;
+use std::sync::ledger::Ledger;
 
 /// The word of these letters, which are labels of dimension 2.
-fn low_word(alloc: Global, letters: &str) -> Result<Word, Fail>
-    ensures { IfOk result (λ word. IsWord 2 word) }
+fn low_word(rt: &impl Abort, alloc: Global, letters: &str) -> Word
+    ensures { IsWord 2 result }
 {
-    let word = word(alloc, letters)?.ok_or("no word")?;
+    let word = word(rt, alloc, letters).expect(rt, "a word");
     for place in 0..word.len() {
         match word.letter(place) {
             Letter::At(label) if label <= 2 => {}
-            _ => return Err("no label of dimension 2".into()),
+            _ => panic!(rt; "no label of dimension 2"),
         }
     }
-    Ok(word)
+    word
 }
 
 /// The walk has these names, and the darts of the square have their places in it.
@@ -84,7 +82,7 @@ fn expect_place<L: Ledger>(
 /// A name, a word or a mask, and the names of the walk that starts at the dart of the name.
 type Case<'a, T> = (u32, T, &'a [u32]);
 
-const WORDS: [Case<&str>; 4] = [
+static WORDS: [Case<&str>; 4] = [
     (0, "01", &[0, 1, 7, 2, 6, 3, 5, 4]),
     (0, "", &[0]),
     (3, "10", &[3, 4, 2, 5, 1, 6, 0, 7]),
@@ -97,21 +95,20 @@ fn walk_words<L: Ledger>(
     arena: &Arena,
     scratch: &mut Scratch,
     steps: &mut Steps<L>,
-) -> Result<(), Fail>
+)
     requires dim { arena.now.schema.dim ≡ 2 }
     requires fits { Fits scratch.old arena.now }
     ensures { scratch.new.bound ≡ scratch.old.bound }
 {
     for (from, letters, names) in &WORDS {
         let from = arena.slot_of(*from, steps).expect(rt, "a dart");
-        let word = low_word(alloc, *letters)?;
+        let word = low_word(rt, alloc, *letters);
         let walk = walk_word(arena, from, &word, scratch, steps);
         expect_walk(rt, arena, &walk, *names, steps);
     }
-    Ok(())
 }
 
-const MASKS: [Case<Mask>; 3] = [
+static MASKS: [Case<Mask>; 3] = [
     (0, Mask { bits: 3 }, &[0, 1, 7, 2, 6, 3, 5, 4]),
     (3, Mask { bits: 6 }, &[3, 4]),
     (5, Mask { bits: 0 }, &[5]),
@@ -144,26 +141,11 @@ fn walk_masks<L: Ledger>(
     }
 }
 
-fn walk_square<L: Ledger>(
-    rt: &impl Abort,
-    alloc: Global,
-    handle: &HostRuntime,
-    blank: Blank,
-) -> Result<(), Fail>
-    requires name { blank.name ≡ L.name }
-    requires parts { blank.parts ≡ L.parts }
-    requires some { 0 < blank.parts }
-{
-    let mut steps: Steps<L> = Steps::start(handle, blank);
-    let arena = map_of(alloc, 2, &SQUARE, &mut steps)?;
+/// A square is walked from some of its darts.
+pub(crate) fn walk_square<L: Ledger>(rt: &impl Abort, alloc: Global, steps: &mut Steps<L>) {
+    let arena = map_of(rt, alloc, 2, &SQUARE, steps);
     let mut scratch = Scratch::new(alloc);
-    scratch.fit(&arena)?;
-    walk_words(rt, alloc, &arena, &mut scratch, &mut steps)?;
-    walk_masks(rt, &arena, &mut scratch, &mut steps);
-    Ok(())
-}
-
-#[test]
-fn a_square_is_walked(rt: HostRuntime) -> Result<(), Fail> {
-    walk_square::<Brand>(&rt, rt.alloc(), &rt, Blank::new(1))
+    scratch.fit(&arena).expect(rt, "memory");
+    walk_words(rt, alloc, &arena, &mut scratch, steps);
+    walk_masks(rt, &arena, &mut scratch, steps);
 }

@@ -3,11 +3,8 @@ use Rattle.gm_model.specs.Rules.{rule_of}
 use Rattle.gm_match.proofs.Stepping.{same_count}
 use Rattle.gm_tests.proofs.matching.matched.Goals as goal
 
-pub find-requires-clause-map : goal.find-requires-clause-map
-find-requires-clause-map g c = c.in-Ok.ensures.generalised
-
 pub listed-requires-clause-nodes : goal.listed-requires-clause-nodes
-listed-requires-clause-nodes g c = same_count (rule_of c.in_ok-plan.plan.table) _ _ c.left_nodes-nodes.ensures.left c.in-Ok-find.ensures.answer.matched.nodes
+listed-requires-clause-nodes g c = same_count (rule_of c.args.plan.now.table) _ _ c.left_nodes-nodes.ensures.left c.in-Ok.ensures.answer.matched.nodes
 
 pub listed-requires-clause-places : goal.listed-requires-clause-places
-listed-requires-clause-places g c = c.places.ensures ∙ sym c.in-Ok-find.ensures.answer.matched.places
+listed-requires-clause-places g c = c.places.ensures ∙ sym c.in-Ok.ensures.answer.matched.places
