@@ -7,31 +7,20 @@ use std::alloc::Global;
 use std::marker::Brand;
 use std::process::{Abort, ExitCode};
 use std::sync::ledger::Blank;
-use std::test::Fail;
 
 /// The words of a line, between single blanks.
-fn words_of(alloc: Global, line: &str) -> Result<Vec<String>, Fail> {
+fn words_of(rt: &impl Abort, alloc: Global, line: &str) -> Vec<String> {
     let mut owned = Vec::new(alloc);
     for word in line.split_whitespace() {
-        owned.push(String::from_str(alloc, word)?)?;
+        let word = String::from_str(alloc, word).expect(rt, "memory");
+        owned.push(word).expect(rt, "memory");
     }
-    Ok(owned)
+    owned
 }
 
 /// How the program ends on the words, run over a step counter of their own.
 fn run(host: &HostRuntime, words: &[String], store: &mut MemStore, out: &mut MemSink) -> ExitCode {
     with_new_counter::<MemStore, MemSink, Brand>(host, words, store, out, Blank::new(1))
-}
-
-/// How the program ends on the words of the line.
-fn run_line(
-    host: &HostRuntime,
-    line: &str,
-    store: &mut MemStore,
-    out: &mut MemSink,
-) -> Result<ExitCode, Fail> {
-    let words = words_of(host.alloc(), line)?;
-    Ok(run(host, words.as_slice(), store, out))
 }
 
 /// How a line ends: its status, and the text that it puts.
@@ -45,12 +34,11 @@ pub(crate) fn expect_end(
     store: &mut MemStore,
     out: &mut MemSink,
     end: &End,
-) -> Result<(), Fail> {
+) {
+    let words = words_of(rt, host.alloc(), line);
     let (status, put) = *end;
-    let ended = run_line(host, line, store, out)?;
-    expect_status(rt, ended, status, line);
+    expect_status(rt, run(host, words.as_slice(), store, out), status, line);
     expect_put(rt, out, put, line);
-    Ok(())
 }
 
 fn expect_status(rt: &impl Abort, ended: ExitCode, status: u8, about: &str) {

@@ -2,14 +2,8 @@
 #![tactic(auto)]
 
 #[cfg(test)]
-mod commands;
-#[cfg(test)]
 mod expect;
-#[cfg(test)]
-mod grids;
 #[cfg(test)]
 mod mapfile;
 #[cfg(test)]
-mod migrations;
-#[cfg(test)]
-mod runs;
+mod trials;

@@ -7,7 +7,6 @@ use std::alloc::Global;
 use std::marker::Brand;
 use std::process::Abort;
 use std::sync::ledger::{Blank, Ledger};
-use std::test::Fail;
 
 const SECOND: &[u8] = b"gmap 2
 dim 1
@@ -26,35 +25,28 @@ darts 2
 
 /// What is printed in this version of the map that the text stands for.
 fn converted<L: Ledger>(
+    rt: &impl Abort,
     alloc: Global,
     steps: &mut Steps<L>,
     text: &[u8],
     version: MapVersion,
-) -> Result<Vec<u8>, Fail> {
-    let read = read_map(alloc, text, steps)?;
-    let printed = print_map(alloc, &read.arena, version, steps);
-    drop(read);
-    Ok(printed?)
+) -> Vec<u8> {
+    let read = read_map(alloc, text, steps).expect(rt, "a map");
+    print_map(alloc, &read.arena, version, steps).expect(rt, "memory")
 }
 
 /// The map that is read in the second version is printed in the first.
-fn check_back<L: Ledger>(
-    rt: &impl Abort,
-    alloc: Global,
-    handle: &HostRuntime,
-    blank: Blank,
-) -> Result<(), Fail>
+fn check_back<L: Ledger>(rt: &impl Abort, alloc: Global, handle: &HostRuntime, blank: Blank)
     requires name { blank.name ≡ L.name }
     requires parts { blank.parts ≡ L.parts }
     requires some { 0 < blank.parts }
 {
     let mut steps: Steps<L> = Steps::start(handle, blank);
-    let back = converted(alloc, &mut steps, SECOND, MapVersion::One)?;
-    assert_eq!(rt; back.as_slice(), FIRST);
-    Ok(())
+    let back = converted(rt, alloc, &mut steps, SECOND, MapVersion::One);
+    assert!(rt; back.as_slice() == FIRST);
 }
 
 #[test]
-fn a_map_of_the_second_version_is_printed_in_the_first(rt: HostRuntime) -> Result<(), Fail> {
-    check_back::<Brand>(&rt, rt.alloc(), &rt, Blank::new(1))
+fn a_map_of_the_second_version_is_printed_in_the_first(rt: HostRuntime) {
+    check_back::<Brand>(&rt, rt.alloc(), &rt, Blank::new(1));
 }
