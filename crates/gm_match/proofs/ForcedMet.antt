@@ -17,8 +17,8 @@ use Rattle.gm_arena.proofs.MapLemmas.{IsLiveName-name_at}
 use Rattle.gm_plan.specs.Paths.{IsLastLink}
 use Rattle.gm_plan.specs.Placed.{Placed, slot_at, turn_at}
 use Rattle.gm_plan.specs.Plans.{PlanOf}
-use Rattle.gm_plan.specs.Tests.{IsForcedStep}
-use Rattle.gm_plan.specs.Tests.IsForcedStep.{Free, Turns, EndsOwn, EndsOther}
+use Rattle.gm_plan.specs.Tested.{IsForcedStep}
+use Rattle.gm_plan.specs.Tested.IsForcedStep.{Free, Turns, EndsOwn, EndsOther}
 use Rattle.gm_theory.proofs.Agreement.{IsCreatedBy, IsWalkedBy, positions_parts}
 use Rattle.gm_theory.proofs.Lists.{none_some}
 use Rattle.gm_theory.proofs.RuleLinks.{linked_in_range, linked_step}

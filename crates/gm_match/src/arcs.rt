@@ -31,7 +31,7 @@ pub(crate) fn meet_steps<L: Ledger>(
     ensures least { steps.old ≤ steps.new }
 {
     for node in 0..plan.left_nodes() {
-        if !plan.has_tests(node) {
+        if !plan.needs_test(node) {
             continue;
         }
         if let Some((position, label)) = broken_position(plan, arena, found, node, steps) {

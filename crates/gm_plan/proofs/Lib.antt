@@ -1,6 +1,7 @@
 pub mod Changed
 pub mod Distinct
 pub mod Extended
+pub mod Forced
 pub mod Found
 pub mod Hooks
 pub mod LeftNodes
@@ -10,4 +11,3 @@ pub mod PathLinks
 pub mod Ranks
 pub mod Rows
 pub mod Search
-pub mod Tested

@@ -6,4 +6,4 @@ pub mod Placed
 pub mod Plans
 pub mod Refusals
 pub mod Searches
-pub mod Tests
+pub mod Tested

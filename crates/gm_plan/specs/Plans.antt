@@ -14,7 +14,7 @@ use Rattle.gm_model.specs.Unfolding.{added_nodes}
 use Rattle.gm_plan.specs.Changes.{freed_step, made_step}
 use Rattle.gm_plan.specs.Counts.{removed_nodes}
 use Rattle.gm_plan.specs.Paths.{ArePaths}
-use Rattle.gm_plan.specs.Tests.{tested_step}
+use Rattle.gm_plan.specs.Tested.{tested_step}
 
 -- a plan is that of a rule over a schema
 pub record PlanOf : Type 0 where

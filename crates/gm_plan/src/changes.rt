@@ -1,104 +1,66 @@
 //! The steps of a rule whose arcs an application writes.
-ghost use Rattle.std.specs.Prelude.{◌≡◌, ℕ, ◌<◌, ◌≤◌, length, Some, slice_get, IfOk};
+ghost use Rattle.std.specs.Prelude.{◌≡◌, ℕ, ◌<◌, length};
 ghost use Rattle.gm_model.specs.declared.rule.Side.TheVariants.{Left, Right};
 ghost use Rattle.gm_model.specs.Rules.{rule_of, has_word, is_removed};
 ghost use Rattle.gm_plan.specs.Changes.{freed_step, is_steady, made_step};
-ghost use Rattle.gm_plan.specs.Plans.{AreRows, AreSteps};
+ghost use Rattle.gm_plan.specs.Plans.{AreSteps};
 
-use crate::sides::Row;
-use gm_model::{MOST_LABELS, OutOfMemory, RuleTable, Side, Step};
-use std::alloc::Global;
+use crate::table::{Row, StepAt};
+use gm_model::{RuleTable, Side, Step};
 
-/// The freed step of each node at each label. The rows have the left steps.
-pub fn freed_steps(alloc: Global, rule: &RuleTable, left: &[Row]) -> Result<Vec<Row>, OutOfMemory>
-    requires few { length (rule_of rule.now).nodes ≤ 32 }
-    requires left { AreSteps (rule_of rule.now) Left (length (rule_of rule.now).nodes) left.now }
-    ensures { IfOk result (λ rows. AreRows (freed_step (rule_of rule.now)) (length (rule_of rule.now).nodes) rows.items) }
-{
-    let mut rows = Vec::new(alloc);
-    for node in 0..rule.node_count() {
-        rows.push(freed_row(rule, left, node))?;
-    }
-    Ok(rows)
+/// The steps that an application frees. The rows have the left steps.
+#[derive(Clone, Copy)]
+pub struct Freed<'a> {
+    pub rule: &'a RuleTable,
+    pub left: &'a [Row],
 }
 
-/// The freed step of the node at each label.
-fn freed_row(rule: &RuleTable, left: &[Row], node: u8) -> Row
-    requires left { AreSteps (rule_of rule.now) Left (length (rule_of rule.now).nodes) left.now }
-    requires node { node < length (rule_of rule.now).nodes }
-    ensures { (i : ℕ) → i < 8 → slice_get result i ≡ Some (freed_step (rule_of rule.now) node i) }
-{
-    let mut row = [Step::Absent; MOST_LABELS];
-    for label in 0..MOST_LABELS as u8 {
-        row[label as usize] = freed_step(rule, left, node, label);
+impl<'a> StepAt for Freed<'a> {
+    ghost can_step = { λ freed node. AreSteps (rule_of freed.rule.now) Left (length (rule_of freed.rule.now).nodes) freed.left.now × node < length (rule_of freed.rule.now).nodes };
+
+    ghost step = { λ freed. freed_step (rule_of freed.rule.now) };
+
+    /// The left step, where it leads to darts that are removed.
+    fn step_at(&self, node: u8, label: u8) -> Step {
+        if !has_word(self.rule, Side::Left, node) {
+            return Step::Absent;
+        }
+        let step = self.left[node as usize][label as usize];
+        let is_freed = match step {
+            Step::Absent => false,
+            Step::Exp(other) => is_removed(self.rule, other),
+            Step::Imp(_) => is_removed(self.rule, node),
+        };
+        if is_freed { step } else { Step::Absent }
     }
-    row
 }
 
-/// The left step, where it leads to darts that are removed.
-fn freed_step(rule: &RuleTable, left: &[Row], node: u8, label: u8) -> Step
-    requires left { AreSteps (rule_of rule.now) Left (length (rule_of rule.now).nodes) left.now }
-    requires node { node < length (rule_of rule.now).nodes }
-    requires label { label < 8 }
-    ensures { result ≡ freed_step (rule_of rule.now) node label }
-{
-    if !has_word(rule, Side::Left, node) {
-        return Step::Absent;
-    }
-    let step = left[node as usize][label as usize];
-    let is_freed = match step {
-        Step::Absent => false,
-        Step::Exp(other) => is_removed(rule, other),
-        Step::Imp(_) => is_removed(rule, node),
-    };
-    if is_freed { step } else { Step::Absent }
+/// The steps that an application makes. The rows have the steps of both sides. Those of the right
+/// side have a lifetime of their own, since nothing behind this table reads them.
+#[derive(Clone, Copy)]
+pub struct Made<'a, 'b> {
+    pub rule: &'a RuleTable,
+    pub left: &'a [Row],
+    pub right: &'b [Row],
 }
 
-/// The made step of each node at each label. The rows have the steps of both sides.
-pub fn made_steps(
-    alloc: Global,
-    rule: &RuleTable,
-    left: &[Row],
-    right: &[Row],
-) -> Result<Vec<Row>, OutOfMemory>
-    requires few { length (rule_of rule.now).nodes ≤ 32 }
-    requires left { AreSteps (rule_of rule.now) Left (length (rule_of rule.now).nodes) left.now }
-    requires right { AreSteps (rule_of rule.now) Right (length (rule_of rule.now).nodes) right.now }
-    ensures { IfOk result (λ rows. AreRows (made_step (rule_of rule.now)) (length (rule_of rule.now).nodes) rows.items) }
-{
-    let mut rows = Vec::new(alloc);
-    for node in 0..rule.node_count() {
-        rows.push(made_row(rule, left, right, node))?;
-    }
-    Ok(rows)
-}
+impl<'a, 'b> StepAt for Made<'a, 'b> {
+    ghost can_step = { λ made node.
+        AreSteps (rule_of made.rule.now) Left (length (rule_of made.rule.now).nodes) made.left.now
+        × AreSteps (rule_of made.rule.now) Right (length (rule_of made.rule.now).nodes) made.right.now
+        × node < length (rule_of made.rule.now).nodes };
 
-/// The made step of the node at each label.
-fn made_row(rule: &RuleTable, left: &[Row], right: &[Row], node: u8) -> Row
-    requires left { AreSteps (rule_of rule.now) Left (length (rule_of rule.now).nodes) left.now }
-    requires right { AreSteps (rule_of rule.now) Right (length (rule_of rule.now).nodes) right.now }
-    requires node { node < length (rule_of rule.now).nodes }
-    ensures { (i : ℕ) → i < 8 → slice_get result i ≡ Some (made_step (rule_of rule.now) node i) }
-{
-    let mut row = [Step::Absent; MOST_LABELS];
-    for label in 0..MOST_LABELS as u8 {
-        row[label as usize] = made_step(rule, left, right, node, label);
-    }
-    row
-}
+    ghost step = { λ made. made_step (rule_of made.rule.now) };
 
-/// The right step, unless it is steady.
-fn made_step(rule: &RuleTable, left: &[Row], right: &[Row], node: u8, label: u8) -> Step
-    requires left { AreSteps (rule_of rule.now) Left (length (rule_of rule.now).nodes) left.now }
-    requires right { AreSteps (rule_of rule.now) Right (length (rule_of rule.now).nodes) right.now }
-    requires node { node < length (rule_of rule.now).nodes }
-    requires label { label < 8 }
-    ensures { result ≡ made_step (rule_of rule.now) node label }
-{
-    if has_word(rule, Side::Right, node) && !is_steady(rule, left, right, node, label) {
-        right[node as usize][label as usize]
-    } else {
-        Step::Absent
+    /// The right step, unless it is steady.
+    fn step_at(&self, node: u8, label: u8) -> Step {
+        if has_word(self.rule, Side::Right, node)
+            && !is_steady(self.rule, self.left, self.right, node, label)
+        {
+            self.right[node as usize][label as usize]
+        } else {
+            Step::Absent
+        }
     }
 }
 

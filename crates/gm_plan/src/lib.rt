@@ -9,7 +9,8 @@ mod laws;
 mod paths;
 mod plan;
 mod sides;
-mod tests;
+mod table;
+mod tested;
 
 pub use compiler::{PlanFault, compile};
 pub use instances::Instances;

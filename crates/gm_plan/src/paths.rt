@@ -11,7 +11,7 @@ ghost use Rattle.gm_plan.specs.Paths.{ArePaths};
 ghost use Rattle.gm_plan.specs.Plans.{IsPlanned, AreSteps};
 ghost use Rattle.gm_plan.specs.Searches.{row_step, HasLabelsBelow, HasEndsWithin, rank_at, AreHookRanks, IsSearched};
 
-use crate::sides::Row;
+use crate::table::Row;
 use gm_model::{Link, MOST_NODES, OutOfMemory, RuleTable, Schema, Step};
 use smallvec::SmallVec;
 use std::alloc::Global;

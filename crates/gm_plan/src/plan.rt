@@ -1,10 +1,11 @@
 ghost use Rattle.std.specs.Prelude.{◌≡◌, ◌≢◌, false, ℕ, ◌<◌, ◌≤◌, ◌↔◌, length, MatchOption, IfOk, IsTrue};
 ghost use Rattle.std.specs.List.{Contains};
 
-use crate::changes::{freed_steps, made_steps};
+use crate::changes::{Freed, Made};
 use crate::paths::{Paths, least_paths, link_to};
-use crate::sides::{Row, count_added, count_left, count_removed, side_steps};
-use crate::tests::{has_step, tested_steps};
+use crate::sides::{count_added, count_left, count_removed, side_steps};
+use crate::table::{Row, rows_of};
+use crate::tested::{Tested, has_step};
 use gm_model::{Link, OutOfMemory, RuleTable, Schema, Side, Step};
 use std::alloc::Global;
 use std::marker::Model;
@@ -52,7 +53,7 @@ impl<'b> Plan<'b> {
     ghost use Rattle.gm_plan.specs.Counts.{removed_nodes};
     ghost use Rattle.gm_plan.specs.Paths.{ArePaths, IsLastLink};
     ghost use Rattle.gm_plan.specs.Plans.{IsPlanned, IsLeftCount, plan_of};
-    ghost use Rattle.gm_plan.specs.Tests.{IsForcedStep};
+    ghost use Rattle.gm_plan.specs.Tested.{IsForcedStep};
 
     /// The plan of a rule that is accepted.
     pub(crate) fn new(
@@ -63,17 +64,21 @@ impl<'b> Plan<'b> {
         requires { IsPlanned schema.now (rule_of rule.now) }
         ensures { IfOk result (λ plan. plan ≡ plan_of schema.now rule.now) }
     {
-        let left = side_steps(alloc, rule, Side::Left)?;
-        let right = side_steps(alloc, rule, Side::Right)?;
-        let made = made_steps(alloc, rule, left.as_slice(), right.as_slice())?;
-        let freed = freed_steps(alloc, rule, left.as_slice())?;
-        let paths = least_paths(alloc, schema, rule, left.as_slice())?;
-        let tested = tested_steps(alloc, rule, left.as_slice(), paths.as_slice())?;
+        let nodes = rule.node_count();
+        let left_rows = side_steps(alloc, rule, Side::Left)?;
+        let right_rows = side_steps(alloc, rule, Side::Right)?;
+        let left = left_rows.as_slice();
+        let right = right_rows.as_slice();
+        let made = rows_of(alloc, &Made { rule, left, right }, nodes)?;
+        let freed = rows_of(alloc, &Freed { rule, left }, nodes)?;
+        let paths = least_paths(alloc, schema, rule, left)?;
+        let links = paths.as_slice();
+        let tested = rows_of(alloc, &Tested { rule, left, links }, nodes)?;
         Ok(Plan {
             schema,
             rule,
-            left,
-            right,
+            left: left_rows,
+            right: right_rows,
             made,
             freed,
             tested,
@@ -162,7 +167,7 @@ impl<'b> Plan<'b> {
     }
 
     /// Whether a match has to test a left step of the node.
-    pub fn has_tests(&self, node: u8) -> bool
+    pub fn needs_test(&self, node: u8) -> bool
         requires { node < length (rule_of self.now.table).nodes }
         ensures { result ≡ false → (i : ℕ) → i < 8 → IsForcedStep (rule_of self.now.table) node i }
     {

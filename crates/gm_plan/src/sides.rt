@@ -5,11 +5,9 @@ ghost use Rattle.gm_model.specs.Unfolding.{added_nodes};
 ghost use Rattle.gm_plan.specs.Counts.{removed_nodes};
 ghost use Rattle.gm_plan.specs.Plans.{AreSteps, IsLeftCount};
 
-use gm_model::{MOST_LABELS, OutOfMemory, RuleTable, Side, Step};
+use crate::table::Row;
+use gm_model::{OutOfMemory, RuleTable, Side};
 use std::alloc::Global;
-
-/// The steps of one node, by label.
-pub type Row = [Step; MOST_LABELS];
 
 /// The steps of each node on the side.
 pub fn side_steps(alloc: Global, rule: &RuleTable, side: Side) -> Result<Vec<Row>, OutOfMemory>

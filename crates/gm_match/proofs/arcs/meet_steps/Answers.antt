@@ -11,9 +11,9 @@ use Rattle.gm_match.proofs.ForcedMet.{all_met}
 use Rattle.gm_match.proofs.Stepping.{same_count}
 use Rattle.gm_match.proofs.arcs.meet_steps.Goals as goal
 
-pub loop-node-preserved-then-not-has_tests : goal.loop-node-preserved-then-not-has_tests
-loop-node-preserved-then-not-has_tests g c =
-    let met = all_met c.args.arena.now c.args.plan.now c.requires.matchable c.args.found.now c.requires.candidate c.loop-node.node (c.has_tests.ensures c.if-not-has_tests.true) in
+pub loop-node-preserved-then-not-needs_test : goal.loop-node-preserved-then-not-needs_test
+loop-node-preserved-then-not-needs_test g c =
+    let met = all_met c.args.arena.now c.args.plan.now c.requires.matchable c.args.found.now c.requires.candidate c.loop-node.node (c.needs_test.ensures c.if-not-needs_test.true) in
     record { met = below_more _ _ c.loop-node.invariant.met met; cost = omega (arith, c.loop-node.invariant.cost); least = c.loop-node.invariant.least }
 
 pub broken_position-requires-clause-node : goal.broken_position-requires-clause-node
@@ -40,8 +40,8 @@ returns-clause-steps g c =
 pub loop-node-init : goal.loop-node-init
 loop-node-init g c = record { met = λ x h. absurd (nothing_below h); cost = le-add_right _ _; least = le_refl _ }
 
-pub has_tests-requires : goal.has_tests-requires
-has_tests-requires g c = word_below (rule_of c.args.plan.now.table) Left _ ((c.left_nodes-node-end.ensures.left c.loop-node.node).1 c.loop-node-test.true)
+pub needs_test-requires : goal.needs_test-requires
+needs_test-requires g c = word_below (rule_of c.args.plan.now.table) Left _ ((c.left_nodes-node-end.ensures.left c.loop-node.node).1 c.loop-node-test.true)
 
 pub broken_position-requires-clause-matchable : goal.broken_position-requires-clause-matchable
 broken_position-requires-clause-matchable g c = c.requires.matchable

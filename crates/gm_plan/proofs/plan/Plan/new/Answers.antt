@@ -1,39 +1,40 @@
-use Rattle.std.proofs.Common.{length, refl, sym, subst}
+use Rattle.std.proofs.Common.{◌<◌, length, refl, sym, subst, arith}
 use Rattle.std.proofs.lemmas.Result.{IfOk-from_err}
 use Rattle.gm_model.specs.declared.rule.Side.TheVariants.{Left, Right}
 use Rattle.gm_model.specs.Rules.{rule_of}
 use Rattle.gm_plan.specs.Plans.{AreSteps}
 use Rattle.gm_plan.proofs.plan.Plan.new.Goals as goal
 
+pub node_count-nodes-requires : goal.node_count-nodes-requires
+node_count-nodes-requires c = omega (arith, c.requires.within.nodes)
+
 pub side_steps-requires : goal.side_steps-requires
 side_steps-requires c = c.requires.within.nodes
 
-pub returns-in_err-left : goal.returns-in_err-left
-returns-in_err-left c = IfOk-from_err c.from_residual.result _ c.from_residual.ensures.0
+pub returns-in_err-left_rows : goal.returns-in_err-left_rows
+returns-in_err-left_rows c = IfOk-from_err c.from_residual.result _ c.from_residual.ensures.0
 
 pub side_steps-requires-2 : goal.side_steps-requires-2
 side_steps-requires-2 c = c.requires.within.nodes
 
-pub returns-in_err-right : goal.returns-in_err-right
-returns-in_err-right c = IfOk-from_err c.from_residual-in_err-right.result _ c.from_residual-in_err-right.ensures.0
+pub returns-in_err-right_rows : goal.returns-in_err-right_rows
+returns-in_err-right_rows c = IfOk-from_err c.from_residual-in_err-right_rows.result _ c.from_residual-in_err-right_rows.ensures.0
 
-pub made_steps-requires-clause-few : goal.made_steps-requires-clause-few
-made_steps-requires-clause-few c = c.requires.within.nodes
-
-pub made_steps-requires-clause-left : goal.made_steps-requires-clause-left
-made_steps-requires-clause-left c = subst (AreSteps (rule_of c.args.rule.now) Left (length (rule_of c.args.rule.now).nodes)) (sym c.as_slice.ensures.value) c.in_ok-left.ensures
-
-pub made_steps-requires-clause-right : goal.made_steps-requires-clause-right
-made_steps-requires-clause-right c = subst (AreSteps (rule_of c.args.rule.now) Right (length (rule_of c.args.rule.now).nodes)) (sym c.as_slice-2.ensures.value) c.in_ok-right.ensures
+pub rows_of-requires : goal.rows_of-requires
+rows_of-requires c node below = (
+  subst (AreSteps (rule_of c.args.rule.now) Left (length (rule_of c.args.rule.now).nodes)) (sym c.as_slice-left.ensures.value) c.in_ok-left_rows.ensures,
+  subst (AreSteps (rule_of c.args.rule.now) Right (length (rule_of c.args.rule.now).nodes)) (sym c.as_slice-right.ensures.value) c.in_ok-right_rows.ensures,
+  subst (λ n. node < n) c.node_count-nodes.ensures below,
+)
 
 pub returns-in_err-made : goal.returns-in_err-made
 returns-in_err-made c = IfOk-from_err c.from_residual-in_err-made.result _ c.from_residual-in_err-made.ensures.0
 
-pub freed_steps-requires-clause-few : goal.freed_steps-requires-clause-few
-freed_steps-requires-clause-few c = c.requires.within.nodes
-
-pub freed_steps-requires-clause-left : goal.freed_steps-requires-clause-left
-freed_steps-requires-clause-left c = subst (AreSteps (rule_of c.args.rule.now) Left (length (rule_of c.args.rule.now).nodes)) (sym c.as_slice-3.ensures.value) c.in_ok-left.ensures
+pub rows_of-requires-2 : goal.rows_of-requires-2
+rows_of-requires-2 c node below = (
+  subst (AreSteps (rule_of c.args.rule.now) Left (length (rule_of c.args.rule.now).nodes)) (sym c.as_slice-left.ensures.value) c.in_ok-left_rows.ensures,
+  subst (λ n. node < n) c.node_count-nodes.ensures below,
+)
 
 pub returns-in_err-freed : goal.returns-in_err-freed
 returns-in_err-freed c = IfOk-from_err c.from_residual-in_err-freed.result _ c.from_residual-in_err-freed.ensures.0
@@ -42,16 +43,16 @@ pub least_paths-requires-clause-planned : goal.least_paths-requires-clause-plann
 least_paths-requires-clause-planned c = c.requires
 
 pub least_paths-requires-clause-rows : goal.least_paths-requires-clause-rows
-least_paths-requires-clause-rows c = subst (AreSteps (rule_of c.args.rule.now) Left (length (rule_of c.args.rule.now).nodes)) (sym c.as_slice-4.ensures.value) c.in_ok-left.ensures
+least_paths-requires-clause-rows c = subst (AreSteps (rule_of c.args.rule.now) Left (length (rule_of c.args.rule.now).nodes)) (sym c.as_slice-left.ensures.value) c.in_ok-left_rows.ensures
 
 pub returns-in_err-paths : goal.returns-in_err-paths
 returns-in_err-paths c = IfOk-from_err c.from_residual-in_err-paths.result _ c.from_residual-in_err-paths.ensures.0
 
-pub tested_steps-requires-clause-few : goal.tested_steps-requires-clause-few
-tested_steps-requires-clause-few c = c.requires.within.nodes
-
-pub tested_steps-requires-clause-left : goal.tested_steps-requires-clause-left
-tested_steps-requires-clause-left c = subst (AreSteps (rule_of c.args.rule.now) Left (length (rule_of c.args.rule.now).nodes)) (sym c.as_slice-5.ensures.value) c.in_ok-left.ensures
+pub rows_of-requires-3 : goal.rows_of-requires-3
+rows_of-requires-3 c node below = (
+  subst (AreSteps (rule_of c.args.rule.now) Left (length (rule_of c.args.rule.now).nodes)) (sym c.as_slice-left.ensures.value) c.in_ok-left_rows.ensures,
+  subst (λ n. node < n) c.node_count-nodes.ensures below,
+)
 
 pub returns-in_err-tested : goal.returns-in_err-tested
 returns-in_err-tested c = IfOk-from_err c.from_residual-in_err-tested.result _ c.from_residual-in_err-tested.ensures.0
@@ -71,11 +72,11 @@ count_removed-requires c = c.requires.within.nodes
 pub invariant_of-result : goal.invariant_of-result
 invariant_of-result c = record {
   planned = c.requires;
-  left_steps = c.in_ok-left.ensures;
-  right_steps = c.in_ok-right.ensures;
-  made_steps = c.in_ok-made.ensures;
-  freed_steps = c.in_ok-freed.ensures;
-  tested_steps = rw (← c.as_slice-6.ensures) c.in_ok-tested.ensures;
+  left_steps = c.in_ok-left_rows.ensures;
+  right_steps = c.in_ok-right_rows.ensures;
+  made_steps = rw (← c.node_count-nodes.ensures) c.in_ok-made.ensures;
+  freed_steps = rw (← c.node_count-nodes.ensures) c.in_ok-freed.ensures;
+  tested_steps = rw (← c.as_slice-links.ensures, ← c.node_count-nodes.ensures) c.in_ok-tested.ensures;
   are_paths = c.in_ok-paths.ensures;
   are_counts = record { left_is = c.count_left.ensures; added_is = c.count_added.ensures; removed_is = c.count_removed.ensures };
 }

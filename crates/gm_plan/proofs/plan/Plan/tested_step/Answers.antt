@@ -3,8 +3,8 @@ use Rattle.gm_model.specs.declared.rule.Side.TheVariants.{Left}
 use Rattle.gm_model.specs.declared.step.Step.TheVariants.{Absent}
 use Rattle.gm_model.specs.Rules.{rule_of, step}
 use Rattle.gm_plan.specs.Plans.{PlanOf}
-use Rattle.gm_plan.specs.Tests.{IsForcedStep}
-use Rattle.gm_plan.proofs.Tested.{row_forced, row_kept}
+use Rattle.gm_plan.specs.Tested.{IsForcedStep}
+use Rattle.gm_plan.proofs.Forced.{row_forced, row_kept}
 use Rattle.gm_plan.proofs.plan.Plan.tested_step.Goals as goal
 
 pub offset_bounds-index-label : goal.offset_bounds-index-label

@@ -1,9 +1,9 @@
 use Rattle.std.proofs.Common.{ℕ, ◌<◌, length, sym, subst, ◌∙◌}
 use Rattle.gm_model.specs.Rules.{rule_of}
 use Rattle.gm_plan.specs.Plans.{PlanOf}
-use Rattle.gm_plan.specs.Tests.{IsForcedStep}
-use Rattle.gm_plan.proofs.Tested.{all_forced}
-use Rattle.gm_plan.proofs.plan.Plan.has_tests.Goals as goal
+use Rattle.gm_plan.specs.Tested.{IsForcedStep}
+use Rattle.gm_plan.proofs.Forced.{all_forced}
+use Rattle.gm_plan.proofs.plan.Plan.needs_test.Goals as goal
 
 pub returns : goal.returns
 returns c =

@@ -1,0 +1,60 @@
+//! The left steps of a rule that a match has to test.
+ghost use Rattle.std.specs.Prelude.{◌≡◌, ◌<◌, length};
+ghost use Rattle.std.specs.List.{list_any};
+ghost use Rattle.gm_model.specs.declared.rule.Side.TheVariants.{Left};
+ghost use Rattle.gm_model.specs.Rules.{rule_of};
+ghost use Rattle.gm_plan.specs.Plans.{AreSteps};
+ghost use Rattle.gm_plan.specs.Tested.{is_end, is_step, is_walked, tested_step};
+
+use crate::table::{Row, StepAt};
+use gm_model::{Link, RuleTable, Step};
+
+/// The left steps that a match has to test. The rows have the left steps, and the links are those
+/// that the least paths end with.
+#[derive(Clone, Copy)]
+pub struct Tested<'a> {
+    pub rule: &'a RuleTable,
+    pub left: &'a [Row],
+    pub links: &'a [Link],
+}
+
+impl<'a> StepAt for Tested<'a> {
+    ghost can_step = { λ tested node. AreSteps (rule_of tested.rule.now) Left (length (rule_of tested.rule.now).nodes) tested.left.now × node < length (rule_of tested.rule.now).nodes };
+
+    ghost step = { λ tested. tested_step (rule_of tested.rule.now) tested.links.now };
+
+    /// The left step, unless the candidate meets it as it is made.
+    fn step_at(&self, node: u8, label: u8) -> Step {
+        let step = self.left[node as usize][label as usize];
+        if is_walked(self.rule, node, step) || is_on_path(self.links, node, label) {
+            Step::Absent
+        } else {
+            step
+        }
+    }
+}
+
+/// Whether the node is the first hook and turns at the step, as the walk does.
+fn is_walked(rule: &RuleTable, node: u8, step: Step) -> bool
+    ensures { result ≡ is_walked (rule_of rule.now) node step }
+{
+    let hooks = rule.hooks.as_slice();
+    match step {
+        Step::Absent | Step::Exp(_) => false,
+        Step::Imp(_) => !hooks.is_empty() && hooks[0] == node,
+    }
+}
+
+/// Whether one of the links, with the label, leads to the node or from it.
+fn is_on_path(paths: &[Link], node: u8, label: u8) -> bool
+    ensures { result ≡ list_any (is_end node label) paths.now }
+{
+    paths.iter().any(|link| link.label == label && (link.from == node || link.to == node))
+}
+
+/// Whether the row has a step.
+pub fn has_step(row: &[Step]) -> bool
+    ensures { result ≡ list_any is_step row.now }
+{
+    row.iter().any(|step| !matches!(step, Step::Absent))
+}
