@@ -1,6 +1,6 @@
 use Rattle.std.proofs.Common.{◌≡◌, ℕ, ◌+◌, ◌-◌, ◌*◌, ◌≤◌, length, arith}
 use Rattle.gm_arena.proofs.InsideLemmas.{key_at, live_at, slot_at, row_at}
-use Rattle.gm_arena.proofs.ReserveLemmas.{links_within}
+use Rattle.gm_arena.proofs.ReserveLemmas.{links_within, values_within}
 use Rattle.gm_arena.proofs.arena.Arena.row.Goals as goal
 
 pub index-requires : goal.index-requires
@@ -11,6 +11,27 @@ slice_bounds-result-end g c =
     let s = c.self.inside in
     let within : c.args.slot.at * s.labels + s.labels ≤ length s.neighbours.items = links_within _ _ _ _ _ _ _ _ _ _ c.self.invariant.0 c.args.slot.at (rw (← c.self.view_is) at c.requires) in
     omega (arith, within, s.neighbours.ok.0)
+
+pub overflow_mul-result : goal.overflow_mul-result
+overflow_mul-result g c = omega (arith, links_within _ _ _ _ _ _ _ _ _ _ c.self.invariant.0 c.args.slot.at (rw (← c.self.view_is) at c.requires), c.self.inside.neighbours.ok.0, c.self.inside.neighbours.small)
+
+pub overflow_mul-result-2 : goal.overflow_mul-result-2
+overflow_mul-result-2 g c = omega (arith, links_within _ _ _ _ _ _ _ _ _ _ c.self.invariant.0 c.args.slot.at (rw (← c.self.view_is) at c.requires), c.self.inside.neighbours.ok.0, c.self.inside.neighbours.small)
+
+pub overflow_add-result : goal.overflow_add-result
+overflow_add-result g c = omega (arith, links_within _ _ _ _ _ _ _ _ _ _ c.self.invariant.0 c.args.slot.at (rw (← c.self.view_is) at c.requires), c.self.inside.neighbours.ok.0, c.self.inside.neighbours.small)
+
+pub overflow_mul-result-3 : goal.overflow_mul-result-3
+overflow_mul-result-3 g c = omega (arith, values_within _ _ _ _ _ _ _ _ _ _ c.self.invariant.0 c.args.slot.at (rw (← c.self.view_is) at c.requires), c.self.inside.values.ok.0, c.self.inside.values.small)
+
+pub overflow_mul-result-4 : goal.overflow_mul-result-4
+overflow_mul-result-4 g c = omega (arith, values_within _ _ _ _ _ _ _ _ _ _ c.self.invariant.0 c.args.slot.at (rw (← c.self.view_is) at c.requires), c.self.inside.values.ok.0, c.self.inside.values.small)
+
+pub slice_bounds-result-end-2 : goal.slice_bounds-result-end-2
+slice_bounds-result-end-2 g c =
+    let s = c.self.inside in
+    let within : c.args.slot.at * s.width + s.width ≤ length s.values.items = values_within _ _ _ _ _ _ _ _ _ _ c.self.invariant.0 c.args.slot.at (rw (← c.self.view_is) at c.requires) in
+    omega (arith, within, s.values.ok.0)
 
 pub returns-clause-name : goal.returns-clause-name
 returns-clause-name g c = rw (← c.self.view_is) (slot_at c.self.inside.places _ _ c.index.ensures)
