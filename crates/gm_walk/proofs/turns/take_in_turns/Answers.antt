@@ -5,6 +5,9 @@ use Rattle.gm_model.specs.Orbits.{IsWalkTo}
 use Rattle.gm_walk.specs.Cells.{IsRow}
 use Rattle.gm_walk.specs.Turns.{IsTurn}
 use Rattle.gm_walk.specs.Walks.{along, names_of}
+use Rattle.gm_arena.specs.ArenaMap.{IsLiveSlot}
+use Rattle.gm_arena.specs.declared.slot.Slot.{Slot}
+use Rattle.gm_model.proofs.Exits.{never_ok}
 use Rattle.gm_walk.proofs.CellLemmas.{one_entry, one_row}
 use Rattle.gm_walk.proofs.NameLemmas.{live_at, at_place, live_after, longer_after, same_after, bound_after, walk_after}
 use Rattle.gm_walk.proofs.TurnLemmas.{cells_stay, row_stays, turned}
@@ -77,3 +80,32 @@ returns-clause-turns g c = λ cells.
     let word = c.args.word.now in
     let end : length i.row ≡ length word = omega (arith, i.long, c.loop-place-test.false, c.len-place-end.ensures.value, c.loop-place.auto.place-end) in
     rw i.items (one_row _ (length word) c.args.at c.args.turns.now.items i.row (i.before cells) end (subst (λ n. IsRow (IsTurn m word (names_of m c.loop-place.scratch.walked) c.args.at) n i.row) end i.filled))
+
+pub alpha-requires-clause-live : goal.alpha-requires-clause-live
+alpha-requires-clause-live g c =
+    let i = c.loop-place.invariant in
+    subst (λ (s : Slot). IsLiveSlot c.args.arena.now s.at) (i.here (record { at = 0 })) (i.live c.args.at (record { at = 0 }) i.within)
+
+pub take-requires : goal.take-requires
+take-requires g c = omega (arith, c.requires.lawful.below_bound _ _ c.alpha.ensures.neighbour, c.requires.fits, c.loop-place.invariant.bound)
+
+pub returns-in_err-push-clause-walk : goal.returns-in_err-push-clause-walk
+returns-in_err-push-clause-walk g c = never_ok _ c.from_residual.result c.from_residual.ensures.0
+
+pub returns-in_err-push-clause-turns : goal.returns-in_err-push-clause-turns
+returns-in_err-push-clause-turns g c = never_ok _ c.from_residual.result c.from_residual.ensures.0
+
+pub returns-in_err-push-clause-live : goal.returns-in_err-push-clause-live
+returns-in_err-push-clause-live g c = never_ok _ c.from_residual.result c.from_residual.ensures.0
+
+pub returns-in_err-push-clause-longer : goal.returns-in_err-push-clause-longer
+returns-in_err-push-clause-longer g c = omega (arith, longer_after c.args.arena.now _ _ _ c.take.ensures.taken, c.loop-place.invariant.longer)
+
+pub returns-in_err-push-clause-bound : goal.returns-in_err-push-clause-bound
+returns-in_err-push-clause-bound g c = bound_after c.args.arena.now _ _ _ c.take.ensures.taken ∙ c.loop-place.invariant.bound
+
+pub returns-in_err-push-clause-cost : goal.returns-in_err-push-clause-cost
+returns-in_err-push-clause-cost g c = omega (arith, c.loop-place.invariant.cost, c.alpha.ensures.cost, c.loop-place-test.true, c.len-place-end.ensures.value)
+
+pub returns-in_err-push-clause-least : goal.returns-in_err-push-clause-least
+returns-in_err-push-clause-least g c = omega (arith, c.loop-place.invariant.cost, c.alpha.ensures.cost)

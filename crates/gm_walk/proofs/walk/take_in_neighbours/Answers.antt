@@ -1,9 +1,13 @@
 use Rattle.std.proofs.Common.{◌≡◌, length, get_or, refl, sym, ap, subst, Some, ◌∙◌, arith}
 use Rattle.std.proofs.lemmas.List.{get_or_default}
+use Rattle.gm_arena.specs.ArenaMap.{IsLiveSlot}
+use Rattle.gm_arena.specs.declared.slot.Slot.{Slot}
+use Rattle.gm_model.specs.declared.word.Letter.TheVariants.{At, Gone}
 use Rattle.gm_model.specs.Orbits.{IsWalkTo}
 use Rattle.gm_walk.specs.Walks.{along, names_of}
 use Rattle.gm_walk.proofs.NameLemmas.{live_at, at_place, live_after, longer_after, same_after, bound_after, walk_after}
 use Rattle.gm_walk.proofs.WalkLemmas.{next_dart}
+use Rattle.gm_walk.proofs.WordLemmas.{is_letter}
 use Rattle.gm_walk.proofs.walk.take_in_neighbours.Goals as goal
 
 pub loop-place-init : goal.loop-place-init
@@ -40,3 +44,17 @@ returns-clause-walk g c =
     let m = c.args.arena.now in
     let word = c.args.word.now in
     λ d w. next_dart _ _ d c.args.at _ (subst (λ l. IsWalkTo (along m word) (length word) d c.args.at l (names_of m c.loop-place.scratch.walked)) end (c.loop-place.invariant.walk d w))
+
+pub unreachable-requires : goal.unreachable-requires
+unreachable-requires g c = is_letter c.args.arena.now.schema.dim c.args.word.now c.requires.word c.loop-place.place Gone (c.letter.ensures ∙ ap Some c.in_default.is)
+
+pub alpha-requires-clause-label : goal.alpha-requires-clause-label
+alpha-requires-clause-label g c = is_letter c.args.arena.now.schema.dim c.args.word.now c.requires.word c.loop-place.place (At c.in-At.label) (c.letter.ensures ∙ ap Some c.in-At.is)
+
+pub alpha-requires-clause-live : goal.alpha-requires-clause-live
+alpha-requires-clause-live g c =
+    let i = c.loop-place.invariant in
+    subst (λ (s : Slot). IsLiveSlot c.args.arena.now s.at) (i.here (record { at = 0 })) (i.live c.args.at (record { at = 0 }) i.within)
+
+pub take_in-requires : goal.take_in-requires
+take_in-requires g c = omega (arith, c.requires.lawful.below_bound _ _ c.alpha.ensures.neighbour, c.requires.fits, c.loop-place.invariant.bound)
