@@ -1,9 +1,10 @@
 -- One dart more of a grid, added or linked.
-use Rattle.std.proofs.Common.{◌≡◌, ◌≢◌, ℕ, ◌+◌, ◌<◌, ◌≤◌, List, [], ◌∷◌, Option, None, Some, MatchOption, is_some, inl, inr, sym, ap, ap₂, subst, ◌∙◌, arith}
+use Rattle.std.proofs.Common.{◌≡◌, ◌≢◌, ℕ, zero, suc, ◌+◌, ◌*◌, ◌/◌, ◌%◌, ◌<◌, ◌≤◌, List, [], ◌∷◌, Option, None, Some, MatchOption, is_some, inl, inr, sym, ap, ap₂, subst, ◌∙◌, arith}
 use Rattle.std.specs.Option.{option_map}
 use Rattle.std.specs.Ordering.{nat_cmp}
 use Rattle.std.specs.FinMap.{get, get-empty}
 use Rattle.std.proofs.lemmas.Bool.{cases_eq, cases_lt}
+use Rattle.std.proofs.lemmas.Nat.{div-add-mod', div_below, mod_below}
 use Rattle.gm_model.specs.declared.schema.Schema.{Schema}
 use Rattle.gm_model.specs.declared.value.Value.{Value}
 use Rattle.gm_arena.specs.declared.slot.Slot.{Slot}
@@ -11,7 +12,7 @@ use Rattle.gm_arena.specs.ArenaMap.{ArenaMap, Dart, IsAt, IsLiveName}
 use Rattle.gm_arena.specs.Edits.{empty_map, with_dart, with_alpha, free_dart, turned}
 use Rattle.gm_arena.proofs.InsideLemmas.{some_of}
 use Rattle.gm_arena.proofs.MapLemmas.{get-with_dart_same, get-with_dart_other, get-with_alpha_same, get-with_alpha_other}
-use Rattle.gm_grid.specs.GridMap.{grid_schema, dart_count}
+use Rattle.gm_grid.specs.GridMap.{dart, grid_schema, dart_count}
 use Rattle.gm_grid.specs.Building.{neighbour_of, point_of, free_of, linked_of, AreAdded, AreLinked}
 
 -- ---- adding
@@ -95,3 +96,15 @@ module _ (m d : ℕ) (a one two three : ArenaMap) (along around across : ℕ)
     none = λ e high. other e (λ same. absurd (omega (arith, high, same, below))) ∙ before.none e high;
     next_is = ap (λ (x : ArenaMap). x.next) third ∙ (ap (λ (x : ArenaMap). x.next) second ∙ (ap (λ (x : ArenaMap). x.next) first ∙ before.next_is));
   }
+
+-- ---- the row and the column of a square
+
+any_square : (m square : ℕ) → square < m * m → 0 < m
+any_square zero square below = absurd (omega (arith, below))
+any_square (suc m) square below = omega arith
+
+pub in_grid : (m square : ℕ) → square < m * m → (square / m < m) × (square % m < m)
+in_grid m square below = let some = any_square m square below in (div_below square m m some below, mod_below square m some)
+
+pub dart_of_square : (m square number d : ℕ) → d ≡ 8 * square + number → dart m (square / m) (square % m) number ≡ d
+dart_of_square m square number d is = omega (arith, is, div-add-mod' square m)

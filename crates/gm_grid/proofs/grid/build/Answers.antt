@@ -1,8 +1,44 @@
-use Rattle.std.proofs.Common.{sym, subst, arith}
+use Rattle.std.proofs.Common.{ℕ, ◌*◌, ◌≤◌, sym, ap, subst, arith}
+use Rattle.std.proofs.lemmas.Nat.{mul-lt}
+use Rattle.std.proofs.lemmas.Result.{IfOk-from_err}
+use Rattle.gm_arena.specs.ArenaMap.{ArenaMap}
 use Rattle.gm_model.specs.Maps.{IsSchema}
 use Rattle.gm_grid.proofs.GridSchema.{is_schema}
 use Rattle.gm_grid.proofs.Stages.{none_added}
 use Rattle.gm_grid.proofs.grid.build.Goals as goal
+
+few_squares : (m : ℕ) → m ≤ 100 → m * m ≤ 10200
+few_squares m few = omega (arith, mul-lt m m 101 101 (omega (arith, few)) (omega (arith, few)))
+
+pub overflow_mul-m : goal.overflow_mul-m
+overflow_mul-m g c = omega (arith, few_squares c.args.m c.requires)
+
+pub overflow_mul-m-2 : goal.overflow_mul-m-2
+overflow_mul-m-2 g c = omega (arith, few_squares c.args.m c.requires)
+
+pub overflow_mul-m-3 : goal.overflow_mul-m-3
+overflow_mul-m-3 g c = omega (arith, few_squares c.args.m c.requires)
+
+pub overflow_mul-m-4 : goal.overflow_mul-m-4
+overflow_mul-m-4 g c = omega (arith, few_squares c.args.m c.requires)
+
+pub reserve-requires-clause-darts : goal.reserve-requires-clause-darts
+reserve-requires-clause-darts g c = omega (arith, few_squares c.args.m c.requires, ap (λ (m : ArenaMap). m.count) c.new-arena.ensures)
+
+pub reserve-requires-clause-names : goal.reserve-requires-clause-names
+reserve-requires-clause-names g c = omega (arith, few_squares c.args.m c.requires)
+
+pub returns-in_err-make_schema-clause-linked : goal.returns-in_err-make_schema-clause-linked
+returns-in_err-make_schema-clause-linked g c = IfOk-from_err c.from_residual.result _ c.from_residual.ensures.0
+
+pub returns-in_err-make_schema-clause-least : goal.returns-in_err-make_schema-clause-least
+returns-in_err-make_schema-clause-least g c = IfOk-from_err c.from_residual.result _ c.from_residual.ensures.0
+
+pub returns-in_err-reserve-clause-linked : goal.returns-in_err-reserve-clause-linked
+returns-in_err-reserve-clause-linked g c = IfOk-from_err c.from_residual-in_err-reserve.result _ c.from_residual-in_err-reserve.ensures.0
+
+pub returns-in_err-reserve-clause-least : goal.returns-in_err-reserve-clause-least
+returns-in_err-reserve-clause-least g c = IfOk-from_err c.from_residual-in_err-reserve.result _ c.from_residual-in_err-reserve.ensures.0
 
 pub new-arena-requires : goal.new-arena-requires
 new-arena-requires g c = subst IsSchema (sym c.in_ok-make_schema.ensures) is_schema
