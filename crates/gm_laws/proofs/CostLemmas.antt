@@ -1,8 +1,32 @@
 -- How many steps a loop takes in all, where each turn takes so many at most.
-use Rattle.std.proofs.Common.{ℕ, ◌+◌, ◌*◌, ◌≤◌, arith}
+use Rattle.std.proofs.Common.{◌≡◌, ℕ, List, length, ◌+◌, ◌*◌, ◌≤◌, arith}
+use Rattle.std.specs.FinMap.{keys}
+use Rattle.std.proofs.Math.Nat.{mul-le-mul_left, mul-le-mul_right}
+use Rattle.gm_arena.specs.ArenaMap.{ArenaMap}
+use Rattle.gm_arena.specs.Lawful.{IsLawful}
+use Rattle.gm_laws.proofs.NameLemmas.{as_many}
 
 pub one_more : (start steps after turns each : ℕ) → steps ≤ start + turns * each → after ≤ steps + each → after ≤ start + (turns + 1) * each
 one_more start steps after turns each before turn = omega arith
 
 pub in_all : (start steps turns most each : ℕ) → steps ≤ start + turns * each → turns ≤ most → steps ≤ start + most * each
-in_all start steps turns most each before few = grind arith
+in_all start steps turns most each before few = omega (arith, mul-le-mul_right each few, before)
+
+-- the same, with what a turn takes in front
+pub more_each : (start steps after each turns : ℕ) → steps ≤ start + each * turns → after ≤ steps + each → after ≤ start + each * (turns + 1)
+more_each start steps after each turns before turn = omega arith
+
+pub all_each : (start steps each turns most : ℕ) → steps ≤ start + each * turns → turns ≤ most → steps ≤ start + each * most
+all_each start steps each turns most before few = omega (arith, mul-le-mul_left each few, before)
+
+-- the names and three passes over as many, of at least two labels
+spent : (labels count start after : ℕ) → 2 ≤ labels
+    → after ≤ start + count + (2 * labels + 1) * count + (labels * (3 * labels + 1) + 1) * count + 8 * ((2 * labels + 2) * count + 2)
+    → after ≤ start + 20 * (labels * labels) * (count + 1)
+spent labels count start after two cost = grind arith
+
+pub within_budget : (m : ArenaMap) (first second third : List ℕ) (start after : ℕ) → IsLawful m → first ≡ keys m.darts → second ≡ keys m.darts → third ≡ keys m.darts
+    → let labels = m.schema.dim + 1 in after ≤ start + m.count + (2 * labels + 1) * length first + (labels * (3 * labels + 1) + 1) * length second + 8 * ((2 * labels + 2) * length third + 2)
+    → after ≤ start + 20 * (labels * labels) * (m.count + 1)
+within_budget m first second third start after lawful one two three cost =
+    spent (m.schema.dim + 1) m.count start after (omega (arith, lawful.dim.0)) (rw (as_many m first lawful one, as_many m second lawful two, as_many m third lawful three) at cost)

@@ -1,16 +1,21 @@
 -- The names of the live darts, ascending: each is there, and what holds at the first of them holds before.
 use Rattle.std.proofs.Common.{◌≡◌, ℕ, ◌<◌, Option, Some, None, List, length, get_or, sym, ap, subst, ◌∙◌, inl, inr, arith}
 use Rattle.std.specs.Option.{MatchOption, IsSome, is_some}
-use Rattle.std.specs.FinMap.{get, keys}
+use Rattle.std.specs.FinMap.{get, keys, entries, len-entries}
 use Rattle.std.proofs.lemmas.Bool.{cases_lt, false≢true, some_since}
+use Rattle.std.proofs.lemmas.List.{length-map}
 use Rattle.std.proofs.lemmas.Option.{MatchOption-at_some}
 use Rattle.gm_arena.specs.declared.slot.Slot.{Slot}
 use Rattle.gm_arena.specs.ArenaMap.{ArenaMap, IsAt, IsLiveName, name_at}
+use Rattle.gm_arena.specs.Lawful.{IsLawful}
 use Rattle.gm_arena.proofs.MapLemmas.{name_at-is}
 use Rattle.gm_arena.proofs.Keys.{rising, named, live}
 use Rattle.gm_laws.specs.Darts.{IsFirst}
 
 module _ (m : ArenaMap) where
+  pub as_many : (names : List ℕ) → IsLawful m → names ≡ keys m.darts → length names ≡ m.count
+  as_many names lawful is = omega (arith, ap length is, length-map (entries m.darts) (λ e. e.0), len-entries m.darts, lawful.counted)
+
   module _ (IsGood : ℕ → Type 0) where
     -- the dart at a place that is not good, where those before are, is the first
     pub first_there : (p : ℕ) → p < length (keys m.darts) → ((q : ℕ) → q < p → IsGood (get_or (keys m.darts) q 0)) → (IsGood (get_or (keys m.darts) p 0) → ⊥) → IsFirst (IsLiveName m) IsGood (get_or (keys m.darts) p 0)

@@ -1,4 +1,4 @@
-use Rattle.std.proofs.Common.{◌≡◌, ℕ, IsTrue, true, sym, ◌∙◌, arith, below_more}
+use Rattle.std.proofs.Common.{ℕ, IsTrue, sym, ◌∙◌, arith, below_more}
 use Rattle.std.proofs.lemmas.Bool.{false≢true}
 use Rattle.gm_arena.specs.ArenaMap.{name_at}
 use Rattle.gm_model.specs.Labels.{has}
