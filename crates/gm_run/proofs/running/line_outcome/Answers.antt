@@ -22,12 +22,12 @@ returns-in-Err-clause-line g c =
 pub bounds-plans-line : goal.bounds-plans-line
 bounds-plans-line g c = named c.args.plans.now c.args.line.now c.requires.good
 
-pub unreachable-prove : goal.unreachable-prove
-unreachable-prove g c =
+pub prove-unreachable-requires : goal.prove-unreachable-requires
+prove-unreachable-requires g c =
     c.if-prove.true (ap length c.as_slice.ensures ∙ ap (λ (t : RuleTable). length t.hooks) c.rule.ensures.rule ∙ sym (hooks_fit c.args.plans.now c.args.line.now c.index-plans-line.result c.requires.good c.index-plans-line.is c.as_slice-hooks.result.now c.as_slice-hooks.ensures))
 
-pub unreachable-prove-2 : goal.unreachable-prove-2
-unreachable-prove-2 g c = never_more c.args.arena.now c.count.result c.count.ensures.lawful c.count.ensures.count c.if-prove-2.true
+pub prove-unreachable-requires-2 : goal.prove-unreachable-requires-2
+prove-unreachable-requires-2 g c = never_more c.args.arena.now c.count.result c.count.ensures.lawful c.count.ensures.count c.if-prove-2.true
 
 pub apply-requires-clause-sound : goal.apply-requires-clause-sound
 apply-requires-clause-sound g c = c.requires.sound
