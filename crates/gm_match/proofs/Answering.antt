@@ -1,7 +1,7 @@
 -- What is answered, from what the parts of matching have found.
 use Rattle.std.proofs.Common.{◌≡◌, ℕ, ◌+◌, ◌*◌, ◌<◌, ◌≤◌, ◌⊎◌, inl, inr, Bool, true, false, IsTrue, List, [], ◌∷◌, length, get_or, take, None, Some, refl, sym, ap, subst, ◌∙◌, arith}
 use Rattle.std.proofs.lemmas.Bool.{eqb-true}
-use Rattle.std.proofs.lemmas.List.{length-map, length-take}
+use Rattle.std.proofs.lemmas.List.{length-map, length-take, get_or-take}
 use Rattle.std.proofs.lemmas.Option.{slice_get-get_or, slice_get_within, get_or_from_slice_get}
 use Rattle.std.specs.FinMap.{get}
 use Rattle.std.specs.List.{slice_get, All, Contains}
@@ -96,6 +96,12 @@ named_live m hooks slots lawful are k d within at =
 -- a scratch that fits an arena has room for live slots
 pub slots_below : (m : ArenaMap) (slots : List Slot) (bound : ℕ) → IsLawful m → AreLive m slots → m.bound ≤ bound → All (λ (s : Slot). s.at < bound) slots
 slots_below m slots bound lawful live fits k d h = omega (arith, lawful.below_bound (get_or slots k d).at (name_at m (get_or slots k d).at) (IsAt-name_at m (get_or slots k d).at (live k d h)))
+
+-- the dart of the first hook has one of the arena's slots
+pub first_below : (m : ArenaMap) (hooks : List ℕ) (slots : List Slot) → IsLawful m → AreHookSlots m hooks (take (length hooks) slots) → 0 < length hooks → (get_or slots 0 (record { at = 0 })).at < m.bound
+first_below m hooks slots lawful are some =
+    subst (λ (s : Slot). s.at < m.bound) (get_or-take (length hooks) slots 0 (record { at = 0 }) some)
+    (slots_below m (take (length hooks) slots) m.bound lawful are.live (omega arith) 0 (record { at = 0 }) (subst (λ n. 0 < n) (sym (as_many m hooks _ are)) some))
 
 module _ (m : ArenaMap) (rule : Rule) (sound : IsMatchable m rule) where
   module _ (hooks : List ℕ) where

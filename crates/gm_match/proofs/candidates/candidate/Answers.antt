@@ -1,9 +1,10 @@
-use Rattle.std.proofs.Common.{ℕ, ◌+◌, ◌*◌, ◌<◌, ◌≤◌, List, length, sym, subst}
+use Rattle.std.proofs.Common.{ℕ, ◌+◌, ◌*◌, ◌<◌, ◌≤◌, List, length, sym, ap, subst, ◌∙◌}
 use Rattle.std.proofs.Math.Nat.{le_trans, le-add_right}
+use Rattle.gm_model.proofs.Exits.{unless_ok}
 use Rattle.gm_model.specs.Orbits.{IsWalk}
 use Rattle.gm_model.specs.Rules.{rule_of}
 use Rattle.gm_walk.specs.Room.{Fits}
-use Rattle.gm_walk.specs.Walks.{along, names_of}
+use Rattle.gm_walk.specs.Walks.{AreLive, along, names_of}
 use Rattle.gm_walk.proofs.NameLemmas.{name_there}
 use Rattle.gm_match.proofs.Placing.{hook_has_word, word_is, can_be_walked, walk_cost, along_cost}
 use Rattle.gm_match.proofs.candidates.candidate.Goals as goal
@@ -74,3 +75,30 @@ returns-clause-candidate g c = c.along_walk.ensures.candidate
 
 pub returns-clause-least : goal.returns-clause-least
 returns-clause-least g c = le_trans c.walk_turns.ensures.least c.along_walk.ensures.least
+
+pub walk_turns-requires-clause-empty : goal.walk_turns-requires-clause-empty
+walk_turns-requires-clause-empty g c = c.lend_rows-slots.ensures.turns
+
+pub returns-in_err-walk_turns-clause-candidate : goal.returns-in_err-walk_turns-clause-candidate
+returns-in_err-walk_turns-clause-candidate g c = unless_ok _ c.from_residual.result c.from_residual.ensures.0
+
+pub returns-in_err-walk_turns-clause-least : goal.returns-in_err-walk_turns-clause-least
+returns-in_err-walk_turns-clause-least g c = c.walk_turns.ensures.least
+
+pub returns-in_err-walk_turns-clause-room : goal.returns-in_err-walk_turns-clause-room
+returns-in_err-walk_turns-clause-room g c = c.walk_turns.ensures.room ∙ ap (λ room. room.bound) c.lend_rows-slots.ensures.stays
+
+pub along_walk-requires-clause-walked : goal.along_walk-requires-clause-walked
+along_walk-requires-clause-walked g c = subst (AreLive c.args.arena.now) (sym c.walked.ensures.value) c.in_ok-walk_turns.ensures.live
+
+pub along_walk-requires-clause-few : goal.along_walk-requires-clause-few
+along_walk-requires-clause-few g c = subst (λ slots. length slots ≤ 4294967295) (sym c.walked.ensures.value) c.walked.ensures.most
+
+pub along_walk-requires-clause-no_slots : goal.along_walk-requires-clause-no_slots
+along_walk-requires-clause-no_slots g c = c.lend_rows-slots.ensures.slots
+
+pub along_walk-requires-clause-turns : goal.along_walk-requires-clause-turns
+along_walk-requires-clause-turns g c = rw c.walked.ensures.value c.in_ok-walk_turns.ensures.turns
+
+pub returns-clause-room : goal.returns-clause-room
+returns-clause-room g c = c.walk_turns.ensures.room ∙ ap (λ room. room.bound) c.lend_rows-slots.ensures.stays

@@ -9,7 +9,7 @@ use Rattle.gm_model.specs.Rules.{rule_of, width}
 use Rattle.gm_arena.specs.ArenaAsMap.{as_map}
 use Rattle.gm_plan.proofs.Hooks.{few_hooks}
 use Rattle.gm_match.specs.Layout.{IsCandidateAt}
-use Rattle.gm_match.proofs.Answering.{sound_of, begun_of, is_nil, not_nil, no_items, none_within, as_many, within_taken, slots_below, dart_cause, dart_missed, missed_cost, created, made_cost, tested_cost, step_cause, step_missed, twice_cause, twice_missed, one_node, answer}
+use Rattle.gm_match.proofs.Answering.{sound_of, begun_of, is_nil, not_nil, no_items, none_within, as_many, within_taken, slots_below, first_below, dart_cause, dart_missed, missed_cost, created, made_cost, tested_cost, step_cause, step_missed, twice_cause, twice_missed, one_node, answer}
 use Rattle.gm_match.proofs.Costs.{no_cost}
 use Rattle.gm_match.proofs.Stepping.{same_count}
 use Rattle.gm_match.proofs.matching.find.Goals as goal
@@ -270,3 +270,8 @@ returns-clause-least g c = le_trans c.hook_darts.ensures.least (le_trans c.candi
 
 pub returns-clause-room : goal.returns-clause-room
 returns-clause-room g c = c.take_once.ensures.room ∙ c.candidate.ensures.room
+
+pub prove-unreachable-requires-2 : goal.prove-unreachable-requires-2
+prove-unreachable-requires-2 g c =
+    let some = not_nil c.args.hooks.now c.is_empty.result c.is_empty.ensures c.if-is_empty.false in
+    omega (arith, c.if-prove-2.true, c.bound.ensures.bound, first_below c.args.arena.now c.args.hooks.now c.in_ok-darts.darts c.bound.ensures.lawful c.in_ok-darts.ensures.darts some)
