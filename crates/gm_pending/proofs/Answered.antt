@@ -1,5 +1,5 @@
 -- What was answered of each embedding, before anything was asked.
-use Rattle.std.proofs.Common.{◌≡◌, ℕ, zero, suc, ◌<◌, [], List, ◌∷◌, length, map, replicate, Option, Some, None, IsSome, refl, ◌∙◌, ap, arith}
+use Rattle.std.proofs.Common.{◌≡◌, ℕ, zero, suc, ◌<◌, [], List, ◌∷◌, length, map, replicate, Option, Some, None, IsSome, refl, ◌∙◌, ap, subst, arith}
 use Rattle.std.proofs.lemmas.Bool.{false≢true}
 use Rattle.std.proofs.lemmas.List.{length-replicate}
 use Rattle.std.specs.Prelude.{slice_index_or, slice_get, unwrap_or}
@@ -86,6 +86,18 @@ asked_below (x ∷ answers) (suc e) h = let rest : e < length answers = asked_be
 
 pub asked_within : (m : ArenaMap) (table : RuleTable) (placed : Placed) (answers : List (Option Asked)) (e : ℕ) → IsAsked (pending_as m table placed answers) e → e < length answers
 asked_within m table placed answers e asked = asked_below answers e asked
+
+-- ---- an index below the number of deciding instances that were kept
+
+module _ (m : ArenaMap) (table : RuleTable) (placed : Placed) (answers : List (Option Asked)) (e k : ℕ) (low : k < length (deciders_of (pending_as m table placed answers) e)) where
+  pub decided_within : e < length answers
+  decided_within = asked_within m table placed answers e (some_decider _ k low)
+
+  pub never_unanswered : slice_get answers e ≡ Some None → ⊥
+  never_unanswered there = false≢true (subst IsSome (unanswered_at answers e there) (some_decider _ k low))
+
+  pub decider_within : (asked : Asked) → slice_get answers e ≡ Some (Some asked) → k < length asked.deciders.items
+  decider_within asked there = subst (λ o. k < length (unwrap_or o [])) (answered_at answers e asked there) low
 
 entry_below : (asked : List (Option (List Decider))) (e : ℕ) → IsSome (slice_index_or asked e None) → e < length asked
 entry_below [] e h = absurd (false≢true h)
