@@ -35,8 +35,8 @@ reserved_then at old next added between after e f g = omega arith
 pub reserved_most : (at old next added reserved : ℕ) → next ≡ at → reserved ≤ max old (next + added) → reserved ≤ max old (at + added)
 reserved_most at old next added reserved e h = omega arith
 
-pub reserved_stays : (old between after : ℕ) → old ≤ between → after ≡ between → old ≤ after
-reserved_stays old between after h e = omega arith
+pub still_above : (old between after : ℕ) → old ≤ between → after ≡ between → old ≤ after
+still_above old between after h e = omega arith
 
 -- ---- darts
 

@@ -1,5 +1,7 @@
-use Rattle.std.proofs.Common.{refl, ap, ◌∙◌, arith}
+use Rattle.std.proofs.Common.{◌≤◌, length, refl, sym, ap, subst, ◌∙◌, arith}
 use Rattle.std.proofs.lemmas.Result.{err_from_is_err_and}
+use Rattle.gm_model.proofs.Exits.{unless_ok}
+use Rattle.gm_model.specs.declared.rule.RuleTable.{RuleTable}
 use Rattle.gm_model.specs.Rules.{rule_of}
 use Rattle.gm_match.specs.Outcome.{application_of}
 use Rattle.gm_theory.proofs.ValuesKept.{applications_keep_sound_maps}
@@ -7,7 +9,7 @@ use Rattle.gm_apply.specs.Outcomes.{AsBefore, ForResult}
 use Rattle.gm_apply.proofs.Applying.{refused_match, sound_again, accepted_for, readable_at}
 use Rattle.gm_apply.proofs.Budgets.{find_within}
 use Rattle.gm_apply.proofs.Readying.{names_there, edits_there, new_is, old_is, done, within_ready, within_done}
-use Rattle.gm_apply.proofs.Sums.{stays, no_less, rises_twice, rises_thrice, rises_to_the_end, steps_of_darts, names_reserved, reserved_then, reserved_most, reserved_stays, darts_fit, room_reserved, spare_then, spare_most, spare_stays, spare_stays_then}
+use Rattle.gm_apply.proofs.Sums.{stays, no_less, rises_twice, rises_thrice, rises_to_the_end, steps_of_darts, names_reserved, reserved_then, reserved_most, still_above, darts_fit, room_reserved, spare_then, spare_most, spare_stays, spare_stays_then}
 use Rattle.gm_apply.proofs.application.apply.Goals as goal
 
 pub returns-in_err-found-clause-outcome : goal.returns-in_err-found-clause-outcome
@@ -112,7 +114,7 @@ pub returns-clause-spare_stays : goal.returns-clause-spare_stays
 returns-clause-spare_stays g c = spare_stays_then c.args.arena.now.count c.args.arena.now.spare _ _ _ _ _ _ (ap (λ m. m.count) c.in_ok-reserve.ensures.map) c.in_ok-reserve.ensures.spare_stays c.commit.ensures.count c.commit.ensures.spare
 
 pub returns-clause-reserved_stays : goal.returns-clause-reserved_stays
-returns-clause-reserved_stays g c = reserved_stays _ _ _ c.in_ok-reserve.ensures.reserved_stays c.commit.ensures.reserved
+returns-clause-reserved_stays g c = still_above _ _ _ c.in_ok-reserve.ensures.reserved_stays c.commit.ensures.reserved
 
 pub returns-clause-least : goal.returns-clause-least
 returns-clause-least g c =
@@ -137,13 +139,13 @@ pub returns-in_err-fit-clause-room : goal.returns-in_err-fit-clause-room
 returns-in_err-fit-clause-room g c = c.fit.ensures.kept
 
 pub returns-in_err-fit-clause-least : goal.returns-in_err-fit-clause-least
-returns-in_err-fit-clause-least g c = rw (err_from_is_err_and c.from_residual.result c.from_residual.ensures.1).1 tt
+returns-in_err-fit-clause-least g c = unless_ok _ c.from_residual.result c.from_residual.ensures.0
 
 pub returns-in_err-fit-clause-spare : goal.returns-in_err-fit-clause-spare
-returns-in_err-fit-clause-spare g c = rw (err_from_is_err_and c.from_residual.result c.from_residual.ensures.1).1 tt
+returns-in_err-fit-clause-spare g c = unless_ok _ c.from_residual.result c.from_residual.ensures.0
 
 pub returns-in_err-fit-clause-reserved : goal.returns-in_err-fit-clause-reserved
-returns-in_err-fit-clause-reserved g c = rw (err_from_is_err_and c.from_residual.result c.from_residual.ensures.1).1 tt
+returns-in_err-fit-clause-reserved g c = unless_ok _ c.from_residual.result c.from_residual.ensures.0
 
 pub returns-in_err-fit-clause-no_more : goal.returns-in_err-fit-clause-no_more
 returns-in_err-fit-clause-no_more g c = rw (err_from_is_err_and c.from_residual.result c.from_residual.ensures.1).1 (AsBefore refl)
@@ -161,13 +163,13 @@ pub returns-in_err-fit-clause-schema : goal.returns-in_err-fit-clause-schema
 returns-in_err-fit-clause-schema g c = refl
 
 pub returns-in_err-found-clause-least : goal.returns-in_err-found-clause-least
-returns-in_err-found-clause-least g c = rw (err_from_is_err_and c.from_residual-in_err-found.result c.from_residual-in_err-found.ensures.1).1 tt
+returns-in_err-found-clause-least g c = unless_ok _ c.from_residual-in_err-found.result c.from_residual-in_err-found.ensures.0
 
 pub returns-in_err-found-clause-spare : goal.returns-in_err-found-clause-spare
-returns-in_err-found-clause-spare g c = rw (err_from_is_err_and c.from_residual-in_err-found.result c.from_residual-in_err-found.ensures.1).1 tt
+returns-in_err-found-clause-spare g c = unless_ok _ c.from_residual-in_err-found.result c.from_residual-in_err-found.ensures.0
 
 pub returns-in_err-found-clause-reserved : goal.returns-in_err-found-clause-reserved
-returns-in_err-found-clause-reserved g c = rw (err_from_is_err_and c.from_residual-in_err-found.result c.from_residual-in_err-found.ensures.1).1 tt
+returns-in_err-found-clause-reserved g c = unless_ok _ c.from_residual-in_err-found.result c.from_residual-in_err-found.ensures.0
 
 pub returns-in_err-found-clause-no_more : goal.returns-in_err-found-clause-no_more
 returns-in_err-found-clause-no_more g c = rw (err_from_is_err_and c.from_residual-in_err-found.result c.from_residual-in_err-found.ensures.1).1 (AsBefore refl)
@@ -191,13 +193,13 @@ pub returns-in_err-found-clause-rises : goal.returns-in_err-found-clause-rises
 returns-in_err-found-clause-rises g c = c.in_err-found.ensures.least
 
 pub returns-in_err-applied-clause-least : goal.returns-in_err-applied-clause-least
-returns-in_err-applied-clause-least g c = rw (err_from_is_err_and c.from_residual-in_err-applied.result c.from_residual-in_err-applied.ensures.1).1 tt
+returns-in_err-applied-clause-least g c = unless_ok _ c.from_residual-in_err-applied.result c.from_residual-in_err-applied.ensures.0
 
 pub returns-in_err-applied-clause-spare : goal.returns-in_err-applied-clause-spare
-returns-in_err-applied-clause-spare g c = rw (err_from_is_err_and c.from_residual-in_err-applied.result c.from_residual-in_err-applied.ensures.1).1 tt
+returns-in_err-applied-clause-spare g c = unless_ok _ c.from_residual-in_err-applied.result c.from_residual-in_err-applied.ensures.0
 
 pub returns-in_err-applied-clause-reserved : goal.returns-in_err-applied-clause-reserved
-returns-in_err-applied-clause-reserved g c = rw (err_from_is_err_and c.from_residual-in_err-applied.result c.from_residual-in_err-applied.ensures.1).1 tt
+returns-in_err-applied-clause-reserved g c = unless_ok _ c.from_residual-in_err-applied.result c.from_residual-in_err-applied.ensures.0
 
 pub returns-in_err-applied-clause-no_more : goal.returns-in_err-applied-clause-no_more
 returns-in_err-applied-clause-no_more g c = rw (err_from_is_err_and c.from_residual-in_err-applied.result c.from_residual-in_err-applied.ensures.1).1 (AsBefore refl)
@@ -215,16 +217,57 @@ pub returns-in_err-applied-clause-sound : goal.returns-in_err-applied-clause-sou
 returns-in_err-applied-clause-sound g c = c.requires.sound
 
 pub returns-in_err-reserve-clause-least : goal.returns-in_err-reserve-clause-least
-returns-in_err-reserve-clause-least g c = rw (err_from_is_err_and c.from_residual-in_err-reserve.result c.from_residual-in_err-reserve.ensures.1).1 tt
+returns-in_err-reserve-clause-least g c = unless_ok _ c.from_residual-in_err-reserve.result c.from_residual-in_err-reserve.ensures.0
 
 pub returns-in_err-reserve-clause-spare : goal.returns-in_err-reserve-clause-spare
-returns-in_err-reserve-clause-spare g c = rw (err_from_is_err_and c.from_residual-in_err-reserve.result c.from_residual-in_err-reserve.ensures.1).1 tt
+returns-in_err-reserve-clause-spare g c = unless_ok _ c.from_residual-in_err-reserve.result c.from_residual-in_err-reserve.ensures.0
 
 pub returns-in_err-reserve-clause-reserved : goal.returns-in_err-reserve-clause-reserved
-returns-in_err-reserve-clause-reserved g c = rw (err_from_is_err_and c.from_residual-in_err-reserve.result c.from_residual-in_err-reserve.ensures.1).1 tt
+returns-in_err-reserve-clause-reserved g c = unless_ok _ c.from_residual-in_err-reserve.result c.from_residual-in_err-reserve.ensures.0
 
 pub returns-in_err-reserve-clause-schema : goal.returns-in_err-reserve-clause-schema
 returns-in_err-reserve-clause-schema g c = ap (λ m. m.schema) c.reserve.ensures.map
 
 pub returns-in_err-reserve-clause-reserved_stays : goal.returns-in_err-reserve-clause-reserved_stays
 returns-in_err-reserve-clause-reserved_stays g c = c.reserve.ensures.reserved_stays
+
+pub prove-unreachable-requires : goal.prove-unreachable-requires
+prove-unreachable-requires g c = c.if-prove.true (ap length (c.as_slice.ensures ∙ ap (λ (table : RuleTable). table.hooks) c.rule.ensures.rule) ∙ sym c.requires.hooks)
+
+pub find-requires-clause-map : goal.find-requires-clause-map
+find-requires-clause-map g c = c.requires.sound.generalised
+
+pub find-requires-clause-schema : goal.find-requires-clause-schema
+find-requires-clause-schema g c = c.requires.schema
+
+pub find-requires-clause-hooks : goal.find-requires-clause-hooks
+find-requires-clause-hooks g c = c.requires.hooks
+
+pub find-requires-clause-fits : goal.find-requires-clause-fits
+find-requires-clause-fits g c = c.in_ok-fit.ensures.fits
+
+pub returns-in_err-found-clause-room : goal.returns-in_err-found-clause-room
+returns-in_err-found-clause-room g c = still_above _ _ _ c.fit.ensures.kept c.find.ensures.room
+
+pub ready-requires-clause-fits : goal.ready-requires-clause-fits
+ready-requires-clause-fits g c = subst (λ n. c.args.arena.now.bound ≤ n) (sym c.find.ensures.room) c.in_ok-fit.ensures.fits
+
+pub returns-in_err-applied-clause-room : goal.returns-in_err-applied-clause-room
+returns-in_err-applied-clause-room g c = still_above _ _ _ c.fit.ensures.kept (c.ready.ensures.room ∙ c.find.ensures.room)
+
+pub returns-in_err-reserve-clause-outcome : goal.returns-in_err-reserve-clause-outcome
+returns-in_err-reserve-clause-outcome g c =
+    let p = err_from_is_err_and c.from_residual-in_err-reserve.result c.from_residual-in_err-reserve.ensures.1 in
+    rw (p.1, p.2) (tt, c.reserve.ensures.map)
+
+pub returns-in_err-reserve-clause-room : goal.returns-in_err-reserve-clause-room
+returns-in_err-reserve-clause-room g c = still_above _ _ _ c.fit.ensures.kept (c.ready.ensures.room ∙ c.find.ensures.room)
+
+pub returns-clause-room : goal.returns-clause-room
+returns-clause-room g c = still_above _ _ _ c.fit.ensures.kept (ap (λ room. room.bound) c.keep_rows.ensures ∙ c.ready.ensures.room ∙ c.find.ensures.room)
+
+pub returns-clause-no_more : goal.returns-clause-no_more
+returns-clause-no_more g c = tt
+
+pub returns-clause-untouched : goal.returns-clause-untouched
+returns-clause-untouched g c = tt
