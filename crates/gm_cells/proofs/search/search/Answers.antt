@@ -69,5 +69,5 @@ loop-at-smaller g c =
 pub returns-clause-long : goal.returns-clause-long
 returns-clause-long g c = c.loop-at.invariant.long
 
-pub unreachable-prove : goal.unreachable-prove
-unreachable-prove g c = absurd (omega (arith, c.if-prove.true, c.bound.ensures.bound, c.bound.ensures.lawful.below_bound c.args.from.at _ (IsAt-name_at c.args.arena.now c.args.from.at c.requires.live)))
+pub prove-unreachable-requires : goal.prove-unreachable-requires
+prove-unreachable-requires g c = omega (arith, c.if-prove.true, c.bound.ensures.bound, c.bound.ensures.lawful.below_bound c.args.from.at _ (IsAt-name_at c.args.arena.now c.args.from.at c.requires.live))
