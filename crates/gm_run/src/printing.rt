@@ -29,7 +29,7 @@ pub fn print_report(
     ensures { IfOk result (λ text. (told : List runs.Outcome) → Tells report.now.lines told → text.items ≡ report_text book.now.schema (map rule_of book.now.rules) script.now.lines told report.now.darts report.now.next) }
 {
     let outcomes = report.lines.as_slice();
-    // Room at once, so that a long report isn't copied as it grows. What isn't written takes no memory.
+    // Room at once, so that a long report isn't copied as it grows.
     let room = (outcomes.len() + 1).saturating_mul(LINE_BYTES);
     let mut text = Text::in_place_of(Vec::new(alloc), room)?;
     put_lines(&mut text, book, script.lines.as_slice(), outcomes)?;
