@@ -2,10 +2,11 @@
 use Rattle.std.specs.Prelude.{ℕ, ◌≡◌, ◌++◌, List, Option, Some, None, take}
 use Rattle.std.specs.Io.KnownBytes.{Appends}
 
--- how many loads there were, how many of them were not answered with a file, and how many saves failed
+-- how many loads there were and how many of them were not answered with a file, how many saves there were and how many of them failed
 pub record Counts : Type 0 where
   pub loads : ℕ
   pub load_faults : ℕ
+  pub saves : ℕ
   pub save_faults : ℕ
 
 -- known bytes stay at the front and grow by some of the first bytes, and no others

@@ -6,5 +6,7 @@ pub mod MemSink
 pub mod MemStore
 pub mod Saves
 pub mod Sink
+pub mod StdSink
 pub mod Store
+pub mod SureSink
 pub mod SureStore

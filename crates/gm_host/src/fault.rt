@@ -1,7 +1,6 @@
 ghost use Rattle.std.specs.Prelude.{◌≡◌};
 
-use crate::bytes::Bytes;
-use gm_model::OutOfMemory;
+use gm_model::{Items, OutOfMemory};
 use std::alloc::AllocError;
 use std::io;
 
@@ -15,7 +14,7 @@ pub enum LoadFault {
     /// The file is longer than the caller's limit.
     TooLong {
         /// The first bytes of the file, one more than the limit.
-        seen: Bytes,
+        seen: Items<u8>,
     },
     /// Memory was wanting.
     OutOfMemory,

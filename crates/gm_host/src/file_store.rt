@@ -1,7 +1,7 @@
 ghost use Rattle.std.specs.Prelude.{◌≡◌, ◌+◌, ◌≤◌, IfOk, OnOk, is_err, length, if◌then◌else◌};
 ghost use Rattle.gm_host.specs.Count.{counted, Rises};
 ghost use Rattle.gm_host.specs.Store.{untold, Lacks, IsHeld, IsCutFromHeld, HoldsLongerFile, OnAbsent, OnFailed, IfTooLong, IsAbsentUnlessFailing, IsTooLongUnlessFailing};
-ghost use Rattle.gm_host.specs.Saves as saves;
+ghost use Rattle.gm_host.specs.Saves as saving;
 ghost use Rattle.gm_host.specs.Saves.{IsSaved, IsSavedInPart};
 
 use crate::fault::{LoadFault, SaveFault};
@@ -30,6 +30,7 @@ pub struct FileStore<'r, R> {
     rt: &'r R,
     loads: u64,
     load_faults: u64,
+    saves: u64,
     save_faults: u64,
 }
 
@@ -38,18 +39,19 @@ impl<'r, R> Model for FileStore<'r, R> {
 
     ghost Value = { Counts };
 
-    ghost view = { λ store. record { loads = store.loads; load_faults = store.load_faults; save_faults = store.save_faults } };
+    ghost view = { λ store. record { loads = store.loads; load_faults = store.load_faults; saves = store.saves; save_faults = store.save_faults } };
 }
 
 impl<'r, R: Files> FileStore<'r, R> {
     /// The files that this runtime reaches.
     pub fn new(rt: &'r R) -> FileStore<'r, R>
-        ensures { result ≡ record { loads = 0; load_faults = 0; save_faults = 0 } }
+        ensures { result ≡ record { loads = 0; load_faults = 0; saves = 0; save_faults = 0 } }
     {
         FileStore {
             rt,
             loads: 0,
             load_faults: 0,
+            saves: 0,
             save_faults: 0,
         }
     }
@@ -60,6 +62,8 @@ impl<'r, R: Files> Store for FileStore<'r, R> {
 
     ghost loads = { λ store. store.loads };
 
+    ghost saves = { λ store. store.saves };
+
     ghost load_faults = { λ store. store.load_faults };
 
     ghost save_faults = { λ store. store.save_faults };
@@ -67,6 +71,7 @@ impl<'r, R: Files> Store for FileStore<'r, R> {
     fn load(&mut self, alloc: Global, name: &str, limit: usize) -> Result<Vec<u8>, LoadFault>
         ensures held { untold ≡ untold }
         ensures each_load_counts { self.new.loads ≡ counted self.old.loads }
+        ensures no_save { self.new.saves ≡ self.old.saves }
         ensures faults_never_fall { self.old.load_faults ≤ self.new.load_faults }
         ensures no_save_fault { self.new.save_faults ≡ self.old.save_faults }
         ensures within_limit { IfOk result (λ bytes. length bytes.items ≤ limit) }
@@ -89,18 +94,20 @@ impl<'r, R: Files> Store for FileStore<'r, R> {
     }
 
     fn save(&mut self, name: &str, bytes: &[u8]) -> Result<(), SaveFault>
+        ensures each_save_counts { self.new.saves ≡ counted self.old.saves }
         ensures no_load { self.new.loads ≡ self.old.loads }
         ensures no_load_fault { self.new.load_faults ≡ self.old.load_faults }
         ensures faults_never_fall { self.old.save_faults ≤ self.new.save_faults }
         ensures ok { OnOk result (IsSaved untold name.now bytes.now untold) }
-        ensures failed { saves.OnFailed result (Rises self.old.save_faults self.new.save_faults) }
-        ensures kept { saves.OnFailed result (IsSavedInPart untold name.now bytes.now untold) }
-        ensures out_of_memory { saves.OnOutOfMemory result (untold ≡ untold) }
-        ensures no_fault { saves.OnOutOfMemory result (self.new.save_faults ≡ self.old.save_faults) }
+        ensures failed { saving.OnFailed result (Rises self.old.save_faults self.new.save_faults) }
+        ensures kept { saving.OnFailed result (IsSavedInPart untold name.now bytes.now untold) }
+        ensures out_of_memory { saving.OnOutOfMemory result (untold ≡ untold) }
+        ensures no_fault { saving.OnOutOfMemory result (self.new.save_faults ≡ self.old.save_faults) }
         ensures ok_no_fault { OnOk result (self.new.save_faults ≡ self.old.save_faults) }
-        ensures enough_memory { ¬ saves.IsOutOfMemory result }
+        ensures enough_memory { ¬ saving.IsOutOfMemory result }
         ensures each_fault_counts { self.new.save_faults ≡ (if is_err result then counted self.old.save_faults else self.old.save_faults) }
     {
+        self.saves = self.saves.saturating_add(1);
         let answer = write_file(self.rt, name, bytes);
         if answer.is_err() {
             self.save_faults = self.save_faults.saturating_add(1);

@@ -4,9 +4,9 @@ ghost use Rattle.gm_host.specs.Files.{told};
 ghost use Rattle.gm_host.specs.MemStore.{kept_files};
 ghost use Rattle.gm_host.specs.Store.{Lacks, IsHeld, IsCutFromHeld, HoldsLongerFile, IsFailed, OnAbsent, IfTooLong, IsAbsentUnlessFailing, IsTooLongUnlessFailing};
 
-use crate::bytes::{Bytes, first};
+use crate::bytes::first;
 use crate::fault::LoadFault;
-use gm_model::OutOfMemory;
+use gm_model::{Items, OutOfMemory};
 use std::alloc::Global;
 use std::collections::BTreeMap;
 use std::marker::Model;
@@ -93,7 +93,7 @@ impl FileTable {
         }
         let seen = Vec::from_slice(alloc, &held[..limit + 1])?;
         Err(LoadFault::TooLong {
-            seen: Bytes::new(seen),
+            seen: Items::new(seen),
         })
     }
 }

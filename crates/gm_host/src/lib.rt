@@ -20,7 +20,6 @@ mod sure_sink;
 mod sure_store;
 mod whole;
 
-pub use bytes::Bytes;
 pub use fault::{LoadFault, PutFault, SaveFault};
 pub use file_store::FileStore;
 pub use mem_sink::MemSink;

@@ -1,6 +1,6 @@
 ghost use Rattle.std.specs.Prelude.{◌≡◌, ◌<◌, ◌≤◌, [], false, IsTrue, OnOk, OnErr, Some};
 ghost use Rattle.std.specs.FinMap as map;
-ghost use Rattle.gm_host.specs.Count.{Rises};
+ghost use Rattle.gm_host.specs.Count.{counted, Rises};
 ghost use Rattle.gm_host.specs.Sink.{extended, ExtendsInPart, OnFailed, IsOutOfMemory, OnOutOfMemory};
 ghost use Rattle.gm_host.specs.MemSink.{IsPutAsPlanned};
 
@@ -79,16 +79,20 @@ impl MemSink {
 impl Sink for MemSink {
     ghost written = { λ sink. Some sink.written };
 
+    ghost puts = { λ sink. sink.puts };
+
     ghost faults = { λ sink. sink.faults };
 
     ghost never_wants_memory = { false };
 
     fn put(&mut self, bytes: &[u8]) -> Result<(), PutFault>
+        ensures each_put_counts { self.new.puts ≡ counted self.old.puts }
         ensures faults_never_fall { self.old.faults ≤ self.new.faults }
         ensures ok { OnOk result (Some self.new.written ≡ extended (Some self.old.written) bytes.now) }
         ensures failed { OnFailed result (Rises self.old.faults self.new.faults) }
         ensures kept { OnFailed result (ExtendsInPart (Some self.old.written) bytes.now (Some self.new.written)) }
         ensures out_of_memory { OnOutOfMemory result (Some self.new.written ≡ Some self.old.written) }
+        ensures no_fault { OnOutOfMemory result (self.new.faults ≡ self.old.faults) }
         ensures enough_memory { IsTrue false → ¬ IsOutOfMemory result }
         ensures ok_no_fault { OnOk result (self.new.faults ≡ self.old.faults) }
         ensures as_planned { IsPutAsPlanned self.old bytes.now result self.new }

@@ -3,7 +3,7 @@ ghost use Rattle.std.specs.FinMap as map;
 ghost use Rattle.gm_host.specs.Files.{told};
 ghost use Rattle.gm_host.specs.Count.{counted, Rises};
 ghost use Rattle.gm_host.specs.Store.{Lacks, IsHeld, IsCutFromHeld, HoldsLongerFile, IsFailed, OnAbsent, OnFailed, IfTooLong, IsAbsentUnlessFailing, IsTooLongUnlessFailing};
-ghost use Rattle.gm_host.specs.Saves as saves;
+ghost use Rattle.gm_host.specs.Saves as saving;
 ghost use Rattle.gm_host.specs.Saves.{IsSaved, IsSavedInPart};
 ghost use Rattle.gm_host.specs.MemStore.{fails_next, after_load, IsSaveAsPlanned};
 
@@ -116,6 +116,8 @@ impl Store for MemStore {
 
     ghost loads = { λ store. store.loads };
 
+    ghost saves = { λ store. store.saves };
+
     ghost load_faults = { λ store. store.load_faults };
 
     ghost save_faults = { λ store. store.save_faults };
@@ -123,6 +125,7 @@ impl Store for MemStore {
     fn load(&mut self, alloc: Global, name: &str, limit: usize) -> Result<Vec<u8>, LoadFault>
         ensures held { told self.new.files ≡ told self.old.files }
         ensures each_load_counts { self.new.loads ≡ counted self.old.loads }
+        ensures no_save { self.new.saves ≡ self.old.saves }
         ensures faults_never_fall { self.old.load_faults ≤ self.new.load_faults }
         ensures no_save_fault { self.new.save_faults ≡ self.old.save_faults }
         ensures within_limit { IfOk result (λ bytes. length bytes.items ≤ limit) }
@@ -147,14 +150,15 @@ impl Store for MemStore {
     }
 
     fn save(&mut self, name: &str, bytes: &[u8]) -> Result<(), SaveFault>
+        ensures each_save_counts { self.new.saves ≡ counted self.old.saves }
         ensures no_load { self.new.loads ≡ self.old.loads }
         ensures no_load_fault { self.new.load_faults ≡ self.old.load_faults }
         ensures faults_never_fall { self.old.save_faults ≤ self.new.save_faults }
         ensures ok { OnOk result (IsSaved (told self.old.files) name.now bytes.now (told self.new.files)) }
-        ensures failed { saves.OnFailed result (Rises self.old.save_faults self.new.save_faults) }
-        ensures kept { saves.OnFailed result (IsSavedInPart (told self.old.files) name.now bytes.now (told self.new.files)) }
-        ensures out_of_memory { saves.OnOutOfMemory result (told self.new.files ≡ told self.old.files) }
-        ensures no_fault { saves.OnOutOfMemory result (self.new.save_faults ≡ self.old.save_faults) }
+        ensures failed { saving.OnFailed result (Rises self.old.save_faults self.new.save_faults) }
+        ensures kept { saving.OnFailed result (IsSavedInPart (told self.old.files) name.now bytes.now (told self.new.files)) }
+        ensures out_of_memory { saving.OnOutOfMemory result (told self.new.files ≡ told self.old.files) }
+        ensures no_fault { saving.OnOutOfMemory result (self.new.save_faults ≡ self.old.save_faults) }
         ensures ok_no_fault { OnOk result (self.new.save_faults ≡ self.old.save_faults) }
         ensures as_planned { IsSaveAsPlanned self.old name.now bytes.now result self.new }
     {

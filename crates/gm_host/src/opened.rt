@@ -5,9 +5,9 @@ ghost use Rattle.gm_host.specs.Store.{IsAbsent, IsFailed, IfTooLong};
 ghost use Rattle.gm_host.specs.FileStore.{IsAllOf, IsFrontOf};
 ghost use Rattle.gm_host.specs.Saves as saves;
 
-use crate::bytes::Bytes;
 use crate::fault::{LoadFault, SaveFault};
 use crate::whole::write_whole;
+use gm_model::Items;
 use std::alloc::Global;
 use std::io;
 use std::io::{Read, Write};
@@ -63,7 +63,7 @@ fn read_within<F: Read>(
         bytes.extend_from_slice(&part[..count])?;
     }
     Err(LoadFault::TooLong {
-        seen: Bytes::new(bytes),
+        seen: Items::new(bytes),
     })
 }
 

@@ -10,48 +10,58 @@ use std::io;
 use std::io::{Print, Write};
 use std::marker::Model;
 
-/// The standard output. It does not tell what was written, and contracts see its count of faults. A put
-/// takes no memory.
+/// The standard output. It does not tell what was written, and contracts see its counts of puts and of
+/// faults. A put takes no memory.
 #[derive(Drop)]
 pub struct StdSink<'r, R> {
     rt: &'r R,
+    puts: u64,
     faults: u64,
 }
 
 impl<'r, R> Model for StdSink<'r, R> {
-    ghost use Rattle.std.specs.Prelude.{ℕ};
+    ghost use Rattle.gm_host.specs.StdSink.{Counts};
 
-    ghost Value = { ℕ };
+    ghost Value = { Counts };
 
-    ghost view = { λ sink. sink.faults };
+    ghost view = { λ sink. record { puts = sink.puts; faults = sink.faults } };
 }
 
 impl<'r, R: Print> StdSink<'r, R> {
     /// The standard output of this runtime.
     pub fn new(rt: &'r R) -> StdSink<'r, R>
-        ensures { result ≡ 0 }
+        ensures { result ≡ record { puts = 0; faults = 0 } }
     {
-        StdSink { rt, faults: 0 }
+        StdSink {
+            rt,
+            puts: 0,
+            faults: 0,
+        }
     }
 }
 
 impl<'r, R: Print> Sink for StdSink<'r, R> {
     ghost written = { λ _. untold };
 
-    ghost faults = { λ sink. sink };
+    ghost puts = { λ sink. sink.puts };
+
+    ghost faults = { λ sink. sink.faults };
 
     ghost never_wants_memory = { true };
 
     fn put(&mut self, bytes: &[u8]) -> Result<(), PutFault>
-        ensures faults_never_fall { self.old ≤ self.new }
+        ensures each_put_counts { self.new.puts ≡ counted self.old.puts }
+        ensures faults_never_fall { self.old.faults ≤ self.new.faults }
         ensures ok { OnOk result (untold ≡ extended untold bytes.now) }
-        ensures failed { OnFailed result (Rises self.old self.new) }
+        ensures failed { OnFailed result (Rises self.old.faults self.new.faults) }
         ensures kept { OnFailed result (ExtendsInPart untold bytes.now untold) }
         ensures out_of_memory { OnOutOfMemory result (untold ≡ untold) }
+        ensures no_fault { OnOutOfMemory result (self.new.faults ≡ self.old.faults) }
         ensures enough_memory { IsTrue true → ¬ IsOutOfMemory result }
-        ensures ok_no_fault { OnOk result (self.new ≡ self.old) }
-        ensures each_fault_counts { self.new ≡ (if is_err result then counted self.old else self.old) }
+        ensures ok_no_fault { OnOk result (self.new.faults ≡ self.old.faults) }
+        ensures each_fault_counts { self.new.faults ≡ (if is_err result then counted self.old.faults else self.old.faults) }
     {
+        self.puts = self.puts.saturating_add(1);
         let mut output = Output { rt: self.rt };
         put_whole(&mut output, bytes, &mut self.faults)
     }

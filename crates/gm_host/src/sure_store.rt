@@ -4,7 +4,7 @@ ghost use Rattle.gm_host.specs.Files.{told};
 ghost use Rattle.gm_host.specs.Count.{counted, Rises};
 ghost use Rattle.gm_host.specs.Store.{Lacks, IsHeld, IsCutFromHeld, HoldsLongerFile, IsFailed, OnAbsent, OnFailed, IfTooLong, IsAbsentUnlessFailing, IsTooLongUnlessFailing};
 ghost use Rattle.gm_host.specs.SureStore.{no_faults};
-ghost use Rattle.gm_host.specs.Saves as saves;
+ghost use Rattle.gm_host.specs.Saves as saving;
 ghost use Rattle.gm_host.specs.Saves.{IsSaved, IsSavedInPart};
 
 use crate::fault::{LoadFault, SaveFault};
@@ -19,6 +19,7 @@ use std::marker::Model;
 pub struct SureStore {
     files: FileTable,
     loads: u64,
+    saves: u64,
 }
 
 impl Model for SureStore {
@@ -28,17 +29,18 @@ impl Model for SureStore {
 
     ghost coded = { state_code };
 
-    ghost view = { λ store. record { files = store.files; loads = store.loads } };
+    ghost view = { λ store. record { files = store.files; loads = store.loads; saves = store.saves } };
 }
 
 impl SureStore {
     /// A store that holds nothing.
     pub fn new(alloc: Global) -> SureStore
-        ensures { result ≡ record { files = map.empty; loads = 0 } }
+        ensures { result ≡ record { files = map.empty; loads = 0; saves = 0 } }
     {
         SureStore {
             files: FileTable::new(alloc),
             loads: 0,
+            saves: 0,
         }
     }
 
@@ -63,6 +65,8 @@ impl Store for SureStore {
 
     ghost loads = { λ store. store.loads };
 
+    ghost saves = { λ store. store.saves };
+
     ghost load_faults = { λ _. no_faults };
 
     ghost save_faults = { λ _. no_faults };
@@ -70,6 +74,7 @@ impl Store for SureStore {
     fn load(&mut self, alloc: Global, name: &str, limit: usize) -> Result<Vec<u8>, LoadFault>
         ensures held { told self.new.files ≡ told self.old.files }
         ensures each_load_counts { self.new.loads ≡ counted self.old.loads }
+        ensures no_save { self.new.saves ≡ self.old.saves }
         ensures faults_never_fall { no_faults ≤ no_faults }
         ensures no_save_fault { no_faults ≡ no_faults }
         ensures within_limit { IfOk result (λ bytes. length bytes.items ≤ limit) }
@@ -89,19 +94,21 @@ impl Store for SureStore {
     }
 
     fn save(&mut self, name: &str, bytes: &[u8]) -> Result<(), SaveFault>
+        ensures each_save_counts { self.new.saves ≡ counted self.old.saves }
         ensures no_load { self.new.loads ≡ self.old.loads }
         ensures no_load_fault { no_faults ≡ no_faults }
         ensures faults_never_fall { no_faults ≤ no_faults }
         ensures ok { OnOk result (IsSaved (told self.old.files) name.now bytes.now (told self.new.files)) }
-        ensures failed { saves.OnFailed result (Rises no_faults no_faults) }
-        ensures kept { saves.OnFailed result (IsSavedInPart (told self.old.files) name.now bytes.now (told self.new.files)) }
-        ensures out_of_memory { saves.OnOutOfMemory result (told self.new.files ≡ told self.old.files) }
-        ensures no_fault { saves.OnOutOfMemory result (no_faults ≡ no_faults) }
+        ensures failed { saving.OnFailed result (Rises no_faults no_faults) }
+        ensures kept { saving.OnFailed result (IsSavedInPart (told self.old.files) name.now bytes.now (told self.new.files)) }
+        ensures out_of_memory { saving.OnOutOfMemory result (told self.new.files ≡ told self.old.files) }
+        ensures no_fault { saving.OnOutOfMemory result (no_faults ≡ no_faults) }
         ensures ok_no_fault { OnOk result (no_faults ≡ no_faults) }
-        ensures never_fails { ¬ saves.IsFailed result }
-        ensures after { OnOk result (self.new ≡ record self.old { files = map.insert self.old.files name.now bytes.now }) }
-        ensures unchanged { OnErr result (self.new ≡ self.old) }
+        ensures never_fails { ¬ saving.IsFailed result }
+        ensures after { OnOk result (self.new ≡ record self.old { files = map.insert self.old.files name.now bytes.now; saves = counted self.old.saves }) }
+        ensures unmade { OnErr result (self.new ≡ record self.old { saves = counted self.old.saves }) }
     {
+        self.saves = self.saves.saturating_add(1);
         self.files.hold(name, bytes)?;
         Ok(())
     }

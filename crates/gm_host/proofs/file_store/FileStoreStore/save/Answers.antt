@@ -10,8 +10,8 @@ returns-then-is_err-clause-ok g c = on_ok c.write_file-answer.result refl
 
 pub returns-then-is_err-clause-failed : goal.returns-then-is_err-clause-failed
 returns-then-is_err-clause-failed g c =
-    let counts = c.saturating_add-self-inside.ensures ∙ ap (λ (state : Counts). counted state.save_faults) c.self.view_is in
-    on_failed_save c.write_file-answer.result (rises c.args.self.now.save_faults c.saturating_add-self-inside.result counts)
+    let counts = c.saturating_add-self-inside-then-is_err.ensures ∙ ap (λ (state : Counts). counted state.save_faults) c.self.view_is in
+    on_failed_save c.write_file-answer.result (rises c.args.self.now.save_faults c.saturating_add-self-inside-then-is_err.result counts)
 
 pub returns-then-is_err-clause-kept : goal.returns-then-is_err-clause-kept
 returns-then-is_err-clause-kept g c = on_failed_save c.write_file-answer.result (inl refl)
@@ -28,7 +28,7 @@ returns-then-is_err-clause-ok_no_fault g c = unless_err _ c.write_file-answer.re
 pub returns-then-is_err-clause-each_fault_counts : goal.returns-then-is_err-clause-each_fault_counts
 returns-then-is_err-clause-each_fault_counts g c =
     let faults = c.args.self.now.save_faults in
-    let counts = c.saturating_add-self-inside.ensures ∙ ap (λ (state : Counts). counted state.save_faults) c.self.view_is in
+    let counts = c.saturating_add-self-inside-then-is_err.ensures ∙ ap (λ (state : Counts). counted state.save_faults) c.self.view_is in
     counts ∙ ap (λ b. if b then counted faults else faults) (sym c.if-is_err.true ∙ c.is_err.ensures.value)
 
 pub returns-else-is_err-clause-ok : goal.returns-else-is_err-clause-ok
@@ -47,9 +47,9 @@ pub returns-else-is_err-clause-no_fault : goal.returns-else-is_err-clause-no_fau
 returns-else-is_err-clause-no_fault g c = unless_unmade _ c.write_file-answer.result c.write_file-answer.ensures
 
 pub returns-else-is_err-clause-ok_no_fault : goal.returns-else-is_err-clause-ok_no_fault
-returns-else-is_err-clause-ok_no_fault g c = on_ok c.write_file-answer.result refl
+returns-else-is_err-clause-ok_no_fault g c = on_ok c.write_file-answer.result (ap (λ (state : Counts). state.save_faults) c.self.view_is)
 
 pub returns-else-is_err-clause-each_fault_counts : goal.returns-else-is_err-clause-each_fault_counts
 returns-else-is_err-clause-each_fault_counts g c =
     let faults = c.args.self.now.save_faults in
-    ap (λ b. if b then counted faults else faults) (sym c.if-is_err.false ∙ c.is_err.ensures.value)
+    ap (λ (state : Counts). state.save_faults) c.self.view_is ∙ ap (λ b. if b then counted faults else faults) (sym c.if-is_err.false ∙ c.is_err.ensures.value)

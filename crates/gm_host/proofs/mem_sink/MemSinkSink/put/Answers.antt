@@ -3,6 +3,7 @@ use Rattle.std.proofs.lemmas.Bool.{false≢true}
 use Rattle.std.proofs.lemmas.Result.{err_from_is_err_and}
 use Rattle.std.specs.FinMap.{get, from_entries}
 use Rattle.std.specs.Ordering.{nat_cmp}
+use Rattle.gm_host.specs.Count.{counted}
 use Rattle.gm_host.specs.MemSink.{SinkState}
 use Rattle.gm_host.proofs.Lookups.{get-from_tree}
 use Rattle.gm_host.proofs.Saving.{unmade_put}
@@ -29,11 +30,13 @@ returns-in_err-extend_from_slice-in-None c =
     let plan = get now.planned now.puts in
     rw (p.1, p.2)
     (record {
+      each_put_counts = c.saturating_add-self-inside.ensures ∙ ap (λ (state : SinkState). counted state.puts) c.self.view_is;
       faults_never_fall = omega (arith, ap (λ (state : SinkState). state.faults) c.self.view_is);
       ok = tt;
       failed = tt;
       kept = tt;
       out_of_memory = ap Some (c.in_err-extend_from_slice-in-None.ensures.items ∙ ap (λ (state : SinkState). state.written) c.self.view_is);
+      no_fault = ap (λ (state : SinkState). state.faults) c.self.view_is;
       enough_memory = λ never. absurd (false≢true never);
       ok_no_fault = tt;
       as_planned = unmade_put c.self.view_is c.args.bytes.now c.extend_from_slice-in-None.new.self.items c.saturating_add-self-inside.result c.saturating_add-self-inside.ensures plan c.in_err-extend_from_slice-in-None.ensures.items;
@@ -46,11 +49,13 @@ returns-in_err-extend_from_slice-in-Some c =
     let plan = get now.planned now.puts in
     rw (p.1, p.2)
     (record {
+      each_put_counts = c.saturating_add-self-inside.ensures ∙ ap (λ (state : SinkState). counted state.puts) c.self.view_is;
       faults_never_fall = omega (arith, ap (λ (state : SinkState). state.faults) c.self.view_is);
       ok = tt;
       failed = tt;
       kept = tt;
       out_of_memory = ap Some (c.in_err-extend_from_slice-in-Some.ensures.items ∙ ap (λ (state : SinkState). state.written) c.self.view_is);
+      no_fault = ap (λ (state : SinkState). state.faults) c.self.view_is;
       enough_memory = λ never. absurd (false≢true never);
       ok_no_fault = tt;
       as_planned = unmade_put c.self.view_is c.args.bytes.now c.extend_from_slice.new.self.items c.saturating_add-self-inside.result c.saturating_add-self-inside.ensures plan c.in_err-extend_from_slice-in-Some.ensures.items;

@@ -1,6 +1,7 @@
 use Rattle.std.proofs.Common.{sym, ap, subst, ◌∙◌, ◌≡◌, Some, None, arith}
 use Rattle.std.proofs.lemmas.Result.{err_from_is_err_and}
 use Rattle.std.specs.FinMap.{get}
+use Rattle.gm_host.specs.Count.{counted}
 use Rattle.gm_host.specs.Files.{Files, told}
 use Rattle.gm_host.specs.MemStore.{StoreState}
 use Rattle.gm_host.specs.Saves.{IsSaved, IsSavedInPart}
@@ -44,6 +45,7 @@ returns-in_err-hold-in-None c =
     let faults = ap (λ (state : StoreState). state.save_faults) c.self.view_is in
     rw (p.1, p.2)
     (record {
+      each_save_counts = c.saturating_add-self-inside.ensures ∙ ap (λ (state : StoreState). counted state.saves) c.self.view_is;
       no_load = ap (λ (state : StoreState). state.loads) c.self.view_is;
       no_load_fault = ap (λ (state : StoreState). state.load_faults) c.self.view_is;
       faults_never_fall = omega (arith, faults);
@@ -63,6 +65,7 @@ returns-in_err-hold_part-in-Some c =
     let faults = ap (λ (state : StoreState). state.save_faults) c.self.view_is in
     rw (p.1, p.2)
     (record {
+      each_save_counts = c.saturating_add-self-inside.ensures ∙ ap (λ (state : StoreState). counted state.saves) c.self.view_is;
       no_load = ap (λ (state : StoreState). state.loads) c.self.view_is;
       no_load_fault = ap (λ (state : StoreState). state.load_faults) c.self.view_is;
       faults_never_fall = omega (arith, faults);

@@ -1,5 +1,6 @@
 use Rattle.std.proofs.Common.{refl, ap, ◌∙◌, arith}
 use Rattle.std.proofs.lemmas.Result.{err_from_is_err_and}
+use Rattle.gm_host.specs.Count.{counted}
 use Rattle.gm_host.specs.Files.{told}
 use Rattle.gm_host.specs.SureStore.{StoreState}
 use Rattle.gm_host.proofs.Saving.{saved-insert}
@@ -13,6 +14,7 @@ returns-in_err-hold c =
     let p = err_from_is_err_and c.from_residual.result c.from_residual.ensures.1 in
     rw (p.1, p.2)
     (record {
+      each_save_counts = c.saturating_add-self-inside.ensures ∙ ap (λ (state : StoreState). counted state.saves) c.self.view_is;
       no_load = ap (λ (state : StoreState). state.loads) c.self.view_is;
       no_load_fault = refl;
       faults_never_fall = omega arith;
@@ -24,5 +26,7 @@ returns-in_err-hold c =
       ok_no_fault = tt;
       never_fails = λ failed. failed;
       after = tt;
-      unchanged = ap (λ files. record { files = files; loads = c.self.inside.loads }) c.in_err-hold.ensures.err ∙ c.self.view_is;
+      unmade = ap (λ files. record { files = files; loads = c.self.inside.loads; saves = c.saturating_add-self-inside.result }) c.in_err-hold.ensures.err
+          ∙ ap (λ saves. record { files = c.self.inside.files; loads = c.self.inside.loads; saves = saves }) c.saturating_add-self-inside.ensures
+          ∙ ap (λ (state : StoreState). record { files = state.files; loads = state.loads; saves = counted state.saves }) c.self.view_is;
     })
