@@ -7,7 +7,7 @@ use Rattle.gm_model.specs.declared.value.Value.TheVariants as values
 use Rattle.gm_model.specs.Expressions.{Reading, HasValue, HasNoValue, HasUnits}
 use Rattle.gm_model.specs.Limits.{most_darts, most_names}
 use Rattle.gm_model.specs.Maps.{Map, IsDart, IsEmbedAt, dimension, type_of}
-use Rattle.gm_model.specs.Matches.{Placement, IsCandidate, IsInstance, IsMetAt}
+use Rattle.gm_model.specs.Matches.{Placement, IsCandidate, IsInstance, IsMatch, IsMetAt}
 use Rattle.gm_model.specs.NewValues.{IsDeciding, IsReached, IsValueAfter}
 use Rattle.gm_model.specs.Orbits.{IsPairBefore, HasCount}
 use Rattle.gm_model.specs.Rules.{Rule, Assigns}
@@ -73,20 +73,10 @@ module _ (app : Application) where
       pub later : IsPairBefore x p y q
       pub same : place.dart_of x p ≡ place.dart_of y q
 
-    abbrev pub HasNoRepeat : Type 0
-    HasNoRepeat = (x p y q : ℕ) → IsRepeat x p y q → ⊥
-
     -- (y, q) is the least instance whose dart an earlier one has
     pub record IsFirstRepeat (x p y q : ℕ) : Type 0 where
       pub here : IsRepeat x p y q
       pub before : (x' p' y' q' : ℕ) → IsPairBefore y' q' y q → IsRepeat x' p' y' q' → ⊥
-
-    -- the candidate is a match
-    pub record IsFound : Type 0 where
-      pub darts : HasHookDarts
-      pub candidate : IsCandidate app.map app.rule app.hooks place
-      pub steps : MeetsSteps
-      pub distinct : HasNoRepeat
 
     -- ---- the precondition, and room
 
@@ -104,9 +94,13 @@ module _ (app : Application) where
     abbrev pub more : ℕ
     more = place.positions * added_nodes app.rule
 
-    -- the match is found, the precondition is true, and the result has room
+    -- a match of the rule at the hook darts
+    abbrev pub IsMatched : Type 0
+    IsMatched = IsMatch app.map app.rule app.hooks place
+
+    -- there is a match, the precondition is true, and the result has room
     pub record IsReady : Type 0 where
-      pub found : IsFound
+      pub matched : IsMatched
       pub pre : MeetsPre
       pub live : ℕ
       pub live_is : HasCount IsStaying live
@@ -174,10 +168,10 @@ module _ (app : Application) where
     NoHookDart : (index d : ℕ) → slice_get app.hooks index ≡ Some d → (IsDart app.map d → ⊥) → ((k e : ℕ) → k < index → slice_get app.hooks k ≡ Some e → IsDart app.map e) → IsRefused (NoDart index)
     BrokenStep : (place : Placement) (x p i : ℕ) → HasHookDarts → IsCandidate app.map app.rule app.hooks place → IsFirstBroken place x p i → IsRefused (Arc x p i)
     Repeated : (place : Placement) (x p y q : ℕ) → HasHookDarts → IsCandidate app.map app.rule app.hooks place → MeetsSteps place → IsFirstRepeat place x p y q → IsRefused (Same x p y q)
-    ValuelessPre : (place : Placement) (tree : Tree) → IsFound place → app.rule.pre ≡ Some tree → HasNoValue (reading_at place 0) tree → IsRefused PreNoValue
-    FalsePre : (place : Placement) (tree : Tree) → IsFound place → app.rule.pre ≡ Some tree → HasValue (reading_at place 0) tree (values.Bool false) → IsRefused PreFalse
-    NoRoom : (place : Placement) (live : ℕ) → IsFound place → MeetsPre place → HasCount (IsStaying place) live → most_darts < live + more place → IsRefused (FullDarts live (more place))
-    NoNames : (place : Placement) (live : ℕ) → IsFound place → MeetsPre place → HasCount (IsStaying place) live → live + more place ≤ most_darts → most_names < app.map.next + more place → IsRefused (FullNames app.map.next (more place))
+    ValuelessPre : (place : Placement) (tree : Tree) → IsMatched place → app.rule.pre ≡ Some tree → HasNoValue (reading_at place 0) tree → IsRefused PreNoValue
+    FalsePre : (place : Placement) (tree : Tree) → IsMatched place → app.rule.pre ≡ Some tree → HasValue (reading_at place 0) tree (values.Bool false) → IsRefused PreFalse
+    NoRoom : (place : Placement) (live : ℕ) → IsMatched place → MeetsPre place → HasCount (IsStaying place) live → most_darts < live + more place → IsRefused (FullDarts live (more place))
+    NoNames : (place : Placement) (live : ℕ) → IsMatched place → MeetsPre place → HasCount (IsStaying place) live → live + more place ≤ most_darts → most_names < app.map.next + more place → IsRefused (FullNames app.map.next (more place))
     Valueless : (place : Placement) (IsLive : ℕ → Bool) (alpha : ℕ → ℕ → ℕ) (decider : Decider) → IsReady place → IsUnfolded place (λ d. IsTrue (IsLive d)) alpha → IsFirstValueless place (λ d. IsTrue (IsLive d)) alpha decider → IsRefused (NoValue decider.embed decider.node)
 
   -- ---- the budget
@@ -214,8 +208,8 @@ module _ (app : Application) where
   -- How many darts get values, and what is read. Where the application is refused before its assignments, no dart counts
   -- as getting one, and the precondition alone is read, where it is reached.
   pub data IsWork : ℕ → ℕ → Type 0 where
-    NoMatch : ((place : Placement) → IsFound place → ⊥) → IsWork 0 0
-    NotReady : (place : Placement) (u : ℕ) → IsFound place → (IsReady place → ⊥) → IsPreUnits place u → IsWork 0 u
+    NoMatch : ((place : Placement) → IsMatched place → ⊥) → IsWork 0 0
+    NotReady : (place : Placement) (u : ℕ) → IsMatched place → (IsReady place → ⊥) → IsPreUnits place u → IsWork 0 u
     Ready : (place : Placement) (IsLive : ℕ → Bool) (alpha : ℕ → ℕ → ℕ) (reached u w : ℕ) → IsReady place → IsUnfolded place (λ d. IsTrue (IsLive d)) alpha → IsReachedSum place (λ d. IsTrue (IsLive d)) alpha reached → IsPreUnits place u → IsReadSum place (λ d. IsTrue (IsLive d)) alpha w → IsWork reached (u + w)
 
   -- the most steps that the application may take

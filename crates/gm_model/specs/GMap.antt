@@ -28,7 +28,3 @@ IsLive rows d = IsSome (row_of rows d)
 -- the neighbour of d along a label; d itself where there is none
 abbrev pub alpha : List Row → ℕ → ℕ → ℕ
 alpha rows i d = option_map_or (λ (row : Row). slice_index_or row.alphas i d) (row_of rows d) d
-
--- the rows are a generalised map of dimension n
-abbrev pub AreGMap : ℕ → List Row → Type 0
-AreGMap n rows = IsGMap n (IsLive rows) (alpha rows)

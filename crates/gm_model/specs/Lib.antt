@@ -11,6 +11,7 @@ pub mod Trees
 pub mod Rules
 pub mod Orbits
 pub mod Maps
+pub mod Histories
 pub mod Structure
 pub mod Squares
 pub mod Components
@@ -22,6 +23,7 @@ pub mod Acceptance
 pub mod NewValues
 pub mod Applications
 pub mod Runs
+pub mod Budgets
 pub mod Reports
 pub mod NodeSteps
 pub mod Ranges

@@ -105,7 +105,7 @@ pub record IsPathTo (rule : Rule) (x hook : ℕ) (path : List ℕ) : Type 0 wher
 abbrev pub IsForced : Map → Rule → Placement → Type 0
 IsForced map rule place = (x p hook : ℕ) (path : List ℕ) → IsInstance rule place x p → IsPathTo rule x hook path → place.dart_of x p ≡ follow map.alpha path (place.dart_of hook p)
 
--- there is no other match than this one
+-- Where the nodes lie that a match forces. If there is a match at these hook darts, this is it; it need not be one.
 pub record IsCandidate (map : Map) (rule : Rule) (hooks : List ℕ) (place : Placement) : Type 0 where
   -- a dart for each hook
   pub count : length hooks ≡ length rule.hooks

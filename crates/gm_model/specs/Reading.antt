@@ -46,22 +46,8 @@ module _ {Role What : Type 0} (IsSentence : List (Part Role) → Type 0) (limit_
     pub within : IsWithin parts
     pub ends : (more : List (Part Role)) → symbols (before ++ mark ∷ []) ≡ symbols_in more → Begins more → ⊥
 
-  -- Up to and with what stands at this place the text goes on as some sentence does. There it passes the limit, and none before.
-  pub record LimitPassedAt (marks : List Mark) (what : What) (place : ℕ) : Type 0 where
-    pub before : List Mark
-    pub mark : Mark
-    pub after : List Mark
-    pub split : marks ≡ before ++ mark ∷ after
-    pub here : mark.place ≡ place
-    pub parts : List (Part Role)
-    pub part : Part Role
-    pub spelled : symbols before ≡ symbols_in parts
-    pub read : mark.symbol ≡ part.symbol
-    pub begins : Begins (parts ++ part ∷ [])
-    pub within : IsWithin parts
-    pub passes : limit_of part.role part.symbol ≡ Some what
-
-  -- The same in a grammar where some part tells what the mark before it is: the limit that such a part passes stands at that mark.
+  -- Up to and with some mark the text goes on as some sentence does. There it passes the limit, and none before. In a
+  -- grammar where some part tells what the mark before it is, the limit that such a part passes stands at that mark.
   pub record LimitStandsAt (stands_before : Role → Bool) (marks : List Mark) (what : What) (place : ℕ) : Type 0 where
     pub before : List Mark
     pub mark : Mark

@@ -1,15 +1,13 @@
 -- The report of a run: a text with a line for each line of the script, and a last line with counts.
-use Rattle.std.specs.Prelude.{◌≡◌, ℕ, ◌+◌, not, List, [], ◌∷◌, ◌++◌, codes, decimal, slice_get}
-use Rattle.std.specs.List.{count_by}
+use Rattle.std.specs.Prelude.{ℕ, ◌+◌, List, [], ◌∷◌, ◌++◌, map, sum, codes, decimal, slice_get}
 use Rattle.std.specs.Option.{option_map, unwrap_or}
 use Rattle.gm_model.specs.declared.schema.Embed.{Embed}
 use Rattle.gm_model.specs.declared.schema.Schema.{Schema}
-use Rattle.gm_model.specs.declared.script.Line.{Line}
+use Rattle.gm_model.specs.declared.script.Stat.{Stat}
+use Rattle.gm_model.specs.declared.script.Stat.TheVariants as statements
 use Rattle.gm_model.specs.Applications.{Cause, NoDart, Arc, Same, PreNoValue, PreFalse, FullDarts, FullNames, NoValue}
 use Rattle.gm_model.specs.Rules.{name_at, Rule, RuleNode}
-use Rattle.gm_model.specs.Maps.{Map, IsDart}
-use Rattle.gm_model.specs.Orbits.{HasCount}
-use Rattle.gm_model.specs.Runs.{Outcome, Done, Refused, is_done, IsRun}
+use Rattle.gm_model.specs.Runs.{Outcome, Done, Refused, Skipped, Undone, Redone, NothingToUndo, NothingToRedo, Begun, Kept, Dropped, Each}
 
 -- ---- names
 
@@ -41,32 +39,63 @@ cause_words schema nodes (NoValue e x) = codes "no-value " ++ embed_name schema 
 abbrev pub outcome_words : Schema → List RuleNode → Outcome → List ℕ
 outcome_words schema nodes (Done added removed) = codes "done added " ++ decimal added ++ codes " removed " ++ decimal removed
 outcome_words schema nodes (Refused cause) = codes "refused " ++ cause_words schema nodes cause
+outcome_words schema nodes Skipped = codes "skipped"
+outcome_words schema nodes Undone = codes "done"
+outcome_words schema nodes Redone = codes "done"
+outcome_words schema nodes NothingToUndo = codes "refused nothing-to-undo"
+outcome_words schema nodes NothingToRedo = codes "refused nothing-to-redo"
+outcome_words schema nodes Begun = codes "begun"
+outcome_words schema nodes Kept = codes "kept"
+outcome_words schema nodes Dropped = codes "dropped"
+outcome_words schema nodes (Each done refused passed) = codes "done " ++ decimal done ++ codes " refused " ++ decimal refused ++ codes " passed " ++ decimal passed
+
+-- T, or undo, or each T
+abbrev pub stat_words : List Rule → Stat → List ℕ
+stat_words rules (statements.Apply line) = rule_name rules line.rule
+stat_words rules statements.Undo = codes "undo"
+stat_words rules statements.Redo = codes "redo"
+stat_words rules statements.Group = codes "group"
+stat_words rules statements.End = codes "end"
+stat_words rules (statements.Each mask rule params) = codes "each " ++ rule_name rules rule
+
+-- the nodes that the outcome of the statement can speak of
+abbrev pub nodes_of : List Rule → Stat → List RuleNode
+nodes_of rules (statements.Apply line) = nodes_at rules line.rule
+nodes_of rules _ = []
 
 -- 1 T done added 16 removed 0
-abbrev pub outcome_line : Schema → List Rule → ℕ → Line → Outcome → List ℕ
-outcome_line schema rules k line outcome = decimal k ++ codes " " ++ rule_name rules line.rule ++ codes " " ++ outcome_words schema (nodes_at rules line.rule) outcome ++ codes "\n"
+abbrev pub outcome_line : Schema → List Rule → ℕ → Stat → Outcome → List ℕ
+outcome_line schema rules k stat outcome = decimal k ++ codes " " ++ stat_words rules stat ++ codes " " ++ outcome_words schema (nodes_of rules stat) outcome ++ codes "\n"
 
 -- ---- the report
 
 -- the lines behind so many
-abbrev pub outcome_lines : Schema → List Rule → ℕ → List Line → List Outcome → List ℕ
-outcome_lines schema rules k (line ∷ lines) (outcome ∷ outcomes) = outcome_line schema rules (k + 1) line outcome ++ outcome_lines schema rules (k + 1) lines outcomes
+abbrev pub outcome_lines : Schema → List Rule → ℕ → List Stat → List Outcome → List ℕ
+outcome_lines schema rules k (stat ∷ stats) (outcome ∷ outcomes) = outcome_line schema rules (k + 1) stat outcome ++ outcome_lines schema rules (k + 1) stats outcomes
 outcome_lines schema rules k _ _ = []
+
+-- how often the line says that something was done
+abbrev pub done_in : Outcome → ℕ
+done_in (Done added removed) = 1
+done_in Undone = 1
+done_in Redone = 1
+done_in (Each done refused passed) = done
+done_in _ = 0
+
+-- how often the line says that something was refused
+abbrev pub refused_in : Outcome → ℕ
+refused_in (Refused cause) = 1
+refused_in NothingToUndo = 1
+refused_in NothingToRedo = 1
+refused_in (Each done refused passed) = refused
+refused_in _ = 0
 
 -- applied 1 refused 0 darts 24 next 24
 abbrev pub counts_line : List Outcome → ℕ → ℕ → List ℕ
 counts_line outcomes darts next =
-    codes "applied " ++ decimal (count_by is_done outcomes) ++ codes " refused " ++ decimal (count_by (λ (outcome : Outcome). not (is_done outcome)) outcomes)
+    codes "applied " ++ decimal (sum (map done_in outcomes)) ++ codes " refused " ++ decimal (sum (map refused_in outcomes))
     ++ codes " darts " ++ decimal darts ++ codes " next " ++ decimal next ++ codes "\n"
 
--- of the outcomes of a script's lines, with so many darts after them and this next name
-abbrev pub report_text : Schema → List Rule → List Line → List Outcome → ℕ → ℕ → List ℕ
-report_text schema rules lines outcomes darts next = outcome_lines schema rules 0 lines outcomes ++ counts_line outcomes darts next
-
--- the text is the report of the run, which leaves this map
-pub record IsReport (schema : Schema) (rules : List Rule) (before : Map) (lines : List Line) (after : Map) (text : List ℕ) : Type 0 where
-  pub outcomes : List Outcome
-  pub run : IsRun rules before lines outcomes after
-  pub darts : ℕ
-  pub darts_are : HasCount (IsDart after) darts
-  pub is : text ≡ report_text schema rules lines outcomes darts after.next
+-- of the outcomes of a script's statements, with so many darts after them and this next name
+abbrev pub report_text : Schema → List Rule → List Stat → List Outcome → ℕ → ℕ → List ℕ
+report_text schema rules stats outcomes darts next = outcome_lines schema rules 0 stats outcomes ++ counts_line outcomes darts next

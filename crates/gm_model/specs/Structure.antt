@@ -35,7 +35,7 @@ pub record IsLinkInRange (n : ℕ) (rule : Rule) (side : Side) (link : Link) : T
   pub from : IsTrue (has_word rule side link.from)
   pub to : IsTrue (has_word rule side link.to)
 
--- Of the trees only their labels are spoken of here: `IsTyped` says what else of an expression is in range.
+-- Expressions are not spoken of here: `IsTyped` says when they are in range.
 pub record IsInRange (schema : Schema) (rule : Rule) : Type 0 where
   pub words : (side : Side) (x : ℕ) → HasLabelsUpTo schema.dim (letters rule side x)
   pub some_word : (x : ℕ) → x < length rule.nodes → IsTrue (has_word rule Left x) ⊎ IsTrue (has_word rule Right x)

@@ -28,7 +28,7 @@ pub use memory::OutOfMemory;
 pub use name::Name;
 pub use rule::{Book, Link, Node, Param, RuleFault, RuleTable, Set, Side};
 pub use schema::{Embed, Schema};
-pub use script::{Line, Script};
+pub use script::{Line, Script, Stat};
 pub use sides::{MOST_LABELS, MOST_NODES};
 pub use step::Step;
 pub use token::{Token, TokenKind};
