@@ -126,7 +126,7 @@ module _ (reading : Reading) (hooks : List ℕ) where
   pub assigned_at : (pending : PendingOf) (e i start steps node position : ℕ) → IsReadable reading hooks → HasRead reading hooks pending (suc e) e i start steps → IsEntryAt (deciders_of pending e) i node position
       → IsAssigned (rule_of reading.plan.now.table) e node × (position < reading.found.now.positions)
   assigned_at pending e i start steps node position readable h here =
-      let kept = rules_keep_generalised_maps (as_map reading.arena.now) (rule_of reading.plan.now.table) hooks (place_at reading) readable.sound.is_map readable.sound.generalised readable.accepted readable.answer.matched.is_match in
+      let kept = rules_keep_generalised_maps (as_map reading.arena.now) (rule_of reading.plan.now.table) hooks (place_at reading) readable.sound.is_map.below readable.sound.generalised readable.accepted readable.answer.matched.is_match in
       let is = decides reading hooks pending (suc e) e i start steps h kept.exists.0 kept.exists.1 e i here.entry here.at in
       (subst (IsAssigned (rule_of reading.plan.now.table) e) here.node_is is.deciding.assigned.0, subst (λ p. p < reading.found.now.positions) here.position_is is.deciding.assigned.1)
 
@@ -168,7 +168,7 @@ module _ (reading : Reading) (hooks : List ℕ) where
     module _ (readable : IsReadable reading hooks) (none : (v : Value) → GivesValue (app_at reading hooks) (place_at reading) e node position v → ⊥) (rises : steps ≤ later) where
       refused_here : IsReady (app_at reading hooks) (place_at reading) → IsRefused (app_at reading hooks) (NoValue e here.entry.node)
       refused_here ready =
-          let kept = rules_keep_generalised_maps (as_map reading.arena.now) (rule_of reading.plan.now.table) hooks (place_at reading) readable.sound.is_map readable.sound.generalised readable.accepted readable.answer.matched.is_match in
+          let kept = rules_keep_generalised_maps (as_map reading.arena.now) (rule_of reading.plan.now.table) hooks (place_at reading) readable.sound.is_map.below readable.sound.generalised readable.accepted readable.answer.matched.is_match in
           let result = kept.exists.0 in
           let unfolds = kept.exists.1 in
           let first : IsFirstValueless (app_at reading hooks) (place_at reading) (IsDartOf result) result.alpha (decider_at e here.entry) = record {

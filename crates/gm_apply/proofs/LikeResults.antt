@@ -47,7 +47,7 @@ results_back rule a b place other result end r = record {
 pub results_like : (rule : Rule) (hooks : List ℕ) (a b : Map) (place other : Placement) → AreLikeAt rule a b place other → IsSchema a.schema → IsMatch a rule hooks place
     → (result end : Unfolded) → Unfolds a rule place result → Unfolds b rule other end → AreLikeResults rule a b place other result end
 results_like rule hooks a b place other like of_schema matched result end u v =
-    let kept = rules_keep_generalised_maps a rule hooks place like.first_map like.first_generalised like.accepted matched in
+    let kept = rules_keep_generalised_maps a rule hooks place like.first_map.below like.first_generalised like.accepted matched in
     let here = unfolding_there rule b a other place (places_back rule a b place other like) (IsDartOf end) end.alpha end.next v in
     record {
       like = like;
@@ -57,7 +57,7 @@ results_like rule hooks a b place other like of_schema matched result end u v =
       same = kept.determined result end u here;
       named = λ x p right within.
           (u.darts (name_in a rule place x p)).1
-          (right_dart (scene_of a rule place) (length rule.nodes) (width rule) (hook_label rule) (lawful a rule place like.accepted like.first_generalised like.first_map hooks matched) x p (right, within));
+          (right_dart (scene_of a rule place) (length rule.nodes) (width rule) (hook_label rule) (lawful a rule place like.accepted like.first_generalised like.first_map.below hooks matched) x p (right, within));
     }
 
 module _ (rule : Rule) (a b : Map) (place other : Placement) (result end : Unfolded) (r : AreLikeResults rule a b place other result end) where

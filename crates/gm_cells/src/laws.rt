@@ -1,14 +1,13 @@
 //! What is a law over the definitions, and no call of this crate.
 
-ghost use Rattle.std.specs.Prelude.{◌≡◌, ℕ, ◌⊎◌, Bool, List};
+ghost use Rattle.std.specs.Prelude.{◌≡◌, ◌<◌, ℕ, ◌⊎◌, Bool, List};
 ghost use Rattle.gm_cells.specs.Colours.{IsOddWalk, IsOrientation, IsTwoColouring};
 ghost use Rattle.gm_cells.specs.declared.orientation.Orientation.{Orientation};
-ghost use Rattle.gm_model.specs.Maps.{Map, IsDart, IsGeneralised, IsMap, dimension};
+ghost use Rattle.gm_model.specs.Maps.{Map, IsDart, IsGeneralised, dimension};
 
-/// A generalised map, whose names lie below a number as those of each map do, has two colours or an
-/// odd walk. The law is the clause; the function does nothing.
+/// A generalised map whose names lie below its next name has two colours or an odd walk. The law is the clause; the function does nothing.
 pub fn two_colours_or_an_odd_walk()
-    ensures { (map : Map) → IsMap map → IsGeneralised map →
+    ensures { (map : Map) → ((d : ℕ) → IsDart map d → d < map.next) → IsGeneralised map →
         ((colour : ℕ → Bool) × IsTwoColouring (dimension map) map.alpha (IsDart map) colour)
         ⊎ ((d : ℕ) × (labels : List ℕ) × IsDart map d × IsOddWalk (dimension map) map.alpha d labels) }
 {}

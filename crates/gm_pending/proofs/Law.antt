@@ -8,4 +8,4 @@ use Rattle.gm_pending.specs.Results.{PendingOf, IsPrepared, rule_in, place_in, s
 
 module _ (app : PendingOf) (prepared : IsPrepared app) where
   pub law : IsLawful (scene_in app) (length (rule_in app).nodes) (width (rule_in app)) (hook_label (rule_in app))
-  law = lawful (as_map app.map) (rule_in app) (place_in app) prepared.planned.accepted prepared.sound.generalised prepared.sound.is_map prepared.hooks prepared.matched.is_match
+  law = lawful (as_map app.map) (rule_in app) (place_in app) prepared.planned.accepted prepared.sound.generalised prepared.sound.is_map.below prepared.hooks prepared.matched.is_match

@@ -27,7 +27,7 @@ part_entry width values number e v h = get_or-take width (drop (number * width) 
 
 module _ (app : PendingOf) (prepared : IsPrepared app) where
   pub some_unfolding : (result : Unfolded) × IsUnfoldedIn app result
-  some_unfolding = (rules_keep_generalised_maps (as_map app.map) (rule_in app) prepared.hooks (place_in app) prepared.sound.is_map prepared.sound.generalised prepared.planned.accepted prepared.matched.is_match).exists
+  some_unfolding = (rules_keep_generalised_maps (as_map app.map) (rule_in app) prepared.hooks (place_in app) prepared.sound.is_map.below prepared.sound.generalised prepared.planned.accepted prepared.matched.is_match).exists
 
   typed_after : (result : Unfolded) (e d : ℕ) (embed : Embed) (v : Value) → IsEmbedAt app.map.schema e embed → IsValueAfter (as_map app.map) (rule_in app) (place_in app) result.alpha e (type_of embed) (IsGivenIn app e) d v → IsValueOf embed.kind v
   typed_after result e d embed v at (Decided x p by given) = prepared.values e x p embed v at given

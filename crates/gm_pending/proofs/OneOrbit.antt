@@ -139,7 +139,7 @@ module _ (app : PendingOf) (prepared : IsPrepared app) (x : ℕ) (right : IsTrue
         none_marked closed absent p k b mark = go (each_marked there.0 there.1 reached p 0 k (closed there.0 there.1) b (omega arith) mark)
           where
             there : (result : Unfolded) × IsUnfoldedIn app result
-            there = (rules_keep_generalised_maps (as_map app.map) (rule_in app) prepared.hooks (place_in app) prepared.sound.is_map prepared.sound.generalised prepared.planned.accepted prepared.matched.is_match).exists
+            there = (rules_keep_generalised_maps (as_map app.map) (rule_in app) prepared.hooks (place_in app) prepared.sound.is_map.below prepared.sound.generalised prepared.planned.accepted prepared.matched.is_match).exists
 
             go : HasMark app reached (name 0) k → ⊥
             go (entry, among, f, g) = absent (entry, among, same_key app prepared entry.at at (darts entry among) dart (f ∙ sym named))

@@ -7,25 +7,27 @@ use Rattle.gm_model.specs.declared.schema.Embed.{Embed}
 use Rattle.gm_model.specs.declared.value.Kind.{Kind}
 use Rattle.gm_model.specs.declared.value.Kind.TheVariants as kinds
 use Rattle.gm_model.specs.Acceptance.{IsAccepted}
-use Rattle.gm_model.specs.Applications.{Application, Decider, IsDeciderBefore, HasHookDarts, MeetsSteps, HasNoRepeat, IsFound, IsFirstBroken, IsFirstRepeat, MeetsPre, IsReady, IsDecider, IsValuedBefore, IsRead, IsReachedAt, IsPreUnits, IsReadUnits, IsReadSum, IsReachedSum, HasPositions, NoDarts, Candidate, IsWork, NoMatch, NotReady, Ready, IsBudget, Of, reading_at}
+use Rattle.gm_model.specs.Applications.{Application, Decider, IsDeciderBefore, HasHookDarts, MeetsSteps, IsFirstBroken, IsFirstRepeat, MeetsPre, IsReady, IsDecider, IsValuedBefore, IsRead, IsReachedAt, IsPreUnits, IsReadUnits, IsReadSum, IsReachedSum, HasPositions, NoDarts, Candidate, IsWork, NoMatch, NotReady, Ready, IsBudget, Of, reading_at}
 use Rattle.gm_model.specs.Components.{IsAssigned}
 use Rattle.gm_model.specs.Expressions.{HasUnits}
 use Rattle.gm_model.specs.Kinds.{HasKind, AreGoodParams}
 use Rattle.gm_model.specs.Maps.{IsEmbedAt, IsSchema, IsSound, dimension, type_of}
-use Rattle.gm_model.specs.Matches.{Placement, IsCandidate}
+use Rattle.gm_model.specs.Matches.{Placement, IsCandidate, IsMatch}
 use Rattle.gm_model.specs.NewValues.{LiesIn}
 use Rattle.gm_model.specs.Orbits.{HasCount, IsListOf, IsPairBefore}
 use Rattle.gm_model.specs.Trees.{Tree}
 use Rattle.gm_model.specs.Unfolding.{IsUnfolding, name_in, scene_of}
 use Rattle.gm_model.specs.Rules.{hook_label, width}
 use Rattle.gm_theory.proofs.LikeCandidates.{found_like}
+use Rattle.gm_theory.proofs.Candidates.{match_is_candidate}
 use Rattle.gm_theory.proofs.CandidatesFound.{candidate_exists, some_position, IsDead, dead_or_live, broken_or_met, repeat_or_none, decide_before}
 use Rattle.gm_theory.proofs.FirstFound.{decide_pair_below}
+use Rattle.gm_theory.proofs.Found.{HasNoRepeat, IsFound, found_match, hook_darts, match_found}
 use Rattle.gm_theory.proofs.Keeps.{rules_keep_generalised_maps}
 use Rattle.gm_theory.proofs.Lists.{some_same, none_some}
 use Rattle.gm_theory.proofs.ListsGathered.{zipped, tabulated, IsSorted, sorted_places, gather, gathered, gathers, gather_sorted}
 use Rattle.gm_theory.proofs.OrbitsListed.{list_all_of}
-use Rattle.gm_theory.proofs.OutcomesFound.{matched, law, IsRefusedWithout, pre_or_none, ready_or_none, IsValueless, decide_decider, decide_valueless, valued}
+use Rattle.gm_theory.proofs.OutcomesFound.{law, IsRefusedWithout, pre_or_none, ready_or_none, IsValueless, decide_decider, decide_valueless, valued}
 use Rattle.gm_theory.proofs.ReadingsUnits.{has_units}
 use Rattle.gm_theory.proofs.Results.{unfolding_generalised, unfolding_below}
 use Rattle.gm_theory.proofs.Tests.{true_or_false, not_both, search_below}
@@ -59,18 +61,21 @@ decide_decider_before a b = go (cases_order a.embed b.embed) (decide_before a.no
         neither (inl k) = omega arith
         neither (inr (f, k)) = omega arith
 
-module _ (app : Application) (of_schema : IsSchema app.map.schema) (sound : IsSound app.map) (accepted : IsAccepted app.map.schema app.rule) (params : AreGoodParams app.rule app.params) (place : Placement) (found : IsFound app place) where
+module _ (app : Application) (of_schema : IsSchema app.map.schema) (sound : IsSound app.map) (accepted : IsAccepted app.map.schema app.rule) (params : AreGoodParams app.rule app.params) (place : Placement) (matched : IsMatch app.map app.rule app.hooks place) where
+  candidate : IsCandidate app.map app.rule app.hooks place
+  candidate = match_is_candidate app.map app.rule place accepted.in_range accepted.incidence app.hooks matched
+
   -- ---- what reading takes
 
   units_at : (p : ℕ) (tree : Tree) (kind : Kind) → p < place.positions → HasKind app.map.schema app.rule tree kind → (u : ℕ) × HasUnits (reading_at app place p) tree u
-  units_at p tree kind b has_kind = has_units app.rule (reading_at app place p) (match_reading app place sound.is_map sound.generalised (matched app of_schema sound accepted params place found) p b) params tree (has_kind.in_range, (kind, has_kind.kind_is))
+  units_at p tree kind b has_kind = has_units app.rule (reading_at app place p) (match_reading app place sound.is_map sound.generalised matched p b) params tree (has_kind.in_range, (kind, has_kind.kind_is))
 
   pre_units : (u : ℕ) × IsPreUnits app place u
   pre_units = go app.rule.pre refl
     where
       go : (o : Option Tree) → app.rule.pre ≡ o → (u : ℕ) × IsPreUnits app place u
       go None e = (0, inl (e, refl))
-      go (Some tree) e = let u : (u : ℕ) × HasUnits (reading_at app place 0) tree u = units_at 0 tree kinds.Bool (some_position app.map app.rule app.hooks place found.candidate) (accepted.typed.pre tree e) in (u.0, inr (tree, e, u.1))
+      go (Some tree) e = let u : (u : ℕ) × HasUnits (reading_at app place 0) tree u = units_at 0 tree kinds.Bool (some_position app.map app.rule app.hooks place candidate) (accepted.typed.pre tree e) in (u.0, inr (tree, e, u.1))
 
   module _ (result : Unfolded) (unfolds : Unfolds app.map app.rule place result) where
     abbrev IsLiveAfter : ℕ → Type 0
@@ -87,8 +92,8 @@ module _ (app : Application) (of_schema : IsSchema app.map.schema) (sound : IsSo
         decide : IsLiveAfter d → (x p : ℕ) → IsDecided (IsReachedBy e embed d x p)
         decide live x p = by (decide_assigned app.rule e x)
             (decide_orbit app.map.schema.dim result.alpha (type_of embed) IsLiveAfter result.next (λ i t. of_schema.labels e i embed at t)
-            (unfolding_generalised (scene_of app.map app.rule place) (length app.rule.nodes) (width app.rule) (hook_label app.rule) (law app of_schema sound accepted params place found) IsLiveAfter result.alpha result.next unfolds).stays
-            (unfolding_below (scene_of app.map app.rule place) (length app.rule.nodes) (width app.rule) (hook_label app.rule) (law app of_schema sound accepted params place found) IsLiveAfter result.alpha result.next unfolds) d (name_in app.map app.rule place x p) live)
+            (unfolding_generalised (scene_of app.map app.rule place) (length app.rule.nodes) (width app.rule) (hook_label app.rule) (law app of_schema sound accepted params place matched) IsLiveAfter result.alpha result.next unfolds).stays
+            (unfolding_below (scene_of app.map app.rule place) (length app.rule.nodes) (width app.rule) (hook_label app.rule) (law app of_schema sound accepted params place matched) IsLiveAfter result.alpha result.next unfolds) d (name_in app.map app.rule place x p) live)
           where
             by : IsDecided (IsAssigned app.rule e x) → IsDecided (LiesIn app.map app.rule place result.alpha e (type_of embed) d x p) → IsDecided (IsReachedBy e embed d x p)
             by (inl a) (inl l) = inl (a, l)
@@ -111,7 +116,7 @@ module _ (app : Application) (of_schema : IsSchema app.map.schema) (sound : IsSo
       where
         counted : (embed : Embed) → IsEmbedAt app.map.schema e embed → (darts : List ℕ) × IsListOf (IsReachedAt app place IsLiveAfter result.alpha e embed) darts
         counted embed at = list_all_of (IsReachedAt app place IsLiveAfter result.alpha e embed) (decide_reached e embed at) result.next
-            (λ d h. unfolding_below (scene_of app.map app.rule place) (length app.rule.nodes) (width app.rule) (hook_label app.rule) (law app of_schema sound accepted params place found) IsLiveAfter result.alpha result.next unfolds d h.0)
+            (λ d h. unfolding_below (scene_of app.map app.rule place) (length app.rule.nodes) (width app.rule) (hook_label app.rule) (law app of_schema sound accepted params place matched) IsLiveAfter result.alpha result.next unfolds d h.0)
 
         go : (o : Option Embed) → slice_get app.map.schema.embeds e ≡ o → (c : ℕ) × IsReachedCount e c
         go None f = (0, λ embed at. none_some embed (sym f ∙ at))
@@ -133,12 +138,12 @@ module _ (app : Application) (of_schema : IsSchema app.map.schema) (sound : IsSo
     decider_at e x p = record { embed = e; node = x; position = p }
 
     abbrev IsValuelessBefore : Decider → ℕ → ℕ → ℕ → Type 0
-    IsValuelessBefore decider e x p = IsValueless app of_schema sound accepted params place found result unfolds e x p × IsDeciderBefore (decider_at e x p) decider
+    IsValuelessBefore decider e x p = IsValueless app of_schema sound accepted params place matched result unfolds e x p × IsDeciderBefore (decider_at e x p) decider
 
     decide_valueless_before : (decider : Decider) (e x p : ℕ) → IsDecided (IsValuelessBefore decider e x p)
-    decide_valueless_before decider e x p = go (decide_valueless app of_schema sound accepted params place found result unfolds e x p) (decide_decider_before (decider_at e x p) decider)
+    decide_valueless_before decider e x p = go (decide_valueless app of_schema sound accepted params place matched result unfolds e x p) (decide_decider_before (decider_at e x p) decider)
       where
-        go : IsDecided (IsValueless app of_schema sound accepted params place found result unfolds e x p) → IsDecided (IsDeciderBefore (decider_at e x p) decider) → IsDecided (IsValueless app of_schema sound accepted params place found result unfolds e x p × IsDeciderBefore (decider_at e x p) decider)
+        go : IsDecided (IsValueless app of_schema sound accepted params place matched result unfolds e x p) → IsDecided (IsDeciderBefore (decider_at e x p) decider) → IsDecided (IsValueless app of_schema sound accepted params place matched result unfolds e x p × IsDeciderBefore (decider_at e x p) decider)
         go (inl a) (inl b) = inl (a, b)
         go (inr none) side = inr (λ h. none h.0)
         go (inl a) (inr none) = inr (λ h. none h.1)
@@ -162,11 +167,11 @@ module _ (app : Application) (of_schema : IsSchema app.map.schema) (sound : IsSo
         go (inr none) = inl valued_before
           where
             valued_before : IsValuedBefore app place IsLiveAfter result.alpha decider
-            valued_before other before by = valued app of_schema sound accepted params place found result unfolds other.embed other.node other.position by
+            valued_before other before by = valued app of_schema sound accepted params place matched result unfolds other.embed other.node other.position by
                 (λ bad. none other.embed (slice_get_within app.map.schema.embeds other.embed by.embed by.embed_at) (other.node, other.position, assigned_below app.rule other.embed other.node by.deciding.assigned.0, by.deciding.assigned.1, (bad, before)))
 
     decide_read : (decider : Decider) → IsDecided (IsRead app place IsLiveAfter result.alpha decider)
-    decide_read decider = go (decide_decider app of_schema sound accepted params place found result unfolds decider.embed decider.node decider.position) (decide_valued_before decider)
+    decide_read decider = go (decide_decider app of_schema sound accepted params place matched result unfolds decider.embed decider.node decider.position) (decide_valued_before decider)
       where
         go : IsDecided (IsDecider app place IsLiveAfter result.alpha decider) → IsDecided (IsValuedBefore app place IsLiveAfter result.alpha decider) → IsDecided (IsRead app place IsLiveAfter result.alpha decider)
         go (inl a) (inl b) = inl (a, b)
@@ -276,26 +281,26 @@ module _ (app : Application) (of_schema : IsSchema app.map.schema) (sound : IsSo
   -- ---- the budget
 
   ready_budget : IsReady app place → HasBudget app
-  ready_budget ready = go (rules_keep_generalised_maps app.map app.rule app.hooks place sound.is_map sound.generalised accepted (matched app of_schema sound accepted params place found)).exists
+  ready_budget ready = go (rules_keep_generalised_maps app.map app.rule app.hooks place sound.is_map.below sound.generalised accepted matched).exists
     where
       go : (result : Unfolded) × Unfolds app.map app.rule place result → HasBudget app
       go (result, unfolds) =
           let reached : (count : ℕ) × IsReachedSum app place (λ d. IsTrue (result.live d)) result.alpha count = reached_sum result unfolds in
           let read : (w : ℕ) × IsReadSum app place (λ d. IsTrue (result.live d)) result.alpha w = read_sum result unfolds in
-          of_work app place.positions reached.0 (pre_units.0 + read.0) (Candidate place found.darts found.candidate) (Ready place result.live result.alpha reached.0 pre_units.0 read.0 ready (subst (λ n. IsUnfolding (scene_of app.map app.rule place) (λ d. IsTrue (result.live d)) result.alpha n) unfolds.next_is unfolds) reached.1 pre_units.1 read.1)
+          of_work app place.positions reached.0 (pre_units.0 + read.0) (Candidate place (hook_darts app place accepted matched) candidate) (Ready place result.live result.alpha reached.0 pre_units.0 read.0 ready (subst (λ n. IsUnfolding (scene_of app.map app.rule place) (λ d. IsTrue (result.live d)) result.alpha n) unfolds.next_is unfolds) reached.1 pre_units.1 read.1)
 
   unready_budget : (IsReady app place → ⊥) → HasBudget app
-  unready_budget none = of_work app place.positions 0 pre_units.0 (Candidate place found.darts found.candidate) (NotReady place pre_units.0 found none pre_units.1)
+  unready_budget none = of_work app place.positions 0 pre_units.0 (Candidate place (hook_darts app place accepted matched) candidate) (NotReady place pre_units.0 matched none pre_units.1)
 
   found_budget : HasBudget app
-  found_budget = go (pre_or_none app of_schema sound accepted params place found)
+  found_budget = go (pre_or_none app of_schema sound accepted params place matched)
     where
-      ready : IsReady app place ⊎ IsRefusedWithout app of_schema sound accepted params place found (IsReady app place) → HasBudget app
+      ready : IsReady app place ⊎ IsRefusedWithout app of_schema sound accepted params place matched (IsReady app place) → HasBudget app
       ready (inl r) = ready_budget r
       ready (inr (cause, r, none)) = unready_budget none
 
-      go : MeetsPre app place ⊎ IsRefusedWithout app of_schema sound accepted params place found (MeetsPre app place) → HasBudget app
-      go (inl pre) = ready (ready_or_none app of_schema sound accepted params place found pre)
+      go : MeetsPre app place ⊎ IsRefusedWithout app of_schema sound accepted params place matched (MeetsPre app place) → HasBudget app
+      go (inl pre) = ready (ready_or_none app of_schema sound accepted params place matched pre)
       go (inr (cause, r, none)) = unready_budget (λ ready. none ready.pre)
 
 pub applications_have_budgets : ApplicationsHaveBudgets
@@ -304,16 +309,16 @@ applications_have_budgets app of_schema sound accepted count params = begin (dea
     -- the candidate is no match, and so there is none
     unfound : (place : Placement) → HasHookDarts app → IsCandidate app.map app.rule app.hooks place → (IsFound app place → ⊥) → HasBudget app
     unfound place darts candidate none =
-        of_work app place.positions 0 0 (Candidate place darts candidate) (NoMatch (λ other found. none (found_like app accepted.in_range accepted.incidence other place candidate found)))
+        of_work app place.positions 0 0 (Candidate place darts candidate) (NoMatch (λ other found. none (found_like app accepted.in_range accepted.incidence other place candidate (match_found app other accepted found))))
 
     at : (place : Placement) (darts : HasHookDarts app) (candidate : IsCandidate app.map app.rule app.hooks place) →
         ((x : ℕ) × (p : ℕ) × (i : ℕ) × IsFirstBroken app place x p i) ⊎ MeetsSteps app place → ((x : ℕ) × (p : ℕ) × (y : ℕ) × (q : ℕ) × IsFirstRepeat app place x p y q) ⊎ HasNoRepeat app place → HasBudget app
     at place darts candidate (inl (x, p, i, first)) side = unfound place darts candidate (λ found. first.broken (found.steps x p i first.instance first.label))
     at place darts candidate (inr met) (inl (x, p, y, q, first)) = unfound place darts candidate (λ found. found.distinct x p y q first.here)
-    at place darts candidate (inr met) (inr apart) = found_budget app of_schema sound accepted params place (record { darts = darts; candidate = candidate; steps = met; distinct = apart })
+    at place darts candidate (inr met) (inr apart) = found_budget app of_schema sound accepted params place (found_match app place sound.generalised accepted (record { darts = darts; candidate = candidate; steps = met; distinct = apart }))
 
     begin : ((k : ℕ) × (k < length app.hooks) × IsLeast (IsDead app) k) ⊎ HasHookDarts app → HasBudget app
-    begin (inl (k, b, ((d, found, dead), least))) = of_work app 1 0 0 (NoDarts no_darts) (NoMatch (λ place found. no_darts found.darts))
+    begin (inl (k, b, ((d, found, dead), least))) = of_work app 1 0 0 (NoDarts no_darts) (NoMatch (λ place found. no_darts (hook_darts app place accepted found)))
       where
         no_darts : HasHookDarts app → ⊥
         no_darts darts = dead (darts d (k, b, get_or_from_slice_get app.hooks k d d found))

@@ -6,7 +6,7 @@ use Rattle.std.proofs.lemmas.Option.{slice_get_within, get_or_from_slice_get}
 use Rattle.gm_model.specs.declared.rule.Side.TheVariants.{Left}
 use Rattle.gm_model.specs.declared.step.Step.{Step}
 use Rattle.gm_model.specs.declared.step.Step.TheVariants.{Absent, Exp, Imp}
-use Rattle.gm_model.specs.Applications.{Application, HasHookDarts, IsFirstBroken, IsStepBefore, MeetsSteps, IsRepeat, IsFirstRepeat, HasNoRepeat, IsRefused, NoDart, NoHookDart}
+use Rattle.gm_model.specs.Applications.{Application, HasHookDarts, IsFirstBroken, IsStepBefore, MeetsSteps, IsRepeat, IsFirstRepeat, IsRefused, NoDart, NoHookDart}
 use Rattle.gm_model.specs.Maps.{Map, IsDart, IsMap, IsGeneralised, dimension}
 use Rattle.gm_model.specs.Matches.{Placement, ArePositions, Created, Walked, IsInstance, IsMetAt, IsStepMet, IsFirstTurn, IsCandidate, IsPathTo, along_hook}
 use Rattle.gm_model.specs.Orbits.{HasNoRepeats, IsPairBefore, IsWalk, follow}
@@ -15,10 +15,11 @@ use Rattle.gm_model.specs.Structure.{IsInRange, HasIncidence}
 use Rattle.gm_theory.proofs.Candidates.{hook_left}
 use Rattle.gm_theory.proofs.FirstFound.{IsFirstPair, first_pair, decide_pair_below}
 use Rattle.gm_theory.proofs.LeastPaths.{least_path, same_path, hook_path}
+use Rattle.gm_theory.proofs.Found.{HasNoRepeat}
 use Rattle.gm_theory.proofs.Lists.{some_same, none_some, contained_at}
 use Rattle.gm_theory.proofs.RuleSteps.{word_below}
 use Rattle.gm_theory.proofs.Tests.{true_or_false, not_both, search_below}
-use Rattle.gm_theory.proofs.Turns.{hook_label_up_to, first_turn, one_first_turn}
+use Rattle.gm_theory.proofs.Turns.{hook_label_up_to, first_turn, one_first_turn, some_position_walked}
 use Rattle.gm_theory.proofs.ValuesFound.{IsLeast, least_below}
 use Rattle.gm_theory.proofs.ValuesReach.{IsDecided}
 use Rattle.gm_theory.proofs.Walks.{pair_order, same_place, first_at}
@@ -185,15 +186,7 @@ module _ (map : Map) (rule : Rule) (is_map : IsMap map) (old : IsGeneralised map
 
 -- a candidate has a position
 pub some_position : (map : Map) (rule : Rule) (hooks : List ℕ) (place : Placement) → IsCandidate map rule hooks place → 0 < place.positions
-some_position map rule hooks place candidate = go hooks candidate.walk candidate.positions
-  where
-    some : (walk : List ℕ) (d : ℕ) → slice_get walk 0 ≡ Some d → 0 < length walk
-    some [] d e = none_some d e
-    some (x ∷ walk) d e = omega arith
-
-    go : (hooks walk : List ℕ) → ArePositions map rule place hooks walk → 0 < place.positions
-    go _ _ (Created none one) = omega (arith, one)
-    go _ _ (Walked d others walk live is_walk size turns) = subst (λ n. 0 < n) (sym size) (some walk d is_walk.starts)
+some_position map rule hooks place candidate = some_position_walked map rule hooks candidate.walk place candidate.positions
 
 -- whether a pair comes before another
 pub decide_before : (x p y q : ℕ) → IsDecided (IsPairBefore x p y q)

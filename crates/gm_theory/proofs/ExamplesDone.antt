@@ -22,7 +22,7 @@ use Rattle.gm_model.specs.Unfolding.{IsGone, scene_of}
 use Rattle.gm_theory.proofs.ExamplesCentre.{name, undecided, decided, walk_is_face, triangulated}
 use Rattle.gm_theory.proofs.ExamplesChecks.{each_below, each, ◌implies◌, implied, has_number, number_contained}
 use Rattle.gm_theory.proofs.ExamplesMatches.{match_shown, candidate_shown}
-use Rattle.gm_theory.proofs.ExamplesOutcomes.{found_by, one_live, forced_alone, numbers_listed}
+use Rattle.gm_theory.proofs.ExamplesOutcomes.{one_live, forced_alone, numbers_listed}
 use Rattle.gm_theory.proofs.ExamplesTriangulation.{found, unfolded, assigned_new, assigned_there, sets_of, assigns_centre, only_points}
 use Rattle.gm_theory.proofs.ExamplesUnfoldings.{unfolding_shown}
 use Rattle.gm_theory.proofs.Lists.{some_same, none_some}
@@ -46,18 +46,18 @@ none_gone d (suc zero, p, g, b, e) = not_both false g refl
 none_gone d (suc (suc zero), p, g, b, e) = not_both false g refl
 none_gone d (suc (suc (suc x)), p, g, b, e) = not_both false g refl
 
+candidate : IsCandidate square triangulation (0 ∷ []) on_square
+candidate = candidate_shown square triangulation on_square 0 square_walk refl refl refl refl (forced_alone triangulation refl only_a square on_square)
+
 ready : IsReady triangulating on_square
 ready = record {
-  found = found_by triangulating on_square (one_live square 0 refl) candidate found;
+  matched = found;
   pre = λ tree e. none_some tree e;
   live = 8;
   live_is = numbers_listed (IsStaying triangulating on_square) 8 (λ d. ((λ s. ltb-true d 8 s.0), (λ h. (lt-ltb d 8 h, none_gone d))));
   darts_fit = omega arith;
   names_fit = omega arith;
 }
-  where
-    candidate : IsCandidate square triangulation (0 ∷ []) on_square
-    candidate = candidate_shown square triangulation on_square 0 square_walk refl refl refl refl (forced_alone triangulation refl only_a square on_square)
 
 pub done : IsDone triangulating four_triangles 16 0
 done = record {
@@ -168,12 +168,9 @@ read_sum = record {
 
 -- three nodes at eight positions, eight darts that get the centre, and sixteen that are read for it
 pub budget : IsBudget triangulating 3528
-budget = Of 8 8 16 (Candidate on_square ready.found.darts ready.found.candidate) (Ready on_square four_triangles.live four_triangles.alpha 8 0 16 ready unfolded reached_sum (inl (refl, refl)) read_sum)
+budget = Of 8 8 16 (Candidate on_square (one_live square 0 refl) candidate) (Ready on_square four_triangles.live four_triangles.alpha 8 0 16 ready unfolded reached_sum (inl (refl, refl)) read_sum)
 
 -- ---- a deciding instance without a value
-
-only_spoiled : (x : ℕ) → IsTrue (has_word spoiling Left x) → x ≡ 0
-only_spoiled x w = let b : x < 1 = word_below spoiling Left x w in omega arith
 
 none_spoiled : (d : ℕ) → IsGone (scene_of square spoiling on_corner) d → ⊥
 none_spoiled d (zero, p, g, b, e) = not_both false g refl
@@ -187,7 +184,7 @@ assigns_spoiled = (kept_node (codes "a") (At 1 ∷ At 2 ∷ []) (At 1 ∷ At 2 �
 
 spoiling_ready : IsReady spoiling_square on_corner
 spoiling_ready = record {
-  found = found_by spoiling_square on_corner (one_live square 1 refl) (candidate_shown square spoiling on_corner 1 (1 ∷ 2 ∷ []) refl refl refl refl (forced_alone spoiling refl only_spoiled square on_corner)) (match_shown square spoiling on_corner 1 (1 ∷ 2 ∷ []) refl refl refl refl);
+  matched = match_shown square spoiling on_corner 1 (1 ∷ 2 ∷ []) refl refl refl refl;
   pre = λ tree e. none_some tree e;
   live = 8;
   live_is = numbers_listed (IsStaying spoiling_square on_corner) 8 (λ d. ((λ s. ltb-true d 8 s.0), (λ h. (lt-ltb d 8 h, none_spoiled d))));

@@ -6,7 +6,7 @@ use Rattle.std.proofs.lemmas.Int.{ints}
 use Rattle.gm_model.specs.declared.rule.Side.TheVariants.{Left, Right}
 use Rattle.gm_model.specs.declared.value.Kind.TheVariants as kinds
 use Rattle.gm_model.specs.declared.value.Value.TheVariants as values
-use Rattle.gm_model.specs.Applications.{Application, HasHookDarts, MeetsSteps, HasNoRepeat, IsFound, IsStaying, IsRepeat, IsStepBefore, IsRefused, reading_at, NoDart, Arc, Same, PreNoValue, PreFalse, FullDarts, FullNames, NoHookDart, BrokenStep, Repeated, ValuelessPre, FalsePre, NoRoom, NoNames}
+use Rattle.gm_model.specs.Applications.{MeetsSteps, IsStaying, IsRepeat, IsStepBefore, IsRefused, reading_at, NoDart, Arc, Same, PreNoValue, PreFalse, FullDarts, FullNames, NoHookDart, BrokenStep, Repeated, ValuelessPre, FalsePre, NoRoom, NoNames}
 use Rattle.gm_model.specs.Expressions.{Reading, HasNoValue}
 use Rattle.gm_model.specs.Kinds.{AreGoodParams}
 use Rattle.gm_model.specs.Maps.{Map, IsDart, IsMap, IsSchema, IsWellEmbedded}
@@ -27,7 +27,7 @@ use Rattle.gm_theory.proofs.Walks.{walk_unique}
 use Rattle.gm_theory.specs.Examples.{planar, four_triangles, square, square_walk, triangulation, edge, on_edge, merging, point, points_of_vertices}
 use Rattle.gm_theory.specs.ExamplesOutcomes.{drop, drop_at, on_triangle, triangle_walk, lone, merging_alone, on_lone, split_if, valueless, pair, created, late, crowded, pair_on, torn, overdue, misnamed, astray, setting, outsized, too_great}
 
--- ---- a match of a rule whose only left node is its hook is found
+-- ---- where the only left node of a rule is its hook, the candidate
 
 module _ (rule : Rule) (only : rule.hooks ≡ 0 ∷ []) (alone : (x : ℕ) → IsTrue (has_word rule Left x) → x ≡ 0) where
   only_hook : (t h : ℕ) → slice_get rule.hooks t ≡ Some h → 0 ≡ h
@@ -46,20 +46,6 @@ module _ (rule : Rule) (only : rule.hooks ≡ 0 ∷ []) (alone : (x : ℕ) → I
       let zero_x : x ≡ 0 = alone x at.0 in
       let empty : path ≡ [] = no_path hook path (subst (λ y. IsPathTo rule y hook path) zero_x to) in
       ap (λ y. place.dart_of y p) (zero_x ∙ only_hook to.index hook to.hook_at) ∙ ap (λ q. follow map.alpha q (place.dart_of hook p)) (sym empty)
-
--- a candidate whose darts differ is found, where it is a match
-pub found_by : (app : Application) (place : Placement) → HasHookDarts app → IsCandidate app.map app.rule app.hooks place → IsMatch app.map app.rule app.hooks place → IsFound app place
-found_by app place darts candidate m = record { darts = darts; candidate = candidate; steps = m.embedded.steps; distinct = distinct }
-  where
-    distinct : HasNoRepeat app place
-    distinct x p y q r = go r.later
-      where
-        same : (x ≡ y) × (p ≡ q)
-        same = m.embedded.injective x p y q r.first r.second r.same
-
-        go : IsPairBefore x p y q → ⊥
-        go (inl h) = let e : x ≡ y = same.0 in omega arith
-        go (inr (f, h)) = let e : p ≡ q = same.1 in omega arith
 
 -- the one hook is live
 pub one_live : (map : Map) (d : ℕ) → IsDart map d → (c : ℕ) → Contains (d ∷ []) c → IsDart map c
@@ -121,19 +107,14 @@ repeated = Repeated on_lone 0 0 1 0 (one_live lone 0 refl) candidate meets recor
 
 -- ---- preconditions
 
-only_split : (tree : Tree) (x : ℕ) → IsTrue (has_word (split_if tree).rule Left x) → x ≡ 0
-only_split tree zero w = refl
-only_split tree (suc zero) w = not_both false w refl
-only_split tree (suc (suc x)) w = not_both false w refl
-
-split_found : (tree : Tree) → IsFound (split_if tree) on_edge
-split_found tree = found_by (split_if tree) on_edge (one_live edge 0 refl) (candidate_shown edge (split_if tree).rule on_edge 0 (0 ∷ 1 ∷ []) refl refl refl refl (forced_alone (split_if tree).rule refl (only_split tree) edge on_edge)) (match_shown edge (split_if tree).rule on_edge 0 (0 ∷ 1 ∷ []) refl refl refl refl)
+split_match : (tree : Tree) → IsMatch edge (split_if tree).rule (0 ∷ []) on_edge
+split_match tree = match_shown edge (split_if tree).rule on_edge 0 (0 ∷ 1 ∷ []) refl refl refl refl
 
 pub false_pre : IsRefused (split_if (Truth false)) PreFalse
-false_pre = FalsePre on_edge (Truth false) (split_found (Truth false)) refl refl
+false_pre = FalsePre on_edge (Truth false) (split_match (Truth false)) refl refl
 
 pub valueless_pre : IsRefused (split_if valueless) PreNoValue
-valueless_pre = ValuelessPre on_edge valueless (split_found valueless) refl none
+valueless_pre = ValuelessPre on_edge valueless (split_match valueless) refl none
   where
     none : HasNoValue (reading_at (split_if valueless) on_edge 0) valueless
     none v (x, y, (a, b, one, zero_b, (z, e, nonzero, made)), second, same) = nonzero (let f : values.Int z ≡ values.Int (pos 0) = sym e ∙ number_made (pos 0) b zero_b in cc)
@@ -145,12 +126,14 @@ no_left zero w = not_both false w refl
 no_left (suc zero) w = not_both false w refl
 no_left (suc (suc x)) w = not_both false w refl
 
-pair_found : (map : Map) → IsFound (pair_on map) created
-pair_found map = record {
-  darts = λ d c. absurd (let b : c.0 < 0 = c.1 in omega arith);
-  candidate = record { count = refl; walk = []; positions = Created refl refl; hooked = λ h p first b. none_some h first; at_darts = λ t h d at named. none_some h at; in_step = λ t h p q m later at some b turn. none_some h at; forced = λ x p hook path at to. absurd (no_left x at.0) };
-  steps = λ x p i at h. absurd (no_left x at.0);
-  distinct = λ x p y q r. no_left x r.first.0;
+pair_match : (map : Map) → IsMatch map pair [] created
+pair_match map = record {
+  count = refl;
+  walk = [];
+  positions = Created refl refl;
+  hooked = λ h p first b. none_some h first;
+  at_darts = λ t h d at named. none_some h at;
+  embedded = record { live = λ x p at. absurd (no_left x at.0); injective = λ x p y q at at' e. absurd (no_left x at.0); steps = λ x p i at h. absurd (no_left x at.0) };
 }
 
 none_gone : (map : Map) (d : ℕ) → IsGone (scene_of map pair created) d → ⊥
@@ -186,7 +169,7 @@ numbers_listed P n below = (
 )
 
 pub no_names : IsRefused (pair_on late) (FullNames 16777215 2)
-no_names = NoNames created 1 (pair_found late) (λ tree e. none_some tree e) (16777214 ∷ [], record { distinct = λ p q b c e. absurd (omega arith); same = λ d. (there d, back d) }, refl) (omega arith) (omega arith)
+no_names = NoNames created 1 (pair_match late) (λ tree e. none_some tree e) (16777214 ∷ [], record { distinct = λ p q b c e. absurd (omega arith); same = λ d. (there d, back d) }, refl) (omega arith) (omega arith)
   where
     there : (d : ℕ) → Contains (16777214 ∷ []) d → IsStaying (pair_on late) created d
     there d (zero, b, e) = (eq-eqb d 16777214 (sym e), none_gone late d)
@@ -196,7 +179,7 @@ no_names = NoNames created 1 (pair_found late) (λ tree e. none_some tree e) (16
     back d (live, stays) = (0, omega arith, sym (eqb-true d 16777214 live))
 
 pub no_room : IsRefused (pair_on crowded) (FullDarts 1048575 2)
-no_room = NoRoom created 1048575 (pair_found crowded) (λ tree e. none_some tree e) (numbers_listed (IsStaying (pair_on crowded) created) 1048575 (λ d. ((λ s. ltb-true d 1048575 s.0), (λ h. (lt-ltb d 1048575 h, none_gone crowded d))))) (omega arith)
+no_room = NoRoom created 1048575 (pair_match crowded) (λ tree e. none_some tree e) (numbers_listed (IsStaying (pair_on crowded) created) 1048575 (λ d. ((λ s. ltb-true d 1048575 s.0), (λ h. (lt-ltb d 1048575 h, none_gone crowded d))))) (omega arith)
 
 -- ---- what fails
 

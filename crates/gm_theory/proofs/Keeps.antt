@@ -2,7 +2,7 @@
 use Rattle.std.proofs.Common.{ℕ, ◌+◌, ◌≤◌, ◌⊎◌, not, IsTrue, List, length, subst, inl, inr, arith}
 use Rattle.gm_model.specs.declared.rule.Side.TheVariants.{Left, Right}
 use Rattle.gm_model.specs.Acceptance.{IsAccepted}
-use Rattle.gm_model.specs.Maps.{Map, IsMap, IsGeneralised, dimension}
+use Rattle.gm_model.specs.Maps.{Map, IsGeneralised, dimension}
 use Rattle.gm_model.specs.Matches.{Placement, IsMatch, IsEmbedding, IsStepMet}
 use Rattle.gm_model.specs.Rules.{Rule, has_word, step, width, hook_label}
 use Rattle.gm_model.specs.Squares.{IsExcused, ClosesRight, Closes}
@@ -13,7 +13,7 @@ use Rattle.gm_theory.proofs.RuleSteps.{word_below, step_back, step_within, label
 use Rattle.gm_theory.proofs.Scenes.{IsSteadyNode, HasLawfulSteps, HasLawfulDarts, IsLawful}
 use Rattle.gm_theory.proofs.Tests.{both_true, and_true, true_not}
 use Rattle.gm_theory.proofs.Turns.{lawful_turns}
-use Rattle.gm_theory.specs.Theorem.{IsDartOf, RulesKeepGeneralisedMaps}
+use Rattle.gm_theory.specs.Theorem.{IsDartOf, HasNamesBelow, RulesKeepGeneralisedMaps}
 
 module _ (map : Map) (rule : Rule) (place : Placement) (accepted : IsAccepted map.schema rule) where
   abbrev scene : Scene
@@ -54,17 +54,17 @@ module _ (map : Map) (rule : Rule) (place : Placement) (accepted : IsAccepted ma
     letters = λ x p i m at h e. subst (IsStepMet map.alpha place x p i) e (found.steps x p i at h);
   }
 
-  pub lawful : IsGeneralised map → IsMap map → (hooks : List ℕ) → IsMatch map rule hooks place → IsLawful scene (length rule.nodes) (width rule) (hook_label rule)
-  lawful old is_map hooks found = record {
+  pub lawful : IsGeneralised map → HasNamesBelow map → (hooks : List ℕ) → IsMatch map rule hooks place → IsLawful scene (length rule.nodes) (width rule) (hook_label rule)
+  lawful old names_below hooks found = record {
     old = old;
     steps = lawful_steps;
     turns = lawful_turns map rule place hooks found.walk (length rule.nodes) old accepted.in_range found.positions;
     darts = lawful_darts found.embedded;
-    names = lawful_names map rule place is_map;
+    names = lawful_names map rule place names_below;
   }
 
 pub rules_keep_generalised_maps : RulesKeepGeneralisedMaps
-rules_keep_generalised_maps map rule hooks place is_map old accepted found = record {
+rules_keep_generalised_maps map rule hooks place names_below old accepted found = record {
   exists = (record { live = live_after s count w label law; alpha = alpha_after s count w label law; next = next_after s }, unfolding_exists s count w label law);
   determined = λ a b u v. record {
     next = (unfoldings_agree s count w label law (IsDartOf a) (IsDartOf b) a.alpha b.alpha a.next b.next u v).0;
@@ -90,4 +90,4 @@ rules_keep_generalised_maps map rule hooks place is_map old accepted found = rec
     label = hook_label rule
 
     law : IsLawful (scene_of map rule place) (length rule.nodes) (width rule) (hook_label rule)
-    law = lawful map rule place accepted old is_map hooks found
+    law = lawful map rule place accepted old names_below hooks found

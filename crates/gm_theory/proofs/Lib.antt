@@ -17,6 +17,7 @@ pub mod ExamplesSplit
 pub mod ExamplesTriangulation
 pub mod ExamplesUnfoldings
 pub mod FirstFound
+pub mod Found
 pub mod Keeps
 pub mod LeastPaths
 pub mod LikeCandidates
@@ -34,7 +35,6 @@ pub mod ReadingsUnits
 pub mod Results
 pub mod RuleLinks
 pub mod RuleSteps
-pub mod RunsFound
 pub mod Scenes
 pub mod Tests
 pub mod Turns

@@ -1,10 +1,11 @@
 -- The candidates at the same hook darts are like: where one is a match the other is.
 use Rattle.std.proofs.Common.{ℕ, ◌<◌, sym, subst, ◌∙◌}
-use Rattle.gm_model.specs.Applications.{Application, MeetsSteps, IsRepeat, IsFound}
+use Rattle.gm_model.specs.Applications.{Application, MeetsSteps, IsRepeat}
 use Rattle.gm_model.specs.Matches.{Placement, IsCandidate, IsInstance}
 use Rattle.gm_model.specs.Structure.{IsInRange, HasIncidence}
 use Rattle.gm_theory.specs.OneMatch.{IsLike}
 use Rattle.gm_theory.proofs.Agreement.{candidates_agree, met_alike}
+use Rattle.gm_theory.proofs.Found.{IsFound}
 
 module _ (app : Application) (place other : Placement) (like : IsLike app.rule place other) where
   pub instance_there : (x p : ℕ) → IsInstance app.rule place x p → IsInstance app.rule other x p

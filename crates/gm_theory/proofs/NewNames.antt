@@ -2,13 +2,14 @@
 use Rattle.std.proofs.Common.{◌≡◌, ℕ, zero, suc, ◌+◌, ◌*◌, ◌<◌, ◌≤◌, ◌⊎◌, false, not, IsTrue, length, refl, sym, ◌∙◌, subst, inl, inr, arith, mul_comm}
 use Rattle.std.proofs.lemmas.Bool.{cases_order}
 use Rattle.gm_model.specs.declared.rule.Side.TheVariants.{Left, Right}
-use Rattle.gm_model.specs.Maps.{Map, IsMap}
+use Rattle.gm_model.specs.Maps.{Map}
 use Rattle.gm_model.specs.Matches.{Placement}
 use Rattle.gm_model.specs.Rules.{Rule, has_word, is_added}
 use Rattle.gm_model.specs.Unfolding.{added_before, added_nodes, name_in, scene_of, next_after}
 use Rattle.gm_theory.proofs.RuleSteps.{word_below}
 use Rattle.gm_theory.proofs.Scenes.{IsRightAt, HasLawfulNames}
 use Rattle.gm_theory.proofs.Tests.{and_true, true_not, true_or_false}
+use Rattle.gm_theory.specs.Theorem.{HasNamesBelow}
 
 -- an added node is counted before each later one
 pub added_step : (rule : Rule) (x : ℕ) → IsTrue (is_added rule x) → added_before rule (suc x) ≡ added_before rule x + 1
@@ -40,13 +41,13 @@ module _ (map : Map) (rule : Rule) (place : Placement) where
   pub old_name : (x p : ℕ) → IsTrue (has_word rule Left x) → name_in map rule place x p ≡ place.dart_of x p
   old_name x p l = rw l refl
 
-  pub lawful_names : IsMap map → HasLawfulNames (scene_of map rule place)
-  lawful_names is_map = record {
+  pub lawful_names : HasNamesBelow map → HasLawfulNames (scene_of map rule place)
+  lawful_names names_below = record {
     kept = old_name;
     fresh = fresh;
     differ = differ;
     below = below;
-    live_below = is_map.below;
+    live_below = names_below;
   }
     where
       k : ℕ
@@ -56,7 +57,7 @@ module _ (map : Map) (rule : Rule) (place : Placement) where
       fresh x p a r = go (true_or_false (map.live (name_in map rule place x p)))
         where
           go : IsTrue (map.live (name_in map rule place x p)) ⊎ (map.live (name_in map rule place x p) ≡ false) → map.live (name_in map rule place x p) ≡ false
-          go (inl live) = absurd (let old : name_in map rule place x p < map.next = is_map.below (name_in map rule place x p) live in omega (arith, new_name x p (is_new x a r.0)))
+          go (inl live) = absurd (let old : name_in map rule place x p < map.next = names_below (name_in map rule place x p) live in omega (arith, new_name x p (is_new x a r.0)))
           go (inr none) = none
 
       differ : (x p y q : ℕ) → has_word rule Left x ≡ false → has_word rule Left y ≡ false → IsRightAt (scene_of map rule place) x p → IsRightAt (scene_of map rule place) y q → name_in map rule place x p ≡ name_in map rule place y q → (x ≡ y) × (p ≡ q)

@@ -8,7 +8,7 @@ use Rattle.gm_model.specs.declared.value.Kind.TheVariants as kinds
 use Rattle.gm_model.specs.declared.value.Value.{Value}
 use Rattle.gm_model.specs.declared.value.Value.TheVariants as values
 use Rattle.gm_model.specs.Acceptance.{IsAccepted}
-use Rattle.gm_model.specs.Applications.{Application, Cause, Decider, IsDeciderBefore, HasHookDarts, MeetsSteps, HasNoRepeat, IsFound, IsFirstBroken, IsFirstRepeat, MeetsPre, IsStaying, more, IsReady, GivesValue, IsDecider, IsFirstValueless, IsRefused, NoDart, Arc, Same, PreNoValue, PreFalse, FullDarts, FullNames, NoValue, BrokenStep, Repeated, ValuelessPre, FalsePre, NoRoom, NoNames, Valueless, IsResult, reading_at}
+use Rattle.gm_model.specs.Applications.{Application, Cause, Decider, IsDeciderBefore, HasHookDarts, MeetsSteps, IsFirstBroken, IsFirstRepeat, MeetsPre, IsStaying, more, IsReady, GivesValue, IsDecider, IsFirstValueless, IsRefused, NoDart, Arc, Same, PreNoValue, PreFalse, FullDarts, FullNames, NoValue, BrokenStep, Repeated, ValuelessPre, FalsePre, NoRoom, NoNames, Valueless, IsResult, reading_at}
 use Rattle.gm_model.specs.Components.{IsAssigned}
 use Rattle.gm_model.specs.Expressions.{HasValue, HasNoValue}
 use Rattle.gm_model.specs.Kinds.{HasKind, AreGoodParams}
@@ -23,8 +23,10 @@ use Rattle.gm_model.specs.Trees.{Tree}
 use Rattle.gm_model.specs.Unfolding.{IsGone, IsUnfolding, Scene, scene_of, name_in}
 use Rattle.gm_model.specs.Values.{IsValueOf, kind_of}
 use Rattle.gm_theory.proofs.Arcs.{right_dart}
+use Rattle.gm_theory.proofs.Candidates.{match_is_candidate}
 use Rattle.gm_theory.proofs.CandidatesFound.{candidate_exists, some_position, IsDead, dead_or_live, dead_refused, broken_or_met, repeat_or_none}
 use Rattle.gm_theory.proofs.FirstFound.{IsFirstPair, first_pair, decide_pair_below}
+use Rattle.gm_theory.proofs.Found.{HasNoRepeat, found_match}
 use Rattle.gm_theory.proofs.Keeps.{lawful, rules_keep_generalised_maps}
 use Rattle.gm_theory.proofs.Lists.{some_same, none_some}
 use Rattle.gm_theory.proofs.OrbitsListed.{list_all_of}
@@ -36,7 +38,7 @@ use Rattle.gm_theory.proofs.Scenes.{IsLawful}
 use Rattle.gm_theory.proofs.Tests.{both_true, true_or_false, not_both}
 use Rattle.gm_theory.proofs.ValuesFound.{IsLeast, least_below, decide_assigned, decided_or_not}
 use Rattle.gm_theory.proofs.ValuesJoined.{pair_same}
-use Rattle.gm_theory.proofs.ValuesKept.{found_match, match_reading, one_tree, rules_keep_well_embedded_maps}
+use Rattle.gm_theory.proofs.ValuesKept.{match_reading, one_tree, rules_keep_well_embedded_maps}
 use Rattle.gm_theory.proofs.ValuesReach.{IsDecided, decide_orbit}
 use Rattle.gm_theory.proofs.ValuesUnique.{one_count}
 use Rattle.gm_theory.specs.Outcomes.{ApplicationsHaveOutcomes}
@@ -50,15 +52,12 @@ HasOutcome app = (outcome : Outcome) × (after : Map) × IsOutcome app outcome a
 refused : (app : Application) (cause : Cause) → IsRefused app cause → HasOutcome app
 refused app cause r = (Refused cause, app.map, (r, refl))
 
-module _ (app : Application) (of_schema : IsSchema app.map.schema) (sound : IsSound app.map) (accepted : IsAccepted app.map.schema app.rule) (params : AreGoodParams app.rule app.params) (place : Placement) (found : IsFound app place) where
+module _ (app : Application) (of_schema : IsSchema app.map.schema) (sound : IsSound app.map) (accepted : IsAccepted app.map.schema app.rule) (params : AreGoodParams app.rule app.params) (place : Placement) (matched : IsMatch app.map app.rule app.hooks place) where
   abbrev pub scene : Scene
   scene = scene_of app.map app.rule place
 
-  pub matched : IsMatch app.map app.rule app.hooks place
-  matched = found_match app place sound.generalised accepted found
-
   pub law : IsLawful (scene_of app.map app.rule place) (length app.rule.nodes) (width app.rule) (hook_label app.rule)
-  law = lawful app.map app.rule place accepted sound.generalised sound.is_map app.hooks matched
+  law = lawful app.map app.rule place accepted sound.generalised sound.is_map.below app.hooks matched
 
   -- refused, as P doesn't hold
   abbrev pub IsRefusedWithout : Type 0 → Type 0
@@ -81,18 +80,18 @@ module _ (app : Application) (of_schema : IsSchema app.map.schema) (sound : IsSo
       go (Some tree) e = side (decide_value app.rule (reading_at app place 0) good tree has_kind.in_range)
         where
           good : IsReadingOf app.rule (reading_at app place 0)
-          good = match_reading app place sound.is_map sound.generalised matched 0 (some_position app.map app.rule app.hooks place found.candidate)
+          good = match_reading app place sound.is_map sound.generalised matched 0 (some_position app.map app.rule app.hooks place (match_is_candidate app.map app.rule place accepted.in_range accepted.incidence app.hooks matched))
 
           has_kind : HasKind app.map.schema app.rule tree kinds.Bool
           has_kind = accepted.typed.pre tree e
 
           by : (v : Value) → HasValue (reading_at app place 0) tree v → (b : Bool) × (v ≡ values.Bool b) → MeetsPre app place ⊎ IsRefusedWithout (MeetsPre app place)
           by v h (true, f) = inl (λ other g. subst (λ t. HasValue (reading_at app place 0) t (values.Bool true)) (some_same tree other (sym e ∙ g)) (subst (HasValue (reading_at app place 0) tree) f h))
-          by v h (false, f) = inr (PreFalse, FalsePre place tree found e (subst (HasValue (reading_at app place 0) tree) f h), λ pre. not_both_truths (reading_at app place 0) tree (pre tree e) (subst (HasValue (reading_at app place 0) tree) f h))
+          by v h (false, f) = inr (PreFalse, FalsePre place tree matched e (subst (HasValue (reading_at app place 0) tree) f h), λ pre. not_both_truths (reading_at app place 0) tree (pre tree e) (subst (HasValue (reading_at app place 0) tree) f h))
 
           side : ((v : Value) × HasValue (reading_at app place 0) tree v) ⊎ HasNoValue (reading_at app place 0) tree → MeetsPre app place ⊎ IsRefusedWithout (MeetsPre app place)
           side (inl (v, h)) = by v h (truth_of v (values_have_their_kinds app.rule (reading_at app place 0) tree kinds.Bool v good params has_kind h))
-          side (inr none) = inr (PreNoValue, ValuelessPre place tree found e none, λ pre. none (values.Bool true) (pre tree e))
+          side (inr none) = inr (PreNoValue, ValuelessPre place tree matched e none, λ pre. none (values.Bool true) (pre tree e))
 
   -- ---- room
 
@@ -138,9 +137,9 @@ module _ (app : Application) (of_schema : IsSchema app.map.schema) (sound : IsSo
       go (live, count) = by (cases_lt most_darts (live + more app place)) (cases_lt most_names (app.map.next + more app place))
         where
           by : (most_darts < live + more app place) ⊎ (live + more app place ≤ most_darts) → (most_names < app.map.next + more app place) ⊎ (app.map.next + more app place ≤ most_names) → IsReady app place ⊎ IsRefusedWithout (IsReady app place)
-          by (inl full) side = inr (FullDarts live (more app place), NoRoom place live found pre count full, λ ready. let same : ready.live ≡ live = one_count (IsStaying app place) ready.live live ready.live_is count in let fits : ready.live + more app place ≤ most_darts = ready.darts_fit in omega (arith, subst (λ n. n + more app place ≤ most_darts) same fits))
-          by (inr fits) (inl full) = inr (FullNames app.map.next (more app place), NoNames place live found pre count fits full, λ ready. let names : app.map.next + more app place ≤ most_names = ready.names_fit in omega arith)
-          by (inr fits) (inr names) = inl (record { found = found; pre = pre; live = live; live_is = count; darts_fit = fits; names_fit = names })
+          by (inl full) side = inr (FullDarts live (more app place), NoRoom place live matched pre count full, λ ready. let same : ready.live ≡ live = one_count (IsStaying app place) ready.live live ready.live_is count in let fits : ready.live + more app place ≤ most_darts = ready.darts_fit in omega (arith, subst (λ n. n + more app place ≤ most_darts) same fits))
+          by (inr fits) (inl full) = inr (FullNames app.map.next (more app place), NoNames place live matched pre count fits full, λ ready. let names : app.map.next + more app place ≤ most_names = ready.names_fit in omega arith)
+          by (inr fits) (inr names) = inl (record { matched = matched; pre = pre; live = live; live_is = count; darts_fit = fits; names_fit = names })
 
   -- ---- the deciding instances
 
@@ -263,7 +262,7 @@ module _ (app : Application) (of_schema : IsSchema app.map.schema) (sound : IsSo
   -- ---- done, or refused for a value
 
   done_or_valueless : IsReady app place → HasOutcome app
-  done_or_valueless ready = go (rules_keep_generalised_maps app.map app.rule app.hooks place sound.is_map sound.generalised accepted matched).exists
+  done_or_valueless ready = go (rules_keep_generalised_maps app.map app.rule app.hooks place sound.is_map.below sound.generalised accepted matched).exists
     where
       go : (result : Unfolded) × Unfolds app.map app.rule place result → HasOutcome app
       go (result, unfolds) = by (valueless_or_none result unfolds)
@@ -293,7 +292,7 @@ applications_have_outcomes app of_schema sound accepted count params = begin (de
         ((x : ℕ) × (p : ℕ) × (i : ℕ) × IsFirstBroken app place x p i) ⊎ MeetsSteps app place → ((x : ℕ) × (p : ℕ) × (y : ℕ) × (q : ℕ) × IsFirstRepeat app place x p y q) ⊎ HasNoRepeat app place → HasOutcome app
     at place darts candidate (inl (x, p, i, first)) side = refused app (Arc x p i) (BrokenStep place x p i darts candidate first)
     at place darts candidate (inr met) (inl (x, p, y, q, first)) = refused app (Same x p y q) (Repeated place x p y q darts candidate met first)
-    at place darts candidate (inr met) (inr apart) = found_outcome app of_schema sound accepted params place (record { darts = darts; candidate = candidate; steps = met; distinct = apart })
+    at place darts candidate (inr met) (inr apart) = found_outcome app of_schema sound accepted params place (found_match app place sound.generalised accepted (record { darts = darts; candidate = candidate; steps = met; distinct = apart }))
 
     begin : ((k : ℕ) × (k < length app.hooks) × IsLeast (IsDead app) k) ⊎ HasHookDarts app → HasOutcome app
     begin (inl (k, b, dead)) = refused app (NoDart k) (dead_refused app k dead)

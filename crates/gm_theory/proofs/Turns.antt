@@ -1,5 +1,5 @@
 -- Turning a position twice at one place gives it back, and turns at places with distant labels commute.
-use Rattle.std.proofs.Common.{◌≡◌, ◌≢◌, ℕ, zero, suc, ◌<◌, ◌≤◌, List, [], ◌∷◌, length, ◌⊎◌, Option, Some, None, refl, sym, ◌∙◌, ap, inl, inr, arith}
+use Rattle.std.proofs.Common.{◌≡◌, ◌≢◌, ℕ, zero, suc, ◌<◌, ◌≤◌, List, [], ◌∷◌, length, ◌⊎◌, Option, Some, None, slice_get, refl, sym, ◌∙◌, ap, subst, inl, inr, arith}
 use Rattle.std.specs.Option.{option_and_then, unwrap_or}
 use Rattle.std.specs.Prelude.{slice_index}
 use Rattle.gm_model.specs.declared.word.Letter.{Letter}
@@ -37,6 +37,15 @@ pub no_places : (rule : Rule) → rule.hooks ≡ [] → width rule ≡ 0
 no_places rule e = rw e refl
 
 -- ---- positions
+
+-- there is one
+pub some_position_walked : (map : Map) (rule : Rule) (hooks walk : List ℕ) (place : Placement) → ArePositions map rule place hooks walk → 0 < place.positions
+some_position_walked map rule _ _ place (Created none one) = omega (arith, one)
+some_position_walked map rule _ _ place (Walked d others walk live is_walk size turns) = subst (λ n. 0 < n) (sym size) (some walk d is_walk.starts)
+  where
+    some : (walk : List ℕ) (d : ℕ) → slice_get walk 0 ≡ Some d → 0 < length walk
+    some [] d e = none_some d e
+    some (x ∷ walk) d e = omega arith
 
 -- where a rule has a hook, each position holds a live dart
 pub positions_live : (map : Map) (rule : Rule) (place : Placement) (hooks walk : List ℕ) → IsGeneralised map → IsInRange map.schema rule → ArePositions map rule place hooks walk →

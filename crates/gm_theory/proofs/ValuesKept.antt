@@ -8,7 +8,7 @@ use Rattle.gm_model.specs.Acceptance.{IsAccepted}
 use Rattle.gm_model.specs.Components.{IsTogether, IsAssigned, IsUnassigned, IsInherited}
 use Rattle.gm_model.specs.NewValues.{LiesIn, IsDecidedBy, IsUndecided, IsValueAfter, Decided, Kept, Added}
 use Rattle.gm_model.specs.Orbits.{IsInOrbit}
-use Rattle.gm_model.specs.Applications.{Application, IsFound, GivesValue, IsResult, IsDone, reading_at}
+use Rattle.gm_model.specs.Applications.{Application, GivesValue, IsResult, IsDone, reading_at}
 use Rattle.gm_model.specs.Expressions.{HasValue}
 use Rattle.gm_model.specs.GMap.{IsGMap}
 use Rattle.gm_model.specs.Kinds.{AreGoodParams}
@@ -19,7 +19,6 @@ use Rattle.gm_model.specs.Structure.{IsInRange}
 use Rattle.gm_model.specs.Trees.{Tree}
 use Rattle.gm_model.specs.Unfolding.{Scene, scene_of, name_in, IsDartAfter}
 use Rattle.gm_model.specs.Values.{IsValueOf}
-use Rattle.gm_theory.proofs.Candidates.{candidate_is_match}
 use Rattle.gm_theory.proofs.Keeps.{lawful}
 use Rattle.gm_theory.proofs.Lists.{some_same, none_some, contained_at}
 use Rattle.gm_theory.proofs.ReadingsTyped.{values_have_their_kinds}
@@ -67,7 +66,7 @@ one_given app place range e x p v w (t, a, h) (s, b, k) =
 
 module _ (app : Application) (place : Placement) (of_schema : IsSchema app.map.schema) (is_map : IsMap app.map) (old : IsGeneralised app.map) (embedded : IsWellEmbedded app.map) (accepted : IsAccepted app.map.schema app.rule) (found : IsMatch app.map app.rule app.hooks place) where
   law : IsLawful (scene_of app.map app.rule place) (length app.rule.nodes) (width app.rule) (hook_label app.rule)
-  law = lawful app.map app.rule place accepted old is_map app.hooks found
+  law = lawful app.map app.rule place accepted old is_map.below app.hooks found
 
   well_embedded : (result : Map) → IsResult app place result → IsWellEmbedded result
   well_embedded result new e embed at = constant_after app.map app.rule place (length app.rule.nodes) (width app.rule) (hook_label app.rule) law (read_off app.map.schema app.rule accepted.in_range accepted.incidence)
@@ -157,10 +156,6 @@ rules_keep_well_embedded_maps app place of_schema is_map old embedded accepted f
 
 -- ---- applications that are done
 
--- what is found is a match
-pub found_match : (app : Application) (place : Placement) → IsGeneralised app.map → IsAccepted app.map.schema app.rule → IsFound app place → IsMatch app.map app.rule app.hooks place
-found_match app place old accepted found = candidate_is_match app.map app.rule place accepted.in_range accepted.incidence old app.hooks found.candidate found.darts found.steps (λ x p y q at at' before e. found.distinct x p y q (record { first = at; second = at'; later = before; same = e }))
-
 -- an expression is read at a position of a match
 pub match_reading : (app : Application) (place : Placement) → IsMap app.map → IsGeneralised app.map → IsMatch app.map app.rule app.hooks place → (p : ℕ) → p < place.positions → IsReadingOf app.rule (reading_at app place p)
 match_reading app place is_map old found p b = record { is_map = is_map; generalised = old; darts = λ x l. found.embedded.live x p (l, b) }
@@ -194,20 +189,17 @@ done_lawful app result added removed is_map old accepted done = (
     label = hook_label app.rule
 
     here : IsLawful (scene_of app.map app.rule done.place) (length app.rule.nodes) (width app.rule) (hook_label app.rule)
-    here = lawful app.map app.rule done.place accepted old is_map app.hooks (found_match app done.place old accepted done.ready.found)
+    here = lawful app.map app.rule done.place accepted old is_map.below app.hooks done.ready.matched
 
 pub applications_keep_sound_maps : ApplicationsKeepSoundMaps
 applications_keep_sound_maps app result added removed of_schema sound accepted params done = record {
   is_map = record { below = unfolded.1; values = λ e d embed at live. typed e d embed (subst (λ schema. IsEmbedAt schema e embed) done.result_is.schema at) live };
   generalised = unfolded.0;
-  embedded = well_embedded app done.place of_schema sound.is_map sound.generalised sound.embedded accepted found result done.result_is;
+  embedded = well_embedded app done.place of_schema sound.is_map sound.generalised sound.embedded accepted done.ready.matched result done.result_is;
 }
   where
-    found : IsMatch app.map app.rule app.hooks done.place
-    found = found_match app done.place sound.generalised accepted done.ready.found
-
     unfolded : IsGeneralised result × ((d : ℕ) → IsDart result d → d < result.next)
     unfolded = done_lawful app result added removed sound.is_map sound.generalised accepted done
 
     typed : (e d : ℕ) (embed : Embed) → IsEmbedAt app.map.schema e embed → IsDart result d → IsValueOf embed.kind (result.value e d)
-    typed e d embed at live = value_typed app done.place result.alpha sound.is_map sound.generalised accepted params found e d embed (result.value e d) at (done.result_is.values e d embed at live)
+    typed e d embed at live = value_typed app done.place result.alpha sound.is_map sound.generalised accepted params done.ready.matched e d embed (result.value e d) at (done.result_is.values e d embed at live)

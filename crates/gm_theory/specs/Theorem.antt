@@ -2,7 +2,7 @@
 use Rattle.std.specs.Prelude.{◌≡◌, ℕ, ◌<◌, ◌≤◌, ◌↔◌, Bool, List, IsTrue}
 use Rattle.gm_model.specs.Acceptance.{IsAccepted}
 use Rattle.gm_model.specs.GMap.{IsGMap}
-use Rattle.gm_model.specs.Maps.{Map, IsMap, IsGeneralised, dimension}
+use Rattle.gm_model.specs.Maps.{Map, IsDart, IsGeneralised, dimension}
 use Rattle.gm_model.specs.Matches.{Placement, IsMatch}
 use Rattle.gm_model.specs.Rules.{Rule}
 use Rattle.gm_model.specs.Unfolding.{scene_of, IsUnfolding}
@@ -39,7 +39,10 @@ pub record KeepsGeneralised (map : Map) (rule : Rule) (place : Placement) : Type
   -- and it is lawful
   pub lawful : (result : Unfolded) → Unfolds map rule place result → IsLawfulMap (dimension map) result
 
--- For every generalised map, every accepted rule, and every match of the rule in the map. Of the map nothing else is
--- used than that it is one and that its names lie below the next.
+-- each dart's name lies below the next
+abbrev pub HasNamesBelow : Map → Type 0
+HasNamesBelow map = (d : ℕ) → IsDart map d → d < map.next
+
+-- For every generalised map with its names below the next, every accepted rule, and every match of the rule in the map.
 abbrev pub RulesKeepGeneralisedMaps : Type 0
-RulesKeepGeneralisedMaps = (map : Map) (rule : Rule) (hooks : List ℕ) (place : Placement) → IsMap map → IsGeneralised map → IsAccepted map.schema rule → IsMatch map rule hooks place → KeepsGeneralised map rule place
+RulesKeepGeneralisedMaps = (map : Map) (rule : Rule) (hooks : List ℕ) (place : Placement) → HasNamesBelow map → IsGeneralised map → IsAccepted map.schema rule → IsMatch map rule hooks place → KeepsGeneralised map rule place

@@ -1,7 +1,7 @@
 //! The outcomes and budgets of applications, and the runs of scripts, as laws of the definitions.
 
 ghost use Rattle.gm_theory.specs.OneMatch.{OneMatchAtMost};
-ghost use Rattle.gm_theory.specs.Outcomes.{ApplicationsHaveOutcomes, ApplicationsHaveBudgets, ScriptsHaveRuns};
+ghost use Rattle.gm_theory.specs.Outcomes.{ApplicationsHaveOutcomes, ApplicationsHaveBudgets};
 
 /// At given hook darts a rule has one match at most: two have the same positions and turns, and
 /// each left node at the same darts. The law is the clause; the function does nothing.
@@ -21,11 +21,4 @@ pub fn applications_have_outcomes()
 /// function does nothing.
 pub fn applications_have_budgets()
     ensures { ApplicationsHaveBudgets }
-{}
-
-/// Each script whose lines name accepted rules, with a dart's name for each hook and a value of its
-/// kind for each parameter, has a run from each sound map of their schema, with a budget, and the
-/// run leaves a sound map. The law is the clause; the function does nothing.
-pub fn scripts_have_runs()
-    ensures { ScriptsHaveRuns }
 {}
