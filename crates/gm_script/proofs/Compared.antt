@@ -4,12 +4,14 @@ use Rattle.std.proofs.lemmas.Bool.{eqb-true, eqb-false}
 use Rattle.std.specs.Option.{option_map, option_and_then}
 use Rattle.gm_model.specs.declared.rule.Param.{Param}
 use Rattle.gm_model.specs.declared.script.Line.{Line}
+use Rattle.gm_model.specs.declared.script.Stat.{Stat}
+use Rattle.gm_model.specs.declared.script.Stat.TheVariants.{Apply}
 use Rattle.gm_model.specs.declared.value.Kind.{Kind}
 use Rattle.gm_model.specs.declared.value.Kind.TheVariants as kinds
 use Rattle.gm_model.specs.declared.value.Value.{Value}
 use Rattle.gm_model.specs.Rules.{Rule}
-use Rattle.gm_script.specs.ScriptText.{ValueForm, Plain, Truth, Pair, Triple, LineForm, value_as, index_of, AreParams, IsOfRule, IsLine, AreLines, Disagreement, HookCountAt, Disagrees, UnknownRule, HookCount, Params}
-use Rattle.gm_script.specs.Comparing.{value_for, params_for, line_with, line_of_rule, line_at, line_for, lines_for, ◌>>=◌}
+use Rattle.gm_script.specs.ScriptText.{ValueForm, Plain, Truth, Pair, Triple, LineForm, value_as, index_of, AreParams, IsOfRule, IsLine, AreStats, Disagreement, HookCountAt, Disagrees, UnknownRule, HookCount, Params}
+use Rattle.gm_script.specs.Comparing.{value_for, params_for, line_with, line_of_rule, line_at, line_for, stats_for, ◌>>=◌}
 use Rattle.gm_script.proofs.HeldLines.{value_held, IsHeldLine, AreHeld}
 use Rattle.gm_script.specs.Reading.{HeldLine}
 use Rattle.gm_script.proofs.Indices.{index_below}
@@ -107,31 +109,31 @@ module _ (text : List ℕ) (rules : List Rule) where
     pub form : LineForm
     pub after : List LineForm
     pub split : forms ≡ before ++ form ∷ after
-    pub agree : (lines : List Line) × AreLines rules before lines
+    pub agree : (stats : List Stat) × AreStats rules before stats
     pub found : Disagrees rules form fault
 
-  abbrev pub AllAgree : List LineForm → Result (List Line) Disagreement → Type 0
-  AllAgree forms (Ok lines) = AreLines rules forms lines
+  abbrev pub AllAgree : List LineForm → Result (List Stat) Disagreement → Type 0
+  AllAgree forms (Ok stats) = AreStats rules forms stats
   AllAgree forms (Err fault) = IsFirstOf forms fault
 
-  behind : (form : LineForm) (forms : List LineForm) (line : Line) (answer : Result (List Line) Disagreement) → IsLine rules form line → AllAgree forms answer → AllAgree (form ∷ forms) (answer >>= λ lines. Ok (line ∷ lines))
-  behind form forms line (Ok lines) is all = (is, all)
+  behind : (form : LineForm) (forms : List LineForm) (line : Line) (answer : Result (List Stat) Disagreement) → IsLine rules form line → AllAgree forms answer → AllAgree (form ∷ forms) (answer >>= λ stats. Ok (Apply line ∷ stats))
+  behind form forms line (Ok stats) is all = (is, all)
   behind form forms line (Err fault) is all = record {
     before = form ∷ all.before;
     form = all.form;
     after = all.after;
     split = ap (λ (fs : List LineForm). form ∷ fs) all.split;
-    agree = (line ∷ all.agree.0, (is, all.agree.1));
+    agree = (Apply line ∷ all.agree.0, (is, all.agree.1));
     found = all.found;
   }
 
-  at_front : (form : LineForm) (forms : List LineForm) (answer : Result Line Disagreement) (others : Result (List Line) Disagreement) → Agrees form answer → AllAgree forms others → AllAgree (form ∷ forms) (answer >>= λ line. others >>= λ lines. Ok (line ∷ lines))
+  at_front : (form : LineForm) (forms : List LineForm) (answer : Result Line Disagreement) (others : Result (List Stat) Disagreement) → Agrees form answer → AllAgree forms others → AllAgree (form ∷ forms) (answer >>= λ line. others >>= λ stats. Ok (Apply line ∷ stats))
   at_front form forms (Ok line) others is all = behind form forms line others is all
   at_front form forms (Err fault) others is all = record { before = []; form = form; after = forms; split = refl; agree = ([], tt); found = is }
 
-  pub lines_agree : (helds : List HeldLine) (forms : List LineForm) → AreHeld text helds forms → AllAgree forms (lines_for text rules helds)
+  pub lines_agree : (helds : List HeldLine) (forms : List LineForm) → AreHeld text helds forms → AllAgree forms (stats_for text rules helds)
   lines_agree [] [] are = tt
   lines_agree [] (form ∷ forms) are = absurd are
   lines_agree (held ∷ helds) [] are = absurd are
   lines_agree (held ∷ helds) (form ∷ forms) are =
-      at_front form forms (line_for text rules held) (lines_for text rules helds) (line_agrees held form are.0) (lines_agree helds forms are.1)
+      at_front form forms (line_for text rules held) (stats_for text rules helds) (line_agrees held form are.0) (lines_agree helds forms are.1)

@@ -2,7 +2,6 @@
 use Rattle.std.proofs.Common.{◌≡◌, ℕ, List, Result, Ok, Err, sym, ap, ◌∙◌}
 use Rattle.gm_model.specs.declared.limit.LimitKind.{LimitKind}
 use Rattle.gm_model.specs.Symbols.{Mark, marks_of}
-use Rattle.gm_model.specs.Reading.{LimitStandsAt}
 use Rattle.gm_script.specs.ScriptText.{LineForm, limit_of, spelling, IsSentence, IsWritten, IsTextFault, IsLimitFault}
 use Rattle.gm_text.specs.Machine.{Stop, Ends, Passes, run}
 use Rattle.gm_text.proofs.Machine.{reading_runs, ends_run, passes_run}
@@ -20,22 +19,7 @@ pub text_runs : (text : List ℕ) (place : ℕ) → IsTextFault text place → (
 text_runs text place fault = ends_run limit_of never role_at move IsSentence (At spots.Start 0) Ended grammar (marks_of text) place fault
 
 pub limit_runs : (text : List ℕ) (what : LimitKind) (place : ℕ) → IsLimitFault text what place → answer_to text ≡ Err (Passes what place)
-limit_runs text what place fault =
-    let stands : LimitStandsAt IsSentence limit_of never (marks_of text) what place = record {
-      before = fault.before;
-      mark = fault.mark;
-      after = fault.after;
-      split = fault.split;
-      parts = fault.parts;
-      part = fault.part;
-      spelled = fault.spelled;
-      read = fault.read;
-      begins = fault.begins;
-      within = fault.within;
-      passes = fault.passes;
-      here = fault.here;
-    } in
-    passes_run limit_of never role_at move IsSentence (At spots.Start 0) Ended grammar (marks_of text) what place stands
+limit_runs text what place fault = passes_run limit_of never role_at move IsSentence (At spots.Start 0) Ended grammar (marks_of text) what place fault
 
 pub one_text_fault : (text : List ℕ) (place other : ℕ) → IsTextFault text place → IsTextFault text other → place ≡ other
 one_text_fault text place other one two =

@@ -8,6 +8,8 @@ use Rattle.std.proofs.lemmas.Option.{same_Some}
 use Rattle.gm_model.specs.declared.limit.LimitKind.TheVariants as limits
 use Rattle.gm_model.specs.declared.rule.Param.{Param}
 use Rattle.gm_model.specs.declared.script.Line.{Line}
+use Rattle.gm_model.specs.declared.script.Stat.{Stat}
+use Rattle.gm_model.specs.declared.script.Stat.TheVariants.{Apply}
 use Rattle.gm_model.specs.declared.value.Kind.{Kind}
 use Rattle.gm_model.specs.declared.value.Kind.TheVariants as kinds
 use Rattle.gm_model.specs.declared.value.Value.{Value}
@@ -18,7 +20,7 @@ use Rattle.gm_model.specs.Rules.{Rule}
 use Rattle.gm_model.specs.Symbols.{Numeral}
 use Rattle.gm_model.specs.Values.{IsValueOf}
 use Rattle.gm_text.specs.ValueText.{Signed, integer, greatest, is_channel}
-use Rattle.gm_script.specs.ScriptText.{ValueForm, Plain, Truth, Pair, Triple, LineForm, Role, Hook, Size, limit_of, number, sign, the_end, spell_signed, spell_value, spell_values, spell_params, spell_lines, IsSentence, value_as, colour, AreParams, IsLine, AreLines, ScriptText}
+use Rattle.gm_script.specs.ScriptText.{ValueForm, Plain, Truth, Pair, Triple, LineForm, Role, Hook, Size, limit_of, number, sign, the_end, spell_signed, spell_value, spell_values, spell_params, spell_lines, IsSentence, value_as, colour, AreParams, IsLine, IsStat, AreStats, ScriptText}
 
 abbrev AreWithin : List (Part Role) → Type 0
 AreWithin parts = IsWithin IsSentence limit_of parts
@@ -139,19 +141,28 @@ module _ (rules : List Rule) where
   line_good form line good is rule there =
       subst (λ (r : Rule). AreGoodParams r line.params) (same_Some is.rule rule (sym is.named.there ∙ there)) (good_params is.rule.params form.values line.params good is.params)
 
-  lines_good : (forms : List LineForm) (lines : List Line) → AllByRecursion HasGoodForms forms → AreLines rules forms lines → AllByRecursion HasGoodParams lines
-  lines_good [] [] good are = tt
-  lines_good [] (line ∷ lines) good are = absurd are
-  lines_good (form ∷ forms) [] good are = absurd are
-  lines_good (form ∷ forms) (line ∷ lines) good are = (line_good form line good.0 are.0, lines_good forms lines good.1 are.1)
+  -- so does the statement, where it is a line
+  abbrev pub IsGoodStat : Stat → Type 0
+  IsGoodStat (Apply line) = HasGoodParams line
+  IsGoodStat _ = Unit {0}
 
-  pub script_params_good : (text : List ℕ) (lines : List Line) → ScriptText text rules lines → AllByRecursion HasGoodParams lines
-  script_params_good text lines script = lines_good script.forms lines (lines_within 0 script.forms (the_end ∷ []) script.written.read.within) script.same
+  stat_good : (form : LineForm) (stat : Stat) → HasGoodForms form → IsStat rules form stat → IsGoodStat stat
+  stat_good form (Apply line) good is = line_good form line good is
+  stat_good form _ good is = absurd is
 
-at_place : (P : Line → Type 0) (lines : List Line) (k : ℕ) (line : Line) → AllByRecursion P lines → slice_get lines k ≡ Some line → P line
-at_place P [] k line all at = absurd cc
-at_place P (first ∷ lines) zero line all at = subst P (same_Some first line at) all.0
-at_place P (first ∷ lines) (suc k) line all at = at_place P lines k line all.1 at
+  stats_good : (forms : List LineForm) (stats : List Stat) → AllByRecursion HasGoodForms forms → AreStats rules forms stats → AllByRecursion IsGoodStat stats
+  stats_good [] [] good are = tt
+  stats_good [] (stat ∷ stats) good are = absurd are
+  stats_good (form ∷ forms) [] good are = absurd are
+  stats_good (form ∷ forms) (stat ∷ stats) good are = (stat_good form stat good.0 are.0, stats_good forms stats good.1 are.1)
 
-pub params_fit : (text : List ℕ) (rules : List Rule) (lines : List Line) (k : ℕ) (line : Line) (rule : Rule) → ScriptText text rules lines → slice_get lines k ≡ Some line → slice_get rules line.rule ≡ Some rule → AreGoodParams rule line.params
-params_fit text rules lines k line rule script at there = at_place (HasGoodParams rules) lines k line (script_params_good rules text lines script) at rule there
+  pub script_params_good : (text : List ℕ) (stats : List Stat) → ScriptText text rules stats → AllByRecursion IsGoodStat stats
+  script_params_good text stats script = stats_good script.forms stats (lines_within 0 script.forms (the_end ∷ []) script.written.read.within) script.same
+
+at_place : (P : Stat → Type 0) (stats : List Stat) (k : ℕ) (stat : Stat) → AllByRecursion P stats → slice_get stats k ≡ Some stat → P stat
+at_place P [] k stat all at = absurd cc
+at_place P (first ∷ stats) zero stat all at = subst P (same_Some first stat at) all.0
+at_place P (first ∷ stats) (suc k) stat all at = at_place P stats k stat all.1 at
+
+pub params_fit : (text : List ℕ) (rules : List Rule) (stats : List Stat) (k : ℕ) (line : Line) (rule : Rule) → ScriptText text rules stats → slice_get stats k ≡ Some (Apply line) → slice_get rules line.rule ≡ Some rule → AreGoodParams rule line.params
+params_fit text rules stats k line rule script at there = at_place (IsGoodStat rules) stats k (Apply line) (script_params_good rules text stats script) at rule there

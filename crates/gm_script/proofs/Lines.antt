@@ -239,5 +239,4 @@ module _ (text : List ℕ) where
   fault_is rules (faults.Limit what place) e =
       let agreed = subst (λ r. Agrees r (run limit_of never role_at move (At spots.Start 0) 0 (marks_of text))) e answer_agrees in
       let passing = run_passes limit_of never role_at move (At spots.Start 0) 0 (marks_of text) what place agreed in
-      let stands = passing_is limit_of never role_at move IsSentence (At spots.Start 0) Ended grammar (marks_of text) what place passing in
-      record { before = stands.before; mark = stands.mark; after = stands.after; split = stands.split; here = stands.here; parts = stands.parts; part = stands.part; spelled = stands.spelled; read = stands.read; begins = stands.begins; within = stands.within; passes = stands.passes }
+      passing_is limit_of never role_at move IsSentence (At spots.Start 0) Ended grammar (marks_of text) what place passing

@@ -3,13 +3,15 @@ use Rattle.std.proofs.Common.{◌≡◌, ℕ, ◌-◌, List, [], ◌∷◌, ◌+
 use Rattle.std.proofs.lemmas.List.{append-nil}
 use Rattle.gm_model.specs.declared.limit.LimitKind.{LimitKind}
 use Rattle.gm_model.specs.declared.script.Line.{Line}
+use Rattle.gm_model.specs.declared.script.Stat.{Stat}
+use Rattle.gm_model.specs.declared.script.Stat.TheVariants.{Apply}
 use Rattle.gm_model.specs.declared.token.Token.{Token}
 use Rattle.gm_model.specs.Tokens.{Item, Lexed, EndAt, items_of}
 use Rattle.gm_model.specs.Rules.{Rule}
 use Rattle.gm_script.specs.ScriptText.{ScriptText, Disagreement}
-use Rattle.gm_script.specs.Comparing.{line_for, lines_for}
+use Rattle.gm_script.specs.Comparing.{line_for, stats_for}
 use Rattle.gm_script.specs.Comparing as comparing
-use Rattle.gm_script.specs.Faults.{of_text, IsFaultOf, Says, Compares, unless}
+use Rattle.gm_script.specs.Faults.{of_text, IsFaultOf, Says, unless}
 use Rattle.gm_script.specs.Reading.{HeldLine, Held, Stop, sight_of, symbol_at, next_spot, limit_in, hold, hold_apply, hold_number, hold_vector, taken, taken_at, finished, read_from, ended_by, put_first, nothing, lines_of, Fails, IsStray, ◌>>=◌, IsInText}
 use Rattle.gm_text.specs.Cursor.{Cursor}
 use Rattle.gm_text.specs.Lexing.{rest_of}
@@ -96,70 +98,70 @@ fails_on (texts.Text place) read more e = rw e refl
 fails_on (texts.Limit what place) read more e = rw e refl
 
 module _ (text : List ℕ) (rules : List Rule) where
-  lines_more : (helds : List HeldLine) (held : HeldLine) → lines_for text rules (helds ++ held ∷ []) ≡ comparing.◌>>=◌ (lines_for text rules helds) (λ lines. comparing.◌>>=◌ (line_for text rules held) (λ line. Ok (lines ++ line ∷ [])))
+  lines_more : (helds : List HeldLine) (held : HeldLine) → stats_for text rules (helds ++ held ∷ []) ≡ comparing.◌>>=◌ (stats_for text rules helds) (λ stats. comparing.◌>>=◌ (line_for text rules held) (λ line. Ok (stats ++ Apply line ∷ [])))
   lines_more [] held = refl
   lines_more (first ∷ helds) held =
-      by (line_for text rules first) (lines_for text rules helds) (line_for text rules held) (lines_for text rules (helds ++ held ∷ [])) (lines_more helds held)
+      by (line_for text rules first) (stats_for text rules helds) (line_for text rules held) (stats_for text rules (helds ++ held ∷ [])) (lines_more helds held)
     where
-      by : (one : Result Line Disagreement) (some : Result (List Line) Disagreement) (last : Result Line Disagreement) (all : Result (List Line) Disagreement)
-          → all ≡ comparing.◌>>=◌ some (λ lines. comparing.◌>>=◌ last (λ line. Ok (lines ++ line ∷ [])))
-          → comparing.◌>>=◌ one (λ line. comparing.◌>>=◌ all (λ lines. Ok (line ∷ lines)))
-          ≡ comparing.◌>>=◌ (comparing.◌>>=◌ one (λ line. comparing.◌>>=◌ some (λ lines. Ok (line ∷ lines)))) (λ lines. comparing.◌>>=◌ last (λ line. Ok (lines ++ line ∷ [])))
+      by : (one : Result Line Disagreement) (some : Result (List Stat) Disagreement) (last : Result Line Disagreement) (all : Result (List Stat) Disagreement)
+          → all ≡ comparing.◌>>=◌ some (λ stats. comparing.◌>>=◌ last (λ line. Ok (stats ++ Apply line ∷ [])))
+          → comparing.◌>>=◌ one (λ line. comparing.◌>>=◌ all (λ stats. Ok (Apply line ∷ stats)))
+          ≡ comparing.◌>>=◌ (comparing.◌>>=◌ one (λ line. comparing.◌>>=◌ some (λ stats. Ok (Apply line ∷ stats)))) (λ stats. comparing.◌>>=◌ last (λ line. Ok (stats ++ Apply line ∷ [])))
       by (Err fault) some last all e = refl
       by (Ok line) (Err fault) last all e = rw e refl
-      by (Ok line) (Ok lines) (Err fault) all e = rw e refl
-      by (Ok line) (Ok lines) (Ok other) all e = rw e refl
+      by (Ok line) (Ok stats) (Err fault) all e = rw e refl
+      by (Ok line) (Ok stats) (Ok other) all e = rw e refl
 
   module _ (helds : List HeldLine) (held : HeldLine) where
     fault_stays : (fault : ScriptFault) → Holds text rules (Err fault) helds → Holds text rules (Err fault) (helds ++ held ∷ [])
-    fault_stays fault says = rw (lines_more helds held) (says_on fault (lines_for text rules helds) (λ lines. comparing.◌>>=◌ (line_for text rules held) (λ line. Ok (lines ++ line ∷ []))) says)
+    fault_stays fault says = rw (lines_more helds held) (says_on fault (stats_for text rules helds) (λ stats. comparing.◌>>=◌ (line_for text rules held) (λ line. Ok (stats ++ Apply line ∷ []))) says)
 
-    pub stays : (old : Option ScriptFault) (lines : List Line) → is_some old ≡ true → Holds text rules (unless old lines) helds → Holds text rules (unless old lines) (helds ++ held ∷ [])
-    stays None lines there holds = absurd cc
-    stays (Some fault) lines there holds = fault_stays fault holds
+    pub stays : (old : Option ScriptFault) (stats : List Stat) → is_some old ≡ true → Holds text rules (unless old stats) helds → Holds text rules (unless old stats) (helds ++ held ∷ [])
+    stays None stats there holds = absurd cc
+    stays (Some fault) stats there holds = fault_stays fault holds
 
-    pub line_added : (old : Option ScriptFault) (lines : List Line) (line : Line) → is_some old ≡ false → Holds text rules (unless old lines) helds → line_for text rules held ≡ Ok line → Holds text rules (unless old (lines ++ line ∷ [])) (helds ++ held ∷ [])
-    line_added None lines line there e f = lines_more helds held ∙ rw (e, f) refl
-    line_added (Some fault) lines line there e f = absurd cc
+    pub line_added : (old : Option ScriptFault) (stats : List Stat) (line : Line) → is_some old ≡ false → Holds text rules (unless old stats) helds → line_for text rules held ≡ Ok line → Holds text rules (unless old (stats ++ Apply line ∷ [])) (helds ++ held ∷ [])
+    line_added None stats line there e f = lines_more helds held ∙ rw (e, f) refl
+    line_added (Some fault) stats line there e f = absurd cc
 
-    pub fault_added : (old : Option ScriptFault) (lines : List Line) (fault : ScriptFault) → is_some old ≡ false → Holds text rules (unless old lines) helds → Says fault (line_for text rules held) → Holds text rules (Err fault) (helds ++ held ∷ [])
-    fault_added None lines fault there e says = rw (lines_more helds held, e) (says_on fault (line_for text rules held) (λ line. Ok (lines ++ line ∷ [])) says)
-    fault_added (Some other) lines fault there e says = absurd cc
+    pub fault_added : (old : Option ScriptFault) (stats : List Stat) (fault : ScriptFault) → is_some old ≡ false → Holds text rules (unless old stats) helds → Says fault (line_for text rules held) → Holds text rules (Err fault) (helds ++ held ∷ [])
+    fault_added None stats fault there e says = rw (lines_more helds held, e) (says_on fault (line_for text rules held) (λ line. Ok (stats ++ Apply line ∷ [])) says)
+    fault_added (Some other) stats fault there e says = absurd cc
 
   pub starts : IsSoFar text rules nothing (items_of text) (Ok [])
   starts = record { before = []; read = behind_none (lines_of text); holds = refl; named = record { order = omega arith; within = omega arith } }
 
   -- ---- a fault of the text
 
-  module _ (held : Held) (items : List Item) (compared : Result (List Line) ScriptFault) (so_far : IsSoFar text rules held items compared) (fault : TextFault) where
+  module _ (held : Held) (items : List Item) (compared : Result (List Stat) ScriptFault) (so_far : IsSoFar text rules held items compared) (fault : TextFault) where
     fails : Fails fault (read_from text held items) → IsFaultOf text rules (of_text fault)
     fails e = lines.fault_is text rules fault (subst (Fails fault) so_far.read (behind_fails so_far.before fault (read_from text held items) e))
 
-  pub stray_fails : (held : Held) (cursor : Cursor) (compared : Result (List Line) ScriptFault) → IsSoFar text rules held (rest_of cursor) compared → (fault : TextFault) → IsStray cursor fault → IsFaultOf text rules (of_text fault)
+  pub stray_fails : (held : Held) (cursor : Cursor) (compared : Result (List Stat) ScriptFault) → IsSoFar text rules held (rest_of cursor) compared → (fault : TextFault) → IsStray cursor fault → IsFaultOf text rules (of_text fault)
   stray_fails held cursor compared so_far (texts.Text place) stray = fails held (rest_of cursor) compared so_far (texts.Text place) (rw stray refl)
   stray_fails held cursor compared so_far (texts.Limit what place) stray = absurd stray
   stray_fails held cursor compared so_far texts.OutOfMemory stray = absurd stray
 
-  pub token_fails : (held : Held) (token : Token) (items : List Item) (compared : Result (List Line) ScriptFault) → IsSoFar text rules held (Lexed token ∷ items) compared
+  pub token_fails : (held : Held) (token : Token) (items : List Item) (compared : Result (List Stat) ScriptFault) → IsSoFar text rules held (Lexed token ∷ items) compared
       → (fault : TextFault) → Fails fault (taken_at (sight_of (symbol_at text token)) token held) → IsFaultOf text rules (of_text fault)
   token_fails held token items compared so_far fault e =
       fails held (Lexed token ∷ items) compared so_far fault
       (fails_on fault (taken_at (sight_of (symbol_at text token)) token held) (λ next. read_from text next items >>= λ others. Ok (put_first (ended_by held.spot (sight_of (symbol_at text token)) held.line) others)) e)
 
-  pub end_fails : (held : Held) (place : ℕ) (compared : Result (List Line) ScriptFault) → IsSoFar text rules held (EndAt place ∷ []) compared
+  pub end_fails : (held : Held) (place : ℕ) (compared : Result (List Stat) ScriptFault) → IsSoFar text rules held (EndAt place ∷ []) compared
       → (fault : TextFault) → Fails fault (finished held.spot place held) → IsFaultOf text rules (of_text fault)
   end_fails held place compared so_far fault e = fails held (EndAt place ∷ []) compared so_far fault (fails_on fault (finished held.spot place held) (λ line. Ok (put_first line [])) e)
 
   -- ---- a token, and the end
 
   -- a further line is compared, if there is one
-  abbrev pub Adds : Option HeldLine → Result (List Line) ScriptFault → Result (List Line) ScriptFault → Type 0
+  abbrev pub Adds : Option HeldLine → Result (List Stat) ScriptFault → Result (List Stat) ScriptFault → Type 0
   Adds line old new = (helds : List HeldLine) → Holds text rules old helds → Holds text rules new (helds ++ put_first line [])
 
-  pub adds_none : (compared : Result (List Line) ScriptFault) → Adds None compared compared
+  pub adds_none : (compared : Result (List Stat) ScriptFault) → Adds None compared compared
   adds_none compared helds holds = rw (append-nil helds) holds
 
-  pub goes_on : (held next : Held) (token : Token) (items : List Item) (old new : Result (List Line) ScriptFault) → IsInText text token → IsSoFar text rules held (Lexed token ∷ items) old
+  pub goes_on : (held next : Held) (token : Token) (items : List Item) (old new : Result (List Stat) ScriptFault) → IsInText text token → IsSoFar text rules held (Lexed token ∷ items) old
       → taken_at (sight_of (symbol_at text token)) token held ≡ Ok next → Adds (ended_by held.spot (sight_of (symbol_at text token)) held.line) old new → IsSoFar text rules next items new
   goes_on held next token items old new inside so_far e adds =
       let line = ended_by held.spot (sight_of (symbol_at text token)) held.line in
@@ -172,25 +174,25 @@ module _ (text : List ℕ) (rules : List Rule) where
       }
 
   -- all lines are compared
-  pub record IsDone (compared : Result (List Line) ScriptFault) : Type 0 where
+  pub record IsDone (compared : Result (List Stat) ScriptFault) : Type 0 where
     pub helds : List HeldLine
     pub read : lines_of text ≡ Ok helds
     pub holds : Holds text rules compared helds
 
-  pub ends : (held : Held) (place : ℕ) (last : Option HeldLine) (old new : Result (List Line) ScriptFault) → IsSoFar text rules held (EndAt place ∷ []) old
+  pub ends : (held : Held) (place : ℕ) (last : Option HeldLine) (old new : Result (List Stat) ScriptFault) → IsSoFar text rules held (EndAt place ∷ []) old
       → finished held.spot place held ≡ Ok last → Adds last old new → IsDone new
   ends held place last old new so_far e adds =
       let step : read_from text held (EndAt place ∷ []) ≡ Ok (put_first last []) = rw e refl in
       record { helds = so_far.before ++ put_first last []; read = sym so_far.read ∙ ap (behind so_far.before) step; holds = adds so_far.before so_far.holds }
 
-  module _ (compared : Result (List Line) ScriptFault) (done : IsDone compared) where
-    pub done_script : (result : Result (Vec Line Global) ScriptFault) → IfOk result (λ all. compared ≡ Ok all.items) → IfOk result (λ all. ScriptText text rules all.items)
+  module _ (compared : Result (List Stat) ScriptFault) (done : IsDone compared) where
+    pub done_script : (result : Result (Vec Stat Global) ScriptFault) → IfOk result (λ all. compared ≡ Ok all.items) → IfOk result (λ all. ScriptText text rules all.items)
     done_script (Ok all) e =
         let holds : Holds text rules (Ok all.items) done.helds = rw e at done.holds in
         script_is text rules done.helds (lines.lines_are text done.helds done.read) all.items holds
     done_script (Err fault) e = tt
 
-    pub done_fault : (result : Result (Vec Line Global) ScriptFault) → IfErr result (λ fault. compared ≡ Err fault) → IfErr result (IsFaultOf text rules)
+    pub done_fault : (result : Result (Vec Stat Global) ScriptFault) → IfErr result (λ fault. compared ≡ Err fault) → IfErr result (IsFaultOf text rules)
     done_fault (Ok all) e = tt
     done_fault (Err fault) e =
         let holds : Holds text rules (Err fault) done.helds = rw e at done.holds in

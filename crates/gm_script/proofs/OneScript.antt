@@ -3,12 +3,14 @@ use Rattle.std.proofs.Common.{◌≡◌, ◌≢◌, ℕ, zero, suc, ◌-◌, Boo
 use Rattle.std.proofs.lemmas.Bool.{eqb-true}
 use Rattle.gm_model.specs.declared.limit.LimitKind.{LimitKind}
 use Rattle.gm_model.specs.declared.script.Line.{Line}
+use Rattle.gm_model.specs.declared.script.Stat.{Stat}
+use Rattle.gm_model.specs.declared.script.Stat.TheVariants.{Apply}
 use Rattle.gm_model.specs.declared.token.Token.{Token}
 use Rattle.gm_model.specs.declared.value.Value.{Value}
 use Rattle.gm_model.specs.Tokens.{Item, Lexed, StrayAt, EndAt, Front, Gap, Lexeme, Stray, front_of, size_of, item_before, items_from, items_of}
 use Rattle.gm_model.specs.Rules.{Rule}
-use Rattle.gm_script.specs.ScriptText.{LineForm, IsLine, AreLines, Disagreement, Disagrees, UnknownRule, HookCount, Params, IsWritten, ScriptText, StandsForNoScript, IsFirstDisagreement}
-use Rattle.gm_script.specs.Comparing.{params_for, line_for, lines_for}
+use Rattle.gm_script.specs.ScriptText.{LineForm, IsLine, IsStat, AreStats, Disagreement, Disagrees, UnknownRule, HookCount, Params, IsWritten, ScriptText, StandsForNoScript, IsFirstDisagreement}
+use Rattle.gm_script.specs.Comparing.{params_for, line_for, stats_for}
 use Rattle.gm_script.proofs.HeldLines.{IsHeldLine, AreHeld}
 use Rattle.gm_script.specs.Reading.{HeldLine, Held, Stop, Ends, Passes, Lost, finished, taken, taken_at, sight_of, symbol_at, read_from, ended_by, put_first, lines_of, nothing}
 use Rattle.gm_script.specs.Reading as reading
@@ -50,27 +52,41 @@ module _ (text : List ℕ) (rules : List Rule) where
         by None e = refl
         by (Some values) e = absurd (unfit values (params_are rule.params form.values values (ap (params_for rule.params) (sym is.values) ∙ e)))
 
-  lines_only : (helds : List HeldLine) (forms : List LineForm) (lines : List Line) → AreHeld text helds forms → AreLines rules forms lines → lines_for text rules helds ≡ Ok lines
-  lines_only [] [] [] are of = refl
-  lines_only [] [] (line ∷ lines) are of = absurd of
-  lines_only [] (form ∷ forms) lines are of = absurd are
-  lines_only (held ∷ helds) [] lines are of = absurd are
-  lines_only (held ∷ helds) (form ∷ forms) [] are of = absurd of
-  lines_only (held ∷ helds) (form ∷ forms) (line ∷ lines) are of =
-      let first : line_for text rules held ≡ Ok line = line_only held form are.0 line of.0 in
-      let others : lines_for text rules helds ≡ Ok lines = lines_only helds forms lines are.1 of.1 in
-      rw (first, others) refl
+  -- a line is the one statement of its form
+  data IsApplied (form : LineForm) (stat : Stat) : Type 0 where
+    AsLine : (line : Line) → stat ≡ Apply line → IsLine rules form line → IsApplied form stat
 
-  first_only : (helds : List HeldLine) (before : List LineForm) (form : LineForm) (after : List LineForm) (lines : List Line) (fault : Disagreement)
-      → AreHeld text helds (before ++ form ∷ after) → AreLines rules before lines → Disagrees rules form fault → lines_for text rules helds ≡ Err fault
-  first_only [] [] form after lines fault are of found = absurd are
-  first_only [] (first ∷ before) form after lines fault are of found = absurd are
-  first_only (held ∷ helds) [] form after lines fault are of found = rw (fault_only held form are.0 fault found) refl
+  applied : (form : LineForm) (stat : Stat) → IsStat rules form stat → IsApplied form stat
+  applied form (Apply line) of = AsLine line refl of
+  applied form _ of = absurd of
+
+  stats_only : (helds : List HeldLine) (forms : List LineForm) (stats : List Stat) → AreHeld text helds forms → AreStats rules forms stats → stats_for text rules helds ≡ Ok stats
+  stats_only [] [] [] are of = refl
+  stats_only [] [] (stat ∷ stats) are of = absurd of
+  stats_only [] (form ∷ forms) stats are of = absurd are
+  stats_only (held ∷ helds) [] stats are of = absurd are
+  stats_only (held ∷ helds) (form ∷ forms) [] are of = absurd of
+  stats_only (held ∷ helds) (form ∷ forms) (stat ∷ stats) are of =
+      elim (applied form stat of.0) [
+        | AsLine line e is ↦
+            let first : line_for text rules held ≡ Ok line = line_only held form are.0 line is in
+            let others : stats_for text rules helds ≡ Ok stats = stats_only helds forms stats are.1 of.1 in
+            rw (first, others, e) refl
+      ]
+
+  first_only : (helds : List HeldLine) (before : List LineForm) (form : LineForm) (after : List LineForm) (stats : List Stat) (fault : Disagreement)
+      → AreHeld text helds (before ++ form ∷ after) → AreStats rules before stats → Disagrees rules form fault → stats_for text rules helds ≡ Err fault
+  first_only [] [] form after stats fault are of found = absurd are
+  first_only [] (first ∷ before) form after stats fault are of found = absurd are
+  first_only (held ∷ helds) [] form after stats fault are of found = rw (fault_only held form are.0 fault found) refl
   first_only (held ∷ helds) (first ∷ before) form after [] fault are of found = absurd of
-  first_only (held ∷ helds) (first ∷ before) form after (line ∷ lines) fault are of found =
-      let here : line_for text rules held ≡ Ok line = line_only held first are.0 line of.0 in
-      let others : lines_for text rules helds ≡ Err fault = first_only helds before form after lines fault are.1 of.1 found in
-      rw (here, others) refl
+  first_only (held ∷ helds) (first ∷ before) form after (stat ∷ stats) fault are of found =
+      elim (applied first stat of.0) [
+        | AsLine line e is ↦
+            let here : line_for text rules held ≡ Ok line = line_only held first are.0 line is in
+            let others : stats_for text rules helds ≡ Err fault = first_only helds before form after stats fault are.1 of.1 found in
+            rw (here, others) refl
+      ]
 
 -- ---- reading a text comes to an end
 
@@ -158,33 +174,33 @@ module _ (text : List ℕ) (rules : List Rule) where
   same_lines : (one other : List HeldLine) → lines_of text ≡ Ok one → lines_of text ≡ Ok other → one ≡ other
   same_lines one other e f = let same : Ok one ≡ Ok other = sym e ∙ f in cc same
 
-  script_answer : (lines : List Line) → ScriptText text rules lines → (helds : List HeldLine) × (lines_of text ≡ Ok helds) × (lines_for text rules helds ≡ Ok lines)
-  script_answer lines stands =
+  script_answer : (stats : List Stat) → ScriptText text rules stats → (helds : List HeldLine) × (lines_of text ≡ Ok helds) × (stats_for text rules helds ≡ Ok stats)
+  script_answer stats stands =
       let read = are_read text stands.forms stands.written in
-      (read.helds, read.read, lines_only text rules read.helds stands.forms lines read.held stands.same)
+      (read.helds, read.read, stats_only text rules read.helds stands.forms stats read.held stands.same)
 
-  fault_answer : (fault : Disagreement) → IsFirstDisagreement text rules fault → (helds : List HeldLine) × (lines_of text ≡ Ok helds) × (lines_for text rules helds ≡ Err fault)
+  fault_answer : (fault : Disagreement) → IsFirstDisagreement text rules fault → (helds : List HeldLine) × (lines_of text ≡ Ok helds) × (stats_for text rules helds ≡ Err fault)
   fault_answer fault first =
       let read = are_read text (first.before ++ first.form ∷ first.after) first.written in
       (read.helds, read.read, first_only text rules read.helds first.before first.form first.after first.agree.0 fault read.held first.agree.1 first.found)
 
-  pub one_script : (lines others : List Line) → ScriptText text rules lines → ScriptText text rules others → lines ≡ others
-  one_script lines others one two =
-      let first = script_answer lines one in
+  pub one_script : (stats others : List Stat) → ScriptText text rules stats → ScriptText text rules others → stats ≡ others
+  one_script stats others one two =
+      let first = script_answer stats one in
       let second = script_answer others two in
-      let same : Ok lines ≡ Ok others = sym first.2 ∙ ap (lines_for text rules) (same_lines first.0 second.0 first.1 second.1) ∙ second.2 in
+      let same : Ok stats ≡ Ok others = sym first.2 ∙ ap (stats_for text rules) (same_lines first.0 second.0 first.1 second.1) ∙ second.2 in
       cc same
 
   pub one_disagreement : (fault other : Disagreement) → IsFirstDisagreement text rules fault → IsFirstDisagreement text rules other → fault ≡ other
   one_disagreement fault other one two =
       let first = fault_answer fault one in
       let second = fault_answer other two in
-      let same : Err fault ≡ Err other = sym first.2 ∙ ap (lines_for text rules) (same_lines first.0 second.0 first.1 second.1) ∙ second.2 in
+      let same : Err fault ≡ Err other = sym first.2 ∙ ap (stats_for text rules) (same_lines first.0 second.0 first.1 second.1) ∙ second.2 in
       cc same
 
   pub no_script_at_disagreement : (fault : Disagreement) → IsFirstDisagreement text rules fault → StandsForNoScript text rules
-  no_script_at_disagreement fault one lines two =
+  no_script_at_disagreement fault one stats two =
       let first = fault_answer fault one in
-      let second = script_answer lines two in
-      let same : Err fault ≡ Ok lines = sym first.2 ∙ ap (lines_for text rules) (same_lines first.0 second.0 first.1 second.1) ∙ second.2 in
+      let second = script_answer stats two in
+      let same : Err fault ≡ Ok stats = sym first.2 ∙ ap (stats_for text rules) (same_lines first.0 second.0 first.1 second.1) ∙ second.2 in
       absurd cc

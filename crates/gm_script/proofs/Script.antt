@@ -1,9 +1,9 @@
 -- What reading a script answers: the script that the text stands for, or its first fault.
 use Rattle.std.proofs.Common.{◌≡◌, ℕ, List, Ok, Err, subst}
-use Rattle.gm_model.specs.declared.script.Line.{Line}
+use Rattle.gm_model.specs.declared.script.Stat.{Stat}
 use Rattle.gm_model.specs.Rules.{Rule}
 use Rattle.gm_script.specs.ScriptText.{IsWritten, ScriptText, Disagreement, UnknownRuleAt, HookCountAt, ParamsAt, IsFirstDisagreement}
-use Rattle.gm_script.specs.Comparing.{lines_for}
+use Rattle.gm_script.specs.Comparing.{stats_for}
 use Rattle.gm_script.specs.Faults.{IsFaultOf, Says}
 use Rattle.gm_script.proofs.HeldLines.{AreOfText}
 use Rattle.gm_script.specs.Reading.{HeldLine}
@@ -13,15 +13,15 @@ use Rattle.gm_script.proofs.Compared.{AllAgree, lines_agree}
 
 module _ (text : List ℕ) (rules : List Rule) where
   module _ (helds : List HeldLine) (of : AreOfText text helds) where
-    pub script_is : (lines : List Line) → lines_for text rules helds ≡ Ok lines → ScriptText text rules lines
-    script_is lines e = record { forms = of.0; written = of.1; same = subst (AllAgree text rules of.0) e (lines_agree text rules helds of.0 of.2) }
+    pub script_is : (stats : List Stat) → stats_for text rules helds ≡ Ok stats → ScriptText text rules stats
+    script_is stats e = record { forms = of.0; written = of.1; same = subst (AllAgree text rules of.0) e (lines_agree text rules helds of.0 of.2) }
 
-    disagrees : (fault : Disagreement) → lines_for text rules helds ≡ Err fault → IsFirstDisagreement text rules fault
+    disagrees : (fault : Disagreement) → stats_for text rules helds ≡ Err fault → IsFirstDisagreement text rules fault
     disagrees fault e =
         let first = subst (AllAgree text rules of.0) e (lines_agree text rules helds of.0 of.2) in
         record { before = first.before; form = first.form; after = first.after; written = subst (IsWritten text) first.split of.1; agree = first.agree; found = first.found }
 
-    pub fault_is : (fault : ScriptFault) → Says fault (lines_for text rules helds) → IsFaultOf text rules fault
+    pub fault_is : (fault : ScriptFault) → Says fault (stats_for text rules helds) → IsFaultOf text rules fault
     fault_is (faults.Text place) e = absurd e
     fault_is (faults.Limit what place) e = absurd e
     fault_is (faults.UnknownRule place) e = disagrees (UnknownRuleAt place) e

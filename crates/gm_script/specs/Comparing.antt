@@ -3,6 +3,8 @@ use Rattle.std.specs.Prelude.{ℕ, ◌==◌, if◌then◌else◌, List, [], ◌�
 use Rattle.std.specs.Option.{option_map, option_and_then}
 use Rattle.gm_model.specs.declared.rule.Param.{Param}
 use Rattle.gm_model.specs.declared.script.Line.{Line}
+use Rattle.gm_model.specs.declared.script.Stat.{Stat}
+use Rattle.gm_model.specs.declared.script.Stat.TheVariants.{Apply}
 use Rattle.gm_model.specs.declared.value.Kind.{Kind}
 use Rattle.gm_model.specs.declared.value.Kind.TheVariants as kinds
 use Rattle.gm_model.specs.declared.value.Value.{Value}
@@ -49,6 +51,7 @@ abbrev pub ◌>>=◌ : {A B : Type 0} → Result A Disagreement → (A → Resul
 (Ok x) >>= f = f x
 (Err fault) >>= f = Err fault
 
-abbrev pub lines_for : List ℕ → List Rule → List HeldLine → Result (List Line) Disagreement
-lines_for text rules [] = Ok []
-lines_for text rules (held ∷ others) = line_for text rules held >>= λ line. lines_for text rules others >>= λ lines. Ok (line ∷ lines)
+-- the statements of the lines
+abbrev pub stats_for : List ℕ → List Rule → List HeldLine → Result (List Stat) Disagreement
+stats_for text rules [] = Ok []
+stats_for text rules (held ∷ others) = line_for text rules held >>= λ line. stats_for text rules others >>= λ stats. Ok (Apply line ∷ stats)

@@ -6,6 +6,8 @@ use Rattle.gm_model.specs.declared.limit.LimitKind.{LimitKind}
 use Rattle.gm_model.specs.declared.limit.LimitKind.TheVariants as limits
 use Rattle.gm_model.specs.declared.rule.Param.{Param}
 use Rattle.gm_model.specs.declared.script.Line.{Line}
+use Rattle.gm_model.specs.declared.script.Stat.{Stat}
+use Rattle.gm_model.specs.declared.script.Stat.TheVariants.{Apply}
 use Rattle.gm_model.specs.declared.value.Kind.{Kind}
 use Rattle.gm_model.specs.declared.value.Kind.TheVariants as kinds
 use Rattle.gm_model.specs.declared.value.Value.{Value}
@@ -13,7 +15,7 @@ use Rattle.gm_model.specs.declared.value.Value.TheVariants as values
 use Rattle.gm_model.specs.Limits.{most_names}
 use Rattle.gm_model.specs.Symbols.{Symbol, Word, Numeral, Sign, End, Mark, marks_of}
 use Rattle.gm_model.specs.Rules.{Rule}
-use Rattle.gm_model.specs.Reading.{Part, IsReadAs, TextEndsAt, LimitPassedAt}
+use Rattle.gm_model.specs.Reading.{Part, IsReadAs, TextEndsAt, LimitStandsAt}
 use Rattle.gm_model.specs.Names.{Mention, IsFree}
 use Rattle.gm_text.specs.ValueText.{Signed, integer, greatest, is_channel}
 use Rattle.gm_text.specs.ValueText as numbers
@@ -138,7 +140,7 @@ abbrev pub IsTextFault : List ℕ → ℕ → Type 0
 IsTextFault text place = TextEndsAt IsSentence limit_of (marks_of text) place
 
 abbrev pub IsLimitFault : List ℕ → LimitKind → ℕ → Type 0
-IsLimitFault text what place = LimitPassedAt IsSentence limit_of (marks_of text) what place
+IsLimitFault text what place = LimitStandsAt IsSentence limit_of (λ role. false) (marks_of text) what place
 
 -- ---- a line under a book
 
@@ -178,19 +180,23 @@ pub record IsLine (rules : List Rule) (form : LineForm) (line : Line) : Type 0 w
   pub count : length form.hooks ≡ length rule.hooks
   pub params : AreParams rule.params form.values line.params
 
-abbrev pub AreLines : List Rule → List LineForm → List Line → Type 0
-AreLines rules [] [] = Unit {0}
-AreLines rules (form ∷ forms) (line ∷ lines) = IsLine rules form line × AreLines rules forms lines
-AreLines rules _ _ = ⊥
+abbrev pub IsStat : List Rule → LineForm → Stat → Type 0
+IsStat rules form (Apply line) = IsLine rules form line
+IsStat rules form _ = ⊥
 
--- the text stands for a script of these lines under a book of the rules
-pub record ScriptText (text : List ℕ) (rules : List Rule) (lines : List Line) : Type 0 where
+abbrev pub AreStats : List Rule → List LineForm → List Stat → Type 0
+AreStats rules [] [] = Unit {0}
+AreStats rules (form ∷ forms) (stat ∷ stats) = IsStat rules form stat × AreStats rules forms stats
+AreStats rules _ _ = ⊥
+
+-- the text stands for a script of these statements under a book of the rules
+pub record ScriptText (text : List ℕ) (rules : List Rule) (stats : List Stat) : Type 0 where
   pub forms : List LineForm
   pub written : IsWritten text forms
-  pub same : AreLines rules forms lines
+  pub same : AreStats rules forms stats
 
 abbrev pub StandsForNoScript : List ℕ → List Rule → Type 0
-StandsForNoScript text rules = (lines : List Line) → ScriptText text rules lines → ⊥
+StandsForNoScript text rules = (stats : List Stat) → ScriptText text rules stats → ⊥
 
 -- ---- the first disagreement with a book
 
@@ -212,5 +218,5 @@ pub record IsFirstDisagreement (text : List ℕ) (rules : List Rule) (fault : Di
   pub form : LineForm
   pub after : List LineForm
   pub written : IsWritten text (before ++ form ∷ after)
-  pub agree : (lines : List Line) × AreLines rules before lines
+  pub agree : (stats : List Stat) × AreStats rules before stats
   pub found : Disagrees rules form fault

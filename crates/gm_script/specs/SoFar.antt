@@ -1,9 +1,9 @@
 -- What was read of a text so far, and the lines that were compared.
 use Rattle.std.specs.Prelude.{◌≡◌, ℕ, List, ◌++◌, Result, Ok, Err}
-use Rattle.gm_model.specs.declared.script.Line.{Line}
+use Rattle.gm_model.specs.declared.script.Stat.{Stat}
 use Rattle.gm_model.specs.Rules.{Rule}
 use Rattle.gm_model.specs.Tokens.{Item}
-use Rattle.gm_script.specs.Comparing.{lines_for}
+use Rattle.gm_script.specs.Comparing.{stats_for}
 use Rattle.gm_script.specs.Faults.{Compares}
 use Rattle.gm_script.specs.Reading.{HeldLine, Held, Stop, read_from, lines_of, IsInText}
 use Rattle.gm_script.specs.declared.fault.ScriptFault.{ScriptFault}
@@ -14,11 +14,11 @@ behind before (Ok others) = Ok (before ++ others)
 behind before (Err stop) = Err stop
 
 -- what was compared is what the lines that are held come to
-abbrev pub Holds : List ℕ → List Rule → Result (List Line) ScriptFault → List HeldLine → Type 0
-Holds text rules compared helds = Compares (λ (lines : List Line). lines) compared (lines_for text rules helds)
+abbrev pub Holds : List ℕ → List Rule → Result (List Stat) ScriptFault → List HeldLine → Type 0
+Holds text rules compared helds = Compares (λ (stats : List Stat). stats) compared (stats_for text rules helds)
 
 -- these lines have ended before what is held, and are compared
-pub record IsSoFar (text : List ℕ) (rules : List Rule) (held : Held) (items : List Item) (compared : Result (List Line) ScriptFault) : Type 0 where
+pub record IsSoFar (text : List ℕ) (rules : List Rule) (held : Held) (items : List Item) (compared : Result (List Stat) ScriptFault) : Type 0 where
   pub before : List HeldLine
   pub read : behind before (read_from text held items) ≡ lines_of text
   pub holds : Holds text rules compared before

@@ -1,7 +1,7 @@
 //! The lines of a text, compared with a book one after another.
 ghost use Rattle.std.specs.Prelude.{◌≡◌, ◌++◌, ◌∷◌, List, [], Some, map, OnOk, IfOk, IfErr};
 ghost use Rattle.gm_model.specs.Rules.{rule_of};
-ghost use Rattle.gm_script.specs.Comparing.{line_of_rule, line_for, lines_for};
+ghost use Rattle.gm_script.specs.Comparing.{line_of_rule, line_for, stats_for};
 ghost use Rattle.gm_script.specs.Faults.{Compares};
 ghost use Rattle.gm_script.specs.Reading.{HeldLine, IsInText};
 
@@ -9,7 +9,7 @@ use crate::fault::ScriptFault;
 use crate::reader::{DraftLine, MOST_LINES};
 use crate::rules::RulesByName;
 use crate::values::params_of;
-use gm_model::{Items, Line, RuleTable};
+use gm_model::{Items, Line, RuleTable, Stat};
 use std::alloc::Global;
 use std::marker::Model;
 
@@ -45,22 +45,22 @@ fn line_of(bytes: &[u8], draft: DraftLine, rules: &RulesByName<'_>) -> Result<Li
     }
 }
 
-/// What comparing lines with a book came to so far: the lines, or the first disagreement.
+/// What comparing lines with a book came to so far: their statements, or the first disagreement.
 #[derive(Drop)]
 pub(crate) struct Compared {
-    lines: Vec<Line>,
+    stats: Vec<Stat>,
     fault: Option<ScriptFault>,
 }
 
 impl Model for Compared {
     ghost use Rattle.std.specs.Prelude.{List, Result};
-    ghost use Rattle.gm_model.specs.declared.script.Line.{Line};
+    ghost use Rattle.gm_model.specs.declared.script.Stat.{Stat};
     ghost use Rattle.gm_script.specs.declared.fault.ScriptFault.{ScriptFault};
     ghost use Rattle.gm_script.specs.Faults.{unless};
 
-    ghost Value = { Result (List Line) ScriptFault };
+    ghost Value = { Result (List Stat) ScriptFault };
 
-    ghost view = { λ compared. unless compared.fault compared.lines.items };
+    ghost view = { λ compared. unless compared.fault compared.stats.items };
 }
 
 impl Compared {
@@ -72,7 +72,7 @@ impl Compared {
         // Behind each line but the last stands a byte at least that parts it from the next `apply`.
         let most = (length / LEAST_LINE_BYTES + 1).min(MOST_LINES);
         Ok(Compared {
-            lines: Vec::with_capacity(alloc, most)?,
+            stats: Vec::with_capacity(alloc, most)?,
             fault: None,
         })
     }
@@ -85,28 +85,28 @@ impl Compared {
         rules: &RulesByName<'_>,
     ) -> Result<(), ScriptFault>
         requires in_text { IsInText bytes.now draft.name }
-        ensures ok { (before : List HeldLine) → Compares (λ lines. lines) self.old (lines_for bytes.now (map rule_of rules.now) before)
-            → OnOk result (Compares (λ lines. lines) self.new (lines_for bytes.now (map rule_of rules.now) (before ++ draft ∷ []))) }
+        ensures ok { (before : List HeldLine) → Compares (λ stats. stats) self.old (stats_for bytes.now (map rule_of rules.now) before)
+            → OnOk result (Compares (λ stats. stats) self.new (stats_for bytes.now (map rule_of rules.now) (before ++ draft ∷ []))) }
         ensures err { IfErr result (λ fault. fault ≡ ScriptFault.OutOfMemory) }
     {
         if self.fault.is_some() {
             return Ok(());
         }
         match line_of(bytes, draft, rules) {
-            Ok(line) => self.lines.push(line)?,
+            Ok(line) => self.stats.push(Stat::Apply(line))?,
             Err(fault) => self.fault = Some(fault),
         }
         Ok(())
     }
 
-    /// The lines, where none disagrees.
-    pub(crate) fn finish(self) -> Result<Vec<Line>, ScriptFault>
-        ensures lines { IfOk result (λ lines. self ≡ Ok lines.items) }
+    /// The statements, where no line disagrees.
+    pub(crate) fn finish(self) -> Result<Vec<Stat>, ScriptFault>
+        ensures stats { IfOk result (λ stats. self ≡ Ok stats.items) }
         ensures fault { IfErr result (λ fault. self ≡ Err fault) }
     {
-        let Compared { lines, fault } = self;
+        let Compared { stats, fault } = self;
         match fault {
-            None => Ok(lines),
+            None => Ok(stats),
             Some(fault) => Err(fault),
         }
     }

@@ -2,13 +2,15 @@
 ghost use Rattle.std.specs.Prelude.{◌≡◌, ℕ, List, Some, slice_get};
 ghost use Rattle.gm_model.specs.declared.limit.LimitKind.{LimitKind};
 ghost use Rattle.gm_model.specs.declared.script.Line.{Line};
+ghost use Rattle.gm_model.specs.declared.script.Stat.{Stat};
+ghost use Rattle.gm_model.specs.declared.script.Stat.TheVariants.{Apply};
 ghost use Rattle.gm_model.specs.Kinds.{AreGoodParams};
 ghost use Rattle.gm_model.specs.Rules.{Rule};
 ghost use Rattle.gm_script.specs.ScriptText.{ScriptText, StandsForNoScript, IsTextFault, IsLimitFault, Disagreement, IsFirstDisagreement};
 
 /// A text stands for one script at most under a book.
 pub fn one_script_at_most()
-    ensures { (text : List ℕ) (rules : List Rule) (lines others : List Line) → ScriptText text rules lines → ScriptText text rules others → lines ≡ others }
+    ensures { (text : List ℕ) (rules : List Rule) (stats others : List Stat) → ScriptText text rules stats → ScriptText text rules others → stats ≡ others }
 {}
 
 /// A text has one first fault at most under a book, and one that has a fault stands for no script.
@@ -27,6 +29,6 @@ pub fn one_first_fault_at_most()
 /// Each line of a script that a text stands for has one value for each parameter of its rule, of
 /// the parameter's kind and in its range.
 pub fn values_fit_their_parameters()
-    ensures { (text : List ℕ) (rules : List Rule) (lines : List Line) (k : ℕ) (line : Line) (rule : Rule) → ScriptText text rules lines →
-        slice_get lines k ≡ Some line → slice_get rules line.rule ≡ Some rule → AreGoodParams rule line.params }
+    ensures { (text : List ℕ) (rules : List Rule) (stats : List Stat) (k : ℕ) (line : Line) (rule : Rule) → ScriptText text rules stats →
+        slice_get stats k ≡ Some (Apply line) → slice_get rules line.rule ≡ Some rule → AreGoodParams rule line.params }
 {}

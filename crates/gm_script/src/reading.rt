@@ -16,7 +16,7 @@ use crate::fault::ScriptFault;
 use crate::reader::{Reader, TextFault};
 use crate::rules::RulesByName;
 use crate::sight::sight_of;
-use gm_model::{Book, Items, Line, Script};
+use gm_model::{Book, Items, Script, Stat};
 use gm_text::{Lexer, Token};
 use std::alloc::Global;
 
@@ -56,15 +56,15 @@ fn read_tokens(
     Ok(())
 }
 
-/// The lines of the text, which is read to its end, where none disagrees.
+/// The statements of the text, which is read to its end, where no line disagrees.
 fn finish(
     bytes: &[u8],
     rules: &RulesByName<'_>,
     reader: Reader,
     mut compared: Compared,
-) -> Result<Vec<Line>, ScriptFault>
+) -> Result<Vec<Stat>, ScriptFault>
     requires so_far { IsSoFar bytes.now (map rule_of rules.now) reader (EndAt (length bytes.now) ∷ []) compared }
-    ensures script { IfOk result (λ lines. ScriptText bytes.now (map rule_of rules.now) lines.items) }
+    ensures script { IfOk result (λ stats. ScriptText bytes.now (map rule_of rules.now) stats.items) }
     ensures fault { IfErr result (IsFaultOf bytes.now (map rule_of rules.now)) }
 {
     if let Some(last) = reader.finish(bytes.len())? {
@@ -73,13 +73,13 @@ fn finish(
     compared.finish()
 }
 
-/// The lines of the script that the text stands for under these rules.
-fn read_lines(
+/// The statements of the script that the text stands for under these rules.
+fn read_stats(
     alloc: Global,
     bytes: &[u8],
     rules: &RulesByName<'_>,
-) -> Result<Vec<Line>, ScriptFault>
-    ensures script { IfOk result (λ lines. ScriptText bytes.now (map rule_of rules.now) lines.items) }
+) -> Result<Vec<Stat>, ScriptFault>
+    ensures script { IfOk result (λ stats. ScriptText bytes.now (map rule_of rules.now) stats.items) }
     ensures fault { IfErr result (IsFaultOf bytes.now (map rule_of rules.now)) }
 {
     let mut compared = Compared::new(alloc, bytes.len())?;
@@ -92,12 +92,12 @@ fn read_lines(
 /// limits, comes before any disagreement of a line with the book. A book's text has so few rules
 /// that a line can name each; of more than 65,536, the first so many.
 pub fn read_script(alloc: Global, bytes: &[u8], book: &Book) -> Result<Script, ScriptFault>
-    ensures script { IfOk result (λ script. ScriptText bytes.now (map rule_of book.now.rules) script.lines) }
+    ensures script { IfOk result (λ script. ScriptText bytes.now (map rule_of book.now.rules) script.stats) }
     ensures fault { IfErr result (IsFaultOf bytes.now (map rule_of book.now.rules)) }
 {
     let rules = RulesByName::new(alloc, book.rules.as_slice())?;
-    let lines = read_lines(alloc, bytes, &rules)?;
+    let stats = read_stats(alloc, bytes, &rules)?;
     Ok(Script {
-        lines: Items::new(lines),
+        stats: Items::new(stats),
     })
 }

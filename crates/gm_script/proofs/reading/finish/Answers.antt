@@ -19,7 +19,7 @@ returns-clause-script c =
     ] in
     done_script c.args.bytes.now (map rule_of c.args.rules.now) c.match-branch-2.compared
     (ends c.args.bytes.now (map rule_of c.args.rules.now) c.args.reader (length c.args.bytes.now) c.in_ok-last.field-0 c.args.compared c.match-branch-2.compared c.requires.so_far c.in_ok-last.ensures adds)
-    c.finish-2.result c.finish-2.ensures.lines
+    c.finish-2.result c.finish-2.ensures.stats
 
 pub returns-clause-fault : goal.returns-clause-fault
 returns-clause-fault c =
