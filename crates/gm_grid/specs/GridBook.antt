@@ -4,7 +4,8 @@ use Rattle.std.specs.List.{range_with_len}
 use Rattle.gm_model.specs.declared.expr.DartTerm.{DartTerm}
 use Rattle.gm_model.specs.declared.expr.BinOp.TheVariants.{Div}
 use Rattle.gm_model.specs.declared.rule.Book.{Book}
-use Rattle.gm_model.specs.declared.script.Line.{Line}
+use Rattle.gm_model.specs.declared.script.Stat.{Stat}
+use Rattle.gm_model.specs.declared.script.Stat.TheVariants.{Apply}
 use Rattle.gm_model.specs.declared.script.Script.{Script}
 use Rattle.gm_model.specs.declared.word.Letter.TheVariants.{At, Gone}
 use Rattle.gm_model.specs.declared.word.Mask.{Mask}
@@ -58,9 +59,9 @@ pub record IsGridBook (book : Book) : Type 0 where
 -- ---- the script
 
 -- the rule at the first dart of the square with this number
-abbrev pub line_at : ℕ → Line
-line_at square = record { rule = 0; hooks = 8 * square ∷ []; params = [] }
+abbrev pub stat_at : ℕ → Stat
+stat_at square = Apply (record { rule = 0; hooks = 8 * square ∷ []; params = [] })
 
 -- one line for each square, ascending
 abbrev pub IsGridScript : ℕ → Script → Type 0
-IsGridScript m script = script.lines ≡ map line_at (range_with_len 0 (m * m))
+IsGridScript m script = script.stats ≡ map stat_at (range_with_len 0 (m * m))
