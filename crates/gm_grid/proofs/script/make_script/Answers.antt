@@ -6,5 +6,5 @@ use Rattle.gm_grid.proofs.script.make_script.Goals as goal
 pub loop-square-preserved : goal.loop-square-preserved
 loop-square-preserved c =
     c.in_ok-push.ensures.items
-    ∙ (ap₂ (λ lines line. lines ++ line ∷ []) c.loop-square.invariant c.in_ok-line_of.ensures
+    ∙ (ap₂ (λ stats stat. stats ++ stat ∷ []) c.loop-square.invariant c.in_ok-stat_of.ensures
     ∙ sym (map-range_with_len_more stat_at 0 c.loop-square.square c.loop-square.square (omega arith)))
