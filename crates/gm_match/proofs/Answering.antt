@@ -141,12 +141,6 @@ module _ (m : ArenaMap) (rule : Rule) (sound : IsMatchable m rule) where
       pub created : (found : Placed) → found.slots ≡ [] → found.positions ≡ 1 → found.nodes ≡ 0 → found.places ≡ 0 → IsAnswer m rule hooks found
       created found slots one nodes places = answered m rule hooks found
           (candidate_is_match (as_map m) rule (place_of m found) sound.in_range sound.incidence sound.generalised hooks candidate (λ d c. absurd (nothing d c)) (λ x p i at label. absurd (no_left x at.0)) (λ x p y q at other before same. no_left x at.0))
-          (λ params. record {
-            darts = λ d c. absurd (nothing d c);
-            candidate = candidate;
-            steps = λ x p i at label. absurd (no_left x at.0);
-            distinct = λ x p y q again. no_left x again.first.0;
-          })
           (λ k d h. absurd (let e : length found.slots ≡ 0 = ap length slots in omega arith))
           (let e : length found.slots ≡ 0 = ap length slots in rw (nodes, one, e) refl)
           (λ x. ((λ left. absurd (no_left x left)), (λ h. absurd (omega arith))))
@@ -322,12 +316,6 @@ module _ (m : ArenaMap) (rule : Rule) (hooks : List ℕ) (begun : IsBegun m rule
     pub answer : AreMet m rule found → TakeEachOnce found → IsAnswer m rule hooks found
     answer met distinct = answered m rule hooks found
         (candidate_is_match (as_map m) rule (place_of m found) begun.sound.in_range begun.sound.incidence begun.sound.generalised hooks at.candidate (live_hooks []) (meets_all m rule found at.laid met) apart)
-        (λ params. record {
-          darts = live_hooks params;
-          candidate = at.candidate;
-          steps = meets_all m rule found at.laid met;
-          distinct = λ x p y q again. apart x p y q again.first again.second again.later again.same;
-        })
         at.laid.slots at.laid.long at.laid.nodes at.laid.places
       where
         apart : (x p y q : ℕ) → IsInstance rule (place_of m found) x p → IsInstance rule (place_of m found) y q → IsPairBefore x p y q → name_of m (slot_at found x p) ≡ name_of m (slot_at found y q) → ⊥

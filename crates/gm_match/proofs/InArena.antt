@@ -3,8 +3,6 @@ use Rattle.std.proofs.Common.{◌≡◌, ℕ, zero, suc, ◌+◌, ◌*◌, List,
 use Rattle.std.proofs.lemmas.Nat.{mul-le}
 use Rattle.std.specs.Option.{option_map_or}
 use Rattle.std.specs.Prelude.{slice_index_or}
-use Rattle.gm_model.specs.declared.value.Value.{Value}
-use Rattle.gm_model.specs.Applications.{IsFound}
 use Rattle.gm_model.specs.Matches.{Placement, IsMatch}
 use Rattle.gm_model.specs.Rules.{Rule, width}
 use Rattle.gm_arena.specs.declared.slot.Slot.{Slot}
@@ -14,7 +12,7 @@ use Rattle.gm_plan.specs.InArena.{placement_in}
 use Rattle.gm_plan.specs.Placed.{Placed, turn_at}
 use Rattle.gm_plan.specs.Plans.{IsLeftCount}
 use Rattle.gm_walk.specs.Walks.{AreLive}
-use Rattle.gm_match.specs.Outcome.{application_of, place_of, IsAnswer}
+use Rattle.gm_match.specs.Outcome.{place_of, IsAnswer}
 
 same_slot : (slots : List Slot) (k : ℕ) → option_map_or (λ (s : Slot). s.at) (slice_get slots k) 0 ≡ (slice_index_or slots k (record { at = 0 })).at
 same_slot [] k = refl
@@ -27,9 +25,9 @@ same_darts m found = λ i x p. name_at m (same_slot found.slots (p * found.nodes
 same_placement : (m : ArenaMap) (found : Placed) → place_of m found ≡ placement_in m found
 same_placement m found = ap (λ (f : ℕ → ℕ → ℕ). let place : Placement = record { positions = found.positions; turn = turn_at found; dart_of = f } in place) (same_darts m found)
 
-pub answered : (m : ArenaMap) (rule : Rule) (hooks : List ℕ) (found : Placed) → IsMatch (as_map m) rule hooks (place_of m found) → ((params : List Value) → IsFound (application_of m rule hooks params) (place_of m found))
+pub answered : (m : ArenaMap) (rule : Rule) (hooks : List ℕ) (found : Placed) → IsMatch (as_map m) rule hooks (place_of m found)
     → AreLive m found.slots → found.positions * found.nodes ≡ length found.slots → IsLeftCount rule found.nodes → found.places ≡ width rule → IsAnswer m rule hooks found
-answered m rule hooks found is_match is_found live long nodes places = record {
+answered m rule hooks found is_match live long nodes places = record {
   matched = record {
     nodes = nodes;
     places = places;
@@ -37,5 +35,4 @@ answered m rule hooks found is_match is_found live long nodes places = record {
     is_match = subst (IsMatch (as_map m) rule hooks) (same_placement m found) is_match;
   };
   live = live;
-  is_found = λ params. subst (IsFound (application_of m rule hooks params)) (same_placement m found) (is_found params);
 }

@@ -2,14 +2,14 @@
 use Rattle.std.specs.Prelude.{ℕ, List, Option}
 use Rattle.std.specs.Option.{option_map_or}
 use Rattle.gm_model.specs.declared.value.Value.{Value}
-use Rattle.gm_model.specs.Applications.{Application, IsFound, IsRefused}
+use Rattle.gm_model.specs.Applications.{Application, IsRefused}
 use Rattle.gm_model.specs.Applications.Cause.{NoDart, Arc, Same}
 use Rattle.gm_model.specs.Matches.{Placement}
 use Rattle.gm_model.specs.Rules.{Rule}
 use Rattle.gm_arena.specs.declared.slot.Slot.{Slot}
 use Rattle.gm_arena.specs.ArenaMap.{ArenaMap, name_at}
 use Rattle.gm_arena.specs.ArenaAsMap.{as_map}
-use Rattle.gm_plan.specs.InArena.{AreMatched, placement_in}
+use Rattle.gm_plan.specs.InArena.{AreMatched}
 use Rattle.gm_plan.specs.Placed.{Placed, slot_at, turn_at}
 use Rattle.gm_walk.specs.Walks.{AreLive}
 use Rattle.gm_match.specs.declared.fault.MatchFault.{MatchFault}
@@ -27,11 +27,10 @@ name_of m slot = name_at m (option_map_or (λ (s : Slot). s.at) slot 0)
 abbrev pub place_of : ArenaMap → Placed → Placement
 place_of m found = record { positions = found.positions; turn = turn_at found; dart_of = λ x p. name_of m (slot_at found x p) }
 
--- the instances are a match, and the one that an application finds, whatever its parameters are
+-- the instances are a match, and each of their slots is live
 pub record IsAnswer (m : ArenaMap) (rule : Rule) (hooks : List ℕ) (found : Placed) : Type 0 where
   pub matched : AreMatched m rule hooks found
   pub live : AreLive m found.slots
-  pub is_found : (params : List Value) → IsFound (application_of m rule hooks params) (placement_in m found)
 
 -- the fault is the cause for which the application is refused
 abbrev pub IsCause : Application → MatchFault → Type 0
