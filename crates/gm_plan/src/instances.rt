@@ -1,8 +1,10 @@
-ghost use Rattle.std.specs.Prelude.{◌≡◌, ℕ, ◌*◌, ◌<◌, ◌≤◌, Some, length};
+ghost use Rattle.std.specs.Prelude.{◌≡◌, ℕ, ◌*◌, ◌<◌, ◌≤◌, IfOk, Some, length};
 ghost use Rattle.std.specs.List.{All};
 ghost use Rattle.gm_plan.specs.Placed.{slot_at, turn_at, HasRowsOf};
 
 use gm_arena::Slot;
+use gm_model::OutOfMemory;
+use std::alloc::Global;
 use std::marker::Model;
 
 /// Where the left nodes of a rule lie in an arena, at each position of an application, and to which
@@ -79,6 +81,20 @@ impl Instances {
     {
         self.turns[position as usize * self.places as usize + place as usize]
     }
+
+    /// The same instances once more.
+    pub fn copy(&self, alloc: Global) -> Result<Instances, OutOfMemory>
+        ensures { IfOk result (λ copy. copy ≡ self.now) }
+    {
+        Ok(Instances {
+            slots: Vec::from_slice(alloc, &self.slots)?,
+            turns: Vec::from_slice(alloc, &self.turns)?,
+            positions: self.positions,
+            nodes: self.nodes,
+            places: self.places,
+        })
+    }
+
     /// The vectors that the instances were made of.
     pub fn into_rows(self) -> (Vec<Slot>, Vec<u32>)
         ensures slots { result.0.items ≡ self.slots }

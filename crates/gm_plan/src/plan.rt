@@ -52,7 +52,7 @@ impl<'b> Plan<'b> {
     ghost use Rattle.gm_plan.specs.Changes.{freed_step, made_step};
     ghost use Rattle.gm_plan.specs.Counts.{removed_nodes};
     ghost use Rattle.gm_plan.specs.Paths.{ArePaths, IsLastLink};
-    ghost use Rattle.gm_plan.specs.Plans.{IsPlanned, IsLeftCount, plan_of};
+    ghost use Rattle.gm_plan.specs.Plans.{AreRows, IsPlanned, IsLeftCount, plan_of};
     ghost use Rattle.gm_plan.specs.Tested.{IsForcedStep};
 
     /// The plan of a rule that is accepted.
@@ -164,6 +164,20 @@ impl<'b> Plan<'b> {
         ensures { result ≡ freed_step (rule_of self.now.table) node label }
     {
         self.freed[node as usize][label as usize]
+    }
+
+    /// The steps that an application makes, by node and by label.
+    pub fn made_rows(&self) -> &[Row]
+        ensures { AreRows (made_step (rule_of self.now.table)) (length (rule_of self.now.table).nodes) result.now }
+    {
+        &self.made
+    }
+
+    /// The steps that an application frees, by node and by label.
+    pub fn freed_rows(&self) -> &[Row]
+        ensures { AreRows (freed_step (rule_of self.now.table)) (length (rule_of self.now.table).nodes) result.now }
+    {
+        &self.freed
     }
 
     /// Whether a match has to test a left step of the node.
