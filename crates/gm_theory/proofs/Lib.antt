@@ -19,6 +19,7 @@ pub mod ExamplesUnfoldings
 pub mod FirstFound
 pub mod Found
 pub mod Keeps
+pub mod LeadsFound
 pub mod LeastPaths
 pub mod LikeCandidates
 pub mod Lists
@@ -35,9 +36,11 @@ pub mod ReadingsUnits
 pub mod Results
 pub mod RuleLinks
 pub mod RuleSteps
+pub mod RunsFound
 pub mod Scenes
 pub mod Tests
 pub mod Turns
+pub mod TurnsFound
 pub mod ValuesAcross
 pub mod ValuesDetermined
 pub mod ValuesFound

@@ -8,7 +8,9 @@ mod values;
 
 ghost use Rattle.gm_theory.specs.Theorem.{RulesKeepGeneralisedMaps};
 
-pub use outcomes::{applications_have_budgets, applications_have_outcomes, one_match_at_most};
+pub use outcomes::{
+    applications_have_budgets, applications_have_outcomes, one_match_at_most, scripts_have_runs,
+};
 pub use readings::{readings_are_determined, values_have_their_kinds};
 pub use values::{applications_keep_sound_maps, keeps_well_embedded_maps};
 

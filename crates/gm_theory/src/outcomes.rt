@@ -1,7 +1,7 @@
 //! The outcomes and budgets of applications, and the runs of scripts, as laws of the definitions.
 
 ghost use Rattle.gm_theory.specs.OneMatch.{OneMatchAtMost};
-ghost use Rattle.gm_theory.specs.Outcomes.{ApplicationsHaveOutcomes, ApplicationsHaveBudgets};
+ghost use Rattle.gm_theory.specs.Outcomes.{ApplicationsHaveOutcomes, ApplicationsHaveBudgets, ScriptsHaveRuns};
 
 /// At given hook darts a rule has one match at most: two have the same positions and turns, and
 /// each left node at the same darts. The law is the clause; the function does nothing.
@@ -21,4 +21,13 @@ pub fn applications_have_outcomes()
 /// function does nothing.
 pub fn applications_have_budgets()
     ensures { ApplicationsHaveBudgets }
+{}
+
+/// Each script whose statements name accepted rules, with a dart's name for each hook and a value
+/// of its kind for each parameter, has a run from each sound map of their schema, with its bounds
+/// on steps: where the statements stand in an order that scripts have, and an `each` has a rule of
+/// one hook and labels of the map. The run leaves a sound map, and so is each map to which undo and
+/// redo lead then. The law is the clause; the function does nothing.
+pub fn scripts_have_runs()
+    ensures { ScriptsHaveRuns }
 {}
