@@ -34,7 +34,7 @@ use Rattle.gm_plan.specs.Counts.{removed_nodes}
 use Rattle.gm_plan.specs.InArena.{placement_in}
 use Rattle.gm_plan.specs.Placed.{Placed}
 use Rattle.gm_plan.specs.Plans.{IsPlanned}
-use Rattle.gm_theory.proofs.CandidatesFound.{some_position}
+use Rattle.gm_theory.proofs.Turns.{some_position_walked}
 use Rattle.gm_theory.proofs.Lists.{none_some, some_same}
 use Rattle.gm_theory.proofs.ReadingsTyped.{values_have_their_kinds}
 use Rattle.gm_theory.proofs.ValuesKept.{match_reading}
@@ -69,18 +69,18 @@ module _ (m : ArenaMap) (rule : Rule) (hooks : List ℕ) (params : List Value) (
     pre_met v same value other at = subst (λ t. HasValue (reading_in m found 0 params) t (values.Bool true)) (some_same tree other (sym is ∙ at)) (subst (HasValue (reading_in m found 0 params) tree) same value)
 
     pub pre_valueless : HasNoValue (reading_in m found 0 params) tree → IsRefused app PreNoValue
-    pre_valueless none = ValuelessPre (placement_in m found) tree (answer.is_found params) is none
+    pre_valueless none = ValuelessPre (placement_in m found) tree answer.matched.is_match is none
 
     module _ (sound : IsSound (as_map m)) (good : AreGoodParams rule params) (has_kind : HasKind m.schema rule tree kinds.Bool) where
       of_kind : (v : Value) → HasValue (reading_in m found 0 params) tree v → IsValueOf kinds.Bool v
-      of_kind v = values_have_their_kinds rule (reading_in m found 0 params) tree kinds.Bool v (match_reading app (placement_in m found) sound.is_map sound.generalised answer.matched.is_match 0 (some_position (as_map m) rule hooks (placement_in m found) (answer.is_found params).candidate)) good has_kind
+      of_kind v = values_have_their_kinds rule (reading_in m found 0 params) tree kinds.Bool v (match_reading app (placement_in m found) sound.is_map sound.generalised answer.matched.is_match 0 (some_position_walked (as_map m) rule hooks answer.matched.is_match.walk (placement_in m found) answer.matched.is_match.positions)) good has_kind
 
       -- a truth that isn't true
       pub pre_false : (v : Value) → (v ≢ values.Bool true) → HasValue (reading_in m found 0 params) tree v → IsRefused app PreFalse
       pre_false v other value = go v other value (of_kind v value)
         where
           go : (v : Value) → (v ≢ values.Bool true) → HasValue (reading_in m found 0 params) tree v → IsValueOf kinds.Bool v → IsRefused app PreFalse
-          go (values.Bool false) other value of_kind = FalsePre (placement_in m found) tree (answer.is_found params) is value
+          go (values.Bool false) other value of_kind = FalsePre (placement_in m found) tree answer.matched.is_match is value
           go (values.Bool true) other value of_kind = absurd (other refl)
           go v other value of_kind = absurd (let kind = of_kind.kind_is in cc)
 
@@ -95,15 +95,15 @@ module _ (m : ArenaMap) (lawful : IsLawful m) (rule : Rule) (hooks : List ℕ) (
 
   module _ (params : List Value) (met : MeetsPre (application_of m rule hooks params) (placement_in m found)) where
     pub no_room : (live new : ℕ) → live ≡ m.count - found.positions * removed_nodes rule → new ≡ found.positions * added_nodes rule → most_darts < live + new → IsRefused (application_of m rule hooks params) (FullDarts live new)
-    no_room live new e f h = rw (e, f) (NoRoom (placement_in m found) (m.count - found.positions * removed_nodes rule) (answer.is_found params) met staying.1 (omega (arith, h, e, f)))
+    no_room live new e f h = rw (e, f) (NoRoom (placement_in m found) (m.count - found.positions * removed_nodes rule) answer.matched.is_match met staying.1 (omega (arith, h, e, f)))
 
     pub no_names : (live new : ℕ) → live ≡ m.count - found.positions * removed_nodes rule → new ≡ found.positions * added_nodes rule → live + new ≤ most_darts → most_names < m.next + new → IsRefused (application_of m rule hooks params) (FullNames m.next new)
-    no_names live new e f h k = rw f (NoNames (placement_in m found) (m.count - found.positions * removed_nodes rule) (answer.is_found params) met staying.1 (omega (arith, h, e, f)) (omega (arith, k, f)))
+    no_names live new e f h k = rw f (NoNames (placement_in m found) (m.count - found.positions * removed_nodes rule) answer.matched.is_match met staying.1 (omega (arith, h, e, f)) (omega (arith, k, f)))
 
     pub has_room : (live new gone : ℕ) → live ≡ m.count - found.positions * removed_nodes rule → new ≡ found.positions * added_nodes rule → gone ≡ found.positions * removed_nodes rule → live + new ≤ most_darts → m.next + new ≤ most_names → HasRoom (application_of m rule hooks params) (placement_in m found) new gone
     has_room live new gone e f g h k = record {
       ready = record {
-        found = answer.is_found params;
+        matched = answer.matched.is_match;
         pre = met;
         live = m.count - found.positions * removed_nodes rule;
         live_is = staying.1;

@@ -3,9 +3,9 @@ use Rattle.std.proofs.Common.{◌≡◌, ℕ, ◌+◌, ◌*◌, ◌≤◌, List,
 use Rattle.std.proofs.lemmas.Nat.{mul-le}
 use Rattle.gm_model.specs.declared.value.Value.{Value}
 use Rattle.gm_model.specs.Acceptance.{IsAccepted}
-use Rattle.gm_model.specs.Applications.{Application, IsFound, IsReady, IsPreUnits, IsReachedSum, IsReadSum, HasPositions, NoDarts, Candidate, IsWork, NoMatch, NotReady, Ready, IsBudget, Of}
+use Rattle.gm_model.specs.Applications.{Application, IsReady, IsPreUnits, IsReachedSum, IsReadSum, HasPositions, NoDarts, Candidate, IsWork, NoMatch, NotReady, Ready, IsBudget, Of}
 use Rattle.gm_model.specs.Maps.{IsSchema, IsSound}
-use Rattle.gm_model.specs.Matches.{Placement}
+use Rattle.gm_model.specs.Matches.{Placement, IsCandidate, IsMatch}
 use Rattle.gm_model.specs.Rules.{Rule}
 use Rattle.gm_model.specs.Unfolding.{added_nodes}
 use Rattle.gm_arena.specs.ArenaAsMap.{as_map}
@@ -14,9 +14,10 @@ use Rattle.gm_match.specs.Outcome.{application_of, IsAnswer}
 use Rattle.gm_plan.specs.InArena.{placement_in}
 use Rattle.gm_plan.specs.Placed.{Placed}
 use Rattle.gm_theory.specs.Theorem.{Unfolded, Unfolds, IsDartOf}
+use Rattle.gm_theory.proofs.Candidates.{match_is_candidate}
+use Rattle.gm_theory.proofs.Found.{IsFound, match_found}
 use Rattle.gm_theory.proofs.LikeCandidates.{candidates_like}
 use Rattle.gm_theory.proofs.CandidatesFound.{some_position}
-use Rattle.gm_theory.proofs.ValuesKept.{found_match}
 use Rattle.gm_apply.proofs.LikeApplications.{pre_units_there, ready_there}
 use Rattle.gm_apply.proofs.LikeResults.{results_like}
 use Rattle.gm_apply.proofs.LikeScenes.{unfolding_there}
@@ -61,22 +62,25 @@ module _ (m : ArenaMap) (rule : Rule) (hooks : List ℕ) (params : List Value) w
       few : units ≤ read
 
     found_here : IsFound app here
-    found_here = answer.is_found params
+    found_here = match_found app here accepted answer.matched.is_match
 
-    units_here : (place : Placement) (u : ℕ) → IsFound app place → IsPreUnits app place u → IsPreUnits app here u
+    candidate_of : (place : Placement) → IsMatch (as_map m) rule hooks place → IsCandidate (as_map m) rule hooks place
+    candidate_of place = match_is_candidate (as_map m) rule place accepted.in_range accepted.incidence hooks
+
+    units_here : (place : Placement) (u : ℕ) → IsMatch (as_map m) rule hooks place → IsPreUnits app place u → IsPreUnits app here u
     units_here place u theirs units =
-        let like = candidates_like app accepted.in_range accepted.incidence here place found_here.candidate theirs.candidate in
+        let like = candidates_like app accepted.in_range accepted.incidence here place found_here.candidate (candidate_of place theirs) in
         let both = same_map rule (as_map m) here place accepted sound.is_map sound.generalised like answer.matched.is_match.embedded.live in
-        pre_units_there rule hooks params (as_map m) (as_map m) place here (places_back rule (as_map m) (as_map m) here place both) (some_position (as_map m) rule hooks place theirs.candidate) u units
+        pre_units_there rule hooks params (as_map m) (as_map m) place here (places_back rule (as_map m) (as_map m) here place both) (some_position (as_map m) rule hooks place (candidate_of place theirs)) u units
 
     positions_here : (k : ℕ) → HasPositions app k → k ≡ found.positions
     positions_here _ (NoDarts none) = absurd (none found_here.darts)
     positions_here _ (Candidate place darts candidate) = (candidates_like app accepted.in_range accepted.incidence place here candidate found_here.candidate).positions
 
     read_here : (reached read : ℕ) → IsWork app reached read → IsReadHere read
-    read_here _ _ (NoMatch none) = absurd (none here found_here)
+    read_here _ _ (NoMatch none) = absurd (none here answer.matched.is_match)
     read_here _ _ (NotReady place u theirs unready units) = record { units = u; pre_units = units_here place u theirs units; few = omega arith }
-    read_here _ _ (Ready place live alpha reached u w ready unfolded reaches units sum) = record { units = u; pre_units = units_here place u ready.found units; few = omega arith }
+    read_here _ _ (Ready place live alpha reached u w ready unfolded reaches units sum) = record { units = u; pre_units = units_here place u ready.matched units; few = omega arith }
 
     find_cost : (before after : ℕ) → ((k : ℕ) → HasPositions app k → after ≤ before + 8 * (m.schema.dim + 1) * (length rule.nodes * k + 1)) → after ≤ before + 8 * (m.schema.dim + 1) * (length rule.nodes * found.positions + 1)
     find_cost before after cost = cost found.positions (Candidate here found_here.darts found_here.candidate)
@@ -117,27 +121,27 @@ module _ (m : ArenaMap) (rule : Rule) (hooks : List ℕ) (params : List Value) w
       pub read_is : read ≡ pre + sets
 
     module _ (of_schema : IsSchema m.schema) (ready_here : IsReady app here) where
-      same_here : (place : Placement) → IsFound app place → AreLikeAt rule (as_map m) (as_map m) place here
+      same_here : (place : Placement) → IsMatch (as_map m) rule hooks place → AreLikeAt rule (as_map m) (as_map m) place here
       same_here place theirs =
           places_back rule (as_map m) (as_map m) here place
-          (same_map rule (as_map m) here place accepted sound.is_map sound.generalised (candidates_like app accepted.in_range accepted.incidence here place found_here.candidate theirs.candidate) answer.matched.is_match.embedded.live)
+          (same_map rule (as_map m) here place accepted sound.is_map sound.generalised (candidates_like app accepted.in_range accepted.incidence here place found_here.candidate (candidate_of place theirs)) answer.matched.is_match.embedded.live)
 
       ready_work : (reached read : ℕ) → IsWork app reached read → IsReadyWork reached read
-      ready_work _ _ (NoMatch none) = absurd (none here found_here)
+      ready_work _ _ (NoMatch none) = absurd (none here answer.matched.is_match)
       ready_work _ _ (NotReady place u theirs unready units) =
           absurd (unready (ready_there rule hooks params (as_map m) (as_map m) here place (places_back rule (as_map m) (as_map m) place here (same_here place theirs)) ready_here theirs))
       ready_work _ _ (Ready place live alpha reached u w ready unfolded reaches units reads) =
-          let both = same_here place ready.found in
+          let both = same_here place ready.matched in
           let result : Unfolded = record { live = live; alpha = alpha; next = m.next + place.positions * added_nodes rule } in
           let unfolds : Unfolds (as_map m) rule here result = unfolding_there rule (as_map m) (as_map m) place here both (λ d. IsTrue (live d)) alpha result.next unfolded in
-          let like = results_like rule hooks (as_map m) (as_map m) place here both of_schema (found_match app place sound.generalised accepted ready.found) result result unfolded unfolds in
+          let like = results_like rule hooks (as_map m) (as_map m) place here both of_schema ready.matched result result unfolded unfolds in
           record {
             result = result;
             unfolds = unfolds;
             reaches = reached_sum_there rule hooks params (as_map m) (as_map m) place here result result like reached reaches;
             pre = u;
             sets = w;
-            pre_units = units_here place u ready.found units;
+            pre_units = units_here place u ready.matched units;
             read_sum = read_sum_there rule hooks params (as_map m) (as_map m) place here result result like w reads;
             read_is = refl;
           }

@@ -3,7 +3,7 @@ use Rattle.std.proofs.Common.{◌≡◌, ℕ, true, ◌+◌, ◌*◌, ◌<◌, �
 use Rattle.gm_model.specs.declared.rule.Side.TheVariants.{Left, Right}
 use Rattle.gm_model.specs.declared.value.Value.{Value}
 use Rattle.gm_model.specs.declared.value.Value.TheVariants as values
-use Rattle.gm_model.specs.Applications.{Application, IsStaying, MeetsPre, IsPreUnits, IsFound, IsReady, reading_at}
+use Rattle.gm_model.specs.Applications.{Application, IsStaying, MeetsPre, IsPreUnits, IsMatched, IsReady, reading_at}
 use Rattle.gm_model.specs.Expressions.{HasValue, HasNoValue}
 use Rattle.gm_model.specs.Limits.{most_darts, most_names}
 use Rattle.gm_model.specs.Maps.{Map}
@@ -12,8 +12,8 @@ use Rattle.gm_model.specs.Orbits.{HasCount}
 use Rattle.gm_model.specs.Rules.{Rule, has_word}
 use Rattle.gm_model.specs.Trees.{Tree}
 use Rattle.gm_model.specs.Unfolding.{IsGone, scene_of, added_nodes}
-use Rattle.gm_theory.proofs.CandidatesFound.{some_position}
 use Rattle.gm_theory.proofs.Tests.{both_true}
+use Rattle.gm_theory.proofs.Turns.{some_position_walked}
 use Rattle.gm_apply.proofs.Counting.{count_same}
 use Rattle.gm_apply.proofs.LikePlaces.{AreLikeAt, places_back, readings_like}
 use Rattle.gm_apply.proofs.LikeReadings.{AreLikeReadings, value_there, no_value_there, units_there}
@@ -56,10 +56,10 @@ module _ (rule : Rule) (hooks : List ℕ) (params : List Value) (a b : Map) (pla
 
   -- ---- room
 
-  pub ready_there : IsReady here place → IsFound there other → IsReady there other
-  ready_there ready found = record {
-    found = found;
-    pre = meets_pre_there (some_position a rule hooks place ready.found.candidate) ready.pre;
+  pub ready_there : IsReady here place → IsMatched there other → IsReady there other
+  ready_there ready matched = record {
+    matched = matched;
+    pre = meets_pre_there (some_position_walked a rule hooks ready.matched.walk place ready.matched.positions) ready.pre;
     live = ready.live;
     live_is = staying_there ready.live ready.live_is;
     darts_fit = subst (λ n. ready.live + n * added_nodes rule ≤ most_darts) like.like.positions ready.darts_fit;
