@@ -4,7 +4,6 @@ pub mod Frames
 pub mod Sound
 pub mod Counted
 pub mod Standing
-pub mod NoToken
 pub mod OpenBrackets
 pub mod Steps
 pub mod FaultOrder

@@ -1,14 +1,16 @@
 -- What one mark comes to where an expression is read, and how steps are put together.
-use Rattle.std.proofs.Common.{◌≡◌, ◌<◌, ◌≤◌, ◌+◌, ℕ, Bool, true, false, List, [], ◌∷◌, ◌++◌, length, Option, Some, None, Result, Ok, Err, refl, sym, ap, subst, ◌∙◌, append_assoc, arith}
+use Rattle.std.proofs.Common.{◌≡◌, ◌<◌, ◌≤◌, ◌+◌, ℕ, Bool, true, false, List, [], ◌∷◌, ◌++◌, length, Option, Some, None, Result, Ok, Err, refl, sym, ap, subst, ◌∙◌, append_assoc, inl, inr, length-append, arith}
 use Rattle.std.specs.Option.{option_map}
-use Rattle.std.specs.Prelude.{IfOk, IfErr, nat_lt}
+use Rattle.std.specs.Prelude.{IfOk, IfErr, nat_lt, IsTrue}
 use Rattle.gm_model.specs.declared.limit.LimitKind.{LimitKind}
 use Rattle.gm_model.specs.declared.token.Token.{Token}
 use Rattle.gm_model.specs.Reading.{TextEndsAt}
 use Rattle.gm_model.specs.Symbols.{Symbol, Mark}
 use Rattle.gm_text.specs.Cursor.{Cursor}
 use Rattle.gm_text.specs.Machine.{Stop, Ends, Passes}
-use Rattle.gm_text.specs.SchemaAnswers.{marks_left, IsNext, IsNoToken, AtStray, AtEnd, symbol_at, mark_at}
+use Rattle.gm_text.specs.SchemaAnswers.{marks_left, IsNext, IsNoToken, AtStray, AtEnd, IsNoneNext, symbol_at, mark_at}
+use Rattle.gm_text.specs.Lexing.{IsBehindToken, GoesOverTokens}
+use Rattle.gm_text.proofs.Behind.{behind_next, over_then, behind_marks}
 use Rattle.gm_text.proofs.Machine.{last_of}
 use Rattle.gm_parse.specs.declared.fault.SyntaxFault.{SyntaxFault}
 use Rattle.gm_parse.specs.declared.fault.SyntaxFault.TheVariants as faults
@@ -16,7 +18,7 @@ use Rattle.gm_parse.specs.declared.key.Key.{Key}
 use Rattle.gm_parse.specs.declared.key.Key.TheVariants as keys
 use Rattle.gm_parse.specs.Spelling.{limit_in, limit_of, passed_by, IsSentence}
 use Rattle.gm_parse.specs.Reading.{State, Spot, spot_at, first_spot, move, move_by, key_of, key_role, spot_move, spot_role, is_whole, is_whole_spot}
-use Rattle.gm_parse.specs.Answers.{run_in, Reads, EndsBefore, SkipsExpr, EndsIn, Stops, IsNoneNext, Advances, IsExprSkipped, IsSyntaxFault}
+use Rattle.gm_parse.specs.Answers.{run_in, Reads, EndsBefore, SkipsExpr, EndsIn, Stops, Advances, IsExprSkipped, IsSyntaxFault}
 use Rattle.gm_parse.specs.Taking.{Becomes}
 use Rattle.gm_parse.proofs.OpenBrackets.{few_more}
 use Rattle.gm_parse.specs.declared.place.Place.{Place}
@@ -36,6 +38,7 @@ reads_token n spot next old new token is moves free = record {
   runs = one_read n spot next (mark_at new.text token) moves free;
   text = is.text;
   onward = omega (arith, is.onward);
+  over = inr (behind_next old new token is);
 }
 
 pub no_token : (symbol : Symbol) → IsNoToken symbol → key_of symbol ≡ keys.Other
@@ -87,7 +90,7 @@ run_over n spot to last (mark ∷ marks) rest e =
     ]
 
 abbrev pub reads_self : (n : ℕ) (spot : Spot) (cursor : Cursor) → Reads n spot cursor cursor spot
-reads_self n spot cursor = record { before = []; split = refl; runs = λ last. refl; text = refl; onward = omega arith }
+reads_self n spot cursor = record { before = []; split = refl; runs = λ last. refl; text = refl; onward = omega arith; over = inl refl }
 
 abbrev pub reads_then : (n : ℕ) (spot middle to : Spot) (old between new : Cursor) → Reads n spot old between middle → Reads n middle between new to → Reads n spot old new to
 reads_then n spot middle to old between new one two = record {
@@ -96,6 +99,7 @@ reads_then n spot middle to old between new one two = record {
   runs = λ last. run_over n spot middle last one.before two.before (one.runs last) ∙ two.runs (last_of last one.before);
   text = two.text ∙ one.text;
   onward = omega (arith, one.onward, two.onward);
+  over = over_then old between new one.over two.over;
 }
 
 over : (n : ℕ) (spot middle : Spot) (old between : Cursor) (answer : Result Spot (Stop Spot LimitKind)) → Reads n spot old between middle → ((last : ℕ) → run_in n middle last (marks_left between) ≡ answer)
@@ -208,6 +212,15 @@ module _ (n count : ℕ) (state after : State) (old new : Cursor) (token : Token
     )
 
 -- ---- as a whole
+
+-- from the first spot to a whole expression the lexer goes past a token at least
+pub whole_behind : (n : ℕ) (to : Spot) (old new : Cursor) → IsTrue (is_whole_spot to) → Reads n first_spot old new to → IsBehindToken old new
+whole_behind n to old new whole reads =
+    behind_marks old new reads.before reads.split reads.over (λ empty.
+    let stays : Ok first_spot ≡ Ok to = subst (λ (marks : List Mark). run_in n first_spot 0 marks ≡ Ok to) empty (reads.runs 0) in
+    let same : first_spot ≡ to = cc stays in
+    let part : false ≡ true = ap is_whole_spot same ∙ whole in
+    absurd cc)
 
 pub skip_stands : (n : ℕ) (old new : Cursor) → SkipsExpr n old new → IsExprSkipped n old new
 skip_stands n old new skips =

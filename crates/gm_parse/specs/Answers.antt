@@ -12,8 +12,9 @@ use Rattle.gm_model.specs.Rules.{Rule, has_word}
 use Rattle.gm_model.specs.Symbols.{Mark}
 use Rattle.gm_model.specs.Trees.{Tree}
 use Rattle.gm_text.specs.Cursor.{Cursor}
+use Rattle.gm_text.specs.Lexing.{GoesOverTokens}
 use Rattle.gm_text.specs.Machine.{Stop, Ends, Passes, run}
-use Rattle.gm_text.specs.SchemaAnswers.{marks_left, IsNext, IsNoToken}
+use Rattle.gm_text.specs.SchemaAnswers.{marks_left, IsNext}
 use Rattle.gm_parse.specs.declared.fault.ExprFault.{ExprFault}
 use Rattle.gm_parse.specs.declared.fault.ExprFault.TheVariants as faults
 use Rattle.gm_parse.specs.declared.fault.SyntaxFault.{SyntaxFault}
@@ -79,6 +80,7 @@ pub record Reads (n : ℕ) (spot : Spot) (old new : Cursor) (to : Spot) : Type 0
   pub runs : (last : ℕ) → run_in n spot last before ≡ Ok to
   pub text : new.text ≡ old.text
   pub onward : old.place ≤ new.place
+  pub over : GoesOverTokens old new
 
 -- what is left can't go on from the spot
 pub record EndsBefore (spot : Spot) (marks : List Mark) : Type 0 where
@@ -106,13 +108,6 @@ pub record EndsIn (n : ℕ) (spot : Spot) (old : Cursor) (place : ℕ) : Type 0 
 abbrev pub Stops : ℕ → Spot → Cursor → SyntaxFault → Type 0
 Stops n spot old (syntax_faults.Text place) = EndsIn n spot old place
 Stops n spot old (syntax_faults.Limit what place) = (last : ℕ) → run_in n spot last (marks_left old) ≡ Err (Passes what place)
-
--- no token stands next, but at the place a stray byte or the end
-pub record IsNoneNext (old : Cursor) (place : ℕ) : Type 0 where
-  pub mark : Mark
-  pub none : IsNoToken mark.symbol
-  pub marks : marks_left old ≡ mark ∷ []
-  pub here : mark.place ≡ place
 
 -- one token further, to this state; or the expression ends, and nothing has changed
 abbrev pub Advances : ℕ → Spot → Cursor → Option Token → State → Cursor → Type 0

@@ -20,4 +20,4 @@ pub use key::{Collector, Key};
 pub use skipping::{advance, skip_expr};
 pub use state::State;
 pub use table::meaning_or;
-pub use tokens::{key_at, value};
+pub use tokens::key_at;

@@ -1,5 +1,6 @@
 //! An expression gone past: what the longest one is, and its first fault by the grammar.
 ghost use Rattle.std.specs.Prelude.{◌≡◌, ◌≤◌, true, false, length, None, IfOk, IfErr, OnErr};
+ghost use Rattle.gm_text.specs.Lexing.{IsBehindToken};
 ghost use Rattle.gm_text.specs.SchemaAnswers.{marks_left};
 ghost use Rattle.gm_parse.specs.declared.fault.SyntaxFault.TheVariants as syntax_faults;
 ghost use Rattle.gm_parse.specs.Answers.{Advances, IsExprSkipped, IsSyntaxFault, SkipsExpr, Stops};
@@ -7,7 +8,7 @@ ghost use Rattle.gm_parse.specs.Reading.{first_spot, is_whole, spot_at};
 
 use crate::fault::SyntaxFault;
 use crate::state::State;
-use crate::tokens::{key_at, limit_passed, next_token};
+use crate::tokens::{key_at, limit_passed};
 use gm_model::{Dim, Token};
 use gm_text::Lexer;
 
@@ -37,7 +38,7 @@ pub fn advance(
     ensures stops { IfErr result (Stops dim (spot_at count state.old) lexer.old) }
 {
     let mut ahead = lexer.fork();
-    let token = match next_token(&mut ahead) {
+    let token = match ahead.token() {
         Ok(token) => token,
         Err(place) => return end_before(state, place),
     };
@@ -66,11 +67,12 @@ fn skip_ahead(lexer: &mut Lexer<'_>, dim: Dim) -> Result<(), SyntaxFault>
     Ok(())
 }
 
-/// Goes past the longest expression that stands next, in which labels go up to the dimension. What
-/// stands behind it isn't judged, no name is looked up, and no memory is taken. After a refusal,
+/// Goes past the longest expression that stands next, in which labels go up to the dimension, and
+/// stands directly behind its last token. What stands behind it isn't judged, no name is looked up, and no memory is taken. After a refusal,
 /// whose fault is the first from left to right, the lexer is as before.
 pub fn skip_expr(lexer: &mut Lexer<'_>, dim: Dim) -> Result<(), SyntaxFault>
     ensures expr { IfOk result (λ _. IsExprSkipped dim lexer.old lexer.new) }
+    ensures behind { IfOk result (λ _. IsBehindToken lexer.old lexer.new) }
     ensures fault { IfErr result (IsSyntaxFault dim (marks_left lexer.old)) }
     ensures runs { IfOk result (λ _. SkipsExpr dim lexer.old lexer.new) }
     ensures stops { IfErr result (Stops dim first_spot lexer.old) }

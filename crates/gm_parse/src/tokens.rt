@@ -1,11 +1,8 @@
 //! The tokens of expressions: what each is, and which limit it passes.
-ghost use Rattle.std.specs.Prelude.{◌≡◌, ℕ, ◌<◌, ◌≤◌, ◌^◌, ◌-◌, min, IfOk, IfErr};
-ghost use Rattle.gm_model.specs.declared.token.TokenKind.TheVariants.{Number};
-ghost use Rattle.gm_model.specs.Symbols.{Word, Numeral, value_of};
-ghost use Rattle.gm_model.specs.Tokens.{bytes_of};
-ghost use Rattle.gm_text.specs.SchemaAnswers.{IsNext, IsToken, symbol_at};
+ghost use Rattle.std.specs.Prelude.{◌≡◌, ℕ, ◌^◌, ◌-◌, min};
+ghost use Rattle.gm_model.specs.Symbols.{Word, Numeral};
+ghost use Rattle.gm_text.specs.SchemaAnswers.{IsToken, symbol_at};
 ghost use Rattle.gm_parse.specs.declared.key.Key.TheVariants as keys;
-ghost use Rattle.gm_parse.specs.Answers.{IsNoneNext};
 ghost use Rattle.gm_parse.specs.Reading.{key_of, key_role, keyword, number_role, sign_key};
 ghost use Rattle.gm_parse.specs.Spelling.{limit_in, limit_of};
 
@@ -58,18 +55,6 @@ const MOST_BYTES: usize = 32;
 
 const GREATEST: u64 = 9_223_372_036_854_775_807;
 
-/// The next token, which the lexer goes past, or the place where none stands.
-pub(crate) fn next_token(lexer: &mut Lexer<'_>) -> Result<Token, usize>
-    ensures next { IfOk result (λ token. IsNext lexer.old token lexer.new) }
-    ensures none { IfErr result (IsNoneNext lexer.old) }
-{
-    match lexer.next() {
-        Ok(Some(token)) => Ok(token),
-        Ok(None) => Err(lexer.place()),
-        Err(fault) => Err(fault.place),
-    }
-}
-
 fn key_of_reserved(word: &[u8]) -> Key
     ensures { result ≡ keyword word.now }
 {
@@ -105,15 +90,6 @@ pub fn key_at(lexer: &Lexer<'_>, token: &Token) -> Key
     }
 }
 
-/// The value of a number; the greatest `u64` stands for a number that is greater.
-pub fn value(lexer: &Lexer<'_>, token: &Token) -> u64
-    requires token { IsToken lexer.now.text token.now }
-    requires kind { token.now.kind ≡ Number }
-    ensures { result ≡ min (value_of (bytes_of lexer.now.text token.now)) (2 ^ 64 - 1) }
-{
-    lexer.number(token).unwrap_or(u64::MAX)
-}
-
 fn limit_of_number(dim: Dim, place: Place, value: u64) -> Option<LimitKind>
     ensures { (n at : ℕ) → value ≡ min n (2 ^ 64 - 1) → result ≡ limit_of (number_role dim place at) (Numeral n) }
 {
@@ -138,7 +114,7 @@ fn limit_of_key(
     ensures { result ≡ limit_of (key_role dim place key token.now.start) (symbol_at lexer.now.text token.now) }
 {
     match key {
-        Key::Number => limit_of_number(dim, place, value(lexer, token)),
+        Key::Number => limit_of_number(dim, place, lexer.value(token)),
         Key::Name if lexer.text(token).len() > MOST_BYTES => Some(LimitKind::Name),
         _ => None,
     }

@@ -12,6 +12,7 @@ pub mod Carried
 pub mod SchemaGrammar
 pub mod SchemaSpelled
 pub mod SchemaStanding
+pub mod Behind
 pub mod SchemaTokens
 pub mod SchemaSteps
 pub mod SchemaMoves

@@ -1,17 +1,19 @@
 -- What one mark comes to where a schema is read, and how steps are put together.
-use Rattle.std.proofs.Common.{◌≡◌, ◌≤◌, ℕ, Bool, true, false, List, [], ◌∷◌, ◌++◌, Option, Some, None, Result, Ok, Err, refl, sym, ap, subst, ◌∙◌, append_assoc, arith}
+use Rattle.std.proofs.Common.{◌≡◌, ◌≢◌, ◌≤◌, ℕ, Bool, true, false, List, [], ◌∷◌, ◌++◌, Option, Some, None, Result, Ok, Err, refl, sym, ap, subst, ◌∙◌, append_assoc, inl, inr, codes, arith}
 use Rattle.std.specs.Prelude.{IfOk, IfErr}
 use Rattle.gm_model.specs.declared.limit.LimitKind.{LimitKind}
 use Rattle.gm_model.specs.declared.schema.Embed.{Embed}
-use Rattle.gm_model.specs.Symbols.{Symbol, Stray, End, Mark}
+use Rattle.gm_model.specs.Symbols.{Symbol, Word, Stray, End, Mark}
 use Rattle.gm_text.specs.Cursor.{Cursor}
+use Rattle.gm_text.specs.Lexing.{IsBehindToken}
 use Rattle.gm_text.specs.Machine.{Stop, Ends, Passes}
 use Rattle.gm_text.specs.SchemaText.{Passed, LimitOf, Again}
 use Rattle.gm_text.specs.SchemaReading.{State, AtDim, AtTop, AtEmbeds, AtName, AtOrbit, AtLabel, AtKind, role_at, move, is_whole}
-use Rattle.gm_text.specs.SchemaAnswers.{marks_left, judged, IsKnown, run_in, Reads, EndsIn, Stops, StopsOrLost, IsNext, IsNoToken, AtStray, AtEnd, IsNoneNext, symbol_at, mark_at}
+use Rattle.gm_text.specs.SchemaAnswers.{marks_left, judged, IsKnown, run_in, Reads, EndsIn, Stops, StopsOrLost, IsNext, IsEmbedNext, IsNoToken, AtStray, AtEnd, LacksToken, symbol_at, mark_at}
 use Rattle.gm_text.specs.declared.schema_fault.SchemaFault.{SchemaFault}
 use Rattle.gm_text.specs.declared.schema_fault.SchemaFault.TheVariants as faults
 use Rattle.gm_model.specs.declared.token.Token.{Token}
+use Rattle.gm_text.proofs.Behind.{behind_next, over_then, behind_marks}
 use Rattle.gm_text.proofs.Machine.{last_of}
 
 -- ---- one mark
@@ -27,6 +29,7 @@ reads_token strict state next old new token is moves free = record {
   runs = one_read strict state next (mark_at new.text token) moves free;
   text = is.text;
   onward = omega (arith, is.onward);
+  over = inr (behind_next old new token is);
 }
 
 -- no state goes on with what is no token
@@ -66,9 +69,12 @@ stops_mark strict state old mark rest marks none part = record {
   ends = λ last. ap (run_in strict state last) marks ∙ ends_at strict state mark rest none last;
 }
 
-pub stops_none : (strict : Bool) (state : State) (old : Cursor) (fault : SchemaFault) → is_whole state ≡ false → IsNoneNext old fault → Stops strict state old fault
-stops_none strict state old fault part is =
-    subst (Stops strict state old) (sym is.says) (stops_mark strict state old is.mark [] is.marks (no_token_moves state is.mark.symbol is.none) part)
+pub stops_none : (strict : Bool) (state : State) (old : Cursor) (fault : SchemaFault) → is_whole state ≡ false → LacksToken old fault → Stops strict state old fault
+stops_none strict state old (faults.Text place) part is =
+    subst (λ (p : ℕ). EndsIn strict state old p) is.here (stops_mark strict state old is.mark [] is.marks (no_token_moves state is.mark.symbol is.none) part)
+stops_none strict state old (faults.Limit what place) part is = absurd is
+stops_none strict state old (faults.Twice place) part is = absurd is
+stops_none strict state old faults.OutOfMemory part is = absurd is
 
 pub stops_token : (strict : Bool) (state : State) (old new : Cursor) (token : Token) → is_whole state ≡ false → IsNext old token new → move state (symbol_at new.text token) ≡ None → Stops strict state old (faults.Text token.start)
 stops_token strict state old new token part is none = stops_mark strict state old (mark_at new.text token) (marks_left new) is.marks none part
@@ -115,6 +121,7 @@ reads_none strict state cursor = record {
   runs = λ last. refl;
   text = refl;
   onward = omega arith;
+  over = inl refl;
 }
 
 pub reads_then : (strict : Bool) (state middle to : State) (old between new : Cursor) → Reads strict state old between middle → Reads strict middle between new to → Reads strict state old new to
@@ -124,6 +131,7 @@ reads_then strict state middle to old between new one two = record {
   runs = λ last. run_over strict state middle last one.before two.before (one.runs last) ∙ two.runs (last_of last one.before);
   text = two.text ∙ one.text;
   onward = omega (arith, one.onward, two.onward);
+  over = over_then old between new one.over two.over;
 }
 
 over : (strict : Bool) (state middle : State) (old between : Cursor) (answer : Result State (Stop State Passed)) → Reads strict state old between middle → ((last : ℕ) → run_in strict middle last (marks_left between) ≡ answer)
@@ -144,16 +152,16 @@ stops_then strict state middle old between (faults.Twice place) one stops = over
 stops_then strict state middle old between faults.OutOfMemory one stops = absurd stops
 
 -- a further mark first
-pub reads_behind : (strict : Bool) (state next to : State) (old between new : Cursor) (mark : Mark) → marks_left old ≡ mark ∷ marks_left between → between.text ≡ old.text → old.place ≤ between.place
+pub reads_behind : (strict : Bool) (state next to : State) (old between new : Cursor) (mark : Mark) → marks_left old ≡ mark ∷ marks_left between → between.text ≡ old.text → old.place ≤ between.place → IsBehindToken old between
     → move state mark.symbol ≡ Some next → judged strict (role_at state mark.symbol mark.place) mark.symbol ≡ None → Reads strict next between new to → Reads strict state old new to
-reads_behind strict state next to old between new mark marks text onward moves free rest =
-    let one : Reads strict state old between next = record { before = mark ∷ []; split = marks; runs = one_read strict state next mark moves free; text = text; onward = onward } in
+reads_behind strict state next to old between new mark marks text onward behind moves free rest =
+    let one : Reads strict state old between next = record { before = mark ∷ []; split = marks; runs = one_read strict state next mark moves free; text = text; onward = onward; over = inr behind } in
     reads_then strict state next to old between new one rest
 
-pub stops_behind : (strict : Bool) (state next : State) (old between : Cursor) (fault : SchemaFault) (mark : Mark) → marks_left old ≡ mark ∷ marks_left between → between.text ≡ old.text → old.place ≤ between.place
+pub stops_behind : (strict : Bool) (state next : State) (old between : Cursor) (fault : SchemaFault) (mark : Mark) → marks_left old ≡ mark ∷ marks_left between → between.text ≡ old.text → old.place ≤ between.place → IsBehindToken old between
     → move state mark.symbol ≡ Some next → judged strict (role_at state mark.symbol mark.place) mark.symbol ≡ None → Stops strict next between fault → Stops strict state old fault
-stops_behind strict state next old between fault mark marks text onward moves free stops =
-    let one : Reads strict state old between next = record { before = mark ∷ []; split = marks; runs = one_read strict state next mark moves free; text = text; onward = onward } in
+stops_behind strict state next old between fault mark marks text onward behind moves free stops =
+    let one : Reads strict state old between next = record { before = mark ∷ []; split = marks; runs = one_read strict state next mark moves free; text = text; onward = onward; over = inr behind } in
     stops_then strict state next old between fault one stops
 
 pub or_lost : (strict : Bool) (state : State) (old : Cursor) (fault : SchemaFault) → Stops strict state old fault → StopsOrLost strict state old fault
@@ -167,6 +175,24 @@ lost_then strict state middle old between (faults.Text place) one stops = stops_
 lost_then strict state middle old between (faults.Limit what place) one stops = stops_then strict state middle old between (faults.Limit what place) one stops
 lost_then strict state middle old between (faults.Twice place) one stops = stops_then strict state middle old between (faults.Twice place) one stops
 lost_then strict state middle old between faults.OutOfMemory one stops = tt
+
+-- ---- where the lexer stands
+
+pub embed_next : (old new : Cursor) (token : Token) → IsNext old token new → symbol_at new.text token ≡ Word (codes "embed") → IsEmbedNext old new token.start
+embed_next old new token is word = record {
+  marks = is.marks ∙ ap (λ (s : Symbol). let mark : Mark = record { symbol = s; place = token.start } in mark ∷ marks_left new) word;
+  text = is.text;
+  onward = is.onward;
+  within = is.within;
+  behind = behind_next old new token is;
+}
+
+-- from one state to another the lexer goes past a token at least
+pub reads_token_behind : (strict : Bool) (state to : State) (old new : Cursor) → state ≢ to → Reads strict state old new to → IsBehindToken old new
+reads_token_behind strict state to old new other reads =
+    behind_marks old new reads.before reads.split reads.over (λ empty.
+    let stays : Ok state ≡ Ok to = subst (λ (marks : List Mark). run_in strict state 0 marks ≡ Ok to) empty (reads.runs 0) in
+    other cc)
 
 -- ---- what is said of an answer
 

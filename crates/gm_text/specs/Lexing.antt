@@ -1,5 +1,5 @@
 -- What a lexer answers at a place, and what it goes past before it.
-use Rattle.std.specs.Prelude.{◌≡◌, ◌≢◌, ◌⊎◌, ℕ, ◌+◌, ◌-◌, ◌<◌, ◌≤◌, List, [], ◌∷◌, length, drop, slice_index, Option, Some, None, Result, Ok, Err, IsTrue}
+use Rattle.std.specs.Prelude.{◌≡◌, ◌≢◌, ◌⊎◌, ℕ, ◌+◌, ◌-◌, ◌<◌, ◌≤◌, List, [], ◌∷◌, ◌++◌, length, drop, slice_index, Option, Some, None, Result, Ok, Err, IsTrue}
 use Rattle.gm_model.specs.declared.token.Token.{Token}
 use Rattle.gm_model.specs.declared.token.TokenKind.TheVariants as kinds
 use Rattle.gm_model.specs.Symbols.{value_of}
@@ -22,6 +22,17 @@ abbrev pub after : Result (Option Token) LexFault → Cursor → Cursor
 after (Ok (Some token)) cursor = record cursor { place = token.end }
 after (Ok None) cursor = record cursor { place = length cursor.text }
 after (Err fault) cursor = cursor
+
+-- from the one lexer to the other tokens alone were gone past, and the new one stands directly behind the last of them
+pub record IsBehindToken (old new : Cursor) : Type 0 where
+  pub before : List Item
+  pub token : Token
+  pub items : rest_of old ≡ before ++ Lexed token ∷ rest_of new
+  pub here : new.place ≡ token.end
+
+-- the same, or the lexer stays
+abbrev pub GoesOverTokens : Cursor → Cursor → Type 0
+GoesOverTokens old new = (new ≡ old) ⊎ IsBehindToken old new
 
 -- a number of this value stands next, at the place, and ends where the new lexer is
 pub record IsNumberRead (value place : ℕ) (old new : Cursor) : Type 0 where

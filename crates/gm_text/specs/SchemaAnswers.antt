@@ -7,8 +7,9 @@ use Rattle.gm_model.specs.declared.token.Token.{Token}
 use Rattle.gm_model.specs.declared.word.Mask.{Mask}
 use Rattle.gm_model.specs.Reading.{TextEndsAt, LimitStandsAt}
 use Rattle.gm_model.specs.Symbols.{Symbol, Word, Stray, End, Mark, symbol_of_kind, marks_at}
-use Rattle.gm_model.specs.Tokens.{IsLexeme, bytes_of}
+use Rattle.gm_model.specs.Tokens.{IsLexeme, Lexed, bytes_of}
 use Rattle.gm_text.specs.Cursor.{Cursor}
+use Rattle.gm_text.specs.Lexing.{rest_of, IsBehindToken, GoesOverTokens}
 use Rattle.gm_text.specs.Machine.{Stop, Ends, Passes, run}
 use Rattle.gm_text.specs.SchemaText.{SchemaForm, Role, Passed, LimitOf, Again, limit_of, passed_of, schema_of, with_label, IsSentence}
 use Rattle.gm_text.specs.SchemaReading.{State, AtDim, AtEmbeds, AtName, AtOrbit, AtLabel, AtKind, role_at, move, is_whole, never, Stands}
@@ -63,6 +64,7 @@ pub record Reads (strict : Bool) (state : State) (old new : Cursor) (to : State)
   pub runs : (last : ℕ) → run_in strict state last before ≡ Ok to
   pub text : new.text ≡ old.text
   pub onward : old.place ≤ new.place
+  pub over : GoesOverTokens old new
 
 -- with a mark no schema goes on in a state where none can end
 pub record EndsIn (strict : Bool) (state : State) (old : Cursor) (place : ℕ) : Type 0 where
@@ -117,6 +119,7 @@ pub record IsEmbedNext (old new : Cursor) (place : ℕ) : Type 0 where
   pub text : new.text ≡ old.text
   pub onward : old.place < new.place
   pub within : new.place ≤ length new.text
+  pub behind : IsBehindToken old new
 
 -- a further embedding behind so many, or none
 abbrev pub ReadsEmbed : Bool → ℕ → ℕ → List Embed → Cursor → Cursor → Option Embed → Type 0
@@ -155,9 +158,11 @@ symbol_at text token = symbol_of_kind token.kind (bytes_of text token)
 abbrev pub mark_at : List ℕ → Token → Mark
 mark_at text token = record { symbol = symbol_at text token; place = token.start }
 
--- the token stands next, and the lexer goes past it
+-- the token stands next, and the lexer goes directly behind it
 pub record IsNext (old : Cursor) (token : Token) (new : Cursor) : Type 0 where
   pub sound : IsToken new.text token
+  pub items : rest_of old ≡ Lexed token ∷ rest_of new
+  pub here : new.place ≡ token.end
   pub marks : marks_left old ≡ mark_at new.text token ∷ marks_left new
   pub text : new.text ≡ old.text
   pub onward : old.place < new.place
@@ -168,9 +173,14 @@ pub data IsNoToken : Symbol → Type 0 where
   AtStray : IsNoToken Stray
   AtEnd : IsNoToken End
 
--- no token stands next, and the fault says where
-pub record IsNoneNext (old : Cursor) (fault : SchemaFault) : Type 0 where
+-- no token stands next, but at the place a stray byte or the end
+pub record IsNoneNext (old : Cursor) (place : ℕ) : Type 0 where
   pub mark : Mark
   pub none : IsNoToken mark.symbol
   pub marks : marks_left old ≡ mark ∷ []
-  pub says : fault ≡ faults.Text mark.place
+  pub here : mark.place ≡ place
+
+-- the fault says where no token stands next
+abbrev pub LacksToken : Cursor → SchemaFault → Type 0
+LacksToken old (faults.Text place) = IsNoneNext old place
+LacksToken old _ = ⊥

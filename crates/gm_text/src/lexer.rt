@@ -1,10 +1,11 @@
-ghost use Rattle.std.specs.Prelude.{◌≡◌, ℕ, ◌<◌, ◌≤◌, ◌^◌, false, length, IsTrue, IfSome, IfNone, MatchOption};
+ghost use Rattle.std.specs.Prelude.{◌≡◌, ℕ, ◌<◌, ◌≤◌, ◌-◌, ◌^◌, false, length, min, IsTrue, IfSome, IfNone, IfOk, IfErr, MatchOption};
 ghost use Rattle.std.specs.List.{list_all};
 ghost use Rattle.gm_model.specs.declared.token.TokenKind.TheVariants.{Number};
 ghost use Rattle.gm_model.specs.Tokens.{bytes_of, IsLexeme};
 ghost use Rattle.gm_model.specs.Tokens as tokens;
 ghost use Rattle.gm_model.specs.Symbols.{value_of};
 ghost use Rattle.gm_text.specs.Lexing.{rest_of, items_read, after, stand_of, IsInText, IsLongestThere, IsGap, IsNumberRead, IsSignRead};
+ghost use Rattle.gm_text.specs.SchemaAnswers.{IsToken, IsNext, IsNoneNext};
 
 use crate::bytes::is_digit;
 use crate::fault::LexFault;
@@ -107,6 +108,19 @@ impl<'a> Lexer<'a> {
         }
     }
 
+    /// The next token, which the lexer goes past, or the place where none stands: that of a byte with
+    /// which none begins, or the text's length.
+    pub fn token(&mut self) -> Result<Token, usize>
+        ensures next { IfOk result (λ token. IsNext self.old token self.new) }
+        ensures none { IfErr result (IsNoneNext self.old) }
+    {
+        match self.next() {
+            Ok(Some(token)) => Ok(token),
+            Ok(None) => Err(self.place()),
+            Err(fault) => Err(fault.place),
+        }
+    }
+
     /// The number that stands next, which the lexer goes past, where it has eight digits at most,
     /// nothing stands before it but one blank at most, and the text goes on for ten bytes at least.
     /// `None` says nothing of what stands next, and the lexer is then as before.
@@ -177,6 +191,15 @@ impl<'a> Lexer<'a> {
             MatchOption result (2 ^ 64 ≤ value) (λ n. n ≡ value) }
     {
         value_of_digits(self.text(token))
+    }
+
+    /// The value of a number; the greatest `u64` stands for a number that is greater.
+    pub fn value(&self, token: &Token) -> u64
+        requires token { IsToken self.now.text token.now }
+        requires kind { token.now.kind ≡ Number }
+        ensures { result ≡ min (value_of (bytes_of self.now.text token.now)) (2 ^ 64 - 1) }
+    {
+        self.number(token).unwrap_or(u64::MAX)
     }
 }
 

@@ -27,5 +27,5 @@ pub use lexer::{Lexer, SmallNumber};
 pub use schema_fault::SchemaFault;
 pub use schema_printing::print_schema;
 pub use schema_reading::{read_schema, skip_schema};
-pub use schema_words::is_reserved;
+pub use schema_words::{is_reserved, next_token};
 pub use text::Text;

@@ -4,6 +4,7 @@ ghost use Rattle.gm_model.specs.declared.schema.Embed.{Embed};
 ghost use Rattle.gm_model.specs.declared.word.Mask.{Mask};
 ghost use Rattle.gm_model.specs.declared.token.TokenKind.TheVariants.{Name, Number};
 ghost use Rattle.gm_model.specs.Maps.{IsSchema};
+ghost use Rattle.gm_text.specs.Lexing.{IsBehindToken};
 ghost use Rattle.gm_text.specs.SchemaText.{no_labels};
 ghost use Rattle.gm_text.specs.SchemaReading as states;
 ghost use Rattle.gm_text.specs.SchemaAnswers.{IsSchemaRead, IsSchemaSkipped, IsSchemaFault, IsSkipFault, Reads, Stops, StopsOrLost, ReadsName, StopsAtName, ReadsLabel, StopsAtLabel, IsNoEmbedNext, IsEmbedNext, EndsEmbeds, SkipsEmbeds, SkipsSchema, ReadsDeclaration, StopsAtDeclaration, ReadsEmbed, StopsAtEmbed, marks_left};
@@ -11,7 +12,7 @@ ghost use Rattle.gm_text.specs.SchemaAnswers.{IsSchemaRead, IsSchemaSkipped, IsS
 use crate::lexer::Lexer;
 use crate::schema_fault::SchemaFault;
 use crate::schema_words::{
-    is_declared, is_reserved, kind_named, next_token, reads_sign, reads_word, value, with_label,
+    is_declared, is_reserved, kind_named, next_token, reads_sign, reads_word, with_label,
 };
 use gm_model::{Dim, Embed, Items, Kind, LimitKind, MOST_EMBEDS, Mask, Name, Schema, TokenKind};
 use std::alloc::Global;
@@ -37,7 +38,7 @@ fn read_top(lexer: &mut Lexer<'_>) -> Result<Dim, SchemaFault>
         return Err(SchemaFault::Text { place });
     }
     let what = LimitKind::Dimension;
-    let value = value(lexer, &token);
+    let value = lexer.value(&token);
     if value > 7 {
         return Err(SchemaFault::Limit { what, place });
     }
@@ -112,7 +113,7 @@ fn read_label(
     if token.kind != TokenKind::Number {
         return Err(SchemaFault::Text { place });
     }
-    let value = value(lexer, &token);
+    let value = lexer.value(&token);
     if value > u64::from(dim.top()) {
         let what = LimitKind::Label;
         return Err(SchemaFault::Limit { what, place });
@@ -232,11 +233,12 @@ fn skip_embeds(lexer: &mut Lexer<'_>, dim: Dim) -> Result<(), SchemaFault>
     Ok(())
 }
 
-/// The schema that stands next, which the lexer goes past, up to where no further embedding begins.
-/// What stands there isn't judged. After a refusal, whose fault is the first from left to right, the
+/// The schema that stands next, which the lexer goes past, up to where no further embedding begins:
+/// directly behind its last token. What stands behind it isn't judged. After a refusal, whose fault is the first from left to right, the
 /// lexer is as before.
 pub fn read_schema(alloc: Global, lexer: &mut Lexer<'_>) -> Result<Schema, SchemaFault>
     ensures schema { IfOk result (IsSchemaRead lexer.old lexer.new) }
+    ensures behind { IfOk result (λ _. IsBehindToken lexer.old lexer.new) }
     ensures sound { IfOk result (λ schema. IsSchema schema) }
     ensures fault { IfErr result (IsSchemaFault (marks_left lexer.old)) }
     ensures runs { IfOk result (λ schema. Reads true states.AtDim lexer.old lexer.new (states.AtEmbeds schema.dim schema.embeds)) }
@@ -259,6 +261,7 @@ pub fn read_schema(alloc: Global, lexer: &mut Lexer<'_>) -> Result<Schema, Schem
 /// After a refusal, whose fault is the first from left to right, the lexer is as before.
 pub fn skip_schema(lexer: &mut Lexer<'_>) -> Result<Dim, SchemaFault>
     ensures dim { IfOk result (IsSchemaSkipped lexer.old lexer.new) }
+    ensures behind { IfOk result (λ _. IsBehindToken lexer.old lexer.new) }
     ensures fault { IfErr result (IsSkipFault (marks_left lexer.old)) }
     ensures runs { IfOk result (SkipsSchema lexer.old lexer.new) }
     ensures stops { IfErr result (Stops false states.AtDim lexer.old) }

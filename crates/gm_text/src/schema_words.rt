@@ -1,16 +1,14 @@
 //! The words and signs that stand in a schema, and what a token is.
-ghost use Rattle.std.specs.Prelude.{◌≡◌, ◌↔◌, ℕ, ◌<◌, ◌≤◌, ◌^◌, ◌-◌, List, min, bytes_eq, IsTrue, IfOk, IfErr};
+ghost use Rattle.std.specs.Prelude.{◌≡◌, ◌↔◌, ℕ, ◌≤◌, List, bytes_eq, IsTrue, IfOk, IfErr};
 ghost use Rattle.std.specs.List.{list_any};
 ghost use Rattle.std.specs.Option.{option_map};
 ghost use Rattle.gm_model.specs.declared.schema.Embed.{Embed};
 ghost use Rattle.gm_model.specs.declared.word.Mask.{Mask};
-ghost use Rattle.gm_model.specs.declared.token.TokenKind.TheVariants.{Number};
 ghost use Rattle.gm_model.specs.Names.{is_among, reserved};
-ghost use Rattle.gm_model.specs.Symbols.{Word, Sign, value_of};
-ghost use Rattle.gm_model.specs.Tokens.{bytes_of};
+ghost use Rattle.gm_model.specs.Symbols.{Word, Sign};
 ghost use Rattle.gm_text.specs.SchemaText.{with_label};
 ghost use Rattle.gm_text.specs.SchemaReading as reading;
-ghost use Rattle.gm_text.specs.SchemaAnswers.{IsToken, IsNext, IsNoneNext, symbol_at};
+ghost use Rattle.gm_text.specs.SchemaAnswers.{IsToken, IsNext, LacksToken, symbol_at};
 
 use crate::lexer::Lexer;
 use crate::schema_fault::SchemaFault;
@@ -26,16 +24,13 @@ const RESERVED: [&[u8]; 19] = [
 const LONGEST: usize = 5;
 
 /// The next token, which the lexer goes past.
-pub(crate) fn next_token(lexer: &mut Lexer<'_>) -> Result<Token, SchemaFault>
+pub fn next_token(lexer: &mut Lexer<'_>) -> Result<Token, SchemaFault>
     ensures next { IfOk result (λ token. IsNext lexer.old token lexer.new) }
-    ensures none { IfErr result (IsNoneNext lexer.old) }
+    ensures none { IfErr result (LacksToken lexer.old) }
 {
-    match lexer.next() {
-        Ok(Some(token)) => Ok(token),
-        Ok(None) => Err(SchemaFault::Text {
-            place: lexer.place(),
-        }),
-        Err(fault) => Err(SchemaFault::Text { place: fault.place }),
+    match lexer.token() {
+        Ok(token) => Ok(token),
+        Err(place) => Err(SchemaFault::Text { place }),
     }
 }
 
@@ -51,15 +46,6 @@ pub(crate) fn reads_sign(lexer: &Lexer<'_>, token: &Token, sign: &[u8]) -> bool
     ensures { IsTrue result ↔ (symbol_at lexer.now.text token.now ≡ Sign sign.now) }
 {
     token.kind == TokenKind::Sign && lexer.text(token) == sign
-}
-
-/// The value of a number; the greatest `u64` stands for a number that is greater.
-pub(crate) fn value(lexer: &Lexer<'_>, token: &Token) -> u64
-    requires token { IsToken lexer.now.text token.now }
-    requires kind { token.now.kind ≡ Number }
-    ensures { result ≡ min (value_of (bytes_of lexer.now.text token.now)) (2 ^ 64 - 1) }
-{
-    lexer.number(token).unwrap_or(u64::MAX)
 }
 
 /// Whether the word is one of the formats, which no name can be.

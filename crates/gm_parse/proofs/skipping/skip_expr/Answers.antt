@@ -3,7 +3,7 @@ use Rattle.std.proofs.lemmas.Result.{err_from_is_err_and}
 use Rattle.gm_text.specs.Cursor.{Cursor}
 use Rattle.gm_parse.specs.Reading.{first_spot}
 use Rattle.gm_parse.specs.Answers.{SkipsExpr, Stops}
-use Rattle.gm_parse.proofs.Steps.{skip_stands, skip_fault}
+use Rattle.gm_parse.proofs.Steps.{skip_stands, skip_fault, whole_behind}
 use Rattle.gm_parse.proofs.skipping.skip_expr.Goals as goal
 
 pub returns-in_err-skip_ahead-clause-fault : goal.returns-in_err-skip_ahead-clause-fault
@@ -14,3 +14,8 @@ returns-in_err-skip_ahead-clause-fault c =
 
 pub returns-clause-expr : goal.returns-clause-expr
 returns-clause-expr c = skip_stands c.args.dim c.args.lexer.now c.skip_ahead.new.lexer (subst (λ (cursor : Cursor). SkipsExpr c.args.dim cursor c.skip_ahead.new.lexer) c.fork-ahead.ensures c.in_ok-skip_ahead.ensures.runs)
+
+pub returns-clause-behind : goal.returns-clause-behind
+returns-clause-behind c =
+    let skips = subst (λ (cursor : Cursor). SkipsExpr c.args.dim cursor c.skip_ahead.new.lexer) c.fork-ahead.ensures c.in_ok-skip_ahead.ensures.runs in
+    whole_behind c.args.dim skips.last c.args.lexer.now c.skip_ahead.new.lexer skips.whole skips.reads

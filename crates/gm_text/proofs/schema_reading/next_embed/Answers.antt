@@ -15,7 +15,7 @@ returns-in_err-embed-clause-stops c =
     let mark : Mark = record { symbol = Word (codes "embed"); place = c.in-Some.place } in
     let few : c.args.count < 8 = omega (arith, c.if-count-ge-MOST_EMBEDS.false) in
     rw (p.1, p.2)
-    (λ declared count known. stops_behind c.args.strict (AtEmbeds c.args.dim declared) (AtName c.args.dim declared) c.args.lexer.now c.embed_word.new.lexer c.in_err-embed.field-0.0 mark word.marks word.text (omega (arith, word.onward)) refl
+    (λ declared count known. stops_behind c.args.strict (AtEmbeds c.args.dim declared) (AtName c.args.dim declared) c.args.lexer.now c.embed_word.new.lexer c.in_err-embed.field-0.0 mark word.marks word.text (omega (arith, word.onward)) word.behind refl
     (embed_free c.args.strict declared (omega (arith, count, few))) (c.in_err-embed.ensures.stops declared known))
 
 pub returns-clause-reads : goal.returns-clause-reads
@@ -24,7 +24,7 @@ returns-clause-reads c =
     let mark : Mark = record { symbol = Word (codes "embed"); place = c.in-Some.place } in
     let few : c.args.count < 8 = omega (arith, c.if-count-ge-MOST_EMBEDS.false) in
     λ declared count known.
-    reads_behind c.args.strict (AtEmbeds c.args.dim declared) (AtName c.args.dim declared) (AtEmbeds c.args.dim (declared ++ c.in_ok-embed.embed ∷ [])) c.args.lexer.now c.embed_word.new.lexer c.read_embed.new.lexer mark word.marks word.text (omega (arith, word.onward)) refl
+    reads_behind c.args.strict (AtEmbeds c.args.dim declared) (AtName c.args.dim declared) (AtEmbeds c.args.dim (declared ++ c.in_ok-embed.embed ∷ [])) c.args.lexer.now c.embed_word.new.lexer c.read_embed.new.lexer mark word.marks word.text (omega (arith, word.onward)) word.behind refl
     (embed_free c.args.strict declared (omega (arith, count, few))) (c.in_ok-embed.ensures.reads declared known)
 
 pub returns-clause-text : goal.returns-clause-text

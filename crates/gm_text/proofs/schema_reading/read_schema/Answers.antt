@@ -5,7 +5,7 @@ use Rattle.gm_model.proofs.Exits.{unless_ok, on_err}
 use Rattle.gm_text.specs.Cursor.{Cursor}
 use Rattle.gm_text.specs.SchemaReading.{AtDim, AtEmbeds}
 use Rattle.gm_text.specs.SchemaAnswers.{Reads, StopsOrLost}
-use Rattle.gm_text.proofs.SchemaSteps.{reads_then, or_lost, lost_then}
+use Rattle.gm_text.proofs.SchemaSteps.{reads_then, or_lost, lost_then, reads_token_behind}
 use Rattle.gm_text.proofs.SchemaWhole.{read_fault, read_stands}
 use Rattle.gm_text.proofs.SchemaSound.{read_sound}
 use Rattle.gm_text.proofs.schema_reading.read_schema.Goals as goal
@@ -73,3 +73,6 @@ returns-clause-sound c = read_sound c.args.lexer.now c.read_embeds.new.lexer _ (
 
 pub returns-clause-text : goal.returns-clause-text
 returns-clause-text c = (returns-clause-runs c).text
+
+pub returns-clause-behind : goal.returns-clause-behind
+returns-clause-behind c = reads_token_behind true AtDim (AtEmbeds c.in_ok-dim.dim c.new.result) c.args.lexer.now c.read_embeds.new.lexer (λ e. cc) (returns-clause-runs c)

@@ -4,7 +4,7 @@ use Rattle.gm_model.proofs.Exits.{unless_ok, on_err}
 use Rattle.gm_text.specs.Cursor.{Cursor}
 use Rattle.gm_text.specs.SchemaReading.{AtDim, AtEmbeds}
 use Rattle.gm_text.specs.SchemaAnswers.{Stops, SkipsSchema}
-use Rattle.gm_text.proofs.SchemaSteps.{reads_then, stops_then}
+use Rattle.gm_text.proofs.SchemaSteps.{reads_then, stops_then, reads_token_behind}
 use Rattle.gm_text.proofs.SchemaWhole.{skip_fault, skip_stands}
 use Rattle.gm_text.proofs.schema_reading.skip_schema.Goals as goal
 
@@ -62,3 +62,8 @@ returns-clause-dim c = skip_stands c.args.lexer.now c.skip_embeds.new.lexer c.in
 
 pub returns-clause-text : goal.returns-clause-text
 returns-clause-text c = (returns-clause-runs c).1.text
+
+pub returns-clause-behind : goal.returns-clause-behind
+returns-clause-behind c =
+    let (declared, reads) = returns-clause-runs c in
+    reads_token_behind false AtDim (AtEmbeds c.in_ok-dim.dim declared) c.args.lexer.now c.skip_embeds.new.lexer (λ e. cc) reads

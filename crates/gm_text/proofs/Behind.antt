@@ -1,0 +1,36 @@
+-- Where a lexer stands that went past tokens.
+use Rattle.std.proofs.Common.{◌≡◌, ◌⊎◌, List, [], ◌∷◌, ◌++◌, length, refl, sym, ap, subst, inl, inr, ◌∙◌, append_assoc, length-append, arith}
+use Rattle.gm_model.specs.declared.token.Token.{Token}
+use Rattle.gm_model.specs.Symbols.{Mark}
+use Rattle.gm_model.specs.Tokens.{Item, Lexed}
+use Rattle.gm_text.specs.Cursor.{Cursor}
+use Rattle.gm_text.specs.Lexing.{rest_of, IsBehindToken, GoesOverTokens}
+use Rattle.gm_text.specs.SchemaAnswers.{marks_left, IsNext}
+
+pub behind_next : (old new : Cursor) (token : Token) → IsNext old token new → IsBehindToken old new
+behind_next old new token is = record { before = []; token = token; items = is.items; here = is.here }
+
+-- tokens first, and then more of them or none
+behind_then : (old between new : Cursor) → IsBehindToken old between → GoesOverTokens between new → IsBehindToken old new
+behind_then old between new one (inl same) = subst (IsBehindToken old) (sym same) one
+behind_then old between new one (inr two) =
+    let first = Lexed one.token ∷ [] in
+    record {
+      before = one.before ++ (first ++ two.before);
+      token = two.token;
+      items = one.items ∙ ap (λ (items : List Item). one.before ++ (first ++ items)) two.items ∙ sym (append_assoc one.before (first ++ two.before) (Lexed two.token ∷ rest_of new));
+      here = two.here;
+    }
+
+pub over_then : (old between new : Cursor) → GoesOverTokens old between → GoesOverTokens between new → GoesOverTokens old new
+over_then old between new (inl same) two = subst (λ (cursor : Cursor). GoesOverTokens cursor new) same two
+over_then old between new (inr one) two = inr (behind_then old between new one two)
+
+-- where marks were gone past, the lexer hasn't stayed
+pub behind_marks : (old new : Cursor) (before : List Mark) → marks_left old ≡ before ++ marks_left new → GoesOverTokens old new → (before ≡ [] → ⊥) → IsBehindToken old new
+behind_marks old new before split (inr is) some = is
+behind_marks old new before split (inl same) some = absurd (some (none before (marks_left old) (subst (λ (cursor : Cursor). marks_left old ≡ before ++ marks_left cursor) same split)))
+  where
+    none : (before rest : List Mark) → rest ≡ before ++ rest → before ≡ []
+    none [] rest e = refl
+    none (mark ∷ before) rest e = absurd (omega (arith, ap length e, length-append before rest))
