@@ -4,8 +4,6 @@ pub mod CanonicalMeaning
 pub mod CanonicalPlaces
 pub mod CanonicalRead
 pub mod CanonicalSymbols
-pub mod Cuts
-pub mod Labels
 pub mod MaskLabels
 pub mod NoShorter
 pub mod ReadWritable

@@ -19,6 +19,7 @@ pub mod SchemaMoves
 pub mod SchemaReaders
 pub mod SchemaWhole
 pub mod SchemaSound
+pub mod Cuts
 pub mod SchemaPrinted
 pub mod OneSchema
 pub mod SchemaMasks

@@ -114,10 +114,10 @@ small_below mask (suc k) h = go (small_below mask k (omega (arith, h))) (has mas
     go all true e = rw e (last (labels_below mask k) all)
     go all false e = rw e (subst AreSmall (sym (append-nil (labels_below mask k))) all)
 
-abbrev tail_text : List ℕ → List ℕ → List ℕ
+abbrev pub tail_text : List ℕ → List ℕ → List ℕ
 tail_text labels more = flat_map (λ other. 32 ∷ decimal other) labels ++ 62 ∷ more
 
-tail_stops : (labels : List ℕ) (more : List ℕ) → Stops is_digit (tail_text labels more)
+pub tail_stops : (labels : List ℕ) (more : List ℕ) → Stops is_digit (tail_text labels more)
 tail_stops [] more = refl
 tail_stops (label ∷ labels) more = refl
 

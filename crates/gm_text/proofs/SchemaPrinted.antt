@@ -1,14 +1,15 @@
 -- How the canonical text of a schema grows as it is printed.
-use Rattle.std.proofs.Common.{◌≡◌, ℕ, zero, suc, ◌+◌, ◌<◌, ◌≤◌, ◌-◌, Bool, true, false, cond, List, [], ◌∷◌, ◌++◌, length, take, drop, get_or, Result, Ok, Err, refl, sym, ap, subst, ◌∙◌, append_assoc, arith, add-one}
+use Rattle.std.proofs.Common.{◌≡◌, ℕ, zero, suc, ◌+◌, ◌<◌, ◌≤◌, ◌-◌, Bool, true, false, cond, List, [], ◌∷◌, ◌++◌, length, take, drop, get_or, refl, sym, ap, subst, ◌∙◌, append_assoc, arith, add-one}
 use Rattle.std.proofs.lemmas.Grind.{flat_map-append}
 use Rattle.std.proofs.lemmas.List.{append-nil, drop_more, take-append-drop}
-use Rattle.std.specs.Prelude.{decimal, OnOk, OnErr}
+use Rattle.std.specs.Prelude.{decimal}
 use Rattle.std.specs.List.{flat_map}
 use Rattle.gm_model.specs.declared.schema.Embed.{Embed}
 use Rattle.gm_model.specs.declared.word.Mask.{Mask}
 use Rattle.gm_model.specs.Labels.{has}
 use Rattle.gm_text.specs.SchemaText.{labels_below, labels_in, labels_text, embed_line}
 use Rattle.gm_text.specs.SchemaPrinting.{IsCut, gap_behind}
+use Rattle.gm_text.proofs.Cuts.{cut_before, cut_behind}
 
 -- ---- labels
 
@@ -52,12 +53,14 @@ grows mask k m h =
 -- a part of one label's text, behind the labels below it
 pub cut_labels : (mask : Mask) (k : ℕ) (old out new gap : List ℕ) → k < 8 → has mask k ≡ true → out ≡ old ++ labels_text (labels_below mask k) → gap ≡ gap_behind (labels_below mask k) → IsCut out (gap ++ decimal k) new → IsCut old (labels_text (labels_in mask)) new
 unfolding labels_in
-cut_labels mask k old out new gap low e so_far is_gap (done, left, spelled, appended) =
+cut_labels mask k old out new gap low e so_far is_gap cut =
     let (more, is) = grows mask (k + 1) 8 (omega (arith, low)) in
+    let done = cut.front in
+    let left = cut.rest in
     let front = labels_text (labels_below mask k) in
-    let one : labels_text (labels_below mask (k + 1)) ≡ front ++ (done ++ left) = more_text mask k e ∙ ap (λ (g : List ℕ). front ++ (g ++ decimal k)) (sym is_gap) ∙ ap (λ (bytes : List ℕ). front ++ bytes) spelled in
+    let one : labels_text (labels_below mask (k + 1)) ≡ front ++ (done ++ left) = more_text mask k e ∙ ap (λ (g : List ℕ). front ++ (g ++ decimal k)) (sym is_gap) ∙ ap (λ (bytes : List ℕ). front ++ bytes) cut.text_is in
     let all : labels_text (labels_in mask) ≡ (front ++ done) ++ (left ++ more) = is ∙ ap (λ (bytes : List ℕ). bytes ++ more) (one ∙ sym (append_assoc front done left)) ∙ append_assoc (front ++ done) left more in
-    (front ++ done, left ++ more, all, appended ∙ ap (λ (bytes : List ℕ). bytes ++ done) so_far ∙ append_assoc old front done)
+    record { front = front ++ done; rest = left ++ more; text_is = all; after_is = cut.after_is ∙ ap (λ (bytes : List ℕ). bytes ++ done) so_far ∙ append_assoc old front done }
 
 pub all_below : (mask : Mask) → labels_below mask 8 ≡ labels_in mask
 unfolding labels_in
@@ -65,32 +68,9 @@ all_below mask = refl
 
 -- ---- pieces
 
-pub cut_here : (old one other new : List ℕ) → IsCut old one new → IsCut old (one ++ other) new
-cut_here old one other new (done, left, spelled, appended) = (done, left ++ other, ap (λ (bytes : List ℕ). bytes ++ other) spelled ∙ append_assoc done left other, appended)
-
-pub cut_behind : (old between one other new : List ℕ) → between ≡ old ++ one → IsCut between other new → IsCut old (one ++ other) new
-cut_behind old between one other new is (done, left, spelled, appended) =
-    (one ++ done, left, ap (λ (bytes : List ℕ). one ++ bytes) spelled ∙ sym (append_assoc one done left), appended ∙ ap (λ (bytes : List ℕ). bytes ++ done) is ∙ append_assoc old one done)
-
-pub cut_none : (old text new : List ℕ) → new ≡ old → IsCut old text new
-cut_none old text new same = ([], text, refl, same ∙ sym (append-nil old))
-
--- text behind text
-pub joined : (old between new one other : List ℕ) → between ≡ old ++ one → new ≡ between ++ other → new ≡ old ++ (one ++ other)
-joined old between new one other first then = then ∙ ap (λ (bytes : List ℕ). bytes ++ other) first ∙ append_assoc old one other
-
 -- three pieces in one, and more behind them
 pub all_behind : (lead bytes end rest : List ℕ) → (lead ++ (bytes ++ end)) ++ rest ≡ lead ++ (bytes ++ (end ++ rest))
 all_behind lead bytes end rest = append_assoc lead (bytes ++ end) rest ∙ ap (λ (text : List ℕ). lead ++ text) (append_assoc bytes end rest)
-
-module _ {T E P Q : Type 0} where
-  pub ok_then : (r : Result T E) → (P → Q) → OnOk r P → OnOk r Q
-  ok_then (Ok x) f p = f p
-  ok_then (Err e) f p = p
-
-  pub err_then : (r : Result T E) → (P → Q) → OnErr r P → OnErr r Q
-  err_then (Ok x) f p = p
-  err_then (Err e) f p = f p
 
 -- ---- embeddings
 
@@ -100,4 +80,4 @@ cut_embeds embeds k embed old out new inside is so_far cut =
     let split : embeds ≡ take k embeds ++ (embed ∷ drop (k + 1) embeds) = sym (take-append-drop k embeds) ∙ ap (λ (es : List Embed). take k embeds ++ es) here in
     let text : flat_map embed_line embeds ≡ flat_map embed_line (take k embeds) ++ (embed_line embed ++ flat_map embed_line (drop (k + 1) embeds)) = ap (flat_map embed_line) split ∙ flat_map-append embed_line (take k embeds) (embed ∷ drop (k + 1) embeds) in
     subst (λ (t : List ℕ). IsCut old t new) (sym text)
-    (cut_behind old out (flat_map embed_line (take k embeds)) (embed_line embed ++ flat_map embed_line (drop (k + 1) embeds)) new so_far (cut_here out (embed_line embed) (flat_map embed_line (drop (k + 1) embeds)) new cut))
+    (cut_behind old (flat_map embed_line (take k embeds)) so_far (cut_before (flat_map embed_line (drop (k + 1) embeds)) cut))

@@ -8,9 +8,12 @@ use Rattle.gm_model.specs.Symbols.{Symbol, Word, Mark, symbols, symbols_of, mark
 use Rattle.gm_text.specs.SchemaText.{SchemaForm, passed_of, schema_of}
 use Rattle.gm_text.specs.SchemaReading.{Stands}
 
--- a part of the text, from its beginning on, was appended
-abbrev pub IsCut : List ℕ → List ℕ → List ℕ → Type 0
-IsCut old text new = (done left : List ℕ) × (text ≡ done ++ left) × (new ≡ old ++ done)
+-- Memory was wanting within the text: behind what was there stands a front of it.
+pub record IsCut (before text after : List ℕ) : Type 0 where
+  pub front : List ℕ
+  pub rest : List ℕ
+  pub text_is : text ≡ front ++ rest
+  pub after_is : after ≡ before ++ front
 
 -- what stands before a further label
 abbrev pub gap_behind : List ℕ → List ℕ

@@ -8,8 +8,12 @@ pub record Signed : Type 0 where
   pub minus : Bool
   pub size : ℕ
 
+-- the number of the size, behind a minus or without one
+abbrev pub signed : Bool → ℕ → ℤ
+signed minus size = if minus then neg_ℤ (pos size) else pos size
+
 abbrev pub integer : Signed → ℤ
-integer x = if x.minus then neg_ℤ (pos x.size) else pos x.size
+integer x = signed x.minus x.size
 
 -- the greatest number behind a minus, and without one
 abbrev pub greatest : Bool → ℕ
@@ -18,6 +22,10 @@ greatest minus = if minus then 2 ^ 63 else 2 ^ 63 - 1
 -- whether it is a component of a colour
 abbrev pub is_channel : ℤ → Bool
 is_channel n = int_le (pos 0) n && int_le n (pos 255)
+
+abbrev pub truth_text : Bool → List ℕ
+truth_text true = codes "true"
+truth_text false = codes "false"
 
 -- a minus is a token of its own; the number's role tells whether one stands before it
 abbrev pub spell_signed : {Role : Type 0} → Role → (Bool → Role) → Signed → List (Part Role) → List (Part Role)

@@ -15,6 +15,7 @@ mod schema_fault;
 mod schema_printing;
 mod schema_reading;
 mod schema_words;
+mod signed;
 mod text;
 
 pub use fault::LexFault;
@@ -25,7 +26,8 @@ pub use laws::{
 };
 pub use lexer::{Lexer, SmallNumber};
 pub use schema_fault::SchemaFault;
-pub use schema_printing::print_schema;
+pub use schema_printing::{kind_word, print_labels, print_schema};
 pub use schema_reading::{read_schema, skip_schema};
-pub use schema_words::{is_reserved, next_token};
+pub use schema_words::{embed_number, is_reserved, next_token, with_label};
+pub use signed::signed_value;
 pub use text::Text;

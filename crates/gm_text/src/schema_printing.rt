@@ -48,8 +48,9 @@ fn put_between(out: &mut Text, lead: &[u8], bytes: &[u8], end: &[u8]) -> Result<
     out.put(end)
 }
 
-/// The labels of the mask in ascending order, with one blank between.
-fn print_labels(out: &mut Text, mask: Mask) -> Result<(), OutOfMemory>
+/// Appends the labels of the mask in ascending order, with one blank between two. After a refusal a
+/// part of them, from their beginning on, is appended.
+pub fn print_labels(out: &mut Text, mask: Mask) -> Result<(), OutOfMemory>
     ensures ok { OnOk result (out.new ≡ out.old ++ labels_text (labels_in mask)) }
     ensures err { OnErr result (IsCut out.old (labels_text (labels_in mask)) out.new) }
 {
@@ -71,7 +72,8 @@ fn print_label(out: &mut Text, gap: &[u8], label: u8) -> Result<(), OutOfMemory>
     out.number(u64::from(label))
 }
 
-fn kind_word(kind: Kind) -> &'static [u8]
+/// The word by which a schema or a parameter names the kind.
+pub fn kind_word(kind: Kind) -> &'static [u8]
     ensures { result.now ≡ kind_word kind }
 {
     match kind {

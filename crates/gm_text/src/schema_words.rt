@@ -1,5 +1,5 @@
 //! The words and signs that stand in a schema, and what a token is.
-ghost use Rattle.std.specs.Prelude.{◌≡◌, ◌↔◌, ℕ, ◌≤◌, List, bytes_eq, IsTrue, IfOk, IfErr};
+ghost use Rattle.std.specs.Prelude.{◌≡◌, ◌↔◌, ℕ, ◌≤◌, ◌<◌, List, length, position, bytes_eq, IsTrue, IfSome, IfOk, IfErr};
 ghost use Rattle.std.specs.List.{list_any};
 ghost use Rattle.std.specs.Option.{option_map};
 ghost use Rattle.gm_model.specs.declared.schema.Embed.{Embed};
@@ -61,6 +61,14 @@ fn is_among(words: &[&[u8]], word: &[u8]) -> bool
     words.iter().any(|other| word == *other)
 }
 
+/// The number of the embedding with the name.
+pub fn embed_number(embeds: &[Embed], name: &[u8]) -> Option<usize>
+    ensures value { result ≡ position (λ embed. bytes_eq name.now embed.name) embeds.now }
+    ensures bound { IfSome result (λ e. e < length embeds.now) }
+{
+    embeds.iter().position(|embed| name == embed.name.bytes())
+}
+
 /// Whether one of the embeddings has the name.
 pub(crate) fn is_declared(embeds: &[Embed], name: &[u8]) -> bool
     ensures { result ≡ list_any (λ embed. bytes_eq name.now embed.name) embeds.now }
@@ -88,7 +96,7 @@ pub(crate) fn kind_named(lexer: &Lexer<'_>, token: &Token) -> Option<Kind>
 }
 
 /// The labels of the mask, and this one.
-pub(crate) fn with_label(mask: Mask, label: u8) -> Mask
+pub fn with_label(mask: Mask, label: u8) -> Mask
     requires { label ≤ 7 }
     ensures { result ≡ with_label mask label }
 {

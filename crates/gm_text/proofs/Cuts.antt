@@ -1,19 +1,13 @@
 -- Texts that are written one part after another: how far they came where memory was wanting.
 use Rattle.std.proofs.Common.{◌≡◌, ℕ, List, [], ◌++◌, refl, append_assoc, append-nil, sym, rules}
-use Rattle.std.specs.Prelude.{Result, Ok, Err, OnErr}
-use Rattle.gm_expr.specs.ExprText.{IsCutShort}
-
--- what holds holds where there is an error
-pub on_err : {T E P : Type 0} (r : Result T E) → P → OnErr r P
-on_err (Ok x) p = tt
-on_err (Err e) p = p
+use Rattle.gm_text.specs.SchemaPrinting.{IsCut}
 
 -- the part behind those that are done is written too
 pub written_behind : (before done part : List ℕ) {middle after : List ℕ} → middle ≡ before ++ done → after ≡ middle ++ part → after ≡ before ++ (done ++ part)
 written_behind before done part so_far more = rw (more, so_far) (append_assoc before done part)
 
 -- within the part behind those that are done
-pub cut_behind : (before done : List ℕ) {middle part after : List ℕ} → middle ≡ before ++ done → IsCutShort middle part after → IsCutShort before (done ++ part) after
+pub cut_behind : (before done : List ℕ) {middle part after : List ℕ} → middle ≡ before ++ done → IsCut middle part after → IsCut before (done ++ part) after
 cut_behind before done so_far cut = record {
   front = done ++ cut.front;
   rest = cut.rest;
@@ -25,15 +19,15 @@ cut_behind before done so_far cut = record {
 pub written_behind_lead : (before done lead part : List ℕ) {middle after : List ℕ} → middle ≡ before ++ done → after ≡ middle ++ (lead ++ part) → after ≡ before ++ (done ++ lead ++ part)
 written_behind_lead before done lead part {after = after} so_far more = rw (append_assoc done lead part) (written_behind before done (lead ++ part) so_far more)
 
-pub cut_behind_lead : (before done lead part : List ℕ) {middle after : List ℕ} → middle ≡ before ++ done → IsCutShort middle (lead ++ part) after → IsCutShort before (done ++ lead ++ part) after
+pub cut_behind_lead : (before done lead part : List ℕ) {middle after : List ℕ} → middle ≡ before ++ done → IsCut middle (lead ++ part) after → IsCut before (done ++ lead ++ part) after
 cut_behind_lead before done lead part {after = after} so_far cut = rw (append_assoc done lead part) (cut_behind before done so_far cut)
 
 -- before a part that isn't begun
-pub cut_before : {before text after : List ℕ} (rest : List ℕ) → IsCutShort before text after → IsCutShort before (text ++ rest) after
+pub cut_before : {before text after : List ℕ} (rest : List ℕ) → IsCut before text after → IsCut before (text ++ rest) after
 cut_before rest cut = record { front = cut.front; rest = cut.rest ++ rest; text_is = rw cut.text_is (append_assoc cut.front cut.rest rest); after_is = cut.after_is }
 
 -- nothing is written
-pub cut_at_once : {before after : List ℕ} (text : List ℕ) → after ≡ before → IsCutShort before text after
+pub cut_at_once : {before after : List ℕ} (text : List ℕ) → after ≡ before → IsCut before text after
 cut_at_once {before = before} text same = record { front = []; rest = text; text_is = refl; after_is = rw same (sym (append-nil before)) }
 
 -- all but the rest is written so far
@@ -52,7 +46,7 @@ so_far_more before text middle a rest after so_far more = record {
   after_is = rw (more, so_far.after_is) (append_assoc before so_far.front a);
 }
 
-pub so_far_cut : (before text middle a rest after : List ℕ) → IsSoFar before text middle (a ++ rest) → IsCutShort middle a after → IsCutShort before text after
+pub so_far_cut : (before text middle a rest after : List ℕ) → IsSoFar before text middle (a ++ rest) → IsCut middle a after → IsCut before text after
 so_far_cut before text middle a rest after so_far cut = record {
   front = so_far.front ++ cut.front;
   rest = cut.rest ++ rest;
