@@ -1,4 +1,4 @@
-ghost use Rattle.std.specs.Prelude.{◌≡◌, ℕ, ◌<◌, ◌≤◌, ◌-◌, ◌^◌, false, length, min, IsTrue, IfSome, IfNone, IfOk, IfErr, MatchOption};
+ghost use Rattle.std.specs.Prelude.{◌≡◌, ℕ, ◌<◌, ◌≤◌, ◌-◌, ◌^◌, false, length, min, IsTrue, IfSome, IfNone, IfOk, IfErr, OnErr, MatchOption};
 ghost use Rattle.std.specs.List.{list_all};
 ghost use Rattle.gm_model.specs.declared.token.TokenKind.TheVariants.{Number};
 ghost use Rattle.gm_model.specs.Tokens.{bytes_of, IsLexeme};
@@ -109,14 +109,18 @@ impl<'a> Lexer<'a> {
     }
 
     /// The next token, which the lexer goes past, or the place where none stands: that of a byte with
-    /// which none begins, or the text's length.
+    /// which none begins, or the text's length. The lexer is then as before.
     pub fn token(&mut self) -> Result<Token, usize>
         ensures next { IfOk result (λ token. IsNext self.old token self.new) }
         ensures none { IfErr result (IsNoneNext self.old) }
+        ensures refused { OnErr result (self.new ≡ self.old) }
     {
-        match self.next() {
-            Ok(Some(token)) => Ok(token),
-            Ok(None) => Err(self.place()),
+        match self.peek() {
+            Ok(Some(token)) => {
+                self.at = token.end;
+                Ok(token)
+            }
+            Ok(None) => Err(self.source.len()),
             Err(fault) => Err(fault.place),
         }
     }

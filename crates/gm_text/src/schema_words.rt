@@ -1,5 +1,5 @@
 //! The words and signs that stand in a schema, and what a token is.
-ghost use Rattle.std.specs.Prelude.{◌≡◌, ◌↔◌, ℕ, ◌≤◌, ◌<◌, List, length, position, bytes_eq, IsTrue, IfSome, IfOk, IfErr};
+ghost use Rattle.std.specs.Prelude.{◌≡◌, ◌↔◌, ℕ, ◌≤◌, ◌<◌, List, length, position, bytes_eq, IsTrue, IfSome, IfOk, IfErr, OnErr};
 ghost use Rattle.std.specs.List.{list_any};
 ghost use Rattle.std.specs.Option.{option_map};
 ghost use Rattle.gm_model.specs.declared.schema.Embed.{Embed};
@@ -23,10 +23,11 @@ const RESERVED: [&[u8]; 19] = [
 /// The most bytes of a reserved word.
 const LONGEST: usize = 5;
 
-/// The next token, which the lexer goes past.
+/// The next token, which the lexer goes past. After a refusal the lexer is as before.
 pub fn next_token(lexer: &mut Lexer<'_>) -> Result<Token, SchemaFault>
     ensures next { IfOk result (λ token. IsNext lexer.old token lexer.new) }
     ensures none { IfErr result (LacksToken lexer.old) }
+    ensures refused { OnErr result (lexer.new ≡ lexer.old) }
 {
     match lexer.token() {
         Ok(token) => Ok(token),
