@@ -18,7 +18,7 @@ use Rattle.gm_parse.specs.declared.key.Key.{Key}
 use Rattle.gm_parse.specs.declared.key.Key.TheVariants as keys
 use Rattle.gm_parse.specs.Spelling.{limit_in, limit_of, passed_by, IsSentence}
 use Rattle.gm_parse.specs.Reading.{State, Spot, spot_at, first_spot, move, move_by, key_of, key_role, spot_move, spot_role, is_whole, is_whole_spot}
-use Rattle.gm_parse.specs.Answers.{run_in, Reads, EndsBefore, SkipsExpr, EndsIn, Stops, Advances, IsExprSkipped, IsSyntaxFault}
+use Rattle.gm_parse.specs.Answers.{run_in, Reads, EndsBefore, SkipsExpr, EndsIn, Stops, LeavesState, Advances, IsExprSkipped, IsSyntaxFault}
 use Rattle.gm_parse.specs.Taking.{Becomes}
 use Rattle.gm_parse.proofs.OpenBrackets.{few_more}
 use Rattle.gm_parse.specs.declared.place.Place.{Place}
@@ -159,6 +159,10 @@ none_ok n count state old place result is none = end_ok n count state old result
 pub none_err : (n count : ℕ) (state : State) (old : Cursor) (place : ℕ) (result : Result (Option Token) SyntaxFault) → IfErr result (λ fault. (is_whole state ≡ false) × (fault ≡ faults.Text place)) → IsNoneNext old place → IfErr result (Stops n (spot_at count state) old)
 none_err n count state old place result is none = end_err n count state old place result is (record { next = none.mark; others = []; split = none.marks; none = other_spot (spot_at count state) none.mark.symbol (no_token none.mark.symbol none.none) }) none.here
 
+pub none_stays : (state : State) (old : Cursor) (place : ℕ) (result : Result (Option Token) SyntaxFault) → IfErr result (λ fault. (is_whole state ≡ false) × (fault ≡ faults.Text place)) → IfErr result (LeavesState old state state)
+none_stays state old place (Ok more) part = part
+none_stays state old place (Err fault) part = subst (LeavesState old state state) (sym part.1) refl
+
 module _ (n count : ℕ) (state after : State) (old new : Cursor) (token : Token) (key : Key) (next : IsNext old token new) (key_is : key ≡ key_of (symbol_at new.text token)) where
   moves_key : (to : Option State) → move_by state state.place key ≡ to → move state (symbol_at new.text token) ≡ to
   moves_key to e = ap (move_by state state.place) (sym key_is) ∙ e
@@ -171,6 +175,10 @@ module _ (n count : ℕ) (state after : State) (old new : Cursor) (token : Token
       let (none, same) = stuck moved e is in
       let at = subst (λ (s : State). IfOk result (λ more. (is_whole s ≡ true) × (more ≡ None))) same whole in
       subst (λ (s : State). IfOk result (λ more. Advances n (spot_at count state) old more s old)) (sym same) (end_ok n count state old result at (ends_token (spot_at count state) old new token next none))
+
+  pub token_stays : (moved : Bool) (result : Result (Option Token) SyntaxFault) → moved ≡ false → Becomes (move_by state state.place key) state moved after → IfErr result (λ fault. (is_whole after ≡ false) × (fault ≡ faults.Text token.start)) → IfErr result (LeavesState old state after)
+  token_stays moved (Ok more) e is part = part
+  token_stays moved (Err fault) e is part = subst (LeavesState old state after) (sym part.1) (stuck moved e is).1
 
   pub token_err : (moved : Bool) (result : Result (Option Token) SyntaxFault) → moved ≡ false → Becomes (move_by state state.place key) state moved after → IfErr result (λ fault. (is_whole after ≡ false) × (fault ≡ faults.Text token.start)) → IfErr result (Stops n (spot_at count state) old)
   token_err moved result e is part =
@@ -189,6 +197,9 @@ module _ (n count : ℕ) (state after : State) (old new : Cursor) (token : Token
     the_limit what limit =
         sym (limit ∙ ap (λ (p : Place). limit_in (record { ordinal = count + 1; role = key_role n p key token.start }) (symbol_at new.text token)) place_is
         ∙ ap (λ (k : Key). limit_in (record { ordinal = count + 1; role = key_role n state.place k token.start }) (symbol_at new.text token)) key_is)
+
+    pub token_left : (what : LimitKind) → LeavesState old state after (faults.Limit what token.start)
+    token_left what = (mark_at new.text token, marks_left new, next.marks, moves_key (Some after) by_key)
 
     pub token_passes : (what : LimitKind) → Some what ≡ limit_in (record { ordinal = count + 1; role = key_role n place key token.start }) (symbol_at new.text token) → Stops n (spot_at count state) old (faults.Limit what token.start)
     token_passes what limit = limit_token n (spot_at count state) (spot_at (count + 1) after) old new token what next on_token (the_limit (Some what) limit)

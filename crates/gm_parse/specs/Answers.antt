@@ -21,7 +21,7 @@ use Rattle.gm_parse.specs.declared.fault.SyntaxFault.{SyntaxFault}
 use Rattle.gm_parse.specs.declared.fault.SyntaxFault.TheVariants as syntax_faults
 use Rattle.gm_parse.specs.Forms.{Form}
 use Rattle.gm_parse.specs.Spelling.{limit_in, IsSentence, Stands}
-use Rattle.gm_parse.specs.Reading.{State, Spot, spot_at, first_spot, spot_move, spot_role, is_whole_spot, never}
+use Rattle.gm_parse.specs.Reading.{State, Spot, move, spot_at, first_spot, spot_move, spot_role, is_whole_spot, never}
 use Rattle.gm_parse.specs.Meaning.{Names, NameFault, UnknownAt, TwiceAt, faults_in, tree_in, IsFirstFault}
 
 -- ---- as a whole
@@ -108,6 +108,11 @@ pub record EndsIn (n : ℕ) (spot : Spot) (old : Cursor) (place : ℕ) : Type 0 
 abbrev pub Stops : ℕ → Spot → Cursor → SyntaxFault → Type 0
 Stops n spot old (syntax_faults.Text place) = EndsIn n spot old place
 Stops n spot old (syntax_faults.Limit what place) = (last : ℕ) → run_in n spot last (marks_left old) ≡ Err (Passes what place)
+
+-- After a refusal the state stays where what stands next can't follow. Where it can and passes a limit, the state is the one behind it.
+abbrev pub LeavesState : Cursor → State → State → SyntaxFault → Type 0
+LeavesState cursor old new (syntax_faults.Text place) = new ≡ old
+LeavesState cursor old new (syntax_faults.Limit what place) = (next : Mark) × (others : List Mark) × (marks_left cursor ≡ next ∷ others) × (move old next.symbol ≡ Some new)
 
 -- one token further, to this state; or the expression ends, and nothing has changed
 abbrev pub Advances : ℕ → Spot → Cursor → Option Token → State → Cursor → Type 0

@@ -3,7 +3,7 @@ ghost use Rattle.std.specs.Prelude.{◌≡◌, ◌≤◌, true, false, length, N
 ghost use Rattle.gm_text.specs.Lexing.{IsBehindToken};
 ghost use Rattle.gm_text.specs.SchemaAnswers.{marks_left};
 ghost use Rattle.gm_parse.specs.declared.fault.SyntaxFault.TheVariants as syntax_faults;
-ghost use Rattle.gm_parse.specs.Answers.{Advances, IsExprSkipped, IsSyntaxFault, SkipsExpr, Stops};
+ghost use Rattle.gm_parse.specs.Answers.{Advances, IsExprSkipped, IsSyntaxFault, LeavesState, SkipsExpr, Stops};
 ghost use Rattle.gm_parse.specs.Reading.{first_spot, is_whole, spot_at};
 
 use crate::fault::SyntaxFault;
@@ -25,7 +25,7 @@ fn end_before(state: &State, place: usize) -> Result<Option<Token>, SyntaxFault>
 }
 
 /// Goes past the next token of an expression, behind so many, and answers it, or `None` where no
-/// expression goes on with it.
+/// expression goes on with it. After a refusal the lexer is as before.
 pub fn advance(
     lexer: &mut Lexer<'_>,
     dim: Dim,
@@ -36,6 +36,8 @@ pub fn advance(
     requires room { length state.old.open_brackets ≤ count }
     ensures on { IfOk result (λ token. Advances dim (spot_at count state.old) lexer.old token state.new lexer.new) }
     ensures stops { IfErr result (Stops dim (spot_at count state.old) lexer.old) }
+    ensures refused { OnErr result (lexer.new ≡ lexer.old) }
+    ensures left { IfErr result (LeavesState lexer.old state.old state.new) }
 {
     let mut ahead = lexer.fork();
     let token = match ahead.token() {

@@ -1,7 +1,7 @@
 use Rattle.std.proofs.Common.{sym, subst, ◌∙◌}
 use Rattle.gm_text.specs.Cursor.{Cursor}
 use Rattle.gm_text.specs.SchemaAnswers.{IsNext, IsNoneNext}
-use Rattle.gm_parse.proofs.Steps.{none_ok, none_err, token_ok, token_err, token_passes, token_on}
+use Rattle.gm_parse.proofs.Steps.{none_ok, none_err, none_stays, token_ok, token_err, token_stays, token_left, token_passes, token_on}
 use Rattle.gm_parse.proofs.skipping.advance.Goals as goal
 
 pub returns-in-Err-clause-on : goal.returns-in-Err-clause-on
@@ -33,3 +33,16 @@ pub returns-clause-on : goal.returns-clause-on
 returns-clause-on c =
     let next = subst (λ (cursor : Cursor). IsNext cursor c.in-Ok.token c.token.new.self) c.fork-ahead.ensures c.in-Ok.ensures.next in
     token_on c.args.dim c.args.count c.args.state.now c.go_on.new.self c.args.lexer.now c.token.new.self c.in-Ok.token c.key_at-key.result next c.key_at-key.ensures c.place-place.result c.place-place.ensures c.go_on.result c.if-not-go_on.false c.go_on.ensures (sym c.in_default.is ∙ c.limit_passed.ensures) c.requires.room
+
+pub returns-in-Err-clause-left : goal.returns-in-Err-clause-left
+returns-in-Err-clause-left c = none_stays c.args.state.now c.args.lexer.now c.in-Err.place c.end_before.result c.end_before.ensures.err
+
+pub returns-then-not-go_on-clause-left : goal.returns-then-not-go_on-clause-left
+returns-then-not-go_on-clause-left c =
+    let next = subst (λ (cursor : Cursor). IsNext cursor c.in-Ok.token c.token.new.self) c.fork-ahead.ensures c.in-Ok.ensures.next in
+    token_stays c.args.dim c.args.count c.args.state.now c.go_on.new.self c.args.lexer.now c.token.new.self c.in-Ok.token c.key_at-key.result next c.key_at-key.ensures c.go_on.result c.end_before-then-not-go_on.result c.if-not-go_on.true c.go_on.ensures c.end_before-then-not-go_on.ensures.err
+
+pub returns-in-Some-clause-left : goal.returns-in-Some-clause-left
+returns-in-Some-clause-left c =
+    let next = subst (λ (cursor : Cursor). IsNext cursor c.in-Ok.token c.token.new.self) c.fork-ahead.ensures c.in-Ok.ensures.next in
+    token_left c.args.dim c.args.count c.args.state.now c.go_on.new.self c.args.lexer.now c.token.new.self c.in-Ok.token c.key_at-key.result next c.key_at-key.ensures c.place-place.result c.place-place.ensures c.go_on.result c.if-not-go_on.false c.go_on.ensures c.in-Some.what
