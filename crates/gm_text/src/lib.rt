@@ -28,6 +28,6 @@ pub use lexer::{Lexer, SmallNumber};
 pub use schema_fault::SchemaFault;
 pub use schema_printing::{kind_word, print_labels, print_schema};
 pub use schema_reading::{read_schema, skip_schema};
-pub use schema_words::{embed_number, is_reserved, next_token, with_label};
+pub use schema_words::{embed_index, is_reserved, next_token, with_label};
 pub use signed::signed_value;
 pub use text::Text;

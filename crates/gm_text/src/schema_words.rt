@@ -63,7 +63,7 @@ fn is_among(words: &[&[u8]], word: &[u8]) -> bool
 }
 
 /// The number of the embedding with the name.
-pub fn embed_number(embeds: &[Embed], name: &[u8]) -> Option<usize>
+pub fn embed_index(embeds: &[Embed], name: &[u8]) -> Option<usize>
     ensures value { result ≡ position (λ embed. bytes_eq name.now embed.name) embeds.now }
     ensures bound { IfSome result (λ e. e < length embeds.now) }
 {

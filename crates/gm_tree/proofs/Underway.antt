@@ -20,7 +20,7 @@ use Rattle.gm_tree.specs.Building.{Work, work, Nothing, built, built_all}
 use Rattle.gm_tree.specs.Built.{IsBuiltOver, IsUnderway}
 use Rattle.gm_parse.proofs.Counted.{LedSpot, spot_behind, form_leads, form_whole, stays_ended, parts_symbols}
 use Rattle.gm_parse.proofs.Standing.{spot_limit, form_stands}
-use Rattle.gm_parse.proofs.Steps.{reads_self, reads_then, stops_then, run_over}
+use Rattle.gm_parse.proofs.Steps.{reads_self, reads_then, stops_then, run_over, whole_behind}
 
 -- ---- what stands there is run over
 
@@ -70,7 +70,7 @@ pub underway_ends : (n : ℕ) (names : Names) (old now new : Cursor) (spot : Spo
 underway_ends n names old now new spot state w is (same, stays, whole, ends) =
     subst (λ (c : Cursor). IsBuiltOver n names old c w) (sym stays)
     (let (form, stands, before) = form_stands n (marks_left old) is.reads.before (marks_left now) ends.next ends.others spot (is.reads.runs 0) whole is.reads.split ends.split ends.none in
-    record { form = form; stands = stands; built = is.built ∙ ap (built_all names (work [] None Nothing)) (sym before); text = is.reads.text })
+    record { form = form; stands = stands; built = is.built ∙ ap (built_all names (work [] None Nothing)) (sym before); text = is.reads.text; behind = whole_behind n spot old now whole is.reads })
 
 -- where an expression stands, no fault does
 pub no_stop : (n : ℕ) (names : Names) (old now : Cursor) (spot : Spot) (fault : SyntaxFault) (w : Work) → IsUnderway n names old now spot w → HasExpr n old → Stops n spot now fault → ⊥

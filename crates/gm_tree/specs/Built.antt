@@ -1,6 +1,7 @@
 -- What is built over a whole expression.
 use Rattle.std.specs.Prelude.{◌≡◌, ℕ, [], Option, Some, None}
 use Rattle.gm_text.specs.Cursor.{Cursor}
+use Rattle.gm_text.specs.Lexing.{IsBehindToken}
 use Rattle.gm_text.specs.SchemaAnswers.{marks_left}
 use Rattle.gm_parse.specs.declared.fault.ExprFault.{ExprFault}
 use Rattle.gm_parse.specs.declared.fault.ExprFault.TheVariants as faults
@@ -17,6 +18,7 @@ pub record IsBuiltOver (n : ℕ) (names : Names) (old new : Cursor) (w : Work) :
   pub stands : Stands n form (marks_left old) (marks_left new)
   pub built : w ≡ built_all names (work [] None Nothing) stands.before
   pub text : new.text ≡ old.text
+  pub behind : IsBehindToken old new
 
 -- the fault is the least one that was found, or memory was wanting
 abbrev pub IsLeastOrLost : Option NameFault → ExprFault → Type 0

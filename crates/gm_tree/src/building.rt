@@ -11,10 +11,9 @@ use crate::builder::Builder;
 use crate::calls::{close, enclose, go_on, misfit};
 use crate::partial::Partial;
 use crate::stack::{put, take, take_above, take_shut};
-use crate::table::level_of;
 use crate::waiting::Waiting;
 use gm_model::{BinOp, Expr, OutOfMemory};
-use gm_parse::{ExprFault, Key};
+use gm_parse::{ExprFault, Key, binary_level};
 use std::alloc::Global;
 
 fn place_of(fault: ExprFault) -> usize
@@ -151,7 +150,7 @@ impl Builder {
         ensures frames { IfOk result (λ _. frames_of self.new.waiting.items ≡ before_operator op (reduced (binary_level op) (frames_of self.old.waiting.items) (tree_of operand))) }
         ensures least { self.new.least ≡ self.old.least }
     {
-        let left = self.reduce(alloc, level_of(op), operand)?;
+        let left = self.reduce(alloc, binary_level(op), operand)?;
         put(&mut self.waiting, Waiting::Left(op, left))
     }
 

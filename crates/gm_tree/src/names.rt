@@ -3,14 +3,14 @@ ghost use Rattle.std.specs.Prelude.{◌≡◌, ◌<◌, ◌≤◌, bytes_eq, len
 ghost use Rattle.std.specs.List.{position};
 ghost use Rattle.gm_model.specs.declared.rule.Node.{Node};
 ghost use Rattle.gm_model.specs.declared.rule.Param.{Param};
-ghost use Rattle.gm_model.specs.declared.schema.Embed.{Embed};
 ghost use Rattle.gm_tree.specs.Building as building;
 ghost use Rattle.gm_parse.specs.Meaning as meaning;
 ghost use Rattle.gm_parse.specs.Meaning.{names_in, number_of};
 
 use crate::partial::Named;
-use gm_model::{Embed, Node, Param, UnOp};
+use gm_model::{Node, Param, UnOp};
 use gm_parse::{Env, Function, meaning_or};
+use gm_text::embed_index;
 
 /// A number of a node, a parameter or an embedding is one byte.
 const MOST: usize = 256;
@@ -26,13 +26,6 @@ static FUNCTIONS: [(&[u8], Option<Function>); 9] = [
     (b"green", Some(Function::Part(UnOp::Green))),
     (b"blue", Some(Function::Part(UnOp::Blue))),
 ];
-
-fn embed_index(embeds: &[Embed], name: &[u8]) -> Option<usize>
-    ensures value { result ≡ position (λ (embed : Embed). bytes_eq name.now embed.name) embeds.now }
-    ensures bound { IfSome result (λ i. i < length embeds.now) }
-{
-    embeds.iter().position(|embed| name == embed.name.bytes())
-}
 
 fn param_index(params: &[Param], name: &[u8]) -> Option<usize>
     ensures value { result ≡ position (λ (param : Param). bytes_eq name.now param.name) params.now }

@@ -7,7 +7,6 @@ ghost use Rattle.gm_parse.specs.Meaning as meaning;
 ghost use Rattle.gm_model.specs.Symbols.{value_of};
 ghost use Rattle.gm_model.specs.Tokens.{bytes_of};
 ghost use Rattle.gm_text.specs.SchemaAnswers.{IsToken};
-ghost use Rattle.gm_text.specs.SchemaText as schemas;
 ghost use Rattle.gm_tree.specs.Building.{behind_name, frames_of, labelled, name_fault, work_of};
 ghost use Rattle.gm_tree.specs.Building as building;
 ghost use Rattle.gm_parse.specs.Spelling.{greatest};
@@ -17,8 +16,8 @@ use crate::partial::{Callee, Head, Lead, Named, Partial};
 use crate::stack::put;
 use crate::waiting::Waiting;
 use gm_model::{DartTerm, Expr, Mask, OutOfMemory, Path, Token};
-use gm_parse::{Collector, Key, value};
-use gm_text::Lexer;
+use gm_parse::{Collector, Key};
+use gm_text::{Lexer, with_label};
 use std::alloc::Global;
 
 const GREATEST: u64 = 9_223_372_036_854_775_807;
@@ -29,7 +28,7 @@ pub(crate) fn number_at(lexer: &Lexer<'_>, token: &Token) -> i64
     requires kind { token.now.kind ≡ Number }
     ensures { result ≡ pos (min (value_of (bytes_of lexer.now.text token.now)) greatest) }
 {
-    value(lexer, token).min(GREATEST) as i64
+    lexer.value(token).min(GREATEST) as i64
 }
 
 /// The label of the token; the greatest one stands for a number that is greater.
@@ -38,17 +37,7 @@ pub(crate) fn label_at(lexer: &Lexer<'_>, token: &Token) -> u8
     requires kind { token.now.kind ≡ Number }
     ensures { result ≡ min (value_of (bytes_of lexer.now.text token.now)) 7 }
 {
-    value(lexer, token).min(7) as u8
-}
-
-/// The labels of the mask, and this one.
-fn with_label(mask: Mask, label: u8) -> Mask
-    requires { label ≤ 7 }
-    ensures { result ≡ schemas.with_label mask label }
-{
-    Mask {
-        bits: mask.bits | (1 << label),
-    }
+    lexer.value(token).min(7) as u8
 }
 
 pub(crate) fn term_at(alloc: Global, node: Option<u8>) -> DartTerm

@@ -1,6 +1,7 @@
 //! An expression read as a tree.
 ghost use Rattle.std.specs.Prelude.{◌≡◌, ◌≤◌, length, None, IfOk, IfErr, OnErr};
 ghost use Rattle.gm_model.specs.Trees.{tree_of};
+ghost use Rattle.gm_text.specs.Lexing.{IsBehindToken};
 ghost use Rattle.gm_text.specs.SchemaAnswers.{marks_left};
 ghost use Rattle.gm_parse.specs.declared.fault.SyntaxFault.{SyntaxFault};
 ghost use Rattle.gm_parse.specs.Reading.{spot_at};
@@ -98,13 +99,14 @@ fn finish(alloc: Global, built: Built) -> Result<Expr, ExprFault>
     }
 }
 
-/// The expression that stands next, its names looked up, which the lexer goes past. `skip_expr` must
-/// answer `Ok` from here with the dimension of the schema. After a refusal the lexer is as before;
+/// The expression that stands next, its names looked up, which the lexer goes past, to directly
+/// behind its last token. `skip_expr` must answer `Ok` from here with the dimension of the schema. After a refusal the lexer is as before;
 /// the fault is the one at the least place, where a label that is mentioned again counts before an
 /// unknown name.
 pub fn read_expr(alloc: Global, lexer: &mut Lexer<'_>, env: &Env<'_>) -> Result<Expr, ExprFault>
     requires { HasExpr env.now.schema.now.dim lexer.old }
     ensures expr { IfOk result (λ expr. IsExprRead env.now.schema.now.dim (names_in env.now.schema.now env.now.params.now env.now.nodes.now) lexer.old lexer.new (tree_of expr)) }
+    ensures behind { IfOk result (λ _. IsBehindToken lexer.old lexer.new) }
     ensures unsigned { IfOk result (λ expr. IsUnsigned (tree_of expr)) }
     ensures in_range { IfOk result (λ expr. IsInRangeOf env.now.schema.now env.now.params.now env.now.nodes.now (tree_of expr)) }
     ensures fault { IfErr result (IsExprFault env.now.schema.now.dim (names_in env.now.schema.now env.now.params.now env.now.nodes.now) (marks_left lexer.old)) }

@@ -40,3 +40,10 @@ returns-clause-in_range c =
     let over = subst (λ (cursor : Cursor). IsBuiltOver schema.dim names cursor c.build.new.lexer (work_of c.in_ok-built.built.builder c.in_ok-built.built.partial)) c.fork-ahead.ensures c.in_ok-built.ensures.over in
     read_in_range schema params nodes c.args.lexer.now c.build.new.lexer (tree_of c.in_ok-expr.expr)
     (expr_is schema.dim names c.in_ok-built.ensures.top c.args.lexer.now c.build.new.lexer (work_of c.in_ok-built.built.builder c.in_ok-built.built.partial) over (tree_of c.in_ok-expr.expr) c.in_ok-expr.ensures.tree c.in_ok-expr.ensures.known)
+
+pub returns-clause-behind : goal.returns-clause-behind
+returns-clause-behind c =
+    let n = c.args.env.now.schema.now.dim in
+    let names = names_in c.args.env.now.schema.now c.args.env.now.params.now c.args.env.now.nodes.now in
+    let over = subst (λ (cursor : Cursor). IsBuiltOver n names cursor c.build.new.lexer (work_of c.in_ok-built.built.builder c.in_ok-built.built.partial)) c.fork-ahead.ensures c.in_ok-built.ensures.over in
+    over.behind
