@@ -11,10 +11,10 @@ use Rattle.gm_text.specs.Cursor.{Cursor}
 use Rattle.gm_text.specs.Lexing.{rest_of, items_read}
 use Rattle.gm_text.specs.declared.fault.LexFault.{LexFault}
 use Rattle.gm_text.specs.SchemaAnswers.{marks_left}
-use Rattle.gm_text.specs.ValueText.{greatest, is_channel}
+use Rattle.gm_text.specs.ValueText.{greatest, is_channel, signed}
 use Rattle.gm_text.specs.declared.schema_fault.SchemaFault.{SchemaFault}
 use Rattle.gm_text.specs.declared.schema_fault.SchemaFault.TheVariants as faults
-use Rattle.gm_mapfile.specs.MapText.{Role, signed, size_role, passed_of}
+use Rattle.gm_mapfile.specs.MapText.{Role, size_role, passed_of}
 use Rattle.gm_mapfile.specs.MapReading.{AtNumbers, Head, Want, TheNumber, Component, TheSign, run_from, Stops, among, Takes, Misses, number_in}
 use Rattle.gm_mapfile.specs.Words.{StandsNext, IsOtherNext, minus_sign, signed_marks, IsSignedNext, IsNoSignedNext, AtFirst, BehindMinus, IsEndNext, IsMoreNext}
 use Rattle.gm_mapfile.proofs.Joined.{move_at, went, ended}

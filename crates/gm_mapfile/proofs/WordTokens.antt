@@ -9,7 +9,7 @@ use Rattle.gm_model.specs.Symbols.{Symbol, Word, Numeral, Sign, Mark, mark_of, s
 use Rattle.gm_model.specs.Tokens.{bytes_of}
 use Rattle.gm_text.specs.Cursor.{Cursor}
 use Rattle.gm_text.specs.Lexing.{rest_of, IsSignRead}
-use Rattle.gm_text.specs.SchemaAnswers.{marks_left, symbol_at, mark_at, IsNext, IsNoToken, AtStray, AtEnd, IsNoneNext}
+use Rattle.gm_text.specs.SchemaAnswers.{marks_left, symbol_at, mark_at, IsNext, IsNoToken, AtStray, AtEnd, LacksToken}
 use Rattle.gm_text.specs.declared.schema_fault.SchemaFault.{SchemaFault}
 use Rattle.gm_text.specs.declared.schema_fault.SchemaFault.TheVariants as faults
 use Rattle.gm_mapfile.specs.Words.{IsMarkNext, StandsNext, IsNumberNext, IsOtherNext, IsNoNumberNext, minus_sign, IsSignedNext, IsNoSignedNext, AtFirst, BehindMinus}
@@ -48,8 +48,11 @@ no_token_sign symbol none bytes = elim none as (λ (s : Symbol) (_ : IsNoToken s
 
 -- ---- where no token stands
 
-pub none_signed : (old : Cursor) (fault : SchemaFault) → IsNoneNext old fault → IsNoSignedNext old fault
-none_signed old fault is = AtFirst is.mark [] is.marks (no_token_numeral is.mark.symbol is.none) (no_token_sign is.mark.symbol is.none _) is.says
+pub none_signed : (old : Cursor) (fault : SchemaFault) → LacksToken old fault → IsNoSignedNext old fault
+none_signed old (faults.Text place) is = AtFirst is.mark [] is.marks (no_token_numeral is.mark.symbol is.none) (no_token_sign is.mark.symbol is.none _) (ap (λ (p : ℕ). faults.Text p) (sym is.here))
+none_signed old (faults.Limit what place) is = absurd is
+none_signed old (faults.Twice place) is = absurd is
+none_signed old faults.OutOfMemory is = absurd is
 
 -- ---- where one stands
 
@@ -72,16 +75,8 @@ module _ (old new : Cursor) (token : Token) (next : IsNext old token new) where
   pub no_signed : token.kind ≢ tokens.Number → symbol_at new.text token ≢ minus_sign → IsNoSignedNext old (faults.Text token.start)
   no_signed number sign = AtFirst (mark_at new.text token) (marks_left new) next.marks (λ n e. number (numeral_symbol token.kind (bytes_of new.text token) n e)) sign refl
 
-  module _ (kind : token.kind ≡ tokens.Number) (found : Option ℕ) (is : MatchOption found (2 ^ 64 ≤ value_of (bytes_of new.text token)) (λ n. n ≡ value_of (bytes_of new.text token))) (value : ℕ) (or : value ≡ unwrap_or found (2 ^ 64 - 1)) (fits : value ≤ 2 ^ 64 - 1) where
-    least : value ≡ min (value_of (bytes_of new.text token)) (2 ^ 64 - 1)
-    least = go found is or
-      where
-        go : (o : Option ℕ) → MatchOption o (2 ^ 64 ≤ value_of (bytes_of new.text token)) (λ n. n ≡ value_of (bytes_of new.text token)) → value ≡ unwrap_or o (2 ^ 64 - 1) → value ≡ min (value_of (bytes_of new.text token)) (2 ^ 64 - 1)
-        go (Some n) e f = omega (arith, e, f, fits)
-        go None e f = omega (arith, e, f)
-
-    pub number_stands : IsNumberNext old value token.start new
-    number_stands = (value_of (bytes_of new.text token), least, stands (Numeral (value_of (bytes_of new.text token))) (ap (λ k. symbol_of_kind k (bytes_of new.text token)) kind))
+  pub number_stands : token.kind ≡ tokens.Number → (value : ℕ) → value ≡ min (value_of (bytes_of new.text token)) (2 ^ 64 - 1) → IsNumberNext old value token.start new
+  number_stands kind value is = (value_of (bytes_of new.text token), is, stands (Numeral (value_of (bytes_of new.text token))) (ap (λ k. symbol_of_kind k (bytes_of new.text token)) kind))
 
 -- ---- a sign that was read by its byte
 

@@ -22,7 +22,8 @@ use Rattle.gm_mapfile.specs.Draft.{numbers_of, words_of_darts, version_in}
 use Rattle.gm_mapfile.specs.Packed.{packed}
 use Rattle.gm_text.specs.declared.schema_fault.SchemaFault.{SchemaFault}
 use Rattle.gm_text.specs.declared.schema_fault.SchemaFault.TheVariants as faults
-use Rattle.gm_mapfile.specs.MapText.{Version, First, Second, DartRow, Role, Fixed, InSchema, NextName, Count, DartName, Size, Channel, passed_of, signed, width, is_colour, size_role}
+use Rattle.gm_text.specs.ValueText.{signed}
+use Rattle.gm_mapfile.specs.MapText.{Version, First, Second, DartRow, Role, Fixed, InSchema, NextName, Count, DartName, Size, Channel, passed_of, width, is_colour, size_role}
 
 -- ---- what is wanted of the darts
 

@@ -20,7 +20,7 @@ use Rattle.gm_model.specs.Reading.{Part, IsReadAs, TextEndsAt, LimitStandsAt}
 use Rattle.gm_model.specs.Symbols.{Symbol, Word, Numeral, Sign, End, marks_of}
 use Rattle.gm_text.specs.SchemaText.{SchemaForm, Passed, LimitOf, Again, schema_of}
 use Rattle.gm_text.specs.SchemaText as schema
-use Rattle.gm_text.specs.ValueText.{Signed, integer, greatest, is_channel, spell_signed}
+use Rattle.gm_text.specs.ValueText.{Signed, signed, integer, greatest, is_channel, truth_text, spell_signed}
 use Rattle.gm_mapfile.specs.declared.version.MapVersion.{MapVersion}
 use Rattle.gm_mapfile.specs.declared.version.MapVersion.TheVariants as versions
 
@@ -62,8 +62,6 @@ pub data Role : Type 0 where
   Channel : Bool → Role
 
 -- the whole number that is written, behind a minus or without one
-abbrev pub signed : Bool → ℕ → ℤ
-signed minus n = integer (record { minus = minus; size = n })
 
 abbrev pub channel_limit : ℤ → Option LimitKind
 channel_limit n = if is_channel n then None else Some limits.Channel
@@ -286,10 +284,6 @@ abbrev pub StandsForNoMap : List ℕ → Type 0
 StandsForNoMap text = (version : MapVersion) (map : ListedMap) → MapText text version map → ⊥
 
 -- ---- the canonical text
-
-abbrev pub truth_text : Bool → List ℕ
-truth_text true = codes "true"
-truth_text false = codes "false"
 
 -- 4, or (4 -1 0); a map has no truths
 abbrev pub value_text : Value → List ℕ

@@ -3,7 +3,8 @@ ghost use Rattle.std.specs.Prelude.{◌≡◌, ℕ, ◌+◌, ◌*◌, ◌<◌, �
 ghost use Rattle.std.specs.List.{flat_map};
 ghost use Rattle.std.specs.Fmt.{signed_decimal};
 ghost use Rattle.gm_text.specs.SchemaText as schema;
-ghost use Rattle.gm_mapfile.specs.MapText.{canonical, head_line, next_line, line_of, value_text, truth_text};
+ghost use Rattle.gm_mapfile.specs.MapText.{canonical, head_line, next_line, line_of, value_text};
+ghost use Rattle.gm_text.specs.ValueText.{truth_text};
 ghost use Rattle.gm_arena.specs.ArenaMap.{IsLiveSlot, name_at};
 ghost use Rattle.gm_arena.specs.declared.slot.Slot.{Slot};
 ghost use Rattle.gm_arena.specs.Lawful.{IsLawful};

@@ -4,15 +4,14 @@ ghost use Rattle.gm_model.specs.declared.value.Kind.TheVariants as kinds;
 ghost use Rattle.gm_model.specs.Tokens as tokens;
 ghost use Rattle.gm_model.specs.Expressions.{components};
 ghost use Rattle.gm_model.specs.Values.{kind_of};
-ghost use Rattle.gm_text.specs.ValueText.{greatest, is_channel};
-ghost use Rattle.gm_mapfile.specs.MapText.{signed};
+ghost use Rattle.gm_text.specs.ValueText.{is_channel};
 ghost use Rattle.gm_mapfile.specs.Words.{IsSignedNext, IsNoSignedNext};
 ghost use Rattle.gm_mapfile.specs.MapReading.{Takes, Misses, TheSign, Component, value_wants, values_wants, ReadsValues};
 
 use crate::packed::pack;
-use crate::words::{Numeral, next_token, read_number, read_sign, small_numeral};
+use crate::words::{Numeral, read_number, read_sign, small_numeral};
 use gm_model::{Embed, Kind, LimitKind, TokenKind, Value};
-use gm_text::{Lexer, SchemaFault};
+use gm_text::{Lexer, SchemaFault, next_token, signed_value};
 
 /// A number with a minus before it or without, and where the number stands.
 struct Signed {
@@ -48,7 +47,7 @@ fn read_signed_numeral(lexer: &mut Lexer<'_>) -> Result<Signed, SchemaFault>
     match token.kind {
         TokenKind::Number => Ok(Signed {
             minus: false,
-            size: lexer.number(&token).unwrap_or(u64::MAX),
+            size: lexer.value(&token),
             place,
         }),
         TokenKind::Sign if lexer.text(&token) == b"-".as_slice() => {
@@ -60,17 +59,6 @@ fn read_signed_numeral(lexer: &mut Lexer<'_>) -> Result<Signed, SchemaFault>
             })
         }
         _ => Err(SchemaFault::Text { place }),
-    }
-}
-
-/// The whole number, where it isn't too great.
-fn signed_value(minus: bool, size: u64) -> Option<i64>
-    ensures { MatchOption result (greatest minus < size) (λ n. (size ≤ greatest minus) × (n ≡ signed minus size)) }
-{
-    if minus {
-        0i64.checked_sub_unsigned(size)
-    } else {
-        i64::try_from(size).ok()
     }
 }
 

@@ -2,30 +2,15 @@
 ghost use Rattle.std.specs.Prelude.{◌≡◌, ℕ, ◌-◌, ◌<◌, ◌^◌, [], ◌∷◌, false, min, IsTrue, IfOk, IfErr, IfSome, IfNone};
 ghost use Rattle.gm_model.specs.Symbols.{Word, Sign};
 ghost use Rattle.gm_model.specs.Tokens as tokens;
-ghost use Rattle.gm_text.specs.SchemaAnswers.{IsNext, IsNoneNext};
 ghost use Rattle.gm_mapfile.specs.Words.{StandsNext, IsNumberNext, IsOtherNext, IsNoNumberNext};
 
-use gm_text::{Lexer, SchemaFault, SmallNumber, Token, TokenKind};
+use gm_text::{Lexer, SchemaFault, SmallNumber, TokenKind, next_token};
 
 /// A number of the text, and where it stands.
 pub(crate) struct Numeral {
     /// The greatest `u64` stands for a number that is greater.
     pub value: u64,
     pub place: usize,
-}
-
-/// The next token, which the lexer goes past.
-pub(crate) fn next_token(lexer: &mut Lexer<'_>) -> Result<Token, SchemaFault>
-    ensures next { IfOk result (λ token. IsNext lexer.old token lexer.new) }
-    ensures none { IfErr result (IsNoneNext lexer.old) }
-{
-    match lexer.next() {
-        Ok(Some(token)) => Ok(token),
-        Ok(None) => Err(SchemaFault::Text {
-            place: lexer.place(),
-        }),
-        Err(fault) => Err(SchemaFault::Text { place: fault.place }),
-    }
 }
 
 /// A word of the format.
@@ -107,7 +92,7 @@ fn read_numeral(lexer: &mut Lexer<'_>) -> Result<Numeral, SchemaFault>
         return Err(SchemaFault::Text { place: token.start });
     }
     Ok(Numeral {
-        value: lexer.number(&token).unwrap_or(u64::MAX),
+        value: lexer.value(&token),
         place: token.start,
     })
 }

@@ -1,4 +1,4 @@
-use Rattle.std.proofs.Common.{rules, ◌≡◌, ◌≢◌, codes, arith}
+use Rattle.std.proofs.Common.{rules, ◌≡◌, ◌≢◌, codes}
 use Rattle.std.proofs.lemmas.Result.{err_from_is_err_and}
 use Rattle.gm_model.specs.declared.token.TokenKind.TheVariants as tokens
 use Rattle.gm_model.specs.Tokens.{bytes_of}
@@ -23,8 +23,8 @@ returns-in_err-value-in-Sign-clause-none c =
 pub returns-in-Number-clause-next : goal.returns-in-Number-clause-next
 returns-in-Number-clause-next c =
     let token = c.in_ok-token.token in
-    plain_next c.args.lexer.now c.next_token.new.lexer c.unwrap_or.result token.start
-    (number_stands c.args.lexer.now c.next_token.new.lexer token c.in_ok-token.ensures.next c.in-Number.is c.number.result c.number.ensures c.unwrap_or.result c.unwrap_or.ensures (omega (arith, c.unwrap_or.type_inv)))
+    plain_next c.args.lexer.now c.next_token.new.lexer c.value.result token.start
+    (number_stands c.args.lexer.now c.next_token.new.lexer token c.in_ok-token.ensures.next c.in-Number.is c.value.result c.value.ensures)
 
 pub returns-in_ok-value-in-Sign-clause-next : goal.returns-in_ok-value-in-Sign-clause-next
 returns-in_ok-value-in-Sign-clause-next c =
