@@ -6,8 +6,8 @@ use Rattle.gm_model.specs.declared.token.Token.{Token}
 use Rattle.gm_model.specs.Symbols.{Symbol, Mark, symbols, marks_at}
 use Rattle.gm_model.specs.Reading.{Part, symbols_in}
 use Rattle.gm_text.specs.Cursor.{Cursor}
-use Rattle.gm_text.specs.SchemaAnswers.{marks_left}
-use Rattle.gm_parse.specs.Answers.{IsExprSkipped, IsNoneNext, SkipsExpr, run_in}
+use Rattle.gm_text.specs.SchemaAnswers.{marks_left, mark_at, IsNext, IsNoneNext}
+use Rattle.gm_parse.specs.Answers.{IsExprSkipped, SkipsExpr, run_in}
 use Rattle.gm_parse.specs.Reading as exprs
 use Rattle.gm_parse.specs.Reading.{first_spot, spot_role, spot_move}
 use Rattle.gm_parse.specs.Spelling as spelling
@@ -17,7 +17,6 @@ use Rattle.gm_parse.proofs.Counted.{LedSpot, spot_behind, form_leads, parts_symb
 use Rattle.gm_forms.specs.BookText.{IsValue, IsTokenPlaced, part_of}
 use Rattle.gm_forms.specs.declared.form.Span.{Span}
 use Rattle.gm_forms.specs.Forms.{tokens_from, marks_in, IsSpanIn}
-use Rattle.gm_forms.specs.Standing.{IsNext, mark_of}
 use Rattle.gm_forms.specs.Values.{IsGoneOver}
 use Rattle.gm_forms.proofs.Apart.{expr_moved}
 use Rattle.gm_forms.proofs.NamePlaces.{MarksRise, items_rise}
@@ -47,10 +46,10 @@ module _ (old new : Cursor) (span : Span) (start : span.start ≡ old.place) (ne
 
 -- ---- what stands next
 
-pub token_here : (cursor rest : Cursor) (token : Token) (mark : Mark) (others : List Mark) → IsNext cursor (Ok (Some token)) rest → marks_left cursor ≡ mark ∷ others → token.start ≡ mark.place
+pub token_here : (cursor rest : Cursor) (token : Token) (mark : Mark) (others : List Mark) → IsNext cursor token rest → marks_left cursor ≡ mark ∷ others → token.start ≡ mark.place
 token_here cursor rest token mark others next is =
-    let all : mark_of cursor.text token ∷ marks_left rest ≡ mark ∷ others = sym next.1 ∙ is in
-    let same : mark_of cursor.text token ≡ mark = cc all in
+    let all : mark_at rest.text token ∷ marks_left rest ≡ mark ∷ others = sym next.marks ∙ is in
+    let same : mark_at rest.text token ≡ mark = cc all in
     ap (λ (m : Mark). m.place) same
 
 pub none_here : (cursor : Cursor) (place : ℕ) (mark : Mark) (others : List Mark) → IsNoneNext cursor place → marks_left cursor ≡ mark ∷ others → place ≡ mark.place

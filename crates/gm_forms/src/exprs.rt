@@ -129,10 +129,8 @@ pub fn skip_value(lexer: &mut Lexer<'_>, dim: Dim) -> Result<Span, FormFault>
 pub fn next_place(lexer: &Lexer<'_>) -> usize
     ensures { (mark : Mark) (others : List Mark) → marks_left lexer.now ≡ mark ∷ others → result ≡ mark.place }
 {
-    let mut ahead = lexer.fork();
-    match ahead.next() {
-        Ok(Some(token)) => token.start,
-        Ok(None) => ahead.place(),
-        Err(fault) => fault.place,
+    match lexer.fork().token() {
+        Ok(token) => token.start,
+        Err(place) => place,
     }
 }

@@ -1,11 +1,8 @@
 //! The word `book` and the version, with which a book begins.
-ghost use Rattle.std.specs.Prelude.{◌≡◌, ◌^◌, ◌-◌, min, IfOk, IfErr};
-ghost use Rattle.gm_model.specs.Symbols.{value_of};
-ghost use Rattle.gm_model.specs.Tokens.{bytes_of};
-ghost use Rattle.gm_model.specs.declared.token.TokenKind.TheVariants.{Number};
+ghost use Rattle.std.specs.Prelude.{◌≡◌, IfOk, IfErr};
 ghost use Rattle.gm_text.specs.Nested.{Outside};
 ghost use Rattle.gm_forms.specs.Reading.{AtFormat, AtVersion};
-ghost use Rattle.gm_text.specs.SchemaAnswers.{IsToken, marks_left};
+ghost use Rattle.gm_text.specs.SchemaAnswers.{marks_left};
 ghost use Rattle.gm_forms.specs.Standing.{IsNext, IsHeaded, BeginsBook, IsVersioned, IsHeadFault};
 
 use crate::form_fault::FormFault;
@@ -21,15 +18,6 @@ pub fn next_token(lexer: &mut Lexer<'_>) -> Result<Option<Token>, FormFault>
         Ok(found) => Ok(found),
         Err(fault) => Err(FormFault::Text { place: fault.place }),
     }
-}
-
-/// The value of a number; the greatest `u64` stands for a number that is greater.
-pub fn value(lexer: &Lexer<'_>, token: Token) -> u64
-    requires token { IsToken lexer.now.text token }
-    requires kind { token.kind ≡ Number }
-    ensures { result ≡ min (value_of (bytes_of lexer.now.text token)) (2 ^ 64 - 1) }
-{
-    lexer.number(&token).unwrap_or(u64::MAX)
 }
 
 fn read_format(lexer: &mut Lexer<'_>) -> Result<(), FormFault>
@@ -62,7 +50,7 @@ fn read_number(lexer: &mut Lexer<'_>) -> Result<u8, FormFault>
     if token.kind != TokenKind::Number {
         return Err(FormFault::Text { place });
     }
-    let version = value(lexer, token);
+    let version = lexer.value(&token);
     if version != 1 && version != 2 {
         return Err(FormFault::Text { place });
     }

@@ -10,7 +10,6 @@ ghost use Rattle.gm_text.specs.SchemaAnswers.{IsToken};
 ghost use Rattle.gm_forms.specs.Standing.{Leads, StaysIn, IsOutside, Gives, stand_in, stepped, number_mark, sign_mark};
 
 use crate::form_fault::FormFault;
-use crate::headers::value;
 use crate::letters::{no_letters, with_letter};
 use crate::nodes::Nodes;
 use crate::state::{Spot, State};
@@ -32,7 +31,7 @@ pub fn at_letter(
     ensures leads { Leads lexer.now.text (states.Letter spot name word) (number_mark lexer.now.text token) result }
     ensures within { StaysIn lexer.now.text (states.Letter spot name word) result }
 {
-    let value = value(lexer, token);
+    let value = lexer.value(&token);
     let place = token.start;
     if value > u64::from(spot.heading.top()) {
         let what = LimitKind::Label;
@@ -94,7 +93,7 @@ pub fn at_label(
     ensures leads { Leads lexer.now.text (states.Label spot from) (number_mark lexer.now.text token) result }
     ensures within { StaysIn lexer.now.text (states.Label spot from) result }
 {
-    let label = value(lexer, token);
+    let label = lexer.value(&token);
     if label > u64::from(spot.heading.top()) {
         return Err(FormFault::Limit {
             what: LimitKind::Label,
