@@ -17,15 +17,6 @@ IsFaultOf text (faults.Unknown place) = IsFirstNameFault text (UnknownAt place)
 IsFaultOf text (faults.WrongKind place) = IsFirstNameFault text (WrongKindAt place)
 IsFaultOf text faults.OutOfMemory = Unit {0}
 
--- where the fault stands; want of memory stands nowhere
-abbrev pub place_of_fault : BookFault → ℕ
-place_of_fault (faults.Text place) = place
-place_of_fault (faults.Limit what place) = place
-place_of_fault (faults.WrongKind place) = place
-place_of_fault (faults.Twice place) = place
-place_of_fault (faults.Unknown place) = place
-place_of_fault faults.OutOfMemory = 0
-
 -- a fault of the form as one of the book
 abbrev pub book_fault_of_form : FormFault → BookFault
 book_fault_of_form (forms.Text place) = faults.Text place

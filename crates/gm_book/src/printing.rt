@@ -4,16 +4,13 @@ ghost use Rattle.std.specs.List.{flat_map, list_any};
 ghost use Rattle.gm_model.specs.Rules.{assignment_of, rule_of, node_of, name_at};
 ghost use Rattle.gm_model.specs.Trees.{tree_of};
 ghost use Rattle.gm_text.specs.SchemaText as schemas;
-ghost use Rattle.gm_text.specs.SchemaText.{kind_word};
 ghost use Rattle.gm_expr.specs.ExprText.{embed_name, IsNamed};
 ghost use Rattle.gm_book.specs.Canonical.{canonical, param_text, params_text, rule_lines, left_lines, set_text, right_line, right_lines, pre_line, link_line, letters_text, letter_text};
 ghost use Rattle.gm_book.specs.Printing.{CanBePrinted, NamesItsNodes, HasNamedExprs, AreNamed, AreEndsNodes, left_line, is_left};
 
 use gm_expr::print_expr;
-use gm_model::{
-    Book, Kind, Letter, Link, Name, Node, OutOfMemory, Param, RuleTable, Schema, Set, Word,
-};
-use gm_text::{Text, print_schema};
+use gm_model::{Book, Letter, Link, Name, Node, OutOfMemory, Param, RuleTable, Schema, Set, Word};
+use gm_text::{Text, kind_word, print_schema};
 use std::alloc::Global;
 
 /// The canonical text of the book, in its version. What a reader answers can be printed.
@@ -122,18 +119,6 @@ fn print_param(text: &mut Text, param: &Param) -> Result<(), OutOfMemory>
     text.put(param.name.bytes())?;
     text.put(b": ")?;
     text.put(kind_word(param.kind))
-}
-
-fn kind_word(kind: Kind) -> &'static [u8]
-    ensures { result.now ≡ kind_word kind }
-{
-    match kind {
-        Kind::Int => b"int",
-        Kind::Bool => b"bool",
-        Kind::Vec2 => b"vec2",
-        Kind::Vec3 => b"vec3",
-        Kind::Rgb => b"rgb",
-    }
 }
 
 fn print_left_nodes(text: &mut Text, nodes: &[Node], hooks: &[u8]) -> Result<(), OutOfMemory>

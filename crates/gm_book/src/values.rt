@@ -3,7 +3,6 @@ ghost use Rattle.std.specs.Prelude.{◌≡◌, ◌↔◌, ◌∷◌, [], bytes_e
 ghost use Rattle.std.specs.List.{AllByRecursion, position};
 ghost use Rattle.std.specs.Option.{option_map};
 ghost use Rattle.gm_model.specs.declared.rule.Side.TheVariants.{Right};
-ghost use Rattle.gm_model.specs.declared.schema.Embed.{Embed};
 ghost use Rattle.gm_model.specs.declared.value.Kind.TheVariants.{Bool};
 ghost use Rattle.gm_model.specs.Maps.{IsSchema};
 ghost use Rattle.gm_model.specs.Trees.{tree_of};
@@ -19,16 +18,10 @@ use crate::names::{NameFault, bytes_in, earlier};
 use crate::table::{Parts, parts_of};
 use gm_expr::{read_expr, type_expr};
 use gm_forms::{Item, RuleForm, SetForm, Span, next_place};
-use gm_model::{Embed, Expr, Kind, OutOfMemory, Schema};
+use gm_model::{Expr, Kind, OutOfMemory, Schema};
 use gm_parse::{Env, ExprFault};
-use gm_text::Lexer;
+use gm_text::{Lexer, embed_index};
 use std::alloc::Global;
-
-fn embed_index(embeds: &[Embed], name: &[u8]) -> Option<usize>
-    ensures { result ≡ position (λ (embed : Embed). bytes_eq name.now embed.name) embeds.now }
-{
-    embeds.iter().position(|embed| name == embed.name.bytes())
-}
 
 /// The number of the embedding with the name.
 pub(crate) fn embed_number(schema: &Schema, name: &[u8]) -> Option<usize>

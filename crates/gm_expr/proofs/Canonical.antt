@@ -11,12 +11,12 @@ use Rattle.gm_model.specs.Names.{Mention}
 use Rattle.gm_model.specs.Rules.{RuleNode, name_at}
 use Rattle.gm_model.specs.Symbols.{Mark}
 use Rattle.gm_model.specs.Trees.{Tree, Number, Truth, Param as Parameter, Field, Same, Count, Sum, Least, Greatest, Unary, Binary, If, MakeVec2, MakeVec3, MakeRgb}
-use Rattle.gm_text.specs.SchemaText.{LabelForm}
+use Rattle.gm_text.specs.SchemaText.{LabelForm, labels_in}
 use Rattle.gm_parse.specs.declared.key.Collector.{Collector}
 use Rattle.gm_parse.specs.declared.key.Collector.TheVariants as collectors
 use Rattle.gm_parse.specs.Forms.{TermForm, Form, NumberForm, TruthForm, ParamForm, FieldForm, SameForm, CountForm, CollectForm, CallForm, ParenForm, MinusForm, NotForm, BinaryForm, IfForm, First, Further}
 use Rattle.gm_parse.specs.Levels.{least_of_part, least_on_left, least_on_right}
-use Rattle.gm_expr.specs.ExprText.{level, labels_of, param_name, embed_name}
+use Rattle.gm_expr.specs.ExprText.{level, param_name, embed_name}
 
 -- ---- marks gone past
 
@@ -43,10 +43,10 @@ labels_at marks (label ∷ labels) = record { label = label; place = place_in ma
 
 -- behind < 0 1 >, from the first sign on
 abbrev pub behind_orbit : Mask → List Mark → List Mark
-behind_orbit mask marks = behind (behind_labels (labels_of mask) (behind marks))
+behind_orbit mask marks = behind (behind_labels (labels_in mask) (behind marks))
 
 abbrev pub orbit_at : List Mark → Mask → List LabelForm
-orbit_at marks mask = labels_at (behind marks) (labels_of mask)
+orbit_at marks mask = labels_at (behind marks) (labels_in mask)
 
 abbrev pub behind_path : List ℕ → List Mark → List Mark
 behind_path [] marks = marks

@@ -20,7 +20,7 @@ use Rattle.gm_model.specs.Reading.{Part}
 use Rattle.gm_model.specs.Rules.{RuleNode, name_at}
 use Rattle.gm_model.specs.Symbols.{Word, Mark}
 use Rattle.gm_model.specs.Trees.{Tree, Number, Truth, Param as Parameter, Field, Same, Count, Sum, Least, Greatest, Unary, Binary, If, MakeVec2, MakeVec3, MakeRgb}
-use Rattle.gm_text.specs.SchemaText.{LabelForm}
+use Rattle.gm_text.specs.SchemaText.{LabelForm, labels_in}
 use Rattle.gm_parse.specs.declared.function.Function.{Function}
 use Rattle.gm_parse.specs.declared.function.Function.TheVariants as functions
 use Rattle.gm_parse.specs.declared.key.Collector.{Collector}
@@ -29,7 +29,7 @@ use Rattle.gm_parse.specs.Forms.{TermForm, Form, NumberForm, TruthForm, ParamFor
 use Rattle.gm_parse.specs.Levels.{unary_level, least_of_part, least_on_left, least_on_right}
 use Rattle.gm_parse.specs.Meaning.{Names, function_named, call_of, tree_in, trees_in}
 use Rattle.gm_parse.specs.Spelling.{Role, NameAt, Counted, greatest, limit_of, passed_by, limit_in, sign, word, operator, spell_labels, spell_orbit, spell_path, spell_term, spell_field, spell, spell_arguments, counted_from, parts_of}
-use Rattle.gm_expr.specs.ExprText.{level, labels_of, param_name, embed_name}
+use Rattle.gm_expr.specs.ExprText.{level, param_name, embed_name}
 use Rattle.gm_expr.specs.Writable.{AreGoodNames, IsGoodTerm, IsGoodMask, IsWritable}
 use Rattle.gm_expr.proofs.Canonical.{behind, place_in, at, labels_at, behind_orbit, orbit_at, behind_term, written, function_name, unary_form, within_unary, is_wrapped, enclosed, within, behind_tree, term_at, embed_at, collect_at, form_at}
 use Rattle.gm_expr.proofs.CanonicalMeaning.{good_at}
@@ -124,10 +124,10 @@ tree_size (Truth b) = 1
 tree_size (Parameter k) = 1
 tree_size (Field d e) = path_size d.path + 3
 tree_size (Same d d') = path_size d.path + path_size d'.path + 6
-tree_size (Count o d) = length (labels_of o) + path_size d.path + 6
-tree_size (Sum o d e) = length (labels_of o) + path_size d.path + 8
-tree_size (Least o d e) = length (labels_of o) + path_size d.path + 8
-tree_size (Greatest o d e) = length (labels_of o) + path_size d.path + 8
+tree_size (Count o d) = length (labels_in o) + path_size d.path + 6
+tree_size (Sum o d e) = length (labels_in o) + path_size d.path + 8
+tree_size (Least o d e) = length (labels_in o) + path_size d.path + 8
+tree_size (Greatest o d e) = length (labels_in o) + path_size d.path + 8
 tree_size (Unary op a) = tree_size a + wrapped_size (least_of_part op) a + head_size op
 tree_size (Binary op a b) = tree_size a + wrapped_size (least_on_left op) a + (tree_size b + wrapped_size (least_on_right op) b) + 1
 tree_size (If c a b) = tree_size c + tree_size a + tree_size b + 3
@@ -160,10 +160,10 @@ module _ (embeds : List Embed) (params : List Param) (nodes : List RuleNode) whe
   canonical_size (Parameter k) marks = refl
   canonical_size (Field d e) marks = refl
   canonical_size (Same d d') marks = refl
-  canonical_size (Count o d) marks = let labels = labels_many (behind (behind marks)) (labels_of o) in omega (arith, labels)
-  canonical_size (Sum o d e) marks = let labels = labels_many (behind (behind marks)) (labels_of o) in omega (arith, labels)
-  canonical_size (Least o d e) marks = let labels = labels_many (behind (behind marks)) (labels_of o) in omega (arith, labels)
-  canonical_size (Greatest o d e) marks = let labels = labels_many (behind (behind marks)) (labels_of o) in omega (arith, labels)
+  canonical_size (Count o d) marks = let labels = labels_many (behind (behind marks)) (labels_in o) in omega (arith, labels)
+  canonical_size (Sum o d e) marks = let labels = labels_many (behind (behind marks)) (labels_in o) in omega (arith, labels)
+  canonical_size (Least o d e) marks = let labels = labels_many (behind (behind marks)) (labels_in o) in omega (arith, labels)
+  canonical_size (Greatest o d e) marks = let labels = labels_many (behind (behind marks)) (labels_in o) in omega (arith, labels)
   canonical_size (Unary op a) marks =
       let wrapped = is_wrapped (least_of_part op) a in
       let inside = within wrapped (within_unary op marks) in
@@ -434,7 +434,7 @@ module _ (embeds : List Embed) (params : List Param) (nodes : List RuleNode) (go
   field_limited marks behind_it term e rest is low limited = term_limited marks term _ is (refl, (embed_limited e (place_in behind_it) low, limited))
 
   orbit_limited : (marks : List Mark) (mask : Mask) (rest : List (Part Role)) → IsGoodMask embeds params nodes n mask → AreLimited rest → AreLimited (spell_orbit n (orbit_at marks mask) rest)
-  orbit_limited marks mask rest is limited = (refl, labels_limited n (behind marks) (labels_of mask) (sign (codes ">") ∷ rest) (all_labels (λ i. i ≤ n) mask is) (refl, limited))
+  orbit_limited marks mask rest is limited = (refl, labels_limited n (behind marks) (labels_in mask) (sign (codes ">") ∷ rest) (all_labels (λ i. i ≤ n) mask is) (refl, limited))
 
   collect_limited : (collector : Collector) (marks : List Mark) (mask : Mask) (term : DartTerm) (e : ℕ) → IsGoodMask embeds params nodes n mask → IsGoodTerm embeds params nodes n term → e < length embeds → IsLimited n (collect_at embeds params nodes marks collector mask term e)
   collect_limited collector marks mask term e small is low rest limited =

@@ -23,7 +23,8 @@ use Rattle.gm_parse.specs.declared.key.Collector.TheVariants as collectors
 use Rattle.gm_parse.specs.Forms.{Form, level_of, IsGood}
 use Rattle.gm_parse.specs.Levels.{unary_level, least_of_part, least_on_left, least_on_right}
 use Rattle.gm_parse.specs.Meaning.{Names, NameFault, is_named, node_number, embed_number, param_number, unknown, term_faults, field_faults, faults_in, mask_of, term_in, embed_in, tree_in}
-use Rattle.gm_expr.specs.ExprText.{level, labels_of, param_name, embed_name}
+use Rattle.gm_text.specs.SchemaText.{labels_in}
+use Rattle.gm_expr.specs.ExprText.{level, param_name, embed_name}
 use Rattle.gm_expr.specs.Writable.{IsGoodName, AreGoodNames, IsGoodTerm, IsGoodMask, IsWritable, left_name_of, AreDifferent}
 use Rattle.gm_expr.proofs.Canonical.{behind, at, labels_at, behind_orbit, behind_term, written, function_name, unary_form, within_unary, is_wrapped, enclosed, within, behind_tree, term_at, embed_at, collect_at, form_at}
 use Rattle.gm_expr.proofs.MaskLabels.{mask_again, labels_faultless}
@@ -188,7 +189,7 @@ module _ (embeds : List Embed) (params : List Param) (nodes : List RuleNode) whe
     embed_means : (e : ℕ) → e < length embeds → embed_in names (embed_at embeds params nodes [] e) ≡ e
     embed_means e low = ap (λ (found : Option ℕ). unwrap_or found 0) (embed_is e low)
 
-    orbit_means : (mask : Mask) → IsGoodMask embeds params nodes n mask → (marks : List Mark) → mask_of (labels_at marks (labels_of mask)) ≡ mask
+    orbit_means : (mask : Mask) → IsGoodMask embeds params nodes n mask → (marks : List Mark) → mask_of (labels_at marks (labels_in mask)) ≡ mask
     orbit_means mask is marks = mask_again mask marks (λ i there. let low = is i there in omega (arith, low, top))
 
     enclosed_means : (wrapped : Bool) (form : Form) → tree_in names (enclosed wrapped form) ≡ tree_in names form

@@ -17,7 +17,7 @@ use Rattle.gm_parse.specs.declared.key.Collector.TheVariants as collectors
 use Rattle.gm_parse.specs.Forms.{CallForm, First}
 use Rattle.gm_parse.specs.Levels.{least_of_part, least_on_left, least_on_right}
 use Rattle.gm_parse.specs.Spelling.{Role, Fixed, operator, spell, spell_labels, spell_orbit, spell_path, spell_term, spell_field, IsPlacedAt, ArePlaced}
-use Rattle.gm_expr.specs.ExprText.{labels_of}
+use Rattle.gm_text.specs.SchemaText.{labels_in}
 use Rattle.gm_expr.proofs.Canonical.{behind, place_in, at, function_name, unary_form, within_unary, behind_unary, behind_labels, behind_orbit, behind_path, behind_term, behind_field, behind_tree, labels_at, orbit_at, term_at, embed_at, collect_at, is_wrapped, enclosed, within, form_at}
 
 pub operator_fixed : (op : BinOp) → (operator op).role ≡ Fixed
@@ -44,7 +44,7 @@ module _ (Holds : List Mark → List (Part Role) → Type 0)
   labels_hold (label ∷ labels) marks parts later = first marks _ _ refl (labels_hold labels (behind marks) parts later)
 
   orbit_holds : (mask : Mask) (marks : List Mark) (parts : List (Part Role)) → Holds (behind_orbit mask marks) parts → Holds marks (spell_orbit n (orbit_at marks mask) parts)
-  orbit_holds mask marks parts later = first marks _ _ tt (labels_hold (labels_of mask) (behind marks) _ (first (behind_labels (labels_of mask) (behind marks)) _ _ tt later))
+  orbit_holds mask marks parts later = first marks _ _ tt (labels_hold (labels_in mask) (behind marks) _ (first (behind_labels (labels_in mask) (behind marks)) _ _ tt later))
 
   path_holds : (path : List ℕ) (marks : List Mark) (parts : List (Part Role)) → Holds (behind_path path marks) parts → Holds marks (spell_path n path parts)
   path_holds [] marks parts later = later

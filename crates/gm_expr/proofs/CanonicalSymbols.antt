@@ -1,7 +1,7 @@
 -- The symbols of the canonical text of a tree are those of its canonical form.
 use Rattle.std.proofs.Common.{◌≡◌, ℕ, ◌<◌, ◌≤◌, Bool, true, false, ◌||◌, ◌==◌, if◌then◌else◌, List, [], ◌∷◌, ◌++◌, length, ℤ, pos, negsuc, refl, ap, ◌∙◌, append_assoc, codes, arith}
 use Rattle.std.specs.Prelude.{IsTrue, decimal}
-use Rattle.std.specs.List.{AllByRecursion}
+use Rattle.std.specs.List.{AllByRecursion, flat_map}
 use Rattle.std.proofs.lemmas.Bool.Decides.{nat_tests}
 use Rattle.std.proofs.lemmas.Option.{slice_get_within}
 use Rattle.gm_model.specs.declared.expr.BinOp.{BinOp}
@@ -20,12 +20,14 @@ use Rattle.gm_model.specs.Symbols.{Symbol, Word, Numeral, Sign, Mark}
 use Rattle.gm_model.specs.Trees.{Tree, Number, Truth, Param as Parameter, Field, Same, Count, Sum, Least, Greatest, Unary, Binary, If, MakeVec2, MakeVec3, MakeRgb}
 use Rattle.gm_model.specs.Tokens.{is_digit, is_name_byte, is_sign, is_two_byte_sign, begins_two_byte_sign, IsLexeme}
 use Rattle.gm_text.proofs.Printed.{Stops, symbols_from, symbols_from-blank, symbols_from-word, symbols_from-decimal, symbols_from-sign, symbols_from-two, IsLexeme-decimal}
+use Rattle.gm_text.proofs.SchemaAgain.{tail_text, tail_stops}
 use Rattle.gm_parse.specs.declared.key.Collector.{Collector}
 use Rattle.gm_parse.specs.declared.key.Collector.TheVariants as collectors
 use Rattle.gm_parse.specs.Forms.{CallForm, IfForm, First, Further}
 use Rattle.gm_parse.specs.Levels.{least_of_part, least_on_left, least_on_right}
 use Rattle.gm_parse.specs.Spelling.{Role, greatest, collector_word, operator, spell, spell_labels, spell_orbit, spell_path, spell_term, spell_field}
-use Rattle.gm_expr.specs.ExprText.{spaced, labels_of, labels_text, orbit_text, path_text, term_text, field_text, param_name, embed_name, wrapped, sign_of, head_of, tail_of, same_text, collector_text, triple_text, tree_text}
+use Rattle.gm_text.specs.SchemaText.{labels_in, labels_text}
+use Rattle.gm_expr.specs.ExprText.{orbit_text, path_text, term_text, field_text, param_name, embed_name, wrapped, sign_of, head_of, tail_of, same_text, collector_text, triple_text, tree_text}
 use Rattle.gm_expr.specs.Writable.{IsGoodTerm, IsGoodMask, IsWritable, AreGoodNames}
 use Rattle.gm_expr.proofs.Canonical.{behind, place_in, at, function_name, unary_form, within_unary, labels_at, orbit_at, term_at, embed_at, behind_term, behind_orbit, behind_tree, collect_at, enclosed, within, is_wrapped, form_at}
 use Rattle.gm_expr.proofs.CanonicalMeaning.{good_at}
@@ -138,34 +140,35 @@ module _ (n : ℕ) (low : n ≤ 7) where
   label_symbols : (i : ℕ) (more : List ℕ) (s : List Symbol) → i ≤ n → Stops is_digit more → symbols_from more ≡ s → symbols_from (decimal i ++ more) ≡ Numeral i ∷ s
   label_symbols i more s small stops rest = symbols_from-decimal i more (omega (arith, low, small)) stops ∙ ap (λ (t : List Symbol). Numeral i ∷ t) rest
 
-  spaced_stops : (labels more : List ℕ) → Stops is_digit (spaced (codes " ") labels ++ 62 ∷ more)
-  spaced_stops [] more = refl
-  spaced_stops (i ∷ labels) more = refl
+  more_symbols : (labels : List ℕ) (marks : List Mark) (more : List ℕ) (parts : List (Part Role)) → AllByRecursion (λ i. i ≤ n) labels
+      → symbols_from (62 ∷ more) ≡ symbols_in parts → symbols_from (tail_text labels more) ≡ symbols_in (spell_labels n (labels_at marks labels) parts)
+  more_symbols [] marks more parts good rest = rest
+  more_symbols (i ∷ labels) marks more parts good rest =
+      ap symbols_from (append_assoc (32 ∷ decimal i) (flat_map (λ other. 32 ∷ decimal other) labels) (62 ∷ more))
+      ∙ symbols_from-blank 32 (decimal i ++ tail_text labels more) refl
+      ∙ label_symbols i (tail_text labels more) _ good.0 (tail_stops labels more) (more_symbols labels (behind marks) more parts good.1 rest)
 
-  spaced_symbols : (lead : List ℕ) → ((rest : List ℕ) → symbols_from (lead ++ rest) ≡ symbols_from rest) → (labels : List ℕ) (marks : List Mark) (more : List ℕ) (parts : List (Part Role)) → AllByRecursion (λ i. i ≤ n) labels
-      → symbols_from (62 ∷ more) ≡ symbols_in parts → symbols_from (spaced lead labels ++ 62 ∷ more) ≡ symbols_in (spell_labels n (labels_at marks labels) parts)
-  spaced_symbols lead leads [] marks more parts good rest = rest
-  spaced_symbols lead leads (i ∷ labels) marks more parts good rest =
-      let behind_it : List ℕ = spaced (codes " ") labels ++ 62 ∷ more in
-      let regrouped : spaced lead (i ∷ labels) ++ 62 ∷ more ≡ lead ++ (decimal i ++ behind_it) = simp append_assoc in
-      ap symbols_from regrouped
-      ∙ leads (decimal i ++ behind_it)
-      ∙ label_symbols i behind_it _ good.0 (spaced_stops labels more) (spaced_symbols (codes " ") (λ others. symbols_from-blank 32 others refl) labels (behind marks) more parts good.1 rest)
+  labels_symbols : (labels : List ℕ) (marks : List Mark) (more : List ℕ) (parts : List (Part Role)) → AllByRecursion (λ i. i ≤ n) labels
+      → symbols_from (62 ∷ more) ≡ symbols_in parts → symbols_from (labels_text labels ++ 62 ∷ more) ≡ symbols_in (spell_labels n (labels_at marks labels) parts)
+  labels_symbols [] marks more parts good rest = rest
+  labels_symbols (i ∷ labels) marks more parts good rest =
+      ap symbols_from (append_assoc (decimal i) (flat_map (λ other. 32 ∷ decimal other) labels) (62 ∷ more))
+      ∙ label_symbols i (tail_text labels more) _ good.0 (tail_stops labels more) (more_symbols labels (behind marks) more parts good.1 rest)
 
   labels_alone : (labels more : List ℕ) → AllByRecursion (λ i. i ≤ n) labels → begins_two_byte_sign 60 (labels_text labels ++ 62 ∷ more) ≡ false
   labels_alone [] more good = refl
   labels_alone (i ∷ labels) more good =
-      ap (begins_two_byte_sign 60) (append_assoc (decimal i) (spaced (codes " ") labels) (62 ∷ more)) ∙ digits_alone (decimal i) (spaced (codes " ") labels ++ 62 ∷ more) (IsLexeme-decimal i (omega (arith, low, good.0)))
+      ap (begins_two_byte_sign 60) (append_assoc (decimal i) (flat_map (λ other. 32 ∷ decimal other) labels) (62 ∷ more)) ∙ digits_alone (decimal i) (tail_text labels more) (IsLexeme-decimal i (omega (arith, low, good.0)))
 
   -- before the parenthesis behind it
   orbit_symbols : (mask : Mask) (marks : List Mark) (more : List ℕ) (parts : List (Part Role)) → ((i : ℕ) → IsTrue (has mask i) → i ≤ n) → symbols_from (40 ∷ more) ≡ symbols_in parts → symbols_from (orbit_text mask ++ 40 ∷ more) ≡ symbols_in (spell_orbit n (orbit_at marks mask) parts)
   orbit_symbols mask marks more parts good rest =
-      let labels = labels_of mask in
+      let labels = labels_in mask in
       let small = all_labels (λ i. i ≤ n) mask good in
       let regrouped : orbit_text mask ++ 40 ∷ more ≡ 60 ∷ (labels_text labels ++ 62 ∷ 40 ∷ more) = simp append_assoc in
       ap symbols_from regrouped
       ∙ sign_symbols 60 (labels_text labels ++ 62 ∷ 40 ∷ more) _ refl (labels_alone labels (40 ∷ more) small)
-      (spaced_symbols [] (λ others. refl) labels (behind marks) (40 ∷ more) _ small (sign_symbols 62 (40 ∷ more) _ refl refl rest))
+      (labels_symbols labels (behind marks) (40 ∷ more) _ small (sign_symbols 62 (40 ∷ more) _ refl refl rest))
 
   -- ---- terms
 

@@ -11,25 +11,11 @@ use Rattle.std.proofs.lemmas.Nat.Bits.{bit_at-zero, bit_at-lt, bit_at_or, bit_at
 use Rattle.gm_model.specs.declared.word.Mask.{Mask}
 use Rattle.gm_model.specs.Labels.{has}
 use Rattle.gm_model.specs.Symbols.{Mark}
-use Rattle.gm_text.specs.SchemaText.{LabelForm, no_labels, with_label, with_labels, labels_below}
+use Rattle.gm_text.specs.SchemaText.{LabelForm, no_labels, with_label, with_labels, labels_below, labels_in}
 use Rattle.gm_text.proofs.SchemaMasks.{label_forms, built, none_above, built_whole}
+use Rattle.gm_text.proofs.SchemaPrinted.{labels_all}
 use Rattle.gm_parse.specs.Meaning.{again_in, orbit_faults, mask_of}
-use Rattle.gm_expr.specs.ExprText.{labels_of}
 use Rattle.gm_expr.proofs.Canonical.{behind, labels_at}
-
--- ---- in which order they come
-
-abbrev numbers_below : ℕ → List ℕ
-numbers_below zero = []
-numbers_below (suc k) = numbers_below k ++ k ∷ []
-
-filter_below : (mask : Mask) (k : ℕ) → filter (has mask) (numbers_below k) ≡ labels_below mask k
-filter_below mask zero = refl
-filter_below mask (suc k) = filter-append (has mask) (numbers_below k) (k ∷ []) ∙ ap (λ (front : List ℕ). front ++ cond (has mask k) (k ∷ []) []) (filter_below mask k)
-
-pub labels_are : (mask : Mask) → labels_of mask ≡ labels_below mask 8
-unfolding labels_of
-labels_are mask = filter_below mask 8
 
 -- ---- the mask again
 
@@ -61,9 +47,9 @@ bits_small mask narrow =
     bit_same i (inr high) = bit_above mask narrow i high ∙ sym (bit_at_above (mask.bits % 2 ^ 8) 8 i (omega arith) high)
 
 -- with its labels, at any places, comes the mask
-pub mask_again : (mask : Mask) (marks : List Mark) → IsNarrow mask → mask_of (labels_at marks (labels_of mask)) ≡ mask
+pub mask_again : (mask : Mask) (marks : List Mark) → IsNarrow mask → mask_of (labels_at marks (labels_in mask)) ≡ mask
 mask_again mask marks narrow =
-    labels_as no_labels marks (labels_of mask) ∙ ap (λ (labels : List ℕ). with_labels no_labels (label_forms labels)) (labels_are mask) ∙ built_whole mask (bits_small mask narrow)
+    labels_as no_labels marks (labels_in mask) ∙ ap (λ (labels : List ℕ). with_labels no_labels (label_forms labels)) (sym (labels_all mask)) ∙ built_whole mask (bits_small mask narrow)
 
 -- ---- each once
 
@@ -91,8 +77,8 @@ none_again : (mask : Mask) (marks : List Mark) (labels : List ℕ) → AreNewLab
 none_again mask marks [] all = refl
 none_again mask marks (label ∷ labels) all = rw all.0 (none_again (with_label mask label) (behind marks) labels all.1)
 
-pub labels_faultless : (mask : Mask) (marks : List Mark) → orbit_faults (labels_at marks (labels_of mask)) ≡ []
-labels_faultless mask marks = none_again no_labels marks (labels_of mask) (subst (AreNewLabels no_labels) (sym (labels_are mask)) (all_new mask 8))
+pub labels_faultless : (mask : Mask) (marks : List Mark) → orbit_faults (labels_at marks (labels_in mask)) ≡ []
+labels_faultless mask marks = none_again no_labels marks (labels_in mask) (subst (AreNewLabels no_labels) (labels_all mask) (all_new mask 8))
 
 -- ---- all are the mask's
 
@@ -110,8 +96,8 @@ module _ (P : ℕ → Type 0) where
       go all false e = rw e (subst (AllByRecursion P) (sym (append-nil (labels_below mask k))) all)
 
   -- what holds of each label of the mask holds of all that are written
-  pub all_labels : (mask : Mask) → ((i : ℕ) → IsTrue (has mask i) → P i) → AllByRecursion P (labels_of mask)
-  all_labels mask each = subst (AllByRecursion P) (sym (labels_are mask)) (all_below mask each 8)
+  pub all_labels : (mask : Mask) → ((i : ℕ) → IsTrue (has mask i) → P i) → AllByRecursion P (labels_in mask)
+  all_labels mask each = subst (AllByRecursion P) (labels_all mask) (all_below mask each 8)
 
 -- ---- how many they are
 
@@ -171,11 +157,11 @@ count_labels mask (form ∷ orbit) k =
     omega (arith, one, rest)
 
 -- an orbit has no fewer labels than its mask
-pub labels_fewest : (orbit : List LabelForm) → length (labels_of (mask_of orbit)) ≤ length orbit
+pub labels_fewest : (orbit : List LabelForm) → length (labels_in (mask_of orbit)) ≤ length orbit
 labels_fewest orbit =
     let count = count_labels no_labels orbit 8 in
     let none : length (labels_below no_labels 8) ≡ 0 = refl in
-    rw labels_are (omega (arith, count, none))
+    rw (← labels_all) (omega (arith, count, none))
 
 -- ---- from labels up to n comes a mask up to n
 

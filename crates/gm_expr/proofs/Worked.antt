@@ -17,7 +17,8 @@ use Rattle.gm_model.specs.Kinds.{tree_kind}
 use Rattle.gm_model.specs.Symbols.{marks_of}
 use Rattle.gm_model.specs.Trees.{Tree, Number, Param as Parameter, Field, Same, Count, Sum, Unary, Binary, If}
 use Rattle.gm_parse.specs.Meaning.{Names, is_named}
-use Rattle.gm_expr.specs.ExprText.{labels_of, tree_text}
+use Rattle.gm_text.specs.SchemaText.{labels_in}
+use Rattle.gm_expr.specs.ExprText.{tree_text}
 use Rattle.gm_expr.specs.Whole.{IsReadWhole}
 use Rattle.gm_expr.specs.Writable.{AreDifferent, AreGoodNames, names_of}
 use Rattle.gm_expr.proofs.CanonicalRead.{short_read}
@@ -92,7 +93,7 @@ choice_in_sum = rw (decimal_digit 1 (omega arith)) refl
 -- ---- what is read at darts
 
 barycentre : text (Binary Div (Sum face (dart []) 0) (Count face (dart []))) ≡ codes "sum<0 1>(a.pos) / count<0 1>(a)"
-unfolding labels_of
+unfolding labels_in
 barycentre = rw (decimal_digit 0 (omega arith), decimal_digit 1 (omega arith)) refl
 
 along_a_path : text (Same (dart (0 ∷ 1 ∷ [])) (dart [])) ≡ codes "same(a@0@1, a)"

@@ -1,5 +1,5 @@
 -- How an expression is written: its one canonical text.
-use Rattle.std.specs.Prelude.{◌≡◌, ℕ, ◌<◌, Bool, true, false, nat_lt, if◌then◌else◌, List, [], ◌∷◌, ◌++◌, length, filter, codes, decimal, slice_get}
+use Rattle.std.specs.Prelude.{◌≡◌, ℕ, ◌<◌, nat_lt, if◌then◌else◌, List, [], ◌∷◌, ◌++◌, length, codes, decimal, slice_get}
 use Rattle.std.specs.Fmt.{signed_decimal}
 use Rattle.std.specs.List.{flat_map}
 use Rattle.std.specs.Option.{option_map, unwrap_or}
@@ -12,8 +12,9 @@ use Rattle.gm_model.specs.declared.rule.Param.{Param}
 use Rattle.gm_model.specs.declared.schema.Embed.{Embed}
 use Rattle.gm_model.specs.declared.schema.Schema.{Schema}
 use Rattle.gm_model.specs.declared.word.Mask.{Mask}
-use Rattle.gm_model.specs.Labels.{has}
 use Rattle.gm_model.specs.Rules.{Rule, RuleNode, name_at}
+use Rattle.gm_text.specs.SchemaText.{labels_in, labels_text}
+use Rattle.gm_text.specs.ValueText.{truth_text}
 use Rattle.gm_parse.specs.Levels.{binary_level, least_of_part, least_on_left, least_on_right, unary_level}
 use Rattle.gm_model.specs.Trees.{Tree, Number, Truth, Param as Parameter, Field, Same, Count, Sum, Least, Greatest, Unary, Binary, If, MakeVec2, MakeVec3, MakeRgb}
 
@@ -64,35 +65,11 @@ tail_of unary.Neg = []
 tail_of unary.Not = []
 tail_of _ = codes ")"
 
-abbrev pub truth_text : Bool → List ℕ
-truth_text true = codes "true"
-truth_text false = codes "false"
-
 -- ---- orbits and dart terms
-
--- each number behind a blank, and the first one behind `lead`
-abbrev pub spaced : List ℕ → List ℕ → List ℕ
-spaced lead [] = []
-spaced lead (i ∷ labels) = (lead ++ decimal i) ++ spaced (codes " ") labels
-
--- 0 1 2
-abbrev pub labels_text : List ℕ → List ℕ
-labels_text labels = spaced [] labels
-
--- a label behind `lead`, where the mask has it
-abbrev pub label_text : Mask → List ℕ → ℕ → List ℕ
-label_text mask lead i = if has mask i then lead ++ decimal i else []
-
-abbrev pub every_label : List ℕ
-every_label = 0 ∷ 1 ∷ 2 ∷ 3 ∷ 4 ∷ 5 ∷ 6 ∷ 7 ∷ []
-
--- the labels of a mask, in ascending order
-unfoldable pub labels_of : Mask → List ℕ
-labels_of mask = filter (has mask) every_label
 
 -- <0 1 2>
 abbrev pub orbit_text : Mask → List ℕ
-orbit_text mask = codes "<" ++ labels_text (labels_of mask) ++ codes ">"
+orbit_text mask = codes "<" ++ labels_text (labels_in mask) ++ codes ">"
 
 abbrev pub param_name : List Param → ℕ → List ℕ
 param_name params k = unwrap_or (option_map (λ (param : Param). param.name) (slice_get params k)) []
@@ -180,10 +157,3 @@ module _ (schema : Schema) (rule : Rule) where
   IsNamed (MakeVec2 a b) = IsNamed a × IsNamed b
   IsNamed (MakeVec3 a b c) = IsNamed a × IsNamed b × IsNamed c
   IsNamed (MakeRgb a b c) = IsNamed a × IsNamed b × IsNamed c
-
--- Memory was wanting within the text: behind what was there stands a front of it.
-pub record IsCutShort (before text after : List ℕ) : Type 0 where
-  pub front : List ℕ
-  pub rest : List ℕ
-  pub text_is : text ≡ front ++ rest
-  pub after_is : after ≡ before ++ front

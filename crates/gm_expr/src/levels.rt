@@ -1,10 +1,12 @@
 //! How tightly operators bind, what each place asks for, and the signs that are written.
 ghost use Rattle.std.specs.Prelude.{◌≡◌};
 ghost use Rattle.gm_model.specs.Trees.{tree_of};
-ghost use Rattle.gm_expr.specs.ExprText.{head_of, level, sign_of, tail_of, truth_text};
-ghost use Rattle.gm_parse.specs.Levels.{binary_level, least_of_part, least_on_left, least_on_right, unary_level};
+ghost use Rattle.gm_expr.specs.ExprText.{head_of, level, sign_of, tail_of};
+ghost use Rattle.gm_text.specs.ValueText.{truth_text};
+ghost use Rattle.gm_parse.specs.Levels.{least_of_part, least_on_left, unary_level};
 
 use gm_model::{BinOp, Expr, UnOp};
+use gm_parse::binary_level;
 
 /// The level of what is no operator: a leaf, or a function with its arguments.
 const ATOM: u8 = 8;
@@ -15,21 +17,9 @@ pub(crate) fn level_of(expr: &Expr) -> u8
 {
     match expr {
         Expr::If(_, _, _) => 0,
-        Expr::Binary(op, _, _) => level_of_binary(*op),
+        Expr::Binary(op, _, _) => binary_level(*op),
         Expr::Unary(op, _) => level_of_unary(*op),
         _ => ATOM,
-    }
-}
-
-fn level_of_binary(op: BinOp) -> u8
-    ensures { result ≡ binary_level op }
-{
-    match op {
-        BinOp::Or => 1,
-        BinOp::And => 2,
-        BinOp::Eq | BinOp::Ne | BinOp::Lt | BinOp::Le | BinOp::Gt | BinOp::Ge => 4,
-        BinOp::Add | BinOp::Sub => 5,
-        BinOp::Mul | BinOp::Div | BinOp::Rem => 6,
     }
 }
 
@@ -62,19 +52,6 @@ pub(crate) fn least_left(op: BinOp) -> u8
         BinOp::Or => 1,
         BinOp::And => 2,
         BinOp::Mul | BinOp::Div | BinOp::Rem => 6,
-        _ => 5,
-    }
-}
-
-/// The least level on the operator's right that goes without parentheses.
-pub(crate) fn least_right(op: BinOp) -> u8
-    ensures { result ≡ least_on_right op }
-{
-    match op {
-        BinOp::Or => 2,
-        BinOp::And => 3,
-        BinOp::Add | BinOp::Sub => 6,
-        BinOp::Mul | BinOp::Div | BinOp::Rem => 7,
         _ => 5,
     }
 }

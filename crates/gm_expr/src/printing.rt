@@ -2,11 +2,13 @@
 ghost use Rattle.std.specs.Prelude.{◌≡◌, ◌++◌, ◌<◌, ℕ, codes, length, OnOk, OnErr};
 ghost use Rattle.gm_model.specs.Rules.{rule_of};
 ghost use Rattle.gm_model.specs.Trees.{tree_of, Unary, Binary, If, MakeVec2};
-ghost use Rattle.gm_expr.specs.ExprText.{expr_text, param_name, triple_text, wrapped, IsCutShort, IsNamed};
+ghost use Rattle.gm_text.specs.SchemaPrinting.{IsCut};
+ghost use Rattle.gm_expr.specs.ExprText.{expr_text, param_name, triple_text, wrapped, IsNamed};
 
-use crate::levels::{head, least_left, least_right, least_within, level_of, sign, tail, truth};
+use crate::levels::{head, least_left, least_within, level_of, sign, tail, truth};
 use crate::terms::{print_collector, print_count, print_field, print_same};
 use gm_model::{BinOp, Expr, OutOfMemory, Param, RuleTable, Schema, UnOp};
+use gm_parse::least_on_right;
 use gm_text::Text;
 
 /// Appends the canonical text of an expression of the rule, over the schema. Where memory is
@@ -20,7 +22,7 @@ pub fn print_expr(
 ) -> Result<(), OutOfMemory>
     requires { IsNamed schema.now (rule_of rule.now) (tree_of expr.now) }
     ensures ok { OnOk result (out.new ≡ out.old ++ expr_text schema.now (rule_of rule.now) (tree_of expr.now)) }
-    ensures err { OnErr result (IsCutShort out.old (expr_text schema.now (rule_of rule.now) (tree_of expr.now)) out.new) }
+    ensures err { OnErr result (IsCut out.old (expr_text schema.now (rule_of rule.now) (tree_of expr.now)) out.new) }
 {
     match expr {
         Expr::Int(number) => out.signed(*number),
@@ -68,7 +70,7 @@ fn print_behind(
 ) -> Result<(), OutOfMemory>
     requires { IsNamed schema.now (rule_of rule.now) (tree_of expr.now) }
     ensures ok { OnOk result (out.new ≡ out.old ++ (lead.now ++ expr_text schema.now (rule_of rule.now) (tree_of expr.now))) }
-    ensures err { OnErr result (IsCutShort out.old (lead.now ++ expr_text schema.now (rule_of rule.now) (tree_of expr.now)) out.new) }
+    ensures err { OnErr result (IsCut out.old (lead.now ++ expr_text schema.now (rule_of rule.now) (tree_of expr.now)) out.new) }
 {
     out.put(lead)?;
     print_expr(out, schema, rule, expr)
@@ -85,7 +87,7 @@ fn print_part(
 ) -> Result<(), OutOfMemory>
     requires { IsNamed schema.now (rule_of rule.now) (tree_of part.now) }
     ensures ok { OnOk result (out.new ≡ out.old ++ wrapped least (tree_of part.now) (expr_text schema.now (rule_of rule.now) (tree_of part.now))) }
-    ensures err { OnErr result (IsCutShort out.old (wrapped least (tree_of part.now) (expr_text schema.now (rule_of rule.now) (tree_of part.now))) out.new) }
+    ensures err { OnErr result (IsCut out.old (wrapped least (tree_of part.now) (expr_text schema.now (rule_of rule.now) (tree_of part.now))) out.new) }
 {
     if level_of(part) >= least {
         return print_expr(out, schema, rule, part);
@@ -104,7 +106,7 @@ fn print_unary(
 ) -> Result<(), OutOfMemory>
     requires { IsNamed schema.now (rule_of rule.now) (tree_of part.now) }
     ensures ok { OnOk result (out.new ≡ out.old ++ expr_text schema.now (rule_of rule.now) (Unary op (tree_of part.now))) }
-    ensures err { OnErr result (IsCutShort out.old (expr_text schema.now (rule_of rule.now) (Unary op (tree_of part.now))) out.new) }
+    ensures err { OnErr result (IsCut out.old (expr_text schema.now (rule_of rule.now) (Unary op (tree_of part.now))) out.new) }
 {
     out.put(head(op))?;
     print_part(out, schema, rule, least_within(op), part)?;
@@ -123,11 +125,11 @@ fn print_binary(
     requires left { IsNamed schema.now (rule_of rule.now) (tree_of left.now) }
     requires right { IsNamed schema.now (rule_of rule.now) (tree_of right.now) }
     ensures ok { OnOk result (out.new ≡ out.old ++ expr_text schema.now (rule_of rule.now) (Binary op (tree_of left.now) (tree_of right.now))) }
-    ensures err { OnErr result (IsCutShort out.old (expr_text schema.now (rule_of rule.now) (Binary op (tree_of left.now) (tree_of right.now))) out.new) }
+    ensures err { OnErr result (IsCut out.old (expr_text schema.now (rule_of rule.now) (Binary op (tree_of left.now) (tree_of right.now))) out.new) }
 {
     print_part(out, schema, rule, least_left(op), left)?;
     out.put(sign(op))?;
-    print_part(out, schema, rule, least_right(op), right)
+    print_part(out, schema, rule, least_on_right(op), right)
 }
 
 #[cycle(print)]
@@ -143,7 +145,7 @@ fn print_if(
     requires then { IsNamed schema.now (rule_of rule.now) (tree_of then.now) }
     requires other { IsNamed schema.now (rule_of rule.now) (tree_of other.now) }
     ensures ok { OnOk result (out.new ≡ out.old ++ expr_text schema.now (rule_of rule.now) (If (tree_of condition.now) (tree_of then.now) (tree_of other.now))) }
-    ensures err { OnErr result (IsCutShort out.old (expr_text schema.now (rule_of rule.now) (If (tree_of condition.now) (tree_of then.now) (tree_of other.now))) out.new) }
+    ensures err { OnErr result (IsCut out.old (expr_text schema.now (rule_of rule.now) (If (tree_of condition.now) (tree_of then.now) (tree_of other.now))) out.new) }
 {
     print_behind(out, schema, rule, b"if ", condition)?;
     print_behind(out, schema, rule, b" then ", then)?;
@@ -161,7 +163,7 @@ fn print_pair(
     requires x { IsNamed schema.now (rule_of rule.now) (tree_of x.now) }
     requires y { IsNamed schema.now (rule_of rule.now) (tree_of y.now) }
     ensures ok { OnOk result (out.new ≡ out.old ++ expr_text schema.now (rule_of rule.now) (MakeVec2 (tree_of x.now) (tree_of y.now))) }
-    ensures err { OnErr result (IsCutShort out.old (expr_text schema.now (rule_of rule.now) (MakeVec2 (tree_of x.now) (tree_of y.now))) out.new) }
+    ensures err { OnErr result (IsCut out.old (expr_text schema.now (rule_of rule.now) (MakeVec2 (tree_of x.now) (tree_of y.now))) out.new) }
 {
     print_behind(out, schema, rule, b"vec2(", x)?;
     print_behind(out, schema, rule, b", ", y)?;
@@ -183,7 +185,7 @@ fn print_triple(
     requires second { IsNamed schema.now (rule_of rule.now) (tree_of second.now) }
     requires third { IsNamed schema.now (rule_of rule.now) (tree_of third.now) }
     ensures ok { OnOk result (out.new ≡ out.old ++ triple_text head.now (expr_text schema.now (rule_of rule.now) (tree_of first.now)) (expr_text schema.now (rule_of rule.now) (tree_of second.now)) (expr_text schema.now (rule_of rule.now) (tree_of third.now))) }
-    ensures err { OnErr result (IsCutShort out.old (triple_text head.now (expr_text schema.now (rule_of rule.now) (tree_of first.now)) (expr_text schema.now (rule_of rule.now) (tree_of second.now)) (expr_text schema.now (rule_of rule.now) (tree_of third.now))) out.new) }
+    ensures err { OnErr result (IsCut out.old (triple_text head.now (expr_text schema.now (rule_of rule.now) (tree_of first.now)) (expr_text schema.now (rule_of rule.now) (tree_of second.now)) (expr_text schema.now (rule_of rule.now) (tree_of third.now))) out.new) }
 {
     print_behind(out, schema, rule, head, first)?;
     print_behind(out, schema, rule, b", ", second)?;

@@ -1,19 +1,16 @@
 //! The canonical text of orbits, of dart terms and of what is read at them.
 ghost use Rattle.std.specs.Prelude.{◌≡◌, ◌++◌, ◌<◌, codes, decimal, length, IfOk, OnOk, OnErr};
-ghost use Rattle.gm_model.specs.Labels.{has};
 ghost use Rattle.gm_model.specs.Rules.{name_at, rule_of};
-ghost use Rattle.gm_expr.specs.ExprText.{collector_text, count_text, embed_name, field_text, IsCutShort, IsFieldNamed, label_text, labels_of, labels_text, orbit_text, path_text, same_text, term_text};
+ghost use Rattle.gm_text.specs.SchemaPrinting.{IsCut};
+ghost use Rattle.gm_expr.specs.ExprText.{collector_text, count_text, embed_name, field_text, IsFieldNamed, orbit_text, path_text, same_text, term_text};
 
 use gm_model::{DartTerm, Mask, OutOfMemory, RuleTable, Schema};
-use gm_text::Text;
-
-/// How many labels a mask can have.
-const LABELS: u8 = 8;
+use gm_text::{Text, print_labels};
 
 /// `@` and the label.
 fn print_step(out: &mut Text, label: u8) -> Result<(), OutOfMemory>
     ensures ok { OnOk result (out.new ≡ out.old ++ (codes "@" ++ decimal label)) }
-    ensures err { OnErr result (IsCutShort out.old (codes "@" ++ decimal label) out.new) }
+    ensures err { OnErr result (IsCut out.old (codes "@" ++ decimal label) out.new) }
 {
     out.put(b"@")?;
     out.number(u64::from(label))
@@ -21,7 +18,7 @@ fn print_step(out: &mut Text, label: u8) -> Result<(), OutOfMemory>
 
 fn print_path(out: &mut Text, path: &[u8]) -> Result<(), OutOfMemory>
     ensures ok { OnOk result (out.new ≡ out.old ++ path_text path.now) }
-    ensures err { OnErr result (IsCutShort out.old (path_text path.now) out.new) }
+    ensures err { OnErr result (IsCut out.old (path_text path.now) out.new) }
 {
     for label in path {
         print_step(out, *label)?;
@@ -48,44 +45,15 @@ fn print_embed_name(out: &mut Text, schema: &Schema, embed: u8) -> Result<(), Ou
 fn print_term(out: &mut Text, rule: &RuleTable, term: &DartTerm) -> Result<(), OutOfMemory>
     requires { term.now.node < length (rule_of rule.now).nodes }
     ensures ok { OnOk result (out.new ≡ out.old ++ term_text (rule_of rule.now).nodes term.now) }
-    ensures err { OnErr result (IsCutShort out.old (term_text (rule_of rule.now).nodes term.now) out.new) }
+    ensures err { OnErr result (IsCut out.old (term_text (rule_of rule.now).nodes term.now) out.new) }
 {
     print_node_name(out, rule, term.node)?;
     print_path(out, term.path.as_slice())
 }
 
-/// The label behind the gap, where the set has it. Answers whether it has.
-fn print_label(out: &mut Text, mask: Mask, gap: &[u8], label: u8) -> Result<bool, OutOfMemory>
-    requires { label < 8 }
-    ensures ok { OnOk result (out.new ≡ out.old ++ label_text mask gap.now label) }
-    ensures has { IfOk result (λ there. there ≡ has mask label) }
-    ensures err { OnErr result (IsCutShort out.old (label_text mask gap.now label) out.new) }
-{
-    if !mask.has(label) {
-        return Ok(false);
-    }
-    out.put(gap)?;
-    out.number(u64::from(label))?;
-    Ok(true)
-}
-
-/// The labels of the set in ascending order, with one blank between two.
-fn print_labels(out: &mut Text, mask: Mask) -> Result<(), OutOfMemory>
-    ensures ok { OnOk result (out.new ≡ out.old ++ labels_text (labels_of mask)) }
-    ensures err { OnErr result (IsCutShort out.old (labels_text (labels_of mask)) out.new) }
-{
-    let mut gap: &[u8] = b"";
-    for label in 0..LABELS {
-        if print_label(out, mask, gap, label)? {
-            gap = b" ";
-        }
-    }
-    Ok(())
-}
-
 fn print_orbit(out: &mut Text, mask: Mask) -> Result<(), OutOfMemory>
     ensures ok { OnOk result (out.new ≡ out.old ++ orbit_text mask) }
-    ensures err { OnErr result (IsCutShort out.old (orbit_text mask) out.new) }
+    ensures err { OnErr result (IsCut out.old (orbit_text mask) out.new) }
 {
     out.put(b"<")?;
     print_labels(out, mask)?;
@@ -102,7 +70,7 @@ pub(crate) fn print_field(
 ) -> Result<(), OutOfMemory>
     requires { IsFieldNamed schema.now (rule_of rule.now) term.now embed }
     ensures ok { OnOk result (out.new ≡ out.old ++ field_text schema.now.embeds (rule_of rule.now).nodes term.now embed) }
-    ensures err { OnErr result (IsCutShort out.old (field_text schema.now.embeds (rule_of rule.now).nodes term.now embed) out.new) }
+    ensures err { OnErr result (IsCut out.old (field_text schema.now.embeds (rule_of rule.now).nodes term.now embed) out.new) }
 {
     print_term(out, rule, term)?;
     out.put(b".")?;
@@ -121,7 +89,7 @@ pub(crate) fn print_collector(
 ) -> Result<(), OutOfMemory>
     requires { IsFieldNamed schema.now (rule_of rule.now) term.now embed }
     ensures ok { OnOk result (out.new ≡ out.old ++ collector_text schema.now.embeds (rule_of rule.now).nodes name.now mask term.now embed) }
-    ensures err { OnErr result (IsCutShort out.old (collector_text schema.now.embeds (rule_of rule.now).nodes name.now mask term.now embed) out.new) }
+    ensures err { OnErr result (IsCut out.old (collector_text schema.now.embeds (rule_of rule.now).nodes name.now mask term.now embed) out.new) }
 {
     out.put(name)?;
     print_orbit(out, mask)?;
@@ -139,7 +107,7 @@ pub(crate) fn print_count(
 ) -> Result<(), OutOfMemory>
     requires { term.now.node < length (rule_of rule.now).nodes }
     ensures ok { OnOk result (out.new ≡ out.old ++ count_text (rule_of rule.now).nodes mask term.now) }
-    ensures err { OnErr result (IsCutShort out.old (count_text (rule_of rule.now).nodes mask term.now) out.new) }
+    ensures err { OnErr result (IsCut out.old (count_text (rule_of rule.now).nodes mask term.now) out.new) }
 {
     out.put(b"count")?;
     print_orbit(out, mask)?;
@@ -158,7 +126,7 @@ pub(crate) fn print_same(
     requires left { left.now.node < length (rule_of rule.now).nodes }
     requires right { right.now.node < length (rule_of rule.now).nodes }
     ensures ok { OnOk result (out.new ≡ out.old ++ same_text (rule_of rule.now).nodes left.now right.now) }
-    ensures err { OnErr result (IsCutShort out.old (same_text (rule_of rule.now).nodes left.now right.now) out.new) }
+    ensures err { OnErr result (IsCut out.old (same_text (rule_of rule.now).nodes left.now right.now) out.new) }
 {
     out.put(b"same(")?;
     print_term(out, rule, left)?;

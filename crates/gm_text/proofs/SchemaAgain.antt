@@ -23,7 +23,7 @@ use Rattle.gm_text.specs.SchemaPrinting.{AreParts, BeginNoEmbed, StandsBefore}
 use Rattle.gm_text.proofs.Printed.{Stops, symbols_from, symbols_of-from, symbols_from-blank, symbols_from-word_blank, symbols_from-decimal, symbols_from-decimal_blank, symbols_from-sign, IsLexeme-decimal}
 use Rattle.gm_text.proofs.SchemaGrammar.{spell_before, led_form}
 use Rattle.gm_text.proofs.SchemaMasks.{label_forms, built, none_above, built_whole}
-use Rattle.gm_text.proofs.SchemaPrinted.{all_below}
+use Rattle.gm_text.proofs.SchemaPrinted.{labels_all}
 use Rattle.gm_text.proofs.SchemaSound.{IsGood, IsLow, AreNew, sound_from, dim_read, read_parts}
 use Rattle.gm_text.proofs.SchemaStanding.{passed_placeless, inner_limit, form_stands}
 
@@ -160,7 +160,7 @@ line_symbols n declared embed more parts name rest =
     let kind_symbols = symbols_from-word_blank kind 10 more (kind_lexeme embed.kind) refl ∙ ap (λ (s : List Symbol). Word kind ∷ s) rest in
     let close : symbols_from (62 ∷ 32 ∷ behind_kind) ≡ symbols_in (sign (codes ">") ∷ word Fixed kind ∷ parts) =
     symbols_from-sign 62 (32 ∷ behind_kind) refl refl ∙ ap (λ (s : List Symbol). Sign (codes ">") ∷ s) (symbols_from-blank 32 behind_kind refl ∙ kind_symbols) in
-    let orbit = ap (λ labels. symbols_from (60 ∷ (labels_text labels ++ 62 ∷ 32 ∷ behind_kind))) (sym (all_below embed.mask))
+    let orbit = ap (λ labels. symbols_from (60 ∷ (labels_text labels ++ 62 ∷ 32 ∷ behind_kind))) (sym (labels_all embed.mask))
     ∙ labels_symbols n no_labels (labels_below embed.mask 8) (32 ∷ behind_kind) (sign (codes ">") ∷ word Fixed kind ∷ parts) (small_below embed.mask 8 (omega arith)) close in
     ap symbols_from apart
     ∙ symbols_from-word_blank (codes "embed") 32 (embed.name ++ 32 ∷ 60 ∷ behind_orbit) (refl, refl) refl

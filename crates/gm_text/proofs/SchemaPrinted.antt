@@ -62,9 +62,9 @@ cut_labels mask k old out new gap low e so_far is_gap cut =
     let all : labels_text (labels_in mask) ≡ (front ++ done) ++ (left ++ more) = is ∙ ap (λ (bytes : List ℕ). bytes ++ more) (one ∙ sym (append_assoc front done left)) ∙ append_assoc (front ++ done) left more in
     record { front = front ++ done; rest = left ++ more; text_is = all; after_is = cut.after_is ∙ ap (λ (bytes : List ℕ). bytes ++ done) so_far ∙ append_assoc old front done }
 
-pub all_below : (mask : Mask) → labels_below mask 8 ≡ labels_in mask
+pub labels_all : (mask : Mask) → labels_below mask 8 ≡ labels_in mask
 unfolding labels_in
-all_below mask = refl
+labels_all mask = refl
 
 -- ---- pieces
 

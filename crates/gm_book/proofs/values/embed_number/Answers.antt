@@ -6,5 +6,5 @@ use Rattle.gm_book.proofs.values.embed_number.Goals as goal
 
 pub returns : goal.returns
 returns c =
-    c.embed_index.ensures ∙ ap (λ (es : List Embed). position (λ (e : Embed). bytes_eq c.args.name.now e.name) es) c.as_slice.ensures
+    c.embed_index.ensures.value ∙ ap (λ (es : List Embed). position (λ (e : Embed). bytes_eq c.args.name.now e.name) es) c.as_slice.ensures
     ∙ sym (position-map (λ (e : Embed). e.name) (bytes_eq c.args.name.now) c.args.schema.now.embeds)

@@ -4,9 +4,11 @@ use Rattle.std.specs.Prelude.{nat_lt, OnOk, OnErr}
 use Rattle.std.proofs.lemmas.Result.{on_err_weaker, on_ok_weaker}
 use Rattle.gm_model.specs.Rules.{rule_of}
 use Rattle.gm_model.specs.Trees.{Tree, tree_of}
-use Rattle.gm_expr.specs.ExprText.{IsCutShort, expr_text, head_of, level, sign_of, tail_of, wrapped}
+use Rattle.gm_text.specs.SchemaPrinting.{IsCut}
+use Rattle.gm_expr.specs.ExprText.{expr_text, head_of, level, sign_of, tail_of, wrapped}
 use Rattle.gm_parse.specs.Levels.{least_of_part, least_on_left, least_on_right}
-use Rattle.gm_expr.proofs.Cuts.{cut_at_once, cut_before, cut_behind, cut_behind_lead, on_err, written_behind, written_behind_lead}
+use Rattle.gm_model.proofs.Exits.{on_err}
+use Rattle.gm_text.proofs.Cuts.{cut_at_once, cut_before, cut_behind, cut_behind_lead, written_behind, written_behind_lead}
 use Rattle.gm_expr.proofs.printing.+print.Goals as goal
 
 -- ---- behind a lead
@@ -23,7 +25,7 @@ print_behind-returns-clause-ok t c =
 pub print_behind-returns-clause-err : goal.print_behind-returns-clause-err
 print_behind-returns-clause-err t c =
     let text = expr_text c.args.schema.now (rule_of c.args.rule.now) (tree_of c.args.expr.now) in
-    on_err_weaker c.print_expr.result (λ (cut : IsCutShort c.put.new.self text c.print_expr.new.out). cut_behind c.args.out.now c.args.lead.now c.in_ok-put.ensures.ok cut) c.print_expr.ensures.err
+    on_err_weaker c.print_expr.result (λ (cut : IsCut c.put.new.self text c.print_expr.new.out). cut_behind c.args.out.now c.args.lead.now c.in_ok-put.ensures.ok cut) c.print_expr.ensures.err
 
 -- ---- an operator and its part
 
@@ -36,7 +38,7 @@ print_unary-returns-in_err-print_part-clause-err t c =
     let tree = tree_of c.args.part.now in
     let text = expr_text c.args.schema.now (rule_of c.args.rule.now) tree in
     let head : c.put.new.self ≡ c.args.out.now ++ head_of c.args.op = rw (c.in_ok-put.ensures.ok, c.head.ensures) refl in
-    let cut = subst (λ least. IsCutShort c.put.new.self (wrapped least tree text) c.print_part.new.out) c.least_within.ensures c.in_err-print_part.ensures.err in
+    let cut = subst (λ least. IsCut c.put.new.self (wrapped least tree text) c.print_part.new.out) c.least_within.ensures c.in_err-print_part.ensures.err in
     on_err _ (cut_before (tail_of c.args.op) (cut_behind c.args.out.now (head_of c.args.op) head cut))
 
 pub print_unary-returns-clause-ok : goal.print_unary-returns-clause-ok
@@ -66,7 +68,7 @@ print_binary-returns-in_err-print_part-clause-err t c =
     let text = expr_text c.args.schema.now (rule_of c.args.rule.now) in
     let left = wrapped (least_on_left c.args.op) (tree_of c.args.left.now) (text (tree_of c.args.left.now)) in
     let right = wrapped (least_on_right c.args.op) (tree_of c.args.right.now) (text (tree_of c.args.right.now)) in
-    let cut = subst (λ least. IsCutShort c.args.out.now (wrapped least (tree_of c.args.left.now) (text (tree_of c.args.left.now))) c.print_part.new.out) c.least_left.ensures c.in_err-print_part.ensures.err in
+    let cut = subst (λ least. IsCut c.args.out.now (wrapped least (tree_of c.args.left.now) (text (tree_of c.args.left.now))) c.print_part.new.out) c.least_left.ensures c.in_err-print_part.ensures.err in
     on_err _ (cut_before right (cut_before (sign_of c.args.op) cut))
 
 pub print_binary-returns-in_err-put-clause-err : goal.print_binary-returns-in_err-put-clause-err
@@ -91,7 +93,7 @@ print_binary-returns-clause-ok t c =
     let so_far = written_behind c.args.out.now left (sign_of c.args.op) first sign in
     on_ok_weaker c.print_part-2.result
     (λ (more : c.print_part-2.new.out ≡ c.put.new.self ++ right). written_behind c.args.out.now (left ++ sign_of c.args.op) right so_far more)
-    (subst (λ least. OnOk c.print_part-2.result (c.print_part-2.new.out ≡ c.put.new.self ++ wrapped least (tree_of c.args.right.now) (text (tree_of c.args.right.now)))) c.least_right.ensures c.print_part-2.ensures.ok)
+    (subst (λ least. OnOk c.print_part-2.result (c.print_part-2.new.out ≡ c.put.new.self ++ wrapped least (tree_of c.args.right.now) (text (tree_of c.args.right.now)))) c.least_on_right.ensures c.print_part-2.ensures.ok)
 
 pub print_binary-returns-clause-err : goal.print_binary-returns-clause-err
 print_binary-returns-clause-err t c =
@@ -102,8 +104,8 @@ print_binary-returns-clause-err t c =
     let sign : c.put.new.self ≡ c.print_part.new.out ++ sign_of c.args.op = rw (c.in_ok-put.ensures.ok, c.sign.ensures) refl in
     let so_far = written_behind c.args.out.now left (sign_of c.args.op) first sign in
     on_err_weaker c.print_part-2.result
-    (λ (cut : IsCutShort c.put.new.self right c.print_part-2.new.out). cut_behind c.args.out.now (left ++ sign_of c.args.op) so_far cut)
-    (subst (λ least. OnErr c.print_part-2.result (IsCutShort c.put.new.self (wrapped least (tree_of c.args.right.now) (text (tree_of c.args.right.now))) c.print_part-2.new.out)) c.least_right.ensures c.print_part-2.ensures.err)
+    (λ (cut : IsCut c.put.new.self right c.print_part-2.new.out). cut_behind c.args.out.now (left ++ sign_of c.args.op) so_far cut)
+    (subst (λ least. OnErr c.print_part-2.result (IsCut c.put.new.self (wrapped least (tree_of c.args.right.now) (text (tree_of c.args.right.now))) c.print_part-2.new.out)) c.least_on_right.ensures c.print_part-2.ensures.err)
 
 -- ---- choices
 
@@ -138,7 +140,7 @@ print_if-returns-clause-err t c =
     let text = expr_text c.args.schema.now (rule_of c.args.rule.now) in
     let so_far_2 = written_behind_lead c.args.out.now (codes "if " ++ text (tree_of c.args.condition.now)) (codes " then ") (text (tree_of c.args.then.now)) c.in_ok-print_behind.ensures.ok c.in_ok-print_behind-2.ensures.ok in
     on_err_weaker c.print_behind-3.result
-    (λ (cut : IsCutShort c.print_behind-2.new.out (codes " else " ++ text (tree_of c.args.other.now)) c.print_behind-3.new.out). cut_behind_lead c.args.out.now (codes "if " ++ text (tree_of c.args.condition.now) ++ codes " then " ++ text (tree_of c.args.then.now)) (codes " else ") (text (tree_of c.args.other.now)) so_far_2 cut)
+    (λ (cut : IsCut c.print_behind-2.new.out (codes " else " ++ text (tree_of c.args.other.now)) c.print_behind-3.new.out). cut_behind_lead c.args.out.now (codes "if " ++ text (tree_of c.args.condition.now) ++ codes " then " ++ text (tree_of c.args.then.now)) (codes " else ") (text (tree_of c.args.other.now)) so_far_2 cut)
     c.print_behind-3.ensures.err
 
 -- ---- two arguments
@@ -219,7 +221,7 @@ print_triple-returns-clause-err t c =
 
 -- ---- parentheses
 
-cut_within : (least : ℕ) (tree : Tree) (text before after : List ℕ) → nat_lt (level tree) least ≡ true → IsCutShort before (codes "(" ++ text) after → IsCutShort before (wrapped least tree text) after
+cut_within : (least : ℕ) (tree : Tree) (text before after : List ℕ) → nat_lt (level tree) least ≡ true → IsCut before (codes "(" ++ text) after → IsCut before (wrapped least tree text) after
 cut_within least tree text before after lower cut = rw lower (cut_before (codes ")") cut)
 
 pub print_part-returns-in_err-print_behind-clause-err : goal.print_part-returns-in_err-print_behind-clause-err

@@ -1,7 +1,8 @@
 use Rattle.std.proofs.Common.{◌≡◌, ◌+◌, ◌++◌, codes, decimal, drop, slice_index, refl, subst, arith}
 use Rattle.std.proofs.lemmas.List.{drop_more}
 use Rattle.gm_expr.specs.ExprText.{path_text}
-use Rattle.gm_expr.proofs.Cuts.{IsSoFar, so_far_cut, on_err}
+use Rattle.gm_model.proofs.Exits.{on_err}
+use Rattle.gm_text.proofs.Cuts.{IsSoFar, so_far_cut}
 use Rattle.gm_expr.proofs.terms.print_path.Goals as goal
 
 pub returns-in_err-print_step-clause-err : goal.returns-in_err-print_step-clause-err

@@ -1,6 +1,6 @@
 use Rattle.std.proofs.Common.{drop}
 use Rattle.gm_expr.specs.ExprText.{path_text}
-use Rattle.gm_expr.proofs.Cuts.{IsSoFar}
+use Rattle.gm_text.proofs.Cuts.{IsSoFar}
 use Rattle.gm_expr.proofs.terms.print_path.Given as goal
 
 abbrev pub invariant-loop-label : goal.invariant-loop-label

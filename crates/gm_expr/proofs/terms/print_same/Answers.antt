@@ -2,7 +2,8 @@ use Rattle.std.proofs.Common.{◌≡◌, ◌++◌, codes}
 use Rattle.std.proofs.lemmas.Result.{on_err_weaker, on_ok_weaker}
 use Rattle.gm_model.specs.Rules.{rule_of}
 use Rattle.gm_expr.specs.ExprText.{term_text}
-use Rattle.gm_expr.proofs.Cuts.{cut_at_once, cut_before, cut_behind, on_err, written_behind}
+use Rattle.gm_model.proofs.Exits.{on_err}
+use Rattle.gm_text.proofs.Cuts.{cut_at_once, cut_before, cut_behind, written_behind}
 use Rattle.gm_expr.proofs.terms.print_same.Goals as goal
 
 pub returns-in_err-put-clause-err : goal.returns-in_err-put-clause-err
