@@ -40,10 +40,10 @@ pub record TurnCosts : Type 0 where
 abbrev pub AreTurnCosts : List Rule → ℕ → List Value → Map → List ℕ → List Turn → TurnCosts → Type 0
 AreTurnCosts rules rule params before [] [] costs = costs ≡ record { least = 0; most = 0; done = 0 }
 AreTurnCosts rules rule params before (d ∷ ds) (Taken outcome ∷ turns) costs =
-    (between : Map) × (most : ℕ) × (rest : TurnCosts) × IsLineOutcome rules before (line_at rule params d) outcome between × IsLineBudget rules before (line_at rule params d) most
+    IsDart before d × (between : Map) × (most : ℕ) × (rest : TurnCosts) × IsLineOutcome rules before (line_at rule params d) outcome between × IsLineBudget rules before (line_at rule params d) most
     × AreTurnCosts rules rule params between ds turns rest
     × (costs ≡ record { least = changed_darts outcome + rest.least; most = most + rest.most; done = done_part outcome most + rest.done })
-AreTurnCosts rules rule params before (d ∷ ds) (Passed ∷ turns) costs = AreTurnCosts rules rule params before ds turns costs
+AreTurnCosts rules rule params before (d ∷ ds) (Passed ∷ turns) costs = (IsDart before d → ⊥) × AreTurnCosts rules rule params before ds turns costs
 AreTurnCosts rules rule params before _ _ costs = ⊥
 
 -- ---- what goes back costs

@@ -5,6 +5,7 @@ use Rattle.std.proofs.lemmas.Option.{slice_get_within, get_or_from_slice_get}
 use Rattle.gm_model.specs.declared.schema.Schema.{Schema}
 use Rattle.gm_model.specs.declared.script.Line.{Line}
 use Rattle.gm_model.specs.declared.value.Value.{Value}
+use Rattle.gm_model.specs.declared.word.Mask.{Mask}
 use Rattle.gm_model.specs.Acceptance.{IsAccepted}
 use Rattle.gm_model.specs.Applications.{IsBudget}
 use Rattle.gm_model.specs.Budgets.{IsLineBudget, TurnCosts, AreTurnCosts, changed_darts, done_part}
@@ -13,10 +14,11 @@ use Rattle.gm_model.specs.Maps.{Map, IsDart, IsSchema}
 use Rattle.gm_model.specs.Rules.{Rule}
 use Rattle.gm_model.specs.Runs.{Outcome, Done, Refused, IsOutcome, IsLineOutcome, application_of, Turn, Taken, Passed, AreTurns, line_at}
 use Rattle.gm_theory.proofs.BudgetsFound.{applications_have_budgets}
+use Rattle.gm_theory.proofs.Lists.{some_same}
 use Rattle.gm_theory.proofs.OutcomesFound.{applications_have_outcomes}
 use Rattle.gm_theory.proofs.Tests.{true_or_false, not_both}
 use Rattle.gm_theory.proofs.ValuesKept.{applications_keep_sound_maps}
-use Rattle.gm_theory.specs.Outcomes.{IsGoodLine, IsSoundOf}
+use Rattle.gm_theory.specs.Outcomes.{IsGoodLine, IsGoodEach, IsSoundOf}
 
 -- what a book of rules and a schema owe, so that lines have outcomes
 pub record IsBookOf (schema : Schema) (rules : List Rule) : Type 0 where
@@ -29,9 +31,7 @@ module _ (schema : Schema) (rules : List Rule) (book : IsBookOf schema rules) wh
   pub record LineFound (before : Map) (line : Line) : Type 0 where
     pub outcome : Outcome
     pub after : Map
-    pub most : ℕ
     pub is : IsLineOutcome rules before line outcome after
-    pub budget : IsLineBudget rules before line most
     pub sound : IsSoundOf schema after
 
   -- an outcome leaves a sound map of the schema
@@ -48,60 +48,80 @@ module _ (schema : Schema) (rules : List Rule) (book : IsBookOf schema rules) wh
   pub rule_accepted : (before : Map) (index : ℕ) (rule : Rule) → IsSoundOf schema before → slice_get rules index ≡ Some rule → IsAccepted before.schema rule
   rule_accepted before index rule here at = subst (λ (s : Schema). IsAccepted s rule) (sym here.schema_is) (subst (IsAccepted schema) (get_or_from_slice_get rules index rule rule at) (book.accepted index rule (slice_get_within rules index rule at)))
 
-  pub line_found : (before : Map) (line : Line) → IsSoundOf schema before → IsGoodLine rules line → LineFound before line
-  line_found before line here good = go (applications_have_outcomes (application_of before good.rule line) of_schema here.sound accepted good.hooks good.params) (applications_have_budgets (application_of before good.rule line) of_schema here.sound accepted good.hooks good.params)
-    where
-      of_schema : IsSchema before.schema
-      of_schema = subst IsSchema (sym here.schema_is) book.of_schema
+  -- what a line costs that has this outcome
+  pub record LineCosts (before : Map) (line : Line) (outcome : Outcome) (after : Map) : Type 0 where
+    pub most : ℕ
+    pub budget : IsLineBudget rules before line most
+    pub sound : IsSoundOf schema after
 
+  pub line_costs : (before : Map) (line : Line) → IsSoundOf schema before → IsGoodLine rules line → (outcome : Outcome) (after : Map) → IsLineOutcome rules before line outcome after → LineCosts before line outcome after
+  line_costs before line here good outcome after is = go (applications_have_budgets (application_of before good.rule line) (subst IsSchema (sym here.schema_is) book.of_schema) here.sound (rule_accepted before line.rule good.rule here good.rule_is) good.hooks good.params)
+    where
+      same_rule : good.rule ≡ is.rule
+      same_rule = some_same good.rule is.rule (sym good.rule_is ∙ is.rule_is)
+
+      go : (most : ℕ) × IsBudget (application_of before good.rule line) most → LineCosts before line outcome after
+      go (most, budget) = record {
+        most = most;
+        budget = record { rule = good.rule; rule_is = good.rule_is; budget = budget };
+        sound = sound_after before is.rule line here (rule_accepted before line.rule is.rule here is.rule_is) (subst (λ (r : Rule). AreGoodParams r line.params) same_rule good.params) outcome after is.outcome_is;
+      }
+
+  pub line_found : (before : Map) (line : Line) → IsSoundOf schema before → IsGoodLine rules line → LineFound before line
+  line_found before line here good = go (applications_have_outcomes (application_of before good.rule line) (subst IsSchema (sym here.schema_is) book.of_schema) here.sound accepted good.hooks good.params)
+    where
       accepted : IsAccepted before.schema good.rule
       accepted = rule_accepted before line.rule good.rule here good.rule_is
 
-      go : (outcome : Outcome) × (after : Map) × IsOutcome (application_of before good.rule line) outcome after → (most : ℕ) × IsBudget (application_of before good.rule line) most → LineFound before line
-      go (outcome, after, is) (most, budget) = record {
+      go : (outcome : Outcome) × (after : Map) × IsOutcome (application_of before good.rule line) outcome after → LineFound before line
+      go (outcome, after, is) = record {
         outcome = outcome;
         after = after;
-        most = most;
         is = record { rule = good.rule; rule_is = good.rule_is; outcome_is = is };
-        budget = record { rule = good.rule; rule_is = good.rule_is; budget = budget };
         sound = sound_after before good.rule line here accepted good.params outcome after is;
       }
 
   -- ---- the lines of an `each`
 
-  module _ (index : ℕ) (params : List Value) where
+  module _ (index : ℕ) (params : List Value) (good : (d : ℕ) → IsGoodLine rules (line_at index params d)) where
     pub record TurnsFound (before : Map) (leads : List ℕ) : Type 0 where
       pub turns : List Turn
       pub after : Map
-      pub costs : TurnCosts
       pub are : AreTurns rules index params before leads turns after
-      pub costs_are : AreTurnCosts rules index params before leads turns costs
+
+    pub turns_found : (leads : List ℕ) (before : Map) → IsSoundOf schema before → TurnsFound before leads
+    turns_found [] before here = record { turns = []; after = before; are = refl }
+    turns_found (d ∷ leads) before here = go (true_or_false (before.live d)) (turns_found leads)
+      where
+        go : IsDart before d ⊎ (before.live d ≡ false) → ((between : Map) → IsSoundOf schema between → TurnsFound between leads) → TurnsFound before (d ∷ leads)
+        go (inl live) further =
+            let first : LineFound before (line_at index params d) = line_found before (line_at index params d) here (good d) in
+            let rest : TurnsFound first.after leads = further first.after first.sound in
+            record { turns = Taken first.outcome ∷ rest.turns; after = rest.after; are = (live, first.after, first.is, rest.are) }
+        go (inr dead) further = let rest : TurnsFound before leads = further before here in record { turns = Passed ∷ rest.turns; after = rest.after; are = (λ live. not_both (before.live d) live dead, rest.are) }
+
+    -- what the turns cost that leave this map
+    pub record TurnsCost (before : Map) (leads : List ℕ) (turns : List Turn) (after : Map) : Type 0 where
+      pub costs : TurnCosts
+      pub are : AreTurnCosts rules index params before leads turns costs
       pub sound : IsSoundOf schema after
 
-    pub turns_found : (good : (d : ℕ) → IsGoodLine rules (line_at index params d)) (leads : List ℕ) (before : Map) → IsSoundOf schema before → TurnsFound before leads
-    turns_found good [] before here = record { turns = []; after = before; costs = record { least = 0; most = 0; done = 0 }; are = refl; costs_are = refl; sound = here }
-    turns_found good (d ∷ leads) before here = go (true_or_false (before.live d)) (turns_found good leads)
-      where
-        taken : IsDart before d → (first : LineFound before (line_at index params d)) → TurnsFound first.after leads → TurnsFound before (d ∷ leads)
-        taken live first rest = record {
-          turns = Taken first.outcome ∷ rest.turns;
-          after = rest.after;
-          costs = record { least = changed_darts first.outcome + rest.costs.least; most = first.most + rest.costs.most; done = done_part first.outcome first.most + rest.costs.done };
-          are = (live, first.after, first.is, rest.are);
-          costs_are = (first.after, first.most, rest.costs, first.is, first.budget, rest.costs_are, refl);
+    pub turns_cost : (leads : List ℕ) (turns : List Turn) (before after : Map) → IsSoundOf schema before → AreTurns rules index params before leads turns after → TurnsCost before leads turns after
+    turns_cost [] [] before after here e = record { costs = record { least = 0; most = 0; done = 0 }; are = refl; sound = subst (IsSoundOf schema) (sym e) here }
+    turns_cost [] (turn ∷ turns) before after here are = absurd are
+    turns_cost (d ∷ leads) [] before after here are = absurd are
+    turns_cost (d ∷ leads) (Taken outcome ∷ turns) before after here (live, between, is, are) =
+        let first : LineCosts before (line_at index params d) outcome between = line_costs before (line_at index params d) here (good d) outcome between is in
+        let rest : TurnsCost between leads turns after = turns_cost leads turns between after first.sound are in
+        record {
+          costs = record { least = changed_darts outcome + rest.costs.least; most = first.most + rest.costs.most; done = done_part outcome first.most + rest.costs.done };
+          are = (live, between, first.most, rest.costs, is, first.budget, rest.are, refl);
           sound = rest.sound;
         }
+    turns_cost (d ∷ leads) (Passed ∷ turns) before after here (dead, are) =
+        let rest : TurnsCost before leads turns after = turns_cost leads turns before after here are in
+        record { costs = rest.costs; are = (dead, rest.are); sound = rest.sound }
 
-        passed : (before.live d ≡ false) → TurnsFound before leads → TurnsFound before (d ∷ leads)
-        passed dead rest = record {
-          turns = Passed ∷ rest.turns;
-          after = rest.after;
-          costs = rest.costs;
-          are = (λ live. not_both (before.live d) live dead, rest.are);
-          costs_are = rest.costs_are;
-          sound = rest.sound;
-        }
-
-        go : IsDart before d ⊎ (before.live d ≡ false) → ((between : Map) → IsSoundOf schema between → TurnsFound between leads) → TurnsFound before (d ∷ leads)
-        go (inl live) further = let first : LineFound before (line_at index params d) = line_found before (line_at index params d) here (good d) in taken live first (further first.after first.sound)
-        go (inr dead) further = passed dead (further before here)
+-- the lines that a good `each` stands for are good
+pub each_line : (rules : List Rule) (n : ℕ) (mask : Mask) (index : ℕ) (params : List Value) → IsGoodEach rules n mask index params → (d : ℕ) → IsGoodLine rules (line_at index params d)
+each_line rules n mask index params good d = record { rule = good.rule; rule_is = good.rule_is; hooks = sym good.one_hook; params = good.params }
