@@ -2,15 +2,18 @@
 use Rattle.std.proofs.Common.{◌≡◌, ℕ, zero, suc, ◌+◌, ◌*◌, ◌≤◌, ◌⊎◌, Bool, true, false, inl, inr, List, [], ◌∷◌, length, Option, Some, None, refl, sym, ap, subst, arith, if◌then◌else◌}
 use Rattle.std.specs.List.{AllByRecursion, count_by}
 use Rattle.std.specs.Option.{option_map}
+use Rattle.std.specs.Prelude.{All}
+use Rattle.std.proofs.lemmas.Option.{slice_get_within, get_or_from_slice_get}
 use Rattle.gm_model.specs.declared.schema.Schema.{Schema}
 use Rattle.gm_model.specs.declared.script.Line.{Line}
 use Rattle.gm_model.specs.declared.script.Stat.{Stat}
 use Rattle.gm_model.specs.declared.script.Stat.TheVariants as statements
 use Rattle.gm_model.specs.declared.value.Value.{Value}
 use Rattle.gm_model.specs.declared.word.Mask.{Mask}
+use Rattle.gm_model.specs.Acceptance.{IsAccepted}
 use Rattle.gm_model.specs.Budgets.{Bounds, Entries, HasBounds, OfDone, OfRefused, OfSkipped, OfUndone, OfNoPast, OfRedone, OfNoFuture, OfBegun, OfKept, OfDropped, OfEach, entered, group_entered, each_entered, no_entries, up_to}
 use Rattle.gm_model.specs.Histories.{Group, History, IsRedone, IsUndone, begun_at, changed, dropped, kept, past_behind}
-use Rattle.gm_model.specs.Maps.{Map, IsDart, IsSound, dimension}
+use Rattle.gm_model.specs.Maps.{Map, IsDart, IsSchema, IsSound, dimension}
 use Rattle.gm_model.specs.Orbits.{IsListOf}
 use Rattle.gm_model.specs.Rules.{Rule}
 use Rattle.gm_model.specs.Runs as runs
@@ -19,7 +22,7 @@ use Rattle.gm_theory.proofs.LeadsFound.{leads_exist}
 use Rattle.gm_theory.proofs.Lists.{some_same, none_some}
 use Rattle.gm_theory.proofs.OrbitsListed.{list_all_of}
 use Rattle.gm_theory.proofs.Tests.{true_or_false, not_both}
-use Rattle.gm_theory.proofs.TurnsFound.{IsBookOf, LineCosts, LineFound, TurnsCost, TurnsFound, each_line, line_costs, line_found, turns_cost, turns_found}
+use Rattle.gm_theory.proofs.TurnsFound.{IsRuleOf, LineCosts, LineFound, TurnsCost, TurnsFound, each_line, line_costs, line_found, turns_cost, turns_found}
 use Rattle.gm_theory.proofs.ValuesReach.{IsDecided}
 use Rattle.gm_theory.specs.Outcomes.{IsGoodLine, IsGoodEach, IsGoodStat, IsSoundOf, IsSoundState, HasRun, ScriptsHaveRuns}
 
@@ -29,6 +32,28 @@ decide_dart map d = go (true_or_false (map.live d))
     go : IsDart map d ⊎ (map.live d ≡ false) → IsDecided (IsDart map d)
     go (inl live) = inl live
     go (inr dead) = inr (λ live. not_both (map.live d) live dead)
+
+-- what is owed of a statement, so that there is a step
+abbrev pub IsSuited : Schema → List Rule → Stat → Type 0
+IsSuited schema rules (statements.Apply line) = IsGoodLine rules line × IsRuleOf schema rules line.rule
+IsSuited schema rules (statements.Each mask index params) = IsGoodEach rules schema.dim mask index params × IsRuleOf schema rules index
+IsSuited schema rules _ = Unit {0}
+
+-- where each rule is accepted, good statements are
+pub all_suited : (schema : Schema) (rules : List Rule) → IsSchema schema → All (IsAccepted schema) rules → (stats : List Stat) → AllByRecursion (IsGoodStat rules schema.dim) stats → AllByRecursion (IsSuited schema rules) stats
+all_suited schema rules of_schema accepted [] good = tt
+all_suited schema rules of_schema accepted (stat ∷ stats) good = (at stat good.0, all_suited schema rules of_schema accepted stats good.1)
+  where
+    of : (index : ℕ) → IsRuleOf schema rules index
+    of index = record { of_schema = of_schema; accepted = λ rule is. subst (IsAccepted schema) (get_or_from_slice_get rules index rule rule is) (accepted index rule (slice_get_within rules index rule is)) }
+
+    at : (stat : Stat) → IsGoodStat rules schema.dim stat → IsSuited schema rules stat
+    at (statements.Apply line) good = (good, of line.rule)
+    at statements.Undo good = tt
+    at statements.Redo good = tt
+    at statements.Group good = tt
+    at statements.End good = tt
+    at (statements.Each mask index params) good = (good, of index)
 
 -- whether a group is open
 abbrev HasGroup : Bool → Option Group → Type 0
@@ -94,7 +119,7 @@ module _ (schema : Schema) where
       go true = (here, all)
       go false = all
 
-  module _ (rules : List Rule) (book : IsBookOf schema rules) where
+  module _ (rules : List Rule) where
     -- ---- each step has bounds, and leaves a sound state
 
     pub record GoesOn (state : State) (entries : Entries) (stat : Stat) (outcome : Outcome) (after : State) : Type 0 where
@@ -141,12 +166,12 @@ module _ (schema : Schema) where
           };
         }
 
-    went_over : (state : State) (entries : Entries) (mask : Mask) (index : ℕ) (params : List Value) (leads : List ℕ) (turns : List Turn) (after : Map) → Stands state entries → IsGoodEach rules schema.dim mask index params
+    went_over : (state : State) (entries : Entries) (mask : Mask) (index : ℕ) (params : List Value) (leads : List ℕ) (turns : List Turn) (after : Map) → Stands state entries → IsRuleOf schema rules index → IsGoodEach rules schema.dim mask index params
         → state.history.group ≡ None → AreLeads state.map mask leads → AreTurns rules index params state.map leads turns after
         → GoesOn state entries (statements.Each mask index params) (told turns) (behind_each state (count_by is_done_turn turns) after)
-    went_over state entries mask index params leads turns after here good outside are are_turns = go (turns_cost schema rules book index params (each_line rules schema.dim mask index params good) leads turns state.map after here.sound.map are_turns) (list_all_of (IsDart state.map) (decide_dart state.map) state.map.next here.sound.map.sound.is_map.below)
+    went_over state entries mask index params leads turns after here of good outside are are_turns = go (turns_cost schema rules index params of (each_line rules schema.dim mask index params good) leads turns state.map after here.sound.map are_turns) (list_all_of (IsDart state.map) (decide_dart state.map) state.map.next here.sound.map.sound.is_map.below)
       where
-        go : TurnsCost schema rules book index params (each_line rules schema.dim mask index params good) state.map leads turns after → (darts : List ℕ) × IsListOf (IsDart state.map) darts → GoesOn state entries (statements.Each mask index params) (told turns) (behind_each state (count_by is_done_turn turns) after)
+        go : TurnsCost schema rules index params of (each_line rules schema.dim mask index params good) state.map leads turns after → (darts : List ℕ) × IsListOf (IsDart state.map) darts → GoesOn state entries (statements.Each mask index params) (told turns) (behind_each state (count_by is_done_turn turns) after)
         go costs (darts, listed) = record {
           bounds = record { least = costs.costs.least; most = costs.costs.most + 12 * (dimension state.map + 1) * (length darts + 1) };
           behind = each_entered (told turns) costs.costs.done entries;
@@ -154,29 +179,29 @@ module _ (schema : Schema) where
           stands = stands_each state entries after costs.costs.done (count_by is_refused_turn turns) (count_by is_passed turns) outside here costs.sound (count_by is_done_turn turns);
         }
 
-    pub goes_on : (state : State) (entries : Entries) (stat : Stat) (outcome : Outcome) (after : State) → Stands state entries → IsGoodStat rules schema.dim stat → IsStep rules state stat outcome after → GoesOn state entries stat outcome after
-    goes_on state entries _ _ _ here good (IsDoneHere line added removed after whole is) =
-        let costs : LineCosts schema rules book state.map line (runs.Done added removed) after = line_costs schema rules book state.map line here.sound.map good (runs.Done added removed) after is in
+    pub goes_on : (state : State) (entries : Entries) (stat : Stat) (outcome : Outcome) (after : State) → Stands state entries → IsSuited schema rules stat → IsStep rules state stat outcome after → GoesOn state entries stat outcome after
+    goes_on state entries _ _ _ here suited (IsDoneHere line added removed after whole is) =
+        let costs : LineCosts schema rules state.map line (runs.Done added removed) after = line_costs schema rules state.map line suited.1 here.sound.map suited.0 (runs.Done added removed) after is in
         record {
           bounds = record { least = added + removed; most = costs.most };
           behind = entered state.history.group costs.most entries;
           has = OfDone line added removed costs.most costs.budget;
           stands = stands_done state entries after costs.most here costs.sound;
         }
-    goes_on state entries _ _ _ here good (IsRefusedHere line cause whole is) =
-        let costs : LineCosts schema rules book state.map line (runs.Refused cause) state.map = line_costs schema rules book state.map line here.sound.map good (runs.Refused cause) state.map is in
+    goes_on state entries _ _ _ here suited (IsRefusedHere line cause whole is) =
+        let costs : LineCosts schema rules state.map line (runs.Refused cause) state.map = line_costs schema rules state.map line suited.1 here.sound.map suited.0 (runs.Refused cause) state.map is in
         record {
           bounds = up_to costs.most;
           behind = entries;
           has = OfRefused line cause costs.most costs.budget;
           stands = record { sound = record { map = here.sound.map; past = here.sound.past; future = here.sound.future; group = here.sound.group }; past = here.past; future = here.future };
         }
-    goes_on state entries _ _ _ here good (IsSkipped line broken) = record { bounds = up_to 0; behind = entries; has = OfSkipped line; stands = here }
-    goes_on state entries _ _ _ here good (GoesBack before history is) = undone state entries before history here is
-    goes_on state entries _ _ _ here good (HasNoPast none) = record { bounds = up_to 0; behind = entries; has = OfNoPast; stands = here }
-    goes_on state entries _ _ _ here good (GoesForth after history is) = redone state entries after history here is
-    goes_on state entries _ _ _ here good (HasNoFuture none) = record { bounds = up_to 0; behind = entries; has = OfNoFuture; stands = here }
-    goes_on state entries _ _ _ here good (Begins outside) = record {
+    goes_on state entries _ _ _ here suited (IsSkipped line broken) = record { bounds = up_to 0; behind = entries; has = OfSkipped line; stands = here }
+    goes_on state entries _ _ _ here suited (GoesBack before history is) = undone state entries before history here is
+    goes_on state entries _ _ _ here suited (HasNoPast none) = record { bounds = up_to 0; behind = entries; has = OfNoPast; stands = here }
+    goes_on state entries _ _ _ here suited (GoesForth after history is) = redone state entries after history here is
+    goes_on state entries _ _ _ here suited (HasNoFuture none) = record { bounds = up_to 0; behind = entries; has = OfNoFuture; stands = here }
+    goes_on state entries _ _ _ here suited (Begins outside) = record {
       bounds = up_to 0;
       behind = record { past = entries.past; future = entries.future; group = 0 };
       has = OfBegun;
@@ -186,7 +211,7 @@ module _ (schema : Schema) where
         future = here.future;
       };
     }
-    goes_on state entries _ _ _ here good (Ends group e whole) = record {
+    goes_on state entries _ _ _ here suited (Ends group e whole) = record {
       bounds = up_to 0;
       behind = group_entered group entries;
       has = OfKept group e;
@@ -196,7 +221,7 @@ module _ (schema : Schema) where
         future = here.future;
       };
     }
-    goes_on state entries _ _ _ here good (IsTakenBack group e broken) = record {
+    goes_on state entries _ _ _ here suited (IsTakenBack group e broken) = record {
       bounds = up_to entries.group;
       behind = record { past = entries.past; future = entries.future; group = 0 };
       has = OfDropped;
@@ -206,7 +231,7 @@ module _ (schema : Schema) where
         future = here.future;
       };
     }
-    goes_on state entries _ _ _ here good (GoesOver mask index params leads turns after outside are are_turns) = went_over state entries mask index params leads turns after here good outside are are_turns
+    goes_on state entries _ _ _ here suited (GoesOver mask index params leads turns after outside are are_turns) = went_over state entries mask index params leads turns after here suited.1 suited.0 outside are are_turns
 
     -- ---- there is a step
 
@@ -220,8 +245,8 @@ module _ (schema : Schema) where
     group_stays true group (open_one, e) = (changed open_one, ap (option_map changed) e)
     group_stays false group e = ap (option_map changed) e
 
-    apply_found : (within : Bool) (state : State) (line : Line) → IsSoundState schema state → HasGroup within state.history.group → IsGoodLine rules line → StepFound within state (statements.Apply line)
-    apply_found within state line sound group good = go state.is_broken refl
+    apply_found : (within : Bool) (state : State) (line : Line) → IsSoundState schema state → HasGroup within state.history.group → IsRuleOf schema rules line.rule → IsGoodLine rules line → StepFound within state (statements.Apply line)
+    apply_found within state line sound group of good = go state.is_broken refl
       where
         by : (outcome : Outcome) (after : Map) → IsLineOutcome rules state.map line outcome after → state.is_broken ≡ false → StepFound within state (statements.Apply line)
         by (runs.Done added removed) after is whole = record { outcome = runs.Done added removed; after = behind_done state after; step = IsDoneHere line added removed after whole is; group = group_stays within state.history.group group }
@@ -235,7 +260,7 @@ module _ (schema : Schema) where
 
         go : (broken : Bool) → state.is_broken ≡ broken → StepFound within state (statements.Apply line)
         go true e = record { outcome = runs.Skipped; after = state; step = IsSkipped line e; group = group }
-        go false e = let first : LineFound schema rules book state.map line = line_found schema rules book state.map line sound.map good in by first.outcome first.after first.is e
+        go false e = let first : LineFound schema rules state.map line = line_found schema rules state.map line of sound.map good in by first.outcome first.after first.is e
 
     undo_found : (state : State) → state.history.group ≡ None → StepFound false state statements.Undo
     undo_found state outside = go state.history.past refl
@@ -262,8 +287,8 @@ module _ (schema : Schema) where
         go false f = record { outcome = runs.Kept; after = standing_at state.map (kept group state.history); step = Ends group e f; group = refl }
         go true f = record { outcome = runs.Dropped; after = standing_at group.map (dropped state.history); step = IsTakenBack group e f; group = refl }
 
-    each_found : (state : State) (mask : Mask) (index : ℕ) (params : List Value) → IsSoundState schema state → state.history.group ≡ None → IsGoodEach rules schema.dim mask index params → StepFound false state (statements.Each mask index params)
-    each_found state mask index params sound outside good = go (leads_exist state.map sound.map.sound mask (λ i t. subst (λ (s : Schema). i ≤ s.dim) (sym sound.map.schema_is) (good.labels i t)))
+    each_found : (state : State) (mask : Mask) (index : ℕ) (params : List Value) → IsSoundState schema state → state.history.group ≡ None → IsRuleOf schema rules index → IsGoodEach rules schema.dim mask index params → StepFound false state (statements.Each mask index params)
+    each_found state mask index params sound outside of good = go (leads_exist state.map sound.map.sound mask (λ i t. subst (λ (s : Schema). i ≤ s.dim) (sym sound.map.schema_is) (good.labels i t)))
       where
         group : (turns : List Turn) (after : Map) (done : ℕ) → (behind_each state done after).history.group ≡ None
         group turns after zero = outside
@@ -271,7 +296,7 @@ module _ (schema : Schema) where
 
         go : (leads : List ℕ) × AreLeads state.map mask leads → StepFound false state (statements.Each mask index params)
         go (leads, are) =
-            let turns : TurnsFound schema rules book index params (each_line rules schema.dim mask index params good) state.map leads = turns_found schema rules book index params (each_line rules schema.dim mask index params good) leads state.map sound.map in
+            let turns : TurnsFound schema rules index params of (each_line rules schema.dim mask index params good) state.map leads = turns_found schema rules index params of (each_line rules schema.dim mask index params good) leads state.map sound.map in
             record {
               outcome = told turns.turns;
               after = behind_each state (count_by is_done_turn turns.turns) turns.after;
@@ -281,16 +306,16 @@ module _ (schema : Schema) where
 
     -- ---- one statement after another
 
-    has_run : (stats : List Stat) (within : Bool) (state : State) (entries : Entries) → Stands state entries → HasGroup within state.history.group → AllByRecursion (IsGoodStat rules schema.dim) stats → AreInOrder within stats → HasRun rules schema state entries stats
-    has_run [] within state entries here group good order = record { outcomes = []; after = state; bounds = up_to 0; run = refl; sound = here.sound; within = (refl, refl) }
-    has_run (stat ∷ stats) within state entries here group good order = at stat good.0 order (λ next between behind there group goes_on. has_run stats next between behind there group good.1 goes_on)
+    has_run : (stats : List Stat) (within : Bool) (state : State) (entries : Entries) → Stands state entries → HasGroup within state.history.group → AllByRecursion (IsSuited schema rules) stats → AreInOrder within stats → HasRun rules schema state entries stats
+    has_run [] within state entries here group suited order = record { outcomes = []; after = state; bounds = up_to 0; run = refl; sound = here.sound; within = (refl, refl) }
+    has_run (stat ∷ stats) within state entries here group suited order = at stat suited.0 order (λ next between behind there group goes_on. has_run stats next between behind there group suited.1 goes_on)
       where
         Further : Type 0
         Further = (next : Bool) (between : State) (behind : Entries) → Stands between behind → HasGroup next between.history.group → AreInOrder next stats → HasRun rules schema between behind stats
 
-        joined : (stat : Stat) (next : Bool) → IsGoodStat rules schema.dim stat → StepFound next state stat → AreInOrder next stats → Further → HasRun rules schema state entries (stat ∷ stats)
-        joined stat next good first order further =
-            let on : GoesOn state entries stat first.outcome first.after = goes_on state entries stat first.outcome first.after here good first.step in
+        joined : (stat : Stat) (next : Bool) → IsSuited schema rules stat → StepFound next state stat → AreInOrder next stats → Further → HasRun rules schema state entries (stat ∷ stats)
+        joined stat next suited first order further =
+            let on : GoesOn state entries stat first.outcome first.after = goes_on state entries stat first.outcome first.after here suited first.step in
             let rest : HasRun rules schema first.after on.behind stats = further next first.after on.behind on.stands first.group order in
             record {
               outcomes = first.outcome ∷ rest.outcomes;
@@ -304,15 +329,15 @@ module _ (schema : Schema) where
         outside : within ≡ false → state.history.group ≡ None
         outside e = subst (λ w. HasGroup w state.history.group) e group
 
-        at : (stat : Stat) → IsGoodStat rules schema.dim stat → AreInOrder within (stat ∷ stats) → Further → HasRun rules schema state entries (stat ∷ stats)
-        at (statements.Apply line) good order = joined (statements.Apply line) within good (apply_found within state line here.sound group good) order
-        at statements.Undo good order = joined statements.Undo false good (undo_found state (outside order.0)) (subst (λ w. AreInOrder w stats) order.0 order.1)
-        at statements.Redo good order = joined statements.Redo false good (redo_found state (outside order.0)) (subst (λ w. AreInOrder w stats) order.0 order.1)
-        at statements.Group good order =
-            joined statements.Group true good (record { outcome = runs.Begun; after = standing_at state.map (begun_at state.map state.history); step = Begins (outside order.0); group = (record { map = state.map; is_changed = false }, refl) }) order.1
-        at statements.End good order = joined statements.End false good (end_found state (subst (λ w. HasGroup w state.history.group) order.0 group)) order.1
-        at (statements.Each mask index params) good order =
-            joined (statements.Each mask index params) false good (each_found state mask index params here.sound (outside order.0) good) (subst (λ w. AreInOrder w stats) order.0 order.1)
+        at : (stat : Stat) → IsSuited schema rules stat → AreInOrder within (stat ∷ stats) → Further → HasRun rules schema state entries (stat ∷ stats)
+        at (statements.Apply line) suited order = joined (statements.Apply line) within suited (apply_found within state line here.sound group suited.1 suited.0) order
+        at statements.Undo suited order = joined statements.Undo false suited (undo_found state (outside order.0)) (subst (λ w. AreInOrder w stats) order.0 order.1)
+        at statements.Redo suited order = joined statements.Redo false suited (redo_found state (outside order.0)) (subst (λ w. AreInOrder w stats) order.0 order.1)
+        at statements.Group suited order =
+            joined statements.Group true suited (record { outcome = runs.Begun; after = standing_at state.map (begun_at state.map state.history); step = Begins (outside order.0); group = (record { map = state.map; is_changed = false }, refl) }) order.1
+        at statements.End suited order = joined statements.End false suited (end_found state (subst (λ w. HasGroup w state.history.group) order.0 group)) order.1
+        at (statements.Each mask index params) suited order =
+            joined (statements.Each mask index params) false suited (each_found state mask index params here.sound (outside order.0) suited.1 suited.0) (subst (λ w. AreInOrder w stats) order.0 order.1)
 
 -- where a run begins
 pub stands_first : (map : Map) → IsSound map → Stands map.schema (start_of map) no_entries
@@ -323,4 +348,4 @@ stands_first map sound = record {
 }
 
 pub scripts_have_runs : ScriptsHaveRuns
-scripts_have_runs rules map stats of_schema sound accepted good order = has_run map.schema rules (record { of_schema = of_schema; accepted = accepted }) stats false (start_of map) no_entries (stands_first map sound) refl good order
+scripts_have_runs rules map stats of_schema sound accepted good order = has_run map.schema rules stats false (start_of map) no_entries (stands_first map sound) refl (all_suited map.schema rules of_schema accepted stats good) order

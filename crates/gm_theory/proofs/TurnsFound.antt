@@ -1,7 +1,5 @@
 -- Each good line has an outcome and a budget, and so have the lines that an `each` stands for.
 use Rattle.std.proofs.Common.{◌≡◌, ℕ, ◌+◌, ◌⊎◌, false, List, [], ◌∷◌, Some, slice_get, refl, sym, ◌∙◌, subst, inl, inr}
-use Rattle.std.specs.Prelude.{All}
-use Rattle.std.proofs.lemmas.Option.{slice_get_within, get_or_from_slice_get}
 use Rattle.gm_model.specs.declared.schema.Schema.{Schema}
 use Rattle.gm_model.specs.declared.script.Line.{Line}
 use Rattle.gm_model.specs.declared.value.Value.{Value}
@@ -20,12 +18,12 @@ use Rattle.gm_theory.proofs.Tests.{true_or_false, not_both}
 use Rattle.gm_theory.proofs.ValuesKept.{applications_keep_sound_maps}
 use Rattle.gm_theory.specs.Outcomes.{IsGoodLine, IsGoodEach, IsSoundOf}
 
--- what a book of rules and a schema owe, so that lines have outcomes
-pub record IsBookOf (schema : Schema) (rules : List Rule) : Type 0 where
+-- what a schema and the rule of a line owe, so that the line has an outcome
+pub record IsRuleOf (schema : Schema) (rules : List Rule) (index : ℕ) : Type 0 where
   pub of_schema : IsSchema schema
-  pub accepted : All (IsAccepted schema) rules
+  pub accepted : (rule : Rule) → slice_get rules index ≡ Some rule → IsAccepted schema rule
 
-module _ (schema : Schema) (rules : List Rule) (book : IsBookOf schema rules) where
+module _ (schema : Schema) (rules : List Rule) where
   -- ---- a line
 
   pub record LineFound (before : Map) (line : Line) : Type 0 where
@@ -35,18 +33,18 @@ module _ (schema : Schema) (rules : List Rule) (book : IsBookOf schema rules) wh
     pub sound : IsSoundOf schema after
 
   -- an outcome leaves a sound map of the schema
-  pub sound_after : (before : Map) (rule : Rule) (line : Line) → IsSoundOf schema before → IsAccepted before.schema rule → AreGoodParams rule line.params →
+  pub sound_after : (before : Map) (rule : Rule) (line : Line) → IsSchema schema → IsSoundOf schema before → IsAccepted before.schema rule → AreGoodParams rule line.params →
       (outcome : Outcome) (after : Map) → IsOutcome (application_of before rule line) outcome after → IsSoundOf schema after
-  sound_after before rule line here accepted params (Done added removed) after done = record {
+  sound_after before rule line of_schema here accepted params (Done added removed) after done = record {
     schema_is = done.result_is.schema ∙ here.schema_is;
-    sound = applications_keep_sound_maps (application_of before rule line) after added removed (subst IsSchema (sym here.schema_is) book.of_schema) here.sound accepted params done;
+    sound = applications_keep_sound_maps (application_of before rule line) after added removed (subst IsSchema (sym here.schema_is) of_schema) here.sound accepted params done;
   }
-  sound_after before rule line here accepted params (Refused cause) after refused = subst (IsSoundOf schema) (sym refused.1) here
-  sound_after before rule line here accepted params other after none = absurd none
+  sound_after before rule line of_schema here accepted params (Refused cause) after refused = subst (IsSoundOf schema) (sym refused.1) here
+  sound_after before rule line of_schema here accepted params other after none = absurd none
 
-  -- a rule of the book is accepted
-  pub rule_accepted : (before : Map) (index : ℕ) (rule : Rule) → IsSoundOf schema before → slice_get rules index ≡ Some rule → IsAccepted before.schema rule
-  rule_accepted before index rule here at = subst (λ (s : Schema). IsAccepted s rule) (sym here.schema_is) (subst (IsAccepted schema) (get_or_from_slice_get rules index rule rule at) (book.accepted index rule (slice_get_within rules index rule at)))
+  -- the rule is accepted for each map of the schema
+  pub rule_accepted : (before : Map) (index : ℕ) (rule : Rule) → IsRuleOf schema rules index → IsSoundOf schema before → slice_get rules index ≡ Some rule → IsAccepted before.schema rule
+  rule_accepted before index rule of here at = subst (λ (s : Schema). IsAccepted s rule) (sym here.schema_is) (of.accepted rule at)
 
   -- what a line costs that has this outcome
   pub record LineCosts (before : Map) (line : Line) (outcome : Outcome) (after : Map) : Type 0 where
@@ -54,8 +52,8 @@ module _ (schema : Schema) (rules : List Rule) (book : IsBookOf schema rules) wh
     pub budget : IsLineBudget rules before line most
     pub sound : IsSoundOf schema after
 
-  pub line_costs : (before : Map) (line : Line) → IsSoundOf schema before → IsGoodLine rules line → (outcome : Outcome) (after : Map) → IsLineOutcome rules before line outcome after → LineCosts before line outcome after
-  line_costs before line here good outcome after is = go (applications_have_budgets (application_of before good.rule line) (subst IsSchema (sym here.schema_is) book.of_schema) here.sound (rule_accepted before line.rule good.rule here good.rule_is) good.hooks good.params)
+  pub line_costs : (before : Map) (line : Line) → IsRuleOf schema rules line.rule → IsSoundOf schema before → IsGoodLine rules line → (outcome : Outcome) (after : Map) → IsLineOutcome rules before line outcome after → LineCosts before line outcome after
+  line_costs before line of here good outcome after is = go (applications_have_budgets (application_of before good.rule line) (subst IsSchema (sym here.schema_is) of.of_schema) here.sound (rule_accepted before line.rule good.rule of here good.rule_is) good.hooks good.params)
     where
       same_rule : good.rule ≡ is.rule
       same_rule = some_same good.rule is.rule (sym good.rule_is ∙ is.rule_is)
@@ -64,26 +62,26 @@ module _ (schema : Schema) (rules : List Rule) (book : IsBookOf schema rules) wh
       go (most, budget) = record {
         most = most;
         budget = record { rule = good.rule; rule_is = good.rule_is; budget = budget };
-        sound = sound_after before is.rule line here (rule_accepted before line.rule is.rule here is.rule_is) (subst (λ (r : Rule). AreGoodParams r line.params) same_rule good.params) outcome after is.outcome_is;
+        sound = sound_after before is.rule line of.of_schema here (rule_accepted before line.rule is.rule of here is.rule_is) (subst (λ (r : Rule). AreGoodParams r line.params) same_rule good.params) outcome after is.outcome_is;
       }
 
-  pub line_found : (before : Map) (line : Line) → IsSoundOf schema before → IsGoodLine rules line → LineFound before line
-  line_found before line here good = go (applications_have_outcomes (application_of before good.rule line) (subst IsSchema (sym here.schema_is) book.of_schema) here.sound accepted good.hooks good.params)
+  pub line_found : (before : Map) (line : Line) → IsRuleOf schema rules line.rule → IsSoundOf schema before → IsGoodLine rules line → LineFound before line
+  line_found before line of here good = go (applications_have_outcomes (application_of before good.rule line) (subst IsSchema (sym here.schema_is) of.of_schema) here.sound accepted good.hooks good.params)
     where
       accepted : IsAccepted before.schema good.rule
-      accepted = rule_accepted before line.rule good.rule here good.rule_is
+      accepted = rule_accepted before line.rule good.rule of here good.rule_is
 
       go : (outcome : Outcome) × (after : Map) × IsOutcome (application_of before good.rule line) outcome after → LineFound before line
       go (outcome, after, is) = record {
         outcome = outcome;
         after = after;
         is = record { rule = good.rule; rule_is = good.rule_is; outcome_is = is };
-        sound = sound_after before good.rule line here accepted good.params outcome after is;
+        sound = sound_after before good.rule line of.of_schema here accepted good.params outcome after is;
       }
 
   -- ---- the lines of an `each`
 
-  module _ (index : ℕ) (params : List Value) (good : (d : ℕ) → IsGoodLine rules (line_at index params d)) where
+  module _ (index : ℕ) (params : List Value) (of : IsRuleOf schema rules index) (good : (d : ℕ) → IsGoodLine rules (line_at index params d)) where
     pub record TurnsFound (before : Map) (leads : List ℕ) : Type 0 where
       pub turns : List Turn
       pub after : Map
@@ -95,7 +93,7 @@ module _ (schema : Schema) (rules : List Rule) (book : IsBookOf schema rules) wh
       where
         go : IsDart before d ⊎ (before.live d ≡ false) → ((between : Map) → IsSoundOf schema between → TurnsFound between leads) → TurnsFound before (d ∷ leads)
         go (inl live) further =
-            let first : LineFound before (line_at index params d) = line_found before (line_at index params d) here (good d) in
+            let first : LineFound before (line_at index params d) = line_found before (line_at index params d) of here (good d) in
             let rest : TurnsFound first.after leads = further first.after first.sound in
             record { turns = Taken first.outcome ∷ rest.turns; after = rest.after; are = (live, first.after, first.is, rest.are) }
         go (inr dead) further = let rest : TurnsFound before leads = further before here in record { turns = Passed ∷ rest.turns; after = rest.after; are = (λ live. not_both (before.live d) live dead, rest.are) }
@@ -111,7 +109,7 @@ module _ (schema : Schema) (rules : List Rule) (book : IsBookOf schema rules) wh
     turns_cost [] (turn ∷ turns) before after here are = absurd are
     turns_cost (d ∷ leads) [] before after here are = absurd are
     turns_cost (d ∷ leads) (Taken outcome ∷ turns) before after here (live, between, is, are) =
-        let first : LineCosts before (line_at index params d) outcome between = line_costs before (line_at index params d) here (good d) outcome between is in
+        let first : LineCosts before (line_at index params d) outcome between = line_costs before (line_at index params d) of here (good d) outcome between is in
         let rest : TurnsCost between leads turns after = turns_cost leads turns between after first.sound are in
         record {
           costs = record { least = changed_darts outcome + rest.costs.least; most = first.most + rest.costs.most; done = done_part outcome first.most + rest.costs.done };
