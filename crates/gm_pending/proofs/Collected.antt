@@ -1,7 +1,9 @@
 -- The edits that are told, one after another, are those of the application.
-use Rattle.std.proofs.Common.{◌≡◌, ℕ, zero, suc, ◌+◌, ◌*◌, ◌<◌, ◌≤◌, ◌⊎◌, not, false, ◌&&◌, List, length, Some, IsTrue, refl, sym, ap, ◌∙◌, subst, inl, inr, arith, length-append}
+use Rattle.std.proofs.Common.{◌≡◌, ℕ, zero, suc, ◌+◌, ◌*◌, ◌<◌, ◌≤◌, ◌⊎◌, not, false, ◌&&◌, List, [], ◌∷◌, length, Option, Some, None, IsTrue, refl, sym, ap, ◌∙◌, subst, inl, inr, arith, length-append}
 use Rattle.std.specs.List.{Contains}
-use Rattle.std.proofs.lemmas.Bool.{lt-ltb}
+use Rattle.std.specs.Option.{option_map}
+use Rattle.std.proofs.lemmas.Bool.{cases_lt, lt-ltb, le-ltb}
+use Rattle.std.proofs.lemmas.Nat.{mul-le}
 use Rattle.std.proofs.lemmas.Option.{none-some, same_Some}
 use Rattle.gm_model.specs.declared.rule.Side.TheVariants.{Left, Right}
 use Rattle.gm_model.specs.declared.step.Step.{Step}
@@ -10,7 +12,7 @@ use Rattle.gm_model.specs.Rules.{has_word, is_added, is_removed, step}
 use Rattle.gm_model.specs.Unfolding.{IsStep, IsGone, IsCutAt, IsMadeArc, added_before, added_nodes}
 use Rattle.gm_arena.specs.declared.slot.Slot.{Slot}
 use Rattle.gm_arena.specs.ArenaMap.{IsLiveSlot, name_at, alpha}
-use Rattle.gm_plan.specs.Changes.{is_same}
+use Rattle.gm_plan.specs.Changes.{is_same, is_steady, freed_by}
 use Rattle.gm_plan.specs.Counts.{removed_before, removed_nodes}
 use Rattle.gm_plan.specs.InArena.{slot_number}
 use Rattle.gm_plan.specs.Placed.{turn_at}
@@ -21,13 +23,15 @@ use Rattle.gm_pending.specs.Arcs.{Arc}
 use Rattle.gm_pending.specs.Arcs.End.{Old}
 use Rattle.gm_pending.specs.declared.rewrite.Arcs.{Arcs}
 use Rattle.gm_pending.specs.declared.rewrite.Arcs.TheVariants.{Freed, Made}
-use Rattle.gm_pending.specs.Collected.{RewriteOf, as_list, concat_below, slot_in, rewrite_of, end_of, labels, is_steady, freed_by, arc_by, arc_at, arcs_at, arcs_in, all_arcs, removed_at, removed_of, removed_in, all_removed}
-use Rattle.gm_pending.specs.EditLists.{EditLists, AreAddedValues, AreArcs, AreDistinct, AreNewValues, AreRemoved, AreEditsOf, IsOldEnd, IsResultEnd, IsFreed, IsThere, IsNewArc, end_name}
+use Rattle.gm_pending.specs.Collected.{RewriteOf, as_list, concat_below, slot_in, rewrite_of, end_of, labels, leads_to, written_step, arc_between, left_slots, left_slots_of, arc_by, arc_at, arcs_at, arcs_in, all_arcs, removed_at, removed_of, removed_in, all_removed}
+use Rattle.gm_pending.specs.EditLists.{EditLists, AreAddedValues, AreArcs, AreDistinct, AreNewValues, AreRemoved, AreEditsOf, AreMatchedIn, IsOldEnd, IsResultEnd, IsFreed, IsThere, IsNewArc, end_name}
 use Rattle.gm_pending.specs.Results.{PendingOf, IsPrepared, IsRightInstance, rule_in, scene_in}
 use Rattle.gm_pending.proofs.Concat.{concat_contains, contains_concat, list_contains, contains_list, length_concat, length_same, length_list, distinct_concat, distinct_list}
 use Rattle.gm_pending.proofs.Ends.{right_end}
 use Rattle.gm_pending.proofs.Law.{law}
 use Rattle.gm_pending.proofs.Steady.{same_step}
+use Rattle.gm_pending.proofs.Table.{left_long}
+use Rattle.gm_pending.proofs.Whole.{contains_first}
 
 -- at most four entries for each label of an instance
 few_numbers : (k count dim adds removes freed removed added made : ℕ) → freed ≤ count * ((dim + 1) * (k * 1)) → made ≤ count * ((dim + 1) * (k * 1)) → removed ≡ k * removes → added ≡ k * adds → removes ≤ count → adds ≤ count →
@@ -93,7 +97,7 @@ module _ (app : PendingOf) (prepared : IsPrepared app) where
       is : IsTrue (has_word (rule_in app) Left x) → IsStep (step (rule_in app) Left x i) → IsGone (scene_in app) (alpha app.map i ((scene_in app).dart_of x p)) → Some (record { from = end_of rewrite x p; label = i; to = end_of rewrite x p }) ≡ Some arc → IsFreedFrom arc
       is l s gone g = subst IsFreedFrom (freed_is x p i l ∙ same_Some _ arc g) (record { node = x; position = p; left = l; within = b; label = within; step = s; gone = gone; from = refl; to = refl })
 
-      by : IsTrue (has_word (rule_in app) Left x) → (s : Step) → step (rule_in app) Left x i ≡ s → arc_by rewrite Freed x p i (freed_by rewrite x s) ≡ Some arc → IsFreedFrom arc
+      by : IsTrue (has_word (rule_in app) Left x) → (s : Step) → step (rule_in app) Left x i ≡ s → arc_by rewrite Freed x p i (freed_by (rule_in app) x s) ≡ Some arc → IsFreedFrom arc
       by l Absent f g = absurd (none-some arc g)
       by l (Exp y) f g = elim (true_or_false (is_removed (rule_in app) y)) [
         | inl r ↦ is l (rw f tt) (y, p, r, b, (law app prepared).darts.links x p i y (l, b) within f) (rw r at g)
@@ -123,7 +127,7 @@ module _ (app : PendingOf) (prepared : IsPrepared app) where
               let same : (y ≡ z) × (t ≡ q) = (law app prepared).darts.injective y t z q (ly, bt) (removed_left z r, c) (sym leads ∙ ap (alpha app.map i) (sym from) ∙ to) in
               subst (λ n. IsTrue (is_removed (rule_in app) n)) (sym same.0) r
 
-          by : (t : Step) → step (rule_in app) Left x i ≡ t → arc_by rewrite Freed x p i (freed_by rewrite x t) ≡ Some (freed_arc x p i)
+          by : (t : Step) → step (rule_in app) Left x i ≡ t → arc_by rewrite Freed x p i (freed_by (rule_in app) x t) ≡ Some (freed_arc x p i)
           by Absent g = absurd (rw g at s)
           by (Exp y) g =
               let there : IsTrue (is_removed (rule_in app) y) = goes y p ((law app prepared).steps.left_back x i y l f.label g).0 b ((law app prepared).darts.links x p i y (l, b) f.label g) in
@@ -160,7 +164,7 @@ module _ (app : PendingOf) (prepared : IsPrepared app) where
     pub made : IsMadeArc (scene_in app) (end_name app arc.from) arc.label (end_name app arc.to)
 
   made_from : (arc : Arc) → IsTold Made arc → IsMadeFrom arc
-  made_from arc (x, i, p, h, b, e) = go (true_or_false (has_word (rule_in app) Right x && not (is_steady rewrite x i)))
+  made_from arc (x, i, p, h, b, e) = go (true_or_false (has_word (rule_in app) Right x && not (is_steady (rule_in app) x i)))
     where
       within : i ≤ app.map.schema.dim
       within = omega arith
@@ -191,12 +195,12 @@ module _ (app : PendingOf) (prepared : IsPrepared app) where
             made = record { node = x; position = p; right = r; within = b; label = within; from = here.1; leads = rw f there.1 };
           })
 
-      go : IsTrue (has_word (rule_in app) Right x && not (is_steady rewrite x i)) ⊎ (has_word (rule_in app) Right x && not (is_steady rewrite x i) ≡ false) → IsMadeFrom arc
-      go (inl w) = by (both_true (has_word (rule_in app) Right x) (not (is_steady rewrite x i)) w).0 (step (rule_in app) Right x i) refl (rw w at e)
+      go : IsTrue (has_word (rule_in app) Right x && not (is_steady (rule_in app) x i)) ⊎ (has_word (rule_in app) Right x && not (is_steady (rule_in app) x i) ≡ false) → IsMadeFrom arc
+      go (inl w) = by (both_true (has_word (rule_in app) Right x) (not (is_steady (rule_in app) x i)) w).0 (step (rule_in app) Right x i) refl (rw w at e)
       go (inr a) = absurd (none-some arc (rw a at e))
 
   -- the arc of a steady step is there already
-  steady_there : (d i e : ℕ) → (made : IsMadeArc (scene_in app) d i e) → IsTrue (is_steady rewrite made.node i) → IsThere app d i e
+  steady_there : (d i e : ℕ) → (made : IsMadeArc (scene_in app) d i e) → IsTrue (is_steady (rule_in app) made.node i) → IsThere app d i e
   steady_there d i e made steady = (subst (λ c. IsTrue ((scene_in app).live c)) (sym here) ((law app prepared).darts.live made.node made.position (l, made.within)), by (step (rule_in app) Right made.node i) refl)
     where
       sides : IsTrue (has_word (rule_in app) Left made.node) × IsTrue (is_same (step (rule_in app) Left made.node i) (step (rule_in app) Right made.node i))
@@ -226,7 +230,7 @@ module _ (app : PendingOf) (prepared : IsPrepared app) where
 
   -- each arc of a right step that isn't there has its entry
   made_entry : (d i e : ℕ) → IsNewArc app d i e → (arc : Arc) × Contains (all_arcs rewrite Made) arc × (end_name app arc.from ≡ d) × (arc.label ≡ i)
-  made_entry d i e (made, new) = elim (true_or_false (is_steady rewrite made.node i)) [
+  made_entry d i e (made, new) = elim (true_or_false (is_steady (rule_in app) made.node i)) [
     | inl steady ↦ absurd (new (steady_there d i e made steady))
     | inr moves ↦ by moves (step (rule_in app) Right made.node i) refl
   ]
@@ -234,16 +238,16 @@ module _ (app : PendingOf) (prepared : IsPrepared app) where
       from : end_name app (end_of rewrite made.node made.position) ≡ d
       from = (right_end app prepared made.node made.position (made.right, made.within)).1 ∙ sym made.from
 
-      entry : is_steady rewrite made.node i ≡ false → (arc : Arc) → arc.from ≡ end_of rewrite made.node made.position → arc.label ≡ i → arc_by rewrite Made made.node made.position i (step (rule_in app) Right made.node i) ≡ Some arc → (arc : Arc) × Contains (all_arcs rewrite Made) arc × (end_name app arc.from ≡ d) × (arc.label ≡ i)
+      entry : is_steady (rule_in app) made.node i ≡ false → (arc : Arc) → arc.from ≡ end_of rewrite made.node made.position → arc.label ≡ i → arc_by rewrite Made made.node made.position i (step (rule_in app) Right made.node i) ≡ Some arc → (arc : Arc) × Contains (all_arcs rewrite Made) arc × (end_name app arc.from ≡ d) × (arc.label ≡ i)
       entry moves arc begins label is = (
         arc,
         listed Made made.node i made.position arc (word_below (rule_in app) Right made.node made.right) made.label made.within
-            (rw (and_true (has_word (rule_in app) Right made.node) (not (is_steady rewrite made.node i)) made.right (true_not (is_steady rewrite made.node i) moves)) is),
+            (rw (and_true (has_word (rule_in app) Right made.node) (not (is_steady (rule_in app) made.node i)) made.right (true_not (is_steady (rule_in app) made.node i) moves)) is),
         ap (end_name app) begins ∙ from,
         label,
       )
 
-      by : is_steady rewrite made.node i ≡ false → (s : Step) → step (rule_in app) Right made.node i ≡ s → (arc : Arc) × Contains (all_arcs rewrite Made) arc × (end_name app arc.from ≡ d) × (arc.label ≡ i)
+      by : is_steady (rule_in app) made.node i ≡ false → (s : Step) → step (rule_in app) Right made.node i ≡ s → (arc : Arc) × Contains (all_arcs rewrite Made) arc × (end_name app arc.from ≡ d) × (arc.label ≡ i)
       by moves Absent f = absurd (rw f at made.leads)
       by moves (Exp y) f = entry moves (record { from = end_of rewrite made.node made.position; label = i; to = end_of rewrite y made.position }) refl refl (rw f refl)
       by moves (Imp m) f = entry moves (record { from = end_of rewrite made.node made.position; label = i; to = end_of rewrite made.node (turn_at app.placed made.position m) }) refl refl (rw f refl)
@@ -352,9 +356,61 @@ module _ (app : PendingOf) (prepared : IsPrepared app) where
   few added is = few_numbers app.placed.positions count app.map.schema.dim (added_nodes (rule_in app)) (removed_nodes (rule_in app)) _ _ added _
       (most Freed) (most Made) (removed_count count) is (few_removed count) (few_added count)
 
-  pub are_edits : (edits : EditLists) → AreAddedValues app edits.added edits.added_values → AreNewValues app edits.values → edits.freed ≡ all_arcs (rewrite_of app) Freed → edits.removed ≡ all_removed (rewrite_of app) → edits.arcs ≡ all_arcs (rewrite_of app) Made → edits.added ≡ app.placed.positions * added_nodes (rule_in app) → AreEditsOf app edits
-  are_edits edits added_values values freed removed arcs added = record {
+  -- ---- the darts that are matched
+
+  matched_at : (x p : ℕ) → x < app.placed.nodes → p < app.placed.positions → Contains (left_slots rewrite) (slot_in app.placed x p)
+  matched_at x p h b =
+      contains_concat (left_slots_of rewrite) app.placed.nodes x (slot_in app.placed x p) h
+      (contains_concat (λ q. slot_in app.placed x q ∷ []) app.placed.positions p (slot_in app.placed x p) b (contains_first (slot_in app.placed x p) []))
+
+  matched_from : (slot : Slot) → Contains (left_slots rewrite) slot → (x : ℕ) × (p : ℕ) × (x < app.placed.nodes) × (p < app.placed.positions) × (slot ≡ slot_in app.placed x p)
+  matched_from slot among =
+      let node = concat_contains (left_slots_of rewrite) app.placed.nodes slot among in
+      let position = concat_contains (λ q. slot_in app.placed node.0 q ∷ []) app.placed.positions slot node.2 in
+      (node.0, position.0, node.1, position.1, sym (same_Some _ slot (list_contains (Some (slot_in app.placed node.0 position.0)) slot position.2)))
+
+  source : (arcs : Arcs) (arc : Arc) → Contains (all_arcs rewrite arcs) arc → (slot : Slot) → arc.from ≡ Old slot → Contains (left_slots rewrite) slot
+  source arcs arc among slot from = go (told arcs arc among)
+    where
+      begins : (x i p : ℕ) (to : Option (ℕ × ℕ)) → option_map (arc_between rewrite x p i) to ≡ Some arc → end_of rewrite x p ≡ arc.from
+      begins x i p None e = absurd (none-some arc e)
+      begins x i p (Some y) e = ap (λ (a : Arc). a.from) (same_Some (arc_between rewrite x p i y) arc e)
+
+      go : IsTold arcs arc → Contains (left_slots rewrite) slot
+      go (x, i, p, h, b, e) = elim (cases_lt x app.placed.nodes) [
+        | inl l ↦
+            let is : Old (slot_in app.placed x p) ≡ Old slot = rw (lt-ltb x app.placed.nodes l) at (begins x i p (leads_to rewrite arcs x p (written_step rewrite arcs x i)) e ∙ from) in
+            subst (Contains (left_slots rewrite)) (old_slot is) (matched_at x p l b)
+        | inr l ↦ absurd (let is = rw (le-ltb x app.placed.nodes l) at (begins x i p (leads_to rewrite arcs x p (written_step rewrite arcs x i)) e ∙ from) in cc)
+      ]
+        where
+          old_slot : {s t : Slot} → Old s ≡ Old t → s ≡ t
+          old_slot e = cc
+
+  few_left : app.placed.nodes ≤ count
+  few_left = elim (cases_lt count app.placed.nodes) [
+    | inl more ↦ absurd (omega (arith, word_below (rule_in app) Left count ((prepared.matched.nodes count).1 more)))
+    | inr few ↦ few
+  ]
+
+  are_matched : (edits : EditLists) → edits.matched ≡ left_slots rewrite → edits.freed ≡ all_arcs rewrite Freed → edits.removed ≡ all_removed rewrite → edits.arcs ≡ all_arcs rewrite Made → AreMatchedIn app edits
+  are_matched edits matched freed removed arcs = record {
+    live = λ slot among.
+        let at = matched_from slot (rw matched at among) in
+        let live : IsLiveSlot app.map (slot_number app.placed at.0 at.1) = prepared.matched.live at.0 at.1 at.2 at.3 in
+        rw at.4 live;
+    few = rw (matched, left_long rewrite) (mul-le app.placed.nodes app.placed.positions count app.placed.positions few_left (omega arith));
+    freed = λ arc slot among from. rw matched (source Freed arc (rw freed at among) slot from);
+    removed = λ slot among.
+        let r = removed_among slot (rw removed at among) in
+        rw (matched, r.3.is) (matched_at r.0 r.1 ((prepared.matched.nodes r.0).0 (removed_left r.0 r.3.removed)) r.2);
+    made = λ arc slot among from. rw matched (source Made arc (rw arcs at among) slot from);
+  }
+
+  pub are_edits : (edits : EditLists) → AreAddedValues app edits.added edits.added_values → AreNewValues app edits.values → edits.matched ≡ left_slots (rewrite_of app) → edits.freed ≡ all_arcs (rewrite_of app) Freed → edits.removed ≡ all_removed (rewrite_of app) → edits.arcs ≡ all_arcs (rewrite_of app) Made → edits.added ≡ app.placed.positions * added_nodes (rule_in app) → AreEditsOf app edits
+  are_edits edits added_values values matched freed removed arcs added = record {
     prepared = prepared;
+    matched = are_matched edits matched freed removed arcs;
     added_values = added_values;
     values = values;
     freed = rw freed are_freed;

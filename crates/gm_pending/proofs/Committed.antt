@@ -1,5 +1,5 @@
 -- The stages of a commit make the result: what each needs is there, and what the last leaves is the unfolding.
-use Rattle.std.proofs.Common.{◌≡◌, ℕ, ◌+◌, ◌-◌, ◌*◌, ◌<◌, ◌≤◌, ◌⊎◌, not, false, List, [], length, get_or, slice_get, unwrap_or, Some, None, is_some, IsTrue, refl, sym, ap, ◌∙◌, subst, inl, inr, arith, mul_comm, pos}
+use Rattle.std.proofs.Common.{◌≡◌, ◌≢◌, ℕ, ◌+◌, ◌-◌, ◌*◌, ◌<◌, ◌≤◌, ◌⊎◌, not, false, List, [], length, get_or, slice_get, unwrap_or, Some, None, is_some, IsTrue, refl, sym, ap, ◌∙◌, subst, inl, inr, arith, mul_comm, pos}
 use Rattle.std.specs.FinMap.{get}
 use Rattle.std.specs.List.{Contains}
 use Rattle.std.specs.Option.{option_map}
@@ -29,16 +29,16 @@ use Rattle.gm_theory.proofs.RuleSteps.{word_below}
 use Rattle.gm_pending.specs.Arcs.{Arc}
 use Rattle.gm_pending.specs.Arcs.{End}
 use Rattle.gm_pending.specs.Arcs.End.{Old, New}
-use Rattle.gm_pending.specs.declared.edits.ValueAt.{ValueAt}
+use Rattle.gm_pending.specs.declared.changes.ValueAt.{ValueAt}
 use Rattle.gm_pending.specs.Results.{PendingOf, IsUnfoldedIn, IsValueIn, rule_in, place_in, scene_in}
-use Rattle.gm_pending.specs.EditLists.{EditLists, AreEditsOf, IsOldEnd, IsResultEnd, IsResultOf, IsThere, added_value, end_name}
+use Rattle.gm_pending.specs.EditLists.{EditLists, AreEditsOf, IsOldEnd, IsResultEnd, IsResultOf, IsThere, IsUntouched, Matched, Valued, added_value, end_name}
 use Rattle.gm_pending.specs.Written.{AreWhole, IsWritable, IsLiveEnd, IsSettable, CanRemove, IsExtended, end_at, values_at, with_arcs, with_values, without_darts}
 use Rattle.gm_pending.proofs.Law.{law}
 use Rattle.gm_pending.proofs.Made.{exists_arc, not_gone}
 use Rattle.gm_pending.proofs.NewValues.{part_entry, typed}
 use Rattle.gm_pending.proofs.Numbers.{numbered, number_below}
-use Rattle.gm_pending.proofs.WithArcs.{arcs_frame, arcs_live, arcs_values, arcs_whole, arcs_written, AreWritable, IsWrittenOrKept}
-use Rattle.gm_pending.proofs.WithValues.{AreFitting, AreWide, IsSetOrKept, value_alike, value_among, value_is, values_alpha, values_frame, values_live, values_set}
+use Rattle.gm_pending.proofs.WithArcs.{arcs_elsewhere, arcs_frame, arcs_live, arcs_values, arcs_whole, arcs_written, AreWritable, IsWrittenOrKept}
+use Rattle.gm_pending.proofs.WithValues.{AreFitting, AreWide, IsSetOrKept, value_alike, value_among, value_is, values_alpha, values_frame, values_kept, values_live, values_set}
 use Rattle.gm_theory.specs.Theorem.{Unfolded}
 use Rattle.gm_pending.proofs.WithoutDarts.{IsUnnamed, can_remove, dart_stays, dart_goes, slot_stays, without_whole, more_room}
 
@@ -426,3 +426,20 @@ module _ (app : PendingOf) (edits : EditLists) (ok : AreEditsOf app edits) (spar
       unfolded = valued_unfolded;
       values = λ e d embed at live. value_in e d embed at ((valued_unfolded.darts d).0 live);
     }
+
+    -- a dart that isn't touched keeps its row
+    pub elsewhere : (d : ℕ) → d < app.map.next → IsUntouched app.map edits d → get valued.darts d ≡ get app.map.darts d
+    elsewhere d low untouched =
+        values_kept edits.values linked d (λ at among e. untouched at.slot (Valued at among refl) (sym (linked_name at.slot (ok.values.new at among).stays) ∙ e))
+        ∙ arcs_elsewhere (end_at more made) edits.arcs more d (λ arc among. made_from arc.from (ok.arcs.ends arc among).0 (λ slot is. ok.matched.made arc slot among is))
+        ∙ extended.darts d (rw fewer_next low)
+        ∙ dart_stays edits.removed freed d ok.removed.distinct (λ slot among e. untouched slot (Matched (ok.matched.removed slot among)) (sym (freed_name slot.at) ∙ e))
+        ∙ arcs_elsewhere (end_at before []) edits.freed before d (λ arc among. freed_from arc.from (ok.freed.ends arc among).0 (λ slot is. ok.matched.freed arc slot among is))
+      where
+        freed_from : (end : End) → IsOldEnd app end → ((slot : Slot) → end ≡ Old slot → Contains edits.matched slot) → end_at before [] end ≢ d
+        freed_from (Old slot) live matched e = untouched slot (Matched (matched slot refl)) e
+        freed_from (New number) h matched e = absurd h
+
+        made_from : (end : End) → IsResultEnd app end → ((slot : Slot) → end ≡ Old slot → Contains edits.matched slot) → end_at more made end ≢ d
+        made_from (Old slot) stays matched e = untouched slot (Matched (matched slot refl)) (sym (result_end (Old slot) stays).1 ∙ e)
+        made_from (New number) h matched e = absurd (omega (arith, low, sym (result_end (New number) h).1 ∙ e))

@@ -4,10 +4,11 @@ use Rattle.std.proofs.lemmas.Bool.{cases_lt, lt-ltb, le-ltb}
 use Rattle.gm_model.specs.declared.rule.Side.TheVariants.{Left, Right}
 use Rattle.gm_model.specs.declared.step.Step.{Step}
 use Rattle.gm_model.specs.declared.step.Step.TheVariants.{Absent, Imp}
-use Rattle.gm_model.specs.Rules.{has_word, is_added, is_removed, step}
+use Rattle.gm_model.specs.Rules.{Rule, has_word, is_added, step}
 use Rattle.gm_model.specs.Unfolding.{added_before}
 use Rattle.gm_arena.specs.ArenaAsMap.{as_map}
 use Rattle.gm_arena.specs.declared.slot.Slot.{Slot}
+use Rattle.gm_plan.specs.Changes.{is_steady, made_step}
 use Rattle.gm_plan.specs.Placed.{Placed, slot_at}
 use Rattle.std.proofs.lemmas.Option.{get_or_from_slice_get}
 use Rattle.gm_theory.proofs.Arcs.{kept_name}
@@ -16,7 +17,7 @@ use Rattle.gm_theory.proofs.RuleSteps.{word_below}
 use Rattle.gm_theory.proofs.Tests.{and_true, both_true, true_or_false, true_not, not_both}
 use Rattle.gm_pending.specs.declared.rewrite.Arcs.{Arcs}
 use Rattle.gm_pending.specs.declared.rewrite.Arcs.TheVariants.{Freed, Made}
-use Rattle.gm_pending.specs.Collected.{RewriteOf, as_list, concat_below, slot_in, rewrite_of, rule_at, end_of, is_steady, made_step, written_step, arc_by, arc_at, arcs_at, removed_of, removed_in}
+use Rattle.gm_pending.specs.Collected.{RewriteOf, as_list, concat_below, slot_in, rewrite_of, end_of, written_step, arc_by, arc_at, arcs_at, removed_of, removed_in}
 use Rattle.gm_pending.specs.EditLists.{IsResultEnd, end_name}
 use Rattle.gm_pending.specs.Results.{PendingOf, IsPrepared, IsRightInstance, rule_in, place_in, scene_in}
 use Rattle.gm_pending.proofs.Darts.{stays_there}
@@ -84,14 +85,14 @@ no_arcs rewrite arcs x i step f g = go rewrite.placed.positions
     go (suc n) = rw (go n, none n) refl
 
 -- a letter that is written is that of a right step
-pub made_turn : (rewrite : RewriteOf) (x i m : ℕ) → made_step rewrite x i ≡ Imp m → IsTrue (has_word (rule_at rewrite) Right x) × (step (rule_at rewrite) Right x i ≡ Imp m)
-made_turn rewrite x i m e = elim (true_or_false (has_word (rule_at rewrite) Right x && not (is_steady rewrite x i))) [
-  | inl w ↦ ((both_true (has_word (rule_at rewrite) Right x) (not (is_steady rewrite x i)) w).0, rw w at e)
+pub made_turn : (rule : Rule) (x i m : ℕ) → made_step rule x i ≡ Imp m → IsTrue (has_word rule Right x) × (step rule Right x i ≡ Imp m)
+made_turn rule x i m e = elim (true_or_false (has_word rule Right x && not (is_steady rule x i))) [
+  | inl w ↦ ((both_true (has_word rule Right x) (not (is_steady rule x i)) w).0, rw w at e)
   | inr a ↦ absurd (let none : Absent ≡ Imp m = rw a at e in cc)
 ]
 
 -- no dart of a node that stays is removed
-pub none_removed : (rewrite : RewriteOf) (x : ℕ) → is_removed (rule_at rewrite) x ≡ false → removed_in rewrite x ≡ []
+pub none_removed : (rewrite : RewriteOf) (x : ℕ) → rewrite.goes x ≡ false → removed_in rewrite x ≡ []
 none_removed rewrite x e = go rewrite.placed.positions
   where
     go : (n : ℕ) → concat_below (removed_of rewrite x) n ≡ []

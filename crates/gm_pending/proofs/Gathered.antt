@@ -17,7 +17,7 @@ use Rattle.gm_theory.proofs.NewNames.{new_name}
 use Rattle.gm_theory.specs.Theorem.{Unfolded}
 use Rattle.gm_pending.specs.declared.at.At.{At}
 use Rattle.gm_pending.specs.declared.at.At.TheVariants.{Old, New}
-use Rattle.gm_pending.specs.declared.edits.ValueAt.{ValueAt}
+use Rattle.gm_pending.specs.declared.changes.ValueAt.{ValueAt}
 use Rattle.gm_pending.specs.declared.marks.Reached.{Reached}
 use Rattle.gm_pending.specs.EditLists.{AreNewValues, IsNewValue, IsReachedSumIn, IsValueOfDart}
 use Rattle.gm_pending.specs.Gathered.{AreAllReached, AreGathered, AreGatheredBelow, AreGatheredFrom, HasReached}

@@ -36,3 +36,5 @@ pub mod Unremoved
 pub mod Writing
 pub mod ManyArcs
 pub mod Collected
+pub mod Told
+pub mod Taken

@@ -1,5 +1,6 @@
 -- The stages of a commit, over an arena that has the rows of an application's map.
 use Rattle.std.proofs.Common.{◌≡◌, ℕ, ◌+◌, ◌-◌, ◌*◌, ◌<◌, ◌≤◌, List, [], length, sym, ap, ◌∙◌, subst, arith}
+use Rattle.std.specs.FinMap.{get}
 use Rattle.std.specs.List.{Contains}
 use Rattle.gm_model.specs.declared.schema.Schema.{Schema}
 use Rattle.gm_model.specs.GMap.{IsGMap}
@@ -11,9 +12,9 @@ use Rattle.gm_arena.specs.Inside.{part_of}
 use Rattle.gm_arena.specs.Lawful.{AreGoodValues}
 use Rattle.gm_theory.proofs.Results.{unfolding_generalised}
 use Rattle.gm_pending.specs.Arcs.{Arc}
-use Rattle.gm_pending.specs.declared.edits.ValueAt.{ValueAt}
+use Rattle.gm_pending.specs.declared.changes.ValueAt.{ValueAt}
 use Rattle.gm_pending.specs.Results.{PendingOf, scene_in}
-use Rattle.gm_pending.specs.EditLists.{EditLists, HasSameRows, AreEditsOf, IsResultOf}
+use Rattle.gm_pending.specs.EditLists.{EditLists, HasSameRows, AreEditsOf, IsResultOf, IsUntouched}
 use Rattle.gm_pending.specs.Written.{IsWritable, IsSettable, CanRemove, IsExtended, end_at, with_arcs, with_values, without_darts}
 use Rattle.gm_pending.proofs.Committed
 use Rattle.gm_pending.proofs.Law.{law}
@@ -27,6 +28,7 @@ pub record IsCommitted (app : PendingOf) (edits : EditLists) (start m : ArenaMap
   pub count : m.count ≡ start.count - length edits.removed + edits.added
   pub spare : m.spare + edits.added ≡ start.spare + length edits.removed
   pub reserved : m.reserved ≡ start.reserved
+  pub elsewhere : (d : ℕ) → d < start.next → IsUntouched start edits d → get m.darts d ≡ get start.darts d
 
 module _ (app : PendingOf) (edits : EditLists) (start : ArenaMap) (same : HasSameRows app.map start) (ok : AreEditsOf app edits) where
   pub freeing : (arc : Arc) → Contains edits.freed arc → IsWritable start [] arc
@@ -97,4 +99,6 @@ module _ (app : PendingOf) (edits : EditLists) (start : ArenaMap) (same : HasSam
                   ∙ sym (ap (λ (m : ArenaMap). m.count - length edits.removed + edits.added) same);
               spare = ap (λ (m : ArenaMap). m.spare + edits.added) valued ∙ Committed.valued_spare app edits ok start.spare start.reserved made m3 extended long;
               reserved = ap (λ (m : ArenaMap). m.reserved) valued ∙ Committed.valued_reserved app edits ok start.spare start.reserved made m3 extended long;
+              elsewhere = subst (λ (s : ArenaMap). (d : ℕ) → d < s.next → IsUntouched s edits d → get m5.darts d ≡ get s.darts d) (sym same) (λ d low untouched.
+                  ap (λ (m : ArenaMap). get m.darts d) valued ∙ Committed.elsewhere app edits ok start.spare start.reserved made m3 extended long d low untouched);
             }

@@ -1,21 +1,17 @@
 -- The arcs that are told of a step, by its kind.
 use Rattle.std.proofs.Common.{◌≡◌, ◌≢◌, ℕ, ◌+◌, ◌<◌, List, [], ◌∷◌, length, refl, sym, ap, ap₂, ◌∙◌, subst}
 use Rattle.std.specs.List.{Contains}
-use Rattle.gm_model.specs.declared.rule.Side.TheVariants.{Right}
-use Rattle.gm_model.specs.declared.schema.Schema.{Schema}
 use Rattle.gm_model.specs.declared.step.Step.{Step}
 use Rattle.gm_model.specs.declared.step.Step.TheVariants.{Absent, Exp, Imp}
 use Rattle.gm_arena.specs.declared.slot.Slot.{Slot}
 use Rattle.gm_arena.specs.ArenaMap.{ArenaMap}
 use Rattle.gm_plan.specs.Placed.{turn_at}
-use Rattle.gm_theory.proofs.RuleSteps.{step_within}
 use Rattle.gm_pending.specs.Arcs.{Arc}
 use Rattle.gm_pending.specs.declared.rewrite.Arcs.{Arcs}
 use Rattle.gm_pending.specs.declared.rewrite.Arcs.TheVariants.{Freed, Made}
-use Rattle.gm_pending.specs.Collected.{RewriteOf, IsFitted, as_list, concat_below, rule_at, written_step, arc_between, arcs_to, arc_by, arcs_at}
+use Rattle.gm_pending.specs.Collected.{RewriteOf, as_list, concat_below, written_step, arc_between, arcs_to, arc_by, arcs_at}
 use Rattle.gm_pending.specs.Written.{IsWritable, end_at, with_arcs}
 use Rattle.gm_pending.proofs.Concat.{contains_concat}
-use Rattle.gm_pending.proofs.Ends.{made_turn}
 use Rattle.gm_pending.proofs.Whole.{contains_first}
 use Rattle.gm_pending.proofs.Writing.{AreWritten}
 
@@ -37,12 +33,6 @@ module _ (rewrite : RewriteOf) (x i : ℕ) where
 
   pub turned_arcs : (arcs : Arcs) (step : Step) (m : ℕ) → arcs ≡ Made → step ≡ Imp m → step ≡ written_step rewrite arcs x i → arcs_at rewrite arcs x i ≡ arcs_to rewrite x i (λ p. (x, turn_at rewrite.placed p m))
   turned_arcs arcs step m = made_arcs arcs step (Imp m)
-
-  -- a letter that is written has its place
-  pub turned_place : (schema : Schema) → IsFitted schema rewrite → (m : ℕ) → Imp m ≡ written_step rewrite Made x i → m < rewrite.placed.places
-  turned_place schema fitted m e =
-      let turn = made_turn rewrite x i m (sym e) in
-      rw fitted.places (step_within schema (rule_at rewrite) fitted.planned.accepted.in_range fitted.planned.accepted.incidence Right x i m turn.0 turn.1)
 
   -- what holds of each arc of the list and of all of them, where they are those to these instances
   module _ (m : ArenaMap) (made : List Slot) (arcs : List Arc) (to : ℕ → ℕ × ℕ) (same : arcs ≡ arcs_to rewrite x i to) where

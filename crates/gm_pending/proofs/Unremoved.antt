@@ -5,17 +5,19 @@ use Rattle.gm_model.specs.declared.rule.Side.TheVariants.{Left, Right}
 use Rattle.gm_model.specs.declared.step.Step.{Step}
 use Rattle.gm_model.specs.declared.step.Step.TheVariants.{Absent, Exp, Imp}
 use Rattle.gm_model.specs.Rules.{Rule, has_word, is_removed, step}
+use Rattle.gm_plan.specs.Changes.{freed_by, freed_step}
 use Rattle.gm_plan.specs.Counts.{removed_before, removed_nodes}
+use Rattle.gm_plan.specs.Searches.{row_step}
 use Rattle.gm_theory.proofs.RuleSteps.{word_below}
 use Rattle.gm_theory.proofs.Tests.{both_true, true_or_false}
 use Rattle.gm_pending.specs.declared.rewrite.Arcs.TheVariants.{Freed}
-use Rattle.gm_pending.specs.Collected.{RewriteOf, concat_below, rule_at, labels, freed_by, freed_step, arcs_at, arcs_in, all_arcs, removed_in, all_removed}
+use Rattle.gm_pending.specs.Collected.{RewriteRows, IsFitted, told_by, concat_below, labels, arcs_at, arcs_in, all_arcs, removed_in, all_removed}
 use Rattle.gm_pending.proofs.Ends.{no_arcs, none_removed}
 
 module _ {A : Type 0} where
-  concat_none : (f : ℕ → List A) (n : ℕ) → ((k : ℕ) → f k ≡ []) → concat_below f n ≡ []
+  concat_none : (f : ℕ → List A) (n : ℕ) → ((k : ℕ) → k < n → f k ≡ []) → concat_below f n ≡ []
   concat_none f zero none = refl
-  concat_none f (suc n) none = rw (concat_none f n none, none n) refl
+  concat_none f (suc n) none = rw (concat_none f n (λ k h. none k (omega arith)), none n (omega arith)) refl
 
 stays_before : (rule : Rule) (n : ℕ) → removed_before rule n ≡ 0 → (x : ℕ) → x < n → is_removed rule x ≡ false
 stays_before rule zero e x h = absurd (omega arith)
@@ -27,26 +29,27 @@ stays_before rule (suc n) e x h = elim (true_or_false (is_removed rule n)) [
   ]
 ]
 
-module _ (rewrite : RewriteOf) (none : removed_nodes (rule_at rewrite) ≡ 0) where
-  stays : (x : ℕ) → is_removed (rule_at rewrite) x ≡ false
-  stays x = elim (true_or_false (is_removed (rule_at rewrite) x)) [
-    | inl r ↦ stays_before (rule_at rewrite) (length (rule_at rewrite).nodes) none x (word_below (rule_at rewrite) Left x (both_true (has_word (rule_at rewrite) Left x) (not (has_word (rule_at rewrite) Right x)) r).0)
+module _ (rule : Rule) (none : removed_nodes rule ≡ 0) where
+  pub stays : (x : ℕ) → is_removed rule x ≡ false
+  stays x = elim (true_or_false (is_removed rule x)) [
+    | inl r ↦ stays_before rule (length rule.nodes) none x (word_below rule Left x (both_true (has_word rule Left x) (not (has_word rule Right x)) r).0)
     | inr a ↦ a
   ]
 
-  by : (x : ℕ) (s : Step) → freed_by rewrite x s ≡ Absent
+  by : (x : ℕ) (s : Step) → freed_by rule x s ≡ Absent
   by x Absent = refl
   by x (Exp y) = rw (stays y) refl
   by x (Imp m) = rw (stays x) refl
 
-  unfreed : (x i : ℕ) → freed_step rewrite x i ≡ Absent
-  unfreed x i = elim (true_or_false (has_word (rule_at rewrite) Left x)) [
-    | inl l ↦ rw l (by x (step (rule_at rewrite) Left x i))
+  pub unfreed : (x i : ℕ) → freed_step rule x i ≡ Absent
+  unfreed x i = elim (true_or_false (has_word rule Left x)) [
+    | inl l ↦ rw l (by x (step rule Left x i))
     | inr a ↦ rw a refl
   ]
 
-  pub nothing_freed : all_arcs rewrite Freed ≡ []
-  nothing_freed = concat_none (arcs_in rewrite Freed) (length (rule_at rewrite).nodes) (λ x. concat_none (arcs_at rewrite Freed x) (labels rewrite) (λ i. no_arcs rewrite Freed x i (freed_step rewrite x i) refl (unfreed x i)))
+module _ (rows : RewriteRows) (fitted : IsFitted rows) (none : rows.removes ≡ false) where
+  pub nothing_freed : all_arcs (told_by rows) Freed ≡ []
+  nothing_freed = concat_none (arcs_in (told_by rows) Freed) (length rows.made) (λ x h. concat_none (arcs_at (told_by rows) Freed x) (labels (told_by rows)) (λ i l. no_arcs (told_by rows) Freed x i (row_step rows.freed x i) refl (fitted.none_freed none x i h (omega arith))))
 
-  pub nothing_removed : all_removed rewrite ≡ []
-  nothing_removed = concat_none (removed_in rewrite) (length (rule_at rewrite).nodes) (λ x. none_removed rewrite x (stays x))
+  pub nothing_removed : all_removed (told_by rows) ≡ []
+  nothing_removed = concat_none (removed_in (told_by rows)) (length rows.made) (λ x h. none_removed (told_by rows) x (fitted.none_goes none x h))

@@ -1,11 +1,11 @@
 -- What a list of written arcs leaves: the last one that is written at a dart and a label, and the old one where there is none.
-use Rattle.std.proofs.Common.{◌≡◌, ℕ, ◌≤◌, ◌⊎◌, List, [], ◌∷◌, is_some, refl, sym, ◌∙◌, subst, inl, inr}
+use Rattle.std.proofs.Common.{◌≡◌, ◌≢◌, ℕ, ◌≤◌, ◌⊎◌, List, [], ◌∷◌, is_some, refl, sym, ◌∙◌, subst, inl, inr}
 use Rattle.std.specs.FinMap.{get}
 use Rattle.std.specs.List.{Contains}
 use Rattle.std.proofs.lemmas.Bool.{cases_eq}
 use Rattle.gm_arena.specs.ArenaMap.{ArenaMap, IsLiveName, alpha}
 use Rattle.gm_arena.specs.Edits.{with_alpha}
-use Rattle.gm_arena.proofs.MapLemmas.{alpha-with_alpha_other, alpha-with_alpha_label}
+use Rattle.gm_arena.proofs.MapLemmas.{alpha-with_alpha_other, alpha-with_alpha_label, get-with_alpha_other}
 use Rattle.gm_pending.specs.Arcs.{Arc}
 use Rattle.gm_pending.specs.Arcs.{End}
 use Rattle.gm_pending.specs.Written.{AreWhole, values_at, with_arcs}
@@ -28,6 +28,13 @@ module _ (name : End → ℕ) where
   pub arcs_values : (arcs : List Arc) (m : ArenaMap) (d : ℕ) → values_at (with_arcs name m arcs) d ≡ values_at m d
   arcs_values [] m d = refl
   arcs_values (arc ∷ arcs) m d = arcs_values arcs (with_alpha m (name arc.from) arc.label (name arc.to)) d ∙ values_turned m (name arc.from) arc.label (name arc.to) d
+
+  -- a dart from which no arc of the list leads stays as it is
+  pub arcs_elsewhere : (arcs : List Arc) (m : ArenaMap) (d : ℕ) → ((arc : Arc) → Contains arcs arc → name arc.from ≢ d) → get (with_arcs name m arcs).darts d ≡ get m.darts d
+  arcs_elsewhere [] m d apart = refl
+  arcs_elsewhere (arc ∷ arcs) m d apart =
+      arcs_elsewhere arcs (with_alpha m (name arc.from) arc.label (name arc.to)) d (λ later among. apart later (contains_later arc arcs later among))
+      ∙ get-with_alpha_other m (name arc.from) arc.label (name arc.to) d (λ e. apart arc (contains_first arc arcs) (sym e))
 
   -- an arc of the list begins at d with label i, and leads to e
   pub record IsWrittenAt (arcs : List Arc) (d i e : ℕ) : Type 0 where

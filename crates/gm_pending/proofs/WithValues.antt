@@ -12,7 +12,7 @@ use Rattle.gm_arena.specs.ArenaMap.{ArenaMap, Dart, IsLiveName, alpha, name_at}
 use Rattle.gm_arena.specs.Edits.{put_if, revalued, with_value}
 use Rattle.gm_arena.proofs.FilledLemmas.{get-insert_same, get-insert_other}
 use Rattle.gm_arena.proofs.InsideLemmas.{some_of, some_from_map}
-use Rattle.gm_pending.specs.declared.edits.ValueAt.{ValueAt}
+use Rattle.gm_pending.specs.declared.changes.ValueAt.{ValueAt}
 use Rattle.gm_pending.specs.Written.{values_at, with_values}
 use Rattle.gm_pending.proofs.Whole.{contains_first, contains_later, contains_either, contains_none, is_some-map}
 
@@ -118,6 +118,13 @@ values_live (at ∷ values) m d = values_live values (with_value m (name_at m at
 pub values_alpha : (values : List ValueAt) (m : ArenaMap) (i d : ℕ) → alpha (with_values m values) i d ≡ alpha m i d
 values_alpha [] m i d = refl
 values_alpha (at ∷ values) m i d = values_alpha values (with_value m (name_at m at.slot.at) at.embed at.value) i d ∙ alpha_stays m (name_at m at.slot.at) at.embed at.value i d
+
+-- a dart that gets none of them stays as it is
+pub values_kept : (values : List ValueAt) (m : ArenaMap) (d : ℕ) → ((at : ValueAt) → Contains values at → name_at m at.slot.at ≢ d) → get (with_values m values).darts d ≡ get m.darts d
+values_kept [] m d apart = refl
+values_kept (at ∷ values) m d apart =
+    values_kept values (with_value m (name_at m at.slot.at) at.embed at.value) d (λ later among. apart later (contains_later at values later among))
+    ∙ elsewhere m (name_at m at.slot.at) at.embed at.value d (λ e. apart at (contains_first at values) (sym e))
 
 -- the list sets this value at d for the embedding
 pub record IsSetAt (m : ArenaMap) (values : List ValueAt) (e d : ℕ) (v : Value) : Type 0 where

@@ -1,21 +1,19 @@
--- The edits of an application, node by node, label by label and position by position: they are told by its rule and its instances alone. No public clause cites this module.
-use Rattle.std.specs.Prelude.{◌≡◌, ℕ, zero, suc, ◌+◌, ◌-◌, ◌*◌, ◌≤◌, if◌then◌else◌, nat_lt, Bool, List, [], ◌∷◌, ◌++◌, drop, length, Option, Some, None, slice_index_or}
+-- The edits of an application, node by node, label by label and position by position: they are told by what its rule changes and its instances alone. No public clause cites this module.
+use Rattle.std.specs.Prelude.{◌≡◌, ℕ, zero, suc, ◌+◌, ◌-◌, ◌*◌, ◌<◌, ◌≤◌, if◌then◌else◌, nat_lt, Bool, false, IsTrue, slice_get, List, [], ◌∷◌, ◌++◌, drop, length, Option, Some, None, slice_index_or}
 use Rattle.std.specs.Option.{option_map}
-use Rattle.gm_model.specs.declared.rule.RuleTable.{RuleTable}
-use Rattle.gm_model.specs.declared.schema.Schema.{Schema}
 use Rattle.gm_model.specs.declared.step.Step.{Step}
 use Rattle.gm_model.specs.declared.step.Step.TheVariants.{Absent, Exp, Imp}
-use Rattle.gm_model.specs.Rules.{Rule, rule_of, is_removed, width}
+use Rattle.gm_model.specs.Rules.{is_removed}
 use Rattle.gm_arena.specs.declared.slot.Slot.{Slot}
 use Rattle.gm_plan.specs.Changes as changes
 use Rattle.gm_plan.specs.Placed.{Placed, turn_at}
-use Rattle.gm_plan.specs.Plans.{IsLeftCount, IsPlanned}
+use Rattle.gm_plan.specs.Searches.{row_step}
 use Rattle.gm_pending.specs.Arcs.{Arc}
 use Rattle.gm_pending.specs.Arcs.{End}
 use Rattle.gm_pending.specs.Arcs.End.{Old, New}
 use Rattle.gm_pending.specs.declared.rewrite.Arcs.{Arcs}
 use Rattle.gm_pending.specs.declared.rewrite.Arcs.TheVariants.{Freed, Made}
-use Rattle.gm_pending.specs.Results.{PendingOf}
+use Rattle.gm_pending.specs.Results.{PendingOf, rule_in}
 
 module _ {A : Type 0} where
   abbrev pub as_list : Option A → List A
@@ -32,54 +30,87 @@ slot_in placed x p = slice_index_or placed.slots (p * placed.nodes + x) (record 
 
 -- ---- what the edits are told by
 
--- a rule at its instances, in a map of this dimension
+-- what a rule changes, at its instances, in a map of this dimension
 pub record RewriteOf : Type 0 where
   pub dim : ℕ
-  pub table : RuleTable
+  -- how many nodes the rule has
+  pub nodes : ℕ
+  -- which of them are removed
+  pub goes : ℕ → Bool
+  -- a left step, where it leads to darts that are removed
+  pub freed_step : ℕ → ℕ → Step
+  -- a right step, unless it is the same on the left
+  pub made_step : ℕ → ℕ → Step
   pub placed : Placed
 
-abbrev pub rewrite_at : ℕ → RuleTable → Placed → RewriteOf
-rewrite_at dim table placed = record { dim = dim; table = table; placed = placed }
-
 abbrev pub rewrite_of : PendingOf → RewriteOf
-rewrite_of app = rewrite_at app.map.schema.dim app.table app.placed
+rewrite_of app = record {
+  dim = app.map.schema.dim;
+  nodes = length (rule_in app).nodes;
+  goes = is_removed (rule_in app);
+  freed_step = changes.freed_step (rule_in app);
+  made_step = changes.made_step (rule_in app);
+  placed = app.placed;
+}
 
--- the rule is accepted for maps of the schema, and the instances have slots and turns for it
-pub record IsFitted (schema : Schema) (rewrite : RewriteOf) : Type 0 where
-  pub dim : rewrite.dim ≡ schema.dim
-  pub few : rewrite.dim ≤ 7
-  pub planned : IsPlanned schema (rule_of rewrite.table)
-  pub nodes : IsLeftCount (rule_of rewrite.table) rewrite.placed.nodes
-  pub places : rewrite.placed.places ≡ width (rule_of rewrite.table)
+-- the same in rows, with a row of steps for each node
+pub record RewriteRows : Type 0 where
+  pub dim : ℕ
+  -- whether some node is removed
+  pub removes : Bool
+  pub goes : List Bool
+  pub freed : List (List Step)
+  pub made : List (List Step)
+  pub placed : Placed
+
+abbrev pub rows_at : ℕ → Bool → List Bool → List (List Step) → List (List Step) → Placed → RewriteRows
+rows_at dim removes goes freed made placed = record { dim = dim; removes = removes; goes = goes; freed = freed; made = made; placed = placed }
+
+abbrev pub told_by : RewriteRows → RewriteOf
+told_by rows = record {
+  dim = rows.dim;
+  nodes = length rows.made;
+  goes = λ x. slice_index_or rows.goes x false;
+  freed_step = row_step rows.freed;
+  made_step = row_step rows.made;
+  placed = rows.placed;
+}
+
+-- what tells the same of each node at each label, at the same instances
+pub record AreAlike (a b : RewriteOf) : Type 0 where
+  pub dim : a.dim ≡ b.dim
+  pub nodes : a.nodes ≡ b.nodes
+  pub placed : a.placed ≡ b.placed
+  pub goes : (x : ℕ) → x < a.nodes → a.goes x ≡ b.goes x
+  pub freed : (x i : ℕ) → x < a.nodes → i ≤ a.dim → a.freed_step x i ≡ b.freed_step x i
+  pub made : (x i : ℕ) → x < a.nodes → i ≤ a.dim → a.made_step x i ≡ b.made_step x i
+
+-- there are rows for all nodes, and what they tell lies at the instances
+pub record IsFitted (rows : RewriteRows) : Type 0 where
+  pub few : rows.dim ≤ 7
+  pub few_nodes : length rows.made ≤ 32
+  pub goes_long : length rows.made ≤ length rows.goes
+  pub freed_long : length rows.freed ≡ length rows.made
+  pub freed_rows : (x : ℕ) (row : List Step) → slice_get rows.freed x ≡ Some row → length row ≡ 8
+  pub made_rows : (x : ℕ) (row : List Step) → slice_get rows.made x ≡ Some row → length row ≡ 8
+  -- the nodes that are removed have slots, and steps turn at places
+  pub left : (x : ℕ) → x < length rows.made → IsTrue (slice_index_or rows.goes x false) → x < rows.placed.nodes
+  pub places : (x i m : ℕ) → x < length rows.made → i ≤ rows.dim → row_step rows.made x i ≡ Imp m → m < rows.placed.places
+  -- where no node is removed, nothing is freed
+  pub none_goes : rows.removes ≡ false → (x : ℕ) → x < length rows.made → slice_index_or rows.goes x false ≡ false
+  pub none_freed : rows.removes ≡ false → (x i : ℕ) → x < length rows.made → i ≤ rows.dim → row_step rows.freed x i ≡ Absent
 
 -- ---- the edits
 
 module _ (rewrite : RewriteOf) where
-  abbrev pub rule_at : Rule
-  rule_at = rule_of rewrite.table
-
   -- the end of node x at position p: the left nodes come first, and the others are added
   abbrev pub end_of : ℕ → ℕ → End
   end_of x p = if nat_lt x rewrite.placed.nodes then Old (slot_in rewrite.placed x p) else New ((x - rewrite.placed.nodes) * rewrite.placed.positions + p)
 
-  -- what the rule changes
-
-  abbrev pub freed_by : ℕ → Step → Step
-  freed_by = changes.freed_by rule_at
-
-  abbrev pub freed_step : ℕ → ℕ → Step
-  freed_step = changes.freed_step rule_at
-
-  abbrev pub is_steady : ℕ → ℕ → Bool
-  is_steady = changes.is_steady rule_at
-
-  abbrev pub made_step : ℕ → ℕ → Step
-  made_step = changes.made_step rule_at
-
   -- the step whose arcs are written
   abbrev pub written_step : Arcs → ℕ → ℕ → Step
-  written_step Freed x i = freed_step x i
-  written_step Made x i = made_step x i
+  written_step Freed x i = rewrite.freed_step x i
+  written_step Made x i = rewrite.made_step x i
 
   -- the instance to which the arc of such a step of node x leads at position p
   abbrev pub leads_to : Arcs → ℕ → ℕ → Step → Option (ℕ × ℕ)
@@ -105,7 +136,7 @@ module _ (rewrite : RewriteOf) where
   arc_at arcs x i p = arc_by arcs x p i (written_step arcs x i)
 
   abbrev pub removed_at : ℕ → ℕ → Option Slot
-  removed_at x p = if is_removed rule_at x then Some (slot_in rewrite.placed x p) else None
+  removed_at x p = if rewrite.goes x then Some (slot_in rewrite.placed x p) else None
 
   abbrev pub labels : ℕ
   labels = rewrite.dim + 1
@@ -126,10 +157,10 @@ module _ (rewrite : RewriteOf) where
 
   -- of all nodes
   abbrev pub all_arcs : Arcs → List Arc
-  all_arcs arcs = concat_below (arcs_in arcs) (length rule_at.nodes)
+  all_arcs arcs = concat_below (arcs_in arcs) rewrite.nodes
 
   abbrev pub all_removed : List Slot
-  all_removed = concat_below removed_in (length rule_at.nodes)
+  all_removed = concat_below removed_in rewrite.nodes
 
   -- ---- the table of slots: those of the left nodes, by node and then by position, and behind them those of the new darts by their number
 

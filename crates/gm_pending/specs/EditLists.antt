@@ -15,12 +15,14 @@ use Rattle.gm_plan.specs.Counts.{removed_nodes}
 use Rattle.gm_pending.specs.Arcs.{Arc}
 use Rattle.gm_pending.specs.Arcs.{End}
 use Rattle.gm_pending.specs.Arcs.End.{Old, New}
-use Rattle.gm_pending.specs.declared.edits.ValueAt.{ValueAt}
+use Rattle.gm_pending.specs.declared.changes.ValueAt.{ValueAt}
 use Rattle.gm_pending.specs.Results.{PendingOf, IsPrepared, AreAllGiven, IsReachedIn, IsUnfoldedIn, IsValueIn, rule_in, scene_in}
 use Rattle.gm_theory.specs.Theorem.{Unfolded}
 
 -- what contracts see of edits
 pub record EditLists : Type 0 where
+  -- the slots of the darts that are matched
+  pub matched : List Slot
   -- the arcs that are freed of darts that go: each leads back to its own dart
   pub freed : List Arc
   -- the slots of the darts that are removed
@@ -34,8 +36,12 @@ pub record EditLists : Type 0 where
   -- the values that are set at darts that stay
   pub values : List ValueAt
 
-abbrev pub edit_lists : List Arc → List Slot → ℕ → List Value → List Arc → List ValueAt → EditLists
-edit_lists freed removed added added_values arcs values = record { freed = freed; removed = removed; added = added; added_values = added_values; arcs = arcs; values = values }
+abbrev pub edit_lists : List Slot → List Arc → List Slot → ℕ → List Value → List Arc → List ValueAt → EditLists
+edit_lists matched freed removed added added_values arcs values = record { matched = matched; freed = freed; removed = removed; added = added; added_values = added_values; arcs = arcs; values = values }
+
+-- the steps that a commit takes
+abbrev pub cost_of : EditLists → ℕ
+cost_of edits = length edits.freed + length edits.removed + edits.added + length edits.arcs + length edits.values
 
 -- the value of the added dart of this number, of an embedding
 abbrev pub added_value : Schema → List Value → ℕ → ℕ → Value
@@ -45,6 +51,15 @@ added_value schema values number e = slice_index_or values (number * length sche
 abbrev pub AreDistinct : List Slot → Type 0
 AreDistinct [] = Unit {0}
 AreDistinct (slot ∷ slots) = ((other : Slot) → Contains slots other → other.at ≢ slot.at) × AreDistinct slots
+
+-- a dart at the slot may get another row, or go
+pub data IsTouchedBy (edits : EditLists) (slot : Slot) : Type 0 where
+  Matched : Contains edits.matched slot → IsTouchedBy edits slot
+  Valued : (at : ValueAt) → Contains edits.values at → at.slot ≡ slot → IsTouchedBy edits slot
+
+-- no slot of this dart is touched
+abbrev pub IsUntouched : ArenaMap → EditLists → ℕ → Type 0
+IsUntouched m edits d = (slot : Slot) → IsTouchedBy edits slot → name_at m slot.at ≢ d
 
 module _ (app : PendingOf) where
   -- the name of an end in the result
@@ -91,6 +106,14 @@ module _ (app : PendingOf) where
     pub all : (d : ℕ) → IsGone (scene_in app) d → (slot : Slot) × Contains slots slot × (name_at app.map slot.at ≡ d)
     pub distinct : AreDistinct slots
 
+  -- the matched darts are live, few, and all that arcs are freed or made of and that are removed
+  pub record AreMatchedIn (edits : EditLists) : Type 0 where
+    pub live : (slot : Slot) → Contains edits.matched slot → IsLiveSlot app.map slot.at
+    pub few : length edits.matched ≤ length (rule_in app).nodes * app.placed.positions
+    pub freed : (arc : Arc) (slot : Slot) → Contains edits.freed arc → arc.from ≡ Old slot → Contains edits.matched slot
+    pub removed : (slot : Slot) → Contains edits.removed slot → Contains edits.matched slot
+    pub made : (arc : Arc) (slot : Slot) → Contains edits.arcs arc → arc.from ≡ Old slot → Contains edits.matched slot
+
   -- ---- values
 
   -- each embedding was asked for, and each of its deciding instances has a value
@@ -131,6 +154,7 @@ module _ (app : PendingOf) where
   -- the edits make the result of the application of its map, in few steps
   pub record AreEditsOf (edits : EditLists) : Type 0 where
     pub prepared : IsPrepared app
+    pub matched : AreMatchedIn edits
     pub freed : AreArcs IsOldEnd IsFreed IsFreed edits.freed
     pub removed : AreRemoved edits.removed
     pub arcs : AreArcs IsResultEnd (IsMadeArc (scene_in app)) IsNewArc edits.arcs

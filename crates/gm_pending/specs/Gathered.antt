@@ -11,7 +11,7 @@ use Rattle.gm_arena.specs.ArenaAsMap.{as_map}
 use Rattle.gm_arena.specs.declared.slot.Slot.{Slot}
 use Rattle.gm_pending.specs.declared.at.At.TheVariants.{Old, New}
 use Rattle.gm_pending.specs.declared.marks.Reached.{Reached}
-use Rattle.gm_pending.specs.declared.edits.ValueAt.{ValueAt}
+use Rattle.gm_pending.specs.declared.changes.ValueAt.{ValueAt}
 use Rattle.gm_pending.specs.EditLists.{IsNewValue, IsReachedSumIn, IsValueOfDart, added_value}
 use Rattle.gm_pending.specs.Results.{PendingOf, IsReachedIn, IsResultDart, IsUnfoldedIn, IsValueIn, name_of, rule_in}
 use Rattle.gm_pending.specs.Sources.{IsSourceValue}

@@ -8,4 +8,7 @@ pub mod Marks
 pub mod Reached
 pub mod Results
 pub mod Sources
+pub mod ToldEdits
+pub mod OwnEdits
+pub mod Touched
 pub mod Written

@@ -13,7 +13,7 @@ use Rattle.gm_arena.specs.Edits.{IsAlone, with_alpha, with_value, without_dart}
 use Rattle.gm_pending.specs.Arcs.{Arc}
 use Rattle.gm_pending.specs.Arcs.{End}
 use Rattle.gm_pending.specs.Arcs.End.{Old, New}
-use Rattle.gm_pending.specs.declared.edits.ValueAt.{ValueAt}
+use Rattle.gm_pending.specs.declared.changes.ValueAt.{ValueAt}
 
 -- each dart has a neighbour for each label
 abbrev pub AreWhole : ArenaMap → Type 0

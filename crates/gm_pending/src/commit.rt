@@ -1,5 +1,6 @@
 //! The commit: the edits of an application, written one by one as they are told.
 ghost use Rattle.std.specs.Prelude.{◌≡◌, ℕ, ◌+◌, ◌-◌, ◌*◌, ◌<◌, ◌≤◌, ◌++◌, [], length, drop};
+ghost use Rattle.std.specs.FinMap.{get};
 ghost use Rattle.std.specs.List.{Contains};
 ghost use Rattle.std.specs.Vec.{vec_capacity};
 ghost use Rattle.gm_model.specs.declared.step.Step.TheVariants.{Imp};
@@ -9,20 +10,20 @@ ghost use Rattle.gm_arena.specs.Inside.{part_of};
 ghost use Rattle.gm_arena.specs.Lawful.{AreGoodValues};
 ghost use Rattle.gm_plan.specs.Placed.{turn_at};
 ghost use Rattle.gm_pending.specs.Arcs.{Arc};
-ghost use Rattle.gm_pending.specs.declared.edits.ValueAt.{ValueAt};
+ghost use Rattle.gm_pending.specs.declared.changes.ValueAt.{ValueAt};
 ghost use Rattle.gm_pending.specs.declared.rewrite.Arcs.TheVariants.{Freed, Made};
-ghost use Rattle.gm_pending.specs.Collected.{rule_at, written_step, arc_between, arcs_to, arcs_at, arcs_in, all_arcs, removed_in, all_removed, left_slots, made_in, AreSlots};
-ghost use Rattle.gm_pending.specs.EditLists.{AreEditsHere, AreEditsOf, HasSameRows, IsReachedSumIn, IsResultOf};
+ghost use Rattle.gm_pending.specs.Collected.{told_by, written_step, arc_between, arcs_to, arcs_at, arcs_in, all_arcs, removed_in, all_removed, left_slots, made_in, AreSlots};
+ghost use Rattle.gm_pending.specs.EditLists.{AreEditsHere, AreEditsOf, HasSameRows, IsReachedSumIn, IsResultOf, IsUntouched, cost_of};
 ghost use Rattle.gm_pending.specs.Results.{PendingOf, rule_in};
 ghost use Rattle.gm_pending.specs.Written.{IsWritable, IsSettable, CanRemove, IsExtended, end_at, with_arcs, with_values, without_darts};
 
-use crate::edits::{Edits, ValueAt};
+use crate::changes::{Changes, ValueAt};
 use crate::rewrite::{Arcs, Rewrite};
 use gm_arena::{Arena, Slot, Steps};
 use gm_model::{Step, Value};
 use std::sync::ledger::Ledger;
 
-impl Edits<'_> {
+impl Changes<'_> {
     /// Makes the arena the result. It can't be refused, and takes no memory.
     ///
     /// The darts that go leave before the new ones come, so that a full map can be rewritten: first
@@ -34,14 +35,16 @@ impl Edits<'_> {
         requires room { self.added ≤ arena.old.spare + length self.removed }
         ensures unfolded { (app : PendingOf) → HasSameRows app.map arena.old → AreEditsOf app self.entry → IsResultOf app arena.new }
         ensures generalised { IsGeneralised (as_map arena.new) }
+        ensures elsewhere { (d : ℕ) → d < arena.old.next → IsUntouched arena.old self.entry d → get arena.new.darts d ≡ get arena.old.darts d }
         ensures schema { arena.new.schema ≡ arena.old.schema }
         ensures count { arena.new.count ≡ arena.old.count - length self.entry.removed + self.entry.added }
         ensures spare { arena.new.spare + self.entry.added ≡ arena.old.spare + length self.entry.removed }
         ensures reserved { arena.new.reserved ≡ arena.old.reserved }
+        ensures cost { steps.new ≡ steps.old + cost_of self.entry }
         ensures most { (app : PendingOf) (reached : ℕ) → AreEditsOf app self.entry → IsReachedSumIn app reached → steps.new ≤ steps.old + 4 * (app.map.schema.dim + 1) * (length (rule_in app).nodes * app.placed.positions + reached + 1) }
         ensures least { steps.old + self.entry.added + length self.entry.removed ≤ steps.new }
     {
-        let Edits {
+        let Changes {
             rewrite,
             added,
             added_values,
@@ -58,13 +61,13 @@ impl Edits<'_> {
 impl Rewrite<'_> {
     /// Removes the darts that go, once the arcs that led to them are freed.
     fn clear<L: Ledger>(&self, slots: &[Slot], arena: &mut Arena, steps: &mut Steps<L>)
-        requires slots { slots.now ≡ left_slots self.now }
-        requires freed { (arc : Arc) → Contains (all_arcs self.now Freed) arc → IsWritable arena.old [] arc }
-        requires removed { CanRemove (with_arcs (end_at arena.old []) arena.old (all_arcs self.now Freed)) (all_removed self.now) }
-        ensures map { arena.new ≡ without_darts (with_arcs (end_at arena.old []) arena.old (all_arcs self.now Freed)) (all_removed self.now) }
-        ensures cost { steps.new ≡ steps.old + length (all_arcs self.now Freed) + length (all_removed self.now) }
+        requires slots { slots.now ≡ left_slots (told_by self.now) }
+        requires freed { (arc : Arc) → Contains (all_arcs (told_by self.now) Freed) arc → IsWritable arena.old [] arc }
+        requires removed { CanRemove (with_arcs (end_at arena.old []) arena.old (all_arcs (told_by self.now) Freed)) (all_removed (told_by self.now)) }
+        ensures map { arena.new ≡ without_darts (with_arcs (end_at arena.old []) arena.old (all_arcs (told_by self.now) Freed)) (all_removed (told_by self.now)) }
+        ensures cost { steps.new ≡ steps.old + length (all_arcs (told_by self.now) Freed) + length (all_removed (told_by self.now)) }
     {
-        if self.plan.removed() == 0 {
+        if !self.removes {
             return;
         }
         self.write(Arcs::Freed, slots, arena, steps);
@@ -73,10 +76,10 @@ impl Rewrite<'_> {
 
     /// Makes each arc's end the neighbour of its other end.
     fn write<L: Ledger>(&self, arcs: Arcs, slots: &[Slot], arena: &mut Arena, steps: &mut Steps<L>)
-        requires slots { AreSlots self.now slots.now }
-        requires arcs { (arc : Arc) → Contains (all_arcs self.now arcs) arc → IsWritable arena.old (made_in self.now slots.now) arc }
-        ensures map { arena.new ≡ with_arcs (end_at arena.old (made_in self.now slots.now)) arena.old (all_arcs self.now arcs) }
-        ensures cost { steps.new ≡ steps.old + length (all_arcs self.now arcs) }
+        requires slots { AreSlots (told_by self.now) slots.now }
+        requires arcs { (arc : Arc) → Contains (all_arcs (told_by self.now) arcs) arc → IsWritable arena.old (made_in (told_by self.now) slots.now) arc }
+        ensures map { arena.new ≡ with_arcs (end_at arena.old (made_in (told_by self.now) slots.now)) arena.old (all_arcs (told_by self.now) arcs) }
+        ensures cost { steps.new ≡ steps.old + length (all_arcs (told_by self.now) arcs) }
     {
         for node in 0..self.nodes() {
             self.write_node(arcs, node, slots, arena, steps);
@@ -91,11 +94,11 @@ impl Rewrite<'_> {
         arena: &mut Arena,
         steps: &mut Steps<L>,
     )
-        requires node { node < length (rule_at self.now).nodes }
-        requires slots { AreSlots self.now slots.now }
-        requires arcs { (arc : Arc) → Contains (arcs_in self.now arcs node) arc → IsWritable arena.old (made_in self.now slots.now) arc }
-        ensures map { arena.new ≡ with_arcs (end_at arena.old (made_in self.now slots.now)) arena.old (arcs_in self.now arcs node) }
-        ensures cost { steps.new ≡ steps.old + length (arcs_in self.now arcs node) }
+        requires node { node < length self.now.made }
+        requires slots { AreSlots (told_by self.now) slots.now }
+        requires arcs { (arc : Arc) → Contains (arcs_in (told_by self.now) arcs node) arc → IsWritable arena.old (made_in (told_by self.now) slots.now) arc }
+        ensures map { arena.new ≡ with_arcs (end_at arena.old (made_in (told_by self.now) slots.now)) arena.old (arcs_in (told_by self.now) arcs node) }
+        ensures cost { steps.new ≡ steps.old + length (arcs_in (told_by self.now) arcs node) }
     {
         for label in 0..self.labels() {
             self.write_step(arcs, node, label, slots, arena, steps);
@@ -112,12 +115,12 @@ impl Rewrite<'_> {
         arena: &mut Arena,
         steps: &mut Steps<L>,
     )
-        requires node { node < length (rule_at self.now).nodes }
+        requires node { node < length self.now.made }
         requires label { label ≤ self.now.dim }
-        requires slots { AreSlots self.now slots.now }
-        requires arcs { (arc : Arc) → Contains (arcs_at self.now arcs node label) arc → IsWritable arena.old (made_in self.now slots.now) arc }
-        ensures map { arena.new ≡ with_arcs (end_at arena.old (made_in self.now slots.now)) arena.old (arcs_at self.now arcs node label) }
-        ensures cost { steps.new ≡ steps.old + length (arcs_at self.now arcs node label) }
+        requires slots { AreSlots (told_by self.now) slots.now }
+        requires arcs { (arc : Arc) → Contains (arcs_at (told_by self.now) arcs node label) arc → IsWritable arena.old (made_in (told_by self.now) slots.now) arc }
+        ensures map { arena.new ≡ with_arcs (end_at arena.old (made_in (told_by self.now) slots.now)) arena.old (arcs_at (told_by self.now) arcs node label) }
+        ensures cost { steps.new ≡ steps.old + length (arcs_at (told_by self.now) arcs node label) }
     {
         match (arcs, self.written_step(arcs, node, label)) {
             (_, Step::Absent) => {}
@@ -142,10 +145,10 @@ impl Rewrite<'_> {
         arena: &mut Arena,
         steps: &mut Steps<L>,
     )
-        requires slots { AreSlots self.now slots.now }
-        requires arcs { (p : ℕ) → p < self.now.placed.positions → IsWritable arena.old (made_in self.now slots.now) (arc_between self.now node p label (other, p)) }
-        ensures map { arena.new ≡ with_arcs (end_at arena.old (made_in self.now slots.now)) arena.old (arcs_to self.now node label (λ p. (other, p))) }
-        ensures cost { steps.new ≡ steps.old + length (arcs_to self.now node label (λ p. (other, p))) }
+        requires slots { AreSlots (told_by self.now) slots.now }
+        requires arcs { (p : ℕ) → p < self.now.placed.positions → IsWritable arena.old (made_in (told_by self.now) slots.now) (arc_between (told_by self.now) node p label (other, p)) }
+        ensures map { arena.new ≡ with_arcs (end_at arena.old (made_in (told_by self.now) slots.now)) arena.old (arcs_to (told_by self.now) node label (λ p. (other, p))) }
+        ensures cost { steps.new ≡ steps.old + length (arcs_to (told_by self.now) node label (λ p. (other, p))) }
     {
         let from = self.slots_of(node, slots);
         let to = self.slots_of(other, slots);
@@ -163,11 +166,13 @@ impl Rewrite<'_> {
         arena: &mut Arena,
         steps: &mut Steps<L>,
     )
-        requires step { Imp place ≡ written_step self.now Made node label }
-        requires slots { AreSlots self.now slots.now }
-        requires arcs { (p : ℕ) → p < self.now.placed.positions → IsWritable arena.old (made_in self.now slots.now) (arc_between self.now node p label (node, turn_at self.now.placed p place)) }
-        ensures map { arena.new ≡ with_arcs (end_at arena.old (made_in self.now slots.now)) arena.old (arcs_to self.now node label (λ p. (node, turn_at self.now.placed p place))) }
-        ensures cost { steps.new ≡ steps.old + length (arcs_to self.now node label (λ p. (node, turn_at self.now.placed p place))) }
+        requires node { node < length self.now.made }
+        requires label { label ≤ self.now.dim }
+        requires step { Imp place ≡ written_step (told_by self.now) Made node label }
+        requires slots { AreSlots (told_by self.now) slots.now }
+        requires arcs { (p : ℕ) → p < self.now.placed.positions → IsWritable arena.old (made_in (told_by self.now) slots.now) (arc_between (told_by self.now) node p label (node, turn_at self.now.placed p place)) }
+        ensures map { arena.new ≡ with_arcs (end_at arena.old (made_in (told_by self.now) slots.now)) arena.old (arcs_to (told_by self.now) node label (λ p. (node, turn_at self.now.placed p place))) }
+        ensures cost { steps.new ≡ steps.old + length (arcs_to (told_by self.now) node label (λ p. (node, turn_at self.now.placed p place))) }
     {
         let own = self.slots_of(node, slots);
         for position in 0..self.positions() {
@@ -178,9 +183,9 @@ impl Rewrite<'_> {
 
     /// Removes the darts that go.
     fn remove<L: Ledger>(&self, arena: &mut Arena, steps: &mut Steps<L>)
-        requires { CanRemove arena.old (all_removed self.now) }
-        ensures map { arena.new ≡ without_darts arena.old (all_removed self.now) }
-        ensures cost { steps.new ≡ steps.old + length (all_removed self.now) }
+        requires { CanRemove arena.old (all_removed (told_by self.now)) }
+        ensures map { arena.new ≡ without_darts arena.old (all_removed (told_by self.now)) }
+        ensures cost { steps.new ≡ steps.old + length (all_removed (told_by self.now)) }
     {
         for node in 0..self.nodes() {
             self.remove_node(node, arena, steps);
@@ -188,9 +193,10 @@ impl Rewrite<'_> {
     }
 
     fn remove_node<L: Ledger>(&self, node: u8, arena: &mut Arena, steps: &mut Steps<L>)
-        requires { CanRemove arena.old (removed_in self.now node) }
-        ensures map { arena.new ≡ without_darts arena.old (removed_in self.now node) }
-        ensures cost { steps.new ≡ steps.old + length (removed_in self.now node) }
+        requires node { node < length self.now.made }
+        requires can { CanRemove arena.old (removed_in (told_by self.now) node) }
+        ensures map { arena.new ≡ without_darts arena.old (removed_in (told_by self.now) node) }
+        ensures cost { steps.new ≡ steps.old + length (removed_in (told_by self.now) node) }
     {
         if !self.is_removed(node) {
             return;

@@ -1,93 +1,192 @@
-ghost use Rattle.std.specs.Prelude.{◌≡◌, ℕ, ◌+◌, ◌*◌, ◌≤◌, length, IfOk};
-ghost use Rattle.gm_pending.specs.Collected.{rewrite_of};
-ghost use Rattle.gm_pending.specs.EditLists.{AllGiven, AreEditsOf, IsReachedSumIn};
-ghost use Rattle.gm_pending.specs.Results.{rule_in};
+ghost use Rattle.std.specs.Prelude.{◌≡◌, ◌≢◌, ℕ, ◌+◌, ◌-◌, ◌*◌, ◌<◌, ◌≤◌, List, [], length, IfOk};
+ghost use Rattle.std.specs.FinMap.{get};
+ghost use Rattle.std.specs.List.{Contains};
+ghost use Rattle.gm_model.specs.Maps.{IsGeneralised};
+ghost use Rattle.gm_arena.specs.ArenaAsMap.{as_map};
+ghost use Rattle.gm_arena.specs.declared.slot.Slot.{Slot};
+ghost use Rattle.gm_pending.specs.declared.changes.ValueAt.{ValueAt};
+ghost use Rattle.gm_pending.specs.EditLists.{AreEditsHere, AreEditsOf, HasSameRows, IsReachedSumIn, IsResultOf, IsUntouched, cost_of};
+ghost use Rattle.gm_pending.specs.OwnEdits.{AreTouched};
+ghost use Rattle.gm_pending.specs.Results.{PendingOf, rule_in};
+ghost use Rattle.gm_pending.specs.Touched.{AreTaken};
 
-use crate::pending::Pending;
+use crate::applied::Applied;
+use crate::changes::{Changes, ValueAt};
 use crate::rewrite::Rewrite;
-use gm_arena::{Slot, Steps};
-use gm_model::{OutOfMemory, Value};
+use gm_arena::{Arena, Slot, Steps};
+use gm_model::{MOST_DARTS, MOST_LABELS, MOST_NODES, OutOfMemory, Step, Value};
+use gm_plan::Instances;
+use gm_walk::Scratch;
+use std::alloc::Global;
 use std::marker::Model;
 use std::sync::ledger::Ledger;
 
-/// That the dart at the slot has the value of the embedding.
-#[derive(Clone, Copy)]
-pub(crate) struct ValueAt {
-    pub(crate) slot: Slot,
-    pub(crate) embed: u8,
-    pub(crate) value: Value,
-}
-
-/// The changes that make an application's result of its arena. They hold all the memory that the
-/// commit needs.
+/// The changes that make an application's result of its arena, and the darts that they touch. They
+/// own what they hold, and all the memory that the commit needs.
 #[derive(Drop)]
-pub struct Edits<'a> {
-    pub(crate) rewrite: Rewrite<'a>,
-    pub(crate) added: usize,
-    /// The values of the new darts: those of one dart after those of another, by their number, one
-    /// for each embedding.
-    pub(crate) added_values: Vec<Value>,
-    /// The values that darts of the old map get.
-    pub(crate) values: Vec<ValueAt>,
-    /// The slots of the left nodes, by node and then by position, and room for those of the new
-    /// darts behind them.
-    pub(crate) slots: Vec<Slot>,
+pub struct Edits {
+    applied: Applied,
+    dim: u8,
+    removes: bool,
+    goes: [bool; MOST_NODES],
+    freed: Vec<[Step; MOST_LABELS]>,
+    made: Vec<[Step; MOST_LABELS]>,
+    found: Instances,
+    added: usize,
+    added_values: Vec<Value>,
+    values: Vec<ValueAt>,
+    slots: Vec<Slot>,
+    touched: Vec<Slot>,
 }
 
-impl<'a> Model for Edits<'a> {
+impl Model for Edits {
     ghost use Rattle.std.specs.Prelude.{◌≡◌, ◌+◌, ◌≤◌, length};
     ghost use Rattle.std.specs.Vec.{vec_capacity};
-    ghost use Rattle.gm_pending.specs.Collected.{all_arcs, all_removed, left_slots};
-    ghost use Rattle.gm_pending.specs.declared.rewrite.Arcs.TheVariants.{Freed, Made};
-    ghost use Rattle.gm_pending.specs.EditLists.{EditLists, edit_lists};
+    ghost use Rattle.gm_pending.specs.Collected.{IsFitted, rows_at, told_by, left_slots, all_removed};
+    ghost use Rattle.gm_pending.specs.OwnEdits.{OwnEdits, own_edits};
+    ghost use Rattle.gm_pending.specs.ToldEdits.{lists_told};
 
-    ghost Value = { EditLists };
+    ghost Value = { OwnEdits };
 
-    ghost view = { λ e. edit_lists (all_arcs e.rewrite Freed) (all_removed e.rewrite) e.added e.added_values.items (all_arcs e.rewrite Made) e.values.items };
+    ghost view = { λ e. own_edits (lists_told (told_by (rows_at e.dim e.removes e.goes e.freed.items e.made.items e.found)) e.added e.added_values.items e.values.items) e.touched.items };
 
-    ghost invariant = { λ e. (e.slots.items ≡ left_slots e.rewrite) × (length e.slots.items + e.added ≤ vec_capacity e.slots) };
+    ghost invariant = { λ e. IsFitted (rows_at e.dim e.removes e.goes e.freed.items e.made.items e.found)
+        × (e.slots.items ≡ left_slots (told_by (rows_at e.dim e.removes e.goes e.freed.items e.made.items e.found)))
+        × (length e.slots.items + e.added ≤ vec_capacity e.slots)
+        × (e.applied.added ≡ e.added)
+        × (e.applied.removed ≡ length (all_removed (told_by (rows_at e.dim e.removes e.goes e.freed.items e.made.items e.found)))) };
 }
 
-impl<'a> Pending<'a, '_> {
-    /// The changes that make the arena the result. Each embedding was asked for, and each of its
-    /// deciding instances has a value.
-    pub fn into_edits<L: Ledger>(self, steps: &mut Steps<L>) -> Result<Edits<'a>, OutOfMemory>
-        requires given { AllGiven self }
-        ensures edits { IfOk result (λ edits. AreEditsOf self.entry edits) }
-        ensures cost { (reached : ℕ) → IsReachedSumIn self.entry reached → steps.new ≤ steps.old + 6 * (self.entry.map.schema.dim + 1) * (length (rule_in self.entry).nodes * self.entry.placed.positions + reached + 1) }
-        ensures least { steps.old ≤ steps.new }
+impl Changes<'_> {
+    /// The same edits, which own what they hold and tell which darts they touch. So many darts are
+    /// added and removed. The scratch may have grown.
+    pub fn into_edits(
+        self,
+        alloc: Global,
+        applied: Applied,
+        arena: &Arena,
+        scratch: &mut Scratch,
+    ) -> Result<Edits, OutOfMemory>
+        requires here { AreEditsHere arena.now self }
+        requires added { applied.added ≡ self.added }
+        requires removed { applied.removed ≡ length self.removed }
+        ensures edits { IfOk result (λ edits. edits.lists ≡ self.entry) }
+        ensures touched { IfOk result (λ edits. AreTouched arena.now self.entry edits.touched) }
+        ensures few { (app : PendingOf) (reached : ℕ) → AreEditsOf app self.entry → IsReachedSumIn app reached → IfOk result (λ edits. length edits.touched ≤ length (rule_in app).nodes * app.placed.positions + reached) }
+        ensures room { scratch.old.bound ≤ scratch.new.bound }
     {
-        let edits = self.edits(steps);
-        drop(self);
-        edits
-    }
-
-    fn edits<L: Ledger>(&self, steps: &mut Steps<L>) -> Result<Edits<'a>, OutOfMemory>
-        requires given { AllGiven self.now }
-        ensures edits { IfOk result (λ edits. AreEditsOf self.now edits) }
-        ensures cost { (reached : ℕ) → IsReachedSumIn self.now reached → steps.new ≤ steps.old + 6 * (self.now.map.schema.dim + 1) * (length (rule_in self.now).nodes * self.now.placed.positions + reached + 1) }
-        ensures least { steps.old ≤ steps.new }
-    {
-        let added = self.plan.added() as usize * self.found.positions() as usize;
-        let rewrite = self.rewrite();
-        let slots = rewrite.left_slots(self.alloc)?;
-        let added_values = self.added_values(added, steps)?;
-        let values = self.new_values()?;
-        Ok(Edits {
+        scratch.fit(arena)?;
+        // The arena tells here that its live slots lie below its bound.
+        prove!(arena.count() <= MOST_DARTS);
+        scratch.clear();
+        take_slots(&self.slots, scratch);
+        take_values(&self.values, scratch);
+        let touched = Vec::from_slice(alloc, scratch.walked())?;
+        let Changes {
             rewrite,
             added,
             added_values,
             values,
             slots,
+        } = self;
+        Ok(Edits {
+            applied,
+            dim: rewrite.dim,
+            removes: rewrite.removes,
+            goes: rewrite.goes,
+            freed: Vec::from_slice(alloc, rewrite.freed)?,
+            made: Vec::from_slice(alloc, rewrite.made)?,
+            found: rewrite.found.copy(alloc)?,
+            added,
+            added_values,
+            values,
+            slots,
+            touched,
         })
     }
+}
 
-    fn rewrite(&self) -> Rewrite<'a>
-        ensures { result ≡ rewrite_of self.now }
+/// Takes the slots in, each once.
+fn take_slots(slots: &[Slot], scratch: &mut Scratch)
+    requires within { (slot : Slot) → Contains slots.now slot → slot.at < scratch.old.bound }
+    requires none { scratch.old.walked ≡ [] }
+    ensures taken { AreTaken slots.now [] scratch.new.walked }
+    ensures bound { scratch.new.bound ≡ scratch.old.bound }
+{
+    for slot in slots {
+        scratch.take_in(*slot);
+    }
+}
+
+/// Takes the slots in that get values and aren't among those that were taken in.
+fn take_values(values: &[ValueAt], scratch: &mut Scratch)
+    requires within { (at : ValueAt) → Contains values.now at → at.slot.at < scratch.old.bound }
+    ensures taken { (slots : List Slot) → AreTaken slots [] scratch.old.walked → AreTaken slots values.now scratch.new.walked }
+    ensures bound { scratch.new.bound ≡ scratch.old.bound }
+{
+    for entry in values {
+        scratch.take_in(entry.slot);
+    }
+}
+
+impl Edits {
+    /// Live slots, each once, of all darts that the commit changes or removes.
+    pub fn touched(&self) -> &[Slot]
+        ensures { result.now ≡ self.now.touched }
     {
-        Rewrite {
-            plan: self.plan,
-            found: self.found,
-        }
+        &self.touched
+    }
+
+    /// How many darts the application adds and removes.
+    pub fn applied(&self) -> Applied
+        ensures added { result.added ≡ self.now.lists.added }
+        ensures removed { result.removed ≡ length self.now.lists.removed }
+    {
+        self.applied
+    }
+
+    /// Makes the arena the result. It can't be refused, and takes no memory.
+    pub fn commit<L: Ledger>(self, arena: &mut Arena, steps: &mut Steps<L>)
+        requires edits { AreEditsHere arena.old self.lists }
+        requires names { arena.old.next + self.lists.added ≤ arena.old.reserved }
+        requires room { self.lists.added ≤ arena.old.spare + length self.lists.removed }
+        ensures unfolded { (app : PendingOf) → HasSameRows app.map arena.old → AreEditsOf app self.lists → IsResultOf app arena.new }
+        ensures generalised { IsGeneralised (as_map arena.new) }
+        ensures elsewhere { (d : ℕ) → d < arena.old.next → IsUntouched arena.old self.lists d → get arena.new.darts d ≡ get arena.old.darts d }
+        ensures schema { arena.new.schema ≡ arena.old.schema }
+        ensures count { arena.new.count ≡ arena.old.count - length self.lists.removed + self.lists.added }
+        ensures spare { arena.new.spare + self.lists.added ≡ arena.old.spare + length self.lists.removed }
+        ensures reserved { arena.new.reserved ≡ arena.old.reserved }
+        ensures cost { steps.new ≡ steps.old + cost_of self.lists }
+    {
+        let Edits {
+            applied: _,
+            dim,
+            removes,
+            goes,
+            freed,
+            made,
+            found,
+            added,
+            added_values,
+            values,
+            slots,
+            touched: _,
+        } = self;
+        let changes = Changes {
+            rewrite: Rewrite {
+                dim,
+                removes,
+                goes,
+                freed: &freed,
+                made: &made,
+                found: &found,
+            },
+            added,
+            added_values,
+            values,
+            slots,
+        };
+        changes.commit(arena, steps);
     }
 }

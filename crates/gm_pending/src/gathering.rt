@@ -8,7 +8,7 @@ ghost use Rattle.gm_pending.specs.Results.{IsPrepared, rule_in};
 ghost use Rattle.gm_pending.specs.Sources.{AreKeepers};
 
 use crate::at::At;
-use crate::edits::ValueAt;
+use crate::changes::ValueAt;
 use crate::pending::Pending;
 use crate::values::given;
 use gm_arena::Steps;

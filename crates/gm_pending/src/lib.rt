@@ -2,8 +2,10 @@
 //! can't be refused.
 #![tactic(auto)]
 
+mod applied;
 mod asked;
 mod at;
+mod changes;
 mod commit;
 mod component;
 mod decider;
@@ -17,6 +19,8 @@ mod pending;
 mod rewrite;
 mod values;
 
+pub use applied::Applied;
 pub use at::At;
+pub use changes::Changes;
 pub use edits::Edits;
 pub use pending::Pending;

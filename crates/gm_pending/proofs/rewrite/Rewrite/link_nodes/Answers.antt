@@ -1,5 +1,5 @@
 use Rattle.std.proofs.Common.{[], ◌∷◌, refl, ◌∙◌, arith}
-use Rattle.gm_pending.specs.Collected.{end_of, arc_between, made_in}
+use Rattle.gm_pending.specs.Collected.{told_by, end_of, arc_between, made_in}
 use Rattle.gm_pending.proofs.Concat.{length_same}
 use Rattle.gm_pending.proofs.ManyArcs.{slots_live, alphas_arcs}
 use Rattle.gm_pending.proofs.rewrite.Rewrite.link_nodes.Goals as goal
@@ -9,18 +9,18 @@ set_alphas-requires-clause-label g c = (c.requires.arcs 0 (omega (arith, c.slots
 
 pub set_alphas-requires-clause-live : goal.set_alphas-requires-clause-live
 set_alphas-requires-clause-live g c =
-    slots_live c.args.arena.now (made_in c.args.self.now c.args.slots.now) c.slots_of-from.result.now c.args.self.now.placed.positions (end_of c.args.self.now c.args.node) c.slots_of-from.ensures.long c.slots_of-from.ensures.slots (λ p h. (c.requires.arcs p h).from)
+    slots_live c.args.arena.now (made_in (told_by c.args.self.now) c.args.slots.now) c.slots_of-from.result.now c.args.self.now.placed.positions (end_of (told_by c.args.self.now) c.args.node) c.slots_of-from.ensures.long c.slots_of-from.ensures.slots (λ p h. (c.requires.arcs p h).from)
 
 pub set_alphas-requires-clause-to_live : goal.set_alphas-requires-clause-to_live
 set_alphas-requires-clause-to_live g c =
-    slots_live c.args.arena.now (made_in c.args.self.now c.args.slots.now) c.slots_of-to.result.now c.args.self.now.placed.positions (end_of c.args.self.now c.args.other) c.slots_of-to.ensures.long c.slots_of-to.ensures.slots (λ p h. (c.requires.arcs p h).to)
+    slots_live c.args.arena.now (made_in (told_by c.args.self.now) c.args.slots.now) c.slots_of-to.result.now c.args.self.now.placed.positions (end_of (told_by c.args.self.now) c.args.other) c.slots_of-to.ensures.long c.slots_of-to.ensures.slots (λ p h. (c.requires.arcs p h).to)
 
 pub returns-clause-map : goal.returns-clause-map
 returns-clause-map g c =
     c.set_alphas.ensures.map
-    ∙ alphas_arcs (made_in c.args.self.now c.args.slots.now) c.args.label (λ p. arc_between c.args.self.now c.args.node p c.args.label (c.args.other, p)) c.slots_of-from.result.now c.slots_of-to.result.now c.args.arena.now c.args.self.now.placed.positions c.slots_of-from.ensures.long c.slots_of-to.ensures.long (λ p. refl) c.slots_of-from.ensures.slots c.slots_of-to.ensures.slots
+    ∙ alphas_arcs (made_in (told_by c.args.self.now) c.args.slots.now) c.args.label (λ p. arc_between (told_by c.args.self.now) c.args.node p c.args.label (c.args.other, p)) c.slots_of-from.result.now c.slots_of-to.result.now c.args.arena.now c.args.self.now.placed.positions c.slots_of-from.ensures.long c.slots_of-to.ensures.long (λ p. refl) c.slots_of-from.ensures.slots c.slots_of-to.ensures.slots
 
 pub returns-clause-cost : goal.returns-clause-cost
 returns-clause-cost g c =
-    let arcs = length_same (λ p. arc_between c.args.self.now c.args.node p c.args.label (c.args.other, p) ∷ []) c.args.self.now.placed.positions 1 (λ p. refl) in
+    let arcs = length_same (λ p. arc_between (told_by c.args.self.now) c.args.node p c.args.label (c.args.other, p) ∷ []) c.args.self.now.placed.positions 1 (λ p. refl) in
     omega (arith, c.set_alphas.ensures.cost, c.slots_of-from.ensures.long, arcs)

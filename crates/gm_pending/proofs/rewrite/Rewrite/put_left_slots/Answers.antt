@@ -1,5 +1,5 @@
 use Rattle.std.proofs.Common.{◌≡◌, ◌<◌, ◌∷◌, [], length, refl, sym, ap, ◌∙◌, arith, append-nil, length-append}
-use Rattle.gm_pending.specs.Collected.{concat_below, slot_in}
+use Rattle.gm_pending.specs.Collected.{told_by, concat_below, slot_in}
 use Rattle.gm_pending.proofs.Concat.{put_more}
 use Rattle.gm_pending.proofs.Table.{part_long}
 use Rattle.gm_pending.proofs.rewrite.Rewrite.put_left_slots.Goals as goal
@@ -15,7 +15,7 @@ push_reserved-requires c =
       within,
       ap length c.loop-position.invariant.items,
       length-append c.args.slots.now.items (concat_below (λ p. slot_in c.args.self.now.placed c.args.node p ∷ []) c.loop-position.position),
-      part_long c.args.self.now c.args.node c.loop-position.position,
+      part_long (told_by c.args.self.now) c.args.node c.loop-position.position,
       c.loop-position.invariant.capacity,
       c.requires.room,
     )

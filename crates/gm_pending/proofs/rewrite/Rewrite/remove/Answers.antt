@@ -1,5 +1,5 @@
 use Rattle.std.proofs.Common.{◌≡◌, ◌<◌, length, arith}
-use Rattle.gm_pending.specs.Collected.{rule_at, removed_in}
+use Rattle.gm_pending.specs.Collected.{told_by, removed_in}
 use Rattle.gm_pending.proofs.Writing.{none_gone, more_gone, can_go_on}
 use Rattle.gm_pending.proofs.rewrite.Rewrite.remove.Goals as goal
 
@@ -8,14 +8,14 @@ loop-node-init g c = none_gone c.args.arena.now c.args.steps.now
 
 pub remove_node-requires : goal.remove_node-requires
 remove_node-requires g c =
-    let within : c.loop-node.node < length (rule_at c.args.self.now).nodes = omega (arith, c.loop-node-test.true, c.nodes-node-end.ensures) in
-    can_go_on c.args.arena.now c.args.steps.now (removed_in c.args.self.now) (length (rule_at c.args.self.now).nodes) c.loop-node.node c.loop-node.arena c.loop-node.steps within c.requires c.loop-node.invariant
+    let within : c.loop-node.node < length c.args.self.now.made = omega (arith, c.loop-node-test.true, c.nodes-node-end.ensures) in
+    record { node = within; can = can_go_on c.args.arena.now c.args.steps.now (removed_in (told_by c.args.self.now)) (length c.args.self.now.made) c.loop-node.node c.loop-node.arena c.loop-node.steps within c.requires c.loop-node.invariant }
 
 pub loop-node-preserved : goal.loop-node-preserved
-loop-node-preserved g c = more_gone c.args.arena.now c.args.steps.now (removed_in c.args.self.now) c.loop-node.node c.loop-node.arena c.remove_node.new.arena c.loop-node.steps c.remove_node.new.steps c.loop-node.invariant c.remove_node.ensures.map c.remove_node.ensures.cost
+loop-node-preserved g c = more_gone c.args.arena.now c.args.steps.now (removed_in (told_by c.args.self.now)) c.loop-node.node c.loop-node.arena c.remove_node.new.arena c.loop-node.steps c.remove_node.new.steps c.loop-node.invariant c.remove_node.ensures.map c.remove_node.ensures.cost
 
 pub returns : goal.returns
 returns g c =
-    let end : c.loop-node.node ≡ length (rule_at c.args.self.now).nodes = omega (arith, c.loop-node-test.false, c.loop-node.auto.node-end, c.nodes-node-end.ensures) in
+    let end : c.loop-node.node ≡ length c.args.self.now.made = omega (arith, c.loop-node-test.false, c.loop-node.auto.node-end, c.nodes-node-end.ensures) in
     let gone = rw end at c.loop-node.invariant in
     record { map = gone.map; cost = gone.cost }

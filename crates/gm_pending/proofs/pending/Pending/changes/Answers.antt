@@ -2,11 +2,12 @@ use Rattle.std.proofs.Common.{◌≡◌, ℕ, ◌+◌, ◌*◌, ◌<◌, ◌≤�
 use Rattle.std.proofs.lemmas.Nat.{mul-le}
 use Rattle.gm_model.specs.Unfolding.{added_nodes}
 use Rattle.gm_pending.specs.declared.rewrite.Arcs.TheVariants.{Freed, Made}
-use Rattle.gm_pending.specs.Collected.{RewriteOf, all_arcs, all_removed, rule_at}
 use Rattle.gm_pending.specs.Results.{PendingOf, IsPrepared, rule_in}
+use Rattle.gm_plan.specs.Placed.{Placed}
 use Rattle.gm_pending.proofs.Collected.{are_edits, few_added}
+use Rattle.gm_pending.proofs.Told.{same_arcs, same_left, same_removed}
 use Rattle.gm_model.proofs.Exits.{unless_ok}
-use Rattle.gm_pending.proofs.pending.Pending.edits.Goals as goal
+use Rattle.gm_pending.proofs.pending.Pending.changes.Goals as goal
 
 -- where there are 8 embeddings at most and 2 labels at least, the values of added darts take few steps
 few_reads : (start after dim width adds count k added reached : ℕ) → 0 < dim → width ≤ 8 → adds ≤ count → added ≡ k * adds → after ≤ start + added * width + reached → after ≤ start + 6 * (dim + 1) * (count * k + reached + 1)
@@ -20,43 +21,44 @@ pub returns-in_err-added_values-clause-cost : goal.returns-in_err-added_values-c
 returns-in_err-added_values-clause-cost g c =
     let app = c.args.self.now in
     let prepared : IsPrepared app = subst IsPrepared c.self.view_is c.self.invariant.0 in
-    let added : c.added.result * c.positions.result ≡ app.placed.positions * added_nodes (rule_in app) =
-    ap₂ (λ a b. a * b) (c.added.ensures ∙ ap (λ (a : PendingOf). added_nodes (rule_in a)) c.self.view_is) (c.positions.ensures.value ∙ ap (λ (a : PendingOf). a.placed.positions) c.self.view_is)
+    let added : c.added-new_nodes.result * c.positions.result ≡ app.placed.positions * added_nodes (rule_in app) =
+    ap₂ (λ a b. a * b) (c.added-new_nodes.ensures ∙ ap (λ (a : PendingOf). added_nodes (rule_in a)) c.self.view_is) (c.positions.ensures.value ∙ ap (λ (a : PendingOf). a.placed.positions) c.self.view_is)
     ∙ mul_comm (added_nodes (rule_in app)) app.placed.positions in
     λ reached sum.
-    few_reads c.args.steps.now c.added_values.new.steps app.map.schema.dim (length app.map.schema.embeds) (added_nodes (rule_in app)) (length (rule_in app).nodes) app.placed.positions (c.added.result * c.positions.result) reached
+    few_reads c.args.steps.now c.added_values.new.steps app.map.schema.dim (length app.map.schema.embeds) (added_nodes (rule_in app)) (length (rule_in app).nodes) app.placed.positions (c.added-new_nodes.result * c.positions.result) reached
     prepared.lawful.dim.0 prepared.lawful.schema.count (few_added app prepared (length (rule_in app).nodes)) added (omega (arith, c.added_values.ensures.cost))
 
 pub returns-in_err-values-clause-cost : goal.returns-in_err-values-clause-cost
 returns-in_err-values-clause-cost g c =
     let app = c.args.self.now in
     let prepared : IsPrepared app = subst IsPrepared c.self.view_is c.self.invariant.0 in
-    let added : c.added.result * c.positions.result ≡ app.placed.positions * added_nodes (rule_in app) =
-    ap₂ (λ a b. a * b) (c.added.ensures ∙ ap (λ (a : PendingOf). added_nodes (rule_in a)) c.self.view_is) (c.positions.ensures.value ∙ ap (λ (a : PendingOf). a.placed.positions) c.self.view_is)
+    let added : c.added-new_nodes.result * c.positions.result ≡ app.placed.positions * added_nodes (rule_in app) =
+    ap₂ (λ a b. a * b) (c.added-new_nodes.ensures ∙ ap (λ (a : PendingOf). added_nodes (rule_in a)) c.self.view_is) (c.positions.ensures.value ∙ ap (λ (a : PendingOf). a.placed.positions) c.self.view_is)
     ∙ mul_comm (added_nodes (rule_in app)) app.placed.positions in
     λ reached sum.
-    few_reads c.args.steps.now c.added_values.new.steps app.map.schema.dim (length app.map.schema.embeds) (added_nodes (rule_in app)) (length (rule_in app).nodes) app.placed.positions (c.added.result * c.positions.result) reached
+    few_reads c.args.steps.now c.added_values.new.steps app.map.schema.dim (length app.map.schema.embeds) (added_nodes (rule_in app)) (length (rule_in app).nodes) app.placed.positions (c.added-new_nodes.result * c.positions.result) reached
     prepared.lawful.dim.0 prepared.lawful.schema.count (few_added app prepared (length (rule_in app).nodes)) added (omega (arith, c.added_values.ensures.cost))
 
 pub returns-clause-cost : goal.returns-clause-cost
 returns-clause-cost g c =
     let app = c.args.self.now in
     let prepared : IsPrepared app = subst IsPrepared c.self.view_is c.self.invariant.0 in
-    let added : c.added.result * c.positions.result ≡ app.placed.positions * added_nodes (rule_in app) =
-    ap₂ (λ a b. a * b) (c.added.ensures ∙ ap (λ (a : PendingOf). added_nodes (rule_in a)) c.self.view_is) (c.positions.ensures.value ∙ ap (λ (a : PendingOf). a.placed.positions) c.self.view_is)
+    let added : c.added-new_nodes.result * c.positions.result ≡ app.placed.positions * added_nodes (rule_in app) =
+    ap₂ (λ a b. a * b) (c.added-new_nodes.ensures ∙ ap (λ (a : PendingOf). added_nodes (rule_in a)) c.self.view_is) (c.positions.ensures.value ∙ ap (λ (a : PendingOf). a.placed.positions) c.self.view_is)
     ∙ mul_comm (added_nodes (rule_in app)) app.placed.positions in
     λ reached sum.
-    few_reads c.args.steps.now c.added_values.new.steps app.map.schema.dim (length app.map.schema.embeds) (added_nodes (rule_in app)) (length (rule_in app).nodes) app.placed.positions (c.added.result * c.positions.result) reached
+    few_reads c.args.steps.now c.added_values.new.steps app.map.schema.dim (length app.map.schema.embeds) (added_nodes (rule_in app)) (length (rule_in app).nodes) app.placed.positions (c.added-new_nodes.result * c.positions.result) reached
     prepared.lawful.dim.0 prepared.lawful.schema.count (few_added app prepared (length (rule_in app).nodes)) added (omega (arith, c.added_values.ensures.cost))
 
 pub returns-clause-edits : goal.returns-clause-edits
 returns-clause-edits g c =
     let app = c.args.self.now in
     let prepared : IsPrepared app = subst IsPrepared c.self.view_is c.self.invariant.0 in
-    let added : c.added.result * c.positions.result ≡ app.placed.positions * added_nodes (rule_in app) =
-    ap₂ (λ a b. a * b) (c.added.ensures ∙ ap (λ (a : PendingOf). added_nodes (rule_in a)) c.self.view_is) (c.positions.ensures.value ∙ ap (λ (a : PendingOf). a.placed.positions) c.self.view_is)
+    let added : c.added-new_nodes.result * c.positions.result ≡ app.placed.positions * added_nodes (rule_in app) =
+    ap₂ (λ a b. a * b) (c.added-new_nodes.ensures ∙ ap (λ (a : PendingOf). added_nodes (rule_in a)) c.self.view_is) (c.positions.ensures.value ∙ ap (λ (a : PendingOf). a.placed.positions) c.self.view_is)
     ∙ mul_comm (added_nodes (rule_in app)) app.placed.positions in
-    are_edits app prepared _ c.in_ok-added_values.ensures.values c.in_ok-values.ensures.values (ap (λ r. all_arcs r Freed) c.rewrite-rewrite.ensures) (ap all_removed c.rewrite-rewrite.ensures) (ap (λ r. all_arcs r Made) c.rewrite-rewrite.ensures) added
+    let alike = c.rewrite-rewrite.ensures in
+    are_edits app prepared _ c.in_ok-added_values.ensures.values c.in_ok-values.ensures.values (same_left _ _ alike) (same_arcs _ _ alike Freed) (same_removed _ _ alike) (same_arcs _ _ alike Made) added
 
 pub returns-in_err-slots-clause-edits : goal.returns-in_err-slots-clause-edits
 returns-in_err-slots-clause-edits g c = unless_ok _ c.from_residual.result c.from_residual.ensures.0
@@ -70,7 +72,7 @@ returns-in_err-slots-clause-least g c = omega arith
 pub added_values-requires-clause-added : goal.added_values-requires-clause-added
 added_values-requires-clause-added g c =
     let app = c.args.self.now in
-    ap₂ (λ a b. a * b) (c.added.ensures ∙ ap (λ (a : PendingOf). added_nodes (rule_in a)) c.self.view_is) (c.positions.ensures.value ∙ ap (λ (a : PendingOf). a.placed.positions) c.self.view_is)
+    ap₂ (λ a b. a * b) (c.added-new_nodes.ensures ∙ ap (λ (a : PendingOf). added_nodes (rule_in a)) c.self.view_is) (c.positions.ensures.value ∙ ap (λ (a : PendingOf). a.placed.positions) c.self.view_is)
     ∙ mul_comm (added_nodes (rule_in app)) app.placed.positions
 
 pub added_values-requires-clause-given : goal.added_values-requires-clause-given
@@ -95,12 +97,12 @@ pub returns-clause-least : goal.returns-clause-least
 returns-clause-least g c = c.added_values.ensures.least
 
 pub overflow_mul-added : goal.overflow_mul-added
-overflow_mul-added g c = omega (arith, mul-le c.added.result c.positions.result 255 4294967295 (omega arith) (omega arith))
+overflow_mul-added g c = omega (arith, mul-le c.added-new_nodes.result c.positions.result 255 4294967295 (omega arith) (omega arith))
+
+pub left_slots-requires : goal.left_slots-requires
+left_slots-requires g c = c.left_nodes.ensures.left ∙ sym (ap (λ (p : Placed). p.nodes) c.rewrite-rewrite.ensures.placed)
 
 pub invariant_of-result : goal.invariant_of-result
 invariant_of-result g c =
-    let own = c.rewrite-rewrite.result in
-    let added : c.added.result * c.positions.result ≡ added_nodes (rule_at own) * own.placed.positions =
-    ap₂ (λ a b. a * b) (c.added.ensures ∙ ap (λ (a : PendingOf). added_nodes (rule_in a)) c.self.view_is ∙ sym (ap (λ (r : RewriteOf). added_nodes (rule_at r)) c.rewrite-rewrite.ensures))
-    (c.positions.ensures.value ∙ ap (λ (a : PendingOf). a.placed.positions) c.self.view_is ∙ sym (ap (λ (r : RewriteOf). r.placed.positions) c.rewrite-rewrite.ensures)) in
-    (c.in_ok-slots.ensures.slots, rw added c.in_ok-slots.ensures.room)
+    let positions : c.positions.result ≡ c.rewrite-rewrite.result.placed.positions = c.positions.ensures.value ∙ ap (λ (a : PendingOf). a.placed.positions) c.self.view_is ∙ sym (ap (λ (p : Placed). p.positions) c.rewrite-rewrite.ensures.placed) in
+    (c.in_ok-slots.ensures.slots, rw positions c.in_ok-slots.ensures.room)

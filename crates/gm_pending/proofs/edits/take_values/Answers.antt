@@ -1,0 +1,17 @@
+use Rattle.std.proofs.Common.{List, subst, sym, take, ◌∙◌}
+use Rattle.std.proofs.lemmas.List.{take_more}
+use Rattle.gm_pending.specs.declared.changes.ValueAt.{ValueAt}
+use Rattle.gm_pending.specs.Touched.{AreTaken}
+use Rattle.gm_pending.proofs.Taken.{same_bound, take_value}
+use Rattle.gm_pending.proofs.Whole.{contains_at}
+use Rattle.gm_pending.proofs.edits.take_values.Goals as goal
+
+pub take_in-requires : goal.take_in-requires
+take_in-requires c = rw c.loop-entry.invariant.bound (c.requires.within _ (contains_at c.args.values.now c.loop-entry.entry-index _ c.loop-entry-test.true))
+
+pub loop-entry-preserved : goal.loop-entry-preserved
+loop-entry-preserved c = record {
+  taken = λ slots earlier. subst (λ (values : List ValueAt). AreTaken slots values c.take_in.new.self.walked) (sym (take_more c.args.values.now c.loop-entry.entry-index _ c.loop-entry-test.true))
+      (take_value slots (take c.loop-entry.entry-index c.args.values.now) c.loop-entry.scratch c.take_in.new.self _ (c.loop-entry.invariant.taken slots earlier) c.take_in.ensures);
+  bound = same_bound _ _ _ c.take_in.ensures ∙ c.loop-entry.invariant.bound;
+}

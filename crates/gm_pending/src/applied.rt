@@ -1,0 +1,6 @@
+/// How many darts an application adds and removes.
+#[derive(Clone, Copy, Debug, PartialEq, Eq)]
+pub struct Applied {
+    pub added: u32,
+    pub removed: u32,
+}

@@ -1,0 +1,119 @@
+ghost use Rattle.std.specs.Prelude.{◌≡◌, ℕ, ◌+◌, ◌*◌, ◌<◌, ◌≤◌, false, length, slice_index_or, IfOk};
+ghost use Rattle.gm_model.specs.Rules.{rule_of, is_removed};
+ghost use Rattle.gm_pending.specs.Collected.{AreAlike, told_by, rewrite_of};
+ghost use Rattle.gm_pending.specs.EditLists.{AllGiven, AreEditsOf, IsReachedSumIn};
+ghost use Rattle.gm_pending.specs.Results.{rule_in};
+
+use crate::pending::Pending;
+use crate::rewrite::Rewrite;
+use gm_arena::{Slot, Steps};
+use gm_model::{MOST_NODES, OutOfMemory, RuleTable, Side, Value};
+use gm_plan::Plan;
+use std::marker::Model;
+use std::sync::ledger::Ledger;
+
+/// That the dart at the slot has the value of the embedding.
+#[derive(Clone, Copy)]
+pub(crate) struct ValueAt {
+    pub(crate) slot: Slot,
+    pub(crate) embed: u8,
+    pub(crate) value: Value,
+}
+
+/// The changes that make an application's result of its arena. They hold all the memory that the
+/// commit needs, and borrow what tells them: the plan, and the instances of its rule.
+#[derive(Drop)]
+pub struct Changes<'a> {
+    pub(crate) rewrite: Rewrite<'a>,
+    pub(crate) added: usize,
+    /// The values of the new darts: those of one dart after those of another, by their number, one
+    /// for each embedding.
+    pub(crate) added_values: Vec<Value>,
+    /// The values that darts of the old map get.
+    pub(crate) values: Vec<ValueAt>,
+    /// The slots of the left nodes, by node and then by position, and room for those of the new
+    /// darts behind them.
+    pub(crate) slots: Vec<Slot>,
+}
+
+impl<'a> Model for Changes<'a> {
+    ghost use Rattle.std.specs.Prelude.{◌≡◌, ◌+◌, ◌≤◌, length};
+    ghost use Rattle.std.specs.Vec.{vec_capacity};
+    ghost use Rattle.gm_pending.specs.Collected.{told_by, left_slots};
+    ghost use Rattle.gm_pending.specs.EditLists.{EditLists};
+    ghost use Rattle.gm_pending.specs.ToldEdits.{lists_told};
+
+    ghost Value = { EditLists };
+
+    ghost view = { λ c. lists_told (told_by c.rewrite) c.added c.added_values.items c.values.items };
+
+    ghost invariant = { λ c. (c.slots.items ≡ left_slots (told_by c.rewrite)) × (length c.slots.items + c.added ≤ vec_capacity c.slots) };
+}
+
+impl<'a> Pending<'a, '_> {
+    /// The changes that make the arena the result. Each embedding was asked for, and each of its
+    /// deciding instances has a value.
+    pub fn into_changes<L: Ledger>(self, steps: &mut Steps<L>) -> Result<Changes<'a>, OutOfMemory>
+        requires given { AllGiven self }
+        ensures edits { IfOk result (λ edits. AreEditsOf self.entry edits) }
+        ensures cost { (reached : ℕ) → IsReachedSumIn self.entry reached → steps.new ≤ steps.old + 6 * (self.entry.map.schema.dim + 1) * (length (rule_in self.entry).nodes * self.entry.placed.positions + reached + 1) }
+        ensures least { steps.old ≤ steps.new }
+    {
+        let changes = self.changes(steps);
+        drop(self);
+        changes
+    }
+
+    fn changes<L: Ledger>(&self, steps: &mut Steps<L>) -> Result<Changes<'a>, OutOfMemory>
+        requires given { AllGiven self.now }
+        ensures edits { IfOk result (λ edits. AreEditsOf self.now edits) }
+        ensures cost { (reached : ℕ) → IsReachedSumIn self.now reached → steps.new ≤ steps.old + 6 * (self.now.map.schema.dim + 1) * (length (rule_in self.now).nodes * self.now.placed.positions + reached + 1) }
+        ensures least { steps.old ≤ steps.new }
+    {
+        let new_nodes = self.plan.added();
+        let added = new_nodes as usize * self.found.positions() as usize;
+        let rewrite = self.rewrite();
+        let slots = rewrite.left_slots(self.alloc, self.left_nodes(), new_nodes)?;
+        let added_values = self.added_values(added, steps)?;
+        let values = self.new_values()?;
+        Ok(Changes {
+            rewrite,
+            added,
+            added_values,
+            values,
+            slots,
+        })
+    }
+
+    fn rewrite(&self) -> Rewrite<'a>
+        ensures { AreAlike (told_by result) (rewrite_of self.now) }
+    {
+        Rewrite {
+            dim: self.plan.schema().dim.top(),
+            removes: self.plan.removed() > 0,
+            goes: nodes_that_go(self.plan),
+            freed: self.plan.freed_rows(),
+            made: self.plan.made_rows(),
+            found: self.found,
+        }
+    }
+}
+
+/// Which nodes of the plan's rule are removed.
+fn nodes_that_go(plan: &Plan<'_>) -> [bool; MOST_NODES]
+    ensures goes { (x : ℕ) → x < length (rule_of plan.now.table).nodes → slice_index_or result x false ≡ is_removed (rule_of plan.now.table) x }
+    ensures long { length result ≡ 32 }
+{
+    let rule = plan.rule();
+    let mut goes = [false; MOST_NODES];
+    for node in 0..rule.node_count() {
+        goes[node as usize] = is_removed(rule, node);
+    }
+    goes
+}
+
+fn is_removed(rule: &RuleTable, node: u8) -> bool
+    ensures { result ≡ is_removed (rule_of rule.now) node }
+{
+    rule.word(Side::Left, node).is_some() && rule.word(Side::Right, node).is_none()
+}
