@@ -73,7 +73,7 @@ module _ (m : ArenaMap) (rule : Rule) (hooks : List ℕ) (params : List Value) w
         let both = same_map rule (as_map m) here place accepted sound.is_map sound.generalised like answer.matched.is_match.embedded.live in
         pre_units_there rule hooks params (as_map m) (as_map m) place here (places_back rule (as_map m) (as_map m) here place both) (some_position (as_map m) rule hooks place (candidate_of place theirs)) u units
 
-    positions_here : (k : ℕ) → HasPositions app k → k ≡ found.positions
+    pub positions_here : (k : ℕ) → HasPositions app k → k ≡ found.positions
     positions_here _ (NoDarts none) = absurd (none found_here.darts)
     positions_here _ (Candidate place darts candidate) = (candidates_like app accepted.in_range accepted.incidence place here candidate found_here.candidate).positions
 

@@ -27,6 +27,9 @@ module _ (reading : Reading) (hooks : List ℕ) where
   fits : (d n reached : ℕ) → 2 * d * reached + 6 * d * (n + reached + 1) + 4 * d * (n + reached + 1) ≤ 16 * d * (n + reached + 1)
   fits d n reached = omega arith
 
+  kept_fits : (d n reached : ℕ) → 2 * d * reached + 6 * d * (n + reached + 1) + (8 * d * (n + reached + 1) + 2 * d * n) ≤ 16 * d * (n + reached + 1)
+  kept_fits d n reached = omega arith
+
   edits_within : (start steps : ℕ) → IsWithinEdits reading hooks start steps → IsWithinRest start steps
   edits_within start steps within result unfolds reached read sum units =
       let all = within result reached read unfolds sum units in
@@ -50,6 +53,16 @@ module _ (reading : Reading) (hooks : List ℕ) where
     values_right e x p embed v at given =
         let right = h.right e _ (slice_get_within reading.arena.now.schema.embeds e embed at) given in
         subst (GivesValue (app_at reading hooks) (place_at reading) e x p) (sym (some_same v right.0 right.1)) right.2
+
+    -- so many steps for each instance and for each dart that gets a value, and two more for each label of each instance
+    pub kept_within : (later : ℕ) → ((reached : ℕ) → IsReachedSumIn (pending_at reading h.pending) reached → later ≤ steps + (8 * (reading.arena.now.schema.dim + 1) * (length (rule_of reading.plan.now.table).nodes * reading.found.now.positions + reached + 1) + 2 * (reading.arena.now.schema.dim + 1) * (length (rule_of reading.plan.now.table).nodes * reading.found.now.positions)))
+        → IsWithinRest start later
+    kept_within later cost result unfolds reached read sum units =
+        let in_all : IsReachedSumIn (pending_at reading h.pending) reached = record { result = result; unfolded = unfolds; counts = sum.counts; each = sum.each; counts_are = sum.counts_are; sum_is = sum.sum_is } in
+        let last = cost reached in_all in
+        let all = h.within result reached read unfolds sum units in
+        let few = kept_fits (reading.arena.now.schema.dim + 1) (length (rule_of reading.plan.now.table).nodes * reading.found.now.positions) reached in
+        omega (arith, all, last, few)
 
     pub committed_within : (later : ℕ) → ((app : PendingOf) (reached : ℕ) → AreEditsOf app edits → IsReachedSumIn app reached → later ≤ steps + 4 * (app.map.schema.dim + 1) * (length (rule_in app).nodes * app.placed.positions + reached + 1))
         → IsWithinRest start later

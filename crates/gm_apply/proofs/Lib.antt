@@ -18,3 +18,4 @@ pub mod Asking
 pub mod Giving
 pub mod Ending
 pub mod Readying
+pub mod Preparing

@@ -14,7 +14,7 @@ use Rattle.gm_apply.specs.Outcomes.{IsRefusedFor}
 use Rattle.gm_apply.specs.Reads.{app_at, place_at, pending_at, IsReadable, IsEnded, IsReadyAt, IsRefusedAt}
 use Rattle.gm_apply.proofs.Applying.{is_done}
 use Rattle.gm_apply.proofs.Budgets.{pre_within, ready_within}
-use Rattle.gm_apply.proofs.Ending.{ended_within, read_within, edits_here, rows_there, values_right, committed_within}
+use Rattle.gm_apply.proofs.Ending.{ended_within, read_within, edits_here, rows_there, values_right, committed_within, kept_within}
 use Rattle.gm_apply.proofs.Sums.{names_fit, rises_twice}
 
 module _ (reading : Reading) (hooks : List ℕ) (readable : IsReadable reading hooks) where
@@ -67,6 +67,10 @@ module _ (reading : Reading) (hooks : List ℕ) (readable : IsReadable reading h
       pub within_ready : steps ≤ before + most
       within_ready = ready_within reading.arena.now (rule_of reading.plan.now.table) hooks reading.params.now readable.sound readable.accepted reading.found.now readable.answer of_schema ready.room.ready most before start ready.read steps budget finding ready.pre
           (read_within reading hooks edits ready.read steps ready.edited)
+
+      pub within_kept : (later : ℕ) → ((reached : ℕ) → IsReachedSumIn (pending_at reading ready.edited.pending) reached → later ≤ steps + (8 * (reading.arena.now.schema.dim + 1) * (length (rule_of reading.plan.now.table).nodes * reading.found.now.positions + reached + 1) + 2 * (reading.arena.now.schema.dim + 1) * (length (rule_of reading.plan.now.table).nodes * reading.found.now.positions))) → later ≤ before + most
+      within_kept later cost = ready_within reading.arena.now (rule_of reading.plan.now.table) hooks reading.params.now readable.sound readable.accepted reading.found.now readable.answer of_schema ready.room.ready most before start ready.read later budget finding ready.pre
+          (kept_within reading hooks edits ready.read steps ready.edited later cost)
 
       pub within_done : (later : ℕ) → ((app : PendingOf) (reached : ℕ) → AreEditsOf app edits → IsReachedSumIn app reached → later ≤ steps + 4 * (app.map.schema.dim + 1) * (length (rule_in app).nodes * app.placed.positions + reached + 1)) → later ≤ before + most
       within_done later cost = ready_within reading.arena.now (rule_of reading.plan.now.table) hooks reading.params.now readable.sound readable.accepted reading.found.now readable.answer of_schema ready.room.ready most before start ready.read later budget finding ready.pre

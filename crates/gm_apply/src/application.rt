@@ -19,18 +19,11 @@ use crate::refusal::Refusal;
 use gm_arena::{Arena, Steps};
 use gm_match::find;
 use gm_model::{MOST_DARTS, MOST_NAMES, Value};
-use gm_pending::Edits;
+use gm_pending::{Applied, Changes};
 use gm_plan::{Instances, Plan};
 use gm_walk::Scratch;
 use std::alloc::Global;
 use std::sync::ledger::Ledger;
-
-/// How many darts an application added and removed.
-#[derive(Clone, Copy, Debug, PartialEq, Eq)]
-pub struct Applied {
-    pub added: u32,
-    pub removed: u32,
-}
 
 /// Applies the plan's rule to the map, at the darts that the hooks name, with these values for its
 /// parameters.
@@ -77,23 +70,23 @@ pub fn apply<L: Ledger>(
         arena,
         params,
     };
-    let (applied, edits) = ready(alloc, &reading, scratch, steps)?;
+    let (applied, changes) = ready(alloc, &reading, scratch, steps)?;
     let more = applied.added.saturating_sub(applied.removed);
     arena.reserve(more, arena.next() + applied.added)?;
-    edits.commit(arena, steps);
+    changes.commit(arena, steps);
     let (slots, turns) = found.into_rows();
     scratch.keep_rows(slots, turns);
     Ok(applied)
 }
 
-/// What the application adds and removes, and the edits that make its result, where it isn't
+/// What the application adds and removes, and the changes that make its result, where it isn't
 /// refused. The map is only read.
-fn ready<'a, L: Ledger>(
+pub(crate) fn ready<'a, L: Ledger>(
     alloc: Global,
     reading: &Reading<'a, '_>,
     scratch: &mut Scratch,
     steps: &mut Steps<L>,
-) -> Result<(Applied, Edits<'a>), Refusal>
+) -> Result<(Applied, Changes<'a>), Refusal>
     requires readable { (hooks : List ℕ) × IsReadable reading.now hooks }
     requires fits { Fits scratch.old reading.now.arena.now }
     ensures ready { (hooks : List ℕ) → IsReadable reading.now hooks → MatchResult result
@@ -105,8 +98,8 @@ fn ready<'a, L: Ledger>(
     prove!(reading.arena.count() <= MOST_DARTS);
     reading.meet_pre(scratch, steps)?;
     let applied = room(reading.plan, reading.arena, reading.found)?;
-    let edits = reading.edits(alloc, scratch, steps)?;
-    Ok((applied, edits))
+    let changes = reading.changes(alloc, scratch, steps)?;
+    Ok((applied, changes))
 }
 
 /// How many darts the application adds and removes, where the map has room for the result.

@@ -3,9 +3,12 @@
 #![tactic(auto)]
 
 mod application;
+mod preparation;
 mod reading;
 mod refusal;
 mod values;
 
-pub use application::{Applied, apply};
+pub use application::apply;
+pub use gm_pending::Applied;
+pub use preparation::prepare;
 pub use refusal::Refusal;

@@ -7,19 +7,19 @@ use crate::reading::Reading;
 use crate::refusal::Refusal;
 use gm_arena::Steps;
 use gm_model::MOST_DARTS;
-use gm_pending::{Edits, Pending};
+use gm_pending::{Changes, Pending};
 use gm_walk::Scratch;
 use std::alloc::Global;
 use std::sync::ledger::Ledger;
 
 impl<'a, 'm> Reading<'a, 'm> {
-    /// The edits that make the result. The map is only read.
-    pub(crate) fn edits<L: Ledger>(
+    /// The changes that make the result. The map is only read.
+    pub(crate) fn changes<L: Ledger>(
         &self,
         alloc: Global,
         scratch: &mut Scratch,
         steps: &mut Steps<L>,
-    ) -> Result<Edits<'a>, Refusal>
+    ) -> Result<Changes<'a>, Refusal>
         requires readable { (hooks : List ℕ) × IsReadable self.now hooks }
         requires fits { Fits scratch.old self.now.arena.now }
         ensures edits { (hooks : List ℕ) → IsReadable self.now hooks → MatchResult result
@@ -33,7 +33,7 @@ impl<'a, 'm> Reading<'a, 'm> {
         for embed in 0..self.plan.schema().embeds.as_slice().len() as u8 {
             self.give_values(&mut pending, embed, scratch, steps)?;
         }
-        Ok(pending.into_edits(steps)?)
+        Ok(pending.into_changes(steps)?)
     }
 
     /// Gives each deciding instance of the embedding the value of its expression.

@@ -18,7 +18,7 @@ use Rattle.gm_model.specs.Rules.{Rule, rule_of}
 use Rattle.gm_model.specs.Runs.{IsOutcome, IsLineOutcome, IsLineBudget, IsRun, IsRunBudget, changed_darts}
 use Rattle.gm_model.specs.Runs as runs
 use Rattle.gm_apply.specs.Outcomes.{IsRefusedFor}
-use Rattle.gm_apply.specs.declared.application.Applied.{Applied}
+use Rattle.gm_pending.specs.declared.applied.Applied.{Applied}
 use Rattle.gm_apply.specs.declared.refusal.Refusal.{Refusal}
 use Rattle.gm_apply.specs.declared.refusal.Refusal.TheVariants as refusals
 use Rattle.gm_arena.specs.ArenaAsMap.{as_map}

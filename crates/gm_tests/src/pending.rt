@@ -12,7 +12,7 @@ use crate::expect::{expect_number, expect_same};
 use crate::rules::{RuleRow, is_fit, rule, schema};
 use gm_arena::{Arena, Steps};
 use gm_model::MOST_DARTS;
-use gm_pending::{At, Edits, Pending};
+use gm_pending::{At, Changes, Pending};
 use gm_plan::{Instances, Plan, compile};
 use std::alloc::Global;
 use std::process::Abort;
@@ -81,7 +81,7 @@ fn edits_of<'a, L: Ledger>(
     found: &'a Instances,
     row: &Row,
     steps: &mut Steps<L>,
-) -> Edits<'a>
+) -> Changes<'a>
     requires schema { arena.now.schema ≡ plan.now.schema }
     requires no_embeds { plan.now.schema.embeds ≡ [] }
     requires generalised { IsGeneralised (as_map arena.now) }
@@ -104,7 +104,7 @@ fn edits_of<'a, L: Ledger>(
             expect_same(rt, &pending.alpha(at, label, steps), &to);
         }
     }
-    pending.into_edits(steps).expect(rt, "memory")
+    pending.into_changes(steps).expect(rt, "memory")
 }
 
 /// Applies the rule, whose new darts have these neighbours then, by name.

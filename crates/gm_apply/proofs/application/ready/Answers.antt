@@ -21,14 +21,14 @@ returns-in_err-applied-clause-ready g c hooks readable =
     let p = err_from_is_err_and c.from_residual-in_err-applied.result c.from_residual-in_err-applied.ensures.1 in
     rw (p.1, p.2) (refused_before c.args.reading.now hooks readable _ _ _ (c.in_err-applied.ensures.room hooks c.args.reading.now.params.now readable.answer (c.in_ok-meet_pre.ensures.pre hooks readable)) c.in_ok-meet_pre.ensures.least (c.in_ok-meet_pre.ensures.cost hooks))
 
-pub edits-requires-clause-readable : goal.edits-requires-clause-readable
-edits-requires-clause-readable g c = c.requires.readable
+pub changes-requires-clause-readable : goal.changes-requires-clause-readable
+changes-requires-clause-readable g c = c.requires.readable
 
-pub returns-in_err-edits-clause-ready : goal.returns-in_err-edits-clause-ready
-returns-in_err-edits-clause-ready g c hooks readable =
-    let p = err_from_is_err_and c.from_residual-in_err-edits.result c.from_residual-in_err-edits.ensures.1 in
+pub returns-in_err-changes-clause-ready : goal.returns-in_err-changes-clause-ready
+returns-in_err-changes-clause-ready g c hooks readable =
+    let p = err_from_is_err_and c.from_residual-in_err-changes.result c.from_residual-in_err-changes.ensures.1 in
     let room = c.in_ok-applied.ensures.room hooks c.args.reading.now.params.now readable.answer (c.in_ok-meet_pre.ensures.pre hooks readable) in
-    rw (p.1, p.2) (refused_behind c.args.reading.now hooks readable _ _ _ _ c.count.ensures.lawful.schema room.ready c.in_ok-meet_pre.ensures.least (c.in_ok-meet_pre.ensures.cost hooks) (c.in_err-edits.ensures.edits hooks readable))
+    rw (p.1, p.2) (refused_behind c.args.reading.now hooks readable _ _ _ _ c.count.ensures.lawful.schema room.ready c.in_ok-meet_pre.ensures.least (c.in_ok-meet_pre.ensures.cost hooks) (c.in_err-changes.ensures.edits hooks readable))
 
 pub returns-clause-ready : goal.returns-clause-ready
 returns-clause-ready g c hooks readable = record {
@@ -37,5 +37,5 @@ returns-clause-ready g c hooks readable = record {
   read = c.meet_pre.new.steps;
   rises = c.in_ok-meet_pre.ensures.least;
   pre = c.in_ok-meet_pre.ensures.cost hooks;
-  edited = c.in_ok-edits.ensures.edits hooks readable;
+  edited = c.in_ok-changes.ensures.edits hooks readable;
 }

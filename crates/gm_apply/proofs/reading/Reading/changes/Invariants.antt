@@ -1,6 +1,6 @@
 use Rattle.std.proofs.Common.{◌≡◌, ℕ, List}
 use Rattle.gm_apply.specs.Reads.{IsReadable, HasRead}
-use Rattle.gm_apply.proofs.reading.Reading.edits.Given as goal
+use Rattle.gm_apply.proofs.reading.Reading.changes.Given as goal
 
 abbrev pub invariant-loop-embed : goal.invariant-loop-embed
 invariant-loop-embed g l = record {

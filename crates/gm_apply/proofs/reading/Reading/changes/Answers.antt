@@ -4,7 +4,7 @@ use Rattle.gm_model.specs.declared.schema.Schema.{Schema}
 use Rattle.gm_apply.specs.Reads.{HasRead}
 use Rattle.gm_apply.proofs.Asking.{none_read}
 use Rattle.gm_apply.proofs.Giving.{every_one, ended_building, ended_editing, has_edits}
-use Rattle.gm_apply.proofs.reading.Reading.edits.Goals as goal
+use Rattle.gm_apply.proofs.reading.Reading.changes.Goals as goal
 
 pub build-requires-clause-schema : goal.build-requires-clause-schema
 build-requires-clause-schema g c = c.requires.readable.1.schema
@@ -51,30 +51,30 @@ loop-embed-preserved g c = record {
   room = c.in_ok-give_values.ensures.room ∙ c.loop-embed.invariant.room;
 }
 
-pub into_edits-requires : goal.into_edits-requires
-into_edits-requires g c =
+pub into_changes-requires : goal.into_changes-requires
+into_changes-requires g c =
     let many : length c.as_slice.result.now ≡ length c.args.self.now.arena.now.schema.embeds = ap length c.as_slice.ensures ∙ ap (λ (s : Schema). length s.embeds) c.schema.ensures.schema ∙ ap (λ (s : Schema). length s.embeds) (sym c.requires.readable.1.schema) in
     let whole : c.loop-embed.embed ≡ length c.args.self.now.arena.now.schema.embeds = omega (arith, c.loop-embed-test.false, c.loop-embed.auto.embed-end, many) in
     let read = subst (λ n. HasRead c.args.self.now c.requires.readable.0 c.loop-embed.pending n n 0 c.args.steps.now c.loop-embed.steps) whole (c.loop-embed.invariant.read c.requires.readable.0 c.requires.readable.1) in
     record { given = every_one c.args.self.now c.requires.readable.0 c.loop-embed.pending c.args.steps.now c.loop-embed.steps read }
 
-pub returns-in_err-into_edits-clause-edits : goal.returns-in_err-into_edits-clause-edits
-returns-in_err-into_edits-clause-edits g c hooks readable =
-    let p = err_from_is_err_and c.from_residual-in_err-into_edits.result c.from_residual-in_err-into_edits.ensures.1 in
+pub returns-in_err-into_changes-clause-edits : goal.returns-in_err-into_changes-clause-edits
+returns-in_err-into_changes-clause-edits g c hooks readable =
+    let p = err_from_is_err_and c.from_residual-in_err-into_changes.result c.from_residual-in_err-into_changes.ensures.1 in
     let many : length c.as_slice.result.now ≡ length c.args.self.now.arena.now.schema.embeds = ap length c.as_slice.ensures ∙ ap (λ (s : Schema). length s.embeds) c.schema.ensures.schema ∙ ap (λ (s : Schema). length s.embeds) (sym readable.schema) in
     let whole : c.loop-embed.embed ≡ length c.args.self.now.arena.now.schema.embeds = omega (arith, c.loop-embed-test.false, c.loop-embed.auto.embed-end, many) in
     let read = subst (λ n. HasRead c.args.self.now hooks c.loop-embed.pending n n 0 c.args.steps.now c.loop-embed.steps) whole (c.loop-embed.invariant.read hooks readable) in
-    rw (p.1, p.2) (ended_editing c.args.self.now hooks c.loop-embed.pending c.args.steps.now c.loop-embed.steps read c.into_edits.new.steps c.into_edits.ensures.least c.into_edits.ensures.cost)
+    rw (p.1, p.2) (ended_editing c.args.self.now hooks c.loop-embed.pending c.args.steps.now c.loop-embed.steps read c.into_changes.new.steps c.into_changes.ensures.least c.into_changes.ensures.cost)
 
 pub returns-clause-edits : goal.returns-clause-edits
 returns-clause-edits g c hooks readable =
     let many : length c.as_slice.result.now ≡ length c.args.self.now.arena.now.schema.embeds = ap length c.as_slice.ensures ∙ ap (λ (s : Schema). length s.embeds) c.schema.ensures.schema ∙ ap (λ (s : Schema). length s.embeds) (sym readable.schema) in
     let whole : c.loop-embed.embed ≡ length c.args.self.now.arena.now.schema.embeds = omega (arith, c.loop-embed-test.false, c.loop-embed.auto.embed-end, many) in
     let read = subst (λ n. HasRead c.args.self.now hooks c.loop-embed.pending n n 0 c.args.steps.now c.loop-embed.steps) whole (c.loop-embed.invariant.read hooks readable) in
-    has_edits c.args.self.now hooks c.loop-embed.pending c.args.steps.now c.loop-embed.steps read c.into_edits.new.steps c.into_edits.ensures.least c.into_edits.ensures.cost c.in_ok-into_edits.field-0 c.in_ok-into_edits.ensures.edits
+    has_edits c.args.self.now hooks c.loop-embed.pending c.args.steps.now c.loop-embed.steps read c.into_changes.new.steps c.into_changes.ensures.least c.into_changes.ensures.cost c.in_ok-into_changes.field-0 c.in_ok-into_changes.ensures.edits
 
-pub returns-in_err-into_edits-clause-room : goal.returns-in_err-into_edits-clause-room
-returns-in_err-into_edits-clause-room g c = c.loop-embed.invariant.room
+pub returns-in_err-into_changes-clause-room : goal.returns-in_err-into_changes-clause-room
+returns-in_err-into_changes-clause-room g c = c.loop-embed.invariant.room
 
 pub returns-clause-room : goal.returns-clause-room
 returns-clause-room g c = c.loop-embed.invariant.room
