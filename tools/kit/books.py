@@ -4,12 +4,12 @@ The program judges a book and this module doesn't: it reads what the grammar ask
 expression is a text here, and a rule may be one that the program refuses."""
 import re
 from pathlib import Path
-from typing import NamedTuple, Optional, Union
+from typing import NamedTuple
 
 from kit.maps import Embed
-from kit.program import Refused, answer
+from kit.program import put_or_refuse
 
-Letters = tuple[Optional[int], ...]
+Letters = tuple[int | None, ...]
 Link = tuple[str, int, str]
 
 RESERVED = frozenset("rule left right hook with pre and or not if then else true false sum count min max same".split())
@@ -23,8 +23,8 @@ BLANK = re.compile(r"(?:[ \t\r\n]|#[^\n]*)*")
 class Node(NamedTuple):
     """A node of a rule; a word is None on a side where the node doesn't stand, and a letter None where it is `_`."""
     name: str
-    left: Optional[Letters]
-    right: Optional[Letters]
+    left: Letters | None
+    right: Letters | None
     sets: dict[str, str]
     hook: bool
 
@@ -37,7 +37,7 @@ class Rule(NamedTuple):
     nodes: list[Node]
     left_links: list[Link]
     right_links: list[Link]
-    pre: Optional[str]
+    pre: str | None
     text: str
 
 
@@ -227,10 +227,10 @@ def read_book(text: str) -> Book:
     return Book(version, dimension, embeds, rules, text[:head_end])
 
 
-def load_book(path: Union[str, Path]) -> Book:
-    """The book of a file that the program takes, each rule with its own text as the file has it. Where the program
-    takes no book, that is Refused with its line."""
-    status, said = answer("book", str(path))
-    if status:
-        raise Refused(said.strip(), status)
-    return read_book(Path(path).read_text(encoding="latin-1"))
+def load_book(path: str | Path) -> Book:
+    """The book of a file as the program prints it, but each rule's own text and the head as the file has them. Where
+    the program takes no book, that is Refused with its line."""
+    printed = read_book(put_or_refuse("book", path))
+    written = read_book(Path(path).read_text(encoding="latin-1"))
+    rules = [rule._replace(text=own.text) for rule, own in zip(printed.rules, written.rules)]
+    return printed._replace(rules=rules, head=written.head)
