@@ -209,9 +209,10 @@ class Reader:
         return line_end + 1 if line_end >= 0 else after
 
 
-def read_book(text: str) -> Book:
-    """The book that a text stands for, canonical or not; ValueError with one line where the grammar has none."""
-    reader = Reader(text)
+def read_book(text: str, reader: Reader | None = None) -> Book:
+    """The book that a text stands for, canonical or not; ValueError with one line where the grammar has none. A caller
+    can give the reader, to see what it kept."""
+    reader = reader or Reader(text)
     reader.take("book")
     version = reader.number()
     if version not in (1, 2):
