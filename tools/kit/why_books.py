@@ -115,8 +115,7 @@ def names_for(spot: Spot) -> tuple[str, list[str]]:
             node.name for node in rule.nodes if (node.left if is_left else node.right) is not None]
     if spot.next() == "(":
         return "a function", sorted(ARGUMENTS)
-    if spot.next() in (".", "@") or spot.word(2) in ("count", "same") or spot.word(2) == ">" or spot.word() == "," and spot.next() == ")" \
-            and is_in_same(spot):
+    if spot.next() in (".", "@") or spot.word() == "(" and spot.word(2) in ("same", ">") or is_in_same(spot):
         return "a left node", [node.name for node in rule.nodes if node.left is not None]
     return "a parameter of the rule", [name for name, _ in rule.params]
 
