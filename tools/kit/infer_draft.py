@@ -30,7 +30,7 @@ class Node:
     right: Steps | None
     is_hook: bool = False
     context: set[int] = field(default_factory=set)     # labels of steps that are alike on both sides and may be left out
-    sets: dict[str, str] = field(default_factory=dict)  # the expression for each embedding that is assigned
+    sets: dict[str, str] = field(default_factory=dict)  # by embedding an expression, where `{n}` is the name of node n
 
     @property
     def is_kept(self) -> bool:
@@ -73,7 +73,13 @@ class Draft:
             for steps in node.sides():
                 for label, step in steps.items():
                     steps[label] = Link(numbers[step.node]) if isinstance(step, Link) else step
+            fields = [f"{{{numbers.get(old, '')}}}" for old in range(len(self.nodes))]
+            node.sets = {embed: value.format(*fields) for embed, value in node.sets.items()}
         return draft
+
+    def read_nodes(self) -> set[int]:
+        """The nodes that expressions read."""
+        return {at for at in range(len(self.nodes)) for node in self.nodes for value in node.sets.values() if f"{{{at}}}" in value}
 
     def text(self, name: str) -> str:
         """The rule's text."""
@@ -86,7 +92,7 @@ class Draft:
         standing = [(at, node, getattr(node, side)) for at, node in enumerate(self.nodes) if getattr(node, side) is not None]
         for at, node, steps in standing:
             hook = " hook" if node.is_hook and side == "left" else ""
-            sets = "".join(f" with {embed} = {value}" for embed, value in node.sets.items()) if side == "right" else ""
+            sets = "".join(f" with {embed} = {value.format(*names)}" for embed, value in node.sets.items()) if side == "right" else ""
             yield f"{names[at]} <{' '.join(self._letters(steps))}>{hook}{sets}"
         for at, _, steps in standing:
             for label, step in sorted(steps.items()):

@@ -1,4 +1,5 @@
 """An example of an operation: a map before it and a map after it, and what differs between the two."""
+from collections.abc import Container
 from dataclasses import dataclass
 from functools import cached_property
 
@@ -47,10 +48,33 @@ class Example:
     @cached_property
     def revalued(self) -> frozenset[int]:
         """The darts that stay and have another value after than before."""
-        return frozenset(
-            dart for dart in self.kept for embed in self.before.embeds
-            if self.before.values[embed.name][dart] != self.after.values[embed.name][dart]
-        )
+        return frozenset().union(*(self.revalued_of(embed.name) for embed in self.before.embeds))
+
+    @cached_property
+    def groups(self) -> list[frozenset[int]]:
+        """The darts of each orbit of the map after whose value of an embedding changed: one of them needs a node."""
+        return [
+            frozenset(orbit) for embed in self.before.embeds
+            for orbit in self.after.orbits(embed.labels, sorted(self.revalued_of(embed.name)))
+        ]
+
+    def revalued_of(self, name: str) -> frozenset[int]:
+        """The darts that stay and have another value of the embedding after than before."""
+        before, after = self.before.values[name], self.after.values[name]
+        return frozenset(dart for dart in self.kept if before[dart] != after[dart])
+
+    @cached_property
+    def starts(self) -> list[int]:
+        """The darts of the map before at which something differs."""
+        return sorted((self.moved - self.new) | self.revalued)
+
+    def missing(self, owned: Container[int]) -> set[int]:
+        """The darts at which something differs that these don't account for."""
+        missing = {dart for dart in self.moved if dart not in owned}
+        for group in self.groups:
+            if not any(dart in owned for dart in group):
+                missing |= group
+        return missing
 
 
 def compare(before: Map, after: Map) -> Example:

@@ -158,10 +158,10 @@ class Fold:
                 self.take(number, label, is_left)
 
     # ------------------------------------------------------------------ what lies further away
-    def reach(self, goal: Iterable[int], most: int) -> None:
-        """Goes on along what doesn't change, by at most so many labels, to the darts of the goal that no node has."""
+    def reach(self, most: int) -> None:
+        """Goes on along what doesn't change, by at most so many labels, to what differs and has no node."""
         self.grow()
-        while missing := {dart for dart in goal if dart not in self.owner}:
+        while missing := self.example.missing(self.owner):
             way = self.find_way(missing, most)
             if way is None:
                 return

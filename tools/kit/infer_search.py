@@ -7,7 +7,9 @@ from kit.infer_check import faults_of
 from kit.infer_draft import Draft, Letter, Link
 from kit.infer_example import Example, NoRule
 from kit.infer_fold import MOST_NODES, Broken, Fold
+from kit.infer_values import Place, Unfound, assign
 
+OF_VALUES = "no-value", "merge ", "merge-along"   # the faults that an assignment mends
 FURTHEST = 3   # how many unchanged labels in a row a rule goes along
 
 
@@ -37,28 +39,19 @@ def words_of(dimension: int) -> list[tuple[int, ...]]:
     return [word for size in range(dimension + 1, -1, -1) for word in combinations(labels, size)]
 
 
-def goal_of(example: Example) -> frozenset[int]:
-    """The darts that need a node."""
-    return example.moved | example.revalued
-
-
 def candidates(example: Example, words: Sequence[tuple[int, ...]], hook: int | None) -> Iterator[Candidate]:
     """The rules that fold the whole of what differs, as they are met."""
-    goal = goal_of(example)
-    if not goal & frozenset(example.before.darts):
+    if not example.starts:
         yield from creations(example)
-    starts = sorted(goal & frozenset(example.before.darts)) or example.before.darts
     for word in words:
-        firsts = [hook] if hook is not None else [orbit[0] for orbit in example.before.orbits(word, starts)]
-        folds = []
-        for first in firsts:
-            fold = start_fold(example, word, first)
-            if fold is None:
-                continue
-            folds.append(fold)
-            yield from whole(fold, goal)
+        firsts = [hook]
         if hook is None:
-            yield from repeated(folds, goal)
+            firsts = [orbit[0] for orbit in example.before.orbits(word, example.starts or None)]
+        folds = [fold for first in firsts if (fold := start_fold(example, word, first))]
+        for fold in folds:
+            yield from whole(fold)
+        if hook is None:
+            yield from repeated(example, folds)
 
 
 def start_fold(example: Example, word: tuple[int, ...], hook: int) -> Fold | None:
@@ -82,42 +75,41 @@ def creations(example: Example) -> Iterator[Candidate]:
         yield Candidate([fold.draft()])
 
 
-def whole(fold: Fold, goal: frozenset[int]) -> Iterator[Candidate]:
-    """The rule of a fold that goes on to all darts of the goal: along what doesn't change, or else in step."""
+def whole(fold: Fold) -> Iterator[Candidate]:
+    """The rule of a fold that goes on to all that differs: along what doesn't change, or else in step."""
     try:
         fold = fold.copy()
-        fold.reach(goal, FURTHEST)
-        missing = goal - fold.owner.keys()
+        fold.reach(FURTHEST)
+        missing = fold.example.missing(fold.owner)
         if not missing:
             yield Candidate([fold.draft()])
             return
     except Broken:
         return
-    if len(missing) % len(fold.positions) == 0 and len(missing) <= MOST_NODES * len(fold.positions):
-        for start in sorted(missing):
-            stepped = go_in_step(fold, start, goal)
-            if stepped:
-                yield Candidate([stepped])
-                return
+    for start in sorted(missing):
+        stepped = go_in_step(fold, start)
+        if stepped:
+            yield Candidate([stepped])
+            return
 
 
-def go_in_step(fold: Fold, start: int, goal: frozenset[int]) -> Draft | None:
+def go_in_step(fold: Fold, start: int) -> Draft | None:
     """The rule in which the dart is the first of a node that is walked in step with the hook, if it is whole."""
     fold = fold.copy()
     side = fold.example.after if start in fold.example.new else fold.example.before
     try:
         fold.add(fold.in_step(side, start))
-        fold.reach(goal, FURTHEST)
-        return fold.draft() if goal <= fold.owner.keys() else None
+        fold.reach(FURTHEST)
+        return None if fold.example.missing(fold.owner) else fold.draft()
     except Broken:
         return None
 
 
-def repeated(folds: Sequence[Fold], goal: frozenset[int]) -> Iterator[Candidate]:
+def repeated(example: Example, folds: Sequence[Fold]) -> Iterator[Candidate]:
     """Rules that make the map after in several lines, each at a part of what differs."""
     alike: dict[str, list[tuple[Draft, frozenset[int]]]] = {}
     for fold in folds:
-        if not goal <= fold.owner.keys():
+        if example.missing(fold.owner):
             try:
                 draft = fold.draft()
             except Broken:
@@ -127,21 +119,20 @@ def repeated(folds: Sequence[Fold], goal: frozenset[int]) -> Iterator[Candidate]
         taken: set[int] = set()
         lines = []
         for draft, darts in parts:
-            if taken.isdisjoint(darts):
+            if taken.isdisjoint(darts) and example.missing(taken) & darts:
                 taken |= darts
                 lines.append(draft)
-        if goal <= taken:
+        if not example.missing(taken):
             yield Candidate(lines)
 
 
 def find(example: Example, words: Sequence[tuple[int, ...]], hook: int | None) -> list[Candidate]:
-    """The candidates that the program accepts, the best first; NoRule where there is none."""
+    """The candidates in which the program finds no fault but wanting values, the best first; NoRule where there is none."""
     found = sorted(candidates(example, words, hook), key=Candidate.cost)
     if not found:
         raise NoRule(why_none(example, words, hook))
-    schema = example.before.dimension, example.before.embeds
-    faults = faults_of(*schema, [candidate.draft for candidate in found])
-    accepted = [candidate for candidate, fault in zip(found, faults) if fault is None]
+    faults = faults_of(example.before.dimension, example.before.embeds, [candidate.draft for candidate in found])
+    accepted = [candidate for candidate, fault in zip(found, faults) if fault is None or fault.startswith(OF_VALUES)]
     if not accepted:
         raise NoRule(f"of {len(found)} rules that fold none is accepted; the first has the fault '{faults[0]}'")
     return accepted
@@ -152,13 +143,27 @@ def why_none(example: Example, words: Sequence[tuple[int, ...]], hook: int | Non
     if len(words) == 1 and hook is not None:
         try:
             fold = Fold(example, words[0], hook)
-            fold.reach(goal_of(example), FURTHEST)
+            fold.reach(FURTHEST)
             fold.draft()
-            missing = goal_of(example) - fold.owner.keys()
-            return f"the orbit doesn't fold: no label leads from its nodes to dart {min(missing)}, which differs"
+            return f"the orbit doesn't fold: no label leads from its nodes to dart {min(example.missing(fold.owner))}, which differs"
         except Broken as broken:
             return f"the orbit doesn't fold: {broken}"
     return "no orbit of what differs folds to the nodes of one rule"
+
+
+def set_values(places: Sequence[Place], candidate: Candidate) -> list[Unfound]:
+    """Gives the candidate its assignments, more of them while the program finds values wanting; answers what isn't found."""
+    example, draft = places[0]
+    forced: set[tuple[str, int]] = set()
+    while True:
+        unfound = assign(places, forced)
+        fault = faults_of(example.before.dimension, example.before.embeds, [draft])[0]
+        if unfound or fault is None or not fault.startswith(OF_VALUES):
+            return unfound
+        _, embed, name = fault.split()[:3]
+        if (embed, draft.names().index(name)) in forced:
+            return unfound
+        forced.add((embed, draft.names().index(name)))
 
 
 Drop = tuple[int, int | None]   # a step of a node by its label, or without a label the whole node
@@ -193,9 +198,10 @@ def drop_all(example: Example, candidate: Candidate, list_drops: Callable[[Draft
 
 
 def idle_nodes(draft: Draft) -> list[Drop]:
-    """The nodes of which nothing changes, the last one if any, since numbers of nodes change with it."""
-    return [(at, None) for at, node in enumerate(draft.nodes)
-            if node.is_kept and not node.is_hook and not node.sets and node.context == set(node.left)][-1:]
+    """The nodes of which nothing changes and nothing is read."""
+    read = draft.read_nodes()
+    return [(at, None) for at, node in enumerate(draft.nodes) if at not in read and not node.sets
+            and node.is_kept and not node.is_hook and node.context == set(node.left)]
 
 
 def idle_steps(draft: Draft) -> list[Drop]:

@@ -1,0 +1,204 @@
+"""The values that a rule can read of the map before, and the expressions that are made of them."""
+from collections.abc import Iterator, Sequence
+from dataclasses import dataclass
+from itertools import chain, combinations, permutations
+
+from kit.infer_draft import Draft
+from kit.maps import Embed, Map, Value
+
+FURTHEST = 3            # labels of a path
+MOST_OF_SUM = {2: 40, 3: 24, 4: 18}    # of how many terms sums of so many are tried
+FACTORS = {
+    2: ((1, 1), (2, 1), (3, 1), (3, 2), (2, -1), (3, -1), (3, -2), (4, -1), (5, 1), (5, 3), (7, 1)),
+    3: ((1, 1, 1), (1, 1, 2), (1, 1, -1), (6, 1, 1), (2, 2, -1), (1, 1, 4)),
+    4: ((1, 1, 1, 1), (3, 3, 1, 1), (4, 1, 1, 2), (1, 1, -1, 1)),
+}
+Row = tuple[int, ...]    # the parts of a value at all positions, one part after the other
+
+
+@dataclass(frozen=True)
+class Term:
+    """A part of an expression, in which `{n}` stands for the name of node n, and its values."""
+    text: str
+    row: Row
+
+    def is_atom(self) -> bool:
+        """Whether it can be multiplied without parentheses."""
+        return " " not in self.text
+
+
+def row_of(values: Sequence[Value]) -> Row:
+    """The row of the values at all positions."""
+    return tuple(values) if isinstance(values[0], int) else tuple(chain.from_iterable(zip(*values)))
+
+
+def terms_of(places: Sequence[tuple[Map, Draft]], embed: Embed) -> list[Term]:
+    """What can be read of the embedding, each row once: values at nodes and ways from them, and then over orbits.
+
+    A place is a draft as it lies in a map; all have the same nodes."""
+    ways = list(ways_from(places))
+    found: dict[Row, Term] = {}
+    for text, families in ways:
+        values = [before.values[embed.name][dart] for (before, _), family in zip(places, families) for dart in family]
+        row = row_of(values)
+        found.setdefault(row, Term(f"{text}.{embed.name}", row))
+    if embed.kind != "rgb":
+        for text, families in ways:
+            if text.count("@") <= 1:
+                for term in collected(places, embed, text, families):
+                    found.setdefault(term.row, term)
+    return list(found.values())
+
+
+def ways_from(places: Sequence[tuple[Map, Draft]]) -> Iterator[tuple[str, list[tuple[int, ...]]]]:
+    """The ways from left nodes along some labels, shortest first, as a Dart's text and the darts in each place."""
+    first = places[0][1]
+    labels = range(places[0][0].dimension + 1)
+    ways = [
+        (f"{{{at}}}", [draft.nodes[at].darts for _, draft in places])
+        for at, node in enumerate(first.nodes) if node.left is not None
+    ]
+    seen = {tuple(families) for _, families in ways}
+    for _ in range(FURTHEST + 1):
+        yield from ways
+        longer = []
+        for text, families in ways:
+            for label in labels:
+                reached = [tuple(before.alpha[label][dart] for dart in family) for (before, _), family in zip(places, families)]
+                if tuple(reached) not in seen:
+                    seen.add(tuple(reached))
+                    longer.append((f"{text}@{label}", reached))
+        ways = longer
+
+
+def collected(places: Sequence[tuple[Map, Draft]], embed: Embed, text: str, families: list[tuple[int, ...]]) -> Iterator[Term]:
+    """The mean, sum, least and greatest value over each orbit of a way's darts."""
+    labels = range(places[0][0].dimension + 1)
+    for word in (word for size in range(1, len(labels) + 1) for word in combinations(labels, size)):
+        orbits = [
+            orbit for (before, _), family in zip(places, families) for orbit in orbits_at(before, word, embed, family)
+        ]
+        over = f"<{' '.join(map(str, word))}>({text}.{embed.name})"
+        count = f"count<{' '.join(map(str, word))}>({text})"
+        sums = [tuple(map(sum, zip(*orbit))) for orbit in orbits]
+        means = [tuple(part // len(orbit) for part in total) for total, orbit in zip(sums, orbits)]
+        yield Term(f"sum{over} / {count}", row_of(means))
+        yield Term(f"sum{over}", row_of(sums))
+        if embed.kind == "int":
+            yield Term(f"min{over}", row_of([min(orbit) for orbit in orbits]))
+            yield Term(f"max{over}", row_of([max(orbit) for orbit in orbits]))
+
+
+def orbits_at(before: Map, word: tuple[int, ...], embed: Embed, family: tuple[int, ...]) -> Iterator[list[tuple[int, ...]]]:
+    """For each dart of a family the values over its orbit, each as the tuple of its parts."""
+    values = before.values[embed.name]
+    known: dict[int, list[tuple[int, ...]]] = {}
+    for dart in family:
+        if dart not in known:
+            orbit = before.orbit(word, dart)
+            parts = [(value,) if isinstance(value, int) else value for value in map(values.__getitem__, orbit)]
+            known.update(dict.fromkeys(orbit, parts))
+        yield known[dart]
+
+
+# ---------------------------------------------------------------------- expressions
+def constant_text(kind: str, parts: Sequence[int]) -> str:
+    """The text of a value."""
+    return str(parts[0]) if kind == "int" else f"{kind}({', '.join(map(str, parts))})"
+
+
+def find_constant(kind: str, wanted: Row, width: int) -> tuple[int, ...] | None:
+    """The parts of the value that is wanted at all positions, where it is one."""
+    size = len(wanted) // width
+    parts = [wanted[part * size : (part + 1) * size] for part in range(width)]
+    return tuple(part[0] for part in parts) if all(min(part) == max(part) for part in parts) else None
+
+
+def find_expression(kind: str, width: int, wanted: Row, terms: Sequence[Term]) -> str | None:
+    """The first expression that has the wanted row: a constant, a term, and then sums with small factors."""
+    constant = find_constant(kind, wanted, width)
+    if constant is not None:
+        return constant_text(kind, constant)
+    for term in terms:
+        if term.row == wanted:
+            return term.text
+    if kind == "rgb":
+        return None
+    for number in (1, 2, 3, 4):
+        chosen = terms[: MOST_OF_SUM.get(number, len(terms))]
+        text = find_sum(wanted, chosen, number) if number > 1 else find_multiple(kind, width, wanted, chosen)
+        if text is None and number == 2:
+            text = find_moved(kind, width, wanted, chosen)
+        if text is not None:
+            return text
+    return None
+
+
+def find_multiple(kind: str, width: int, wanted: Row, terms: Sequence[Term]) -> str | None:
+    """A multiple or a part of a term and a constant, as `a.pos * 3 / 2 + vec2(1, 0)`."""
+    for over, under in ((1, 1), (2, 1), (3, 1), (-1, 1), (1, 2), (3, 2), (1, 3), (2, 3), (4, 3), (1, 4), (3, 4), (5, 4)):
+        for term in terms:
+            for added in range(under if kind == "int" else 1):
+                rest = tuple(want - (part * over + added) // under for want, part in zip(wanted, term.row))
+                constant = find_constant(kind, rest, width)
+                if constant is not None:
+                    inner = scaled(term, over) + (f" + {added}" if added else "")
+                    text = inner if under == 1 else f"{wrapped(inner) if added else inner} / {under}"
+                    return plus_constant(text, kind, constant)
+    return None
+
+
+def find_sum(wanted: Row, terms: Sequence[Term], number: int) -> str | None:
+    """A mean of so many terms with small factors, as `(2 * a.pos + b.pos) / 3`."""
+    first = [term.row[0] for term in terms]
+    orders = [order for factors in FACTORS[number] for order in sorted(set(permutations(factors)), reverse=True)]
+    for order in orders:
+        under = sum(order)
+        for chosen in combinations(range(len(terms)), number):
+            if sum(factor * first[at] for factor, at in zip(order, chosen)) // under == wanted[0]:
+                rows = [terms[at].row for at in chosen]
+                if all(sum(map(int.__mul__, order, parts)) // under == want for want, parts in zip(wanted, zip(*rows))):
+                    return quotient([terms[at] for at in chosen], order, under)
+    return None
+
+
+def find_moved(kind: str, width: int, wanted: Row, terms: Sequence[Term]) -> str | None:
+    """A sum or difference of two terms and a constant."""
+    for order in ((1, 1), (1, -1), (-1, 1)):
+        for one, other in combinations(terms, 2):
+            rest = tuple(want - order[0] * a - order[1] * b for want, a, b in zip(wanted, one.row, other.row))
+            constant = find_constant(kind, rest, width)
+            if constant is not None:
+                return plus_constant(quotient([one, other], order, 1), kind, constant)
+    return None
+
+
+def scaled(term: Term, factor: int) -> str:
+    """A term with a factor before it."""
+    if factor in (1, -1):
+        return ("-" if factor < 0 else "") + (term.text if term.is_atom() or factor > 0 else wrapped(term.text))
+    text = term.text if term.is_atom() else wrapped(term.text)
+    return f"{factor} * {text}" if factor > 0 else f"-{-factor} * {text}"
+
+
+def wrapped(text: str) -> str:
+    """The text in parentheses."""
+    return f"({text})"
+
+
+def quotient(terms: Sequence[Term], factors: Sequence[int], under: int) -> str:
+    """The sum of the terms with their factors, by a number; what is taken off stands last."""
+    pairs = sorted(zip(terms, factors), key=lambda pair: pair[1] < 0)
+    text = scaled(*pairs[0])
+    for term, factor in pairs[1:]:
+        text += f" {'-' if factor < 0 else '+'} {scaled(term, abs(factor))}"
+    return text if under == 1 else f"{wrapped(text)} / {under}"
+
+
+def plus_constant(text: str, kind: str, constant: tuple[int, ...]) -> str:
+    """The text and a constant, where that isn't 0."""
+    if not any(constant):
+        return text
+    if kind == "int" and constant[0] < 0:
+        return f"{text} - {-constant[0]}"
+    return f"{text} + {constant_text(kind, constant)}"
