@@ -30,7 +30,7 @@ def writes_volumes(path: Path) -> bool:
 
 
 def write_mesh(path: Path, mesh: Surface | Volume) -> None:
-    """Writes a mesh in the format of the path's suffix, which is one of list_written."""
+    """Writes a mesh in the format of the path's suffix, which check_written allows."""
     suffix = path.suffix.lower()
     if suffix in VOLUME_FORMATS:
         from kit.mesh_meshio import write_by_meshio
@@ -38,6 +38,12 @@ def write_mesh(path: Path, mesh: Surface | Volume) -> None:
         write_by_meshio(path, VOLUME_FORMATS[suffix], mesh)
     else:
         WRITERS[suffix](path, mesh)
+
+
+def check_written(path: Path) -> None:
+    """Unfit where the path has no suffix of a format that is written."""
+    if path.suffix.lower() not in list_written():
+        raise Unfit(f"{path} has no suffix of a format that is written: {' '.join(list_written())}")
 
 
 def list_written() -> list[str]:

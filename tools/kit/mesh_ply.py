@@ -40,7 +40,7 @@ def read_ply(path: Path) -> Surface:
     body = body[body.index(b"\n") + 1 :] if b"\n" in body else b""
     try:
         tables = dict(read_text_tables(body, elements) if not order else read_binary_tables(body, elements, order))
-    except (struct.error, ValueError, StopIteration, RuntimeError):
+    except (struct.error, ValueError, IndexError, StopIteration, RuntimeError):
         raise Unfit("PLY ends early, or has something other than a number where its head tells of one") from None
     return make_surface(elements, tables)
 

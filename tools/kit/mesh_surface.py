@@ -3,7 +3,7 @@ from collections.abc import Iterable, Iterator, Sequence
 from fractions import Fraction
 
 from kit.maps import MOST_DARTS, Embed, Map, walk
-from kit.mesh_model import Colour, Polygon, Surface, Unfit
+from kit.mesh_model import Colour, Mesh, Polygon, Surface, Unfit
 from kit.mesh_scale import Whole, unscale_points
 
 FEWEST_CORNERS = 3
@@ -15,9 +15,11 @@ def make_surface_map(surface: Surface, points: list[Whole], with_colours: bool) 
 
     The k-th side of a face leads from its k-th corner to the next. Its first dart lies at the one, the second at the
     other. Faces that share an edge are joined along it, and other sides stay free along 2. Unfit tells why a surface
-    has no map: a face with fewer than three corners or with a point twice, and an edge of more than two faces.
+    has no map: a face with fewer than three corners, with a point twice, or with a side of no length, and an edge of
+    more than two faces.
     """
     check_faces(surface)
+    check_lengths(surface, points)
     sides = Sides(surface.faces)
     across = list(range(sides.count))
     join_edges(surface, sides, across)
@@ -89,6 +91,21 @@ def check_faces(surface: Surface) -> None:
         if len(set(face)) < len(face):
             twice = next(corner for corner in face if face.count(corner) > 1)
             raise Unfit(f"face {surface.tell_element(index)} has the point {surface.tell_point(twice)} twice")
+
+
+def check_lengths(surface: Surface, points: list[Whole]) -> None:
+    """Unfit where a side's two corners lie at one place."""
+    for index, face in enumerate(surface.faces):
+        before = face[-1]
+        for corner in face:
+            if points[corner] == points[before]:
+                raise Unfit(tell_one_place(surface, f"face {surface.tell_element(index)}", (before, corner)))
+            before = corner
+
+
+def tell_one_place(mesh: Mesh, element: str, corners: tuple[int, int]) -> str:
+    """The line for two corners of an element at one place."""
+    return f"{element} has the points {mesh.tell_points(corners)} at one place: if they differ, give a greater --scale"
 
 
 def join_edges(surface: Surface, sides: Sides, across: list[int]) -> None:

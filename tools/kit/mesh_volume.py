@@ -5,7 +5,7 @@ from fractions import Fraction
 from kit.maps import Embed, Map
 from kit.mesh_model import CELL_FACES, Cell, Polygon, Unfit, Volume, make_cell, make_polyhedron
 from kit.mesh_scale import Whole, unscale_points
-from kit.mesh_surface import FEWEST_CORNERS, Sides, list_vertices, number_map, pick_points, trace_polygon
+from kit.mesh_surface import FEWEST_CORNERS, Sides, list_vertices, number_map, pick_points, tell_one_place, trace_polygon
 
 FREE = -1
 KINDS = {tuple(sorted(map(len, faces))): kind for kind, faces in CELL_FACES.items()}  # by the sizes of a cell's faces
@@ -15,10 +15,11 @@ def make_volume_map(volume: Volume, points: list[Whole]) -> Map:
     """The map of a volume, its points scaled: two darts for each side of each face of a cell, in the order of the file.
 
     Faces of a cell are joined along 2, and cells that share a face along 3; other faces stay free along 3. Unfit tells
-    why a volume has no map: a cell with a point twice, an edge of a cell with other than two of its faces, a face of
+    why a volume has no map: a cell with a point twice or two at one place, an edge of a cell with other than two of its faces, a face of
     more than two cells, and two cells that have the corners of one face in another order.
     """
     check_cells(volume)
+    check_places(volume, points)
     sides = Sides(face for cell in volume.cells for face in cell.faces)
     alpha = [sides.along(), sides.around(), join_edges(volume, sides), join_faces(volume, sides)]
     return number_map(3, [Embed("pos", (1, 2, 3), "vec3")], alpha, [[points[end] for end in sides.ends]])
@@ -38,6 +39,16 @@ def check_cells(volume: Volume) -> None:
                 raise Unfit(f"cell {volume.tell_element(index)} has the point {volume.tell_point(twice)} twice")
         if any(len(face) < FEWEST_CORNERS for face in cell.faces):
             raise Unfit(f"cell {volume.tell_element(index)} has a face with fewer than three corners")
+
+
+def check_places(volume: Volume, points: list[Whole]) -> None:
+    """Unfit where two corners of a cell lie at one place."""
+    for index, cell in enumerate(volume.cells):
+        places = {points[corner]: corner for corner in cell.corners}
+        if len(places) < len(cell.corners):
+            first = next(corner for corner in cell.corners if places[points[corner]] != corner)
+            both = (first, places[points[first]])
+            raise Unfit(tell_one_place(volume, f"cell {volume.tell_element(index)}", both))
 
 
 def join_edges(volume: Volume, sides: Sides) -> list[int]:

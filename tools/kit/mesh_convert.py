@@ -1,0 +1,66 @@
+"""Files of meshes become files of maps, and back: what `tools/mesh` does."""
+from fractions import Fraction
+from pathlib import Path
+
+from kit import maps, program
+from kit.maps import Map
+from kit.mesh_formats import check_written, read_mesh, write_mesh, writes_volumes
+from kit.mesh_model import Surface, Unfit, Volume
+from kit.mesh_scale import choose_scale, read_scale, scale_points, tell_scale
+from kit.mesh_surface import make_surface_map, read_surface_map
+from kit.mesh_volume import make_volume_map, read_volume_map
+
+
+def import_mesh(model: Path, out: Path, scale: Fraction | None, with_colours: bool, is_checked: bool) -> str:
+    """Writes the map of a mesh's file, and tells what it has in one line.
+
+    Unfit says why the mesh has no map. Where it is checked, the program reads what was written, and what it refuses
+    is a fault of this tool: Refused.
+    """
+    mesh = read_mesh(model)
+    scale = scale or choose_scale(mesh.points)
+    made = make_map(mesh, scale, with_colours)
+    text = made.text()
+    if len(tell_scale(scale)) + len(text) > maps.MOST_BYTES:
+        raise Unfit(f"its map needs {len(text)} bytes, and a file has at most {maps.MOST_BYTES}")
+    out.write_text(tell_scale(scale) + text)
+    if is_checked and program.put_or_refuse("show", out) != text:
+        raise program.Refused(f"the program reads another map from {out} than this tool wrote", 1)
+    told = f"imported {tell_counts(mesh)} darts {len(made.darts)} scale {scale}"
+    return f"{told} colours {tell_colours(made)}" if with_colours else told
+
+
+def make_map(mesh: Surface | Volume, scale: Fraction, with_colours: bool) -> Map:
+    """The map of a mesh, its points times the scale."""
+    points = scale_points(mesh, scale)
+    if isinstance(mesh, Volume):
+        return make_volume_map(mesh, points)
+    return make_surface_map(mesh, points, with_colours)
+
+
+def export_map(path: Path, out: Path, scale: Fraction | None) -> str:
+    """Writes the mesh of a map's file, and tells what it has in one line. Unfit says why the map has no mesh."""
+    check_written(out)
+    mesh = make_mesh(maps.load_map(path), scale or read_scale(path) or Fraction(1), writes_volumes(out))
+    write_mesh(out, mesh)
+    return f"exported {tell_counts(mesh)}"
+
+
+def make_mesh(given: Map, scale: Fraction, has_cells: bool) -> Surface | Volume:
+    """The mesh of a map, its points divided by the scale: of its cells in dimension 3, where it may have cells, else of
+    its faces."""
+    if given.dimension not in (2, 3):
+        raise Unfit(f"it has dimension {given.dimension}, and a mesh is made of a map of dimension 2 or 3")
+    return read_volume_map(given, scale) if given.dimension == 3 and has_cells else read_surface_map(given, scale)
+
+
+def tell_counts(mesh: Surface | Volume) -> str:
+    """How many points a mesh has, and faces or cells."""
+    elements = f"cells {len(mesh.cells)}" if isinstance(mesh, Volume) else f"faces {len(mesh.faces)}"
+    return f"points {len(mesh.points)} {elements}"
+
+
+def tell_colours(made: Map) -> str:
+    """What has the colours of a map: faces, points or none."""
+    labels = next((embed.labels for embed in made.embeds if embed.kind == "rgb"), None)
+    return "none" if labels is None else "faces" if 0 in labels else "points"
