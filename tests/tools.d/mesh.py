@@ -1,10 +1,10 @@
-"""Tests of tools/mesh: each format there and back, a mesh for each refusal, scales, colours, and what is told."""
+"""Tests of tools/mesh: each format there and back, what is read of each, colours, scales, and the command line."""
 import struct
 import subprocess
 import sys
 import tempfile
 from collections import Counter
-from collections.abc import Callable, Iterator
+from collections.abc import Iterator
 from contextlib import contextmanager
 from fractions import Fraction
 from pathlib import Path
@@ -12,9 +12,8 @@ from pathlib import Path
 from kit import maps, program
 from kit.mesh_convert import make_map, make_mesh
 from kit.mesh_formats import list_written, read_mesh, write_mesh, writes_volumes
-from kit.mesh_model import CELL_FACES, Surface, Unfit, Volume, make_cell, make_polyhedron
-from kit.mesh_scale import choose_scale, read_scale, scale_points
-from kit.mesh_surface import make_surface_map
+from kit.mesh_model import Surface, Unfit, Volume, make_cell, make_polyhedron
+from kit.mesh_scale import choose_scale, read_scale
 
 ROOT = Path(__file__).resolve().parents[2]
 TOOL = ROOT / "tools" / "mesh"
@@ -22,15 +21,24 @@ OPERATIONS = ROOT / "examples" / "operations"
 ONE = Fraction(1)
 
 # A house without a floor: four walls, two slopes of a roof and two gables, with a border of four edges below.
-HOUSE_POINTS = [(0, 0, 0), (4, 0, 0), (4, 6, 0), (0, 6, 0), (0, 0, 3), (4, 0, 3), (4, 6, 3), (0, 6, 3), (2, 0, 4.25), (2, 6, 4.25)]
-HOUSE_FACES = [(0, 1, 5, 4), (1, 2, 6, 5), (2, 3, 7, 6), (3, 0, 4, 7), (4, 5, 8), (6, 7, 9), (5, 6, 9, 8), (7, 4, 8, 9)]
+# fmt: off
+HOUSE_POINTS = [
+    (0, 0, 0), (4, 0, 0), (4, 6, 0), (0, 6, 0), (0, 0, 3), (4, 0, 3), (4, 6, 3), (0, 6, 3), (2, 0, 4.25), (2, 6, 4.25),
+]
+HOUSE_FACES = [
+    (0, 1, 5, 4), (1, 2, 6, 5), (2, 3, 7, 6), (3, 0, 4, 7), (4, 5, 8), (6, 7, 9), (5, 6, 9, 8), (7, 4, 8, 9),
+]
 HOUSE_COLOURS = [(10 * place, 255 - place, 7) for place in range(8)]
 
 # A hexahedron, a wedge on its side, a pyramid above it and a tetrahedron on that.
-CELL_POINTS = [(0, 0, 0), (2, 0, 0), (2, 2, 0), (0, 2, 0), (0, 0, 2), (2, 0, 2), (2, 2, 2), (0, 2, 2), (3.5, 0, 1), (3.5, 2, 1), (1, 1, 3), (1, -2, 3)]
+CELL_POINTS = [
+    (0, 0, 0), (2, 0, 0), (2, 2, 0), (0, 2, 0), (0, 0, 2), (2, 0, 2), (2, 2, 2), (0, 2, 2), (3.5, 0, 1), (3.5, 2, 1),
+    (1, 1, 3), (1, -2, 3),
+]
+# fmt: on
 CELLS = [
     make_cell("hexahedron", range(8)),
-    make_cell("wedge", (1, 8, 5, 2, 9, 6)),
+    make_cell("wedge", (1, 5, 8, 2, 6, 9)),
     make_cell("pyramid", (4, 5, 6, 7, 10)),
     make_cell("tetra", (4, 11, 5, 10)),
 ]
@@ -57,7 +65,10 @@ def name_elements(mesh: Surface | Volume) -> Counter:
     if isinstance(mesh, Surface):
         return Counter(name_polygon([tuple(map(float, mesh.points[corner])) for corner in face]) for face in mesh.faces)
     return Counter(
-        (cell.kind, frozenset(name_polygon([tuple(map(float, mesh.points[corner])) for corner in face]) for face in cell.faces))
+        (
+            cell.kind,
+            frozenset(name_polygon([tuple(map(float, mesh.points[corner])) for corner in face]) for face in cell.faces),
+        )
         for cell in mesh.cells
     )
 
@@ -84,15 +95,6 @@ def scratch() -> Iterator[Path]:
 def run_tool(*words: object) -> subprocess.CompletedProcess:
     """What the tool does for a command line."""
     return subprocess.run([sys.executable, TOOL, *map(str, words)], capture_output=True, text=True, check=False)
-
-
-def refusal(act: Callable[[], object]) -> str:
-    """The line with which a call is refused."""
-    try:
-        act()
-    except Unfit as unfit:
-        return str(unfit)
-    raise AssertionError("nothing was refused")
 
 
 def read_written(name: str, data: str | bytes) -> Surface | Volume:
@@ -142,7 +144,9 @@ def test_polyhedra_there_and_back():
     roofed = make_polyhedron([*HOUSE_FACES, (0, 1, 2, 3)])
     both = Volume(points=house().points, cells=[roofed])
     assert_same(there_and_back(".vtu", both), both)
-    assert name_elements(there_and_back(".vtk", both)) == name_elements(Surface(points=both.points, faces=list(roofed.faces)))
+    assert name_elements(there_and_back(".vtk", both)) == name_elements(
+        Surface(points=both.points, faces=list(roofed.faces))
+    )
 
 
 def test_faces_of_a_volume_as_a_surface():
@@ -153,7 +157,9 @@ def test_faces_of_a_volume_as_a_surface():
 def test_faces_keep_their_order_and_direction():
     assert turn(house()).faces == HOUSE_FACES or name_elements(turn(house())) == name_elements(house())
     found = turn(house())
-    assert [[found.points[at] for at in face] for face in found.faces] == [[house().points[at] for at in face] for face in HOUSE_FACES]
+    assert [[found.points[at] for at in face] for face in found.faces] == [
+        [house().points[at] for at in face] for face in HOUSE_FACES
+    ]
 
 
 def test_faces_are_turned_one_way():
@@ -165,7 +171,10 @@ def test_faces_are_turned_one_way():
 
 
 def test_a_band_that_is_turned_once():
-    band = Surface(points=[(0.0, 0.0, 0.0), (1.0, 0.0, 0.0), (0.0, 1.0, 0.0), (1.0, 1.0, 1.0), (5.0, 5.0, 5.0)], faces=[(0, 1, 2), (1, 2, 3), (2, 3, 4), (3, 4, 0), (4, 0, 1)])
+    band = Surface(
+        points=[(0.0, 0.0, 0.0), (1.0, 0.0, 0.0), (0.0, 1.0, 0.0), (1.0, 1.0, 1.0), (5.0, 5.0, 5.0)],
+        faces=[(0, 1, 2), (1, 2, 3), (2, 3, 4), (3, 4, 0), (4, 0, 1)],
+    )
     assert_same(turn(band), band)
 
 
@@ -173,17 +182,24 @@ def test_stl_by_assimp():
     corners = [HOUSE_POINTS[at] for at in (0, 1, 4, 8)]
     facets = [(0, 1, 2), (0, 1, 3), (1, 2, 3), (2, 0, 3)]
     text = "solid s\n" + "".join(
-        "facet normal 0 0 0\nouter loop\n" + "".join(f"vertex {' '.join(map(str, corners[at]))}\n" for at in facet) + "endloop\nendfacet\n"
+        "facet normal 0 0 0\nouter loop\n"
+        + "".join(f"vertex {' '.join(map(str, corners[at]))}\n" for at in facet)
+        + "endloop\nendfacet\n"
         for facet in facets
     )
     found = read_written("solid.stl", text + "endsolid s\n")
     assert len(found.points) == 4, "corners at one place are one point"
     assert_same(found, Surface(points=[tuple(map(float, corner)) for corner in corners], faces=facets))
-    assert all(dart != across for dart, across in make_map(found, Fraction(100), False).alpha[2].items()), "it is closed"
+    assert all(
+        dart != across for dart, across in make_map(found, Fraction(100), False).alpha[2].items()
+    ), "it is closed"
 
 
 def test_two_fans_are_two_vertices():
-    fans = Surface(points=[(0.0, 0.0, 0.0), (1.0, 0.0, 0.0), (0.0, 1.0, 0.0), (-1.0, 0.0, 0.0), (0.0, -1.0, 0.0)], faces=[(0, 1, 2), (0, 3, 4)])
+    fans = Surface(
+        points=[(0.0, 0.0, 0.0), (1.0, 0.0, 0.0), (0.0, 1.0, 0.0), (-1.0, 0.0, 0.0), (0.0, -1.0, 0.0)],
+        faces=[(0, 1, 2), (0, 3, 4)],
+    )
     made = make_map(fans, ONE, False)
     assert len(made.cells(0)) == 6 and turn(fans).points.count((0.0, 0.0, 0.0)) == 2
 
@@ -214,14 +230,38 @@ def place(given: maps.Map) -> maps.Map:
     values = {}
     for number, vertex in enumerate(given.orbits(labels)):
         values.update(maps.make_values(vertex, (number, number**2, number**3)))
-    return maps.Map(2, given.dimension, [maps.Embed("place", labels, "vec3")], given.next, given.darts, given.alpha, {"place": values})
+    return maps.Map(
+        2,
+        given.dimension,
+        [maps.Embed("place", labels, "vec3")],
+        given.next,
+        given.darts,
+        given.alpha,
+        {"place": values},
+    )
+
+
+def test_points_in_the_plane_are_written_with_0():
+    made = make_map(Surface(points=house().points, faces=[(0, 1, 2)]), ONE, False)
+    flat = maps.Map(
+        2,
+        2,
+        [maps.Embed("p", (1, 2), "vec2")],
+        6,
+        made.darts,
+        made.alpha,
+        {"p": {d: v[:2] for d, v in made.values["pos"].items()}},
+    )
+    assert make_mesh(flat, Fraction(2), False).points == [(0, 0, 0), (2, 0, 0), (2, 3, 0)]
 
 
 # What is read.
 
 
 def test_obj_forms():
-    text = "# a comment\ng walls\nv 0 0 0\nv 1.5 0 0 # behind\nv 1.5 1 0\nv 0 1 0 1.0\nvt 0 0\nvn 0 0 1\ns off\no roof\n"
+    text = (
+        "# a comment\ng walls\nv 0 0 0\nv 1.5 0 0 # behind\nv 1.5 1 0\nv 0 1 0 1.0\nvt 0 0\nvn 0 0 1\ns off\no roof\n"
+    )
     text += "f 1/1/1 2//1 3/1\nf -4 -2 \\\n -1\nl 1 2\np 1\n"
     found = read_written("forms.obj", text)
     assert found.faces == [(0, 1, 2), (0, 2, 3)] and found.points[1] == (1.5, 0, 0)
@@ -231,21 +271,35 @@ def test_obj_forms():
 def test_off_forms():
     plain = "OFF # a comment\n\n3 1 0\n0 0 0\n1 0 0\n\n0 1 0\n3 0 1 2\n"
     assert read_written("plain.off", plain).faces == [(0, 1, 2)]
-    coloured = read_written("c.off", "COFF\n3 1 3\n0 0 0 255 0 0 255\n1 0 0 0 255 0 255\n0 1 0 0 0 255 255\n3 0 1 2 0.5 0 1\n")
-    assert coloured.point_colours == [(255, 0, 0), (0, 255, 0), (0, 0, 255)] and coloured.face_colours == [(128, 0, 255)]
+    coloured = read_written(
+        "c.off", "COFF\n3 1 3\n0 0 0 255 0 0 255\n1 0 0 0 255 0 255\n0 1 0 0 0 255 255\n3 0 1 2 0.5 0 1\n"
+    )
+    assert coloured.point_colours == [(255, 0, 0), (0, 255, 0), (0, 0, 255)] and coloured.face_colours == [
+        (128, 0, 255)
+    ]
 
 
 def test_ply_binary():
     for order, sign in (("little", "<"), ("big", ">")):
-        head = f"ply\nformat binary_{order}_endian 1.0\ncomment x\nelement vertex 3\nproperty float x\nproperty float y\nproperty float z\n"
-        head += "element face 1\nproperty list uchar uint vertex_index\nproperty uchar red\nproperty uchar green\nproperty uchar blue\nend_header\n"
-        body = struct.pack(f"{sign}9f", 0, 0, 0, 0.1, 0, 0, 0, 16777215, 0) + struct.pack(f"{sign}B3I3B", 3, 0, 1, 2, 9, 8, 7)
+        head = f"ply\nformat binary_{order}_endian 1.0\ncomment x\nelement vertex 3\n"
+        head += "property float x\nproperty float y\nproperty float z\n"
+        head += "element face 1\nproperty list uchar uint vertex_index\n"
+        head += "property uchar red\nproperty uchar green\nproperty uchar blue\nend_header\n"
+        body = struct.pack(f"{sign}9f", 0, 0, 0, 0.1, 0, 0, 0, 16777215, 0) + struct.pack(
+            f"{sign}B3I3B", 3, 0, 1, 2, 9, 8, 7
+        )
         found = read_written("binary.ply", head.encode() + body)
-        assert found.points == [(0, 0, 0), (0.1, 0, 0), (0, 16777215, 0)] and found.faces == [(0, 1, 2)] and found.face_colours == [(9, 8, 7)]
+        assert (
+            found.points == [(0, 0, 0), (0.1, 0, 0), (0, 16777215, 0)]
+            and found.faces == [(0, 1, 2)]
+            and found.face_colours == [(9, 8, 7)]
+        )
 
 
 def test_polygons_of_a_volume_are_passed_over():
-    text = "$MeshFormat\n2.2 0 8\n$EndMeshFormat\n$Nodes\n4\n1 0 0 0\n2 1 0 0\n3 0 1 0\n4 0 0 1\n$EndNodes\n$Elements\n3\n"
+    text = (
+        "$MeshFormat\n2.2 0 8\n$EndMeshFormat\n$Nodes\n4\n1 0 0 0\n2 1 0 0\n3 0 1 0\n4 0 0 1\n$EndNodes\n$Elements\n3\n"
+    )
     found = read_written("one.msh", text + "1 1 2 0 1 1 2\n2 2 2 0 1 1 2 3\n3 4 2 0 1 1 2 3 4\n$EndElements\n")
     assert isinstance(found, Volume) and len(found.cells) == 1 and found.tell_element(0) == "3"
 
@@ -258,12 +312,20 @@ def test_colours_there_and_back():
         assert there_and_back(suffix, house(face_colours=HOUSE_COLOURS)).face_colours == HOUSE_COLOURS
     by_point = [(9, place, 255) for place in range(len(HOUSE_POINTS))]
     found = there_and_back(".ply", house(point_colours=by_point))
-    assert dict(zip(found.points, found.point_colours)) == dict(zip(house().points, by_point)) and found.face_colours is None
+    assert (
+        dict(zip(found.points, found.point_colours)) == dict(zip(house().points, by_point))
+        and found.face_colours is None
+    )
 
 
 def test_colours_of_obj():
     text = "v 0 0 0 1 0 0\nv 1 0 0 0 1 0\nv 0 1 0 0 0 0.5\nv 1 1 0 0 0 1\n"
-    assert read_written("a.obj", text + "f 1 2 3\n").point_colours == [(255, 0, 0), (0, 255, 0), (0, 0, 128), (0, 0, 255)]
+    assert read_written("a.obj", text + "f 1 2 3\n").point_colours == [
+        (255, 0, 0),
+        (0, 255, 0),
+        (0, 0, 128),
+        (0, 0, 255),
+    ]
     with scratch() as folder:
         (folder / "m.mtl").write_text("newmtl red one\nKa 0 0 0\nKd 1 0 0\nnewmtl blue\nKd 0 0 1\n")
         (folder / "b.obj").write_text("mtllib m.mtl\n" + text + "usemtl red one\nf 1 2 3\nusemtl blue\nf 2 3 4\n")
@@ -280,7 +342,16 @@ def test_colours_of_a_map():
 
 
 def test_scales_are_chosen():
-    for values, scale in (((1, 2, 3), 1), ((0.5, 2, 3), 10), ((0.001, 0, 90), 1000), ((1 / 3, 0, 1), 10**7), ((1 / 3, 0, 500), 10**4), ((1e-9, 0, 0), 10**9), ((0, 0, 0), 1), ((1e12, 0, 0), 1)):
+    for values, scale in (
+        ((1, 2, 3), 1),
+        ((0.5, 2, 3), 10),
+        ((0.001, 0, 90), 1000),
+        ((1 / 3, 0, 1), 10**7),
+        ((1 / 3, 0, 500), 10**4),
+        ((1e-9, 0, 0), 10**9),
+        ((0, 0, 0), 1),
+        ((1e12, 0, 0), 1),
+    ):
         assert choose_scale([tuple(map(float, values))]) == scale, values
 
 
@@ -289,7 +360,9 @@ def test_scales_are_told_kept_and_taken():
         model, made, out = folder / "house.ply", folder / "house.gmap", folder / "out.obj"
         write_mesh(model, house(face_colours=HOUSE_COLOURS))
         said = run_tool("import", model, made, "--colours")
-        assert said.stdout == "imported points 10 faces 8 darts 60 scale 100 colours faces\n" and said.returncode == 0, said
+        assert (
+            said.stdout == "imported points 10 faces 8 darts 60 scale 100 colours faces\n" and said.returncode == 0
+        ), said
         assert made.read_text().startswith("# scale 100\ngmap 2\n") and read_scale(made) == 100
         assert program.put_or_refuse("show", made) == made.read_text().partition("\n")[2], "the comment is passed over"
         assert run_tool("export", made, out).stdout == "exported points 10 faces 8\n"
@@ -309,145 +382,19 @@ def test_whole_numbers_of_any_size_are_written():
         assert f"v {most} 0 0\n" in (folder / "far.obj").read_text()
 
 
-# What is refused of meshes.
-
-THREE_AT_AN_EDGE = "v 0 0 0\nv 1 0 0\nv 0 1 0\nv 0 0 1\nv 0 -1 0\nf 1 2 3\nf 1 2 4\nf 1 2 5\n"
-
-
-def refuse_surface(points: list[tuple], faces: list[tuple], first: int = 0) -> str:
-    """The line with which a surface is refused, points and faces being counted from a first number."""
-    return refusal(lambda: make_map(Surface(points=points, faces=faces, first=first), ONE, False))
-
-
-def refuse_volume(cells: list, points: list[tuple] = CELL_POINTS) -> str:
-    """The line with which a volume is refused."""
-    return refusal(lambda: make_map(Volume(points=points, cells=cells), ONE, False))
-
-
-def test_an_edge_of_three_faces_is_refused():
-    with scratch() as folder:
-        (folder / "three.obj").write_text(THREE_AT_AN_EDGE)
-        said = run_tool("import", folder / "three.obj", folder / "three.gmap")
-        assert said.stderr == f"mesh: {folder}/three.obj: the edge of the points 1 2 has 3 faces: 1 2 3\n" and said.returncode == 1
-        assert not (folder / "three.gmap").exists()
-
-
-def test_degenerate_faces_are_refused():
-    assert refuse_surface(HOUSE_POINTS, [(0, 1, 2), (3, 4)]) == "face 1 has 2 corners, and a polygon has three or more"
-    assert refuse_surface(HOUSE_POINTS, [(0, 1, 2), (3, 4, 3)], 1) == "face 2 has the point 4 twice"
-    assert refuse_surface(HOUSE_POINTS, [(0, 1, 4, 1)]) == "face 0 has the point 1 twice"
-    assert refuse_surface(HOUSE_POINTS, [(0, 1, 99)], 1) == "face 1 has the corner 100, and there is no such point"
-    assert refuse_surface(HOUSE_POINTS, []) == "it has no faces"
-    one_place = [(0.2, 0, 0), (0.3, 0, 0), (5, 5, 5)]
-    assert refuse_surface(one_place, [(2, 0, 1)]) == "face 0 has the points 0 1 at one place: if they differ, give a greater --scale"
-
-
-def test_degenerate_cells_are_refused():
-    assert refuse_volume([make_cell("tetra", (0, 1, 2, 1))]) == "cell 0 has the point 1 twice"
-    assert refuse_volume([make_cell("tetra", (0, 1, 2, 99))]) == "cell 0 has a corner that is none of the 12 points"
-    flat = [(0, 0, 0), (1, 0, 0), (0, 1, 0), (0, 0, 0)]
-    assert refuse_volume([make_cell("tetra", range(4))], flat).startswith("cell 0 has the points 0 3 at one place")
-    assert refuse_volume([]) == "it has no cells"
-    assert refuse_volume([make_polyhedron(HOUSE_FACES)], HOUSE_POINTS) == "cell 0 has one face alone at the edge of the points 0 1"
-    crowded = [*CELL_FACES["tetra"], (0, 1, 4)]
-    assert refuse_volume([make_polyhedron(crowded)]) == "cell 0 has more than two faces at the edge of the points 0 1"
-    assert refuse_volume([make_polyhedron([*CELL_FACES["tetra"], (5, 6)])]) == "cell 0 has a face with fewer than three corners"
-
-
-def test_a_face_of_three_cells_is_refused():
-    cells = [make_cell("tetra", (0, 1, 3, top)) for top in (4, 6, 10)]
-    assert refuse_volume(cells) == "the face of the points 0 1 3 has more than two cells: 0 1 2"
-
-
-def test_a_face_in_another_order_is_refused():
-    cells = [make_cell("pyramid", (0, 1, 2, 3, 10)), make_cell("pyramid", (0, 2, 1, 3, 11))]
-    assert refuse_volume(cells) == "the cells 0 and 1 have the points 0 1 2 3 round a face in another order"
-
-
-def test_sizes_past_the_limits_are_refused():
-    faces = [(0, 1, 2)] * 174_763
-    assert refuse_surface(HOUSE_POINTS, faces) == "it needs 1048578 darts, and a map has at most 1048576"
-
-
-def test_coordinates_out_of_range_are_refused():
-    far = Surface(points=[(0.0, 0.0, 0.0), (1e19, 0.0, 0.0)], faces=[], first=1)
-    assert refusal(lambda: scale_points(far, ONE)) == "point 2 times 1 doesn't fit in 64 bits: give a smaller --scale"
-    assert scale_points(far, Fraction(1, 1000))[1] == (10**16, 0, 0)
-    for wrong in ("nan", "inf"):
-        none = Surface(points=[(0.0, float(wrong), 0.0)], faces=[])
-        assert refusal(lambda: scale_points(none, ONE)) == "point 0 has a coordinate that is no number, or too great"
-        assert choose_scale(none.points) == 1
-
-
-def test_files_that_stand_for_nothing_are_refused():
-    cases = {
-        "a.obj": ("v 0 0\n", "line 1: a point is three numbers, and not '0 0'"),
-        "b.obj": ("v 0 0 0\nf 0 1 1\n", "line 2: face 1 has the corner 0, and there is no such point"),
-        "c.obj": ("v 0 0 0\nf a b c\n", "line 2: face 1 has a corner 'a', which is no number of a point"),
-        "d.off": ("OFF\n", "this is no OFF: its first numbers aren't those of points, faces and edges"),
-        "e.off": ("OFF\n3 1 0\n0 0 0\n", "OFF tells of 3 points and 1 faces, and has 1 lines for them"),
-        "f.off": ("4OFF\n", "4OFF has points of another dimension than 3"),
-        "g.off": ("OFF BINARY\n", "the binary form of OFF isn't read"),
-        "h.off": ("OFF\n1 1 0\n0 0 0\n3 0 0\n", "face 0 tells of 3 corners and has 2"),
-        "i.ply": ("ply\nformat ascii 1.0\n", "this is no PLY: its head has no end"),
-        "j.ply": ("ply\nformat ascii 1.0\nelement vertex 1\nproperty float x\nend_header\n0\n", "PLY has no points with x, y and z"),
-        "k.ply": ("ply\nformat odd 1.0\nend_header\n", "PLY has a line in its head that isn't understood: format odd 1.0"),
-    }
-    for name, (text, wanted) in cases.items():
-        assert refusal(lambda: read_written(name, text)) == wanted, name
-    assert refusal(lambda: read_written("l.stl", "solid")).startswith("Assimp can't read it: ")
-    assert refusal(lambda: read_written("m.vtk", "no")).startswith("meshio can't read it: ")
-    assert refusal(lambda: read_mesh(Path("/nowhere.obj"))) == "there is no such file"
-
-
-def test_cells_of_other_types_are_refused():
-    nodes = "".join(f"{at + 1} {at} {at * at} {at % 3}\n" for at in range(10))
-    text = f"$MeshFormat\n2.2 0 8\n$EndMeshFormat\n$Nodes\n10\n{nodes}$EndNodes\n$Elements\n1\n"
-    found = refusal(lambda: read_written("t.msh", text + "1 11 2 0 1 1 2 3 4 5 6 7 8 9 10\n$EndElements\n"))
-    assert found == "element 1 is of the type tetra10, and cells here are tetra, pyramid, wedge, hexahedron"
-
-
-# What is refused of maps.
-
-EDGE = "gmap 1 dim 2 embed p <1 2> vec3 darts 2 0 1 0 0 (0 0 0) 1 0 1 1 (1 0 0)"
-DIGON = "gmap 1 dim 2 embed p <1 2> vec2 darts 4 0 1 3 0 (0 0) 1 0 2 1 (1 0) 2 3 1 2 (1 0) 3 2 0 3 (0 0)"
-
-
-def refuse_map(text: str, has_cells: bool = False) -> str:
-    """The line with which a map has no mesh."""
-    return refusal(lambda: make_mesh(maps.read_map(text), ONE, has_cells))
-
-
-def test_maps_without_a_mesh_are_refused():
-    assert refuse_map("gmap 1 dim 1 darts 0") == "it has dimension 1, and a mesh is made of a map of dimension 2 or 3"
-    assert refuse_map("gmap 1 dim 2 darts 0") == "the map has no points: no embedding <1 2> of kind vec3 or vec2"
-    assert refuse_map(EDGE) == "the face of dart 0 isn't closed: dart 1 is free along 1"
-    assert refuse_map(DIGON) == "the face of dart 0 has 2 corners, and a polygon has three or more"
-    lone = make_map(block(), ONE, False)
-    lone.alpha[2] = {dart: dart for dart in lone.darts}
-    assert refuse_map(place(lone).text(), True) == "the cell of dart 0 isn't closed: dart 0 is free along 2"
-
-
-def test_points_in_the_plane_are_written_with_0():
-    made = make_surface_map(Surface(points=house().points, faces=[(0, 1, 2)]), HOUSE_POINTS, False)
-    flat = maps.Map(2, 2, [maps.Embed("p", (1, 2), "vec2")], 6, made.darts, made.alpha, {"p": {d: v[:2] for d, v in made.values["pos"].items()}})
-    assert make_mesh(flat, Fraction(2), False).points == [(0, 0, 0), (2, 0, 0), (2, 3, 0)]
-
-
-def test_polygons_that_a_format_lacks_are_refused():
-    with scratch() as folder:
-        five = Surface(points=house().points, faces=[(0, 1, 5, 8, 4)])
-        assert refusal(lambda: write_mesh(folder / "five.msh", five)) == "gmsh has no polygon of 5 corners: write .vtk, .vtu or .ply"
-
-
 # The command line.
 
 
 def test_the_command_line():
     assert run_tool("--help").returncode == 0 and run_tool().returncode == 2
-    assert run_tool("import", "a.obj").returncode == 2 and run_tool("import", "a.obj", "b.gmap", "--scale", "0").returncode == 2
+    assert (
+        run_tool("import", "a.obj").returncode == 2
+        and run_tool("import", "a.obj", "b.gmap", "--scale", "0").returncode == 2
+    )
     said = run_tool("export", "a.gmap", "a.xyz")
-    assert said.returncode == 1 and said.stderr.startswith("mesh: a.gmap: a.xyz has no suffix of a format that is written: .obj .off")
+    assert said.returncode == 1 and said.stderr.startswith(
+        "mesh: a.gmap: a.xyz has no suffix of a format that is written: .obj .off"
+    )
     said = run_tool("export", "nowhere.gmap", "a.obj")
     assert said.returncode == 1 and said.stderr == "mesh: nowhere.gmap: refused load MAP\n"
     said = run_tool("import", "nowhere.obj", "a.gmap")

@@ -86,7 +86,9 @@ class Map:
         yield f"darts {len(self.darts)}\n"
 
     def _row_form(self) -> str:
-        values = (f"({' '.join(['%d'] * WIDTHS[embed.kind])})" if WIDTHS[embed.kind] > 1 else "%d" for embed in self.embeds)
+        values = (
+            f"({' '.join(['%d'] * WIDTHS[embed.kind])})" if WIDTHS[embed.kind] > 1 else "%d" for embed in self.embeds
+        )
         return " ".join(["%d"] * (self.dimension + 2) + [*values]) + "\n"
 
     def _columns(self) -> Iterator[Iterable[int]]:
@@ -150,7 +152,9 @@ def read_columns(body: str, width: int, count: int) -> list[list[int]]:
     return [numbers[place::width] for place in range(width)]
 
 
-def join_columns(version: int, dimension: int, embeds: list[Embed], stated: str | None, columns: list[list[int]]) -> Map:
+def join_columns(
+    version: int, dimension: int, embeds: list[Embed], stated: str | None, columns: list[list[int]]
+) -> Map:
     """The map whose darts have these columns: names, neighbours, and the parts of their values."""
     names = columns[0]
     alpha = [dict(zip(names, column)) for column in columns[1 : dimension + 2]]

@@ -7,11 +7,23 @@ from pathlib import Path
 from types import ModuleType
 
 from kit import program
-from kit.mesh_model import CELL_FACES, POLYHEDRON, Cell, Mesh, Polygon, Surface, Unfit, Volume, make_cell, make_polyhedron
+from kit.mesh_model import (
+    CELL_FACES,
+    POLYHEDRON,
+    Cell,
+    Mesh,
+    Polygon,
+    Surface,
+    Unfit,
+    Volume,
+    make_cell,
+    make_polyhedron,
+)
 
 POLYGONS = ("triangle", "quad", "polygon")
 IGNORED = ("vertex", "line", "line3", "line4")
 FIRST = {"gmsh": 1, "abaqus": 1, "medit": 1}  # whence a format counts its points and cells, where not from 0
+WRITTEN_AS = {"gmsh": "gmsh22"}  # in its later form the library writes cells of one type alone
 HAS_POLYGONS = ("vtk",)
 HAS_POLYHEDRA = ("vtu",)
 
@@ -32,7 +44,10 @@ def read_by_meshio(path: Path, form: str) -> Surface | Volume:
     try:
         with contextlib.redirect_stdout(said), contextlib.redirect_stderr(said):
             read = meshio.read(path, form)
-    except (SystemExit, Exception) as error:  # the library ends the program at some files, and raises anything at others
+    except (
+        SystemExit,
+        Exception,
+    ) as error:  # the library ends the program at some files, and raises anything at others
         told = said.getvalue().strip().split("\n")[-1] or str(error) or type(error).__name__
         raise Unfit(f"meshio can't read it: {told}") from None
     first = FIRST.get(form, 0)
@@ -75,7 +90,7 @@ def write_by_meshio(path: Path, form: str, mesh: Surface | Volume) -> None:
         blocks = block_cells(mesh.cells) + block_polygons(list(loose.values()), form)
     words = {"binary": False} if form in ("vtk", "gmsh") else {}
     with contextlib.redirect_stdout(io.StringIO()), contextlib.redirect_stderr(io.StringIO()):
-        meshio.write_points_cells(path, make_points(mesh), blocks, file_format=form, **words)
+        meshio.write_points_cells(path, make_points(mesh), blocks, file_format=WRITTEN_AS.get(form, form), **words)
 
 
 def make_points(mesh: Mesh) -> list[list[float]]:

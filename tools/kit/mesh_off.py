@@ -22,7 +22,9 @@ def read_off(path: Path) -> Surface:
     except (IndexError, ValueError):
         raise Unfit("this is no OFF: its first numbers aren't those of points, faces and edges") from None
     if len(lines) < 1 + points_count + faces_count:
-        raise Unfit(f"OFF tells of {points_count} points and {faces_count} faces, and has {len(lines) - 1} lines for them")
+        raise Unfit(
+            f"OFF tells of {points_count} points and {faces_count} faces, and has {len(lines) - 1} lines for them"
+        )
     is_coloured = bool(head and head["colour"])
     skip = 3 + (3 if head and head["normal"] else 0)
     points, colours = read_points(lines[1 : 1 + points_count], skip, is_coloured)

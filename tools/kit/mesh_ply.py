@@ -162,7 +162,9 @@ def make_surface(elements: list[Element], tables: dict[str, list[tuple]]) -> Sur
         raise Unfit("PLY has no faces with the points at their corners")
     codes = {element.name: {item.name: item.code for item in element.properties} for element in elements}
     places = [names["vertex"].index(name) for name in "xyz"]
-    points: list[Point] = [(float(row[places[0]]), float(row[places[1]]), float(row[places[2]])) for row in tables["vertex"]]
+    points: list[Point] = [
+        (float(row[places[0]]), float(row[places[1]]), float(row[places[2]])) for row in tables["vertex"]
+    ]
     return Surface(
         points=points,
         faces=[row[corners] for row in tables["face"]],
@@ -193,7 +195,9 @@ def write_ply(path: Path, surface: Surface) -> None:
         + (channels if surface.face_colours else "")
         + "end_header\n"
         + "".join(tell_rows(map(tell_point_line, surface.points), surface.point_colours))
-        + "".join(tell_rows((f"{len(face)} {' '.join(map(str, face))}" for face in surface.faces), surface.face_colours))
+        + "".join(
+            tell_rows((f"{len(face)} {' '.join(map(str, face))}" for face in surface.faces), surface.face_colours)
+        )
     )
 
 

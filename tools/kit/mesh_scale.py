@@ -10,7 +10,7 @@ from kit.mesh_model import Mesh, Point, Unfit
 
 EXACT_MOST = 10**8  # a scale that leaves every digit of the file is taken where no coordinate passes this
 ROUND_MOST = 10**7  # else coordinates are rounded so that the greatest is below this
-SLACK = 1e-6  # how far from a whole number a scaled coordinate may be and still count as one
+SLACK = 1e-9  # how far from a whole number a scaled coordinate may be, for the greatest one, and still count as one
 SCALE_LINE = re.compile(r"#[ \t]*scale[ \t]+(\S+)[ \t\r]*$")
 
 Whole = tuple[int, int, int]
@@ -24,7 +24,7 @@ def choose_scale(points: list[Point]) -> Fraction:
         scale = 10**power
         if power and most * scale > EXACT_MOST:
             break
-        if all(abs(value * scale - round(value * scale)) <= SLACK for value in values):
+        if all(abs(value * scale - round(value * scale)) <= SLACK * most * scale for value in values):
             return Fraction(scale)
     return Fraction(10 ** max(0, math.floor(math.log10(ROUND_MOST / most))))
 

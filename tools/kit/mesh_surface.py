@@ -28,7 +28,9 @@ def make_surface_map(surface: Surface, points: list[Whole], with_colours: bool) 
     columns: list[Sequence] = [[points[end] for end in sides.ends]]
     if with_colours and surface.face_colours:
         embeds.append(Embed("col", (0, 1), "rgb"))
-        columns.append([colour for colour, face in zip(surface.face_colours, surface.faces) for _ in range(2 * len(face))])
+        columns.append(
+            [colour for colour, face in zip(surface.face_colours, surface.faces) for _ in range(2 * len(face))]
+        )
     elif with_colours and surface.point_colours:
         embeds.append(Embed("col", (1, 2), "rgb"))
         columns.append([surface.point_colours[end] for end in sides.ends])
@@ -87,7 +89,9 @@ def check_faces(surface: Surface) -> None:
             raise Unfit(f"face {surface.tell_element(index)} has {len(face)} corners, and a polygon has three or more")
         if min(face) < 0 or max(face) >= count:
             worst = next(corner for corner in face if not 0 <= corner < count)
-            raise Unfit(f"face {surface.tell_element(index)} has the corner {worst + surface.first}, and there is no such point")
+            raise Unfit(
+                f"face {surface.tell_element(index)} has the corner {worst + surface.first}, and there is no such point"
+            )
         if len(set(face)) < len(face):
             twice = next(corner for corner in face if face.count(corner) > 1)
             raise Unfit(f"face {surface.tell_element(index)} has the point {surface.tell_point(twice)} twice")
@@ -129,7 +133,11 @@ def join_edges(surface: Surface, sides: Sides, across: list[int]) -> None:
 def tell_crowded_edge(surface: Surface, begin: int, end: int) -> str:
     """The line for an edge of more than two faces."""
     edge = {begin, end}
-    at = [surface.tell_element(i) for i, face in enumerate(surface.faces) if edge in map(set, zip(face, face[1:] + face[:1]))]
+    at = [
+        surface.tell_element(i)
+        for i, face in enumerate(surface.faces)
+        if edge in map(set, zip(face, face[1:] + face[:1]))
+    ]
     return f"the edge of the points {surface.tell_points((begin, end))} has {len(at)} faces: {tell_some(at)}"
 
 
@@ -151,7 +159,7 @@ def list_vertices(given: Map) -> tuple[dict[int, int], list[int]]:
 
 
 def list_leading_darts(given: Map, labels: Iterable[int]) -> set[int]:
-    """The darts of the colour of each component's least dart, by the labels; all where a component has no two colours."""
+    """The darts of each component that have the colour of its least one, or all where there are no two colours."""
     steps = [given.alpha[label] for label in labels]
     colours: dict[int, bool] = {}
     leading: set[int] = set()
@@ -204,7 +212,7 @@ def list_polygons(given: Map, leading: set[int]) -> list[list[int]]:
 
 
 def pick_colours(given: Map, labels: set[int], darts: Iterable[int]) -> list[Colour] | None:
-    """The colours at the darts, of the first embedding of kind rgb over at least the labels; None where there is none."""
+    """The darts' colours in the first embedding of kind rgb over at least the labels; None where there is none."""
     for embed in given.embeds:
         if embed.kind == "rgb" and labels <= set(embed.labels):
             values = given.values[embed.name]

@@ -5,7 +5,15 @@ from fractions import Fraction
 from kit.maps import Embed, Map
 from kit.mesh_model import CELL_FACES, Cell, Polygon, Unfit, Volume, make_cell, make_polyhedron
 from kit.mesh_scale import Whole, unscale_points
-from kit.mesh_surface import FEWEST_CORNERS, Sides, list_vertices, number_map, pick_points, tell_one_place, trace_polygon
+from kit.mesh_surface import (
+    FEWEST_CORNERS,
+    Sides,
+    list_vertices,
+    number_map,
+    pick_points,
+    tell_one_place,
+    trace_polygon,
+)
 
 FREE = -1
 KINDS = {tuple(sorted(map(len, faces))): kind for kind, faces in CELL_FACES.items()}  # by the sizes of a cell's faces
@@ -15,8 +23,8 @@ def make_volume_map(volume: Volume, points: list[Whole]) -> Map:
     """The map of a volume, its points scaled: two darts for each side of each face of a cell, in the order of the file.
 
     Faces of a cell are joined along 2, and cells that share a face along 3; other faces stay free along 3. Unfit tells
-    why a volume has no map: a cell with a point twice or two at one place, an edge of a cell with other than two of its faces, a face of
-    more than two cells, and two cells that have the corners of one face in another order.
+    why a volume has no map: a cell with a point twice or two at one place, an edge of a cell with other than two of
+    its faces, a face of more than two cells, and two cells that have the corners of one face in another order.
     """
     check_cells(volume)
     check_places(volume, points)
@@ -63,15 +71,20 @@ def join_edges(volume: Volume, sides: Sides) -> list[int]:
                 if other is None:
                     waits[edge] = lower
                 elif across[other] != FREE:
-                    raise Unfit(f"cell {volume.tell_element(index)} has more than two faces at the edge of the points {volume.tell_points(edge)}")
+                    raise Unfit(tell_edge(volume, index, edge, "more than two faces"))
                 else:
                     across[lower], across[other] = other, lower
                     across[lower ^ 1], across[other ^ 1] = other ^ 1, lower ^ 1
                 dart += 2
         for edge, lower in waits.items():
             if across[lower] == FREE:
-                raise Unfit(f"cell {volume.tell_element(index)} has one face alone at the edge of the points {volume.tell_points(edge)}")
+                raise Unfit(tell_edge(volume, index, edge, "one face alone"))
     return across
+
+
+def tell_edge(volume: Volume, index: int, edge: tuple[int, int], what: str) -> str:
+    """The line for what a cell has at an edge."""
+    return f"cell {volume.tell_element(index)} has {what} at the edge of the points {volume.tell_points(edge)}"
 
 
 def join_faces(volume: Volume, sides: Sides) -> list[int]:
