@@ -7,7 +7,11 @@ from kit.maps import Map
 
 
 class NoRule(Exception):
-    """Why no rule comes of the example, in one plain line."""
+    """Why no rule comes of the example, in one plain line, and where one came close the candidate."""
+
+    def __init__(self, line: str, candidate: object = None) -> None:
+        super().__init__(line)
+        self.candidate = candidate
 
 
 @dataclass(frozen=True)

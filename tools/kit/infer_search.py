@@ -1,13 +1,13 @@
 """Looks for the orbits along which an example folds, and for the rule with the fewest nodes among them."""
 from collections.abc import Callable, Iterator, Sequence
-from dataclasses import dataclass
+from dataclasses import dataclass, field
 from itertools import combinations
 
-from kit.infer_check import faults_of
+from kit.infer_check import faults_of, script_text
 from kit.infer_draft import Draft, Letter, Link
 from kit.infer_example import Example, NoRule
 from kit.infer_fold import MOST_NODES, Broken, Fold
-from kit.infer_values import Place, Unfound, assign
+from kit.infer_values import Place, Unfound, assign, value_text
 
 OF_VALUES = "no-value", "merge ", "merge-along"   # the faults that an assignment mends
 FURTHEST = 3   # how many unchanged labels in a row a rule goes along
@@ -17,6 +17,9 @@ FURTHEST = 3   # how many unchanged labels in a row a rule goes along
 class Candidate:
     """A rule that would make the map after: one draft for each line of the script, alike but for their darts."""
     lines: list[Draft]
+    further: list[Place] = field(default_factory=list)     # the further examples, and the draft as it lies there
+    unfound: list[Unfound] = field(default_factory=list)   # the assignments for which no expression was found
+    needed: list[str] = field(default_factory=list)        # of what stays as it is and isn't left out, why
 
     @property
     def draft(self) -> Draft:
@@ -31,6 +34,23 @@ class Candidate:
             if label not in node.context
         )
         return len(nodes), len(self.lines), free, len(self.draft.hooks()), len(self.draft.word)
+
+    def drafts(self) -> list[Draft]:
+        """The draft wherever it lies."""
+        return self.lines + [lying for _, lying in self.further]
+
+    def script(self, name: str) -> str:
+        """The script's text."""
+        return script_text(name, self.lines)
+
+    def remarks(self) -> str:
+        """Comments on the rule: which steps stay though they don't change, and which values aren't found."""
+        names = self.draft.names()
+        lines = self.needed + [
+            f"{embed} at {names[node]} isn't found; at its positions the values are {', '.join(map(value_text, wanted))}"
+            for embed, node, wanted in self.unfound
+        ]
+        return "".join(f"# {line}\n" for line in lines)
 
 
 def words_of(dimension: int) -> list[tuple[int, ...]]:
@@ -80,29 +100,25 @@ def whole(fold: Fold) -> Iterator[Candidate]:
     try:
         fold = fold.copy()
         fold.reach(FURTHEST)
-        missing = fold.example.missing(fold.owner)
-        if not missing:
-            yield Candidate([fold.draft()])
-            return
+        while missing := fold.example.missing(fold.owner):
+            fold = go_in_step(fold, min(missing))
+        yield Candidate([fold.draft()])
     except Broken:
         return
-    for start in sorted(missing):
-        stepped = go_in_step(fold, start)
-        if stepped:
-            yield Candidate([stepped])
-            return
 
 
-def go_in_step(fold: Fold, start: int) -> Draft | None:
-    """The rule in which the dart is the first of a node that is walked in step with the hook, if it is whole."""
-    fold = fold.copy()
-    side = fold.example.after if start in fold.example.new else fold.example.before
-    try:
-        fold.add(fold.in_step(side, start))
-        fold.reach(FURTHEST)
-        return None if fold.example.missing(fold.owner) else fold.draft()
-    except Broken:
-        return None
+def go_in_step(fold: Fold, dart: int) -> Fold:
+    """The fold with one more node, which has the dart and is walked in step with the hook; Broken where none can be."""
+    side = fold.example.after if dart in fold.example.new else fold.example.before
+    for start in side.orbit(fold.word, dart):
+        longer = fold.copy()
+        try:
+            longer.add(longer.in_step(side, start))
+            longer.reach(FURTHEST)
+        except Broken:
+            continue
+        return longer
+    raise Broken(f"no darts in step with the hook's take in dart {dart}")
 
 
 def repeated(example: Example, folds: Sequence[Fold]) -> Iterator[Candidate]:
@@ -151,49 +167,49 @@ def why_none(example: Example, words: Sequence[tuple[int, ...]], hook: int | Non
     return "no orbit of what differs folds to the nodes of one rule"
 
 
-def set_values(places: Sequence[Place], candidate: Candidate) -> list[Unfound]:
-    """Gives the candidate its assignments, more of them while the program finds values wanting; answers what isn't found."""
+def set_values(places: Sequence[Place]) -> list[Unfound]:
+    """Gives a rule its assignments, more of them while the program finds values wanting; answers what isn't found."""
     example, draft = places[0]
     forced: set[tuple[str, int]] = set()
     while True:
         unfound = assign(places, forced)
-        fault = faults_of(example.before.dimension, example.before.embeds, [draft])[0]
-        if unfound or fault is None or not fault.startswith(OF_VALUES):
+        if unfound:
             return unfound
+        fault = faults_of(example.before.dimension, example.before.embeds, [draft])[0]
+        if fault is None or not fault.startswith(OF_VALUES):
+            return []
         _, embed, name = fault.split()[:3]
         if (embed, draft.names().index(name)) in forced:
-            return unfound
+            return []
         forced.add((embed, draft.names().index(name)))
 
 
 Drop = tuple[int, int | None]   # a step of a node by its label, or without a label the whole node
 
 
-def least_context(example: Example, candidate: Candidate) -> tuple[Candidate, list[str]]:
+def least_context(example: Example, candidate: Candidate) -> Candidate:
     """The candidate without what is the same before and after and isn't needed, and why the rest is."""
-    kept_nodes: dict[Drop, str] = {}
-    candidate = drop_all(example, candidate, idle_nodes, kept_nodes)
-    kept_steps: dict[Drop, str] = {}
-    candidate = drop_all(example, candidate, idle_steps, kept_steps)
+    candidate, _ = drop_all(example, candidate, idle_nodes)
+    candidate, needed = drop_all(example, candidate, idle_steps)
     names = candidate.draft.names()
-    return candidate, [f"label {label} at {names[at]} stays as it is: {fault} without it"
-                       for (at, label), fault in sorted(kept_steps.items())]
+    candidate.needed = [
+        f"label {label} at {names[at]} stays as it is: {fault} without it" for (at, label), fault in sorted(needed.items())
+    ]
+    return candidate
 
 
-def drop_all(example: Example, candidate: Candidate, list_drops: Callable[[Draft], list[Drop]],
-             needed: dict[Drop, str]) -> Candidate:
-    """Drops what can be dropped, all at once or else one after another, and tells of the rest the fault without it."""
-    schema = example.before.dimension, example.before.embeds
+def drop_all(example: Example, candidate: Candidate,
+             list_drops: Callable[[Draft], list[Drop]]) -> tuple[Candidate, dict[Drop, str]]:
+    """Drops what can be dropped, all at once or else the first of it, and tells of the rest the fault without it."""
     while True:
-        drops = [drop for drop in list_drops(candidate.draft) if drop not in needed]
+        drops = list_drops(candidate.draft)
         tried = [drop_from(candidate, [drop]) for drop in drops]
-        faults = faults_of(*schema, [shorter.draft for shorter in tried])
-        needed.update({drop: fault for drop, fault in zip(drops, faults) if fault is not None})
+        faults = faults_of(example.before.dimension, example.before.embeds, [shorter.draft for shorter in tried])
         passed = [drop for drop, fault in zip(drops, faults) if fault is None]
         if not passed:
-            return candidate
+            return candidate, {drop: fault for drop, fault in zip(drops, faults) if fault is not None}
         at_once = drop_from(candidate, passed)
-        is_fine = faults_of(*schema, [at_once.draft]) == [None]
+        is_fine = faults_of(example.before.dimension, example.before.embeds, [at_once.draft]) == [None]
         candidate = at_once if is_fine else drop_from(candidate, passed[:1])
 
 
@@ -214,14 +230,15 @@ def idle_steps(draft: Draft) -> list[Drop]:
 
 def drop_from(candidate: Candidate, drops: Sequence[Drop]) -> Candidate:
     """The candidate without steps, or without nodes, that are the same before and after."""
-    lines = []
-    for draft in candidate.lines:
+    drafts = []
+    for draft in candidate.drafts():
         draft = draft.copy()
         for at, label in drops:
             for one in [label] if label is not None else list(draft.nodes[at].left):
                 drop_step(draft, at, one)
-        lines.append(draft.without({at for at, label in drops if label is None}))
-    return Candidate(lines)
+        drafts.append(draft.without({at for at, label in drops if label is None}))
+    lines, others = drafts[: len(candidate.lines)], drafts[len(candidate.lines) :]
+    return Candidate(lines, [(example, lying) for (example, _), lying in zip(candidate.further, others)])
 
 
 def drop_step(draft: Draft, at: int, label: int) -> None:

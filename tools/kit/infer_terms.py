@@ -149,17 +149,30 @@ def find_multiple(kind: str, width: int, wanted: Row, terms: Sequence[Term]) -> 
 
 
 def find_sum(wanted: Row, terms: Sequence[Term], number: int) -> str | None:
-    """A mean of so many terms with small factors, as `(2 * a.pos + b.pos) / 3`."""
-    first = [term.row[0] for term in terms]
-    orders = [order for factors in FACTORS[number] for order in sorted(set(permutations(factors)), reverse=True)]
-    for order in orders:
+    """A mean of so many terms with small factors, as `(2 * a.pos + b.pos) / 3`.
+
+    Most sums fail at one place of the row, so that is tried alone first: where the terms differ most."""
+    place = max(range(len(wanted)), key=lambda at: len({term.row[at] for term in terms}))
+    column = [term.row[place] for term in terms]
+    for order in (order for factors in FACTORS[number] for order in sorted(set(permutations(factors)), reverse=True)):
         under = sum(order)
-        for chosen in combinations(range(len(terms)), number):
-            if sum(factor * first[at] for factor, at in zip(order, chosen)) // under == wanted[0]:
-                rows = [terms[at].row for at in chosen]
-                if all(sum(map(int.__mul__, order, parts)) // under == want for want, parts in zip(wanted, zip(*rows))):
-                    return quotient([terms[at] for at in chosen], order, under)
+        multiples = [order[-1] * part for part in column]
+        for chosen in combinations(range(len(terms)), number - 1):
+            least = wanted[place] * under - sum(order[at] * column[term] for at, term in enumerate(chosen))
+            for last in range(chosen[-1] + 1, len(terms)):
+                if least <= multiples[last] < least + under:
+                    summed = [terms[at] for at in (*chosen, last)]
+                    if is_quotient(wanted, [term.row for term in summed], order, under):
+                        return quotient(summed, order, under)
     return None
+
+
+def is_quotient(wanted: Row, rows: Sequence[Row], factors: Sequence[int], under: int) -> bool:
+    """Whether the rows with their factors, added up and divided, make the wanted one."""
+    return all(
+        sum(factor * part for factor, part in zip(factors, parts)) // under == want
+        for want, parts in zip(wanted, zip(*rows))
+    )
 
 
 def find_moved(kind: str, width: int, wanted: Row, terms: Sequence[Term]) -> str | None:

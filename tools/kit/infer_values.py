@@ -5,14 +5,14 @@ from typing import NamedTuple
 from kit.infer_draft import Draft, Link
 from kit.infer_example import Example
 from kit.infer_terms import find_expression, row_of, terms_of
-from kit.maps import WIDTHS, Embed
+from kit.maps import WIDTHS, Embed, Value
 
 
 class Unfound(NamedTuple):
     """An assignment for which no expression was found: the embedding, the node, and the values that are wanted."""
     embed: str
     node: int
-    wanted: list
+    wanted: list[Value]
 
 
 Place = tuple[Example, Draft]   # a rule as it lies in an example
@@ -81,7 +81,11 @@ def assign(places: Sequence[Place], forced: Iterable[tuple[str, int]]) -> list[U
     return unfound
 
 
-def wanted_values(places: Sequence[Place], node: int, embed: Embed) -> list:
+def wanted_values(places: Sequence[Place], node: int, embed: Embed) -> list[Value]:
     """The values of a node after, at all positions of all places."""
     return [example.after.values[embed.name][dart] for example, lying in places for dart in lying.nodes[node].darts]
 
+
+def value_text(value: Value) -> str:
+    """A value as a map's text has it."""
+    return str(value) if isinstance(value, int) else f"({' '.join(map(str, value))})"
