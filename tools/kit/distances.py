@@ -1,11 +1,12 @@
 """How far cells of a map lie from a place: corners, edges, polygons and volumes between the points of a map."""
 import math
-from collections.abc import Iterable, Sequence
+from collections.abc import Iterable, Mapping, Sequence
 from itertools import groupby, pairwise
 
 from kit.maps import Map
 
 Place = tuple[float, float, float]
+Alpha = Sequence[Mapping[int, int]]  # the neighbour of each dart by label
 
 
 def place_of(numbers: Sequence[float]) -> Place:
@@ -88,37 +89,39 @@ def turns_round(place: Place, polygons: Iterable[Sequence[Place]]) -> float:
     return total / (4 * math.pi)
 
 
-def rim_of(it: Map, dart: int, first: int = 0) -> list[int]:
+def rim_of(alpha: Alpha, dart: int, first: int = 0) -> list[int]:
     """The darts round the dart's face, from the dart on along the label `first`, 0 or 1, and then by turns. Where the
     face is open, they begin at the end to which the walk the other way leads."""
     start, label = dart, 1 - first
-    while it.alpha[label][start] != start:
-        start, label = it.alpha[label][start], 1 - label
+    while alpha[label][start] != start:
+        start, label = alpha[label][start], 1 - label
         if start == dart:
             break
     rim, label = [start], 1 - label
-    while (near := it.alpha[label][rim[-1]]) not in (start, rim[-1]):
+    while (near := alpha[label][rim[-1]]) not in (start, rim[-1]):
         rim.append(near)
         label = 1 - label
     return rim
 
 
-def corners_from(it: Map, points: dict[int, Place], dart: int, first: int = 0) -> list[Place]:
+def corners_from(alpha: Alpha, points: Mapping[int, Place], dart: int, first: int = 0) -> list[Place]:
     """The points round the dart's face, in the order of `rim_of`, none twice behind itself."""
-    passed = [point for point, _ in groupby(points[one] for one in rim_of(it, dart, first))]
+    passed = [point for point, _ in groupby(points[one] for one in rim_of(alpha, dart, first))]
     return passed[:-1] if len(passed) > 1 and passed[-1] == passed[0] else passed
 
 
-def polygons_of(it: Map, points: dict[int, Place], volume: list[int]) -> list[list[Place]]:
-    """The polygons round a volume, all walked alike where it can be oriented."""
-    side, waiting = {volume[0]: 0}, [volume[0]]
-    for dart in waiting:
+def sides_of(alpha: Alpha, dart: int) -> tuple[dict[int, int], bool]:
+    """For each dart of the surface of a dart on which side it lies, 0 or 1, so that neighbours lie on different ones;
+    and whether they all do and none is free: then the surface is closed and has two sides."""
+    side, waiting, is_closed = {dart: 0}, [dart], True
+    for here in waiting:
         for label in range(3):
-            near = it.alpha[label][dart]
+            near = alpha[label][here]
             if near not in side:
-                side[near] = 1 - side[dart]
+                side[near] = 1 - side[here]
                 waiting.append(near)
-    return [corners_from(it, points, face[0], side[face[0]]) for face in it.orbits((0, 1), volume)]
+            is_closed &= side[near] != side[here]
+    return side, is_closed
 
 
 def distance_to(it: Map, points: dict[int, Place], dimension: int, cell: list[int], place: Place) -> float:
@@ -128,8 +131,10 @@ def distance_to(it: Map, points: dict[int, Place], dimension: int, cell: list[in
     if dimension == 1:
         return to_segment(place, points[cell[0]], points[it.alpha[0][cell[0]]])
     if dimension == 2:
-        return to_polygon(place, corners_from(it, points, cell[0]))
-    polygons = polygons_of(it, points, it.orbit((0, 1, 2), cell[0]))
+        return to_polygon(place, corners_from(it.alpha, points, cell[0]))
+    side, _ = sides_of(it.alpha, cell[0])
+    faces = it.orbits((0, 1), it.orbit((0, 1, 2), cell[0]))
+    polygons = [corners_from(it.alpha, points, face[0], side[face[0]]) for face in faces]
     if abs(turns_round(place, polygons)) > 0.5:
         return 0.0
     return min(to_polygon(place, corners) for corners in polygons)

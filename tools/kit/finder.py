@@ -103,7 +103,7 @@ class Finder:
         rims: dict[int, None] = {}
         for begin in darts:
             if begin not in rims:
-                rims.update(dict.fromkeys(rim_of(self.map, begin)))
+                rims.update(dict.fromkeys(rim_of(self.map.alpha, begin)))
         return list(rims)
 
     def cell_of(self, cell: int, dart: int) -> list[Found]:
