@@ -1,5 +1,4 @@
-"""Tests of tools/mesh: each format there and back, what is read of each, colours, scales, and the command line."""
-import struct
+"""Tests of tools/mesh: each format there and back, scales, and the command line."""
 import subprocess
 import sys
 import tempfile
@@ -10,7 +9,7 @@ from fractions import Fraction
 from pathlib import Path
 
 from kit import maps, program
-from kit.mesh_convert import make_map, make_mesh
+from kit.mesh_convert import Wish, make_map, make_mesh
 from kit.mesh_formats import list_written, read_mesh, write_mesh, writes_volumes
 from kit.mesh_model import Surface, Unfit, Volume, make_cell, make_polyhedron
 from kit.mesh_scale import choose_scale, read_scale
@@ -19,6 +18,7 @@ ROOT = Path(__file__).resolve().parents[2]
 TOOL = ROOT / "tools" / "mesh"
 OPERATIONS = ROOT / "examples" / "operations"
 ONE = Fraction(1)
+FILE_COLOURS = Wish(colours=True)
 
 # A house without a floor: four walls, two slopes of a roof and two gables, with a border of four edges below.
 # fmt: off
@@ -82,7 +82,7 @@ def assert_same(found: Surface | Volume, wanted: Surface | Volume) -> None:
 def turn(mesh: Surface | Volume, has_cells: bool = True) -> Surface | Volume:
     """The mesh of the map of a mesh."""
     scale = choose_scale(mesh.points)
-    return make_mesh(maps.read_map(make_map(mesh, scale, True).text()), scale, has_cells)
+    return make_mesh(maps.read_map(make_map(mesh, scale, FILE_COLOURS).text()), scale, has_cells)
 
 
 @contextmanager
@@ -190,9 +190,7 @@ def test_stl_by_assimp():
     found = read_written("solid.stl", text + "endsolid s\n")
     assert len(found.points) == 4, "corners at one place are one point"
     assert_same(found, Surface(points=[tuple(map(float, corner)) for corner in corners], faces=facets))
-    assert all(
-        dart != across for dart, across in make_map(found, Fraction(100), False).alpha[2].items()
-    ), "it is closed"
+    assert all(dart != across for dart, across in make_map(found, Fraction(100)).alpha[2].items()), "it is closed"
 
 
 def test_two_fans_are_two_vertices():
@@ -200,7 +198,7 @@ def test_two_fans_are_two_vertices():
         points=[(0.0, 0.0, 0.0), (1.0, 0.0, 0.0), (0.0, 1.0, 0.0), (-1.0, 0.0, 0.0), (0.0, -1.0, 0.0)],
         faces=[(0, 1, 2), (0, 3, 4)],
     )
-    made = make_map(fans, ONE, False)
+    made = make_map(fans, ONE)
     assert len(made.cells(0)) == 6 and turn(fans).points.count((0.0, 0.0, 0.0)) == 2
 
 
@@ -215,7 +213,7 @@ def test_the_library_of_operations_there_and_back():
         except Unfit:
             continue  # it has open faces or cells, or faces of two corners
         try:
-            made = make_map(mesh, ONE, False)
+            made = make_map(mesh, ONE)
         except Unfit:
             continue  # a face or cell comes to one vertex twice, or more faces share their ends than an edge has
         same = [len(made.cells(cell)) for cell in range(1, given.dimension + 1)]
@@ -242,7 +240,7 @@ def place(given: maps.Map) -> maps.Map:
 
 
 def test_points_in_the_plane_are_written_with_0():
-    made = make_map(Surface(points=house().points, faces=[(0, 1, 2)]), ONE, False)
+    made = make_map(Surface(points=house().points, faces=[(0, 1, 2)]), ONE)
     flat = maps.Map(
         2,
         2,
@@ -253,89 +251,6 @@ def test_points_in_the_plane_are_written_with_0():
         {"p": {d: v[:2] for d, v in made.values["pos"].items()}},
     )
     assert make_mesh(flat, Fraction(2), False).points == [(0, 0, 0), (2, 0, 0), (2, 3, 0)]
-
-
-# What is read.
-
-
-def test_obj_forms():
-    text = (
-        "# a comment\ng walls\nv 0 0 0\nv 1.5 0 0 # behind\nv 1.5 1 0\nv 0 1 0 1.0\nvt 0 0\nvn 0 0 1\ns off\no roof\n"
-    )
-    text += "f 1/1/1 2//1 3/1\nf -4 -2 \\\n -1\nl 1 2\np 1\n"
-    found = read_written("forms.obj", text)
-    assert found.faces == [(0, 1, 2), (0, 2, 3)] and found.points[1] == (1.5, 0, 0)
-    assert read_written("wide.obj", text.encode("utf-16")).faces == found.faces
-
-
-def test_off_forms():
-    plain = "OFF # a comment\n\n3 1 0\n0 0 0\n1 0 0\n\n0 1 0\n3 0 1 2\n"
-    assert read_written("plain.off", plain).faces == [(0, 1, 2)]
-    coloured = read_written(
-        "c.off", "COFF\n3 1 3\n0 0 0 255 0 0 255\n1 0 0 0 255 0 255\n0 1 0 0 0 255 255\n3 0 1 2 0.5 0 1\n"
-    )
-    assert coloured.point_colours == [(255, 0, 0), (0, 255, 0), (0, 0, 255)] and coloured.face_colours == [
-        (128, 0, 255)
-    ]
-
-
-def test_ply_binary():
-    for order, sign in (("little", "<"), ("big", ">")):
-        head = f"ply\nformat binary_{order}_endian 1.0\ncomment x\nelement vertex 3\n"
-        head += "property float x\nproperty float y\nproperty float z\n"
-        head += "element face 1\nproperty list uchar uint vertex_index\n"
-        head += "property uchar red\nproperty uchar green\nproperty uchar blue\nend_header\n"
-        body = struct.pack(f"{sign}9f", 0, 0, 0, 0.1, 0, 0, 0, 16777215, 0) + struct.pack(
-            f"{sign}B3I3B", 3, 0, 1, 2, 9, 8, 7
-        )
-        found = read_written("binary.ply", head.encode() + body)
-        assert (
-            found.points == [(0, 0, 0), (0.1, 0, 0), (0, 16777215, 0)]
-            and found.faces == [(0, 1, 2)]
-            and found.face_colours == [(9, 8, 7)]
-        )
-
-
-def test_polygons_of_a_volume_are_passed_over():
-    text = (
-        "$MeshFormat\n2.2 0 8\n$EndMeshFormat\n$Nodes\n4\n1 0 0 0\n2 1 0 0\n3 0 1 0\n4 0 0 1\n$EndNodes\n$Elements\n3\n"
-    )
-    found = read_written("one.msh", text + "1 1 2 0 1 1 2\n2 2 2 0 1 1 2 3\n3 4 2 0 1 1 2 3 4\n$EndElements\n")
-    assert isinstance(found, Volume) and len(found.cells) == 1 and found.tell_element(0) == "3"
-
-
-# Colours.
-
-
-def test_colours_there_and_back():
-    for suffix in (".ply", ".off"):
-        assert there_and_back(suffix, house(face_colours=HOUSE_COLOURS)).face_colours == HOUSE_COLOURS
-    by_point = [(9, place, 255) for place in range(len(HOUSE_POINTS))]
-    found = there_and_back(".ply", house(point_colours=by_point))
-    assert (
-        dict(zip(found.points, found.point_colours)) == dict(zip(house().points, by_point))
-        and found.face_colours is None
-    )
-
-
-def test_colours_of_obj():
-    text = "v 0 0 0 1 0 0\nv 1 0 0 0 1 0\nv 0 1 0 0 0 0.5\nv 1 1 0 0 0 1\n"
-    assert read_written("a.obj", text + "f 1 2 3\n").point_colours == [
-        (255, 0, 0),
-        (0, 255, 0),
-        (0, 0, 128),
-        (0, 0, 255),
-    ]
-    with scratch() as folder:
-        (folder / "m.mtl").write_text("newmtl red one\nKa 0 0 0\nKd 1 0 0\nnewmtl blue\nKd 0 0 1\n")
-        (folder / "b.obj").write_text("mtllib m.mtl\n" + text + "usemtl red one\nf 1 2 3\nusemtl blue\nf 2 3 4\n")
-        assert read_mesh(folder / "b.obj").face_colours == [(255, 0, 0), (0, 0, 255)]
-
-
-def test_colours_of_a_map():
-    made = make_map(house(face_colours=HOUSE_COLOURS), Fraction(100), True)
-    assert made.embeds[1] == maps.Embed("col", (0, 1), "rgb") and made.values["col"][8] == HOUSE_COLOURS[1]
-    assert make_map(house(face_colours=HOUSE_COLOURS), Fraction(100), False).embeds == made.embeds[:1]
 
 
 # Scales.
@@ -375,7 +290,7 @@ def test_scales_are_told_kept_and_taken():
 
 def test_whole_numbers_of_any_size_are_written():
     most = 2**63 - 1
-    made = make_map(Surface(points=[(0.0, 0.0, 0.0), (1.0, 0.0, 0.0), (0.0, 1.0, 0.0)], faces=[(0, 1, 2)]), ONE, False)
+    made = make_map(Surface(points=[(0.0, 0.0, 0.0), (1.0, 0.0, 0.0), (0.0, 1.0, 0.0)], faces=[(0, 1, 2)]), ONE)
     made.values["pos"] = {dart: (most, *value[1:]) for dart, value in made.values["pos"].items()}
     with scratch() as folder:
         write_mesh(folder / "far.obj", make_mesh(made, ONE, False))

@@ -27,12 +27,12 @@ THREE_AT_AN_EDGE = "v 0 0 0\nv 1 0 0\nv 0 1 0\nv 0 0 1\nv 0 -1 0\nf 1 2 3\nf 1 2
 
 def refuse_surface(points: list[tuple], faces: list[tuple], first: int = 0) -> str:
     """The line with which a surface is refused, points and faces being counted from a first number."""
-    return refusal(lambda: make_map(Surface(points=points, faces=faces, first=first), ONE, False))
+    return refusal(lambda: make_map(Surface(points=points, faces=faces, first=first), ONE))
 
 
 def refuse_volume(cells: list, points: list[tuple] = CELL_POINTS) -> str:
     """The line with which a volume is refused."""
-    return refusal(lambda: make_map(Volume(points=points, cells=cells), ONE, False))
+    return refusal(lambda: make_map(Volume(points=points, cells=cells), ONE))
 
 
 def test_an_edge_of_three_faces_is_refused():
@@ -152,7 +152,7 @@ def test_maps_without_a_mesh_are_refused():
     assert refuse_map("gmap 1 dim 2 darts 0") == "the map has no points: no embedding <1 2> of kind vec3 or vec2"
     assert refuse_map(EDGE) == "the face of dart 0 isn't closed: dart 1 is free along 1"
     assert refuse_map(DIGON) == "the face of dart 0 has 2 corners, and a polygon has three or more"
-    lone = make_map(block(), ONE, False)
+    lone = make_map(block(), ONE)
     lone.alpha[2] = {dart: dart for dart in lone.darts}
     assert refuse_map(place(lone).text(), True) == "the cell of dart 0 isn't closed: dart 0 is free along 2"
 

@@ -1,17 +1,26 @@
 """Files of meshes become files of maps, and back: what `tools/mesh` does."""
 from fractions import Fraction
 from pathlib import Path
+from typing import NamedTuple
 
 from kit import maps, program
 from kit.maps import Map
 from kit.mesh_formats import check_written, read_mesh, write_mesh, writes_volumes
-from kit.mesh_model import Surface, Unfit, Volume
+from kit.mesh_model import Colour, Paint, Surface, Unfit, Volume
 from kit.mesh_scale import choose_scale, read_scale, scale_points, tell_scale
 from kit.mesh_surface import make_surface_map, read_surface_map
 from kit.mesh_volume import make_volume_map, read_volume_map
 
 
-def import_mesh(model: Path, out: Path, scale: Fraction | None, with_colours: bool, is_checked: bool) -> str:
+class Wish(NamedTuple):
+    """What is wanted of colours: those of the file as 'col', where it has them, or an embedding 'paint' as the library
+    of operations has it, with the file's colours of faces or else this one."""
+
+    colours: bool = False
+    paint: Colour | None = None
+
+
+def import_mesh(model: Path, out: Path, scale: Fraction | None, wish: Wish, is_checked: bool) -> str:
     """Writes the map of a mesh's file, and tells what it has in one line.
 
     Unfit says why the mesh has no map. Where it is checked, the program reads what was written, and what it refuses
@@ -19,7 +28,7 @@ def import_mesh(model: Path, out: Path, scale: Fraction | None, with_colours: bo
     """
     mesh = read_mesh(model)
     scale = scale or choose_scale(mesh.points)
-    made = make_map(mesh, scale, with_colours)
+    made = make_map(mesh, scale, wish)
     text = made.text()
     if len(tell_scale(scale)) + len(text) > maps.MOST_BYTES:
         raise Unfit(f"its map needs {len(text)} bytes, and a file has at most {maps.MOST_BYTES}")
@@ -27,15 +36,28 @@ def import_mesh(model: Path, out: Path, scale: Fraction | None, with_colours: bo
     if is_checked and program.put_or_refuse("show", out) != text:
         raise program.Refused(f"the program reads another map from {out} than this tool wrote", 1)
     told = f"imported {tell_counts(mesh)} darts {len(made.darts)} scale {scale}"
-    return f"{told} colours {tell_colours(made)}" if with_colours else told
+    return f"{told} colours {tell_colours(made)}" if wish.colours else told
 
 
-def make_map(mesh: Surface | Volume, scale: Fraction, with_colours: bool) -> Map:
+def make_map(mesh: Surface | Volume, scale: Fraction, wish: Wish = Wish()) -> Map:
     """The map of a mesh, its points times the scale."""
-    points = scale_points(mesh, scale)
+    points, paint = scale_points(mesh, scale), choose_paint(mesh, wish)
     if isinstance(mesh, Volume):
-        return make_volume_map(mesh, points)
-    return make_surface_map(mesh, points, with_colours)
+        return make_volume_map(mesh, points, paint)
+    return make_surface_map(mesh, points, paint)
+
+
+def choose_paint(mesh: Surface | Volume, wish: Wish) -> Paint | None:
+    """The colours that the mesh's map is to have."""
+    if isinstance(mesh, Volume):
+        return Paint("paint", (0, 1, 2), [wish.paint] * len(mesh.cells)) if wish.paint else None
+    if wish.paint:
+        return Paint("paint", (0, 1), mesh.face_colours or [wish.paint] * len(mesh.faces))
+    if wish.colours and mesh.face_colours:
+        return Paint("col", (0, 1), mesh.face_colours)
+    if wish.colours and mesh.point_colours:
+        return Paint("col", (1, 2), mesh.point_colours)
+    return None
 
 
 def export_map(path: Path, out: Path, scale: Fraction | None) -> str:

@@ -5,6 +5,8 @@ from dataclasses import dataclass
 from pathlib import Path
 from typing import NamedTuple
 
+from kit.maps import Embed
+
 Point = tuple[float, float, float]
 Colour = tuple[int, int, int]
 Polygon = tuple[int, ...]  # the indices of its corners' points, from 0
@@ -85,6 +87,18 @@ class Volume(Mesh):
     """A mesh of cells."""
 
     cells: list[Cell]
+
+
+class Paint(NamedTuple):
+    """Colours as an embedding of a map: its name and labels, and the colours of faces, points or cells in order."""
+
+    name: str
+    labels: tuple[int, ...]
+    colours: list[Colour]
+
+    def embed(self) -> Embed:
+        """The embedding of a schema."""
+        return Embed(self.name, self.labels, "rgb")
 
 
 def tell_number(number: float) -> str:

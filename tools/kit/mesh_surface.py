@@ -3,14 +3,14 @@ from collections.abc import Iterable, Iterator, Sequence
 from fractions import Fraction
 
 from kit.maps import MOST_DARTS, Embed, Map, walk
-from kit.mesh_model import Colour, Mesh, Polygon, Surface, Unfit
+from kit.mesh_model import Colour, Mesh, Paint, Polygon, Surface, Unfit
 from kit.mesh_scale import Whole, unscale_points
 
 FEWEST_CORNERS = 3
 MOST_TOLD = 10  # elements that a line of a refusal names
 
 
-def make_surface_map(surface: Surface, points: list[Whole], with_colours: bool) -> Map:
+def make_surface_map(surface: Surface, points: list[Whole], paint: Paint | None) -> Map:
     """The map of a surface, its points scaled: two darts for each side of a face, in the order of the file.
 
     The k-th side of a face leads from its k-th corner to the next. Its first dart lies at the one, the second at the
@@ -23,18 +23,20 @@ def make_surface_map(surface: Surface, points: list[Whole], with_colours: bool) 
     sides = Sides(surface.faces)
     across = list(range(sides.count))
     join_edges(surface, sides, across)
-    alpha = [sides.along(), sides.around(), across]
     embeds = [Embed("pos", (1, 2), "vec3")]
     columns: list[Sequence] = [[points[end] for end in sides.ends]]
-    if with_colours and surface.face_colours:
-        embeds.append(Embed("col", (0, 1), "rgb"))
+    if paint:
+        embeds.append(paint.embed())
+        sizes = [2 * len(face) for face in surface.faces]
         columns.append(
-            [colour for colour, face in zip(surface.face_colours, surface.faces) for _ in range(2 * len(face))]
+            spread(paint.colours, sizes) if 0 in paint.labels else [paint.colours[end] for end in sides.ends]
         )
-    elif with_colours and surface.point_colours:
-        embeds.append(Embed("col", (1, 2), "rgb"))
-        columns.append([surface.point_colours[end] for end in sides.ends])
-    return number_map(2, embeds, alpha, columns)
+    return number_map(2, embeds, [sides.along(), sides.around(), across], columns)
+
+
+def spread(colours: list[Colour], sizes: Iterable[int]) -> list[Colour]:
+    """Each colour as many times as its element has darts."""
+    return [colour for colour, size in zip(colours, sizes) for _ in range(size)]
 
 
 def number_map(dimension: int, embeds: list[Embed], alpha: list[list[int]], columns: list[Sequence]) -> Map:

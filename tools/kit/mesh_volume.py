@@ -1,9 +1,9 @@
 """Volumes of cells as maps of dimension 3, and the cells of maps by their types."""
-from collections.abc import Iterable
+from collections.abc import Iterable, Sequence
 from fractions import Fraction
 
 from kit.maps import Embed, Map
-from kit.mesh_model import CELL_FACES, Cell, Polygon, Unfit, Volume, make_cell, make_polyhedron
+from kit.mesh_model import CELL_FACES, Cell, Paint, Polygon, Unfit, Volume, make_cell, make_polyhedron
 from kit.mesh_scale import Whole, unscale_points
 from kit.mesh_surface import (
     FEWEST_CORNERS,
@@ -11,6 +11,7 @@ from kit.mesh_surface import (
     list_vertices,
     number_map,
     pick_points,
+    spread,
     tell_one_place,
     trace_polygon,
 )
@@ -19,7 +20,7 @@ FREE = -1
 KINDS = {tuple(sorted(map(len, faces))): kind for kind, faces in CELL_FACES.items()}  # by the sizes of a cell's faces
 
 
-def make_volume_map(volume: Volume, points: list[Whole]) -> Map:
+def make_volume_map(volume: Volume, points: list[Whole], paint: Paint | None) -> Map:
     """The map of a volume, its points scaled: two darts for each side of each face of a cell, in the order of the file.
 
     Faces of a cell are joined along 2, and cells that share a face along 3; other faces stay free along 3. Unfit tells
@@ -29,8 +30,13 @@ def make_volume_map(volume: Volume, points: list[Whole]) -> Map:
     check_cells(volume)
     check_places(volume, points)
     sides = Sides(face for cell in volume.cells for face in cell.faces)
+    embeds = [Embed("pos", (1, 2, 3), "vec3")]
+    columns: list[Sequence] = [[points[end] for end in sides.ends]]
+    if paint:
+        embeds.append(paint.embed())
+        columns.append(spread(paint.colours, (2 * sum(map(len, cell.faces)) for cell in volume.cells)))
     alpha = [sides.along(), sides.around(), join_edges(volume, sides), join_faces(volume, sides)]
-    return number_map(3, [Embed("pos", (1, 2, 3), "vec3")], alpha, [[points[end] for end in sides.ends]])
+    return number_map(3, embeds, alpha, columns)
 
 
 def check_cells(volume: Volume) -> None:
