@@ -5,7 +5,7 @@
 
 A clause names words of specs/; each of these is a definition, which names further ones. The `use` lines
 of its file say where they stand. What comes out is all that is named in that way, file by file: what has
-to be read and believed so that the clause means what its sentence in README says. Words of the kit's
+to be read and believed so that the clause means what its sentence in docs/PROVED.md says. Words of the kit's
 library (`Rattle.std..`) and types of the code (`declared`) end the walk. Lines count without blank ones,
 comments and `use` lines."""
 import collections, functools, glob, os, re, sys
