@@ -17,6 +17,7 @@ OPERATORS = frozenset("and or then else".split())
 COLLECTORS = frozenset("sum count min max".split())
 COMMENT = re.compile(r"#[^\n]*")
 TOKEN = re.compile(r"[A-Za-z][A-Za-z0-9_]*|[0-9]+|_|==|!=|<=|>=|[<>()\-+*/%=.,:@]", re.ASCII)
+LOOSE = re.compile(r"#[^\n]*|[A-Za-z][A-Za-z0-9_]*|\S")
 BLANK = re.compile(r"(?:[ \t\r\n]|#[^\n]*)*")
 
 
@@ -74,12 +75,23 @@ def plain(text: str) -> str:
     return " ".join(COMMENT.sub(" ", text).split())
 
 
+def split_book(text: str) -> tuple[str, list[tuple[str, str]]]:
+    """What stands before the first rule, and the name and the text of each rule, from the comments above it on. That
+    needs no more than that `rule` begins a rule, so it works for rules that are no rules yet."""
+    words = [one for one in LOOSE.finditer(text) if not one[0].startswith("#")]
+    starts = [at for at, one in enumerate(words) if one[0] == "rule"]
+    cuts = [begin_of(text, words[at - 1].end() if at else 0, words[at].start()) for at in starts]
+    names = [words[at + 1][0] if at + 1 < len(words) else "" for at in starts]
+    texts = [text[begin:end].rstrip() + "\n" for begin, end in zip(cuts, [*cuts[1:], len(text)])]
+    return text[: cuts[0] if cuts else len(text)], list(zip(names, texts))
+
+
 def begin_of(text: str, last: int, begin: int) -> int:
     """Where the text of a rule begins whose word `rule` stands at `begin`, and whose forerunner ends at `last`:
     behind the rest of the forerunner's last line, and behind empty lines."""
     line_end = text.find("\n", last, begin)
     between = line_end + 1 if line_end >= 0 else last
-    return between + re.match(r"[ \t\r\n]*", text[between:begin]).end()
+    return between + len(text[between:begin]) - len(text[between:begin].lstrip())
 
 
 class Reader:
@@ -186,9 +198,8 @@ class Reader:
                 sets.setdefault(name, {})[embed] = self.expression()
         return words, links, hooks, sets
 
-    def rule(self, last: int) -> Rule:
-        """A rule, whose forerunner ends at this place of the text."""
-        begin = begin_of(self.text, last, self.tokens[self.at].begin)
+    def rule(self, text: str) -> Rule:
+        """A rule, which has this text."""
         self.take("rule")
         name, params = self.name(), self.params()
         self.take("left")
@@ -200,13 +211,7 @@ class Reader:
             self.at += 1
             pre = self.expression()
         nodes = [Node(node, left.get(node), right.get(node), sets.get(node, {}), node in hooks) for node in left | right]
-        return Rule(name, params, nodes, left_links, right_links, pre, self.text[begin : self.end()])
-
-    def end(self) -> int:
-        """Where the line of the last token that was taken ends, or where the next token begins if that is before."""
-        here, after = self.tokens[self.at - 1].end, self.tokens[self.at].begin
-        line_end = self.text.find("\n", here, after)
-        return line_end + 1 if line_end >= 0 else after
+        return Rule(name, params, nodes, left_links, right_links, pre, text)
 
 
 def read_book(text: str, reader: Reader | None = None) -> Book:
@@ -218,20 +223,18 @@ def read_book(text: str, reader: Reader | None = None) -> Book:
     if version not in (1, 2):
         raise ValueError(f"a book of version {version} is none that is known")
     reader.take("dim")
-    dimension, embeds, rules = reader.number(), reader.embeds(), []
-    head_end = last = reader.tokens[reader.at - 1].end
+    dimension, embeds = reader.number(), reader.embeds()
+    head, texts = split_book(text)
+    rules = [reader.rule(own) for _, own in texts]
     if reader.peek():
-        head_end = begin_of(text, last, reader.tokens[reader.at].begin)
-    while reader.peek():
-        rules.append(reader.rule(last))
-        last = reader.tokens[reader.at - 1].end
-    return Book(version, dimension, embeds, rules, text[:head_end])
+        raise reader.fail("a rule")
+    return Book(version, dimension, embeds, rules, head)
 
 
 def load_book(path: str | Path) -> Book:
     """The book of a file as the program prints it, but each rule's own text and the head as the file has them. Where
     the program takes no book, that is Refused with its line."""
     printed = read_book(put_or_refuse("book", path))
-    written = read_book(Path(path).read_text(encoding="latin-1"))
-    rules = [rule._replace(text=own.text) for rule, own in zip(printed.rules, written.rules)]
-    return printed._replace(rules=rules, head=written.head)
+    head, texts = split_book(Path(path).read_text(encoding="latin-1"))
+    rules = [rule._replace(text=text) for rule, (_, text) in zip(printed.rules, texts)]
+    return printed._replace(rules=rules, head=head)
