@@ -64,15 +64,15 @@ CAUSES = {
         "gmap 2 dim 1 next 9 darts 2 0 1 0 1 0 1", SPLIT, "apply split 5", "no-dart hook 0", ["no dart has that name", "nearest ones are 1"]),
     "no_match_free": Case(
         SQUARE, SEW, "apply sew 2 7\napply sew 2 7", "line 2 refused: no-match arc a 0 2",
-        ["the link a -2- a: a is free along 2", "at position 0, a is dart 2", "it leads to dart 7 (b at position 0)", "wants dart 2 itself",
+        ["the link a -2- a: a is free along 2", "at position 0, a is dart 2", "it leads to dart 7 (b at position 0)", "needs dart 2 itself",
          "joined along 2 already", "    2 | apply sew 2 7\n      | ^^^^^^^^^^^^^"]),
     "no_match_link": Case(
         SQUARE, HEAD + "rule e left a <0> hook b <0> a -1- b right a <0> b <0> a -1- b", "apply e 2", "no-match arc b 0 0",
-        ["the letter 0 in the word <0> of node b", "b is dart 1", "leads to dart 0 (no dart of the left side)", "wants dart 4 (b at position 1)",
+        ["the letter 0 in the word <0> of node b", "b is dart 1", "leads to dart 0 (no dart of the left side)", "needs dart 4 (b at position 1)",
          "links lead from a to b along 1"]),
     "no_match_in_step": Case(
         "gmap 1 dim 2 darts 3 0 1 0 0 1 0 1 1 2 2 2 2", SEW, "apply sew 2 0", "no-match arc b 0 0",
-        ["b is dart 0", "it leads to dart 1", "wants dart 0 itself (b at position 0)"]),
+        ["b is dart 0", "it leads to dart 1", "needs dart 0 itself (b at position 0)"]),
     "no_match_same": Case(
         SQUARE, HEAD + "rule s left a <> hook b <> a -2- b right a <> b <> a -2- b", "apply s 0", "no-match same a 0 b 0",
         ["both lie on dart 0", "links lead from a to b along 2"]),

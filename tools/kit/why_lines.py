@@ -68,7 +68,7 @@ def tell_arc(line: Line) -> list[str]:
     assert step is not None
     return [f"The left side asks for {asked(line.rule, node, label, step)}.",
             f"There, at position {position}, {node.name} is dart {dart}. Along {label} it leads to {target(there, dart)}"
-            f"{whose(found, there)}, and the rule wants {target(wanted, dart)}{wanted_as(found, step, node, position)}.",
+            f"{whose(found, there)}, and the rule needs {target(wanted, dart)}{wanted_as(found, step, node, position)}.",
             *where(found, node, position),
             *hint(there, dart, wanted, label)]
 
