@@ -6,12 +6,13 @@ from collections.abc import Iterator, Sequence
 from typing import NamedTuple
 
 from kit import program
-from kit.distances import Place, corners_from, cross, dot, mean, minus, normal_of, sides_of
+from kit.distances import Place, corners_from, cross, dot, mean, minus, normal_of, rim_of, sides_of
 from kit.draw_model import Colour, Model, orbits
 
 FILL, INK = (160, 190, 222), "#1f2933"
 LIGHT = (-0.40, 0.55, 0.73)  # from the left, from above and from in front of the picture
-GAP, MOST_LINES, MOST_NAMES = 0.12, 20_000, 400
+BRIGHTNESS = (0.30, 0.59, 0.11)  # of red, green and blue, as eyes see them
+GAP, TITLE, MOST_LINES, MOST_NAMES = 0.12, 0.3, 20_000, 50
 Flat = tuple[float, float]
 
 
@@ -84,17 +85,14 @@ def move(point: Place, middle: Place, share: float) -> Place:
 def lit(colour: Sequence[float], normal: Place) -> tuple[float, float, float]:
     """A colour from 0 to 255 in the light, as parts from 0 to 1. The normal is as the picture has it."""
     length = math.hypot(*normal) or 1.0
-    share = 0.5 + 0.5 * max(0.0, dot(normal, LIGHT) / length)
+    share = 0.6 + 0.4 * max(0.0, dot(normal, LIGHT) / length)
     red, green, blue = (min(1.0, part / 255 * share) for part in colour)
     return (red, green, blue)
 
 
 def colour_of(it: Model, dart: int) -> Sequence[float]:
-    """The colour of a face, the mean of its darts'."""
-    if not it.colours:
-        return FILL
-    face = orbits([dart], lambda one, label: it.alpha[label][one], (0, 1))[0]
-    return mean([it.colours[one] for one in face])
+    """The colour of a face, the mean of those of its darts."""
+    return mean([it.colours[one] for one in rim_of(it.alpha, dart)]) if it.colours else FILL
 
 
 def faces_of(it: Model, view: View) -> list[Face]:
@@ -104,7 +102,7 @@ def faces_of(it: Model, view: View) -> list[Face]:
         for dart, corners, is_closed in polygons_of(it, volume, view):
             turned = [camera.turn(corner) for corner in corners]
             normal = normal_of(turned)
-            if is_closed and normal[2] <= 0 and not view.clear:
+            if is_closed and normal[2] <= 1e-9 * math.hypot(*normal) and not view.clear:
                 continue
             facing = normal if normal[2] >= 0 else minus((0.0, 0.0, 0.0), normal)
             depth = math.fsum(place[2] for place in turned) / len(turned)
@@ -112,8 +110,8 @@ def faces_of(it: Model, view: View) -> list[Face]:
     return sorted(faces, key=lambda face: face.depth)
 
 
-def seen_names(faces: Sequence[Face]) -> Iterator[tuple[Flat, int]]:
-    """The names of the faces whose middles are seen, each with its place."""
+def seen_names(faces: Sequence[Face]) -> Iterator[tuple[Flat, Face]]:
+    """The faces whose middles are seen, where their names stand, each with that place."""
     path = program.needs("matplotlib.path", "python3-matplotlib")
     middles = [(math.fsum(x for x, _ in face.corners) / len(face.corners),
                 math.fsum(y for _, y in face.corners) / len(face.corners)) for face in faces]  # fmt: skip
@@ -122,7 +120,23 @@ def seen_names(faces: Sequence[Face]) -> Iterator[tuple[Flat, int]]:
         if len(face.corners) > 2:
             covered = path.Path(face.corners).contains_points(middles[:at])
             hidden[:at] = [old or new for old, new in zip(hidden, covered)]
-    return ((middle, face.dart) for middle, face, is_hidden in zip(middles, faces, hidden) if not is_hidden)
+    return ((middle, face) for middle, face, is_hidden in zip(middles, faces, hidden) if not is_hidden)
+
+
+class Sheet(NamedTuple):
+    """A picture's plan: how many columns and rows of cells it has, how wide and how high a cell is and how high the
+    faces in it at most, and how long an inch is, all as points are measured."""
+
+    columns: int
+    rows: int
+    wide: float
+    high: float
+    reach: float
+    inch: float
+
+    def middle(self, at: int) -> Flat:
+        """Where the middle of a map stands, by its number."""
+        return (at % self.columns + 0.5) * self.wide, -(at // self.columns + 1) * self.high + self.reach / 2
 
 
 def extent_of(faces: Sequence[Face]) -> tuple[float, float, float, float]:
@@ -131,33 +145,46 @@ def extent_of(faces: Sequence[Face]) -> tuple[float, float, float, float]:
     return min(xs), min(ys), max(xs), max(ys)
 
 
+def plan(extents: Sequence[tuple[float, float, float, float]], view: View, has_titles: bool) -> Sheet:
+    """The plan of a picture in which maps have these extents."""
+    wide = max(right - left for left, _, right, _ in extents) or 1.0
+    reach = max(top - below for _, below, _, top in extents) + GAP * wide
+    columns = min(view.columns, len(extents))
+    inch = wide / view.inches
+    high = reach + (TITLE * inch if has_titles else 0)
+    return Sheet(columns, -(-len(extents) // columns), wide * (1 + GAP), high, reach, inch)
+
+
 def draw(models: Sequence[tuple[str | None, Model]], view: View, out: object, form: str) -> None:
     """Draws maps side by side, each under a title or None, into a file in the form svg, png or pdf. They have one
     scale, so that what is larger looks so."""
-    if any(not it.points and it.alpha[0] for _, it in models):
-        raise ValueError("a map without points is no solid: it has no embedding of kind vec2 or vec3 over its vertices")
-    program.needs("matplotlib", "python3-matplotlib").use("Agg")
-    pyplot = program.needs("matplotlib.pyplot", "python3-matplotlib")
-    pyplot.rcParams["svg.hashsalt"] = "gmr"  # so that a picture that is drawn again is the same
+    for _, it in models:
+        if it.dimension == 1 or not it.points and it.alpha[0]:
+            raise ValueError("solids are drawn of maps of dimension 2 and 3 with points: a vec2 or vec3 over vertices")
+    pyplot = import_pyplot()
     drawn = [(title, faces_of(it, view)) for title, it in models]
-    places = [extent_of(faces) for _, faces in drawn]
-    wide = max(right - left for left, _, right, _ in places) or 1.0
-    high = max(top - below for _, below, _, top in places) or 1.0
-    columns = min(view.columns, len(drawn))
-    rows = -(-len(drawn) // columns)
-    inch = wide / view.inches
-    cell = (wide * (1 + GAP), high + GAP * wide + (0.3 * inch if any(title for title, _ in drawn) else 0))
-    figure = pyplot.figure(figsize=(columns * cell[0] / inch, rows * cell[1] / inch))
-    axes = figure.add_axes((0, 0, 1, 1), xlim=(0, columns * cell[0]), ylim=(-rows * cell[1], 0))
+    extents = [extent_of(faces) for _, faces in drawn]
+    sheet = plan(extents, view, any(title for title, _ in drawn))
+    size = (sheet.columns * sheet.wide, sheet.rows * sheet.high)
+    figure = pyplot.figure(figsize=(size[0] / sheet.inch, size[1] / sheet.inch))
+    axes = figure.add_axes((0, 0, 1, 1), xlim=(0, size[0]), ylim=(-size[1], 0))
     axes.set_axis_off()
-    for at, ((title, faces), (left, below, right, top)) in enumerate(zip(drawn, places)):
-        x, y = (at % columns + 0.5) * cell[0], -(at // columns + 1) * cell[1] + (high + GAP * wide) / 2
+    for at, ((title, faces), (left, below, right, top)) in enumerate(zip(drawn, extents)):
+        x, y = sheet.middle(at)
         draw_faces(axes, faces, (x - (left + right) / 2, y - (below + top) / 2), view)
         if title:
-            axes.text(x, y + (high + GAP * wide) / 2, title, ha="center", va="center", color=INK, fontsize=12)
-    metadata = {"svg": {"Date": None}, "pdf": {"CreationDate": None}}.get(form)
-    figure.savefig(out, format=form, dpi=120, facecolor="white", metadata=metadata)
+            axes.text(x, y + sheet.reach / 2, title, ha="center", va="center", color=INK, fontsize=12)
+    undated = {"svg": {"Date": None}, "pdf": {"CreationDate": None}}.get(form)
+    figure.savefig(out, format=form, dpi=120, facecolor="white", metadata=undated)
     pyplot.close(figure)
+
+
+def import_pyplot():
+    """The module that draws, set so that a picture that is drawn again is the same to the byte."""
+    matplotlib = program.needs("matplotlib", "python3-matplotlib")
+    matplotlib.use("Agg")
+    matplotlib.rcParams.update({"svg.hashsalt": "gmr", "svg.fonttype": "none"})
+    return program.needs("matplotlib.pyplot", "python3-matplotlib")
 
 
 def draw_faces(axes, faces: Sequence[Face], by: Flat, view: View) -> None:
@@ -171,8 +198,16 @@ def draw_faces(axes, faces: Sequence[Face], by: Flat, view: View) -> None:
     patches = collections.PolyCollection(outlines, facecolors=fills, edgecolors=edges, linewidths=width)
     patches.set_joinstyle("round")
     axes.add_collection(patches)
-    is_named = len(faces) * 8 <= MOST_NAMES if view.names is None else view.names
-    if is_named:
-        size = max(4.0, min(10.0, 60 / math.sqrt(len(faces) or 1)))
-        for (x, y), dart in seen_names(faces):
-            axes.text(x + by[0], y + by[1], str(dart), ha="center", va="center", color=INK, fontsize=size)
+    if view.names or view.names is None and len(faces) <= MOST_NAMES:
+        write_names(axes, faces, by)
+
+
+def write_names(axes, faces: Sequence[Face], by: Flat) -> None:
+    """Writes the names that are seen, each with a rim of its face's colour so that it is read beyond the face too."""
+    effects = program.needs("matplotlib.patheffects", "python3-matplotlib")
+    size = max(4.0, min(11.0, 60 / math.sqrt(len(faces) or 1)))
+    for (x, y), face in seen_names(faces):
+        ink = INK if dot(face.colour, BRIGHTNESS) > 0.45 else "white"
+        rim = [effects.withStroke(linewidth=size / 4, foreground=face.colour)]
+        place = (x + by[0], y + by[1])
+        axes.text(*place, str(face.dart), ha="center", va="center", color=ink, fontsize=size, path_effects=rim)
