@@ -27,13 +27,15 @@ class Candidate:
         return self.lines[0]
 
     def cost(self) -> tuple[int, ...]:
-        """What is to be least: the nodes, the lines of the script, the free darts that are asked for, hooks, the word."""
+        """What is to be least: nodes, lines of the script, free darts and other links that are asked for, hooks, the word."""
         nodes = self.draft.nodes
-        free = sum(
-            step == Link(at) for at, node in enumerate(nodes) for label, step in (node.left or {}).items()
-            if label not in node.context
-        )
-        return len(nodes), len(self.lines), free, len(self.draft.hooks()), len(self.draft.word)
+        links = [
+            (at, step.node, label in node.context) for at, node in enumerate(nodes)
+            for label, step in (node.left or {}).items() if isinstance(step, Link)
+        ]
+        free = sum(one == other and not is_context for one, other, is_context in links)
+        joined = sum(one < other for one, other, _ in links)
+        return len(nodes), len(self.lines), free, joined, len(self.draft.hooks()), len(self.draft.word)
 
     def drafts(self) -> list[Draft]:
         """The draft wherever it lies."""
