@@ -61,6 +61,26 @@ def test_guide() -> None:
     run_document("docs/GUIDE.md")
 
 
+def cited(text: str) -> Iterator[tuple[str, str]]:
+    """The files that a text cites, each with a name behind it, or with none."""
+    for path, names in re.findall(r"`((?:gm\w*|tools|editors)/[\w/.]*\w|gmr)`(?:: ((?:`\w+`(?:, )?)+))?", text):
+        for name in re.findall(r"\w+", names) or [""]:
+            yield path, name
+
+
+def test_where_to_change_what() -> None:
+    """What the table of changes cites is there: the file, and in it the name."""
+    text = (ROOT / "docs" / "ARCHITECTURE.md").read_text(encoding="utf-8")
+    table = text.split("## To change X, go to Y")[1].split("\n## ")[0]
+    missing = []
+    for path, name in cited(table):
+        file = ROOT / path if path.startswith(("tools", "editors")) or path == "gmr" else CRATES / path
+        if not file.is_file() or not re.search(rf"\b{name}\b", file.read_text(encoding="utf-8")):
+            missing.append(f"{path}: {name}")
+    assert not missing, missing
+    assert table.count("\n| **") == 12
+
+
 def test_links() -> None:
     """What a document links to is there."""
     for path in [ROOT / "README.md", *(ROOT / "docs").glob("*.md")]:
