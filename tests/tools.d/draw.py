@@ -100,13 +100,16 @@ def test_hidden_faces_of_a_solid_are_left_out():
     equal(len(faces_of(model, View())), 3)
     equal(len(faces_of(model, View(90, -90))), 1)
     equal(len(faces_of(model, View(clear=0.5))), 6)
+    for axis in "xyz":
+        seen = [model.points[face.dart] for face in faces_of(model, View(90, -90, axis))]
+        equal([point["xyz".index(axis)] for point in seen], [10])
     depths = [face.depth for face in faces_of(model_of(torus(12, 8)), View())]
     equal(depths, sorted(depths))
 
 
 def test_the_border_of_volumes_is_seen_or_each_of_them():
     model = load_model(LIBRARY / "values3" / "sew_volumes_midway" / "after.gmap")
-    together, apart = (len(faces_of(model, View(25, -60, share))) for share in (0, 0.2))
+    together, apart = (len(faces_of(model, View(apart=share))) for share in (0, 0.2))
     equal((together, apart), (5, 6))
 
 

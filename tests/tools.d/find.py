@@ -106,6 +106,11 @@ def test_only_free_darts_and_only_some_values():
     equal((status, put, said), (1, "", "find: nothing that was asked for is there\n"))
 
 
+def test_the_parts_of_a_map_are_found():
+    equal(find("examples/squares.gmap", "--parts", "--lead"), (0, "0\n8\n", ""))
+    equal(Finder(read("examples/squares.gmap")).parts()[1].darts, list(range(8, 16)))
+
+
 def test_places_are_scaled_and_bounded():
     words = ("--at", "0.01", "0.0101", "--scale", "1000", "--lead")
     equal(find(SQUARE, *words)[1], "3\n")

@@ -17,12 +17,13 @@ Flat = tuple[float, float]
 
 
 class View(NamedTuple):
-    """How solids are looked at: from how many degrees above and round, how far volumes are pulled apart and how far one
-    sees through faces, each a share; in how many columns maps stand, and how many inches wide; and whether names are
-    written, or None where that depends on their number."""
+    """How solids are looked at: from how many degrees above and round, with which axis upwards; how far volumes are
+    pulled apart and how far one sees through faces, each a share; in how many columns maps stand, and how many inches
+    wide; and whether names are written, or None where that depends on their number."""
 
-    up: float = 25
+    above: float = 25
     round: float = -60
+    axis: str = "z"
     apart: float = 0
     clear: float = 0
     columns: int = 4
@@ -44,14 +45,20 @@ class Camera:
     """Turns places in space to places in a picture."""
 
     def __init__(self, view: View) -> None:
-        up, turn = math.radians(view.up), math.radians(view.round)
-        self.toward = (math.cos(up) * math.cos(turn), math.cos(up) * math.sin(turn), math.sin(up))
-        self.right = (-math.sin(turn), math.cos(turn), 0.0)
-        self.upward = cross(self.toward, self.right)
+        above, turn = math.radians(view.above), math.radians(view.round)
+        toward = (math.cos(above) * math.cos(turn), math.cos(above) * math.sin(turn), math.sin(above))
+        right = (-math.sin(turn), math.cos(turn), 0.0)
+        self.toward, self.right, self.upward = (lean(way, view.axis) for way in (toward, right, cross(toward, right)))
 
     def turn(self, way: Place) -> Place:
         """A way as the picture has it: to the right, upwards, and towards the one who looks."""
         return (dot(way, self.right), dot(way, self.upward), dot(way, self.toward))
+
+
+def lean(way: Place, axis: str) -> Place:
+    """A way, turned so that what went along z goes along the axis."""
+    x, y, z = way
+    return {"x": (z, x, y), "y": (x, z, -y), "z": way}[axis]
 
 
 def volumes_of(it: Model) -> list[list[int]]:

@@ -123,6 +123,11 @@ class Finder:
         walks = (self.walk(cell, darts[0]) for darts in cells)
         return [self.describe(f"{name_of(cell)} of dart {darts[0]}", darts) for darts in walks]
 
+    def parts(self) -> list[Found]:
+        """The parts of the map that hang together, in the order of their least darts."""
+        parts = self.kept(self.map.orbits(range(self.map.dimension + 1)))
+        return [self.describe(f"part of dart {darts[0]}", darts) for darts in parts]
+
     def nearest(self, spot: Spot, within: float | None = None) -> list[Found]:
         """The cells nearest to a place, several where they are equally near, and none that is further than `within`."""
         if spot.cell >= len(CELLS):
