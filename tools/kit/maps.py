@@ -10,7 +10,7 @@ from typing import NamedTuple
 from kit import program
 
 WIDTHS = {"int": 1, "vec2": 2, "vec3": 3, "rgb": 3}
-MOST_DARTS, MOST_NAME, MOST_BYTES = 1_048_576, 16_777_216, 268_435_456
+MOST_DARTS, MOST_NAME = 1_048_576, 16_777_216
 LEAST_NUMBER, MOST_NUMBER = -(2**63), 2**63 - 1
 
 BLANK = r"[ \t\r\n]"

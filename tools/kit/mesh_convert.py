@@ -6,7 +6,7 @@ from typing import NamedTuple
 from kit import maps, program
 from kit.maps import Map
 from kit.mesh_formats import check_written, read_mesh, write_mesh, writes_volumes
-from kit.mesh_model import Colour, Paint, Surface, Unfit, Volume
+from kit.mesh_model import POLYHEDRON, Colour, Paint, Surface, Unfit, Volume
 from kit.mesh_scale import choose_scale, read_scale, scale_points, tell_scale
 from kit.mesh_surface import make_surface_map, read_surface_map
 from kit.mesh_volume import make_volume_map, read_volume_map
@@ -30,8 +30,6 @@ def import_mesh(model: Path, out: Path, scale: Fraction | None, wish: Wish, is_c
     scale = scale or choose_scale(mesh.points)
     made = make_map(mesh, scale, wish)
     text = made.text()
-    if len(tell_scale(scale)) + len(text) > maps.MOST_BYTES:
-        raise Unfit(f"its map needs {len(text)} bytes, and a file has at most {maps.MOST_BYTES}")
     out.write_text(tell_scale(scale) + text)
     if is_checked and program.put_or_refuse("show", out) != text:
         raise program.Refused(f"the program reads another map from {out} than this tool wrote", 1)
@@ -77,9 +75,11 @@ def make_mesh(given: Map, scale: Fraction, has_cells: bool) -> Surface | Volume:
 
 
 def tell_counts(mesh: Surface | Volume) -> str:
-    """How many points a mesh has, and faces or cells."""
-    elements = f"cells {len(mesh.cells)}" if isinstance(mesh, Volume) else f"faces {len(mesh.faces)}"
-    return f"points {len(mesh.points)} {elements}"
+    """How many points a mesh has, and faces or cells, and of these how many have no type."""
+    if isinstance(mesh, Surface):
+        return f"points {len(mesh.points)} faces {len(mesh.faces)}"
+    untyped = sum(cell.kind == POLYHEDRON for cell in mesh.cells)
+    return f"points {len(mesh.points)} cells {len(mesh.cells)}" + (f" untyped {untyped}" if untyped else "")
 
 
 def tell_colours(made: Map) -> str:

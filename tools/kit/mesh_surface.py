@@ -53,6 +53,7 @@ class Sides:
     def __init__(self, faces: Iterable[Polygon]) -> None:
         self.faces = list(faces)
         self.count = 2 * sum(map(len, self.faces))
+        # With so few darts, neither the names nor the bytes of a map's file come near their own limits.
         if self.count > MOST_DARTS:
             raise Unfit(f"it needs {self.count} darts, and a map has at most {MOST_DARTS}")
         self.ends: list[int] = []  # by dart, the point at which it lies
