@@ -21,7 +21,8 @@ rule lift left a <1 2> hook
 right a <1 2> with pos = a.pos + vec2(0, 1)
 # The end.
 """
-SECOND = "book 1 dim 2 embed paint <0 1> rgb embed pos <2 1> vec2 rule wash left a <0 1> hook right a <0 1> with paint = rgb(9, 9, 9)\n"
+SECOND = ("book 1 dim 2 embed paint <0 1> rgb embed pos <2 1> vec2 "
+          "rule wash left a <0 1> hook right a <0 1> with paint = rgb(9, 9, 9)\n")
 UNFINISHED = "rule later left a <0 1> hook right a <0 _> with\n"
 
 
@@ -73,13 +74,14 @@ def test_books_are_joined_with_their_comments():
     equal((status, said), (0, ""))
     wanted = "# Of corners.\n# where a corner lies\nbook 2\ndim 2\nembed paint <0 1> rgb\nembed pos <1 2> vec2\n\n"
     equal(put, wanted + FIRST[FIRST.index("# Moves") : FIRST.index("rule lift")] + "\n"
-          + FIRST[FIRST.index("rule lift") :] + "\n# Of faces.\n\n" + SECOND[SECOND.index("rule") :])  # fmt: skip
+          + FIRST[FIRST.index("rule lift") :] + "\n# Of faces.\n\n" + SECOND[SECOND.index("rule") :])
 
 
 def test_what_cannot_be_joined_is_one_line():
     files = {"first.gbook": FIRST, "second.gbook": SECOND, "flat.gbook": "book 1 dim 2", "line.gbook": "book 1 dim 1"}
     lines = {
-        "first.gbook second.gbook": "second.gbook has the embeddings of first.gbook in another order: say one by --order",
+        "first.gbook second.gbook":
+            "second.gbook has the embeddings of first.gbook in another order: say one by --order",
         "first.gbook first.gbook": "the rule move comes twice: in first.gbook and in first.gbook",
         "flat.gbook line.gbook": "flat.gbook is of dimension 2, and line.gbook of dimension 1",
         "flat.gbook none.gbook": "none.gbook: refused load BOOK",
@@ -103,11 +105,12 @@ def test_a_book_is_taken_for_a_script_without_its_unfinished_rules():
 
 
 def test_what_cannot_be_taken_is_one_line():
-    files = {"all.gbook": FIRST, "go.gscript": "apply lift 3\n\napply sink 4\n", "odd.gscript": "apply lift 3\nlift 4\n"}
+    scripts = {"go.gscript": "apply lift 3\n\napply sink 4\n", "odd.gscript": "apply lift 3\nlift 4\n"}
+    files = {"all.gbook": FIRST, **scripts}
     equal(book("take", "all.gbook", "go.gscript", files=files),
-          (1, "", "book: all.gbook has no rule sink, which line 3 of go.gscript names\n"))  # fmt: skip
+          (1, "", "book: all.gbook has no rule sink, which line 3 of go.gscript names\n"))
     equal(book("take", "all.gbook", "odd.gscript", files=files),
-          (1, "", "book: odd.gscript, line 2: no script goes on with what stands there\n"))  # fmt: skip
+          (1, "", "book: odd.gscript, line 2: no script goes on with what stands there\n"))
     equal(book("take", "all.gbook", files=files)[0], 2)
     equal(book("take", "all.gbook", "--rules", "move", files=files)[0], 0)
     equal(book("--help")[0], 0)

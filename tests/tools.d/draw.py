@@ -15,8 +15,8 @@ from kit.draw_solid import View, faces_of
 ROOT = Path(__file__).resolve().parents[2]
 LIBRARY = ROOT / "examples" / "operations"
 PICTURES = ROOT / "docs" / "pictures" / "operations"
-PEERS = {"dimension1": "dual_1d", "dimension2": "flip_edge", "dimension3": "prism_3d", "values1": "split_edge_at_middle_1d",
-         "values2": "doo_sabin_at_points", "values3": "hexahedra_at_middles"}  # fmt: skip
+STORED = ("dimension1/dual_1d", "dimension2/flip_edge", "dimension3/prism_3d", "values1/split_edge_at_middle_1d",
+          "values2/doo_sabin_at_points", "values3/hexahedra_at_middles")
 
 
 def run(*words: str | Path) -> tuple[int, bytes, str]:
@@ -35,7 +35,7 @@ def equal(got, wanted) -> None:
 def cube(size: int) -> maps.Map:
     """A cube: a dart is a corner, and the axes of an edge and of the normal of a face at it."""
     flags = [(x, y, z, edge, face) for x in (0, 1) for y in (0, 1) for z in (0, 1)
-             for edge in range(3) for face in range(3) if face != edge]  # fmt: skip
+             for edge in range(3) for face in range(3) if face != edge]
     number = {flag: at for at, flag in enumerate(flags)}
     alpha: list[dict[int, int]] = [{}, {}, {}]
     for (*corner, edge, face), dart in number.items():
@@ -75,9 +75,9 @@ def torus(rows: int, columns: int) -> maps.Map:
 
 
 def test_the_pictures_of_the_library_come_out_as_they_are_stored():
-    for book, name in PEERS.items():
-        models = [(part, load_model(LIBRARY / book / name / f"{part}.gmap")) for part in ("before", "after")]
-        equal(draw(models), (PICTURES / f"{name}.svg").read_text(encoding="utf-8"))
+    for folder in (LIBRARY / name for name in STORED):
+        models = [(part, load_model(folder / f"{part}.gmap")) for part in ("before", "after")]
+        equal(draw(models), (PICTURES / f"{folder.name}.svg").read_text(encoding="utf-8"))
 
 
 def test_names_are_written_and_left_out():
@@ -143,11 +143,10 @@ def test_two_thousand_faces_are_drawn_as_a_solid_without_names():
 
 
 def test_what_cannot_be_drawn_is_one_line():
-    cases = {"examples/square.gmap --solid": 1, "examples/edge.gmap --solid": 1, "examples/painted.gmap x.png": 1,
-             "examples/broken.gmap": 1, "examples/painted.gmap --colours none": 1, "README.md": 1, "none.gmap": 1}  # fmt: skip
-    for words, wanted in cases.items():
+    for words in ("examples/square.gmap --solid", "examples/edge.gmap --solid", "examples/painted.gmap x.png",
+                  "examples/broken.gmap", "examples/painted.gmap --colours none", "README.md", "none.gmap"):
         status, put, said = run(*words.split())
-        equal((words, status, put, said.count("\n")), (words, wanted, b"", 1))
+        equal((words, status, put, said.count("\n")), (words, 1, b"", 1))
     equal(run()[0], 2)
     equal(run("examples/square.gmap", "--titles", "one", "two")[0], 2)
     equal(run("--help")[0], 0)

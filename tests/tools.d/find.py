@@ -94,12 +94,13 @@ def test_a_script_is_written():
     form = "apply move {dart} with {pos} # {number}"
     status, put, _ = find(SQUARE, "--list", "0", "--script", form)
     lines = [f"apply move {dart} with {at} # {number}\n" for number, (dart, at) in enumerate(
-        ((0, "(0 0)"), (1, "(10 0)"), (3, "(10 10)"), (5, "(0 10)")))]  # fmt: skip
+        ((0, "(0 0)"), (1, "(10 0)"), (3, "(10 10)"), (5, "(0 10)")))]
     equal((status, put), (0, "".join(lines)))
 
 
 def test_only_free_darts_and_only_some_values():
-    equal(find("examples/squares.gmap", "--list", "1", "--free", "2", "--lead")[1].split(), "0 2 4 6 8 10 12 14".split())
+    border = find("examples/squares.gmap", "--list", "1", "--free", "2", "--lead")
+    equal(border[1].split(), "0 2 4 6 8 10 12 14".split())
     equal(find("examples/squares.gmap", "--list", "1", "--free", "1")[0], 1)
     equal(find(SQUARE, "--list", "2", "--where", "paint=(200 30 30)", "--lead")[1], "0\n")
     status, put, said = find(SQUARE, "--list", "2", "--where", "paint=(1 2 3)", "--lead")
@@ -120,8 +121,8 @@ def test_places_are_scaled_and_bounded():
 
 def test_what_cannot_be_found_is_one_line():
     equal(find("examples/torn.gmap", "--list", "2"), (1, "", "find: refused MAP embedding pos darts 5 6\n"))
-    for words in (["--of", "99"], ["--list", "3"], ["--list", "2", "--script", "{x}"], ["--at", "0", "0", "--points", "paint"]):
-        status, put, said = find(SQUARE, *words)
+    for words in ("--of 99", "--list 3", "--list 2 --script {x}", "--at 0 0 --points paint"):
+        status, put, said = find(SQUARE, *words.split())
         equal((status, put, said.count("\n")), (1, "", 1))
     equal(find("examples/square.gmap", "--at", "0", "0")[0], 1)
     equal(find(SQUARE)[0], 2)

@@ -58,15 +58,21 @@ class Token(NamedTuple):
     end: int
 
 
+def end_of_blank(text: str, at: int) -> int:
+    """Where the blanks and comments end that stand at a place."""
+    blank = BLANK.match(text, at)
+    return blank.end() if blank else at
+
+
 def tokens_of(text: str) -> list[Token]:
     """The tokens of a text, without blanks and comments, and one of no bytes at its end."""
-    found, at = [], BLANK.match(text).end()
+    found, at = [], end_of_blank(text, 0)
     while at < len(text):
         here = TOKEN.match(text, at)
         if not here:
             raise ValueError(f"line {text.count(chr(10), 0, at) + 1}: a book has no such sign as {text[at]!r}")
         found.append(Token(here[0], at, here.end()))
-        at = BLANK.match(text, here.end()).end()
+        at = end_of_blank(text, here.end())
     return found + [Token("", len(text), len(text))]
 
 
@@ -131,7 +137,7 @@ class Reader:
     def letters(self) -> Letters:
         """A word of labels and gaps in its signs."""
         self.take("<")
-        found = []
+        found: list[int | None] = []
         while self.peek() != ">":
             found.append(self.number() if self.peek() != "_" else None)
             self.at += found[-1] is None
@@ -160,7 +166,8 @@ class Reader:
         found = []
         while self.peek() == "embed":
             self.at += 1
-            found.append(Embed(self.name(), tuple(self.letters()), self.take("int", "vec2", "vec3", "rgb")))
+            name, labels = self.name(), [label for label in self.letters() if label is not None]
+            found.append(Embed(name, tuple(labels), self.take("int", "vec2", "vec3", "rgb")))
         return found
 
     def params(self) -> list[tuple[str, str]]:
@@ -178,7 +185,10 @@ class Reader:
 
     def side(self) -> tuple[dict[str, Letters], list[Link], set[str], dict[str, dict[str, str]]]:
         """The nodes of a side with their words, its links, its hooks, and its assignments by node."""
-        words, links, hooks, sets = {}, [], set(), {}
+        words: dict[str, Letters] = {}
+        links: list[Link] = []
+        hooks: set[str] = set()
+        sets: dict[str, dict[str, str]] = {}
         while self.peek() not in ("", "right", "pre", "rule"):
             name = self.name()
             if self.peek() == "-":
@@ -210,7 +220,8 @@ class Reader:
         if self.peek() == "pre":
             self.at += 1
             pre = self.expression()
-        nodes = [Node(node, left.get(node), right.get(node), sets.get(node, {}), node in hooks) for node in left | right]
+        names = left | right
+        nodes = [Node(name, left.get(name), right.get(name), sets.get(name, {}), name in hooks) for name in names]
         return Rule(name, params, nodes, left_links, right_links, pre, text)
 
 

@@ -27,6 +27,10 @@ class Stroke(NamedTuple):
     inward: complex
     bent: bool
 
+    def moved(self, by: complex) -> "Stroke":
+        """The stroke at another place."""
+        return Stroke(self.start + by, self.middle + by, self.end + by, self.corner + by, self.inward, self.bent)
+
 
 def strokes_of(sheet: Sheet, scale: float, shrinks: bool) -> dict[int, Stroke]:
     """The stroke of each dart in pixels, y downwards, drawn away from its edge into its face."""
@@ -73,10 +77,12 @@ def beside(place: complex, inward: complex, text: object, size: float) -> comple
 
 def name_places(strokes: dict[int, Stroke]) -> list[complex]:
     """Where the names of darts stand: beside the stroke, within the face, where they cover least."""
+    taken: list[tuple[complex, float, float]]
     taken = [(it.start + (it.end - it.start) * share, 4, 6) for it in strokes.values() for share in (0.1, 0.5, 0.9)]
     steps, marks = [(far, step) for far in (0, 6) for step in (0, 0.15, -0.15, 0.3)], len(taken)
     for dart, (start, middle, end, _, inward, bent) in strokes.items():
-        middle, tries, wide = middle if bent else (start + end) / 2, [], 0.6 * NAME * len(str(dart))
+        middle, wide = middle if bent else (start + end) / 2, 0.6 * NAME * len(str(dart))
+        tries: list[tuple[int, int, complex]] = []
         for far, step in steps:
             spot = beside(middle + (end - start) * step, inward, dart, NAME) + inward * far
             near = [abs((spot - it[0]).real) < (wide + it[1]) / 2 and abs((spot - it[0]).imag) < it[2] for it in taken]
@@ -141,9 +147,10 @@ def draw_map(
         for face, outline in outlines:
             layer, line = "faces", "M" + written(*(place + by for place in outline)) + "Z"
             if face in it.colours:
-                layer, line = "paint", '<path fill="#{:02x}{:02x}{:02x}" d="{}"/>'.format(*it.colours[face], line)
+                colour = "".join(f"{part:02x}" for part in it.colours[face])
+                layer, line = "paint", f'<path fill="#{colour}" d="{line}"/>'
             layers[layer].append(line)
-        strokes |= {dart: Stroke(*(place + by for place in old[:4]), *old[4:]) for dart, old in own.items()}
+        strokes |= {dart: old.moved(by) for dart, old in own.items()}
         at += size.real + 30
     draw_darts(layers, strokes, it.alpha, set().union(*(sheet.cut for sheet in sheets)), with_names)
     if with_names:

@@ -1,13 +1,14 @@
 """Pictures of maps whose points are in space: their faces in colours and light, as they are seen from somewhere.
 
-Faces that are turned away are left out where they can't be seen, and the others are drawn from the back to the front."""
+Faces that are turned away are left out where nobody can see them, and the others are drawn from back to front."""
 import math
 from collections.abc import Iterator, Sequence
-from typing import NamedTuple
+from types import ModuleType
+from typing import Any, NamedTuple
 
 from kit import program
-from kit.distances import Place, corners_from, cross, dot, mean, minus, normal_of, rim_of, sides_of
-from kit.draw_model import Colour, Model, orbits
+from kit.distances import Place, corners_from, cross, dot, mean, minus, normal_of, place_of, rim_of, sides_of
+from kit.draw_model import Model, orbits
 
 FILL, INK = (160, 190, 222), "#1f2933"
 LIGHT = (-0.40, 0.55, 0.73)  # from the left, from above and from in front of the picture
@@ -70,7 +71,7 @@ def polygons_of(it: Model, volume: Sequence[int], view: View) -> Iterator[tuple[
     """The faces round a volume that may be seen: the least dart, the corners, and whether the face is closed off from
     behind, with the corners then in a direction that is left from outside."""
     side, is_closed = sides_of(it.alpha, volume[0])
-    points = {dart: tuple(map(float, it.points[dart])) for dart in volume}
+    points = {dart: place_of(it.points[dart]) for dart in volume}
     if view.apart:
         middle = mean(list(points.values()))
         points = {dart: move(point, middle, view.apart) for dart, point in points.items()}
@@ -121,7 +122,7 @@ def seen_names(faces: Sequence[Face]) -> Iterator[tuple[Flat, Face]]:
     """The faces whose middles are seen, where their names stand, each with that place."""
     path = program.needs("matplotlib.path", "python3-matplotlib")
     middles = [(math.fsum(x for x, _ in face.corners) / len(face.corners),
-                math.fsum(y for _, y in face.corners) / len(face.corners)) for face in faces]  # fmt: skip
+                math.fsum(y for _, y in face.corners) / len(face.corners)) for face in faces]
     hidden = [False] * len(faces)
     for at, face in enumerate(faces[1:], 1):
         if len(face.corners) > 2:
@@ -186,7 +187,7 @@ def draw(models: Sequence[tuple[str | None, Model]], view: View, out: object, fo
     pyplot.close(figure)
 
 
-def import_pyplot():
+def import_pyplot() -> ModuleType:
     """The module that draws, set so that a picture that is drawn again is the same to the byte."""
     matplotlib = program.needs("matplotlib", "python3-matplotlib")
     matplotlib.use("Agg")
@@ -194,7 +195,7 @@ def import_pyplot():
     return program.needs("matplotlib.pyplot", "python3-matplotlib")
 
 
-def draw_faces(axes, faces: Sequence[Face], by: Flat, view: View) -> None:
+def draw_faces(axes: Any, faces: Sequence[Face], by: Flat, view: View) -> None:
     """Draws the faces of one map, moved by a way, with the names that are seen."""
     collections = program.needs("matplotlib.collections", "python3-matplotlib")
     outlines = [[(x + by[0], y + by[1]) for x, y in face.corners] for face in faces]
@@ -209,7 +210,7 @@ def draw_faces(axes, faces: Sequence[Face], by: Flat, view: View) -> None:
         write_names(axes, faces, by)
 
 
-def write_names(axes, faces: Sequence[Face], by: Flat) -> None:
+def write_names(axes: Any, faces: Sequence[Face], by: Flat) -> None:
     """Writes the names that are seen, each with a rim of its face's colour so that it is read beyond the face too."""
     effects = program.needs("matplotlib.patheffects", "python3-matplotlib")
     size = max(4.0, min(11.0, 60 / math.sqrt(len(faces) or 1)))

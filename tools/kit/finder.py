@@ -45,7 +45,7 @@ class Finder:
     def check_label(self, label: int) -> int:
         """The label or dimension of cells, which is one of the map's, or ValueError."""
         if not 0 <= label <= self.map.dimension:
-            raise ValueError(f"{label} is no label and no dimension of cells in a map of dimension {self.map.dimension}")
+            raise ValueError(f"a map of dimension {self.map.dimension} has no label and no cells of number {label}")
         return label
 
     def check_dart(self, dart: int) -> int:
@@ -65,7 +65,8 @@ class Finder:
             embed = next((one for one in self.map.embeds if one.name == self.points_name), None)
         if embed is None or embed.kind not in ("vec2", "vec3"):
             raise ValueError(f"the map has no {self.points_name or 'embedding'} of kind vec2 or vec3 for its points")
-        return {dart: place_of(value) for dart, value in self.map.values[embed.name].items()}
+        values = self.map.values[embed.name].items()
+        return {dart: place_of(value) for dart, value in values if isinstance(value, tuple)}
 
     def firsts(self, labels: Iterable[int]) -> dict[int, int]:
         """For each dart the least one of its orbit over the labels."""

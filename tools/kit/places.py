@@ -3,7 +3,7 @@
 A text is read as latin-1, so that its characters are its bytes and a place is an index."""
 from pathlib import Path
 
-from kit.books import BLANK, TOKEN, Token
+from kit.books import TOKEN, Token, end_of_blank
 
 WIDEST = 100
 
@@ -55,12 +55,6 @@ def tokens_up_to(text: str, place: int) -> list[Token]:
         found.append(Token(here[0], at, here.end()))
         at = end_of_blank(text, here.end())
     return found
-
-
-def end_of_blank(text: str, at: int) -> int:
-    """Where the blanks and comments end that stand at a place."""
-    blank = BLANK.match(text, at)
-    return blank.end() if blank else at
 
 
 def token_at(text: str, place: int) -> Token | None:
