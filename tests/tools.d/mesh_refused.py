@@ -149,7 +149,8 @@ def refuse_map(text: str, has_cells: bool = False) -> str:
 
 def test_maps_without_a_mesh_are_refused():
     assert refuse_map("gmap 1 dim 1 darts 0") == "it has dimension 1, and a mesh is made of a map of dimension 2 or 3"
-    assert refuse_map("gmap 1 dim 2 darts 0") == "the map has no points: no embedding <1 2> of kind vec3 or vec2"
+    assert refuse_map("gmap 1 dim 2 darts 0") == "it has no darts, and a mesh has a face at least"
+    assert refuse_map(DIGON.replace("<1 2>", "<1>")) == "the map has no points: no embedding <1 2> of kind vec3 or vec2"
     assert refuse_map(EDGE) == "the face of dart 0 isn't closed: dart 1 is free along 1"
     assert refuse_map(DIGON) == "the face of dart 0 has 2 corners, and a polygon has three or more"
     lone = make_map(block(), ONE)

@@ -71,6 +71,8 @@ def make_mesh(given: Map, scale: Fraction, has_cells: bool) -> Surface | Volume:
     its faces."""
     if given.dimension not in (2, 3):
         raise Unfit(f"it has dimension {given.dimension}, and a mesh is made of a map of dimension 2 or 3")
+    if not given.darts:
+        raise Unfit("it has no darts, and a mesh has a face at least")
     return read_volume_map(given, scale) if given.dimension == 3 and has_cells else read_surface_map(given, scale)
 
 

@@ -239,9 +239,10 @@ def read_surface_map(given: Map, scale: Fraction) -> Surface:
     Faces turn one way where the surface can be oriented, that of the least dart; each begins at its least such dart.
     """
     numbers, leads = list_vertices(given)
+    points = list(unscale_points(pick_points(given, leads), scale))
     polygons = list_polygons(given, list_leading_darts(given, range(given.dimension + 1)))
     return Surface(
-        points=list(unscale_points(pick_points(given, leads), scale)),
+        points=points,
         faces=[tuple([numbers[dart] for dart in corners]) for corners in polygons],
         face_colours=pick_colours(given, {0, 1}, [corners[0] for corners in polygons]),
         point_colours=pick_colours(given, set(range(1, given.dimension + 1)), leads),
