@@ -1,5 +1,5 @@
 """Compares two rules: whether they are the same up to names and order, and at which darts each of them can be applied."""
-from collections.abc import Iterator, Sequence
+from collections.abc import Sequence
 from itertools import permutations
 
 from kit.infer_draft import Draft, Letter, Link, Node
@@ -62,12 +62,18 @@ def follow(one: Draft, other: Draft, places: Sequence[int], found: Numbers, at: 
 
 
 # ---------------------------------------------------------------------- application
-def unfold(draft: Draft, before: Map, hooks: Sequence[int]) -> Map | None:
-    """The map that the rule makes of a map at the hooks, without its values, or None where it doesn't match."""
+def matches(draft: Draft, before: Map, hooks: Sequence[int]) -> bool:
+    """Whether the left side of the rule lies in the map at the hooks."""
     try:
-        placing = Placing(draft, before, hooks)
+        Placing(draft, before, hooks)
     except Broken:
-        return None
+        return False
+    return True
+
+
+def unfold(draft: Draft, before: Map, hooks: Sequence[int]) -> Map:
+    """The map that the rule makes of a map without values at the hooks, where it matches."""
+    placing = Placing(draft, before, hooks)
     families, name = placing.families, before.next
     for number, node in enumerate(draft.nodes):
         if node.left is None:
@@ -88,7 +94,7 @@ def unfold(draft: Draft, before: Map, hooks: Sequence[int]) -> Map | None:
 def makes(draft: Draft, example: Example) -> bool:
     """Whether the rule makes the map after of the map before at some hooks, but for the names of new darts."""
     number = sum(node.is_hook for node in draft.nodes)
-    return any(lies(draft, example, hooks) for hooks in hooks_at(example.starts if number > 1 else example.before.darts, number))
+    return any(lies(draft, example, hooks) for hooks in permutations(example.starts if number > 1 else example.before.darts, number))
 
 
 def lies(draft: Draft, example: Example, hooks: Sequence[int]) -> bool:
@@ -99,7 +105,3 @@ def lies(draft: Draft, example: Example, hooks: Sequence[int]) -> bool:
         return False
     return True
 
-
-def hooks_at(darts: Sequence[int], number: int) -> Iterator[tuple[int, ...]]:
-    """So many darts of these, in each order."""
-    return permutations(darts, number)

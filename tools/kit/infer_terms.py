@@ -176,13 +176,18 @@ def is_quotient(wanted: Row, rows: Sequence[Row], factors: Sequence[int], under:
 
 
 def find_moved(kind: str, width: int, wanted: Row, terms: Sequence[Term]) -> str | None:
-    """A sum or difference of two terms and a constant."""
+    """A sum or difference of two terms and a constant. Most fail at two positions, so these are tried alone first."""
+    last = len(wanted) // width - 1
+    step = wanted[last] - wanted[0]
+    steps = [term.row[last] - term.row[0] for term in terms]
     for order in ((1, 1), (1, -1), (-1, 1)):
-        for one, other in combinations(terms, 2):
-            rest = tuple(want - order[0] * a - order[1] * b for want, a, b in zip(wanted, one.row, other.row))
-            constant = find_constant(kind, rest, width)
-            if constant is not None:
-                return plus_constant(quotient([one, other], order, 1), kind, constant)
+        for one, other in combinations(range(len(terms)), 2):
+            if order[0] * steps[one] + order[1] * steps[other] == step:
+                rows = terms[one].row, terms[other].row
+                rest = tuple(want - order[0] * a - order[1] * b for want, a, b in zip(wanted, *rows))
+                constant = find_constant(kind, rest, width)
+                if constant is not None:
+                    return plus_constant(quotient([terms[one], terms[other]], order, 1), kind, constant)
     return None
 
 
