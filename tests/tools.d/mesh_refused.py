@@ -1,14 +1,15 @@
 """Tests of tools/mesh: a mesh for each refusal, and a map for each."""
+import subprocess
 from collections.abc import Callable
 from fractions import Fraction
 from pathlib import Path
 
-from kit import maps
+from kit import maps, program
 from kit.mesh_convert import make_map, make_mesh
 from kit.mesh_formats import read_mesh, write_mesh
 from kit.mesh_model import CELL_FACES, Surface, Unfit, Volume, make_cell, make_polyhedron
 from kit.mesh_scale import choose_scale, scale_points
-from mesh import CELL_POINTS, HOUSE_FACES, HOUSE_POINTS, ONE, block, house, place, read_written, run_tool, scratch
+from mesh import CELL_POINTS, HOUSE_FACES, HOUSE_POINTS, ONE, TOOL, block, house, place, read_written, run_tool, scratch
 
 
 def refusal(act: Callable[[], object]) -> str:
@@ -165,3 +166,33 @@ def test_polygons_that_a_format_lacks_are_refused():
             refusal(lambda: write_mesh(folder / "five.msh", five))
             == "gmsh has no polygon of 5 corners: write .vtk, .vtu or .ply"
         )
+
+
+# What is missing.
+
+
+def run_by(python: str, *words: object, **more: object) -> subprocess.CompletedProcess:
+    """What the tool does for a command line under an interpreter that sees none of Debian's packages."""
+    return subprocess.run([python, "-S", TOOL, *map(str, words)], capture_output=True, text=True, check=False, **more)
+
+
+def test_what_is_missing_is_told():
+    with scratch() as folder:
+        for name in ("a.stl", "a.msh"):
+            (folder / name).write_text("")
+        said = run_by(program.SYSTEM_PYTHON, "import", folder / "a.stl", "a.gmap", env={"PATH": "/nowhere"})
+        assert (
+            said.returncode == 1
+            and said.stderr == "mesh: the program assimp is missing: apt-get install assimp-utils\n"
+        )
+        said = run_by(program.SYSTEM_PYTHON, "import", folder / "a.msh", "a.gmap")
+        line = "mesh: the Python module meshio is missing: apt-get install python3-meshio\n"
+        assert said.returncode == 1 and said.stderr == line, said.stderr
+
+
+def test_another_interpreter_is_taken_where_that_one_has_the_library():
+    with scratch() as folder:
+        (folder / "python").symlink_to(program.SYSTEM_PYTHON)
+        write_mesh(folder / "house.vtk", house())
+        said = run_by(folder / "python", "import", folder / "house.vtk", folder / "house.gmap", "--no-check")
+        assert said.stdout == "imported points 10 faces 8 darts 60 scale 100\n", said.stderr
