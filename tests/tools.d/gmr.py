@@ -123,8 +123,8 @@ def test_completion() -> None:
 
 
 def test_vim_knows_the_formats_words() -> None:
-    """Each reserved word of the formats has a colour."""
+    """Each keyword of the formats has a colour."""
     syntax = (ROOT / "editors" / "vim" / "syntax" / "gmr.vim").read_text(encoding="utf-8").split()
     text = (ROOT / "docs" / "FORMATS.md").read_text(encoding="utf-8")
-    reserved = text.split("The reserved words are no names: `")[1].split("`")[0].split()
-    assert not [word for word in reserved if word not in syntax]
+    keywords = text.split("The keywords are no names: `")[1].split("`")[0].split()
+    assert not [word for word in keywords if word not in syntax]

@@ -132,7 +132,7 @@ MAPS = {
 }
 BOOKS = {
     "text": (HEAD + "rule r left a <0 1 ^hook right", "text ^", ["`hook` stands here, where the text goes on with a number, `>` or `_`"]),
-    "text_reserved": (HEAD + "rule ^min left right", "text ^", ["where the text goes on with a name", "`min` is a reserved word"]),
+    "text_reserved": (HEAD + "rule ^min left right", "text ^", ["where the text goes on with a name", "`min` is a keyword, and no name"]),
     "text_hooks": ("book 1 dim 2 rule s left a <0> hook b <0> ^hook right", "text ^", ["write `book 2`"]),
     "limit": (HEAD + "rule r left a <^3> hook right a <3>", "limit label ^", ["`3` passes the limit: a label is 0 to the dimension"]),
     "twice_rule": (HEAD + "rule r left right rule ^r left right", "twice ^", ["`r` is a rule already"]),

@@ -78,7 +78,7 @@ def tell_text(role: str, path: str, text: str, place: int) -> list[str]:
         said += f", where the text goes on with {' or '.join([', '.join(may[:-1]), may[-1]] if may[1:] else may)}"
     lines.append(said + ".")
     if token and token.word in RESERVED and "a name" in may:
-        lines.append(f"`{token.word}` is a reserved word, and no name.")
+        lines.append(f"`{token.word}` is a keyword, and no name.")
     if token and token.word == "hook" and role == "BOOK" and not is_second_version(text, place):
         lines.append("A rule has one hook in a book of version 1; write `book 2` at the top for several.")
     return lines
