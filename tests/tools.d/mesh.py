@@ -121,6 +121,13 @@ def test_surfaces_there_and_back():
         assert_same(there_and_back(suffix, house()), house())
 
 
+def test_polygons_there_and_back():
+    walls = house()
+    walls.faces = [(0, 1, 5, 8, 4), (2, 3, 7, 9, 6), (0, 1, 2, 3), (5, 6, 9, 8)]
+    for suffix in (".obj", ".off", ".ply", ".vtk", ".vtu"):
+        assert_same(there_and_back(suffix, walls), walls)
+
+
 def test_volumes_there_and_back():
     for suffix in filter(lambda suffix: writes_volumes(Path(suffix)), list_written()):
         assert_same(there_and_back(suffix, block()), block())

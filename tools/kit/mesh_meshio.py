@@ -44,10 +44,8 @@ def read_by_meshio(path: Path, form: str) -> Surface | Volume:
     try:
         with contextlib.redirect_stdout(said), contextlib.redirect_stderr(said):
             read = meshio.read(path, form)
-    except (
-        SystemExit,
-        Exception,
-    ) as error:  # the library ends the program at some files, and raises anything at others
+    # At some files the library ends the program, and at others it raises whatever comes.
+    except (SystemExit, Exception) as error:
         told = said.getvalue().strip().split("\n")[-1] or str(error) or type(error).__name__
         raise Unfit(f"meshio can't read it: {told}") from None
     first = FIRST.get(form, 0)
