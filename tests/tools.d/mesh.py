@@ -1,4 +1,6 @@
 """Tests of tools/mesh: each format there and back, scales, and the command line."""
+import os
+import resource
 import subprocess
 import sys
 import tempfile
@@ -302,6 +304,37 @@ def test_whole_numbers_of_any_size_are_written():
     with scratch() as folder:
         write_mesh(folder / "far.obj", make_mesh(made, ONE, False))
         assert f"v {most} 0 0\n" in (folder / "far.obj").read_text()
+
+
+# The time.
+
+STAND_IN = """#!/bin/sh
+grep -v '^#' "$2"
+"""
+
+
+def seconds_of(*words: object, **more: object) -> float:
+    """How many seconds of a processor the tool takes for a command line."""
+    began = resource.getrusage(resource.RUSAGE_CHILDREN)
+    subprocess.run([sys.executable, TOOL, *map(str, words)], capture_output=True, check=True, **more)
+    ended = resource.getrusage(resource.RUSAGE_CHILDREN)
+    return ended.ru_utime + ended.ru_stime - began.ru_utime - began.ru_stime
+
+
+def test_fifty_thousand_triangles_take_five_seconds():
+    rows, columns = 250, 100
+    with scratch() as folder:
+        model, made, stand_in = folder / "sheet.obj", folder / "sheet.gmap", folder / "gmr"
+        stand_in.write_text(STAND_IN)  # the program's own time isn't this tool's
+        stand_in.chmod(0o755)
+        points = [(row / 8, column / 8, row * column / 64) for row in range(rows + 1) for column in range(columns + 1)]
+        corners = [row * (columns + 1) + column for row in range(rows) for column in range(columns)]
+        behind = columns + 1
+        halves = [((at, at + 1, at + behind), (at + 1, at + behind + 1, at + behind)) for at in corners]
+        write_mesh(model, Surface(points=points, faces=[half for both in halves for half in both]))
+        more = {"env": {**os.environ, "GMR": str(stand_in)}}
+        took = seconds_of("import", model, made, **more), seconds_of("export", made, folder / "sheet.ply", **more)
+        assert len(read_mesh(folder / "sheet.ply").faces) == 50_000 and max(took) < 5, took
 
 
 # The command line.
