@@ -46,8 +46,8 @@ def test_a_book_falls_into_its_rules():
     head, rules = split_book(FIRST)
     equal(head, FIRST[: FIRST.index("# Moves")])
     equal([name for name, _ in rules], ["move", "lift"])
-    equal(rules[0][1], FIRST[FIRST.index("# Moves") : FIRST.index("rule lift")])
-    equal(rules[1][1], FIRST[FIRST.index("rule lift") :])
+    equal(rules[0][1], FIRST[FIRST.index("# Moves") : FIRST.index("\nrule lift")])
+    equal(rules[1][1], FIRST[FIRST.index("rule lift") : -1])
 
 
 def test_every_book_of_the_examples_is_read_as_the_program_prints_it():

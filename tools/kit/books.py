@@ -82,13 +82,13 @@ def plain(text: str) -> str:
 
 
 def split_book(text: str) -> tuple[str, list[tuple[str, str]]]:
-    """What stands before the first rule, and the name and the text of each rule, from the comments above it on. That
-    needs no more than that `rule` begins a rule, so it works for rules that are no rules yet."""
+    """What stands before the first rule, and the name and the text of each rule, from the comments above it on up to
+    its last sign. That needs no more than that `rule` begins a rule, so it works for rules that are no rules yet."""
     words = [one for one in LOOSE.finditer(text) if not one[0].startswith("#")]
     starts = [at for at, one in enumerate(words) if one[0] == "rule"]
     cuts = [begin_of(text, words[at - 1].end() if at else 0, words[at].start()) for at in starts]
     names = [words[at + 1][0] if at + 1 < len(words) else "" for at in starts]
-    texts = [text[begin:end].rstrip() + "\n" for begin, end in zip(cuts, [*cuts[1:], len(text)])]
+    texts = [text[begin:end].rstrip() for begin, end in zip(cuts, [*cuts[1:], len(text)])]
     return text[: cuts[0] if cuts else len(text)], list(zip(names, texts))
 
 
