@@ -166,6 +166,8 @@ def test_polygons_that_a_format_lacks_are_refused():
             refusal(lambda: write_mesh(folder / "five.msh", five))
             == "gmsh has no polygon of 5 corners: write .vtk, .vtu or .ply"
         )
+        found = refusal(lambda: write_mesh(folder / "block.inp", block()))
+        assert found == "abaqus has no pyramid, as the library writes it: write .vtk, .vtu or .msh"
 
 
 # What is missing.

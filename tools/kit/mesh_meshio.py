@@ -11,7 +11,6 @@ from kit.mesh_model import (
     CELL_FACES,
     POLYHEDRON,
     Cell,
-    Mesh,
     Polygon,
     Surface,
     Unfit,
@@ -24,6 +23,7 @@ POLYGONS = ("triangle", "quad", "polygon")
 IGNORED = ("vertex", "line", "line3", "line4")
 FIRST = {"gmsh": 1, "abaqus": 1, "medit": 1}  # whence a format counts its points and cells, where not from 0
 WRITTEN_AS = {"gmsh": "gmsh22"}  # in its later form the library writes cells of one type alone
+LACKING = {"abaqus": ("pyramid",)}
 HAS_POLYGONS = ("vtk",)
 HAS_POLYHEDRA = ("vtu",)
 
@@ -86,14 +86,13 @@ def write_by_meshio(path: Path, form: str, mesh: Surface | Volume) -> None:
     else:
         loose = {tuple(sorted(face)): face for cell in mesh.cells if cell.kind == POLYHEDRON for face in cell.faces}
         blocks = block_cells(mesh.cells) + block_polygons(list(loose.values()), form)
+    lacking = next((kind for kind, _ in blocks if kind in LACKING.get(form, ())), None)
+    if lacking:
+        raise Unfit(f"{form} has no {lacking}, as the library writes it: write .vtk, .vtu or .msh")
+    points = [list(map(float, point)) for point in mesh.points]
     words = {"binary": False} if form in ("vtk", "gmsh") else {}
     with contextlib.redirect_stdout(io.StringIO()), contextlib.redirect_stderr(io.StringIO()):
-        meshio.write_points_cells(path, make_points(mesh), blocks, file_format=WRITTEN_AS.get(form, form), **words)
-
-
-def make_points(mesh: Mesh) -> list[list[float]]:
-    """The points as the library takes them."""
-    return [list(map(float, point)) for point in mesh.points]
+        meshio.write_points_cells(path, points, blocks, file_format=WRITTEN_AS.get(form, form), **words)
 
 
 def block_cells(cells: list[Cell]) -> list[tuple[str, list[Polygon]]]:

@@ -128,6 +128,6 @@ def read_colour(words: Sequence[str]) -> Colour:
 
 
 def mix_colour(parts: Sequence[float]) -> Colour:
-    """The colour of three fractions from 0 to 1."""
-    red, green, blue = (round(255 * min(max(part, 0.0), 1.0)) for part in parts)
+    """The colour of three fractions from 0 to 1; any other number counts as the nearer of these."""
+    red, green, blue = (round(255 * min(max(0.0, part), 1.0)) for part in parts)
     return red, green, blue

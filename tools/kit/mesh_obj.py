@@ -15,8 +15,8 @@ def read_obj(path: Path) -> Surface:
     for number, words in enumerate_statements(read_text(path)):
         head, rest = words[0], words[1:]
         if head == "v":
-            points.append(read_point(rest, number))
-            colours.append(mix_colour(list(map(float, rest[3:6]))) if len(rest) >= 6 else None)
+            points.append(read_numbers(rest[:3], number, "point"))
+            colours.append(mix_colour(read_numbers(rest[3:6], number, "colour")) if len(rest) >= 6 else None)
         elif head == "f":
             faces.append(read_face(rest, len(points), number, len(faces) + 1))
             paints.append(paint)
@@ -48,12 +48,12 @@ def enumerate_statements(text: str) -> Iterator[tuple[int, list[str]]]:
             yield number, words
 
 
-def read_point(words: list[str], number: int) -> Point:
-    """The point of a statement `v x y z`."""
+def read_numbers(words: list[str], number: int, what: str) -> tuple[float, float, float]:
+    """The three numbers of a point or a colour."""
     try:
-        x, y, z = map(float, words[:3])
+        x, y, z = map(float, words)
     except ValueError:
-        raise Unfit(f"line {number}: a point is three numbers, and not '{' '.join(words)}'") from None
+        raise Unfit(f"line {number}: a {what} is three numbers, and not '{' '.join(words)}'") from None
     return x, y, z
 
 
@@ -81,11 +81,11 @@ def read_materials(path: Path) -> dict[str, Colour]:
         return {}
     found: dict[str, Colour] = {}
     name = ""
-    for _, words in enumerate_statements(text):
+    for number, words in enumerate_statements(text):
         if words[0] == "newmtl":
             name = " ".join(words[1:])
         elif words[0] == "Kd" and len(words) == 4:
-            found[name] = mix_colour(list(map(float, words[1:])))
+            found[name] = mix_colour(read_numbers(words[1:], number, "colour"))
     return found
 
 
