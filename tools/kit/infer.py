@@ -26,7 +26,8 @@ def infer(example: Example, further: Sequence[Further] = (), words: Sequence[tup
             continue
         candidate.unfound = set_values([*((example, draft) for draft in candidate.lines), *candidate.further])
         if candidate.unfound:
-            reasons.append((candidate, "a rule folds, but not all of its values are found"))
+            embed, node, _ = candidate.unfound[0]
+            reasons.append((candidate, f"a rule folds, but no expression is found for {embed} at {candidate.draft.names()[node]}"))
             continue
         candidate = least_context(example, candidate)
         fault = certify_all(example, candidate)

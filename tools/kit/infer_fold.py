@@ -47,16 +47,19 @@ class Fold:
 
     # ------------------------------------------------------------------ families of darts
     def fault_of(self, family: Family) -> str | None:
-        """Why the family is no new node, or None."""
-        example = self.example
-        if len(set(family)) < len(family):
-            return "two positions share a dart"
-        if any(dart in self.owner for dart in family):
-            return "some of the darts are those of a node that lies otherwise"
-        if not any(darts.issuperset(family) for darts in (example.kept, example.gone, example.new)):
-            return "some of the darts stay and others don't"
+        """Why the family is no new node, with the position, or None."""
         if len(self.nodes) >= MOST_NODES:
             return f"there would be more than {MOST_NODES} nodes"
+        example, seen = self.example, set()
+        kind = next(darts for darts in (example.kept, example.gone, example.new) if family[0] in darts)
+        for position, dart in enumerate(family):
+            if dart in seen:
+                return f"at position {position} lies the dart of an earlier position"
+            if dart in self.owner:
+                return f"at position {position} lies the dart of another node, which lies otherwise"
+            if dart not in kind:
+                return f"the dart at position {position} doesn't stay, go or come as the one at 0 does"
+            seen.add(dart)
         return None
 
     def add(self, family: Family) -> int:
@@ -88,6 +91,10 @@ class Fold:
                     seen.add(turned)
                     family[turned] = side.alpha[label][family[position]]
         return tuple(family[position] for position in range(len(self.positions)))
+
+    def name_of(self, number: int) -> str:
+        """The name of a node in a draft of these nodes."""
+        return Draft(self.word, self.nodes).names()[number]
 
     # ------------------------------------------------------------------ steps
     def letter(self, family: Family, reached: Family, label: int, taken: Steps) -> Letter | None:
@@ -121,20 +128,9 @@ class Fold:
             fault = self.fault_of(reached)
             if fault:
                 when = "before" if is_left else "after"
-                raise Broken(f"{self.place_of(number, reached)} along {label} {when}: {fault}")
+                raise Broken(f"from node {self.name_of(number)} along {label} in the map {when}, {fault}")
             step = Link(self.add(reached))
         steps[label] = step
-
-    def place_of(self, number: int, reached: Family) -> str:
-        """The node, and the position at which the darts that are reached from it can't be a node's."""
-        earlier: set[int] = set()
-        for position, dart in enumerate(reached):
-            if dart in self.owner or dart in earlier:
-                break
-            earlier.add(dart)
-        else:
-            position = 0
-        return f"node {Draft(self.word, self.nodes).names()[number]} at position {position}"
 
     def must_take(self, number: int) -> Iterator[tuple[int, bool]]:
         """The steps of a node without which no rule makes the map after: the label, and whether it is on the left."""
@@ -219,7 +215,7 @@ class Fold:
             part = sorted(self.joined_to([number]))
             able = [at for at in part if self.hook_letters(at) is not None]
             if not able:
-                raise Broken(f"nothing leads to node {Draft(self.word, self.nodes).names()[number]} before")
+                raise Broken(f"nothing leads to node {self.name_of(number)} in the map before")
             chosen = min(able, key=lambda at: len(self.nodes[at].context))
             self.nodes[chosen].is_hook = True
             joined |= set(part)

@@ -157,16 +157,18 @@ def find(example: Example, words: Sequence[tuple[int, ...]], hook: int | None) -
 
 
 def why_none(example: Example, words: Sequence[tuple[int, ...]], hook: int | None) -> str:
-    """Why no orbit folds, in one line; where it is a single one, at which node, label and position."""
-    if len(words) == 1 and hook is not None:
-        try:
-            fold = Fold(example, words[0], hook)
-            fold.reach(FURTHEST)
-            fold.draft()
-            return f"the orbit doesn't fold: no label leads from its nodes to dart {min(example.missing(fold.owner))}, which differs"
-        except Broken as broken:
-            return f"the orbit doesn't fold: {broken}"
-    return "no orbit of what differs folds to the nodes of one rule"
+    """Why no orbit folds, in one line; where the labels are given, at which node, label and position."""
+    if len(words) > 1 or not (example.starts or hook is not None):
+        return "no orbit of what differs folds to the nodes of one rule"
+    first = example.starts[0] if hook is None else hook
+    try:
+        fold = Fold(example, words[0], first)
+        fold.reach(FURTHEST)
+        fold.draft()
+        why = f"no label leads from its nodes to dart {min(example.missing(fold.owner))}, which differs"
+    except Broken as broken:
+        why = str(broken)
+    return f"the orbit of dart {first} doesn't fold: {why}"
 
 
 def set_values(places: Sequence[Place]) -> list[Unfound]:
