@@ -70,6 +70,8 @@ def test_degenerate_cells_are_refused():
         refuse_volume([make_polyhedron(HOUSE_FACES)], HOUSE_POINTS)
         == "cell 0 has one face alone at the edge of the points 0 1"
     )
+    assert refuse_volume([make_polyhedron([(0, 1, 2), (2, 1, 0)])]) == "cell 0 has two faces of the same points"
+    assert refuse_volume([make_polyhedron([])]) == "cell 0 has no faces"
     crowded = [*CELL_FACES["tetra"], (0, 1, 4)]
     assert refuse_volume([make_polyhedron(crowded)]) == "cell 0 has more than two faces at the edge of the points 0 1"
     assert (

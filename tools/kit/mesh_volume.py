@@ -40,11 +40,13 @@ def make_volume_map(volume: Volume, points: list[Whole], paint: Paint | None) ->
 
 
 def check_cells(volume: Volume) -> None:
-    """Unfit where there are no cells, or one has a point twice or one that isn't there."""
+    """Unfit where there are no cells, or one has no faces, a point twice, one that isn't there, or a face twice."""
     if not volume.cells:
         raise Unfit("it has no cells")
     count = len(volume.points)
     for index, cell in enumerate(volume.cells):
+        if not cell.faces:
+            raise Unfit(f"cell {volume.tell_element(index)} has no faces")
         if min(cell.corners) < 0 or max(cell.corners) >= count:
             raise Unfit(f"cell {volume.tell_element(index)} has a corner that is none of the {count} points")
         for points in (cell.corners, *cell.faces):
@@ -53,6 +55,8 @@ def check_cells(volume: Volume) -> None:
                 raise Unfit(f"cell {volume.tell_element(index)} has the point {volume.tell_point(twice)} twice")
         if any(len(face) < FEWEST_CORNERS for face in cell.faces):
             raise Unfit(f"cell {volume.tell_element(index)} has a face with fewer than three corners")
+        if len(set(name_faces(cell.faces))) < len(cell.faces):
+            raise Unfit(f"cell {volume.tell_element(index)} has two faces of the same points")
 
 
 def check_places(volume: Volume, points: list[Whole]) -> None:
