@@ -33,12 +33,12 @@ class View(NamedTuple):
 
 
 class Face(NamedTuple):
-    """A face as it is drawn: where it stands in the picture, its colour in the light, how near it is, and its least
-    dart."""
+    """A face as it is drawn: where it stands in the picture, its colour in the light, how near it and, where volumes
+    are pulled apart, before that its volume is, and its least dart."""
 
     corners: list[Flat]
     colour: tuple[float, float, float]
-    depth: float
+    depth: tuple[float, float]
     dart: int
 
 
@@ -107,13 +107,14 @@ def faces_of(it: Model, view: View) -> list[Face]:
     """The faces of a map that may be seen, from the back to the front."""
     camera, faces = Camera(view), []
     for volume in volumes_of(it):
+        near = dot(mean([place_of(it.points[dart]) for dart in volume]), camera.toward) if view.apart else 0.0
         for dart, corners, is_closed in polygons_of(it, volume, view):
             turned = [camera.turn(corner) for corner in corners]
             normal = normal_of(turned)
             if is_closed and normal[2] <= 1e-9 * math.hypot(*normal) and not view.clear:
                 continue
             facing = normal if normal[2] >= 0 else minus((0.0, 0.0, 0.0), normal)
-            depth = math.fsum(place[2] for place in turned) / len(turned)
+            depth = (near, math.fsum(place[2] for place in turned) / len(turned))
             faces.append(Face([place[:2] for place in turned], lit(colour_of(it, dart), facing), depth, dart))
     return sorted(faces, key=lambda face: face.depth)
 
