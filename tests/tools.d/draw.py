@@ -10,6 +10,7 @@ from pathlib import Path
 from kit import maps
 from kit.draw_flat import draw
 from kit.draw_model import load_model, model_of
+from kit.draw_order import back_to_front
 from kit.draw_solid import View, faces_of
 
 ROOT = Path(__file__).resolve().parents[2]
@@ -103,8 +104,17 @@ def test_hidden_faces_of_a_solid_are_left_out():
     for axis in "xyz":
         seen = [model.points[face.dart] for face in faces_of(model, View(90, -90, axis))]
         equal([point["xyz".index(axis)] for point in seen], [10])
-    depths = [face.depth for face in faces_of(model_of(torus(12, 8)), View())]
-    equal(depths, sorted(depths))
+
+
+def test_what_is_nearer_is_drawn_over_what_is_behind_it():
+    floor = [(0.0, 0.0, 0.0), (90.0, 0.0, 0.0), (90.0, 90.0, 9.0), (0.0, 90.0, 9.0)]
+    below = [(1.0, 1.0, -1.0), (3.0, 1.0, -1.0), (3.0, 3.0, -1.0), (1.0, 3.0, -1.0)]
+    above = [(80.0, 2.0, 1.0), (84.0, 2.0, 1.0), (84.0, 4.0, 1.0), (80.0, 4.0, 1.0)]
+    beside = [(99.0, 0.0, 5.0), (95.0, 0.0, 5.0), (95.0, 9.0, 5.0)]
+    equal(back_to_front([above, floor, below, beside]), [2, 1, 0, 3])
+    for turn in range(3):
+        rows = [[floor, below, above][(turn + at) % 3] for at in range(3)]
+        equal([rows[at] for at in back_to_front(rows)], [below, floor, above])
 
 
 def test_the_border_of_volumes_is_seen_or_each_of_them():

@@ -1,6 +1,6 @@
 """Pictures of maps whose points are in space: their faces in colours and light, as they are seen from somewhere.
 
-Faces that are turned away are left out where nobody can see them, and the others are drawn from back to front."""
+Faces that are turned away are left out where nobody can see them, and the others cover what is behind them."""
 import math
 from collections.abc import Iterator, Sequence
 from types import ModuleType
@@ -9,6 +9,7 @@ from typing import Any, NamedTuple
 from kit import program
 from kit.distances import Place, corners_from, cross, dot, mean, minus, normal_of, place_of, rim_of, sides_of
 from kit.draw_model import Model, orbits
+from kit.draw_order import back_to_front
 
 FILL, INK = (160, 190, 222), "#1f2933"
 LIGHT = (-0.40, 0.55, 0.73)  # from the left, from above and from in front of the picture
@@ -33,12 +34,10 @@ class View(NamedTuple):
 
 
 class Face(NamedTuple):
-    """A face as it is drawn: where it stands in the picture, its colour in the light, how near it and, where volumes
-    are pulled apart, before that its volume is, and its least dart."""
+    """A face as it is drawn: where it stands in the picture, its colour in the light, and its least dart."""
 
     corners: list[Flat]
     colour: tuple[float, float, float]
-    depth: tuple[float, float]
     dart: int
 
 
@@ -105,18 +104,19 @@ def colour_of(it: Model, dart: int) -> Sequence[float]:
 
 def faces_of(it: Model, view: View) -> list[Face]:
     """The faces of a map that may be seen, from the back to the front."""
-    camera, faces = Camera(view), []
+    camera = Camera(view)
+    faces: list[Face] = []
+    places: list[list[Place]] = []
     for volume in volumes_of(it):
-        near = dot(mean([place_of(it.points[dart]) for dart in volume]), camera.toward) if view.apart else 0.0
         for dart, corners, is_closed in polygons_of(it, volume, view):
             turned = [camera.turn(corner) for corner in corners]
             normal = normal_of(turned)
             if is_closed and normal[2] <= 1e-9 * math.hypot(*normal) and not view.clear:
                 continue
             facing = normal if normal[2] >= 0 else minus((0.0, 0.0, 0.0), normal)
-            depth = (near, math.fsum(place[2] for place in turned) / len(turned))
-            faces.append(Face([place[:2] for place in turned], lit(colour_of(it, dart), facing), depth, dart))
-    return sorted(faces, key=lambda face: face.depth)
+            faces.append(Face([place[:2] for place in turned], lit(colour_of(it, dart), facing), dart))
+            places.append(turned)
+    return [faces[at] for at in back_to_front(places)]
 
 
 def seen_names(faces: Sequence[Face]) -> Iterator[tuple[Flat, Face]]:
