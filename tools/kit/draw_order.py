@@ -5,7 +5,7 @@ import heapq
 from collections.abc import Iterator, Sequence
 from typing import NamedTuple
 
-from kit.distances import Place, dot, mean, minus, normal_of
+from kit.distances import Place, dot, mean, minus, normal_of, place_of
 
 MOST_COMPARED = 8000
 
@@ -26,8 +26,8 @@ def polygon_of(corners: Sequence[Place]) -> Polygon:
     normal = normal_of(corners)
     if normal[2] < 0:
         normal = minus((0.0, 0.0, 0.0), normal)
-    low, high = (tuple(map(which, zip(*corners))) for which in (min, max))
-    slack = 1e-4 * max(high[0] - low[0], high[1] - low[1], high[2] - low[2])
+    low, high = (place_of([which(numbers) for numbers in zip(*corners)]) for which in (min, max))
+    slack = 1e-4 * max(minus(high, low))
     return Polygon(corners, mean(corners), normal, low, high, slack)
 
 
@@ -53,7 +53,8 @@ def sorted_by(order: Sequence[int], depths: Sequence[float], before: list[int], 
     for another, the furthest comes all the same."""
     ready = [(depths[one], one) for one in order if not before[one]]
     heapq.heapify(ready)
-    waiting, drawn, found = iter(order), [False] * len(order), []
+    waiting, drawn = iter(order), [False] * len(order)
+    found: list[int] = []
     while len(found) < len(order):
         here = heapq.heappop(ready)[1] if ready else next(one for one in waiting if not drawn[one])
         if drawn[here]:
