@@ -172,6 +172,26 @@ def test_polygons_that_a_format_lacks_are_refused():
         assert found == "abaqus has no pyramid, as the library writes it: write .vtk, .vtu or .msh"
 
 
+# What the program says of what was written.
+
+
+def test_a_map_that_the_program_refuses_is_a_fault_of_the_tool():
+    answers = {
+        "echo refused MAP text 3; exit 4": "a fault of this tool: in {}, which it wrote, the program reads refused MAP text 3",
+        "echo gmap 2": "a fault of this tool: in {}, which it wrote, the program reads another map",
+        "exit 7": "the program ended with status 7 and put nothing",
+    }
+    with scratch() as folder:
+        stand_in, model, made = folder / "gmr", folder / "house.obj", folder / "house.gmap"
+        write_mesh(model, house())
+        for does, line in answers.items():
+            stand_in.write_text(f"#!/bin/sh\n{does}\n")
+            stand_in.chmod(0o755)
+            words = [program.SYSTEM_PYTHON, TOOL, "import", model, made]
+            said = subprocess.run(words, capture_output=True, text=True, check=False, env={"GMR": str(stand_in)})
+            assert said.returncode == 1 and said.stderr == f"mesh: {model}: {line.format(made)}\n", said.stderr
+
+
 # What is missing.
 
 

@@ -11,6 +11,8 @@ from kit.mesh_scale import choose_scale, read_scale, scale_points, tell_scale
 from kit.mesh_surface import make_surface_map, read_surface_map
 from kit.mesh_volume import make_volume_map, read_volume_map
 
+PROGRAM_FAILED = (5, 6, 7, 9)  # statuses that say nothing of the map
+
 
 class Wish(NamedTuple):
     """What is wanted of colours: those of the file as 'col', where it has them, or an embedding 'paint' as the library
@@ -31,10 +33,22 @@ def import_mesh(model: Path, out: Path, scale: Fraction | None, wish: Wish, is_c
     made = make_map(mesh, scale, wish)
     text = made.text()
     out.write_text(tell_scale(scale) + text)
-    if is_checked and program.put_or_refuse("show", out) != text:
-        raise program.Refused(f"the program reads another map from {out} than this tool wrote", 1)
+    if is_checked:
+        check_map(out, text)
     told = f"imported {tell_counts(mesh)} darts {len(made.darts)} scale {scale}"
     return f"{told} colours {tell_colours(made)}" if wish.colours else told
+
+
+def check_map(out: Path, text: str) -> None:
+    """Refused where the program can't be asked, or doesn't read from the file the map whose canonical text this is."""
+    try:
+        if program.put_or_refuse("show", out) != text:
+            raise program.Refused("another map", 0)
+    except program.Refused as refusal:
+        if refusal.status in PROGRAM_FAILED:
+            raise
+        line = f"a fault of this tool: in {out}, which it wrote, the program reads {refusal.line}"
+        raise program.Refused(line, refusal.status) from None
 
 
 def make_map(mesh: Surface | Volume, scale: Fraction, wish: Wish = Wish()) -> Map:
