@@ -57,9 +57,9 @@ def test_a_rule_that_fits_more_maps_than_the_librarys():
 
 def test_values_of_the_library():
     texts = {
-        "values2/scale_face": "(a.pos + sum<0 1>(a.pos) / count<0 1>(a)) / 2",
         "values2/move_face": "a.pos + vec3(-60, 90, 60)",
-        "values3/star_at_middle": "sum<0 1 2>(a.pos) / count<0 1 2>(a)",
+        "values2/kis_from_centre": "2 * (sum<0 1>(a.pos) / count<0 1>(a)) + vec3(-156, -60, -120)",
+        "values3/hexahedra_at_middles": "sum<0 1>(a.pos) / count<0 1>(a)",
     }
     for name, text in texts.items():
         draft = made(LIBRARY / name).draft
