@@ -176,9 +176,10 @@ def test_polygons_that_a_format_lacks_are_refused():
 
 
 def test_a_map_that_the_program_refuses_is_a_fault_of_the_tool():
+    fault = "a fault of this tool: in {}, which it wrote, the program reads"
     answers = {
-        "echo refused MAP text 3; exit 4": "a fault of this tool: in {}, which it wrote, the program reads refused MAP text 3",
-        "echo gmap 2": "a fault of this tool: in {}, which it wrote, the program reads another map",
+        "echo refused MAP text 3; exit 4": f"{fault} refused MAP text 3",
+        "echo gmap 2": f"{fault} another map",
         "exit 7": "the program ended with status 7 and put nothing",
     }
     with scratch() as folder:
