@@ -99,6 +99,8 @@ def creations(example: Example) -> Iterator[Candidate]:
 
 def whole(fold: Fold) -> Iterator[Candidate]:
     """The rule of a fold that goes on to all that differs: along what doesn't change, or else in step."""
+    if max(len(fold.example.moved), len(fold.example.groups)) > MOST_NODES * len(fold.positions):
+        return
     try:
         fold = fold.copy()
         fold.reach(FURTHEST)
