@@ -129,7 +129,7 @@ def extreme(which: Callable, places: Sequence[complex]) -> complex:
 def draw_map(
     layers: Layers, it: Model, sheets: Sequence[Sheet], scale: float, corner: complex, with_names: bool
 ) -> complex:
-    """Draws the sheets of a map in rows, from this corner on; answers how far it reaches."""
+    """Draws the sheets of a map in rows, from this corner on, and returns how far it reaches."""
     strokes: dict[int, Stroke] = {}
     at, row, end, dimension = corner, corner.imag, corner + 60, it.dimension
     across = -22 if it.numbers else -4
