@@ -72,7 +72,8 @@ def test_drawn_examples():
         folder = DRAWN / name
         with tempfile.TemporaryDirectory() as scratch:
             files = [Path(scratch, file) for file in ("rule.gbook", "rule.gscript")]
-            words = [str(folder / word) if word.endswith(".gmap") else word for word in (folder / "words").read_text().split()]
+            words = (folder / "words").read_text().split()
+            words = [str(folder / word) if word.endswith(".gmap") else word for word in words]
             maps = [str(folder / file) for file in ("before.gmap", "after.gmap")]
             equal(run(*maps, "--name", name, *words, "--out", *map(str, files)), (0, "", ""))
             for file in files:
@@ -87,8 +88,8 @@ def test_several_lines_for_parts_that_nothing_joins():
 
 
 def test_a_context_that_is_needed_is_told():
-    book = write_book(compare(read(DRAWN / "cut_off_corner" / "before.gmap"), read(DRAWN / "cut_off_corner" / "after.gmap")),
-                      made(DRAWN / "cut_off_corner"), "cut")
+    folder = DRAWN / "cut_off_corner"
+    book = write_book(compare(read(folder / "before.gmap"), read(folder / "after.gmap")), made(folder), "cut")
     equal("# label 2 at a stays as it is: square a 0 2 without it\n" in book, True)
 
 
@@ -99,7 +100,8 @@ def test_what_no_rule_makes():
         ((square, painted), "the maps haven't the same embeddings"),
         ((square, "examples/edge.gmap"), "the maps have two dimensions, 2 and 1"),
         ((square, "examples/squares.gmap", "--hook", "99"), "the hook 99 is no dart of the map before"),
-        ((square, "examples/squares.gmap", "--orbit", "0 7"), "the orbit '0 7' has a label twice or one above the dimension"),
+        ((square, "examples/squares.gmap", "--orbit", "0 7"),
+         "the orbit '0 7' has a label twice or one above the dimension"),
         (("examples/broken.gmap", square), None),
     ]
     for words, line in cases:

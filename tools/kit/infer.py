@@ -17,7 +17,7 @@ def infer(example: Example, further: Sequence[Further] = (), words: Sequence[tup
     where there is none. It has to make each further example's map after too."""
     if hook is not None and hook not in example.before.alpha[0]:
         raise NoRule(f"the hook {hook} is no dart of the map before")
-    if any(other.before.dimension != example.before.dimension or other.before.embeds != example.before.embeds for other, _ in further):
+    if any(other.schema != example.schema for other, _ in further):
         raise NoRule("a further example has another dimension or other embeddings")
     reasons = []
     for candidate in find(example, words_of(example.before.dimension) if words is None else words, hook):
@@ -29,7 +29,8 @@ def infer(example: Example, further: Sequence[Further] = (), words: Sequence[tup
         candidate.unfound = set_values([*((example, draft) for draft in candidate.lines), *candidate.further])
         if candidate.unfound:
             embed, node, _ = candidate.unfound[0]
-            reasons.append((candidate, f"a rule folds, but no expression is found for {embed} at {candidate.draft.names()[node]}"))
+            named = candidate.draft.names()[node]
+            reasons.append((candidate, f"a rule folds, but no expression is found for {embed} at {named}"))
             continue
         candidate = least_context(example, candidate)
         fault = certify_all(example, candidate, name)
@@ -51,4 +52,4 @@ def certify_all(example: Example, candidate: Candidate, name: str) -> str | None
 
 def write_book(example: Example, candidate: Candidate, name: str) -> str:
     """The book of a candidate's rule, with remarks above it."""
-    return book_text(example.before.dimension, example.before.embeds, [candidate.remarks() + candidate.draft.text(name)])
+    return book_text(*example.schema, [candidate.remarks() + candidate.draft.text(name)])

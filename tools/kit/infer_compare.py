@@ -82,8 +82,9 @@ def unfold(draft: Draft, before: Map, hooks: Sequence[int]) -> Map:
     alpha = [dict(step) for step in before.alpha]
     for number, node in enumerate(draft.nodes):
         for label, step in (node.right or {}).items():
-            near = families[step.node] if isinstance(step, Link) else [families[number][at] for at in placing.turns[step.place]]
-            alpha[label].update(zip(families[number], near))
+            family = families[number]
+            near = families[step.node] if isinstance(step, Link) else [family[at] for at in placing.turns[step.place]]
+            alpha[label].update(zip(family, near))
     gone = {dart for number, node in enumerate(draft.nodes) if node.right is None for dart in families[number]}
     for step in alpha:
         for dart in gone:
@@ -94,7 +95,8 @@ def unfold(draft: Draft, before: Map, hooks: Sequence[int]) -> Map:
 def makes(draft: Draft, example: Example) -> bool:
     """Whether the rule makes the map after of the map before at some hooks, but for the names of new darts."""
     number = sum(node.is_hook for node in draft.nodes)
-    return any(lies(draft, example, hooks) for hooks in permutations(example.starts if number > 1 else example.before.darts, number))
+    darts = example.starts if number > 1 else example.before.darts
+    return any(lies(draft, example, hooks) for hooks in permutations(darts, number))
 
 
 def lies(draft: Draft, example: Example, hooks: Sequence[int]) -> bool:

@@ -79,7 +79,8 @@ class Draft:
 
     def read_nodes(self) -> set[int]:
         """The nodes that expressions read."""
-        return {at for at in range(len(self.nodes)) for node in self.nodes for value in node.sets.values() if f"{{{at}}}" in value}
+        values = [value for node in self.nodes for value in node.sets.values()]
+        return {at for at in range(len(self.nodes)) if any(f"{{{at}}}" in value for value in values)}
 
     def text(self, name: str) -> str:
         """The rule's text."""
@@ -89,11 +90,12 @@ class Draft:
     def _side(self, side: str) -> Iterator[str]:
         """The lines of a side: its nodes, and then its links, each once."""
         names = self.names()
-        standing = [(at, node, getattr(node, side)) for at, node in enumerate(self.nodes) if getattr(node, side) is not None]
+        of_side = [(at, node, getattr(node, side)) for at, node in enumerate(self.nodes)]
+        standing = [(at, node, steps) for at, node, steps in of_side if steps is not None]
         for at, node, steps in standing:
-            hook = " hook" if node.is_hook and side == "left" else ""
-            sets = "".join(f" with {embed} = {value.format(*names)}" for embed, value in node.sets.items()) if side == "right" else ""
-            yield f"{names[at]} <{' '.join(self._letters(steps))}>{hook}{sets}"
+            sets = [f" with {embed} = {value.format(*names)}" for embed, value in node.sets.items()]
+            behind = (" hook" if node.is_hook else "") if side == "left" else "".join(sets)
+            yield f"{names[at]} <{' '.join(self._letters(steps))}>{behind}"
         for at, _, steps in standing:
             for label, step in sorted(steps.items()):
                 if isinstance(step, Link) and step.node >= at:

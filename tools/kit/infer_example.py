@@ -3,7 +3,7 @@ from collections.abc import Container
 from dataclasses import dataclass
 from functools import cached_property
 
-from kit.maps import Map
+from kit.maps import Embed, Map
 
 
 class NoRule(Exception):
@@ -19,6 +19,11 @@ class Example:
     """The map before and the map after an operation. A name that both have is a dart that stays."""
     before: Map
     after: Map
+
+    @property
+    def schema(self) -> tuple[int, list[Embed]]:
+        """The dimension and the embeddings of both maps."""
+        return self.before.dimension, self.before.embeds
 
     @cached_property
     def kept(self) -> frozenset[int]:

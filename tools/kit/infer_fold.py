@@ -83,13 +83,10 @@ class Fold:
 
     def in_step(self, side: Map, start: int) -> Family:
         """The darts of a walk from the start in step with the hook's, by the same labels."""
-        seen, family = {0}, {0: start}
+        family = {0: start}
         for position in range(len(self.positions)):
-            for place, label in enumerate(self.word):
-                turned = self.turns[place][position]
-                if turned not in seen:
-                    seen.add(turned)
-                    family[turned] = side.alpha[label][family[position]]
+            for label, turn in zip(self.word, self.turns):
+                family.setdefault(turn[position], side.alpha[label][family[position]])
         return tuple(family[position] for position in range(len(self.positions)))
 
     def name_of(self, number: int) -> str:

@@ -22,10 +22,10 @@ def draft_of(rule: Rule) -> Draft:
                 steps[label] = Link(number[other if name == one else one])
         return steps
 
-    nodes = [
-        Node((), steps_of(node.name, node.left, rule.left_links), steps_of(node.name, node.right, rule.right_links), node.hook)
-        for node in rule.nodes
-    ]
+    nodes = []
+    for node in rule.nodes:
+        left, right = steps_of(node.name, node.left, rule.left_links), steps_of(node.name, node.right, rule.right_links)
+        nodes.append(Node((), left, right, node.hook))
     word = next((node.left for node in rule.nodes if node.hook), ())
     return Draft(tuple(label for label in word if label is not None), nodes)
 
@@ -53,7 +53,8 @@ class Placing:
 
     def walked(self, side: Map, number: int, name: str, start: int) -> Family:
         """The darts of a node that has a letter at each place, from the one at position 0 on."""
-        label_at = {step.place: label for label, step in getattr(self.draft.nodes[number], name).items() if isinstance(step, Letter)}
+        steps = getattr(self.draft.nodes[number], name)
+        label_at = {step.place: label for label, step in steps.items() if isinstance(step, Letter)}
         family = {0: start}
         for position in range(self.size):
             for place, turn in enumerate(self.turns):

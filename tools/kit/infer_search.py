@@ -27,7 +27,7 @@ class Candidate:
         return self.lines[0]
 
     def cost(self) -> tuple[int, ...]:
-        """What is to be least: nodes, lines of the script, free darts and other links that are asked for, hooks, the word."""
+        """What is to be least: nodes, lines of the script, free darts and other links that it asks for, hooks, the word."""
         nodes = self.draft.nodes
         links = [
             (at, step.node, label in node.context) for at, node in enumerate(nodes)
@@ -151,7 +151,7 @@ def find(example: Example, words: Sequence[tuple[int, ...]], hook: int | None) -
     found = sorted(candidates(example, words, hook), key=Candidate.cost)
     if not found:
         raise NoRule(why_none(example, words, hook))
-    faults = faults_of(example.before.dimension, example.before.embeds, [candidate.draft for candidate in found])
+    faults = faults_of(*example.schema, [candidate.draft for candidate in found])
     accepted = [candidate for candidate, fault in zip(found, faults) if fault is None or fault.startswith(OF_VALUES)]
     if not accepted:
         raise NoRule(f"of {len(found)} rules that fold none is accepted; the first has the fault '{faults[0]}'")
@@ -181,7 +181,7 @@ def set_values(places: Sequence[Place]) -> list[Unfound]:
         unfound = assign(places, forced)
         if unfound:
             return unfound
-        fault = faults_of(example.before.dimension, example.before.embeds, [draft])[0]
+        fault = faults_of(*example.schema, [draft])[0]
         if fault is None or not fault.startswith(OF_VALUES):
             return []
         _, embed, name = fault.split()[:3]
@@ -210,12 +210,12 @@ def drop_all(example: Example, candidate: Candidate,
     while True:
         drops = list_drops(candidate.draft)
         tried = [drop_from(candidate, [drop]) for drop in drops]
-        faults = faults_of(example.before.dimension, example.before.embeds, [shorter.draft for shorter in tried])
+        faults = faults_of(*example.schema, [shorter.draft for shorter in tried])
         passed = [drop for drop, fault in zip(drops, faults) if fault is None]
         if not passed:
             return candidate, {drop: fault for drop, fault in zip(drops, faults) if fault is not None}
         at_once = drop_from(candidate, passed)
-        is_fine = faults_of(example.before.dimension, example.before.embeds, [at_once.draft]) == [None]
+        is_fine = faults_of(*example.schema, [at_once.draft]) == [None]
         candidate = at_once if is_fine else drop_from(candidate, passed[:1])
 
 

@@ -64,14 +64,16 @@ def ways_from(places: Sequence[tuple[Map, Draft]]) -> Iterator[tuple[str, list[t
         longer = []
         for text, families in ways:
             for label in labels:
-                reached = [tuple(before.alpha[label][dart] for dart in family) for (before, _), family in zip(places, families)]
+                steps = [before.alpha[label] for before, _ in places]
+                reached = [tuple(step[dart] for dart in family) for step, family in zip(steps, families)]
                 if tuple(reached) not in seen:
                     seen.add(tuple(reached))
                     longer.append((f"{text}@{label}", reached))
         ways = longer
 
 
-def collected(places: Sequence[tuple[Map, Draft]], embed: Embed, text: str, families: list[tuple[int, ...]]) -> Iterator[Term]:
+def collected(places: Sequence[tuple[Map, Draft]], embed: Embed, text: str,
+              families: list[tuple[int, ...]]) -> Iterator[Term]:
     """The mean, sum, least and greatest value over each orbit of a way's darts."""
     labels = range(places[0][0].dimension + 1)
     for word in (word for size in range(1, len(labels) + 1) for word in combinations(labels, size)):
