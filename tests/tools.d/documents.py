@@ -43,8 +43,8 @@ def run_document(name: str) -> None:
         Path(folder, "gmr").symlink_to(os.path.abspath(find_program()))
         differing = []
         for command in commands_of((ROOT / name).read_text(encoding="utf-8")):
-            done = subprocess.run(["bash", "-c", command.text], cwd=folder, stdin=subprocess.DEVNULL, capture_output=True,
-                                  text=True, check=False, timeout=60)
+            done = subprocess.run(["bash", "-c", command.text], cwd=folder, stdin=subprocess.DEVNULL,
+                                  capture_output=True, text=True, check=False, timeout=60)
             found = done.stdout.splitlines()
             if (found != command.wanted and command.wanted) or done.stderr:
                 differing.append(f"{name}:{command.line}: {command.text}: {found[:8]} {done.stderr[:300]}")

@@ -1,4 +1,4 @@
-"""Tests of ./gmr that need no proof, and of what editors get: in folders where nothing is built, or something else is."""
+"""Tests of ./gmr that need no proof, in folders where nothing is built, or something else is; and of editors' files."""
 import os
 import shutil
 import subprocess
@@ -32,8 +32,9 @@ def put_program(path: Path, text: str) -> None:
 
 def run(folder: Path, *words: str, program: str = "gmr") -> tuple[int, str, str]:
     """The status of ./gmr, its output and its errors, with the folder's bin and the system's on the path."""
-    done = subprocess.run([str(folder / program), *words], cwd=folder, capture_output=True, text=True, check=False, timeout=60,
-                          env={**os.environ, "PATH": f"{folder}/bin:{SYSTEM}"})
+    path = {**os.environ, "PATH": f"{folder}/bin:{SYSTEM}"}
+    done = subprocess.run([str(folder / program), *words], cwd=folder, env=path, capture_output=True, text=True,
+                          check=False, timeout=60)
     return done.returncode, done.stdout, done.stderr
 
 
@@ -65,7 +66,8 @@ def test_the_toolchain_is_missing() -> None:
 
 def test_readme_names_the_toolchain() -> None:
     """README and ./gmr name one toolchain."""
-    line = next(line for line in (ROOT / "gmr").read_text(encoding="utf-8").splitlines() if line.startswith("toolchain="))
+    lines = (ROOT / "gmr").read_text(encoding="utf-8").splitlines()
+    line = next(line for line in lines if line.startswith("toolchain="))
     assert line.split('"')[1] in (ROOT / "README.md").read_text(encoding="utf-8"), line
 
 
@@ -86,7 +88,8 @@ def test_unproved() -> None:
         status, said, errors = run(folder, "--unproved", "run", "a.gmap", "/b.gbook", "../c d", "out.gmap")
         words = said.splitlines()
         assert status == 4 and errors.count("\n") == 1 and "UNPROVED" in errors, (status, errors)
-        assert words[words.index("--") + 1:] == ["run", f"{folder}/a.gmap", "/b.gbook", f"{folder.parent}/c d", f"{folder}/out.gmap"], words
+        wanted = ["run", f"{folder}/a.gmap", "/b.gbook", f"{folder.parent}/c d", f"{folder}/out.gmap"]
+        assert words[words.index("--") + 1:] == wanted, words
         assert run(folder, "--unproved", "grid", "7")[1].endswith("grid\n7\n")
 
 
@@ -103,7 +106,8 @@ def completions(folder: Path, *words: str) -> list[str]:
     """What bash offers for the last of these words."""
     script = (f'source "{ROOT}/editors/bash/gmr"; COMP_WORDS=("$@"); COMP_CWORD=$(($# - 1)); _gmr; '
               'printf "%s\\n" "${COMPREPLY[@]}"')
-    done = subprocess.run(["bash", "-c", script, "bash", "gmr", *words], cwd=folder, capture_output=True, text=True, check=True)
+    done = subprocess.run(["bash", "-c", script, "bash", "gmr", *words], cwd=folder, capture_output=True, text=True,
+                          check=True)
     return sorted(done.stdout.split())
 
 

@@ -124,7 +124,8 @@ def unfold(found: Candidate) -> tuple[Map, dict[str, list[int]]]:
     """The darts and arcs that an application leaves, without values, and the darts of each right node."""
     rule, amap, count = found.rule, found.map, found.count()
     alpha = [dict(step) for step in amap.alpha]
-    darts = {node.name: found.darts[node.name] for node in rule.nodes if node.left is not None and node.right is not None}
+    preserved = [node for node in rule.nodes if node.left is not None and node.right is not None]
+    darts = {node.name: found.darts[node.name] for node in preserved}
     added = [node for node in rule.nodes if node.left is None]
     for at, node in enumerate(added):
         first = amap.next + at * count

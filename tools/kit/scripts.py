@@ -104,9 +104,15 @@ def outcome_of(line: str, statement: Statement) -> tuple[str, str]:
     return word, rest
 
 
-def text_before(text: str, statements: list[Statement], at: int) -> str:
-    """The script of the statements before one. Where that one stands in a group, the group is closed."""
+def is_in_group(statements: list[Statement], at: int) -> bool:
+    """Whether a statement stands in a group."""
     is_open = False
     for statement in statements[:at]:
         is_open = statement.word == "group" or is_open and statement.word != "end"
-    return text[:statements[at].begin] + ("\nend\n" if is_open else "")
+    return is_open
+
+
+def text_before(text: str, statements: list[Statement], at: int) -> str:
+    """The script of the statements before one. Where that one stands in a group, the group is closed."""
+    end = statements[at].begin if at < len(statements) else len(text)
+    return text[:end] + ("\nend\n" if is_in_group(statements, at) else "")

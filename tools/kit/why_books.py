@@ -7,12 +7,15 @@ from kit.expressions import ARGUMENTS, NoKind, Reader, kind_of
 from kit.places import marked, tell_place, tokens_from, tokens_up_to
 
 TURNS = {
-    ("int", "bool"): "a comparison makes a truth of numbers, as `.. > 0`",
-    ("vec2", "int"): "`vec2(.., ..)` makes a vector of two numbers", ("vec3", "int"): "`vec3(.., .., ..)` makes a vector of three numbers",
-    ("rgb", "int"): "`rgb(.., .., ..)` makes a colour of three numbers", ("int", "vec2"): "`x(..)` and `y(..)` are the parts of a vector",
+    ("bool", "int"): "a comparison makes a truth of numbers, as `.. > 0`",
+    ("int", "bool"): "`if .. then 1 else 0` makes a number of a truth",
+    ("int", "vec2"): "`x(..)` and `y(..)` are the parts of a vector",
     ("int", "vec3"): "`x(..)`, `y(..)` and `z(..)` are the parts of a vector",
     ("int", "rgb"): "`red(..)`, `green(..)` and `blue(..)` are the parts of a colour",
-    ("rgb", "vec3"): "`rgb(x(..), y(..), z(..))` makes a colour of a vector", ("bool", "int"): "a comparison makes a truth of numbers, as `.. > 0`",
+    ("vec2", "int"): "`vec2(.., ..)` makes a vector of two numbers",
+    ("vec3", "int"): "`vec3(.., .., ..)` makes a vector of three numbers",
+    ("rgb", "int"): "`rgb(.., .., ..)` makes a colour of three numbers",
+    ("rgb", "vec3"): "`rgb(x(..), y(..), z(..))` makes a colour of a vector",
 }
 
 
@@ -67,7 +70,7 @@ def tell_twice(path: str, text: str, place: int) -> list[str]:
     said = f"`{here.word}` is {what} already, as the second mark shows." if what != "a label" else \
         f"The label {here.word} stands before it in the same orbit."
     return [*tell_place(path, text, place, here.end), *marked(text, earlier.begin, earlier.end),
-            f"{said} Leave one out" + (", or choose another name." if what.split()[-1] != "assigned" and what != "a label" else ".")]
+            f"{said} Leave one out" + ("." if what in ("a label", "assigned") else ", or choose another name.")]
 
 
 def first_mention(before: list[Token], here: Token, behind: str) -> tuple[str, Token]:
@@ -97,7 +100,8 @@ def tell_unknown(path: str, text: str, place: int) -> list[str]:
     word = spot.here.word
     lines = tell_place(path, text, place, spot.here.end)
     if what == "a function" and word in ARGUMENTS:
-        return lines + [f"`{word}` takes {ARGUMENTS[word]} {'argument' if ARGUMENTS[word] == 1 else 'arguments'}, and here it has "
+        return lines + [f"`{word}` takes {ARGUMENTS[word]} {'argument' if ARGUMENTS[word] == 1 else 'arguments'}, "
+                        "and here it has "
                         "another number of them."]
     lines.append(f"`{word}` is none of what can stand here, which is {what}: {', '.join(names) or 'there is none'}.")
     near = difflib.get_close_matches(word, names, 1)
@@ -139,6 +143,6 @@ def tell_type(path: str, text: str, place: int) -> list[str]:
         kind = kind_of(tree, embeds, dict(spot.rule().params))
     except NoKind as fault:
         return lines + [f"`{fault.tree.text}` has no kind: {fault.reason}.", "docs/FORMATS.md has the table of kinds."]
-    turn = TURNS.get((wanted, kind))
+    turn = TURNS.get((wanted, kind), "")
     place_of = "behind `pre` a bool" if wanted == "bool" else f"for `{spot.word(2)}` the kind {wanted}"
-    return lines + [f"The expression is of kind {kind}, and {place_of} is needed." + (f" {turn[0].upper() if turn[0].isalpha() else turn[0]}{turn[1:]}." if turn else "")]
+    return lines + [f"The expression is of kind {kind}, and {place_of} is needed{turn and f': {turn}'}."]

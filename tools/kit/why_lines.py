@@ -8,6 +8,7 @@ from kit.matches import Candidate, Step, deciding_positions, find_candidate, ste
 from kit.why_rules import link_text, word_text
 
 MOST_PARTS = 12     # parts of an expression that are told
+CONSTANTS = ("number", "truth")
 
 
 class Line(NamedTuple):
@@ -45,8 +46,10 @@ def tell_no_dart(line: Line) -> list[str]:
     at = int(line.cause[2])
     dart, hook = line.hooks[at], [node.name for node in line.rule.nodes if node.hook][at]
     if dart >= line.map.next:
-        return [f"The script gives dart {dart} for the hook {hook}; at this line the next name is {line.map.next}, so no dart has "
-                "had that name yet." if line.map.darts else f"The script gives dart {dart} for the hook {hook}, and the map is empty."]
+        return [f"The script gives dart {dart} for the hook {hook}; at this line the next name is {line.map.next}, "
+                "so no dart has "
+                "had that name yet." if line.map.darts else f"The script gives dart {dart} for the hook {hook}, and "
+                                                            "the map is empty."]
     near = nearest(line.map.darts, dart)
     return [f"The script gives dart {dart} for the hook {hook}, and at this line no dart has that name"
             + (f"; the nearest ones are {near}." if near else ": the map is empty.")]
@@ -67,8 +70,10 @@ def tell_arc(line: Line) -> list[str]:
     step = step_of(node.left or (), line.rule.left_links, node.name, label)
     assert step is not None
     return [f"The left side asks for {asked(line.rule, node, label, step)}.",
-            f"There, at position {position}, {node.name} is dart {dart}. Along {label} it leads to {target(there, dart)}"
-            f"{whose(found, there)}, and the rule needs {target(wanted, dart)}{wanted_as(found, step, node, position)}.",
+            f"There, at position {position}, {node.name} is dart {dart}. Along {label} it leads to "
+            f"{target(there, dart)}"
+            f"{whose(found, there)}, and the rule needs "
+            f"{target(wanted, dart)}{wanted_as(found, step, node, position)}.",
             *where(found, node, position),
             *hint(there, dart, wanted, label)]
 
@@ -130,13 +135,15 @@ def tell_same(line: Line) -> list[str]:
     found, one, other = line.candidate(), line.node(2), line.node(4)
     here, there = int(line.cause[3]), int(line.cause[5])
     dart = found.darts[one.name][here]
-    said = [f"{one.name} at position {here} and {other.name} at position {there} both lie on dart {dart}, and a rule takes no dart "
+    said = [f"{one.name} at position {here} and {other.name} at position {there} both lie on dart {dart}, and a rule "
+            "takes no dart "
             "twice."]
     if here == there == 0 and one.hook and other.hook:
         return said + [f"The line gives dart {dart} for both hooks."]
     lines = where(found, one, here) + where(found, other, there)
     if one is other:
-        return said + lines + [f"The two positions of {one.name} are two darts of the hook {found.hooks[0].name}, and in step with "
+        return said + lines + [f"The two positions of {one.name} are two darts of the hook {found.hooks[0].name}, "
+                               "and in step with "
                                f"them {one.name} comes to one dart twice."]
     return said + list(dict.fromkeys(lines))
 
@@ -154,7 +161,8 @@ def tell_pre(line: Line) -> list[str]:
     except NoValue as fault:
         return [f"The precondition of {line.rule.name} has no value: {tree.text}", *tell_fault(fault, tree, scene)]
     parts = [said for part in blamed(tree, scene) for said in tell_parts(part, scene)]
-    return list(dict.fromkeys([f"The precondition of {line.rule.name} is false: {tree.text}", *tell_leaves(tree, scene), *parts]))
+    head = f"The precondition of {line.rule.name} is false: {tree.text}"
+    return list(dict.fromkeys([head, *tell_leaves(tree, scene), *parts]))
 
 
 def empty(line: Line) -> Candidate:
@@ -174,10 +182,13 @@ def blamed(tree: Tree, scene: Scene) -> list[Tree]:
 
 
 def tell_parts(tree: Tree, scene: Scene) -> list[str]:
-    """A truth, behind the values of its two parts."""
+    """A truth, behind the values of its two parts; nothing for one without parts, which is told as what is read."""
+    if not tree.parts:
+        return []
     values = [show(value_of(part, scene)) for part in tree.parts]
-    said = [f"  {part.text} is {value}" for part, value in zip(tree.parts, values) if part.form not in ("number", "truth")
-            and part not in leaves_of(tree)]
+    leaves = leaves_of(tree)
+    said = [f"  {part.text} is {value}" for part, value in zip(tree.parts, values)
+            if part.form not in CONSTANTS and part not in leaves]
     whole = f" {tree.word} ".join(values) if len(values) == 2 else tree.text
     return said + [f"  so {whole} is {show(value_of(tree, scene))}"]
 
@@ -197,7 +208,8 @@ def tell_leaves(tree: Tree, scene: Scene) -> list[str]:
 
 def tell_fault(fault: NoValue, tree: Tree, scene: Scene) -> list[str]:
     """Which part of an expression has no value, with the values of its own parts."""
-    parts = [f"  {part.text} is {show(value_of(part, scene))}" for part in fault.tree.parts if part.form not in ("number", "truth")]
+    parts = [f"  {part.text} is {show(value_of(part, scene))}" for part in fault.tree.parts
+             if part.form not in CONSTANTS]
     return list(dict.fromkeys([*tell_leaves(tree, scene), *parts, f"  {fault.tree.text} has no value: {fault.reason}"]))
 
 
@@ -221,11 +233,14 @@ def tell_full(line: Line) -> list[str]:
     first, more = int(line.cause[2]), int(line.cause[4])
     count = (line.candidate() if line.hooks else empty(line)).count()
     added = sum(1 for node in line.rule.nodes if node.left is None)
-    made = f"{line.rule.name} adds {added} {plural(added, 'node')} at {count} {plural(count, 'position')}, which makes {more} new darts"
+    made = (f"{line.rule.name} adds {added} {plural(added, 'node')} at {count} {plural(count, 'position')}, "
+            f"which makes {more} new darts")
     if line.cause[0] == "full-darts":
-        return [f"{made}; {first} of the {len(line.map.darts)} darts stay, and {first + more} are {first + more - MOST_DARTS} more "
+        return [f"{made}; {first} of the {len(line.map.darts)} darts stay, and {first + more} are "
+                f"{first + more - MOST_DARTS} more "
                 f"than the {MOST_DARTS:,} that a map can have."]
-    return [f"{made} from the name {first} on; the last would be {first + more - 1}, and names are below {MOST_NAME:,}.",
+    return [f"{made} from the name {first} on; the last would be {first + more - 1}, and names are below "
+            f"{MOST_NAME:,}.",
             "Where names of removed darts may be used again, save the map in version 1 and begin a new run."
             if line.map.darts and line.map.darts[-1] + 1 < line.map.next else "No rule lowers the next name."]
 
@@ -235,7 +250,9 @@ def plural(count: int, word: str) -> str:
     return word if count == 1 else word + "s"
 
 
-CAUSES = {"no-dart": tell_no_dart, "no-match arc": tell_arc, "no-match same": tell_same, "pre-no-value": tell_pre, "pre-false": tell_pre,
-          "full-darts": tell_full, "full-names": tell_full, "no-value": tell_no_value}
+CAUSES = {
+    "no-dart": tell_no_dart, "no-match arc": tell_arc, "no-match same": tell_same, "pre-no-value": tell_pre,
+    "pre-false": tell_pre, "full-darts": tell_full, "full-names": tell_full, "no-value": tell_no_value,
+}
 
 

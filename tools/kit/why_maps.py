@@ -81,10 +81,12 @@ def tell_map(path: str, text: str, fault: list[str]) -> list[str]:
     first = rows.named(numbers[0])
     lines = tell_place(path, text, first[0].begin, first[0].end)
     if kind == "dart-twice":
-        return lines + marked(text, first[1].begin, first[1].end) + [f"Two lines have the name {numbers[0]}; give one of them another."]
+        return lines + marked(text, first[1].begin, first[1].end) + [f"Two lines have the name {numbers[0]}; give "
+                                                                     "one of them another."]
     if kind == "next":
         greatest = max(row.name for row in rows.rows)
-        return lines + [f"The text says `next {rows.next}`, and dart {numbers[0]} isn't below that. Write at least `next {greatest + 1}`."]
+        return lines + [f"The text says `next {rows.next}`, and dart {numbers[0]} isn't below that. Write at least "
+                        f"`next {greatest + 1}`."]
     return lines + LAWS[kind](text, rows, first[0], fault, numbers)
 
 
@@ -98,7 +100,8 @@ def tell_involution(text: str, rows: Rows, row: Row, _fault: list[str], numbers:
     label = numbers[1]
     near = rows.named(row.near[label])[0]
     return marked(text, near.begin, near.end) + [
-        f"Along {label} dart {row.name} leads to {near.name}, and {near.name} leads to {near.near[label]}, not back to {row.name}."]
+        f"Along {label} dart {row.name} leads to {near.name}, and {near.name} leads to {near.near[label]}, not back "
+        f"to {row.name}."]
 
 
 def tell_cycle(_text: str, rows: Rows, row: Row, _fault: list[str], numbers: list[int]) -> list[str]:
@@ -109,8 +112,10 @@ def tell_cycle(_text: str, rows: Rows, row: Row, _fault: list[str], numbers: lis
         near = row.near[first]
         return near, rows.named(near)[0].near[second]
     here, there = way(one, other), way(other, one)
-    return [f"Labels {one} and {other} are two or more apart, so both orders lead to one dart. From dart {row.name} along {one} "
-            f"and then {other} the way is {here[0]}, {here[1]}; along {other} and then {one} it is {there[0]}, {there[1]}."]
+    return [f"Labels {one} and {other} are two or more apart, so both orders lead to one dart. From dart {row.name} "
+            f"along {one} "
+            f"and then {other} the way is {here[0]}, {here[1]}; along {other} and then {one} it is {there[0]}, "
+            f"{there[1]}."]
 
 
 def tell_embedding(text: str, rows: Rows, row: Row, fault: list[str], numbers: list[int]) -> list[str]:
@@ -119,7 +124,8 @@ def tell_embedding(text: str, rows: Rows, row: Row, fault: list[str], numbers: l
     embed, other = rows.embeds[place], rows.named(numbers[-1])[0]
     label = next(label for label in embed.labels if row.near[label] == other.name)
     return marked(text, other.begin, other.end) + [
-        f"Darts {row.name} and {other.name} are neighbours along {label}, a label of {embed_text(embed)}, so they share one value "
+        f"Darts {row.name} and {other.name} are neighbours along {label}, a label of {embed_text(embed)}, so they "
+        "share one value "
         f"of {embed.name}; they have {show(row.values[place])} and {show(other.values[place])}."]
 
 
@@ -140,6 +146,7 @@ def tell_agree(amap: Map, book: Book) -> list[str]:
     for whose, has, lacks in (("map", in_map, in_book), ("book", in_book, in_map)):
         lines += [f"Only the {whose} has `{line}`." for line in has if line not in lacks]
     if not lines:
-        lines.append(f"The embeddings stand in another order: in the map {', '.join(embed.name for embed in amap.embeds)}, in the "
+        lines.append("The embeddings stand in another order: in the map "
+                     f"{', '.join(embed.name for embed in amap.embeds)}, in the "
                      f"book {', '.join(embed.name for embed in book.embeds)}.")
     return lines + ["A run needs one dimension and the same embeddings in one order, with the same labels and kinds."]

@@ -33,7 +33,8 @@ class Told:
     def sources(self, side: str, name: str, label: int) -> list[str]:
         """Each letter and link by which a node has a label on a side, as it is written."""
         word = (self.by_name[name].left if side == "left" else self.by_name[name].right) or ()
-        letters = [f"the letter at place {place} of {word_text(word)}" for place, letter in enumerate(word) if letter == label]
+        letters = [f"the letter at place {place} of {word_text(word)}"
+                   for place, letter in enumerate(word) if letter == label]
         return letters + [f"the link {link_text(link)}" for link in self.links(side)
                           if link[1] == label and name in (link[0], link[2])]
 
@@ -69,7 +70,8 @@ def tell_hook_word(told: Told) -> list[str]:
     letters = [letter for letter in node.left or () if letter is not None]
     what = "has a `_`" if None in (node.left or ()) else "has a label twice"
     return [f"The word of the hook {node.name} tells which labels are walked, and {word_text(node.left or ())} {what}.",
-            f"Write each label once: {word_text(tuple(dict.fromkeys(letters)))}; and give each other word as many places."]
+            f"Write each label once: {word_text(tuple(dict.fromkeys(letters)))}; and give each other word as many "
+            "places."]
 
 
 def tell_word_length(told: Told) -> list[str]:
@@ -77,8 +79,9 @@ def tell_word_length(told: Told) -> list[str]:
     node, wanted = told.node(0), len(told.hooks[0].left or ()) if told.hooks else 0
     wrong = [f"{word_text(word)} {SIDES[side]}" for side, word in (("left", node.left), ("right", node.right))
              if word is not None and len(word) != wanted]
-    whose = f"the word {word_text(told.hooks[0].left or ())} of the hook {told.hooks[0].name} has {wanted}" if told.hooks \
-        else "in a rule without hooks all words are empty"
+    whose = "in a rule without hooks all words are empty"
+    if told.hooks:
+        whose = f"the word {word_text(told.hooks[0].left or ())} of the hook {told.hooks[0].name} has {wanted}"
     return [f"Node {node.name} has the word {' and '.join(wrong)}, but {whose}.",
             "Write a letter or `_` for each place of the hook's word." if told.hooks else f"Write `{node.name} <>`."]
 
@@ -87,14 +90,16 @@ def tell_not_connected(told: Told) -> list[str]:
     """No links lead from a hook to a left node."""
     name, hooks = told.words[0], ", ".join(hook.name for hook in told.hooks)
     return [f"No left links lead from a hook ({hooks}) to node {name}, so nothing says where its darts lie.",
-            f"Add left links that lead there, as `{told.hooks[0].name} -{told.dimension}- {name}`, or make {name} a hook too "
+            f"Add left links that lead there, as `{told.hooks[0].name} -{told.dimension}- {name}`, or make {name} a "
+            "hook too "
             "(in a book of version 2). Where the node stays, it needs the same labels on the right."]
 
 
 def tell_arc_twice(told: Told) -> list[str]:
     """A node has a label twice on a side."""
     name, label, side = told.words[0], told.number(1), told.words[2]
-    return [f"{SIDES[side].capitalize()} node {name} has label {label} by {' and by '.join(told.sources(side, name, label))}.",
+    return [f"{SIDES[side].capitalize()} node {name} has label {label} by "
+            f"{' and by '.join(told.sources(side, name, label))}.",
             "Choose one of them and take the other away: a letter becomes `_`, a link goes."]
 
 
@@ -103,12 +108,15 @@ def tell_arc_missing(told: Told) -> list[str]:
     node, label = told.node(0), told.number(1)
     if node.right is None:
         return [f"Node {node.name} goes, so it needs each label from 0 to {told.dimension} on the left; it has "
-                f"{told.labels('left', node.name)}, and {label} is missing: its neighbours along {label} would be left behind.",
-                f"Say what it is joined to along {label}: by a letter, or by a link. `{node.name} -{label}- {node.name}` asks "
+                f"{told.labels('left', node.name)}, and {label} is missing: its neighbours along {label} would be "
+                "left behind.",
+                f"Say what it is joined to along {label}: by a letter, or by a link. `{node.name} -{label}- "
+                f"{node.name}` asks "
                 "that it is free there; a node that stays needs a new neighbour on the right."]
     return [f"Node {node.name} is new, so it needs each label from 0 to {told.dimension} on the right; it has "
             f"{told.labels('right', node.name)}, and {label} is missing.",
-            f"Give it {label} by a letter in its word or by a link; `{node.name} -{label}- {node.name}` makes it free there."]
+            f"Give it {label} by a letter in its word or by a link; `{node.name} -{label}- {node.name}` makes it "
+            "free there."]
 
 
 def tell_arc_set(told: Told) -> list[str]:
@@ -116,8 +124,10 @@ def tell_arc_set(told: Told) -> list[str]:
     name, label = told.words[0], told.number(1)
     on_left = told.step("left", name, label) is not None
     here, there = ("left", "right") if on_left else ("right", "left")
-    mend = f"join it again on the right: by a letter, by a link to another node, or by `{name} -{label}- {name}`, which " \
-        "makes it free there" if on_left else f"say on the left how it was: `{name} -{label}- {name}`, where it was free"
+    mend = f"say on the left how it was: `{name} -{label}- {name}`, where it was free"
+    if on_left:
+        mend = ("join it again on the right: by a letter, by a link to another node, or by "
+                f"`{name} -{label}- {name}`, which makes it free there")
     return [f"Node {name} stays, and has label {label} {SIDES[here]} by {told.sources(here, name, label)[0]}, and not "
             f"{SIDES[there]}.", f"Write the label on both sides or on neither: {mend}."]
 
@@ -130,7 +140,8 @@ def tell_square(told: Told) -> list[str]:
              f"{other} must end where the way along {other} and then {one} does."]
     ways = []
     for label, step in ((one, steps[0]), (other, steps[1])):
-        ways.append(f"along {label} it has " + ("nothing of its own" if step is None else f"a link to {step.node}" if step.node
+        ways.append(f"along {label} it has " + ("nothing of its own" if step is None else "a link to "
+                                                                                          f"{step.node}" if step.node
                                                   else f"the letter at place {step.place}"))
     return [*lines, f"Node {name}: {', and '.join(ways)}.", mend_of_square(told, name, (one, other), steps)]
 
@@ -142,7 +153,8 @@ def mend_of_square(told: Told, name: str, labels: tuple[int, int], steps: tuple[
         here, there = (other, one) if first is None else (one, other)
         step = second if first is None else first
         near = f" So does {step.node}, where it has {there}." if step and step.node not in (None, name) else ""
-        return (f"The rule changes {here} at {name} and says nothing of {there}, which the map may have there. Say it: give "
+        return (f"The rule changes {here} at {name} and says nothing of {there}, which the map may have there. Say "
+                "it: give "
                 f"{name} the label {there} on both sides, by a letter or a link to the neighbour there.{near}")
     if first.node and second.node:
         ends = [told.step("right", node, label) for node, label in ((first.node, other), (second.node, one))]
@@ -151,9 +163,11 @@ def mend_of_square(told: Told, name: str, labels: tuple[int, int], steps: tuple[
     if first.node or second.node:
         node, place, label = (first.node, second.place, other) if first.node else (second.node, first.place, one)
         return (f"So {node} needs the letter {label} at place {place} as well; there it has "
-                f"{letter_at(told.by_name[str(node)], place)}, and {label} by {told_step(told.step('right', str(node), label))}.")
+                f"{letter_at(told.by_name[str(node)], place)}, and {label} by "
+                f"{told_step(told.step('right', str(node), label))}.")
     word = told.hooks[0].left or () if told.hooks else ()
-    return (f"Two letters commute where the labels of the first hook's word {word_text(word)} at their places are two or more "
+    return (f"Two letters commute where the labels of the first hook's word {word_text(word)} at their places are "
+            "two or more "
             f"apart; these are {word[first.place]} and {word[second.place]}. Use a link for one of them.")
 
 
@@ -174,23 +188,28 @@ def tell_set_twice(told: Told) -> list[str]:
     """Two nodes of one orbit assign."""
     embed, one, other = told.words
     return [f"On the right {one} and {other} share one value of {embed}, and both assign it.",
-            f"Leave one of the two out, as `with {embed} = {told.by_name[other].sets[embed]}` behind {other}: the other one "
+            f"Leave one of the two out, as `with {embed} = {told.by_name[other].sets[embed]}` behind {other}: the "
+            "other one "
             "gives its value to the whole orbit."]
 
 
 def tell_no_value(told: Told) -> list[str]:
     """Nothing gives a new orbit its value."""
     embed, name = told.words
-    return [f"{name}, and what hangs together with it along the labels of {embed}, is new: nothing says what its {embed} is.",
-            f"Assign it behind the node: `{name} {word_text(told.by_name[name].right or ())} with {embed} = ..`; or join {name} "
+    return [f"{name}, and what hangs together with it along the labels of {embed}, is new: nothing says what its "
+            f"{embed} is.",
+            f"Assign it behind the node: `{name} {word_text(told.by_name[name].right or ())} with {embed} = ..`; or "
+            f"join {name} "
             "to a node that stays along one of these labels."]
 
 
 def tell_merge(told: Told) -> list[str]:
     """Two orbits become one, and had a value each."""
     embed, one, other = told.words
-    return [f"{one} and {other} share one value of {embed} on the right, and had two on the left: one would have to go.",
-            f"Say which, by an assignment: `{one} {word_text(told.by_name[one].right or ())} with {embed} = {one}.{embed}` "
+    return [f"{one} and {other} share one value of {embed} on the right, and had two on the left: one would have to "
+            "go.",
+            f"Say which, by an assignment: `{one} {word_text(told.by_name[one].right or ())} with {embed} = "
+            f"{one}.{embed}` "
             f"keeps that of {one}."]
 
 
@@ -198,16 +217,19 @@ def tell_merge_along(told: Told) -> list[str]:
     """A letter joins orbits that had a value each."""
     embed, name, place = told.words[0], told.words[1], told.number(2)
     word = told.by_name[name].right or ()
-    return [f"The letter {word[place]} at place {place} of {name} on the right joins darts of {name} that had a value of "
+    return [f"The letter {word[place]} at place {place} of {name} on the right joins darts of {name} that had a "
+            "value of "
             f"{embed} each on the left.",
-            f"Assign {embed} there, as `{name} {word_text(word)} with {embed} = {name}.{embed}`: of the darts that then lie in "
+            f"Assign {embed} there, as `{name} {word_text(word)} with {embed} = {name}.{embed}`: of the darts that "
+            "then lie in "
             "one orbit the least counts, by node and then by position."]
 
 
 ADVICE = {
-    "hooks": tell_hooks, "hook-word": tell_hook_word, "word-length": tell_word_length, "not-connected": tell_not_connected,
-    "arc-twice": tell_arc_twice, "arc-missing": tell_arc_missing, "arc-set": tell_arc_set, "square": tell_square,
-    "set-twice": tell_set_twice, "no-value": tell_no_value, "merge": tell_merge, "merge-along": tell_merge_along,
+    "hooks": tell_hooks, "hook-word": tell_hook_word, "word-length": tell_word_length,
+    "not-connected": tell_not_connected, "arc-twice": tell_arc_twice, "arc-missing": tell_arc_missing,
+    "arc-set": tell_arc_set, "square": tell_square, "set-twice": tell_set_twice, "no-value": tell_no_value,
+    "merge": tell_merge, "merge-along": tell_merge_along,
 }
 
 

@@ -4,13 +4,10 @@ from pathlib import Path
 
 from kit.books import Book, Rule
 from kit.expressions import show
-from kit.maps import Map, Value, read_map
+from kit.maps import WIDTHS, Map, Value, read_map
 from kit.places import tell_place
 from kit.program import answer
 from kit.scripts import Statement, read_script, text_before
-
-WIDTH_OF = {"vec2": 2, "vec3": 3, "rgb": 3}
-
 
 def tell_script(path: str, text: str, book: Book, kind: str, place: int) -> list[str]:
     """Why a line of a script disagrees with the book."""
@@ -40,11 +37,13 @@ def tell_params(rule: Rule, line: Statement) -> list[str]:
     wanted = ", ".join(f"{name}: {kind}" for name, kind in rule.params)
     said = f"{rule.name} has {f'the parameters ({wanted})' if wanted else 'no parameters'}"
     if len(line.values) != len(rule.params):
-        return [f"{said}, and the line gives {len(line.values)} {'value' if len(line.values) == 1 else 'values'} behind `with`."]
+        return [f"{said}, and the line gives {len(line.values)} {'value' if len(line.values) == 1 else 'values'} "
+                "behind `with`."]
     for (name, kind), value in zip(rule.params, line.values):
         if not fits(kind, value):
+            is_triple = isinstance(value, tuple) and len(value) == 3
             return [f"{said}, and the line gives {show(value)} for {name}"
-                    + (": a colour's parts are 0 to 255." if kind == "rgb" and isinstance(value, tuple) and len(value) == 3 else ".")]
+                    + (": a colour's parts are 0 to 255." if kind == "rgb" and is_triple else ".")]
     return [f"{said}, and the line's values are others."]
 
 
@@ -52,7 +51,8 @@ def fits(kind: str, value: Value) -> bool:
     """Whether a value is one of a kind."""
     if kind in ("int", "bool"):
         return isinstance(value, int) and isinstance(value, bool) == (kind == "bool")
-    return isinstance(value, tuple) and len(value) == WIDTH_OF[kind] and (kind != "rgb" or all(0 <= part <= 255 for part in value))
+    is_colour = kind != "rgb" or isinstance(value, tuple) and all(0 <= part <= 255 for part in value)
+    return isinstance(value, tuple) and len(value) == WIDTHS[kind] and is_colour
 
 
 class Prefixes:
@@ -75,15 +75,27 @@ class Prefixes:
         """The map that a statement meets."""
         return self.run(text_before(self.text, self.statements, at))[1]
 
-    def apart(self, at: int) -> list[tuple[int, list[str], Map]]:
-        """The applications of an `each` that are refused: the dart, the words of the cause, and the map that it met."""
+    def apart(self, at: int, most: int) -> tuple[int, list[tuple[int, list[str], Map]]]:
+        """How many applications of an `each` are refused, and of the first of them the dart, the words of the cause,
+        and the map that it met."""
         each, before = self.statements[at], text_before(self.text, self.statements, at)
         values = f" with {' '.join(map(show, each.values))}" if each.values else ""
-        amap, refused = self.before(at), []
-        for orbit in amap.orbits(each.labels):
-            report, after = self.run(f"{before}\napply {each.rule} {orbit[0]}{values}")
-            said = report[-2].split()
-            if "refused" in said and "no-dart" not in said:
-                refused.append((orbit[0], said[said.index("refused") + 1:], after))
-            before += f"\napply {each.rule} {orbit[0]}{values}"
-        return refused
+        leads = [orbit[0] for orbit in self.before(at).orbits(each.labels)]
+        lines = [f"\napply {each.rule} {lead}{values}" for lead in leads]
+        said = [line.split() for line in self.run(before + "".join(lines))[0][-1 - len(leads):-1]]
+        refused = [place for place, words in enumerate(said) if words[2] == "refused" and words[3] != "no-dart"]
+        return len(refused), [(leads[place], said[place][3:], self.run(before + "".join(lines[:place]))[1])
+                              for place in refused[:most]]
+
+    def removing_line(self, at: int, dart: int) -> int | None:
+        """The line, from 0, that removed a dart which was there at the start and isn't there at a statement."""
+        least, greatest = 0, at
+        if dart not in self.before(0).alpha[0] or dart in self.before(at).alpha[0]:
+            return None
+        while greatest - least > 1:
+            middle = (least + greatest) // 2
+            if dart in self.before(middle).alpha[0]:
+                least = middle
+            else:
+                greatest = middle
+        return least
