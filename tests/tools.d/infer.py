@@ -9,7 +9,9 @@ from kit.infer import infer, write_book
 from kit.infer_compare import are_same
 from kit.infer_example import NoRule, compare
 from kit.infer_place import draft_of
+from kit.infer_terms import Term, find_expression
 from kit.maps import Map, read_map
+from kit.program import answer
 
 ROOT = Path(__file__).resolve().parents[2]
 LIBRARY = ROOT / "examples" / "operations"
@@ -127,3 +129,37 @@ def test_values_that_are_not_found():
     status, text, told = run(str(folder / "before.gmap"), str(folder / "after.gmap"))
     equal((status, told), (1, "infer: a rule folds, but no expression is found for pos at a\n"))
     equal("# pos at a isn't found; at its positions the values are (206 80 216)," in text, True)
+
+
+def test_books_are_as_the_program_prints_them():
+    for name in ("inset_turned", "raise_tent", "cut_off_corner", "split_edge_at_third"):
+        book = DRAWN / name / "rule.gbook"
+        bare = "".join(line for line in book.read_text().splitlines(keepends=True) if not line.startswith("#"))
+        equal(answer("book", book), (0, bare))
+
+
+def test_expressions():
+    left, right, third = Term("{0}.pos", (0, 6, 10, 3)), Term("{1}.pos", (4, 8, 20, 5)), Term("{2}.pos", (7, 1, 2, 0))
+    cases = [
+        ((5, 5, 7, 7), "vec2(5, 7)"),
+        ((4, 8, 20, 5), "{1}.pos"),
+        ((3, 9, 10, 3), "{0}.pos + vec2(3, 0)"),
+        ((2, 7, 15, 4), "({0}.pos + {1}.pos) / 2"),
+        ((1, 6, 13, 3), "(2 * {0}.pos + {1}.pos) / 3"),
+        ((-2, 0, -5, 3), "{0}.pos - {1}.pos + vec2(2, 5)"),
+        ((3, 5, 10, 2), "({0}.pos + {1}.pos + {2}.pos) / 3"),
+        ((1, 100, -3, 77), None),
+    ]
+    for wanted, text in cases:
+        equal((wanted, find_expression("vec2", 2, wanted, [left, right, third])), (wanted, text))
+    number = Term("{0}.weight", (3, 5, 8))
+    equal(find_expression("int", 1, (2, 3, 4), [number]), "({0}.weight + 1) / 2")
+    equal(find_expression("rgb", 3, (1, 2, 3, 4, 5, 6), [number]), None)
+
+
+def test_rules_that_differ_are_told_apart():
+    rules = read_book("book 1 dim 2 rule r left a <0 1> hook right a <0 _> b <_ 2> c <1 2> a -1- b b -0- c "
+                      "rule s left x <1 0> hook right z <2 1> y <2 _> x <_ 0> x -1- y y -0- z "
+                      "rule t left a <0 1> hook right a <0 _> b <_ 2> c <2 1> a -1- b b -0- c").rules
+    one, same, other = map(draft_of, rules)
+    equal((are_same(one, same), are_same(one, other), are_same(other, other)), (True, False, True))

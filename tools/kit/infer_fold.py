@@ -13,6 +13,11 @@ class Broken(Exception):
     """Where an orbit doesn't fold, in one line."""
 
 
+def places_of(steps: Steps) -> set[int]:
+    """The places of the letters among the steps."""
+    return {step.place for step in steps.values() if isinstance(step, Letter)}
+
+
 class Fold:
     """The nodes of a rule that the darts of an example make along one orbit of the map before.
 
@@ -94,21 +99,20 @@ class Fold:
         return Draft(self.word, self.nodes).names()[number]
 
     # ------------------------------------------------------------------ steps
-    def letter(self, family: Family, reached: Family, label: int, taken: Steps) -> Letter | None:
+    def letter(self, family: Family, reached: Family, label: int, taken: set[int]) -> Letter | None:
         """The letter by which the label leads from the family to its own darts, at a place that isn't taken yet."""
-        used = {step.place for step in taken.values() if isinstance(step, Letter)}
         fitting = [
             place for place, turn in enumerate(self.turns)
-            if place not in used and (not self.still[place] or self.word[place] == label)
+            if place not in taken and (not self.still[place] or self.word[place] == label)
             and all(reached[position] == family[turned] for position, turned in enumerate(turn))
         ]
         own = [place for place in fitting if self.word[place] == label]
         return Letter((own or fitting)[0]) if fitting else None
 
-    def known(self, number: int, side: Map, label: int, taken: Steps) -> Step | None:
-        """The step of a node along a label, where it leads to no new node."""
+    def known(self, number: int, side: Map, label: int, *taken: Steps) -> Step | None:
+        """The step of a node along a label, where it leads to no new node; its letter's place is in none of the steps."""
         family, reached = self.nodes[number].darts, self.reached(number, side, label)
-        letter = self.letter(family, reached, label, taken)
+        letter = self.letter(family, reached, label, {place for steps in taken for place in places_of(steps)})
         if letter or reached not in self.number_of:
             return letter
         return Link(self.number_of[reached])
@@ -193,15 +197,10 @@ class Fold:
             for label in range(before.dimension + 1):
                 if self.is_changed(number, label):
                     continue
-                step = node.left.get(label) or self.known(number, before, label, node.left | self.opposite(node))
+                step = node.left.get(label) or self.known(number, before, label, node.left, node.right)
                 if step is not None:
                     node.left[label] = node.right[label] = step
                     node.context.add(label)
-
-    @staticmethod
-    def opposite(node: Node) -> Steps:
-        """The steps of a node on the right, under labels that no other step has, so that their places are taken."""
-        return {-1 - label: step for label, step in node.right.items()}
 
     def set_hooks(self) -> None:
         """Makes a hook of a node in each part of the left side that no link joins to one; Broken where none can be."""
@@ -210,17 +209,12 @@ class Fold:
             if node.left is None or number in joined:
                 continue
             part = sorted(self.joined_to([number]))
-            able = [at for at in part if self.hook_letters(at) is not None]
+            able = [at for at in part if len(places_of(self.nodes[at].left)) == len(self.word)]
             if not able:
                 raise Broken(f"nothing leads to node {self.name_of(number)} in the map before")
             chosen = min(able, key=lambda at: len(self.nodes[at].context))
             self.nodes[chosen].is_hook = True
             joined |= set(part)
-
-    def hook_letters(self, number: int) -> Steps | None:
-        """The letters that a node has on the left, where it has one at each place."""
-        letters = {label: step for label, step in self.nodes[number].left.items() if isinstance(step, Letter)}
-        return letters if len(letters) == len(self.word) else None
 
     def joined_to(self, numbers: Iterable[int]) -> set[int]:
         """The left nodes that left links join to these."""
