@@ -125,8 +125,10 @@ def read_map(text: str) -> Map:
     if not head:
         raise ValueError("this is no text of a map: it doesn't open with gmap, dim and darts")
     version, dimension = int(head[1]), int(head[2])
-    if version not in (1, 2) or (version == 2) != (head[7] is not None):
-        raise ValueError(f"a map of version {version} is unknown, or has 'next' where its version has none")
+    if version not in (1, 2):
+        raise ValueError(f"a map has version 1 or 2, and not {version}")
+    if (version == 2) != (head[7] is not None):
+        raise ValueError("a map of version 2 tells its next name, and one of version 1 doesn't")
     if not 1 <= dimension <= 7:
         raise ValueError(f"a map has a dimension from 1 to 7, and not {dimension}")
     embeds = [
