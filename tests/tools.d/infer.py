@@ -60,7 +60,7 @@ def test_a_rule_that_fits_more_maps_than_the_librarys():
 def test_values_of_the_library():
     texts = {
         "values2/move_face": "a.pos + vec3(-60, 90, 60)",
-        "values2/kis_from_centre": "2 * (sum<0 1>(a.pos) / count<0 1>(a)) + vec3(-156, -60, -120)",
+        "values2/kis_from_centre": "2 * (sum<0 1>(a.pos) / count<0 1>(a)) - sum<0 1 2>(a.pos) / count<0 1 2>(a)",
         "values3/hexahedra_at_middles": "sum<0 1>(a.pos) / count<0 1>(a)",
     }
     for name, text in texts.items():
@@ -139,7 +139,7 @@ def test_books_are_as_the_program_prints_them():
 
 
 def test_expressions():
-    left, right, third = Term("{0}.pos", (0, 6, 10, 3)), Term("{1}.pos", (4, 8, 20, 5)), Term("{2}.pos", (7, 1, 2, 0))
+    left, right, third = Term("{0}.pos", (0, 6, 10, 3)), Term("{1}.pos", (4, 8, 20, 5)), Term("{2}.pos", (70, 1, 2, 90))
     cases = [
         ((5, 5, 7, 7), "vec2(5, 7)"),
         ((4, 8, 20, 5), "{1}.pos"),
@@ -147,7 +147,7 @@ def test_expressions():
         ((2, 7, 15, 4), "({0}.pos + {1}.pos) / 2"),
         ((1, 6, 13, 3), "(2 * {0}.pos + {1}.pos) / 3"),
         ((-2, 0, -5, 3), "{0}.pos - {1}.pos + vec2(2, 5)"),
-        ((3, 5, 10, 2), "({0}.pos + {1}.pos + {2}.pos) / 3"),
+        ((24, 5, 10, 32), "({0}.pos + {1}.pos + {2}.pos) / 3"),
         ((1, 100, -3, 77), None),
     ]
     for wanted, text in cases:

@@ -13,6 +13,7 @@ FACTORS = {
     3: ((1, 1, 1), (1, 1, 2), (1, 1, -1), (6, 1, 1), (2, 2, -1), (1, 1, 4)),
     4: ((1, 1, 1, 1), (3, 3, 1, 1), (4, 1, 1, 2), (1, 1, -1, 1)),
 }
+PARTS = (2, 1), (3, 1), (-1, 1), (1, 2), (3, 2), (1, 3), (2, 3), (4, 3), (1, 4), (3, 4), (5, 4)   # over and under
 Row = tuple[int, ...]    # the parts of a value at all positions, one part after the other
 
 
@@ -21,6 +22,7 @@ class Term:
     """A part of an expression, in which `{n}` stands for the name of node n, and its values."""
     text: str
     row: Row
+    is_single: bool = True   # a value, or a mean, least or greatest one, and no sum of values
 
     def is_atom(self) -> bool:
         """Whether it can be multiplied without parentheses."""
@@ -85,7 +87,7 @@ def collected(places: Sequence[tuple[Map, Draft]], embed: Embed, text: str,
         sums = [tuple(map(sum, zip(*orbit))) for orbit in orbits]
         means = [tuple(part // len(orbit) for part in total) for total, orbit in zip(sums, orbits)]
         yield Term(f"sum{over} / {count}", row_of(means))
-        yield Term(f"sum{over}", row_of(sums))
+        yield Term(f"sum{over}", row_of(sums), False)
         if embed.kind == "int":
             yield Term(f"min{over}", row_of([min(orbit) for orbit in orbits]))
             yield Term(f"max{over}", row_of([max(orbit) for orbit in orbits]))
@@ -126,19 +128,22 @@ def find_expression(kind: str, width: int, wanted: Row, terms: Sequence[Term]) -
             return term.text
     if kind == "rgb":
         return None
-    for number in (1, 2, 3, 4):
-        chosen = terms[: MOST_OF_SUM.get(number, len(terms))]
-        text = find_sum(wanted, chosen, number) if number > 1 else find_multiple(kind, width, wanted, chosen)
-        if text is None and number == 2:
-            text = find_moved(kind, width, wanted, chosen)
-        if text is not None:
-            return text
-    return None
+    single = [term for term in terms if term.is_single]
+    tries = (
+        lambda: find_multiple(kind, width, wanted, terms, ((1, 1),)),
+        lambda: find_sum(wanted, single[: MOST_OF_SUM[2]], 2),
+        lambda: find_multiple(kind, width, wanted, terms, PARTS),
+        lambda: find_moved(kind, width, wanted, single[: MOST_OF_SUM[2]]),
+        lambda: find_sum(wanted, single[: MOST_OF_SUM[3]], 3),
+        lambda: find_sum(wanted, single[: MOST_OF_SUM[4]], 4),
+    )
+    return next((text for attempt in tries if (text := attempt()) is not None), None)
 
 
-def find_multiple(kind: str, width: int, wanted: Row, terms: Sequence[Term]) -> str | None:
+def find_multiple(kind: str, width: int, wanted: Row, terms: Sequence[Term],
+                  parts: Sequence[tuple[int, int]]) -> str | None:
     """A multiple or a part of a term and a constant, as `a.pos * 3 / 2 + vec2(1, 0)`."""
-    for over, under in ((1, 1), (2, 1), (3, 1), (-1, 1), (1, 2), (3, 2), (1, 3), (2, 3), (4, 3), (1, 4), (3, 4), (5, 4)):
+    for over, under in parts:
         for term in terms:
             for added in range(under if kind == "int" else 1):
                 rest = tuple(want - (part * over + added) // under for want, part in zip(wanted, term.row))
