@@ -90,6 +90,24 @@ def test_cause_full_darts() -> None:
     assert "1048577 are 1 more than the 1,048,576 that a map can have" in tell_line(line)[0]
 
 
+def first_words(section: str) -> set[str]:
+    """The first words of what the first column of a section's tables of FORMATS has in code."""
+    text = (ROOT / "docs" / "FORMATS.md").read_text(encoding="utf-8").split(f"## {section}\n")[1].split("\n## ")[0]
+    columns = re.findall(r"^\| (`[^|]*`) \|", text, re.MULTILINE)
+    return {code.split()[0] for column in columns for code in re.findall(r"`([^`]*)`", column)}
+
+
+def test_every_fault_and_cause_has_a_case() -> None:
+    """What FORMATS lists as causes and faults has a case here; limits are the words of one fault."""
+    sections = ["The lines of a check", "The report of a run"]
+    sections += [f"Why a text stands for no {role}" for role in ("map", "book", "script")]
+    listed = set().union(*map(first_words, sections))
+    faults = [case["fault"] for table in ("rule", "MAP", "BOOK", "SCRIPT") for case in CASES[table].values()]
+    causes = [case["line"].split("refused: ")[-1] for case in CASES["cause"].values()]
+    covered = {said.split()[0] for said in faults + causes} | {"full-darts", "nothing-to-undo", "nothing-to-redo"}
+    assert listed and not listed - covered - set(LIMITS), listed - covered - set(LIMITS)
+
+
 def test_every_limit_is_told() -> None:
     """Each word of a limit that the formats have is told."""
     text = (ROOT / "docs" / "FORMATS.md").read_text(encoding="utf-8")
@@ -160,7 +178,8 @@ def test_undo_and_groups() -> None:
 
 def test_each() -> None:
     """A line that goes over orbits, where the program has it: which of its darts are refused, and why."""
-    check_if_known("apply split 0 each <1> free", ["line 2 refused at 1 dart\n", "At dart 2 refused: no-match arc a 0 1"])
+    check_if_known("apply split 0 each <1> free", [
+        "line 2 refused at 1 dart\n", "At dart 2 refused: no-match arc a 0 1"])
 
 
 def test_a_picture() -> None:

@@ -155,7 +155,7 @@ def tree_of(text: str) -> Tree:
 
 def tell_pre(line: Line) -> list[str]:
     """The precondition is false, or has no value."""
-    tree, scene = tree_of(line.rule.pre or ""), line.scene(line.candidate() if line.hooks else empty(line), 0)
+    tree, scene = tree_of(line.rule.pre or ""), line.scene(line.candidate(), 0)
     try:
         value_of(tree, scene)
     except NoValue as fault:
@@ -163,11 +163,6 @@ def tell_pre(line: Line) -> list[str]:
     parts = [said for part in blamed(tree, scene) for said in tell_parts(part, scene)]
     head = f"The precondition of {line.rule.name} is false: {tree.text}"
     return list(dict.fromkeys([head, *tell_leaves(tree, scene), *parts]))
-
-
-def empty(line: Line) -> Candidate:
-    """The candidate of a rule without hooks."""
-    return find_candidate(line.rule, line.map, [])
 
 
 def blamed(tree: Tree, scene: Scene) -> list[Tree]:
@@ -216,7 +211,7 @@ def tell_fault(fault: NoValue, tree: Tree, scene: Scene) -> list[str]:
 def tell_no_value(line: Line) -> list[str]:
     """An assignment has no value."""
     node, embed = line.node(2), next(embed for embed in line.book.embeds if embed.name == line.cause[1])
-    found, tree = line.candidate() if line.hooks else empty(line), tree_of(node.sets[embed.name])
+    found, tree = line.candidate(), tree_of(node.sets[embed.name])
     for position in deciding_positions(found, node, embed):
         scene = line.scene(found, position)
         try:
@@ -231,7 +226,7 @@ def tell_no_value(line: Line) -> list[str]:
 def tell_full(line: Line) -> list[str]:
     """The result has no room for darts or names."""
     first, more = int(line.cause[2]), int(line.cause[4])
-    count = (line.candidate() if line.hooks else empty(line)).count()
+    count = line.candidate().count()
     added = sum(1 for node in line.rule.nodes if node.left is None)
     made = (f"{line.rule.name} adds {added} {plural(added, 'node')} at {count} {plural(count, 'position')}, "
             f"which makes {more} new darts")

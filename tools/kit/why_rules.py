@@ -58,7 +58,7 @@ def tell_hooks(told: Told) -> list[str]:
     """The rule has no hook, or one too many."""
     left = [node.name for node in told.rule.nodes if node.left is not None]
     if left:
-        return [f"The left side of {told.rule.name} has the nodes {', '.join(left)}, and none of them is a hook.",
+        return [f"No node of the left side of {told.rule.name} is a hook; it has {', '.join(left)}.",
                 f"Write `hook` behind the node from which the part is walked, as `{left[0]} "
                 f"{word_text(told.by_name[left[0]].left or ())} hook`."]
     return ["A rule without left nodes has no hook."]
