@@ -26,8 +26,9 @@ class Candidate:
         """The rule."""
         return self.lines[0]
 
-    def cost(self) -> tuple[int, ...]:
-        """What is to be least: nodes, lines of the script, free darts and other links that it asks for, hooks, the word."""
+    def cost(self, example: Example) -> tuple[int, ...]:
+        """What is to be least: nodes, lines of the script, free darts and other links that it asks for, hooks, darts
+        with a new value that no node has, and the word."""
         nodes = self.draft.nodes
         links = [
             (at, step.node, label in node.context) for at, node in enumerate(nodes)
@@ -35,7 +36,9 @@ class Candidate:
         ]
         free = sum(one == other and not is_context for one, other, is_context in links)
         joined = sum(one < other for one, other, _ in links)
-        return len(nodes), len(self.lines), free, joined, len(self.draft.hooks()), len(self.draft.word)
+        owned = {dart for draft in self.lines for node in draft.nodes for dart in node.darts}
+        unowned = len(example.revalued - owned)
+        return len(nodes), len(self.lines), free, joined, len(self.draft.hooks()), unowned, len(self.draft.word)
 
     def drafts(self) -> list[Draft]:
         """The draft wherever it lies."""
@@ -148,7 +151,7 @@ def repeated(example: Example, folds: Sequence[Fold]) -> Iterator[Candidate]:
 
 def find(example: Example, words: Sequence[tuple[int, ...]], hook: int | None) -> list[Candidate]:
     """The candidates in which the program finds no fault but wanting values, the best first; NoRule where there is none."""
-    found = sorted(candidates(example, words, hook), key=Candidate.cost)
+    found = sorted(candidates(example, words, hook), key=lambda candidate: candidate.cost(example))
     if not found:
         raise NoRule(why_none(example, words, hook))
     faults = faults_of(*example.schema, [candidate.draft for candidate in found])

@@ -9,7 +9,7 @@ from kit.maps import Embed, Map, Value
 FURTHEST = 3            # labels of a path
 MOST_OF_SUM = {2: 40, 3: 24, 4: 18}    # of how many terms sums of so many are tried
 FACTORS = {
-    2: ((1, 1), (2, 1), (3, 1), (3, 2), (2, -1), (3, -1), (3, -2), (4, -1), (5, 1), (5, 3), (7, 1)),
+    2: ((2, 1), (3, 1), (3, 2), (2, -1), (3, -1), (3, -2), (4, -1), (5, 1), (5, 3), (7, 1)),
     3: ((1, 1, 1), (1, 1, 2), (1, 1, -1), (6, 1, 1), (2, 2, -1), (1, 1, 4)),
     4: ((1, 1, 1, 1), (3, 3, 1, 1), (4, 1, 1, 2), (1, 1, -1, 1)),
 }
@@ -130,12 +130,13 @@ def find_expression(kind: str, width: int, wanted: Row, terms: Sequence[Term]) -
         return None
     single = [term for term in terms if term.is_single]
     tries = (
+        lambda: find_sum(wanted, single[: MOST_OF_SUM[2]], ((1, 1),)),
         lambda: find_multiple(kind, width, wanted, terms, ((1, 1),)),
-        lambda: find_sum(wanted, single[: MOST_OF_SUM[2]], 2),
+        lambda: find_sum(wanted, single[: MOST_OF_SUM[2]], FACTORS[2]),
         lambda: find_multiple(kind, width, wanted, terms, PARTS),
         lambda: find_moved(kind, width, wanted, single[: MOST_OF_SUM[2]]),
-        lambda: find_sum(wanted, single[: MOST_OF_SUM[3]], 3),
-        lambda: find_sum(wanted, single[: MOST_OF_SUM[4]], 4),
+        lambda: find_sum(wanted, single[: MOST_OF_SUM[3]], FACTORS[3]),
+        lambda: find_sum(wanted, single[: MOST_OF_SUM[4]], FACTORS[4]),
     )
     return next((text for attempt in tries if (text := attempt()) is not None), None)
 
@@ -155,16 +156,16 @@ def find_multiple(kind: str, width: int, wanted: Row, terms: Sequence[Term],
     return None
 
 
-def find_sum(wanted: Row, terms: Sequence[Term], number: int) -> str | None:
-    """A mean of so many terms with small factors, as `(2 * a.pos + b.pos) / 3`.
+def find_sum(wanted: Row, terms: Sequence[Term], factors: Sequence[tuple[int, ...]]) -> str | None:
+    """A mean of terms with some of the factors, in any order, as `(2 * a.pos + b.pos) / 3`.
 
     Most sums fail at one place of the row, so that is tried alone first: where the terms differ most."""
     place = max(range(len(wanted)), key=lambda at: len({term.row[at] for term in terms}))
     column = [term.row[place] for term in terms]
-    for order in (order for factors in FACTORS[number] for order in sorted(set(permutations(factors)), reverse=True)):
+    for order in (order for some in factors for order in sorted(set(permutations(some)), reverse=True)):
         under = sum(order)
         multiples = [order[-1] * part for part in column]
-        for chosen in combinations(range(len(terms)), number - 1):
+        for chosen in combinations(range(len(terms)), len(order) - 1):
             least = wanted[place] * under - sum(order[at] * column[term] for at, term in enumerate(chosen))
             for last in range(chosen[-1] + 1, len(terms)):
                 if least <= multiples[last] < least + under:
