@@ -141,6 +141,16 @@ def test_lines_are_chosen() -> None:
     assert "2 more lines are refused" in why(EDGE, SPLIT, script, options=("--most", "1"))[1]
 
 
+def test_one_file() -> None:
+    """A book, or a map, alone."""
+    for name, status, part in (("mistakes.gbook", 1, "rule crossed refused square b 0 2"), ("sew.gbook", 0, "nothing"),
+                               ("torn.gmap", 1, "they have (0 11) and (0 10)"), ("edge.gmap", 0, "nothing"),
+                               ("roof/second.gbook", 1, "line 12, column 18"), ("none.gmap", 1, "There is no file")):
+        done = subprocess.run([sys.executable, WHY, ROOT / "examples" / name], capture_output=True, text=True,
+                              check=False)
+        assert done.returncode == status and part in done.stdout and not done.stderr, (name, done)
+
+
 def test_a_file_that_is_missing() -> None:
     """A file that can't be read."""
     done = subprocess.run([sys.executable, WHY, "/none", "/none", "/none"], capture_output=True, text=True, check=False)
