@@ -3,6 +3,6 @@
 //! A script's `each` line applies a rule once for each orbit, at its lead.
 #![tactic(auto)]
 
-mod leads;
+mod listing;
 
-pub use leads::leads;
+pub use listing::leads;
