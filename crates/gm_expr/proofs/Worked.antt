@@ -1,8 +1,5 @@
 -- Worked expressions: their canonical texts, by computation, and one that is read again.
-use Rattle.std.proofs.Common.{◌≡◌, ℕ, zero, suc, List, [], ◌∷◌, Some, None, length, codes, refl, subst, pos, arith}
-use Rattle.std.specs.Prelude.{slice_get}
-use Rattle.std.specs.List.{position}
-use Rattle.std.specs.Str.{bytes_eq}
+use Rattle.std.proofs.Common.{◌≡◌, ℕ, List, [], ◌∷◌, Some, None, length, codes, refl, pos, arith}
 use Rattle.std.proofs.lemmas.Fmt.{decimal_digit}
 use Rattle.gm_model.specs.declared.expr.BinOp.TheVariants.{Add, Sub, Mul, Div, Eq, Lt}
 use Rattle.gm_model.specs.declared.expr.DartTerm.{DartTerm}
@@ -16,7 +13,7 @@ use Rattle.gm_model.specs.Rules.{RuleNode}
 use Rattle.gm_model.specs.Kinds.{tree_kind}
 use Rattle.gm_model.specs.Symbols.{marks_of}
 use Rattle.gm_model.specs.Trees.{Tree, Number, Param as Parameter, Field, Same, Count, Sum, Unary, Binary, If}
-use Rattle.gm_parse.specs.Meaning.{Names, is_named}
+use Rattle.gm_parse.specs.Meaning.{Names}
 use Rattle.gm_text.specs.SchemaText.{labels_in}
 use Rattle.gm_expr.specs.ExprText.{tree_text}
 use Rattle.gm_expr.specs.Whole.{IsReadWhole}
