@@ -150,12 +150,11 @@ def mend_of_square(told: Told, name: str, labels: tuple[int, int], steps: tuple[
     """How the square of two labels at a node closes."""
     (one, other), (first, second) = labels, steps
     if first is None or second is None:
-        here, there = (other, one) if first is None else (one, other)
-        step = second if first is None else first
-        near = f" So does {step.node}, where it has {there}." if step and step.node not in (None, name) else ""
-        return (f"The rule changes {here} at {name} and says nothing of {there}, which the map may have there. Say "
-                "it: give "
-                f"{name} the label {there} on both sides, by a letter or a link to the neighbour there.{near}")
+        here, there, step = (other, one, second) if first is None else (one, other, first)
+        near = f" and of {step.node}" if step and step.node not in (None, name) else ""
+        return (f"The rule changes {here} at {name} and says nothing of {there}, where the map may have a neighbour. Say it "
+                f"on both sides: take {there} into the hook's word, with the letter {there} at that place of {name}{near}; "
+                f"or, where the rule is for darts that are free along {there}, write `{name} -{there}- {name}`.")
     if first.node and second.node:
         ends = [told.step("right", node, label) for node, label in ((first.node, other), (second.node, one))]
         return (f"{first.node} along {other} and {second.node} along {one} have to be links to one node; they have "
