@@ -173,7 +173,7 @@ def test_the_line_that_removed_a_dart() -> None:
     book = "book 1 dim 1 rule drop left a <0> hook a -1- a right"
     two_edges = "gmap 1 dim 1 darts 4 0 1 0 1 0 1 2 3 2 3 2 3"
     said = why(two_edges, book, "apply drop 2 apply drop 0 apply drop 3")[1]
-    assert "the map is empty" in said and "Line 1 removed it." in said, said
+    assert "and the map is empty" in said and "Line 1 removed it." in said, said
 
 
 def check_if_known(script: str, parts: list[str]) -> None:

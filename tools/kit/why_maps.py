@@ -113,9 +113,8 @@ def tell_cycle(_text: str, rows: Rows, row: Row, _fault: list[str], numbers: lis
         return near, rows.named(near)[0].near[second]
     here, there = way(one, other), way(other, one)
     return [f"Labels {one} and {other} are two or more apart, so both orders lead to one dart. From dart {row.name} "
-            f"along {one} "
-            f"and then {other} the way is {here[0]}, {here[1]}; along {other} and then {one} it is {there[0]}, "
-            f"{there[1]}."]
+            f"along {one} and then {other} the way is {here[0]}, {here[1]}; along {other} and then {one} it is "
+            f"{there[0]}, {there[1]}."]
 
 
 def tell_embedding(text: str, rows: Rows, row: Row, fault: list[str], numbers: list[int]) -> list[str]:
@@ -125,8 +124,7 @@ def tell_embedding(text: str, rows: Rows, row: Row, fault: list[str], numbers: l
     label = next(label for label in embed.labels if row.near[label] == other.name)
     return marked(text, other.begin, other.end) + [
         f"Darts {row.name} and {other.name} are neighbours along {label}, a label of {embed_text(embed)}, so they "
-        "share one value "
-        f"of {embed.name}; they have {show(row.values[place])} and {show(other.values[place])}."]
+        f"share one value of {embed.name}; they have {show(row.values[place])} and {show(other.values[place])}."]
 
 
 LAWS = {"no-target": tell_target, "involution": tell_involution, "cycle": tell_cycle, "embedding": tell_embedding}
@@ -147,6 +145,6 @@ def tell_agree(amap: Map, book: Book) -> list[str]:
         lines += [f"Only the {whose} has `{line}`." for line in has if line not in lacks]
     if not lines:
         lines.append("The embeddings stand in another order: in the map "
-                     f"{', '.join(embed.name for embed in amap.embeds)}, in the "
-                     f"book {', '.join(embed.name for embed in book.embeds)}.")
+                     f"{', '.join(embed.name for embed in amap.embeds)}, in the book "
+                     f"{', '.join(embed.name for embed in book.embeds)}.")
     return lines + ["A run needs one dimension and the same embeddings in one order, with the same labels and kinds."]
