@@ -112,7 +112,7 @@ def where(found: Candidate, node: Node, position: int) -> list[str]:
             f"along {' '.join(map(str, way))}."] if position else []
     route = found.routes.get(node.name)
     if route:
-        said.append(f"From there links lead from {route.hook} to {node.name} along {' '.join(map(str, route.labels))}.")
+        said.append(f"{node.name} is reached from {route.hook} by links along {' '.join(map(str, route.labels))}.")
     elif node.hook and node is not first and position:
         said.append(f"The hook {node.name} goes from its dart {found.darts[node.name][0]} in step with that.")
     return said
