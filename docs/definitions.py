@@ -1,18 +1,32 @@
 #!/usr/bin/env python3
 """Lists the definitions that clauses of `tool` rest on, in reading order, and counts their lines.
 
-    docs/definitions.py [CLAUSE..]        as docs/definitions.py map leaves
+    docs/definitions.py [CLAUSE..]        as docs/definitions.py headline ends.map leaves
 
 A clause names words of specs/; each of these is a definition, which names further ones. The `use` lines
 of its file say where they stand. What comes out is all that is named in that way, file by file: what has
-to be read and believed so that the clause means what its sentence in README says. Words of the kit's
-library (`Rattle.std..`) and types of the code (`declared`) end the walk. Lines count without blank ones,
-comments and `use` lines."""
+to be read and believed so that the clause means what its sentence in README says. Of a clause whose word
+is a record each field can be asked for by itself, as CLAUSE.FIELD. Behind the first clause it is also told
+what a clause adds to those before it. Words of the kit's library (`Rattle.std..`) and types of the code
+(`declared`) end the walk; a word that is found nowhere ends the script with status 1. Lines count without
+blank ones, comments and `use` lines."""
 import collections, functools, glob, os, re, sys
 
 CRATES = os.path.join(os.path.dirname(os.path.dirname(os.path.abspath(__file__))), "crates")
-HEAD = re.compile(r"^\s*(?:abbrev pub|pub data|pub record|abbrev|data|record) ([^\s:({]+)")
+HEAD = re.compile(r"^\s*(?:abbrev pub|unfoldable pub|pub data|pub record|abbrev|unfoldable|data|record) ([^\s:({]+)")
+MUTUAL = re.compile(r"^(\s*)(?:abbrev )?mutual\s*$")
+MEMBER = re.compile(r"^\s*pub ([^\s:({]+) :")
+FIELD = re.compile(r"^\s+(?:pub )?([^\s:({]+) :")
 USE = re.compile(r"^\s*(?:ghost )?use Rattle\.(\w+)\.specs\.([\w.]+?)(?:\.\{(.*)\})?(?: as (\w+))?;?\s*$")
+WORD = re.compile(r"[^\s(){}\[\],;:→×⊎≡≢≤<+*∷λ=]+")
+STRING = re.compile(r'"[^"]*"')
+BOUND = re.compile(r"[({]\s*([^(){}:=;]+?)\s*:|λ\s*([^.]*?)\s*\.(?=\s)|let\s+([^\s=:]+)|\(([^():;]*)\)\s*=")
+PLAIN = set("""abbrev pub data record where module let in if then else elim tt Type Unit ⊥ _ - ^ . | ↦ ↔ ++ && not
+    unfoldable codes ℤ◌ -ℤ""".split())
+
+
+def fail(message):
+    sys.exit(f"docs/definitions.py: {message}")
 
 
 class File:
@@ -20,20 +34,33 @@ class File:
 
     def __init__(self, crate, module):
         self.items, self.owner, self.names, self.modules = {}, {}, {}, {}
-        path, item, shared = f"{CRATES}/{crate}/specs/{module}.antt", None, []
+        path, item, modules, block = f"{CRATES}/{crate}/specs/{module}.antt", None, [], None
         for line in open(path, encoding="utf-8").read().split("\n") if os.path.isfile(path) else []:
             if not line.strip() or line.lstrip().startswith("--") or imports(line, self):
                 continue
-            if line.lstrip().startswith("module _"):
-                item, shared = None, [line]
-            elif HEAD.match(line):
-                item = HEAD.match(line)[1]
-                shared = shared if line.startswith(" ") else []
-                self.items[item] = [*shared, line]
+            indent = len(line) - len(line.lstrip())
+            if block is not None and indent <= block:
+                block = None
+            head = HEAD.match(line) or (MEMBER.match(line) if block is not None and indent == block + 2 else None)
+            if head or MUTUAL.match(line) or line.lstrip().startswith("module _"):
+                modules, item = [of for of in modules if of[0] < indent], None
+            if head:
+                item = head[1]
+                self.items[item] = [*(shared for _, lines in modules for shared in lines), line]
+            elif MUTUAL.match(line):
+                block = indent
+            elif line.lstrip().startswith("module _"):
+                modules.append((indent, [line]))
             elif item:
                 self.items[item].append(line)
-                if re.match(r"^\s+(\w+) :", line):
-                    self.owner[line.split()[0]] = item
+                if FIELD.match(line) and not is_record(self.items[item]):
+                    self.owner.setdefault(FIELD.match(line)[1], item)
+            elif modules:
+                modules[-1][1].append(line)
+
+
+def is_record(lines):
+    return any(line.lstrip().startswith(("pub record", "record")) for line in lines)
 
 
 def imports(line, to):
@@ -53,51 +80,136 @@ def file_of(crate, module):
     return File(crate, module)
 
 
-def walk(crate, module, name, found):
+def words_of(lines):
+    """The words of the lines, each once, without those of literal texts."""
+    return dict.fromkeys(WORD.findall(STRING.sub("", "\n".join(lines))))
+
+
+def bound_in(lines, it):
+    """The variables that a definition binds, and the names that it gives: its own and those of its fields."""
+    text = STRING.sub("", "\n".join(lines))
+    bound = {word for groups in BOUND.findall(text) for group in groups for word in WORD.findall(group)}
+    if is_record(lines):
+        bound.update(field[1] for field in map(MEMBER.match, lines) if field)
+    for line in lines:
+        left, equals, _ = f"{line} ".partition(" = ")
+        if equals and not left.lstrip().startswith(("abbrev", "unfoldable", "pub")):
+            bound.update(word for word in WORD.findall(left) if word[0].islower() or not any(word in of for of in (it.items, it.owner, it.names)))
+    named = re.findall(r"(?:record [^{}]*\{|;)\s*([^\s=;{}]+) =|\n\s+([^\s=;{}]+) = ", text)
+    return bound, {word for pair in named for word in pair}
+
+
+def walk(crate, module, name, found, named_by):
     """Adds the definition to what was found, file by file in the order of reading, and then all that it names."""
     if crate == "std" or module.startswith("declared"):
         return
     it = file_of(crate, module)
     name = it.owner.get(name, name) if name not in it.items else name
-    if name not in it.items or name in found[crate, module]:
+    if name not in it.items:
+        fail(f"{named_by} names {name}, which {crate}/specs/{module}.antt doesn't define")
+    if name in found[crate, module]:
         return
     found[crate, module].append(name)
-    words = re.findall(r"[^\s(){}\[\],;:→×⊎≡≤<+*∷λ]+", "\n".join(it.items[name]))
-    for word in dict.fromkeys(words):
+    follow(it, it.items[name], found, f"{name} of {crate}/specs/{module}.antt", (crate, module))
+
+
+def follow(it, lines, found, named_by, own=None):
+    """Follows each word of the lines, by what their file defines and imports."""
+    bound, named = bound_in(lines, it)
+    for word in words_of(lines):
         head, _, rest = word.partition(".")
-        if word in it.items or word in it.owner:
-            walk(crate, module, word, found)
+        if head in bound:
+            continue
+        if own and (word in it.items or word in it.owner):
+            walk(*own, word, found, named_by)
         elif word in it.names:
-            walk(*it.names[word], found)
+            walk(*it.names[word], found, named_by)
         elif head in it.modules and rest:
-            walk(*it.modules[head], rest, found)
+            walk(*it.modules[head], rest.split(".")[0], found, named_by)
+        elif own and word not in named and not is_known(word, head, it):
+            fail(f"{named_by} names {word}, which is found nowhere")
+
+
+def is_known(word, head, it):
+    """Whether the word is a number, a sign, a word of the language, or a field of what is known."""
+    if word in PLAIN or head in it.names or head in it.items or head in it.owner:
+        return True
+    return not re.search(r"[^\W\d_]", word) or word.startswith((".", '"')) or word.endswith('"')
 
 
 def clauses():
-    """The clauses of `tool` by name: the text of each, and what its file imports."""
+    """The clauses of `tool` by name, with the fields of records: the text of each, and the file that it stands in."""
     for path in sorted(glob.glob(f"{CRATES}/*/src/*.rt")):
         text, to = open(path, encoding="utf-8").read(), File("", "")
         if "pub fn tool<" in text:
             for line in text.split("\n"):
                 imports(line, to)
             contract = text[text.index("pub fn tool<") :].split("\n{")[0] + "\n"
-            return dict(re.findall(r"ensures (\w+) \{(.*?)\}\n", contract, re.S)), to
-    sys.exit("no crate has a function `tool`")
+            return {name: ([clause], to, None) for name, clause in re.findall(r"ensures (\w+) \{(.*?)\}\n", contract, re.S)}
+    fail("no crate has a function `tool`")
+
+
+def fields_of(clause, known):
+    """The fields of the record that is the clause's first word, by name."""
+    lines, to, _ = known[clause]
+    word = WORD.findall(lines[0])[0]
+    if word not in to.names:
+        return {}
+    crate, module, name = to.names[word]
+    it = file_of(crate, module)
+    if not is_record(it.items.get(name, [])):
+        return {}
+    fields = {}
+    for line in it.items[name][1:]:
+        field = FIELD.match(line)
+        if field:
+            fields[f"{clause}.{field[1]}"] = ([line.split(" : ", 1)[1]], it, (crate, module, name))
+        elif fields:
+            fields[list(fields)[-1]][0].append(line)
+    return fields
+
+
+def found_of(lines, it, record):
+    """What is reached from a clause, or from a field of a record."""
+    found = collections.defaultdict(list)
+    if record:
+        crate, module, name = record
+        own = {word for word in words_of(lines) if word in it.items and word != name}
+        for word in words_of(lines):
+            if word in own:
+                walk(crate, module, word, found, name)
+    follow(it, lines, found, "the clause")
+    return found
+
+
+def lines_in(found):
+    """The lines of what was found, each known by its file, its definition and its place there."""
+    return {(crate, module, id(line)) for (crate, module), names in found.items() for name in names
+            for line in file_of(crate, module).items[name]}
+
+
+def tell(clause, found, before):
+    print(f"clause {clause}")
+    total = 0
+    for (crate, module), names in found.items():
+        here = len(lines_in({(crate, module): names}))
+        total += here
+        print(f"  {crate}/specs/{module}.antt, {here} lines: {' '.join(names)}")
+    added = lines_in(found) - before
+    behind = f"; {len(added)} of them are not in those before it" if before else ""
+    print(f"  {total} lines in {len(found)} files, {sum(map(len, found.values()))} definitions{behind}")
 
 
 def main(wanted):
-    known, of = clauses()
+    known = clauses()
+    fields = {name: field for clause in known for name, field in fields_of(clause, known).items()}
+    before = set()
     for clause in wanted or known:
-        found, lines = collections.defaultdict(list), 0
-        for word in dict.fromkeys(re.findall(r"\w+", known[clause])):
-            if word in of.names:
-                walk(*of.names[word], found)
-        print(f"clause {clause}")
-        for (crate, module), names in found.items():
-            here = len(dict.fromkeys(it for name in names for it in map(id, file_of(crate, module).items[name])))
-            lines += here
-            print(f"  {crate}/specs/{module}.antt, {here} lines: {' '.join(names)}")
-        print(f"  {lines} lines in {len(found)} files, {sum(map(len, found.values()))} definitions")
+        if clause not in known and clause not in fields:
+            fail(f"`tool` has no clause {clause}")
+        found = found_of(*(known.get(clause) or fields[clause]))
+        tell(clause, found, before)
+        before |= lines_in(found)
 
 
 if __name__ == "__main__":

@@ -1,0 +1,97 @@
+"""Tests of the documents: each command of README and the guide that stands behind a `$` prints what stands under it,
+and what the documents name is there."""
+import os
+import re
+import subprocess
+import tempfile
+from collections.abc import Iterator
+from pathlib import Path
+from typing import NamedTuple
+
+from kit.program import find_program
+
+ROOT = Path(__file__).resolve().parents[2]
+CRATES = ROOT / "crates"
+
+
+class Command(NamedTuple):
+    """A command of a document, the line where it stands, and the lines under it."""
+    line: int
+    text: str
+    wanted: list[str]
+
+
+def commands_of(text: str) -> Iterator[Command]:
+    """The commands of a document: indented lines behind a `$`, each with the indented lines under it."""
+    lines = text.splitlines()
+    for at, line in enumerate(lines):
+        if line.startswith("    $ "):
+            wanted = []
+            for under in lines[at + 1:]:
+                if not under.startswith("    ") or under.startswith("    $ "):
+                    break
+                wanted.append(under[4:])
+            yield Command(at + 1, line[6:], wanted)
+
+
+def run_document(name: str) -> None:
+    """Runs the commands of a document one after another in one folder, as someone at the top of the repository does."""
+    with tempfile.TemporaryDirectory() as folder:
+        for entry in ROOT.iterdir():
+            if entry.name not in (".git", "gmr") and not re.search(r"\.(gmap|svg|png)$", entry.name):
+                Path(folder, entry.name).symlink_to(entry)
+        Path(folder, "gmr").symlink_to(os.path.abspath(find_program()))
+        differing = []
+        for command in commands_of((ROOT / name).read_text(encoding="utf-8")):
+            done = subprocess.run(["bash", "-c", command.text], cwd=folder, stdin=subprocess.DEVNULL,
+                                  capture_output=True, text=True, check=False, timeout=60)
+            found = done.stdout.splitlines()
+            if (found != command.wanted and command.wanted) or done.stderr:
+                differing.append(f"{name}:{command.line}: {command.text}: {found[:8]} {done.stderr[:300]}")
+    assert not differing, differing
+
+
+def test_readme() -> None:
+    """The commands of README."""
+    run_document("README.md")
+
+
+def test_guide() -> None:
+    """The commands of the guide."""
+    run_document("docs/GUIDE.md")
+
+
+def cited(text: str) -> Iterator[tuple[str, str]]:
+    """The files that a text cites, each with a name behind it, or with none."""
+    for path, names in re.findall(r"`((?:gm\w*|tools|editors)/[\w/.]*\w|gmr)`(?:: ((?:`\w+`(?:, )?)+))?", text):
+        for name in re.findall(r"\w+", names) or [""]:
+            yield path, name
+
+
+def test_where_to_change_what() -> None:
+    """What the table of changes cites is there: the file, and in it the name."""
+    text = (ROOT / "docs" / "ARCHITECTURE.md").read_text(encoding="utf-8")
+    table = text.split("## To change X, go to Y")[1].split("\n## ")[0]
+    missing = []
+    for path, name in cited(table):
+        file = ROOT / path if path.startswith(("tools", "editors")) or path == "gmr" else CRATES / path
+        if not file.is_file() or not re.search(rf"\b{name}\b", file.read_text(encoding="utf-8")):
+            missing.append(f"{path}: {name}")
+    assert not missing, missing
+    assert table.count("\n| **") == 12
+
+
+def test_modules_are_there() -> None:
+    """The modules of the tools that ARCHITECTURE names are there, and none is longer than 400 lines."""
+    text = (ROOT / "docs" / "ARCHITECTURE.md").read_text(encoding="utf-8")
+    assert not [path for path in re.findall(r"`(tools/kit/\w+\.py)`", text) if not (ROOT / path).is_file()]
+    files = [path for path in (ROOT / "tools").rglob("*") if path.is_file() and path.suffix in ("", ".py")]
+    lengths = {path.name: len(path.read_text(encoding="utf-8").splitlines()) for path in files}
+    assert not {name: length for name, length in lengths.items() if length > 400}
+
+
+def test_links() -> None:
+    """What a document links to is there."""
+    for path in [ROOT / "README.md", *(ROOT / "docs").glob("*.md")]:
+        for target in re.findall(r"\]\(([^)#:]+)\)", path.read_text(encoding="utf-8")):
+            assert (path.parent / target).exists(), f"{path.name} links to {target}"
