@@ -86,25 +86,18 @@ next_head false heads.Each = Some spots.Each
 next_head false heads.End = None
 next_head false head = Some spots.Bare
 
--- where a statement can end
-abbrev pub next_stat : Bool → Sight → Option Spot
-next_stat within (sights.Begins head) = next_head within head
-next_stat within _ = None
-
--- a word that begins statements can be a rule's name
 abbrev pub next_name : Spot → Sight → Option Spot
 next_name to sights.Name = Some to
-next_name to (sights.Begins head) = Some to
 next_name to _ = None
 
-abbrev pub next_hook : Bool → Sight → Option Spot
-next_hook within (sights.Number n) = Some spots.Rule
-next_hook within sights.With = Some spots.With
-next_hook within sight = next_stat within sight
+abbrev pub next_hook : Sight → Option Spot
+next_hook (sights.Number n) = Some spots.Rule
+next_hook sights.With = Some spots.With
+next_hook _ = None
 
-abbrev pub next_with : Bool → Sight → Option Spot
-next_with within sights.With = Some spots.With
-next_with within sight = next_stat within sight
+abbrev pub next_with : Sight → Option Spot
+next_with sights.With = Some spots.With
+next_with _ = None
 
 abbrev pub next_orbit : Sight → Option Spot
 next_orbit sights.Less = Some spots.Orbit
@@ -142,36 +135,42 @@ abbrev pub next_third : Sight → Option Spot
 next_third sights.Close = Some spots.Value
 next_third sight = next_signed spots.SecondMinus spots.Third sight
 
--- behind the spot, where that is in or before a value
-abbrev pub next_in_values : Spot → Sight → Option Spot
-next_in_values spots.With sight = next_value sight
-next_in_values spots.Value sight = next_value sight
-next_in_values spots.Minus sight = next_number spots.Value sight
-next_in_values spots.Open sight = next_signed spots.OpenMinus spots.First sight
-next_in_values spots.OpenMinus sight = next_number spots.First sight
-next_in_values spots.First sight = next_signed spots.FirstMinus spots.Second sight
-next_in_values spots.FirstMinus sight = next_number spots.Second sight
-next_in_values spots.Second sight = next_third sight
-next_in_values spots.SecondMinus sight = next_number spots.Third sight
-next_in_values spots.Third sight = next_close sight
-next_in_values _ sight = None
+-- a word that begins statements, or a rule's name where one is looked for
+abbrev pub next_word : Bool → Spot → Head → Option Spot
+next_word within spots.Start head = next_head within head
+next_word within spots.Bare head = next_head within head
+next_word within spots.Rule head = next_head within head
+next_word within spots.Named head = next_head within head
+next_word within spots.Value head = next_head within head
+next_word within spots.Apply head = Some spots.Rule
+next_word within spots.Over head = Some spots.Named
+next_word within _ head = None
 
-abbrev pub next_value_or_stat : Bool → Sight → Option Spot
-next_value_or_stat within (sights.Begins head) = next_head within head
-next_value_or_stat within sight = next_value sight
+-- what begins no statement
+abbrev pub next_part : Spot → Sight → Option Spot
+next_part spots.Start sight = None
+next_part spots.Bare sight = None
+next_part spots.Apply sight = next_name spots.Rule sight
+next_part spots.Rule sight = next_hook sight
+next_part spots.Each sight = next_orbit sight
+next_part spots.Orbit sight = next_label sight
+next_part spots.Over sight = next_name spots.Named sight
+next_part spots.Named sight = next_with sight
+next_part spots.With sight = next_value sight
+next_part spots.Value sight = next_value sight
+next_part spots.Minus sight = next_number spots.Value sight
+next_part spots.Open sight = next_signed spots.OpenMinus spots.First sight
+next_part spots.OpenMinus sight = next_number spots.First sight
+next_part spots.First sight = next_signed spots.FirstMinus spots.Second sight
+next_part spots.FirstMinus sight = next_number spots.Second sight
+next_part spots.Second sight = next_third sight
+next_part spots.SecondMinus sight = next_number spots.Third sight
+next_part spots.Third sight = next_close sight
 
 -- behind the spot, in a group or not
 abbrev pub next_spot : Bool → Spot → Sight → Option Spot
-next_spot within spots.Start sight = next_stat within sight
-next_spot within spots.Bare sight = next_stat within sight
-next_spot within spots.Apply sight = next_name spots.Rule sight
-next_spot within spots.Rule sight = next_hook within sight
-next_spot within spots.Each sight = next_orbit sight
-next_spot within spots.Orbit sight = next_label sight
-next_spot within spots.Over sight = next_name spots.Named sight
-next_spot within spots.Named sight = next_with within sight
-next_spot within spots.Value sight = next_value_or_stat within sight
-next_spot within spot sight = next_in_values spot sight
+next_spot within spot (sights.Begins head) = next_word within spot head
+next_spot within spot sight = next_part spot sight
 
 -- a rule's name is looked for
 abbrev pub wants_name : Spot → Bool
@@ -213,6 +212,13 @@ pub data State : Type 0 where
   -- behind the end of the text
   Ended : State
 
+-- before anything was read
+abbrev pub no_been : Been
+no_been = record { begun = 0; within = false; labels = no_labels }
+
+abbrev pub first_state : State
+first_state = At spots.Start no_been
+
 -- whether a group is open behind the word
 abbrev pub within_behind : Head → Bool → Bool
 within_behind heads.Group within = true
@@ -225,17 +231,23 @@ begun_behind head been = record { begun = been.begun + 1; within = within_behind
 abbrev pub labelled : ℕ → Been → Been
 labelled label been = record { begun = been.begun; within = been.within; labels = with_label been.labels label }
 
-abbrev pub been_behind : Spot → Sight → Been → Been
-been_behind spots.Apply sight been = been
-been_behind spots.Over sight been = been
-been_behind spots.Orbit (sights.Number label) been = labelled label been
-been_behind spot (sights.Begins head) been = begun_behind head been
-been_behind spot sight been = been
+-- behind a label
+abbrev pub labelled_by : Symbol → Been → Been
+labelled_by (Numeral label) been = labelled label been
+labelled_by _ been = been
+
+-- behind what is seen in the symbol
+abbrev pub been_behind : Spot → Sight → Symbol → Been → Been
+been_behind spots.Apply sight symbol been = been
+been_behind spots.Over sight symbol been = been
+been_behind spots.Orbit sight symbol been = labelled_by symbol been
+been_behind spot (sights.Begins head) symbol been = begun_behind head been
+been_behind spot sight symbol been = been
 
 abbrev pub move : State → Symbol → Option State
 move Ended symbol = None
 move (At spot been) End = if can_end been.within spot then Some Ended else None
-move (At spot been) symbol = option_map (λ next. At next (been_behind spot (sight_of symbol) been)) (next_spot been.within spot (sight_of symbol))
+move (At spot been) symbol = option_map (λ next. At next (been_behind spot (sight_of symbol) symbol been)) (next_spot been.within spot (sight_of symbol))
 
 -- ---- in which role it stands there
 

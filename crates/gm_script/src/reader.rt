@@ -90,8 +90,6 @@ impl Draft {
 #[derive(Drop)]
 pub(crate) struct Reader {
     alloc: Global,
-    /// The greatest label of an orbit.
-    top: u8,
     spot: Spot,
     /// How many statements have begun.
     begun: usize,
@@ -180,7 +178,8 @@ impl Reader {
 
     /// What the token passes, where it can stand.
     fn passed(&self, top: u8, sight: Sight, token: Token) -> Option<Passing>
-        requires { token.start ≤ token.end }
+        requires order { token.start ≤ token.end }
+        requires top { top ≤ 7 }
         ensures { passed_of result ≡ reading.passed_in top self.now.spot (reading.been_of self.now) sight (token.end - token.start) }
     {
         match sight {
@@ -337,6 +336,7 @@ fn limit_where(passed: bool, what: LimitKind) -> Option<Passing>
 }
 
 fn number_passes(top: u8, spot: Spot, labels: Mask, n: u64) -> Option<Passing>
+    requires { top ≤ 7 }
     ensures { passed_of result ≡ reading.number_passes top spot labels n }
 {
     match spot {
@@ -347,15 +347,17 @@ fn number_passes(top: u8, spot: Spot, labels: Mask, n: u64) -> Option<Passing>
 }
 
 fn label_passes(top: u8, labels: Mask, label: u64) -> Option<Passing>
+    requires { top ≤ 7 }
     ensures { passed_of result ≡ reading.label_passes top labels label }
 {
     if label > u64::from(top) {
         return Some(Passing::Limit(LimitKind::Label));
     }
-    if (labels.bits >> label) & 1 == 1 {
-        return Some(Passing::Mention);
+    if labels.has(label as u8) {
+        Some(Passing::Mention)
+    } else {
+        None
     }
-    None
 }
 
 /// The greatest number of a value.

@@ -46,27 +46,38 @@ impl Spot {
     pub(crate) fn next(self, within: bool, sight: Sight) -> Option<Spot>
         ensures { result ≡ reading.next_spot within self sight }
     {
+        match sight {
+            Sight::Begins(head) => self.next_word(within, head),
+            _ => self.next_part(sight),
+        }
+    }
+
+    /// The spot behind a word that begins statements, or a rule's name where one is looked for.
+    fn next_word(self, within: bool, head: Head) -> Option<Spot>
+        ensures { result ≡ reading.next_word within self head }
+    {
+        match self {
+            Spot::Start | Spot::Bare | Spot::Rule | Spot::Named | Spot::Value => {
+                next_head(within, head)
+            }
+            Spot::Apply => Some(Spot::Rule),
+            Spot::Over => Some(Spot::Named),
+            _ => None,
+        }
+    }
+
+    /// The spot behind what is seen, where that begins no statement.
+    fn next_part(self, sight: Sight) -> Option<Spot>
+        ensures { result ≡ reading.next_part self sight }
+    {
         match (self, sight) {
-            (
-                Spot::Start | Spot::Bare | Spot::Rule | Spot::Named | Spot::Value,
-                Sight::Begins(head),
-            ) => next_head(within, head),
-            (Spot::Apply, Sight::Name | Sight::Begins(_)) => Some(Spot::Rule),
-            (Spot::Over, Sight::Name | Sight::Begins(_)) => Some(Spot::Named),
+            (Spot::Apply, Sight::Name) => Some(Spot::Rule),
+            (Spot::Over, Sight::Name) => Some(Spot::Named),
             (Spot::Rule, Sight::Number(_)) => Some(Spot::Rule),
             (Spot::Each, Sight::Less) => Some(Spot::Orbit),
             (Spot::Orbit, Sight::Number(_)) => Some(Spot::Orbit),
             (Spot::Orbit, Sight::Greater) => Some(Spot::Over),
             (Spot::Rule | Spot::Named, Sight::With) => Some(Spot::With),
-            _ => self.next_in_values(sight),
-        }
-    }
-
-    /// The spot behind what is seen, where that is a part of a value.
-    fn next_in_values(self, sight: Sight) -> Option<Spot>
-        ensures { result ≡ reading.next_in_values self sight }
-    {
-        match (self, sight) {
             (Spot::With | Spot::Value, Sight::Truth(_) | Sight::Number(_)) => Some(Spot::Value),
             (Spot::With | Spot::Value, Sight::Minus) => Some(Spot::Minus),
             (Spot::With | Spot::Value, Sight::Open) => Some(Spot::Open),
