@@ -4,6 +4,7 @@ use Rattle.std.specs.Prelude.{IsTrue, ◌&&◌, nat_lt, nat_abs, int_le}
 use Rattle.std.specs.List.{AllByRecursion, AllZip}
 use Rattle.std.proofs.lemmas.Bool.Decides.{nat_tests}
 use Rattle.std.proofs.lemmas.Bool.{and_parts}
+use Rattle.std.proofs.lemmas.Option.{same_Some}
 use Rattle.gm_model.specs.declared.limit.LimitKind.{LimitKind}
 use Rattle.gm_model.specs.declared.limit.LimitKind.TheVariants as limits
 use Rattle.gm_model.specs.declared.rule.Param.{Param}
@@ -23,8 +24,9 @@ use Rattle.gm_model.specs.Symbols.{Symbol, Numeral}
 use Rattle.gm_model.specs.Values.{IsValueOf}
 use Rattle.gm_text.specs.SchemaText.{Passed, LimitOf, Again, no_labels, with_label, passed_by}
 use Rattle.gm_text.specs.ValueText.{Signed, integer, greatest, is_channel}
+use Rattle.gm_text.proofs.SchemaSound.{IsLow, low_none, low_more, nothing_passed}
 use Rattle.gm_script.specs.Agreement.{Takes, Agrees}
-use Rattle.gm_script.specs.ScriptText.{ValueForm, Plain, Truth, Pair, Triple, StatForm, Applies, GoesOver, Says, Undo, Redo, Group, Close, Role, Hook, LabelBehind, Size, limit_of, passed_of, number, sign, the_end, spell_signed, spell_value, spell_values, spell_params, spell_labels, spell_stats, IsSentence, value_as, colour, mask_of, AreParams, IsStat, AreStats, AreNested, ScriptText}
+use Rattle.gm_script.specs.ScriptText.{ValueForm, Plain, Truth, Pair, Triple, StatForm, Applies, GoesOver, Says, Undo, Redo, Group, Close, Role, RuleAt, Hook, LabelBehind, Size, limit_of, passed_of, number, sign, word, the_end, spell_signed, spell_value, spell_values, spell_params, spell_labels, spell_stats, IsSentence, value_as, colour, mask_of, AreParams, IsStat, AreStats, AreNested, ScriptText}
 
 abbrev AreWithin : List (Part Role) → Type 0
 AreWithin parts = AllByRecursion (λ (part : Part Role). passed_of part.role part.symbol ≡ None) parts
@@ -39,10 +41,10 @@ fits true zero small = record { sfits = omega arith }
 fits true (suc n) small = record { sfits = omega (arith, small) }
 fits false n small = record { sfits = omega (arith, small) }
 
-size_fits : (minus : Bool) (n : ℕ) → limit_of (Size minus) (Numeral n) ≡ None → IsInRange (record { minus = minus; size = n })
+size_fits : (minus : Bool) (n : ℕ) → passed_of (Size minus) (Numeral n) ≡ None → IsInRange (record { minus = minus; size = n })
 size_fits minus n e = go (nat_lt (greatest minus) n) refl e
   where
-    go : (b : Bool) → nat_lt (greatest minus) n ≡ b → cond b (Some limits.Integer) None ≡ None → IsInRange (record { minus = minus; size = n })
+    go : (b : Bool) → nat_lt (greatest minus) n ≡ b → passed_by (cond b (Some limits.Integer) None) false ≡ None → IsInRange (record { minus = minus; size = n })
     go true f e = absurd cc
     go false f e = let small : n ≤ greatest minus = grind (arith, nat_tests, f) in fits minus n small
 
@@ -90,15 +92,37 @@ hooks_within : (hooks : List ℕ) (rest : List (Part Role)) → AreWithin (map (
 hooks_within [] rest within = within
 hooks_within (hook ∷ hooks) rest within = hooks_within hooks rest within.1
 
-abbrev HasGoodForms : LineForm → Type 0
-HasGoodForms line = AllByRecursion IsGoodForm line.values
+-- labels that pass nothing are at most the number
+label_low : (n label : ℕ) (mask : Mask) → passed_of (LabelBehind n mask) (Numeral label) ≡ None → label ≤ n
+label_low n label mask e = go (nat_lt n label) refl (nothing_passed (limit_of (LabelBehind n mask) (Numeral label)) (has mask label) e).0
+  where
+    go : (b : Bool) → nat_lt n label ≡ b → cond b (Some limits.Label) None ≡ None → label ≤ n
+    go true f e = absurd cc
+    go false f e = grind (arith, nat_tests, f)
 
-lines_within : (k : ℕ) (lines : List LineForm) (rest : List (Part Role)) → AreWithin (spell_lines k lines rest) → AllByRecursion HasGoodForms lines
-lines_within k [] rest within = tt
-lines_within k (line ∷ lines) rest within =
-    let behind = spell_lines (k + 1) lines rest in
+labels_within : (n : ℕ) (mask : Mask) (labels : List ℕ) (rest : List (Part Role)) → IsLow n mask → AreWithin (spell_labels n mask labels rest) → IsLow n (mask_of labels mask) × AreWithin rest
+labels_within n mask [] rest low within = (low, within)
+labels_within n mask (label ∷ labels) rest low within =
+    labels_within n (with_label mask label) labels rest (low_more n label mask low (label_low n label mask within.0)) within.1
+
+-- what a statement that passes nothing has
+abbrev HasGoodForms : ℕ → StatForm → Type 0
+HasGoodForms n (Applies line) = AllByRecursion IsGoodForm line.values
+HasGoodForms n (GoesOver form) = IsLow n (mask_of form.labels no_labels) × AllByRecursion IsGoodForm form.values
+HasGoodForms n (Says bare place) = Unit {0}
+
+forms_within : (n k : ℕ) (forms : List StatForm) (rest : List (Part Role)) → AreWithin (spell_stats n k forms rest) → AllByRecursion (HasGoodForms n) forms
+forms_within n k [] rest within = tt
+forms_within n k (Applies line ∷ forms) rest within =
+    let behind = spell_stats n (k + 1) forms rest in
     let here = params_within line.values behind (hooks_within line.hooks (spell_params line.values behind) within.1.1) in
-    (here.0, lines_within (k + 1) lines rest here.1)
+    (here.0, forms_within n (k + 1) forms rest here.1)
+forms_within n k (GoesOver form ∷ forms) rest within =
+    let behind = spell_stats n (k + 1) forms rest in
+    let labels = labels_within n no_labels form.labels (sign (codes ">") ∷ word (RuleAt form.rule.place) form.rule.name ∷ spell_params form.values behind) (low_none n) within.1.1 in
+    let here = params_within form.values behind labels.1.1.1 in
+    ((labels.0, here.0), forms_within n (k + 1) forms rest here.1)
+forms_within n k (Says bare place ∷ forms) rest within = (tt, forms_within n (k + 1) forms rest within.1)
 
 -- ---- values of a kind
 
@@ -134,39 +158,47 @@ good_params (param ∷ params) [] vs good are = absurd are
 good_params (param ∷ params) (form ∷ forms) [] good are = absurd are
 good_params (param ∷ params) (form ∷ forms) (v ∷ vs) good are = (value_of_kind param.kind form v good.0 are.0, good_params params forms vs good.1 are.1)
 
--- ---- lines
+-- ---- statements
 
-module _ (rules : List Rule) where
-  -- whichever rule the line names, it has a value for each parameter
-  abbrev pub HasGoodParams : Line → Type 0
-  HasGoodParams line = (rule : Rule) → slice_get rules line.rule ≡ Some rule → AreGoodParams rule line.params
+module _ (n : ℕ) (rules : List Rule) where
+  stat_agrees : (form : StatForm) (stat : Stat) → HasGoodForms n form → IsStat rules form stat → Agrees n rules stat
+  stat_agrees (Applies form) (statements.Apply line) good is = record {
+    rule = is.rule;
+    rule_is = is.named.there;
+    hooks_are = ap length is.hooks ∙ is.count;
+    params_are = good_params is.rule.params form.values line.params good is.params;
+  }
+  stat_agrees (GoesOver form) (statements.Each mask k params) good is = (
+    (λ label there. good.0 label (subst (λ (m : Mask). IsTrue (has m label)) is.mask_is there)),
+    record { rule = is.rule; rule_is = is.named.there; hooks_are = is.count; params_are = good_params is.rule.params form.values params good.1 is.params_are },
+  )
+  stat_agrees (Says Undo place) statements.Undo good is = tt
+  stat_agrees (Says Redo place) statements.Redo good is = tt
+  stat_agrees (Says Group place) statements.Group good is = tt
+  stat_agrees (Says Close place) statements.End good is = tt
+  stat_agrees _ _ good is = absurd is
 
-  line_good : (form : LineForm) (line : Line) → HasGoodForms form → IsLine rules form line → HasGoodParams line
-  line_good form line good is rule there =
-      subst (λ (r : Rule). AreGoodParams r line.params) (same_Some is.rule rule (sym is.named.there ∙ there)) (good_params is.rule.params form.values line.params good is.params)
+  stats_agree : (forms : List StatForm) (stats : List Stat) → AllByRecursion (HasGoodForms n) forms → AreStats rules forms stats → AllByRecursion (Agrees n rules) stats
+  stats_agree [] [] good are = tt
+  stats_agree [] (stat ∷ stats) good are = absurd are
+  stats_agree (form ∷ forms) [] good are = absurd are
+  stats_agree (form ∷ forms) (stat ∷ stats) good are = (stat_agrees form stat good.0 are.0, stats_agree forms stats good.1 are.1)
 
-  -- so does the statement, where it is a line
-  abbrev pub IsGoodStat : Stat → Type 0
-  IsGoodStat (Apply line) = HasGoodParams line
-  IsGoodStat _ = Unit {0}
+  -- the statements stand in the order in which they are written
+  in_order : (within : Bool) (forms : List StatForm) (stats : List Stat) → AreNested within forms → AreStats rules forms stats → AreInOrder within stats
+  in_order within [] [] nested are = nested
+  in_order within [] (stat ∷ stats) nested are = absurd are
+  in_order within (form ∷ forms) [] nested are = absurd are
+  in_order within (Applies form ∷ forms) (statements.Apply line ∷ stats) nested are = in_order within forms stats nested are.1
+  in_order within (GoesOver form ∷ forms) (statements.Each mask k params ∷ stats) nested are = (nested.0, in_order within forms stats nested.1 are.1)
+  in_order within (Says Undo place ∷ forms) (statements.Undo ∷ stats) nested are = (nested.0, in_order within forms stats nested.1 are.1)
+  in_order within (Says Redo place ∷ forms) (statements.Redo ∷ stats) nested are = (nested.0, in_order within forms stats nested.1 are.1)
+  in_order within (Says Group place ∷ forms) (statements.Group ∷ stats) nested are = (nested.0, in_order true forms stats nested.1 are.1)
+  in_order within (Says Close place ∷ forms) (statements.End ∷ stats) nested are = (nested.0, in_order false forms stats nested.1 are.1)
+  in_order within (_ ∷ forms) (_ ∷ stats) nested are = absurd are.0
 
-  stat_good : (form : LineForm) (stat : Stat) → HasGoodForms form → IsStat rules form stat → IsGoodStat stat
-  stat_good form (Apply line) good is = line_good form line good is
-  stat_good form _ good is = absurd is
+  pub script_agrees : (text : List ℕ) (stats : List Stat) → ScriptText text n rules stats → AllByRecursion (Agrees n rules) stats
+  script_agrees text stats script = stats_agree script.forms stats (forms_within n 0 script.forms (the_end ∷ []) script.written.read.within) script.same
 
-  stats_good : (forms : List LineForm) (stats : List Stat) → AllByRecursion HasGoodForms forms → AreStats rules forms stats → AllByRecursion IsGoodStat stats
-  stats_good [] [] good are = tt
-  stats_good [] (stat ∷ stats) good are = absurd are
-  stats_good (form ∷ forms) [] good are = absurd are
-  stats_good (form ∷ forms) (stat ∷ stats) good are = (stat_good form stat good.0 are.0, stats_good forms stats good.1 are.1)
-
-  pub script_params_good : (text : List ℕ) (stats : List Stat) → ScriptText text rules stats → AllByRecursion IsGoodStat stats
-  script_params_good text stats script = stats_good script.forms stats (lines_within 0 script.forms (the_end ∷ []) script.written.read.within) script.same
-
-at_place : (P : Stat → Type 0) (stats : List Stat) (k : ℕ) (stat : Stat) → AllByRecursion P stats → slice_get stats k ≡ Some stat → P stat
-at_place P [] k stat all at = absurd cc
-at_place P (first ∷ stats) zero stat all at = subst P (same_Some first stat at) all.0
-at_place P (first ∷ stats) (suc k) stat all at = at_place P stats k stat all.1 at
-
-pub params_fit : (text : List ℕ) (rules : List Rule) (stats : List Stat) (k : ℕ) (line : Line) (rule : Rule) → ScriptText text rules stats → slice_get stats k ≡ Some (Apply line) → slice_get rules line.rule ≡ Some rule → AreGoodParams rule line.params
-params_fit text rules stats k line rule script at there = at_place (IsGoodStat rules) stats k (Apply line) (script_params_good rules text stats script) at rule there
+  pub script_in_order : (text : List ℕ) (stats : List Stat) → ScriptText text n rules stats → AreInOrder false stats
+  script_in_order text stats script = in_order false script.forms stats script.written.form.1 script.same

@@ -1,3 +1,4 @@
+mod Agreement
 mod Compared
 mod Drafts
 mod FirstFault

@@ -101,7 +101,7 @@ fails_on (texts.Text place) read more e = rw e refl
 fails_on (texts.Limit what place) read more e = rw e refl
 fails_on (texts.Twice place) read more e = rw e refl
 
-module _ (n : ℕ) (low : n ≤ 7) (text : List ℕ) (rules : List Rule) where
+module _ (text : List ℕ) (rules : List Rule) where
   -- behind some, one more
   abbrev one_more : Result (List Stat) Disagreement → Result Stat Disagreement → Result (List Stat) Disagreement
   one_more some last = comparing.◌>>=◌ some (λ stats. comparing.◌>>=◌ last (λ stat. Ok (stats ++ stat ∷ [])))
@@ -138,73 +138,76 @@ module _ (n : ℕ) (low : n ≤ 7) (text : List ℕ) (rules : List Rule) where
     fault_added None stats fault there e says = rw (stats_more helds held, e) (says_on fault (stat_for text rules held) (λ stat. Ok (stats ++ stat ∷ [])) says)
     fault_added (Some other) stats fault there e says = absurd cc
 
-  pub starts : IsSoFar n text rules nothing (items_of text) (Ok [])
-  starts = record { before = []; read = behind_none (stats_of n text); holds = refl; named = record { order = omega arith; within = omega arith } }
+  module _ (n : ℕ) where
+    pub starts : n ≤ 7 → IsSoFar n text rules nothing (items_of text) (Ok [])
+    starts low = record { low = low; before = []; read = behind_none (stats_of n text); holds = refl; named = record { order = omega arith; within = omega arith } }
 
-  -- ---- a fault of the text
+    -- ---- a fault of the text
 
-  module _ (held : Held) (items : List Item) (compared : Result (List Stat) ScriptFault) (so_far : IsSoFar n text rules held items compared) (fault : TextFault) where
-    fails : Fails fault (read_from n text held items) → IsFaultOf text n rules (of_text fault)
-    fails e = stats.fault_is n low text rules fault (subst (Fails fault) so_far.read (behind_fails so_far.before fault (read_from n text held items) e))
+    module _ (held : Held) (items : List Item) (compared : Result (List Stat) ScriptFault) (so_far : IsSoFar n text rules held items compared) (fault : TextFault) where
+      fails : Fails fault (read_from n text held items) → IsFaultOf text n rules (of_text fault)
+      fails e = stats.fault_is n so_far.low text rules fault (subst (Fails fault) so_far.read (behind_fails so_far.before fault (read_from n text held items) e))
 
-  pub stray_fails : (held : Held) (cursor : Cursor) (compared : Result (List Stat) ScriptFault) → IsSoFar n text rules held (rest_of cursor) compared → (fault : TextFault) → IsStray cursor fault → IsFaultOf text n rules (of_text fault)
-  stray_fails held cursor compared so_far (texts.Text place) stray = fails held (rest_of cursor) compared so_far (texts.Text place) (rw stray refl)
-  stray_fails held cursor compared so_far (texts.Limit what place) stray = absurd stray
-  stray_fails held cursor compared so_far (texts.Twice place) stray = absurd stray
-  stray_fails held cursor compared so_far texts.OutOfMemory stray = absurd stray
+    pub stray_fails : (held : Held) (cursor : Cursor) (compared : Result (List Stat) ScriptFault) → IsSoFar n text rules held (rest_of cursor) compared → (fault : TextFault) → IsStray cursor fault → IsFaultOf text n rules (of_text fault)
+    stray_fails held cursor compared so_far (texts.Text place) stray = fails held (rest_of cursor) compared so_far (texts.Text place) (rw stray refl)
+    stray_fails held cursor compared so_far (texts.Limit what place) stray = absurd stray
+    stray_fails held cursor compared so_far (texts.Twice place) stray = absurd stray
+    stray_fails held cursor compared so_far texts.OutOfMemory stray = absurd stray
 
-  pub token_fails : (held : Held) (token : Token) (items : List Item) (compared : Result (List Stat) ScriptFault) → IsSoFar n text rules held (Lexed token ∷ items) compared
-      → (fault : TextFault) → Fails fault (taken_at n (sight_of (symbol_at text token)) token held) → IsFaultOf text n rules (of_text fault)
-  token_fails held token items compared so_far fault e =
-      fails held (Lexed token ∷ items) compared so_far fault
-      (fails_on fault (taken_at n (sight_of (symbol_at text token)) token held) (λ next. read_from n text next items >>= λ others. Ok (put_first (ended_by held.spot (sight_of (symbol_at text token)) held.stat) others)) e)
+    pub token_fails : (held : Held) (token : Token) (items : List Item) (compared : Result (List Stat) ScriptFault) → IsSoFar n text rules held (Lexed token ∷ items) compared
+        → (fault : TextFault) → Fails fault (taken_at n (sight_of (symbol_at text token)) token held) → IsFaultOf text n rules (of_text fault)
+    token_fails held token items compared so_far fault e =
+        fails held (Lexed token ∷ items) compared so_far fault
+        (fails_on fault (taken_at n (sight_of (symbol_at text token)) token held) (λ next. read_from n text next items >>= λ others. Ok (put_first (ended_by held.spot (sight_of (symbol_at text token)) held.stat) others)) e)
 
-  pub end_fails : (held : Held) (place : ℕ) (compared : Result (List Stat) ScriptFault) → IsSoFar n text rules held (EndAt place ∷ []) compared
-      → (fault : TextFault) → Fails fault (finished place held) → IsFaultOf text n rules (of_text fault)
-  end_fails held place compared so_far fault e = fails held (EndAt place ∷ []) compared so_far fault (fails_on fault (finished place held) (λ stat. Ok (put_first stat [])) e)
+    pub end_fails : (held : Held) (place : ℕ) (compared : Result (List Stat) ScriptFault) → IsSoFar n text rules held (EndAt place ∷ []) compared
+        → (fault : TextFault) → Fails fault (finished place held) → IsFaultOf text n rules (of_text fault)
+    end_fails held place compared so_far fault e = fails held (EndAt place ∷ []) compared so_far fault (fails_on fault (finished place held) (λ stat. Ok (put_first stat [])) e)
 
-  -- ---- a token, and the end
+    -- ---- a token, and the end
 
-  -- a further statement is compared, if there is one
-  abbrev pub Adds : Option HeldStat → Result (List Stat) ScriptFault → Result (List Stat) ScriptFault → Type 0
-  Adds stat old new = (helds : List HeldStat) → Holds text rules old helds → Holds text rules new (helds ++ put_first stat [])
+    -- a further statement is compared, if there is one
+    abbrev pub Adds : Option HeldStat → Result (List Stat) ScriptFault → Result (List Stat) ScriptFault → Type 0
+    Adds stat old new = (helds : List HeldStat) → Holds text rules old helds → Holds text rules new (helds ++ put_first stat [])
 
-  pub adds_none : (compared : Result (List Stat) ScriptFault) → Adds None compared compared
-  adds_none compared helds holds = rw (append-nil helds) holds
+    pub adds_none : (compared : Result (List Stat) ScriptFault) → Adds None compared compared
+    adds_none compared helds holds = rw (append-nil helds) holds
 
-  pub goes_on : (held next : Held) (token : Token) (items : List Item) (old new : Result (List Stat) ScriptFault) → IsInText text token → IsSoFar n text rules held (Lexed token ∷ items) old
-      → taken_at n (sight_of (symbol_at text token)) token held ≡ Ok next → Adds (ended_by held.spot (sight_of (symbol_at text token)) held.stat) old new → IsSoFar n text rules next items new
-  goes_on held next token items old new inside so_far e adds =
-      let stat = ended_by held.spot (sight_of (symbol_at text token)) held.stat in
-      let step : read_from n text held (Lexed token ∷ items) ≡ (read_from n text next items >>= λ others. Ok (put_first stat others)) = rw e refl in
-      record {
-        before = so_far.before ++ put_first stat [];
-        read = behind_more so_far.before stat (read_from n text next items) ∙ ap (behind so_far.before) (sym step) ∙ so_far.read;
-        holds = adds so_far.before so_far.holds;
-        named = taken_named text token inside held so_far.named (next_spot held.within held.spot (sight_of (symbol_at text token))) (passed_in n held.spot (been_of held) (sight_of (symbol_at text token)) (token.end - token.start)) (sight_of (symbol_at text token)) next e;
-      }
+    pub goes_on : (held next : Held) (token : Token) (items : List Item) (old new : Result (List Stat) ScriptFault) → IsInText text token → IsSoFar n text rules held (Lexed token ∷ items) old
+        → taken_at n (sight_of (symbol_at text token)) token held ≡ Ok next → Adds (ended_by held.spot (sight_of (symbol_at text token)) held.stat) old new → IsSoFar n text rules next items new
+    goes_on held next token items old new inside so_far e adds =
+        let stat = ended_by held.spot (sight_of (symbol_at text token)) held.stat in
+        let step : read_from n text held (Lexed token ∷ items) ≡ (read_from n text next items >>= λ others. Ok (put_first stat others)) = rw e refl in
+        record {
+          low = so_far.low;
+          before = so_far.before ++ put_first stat [];
+          read = behind_more so_far.before stat (read_from n text next items) ∙ ap (behind so_far.before) (sym step) ∙ so_far.read;
+          holds = adds so_far.before so_far.holds;
+          named = taken_named text token inside held so_far.named (next_spot held.within held.spot (sight_of (symbol_at text token))) (passed_in n held.spot (been_of held) (sight_of (symbol_at text token)) (token.end - token.start)) (sight_of (symbol_at text token)) next e;
+        }
 
-  -- all statements are compared
-  pub record IsDone (compared : Result (List Stat) ScriptFault) : Type 0 where
-    pub helds : List HeldStat
-    pub read : stats_of n text ≡ Ok helds
-    pub holds : Holds text rules compared helds
+    -- all statements are compared
+    pub record IsDone (compared : Result (List Stat) ScriptFault) : Type 0 where
+      pub low : n ≤ 7
+      pub helds : List HeldStat
+      pub read : stats_of n text ≡ Ok helds
+      pub holds : Holds text rules compared helds
 
-  pub ends : (held : Held) (place : ℕ) (last : Option HeldStat) (old new : Result (List Stat) ScriptFault) → IsSoFar n text rules held (EndAt place ∷ []) old
-      → finished place held ≡ Ok last → Adds last old new → IsDone new
-  ends held place last old new so_far e adds =
-      let step : read_from n text held (EndAt place ∷ []) ≡ Ok (put_first last []) = rw e refl in
-      record { helds = so_far.before ++ put_first last []; read = sym so_far.read ∙ ap (behind so_far.before) step; holds = adds so_far.before so_far.holds }
+    pub ends : (held : Held) (place : ℕ) (last : Option HeldStat) (old new : Result (List Stat) ScriptFault) → IsSoFar n text rules held (EndAt place ∷ []) old
+        → finished place held ≡ Ok last → Adds last old new → IsDone new
+    ends held place last old new so_far e adds =
+        let step : read_from n text held (EndAt place ∷ []) ≡ Ok (put_first last []) = rw e refl in
+        record { low = so_far.low; helds = so_far.before ++ put_first last []; read = sym so_far.read ∙ ap (behind so_far.before) step; holds = adds so_far.before so_far.holds }
 
-  module _ (compared : Result (List Stat) ScriptFault) (done : IsDone compared) where
-    pub done_script : (result : Result (Vec Stat Global) ScriptFault) → IfOk result (λ all. compared ≡ Ok all.items) → IfOk result (λ all. ScriptText text n rules all.items)
-    done_script (Ok all) e =
-        let holds : Holds text rules (Ok all.items) done.helds = rw e at done.holds in
-        script_is n text rules done.helds (stats.stats_are n low text done.helds done.read) all.items holds
-    done_script (Err fault) e = tt
+    module _ (compared : Result (List Stat) ScriptFault) (done : IsDone compared) where
+      pub done_script : (result : Result (Vec Stat Global) ScriptFault) → IfOk result (λ all. compared ≡ Ok all.items) → IfOk result (λ all. ScriptText text n rules all.items)
+      done_script (Ok all) e =
+          let holds : Holds text rules (Ok all.items) done.helds = rw e at done.holds in
+          script_is n text rules done.helds (stats.stats_are n done.low text done.helds done.read) all.items holds
+      done_script (Err fault) e = tt
 
-    pub done_fault : (result : Result (Vec Stat Global) ScriptFault) → IfErr result (λ fault. compared ≡ Err fault) → IfErr result (IsFaultOf text n rules)
-    done_fault (Ok all) e = tt
-    done_fault (Err fault) e =
-        let holds : Holds text rules (Err fault) done.helds = rw e at done.holds in
-        fault_is n text rules done.helds (stats.stats_are n low text done.helds done.read) fault holds
+      pub done_fault : (result : Result (Vec Stat Global) ScriptFault) → IfErr result (λ fault. compared ≡ Err fault) → IfErr result (IsFaultOf text n rules)
+      done_fault (Ok all) e = tt
+      done_fault (Err fault) e =
+          let holds : Holds text rules (Err fault) done.helds = rw e at done.holds in
+          fault_is n text rules done.helds (stats.stats_are n done.low text done.helds done.read) fault holds

@@ -1,5 +1,5 @@
 -- What was read of a text so far, and the statements that were compared.
-use Rattle.std.specs.Prelude.{◌≡◌, ℕ, List, ◌++◌, Result, Ok, Err}
+use Rattle.std.specs.Prelude.{◌≡◌, ◌≤◌, ℕ, List, ◌++◌, Result, Ok, Err}
 use Rattle.gm_model.specs.declared.script.Stat.{Stat}
 use Rattle.gm_model.specs.Rules.{Rule}
 use Rattle.gm_model.specs.Tokens.{Item}
@@ -19,6 +19,8 @@ Holds text rules compared helds = Compares (λ (stats : List Stat). stats) compa
 
 -- these statements have ended before what is held, and are compared
 pub record IsSoFar (n : ℕ) (text : List ℕ) (rules : List Rule) (held : Held) (items : List Item) (compared : Result (List Stat) ScriptFault) : Type 0 where
+  -- labels go up to a number that is not great
+  pub low : n ≤ 7
   pub before : List HeldStat
   pub read : behind before (read_from n text held items) ≡ stats_of n text
   pub holds : Holds text rules compared before

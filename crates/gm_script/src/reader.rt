@@ -10,6 +10,7 @@ ghost use Rattle.gm_script.specs.Reading.{Gives, passed_of};
 use crate::sight::{Head, Sight};
 use crate::spot::Spot;
 use gm_model::{LimitKind, MOST_NAMES, Mask, Token, Value};
+use gm_text::with_label;
 use std::alloc::{AllocFailed, Global};
 use std::marker::Model;
 use std::mem;
@@ -165,7 +166,12 @@ impl Reader {
     pub(crate) fn finish(self, place: usize) -> Result<Option<Draft>, TextFault>
         ensures { Gives (λ stat. stat) result (reading.finished place self) }
     {
-        let Reader { spot, within, stat, .. } = self;
+        let Reader {
+            spot,
+            within,
+            stat,
+            ..
+        } = self;
         if within || !spot.is_whole() {
             return Err(TextFault::Text { place });
         }
@@ -285,9 +291,7 @@ impl Reader {
         requires { label ≤ 7 }
         ensures { self.new ≡ reading.with_orbit label self.old }
     {
-        self.stat.labels = Mask {
-            bits: self.stat.labels.bits | (1 << label),
-        };
+        self.stat.labels = with_label(self.stat.labels, label);
     }
 
     fn value(&mut self, value: Value) -> Result<(), TextFault>

@@ -46,13 +46,14 @@ fn read_tokens(
     ensures so_far { OnOk result (IsSoFar dim bytes.now (map rule_of rules.now) reader.new (EndAt (length bytes.now) ∷ []) compared.new) }
     ensures fault { IfErr result (IsFaultOf bytes.now dim (map rule_of rules.now)) }
 {
+    let top = dim.top();
     let mut lexer = Lexer::new(bytes);
     while let Some(token) = next_token(&mut lexer)? {
         let sight = sight_of(&lexer, &token);
         if let Some(stat) = reader.end_stat(sight) {
             compared.add(bytes, stat, rules)?;
         }
-        reader.take(dim.top(), sight, token)?;
+        reader.take(top, sight, token)?;
     }
     Ok(())
 }

@@ -1,0 +1,14 @@
+use Rattle.std.proofs.Common.{◌≡◌, ◌-◌, length, map}
+use Rattle.gm_model.specs.Rules.{rule_of}
+use Rattle.gm_text.specs.Lexing.{rest_of}
+use Rattle.gm_script.specs.SoFar.{IsSoFar}
+use Rattle.gm_script.proofs.reading.read_tokens.Given as goal
+
+abbrev pub invariant-loop-token : goal.invariant-loop-token
+invariant-loop-token l = record {
+  text : l.lexer.text ≡ l.bytes;
+  so_far : IsSoFar l.fn.dim l.bytes (map rule_of l.rules) l.reader (rest_of l.lexer) l.compared;
+}
+
+abbrev pub decreases-loop-token : goal.decreases-loop-token
+decreases-loop-token l = length l.lexer.text - l.lexer.place
