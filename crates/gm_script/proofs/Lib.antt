@@ -1,20 +1,20 @@
-pub mod Sights
-pub mod Spelling
-pub mod Drafts
-pub mod Steps
-pub mod Leads
-pub mod Grammar
-pub mod HeldLines
-pub mod Held
-pub mod Tokens
-pub mod Limits
-pub mod Lines
-pub mod Params
-pub mod Indices
-pub mod Loop
-pub mod Compared
-pub mod Script
-pub mod FirstFault
-pub mod OneForm
-pub mod OneScript
-pub mod GoodParams
+mod Agreement
+mod Compared
+mod Drafts
+mod FirstFault
+mod Grammar
+mod Held
+mod HeldStats
+mod Indices
+mod Leads
+mod Limits
+mod Loop
+mod OneForm
+mod OneScript
+mod Params
+mod Script
+mod Sights
+mod Spelling
+mod Stats
+mod Steps
+mod Tokens

@@ -1,22 +1,24 @@
--- The limit that the reader tests is the one that the symbol passes in its role.
-use Rattle.std.proofs.Common.{◌≡◌, ℕ, ◌-◌, ◌^◌, ◌<◌, ◌≤◌, min, Bool, true, false, List, length, Option, Some, None, refl, subst, arith, codes}
+-- What the reader tests is what the symbol passes in its role.
+use Rattle.std.proofs.Common.{◌≡◌, ℕ, ◌+◌, ◌-◌, ◌^◌, ◌<◌, ◌≤◌, ◌⊎◌, min, Bool, true, false, cond, List, length, Option, Some, None, refl, sym, ap, subst, ◌∙◌, inl, inr, arith, codes}
 use Rattle.std.specs.Prelude.{nat_le, nat_lt}
+use Rattle.std.proofs.lemmas.Bool.{cases_lt}
 use Rattle.std.proofs.lemmas.Bool.Decides.{nat_tests}
+use Rattle.gm_model.specs.declared.limit.LimitKind.{LimitKind}
+use Rattle.gm_model.specs.declared.limit.LimitKind.TheVariants as limits
+use Rattle.gm_model.specs.declared.word.Mask.{Mask}
+use Rattle.gm_model.specs.Labels.{has}
 use Rattle.gm_model.specs.Symbols.{Symbol, Word, Numeral}
-use Rattle.gm_script.specs.ScriptText.{limit_of}
+use Rattle.gm_text.specs.SchemaText.{Passed, LimitOf, Again, passed_by}
 use Rattle.gm_text.specs.ValueText.{greatest}
-use Rattle.gm_script.specs.Reading.{limit_in, next_spot, sight_of, role_in, lines_at, hold, Held}
-use Rattle.gm_model.specs.declared.token.Token.{Token}
+use Rattle.gm_script.specs.ScriptText.{LabelBehind, passed_of}
+use Rattle.gm_script.specs.Reading.{Been, head_word, passed_in, label_passes, next_spot, next_word, next_head, sight_of, role_in}
+use Rattle.gm_script.specs.declared.sight.Head.{Head}
 use Rattle.gm_script.specs.declared.sight.Sight.{Sight}
 use Rattle.gm_script.specs.declared.sight.Sight.TheVariants as sights
 use Rattle.gm_script.specs.declared.spot.Spot.{Spot}
 use Rattle.gm_script.specs.declared.spot.Spot.TheVariants as spots
-use Rattle.gm_script.proofs.Sights.{Seen, AsApply, AsWith, AsTrue, AsFalse, AsName, AsNumber, AsMinus, AsOpen, AsClose, AsOther, seen}
-
--- where a spot follows, the two limits are the same
-abbrev Same : Spot → ℕ → Sight → ℕ → Symbol → ℕ → Option Spot → Type 0
-Same spot k sight place symbol size None = Unit {0}
-Same spot k sight place symbol size (Some to) = limit_of (role_in spot k sight place) symbol ≡ limit_in spot k sight size
+use Rattle.gm_script.proofs.Sights.{Seen, AsHead, AsWith, AsTrue, AsFalse, AsName, AsNumber, AsMinus, AsOpen, AsClose, AsLess, AsGreater, AsOther, seen}
+use Rattle.gm_script.proofs.Steps.{none_other}
 
 -- the greatest u64 stands for what is greater
 le_least : (c n : ℕ) → c ≤ 2 ^ 64 - 1 → nat_le c n ≡ nat_le c (min n (2 ^ 64 - 1))
@@ -25,125 +27,122 @@ le_least c n h = grind (arith, nat_tests)
 lt_least : (c n : ℕ) → c < 2 ^ 64 - 1 → nat_lt c n ≡ nat_lt c (min n (2 ^ 64 - 1))
 lt_least c n h = grind (arith, nat_tests)
 
-on_apply : (spot : Spot) (k place size : ℕ) → length (codes "apply") ≡ size → Same spot k sights.Apply place (Word (codes "apply")) size (next_spot spot sights.Apply)
-on_apply spots.Start k place size e = refl
-on_apply spots.Apply k place size e = rw (← e) refl
-on_apply spots.Rule k place size e = refl
-on_apply spots.Value k place size e = refl
-on_apply _ k place size e = tt
+-- a limit alone
+alone : (c : Bool) (what : LimitKind) → passed_by (cond c (Some what) None) false ≡ cond c (Some (LimitOf what)) None
+alone true what = refl
+alone false what = refl
 
-on_name : (spot : Spot) (k place size : ℕ) (bytes : List ℕ) → length bytes ≡ size → Same spot k sights.Name place (Word bytes) size (next_spot spot sights.Name)
-on_name spots.Apply k place size bytes e = rw e refl
-on_name _ k place size bytes e = tt
+-- a limit, or a second mention
+either : (c again : Bool) (what : LimitKind) → passed_by (cond c (Some what) None) again ≡ cond c (Some (LimitOf what)) (cond again (Some Again) None)
+either true again what = refl
+either false true what = refl
+either false false what = refl
 
-on_number : (spot : Spot) (k place size n : ℕ) → Same spot k (sights.Number (min n (2 ^ 64 - 1))) place (Numeral n) size (next_spot spot (sights.Number (min n (2 ^ 64 - 1))))
-on_number spots.Start k place size n = tt
-on_number spots.Apply k place size n = tt
-on_number spots.Rule k place size n = rw (le_least 16777216 n (omega arith)) refl
-on_number spots.Minus k place size n = rw (lt_least (greatest true) n (omega arith)) refl
-on_number spots.OpenMinus k place size n = rw (lt_least (greatest true) n (omega arith)) refl
-on_number spots.FirstMinus k place size n = rw (lt_least (greatest true) n (omega arith)) refl
-on_number spots.SecondMinus k place size n = rw (lt_least (greatest true) n (omega arith)) refl
-on_number spots.Third k place size n = tt
-on_number _ k place size n = rw (lt_least (greatest false) n (omega arith)) refl
+-- labels go up to a number that is not great
+module _ (n : ℕ) (low : n ≤ 7) where
+  -- where a spot follows, what is tested and what is passed are the same
+  abbrev Same : Spot → Been → Sight → ℕ → Symbol → ℕ → Option Spot → Type 0
+  Same spot been sight place symbol size None = Unit {0}
+  Same spot been sight place symbol size (Some to) = passed_of (role_in n spot been sight place) symbol ≡ passed_in n spot been sight size
 
-on_with : (spot : Spot) (k place size : ℕ) (symbol : Symbol) → Same spot k sights.With place symbol size (next_spot spot sights.With)
-on_with spots.Rule k place size symbol = refl
-on_with _ k place size symbol = tt
+  same_always : (spot : Spot) (been : Been) (sight : Sight) (place : ℕ) (symbol : Symbol) (size : ℕ) (to : Option Spot) → passed_of (role_in n spot been sight place) symbol ≡ passed_in n spot been sight size
+      → Same spot been sight place symbol size to
+  same_always spot been sight place symbol size None e = tt
+  same_always spot been sight place symbol size (Some to) e = e
 
-on_truth : (spot : Spot) (k place size : ℕ) (symbol : Symbol) → (b : Bool) → Same spot k (sights.Truth b) place symbol size (next_spot spot (sights.Truth b))
-on_truth spots.With k place size symbol b = refl
-on_truth spots.Value k place size symbol b = refl
-on_truth _ k place size symbol b = tt
+  named : (bytes : List ℕ) (size : ℕ) → length bytes ≡ size → passed_by (cond (nat_lt 32 (length bytes)) (Some limits.Name) None) false ≡ cond (nat_lt 32 size) (Some (LimitOf limits.Name)) None
+  named bytes size e = rw e (alone (nat_lt 32 size) limits.Name)
 
-on_minus : (spot : Spot) (k place size : ℕ) (symbol : Symbol) → Same spot k sights.Minus place symbol size (next_spot spot sights.Minus)
-on_minus spots.Start k place size symbol = tt
-on_minus spots.Apply k place size symbol = tt
-on_minus spots.Rule k place size symbol = tt
-on_minus spots.Minus k place size symbol = tt
-on_minus spots.OpenMinus k place size symbol = tt
-on_minus spots.FirstMinus k place size symbol = tt
-on_minus spots.SecondMinus k place size symbol = tt
-on_minus spots.Third k place size symbol = tt
-on_minus _ k place size symbol = refl
+  on_head : (spot : Spot) (been : Been) (head : Head) (place size : ℕ) → length (head_word head) ≡ size → Same spot been (sights.Begins head) place (Word (head_word head)) size (next_word been.within spot head)
+  on_head spots.Start been head place size e = same_always spots.Start been (sights.Begins head) place (Word (head_word head)) size (next_head been.within head) (alone (nat_lt 100000 (been.begun + 1)) limits.Lines)
+  on_head spots.Bare been head place size e = same_always spots.Bare been (sights.Begins head) place (Word (head_word head)) size (next_head been.within head) (alone (nat_lt 100000 (been.begun + 1)) limits.Lines)
+  on_head spots.Rule been head place size e = same_always spots.Rule been (sights.Begins head) place (Word (head_word head)) size (next_head been.within head) (alone (nat_lt 100000 (been.begun + 1)) limits.Lines)
+  on_head spots.Named been head place size e = same_always spots.Named been (sights.Begins head) place (Word (head_word head)) size (next_head been.within head) (alone (nat_lt 100000 (been.begun + 1)) limits.Lines)
+  on_head spots.Value been head place size e = same_always spots.Value been (sights.Begins head) place (Word (head_word head)) size (next_head been.within head) (alone (nat_lt 100000 (been.begun + 1)) limits.Lines)
+  on_head spots.Apply been head place size e = named (head_word head) size e
+  on_head spots.Over been head place size e = named (head_word head) size e
+  on_head _ been head place size e = tt
 
-on_open : (spot : Spot) (k place size : ℕ) (symbol : Symbol) → Same spot k sights.Open place symbol size (next_spot spot sights.Open)
-on_open spots.With k place size symbol = refl
-on_open spots.Value k place size symbol = refl
-on_open _ k place size symbol = tt
+  on_name : (spot : Spot) (been : Been) (place size : ℕ) (bytes : List ℕ) → length bytes ≡ size → Same spot been sights.Name place (Word bytes) size (next_spot been.within spot sights.Name)
+  on_name spots.Apply been place size bytes e = named bytes size e
+  on_name spots.Over been place size bytes e = named bytes size e
+  on_name _ been place size bytes e = tt
 
-on_close : (spot : Spot) (k place size : ℕ) (symbol : Symbol) → Same spot k sights.Close place symbol size (next_spot spot sights.Close)
-on_close spots.Second k place size symbol = refl
-on_close spots.Third k place size symbol = refl
-on_close _ k place size symbol = tt
+  label_same : (labels : Mask) (m : ℕ) → passed_of (LabelBehind n labels) (Numeral m) ≡ label_passes n labels (min m (2 ^ 64 - 1))
+  label_same labels m = elim (cases_lt m (2 ^ 64)) [
+    | inl less ↦ (let same : min m (2 ^ 64 - 1) ≡ m = omega arith in rw same (either (nat_lt n m) (has labels m) limits.Label))
+    | inr more ↦ (
+        let one : nat_lt n m ≡ true = grind (arith, nat_tests) in
+        let two : nat_lt n (min m (2 ^ 64 - 1)) ≡ true = grind (arith, nat_tests) in
+        rw (one, two) refl)
+  ]
 
-on_other : (spot : Spot) (k place size : ℕ) (symbol : Symbol) → Same spot k sights.Other place symbol size (next_spot spot sights.Other)
-on_other spots.Start k place size symbol = tt
-on_other _ k place size symbol = tt
+  on_number : (spot : Spot) (been : Been) (place size m : ℕ) → Same spot been (sights.Number (min m (2 ^ 64 - 1))) place (Numeral m) size (next_spot been.within spot (sights.Number (min m (2 ^ 64 - 1))))
+  on_number spots.Start been place size m = tt
+  on_number spots.Bare been place size m = tt
+  on_number spots.Apply been place size m = tt
+  on_number spots.Each been place size m = tt
+  on_number spots.Over been place size m = tt
+  on_number spots.Named been place size m = tt
+  on_number spots.Rule been place size m = rw (le_least 16777216 m (omega arith)) (alone (nat_le 16777216 (min m (2 ^ 64 - 1))) limits.DartName)
+  on_number spots.Orbit been place size m = label_same been.labels m
+  on_number spots.Minus been place size m = rw (lt_least (greatest true) m (omega arith)) (alone (nat_lt (greatest true) (min m (2 ^ 64 - 1))) limits.Integer)
+  on_number spots.OpenMinus been place size m = rw (lt_least (greatest true) m (omega arith)) (alone (nat_lt (greatest true) (min m (2 ^ 64 - 1))) limits.Integer)
+  on_number spots.FirstMinus been place size m = rw (lt_least (greatest true) m (omega arith)) (alone (nat_lt (greatest true) (min m (2 ^ 64 - 1))) limits.Integer)
+  on_number spots.SecondMinus been place size m = rw (lt_least (greatest true) m (omega arith)) (alone (nat_lt (greatest true) (min m (2 ^ 64 - 1))) limits.Integer)
+  on_number spots.Third been place size m = tt
+  on_number _ been place size m = rw (lt_least (greatest false) m (omega arith)) (alone (nat_lt (greatest false) (min m (2 ^ 64 - 1))) limits.Integer)
 
-on_seen : (spot : Spot) (k place size : ℕ) (symbol : Symbol) → ((bytes : List ℕ) → symbol ≡ Word bytes → length bytes ≡ size) → (sight : Sight) → Seen symbol sight → Same spot k sight place symbol size (next_spot spot sight)
-on_seen spot k place size symbol sized sights.Apply (AsApply e) = rw e (on_apply spot k place size (sized (codes "apply") e))
-on_seen spot k place size symbol sized sights.With (AsWith e) = on_with spot k place size symbol
-on_seen spot k place size symbol sized (sights.Truth true) (AsTrue e) = on_truth spot k place size symbol true
-on_seen spot k place size symbol sized (sights.Truth false) (AsFalse e) = on_truth spot k place size symbol false
-on_seen spot k place size symbol sized sights.Name (AsName bytes e f) = rw e (on_name spot k place size bytes (sized bytes e))
-on_seen spot k place size symbol sized (sights.Number m) (AsNumber n e) = rw e (on_number spot k place size n)
-on_seen spot k place size symbol sized sights.Minus (AsMinus e) = on_minus spot k place size symbol
-on_seen spot k place size symbol sized sights.Open (AsOpen e) = on_open spot k place size symbol
-on_seen spot k place size symbol sized sights.Close (AsClose e) = on_close spot k place size symbol
-on_seen spot k place size symbol sized sights.Other AsOther = on_other spot k place size symbol
+  on_with : (spot : Spot) (been : Been) (place size : ℕ) (symbol : Symbol) → Same spot been sights.With place symbol size (next_spot been.within spot sights.With)
+  on_with spots.Rule been place size symbol = refl
+  on_with spots.Named been place size symbol = refl
+  on_with _ been place size symbol = tt
 
-pub same_limit : (spot to : Spot) (k place size : ℕ) (symbol : Symbol) → ((bytes : List ℕ) → symbol ≡ Word bytes → length bytes ≡ size) → next_spot spot (sight_of symbol) ≡ Some to
-    → limit_of (role_in spot k (sight_of symbol) place) symbol ≡ limit_in spot k (sight_of symbol) size
-same_limit spot to k place size symbol sized e = subst (Same spot k (sight_of symbol) place symbol size) e (on_seen spot k place size symbol sized (sight_of symbol) (seen symbol))
+  on_truth : (spot : Spot) (been : Been) (place size : ℕ) (symbol : Symbol) → (b : Bool) → Same spot been (sights.Truth b) place symbol size (next_spot been.within spot (sights.Truth b))
+  on_truth spots.With been place size symbol b = refl
+  on_truth spots.Value been place size symbol b = refl
+  on_truth _ been place size symbol b = tt
 
--- ---- the count of lines
+  on_minus : (spot : Spot) (been : Been) (place size : ℕ) (symbol : Symbol) → Same spot been sights.Minus place symbol size (next_spot been.within spot sights.Minus)
+  on_minus spots.With been place size symbol = refl
+  on_minus spots.Value been place size symbol = refl
+  on_minus spots.Open been place size symbol = refl
+  on_minus spots.First been place size symbol = refl
+  on_minus spots.Second been place size symbol = refl
+  on_minus _ been place size symbol = tt
 
-abbrev Counts : Spot → Held → Sight → Token → Option Spot → Type 0
-Counts spot held sight token None = Unit {0}
-Counts spot held sight token (Some to) = (hold spot sight token held).begun ≡ lines_at held.begun to
+  on_open : (spot : Spot) (been : Been) (place size : ℕ) (symbol : Symbol) → Same spot been sights.Open place symbol size (next_spot been.within spot sights.Open)
+  on_open spots.With been place size symbol = refl
+  on_open spots.Value been place size symbol = refl
+  on_open _ been place size symbol = tt
 
-counts : (spot : Spot) (sight : Sight) (held : Held) (token : Token) → Counts spot held sight token (next_spot spot sight)
-counts spots.Start sights.Apply held token = refl
-counts spots.Start _ held token = tt
-counts spots.Apply sights.Apply held token = refl
-counts spots.Apply sights.Name held token = refl
-counts spots.Apply _ held token = tt
-counts spots.Rule sights.Apply held token = refl
-counts spots.Rule (sights.Number n) held token = refl
-counts spots.Rule sights.With held token = refl
-counts spots.Rule _ held token = tt
-counts spots.With (sights.Number n) held token = refl
-counts spots.With (sights.Truth b) held token = refl
-counts spots.With sights.Minus held token = refl
-counts spots.With sights.Open held token = refl
-counts spots.With _ held token = tt
-counts spots.Value sights.Apply held token = refl
-counts spots.Value (sights.Number n) held token = refl
-counts spots.Value (sights.Truth b) held token = refl
-counts spots.Value sights.Minus held token = refl
-counts spots.Value sights.Open held token = refl
-counts spots.Value _ held token = tt
-counts spots.Second (sights.Number n) held token = refl
-counts spots.Second sights.Minus held token = refl
-counts spots.Second sights.Close held token = refl
-counts spots.Second _ held token = tt
-counts spots.Third sights.Close held token = refl
-counts spots.Third _ held token = tt
-counts spots.Minus (sights.Number n) held token = refl
-counts spots.Minus _ held token = tt
-counts spots.Open (sights.Number n) held token = refl
-counts spots.Open sights.Minus held token = refl
-counts spots.Open _ held token = tt
-counts spots.OpenMinus (sights.Number n) held token = refl
-counts spots.OpenMinus _ held token = tt
-counts spots.First (sights.Number n) held token = refl
-counts spots.First sights.Minus held token = refl
-counts spots.First _ held token = tt
-counts spots.FirstMinus (sights.Number n) held token = refl
-counts spots.FirstMinus _ held token = tt
-counts spots.SecondMinus (sights.Number n) held token = refl
-counts spots.SecondMinus _ held token = tt
+  on_close : (spot : Spot) (been : Been) (place size : ℕ) (symbol : Symbol) → Same spot been sights.Close place symbol size (next_spot been.within spot sights.Close)
+  on_close spots.Second been place size symbol = refl
+  on_close spots.Third been place size symbol = refl
+  on_close _ been place size symbol = tt
 
-pub begun_next : (spot to : Spot) (sight : Sight) (held : Held) (token : Token) → next_spot spot sight ≡ Some to → (hold spot sight token held).begun ≡ lines_at held.begun to
-begun_next spot to sight held token e = subst (Counts spot held sight token) e (counts spot sight held token)
+  on_less : (spot : Spot) (been : Been) (place size : ℕ) (symbol : Symbol) → Same spot been sights.Less place symbol size (next_spot been.within spot sights.Less)
+  on_less spots.Each been place size symbol = refl
+  on_less _ been place size symbol = tt
+
+  on_greater : (spot : Spot) (been : Been) (place size : ℕ) (symbol : Symbol) → Same spot been sights.Greater place symbol size (next_spot been.within spot sights.Greater)
+  on_greater spots.Orbit been place size symbol = refl
+  on_greater _ been place size symbol = tt
+
+  on_seen : (spot : Spot) (been : Been) (place size : ℕ) (symbol : Symbol) → ((bytes : List ℕ) → symbol ≡ Word bytes → length bytes ≡ size) → (sight : Sight) → Seen symbol sight → Same spot been sight place symbol size (next_spot been.within spot sight)
+  on_seen spot been place size symbol sized (sights.Begins first) (AsHead head e) = rw e (on_head spot been head place size (sized (head_word head) e))
+  on_seen spot been place size symbol sized sights.With (AsWith e) = on_with spot been place size symbol
+  on_seen spot been place size symbol sized (sights.Truth true) (AsTrue e) = on_truth spot been place size symbol true
+  on_seen spot been place size symbol sized (sights.Truth false) (AsFalse e) = on_truth spot been place size symbol false
+  on_seen spot been place size symbol sized sights.Name (AsName bytes e f) = rw e (on_name spot been place size bytes (sized bytes e))
+  on_seen spot been place size symbol sized (sights.Number l) (AsNumber m e) = rw e (on_number spot been place size m)
+  on_seen spot been place size symbol sized sights.Minus (AsMinus e) = on_minus spot been place size symbol
+  on_seen spot been place size symbol sized sights.Open (AsOpen e) = on_open spot been place size symbol
+  on_seen spot been place size symbol sized sights.Close (AsClose e) = on_close spot been place size symbol
+  on_seen spot been place size symbol sized sights.Less (AsLess e) = on_less spot been place size symbol
+  on_seen spot been place size symbol sized sights.Greater (AsGreater e) = on_greater spot been place size symbol
+  on_seen spot been place size symbol sized sights.Other AsOther = rw (none_other n been.within spot) tt
+
+  pub same_limit : (spot to : Spot) (been : Been) (place size : ℕ) (symbol : Symbol) → ((bytes : List ℕ) → symbol ≡ Word bytes → length bytes ≡ size) → next_spot been.within spot (sight_of symbol) ≡ Some to
+      → passed_of (role_in n spot been (sight_of symbol) place) symbol ≡ passed_in n spot been (sight_of symbol) size
+  same_limit spot to been place size symbol sized e = subst (Same spot been (sight_of symbol) place symbol size) e (on_seen spot been place size symbol sized (sight_of symbol) (seen symbol))

@@ -1,10 +1,14 @@
--- A text has its lines written in one way at most.
+-- A text has its statements written in one way at most.
 use Rattle.std.proofs.Common.{◌≡◌, ◌≢◌, ℕ, ◌+◌, Bool, true, false, if◌then◌else◌, List, [], ◌∷◌, ◌++◌, map, Some, refl, sym, ap, subst, ◌∙◌, codes}
+use Rattle.std.proofs.lemmas.Slice.Eq.{bytes_eq-Decides}
+use Rattle.std.specs.Str.{bytes_eq}
 use Rattle.gm_model.specs.Symbols.{Symbol, Word, Numeral, Sign, Stray, End, Mark, symbols, marks_of}
 use Rattle.gm_model.specs.Reading.{Part, symbols_in}
-use Rattle.gm_script.specs.ScriptText.{ValueForm, Plain, Truth, Pair, Triple, LineForm, Role, Fixed, ApplyAt, RuleAt, Hook, Size, word, number, sign, the_end, spell_signed, spell_value, spell_values, spell_params, spell_lines, spelling, IsPlacedAt, ArePlaced, IsWritten}
+use Rattle.gm_model.specs.declared.word.Mask.{Mask}
+use Rattle.gm_text.specs.SchemaText.{no_labels, with_label}
+use Rattle.gm_script.specs.ScriptText.{ValueForm, Plain, Truth, Pair, Triple, LineForm, EachForm, StatForm, Applies, GoesOver, Says, Bare, Undo, Redo, Group, Close, Role, Fixed, StatAt, RuleAt, Hook, LabelBehind, Size, word, number, sign, the_end, bare_word, spell_signed, spell_value, spell_values, spell_params, spell_labels, spell_stats, spelling, IsPlacedAt, ArePlaced, IsWritten}
 use Rattle.gm_text.specs.ValueText.{Signed}
-use Rattle.gm_script.specs.Reading.{State, At, Ended, move, sight_of, role_in, role_at}
+use Rattle.gm_script.specs.Reading.{Been, State, At, Ended, first_state, move, sight_of, role_in, role_at}
 use Rattle.gm_script.specs.declared.sight.Sight.{Sight}
 use Rattle.gm_script.specs.declared.sight.Sight.TheVariants as sights
 use Rattle.gm_script.specs.declared.spot.Spot.{Spot}
@@ -13,47 +17,50 @@ use Rattle.gm_script.proofs.Leads.{Led, sentence_leads}
 
 -- ---- the parts are the same
 
-role_here : (spot : Spot) (k : ℕ) (sight : Sight) (place here : ℕ) → IsPlacedAt here (role_in spot k sight place) → role_in spot k sight place ≡ role_in spot k sight here
-role_here spots.Apply k sight place here is = ap RuleAt is
-role_here spots.Rule k (sights.Number n) place here is = refl
-role_here _ k sights.Apply place here is = ap (ApplyAt (k + 1)) is
-role_here _ k _ place here is = refl
+module _ (n : ℕ) where
+  role_here : (spot : Spot) (been : Been) (sight : Sight) (place here : ℕ) → IsPlacedAt here (role_in n spot been sight place) → role_in n spot been sight place ≡ role_in n spot been sight here
+  role_here spots.Apply been sight place here is = ap RuleAt is
+  role_here spots.Over been sight place here is = ap RuleAt is
+  role_here spots.Rule been (sights.Number m) place here is = refl
+  role_here spots.Orbit been (sights.Number m) place here is = refl
+  role_here _ been (sights.Begins head) place here is = ap (StatAt (been.begun + 1)) is
+  role_here _ been _ place here is = refl
 
-state_role_here : (state : State) (symbol : Symbol) (place here : ℕ) → IsPlacedAt here (role_at state symbol place) → role_at state symbol place ≡ role_at state symbol here
-state_role_here Ended symbol place here is = refl
-state_role_here (At spot k) symbol place here is = role_here spot k (sight_of symbol) place here is
+  state_role_here : (state : State) (symbol : Symbol) (place here : ℕ) → IsPlacedAt here (role_at n state symbol place) → role_at n state symbol place ≡ role_at n state symbol here
+  state_role_here Ended symbol place here is = refl
+  state_role_here (At spot been) symbol place here is = role_here spot been (sight_of symbol) place here is
 
-part_here : (state : State) (mark : Mark) (part : Part Role) (place : ℕ) → mark.symbol ≡ part.symbol → part.role ≡ role_at state part.symbol place → IsPlacedAt mark.place part.role
-    → part ≡ record { symbol = mark.symbol; role = role_at state mark.symbol mark.place }
-part_here state mark part place same role is =
-    let here : part.role ≡ role_at state part.symbol mark.place = role ∙ state_role_here state part.symbol place mark.place (subst (IsPlacedAt mark.place) role is) in
-    let at : part.role ≡ role_at state mark.symbol mark.place = here ∙ ap (λ (s : Symbol). role_at state s mark.place) (sym same) in
-    ap (λ (s : Symbol). let p : Part Role = record { symbol = s; role = part.role } in p) (sym same) ∙ ap (λ (r : Role). let p : Part Role = record { symbol = mark.symbol; role = r } in p) at
+  part_here : (state : State) (mark : Mark) (part : Part Role) (place : ℕ) → mark.symbol ≡ part.symbol → part.role ≡ role_at n state part.symbol place → IsPlacedAt mark.place part.role
+      → part ≡ record { symbol = mark.symbol; role = role_at n state mark.symbol mark.place }
+  part_here state mark part place same role is =
+      let here : part.role ≡ role_at n state part.symbol mark.place = role ∙ state_role_here state part.symbol place mark.place (subst (IsPlacedAt mark.place) role is) in
+      let at : part.role ≡ role_at n state mark.symbol mark.place = here ∙ ap (λ (s : Symbol). role_at n state s mark.place) (sym same) in
+      ap (λ (s : Symbol). let p : Part Role = record { symbol = s; role = part.role } in p) (sym same) ∙ ap (λ (r : Role). let p : Part Role = record { symbol = mark.symbol; role = r } in p) at
 
-same_parts : (state : State) (marks : List Mark) (ones others : List (Part Role)) → Led state ones → Led state others → symbols marks ≡ symbols_in ones → symbols marks ≡ symbols_in others
-    → ArePlaced marks ones → ArePlaced marks others → ones ≡ others
-same_parts state [] [] [] led led' e f placed placed' = refl
-same_parts state [] (part ∷ ones) others led led' e f placed placed' = absurd cc
-same_parts state [] [] (part ∷ others) led led' e f placed placed' = absurd cc
-same_parts state (mark ∷ marks) [] others led led' e f placed placed' = absurd cc
-same_parts state (mark ∷ marks) (one ∷ ones) [] led led' e f placed placed' = absurd cc
-same_parts state (mark ∷ marks) (one ∷ ones) (other ∷ others) (place, next, is, moves, led) (place', next', is', moves', led') e f placed placed' =
-    let head : mark.symbol ≡ one.symbol = cc e in
-    let head' : mark.symbol ≡ other.symbol = cc f in
-    let tail : symbols marks ≡ symbols_in ones = cc e in
-    let tail' : symbols marks ≡ symbols_in others = cc f in
-    let to : Some next' ≡ Some next = sym moves' ∙ ap (move state) (sym head') ∙ ap (move state) head ∙ moves in
-    let same_next : next' ≡ next = cc to in
-    let first : one ≡ other = part_here state mark one place head is placed.0 ∙ sym (part_here state mark other place' head' is' placed'.0) in
-    let rest : ones ≡ others = same_parts next marks ones others led (subst (λ s. Led s others) same_next led') tail tail' placed.1 placed'.1 in
-    ap (λ (p : Part Role). p ∷ ones) first ∙ ap (λ (ps : List (Part Role)). other ∷ ps) rest
+  same_parts : (state : State) (marks : List Mark) (ones others : List (Part Role)) → Led n state ones → Led n state others → symbols marks ≡ symbols_in ones → symbols marks ≡ symbols_in others
+      → ArePlaced marks ones → ArePlaced marks others → ones ≡ others
+  same_parts state [] [] [] led led' e f placed placed' = refl
+  same_parts state [] (part ∷ ones) others led led' e f placed placed' = absurd cc
+  same_parts state [] [] (part ∷ others) led led' e f placed placed' = absurd cc
+  same_parts state (mark ∷ marks) [] others led led' e f placed placed' = absurd cc
+  same_parts state (mark ∷ marks) (one ∷ ones) [] led led' e f placed placed' = absurd cc
+  same_parts state (mark ∷ marks) (one ∷ ones) (other ∷ others) (place, next, is, moves, led) (place', next', is', moves', led') e f placed placed' =
+      let head : mark.symbol ≡ one.symbol = cc e in
+      let head' : mark.symbol ≡ other.symbol = cc f in
+      let tail : symbols marks ≡ symbols_in ones = cc e in
+      let tail' : symbols marks ≡ symbols_in others = cc f in
+      let to : Some next' ≡ Some next = sym moves' ∙ ap (move state) (sym head') ∙ ap (move state) head ∙ moves in
+      let same_next : next' ≡ next = cc to in
+      let first : one ≡ other = part_here state mark one place head is placed.0 ∙ sym (part_here state mark other place' head' is' placed'.0) in
+      let rest : ones ≡ others = same_parts next marks ones others led (subst (λ s. Led n s others) same_next led') tail tail' placed.1 placed'.1 in
+      ap (λ (p : Part Role). p ∷ ones) first ∙ ap (λ (ps : List (Part Role)). other ∷ ps) rest
 
-written_parts : (text : List ℕ) (ones others : List LineForm) → IsWritten text ones → IsWritten text others → spelling ones ≡ spelling others
-written_parts text ones others one other =
-    same_parts (At spots.Start 0) (marks_of text) (spelling ones) (spelling others) (sentence_leads (spelling ones) (ones, one.form, refl)) (sentence_leads (spelling others) (others, other.form, refl))
-    one.read.spelled other.read.spelled one.placed other.placed
+  pub written_parts : (text : List ℕ) (ones others : List StatForm) → IsWritten n text ones → IsWritten n text others → spelling n ones ≡ spelling n others
+  written_parts text ones others one other =
+      same_parts first_state (marks_of text) (spelling n ones) (spelling n others) (sentence_leads n (spelling n ones) (ones, one.form, refl)) (sentence_leads n (spelling n others) (others, other.form, refl))
+      one.read.spelled other.read.spelled one.placed other.placed
 
--- ---- and so are the lines
+-- ---- and so are the statements
 
 abbrev tail_of : List (Part Role) → List (Part Role)
 tail_of [] = []
@@ -68,7 +75,7 @@ head_place [] = 0
 head_place (p ∷ ps) = place_of p.role
   where
     place_of : Role → ℕ
-    place_of (ApplyAt k place) = place
+    place_of (StatAt k place) = place
     place_of (RuleAt place) = place
     place_of _ = 0
 
@@ -239,14 +246,14 @@ value_same (Truth false) w r s e = false_same w r s e
 value_same (Pair x y) w r s e = pair_same x y w r s e
 value_same (Triple x y z) w r s e = triple_same x y z w r s e
 
--- ---- what stands behind a line
+-- ---- what stands behind a statement
 
 abbrev stop_part : Symbol → Role → Bool
 stop_part End Fixed = true
-stop_part (Word bytes) (ApplyAt k place) = true
+stop_part (Word bytes) (StatAt k place) = true
 stop_part _ _ = false
 
--- a line or the end stands there
+-- a statement or the end stands there
 abbrev stops : List (Part Role) → Bool
 stops [] = false
 stops (p ∷ ps) = stop_part p.symbol p.role
@@ -312,25 +319,144 @@ hooks_same (n ∷ hooks) (m ∷ others) r s one other e =
     let rest = hooks_same hooks others r s one other (ap tail_of e) in
     ((λ i. head i ∷ rest.0 i), rest.1)
 
-lines_stop : (k : ℕ) (lines : List LineForm) → stops (spell_lines k lines (the_end ∷ [])) ≡ true
-lines_stop k [] = refl
-lines_stop k (line ∷ lines) = refl
+-- ---- labels
 
-lines_same : (k : ℕ) (ones others : List LineForm) → spell_lines k ones (the_end ∷ []) ≡ spell_lines k others (the_end ∷ []) → ones ≡ others
-lines_same k [] [] e = refl
-lines_same k [] (other ∷ others) e = let heads : End ≡ Word (codes "apply") = ap head_symbol e in absurd cc
-lines_same k (one ∷ ones) [] e = let heads : Word (codes "apply") ≡ End = ap head_symbol e in absurd cc
-lines_same k (one ∷ ones) (other ∷ others) e =
-    let r = spell_lines (k + 1) ones (the_end ∷ []) in
-    let s = spell_lines (k + 1) others (the_end ∷ []) in
+abbrev is_label : Role → Bool
+is_label (LabelBehind n mask) = true
+is_label _ = false
+
+abbrev label_first : List (Part Role) → Bool
+label_first [] = false
+label_first (p ∷ ps) = is_label p.role
+
+labels_same : (n : ℕ) (mask : Mask) (labels others : List ℕ) (r s : List (Part Role)) → label_first r ≡ false → label_first s ≡ false → spell_labels n mask labels r ≡ spell_labels n mask others s → (labels ≡ others) × (r ≡ s)
+labels_same n mask [] [] r s one other e = (refl, e)
+labels_same n mask [] (m ∷ others) r s one other e = let both : false ≡ true = sym one ∙ ap label_first e in absurd cc
+labels_same n mask (m ∷ labels) [] r s one other e = let both : true ≡ false = ap label_first e ∙ other in absurd cc
+labels_same n mask (l ∷ labels) (m ∷ others) r s one other e =
+    let head : l ≡ m = ap (λ (ps : List (Part Role)). size_in (head_symbol ps)) e in
+    let behind : spell_labels n (with_label mask l) labels r ≡ spell_labels n (with_label mask l) others s = ap tail_of e ∙ ap (λ (k : ℕ). spell_labels n (with_label mask k) others s) (sym head) in
+    let rest = labels_same n (with_label mask l) labels others r s one other behind in
+    ((λ i. head i ∷ rest.0 i), rest.1)
+
+-- ---- statements
+
+stats_stop : (n k : ℕ) (forms : List StatForm) → stops (spell_stats n k forms (the_end ∷ [])) ≡ true
+stats_stop n k [] = refl
+stats_stop n k (Applies line ∷ forms) = refl
+stats_stop n k (GoesOver form ∷ forms) = refl
+stats_stop n k (Says bare place ∷ forms) = refl
+
+differ : (one other : List ℕ) → bytes_eq one other ≡ false → one ≡ other → ⊥
+differ one other apart e = let both : true ≡ false = sym ((bytes_eq-Decides one other).1 e) ∙ apart in absurd cc
+
+not_apply : (bare : Bare) → bare_word bare ≡ codes "apply" → ⊥
+not_apply Undo e = differ (codes "undo") (codes "apply") refl e
+not_apply Redo e = differ (codes "redo") (codes "apply") refl e
+not_apply Group e = differ (codes "group") (codes "apply") refl e
+not_apply Close e = differ (codes "end") (codes "apply") refl e
+
+not_each : (bare : Bare) → bare_word bare ≡ codes "each" → ⊥
+not_each Undo e = differ (codes "undo") (codes "each") refl e
+not_each Redo e = differ (codes "redo") (codes "each") refl e
+not_each Group e = differ (codes "group") (codes "each") refl e
+not_each Close e = differ (codes "end") (codes "each") refl e
+
+same_bare : (one other : Bare) → bare_word one ≡ bare_word other → one ≡ other
+same_bare Undo Undo e = refl
+same_bare Undo Redo e = absurd (differ (codes "undo") (codes "redo") refl e)
+same_bare Undo Group e = absurd (differ (codes "undo") (codes "group") refl e)
+same_bare Undo Close e = absurd (differ (codes "undo") (codes "end") refl e)
+same_bare Redo Undo e = absurd (differ (codes "redo") (codes "undo") refl e)
+same_bare Redo Redo e = refl
+same_bare Redo Group e = absurd (differ (codes "redo") (codes "group") refl e)
+same_bare Redo Close e = absurd (differ (codes "redo") (codes "end") refl e)
+same_bare Group Undo e = absurd (differ (codes "group") (codes "undo") refl e)
+same_bare Group Redo e = absurd (differ (codes "group") (codes "redo") refl e)
+same_bare Group Group e = refl
+same_bare Group Close e = absurd (differ (codes "group") (codes "end") refl e)
+same_bare Close Undo e = absurd (differ (codes "end") (codes "undo") refl e)
+same_bare Close Redo e = absurd (differ (codes "end") (codes "redo") refl e)
+same_bare Close Group e = absurd (differ (codes "end") (codes "group") refl e)
+same_bare Close Close e = refl
+
+-- the word that a statement begins with
+abbrev first_word : StatForm → List ℕ
+first_word (Applies line) = codes "apply"
+first_word (GoesOver form) = codes "each"
+first_word (Says bare place) = bare_word bare
+
+first_is : (n k : ℕ) (form : StatForm) (forms : List StatForm) (rest : List (Part Role)) → bytes_in (head_symbol (spell_stats n k (form ∷ forms) rest)) ≡ first_word form
+first_is n k (Applies line) forms rest = refl
+first_is n k (GoesOver form) forms rest = refl
+first_is n k (Says bare place) forms rest = refl
+
+no_more : (n k : ℕ) (form : StatForm) (forms : List StatForm) → the_end ∷ [] ≡ spell_stats n k (form ∷ forms) (the_end ∷ []) → ⊥
+no_more n k (Applies line) forms e = let heads : End ≡ Word (codes "apply") = ap head_symbol e in absurd cc
+no_more n k (GoesOver form) forms e = let heads : End ≡ Word (codes "each") = ap head_symbol e in absurd cc
+no_more n k (Says bare place) forms e = let heads : End ≡ Word (bare_word bare) = ap head_symbol e in absurd cc
+
+line_same : (k : ℕ) (one other : LineForm) (r s : List (Part Role)) → stops r ≡ true → stops s ≡ true
+    → word (StatAt k one.place) (codes "apply") ∷ word (RuleAt one.rule.place) one.rule.name ∷ (map (number Hook) one.hooks ++ spell_params one.values r)
+    ≡ word (StatAt k other.place) (codes "apply") ∷ word (RuleAt other.rule.place) other.rule.name ∷ (map (number Hook) other.hooks ++ spell_params other.values s) → (one ≡ other) × (r ≡ s)
+line_same k one other r s r_stops s_stops e =
     let place : one.place ≡ other.place = ap head_place e in
     let name : one.rule.name ≡ other.rule.name = ap (λ (ps : List (Part Role)). bytes_in (head_symbol (tail_of ps))) e in
     let name_place : one.rule.place ≡ other.rule.place = ap (λ (ps : List (Part Role)). head_place (tail_of ps)) e in
-    let hooks = hooks_same one.hooks other.hooks (spell_params one.values r) (spell_params other.values s) (no_hook one.values r (lines_stop (k + 1) ones)) (no_hook other.values s (lines_stop (k + 1) others)) (ap tail_of (ap tail_of e)) in
-    let values = params_same one.values other.values r s (lines_stop (k + 1) ones) (lines_stop (k + 1) others) hooks.1 in
-    let rest = lines_same (k + 1) ones others values.1 in
-    let line : one ≡ other = λ i. record { place = place i; rule = record { name = name i; place = name_place i }; hooks = hooks.0 i; values = values.0 i } in
-    λ i. line i ∷ rest i
+    let hooks = hooks_same one.hooks other.hooks (spell_params one.values r) (spell_params other.values s) (no_hook one.values r r_stops) (no_hook other.values s s_stops) (ap tail_of (ap tail_of e)) in
+    let values = params_same one.values other.values r s r_stops s_stops hooks.1 in
+    ((λ i. record { place = place i; rule = record { name = name i; place = name_place i }; hooks = hooks.0 i; values = values.0 i }), values.1)
 
-pub one_form : (text : List ℕ) (ones others : List LineForm) → IsWritten text ones → IsWritten text others → ones ≡ others
-one_form text ones others one other = lines_same 0 ones others (written_parts text ones others one other)
+each_same : (n k : ℕ) (one other : EachForm) (r s : List (Part Role)) → stops r ≡ true → stops s ≡ true
+    → word (StatAt k one.place) (codes "each") ∷ sign (codes "<") ∷ spell_labels n no_labels one.labels (sign (codes ">") ∷ word (RuleAt one.rule.place) one.rule.name ∷ spell_params one.values r)
+    ≡ word (StatAt k other.place) (codes "each") ∷ sign (codes "<") ∷ spell_labels n no_labels other.labels (sign (codes ">") ∷ word (RuleAt other.rule.place) other.rule.name ∷ spell_params other.values s) → (one ≡ other) × (r ≡ s)
+each_same n k one other r s r_stops s_stops e =
+    let place : one.place ≡ other.place = ap head_place e in
+    let labels = labels_same n no_labels one.labels other.labels (sign (codes ">") ∷ word (RuleAt one.rule.place) one.rule.name ∷ spell_params one.values r) (sign (codes ">") ∷ word (RuleAt other.rule.place) other.rule.name ∷ spell_params other.values s) refl refl (ap tail_of (ap tail_of e)) in
+    let named = ap tail_of labels.1 in
+    let name : one.rule.name ≡ other.rule.name = ap (λ (ps : List (Part Role)). bytes_in (head_symbol ps)) named in
+    let name_place : one.rule.place ≡ other.rule.place = ap head_place named in
+    let values = params_same one.values other.values r s r_stops s_stops (ap tail_of named) in
+    ((λ i. record { place = place i; labels = labels.0 i; rule = record { name = name i; place = name_place i }; values = values.0 i }), values.1)
+
+stats_same : (n k : ℕ) (ones others : List StatForm) → spell_stats n k ones (the_end ∷ []) ≡ spell_stats n k others (the_end ∷ []) → ones ≡ others
+stats_same n k [] [] e = refl
+stats_same n k [] (other ∷ others) e = absurd (no_more n k other others e)
+stats_same n k (one ∷ ones) [] e = absurd (no_more n k one ones (sym e))
+stats_same n k (one ∷ ones) (other ∷ others) e =
+    by (stats_same n (k + 1) ones others) one other refl refl
+  where
+    r : List (Part Role)
+    r = spell_stats n (k + 1) ones (the_end ∷ [])
+
+    s : List (Part Role)
+    s = spell_stats n (k + 1) others (the_end ∷ [])
+
+    -- both begin with the same word
+    firsts : first_word one ≡ first_word other
+    firsts = sym (first_is n k one ones (the_end ∷ [])) ∙ ap (λ (ps : List (Part Role)). bytes_in (head_symbol ps)) e ∙ first_is n k other others (the_end ∷ [])
+
+    joined : (x y : StatForm) → x ≡ y → ones ≡ others → x ∷ ones ≡ y ∷ others
+    joined x y p q = λ i. p i ∷ q i
+
+    by : (r ≡ s → ones ≡ others) → (x y : StatForm) → one ≡ x → other ≡ y → x ∷ ones ≡ y ∷ others
+    by behind (Applies line) (Applies other_line) f g =
+        let same = line_same (k + 1) line other_line r s (stats_stop n (k + 1) ones) (stats_stop n (k + 1) others) (rw (f, g) at e) in
+        joined (Applies line) (Applies other_line) (ap Applies same.0) (behind same.1)
+    by behind (GoesOver form) (GoesOver other_form) f g =
+        let same = each_same n (k + 1) form other_form r s (stats_stop n (k + 1) ones) (stats_stop n (k + 1) others) (rw (f, g) at e) in
+        joined (GoesOver form) (GoesOver other_form) (ap GoesOver same.0) (behind same.1)
+    by behind (Says bare place) (Says other_bare other_place) f g =
+        let both : word (StatAt (k + 1) place) (bare_word bare) ∷ r ≡ word (StatAt (k + 1) other_place) (bare_word other_bare) ∷ s = rw (f, g) at e in
+        let words : bare ≡ other_bare = same_bare bare other_bare (ap (λ (ps : List (Part Role)). bytes_in (head_symbol ps)) both) in
+        let places : place ≡ other_place = ap head_place both in
+        joined (Says bare place) (Says other_bare other_place) (λ i. Says (words i) (places i)) (behind (ap tail_of both))
+    by behind (Applies line) (GoesOver form) f g = absurd (differ (codes "apply") (codes "each") refl (rw (f, g) at firsts))
+    by behind (Applies line) (Says bare place) f g = let same : codes "apply" ≡ bare_word bare = rw (f, g) at firsts in absurd (not_apply bare (sym same))
+    by behind (GoesOver form) (Applies line) f g = absurd (differ (codes "each") (codes "apply") refl (rw (f, g) at firsts))
+    by behind (GoesOver form) (Says bare place) f g = let same : codes "each" ≡ bare_word bare = rw (f, g) at firsts in absurd (not_each bare (sym same))
+    by behind (Says bare place) (Applies line) f g = let same : bare_word bare ≡ codes "apply" = rw (f, g) at firsts in absurd (not_apply bare same)
+    by behind (Says bare place) (GoesOver form) f g = let same : bare_word bare ≡ codes "each" = rw (f, g) at firsts in absurd (not_each bare same)
+
+pub one_form : (n : ℕ) (text : List ℕ) (ones others : List StatForm) → IsWritten n text ones → IsWritten n text others → ones ≡ others
+one_form n text ones others one other = stats_same n 0 ones others (written_parts n text ones others one other)

@@ -1,10 +1,9 @@
--- How the lines that a text lists are compared with a book, one after another: the lines that they are, or the first disagreement.
+-- How the statements that a text lists are compared with a book, one after another: the statements that they are, or the first disagreement.
 use Rattle.std.specs.Prelude.{ℕ, ◌==◌, if◌then◌else◌, List, [], ◌∷◌, length, Option, Some, None, Result, Ok, Err, slice_get}
 use Rattle.std.specs.Option.{option_map, option_and_then}
 use Rattle.gm_model.specs.declared.rule.Param.{Param}
-use Rattle.gm_model.specs.declared.script.Line.{Line}
 use Rattle.gm_model.specs.declared.script.Stat.{Stat}
-use Rattle.gm_model.specs.declared.script.Stat.TheVariants.{Apply}
+use Rattle.gm_model.specs.declared.script.Stat.TheVariants as statements
 use Rattle.gm_model.specs.declared.value.Kind.{Kind}
 use Rattle.gm_model.specs.declared.value.Kind.TheVariants as kinds
 use Rattle.gm_model.specs.declared.value.Value.{Value}
@@ -12,7 +11,9 @@ use Rattle.gm_model.specs.declared.value.Value.TheVariants as values
 use Rattle.gm_model.specs.Tokens.{bytes_of}
 use Rattle.gm_model.specs.Rules.{Rule}
 use Rattle.gm_script.specs.ScriptText.{colour, index_of, Disagreement, UnknownRuleAt, HookCountAt, ParamsAt}
-use Rattle.gm_script.specs.Reading.{HeldLine}
+use Rattle.gm_script.specs.Reading.{HeldStat}
+use Rattle.gm_script.specs.declared.sight.Head.{Head}
+use Rattle.gm_script.specs.declared.sight.Head.TheVariants as heads
 
 -- the value of the kind, where it was held before its kind was known
 abbrev pub value_for : Kind → Value → Option Value
@@ -29,29 +30,53 @@ params_for [] [] = Some []
 params_for (param ∷ params) (value ∷ values) = option_and_then (λ v. option_map (λ vs. v ∷ vs) (params_for params values)) (value_for param.kind value)
 params_for _ _ = None
 
-abbrev pub line_with : HeldLine → ℕ → Option (List Value) → Result Line Disagreement
-line_with held k None = Err (ParamsAt held.place)
-line_with held k (Some params) = Ok (record { rule = k; hooks = held.hooks; params = params })
+-- how many hooks the statement gives at a time
+abbrev pub hooks_by : Head → HeldStat → ℕ
+hooks_by heads.Each held = 1
+hooks_by _ held = length held.hooks
 
--- a rule that a book lacks is one that a line can't name
-abbrev pub line_of_rule : HeldLine → ℕ → Option Rule → Result Line Disagreement
-line_of_rule held k None = Err (UnknownRuleAt held.name.start)
-line_of_rule held k (Some rule) =
-    if length held.hooks == length rule.hooks then line_with held k (params_for rule.params held.values) else Err (HookCountAt held.place)
+abbrev pub hooks_in : HeldStat → ℕ
+hooks_in held = hooks_by held.head held
 
-abbrev pub line_at : List Rule → HeldLine → Option ℕ → Result Line Disagreement
-line_at rules held None = Err (UnknownRuleAt held.name.start)
-line_at rules held (Some k) = line_of_rule held k (slice_get rules k)
+-- an `each`, or else a line
+abbrev pub stat_of : Head → HeldStat → ℕ → List Value → Stat
+stat_of heads.Each held k params = statements.Each held.labels k params
+stat_of _ held k params = statements.Apply (record { rule = k; hooks = held.hooks; params = params })
 
-abbrev pub line_for : List ℕ → List Rule → HeldLine → Result Line Disagreement
-line_for text rules held = line_at rules held (index_of rules (bytes_of text held.name))
+-- what a statement of the rule is, where its values fit
+abbrev pub stat_with : HeldStat → ℕ → Option (List Value) → Result Stat Disagreement
+stat_with held k None = Err (ParamsAt held.place)
+stat_with held k (Some params) = Ok (stat_of held.head held k params)
+
+-- a rule that a book lacks is one that a statement can't name
+abbrev pub stat_of_rule : HeldStat → ℕ → Option Rule → Result Stat Disagreement
+stat_of_rule held k None = Err (UnknownRuleAt held.name.start)
+stat_of_rule held k (Some rule) =
+    if hooks_in held == length rule.hooks then stat_with held k (params_for rule.params held.values) else Err (HookCountAt held.place)
+
+abbrev pub stat_at : List Rule → HeldStat → Option ℕ → Result Stat Disagreement
+stat_at rules held None = Err (UnknownRuleAt held.name.start)
+stat_at rules held (Some k) = stat_of_rule held k (slice_get rules k)
+
+abbrev pub named_stat : List ℕ → List Rule → HeldStat → Result Stat Disagreement
+named_stat text rules held = stat_at rules held (index_of rules (bytes_of text held.name))
+
+-- one word alone needs no book
+abbrev pub stat_by : Head → List ℕ → List Rule → HeldStat → Result Stat Disagreement
+stat_by heads.Undo text rules held = Ok statements.Undo
+stat_by heads.Redo text rules held = Ok statements.Redo
+stat_by heads.Group text rules held = Ok statements.Group
+stat_by heads.End text rules held = Ok statements.End
+stat_by _ text rules held = named_stat text rules held
+
+abbrev pub stat_for : List ℕ → List Rule → HeldStat → Result Stat Disagreement
+stat_for text rules held = stat_by held.head text rules held
 
 infixl 10 ◌>>=◌
 abbrev pub ◌>>=◌ : {A B : Type 0} → Result A Disagreement → (A → Result B Disagreement) → Result B Disagreement
 (Ok x) >>= f = f x
 (Err fault) >>= f = Err fault
 
--- the statements of the lines
-abbrev pub stats_for : List ℕ → List Rule → List HeldLine → Result (List Stat) Disagreement
+abbrev pub stats_for : List ℕ → List Rule → List HeldStat → Result (List Stat) Disagreement
 stats_for text rules [] = Ok []
-stats_for text rules (held ∷ others) = line_for text rules held >>= λ line. stats_for text rules others >>= λ stats. Ok (Apply line ∷ stats)
+stats_for text rules (held ∷ others) = stat_for text rules held >>= λ stat. stats_for text rules others >>= λ stats. Ok (stat ∷ stats)

@@ -3,3 +3,4 @@ pub mod Reading
 pub mod Comparing
 pub mod Faults
 pub mod SoFar
+pub mod Agreement

@@ -1,25 +1,27 @@
--- What was read of a text so far, and the lines that were compared.
-use Rattle.std.specs.Prelude.{◌≡◌, ℕ, List, ◌++◌, Result, Ok, Err}
+-- What was read of a text so far, and the statements that were compared.
+use Rattle.std.specs.Prelude.{◌≡◌, ◌≤◌, ℕ, List, ◌++◌, Result, Ok, Err}
 use Rattle.gm_model.specs.declared.script.Stat.{Stat}
 use Rattle.gm_model.specs.Rules.{Rule}
 use Rattle.gm_model.specs.Tokens.{Item}
 use Rattle.gm_script.specs.Comparing.{stats_for}
 use Rattle.gm_script.specs.Faults.{Compares}
-use Rattle.gm_script.specs.Reading.{HeldLine, Held, Stop, read_from, lines_of, IsInText}
+use Rattle.gm_script.specs.Reading.{HeldStat, Held, Stop, read_from, stats_of, IsInText}
 use Rattle.gm_script.specs.declared.fault.ScriptFault.{ScriptFault}
 
 -- what all come to, where these have ended before
-abbrev pub behind : List HeldLine → Result (List HeldLine) Stop → Result (List HeldLine) Stop
+abbrev pub behind : List HeldStat → Result (List HeldStat) Stop → Result (List HeldStat) Stop
 behind before (Ok others) = Ok (before ++ others)
 behind before (Err stop) = Err stop
 
--- what was compared is what the lines that are held come to
-abbrev pub Holds : List ℕ → List Rule → Result (List Stat) ScriptFault → List HeldLine → Type 0
+-- what was compared is what the statements that are held come to
+abbrev pub Holds : List ℕ → List Rule → Result (List Stat) ScriptFault → List HeldStat → Type 0
 Holds text rules compared helds = Compares (λ (stats : List Stat). stats) compared (stats_for text rules helds)
 
--- these lines have ended before what is held, and are compared
-pub record IsSoFar (text : List ℕ) (rules : List Rule) (held : Held) (items : List Item) (compared : Result (List Stat) ScriptFault) : Type 0 where
-  pub before : List HeldLine
-  pub read : behind before (read_from text held items) ≡ lines_of text
+-- these statements have ended before what is held, and are compared
+pub record IsSoFar (n : ℕ) (text : List ℕ) (rules : List Rule) (held : Held) (items : List Item) (compared : Result (List Stat) ScriptFault) : Type 0 where
+  -- labels go up to a number that is not great
+  pub low : n ≤ 7
+  pub before : List HeldStat
+  pub read : behind before (read_from n text held items) ≡ stats_of n text
   pub holds : Holds text rules compared before
-  pub named : IsInText text held.line.name
+  pub named : IsInText text held.stat.name

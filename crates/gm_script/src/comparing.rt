@@ -1,13 +1,15 @@
-//! The lines of a text, compared with a book one after another.
+//! The statements of a text, compared with a book one after another.
 ghost use Rattle.std.specs.Prelude.{◌≡◌, ◌++◌, ◌∷◌, List, [], Some, map, OnOk, IfOk, IfErr};
 ghost use Rattle.gm_model.specs.Rules.{rule_of};
-ghost use Rattle.gm_script.specs.Comparing.{line_of_rule, line_for, stats_for};
+ghost use Rattle.gm_script.specs.Comparing as comparing;
+ghost use Rattle.gm_script.specs.Comparing.{stat_for, stats_for};
 ghost use Rattle.gm_script.specs.Faults.{Compares};
-ghost use Rattle.gm_script.specs.Reading.{HeldLine, IsInText};
+ghost use Rattle.gm_script.specs.Reading.{HeldStat, IsInText};
 
 use crate::fault::ScriptFault;
-use crate::reader::{DraftLine, MOST_LINES};
+use crate::reader::{Draft, MOST_LINES};
 use crate::rules::RulesByName;
+use crate::sight::Head;
 use crate::values::params_of;
 use gm_model::{Items, Line, RuleTable, Stat};
 use std::alloc::Global;
@@ -16,36 +18,57 @@ use std::marker::Model;
 /// The bytes of the shortest line, `apply a`, and a blank behind it.
 const LEAST_LINE_BYTES: usize = 8;
 
-/// The line, whose rule has this index.
-fn line_with(draft: DraftLine, index: u16, rule: &RuleTable) -> Result<Line, ScriptFault>
-    ensures { Compares (λ line. line) result (line_of_rule draft index (Some (rule_of rule.now))) }
+/// The statement of the rule with this index.
+fn stat_of_rule(draft: Draft, index: u16, rule: &RuleTable) -> Result<Stat, ScriptFault>
+    ensures { Compares (λ stat. stat) result (comparing.stat_of_rule draft index (Some (rule_of rule.now))) }
 {
     let place = draft.place;
-    if draft.hooks.len() != rule.hooks.as_slice().len() {
+    if draft.hook_count() != rule.hooks.as_slice().len() {
         return Err(ScriptFault::HookCount { place });
     }
     let Some(params) = params_of(draft.values, rule.params.as_slice()) else {
         return Err(ScriptFault::Params { place });
     };
-    Ok(Line {
-        rule: index,
-        hooks: Items::new(draft.hooks),
-        params: Items::new(params),
+    let params = Items::new(params);
+    Ok(match draft.head {
+        Head::Each => Stat::Each {
+            mask: draft.labels,
+            rule: index,
+            params,
+        },
+        _ => Stat::Apply(Line {
+            rule: index,
+            hooks: Items::new(draft.hooks),
+            params,
+        }),
     })
 }
 
-fn line_of(bytes: &[u8], draft: DraftLine, rules: &RulesByName<'_>) -> Result<Line, ScriptFault>
+fn named_stat(bytes: &[u8], draft: Draft, rules: &RulesByName<'_>) -> Result<Stat, ScriptFault>
     requires in_text { IsInText bytes.now draft.name }
-    ensures { Compares (λ line. line) result (line_for bytes.now (map rule_of rules.now) draft) }
+    ensures { Compares (λ stat. stat) result (comparing.named_stat bytes.now (map rule_of rules.now) draft) }
 {
     let name = draft.name;
     match rules.index_of(&bytes[name.start..name.end]) {
-        Some(index) => line_with(draft, index, &rules.as_slice()[index as usize]),
+        Some(index) => stat_of_rule(draft, index, &rules.as_slice()[index as usize]),
         None => Err(ScriptFault::UnknownRule { place: name.start }),
     }
 }
 
-/// What comparing lines with a book came to so far: their statements, or the first disagreement.
+fn stat_of(bytes: &[u8], draft: Draft, rules: &RulesByName<'_>) -> Result<Stat, ScriptFault>
+    requires in_text { IsInText bytes.now draft.name }
+    ensures { Compares (λ stat. stat) result (stat_for bytes.now (map rule_of rules.now) draft) }
+{
+    match draft.head {
+        Head::Undo => Ok(Stat::Undo),
+        Head::Redo => Ok(Stat::Redo),
+        Head::Group => Ok(Stat::Group),
+        Head::End => Ok(Stat::End),
+        Head::Apply | Head::Each => named_stat(bytes, draft, rules),
+    }
+}
+
+/// What comparing statements with a book came to so far: they themselves, or the first disagreement.
 #[derive(Drop)]
 pub(crate) struct Compared {
     stats: Vec<Stat>,
@@ -64,7 +87,7 @@ impl Model for Compared {
 }
 
 impl Compared {
-    /// No line is compared. There is room for the lines of any text of this length.
+    /// Nothing is compared. There is room for the lines of any text of this length.
     pub(crate) fn new(alloc: Global, length: usize) -> Result<Compared, ScriptFault>
         ensures ok { IfOk result (λ compared. compared ≡ Ok []) }
         ensures err { IfErr result (λ fault. fault ≡ ScriptFault.OutOfMemory) }
@@ -77,29 +100,29 @@ impl Compared {
         })
     }
 
-    /// Compares a further line. Behind one that disagrees none is kept.
+    /// Compares a further statement. Behind one that disagrees none is kept.
     pub(crate) fn add(
         &mut self,
         bytes: &[u8],
-        draft: DraftLine,
+        draft: Draft,
         rules: &RulesByName<'_>,
     ) -> Result<(), ScriptFault>
         requires in_text { IsInText bytes.now draft.name }
-        ensures ok { (before : List HeldLine) → Compares (λ stats. stats) self.old (stats_for bytes.now (map rule_of rules.now) before)
+        ensures ok { (before : List HeldStat) → Compares (λ stats. stats) self.old (stats_for bytes.now (map rule_of rules.now) before)
             → OnOk result (Compares (λ stats. stats) self.new (stats_for bytes.now (map rule_of rules.now) (before ++ draft ∷ []))) }
         ensures err { IfErr result (λ fault. fault ≡ ScriptFault.OutOfMemory) }
     {
         if self.fault.is_some() {
             return Ok(());
         }
-        match line_of(bytes, draft, rules) {
-            Ok(line) => self.stats.push(Stat::Apply(line))?,
+        match stat_of(bytes, draft, rules) {
+            Ok(stat) => self.stats.push(stat)?,
             Err(fault) => self.fault = Some(fault),
         }
         Ok(())
     }
 
-    /// The statements, where no line disagrees.
+    /// The statements, where none disagrees.
     pub(crate) fn finish(self) -> Result<Vec<Stat>, ScriptFault>
         ensures stats { IfOk result (λ stats. self ≡ Ok stats.items) }
         ensures fault { IfErr result (λ fault. self ≡ Err fault) }

@@ -15,13 +15,17 @@ pub enum ScriptFault {
     /// What stands at the place passes a limit.
     #[error("a limit is passed")]
     Limit { what: LimitKind, place: usize },
+    /// The label at the place was mentioned before in its orbit.
+    #[error("a label is mentioned twice")]
+    Twice { place: usize },
     /// The book has no rule with the name that stands at the place.
     #[error("the book has no such rule")]
     UnknownRule { place: usize },
-    /// The line that begins at the place has not as many hooks as its rule.
+    /// The statement that begins at the place has not as many hooks as its rule, which for an `each`
+    /// is one.
     #[error("the rule has another number of hooks")]
     HookCount { place: usize },
-    /// The values of the line that begins at the place are not those of its rule's parameters.
+    /// The values of the statement that begins at the place are not those of its rule's parameters.
     #[error("the rule has other parameters")]
     Params { place: usize },
     /// Memory was wanting, which says nothing of the text.
@@ -58,6 +62,7 @@ impl From<TextFault> for ScriptFault {
         match fault {
             TextFault::Text { place } => ScriptFault::Text { place },
             TextFault::Limit { what, place } => ScriptFault::Limit { what, place },
+            TextFault::Twice { place } => ScriptFault::Twice { place },
             TextFault::OutOfMemory => ScriptFault::OutOfMemory,
         }
     }

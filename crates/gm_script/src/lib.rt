@@ -1,4 +1,4 @@
-//! Scripts: their texts, read to lines under a book of rules.
+//! Scripts: their texts, read to statements under a book of rules.
 #![tactic(auto)]
 
 mod comparing;
@@ -12,5 +12,5 @@ mod spot;
 mod values;
 
 pub use fault::ScriptFault;
-pub use laws::{one_first_fault_at_most, one_script_at_most, values_fit_their_parameters};
+pub use laws::{one_first_fault_at_most, one_script_at_most, scripts_agree_with_their_books};
 pub use reading::read_script;

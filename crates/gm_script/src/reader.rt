@@ -1,13 +1,16 @@
 //! What a script says so far, as its tokens are read one after another.
-ghost use Rattle.std.specs.Prelude.{◌≡◌, ◌-◌, ◌<◌, ◌≤◌, OnOk, IfErr, if◌then◌else◌};
+ghost use Rattle.std.specs.Prelude.{◌≡◌, ◌-◌, ◌<◌, ◌≤◌, ℕ, Some, None, OnOk, IfErr, if◌then◌else◌};
 ghost use Rattle.gm_model.specs.declared.token.Token.{Token};
+ghost use Rattle.gm_text.specs.SchemaText.{LimitOf};
 ghost use Rattle.gm_text.specs.ValueText as numbers;
+ghost use Rattle.gm_script.specs.Comparing as comparing;
 ghost use Rattle.gm_script.specs.Reading as reading;
-ghost use Rattle.gm_script.specs.Reading.{Gives};
+ghost use Rattle.gm_script.specs.Reading.{Gives, passed_of};
 
-use crate::sight::Sight;
+use crate::sight::{Head, Sight};
 use crate::spot::Spot;
-use gm_model::{LimitKind, MOST_NAMES, Token, Value};
+use gm_model::{LimitKind, MOST_NAMES, Mask, Token, Value};
+use gm_text::with_label;
 use std::alloc::{AllocFailed, Global};
 use std::marker::Model;
 use std::mem;
@@ -23,6 +26,8 @@ pub(crate) enum TextFault {
     Text { place: usize },
     /// What stands at the place passes a limit.
     Limit { what: LimitKind, place: usize },
+    /// The label at the place was mentioned before in its orbit.
+    Twice { place: usize },
     OutOfMemory,
 }
 
@@ -36,46 +41,62 @@ impl<T: Drop> From<AllocFailed<T>> for TextFault {
     }
 }
 
-/// A line as it is written, before its rule is looked up. Three numbers are held as a vector.
+/// A statement as it is written, before its rule is looked up. Three numbers are held as a vector.
 #[derive(Drop)]
-pub(crate) struct DraftLine {
-    /// Where its word `apply` stands.
+pub(crate) struct Draft {
+    /// Where its first word stands.
     pub place: usize,
+    pub head: Head,
     pub name: Token,
     pub hooks: Vec<u32>,
+    pub labels: Mask,
     pub values: Vec<Value>,
 }
 
-impl Model for DraftLine {
-    ghost use Rattle.gm_script.specs.Reading.{HeldLine};
+impl Model for Draft {
+    ghost use Rattle.gm_script.specs.Reading.{HeldStat};
 
-    ghost Value = { HeldLine };
+    ghost Value = { HeldStat };
 
-    ghost view = { λ line. record { place = line.place; name = line.name; hooks = line.hooks.items; values = line.values.items } };
+    ghost view = { λ stat. record { place = stat.place; head = stat.head; name = stat.name; hooks = stat.hooks.items; labels = stat.labels; values = stat.values.items } };
 }
 
-impl DraftLine {
-    /// The line whose word `apply` is this token.
-    fn new(alloc: Global, apply: Token) -> DraftLine
-        ensures { result ≡ reading.new_line apply }
+impl Draft {
+    /// The statement whose first word is this token.
+    fn new(alloc: Global, head: Head, token: Token) -> Draft
+        ensures { result ≡ reading.new_stat head token }
     {
-        DraftLine {
-            place: apply.start,
-            name: apply,
+        Draft {
+            place: token.start,
+            head,
+            name: token,
             hooks: Vec::new(alloc),
+            labels: Mask { bits: 0 },
             values: Vec::new(alloc),
+        }
+    }
+
+    /// How many hooks it gives at a time.
+    pub(crate) fn hook_count(&self) -> usize
+        ensures { result ≡ comparing.hooks_in self.now }
+    {
+        match self.head {
+            Head::Each => 1,
+            _ => self.hooks.len(),
         }
     }
 }
 
-/// The line of a script that is being read.
+/// The statement of a script that is being read.
 #[derive(Drop)]
 pub(crate) struct Reader {
     alloc: Global,
     spot: Spot,
-    /// How many lines have begun.
+    /// How many statements have begun.
     begun: usize,
-    line: DraftLine,
+    /// Whether a group is open.
+    within: bool,
+    stat: Draft,
     /// The numbers of the vector that is being read.
     x: i64,
     y: i64,
@@ -87,7 +108,7 @@ impl Model for Reader {
 
     ghost Value = { Held };
 
-    ghost view = { λ reader. record { spot = reader.spot; begun = reader.begun; line = reader.line; x = reader.x; y = reader.y; z = reader.z } };
+    ghost view = { λ reader. record { spot = reader.spot; begun = reader.begun; within = reader.within; stat = reader.stat; x = reader.x; y = reader.y; z = reader.z } };
 }
 
 impl Reader {
@@ -99,87 +120,96 @@ impl Reader {
             alloc,
             spot: Spot::Start,
             begun: 0,
-            line: DraftLine::new(alloc, NO_TOKEN),
+            within: false,
+            stat: Draft::new(alloc, Head::Apply, NO_TOKEN),
             x: 0,
             y: 0,
             z: 0,
         }
     }
 
-    /// The line that ends where this is seen next, if one does. It is held no longer, and what is
-    /// read next is the same.
-    pub(crate) fn end_line(&mut self, sight: Sight) -> Option<DraftLine>
-        ensures ended { result ≡ reading.ended_by self.old.spot sight self.old.line }
-        ensures next { (token : Token) → reading.taken_at sight token self.new ≡ reading.taken_at sight token self.old }
+    /// The statement that ends where this is seen next, if one does. It is held no longer, and what
+    /// is read next is the same.
+    pub(crate) fn end_stat(&mut self, sight: Sight) -> Option<Draft>
+        ensures ended { result ≡ reading.ended_by self.old.spot sight self.old.stat }
+        ensures next { (top : ℕ) (token : Token) → reading.taken_at top sight token self.new ≡ reading.taken_at top sight token self.old }
     {
         match (sight, self.spot) {
-            (Sight::Apply, Spot::Start | Spot::Apply) => None,
-            (Sight::Apply, _) => {
-                let none = DraftLine::new(self.alloc, NO_TOKEN);
-                Some(mem::replace(&mut self.line, none))
+            (Sight::Begins(_), Spot::Start | Spot::Apply | Spot::Over) => None,
+            (Sight::Begins(_), _) => {
+                let none = Draft::new(self.alloc, Head::Apply, NO_TOKEN);
+                Some(mem::replace(&mut self.stat, none))
             }
             _ => None,
         }
     }
 
-    /// Reads a token, in which this is seen.
-    pub(crate) fn take(&mut self, sight: Sight, token: Token) -> Result<(), TextFault>
-        requires { token.start ≤ token.end }
-        ensures { Gives (λ _. self.new) result (reading.taken_at sight token self.old) }
+    /// Reads a token, in which this is seen, where labels go up to `top`.
+    pub(crate) fn take(&mut self, top: u8, sight: Sight, token: Token) -> Result<(), TextFault>
+        requires order { token.start ≤ token.end }
+        requires top { top ≤ 7 }
+        ensures { Gives (λ _. self.new) result (reading.taken_at top sight token self.old) }
     {
         let place = token.start;
-        let Some(spot) = self.spot.next(sight) else {
+        let Some(spot) = self.spot.next(self.within, sight) else {
             return Err(TextFault::Text { place });
         };
-        if let Some(what) = self.limit(sight, token) {
-            return Err(TextFault::Limit { what, place });
+        if let Some(passed) = self.passed(top, sight, token) {
+            return Err(passed.fault_at(place));
         }
-        self.hold(sight, token)?;
+        self.hold(top, sight, token)?;
         self.spot = spot;
         Ok(())
     }
 
-    /// The last line, if there is one, where the text ends at this place.
-    pub(crate) fn finish(self, place: usize) -> Result<Option<DraftLine>, TextFault>
-        ensures { Gives (λ line. line) result (reading.finished self.spot place self) }
+    /// The last statement, if there is one, where the text ends at this place.
+    pub(crate) fn finish(self, place: usize) -> Result<Option<Draft>, TextFault>
+        ensures { Gives (λ stat. stat) result (reading.finished place self) }
     {
-        let Reader { spot, line, .. } = self;
-        if !spot.can_end() {
+        let Reader {
+            spot,
+            within,
+            stat,
+            ..
+        } = self;
+        if within || !spot.is_whole() {
             return Err(TextFault::Text { place });
         }
         Ok(if spot == Spot::Start {
             None
         } else {
-            Some(line)
+            Some(stat)
         })
     }
 
-    fn limit(&self, sight: Sight, token: Token) -> Option<LimitKind>
-        requires { token.start ≤ token.end }
-        ensures { result ≡ reading.limit_in self.now.spot self.now.begun sight (token.end - token.start) }
+    /// What the token passes, where it can stand.
+    fn passed(&self, top: u8, sight: Sight, token: Token) -> Option<Passing>
+        requires order { token.start ≤ token.end }
+        requires top { top ≤ 7 }
+        ensures { passed_of result ≡ reading.passed_in top self.now.spot (reading.been_of self.now) sight (token.end - token.start) }
     {
         match sight {
-            Sight::Number(n) => number_limit(self.spot, n),
-            Sight::Apply if self.spot != Spot::Apply => {
-                limit_where(self.begun >= MOST_LINES, LimitKind::Lines)
-            }
-            _ => limit_where(
-                self.spot == Spot::Apply && token.end - token.start > MOST_NAME_BYTES,
+            Sight::Number(n) => number_passes(top, self.spot, self.stat.labels, n),
+            _ if self.spot.wants_name() => limit_where(
+                token.end - token.start > MOST_NAME_BYTES,
                 LimitKind::Name,
             ),
+            Sight::Begins(_) => limit_where(self.begun >= MOST_LINES, LimitKind::Lines),
+            _ => None,
         }
     }
 
     /// Holds what is seen, where it can stand.
-    fn hold(&mut self, sight: Sight, token: Token) -> Result<(), TextFault>
-        requires { reading.limit_in self.old.spot self.old.begun sight (token.end - token.start) ≡ None }
+    fn hold(&mut self, top: u8, sight: Sight, token: Token) -> Result<(), TextFault>
+        requires top { top ≤ 7 }
+        requires good { reading.passed_in top self.old.spot (reading.been_of self.old) sight (token.end - token.start) ≡ None }
         ensures ok { OnOk result (self.new ≡ reading.hold self.old.spot sight token self.old) }
         ensures err { IfErr result (λ fault. fault ≡ TextFault.OutOfMemory) }
     {
         match sight {
             Sight::Name => self.name(token),
-            Sight::Apply => self.apply(token),
-            Sight::Number(n) => self.number(n)?,
+            Sight::Begins(head) => self.word(top, head, token),
+            Sight::Number(n) => self.number(top, n)?,
             Sight::Truth(b) => self.value(Value::Bool(b))?,
             Sight::Close => self.vector()?,
             _ => {}
@@ -187,54 +217,54 @@ impl Reader {
         Ok(())
     }
 
-    /// Holds the word `apply`, which can be a rule's name.
-    fn apply(&mut self, token: Token)
-        requires { reading.limit_in self.old.spot self.old.begun Sight.Apply (token.end - token.start) ≡ None }
-        ensures { self.new ≡ reading.hold_apply self.old.spot token self.old }
+    /// Holds a word that begins statements, which can be a rule's name.
+    fn word(&mut self, top: u8, head: Head, token: Token)
+        requires { reading.passed_in top self.old.spot (reading.been_of self.old) (Sight.Begins head) (token.end - token.start) ≡ None }
+        ensures { self.new ≡ reading.hold_head self.old.spot head token self.old }
     {
-        match self.spot {
-            Spot::Apply => self.name(token),
-            _ => self.begin(token),
+        if self.spot.wants_name() {
+            self.name(token);
+        } else {
+            self.begin(head, token);
         }
     }
 
-    fn begin(&mut self, apply: Token)
+    fn begin(&mut self, head: Head, token: Token)
         requires { self.old.begun < 100000 }
-        ensures { self.new ≡ reading.begun apply self.old }
+        ensures { self.new ≡ reading.begun head token self.old }
     {
         self.begun += 1;
-        self.line = DraftLine::new(self.alloc, apply);
+        self.within = match head {
+            Head::Group => true,
+            Head::End => false,
+            _ => self.within,
+        };
+        self.stat = Draft::new(self.alloc, head, token);
     }
 
     fn name(&mut self, name: Token)
         ensures { self.new ≡ reading.named name self.old }
     {
-        self.line.name = name;
+        self.stat.name = name;
     }
 
-    /// Holds a hook, or a number of a value.
-    fn number(&mut self, n: u64) -> Result<(), TextFault>
-        requires { reading.limit_in self.old.spot self.old.begun (Sight.Number n) 0 ≡ None }
+    /// Holds a hook, a label, or a number of a value.
+    fn number(&mut self, top: u8, n: u64) -> Result<(), TextFault>
+        requires top { top ≤ 7 }
+        requires good { reading.number_passes top self.old.spot self.old.stat.labels n ≡ None }
         ensures ok { OnOk result (self.new ≡ reading.hold_number self.old.spot n self.old) }
         ensures err { IfErr result (λ fault. fault ≡ TextFault.OutOfMemory) }
     {
         let minus = self.spot.is_minus();
         match self.spot {
-            Spot::Rule => self.hook(n as u32),
-            Spot::Open | Spot::OpenMinus => {
-                self.x = signed(minus, n);
-                Ok(())
-            }
-            Spot::First | Spot::FirstMinus => {
-                self.y = signed(minus, n);
-                Ok(())
-            }
-            Spot::Second | Spot::SecondMinus => {
-                self.z = signed(minus, n);
-                Ok(())
-            }
-            _ => self.value(Value::Int(signed(minus, n))),
+            Spot::Rule => return self.hook(n as u32),
+            Spot::Orbit => self.label(n as u8),
+            Spot::Open | Spot::OpenMinus => self.x = signed(minus, n),
+            Spot::First | Spot::FirstMinus => self.y = signed(minus, n),
+            Spot::Second | Spot::SecondMinus => self.z = signed(minus, n),
+            _ => return self.value(Value::Int(signed(minus, n))),
         }
+        Ok(())
     }
 
     /// Holds the vector whose numbers are read.
@@ -253,16 +283,43 @@ impl Reader {
         ensures ok { OnOk result (self.new ≡ reading.with_hook hook self.old) }
         ensures err { IfErr result (λ fault. fault ≡ TextFault.OutOfMemory) }
     {
-        self.line.hooks.push(hook)?;
+        self.stat.hooks.push(hook)?;
         Ok(())
+    }
+
+    fn label(&mut self, label: u8)
+        requires { label ≤ 7 }
+        ensures { self.new ≡ reading.with_orbit label self.old }
+    {
+        self.stat.labels = with_label(self.stat.labels, label);
     }
 
     fn value(&mut self, value: Value) -> Result<(), TextFault>
         ensures ok { OnOk result (self.new ≡ reading.with_value value self.old) }
         ensures err { IfErr result (λ fault. fault ≡ TextFault.OutOfMemory) }
     {
-        self.line.values.push(value)?;
+        self.stat.values.push(value)?;
         Ok(())
+    }
+}
+
+/// What a token passes.
+#[derive(Clone, Copy)]
+enum Passing {
+    Limit(LimitKind),
+    /// That an orbit mentions a label once.
+    Mention,
+}
+
+impl Passing {
+    /// The fault, where the token stands at this place.
+    fn fault_at(self, place: usize) -> TextFault
+        ensures { result ≡ reading.fault_of self place }
+    {
+        match self {
+            Passing::Limit(what) => TextFault::Limit { what, place },
+            Passing::Mention => TextFault::Twice { place },
+        }
     }
 }
 
@@ -272,18 +329,38 @@ const NO_TOKEN: Token = Token {
     end: 0,
 };
 
-fn limit_where(passed: bool, what: LimitKind) -> Option<LimitKind>
-    ensures { result ≡ (if passed then Some what else None) }
+fn limit_where(passed: bool, what: LimitKind) -> Option<Passing>
+    ensures { passed_of result ≡ (if passed then Some (LimitOf what) else None) }
 {
-    if passed { Some(what) } else { None }
+    if passed {
+        Some(Passing::Limit(what))
+    } else {
+        None
+    }
 }
 
-fn number_limit(spot: Spot, n: u64) -> Option<LimitKind>
-    ensures { result ≡ reading.number_limit spot n }
+fn number_passes(top: u8, spot: Spot, labels: Mask, n: u64) -> Option<Passing>
+    requires { top ≤ 7 }
+    ensures { passed_of result ≡ reading.number_passes top spot labels n }
 {
     match spot {
         Spot::Rule => limit_where(n >= u64::from(MOST_NAMES), LimitKind::DartName),
+        Spot::Orbit => label_passes(top, labels, n),
         _ => limit_where(n > greatest(spot.is_minus()), LimitKind::Integer),
+    }
+}
+
+fn label_passes(top: u8, labels: Mask, label: u64) -> Option<Passing>
+    requires { top ≤ 7 }
+    ensures { passed_of result ≡ reading.label_passes top labels label }
+{
+    if label > u64::from(top) {
+        return Some(Passing::Limit(LimitKind::Label));
+    }
+    if labels.has(label as u8) {
+        Some(Passing::Mention)
+    } else {
+        None
     }
 }
 

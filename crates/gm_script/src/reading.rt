@@ -1,7 +1,7 @@
 //! The text of a script, read from left to right up to its first fault.
 //!
-//! The reader knows the grammar and its limits alone. Each line is compared with the book as soon
-//! as it is whole, and where one disagrees, the text is read on: a fault of the text comes first.
+//! The reader knows the grammar and its limits alone. Each statement is compared with the book as
+//! soon as it is whole, and where one disagrees, the text is read on: a fault of the text comes first.
 ghost use Rattle.std.specs.Prelude.{◌≡◌, ◌∷◌, [], length, map, OnOk, IfOk, IfErr, MatchOption};
 ghost use Rattle.gm_model.specs.Rules.{rule_of};
 ghost use Rattle.gm_model.specs.Tokens.{EndAt};
@@ -16,7 +16,7 @@ use crate::fault::ScriptFault;
 use crate::reader::{Reader, TextFault};
 use crate::rules::RulesByName;
 use crate::sight::sight_of;
-use gm_model::{Book, Items, Script, Stat};
+use gm_model::{Book, Dim, Items, Script, Stat};
 use gm_text::{Lexer, Token};
 use std::alloc::Global;
 
@@ -33,39 +33,42 @@ fn next_token(lexer: &mut Lexer<'_>) -> Result<Option<Token>, TextFault>
     }
 }
 
-/// Reads the text to its end, and compares each line but the last.
+/// Reads the text to its end, and compares each statement but the last.
 fn read_tokens(
     bytes: &[u8],
+    dim: Dim,
     rules: &RulesByName<'_>,
     reader: &mut Reader,
     compared: &mut Compared,
 ) -> Result<(), ScriptFault>
     requires reader { reader.old ≡ nothing }
     requires compared { compared.old ≡ Ok [] }
-    ensures so_far { OnOk result (IsSoFar bytes.now (map rule_of rules.now) reader.new (EndAt (length bytes.now) ∷ []) compared.new) }
-    ensures fault { IfErr result (IsFaultOf bytes.now (map rule_of rules.now)) }
+    ensures so_far { OnOk result (IsSoFar dim bytes.now (map rule_of rules.now) reader.new (EndAt (length bytes.now) ∷ []) compared.new) }
+    ensures fault { IfErr result (IsFaultOf bytes.now dim (map rule_of rules.now)) }
 {
+    let top = dim.top();
     let mut lexer = Lexer::new(bytes);
     while let Some(token) = next_token(&mut lexer)? {
         let sight = sight_of(&lexer, &token);
-        if let Some(line) = reader.end_line(sight) {
-            compared.add(bytes, line, rules)?;
+        if let Some(stat) = reader.end_stat(sight) {
+            compared.add(bytes, stat, rules)?;
         }
-        reader.take(sight, token)?;
+        reader.take(top, sight, token)?;
     }
     Ok(())
 }
 
-/// The statements of the text, which is read to its end, where no line disagrees.
+/// The statements of the text, which is read to its end, where none disagrees.
 fn finish(
     bytes: &[u8],
+    dim: Dim,
     rules: &RulesByName<'_>,
     reader: Reader,
     mut compared: Compared,
 ) -> Result<Vec<Stat>, ScriptFault>
-    requires so_far { IsSoFar bytes.now (map rule_of rules.now) reader (EndAt (length bytes.now) ∷ []) compared }
-    ensures script { IfOk result (λ stats. ScriptText bytes.now (map rule_of rules.now) stats.items) }
-    ensures fault { IfErr result (IsFaultOf bytes.now (map rule_of rules.now)) }
+    requires so_far { IsSoFar dim bytes.now (map rule_of rules.now) reader (EndAt (length bytes.now) ∷ []) compared }
+    ensures script { IfOk result (λ stats. ScriptText bytes.now dim (map rule_of rules.now) stats.items) }
+    ensures fault { IfErr result (IsFaultOf bytes.now dim (map rule_of rules.now)) }
 {
     if let Some(last) = reader.finish(bytes.len())? {
         compared.add(bytes, last, rules)?;
@@ -77,26 +80,27 @@ fn finish(
 fn read_stats(
     alloc: Global,
     bytes: &[u8],
+    dim: Dim,
     rules: &RulesByName<'_>,
 ) -> Result<Vec<Stat>, ScriptFault>
-    ensures script { IfOk result (λ stats. ScriptText bytes.now (map rule_of rules.now) stats.items) }
-    ensures fault { IfErr result (IsFaultOf bytes.now (map rule_of rules.now)) }
+    ensures script { IfOk result (λ stats. ScriptText bytes.now dim (map rule_of rules.now) stats.items) }
+    ensures fault { IfErr result (IsFaultOf bytes.now dim (map rule_of rules.now)) }
 {
     let mut compared = Compared::new(alloc, bytes.len())?;
     let mut reader = Reader::new(alloc);
-    read_tokens(bytes, rules, &mut reader, &mut compared)?;
-    finish(bytes, rules, reader, compared)
+    read_tokens(bytes, dim, rules, &mut reader, &mut compared)?;
+    finish(bytes, dim, rules, reader, compared)
 }
 
 /// The script that the text stands for under the book. A fault of the text, by its grammar and
-/// limits, comes before any disagreement of a line with the book. A book's text has so few rules
-/// that a line can name each; of more than 65,536, the first so many.
+/// limits, comes before any disagreement of a statement with the book. A book's text has so few rules
+/// that a statement can name each; of more than 65,536, the first so many.
 pub fn read_script(alloc: Global, bytes: &[u8], book: &Book) -> Result<Script, ScriptFault>
-    ensures script { IfOk result (λ script. ScriptText bytes.now (map rule_of book.now.rules) script.stats) }
-    ensures fault { IfErr result (IsFaultOf bytes.now (map rule_of book.now.rules)) }
+    ensures script { IfOk result (λ script. ScriptText bytes.now book.now.schema.dim (map rule_of book.now.rules) script.stats) }
+    ensures fault { IfErr result (IsFaultOf bytes.now book.now.schema.dim (map rule_of book.now.rules)) }
 {
     let rules = RulesByName::new(alloc, book.rules.as_slice())?;
-    let stats = read_stats(alloc, bytes, &rules)?;
+    let stats = read_stats(alloc, bytes, book.schema.dim, &rules)?;
     Ok(Script {
         stats: Items::new(stats),
     })

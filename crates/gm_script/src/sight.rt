@@ -5,19 +5,33 @@ ghost use Rattle.gm_script.specs.Reading as reading;
 
 use gm_text::{Lexer, Token, TokenKind, is_reserved};
 
+/// The word that a statement begins with.
+#[derive(Clone, Copy, PartialEq, Eq)]
+pub(crate) enum Head {
+    Apply,
+    Each,
+    Undo,
+    Redo,
+    Group,
+    End,
+}
+
 /// What a script sees in a token.
 #[derive(Clone, Copy)]
 pub(crate) enum Sight {
-    Apply,
+    /// A word that begins statements. Each of them is a name that a rule can have, too.
+    Begins(Head),
     With,
     Truth(bool),
-    /// A name that a rule can have; `apply` is one too.
+    /// Another name that a rule can have.
     Name,
     /// The greatest `u64` stands for a number that is greater.
     Number(u64),
     Minus,
     Open,
     Close,
+    Less,
+    Greater,
     /// What no script has.
     Other,
 }
@@ -41,9 +55,28 @@ fn sight_of_word(bytes: &[u8]) -> Sight
     ensures { result ≡ reading.sight_of_word bytes.now }
 {
     if bytes == b"apply".as_slice() {
-        Sight::Apply
+        Sight::Begins(Head::Apply)
     } else if bytes == b"with".as_slice() {
         Sight::With
+    } else {
+        sight_of_rarer_word(bytes)
+    }
+}
+
+/// What is seen in a word that is neither `apply` nor `with`.
+fn sight_of_rarer_word(bytes: &[u8]) -> Sight
+    ensures { result ≡ reading.sight_of_rarer_word bytes.now }
+{
+    if bytes == b"each".as_slice() {
+        Sight::Begins(Head::Each)
+    } else if bytes == b"undo".as_slice() {
+        Sight::Begins(Head::Undo)
+    } else if bytes == b"redo".as_slice() {
+        Sight::Begins(Head::Redo)
+    } else if bytes == b"group".as_slice() {
+        Sight::Begins(Head::Group)
+    } else if bytes == b"end".as_slice() {
+        Sight::Begins(Head::End)
     } else if bytes == b"true".as_slice() {
         Sight::Truth(true)
     } else if bytes == b"false".as_slice() {
@@ -62,6 +95,8 @@ fn sight_of_sign(bytes: &[u8]) -> Sight
         b"-" => Sight::Minus,
         b"(" => Sight::Open,
         b")" => Sight::Close,
+        b"<" => Sight::Less,
+        b">" => Sight::Greater,
         _ => Sight::Other,
     }
 }

@@ -1,17 +1,27 @@
 ghost use Rattle.std.specs.Prelude.{◌≡◌};
 ghost use Rattle.gm_script.specs.Reading as reading;
 
-use crate::sight::Sight;
+use crate::sight::{Head, Sight};
 
 /// What a script was read up to.
 #[derive(Clone, Copy, PartialEq, Eq)]
 pub(crate) enum Spot {
     /// Nothing.
     Start,
+    /// A statement of one word.
+    Bare,
     /// The word `apply`.
     Apply,
-    /// A rule's name, or a hook.
+    /// Behind `apply`, a rule's name, or a hook.
     Rule,
+    /// The word `each`.
+    Each,
+    /// The `<` of an orbit, or a label.
+    Orbit,
+    /// The `>` of an orbit.
+    Over,
+    /// Behind an orbit, a rule's name.
+    Named,
     /// The word `with`.
     With,
     /// A value.
@@ -32,15 +42,42 @@ pub(crate) enum Spot {
 }
 
 impl Spot {
-    /// The spot behind what is seen, or `None` where no script has it there.
-    pub(crate) fn next(self, sight: Sight) -> Option<Spot>
-        ensures { result ≡ reading.next_spot self sight }
+    /// The spot behind what is seen, in a group or not, or `None` where no script has it there.
+    pub(crate) fn next(self, within: bool, sight: Sight) -> Option<Spot>
+        ensures { result ≡ reading.next_spot within self sight }
+    {
+        match sight {
+            Sight::Begins(head) => self.next_word(within, head),
+            _ => self.next_part(sight),
+        }
+    }
+
+    /// The spot behind a word that begins statements, or a rule's name where one is looked for.
+    fn next_word(self, within: bool, head: Head) -> Option<Spot>
+        ensures { result ≡ reading.next_word within self head }
+    {
+        match self {
+            Spot::Start | Spot::Bare | Spot::Rule | Spot::Named | Spot::Value => {
+                next_head(within, head)
+            }
+            Spot::Apply => Some(Spot::Rule),
+            Spot::Over => Some(Spot::Named),
+            _ => None,
+        }
+    }
+
+    /// The spot behind what is seen, where that begins no statement.
+    fn next_part(self, sight: Sight) -> Option<Spot>
+        ensures { result ≡ reading.next_part self sight }
     {
         match (self, sight) {
-            (Spot::Start | Spot::Rule | Spot::Value, Sight::Apply) => Some(Spot::Apply),
-            (Spot::Apply, Sight::Name | Sight::Apply) => Some(Spot::Rule),
+            (Spot::Apply, Sight::Name) => Some(Spot::Rule),
+            (Spot::Over, Sight::Name) => Some(Spot::Named),
             (Spot::Rule, Sight::Number(_)) => Some(Spot::Rule),
-            (Spot::Rule, Sight::With) => Some(Spot::With),
+            (Spot::Each, Sight::Less) => Some(Spot::Orbit),
+            (Spot::Orbit, Sight::Number(_)) => Some(Spot::Orbit),
+            (Spot::Orbit, Sight::Greater) => Some(Spot::Over),
+            (Spot::Rule | Spot::Named, Sight::With) => Some(Spot::With),
             (Spot::With | Spot::Value, Sight::Truth(_) | Sight::Number(_)) => Some(Spot::Value),
             (Spot::With | Spot::Value, Sight::Minus) => Some(Spot::Minus),
             (Spot::With | Spot::Value, Sight::Open) => Some(Spot::Open),
@@ -56,11 +93,21 @@ impl Spot {
         }
     }
 
-    /// Whether a script can end there.
-    pub(crate) fn can_end(self) -> bool
-        ensures { result ≡ reading.can_end self }
+    /// Whether a statement can end there, or none has begun.
+    pub(crate) fn is_whole(self) -> bool
+        ensures { result ≡ reading.is_whole self }
     {
-        matches!(self, Spot::Start | Spot::Rule | Spot::Value)
+        matches!(
+            self,
+            Spot::Start | Spot::Bare | Spot::Rule | Spot::Named | Spot::Value
+        )
+    }
+
+    /// Whether a rule's name is looked for there.
+    pub(crate) fn wants_name(self) -> bool
+        ensures { result ≡ reading.wants_name self }
+    {
+        matches!(self, Spot::Apply | Spot::Over)
     }
 
     /// Whether a minus stands last.
@@ -71,5 +118,17 @@ impl Spot {
             self,
             Spot::Minus | Spot::OpenMinus | Spot::FirstMinus | Spot::SecondMinus
         )
+    }
+}
+
+/// The spot behind the first word of a statement, in a group or not, or `None` where it can't begin.
+fn next_head(within: bool, head: Head) -> Option<Spot>
+    ensures { result ≡ reading.next_head within head }
+{
+    match (within, head) {
+        (_, Head::Apply) => Some(Spot::Apply),
+        (false, Head::Each) => Some(Spot::Each),
+        (false, Head::Undo | Head::Redo | Head::Group) | (true, Head::End) => Some(Spot::Bare),
+        _ => None,
     }
 }

@@ -6,18 +6,18 @@ use Rattle.gm_text.specs.Lexing.{rest_of}
 use Rattle.gm_script.specs.Reading.{IsNext, sight_of, symbol_at, taken_at}
 use Rattle.gm_script.proofs.Loop.{starts, stray_fails, token_fails, Adds, adds_none, goes_on}
 use Rattle.gm_script.proofs.reading.read_tokens.Goals as goal
-use Rattle.gm_script.proofs.reading.read_tokens.Goals.{in-Some-end_line+in_ok-add, in_default-end_line}
+use Rattle.gm_script.proofs.reading.read_tokens.Goals.{in-Some-end_stat+in_ok-add, in_default-end_stat}
 
 pub loop-token-init : goal.loop-token-init
 loop-token-init c = record {
   text = ap (λ cursor. cursor.text) c.new-lexer.ensures;
-  so_far = rw (c.requires.reader, c.requires.compared, c.new-lexer.ensures) (starts c.args.bytes.now (map rule_of c.args.rules.now));
+  so_far = rw (c.requires.reader, c.requires.compared, c.new-lexer.ensures) (starts c.args.bytes.now (map rule_of c.args.rules.now) c.args.dim c.top-top.ensures.greatest);
 }
 
 pub returns-in_err-token-clause-fault : goal.returns-in_err-token-clause-fault
 returns-in_err-token-clause-fault c =
     let p = err_from_is_err_and c.from_residual.result c.from_residual.ensures.1 in
-    rw (p.1, p.2) (stray_fails c.args.bytes.now (map rule_of c.args.rules.now) c.loop-token.reader c.loop-token.lexer c.loop-token.compared c.loop-token.invariant.so_far c.in_err-token.field-0.0 c.in_err-token.ensures.stray)
+    rw (p.1, p.2) (stray_fails c.args.bytes.now (map rule_of c.args.rules.now) c.args.dim c.loop-token.reader c.loop-token.lexer c.loop-token.compared c.loop-token.invariant.so_far c.in_err-token.field-0.0 c.in_err-token.ensures.stray)
 
 pub returns-in_err-take-clause-fault : goal.returns-in_err-take-clause-fault
 returns-in_err-take-clause-fault c =
@@ -26,25 +26,26 @@ returns-in_err-take-clause-fault c =
     let text : c.next_token.new.lexer.text ≡ c.args.bytes.now = c.in_ok-token.ensures.text ∙ c.loop-token.invariant.text in
     let seen : c.sight_of-sight.result ≡ sight_of (symbol_at c.args.bytes.now c.in-Some.token) = rw text at c.sight_of-sight.ensures in
     rw (p.1, p.2)
-    (token_fails c.args.bytes.now (map rule_of c.args.rules.now) c.loop-token.reader c.in-Some.token (rest_of c.next_token.new.lexer) c.loop-token.compared (rw next.items at c.loop-token.invariant.so_far)
-    c.in_err-take.field-0.0 (rw (c.end_line.ensures.next c.in-Some.token, seen) at c.in_err-take.ensures))
+    (token_fails c.args.bytes.now (map rule_of c.args.rules.now) c.args.dim c.loop-token.reader c.in-Some.token (rest_of c.next_token.new.lexer) c.loop-token.compared (rw next.items at c.loop-token.invariant.so_far)
+    c.in_err-take.field-0.0 (rw (c.top-top.ensures.value, c.end_stat.ensures.next c.args.dim c.in-Some.token, seen) at c.in_err-take.ensures))
 
 pub loop-token-preserved : goal.loop-token-preserved
 loop-token-preserved c =
     let next : IsNext c.loop-token.lexer c.in-Some.token c.next_token.new.lexer = rw c.in-Some.is at c.in_ok-token.ensures.found in
     let text : c.next_token.new.lexer.text ≡ c.args.bytes.now = c.in_ok-token.ensures.text ∙ c.loop-token.invariant.text in
     let seen : c.sight_of-sight.result ≡ sight_of (symbol_at c.args.bytes.now c.in-Some.token) = rw text at c.sight_of-sight.ensures in
-    let taken : taken_at c.sight_of-sight.result c.in-Some.token c.loop-token.reader ≡ Ok c.take.new.self = sym (c.end_line.ensures.next c.in-Some.token) ∙ c.in_ok-take.ensures in
-    let adds : Adds c.args.bytes.now (map rule_of c.args.rules.now) c.end_line.result c.loop-token.compared c.match-end_line.compared =
-    elim c.match-end_line.branch [
-      | in-Some-end_line+in_ok-add w ↦ rw (w.compared-is, w.in-Some-end_line.is) w.in_ok-add.ensures.ok
-      | in_default-end_line w ↦ rw (w.compared-is, w.in_default-end_line.is) (adds_none c.args.bytes.now (map rule_of c.args.rules.now) c.loop-token.compared)
+    let by_top : taken_at c.top-top.result c.sight_of-sight.result c.in-Some.token c.loop-token.reader ≡ Ok c.take.new.self = sym (c.end_stat.ensures.next c.top-top.result c.in-Some.token) ∙ c.in_ok-take.ensures in
+    let taken : taken_at c.args.dim c.sight_of-sight.result c.in-Some.token c.loop-token.reader ≡ Ok c.take.new.self = rw c.top-top.ensures.value at by_top in
+    let adds : Adds c.args.bytes.now (map rule_of c.args.rules.now) c.args.dim c.end_stat.result c.loop-token.compared c.match-end_stat.compared =
+    elim c.match-end_stat.branch [
+      | in-Some-end_stat+in_ok-add w ↦ rw (w.compared-is, w.in-Some-end_stat.is) w.in_ok-add.ensures.ok
+      | in_default-end_stat w ↦ rw (w.compared-is, w.in_default-end_stat.is) (adds_none c.args.bytes.now (map rule_of c.args.rules.now) c.args.dim c.loop-token.compared)
     ] in
     record {
       text = text;
       so_far =
-          goes_on c.args.bytes.now (map rule_of c.args.rules.now) c.loop-token.reader c.take.new.self c.in-Some.token (rest_of c.next_token.new.lexer) c.loop-token.compared c.match-end_line.compared
-          (record { order = next.order; within = rw c.loop-token.invariant.text at next.within }) (rw next.items at c.loop-token.invariant.so_far) (rw seen at taken) (rw (c.end_line.ensures.ended, seen) at adds);
+          goes_on c.args.bytes.now (map rule_of c.args.rules.now) c.args.dim c.loop-token.reader c.take.new.self c.in-Some.token (rest_of c.next_token.new.lexer) c.loop-token.compared c.match-end_stat.compared
+          (record { order = next.order; within = rw c.loop-token.invariant.text at next.within }) (rw next.items at c.loop-token.invariant.so_far) (rw seen at taken) (rw (c.end_stat.ensures.ended, seen) at adds);
     }
 
 pub returns-clause-so_far : goal.returns-clause-so_far

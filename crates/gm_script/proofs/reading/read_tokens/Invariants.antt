@@ -7,7 +7,7 @@ use Rattle.gm_script.proofs.reading.read_tokens.Given as goal
 abbrev pub invariant-loop-token : goal.invariant-loop-token
 invariant-loop-token l = record {
   text : l.lexer.text ≡ l.bytes;
-  so_far : IsSoFar l.bytes (map rule_of l.rules) l.reader (rest_of l.lexer) l.compared;
+  so_far : IsSoFar l.fn.dim l.bytes (map rule_of l.rules) l.reader (rest_of l.lexer) l.compared;
 }
 
 abbrev pub decreases-loop-token : goal.decreases-loop-token

@@ -1,6 +1,6 @@
 use Rattle.std.proofs.Common.{map, sym, ◌∙◌}
 use Rattle.gm_model.specs.Rules.{rule_of}
-use Rattle.gm_script.proofs.Loop.{stays, line_added, fault_added}
+use Rattle.gm_script.proofs.Loop.{stays, stat_added, fault_added}
 use Rattle.gm_script.proofs.comparing.Compared.add.Goals as goal
 
 pub returns-then-is_some-clause-ok : goal.returns-then-is_some-clause-ok
@@ -10,7 +10,7 @@ returns-then-is_some-clause-ok c = λ before holds.
 pub returns-in_ok-push-in-Ok-clause-ok : goal.returns-in_ok-push-in-Ok-clause-ok
 returns-in_ok-push-in-Ok-clause-ok c = λ before holds.
     rw c.in_ok-push-in-Ok.ensures.items
-    (line_added c.args.bytes.now (map rule_of c.args.rules.now) before c.args.draft c.self.inside.fault c.self.inside.stats.items c.in-Ok.line (sym c.is_some.ensures ∙ c.if-is_some.false) (rw (← c.self.view_is) at holds) c.in-Ok.ensures)
+    (stat_added c.args.bytes.now (map rule_of c.args.rules.now) before c.args.draft c.self.inside.fault c.self.inside.stats.items c.in-Ok.stat (sym c.is_some.ensures ∙ c.if-is_some.false) (rw (← c.self.view_is) at holds) c.in-Ok.ensures)
 
 pub returns-in-Err-clause-ok : goal.returns-in-Err-clause-ok
 returns-in-Err-clause-ok c = λ before holds.
