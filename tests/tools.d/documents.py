@@ -81,6 +81,15 @@ def test_where_to_change_what() -> None:
     assert table.count("\n| **") == 12
 
 
+def test_modules_are_there() -> None:
+    """The modules of the tools that ARCHITECTURE names are there, and none is longer than 400 lines."""
+    text = (ROOT / "docs" / "ARCHITECTURE.md").read_text(encoding="utf-8")
+    assert not [path for path in re.findall(r"`(tools/kit/\w+\.py)`", text) if not (ROOT / path).is_file()]
+    files = [path for path in (ROOT / "tools").rglob("*") if path.is_file() and path.suffix in ("", ".py")]
+    lengths = {path.name: len(path.read_text(encoding="utf-8").splitlines()) for path in files}
+    assert not {name: length for name, length in lengths.items() if length > 400}
+
+
 def test_links() -> None:
     """What a document links to is there."""
     for path in [ROOT / "README.md", *(ROOT / "docs").glob("*.md")]:

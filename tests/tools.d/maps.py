@@ -1,7 +1,9 @@
 """Tests of tools/kit/maps.py: texts of maps are read and printed, and orbits walked; and of how the program is run."""
 import os
+import shutil
 import subprocess
 import sys
+import tempfile
 import time
 from pathlib import Path
 
@@ -107,8 +109,19 @@ def test_the_program_that_is_run():
         environment = {**kept, "PYTHONPATH": str(ROOT / "tools"), **more}
         return subprocess.run(words, capture_output=True, text=True, check=True, env=environment).stdout.strip()
 
+    built = ROOT / "crates" / "gmr" / "out" / "gmr"
     assert found(GMR="/somewhere/gmr") == "/somewhere/gmr"
-    assert found() in (str(ROOT / "crates" / "gmr" / "out" / "gmr"), str(ROOT / "gmr"))
+    if built.exists():
+        assert found() == str(built)
+
+
+def test_a_program_that_is_not_built():
+    with tempfile.TemporaryDirectory() as folder:
+        shutil.copytree(ROOT / "tools", Path(folder, "tools"), ignore=shutil.ignore_patterns("__pycache__"))
+        environment = {name: value for name, value in os.environ.items() if name != "GMR"}
+        words = [sys.executable, Path(folder, "tools", "find"), ROOT / "examples" / "square.gmap", "--list", "2"]
+        said = subprocess.run(words, capture_output=True, text=True, check=False, env=environment)
+        assert said.returncode == 1 and said.stderr.startswith("find: the program isn't built"), said
 
 
 def test_a_program_that_is_not_there():

@@ -5,11 +5,15 @@ import sys
 import tempfile
 import tomllib
 from collections.abc import Callable, Iterator
+from importlib.machinery import SourceFileLoader
+from importlib.util import module_from_spec, spec_from_loader
 from pathlib import Path
+from types import ModuleType
 from typing import NamedTuple
 
 from kit.books import read_book
 from kit.maps import read_map
+from kit.program import answer
 from kit.why_lines import Line, tell_line
 from kit.why_texts import LIMITS
 
@@ -141,6 +145,16 @@ def test_lines_are_chosen() -> None:
     assert "2 more lines are refused" in why(EDGE, SPLIT, script, options=("--most", "1"))[1]
 
 
+def test_one_file() -> None:
+    """A book, or a map, alone."""
+    for name, status, part in (("mistakes.gbook", 1, "rule crossed refused square b 0 2"), ("sew.gbook", 0, "nothing"),
+                               ("torn.gmap", 1, "they have (0 11) and (0 10)"), ("edge.gmap", 0, "nothing"),
+                               ("roof/second.gbook", 1, "line 12, column 18"), ("none.gmap", 1, "There is no file")):
+        done = subprocess.run([sys.executable, WHY, ROOT / "examples" / name], capture_output=True, text=True,
+                              check=False)
+        assert done.returncode == status and part in done.stdout and not done.stderr, (name, done)
+
+
 def test_a_file_that_is_missing() -> None:
     """A file that can't be read."""
     done = subprocess.run([sys.executable, WHY, "/none", "/none", "/none"], capture_output=True, text=True, check=False)
@@ -159,7 +173,7 @@ def test_the_line_that_removed_a_dart() -> None:
     book = "book 1 dim 1 rule drop left a <0> hook a -1- a right"
     two_edges = "gmap 1 dim 1 darts 4 0 1 0 1 0 1 2 3 2 3 2 3"
     said = why(two_edges, book, "apply drop 2 apply drop 0 apply drop 3")[1]
-    assert "the map is empty" in said and "Line 1 removed it." in said, said
+    assert "and the map is empty" in said and "Line 1 removed it." in said, said
 
 
 def check_if_known(script: str, parts: list[str]) -> None:
@@ -180,6 +194,35 @@ def test_each() -> None:
     """A line that goes over orbits, where the program has it: which of its darts are refused, and why."""
     check_if_known("apply split 0 each <1> free", [
         "line 2 refused at 1 dart\n", "At dart 2 refused: no-match arc a 0 1"])
+
+
+def load_tool() -> ModuleType:
+    """The tool as a module."""
+    loader = SourceFileLoader("why_tool", str(WHY))
+    spec = spec_from_loader(loader.name, loader)
+    assert spec is not None
+    module = module_from_spec(spec)
+    loader.exec_module(module)
+    return module
+
+
+def test_library() -> None:
+    """Each line of the library's scripts that is refused is explained, and where a label leads elsewhere the two darts
+    differ."""
+    tool, explained = load_tool(), 0
+    for script in sorted((ROOT / "examples" / "operations").glob("*/*/script.gscript")):
+        files = {"MAP": str(script.with_name("before.gmap")), "BOOK": f"{script.parents[1]}.gbook"}
+        files["SCRIPT"] = str(script)
+        with tempfile.TemporaryDirectory() as folder:
+            status, report = answer("run", *files.values(), Path(folder, "out.gmap"))
+            assert status in (0, 1), script
+            run = tool.Run(files, report, Path(folder))
+            for at in run.refused():
+                said = " ".join(run.tell(at, 1)[0][4:])
+                darts = re.search(r"leads to dart (\d+).*needs dart (\d+)", said)
+                assert said and (darts is None or darts[1] != darts[2]), (script, said)
+                explained += 1
+    assert explained > 70, explained
 
 
 def test_a_picture() -> None:

@@ -1,5 +1,6 @@
 """Folds an example along an orbit: darts that the walk reaches in step become one node of a rule."""
 from collections.abc import Iterable, Iterator
+from copy import copy as shallow_copy
 
 from kit.infer_draft import Draft, Letter, Link, Node, Step, Steps
 from kit.infer_example import Example
@@ -44,8 +45,7 @@ class Fold:
 
     def copy(self) -> "Fold":
         """The same fold, to go on from without this one."""
-        fold = object.__new__(Fold)
-        fold.__dict__.update(self.__dict__)
+        fold = shallow_copy(self)
         fold.nodes = [node.copy() for node in self.nodes]
         fold.number_of, fold.owner, fold.fresh = dict(self.number_of), dict(self.owner), list(self.fresh)
         return fold

@@ -2,6 +2,7 @@
 from pathlib import Path
 
 from kit.mesh_assimp import read_by_assimp
+from kit.mesh_meshio import import_meshio, read_by_meshio, write_by_meshio
 from kit.mesh_model import Surface, Unfit, Volume
 from kit.mesh_obj import read_obj, write_obj
 from kit.mesh_off import read_off, write_off
@@ -18,8 +19,6 @@ def read_mesh(path: Path) -> Surface | Volume:
     if not path.is_file():
         raise Unfit("there is no such file")
     if suffix in VOLUME_FORMATS:
-        from kit.mesh_meshio import read_by_meshio
-
         return read_by_meshio(path, VOLUME_FORMATS[suffix])
     return READERS.get(suffix, read_by_assimp)(path)
 
@@ -33,17 +32,20 @@ def write_mesh(path: Path, mesh: Surface | Volume) -> None:
     """Writes a mesh in the format of the path's suffix, which check_written allows."""
     suffix = path.suffix.lower()
     if suffix in VOLUME_FORMATS:
-        from kit.mesh_meshio import write_by_meshio
-
         write_by_meshio(path, VOLUME_FORMATS[suffix], mesh)
     else:
         WRITERS[suffix](path, mesh)
 
 
 def check_written(path: Path) -> None:
-    """Unfit where the path has no suffix of a format that is written."""
+    """Unfit where the path has no suffix of a format that is written.
+
+    It comes before all work: where a library is seen by another interpreter alone, that one begins anew.
+    """
     if path.suffix.lower() not in list_written():
         raise Unfit(f"{path} has no suffix of a format that is written: {' '.join(list_written())}")
+    if writes_volumes(path):
+        import_meshio()
 
 
 def list_written() -> list[str]:

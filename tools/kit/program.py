@@ -22,12 +22,14 @@ class Refused(Exception):
 
 
 def find_program() -> str:
-    """The program that $GMR names, else the one built in this checkout, else `./gmr`, which builds it first."""
+    """The program that $GMR names, else the one built in this checkout. No tool begins the long proof by itself."""
     named = os.environ.get("GMR")
     if named:
         return named
     built = CHECKOUT / "crates" / "gmr" / "out" / "gmr"
-    return str(built if built.exists() else CHECKOUT / "gmr")
+    if not built.exists():
+        raise Refused("the program isn't built: call ./gmr once, which proves and builds it, or name one by $GMR", 9)
+    return str(built)
 
 
 def answer(*words: str | os.PathLike[str]) -> tuple[int, str]:

@@ -101,8 +101,7 @@ def tell_unknown(path: str, text: str, place: int) -> list[str]:
     lines = tell_place(path, text, place, spot.here.end)
     if what == "a function" and word in ARGUMENTS:
         return lines + [f"`{word}` takes {ARGUMENTS[word]} {'argument' if ARGUMENTS[word] == 1 else 'arguments'}, "
-                        "and here it has "
-                        "another number of them."]
+                        "and here it has another number of them."]
     lines.append(f"`{word}` is none of what can stand here, which is {what}: {', '.join(names) or 'there is none'}.")
     near = difflib.get_close_matches(word, names, 1)
     return lines + ([f"Did you mean `{near[0]}`?"] if near else [])

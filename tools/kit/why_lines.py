@@ -45,14 +45,12 @@ def tell_no_dart(line: Line) -> list[str]:
     """A hook names no dart."""
     at = int(line.cause[2])
     dart, hook = line.hooks[at], [node.name for node in line.rule.nodes if node.hook][at]
+    given = f"The script gives dart {dart} for the hook {hook}"
+    if not line.map.darts:
+        return [f"{given}, and the map is empty."]
     if dart >= line.map.next:
-        return [f"The script gives dart {dart} for the hook {hook}; at this line the next name is {line.map.next}, "
-                "so no dart has "
-                "had that name yet." if line.map.darts else f"The script gives dart {dart} for the hook {hook}, and "
-                                                            "the map is empty."]
-    near = nearest(line.map.darts, dart)
-    return [f"The script gives dart {dart} for the hook {hook}, and at this line no dart has that name"
-            + (f"; the nearest ones are {near}." if near else ": the map is empty.")]
+        return [f"{given}; at this line the next name is {line.map.next}, so no dart has had that name yet."]
+    return [f"{given}, and at this line no dart has that name; the nearest ones are {nearest(line.map.darts, dart)}."]
 
 
 def nearest(darts: list[int], dart: int) -> str:
@@ -71,8 +69,7 @@ def tell_arc(line: Line) -> list[str]:
     assert step is not None
     return [f"The left side asks for {asked(line.rule, node, label, step)}.",
             f"There, at position {position}, {node.name} is dart {dart}. Along {label} it leads to "
-            f"{target(there, dart)}"
-            f"{whose(found, there)}, and the rule needs "
+            f"{target(there, dart)}{whose(found, there)}, and the rule needs "
             f"{target(wanted, dart)}{wanted_as(found, step, node, position)}.",
             *where(found, node, position),
             *hint(there, dart, wanted, label)]
@@ -111,11 +108,11 @@ def where(found: Candidate, node: Node, position: int) -> list[str]:
     first = found.hooks[0]
     word = tuple(letter for letter in first.left or () if letter is not None)
     way = way_to(position, found.turns, word)
-    said = [f"Position {position} is reached from the dart {found.darts[first.name][0]} of the hook {first.name} along "
-            f"{' '.join(map(str, way))}."] if position else []
+    said = [f"Position {position} is reached from the dart {found.darts[first.name][0]} of the hook {first.name} "
+            f"along {' '.join(map(str, way))}."] if position else []
     route = found.routes.get(node.name)
     if route:
-        said.append(f"From there links lead from {route.hook} to {node.name} along {' '.join(map(str, route.labels))}.")
+        said.append(f"{node.name} is reached from {route.hook} by links along {' '.join(map(str, route.labels))}.")
     elif node.hook and node is not first and position:
         said.append(f"The hook {node.name} goes from its dart {found.darts[node.name][0]} in step with that.")
     return said
@@ -136,15 +133,13 @@ def tell_same(line: Line) -> list[str]:
     here, there = int(line.cause[3]), int(line.cause[5])
     dart = found.darts[one.name][here]
     said = [f"{one.name} at position {here} and {other.name} at position {there} both lie on dart {dart}, and a rule "
-            "takes no dart "
-            "twice."]
+            "takes no dart twice."]
     if here == there == 0 and one.hook and other.hook:
         return said + [f"The line gives dart {dart} for both hooks."]
     lines = where(found, one, here) + where(found, other, there)
     if one is other:
         return said + lines + [f"The two positions of {one.name} are two darts of the hook {found.hooks[0].name}, "
-                               "and in step with "
-                               f"them {one.name} comes to one dart twice."]
+                               f"and in step with them {one.name} comes to one dart twice."]
     return said + list(dict.fromkeys(lines))
 
 
@@ -228,12 +223,11 @@ def tell_full(line: Line) -> list[str]:
     first, more = int(line.cause[2]), int(line.cause[4])
     count = line.candidate().count()
     added = sum(1 for node in line.rule.nodes if node.left is None)
-    made = (f"{line.rule.name} adds {added} {plural(added, 'node')} at {count} {plural(count, 'position')}, "
-            f"which makes {more} new darts")
+    made = (f"{line.rule.name} adds {added} {plural(added, 'node')} at {count} {plural(count, 'position')}, which "
+            f"makes {more} new darts")
     if line.cause[0] == "full-darts":
         return [f"{made}; {first} of the {len(line.map.darts)} darts stay, and {first + more} are "
-                f"{first + more - MOST_DARTS} more "
-                f"than the {MOST_DARTS:,} that a map can have."]
+                f"{first + more - MOST_DARTS} more than the {MOST_DARTS:,} that a map can have."]
     return [f"{made} from the name {first} on; the last would be {first + more - 1}, and names are below "
             f"{MOST_NAME:,}.",
             "Where names of removed darts may be used again, save the map in version 1 and begin a new run."

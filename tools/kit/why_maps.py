@@ -1,10 +1,12 @@
 """Why a text stands for no map, and in what a map and a book differ."""
+import re
+from collections.abc import Iterator
 from typing import NamedTuple
 
-from kit.books import Book, Token
+from kit.books import COMMENT, Book
 from kit.expressions import show
-from kit.maps import WIDTHS, Embed, Map, Value
-from kit.places import marked, tell_place, tokens_up_to
+from kit.maps import EMBED, HEAD, WIDTHS, Embed, Map, Value
+from kit.places import marked, tell_place
 
 
 class Row(NamedTuple):
@@ -20,58 +22,34 @@ class Rows:
     """The head and the rows of a text that has the form of a map, whatever its names and neighbours are."""
 
     def __init__(self, text: str) -> None:
-        self.tokens, self.at = tokens_up_to(text, len(text)), 0
-        self.embeds: list[Embed] = []
-        self.rows: list[Row] = []
-        self.dimension = self.next = 0
-        self.read_head()
-        while self.at < len(self.tokens):
-            self.rows.append(self.read_row())
+        self.text = COMMENT.sub(lambda comment: " " * len(comment[0]), text)
+        head = HEAD.match(self.text)
+        assert head is not None, "a text of the form of a map has a head"
+        self.begin, self.dimension, self.next = head.end(), int(head[2]), int(head[7] or 0)
+        self.embeds = [Embed(name, tuple(sorted(map(int, labels.split()))), kind)
+                       for name, labels, kind in re.findall(EMBED, head[3])]
+        more = self.dimension + 1 + sum(WIDTHS[embed.kind] for embed in self.embeds)
+        end = r"\s*\)" if self.embeds and WIDTHS[self.embeds[-1].kind] > 1 else ""
+        self.form = re.compile(rf"([0-9]+)(?:[^0-9]+[0-9]+){{{more}}}{end}")
 
-    def take(self) -> Token:
-        """The next token, which is gone past."""
-        self.at += 1
-        return self.tokens[self.at - 1]
-
-    def number(self) -> int:
-        """The number that stands next, with its sign."""
-        word = self.take().word
-        return -int(self.take().word) if word == "-" else int(word)
-
-    def read_head(self) -> None:
-        """Goes through the head."""
-        self.at = 3
-        self.dimension = self.number()
-        while (word := self.take().word) != "darts":
-            if word == "next":
-                self.next = self.number()
-            else:
-                name, labels = self.take().word, []
-                self.take()
-                while (label := self.take().word) != ">":
-                    labels.append(int(label))
-                self.embeds.append(Embed(name, tuple(sorted(labels)), self.take().word))
-        self.take()
-
-    def read_value(self, kind: str) -> Value:
-        """The value of a kind that stands next."""
-        if kind == "int":
-            return self.number()
-        self.take()
-        value = tuple(self.number() for _ in range(WIDTHS[kind]))
-        self.take()
-        return value
-
-    def read_row(self) -> Row:
-        """The row that stands next."""
-        begin = self.tokens[self.at].begin
-        name, near = self.number(), [self.number() for _ in range(self.dimension + 1)]
-        values = [self.read_value(embed.kind) for embed in self.embeds]
-        return Row(name, near, values, begin, self.tokens[self.at - 1].end)
+    def names(self) -> Iterator[int]:
+        """The names of the rows."""
+        return (int(found[1]) for found in self.form.finditer(self.text, self.begin))
 
     def named(self, dart: int) -> list[Row]:
         """The rows with a name."""
-        return [row for row in self.rows if row.name == dart]
+        return [self.row(found) for found in self.form.finditer(self.text, self.begin) if int(found[1]) == dart]
+
+    def row(self, found: re.Match[str]) -> Row:
+        """A row that was found in the text."""
+        numbers = [int(sign + digits) for sign, digits in re.findall(r"(-?)\s*([0-9]+)", found[0])]
+        near, rest = numbers[1:self.dimension + 2], numbers[self.dimension + 2:]
+        values: list[Value] = []
+        for embed in self.embeds:
+            width = WIDTHS[embed.kind]
+            values.append(rest[0] if width == 1 else tuple(rest[:width]))
+            rest = rest[width:]
+        return Row(numbers[0], near, values, found.start(), found.end())
 
 
 def tell_map(path: str, text: str, fault: list[str]) -> list[str]:
@@ -84,7 +62,7 @@ def tell_map(path: str, text: str, fault: list[str]) -> list[str]:
         return lines + marked(text, first[1].begin, first[1].end) + [f"Two lines have the name {numbers[0]}; give "
                                                                      "one of them another."]
     if kind == "next":
-        greatest = max(row.name for row in rows.rows)
+        greatest = max(rows.names())
         return lines + [f"The text says `next {rows.next}`, and dart {numbers[0]} isn't below that. Write at least "
                         f"`next {greatest + 1}`."]
     return lines + LAWS[kind](text, rows, first[0], fault, numbers)
@@ -113,9 +91,8 @@ def tell_cycle(_text: str, rows: Rows, row: Row, _fault: list[str], numbers: lis
         return near, rows.named(near)[0].near[second]
     here, there = way(one, other), way(other, one)
     return [f"Labels {one} and {other} are two or more apart, so both orders lead to one dart. From dart {row.name} "
-            f"along {one} "
-            f"and then {other} the way is {here[0]}, {here[1]}; along {other} and then {one} it is {there[0]}, "
-            f"{there[1]}."]
+            f"along {one} and then {other} the way is {here[0]}, {here[1]}; along {other} and then {one} it is "
+            f"{there[0]}, {there[1]}."]
 
 
 def tell_embedding(text: str, rows: Rows, row: Row, fault: list[str], numbers: list[int]) -> list[str]:
@@ -125,8 +102,7 @@ def tell_embedding(text: str, rows: Rows, row: Row, fault: list[str], numbers: l
     label = next(label for label in embed.labels if row.near[label] == other.name)
     return marked(text, other.begin, other.end) + [
         f"Darts {row.name} and {other.name} are neighbours along {label}, a label of {embed_text(embed)}, so they "
-        "share one value "
-        f"of {embed.name}; they have {show(row.values[place])} and {show(other.values[place])}."]
+        f"share one value of {embed.name}; they have {show(row.values[place])} and {show(other.values[place])}."]
 
 
 LAWS = {"no-target": tell_target, "involution": tell_involution, "cycle": tell_cycle, "embedding": tell_embedding}
@@ -147,6 +123,6 @@ def tell_agree(amap: Map, book: Book) -> list[str]:
         lines += [f"Only the {whose} has `{line}`." for line in has if line not in lacks]
     if not lines:
         lines.append("The embeddings stand in another order: in the map "
-                     f"{', '.join(embed.name for embed in amap.embeds)}, in the "
-                     f"book {', '.join(embed.name for embed in book.embeds)}.")
+                     f"{', '.join(embed.name for embed in amap.embeds)}, in the book "
+                     f"{', '.join(embed.name for embed in book.embeds)}.")
     return lines + ["A run needs one dimension and the same embeddings in one order, with the same labels and kinds."]

@@ -91,8 +91,7 @@ def tell_not_connected(told: Told) -> list[str]:
     name, hooks = told.words[0], ", ".join(hook.name for hook in told.hooks)
     return [f"No left links lead from a hook ({hooks}) to node {name}, so nothing says where its darts lie.",
             f"Add left links that lead there, as `{told.hooks[0].name} -{told.dimension}- {name}`, or make {name} a "
-            "hook too "
-            "(in a book of version 2). Where the node stays, it needs the same labels on the right."]
+            "hook too (in a book of version 2). Where the node stays, it needs the same labels on the right."]
 
 
 def tell_arc_twice(told: Told) -> list[str]:
@@ -111,8 +110,7 @@ def tell_arc_missing(told: Told) -> list[str]:
                 f"{told.labels('left', node.name)}, and {label} is missing: its neighbours along {label} would be "
                 "left behind.",
                 f"Say what it is joined to along {label}: by a letter, or by a link. `{node.name} -{label}- "
-                f"{node.name}` asks "
-                "that it is free there; a node that stays needs a new neighbour on the right."]
+                f"{node.name}` asks that it is free there; a node that stays needs a new neighbour on the right."]
     return [f"Node {node.name} is new, so it needs each label from 0 to {told.dimension} on the right; it has "
             f"{told.labels('right', node.name)}, and {label} is missing.",
             f"Give it {label} by a letter in its word or by a link; `{node.name} -{label}- {node.name}` makes it "
@@ -126,18 +124,18 @@ def tell_arc_set(told: Told) -> list[str]:
     here, there = ("left", "right") if on_left else ("right", "left")
     mend = f"say on the left how it was: `{name} -{label}- {name}`, where it was free"
     if on_left:
-        mend = ("join it again on the right: by a letter, by a link to another node, or by "
-                f"`{name} -{label}- {name}`, which makes it free there")
-    return [f"Node {name} stays, and has label {label} {SIDES[here]} by {told.sources(here, name, label)[0]}, and not "
-            f"{SIDES[there]}.", f"Write the label on both sides or on neither: {mend}."]
+        mend = (f"join it again on the right: by a letter, by a link to another node, or by `{name} -{label}- "
+                f"{name}`, which makes it free there")
+    return [f"Node {name} stays, and has label {label} {SIDES[here]} by {told.sources(here, name, label)[0]}, and "
+            f"not {SIDES[there]}.", f"Write the label on both sides or on neither: {mend}."]
 
 
 def tell_square(told: Told) -> list[str]:
     """Two labels two or more apart don't commute at a right node."""
     name, one, other = told.words[0], told.number(1), told.number(2)
     steps = told.step("right", name, one), told.step("right", name, other)
-    lines = [f"Labels {one} and {other} are two or more apart, so at {name} on the right the way along {one} and then "
-             f"{other} must end where the way along {other} and then {one} does."]
+    lines = [f"Labels {one} and {other} are two or more apart, so at {name} on the right the way along {one} and "
+             f"then {other} must end where the way along {other} and then {one} does."]
     ways = []
     for label, step in ((one, steps[0]), (other, steps[1])):
         ways.append(f"along {label} it has " + ("nothing of its own" if step is None else "a link to "
@@ -150,12 +148,12 @@ def mend_of_square(told: Told, name: str, labels: tuple[int, int], steps: tuple[
     """How the square of two labels at a node closes."""
     (one, other), (first, second) = labels, steps
     if first is None or second is None:
-        here, there = (other, one) if first is None else (one, other)
-        step = second if first is None else first
-        near = f" So does {step.node}, where it has {there}." if step and step.node not in (None, name) else ""
-        return (f"The rule changes {here} at {name} and says nothing of {there}, which the map may have there. Say "
-                "it: give "
-                f"{name} the label {there} on both sides, by a letter or a link to the neighbour there.{near}")
+        here, there, step = (other, one, second) if first is None else (one, other, first)
+        near = f" and of {step.node}" if step and step.node not in (None, name) else ""
+        return (f"The rule changes {here} at {name} and says nothing of {there}, where the map may have a neighbour. "
+                f"Say it on both sides: take {there} into the hook's word, with the letter {there} at that place of "
+                f"{name}{near}; or, where the rule is for darts that are free along {there}, write `{name} -{there}- "
+                f"{name}`.")
     if first.node and second.node:
         ends = [told.step("right", node, label) for node, label in ((first.node, other), (second.node, one))]
         return (f"{first.node} along {other} and {second.node} along {one} have to be links to one node; they have "
@@ -167,8 +165,7 @@ def mend_of_square(told: Told, name: str, labels: tuple[int, int], steps: tuple[
                 f"{told_step(told.step('right', str(node), label))}.")
     word = told.hooks[0].left or () if told.hooks else ()
     return (f"Two letters commute where the labels of the first hook's word {word_text(word)} at their places are "
-            "two or more "
-            f"apart; these are {word[first.place]} and {word[second.place]}. Use a link for one of them.")
+            f"two or more apart; these are {word[first.place]} and {word[second.place]}. Use a link for one of them.")
 
 
 def letter_at(node: Node, place: int | None) -> str:
@@ -189,8 +186,7 @@ def tell_set_twice(told: Told) -> list[str]:
     embed, one, other = told.words
     return [f"On the right {one} and {other} share one value of {embed}, and both assign it.",
             f"Leave one of the two out, as `with {embed} = {told.by_name[other].sets[embed]}` behind {other}: the "
-            "other one "
-            "gives its value to the whole orbit."]
+            "other one gives its value to the whole orbit."]
 
 
 def tell_no_value(told: Told) -> list[str]:
@@ -199,8 +195,7 @@ def tell_no_value(told: Told) -> list[str]:
     return [f"{name}, and what hangs together with it along the labels of {embed}, is new: nothing says what its "
             f"{embed} is.",
             f"Assign it behind the node: `{name} {word_text(told.by_name[name].right or ())} with {embed} = ..`; or "
-            f"join {name} "
-            "to a node that stays along one of these labels."]
+            f"join {name} to a node that stays along one of these labels."]
 
 
 def tell_merge(told: Told) -> list[str]:
@@ -209,8 +204,7 @@ def tell_merge(told: Told) -> list[str]:
     return [f"{one} and {other} share one value of {embed} on the right, and had two on the left: one would have to "
             "go.",
             f"Say which, by an assignment: `{one} {word_text(told.by_name[one].right or ())} with {embed} = "
-            f"{one}.{embed}` "
-            f"keeps that of {one}."]
+            f"{one}.{embed}` keeps that of {one}."]
 
 
 def tell_merge_along(told: Told) -> list[str]:
@@ -218,11 +212,9 @@ def tell_merge_along(told: Told) -> list[str]:
     embed, name, place = told.words[0], told.words[1], told.number(2)
     word = told.by_name[name].right or ()
     return [f"The letter {word[place]} at place {place} of {name} on the right joins darts of {name} that had a "
-            "value of "
-            f"{embed} each on the left.",
+            f"value of {embed} each on the left.",
             f"Assign {embed} there, as `{name} {word_text(word)} with {embed} = {name}.{embed}`: of the darts that "
-            "then lie in "
-            "one orbit the least counts, by node and then by position."]
+            "then lie in one orbit the least counts, by node and then by position."]
 
 
 ADVICE = {

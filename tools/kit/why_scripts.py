@@ -29,7 +29,8 @@ def tell_hooks(rule: Rule, line: Statement) -> list[str]:
         return [f"`each` needs a rule with one hook, and {rule.name} has {len(hooks)}."]
     return [f"{rule.name} has {len(hooks)} {'hook' if len(hooks) == 1 else 'hooks'}"
             + (f" ({', '.join(hooks)})" if hooks else "") + f", and the line gives {len(line.hooks)} "
-            f"{'dart' if len(line.hooks) == 1 else 'darts'}. Give one dart for each hook, in this order."]
+                                                            f"{'dart' if len(line.hooks) == 1 else 'darts'}. Give "
+                                                            "one dart for each hook, in this order."]
 
 
 def tell_params(rule: Rule, line: Statement) -> list[str]:

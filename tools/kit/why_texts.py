@@ -12,8 +12,8 @@ LIMITS = {
     "embeddings": "there are at most 8 embeddings",
     "darts": "a map has at most 1,048,576 darts",
     "dart-name": "names of darts are below 16,777,216, and the next name is at most that",
-    "integer": "numbers go from -9,223,372,036,854,775,808 to 9,223,372,036,854,775,807, and none is written without "
-               "its sign",
+    "integer": "numbers go from -9,223,372,036,854,775,808 to 9,223,372,036,854,775,807, and none is written "
+               "without its sign",
     "channel": "a colour's parts are 0 to 255",
     "name": "a name has at most 32 bytes",
     "rules": "a book has at most 256 rules",

@@ -80,8 +80,8 @@ reading_of map place params p = record { map = map; place = place; position = p;
 pub readings_like : (rule : Rule) (a b : Map) (place other : Placement) (params : List Value) → AreLikeAt rule a b place other → (p : ℕ) → p < place.positions
     → AreLikeReadings rule (reading_of a place params p) (reading_of b other params p)
 readings_like rule a b place other params like p within = record {
-  first = record { is_map = like.first_map; generalised = like.first_generalised; darts = λ x left. like.live x p (left, within) };
-  second = record { is_map = like.second_map; generalised = like.second_generalised; darts = λ x left. subst (IsDart b) (like.like.darts x p (left, within)) ((like.darts (place.dart_of x p)).0 (like.live x p (left, within))) };
+  first = record { is_map = like.first_map; stays = like.first_generalised.stays; darts = λ x left. like.live x p (left, within) };
+  second = record { is_map = like.second_map; stays = like.second_generalised.stays; darts = λ x left. subst (IsDart b) (like.like.darts x p (left, within)) ((like.darts (place.dart_of x p)).0 (like.live x p (left, within))) };
   schema = like.schema;
   darts = like.darts;
   arcs = like.arcs;

@@ -47,7 +47,7 @@ module _ (rule : Rule) (r s : Reading) (like : AreLikeReadings rule r s) where
   -- ---- darts
 
   path_same : (path : List ℕ) (d : ℕ) → AllByRecursion (λ i. i ≤ dimension r.map) path → IsDart r.map d → follow r.map.alpha path d ≡ follow s.map.alpha path d
-  path_same = follow_same (dimension r.map) (IsDart r.map) r.map.alpha s.map.alpha like.first.generalised.stays like.arcs
+  path_same = follow_same (dimension r.map) (IsDart r.map) r.map.alpha s.map.alpha like.first.stays like.arcs
 
   term_same : (term : DartTerm) → IsTermInRange r.map.schema rule term → dart_at r term ≡ dart_at s term
   term_same term h = path_same term.path (r.place.dart_of term.node r.position) h.path (like.first.darts term.node h.node) ∙ ap (follow s.map.alpha term.path) (like.places term.node h.node)

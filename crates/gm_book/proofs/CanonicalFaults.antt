@@ -25,7 +25,7 @@ use Rattle.gm_expr.proofs.Canonical.{behind}
 use Rattle.gm_forms.specs.BookText.{SetForm, ExprToken, RuleForm, sets_of, assignments_in, embeds_in, names_of, names_for, param_of, kind_of_embed, IsAgain, IsValue, IsValueIn, SetValue, PreValue, HasOtherKind}
 use Rattle.gm_forms.proofs.Contained.{contains_none}
 use Rattle.gm_book.proofs.CanonicalForm.{NodeLine, behind_word, value_at, set_at, behind_set, sets_at, behind_line, items_at, node_lines, line_before, tie, pre_at, right_marks, pre_marks, behind_rule, form_at, forms_at, set_names, AreNew, IsGoodValue, IsGoodSet, HasGoodSets, HasGoodExprs, IsWritable}
-use Rattle.gm_book.proofs.CanonicalKnown.{known, params_known, nodes_known, known_differ, names_numbered}
+use Rattle.gm_book.proofs.CanonicalKnown.{known, params_known, nodes_known, names_numbered}
 use Rattle.gm_book.proofs.GoodEmbeds.{AreGoodEmbeds, embed_there}
 use Rattle.gm_book.proofs.CanonicalRule.{params_same}
 use Rattle.gm_book.proofs.CanonicalText.{good_names}
@@ -111,14 +111,14 @@ module _ (schema : Schema) (low : schema.dim ≤ 7) (embeds : AreGoodEmbeds sche
         → Contains (faults_in (known schema rule ok marks) expr) fault → ⊥
     no_fault tree kind at good tokens expr fault is value has =
         let names = good_names schema rule embeds.good ok in
-        let none = value_known schema rule names tree kind good at low (known schema rule ok marks) refl (params_known schema rule ok marks) (nodes_known schema rule ok marks) (known_differ schema rule ok marks embeds.differ)
+        let none = value_known schema rule names tree kind good at low (known schema rule ok marks) refl (params_known schema rule ok marks) (nodes_known schema rule ok marks)
         expr (subst (λ ts. IsValue schema.dim ts expr) is value) in
         contains_none fault (subst (λ faults. Contains faults fault) none has)
 
     no_other : (tree : Tree) (kind : Kind) (at : List Mark) → IsGoodValue schema rule tree (Some kind) → (tokens : List ExprToken) → tokens ≡ value_at schema rule at tree → HasOtherKind schema.dim schema.embeds (form_at schema marks rule) tokens kind → ⊥
     no_other tree kind at good tokens is other =
         let names = good_names schema rule embeds.good ok in
-        let same = value_tree schema rule names tree (Some kind) good at low (known schema rule ok marks) refl (params_known schema rule ok marks) (nodes_known schema rule ok marks) (known_differ schema rule ok marks embeds.differ)
+        let same = value_tree schema rule names tree (Some kind) good at low (known schema rule ok marks) refl (params_known schema rule ok marks) (nodes_known schema rule ok marks)
         other.form (subst (λ ts. IsValue schema.dim ts other.form) is other.value) in
         other.other (ap (tree_kind schema.embeds (param_kinds (map param_of (form_at schema marks rule).params))) same
         ∙ ap (λ ps. tree_kind schema.embeds (param_kinds ps) tree) (params_same rule.params (behind (behind marks))) ∙ good.kind_is)

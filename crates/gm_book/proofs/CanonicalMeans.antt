@@ -18,7 +18,7 @@ use Rattle.gm_expr.specs.ExprText.{embed_name}
 use Rattle.gm_expr.proofs.Canonical.{behind}
 use Rattle.gm_forms.specs.BookText.{Item, SetForm, sets_in, MeansTree, MeansSet, MeansPre, MeansRule}
 use Rattle.gm_book.proofs.CanonicalForm.{NodeLine, behind_word, expr_at, value_at, set_at, behind_set, sets_at, behind_line, items_at, node_lines, line_before, tie, pre_at, right_marks, pre_marks, behind_rule, form_at, forms_at, node_names, AreNew, IsGoodValue, IsGoodSet, HasGoodSets, HasGoodExprs, IsWritable}
-use Rattle.gm_book.proofs.CanonicalKnown.{known, params_known, nodes_known, known_differ, names_numbered}
+use Rattle.gm_book.proofs.CanonicalKnown.{known, params_known, nodes_known, names_numbered}
 use Rattle.gm_book.proofs.CanonicalRule.{assigned, rule_same}
 use Rattle.gm_book.proofs.CanonicalText.{good_names}
 use Rattle.gm_book.proofs.CanonicalValues.{value_is, value_means}
@@ -33,7 +33,7 @@ module _ (schema : Schema) (low : schema.dim ≤ 7) (embeds : AreGoodEmbeds sche
         record {
           form = expr_at schema rule at tree;
           value = value_is schema rule names tree kind good at;
-          means = sym (value_means schema rule names tree kind good at low (known schema rule ok marks) refl (params_known schema rule ok marks) (nodes_known schema rule ok marks) (known_differ schema rule ok marks embeds.differ));
+          means = sym (value_means schema rule names tree kind good at low (known schema rule ok marks) refl (params_known schema rule ok marks) (nodes_known schema rule ok marks));
         }
 
     set_means : (set : Assignment) (at : List Mark) → IsGoodSet schema rule set → MeansSet schema.dim (known schema rule ok marks) (set_at schema rule at set) set

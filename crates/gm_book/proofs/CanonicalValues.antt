@@ -14,7 +14,7 @@ use Rattle.gm_parse.specs.Meaning.{Names, faults_in, tree_in}
 use Rattle.gm_parse.specs.Spelling.{Counted, limit_in, parts_of}
 use Rattle.gm_expr.proofs.Canonical.{behind}
 use Rattle.gm_expr.proofs.CanonicalMeaning.{tree_good, tree_means, tree_faultless}
-use Rattle.gm_expr.specs.Writable.{AreGoodNames, AreDifferent, left_name_of}
+use Rattle.gm_expr.specs.Writable.{AreGoodNames, left_name_of}
 use Rattle.gm_forms.specs.BookText.{ExprToken, Role, IsSentence, IsValue, limit_of, spell_value}
 use Rattle.gm_book.proofs.CanonicalForm.{tokens_from, expr_at, value_at, IsGoodValue}
 use Rattle.gm_book.proofs.OneValue.{AreWithin, no_fault_of_other, one_tree}
@@ -40,10 +40,9 @@ module _ (schema : Schema) (rule : Rule) (good : AreGoodNames schema.embeds rule
   pub value_short : AreWithin (value_at schema rule marks tree)
   value_short = within_tokens marks (parts_of schema.dim (expr_at schema rule marks tree)) (ok.short marks)
 
-  module _ (low : schema.dim ≤ 7) (names : Names) (embeds : names.embeds ≡ map (λ (embed : Embed). embed.name) schema.embeds) (params : names.params ≡ map (λ (param : Param). param.name) rule.params) (nodes : names.nodes ≡ map left_name_of rule.nodes)
-      (different : AreDifferent names) where
+  module _ (low : schema.dim ≤ 7) (names : Names) (embeds : names.embeds ≡ map (λ (embed : Embed). embed.name) schema.embeds) (params : names.params ≡ map (λ (param : Param). param.name) rule.params) (nodes : names.nodes ≡ map left_name_of rule.nodes) where
     pub value_means : tree_in names (expr_at schema rule marks tree) ≡ tree
-    value_means = tree_means schema.embeds rule.params rule.nodes names embeds params nodes different schema.dim low tree ok.can marks
+    value_means = tree_means schema.embeds rule.params rule.nodes names embeds params nodes schema.dim low tree ok.can marks
 
     -- whatever form the tokens are read as
     pub value_tree : (form : Form) → IsValue schema.dim (value_at schema rule marks tree) form → tree_in names form ≡ tree
@@ -51,4 +50,4 @@ module _ (schema : Schema) (rule : Rule) (good : AreGoodNames schema.embeds rule
 
     pub value_known : (form : Form) → IsValue schema.dim (value_at schema rule marks tree) form → faults_in names form ≡ []
     value_known form value = no_fault_of_other schema.dim names low (value_at schema rule marks tree) value_short (expr_at schema rule marks tree) form value_is value
-        (tree_faultless schema.embeds rule.params rule.nodes names embeds params nodes different schema.dim low tree ok.can marks)
+        (tree_faultless schema.embeds rule.params rule.nodes names embeds params nodes schema.dim low tree ok.can marks)

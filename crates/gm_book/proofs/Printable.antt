@@ -13,6 +13,7 @@ use Rattle.gm_model.specs.Rules.{Rule, RuleNode, has_word, links_on}
 use Rattle.gm_model.specs.Trees.{Tree, Number, Truth, Param as Parameter, Field, Same, Count, Sum, Least, Greatest, Unary, Binary, If, MakeVec2, MakeVec3, MakeRgb}
 use Rattle.gm_expr.specs.ExprText.{IsNamed}
 use Rattle.gm_expr.specs.Writable as trees
+use Rattle.gm_expr.proofs.Found.{param_low, embed_low, node_low}
 use Rattle.gm_forms.specs.BookText.{BookText}
 use Rattle.gm_book.specs.Printing.{AreEndsNodes, NamesItsNodes, AreNamed, HasNamedExprs, CanBePrinted}
 use Rattle.gm_book.proofs.CanonicalForm.{number_if, numbers_where, hook_on, IsGoodLink, IsWritable, IsGoodSet, HasGoodSets, HasGoodExprs}
@@ -56,18 +57,21 @@ module _ (n : ℕ) (rule : Rule) (ok : IsWritable n rule) where
 
 module _ (schema : Schema) (rule : Rule) where
   term_named : (term : DartTerm) → trees.IsGoodTerm schema.embeds rule.params rule.nodes schema.dim term → term.node < length rule.nodes
-  term_named term (node, here, left, path) = slice_get_within rule.nodes term.node node here
+  term_named term good = node_low schema.embeds rule.params rule.nodes schema.dim term good
+
+  embed_named : (e : ℕ) → trees.IsGoodEmbed schema.embeds rule.params rule.nodes e → e < length schema.embeds
+  embed_named e = embed_low schema.embeds rule.params rule.nodes e
 
   tree_named : (tree : Tree) → trees.IsWritable schema.embeds rule.params rule.nodes schema.dim tree → IsNamed schema rule tree
   tree_named (Number z) can = tt
   tree_named (Truth b) can = tt
-  tree_named (Parameter k) can = can
-  tree_named (Field d e) can = (term_named d can.0, can.1)
+  tree_named (Parameter k) can = param_low schema.embeds rule.params rule.nodes k can
+  tree_named (Field d e) can = (term_named d can.0, embed_named e can.1)
   tree_named (Same d d') can = (term_named d can.0, term_named d' can.1)
   tree_named (Count o d) can = term_named d can.1
-  tree_named (Sum o d e) can = (term_named d can.1, can.2)
-  tree_named (Least o d e) can = (term_named d can.1, can.2)
-  tree_named (Greatest o d e) can = (term_named d can.1, can.2)
+  tree_named (Sum o d e) can = (term_named d can.1, embed_named e can.2)
+  tree_named (Least o d e) can = (term_named d can.1, embed_named e can.2)
+  tree_named (Greatest o d e) can = (term_named d can.1, embed_named e can.2)
   tree_named (Unary op a) can = tree_named a can
   tree_named (Binary op a b) can = (tree_named a can.0, tree_named b can.1)
   tree_named (If c a b) can = (tree_named c can.0, tree_named a can.1, tree_named b can.2)

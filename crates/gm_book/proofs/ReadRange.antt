@@ -22,6 +22,7 @@ use Rattle.gm_model.specs.Trees.{Tree, Number, Truth, Param as Parameter, Field,
 use Rattle.gm_parse.specs.Meaning.{IsUnsigned}
 use Rattle.gm_expr.specs.ExprText.{embed_name}
 use Rattle.gm_expr.specs.Writable as trees
+use Rattle.gm_expr.proofs.Found.{param_low, embed_low, node_there}
 use Rattle.gm_forms.specs.BookText.{BookText}
 use Rattle.gm_book.specs.Unsigned.{HasUnsignedExprs}
 use Rattle.gm_book.proofs.CanonicalForm.{IsGoodWordIfAny, IsGoodNode, IsGoodLink, IsWritable, numbers_where, number_if, hook_on, set_names, IsGoodValue, IsGoodSet, HasGoodSets, HasGoodExprs}
@@ -157,18 +158,23 @@ module _ (schema : Schema) (rule : Rule) (ok : IsWritable schema.dim rule) where
   -- ---- its expressions
 
   term_in_range : (term : DartTerm) → trees.IsGoodTerm schema.embeds rule.params rule.nodes schema.dim term → IsTermInRange schema rule term
-  term_in_range term (node, there, left, labels) = record { node = has_of schema.dim rule ok Left term.node node there ∙ left; path = labels }
+  term_in_range term good =
+      let (node, there, left) = node_there schema.embeds rule.params rule.nodes schema.dim term good in
+      record { node = has_of schema.dim rule ok Left term.node node there ∙ left; path = good.1 }
+
+  embed_in_range : (e : ℕ) → trees.IsGoodEmbed schema.embeds rule.params rule.nodes e → e < length schema.embeds
+  embed_in_range e = embed_low schema.embeds rule.params rule.nodes e
 
   tree_in_range : (tree : Tree) → trees.IsWritable schema.embeds rule.params rule.nodes schema.dim tree → IsTreeInRange schema rule tree
   tree_in_range (Number z) can = tt
   tree_in_range (Truth b) can = tt
-  tree_in_range (Parameter k) can = can
-  tree_in_range (Field d e) can = (term_in_range d can.0, can.1)
+  tree_in_range (Parameter k) can = param_low schema.embeds rule.params rule.nodes k can
+  tree_in_range (Field d e) can = (term_in_range d can.0, embed_in_range e can.1)
   tree_in_range (Same d d') can = (term_in_range d can.0, term_in_range d' can.1)
   tree_in_range (Count o d) can = (can.0, term_in_range d can.1)
-  tree_in_range (Sum o d e) can = (can.0, term_in_range d can.1, can.2)
-  tree_in_range (Least o d e) can = (can.0, term_in_range d can.1, can.2)
-  tree_in_range (Greatest o d e) can = (can.0, term_in_range d can.1, can.2)
+  tree_in_range (Sum o d e) can = (can.0, term_in_range d can.1, embed_in_range e can.2)
+  tree_in_range (Least o d e) can = (can.0, term_in_range d can.1, embed_in_range e can.2)
+  tree_in_range (Greatest o d e) can = (can.0, term_in_range d can.1, embed_in_range e can.2)
   tree_in_range (Unary op a) can = tree_in_range a can
   tree_in_range (Binary op a b) can = (tree_in_range a can.0, tree_in_range b can.1)
   tree_in_range (If c a b) can = (tree_in_range c can.0, tree_in_range a can.1, tree_in_range b can.2)

@@ -236,14 +236,14 @@ lift_is_writable = record {
 
 moved_is_good : IsGoodValue points lift moved (Some Vec2)
 moved_is_good = record {
-  can = (((edge, refl, refl, tt), omega arith), (omega arith, (2, refl, omega arith)));
+  can = (((refl, tt), refl), (refl, (2, refl, omega arith)));
   short = λ marks. (refl, (refl, (refl, (refl, (refl, (refl, (refl, tt)))))));
   kind_is = refl;
 }
 
 short_is_good : IsGoodValue points lift short (Some Truth)
 short_is_good = record {
-  can = (((edge, refl, refl, tt), omega arith), ((edge, refl, refl, (omega arith, tt)), omega arith));
+  can = (((refl, tt), refl), ((refl, (omega arith, tt)), refl));
   short = λ marks. (refl, (refl, (refl, (refl, (refl, (refl, (refl, (refl, (refl, tt)))))))));
   kind_is = refl;
 }

@@ -2,5 +2,6 @@ pub mod Assigned
 pub mod Found
 pub mod InRange
 pub mod Joined
-pub mod Marks
+pub mod Leaders
+pub mod Leading
 pub mod Transfer

@@ -1,4 +1,5 @@
 pub mod Bounds
 pub mod Faults
 pub mod Firsts
+pub mod Leaders
 pub mod NodeSets

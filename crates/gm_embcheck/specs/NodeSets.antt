@@ -1,38 +1,16 @@
 -- Which nodes are marked in a table, and what is asked of the nodes of such a set.
-use Rattle.std.specs.Prelude.{◌≡◌, ◌≢◌, ℕ, ◌<◌, Bool, true, false, not, List, slice_index_or, IsTrue}
-use Rattle.std.specs.List.{count_by}
-use Rattle.gm_model.specs.declared.rule.Link.{Link}
+use Rattle.std.specs.Prelude.{◌≡◌, ℕ, Bool, true, false, List, slice_index_or, IsTrue}
 use Rattle.gm_model.specs.declared.rule.Side.{Side}
 use Rattle.gm_model.specs.declared.rule.Side.TheVariants.{Left, Right}
 use Rattle.gm_model.specs.Components.{IsAssigned, HasLetterIn}
 use Rattle.gm_model.specs.Orbits.{Labels}
 use Rattle.gm_model.specs.Rules.{Rule, is_preserved}
-use Rattle.gm_model.specs.Structure.{IsJoined}
 
 abbrev pub is_in : List Bool → ℕ → Bool
 is_in nodes x = slice_index_or nodes x false
 
 abbrev pub IsIn : List Bool → ℕ → Type 0
 IsIn nodes x = is_in nodes x ≡ true
-
--- the set has a node before x
-abbrev pub HasBefore : List Bool → ℕ → Type 0
-HasBefore nodes x = (y : ℕ) × (y < x) × IsIn nodes y
-
--- ---- how a set grows along links with labels of a type
-
--- how many nodes are not in the set
-abbrev pub count_out : List Bool → ℕ
-count_out nodes = count_by not nodes
-
--- the set has grown along links, and none was lost
-pub record HasSpread (links : List Link) (o : Labels) (old new : List Bool) : Type 0 where
-  pub kept : (x : ℕ) → IsIn old x → IsIn new x
-  pub joined : (x : ℕ) → IsIn new x → (y : ℕ) × IsIn old y × IsJoined links o y x
-
--- the link has a label of the type, and one end in the set and one outside
-abbrev pub Leaves : List Bool → Labels → Link → Type 0
-Leaves nodes o link = IsTrue (o link.label) × (is_in nodes link.from ≢ is_in nodes link.to)
 
 -- ---- nodes of a set
 

@@ -1,17 +1,20 @@
-//! The nodes that links with labels of a set join, as a table of marks by node. A caller gives
-//! links between numbers below 32, with labels up to 7, as a rule in range has them on each side.
-ghost use Rattle.std.specs.Prelude.{◌≡◌, ◌<◌, ◌≤◌, ℕ, ◌↔◌, IsTrue, IsFalse};
-ghost use Rattle.std.specs.List.{All};
-ghost use Rattle.gm_model.specs.declared.rule.Link.{Link};
+//! The components into which links with labels of a set join the nodes of a side: by node the least
+//! one of its component, and the set of one. A caller gives links between numbers below 32, with
+//! labels up to 7, as a rule in range has them on each side.
+ghost use Rattle.std.specs.Prelude.{◌≡◌, ◌<◌, ℕ, ◌↔◌, length, slice_get};
 ghost use Rattle.gm_model.specs.Labels.{has};
 ghost use Rattle.gm_model.specs.Structure.{IsJoined};
 ghost use Rattle.gm_embcheck.specs.Bounds.{HasLinkBounds};
-ghost use Rattle.gm_embcheck.specs.NodeSets.{IsIn, count_out, HasSpread, Leaves};
+ghost use Rattle.gm_embcheck.specs.Leaders.{leader_in, AreLeaders, HasJoined, replaced};
+ghost use Rattle.gm_embcheck.specs.NodeSets.{IsIn};
 
 use gm_model::{Link, MOST_NODES, Mask};
 
 /// A set of nodes, by the number of the node.
 pub type NodeSet = [bool; MOST_NODES];
+
+/// By the number of the node, the least node of its component.
+pub type Leaders = [u8; MOST_NODES];
 
 /// The nodes to which links with labels of the mask lead from the node.
 pub fn component_of(links: &[Link], mask: Mask, node: u8) -> NodeSet
@@ -19,37 +22,68 @@ pub fn component_of(links: &[Link], mask: Mask, node: u8) -> NodeSet
     requires links { HasLinkBounds links.now }
     ensures { (x : ℕ) → IsIn result x ↔ IsJoined links.now (has mask) node x }
 {
+    nodes_of(&leaders_of(links, mask), node)
+}
+
+/// The leader of each node: the least one to which links with labels of the mask lead from it.
+pub fn leaders_of(links: &[Link], mask: Mask) -> Leaders
+    requires { HasLinkBounds links.now }
+    ensures { AreLeaders links.now (has mask) result }
+{
+    let mut leaders = each_alone();
+    for link in links {
+        if mask.has(link.label) {
+            join(&mut leaders, link.from, link.to);
+        }
+    }
+    leaders
+}
+
+/// The nodes that have the leader of this one.
+pub fn nodes_of(leaders: &Leaders, node: u8) -> NodeSet
+    requires { node < 32 }
+    ensures { (x : ℕ) → IsIn result x ↔ ((x < 32) × (leader_in leaders.now x ≡ leader_in leaders.now node)) }
+{
+    let leader = leaders[node as usize];
     let mut nodes = [false; MOST_NODES];
-    nodes[node as usize] = true;
-    while spread(links, mask, &mut nodes) {}
+    for other in 0..MOST_NODES {
+        nodes[other] = leaders[other] == leader;
+    }
     nodes
 }
 
-/// Adds both ends of each link with a label of the mask of which one end is in the set, in one
-/// pass, and tells whether there was such a link.
-fn spread(links: &[Link], mask: Mask, nodes: &mut NodeSet) -> bool
-    requires { HasLinkBounds links.now }
-    ensures spread { HasSpread links.now (has mask) nodes.old nodes.new }
-    ensures more { IsTrue result → count_out nodes.new < count_out nodes.old }
-    ensures done { IsFalse result → All (λ (link : Link). Leaves nodes.new (has mask) link → ⊥) links.now }
+/// Each node as its own leader.
+fn each_alone() -> Leaders
+    ensures { (x : ℕ) → x < 32 → leader_in result x ≡ x }
 {
-    let mut has_spread = false;
-    for link in links {
-        if leaves(nodes, mask, *link) {
-            nodes[link.from as usize] = true;
-            nodes[link.to as usize] = true;
-            has_spread = true;
-        }
+    let mut leaders = [0; MOST_NODES];
+    for node in 0..MOST_NODES {
+        leaders[node] = node as u8;
     }
-    has_spread
+    leaders
 }
 
-/// Whether the link has a label of the mask, and one end in the set and one outside.
-fn leaves(nodes: &NodeSet, mask: Mask, link: Link) -> bool
-    requires from { link.from < 32 }
-    requires to { link.to < 32 }
-    requires label { link.label ≤ 7 }
-    ensures { IsTrue result ↔ Leaves nodes.now (has mask) link }
+/// Makes one component of those of both nodes.
+fn join(leaders: &mut Leaders, from: u8, to: u8)
+    requires from { from < 32 }
+    requires to { to < 32 }
+    ensures { HasJoined leaders.old leaders.new (leader_in leaders.old from) (leader_in leaders.old to) }
 {
-    mask.has(link.label) && nodes[link.from as usize] != nodes[link.to as usize]
+    let first = leaders[from as usize];
+    let second = leaders[to as usize];
+    if first < second {
+        replace(leaders, second, first);
+    } else if second < first {
+        replace(leaders, first, second);
+    }
+}
+
+/// Gives the nodes of one leader another one.
+fn replace(leaders: &mut Leaders, old: u8, new: u8)
+    ensures { (x : ℕ) → x < 32 → leader_in leaders.new x ≡ replaced old new (leader_in leaders.old x) }
+{
+    for node in 0..MOST_NODES {
+        let leader = leaders[node];
+        leaders[node] = if leader == old { new } else { leader };
+    }
 }

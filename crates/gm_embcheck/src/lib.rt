@@ -18,10 +18,9 @@ mod places;
 mod preserved;
 mod sources;
 
-use crate::nodes::has_before;
 use crate::sources::check_component;
 pub use assignments::assigns;
-pub use component::{NodeSet, component_of};
+pub use component::{Leaders, NodeSet, component_of, leaders_of, nodes_of};
 use gm_model::{Mask, RuleFault, RuleTable, Schema, Side};
 pub use preserved::first_preserved;
 
@@ -51,12 +50,12 @@ fn check_embedding(rule: &RuleTable, embed: u8, mask: Mask) -> Result<(), RuleFa
         (λ _. (x : ℕ) → IsTrue (has_word (rule_of rule.now) Right x) → HasSource (rule_of rule.now) embed (has mask) x)
         (λ fault. IsFirstComponentFault (rule_of rule.now) embed (has mask) fault) }
 {
+    let left = leaders_of(rule.links(Side::Left), mask);
+    let right = leaders_of(rule.links(Side::Right), mask);
     for node in 0..rule.node_count() {
-        if rule.word(Side::Right, node).is_some() {
-            let component = component_of(rule.links(Side::Right), mask, node);
-            if !has_before(&component, node) {
-                check_component(rule, embed, mask, node, &component)?;
-            }
+        if rule.word(Side::Right, node).is_some() && right[node as usize] == node {
+            let component = nodes_of(&right, node);
+            check_component(rule, embed, mask, node, &component, &left)?;
         }
     }
     Ok(())

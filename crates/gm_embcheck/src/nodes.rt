@@ -1,26 +1,13 @@
-//! The least node of a component, and the first one with an assignment, or preserved outside a set.
+//! The first node of a component with an assignment, or preserved outside a set.
 ghost use Rattle.std.specs.Prelude.{◌<◌, ◌≤◌, ◌↔◌, length, IsTrue, IfSome, MatchOption};
 ghost use Rattle.gm_model.specs.Rules.{rule_of};
 ghost use Rattle.gm_embcheck.specs.Firsts.{HasNoneFrom, IsFirstFrom};
-ghost use Rattle.gm_embcheck.specs.NodeSets.{HasBefore, IsAssignedIn, IsPreservedOutside};
+ghost use Rattle.gm_embcheck.specs.NodeSets.{IsAssignedIn, IsPreservedOutside};
 
 use crate::assignments::assigns;
 use crate::component::NodeSet;
 use crate::preserved::preserves;
 use gm_model::RuleTable;
-
-/// Whether the set has a node before this one.
-pub fn has_before(nodes: &NodeSet, node: u8) -> bool
-    requires { node < 32 }
-    ensures { IsTrue result ↔ HasBefore nodes.now node }
-{
-    for earlier in 0..node {
-        if nodes[earlier as usize] {
-            return true;
-        }
-    }
-    false
-}
 
 /// The first node of the component, from `start` on, with an assignment to the embedding.
 pub fn first_assigned(rule: &RuleTable, embed: u8, component: &NodeSet, start: u8) -> Option<u8>

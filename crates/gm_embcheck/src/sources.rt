@@ -6,13 +6,14 @@ ghost use Rattle.gm_model.specs.Rules.{rule_of};
 ghost use Rattle.gm_embcheck.specs.Bounds.{HasBounds};
 ghost use Rattle.gm_embcheck.specs.Faults.{IsSecondAssigned};
 ghost use Rattle.gm_embcheck.specs.Firsts.{HasNoneFrom};
+ghost use Rattle.gm_embcheck.specs.Leaders.{AreLeaders};
 ghost use Rattle.gm_embcheck.specs.NodeSets.{IsIn, IsAssignedIn};
 
-use crate::component::{NodeSet, component_of};
+use crate::component::{Leaders, NodeSet, nodes_of};
 use crate::nodes::{first_assigned, first_outside};
 use crate::places::first_uncovered;
 use crate::preserved::first_preserved;
-use gm_model::{Mask, RuleFault, RuleTable, Side};
+use gm_model::{Mask, RuleFault, RuleTable};
 
 /// The first fault of the right component of the node, which is its least.
 pub fn check_component(
@@ -21,16 +22,18 @@ pub fn check_component(
     mask: Mask,
     node: u8,
     component: &NodeSet,
+    left: &Leaders,
 ) -> Result<(), RuleFault>
     requires bounds { HasBounds (rule_of rule.now) }
     requires component { (x : ℕ) → IsIn component.now x ↔ IsTogether (rule_of rule.now) (has mask) node x }
+    requires left { AreLeaders (rule_of rule.now).left_links (has mask) left.now }
     ensures { MatchResult result
         (λ _. HasSource (rule_of rule.now) embed (has mask) node)
         (λ fault. IsComponentFault (rule_of rule.now) embed (has mask) node fault) }
 {
     match first_assigned(rule, embed, component, 0) {
         Some(first) => check_only(rule, embed, component, first),
-        None => check_unassigned(rule, embed, mask, node, component),
+        None => check_unassigned(rule, embed, mask, node, component, left),
     }
 }
 
@@ -59,16 +62,18 @@ fn check_unassigned(
     mask: Mask,
     node: u8,
     component: &NodeSet,
+    left: &Leaders,
 ) -> Result<(), RuleFault>
     requires bounds { HasBounds (rule_of rule.now) }
     requires component { (x : ℕ) → IsIn component.now x ↔ IsTogether (rule_of rule.now) (has mask) node x }
+    requires left { AreLeaders (rule_of rule.now).left_links (has mask) left.now }
     requires unassigned { IsUnassigned (rule_of rule.now) embed (has mask) node }
     ensures { MatchResult result
         (λ _. HasSource (rule_of rule.now) embed (has mask) node)
         (λ fault. IsComponentFault (rule_of rule.now) embed (has mask) node fault) }
 {
     match first_preserved(rule, component) {
-        Some(keeper) => check_inherited(rule, embed, mask, node, component, keeper),
+        Some(keeper) => check_inherited(rule, embed, mask, node, component, left, keeper),
         None => Err(RuleFault::NoValue { embed, node }),
     }
 }
@@ -80,10 +85,12 @@ fn check_inherited(
     mask: Mask,
     node: u8,
     component: &NodeSet,
+    left: &Leaders,
     keeper: u8,
 ) -> Result<(), RuleFault>
     requires bounds { HasBounds (rule_of rule.now) }
     requires component { (x : ℕ) → IsIn component.now x ↔ IsTogether (rule_of rule.now) (has mask) node x }
+    requires left { AreLeaders (rule_of rule.now).left_links (has mask) left.now }
     requires unassigned { IsUnassigned (rule_of rule.now) embed (has mask) node }
     requires keeper { IsKeeper (rule_of rule.now) (has mask) node keeper }
     requires below { keeper < 32 }
@@ -91,7 +98,7 @@ fn check_inherited(
         (λ _. IsInherited (rule_of rule.now) (has mask) node keeper)
         (λ fault. IsComponentFault (rule_of rule.now) embed (has mask) node fault) }
 {
-    let left = component_of(rule.links(Side::Left), mask, keeper);
+    let left = nodes_of(left, keeper);
     if let Some(other) = first_outside(rule, component, &left) {
         return Err(RuleFault::Merge {
             embed,

@@ -15,7 +15,7 @@ use Rattle.gm_model.specs.Values.{IsValueOf, kind_of}
 use Rattle.gm_arena.specs.ArenaAsMap.{value}
 use Rattle.gm_arena.specs.ArenaMap.{IsLiveSlot, name_at}
 use Rattle.gm_arena.proofs.ArenaIsMap.{is_map}
-use Rattle.gm_arena.proofs.MapLemmas.{IsLiveName-name_at}
+use Rattle.gm_arena.proofs.MapLemmas.{IsLiveName-alpha, IsLiveName-name_at}
 use Rattle.gm_arena.specs.declared.slot.Slot.{Slot}
 use Rattle.gm_walk.specs.Walks.{AreLive}
 use Rattle.gm_theory.proofs.ReadingsTyped.{then_some}
@@ -30,7 +30,7 @@ module _ (reader : Reader) (tree : Tree) (ready : IsReady reader tree) where
   pub is_reading : IsReadingOf ready.typed.rule (reading_of reader)
   is_reading = record {
     is_map = is_map reader.arena.now ready.here.lawful;
-    generalised = ready.here.generalised;
+    stays = λ d i live low. IsLiveName-alpha reader.arena.now i d ready.here.lawful live low;
     darts = λ x h. IsLiveName-name_at reader.arena.now _ ready.here.lawful (ready.here.live x (ready.typed.nodes_among x h));
   }
 

@@ -5,11 +5,9 @@ use Rattle.gm_model.specs.declared.value.Value.{Value}
 use Rattle.gm_model.specs.declared.value.Value.TheVariants.{Int}
 use Rattle.gm_model.specs.declared.word.Mask.{Mask}
 use Rattle.gm_model.specs.Expressions.{Reading, HasValue, HasNoValue, IsCollected, dart_at}
-use Rattle.gm_model.specs.Maps.{IsGeneralised}
 use Rattle.gm_model.specs.Orbits.{IsListOf}
 use Rattle.gm_model.specs.Trees.{Tree}
 use Rattle.gm_arena.specs.declared.slot.Slot.{Slot}
-use Rattle.gm_arena.specs.ArenaAsMap.{as_map}
 use Rattle.gm_arena.specs.Lawful.{IsLawful}
 use Rattle.gm_walk.specs.Walks.{AreLive, names_of}
 use Rattle.gm_eval.specs.declared.reader.Reader.{Reader}
@@ -21,7 +19,6 @@ reading_of reader = reading_in reader.arena.now reader.found.now reader.position
 -- the position is one of the application, and its slots are live
 pub record IsHere (reader : Reader) : Type 0 where
   pub lawful : IsLawful reader.arena.now
-  pub generalised : IsGeneralised (as_map reader.arena.now)
   pub position : reader.position < reader.found.now.positions
   pub live : AreLiveAt reader.arena.now reader.found.now reader.position
 

@@ -3,7 +3,6 @@
 ghost use Rattle.std.specs.Prelude.{◌≡◌, ◌+◌, ◌*◌, ◌<◌, ◌≤◌, ℕ, MatchOption};
 ghost use Rattle.gm_arena.specs.ArenaAsMap.{as_map};
 ghost use Rattle.gm_model.specs.Expressions.{HasValue, HasNoValue, HasUnits};
-ghost use Rattle.gm_model.specs.Maps.{IsGeneralised};
 ghost use Rattle.gm_model.specs.Trees.{tree_of};
 ghost use Rattle.gm_walk.specs.Room.{Fits};
 ghost use Rattle.gm_eval.specs.Places.{AreLiveAt, IsTypedFor, reading_in};
@@ -26,7 +25,6 @@ pub fn eval<L: Ledger>(
     scratch: &mut Scratch,
     steps: &mut Steps<L>,
 ) -> Option<Value>
-    requires generalised { IsGeneralised (as_map arena.now) }
     requires position { position < found.now.positions }
     requires live { AreLiveAt arena.now found.now position }
     requires typed { IsTypedFor arena.now.schema found.now.nodes params.now (tree_of expr.now) }

@@ -1,10 +1,9 @@
 -- No good form of a tree has fewer parts than the canonical one, which passes no limit where some form passes none.
-use Rattle.std.proofs.Common.{◌≡◌, ℕ, ◌+◌, ◌<◌, ◌≤◌, ℤ, Bool, true, false, if◌then◌else◌, List, [], ◌∷◌, ◌++◌, length, Option, Some, None, codes, refl, sym, ap, ap₂, ◌∙◌, arith}
+use Rattle.std.proofs.Common.{◌≡◌, ℕ, ◌+◌, ◌≤◌, ℤ, Bool, true, false, if◌then◌else◌, List, [], ◌∷◌, ◌++◌, length, Option, Some, None, codes, refl, sym, ap, ap₂, ◌∙◌, arith}
 use Rattle.std.specs.List.{AllByRecursion}
 use Rattle.std.specs.Prelude.{nat_lt}
 use Rattle.std.specs.Str.{bytes_eq}
 use Rattle.std.proofs.lemmas.Bool.Decides.{nat_tests}
-use Rattle.std.proofs.lemmas.Option.{slice_get_within}
 use Rattle.gm_model.specs.declared.expr.BinOp.{BinOp}
 use Rattle.gm_model.specs.declared.expr.BinOp.TheVariants as ops
 use Rattle.gm_model.specs.declared.expr.DartTerm.{DartTerm}
@@ -30,7 +29,8 @@ use Rattle.gm_parse.specs.Levels.{unary_level, least_of_part, least_on_left, lea
 use Rattle.gm_parse.specs.Meaning.{Names, function_named, call_of, tree_in, trees_in}
 use Rattle.gm_parse.specs.Spelling.{Role, NameAt, Counted, greatest, limit_of, passed_by, limit_in, sign, word, operator, spell_labels, spell_orbit, spell_path, spell_term, spell_field, spell, spell_arguments, counted_from, parts_of}
 use Rattle.gm_expr.specs.ExprText.{level, param_name, embed_name}
-use Rattle.gm_expr.specs.Writable.{AreGoodNames, IsGoodTerm, IsGoodMask, IsWritable}
+use Rattle.gm_expr.specs.Writable.{AreGoodNames, IsGoodEmbed, IsGoodTerm, IsGoodMask, IsWritable}
+use Rattle.gm_expr.proofs.Found.{param_low, embed_low, node_low}
 use Rattle.gm_expr.proofs.Canonical.{behind, place_in, at, labels_at, behind_orbit, orbit_at, behind_term, written, function_name, unary_form, within_unary, is_wrapped, enclosed, within, behind_tree, term_at, embed_at, collect_at, form_at}
 use Rattle.gm_expr.proofs.CanonicalMeaning.{good_at}
 use Rattle.gm_expr.proofs.MaskLabels.{labels_fewest, all_labels}
@@ -420,23 +420,23 @@ module _ (embeds : List Embed) (params : List Param) (nodes : List RuleNode) (go
   canon = form_at embeds params nodes
 
   node_limited : (term : DartTerm) (place : ℕ) → IsGoodTerm embeds params nodes n term → limit_of (NameAt place) (Word (name_at nodes term.node)) ≡ None
-  node_limited term place (node, here, left, path) =
-      name_limited place (name_at nodes term.node) (good_at (λ (node : RuleNode). node.name) nodes term.node good.nodes_are (slice_get_within nodes term.node node here)).0.0
+  node_limited term place is =
+      name_limited place (name_at nodes term.node) (good_at (λ (node : RuleNode). node.name) nodes term.node good.nodes_are (node_low embeds params nodes n term is)).0.0
 
-  embed_limited : (e place : ℕ) → e < length embeds → limit_of (NameAt place) (Word (embed_name embeds e)) ≡ None
-  embed_limited e place low = name_limited place (embed_name embeds e) (good_at (λ (embed : Embed). embed.name) embeds e good.embeds_are low).0.0
+  embed_limited : (e place : ℕ) → IsGoodEmbed embeds params nodes e → limit_of (NameAt place) (Word (embed_name embeds e)) ≡ None
+  embed_limited e place is = name_limited place (embed_name embeds e) (good_at (λ (embed : Embed). embed.name) embeds e good.embeds_are (embed_low embeds params nodes e is)).0.0
 
   term_limited : (marks : List Mark) (term : DartTerm) (rest : List (Part Role)) → IsGoodTerm embeds params nodes n term → AreLimited rest → AreLimited (spell_term n (term_at embeds params nodes marks term) rest)
-  term_limited marks term rest is limited = (node_limited term (place_in marks) is, path_limited n term.path rest is.3 limited)
+  term_limited marks term rest is limited = (node_limited term (place_in marks) is, path_limited n term.path rest is.1 limited)
 
-  field_limited : (marks behind_it : List Mark) (term : DartTerm) (e : ℕ) (rest : List (Part Role)) → IsGoodTerm embeds params nodes n term → e < length embeds → AreLimited rest
+  field_limited : (marks behind_it : List Mark) (term : DartTerm) (e : ℕ) (rest : List (Part Role)) → IsGoodTerm embeds params nodes n term → IsGoodEmbed embeds params nodes e → AreLimited rest
       → AreLimited (spell_field n (term_at embeds params nodes marks term) (embed_at embeds params nodes behind_it e) rest)
   field_limited marks behind_it term e rest is low limited = term_limited marks term _ is (refl, (embed_limited e (place_in behind_it) low, limited))
 
   orbit_limited : (marks : List Mark) (mask : Mask) (rest : List (Part Role)) → IsGoodMask embeds params nodes n mask → AreLimited rest → AreLimited (spell_orbit n (orbit_at marks mask) rest)
   orbit_limited marks mask rest is limited = (refl, labels_limited n (behind marks) (labels_in mask) (sign (codes ">") ∷ rest) (all_labels (λ i. i ≤ n) mask is) (refl, limited))
 
-  collect_limited : (collector : Collector) (marks : List Mark) (mask : Mask) (term : DartTerm) (e : ℕ) → IsGoodMask embeds params nodes n mask → IsGoodTerm embeds params nodes n term → e < length embeds → IsLimited n (collect_at embeds params nodes marks collector mask term e)
+  collect_limited : (collector : Collector) (marks : List Mark) (mask : Mask) (term : DartTerm) (e : ℕ) → IsGoodMask embeds params nodes n mask → IsGoodTerm embeds params nodes n term → IsGoodEmbed embeds params nodes e → IsLimited n (collect_at embeds params nodes marks collector mask term e)
   collect_limited collector marks mask term e small is low rest limited =
       (refl, orbit_limited (behind marks) mask _ small (refl, field_limited (behind (behind_orbit mask (behind marks))) (behind (behind_term term (behind (behind_orbit mask (behind marks))))) term e (sign (codes ")") ∷ rest) is low (refl, limited)))
 
@@ -444,7 +444,7 @@ module _ (embeds : List Embed) (params : List Param) (nodes : List RuleNode) (go
   tree_limited (Number z) (k, is, low) marks rest limited =
       (ap (λ (y : ℤ). if nat_lt greatest (written y) then Some limits.Integer else None) is ∙ ap (λ (b : Bool). if b then Some limits.Integer else None) (not_above greatest k low), limited)
   tree_limited (Truth b) is marks rest limited = (refl, limited)
-  tree_limited (Parameter k) is marks rest limited = (name_limited (place_in marks) (param_name params k) (good_at (λ (param : Param). param.name) params k good.params_are is).0.0, limited)
+  tree_limited (Parameter k) is marks rest limited = (name_limited (place_in marks) (param_name params k) (good_at (λ (param : Param). param.name) params k good.params_are (param_low embeds params nodes k is)).0.0, limited)
   tree_limited (Field d e) is marks rest limited = field_limited marks (behind (behind_term d marks)) d e rest is.0 is.1 limited
   tree_limited (Same d d') is marks rest limited =
       let first = behind (behind marks) in

@@ -1,11 +1,10 @@
 -- The canonical form of a tree is a good form that means the tree, without a fault.
-use Rattle.std.proofs.Common.{◌≡◌, ℕ, zero, suc, ◌<◌, ◌≤◌, pos, ℤ, Bool, true, false, if◌then◌else◌, List, [], ◌∷◌, ◌++◌, length, map, Option, Some, None, refl, sym, ap, ap₂, ◌∙◌, arith}
+use Rattle.std.proofs.Common.{◌≡◌, ℕ, zero, suc, ◌<◌, ◌≤◌, pos, ℤ, Bool, true, false, List, [], ◌∷◌, ◌++◌, length, map, Option, Some, refl, sym, ap, ap₂, ◌∙◌, arith}
 use Rattle.std.specs.Prelude.{nat_lt, slice_get}
 use Rattle.std.specs.List.{AllByRecursion, position}
 use Rattle.std.specs.Option.{option_map, unwrap_or}
 use Rattle.std.specs.Str.{bytes_eq}
 use Rattle.std.proofs.lemmas.Bool.Decides.{nat_tests}
-use Rattle.std.proofs.lemmas.Option.{slice_get-map, slice_get_within}
 use Rattle.gm_model.specs.declared.expr.BinOp.{BinOp}
 use Rattle.gm_model.specs.declared.expr.BinOp.TheVariants as ops
 use Rattle.gm_model.specs.declared.expr.DartTerm.{DartTerm}
@@ -25,7 +24,8 @@ use Rattle.gm_parse.specs.Levels.{unary_level, least_of_part, least_on_left, lea
 use Rattle.gm_parse.specs.Meaning.{Names, NameFault, is_named, node_number, embed_number, param_number, unknown, term_faults, field_faults, faults_in, mask_of, term_in, embed_in, tree_in}
 use Rattle.gm_text.specs.SchemaText.{labels_in}
 use Rattle.gm_expr.specs.ExprText.{level, param_name, embed_name}
-use Rattle.gm_expr.specs.Writable.{IsGoodName, AreGoodNames, IsGoodTerm, IsGoodMask, IsWritable, left_name_of, AreDifferent}
+use Rattle.gm_expr.specs.Writable.{IsGoodName, AreGoodNames, IsGoodParam, IsGoodEmbed, IsGoodTerm, IsGoodMask, IsWritable, left_name_of}
+use Rattle.gm_expr.proofs.Found.{param_low, embed_low, node_low}
 use Rattle.gm_expr.proofs.Canonical.{behind, at, labels_at, behind_orbit, behind_term, written, function_name, unary_form, within_unary, is_wrapped, enclosed, within, behind_tree, term_at, embed_at, collect_at, form_at}
 use Rattle.gm_expr.proofs.MaskLabels.{mask_again, labels_faultless}
 
@@ -91,11 +91,6 @@ good_at name_of [] k all low = absurd (omega (arith, low))
 good_at name_of (x ∷ xs) zero all low = all.0
 good_at name_of (x ∷ xs) (suc k) all low = good_at name_of xs k all.1 (omega (arith, low))
 
-named_at : {X : Type 0} (name_of : X → List ℕ) (xs : List X) (k : ℕ) → k < length xs → slice_get (map name_of xs) k ≡ Some (unwrap_or (option_map name_of (slice_get xs k)) [])
-named_at name_of [] k low = absurd (omega (arith, low))
-named_at name_of (x ∷ xs) zero low = refl
-named_at name_of (x ∷ xs) (suc k) low = named_at name_of xs k (omega (arith, low))
-
 -- ---- faults
 
 known : {A : Type 0} (mention : Mention) (found : Option A) (x : A) → found ≡ Some x → unknown mention found ≡ []
@@ -131,15 +126,15 @@ module _ (embeds : List Embed) (params : List Param) (nodes : List RuleNode) whe
 
   module _ (good : AreGoodNames embeds params nodes) where
     term_free : (n : ℕ) (term : DartTerm) → IsGoodTerm embeds params nodes n term → is_among reserved (name_at nodes term.node) ≡ false
-    term_free n term (node, here, left, path) = (good_at (λ (node : RuleNode). node.name) nodes term.node good.nodes_are (slice_get_within nodes term.node node here)).1
+    term_free n term is = (good_at (λ (node : RuleNode). node.name) nodes term.node good.nodes_are (node_low embeds params nodes n term is)).1
 
-    embed_free : (e : ℕ) → e < length embeds → is_among reserved (embed_name embeds e) ≡ false
-    embed_free e low = (good_at (λ (embed : Embed). embed.name) embeds e good.embeds_are low).1
+    embed_free : (e : ℕ) → IsGoodEmbed embeds params nodes e → is_among reserved (embed_name embeds e) ≡ false
+    embed_free e is = (good_at (λ (embed : Embed). embed.name) embeds e good.embeds_are (embed_low embeds params nodes e is)).1
 
     pub tree_good : (n : ℕ) (tree : Tree) → IsWritable embeds params nodes n tree → (marks : List Mark) → IsGood (form_at embeds params nodes marks tree)
     tree_good n (Number z) is marks = tt
     tree_good n (Truth b) is marks = tt
-    tree_good n (Parameter k) is marks = (good_at (λ (param : Param). param.name) params k good.params_are is).1
+    tree_good n (Parameter k) is marks = (good_at (λ (param : Param). param.name) params k good.params_are (param_low embeds params nodes k is)).1
     tree_good n (Field d e) is marks = (term_free n d is.0, embed_free e is.1)
     tree_good n (Same d d') is marks = (term_free n d is.0, term_free n d' is.1)
     tree_good n (Count o d) is marks = term_free n d is.1
@@ -168,25 +163,20 @@ module _ (embeds : List Embed) (params : List Param) (nodes : List RuleNode) whe
 
   -- ---- what it means
 
-  module _ (names : Names) (embeds_are : names.embeds ≡ map (λ (embed : Embed). embed.name) embeds) (params_are : names.params ≡ map (λ (param : Param). param.name) params) (nodes_are : names.nodes ≡ map left_name_of nodes) (different : AreDifferent names) (n : ℕ) (top : n ≤ 7) where
-    param_is : (k : ℕ) → k < length params → position (bytes_eq (param_name params k)) names.params ≡ Some k
-    param_is k low = different.params_differ k (param_name params k) (ap (λ (list : List (List ℕ)). slice_get list k) params_are ∙ named_at (λ (param : Param). param.name) params k low)
+  module _ (names : Names) (embeds_are : names.embeds ≡ map (λ (embed : Embed). embed.name) embeds) (params_are : names.params ≡ map (λ (param : Param). param.name) params) (nodes_are : names.nodes ≡ map left_name_of nodes) (n : ℕ) (top : n ≤ 7) where
+    param_is : (k : ℕ) → IsGoodParam embeds params nodes k → position (bytes_eq (param_name params k)) names.params ≡ Some k
+    param_is k is = ap (position (bytes_eq (param_name params k))) params_are ∙ is
 
-    embed_is : (e : ℕ) → e < length embeds → position (bytes_eq (embed_name embeds e)) names.embeds ≡ Some e
-    embed_is e low = different.embeds_differ e (embed_name embeds e) (ap (λ (list : List (List ℕ)). slice_get list e) embeds_are ∙ named_at (λ (embed : Embed). embed.name) embeds e low)
+    embed_is : (e : ℕ) → IsGoodEmbed embeds params nodes e → position (bytes_eq (embed_name embeds e)) names.embeds ≡ Some e
+    embed_is e is = ap (position (bytes_eq (embed_name embeds e))) embeds_are ∙ is
 
     node_is : (term : DartTerm) → IsGoodTerm embeds params nodes n term → position (is_named (name_at nodes term.node)) names.nodes ≡ Some term.node
-    node_is term (node, here, left, path) =
-        let name : name_at nodes term.node ≡ node.name = ap (λ (found : Option RuleNode). unwrap_or (option_map (λ (node : RuleNode). node.name) found) []) here in
-        let left_name : left_name_of node ≡ Some node.name = ap (λ (b : Bool). if b then Some node.name else None) left in
-        let there : slice_get names.nodes term.node ≡ Some (Some node.name) =
-        ap (λ (list : List (Option (List ℕ))). slice_get list term.node) nodes_are ∙ slice_get-map left_name_of nodes term.node ∙ ap (option_map left_name_of) here ∙ ap Some left_name in
-        ap (λ (w : List ℕ). position (is_named w) names.nodes) name ∙ different.nodes_differ term.node node.name there
+    node_is term is = ap (position (is_named (name_at nodes term.node))) nodes_are ∙ is.0
 
     term_means : (term : DartTerm) → IsGoodTerm embeds params nodes n term → term_in names (term_at embeds params nodes [] term) ≡ term
     term_means term is = ap (λ (found : Option ℕ). let t : DartTerm = record { node = unwrap_or found 0; path = term.path } in t) (node_is term is)
 
-    embed_means : (e : ℕ) → e < length embeds → embed_in names (embed_at embeds params nodes [] e) ≡ e
+    embed_means : (e : ℕ) → IsGoodEmbed embeds params nodes e → embed_in names (embed_at embeds params nodes [] e) ≡ e
     embed_means e low = ap (λ (found : Option ℕ). unwrap_or found 0) (embed_is e low)
 
     orbit_means : (mask : Mask) → IsGoodMask embeds params nodes n mask → (marks : List Mark) → mask_of (labels_at marks (labels_in mask)) ≡ mask
@@ -245,10 +235,10 @@ module _ (embeds : List Embed) (params : List Param) (nodes : List RuleNode) whe
     term_known : (marks : List Mark) (term : DartTerm) → IsGoodTerm embeds params nodes n term → term_faults names (term_at embeds params nodes marks term) ≡ []
     term_known marks term is = known (at marks (name_at nodes term.node)) (node_number names (at marks (name_at nodes term.node))) term.node (node_is term is)
 
-    field_known : (marks behind_it : List Mark) (term : DartTerm) (e : ℕ) → IsGoodTerm embeds params nodes n term → e < length embeds → field_faults names (term_at embeds params nodes marks term) (embed_at embeds params nodes behind_it e) ≡ []
+    field_known : (marks behind_it : List Mark) (term : DartTerm) (e : ℕ) → IsGoodTerm embeds params nodes n term → IsGoodEmbed embeds params nodes e → field_faults names (term_at embeds params nodes marks term) (embed_at embeds params nodes behind_it e) ≡ []
     field_known marks behind_it term e is low = both_none (term_known marks term is) (known (embed_at embeds params nodes behind_it e) (embed_number names (embed_at embeds params nodes behind_it e)) e (embed_is e low))
 
-    collect_known : (collector : Collector) (marks : List Mark) (mask : Mask) (term : DartTerm) (e : ℕ) → IsGoodTerm embeds params nodes n term → e < length embeds → faults_in names (collect_at embeds params nodes marks collector mask term e) ≡ []
+    collect_known : (collector : Collector) (marks : List Mark) (mask : Mask) (term : DartTerm) (e : ℕ) → IsGoodTerm embeds params nodes n term → IsGoodEmbed embeds params nodes e → faults_in names (collect_at embeds params nodes marks collector mask term e) ≡ []
     collect_known collector marks mask term e is low = both_none (labels_faultless mask (behind (behind marks))) (field_known (behind (behind_orbit mask (behind marks))) (behind (behind_term term (behind (behind_orbit mask (behind marks))))) term e is low)
 
     enclosed_known : (wrapped : Bool) (form : Form) → faults_in names form ≡ [] → faults_in names (enclosed wrapped form) ≡ []

@@ -25,7 +25,7 @@ use Rattle.gm_parse.proofs.Counted.{spot_behind, no_longer}
 use Rattle.gm_parse.proofs.Standing.{other_spot}
 use Rattle.gm_expr.specs.ExprText.{tree_text}
 use Rattle.gm_expr.specs.Whole.{IsReadWhole}
-use Rattle.gm_expr.specs.Writable.{left_name_of, names_of, AreDifferent, AreGoodNames, IsWritable}
+use Rattle.gm_expr.specs.Writable.{left_name_of, names_of, AreGoodNames, IsWritable}
 use Rattle.gm_expr.proofs.Canonical.{form_at, behind_tree}
 use Rattle.gm_expr.proofs.CanonicalLength.{AreWithin, short_within, tree_within}
 use Rattle.gm_expr.proofs.CanonicalMeaning.{tree_good, tree_means, tree_faultless}
@@ -151,7 +151,7 @@ module _ (embeds : List Embed) (params : List Param) (nodes : List RuleNode) (go
         ends = no_longer n canon (tree_good embeds params nodes good n tree writable (marks_of written)) End (other_spot (spot_behind n canon) End refl);
       }
 
-  module _ (names : Names) (embeds_are : names.embeds ≡ map (λ (embed : Embed). embed.name) embeds) (params_are : names.params ≡ map (λ (param : Param). param.name) params) (nodes_are : names.nodes ≡ map left_name_of nodes) (different : AreDifferent names) where
+  module _ (names : Names) (embeds_are : names.embeds ≡ map (λ (embed : Embed). embed.name) embeds) (params_are : names.params ≡ map (λ (param : Param). param.name) params) (nodes_are : names.nodes ≡ map left_name_of nodes) where
     abbrev Again : Type 0
     Again = IsReadWhole n names written tree
 
@@ -159,8 +159,8 @@ module _ (embeds : List Embed) (params : List Param) (nodes : List RuleNode) (go
     read_within within = record {
       form = canon;
       stands = stands_whole within;
-      known = tree_faultless embeds params nodes names embeds_are params_are nodes_are different n top tree writable (marks_of written);
-      means = sym (tree_means embeds params nodes names embeds_are params_are nodes_are different n top tree writable (marks_of written));
+      known = tree_faultless embeds params nodes names embeds_are params_are nodes_are n top tree writable (marks_of written);
+      means = sym (tree_means embeds params nodes names embeds_are params_are nodes_are n top tree writable (marks_of written));
     }
 
     -- where it has no more tokens than an expression can have

@@ -1,9 +1,8 @@
 -- The symbols of the canonical text of a tree are those of its canonical form.
-use Rattle.std.proofs.Common.{◌≡◌, ℕ, ◌<◌, ◌≤◌, Bool, true, false, ◌||◌, ◌==◌, if◌then◌else◌, List, [], ◌∷◌, ◌++◌, length, ℤ, pos, negsuc, refl, ap, ◌∙◌, append_assoc, codes, arith}
+use Rattle.std.proofs.Common.{◌≡◌, ℕ, ◌≤◌, Bool, true, false, ◌||◌, ◌==◌, if◌then◌else◌, List, [], ◌∷◌, ◌++◌, ℤ, pos, negsuc, refl, ap, ◌∙◌, append_assoc, codes, arith}
 use Rattle.std.specs.Prelude.{IsTrue, decimal}
 use Rattle.std.specs.List.{AllByRecursion, flat_map}
 use Rattle.std.proofs.lemmas.Bool.Decides.{nat_tests}
-use Rattle.std.proofs.lemmas.Option.{slice_get_within}
 use Rattle.gm_model.specs.declared.expr.BinOp.{BinOp}
 use Rattle.gm_model.specs.declared.expr.BinOp.TheVariants as ops
 use Rattle.gm_model.specs.declared.expr.DartTerm.{DartTerm}
@@ -28,7 +27,8 @@ use Rattle.gm_parse.specs.Levels.{least_of_part, least_on_left, least_on_right}
 use Rattle.gm_parse.specs.Spelling.{Role, greatest, collector_word, operator, spell, spell_labels, spell_orbit, spell_path, spell_term, spell_field}
 use Rattle.gm_text.specs.SchemaText.{labels_in, labels_text}
 use Rattle.gm_expr.specs.ExprText.{orbit_text, path_text, term_text, field_text, param_name, embed_name, wrapped, sign_of, head_of, tail_of, same_text, collector_text, triple_text, tree_text}
-use Rattle.gm_expr.specs.Writable.{IsGoodTerm, IsGoodMask, IsWritable, AreGoodNames}
+use Rattle.gm_expr.specs.Writable.{IsGoodEmbed, IsGoodTerm, IsGoodMask, IsWritable, AreGoodNames}
+use Rattle.gm_expr.proofs.Found.{param_low, embed_low, node_low}
 use Rattle.gm_expr.proofs.Canonical.{behind, place_in, at, function_name, unary_form, within_unary, labels_at, orbit_at, term_at, embed_at, behind_term, behind_orbit, behind_tree, collect_at, enclosed, within, is_wrapped, form_at}
 use Rattle.gm_expr.proofs.CanonicalMeaning.{good_at}
 use Rattle.gm_expr.proofs.MaskLabels.{all_labels}
@@ -188,19 +188,19 @@ module _ (n : ℕ) (low : n ≤ 7) where
   module _ (embeds : List Embed) (params : List Param) (nodes : List RuleNode) (names : AreGoodNames embeds params nodes) where
     term_symbols : (term : DartTerm) (marks : List Mark) (more : List ℕ) (parts : List (Part Role)) → IsGoodTerm embeds params nodes n term → IsBehind more → symbols_from more ≡ symbols_in parts
         → symbols_from (term_text nodes term ++ more) ≡ symbols_in (spell_term n (term_at embeds params nodes marks term) parts)
-    term_symbols term marks more parts (node, here, left, path) behind rest =
+    term_symbols term marks more parts is behind rest =
         ap symbols_from (append_assoc (name_at nodes term.node) (path_text term.path) more)
-        ∙ word_symbols (name_at nodes term.node) (path_text term.path ++ more) _ (good_at (λ (node : RuleNode). node.name) nodes term.node names.nodes_are (slice_get_within nodes term.node node here)).0.1 (path_behind term.path more behind)
-        (path_symbols term.path more parts path behind rest)
+        ∙ word_symbols (name_at nodes term.node) (path_text term.path ++ more) _ (good_at (λ (node : RuleNode). node.name) nodes term.node names.nodes_are (node_low embeds params nodes n term is)).0.1 (path_behind term.path more behind)
+        (path_symbols term.path more parts is.1 behind rest)
 
-    field_symbols : (term : DartTerm) (e : ℕ) (marks others : List Mark) (more : List ℕ) (parts : List (Part Role)) → IsGoodTerm embeds params nodes n term → e < length embeds → IsBehind more → symbols_from more ≡ symbols_in parts
+    field_symbols : (term : DartTerm) (e : ℕ) (marks others : List Mark) (more : List ℕ) (parts : List (Part Role)) → IsGoodTerm embeds params nodes n term → IsGoodEmbed embeds params nodes e → IsBehind more → symbols_from more ≡ symbols_in parts
         → symbols_from (field_text embeds nodes term e ++ more) ≡ symbols_in (spell_field n (term_at embeds params nodes marks term) (embed_at embeds params nodes others e) parts)
     field_symbols term e marks others more parts good inside behind rest =
         let regrouped : field_text embeds nodes term e ++ more ≡ term_text nodes term ++ 46 ∷ (embed_name embeds e ++ more) = simp append_assoc in
         ap symbols_from regrouped
         ∙ term_symbols term marks (46 ∷ (embed_name embeds e ++ more)) _ good refl
         (plain_symbols 46 (embed_name embeds e ++ more) _ refl refl
-        (word_symbols (embed_name embeds e) more _ (good_at (λ (embed : Embed). embed.name) embeds e names.embeds_are inside).0.1 behind rest))
+        (word_symbols (embed_name embeds e) more _ (good_at (λ (embed : Embed). embed.name) embeds e names.embeds_are (embed_low embeds params nodes e inside)).0.1 behind rest))
 
     -- ---- trees
 
@@ -307,7 +307,7 @@ module _ (n : ℕ) (low : n ≤ 7) where
         (orbit_symbols o (behind marks) inside _ mask (plain_symbols 40 inside _ refl refl
         (term_symbols d (behind (behind_orbit o (behind marks))) (41 ∷ more) _ good refl (plain_symbols 41 more _ refl refl rest))))
 
-    collector_symbols : (collector : Collector) (o : Mask) (d : DartTerm) (e : ℕ) → IsLexeme kinds.Name (collector_word collector) → IsGoodMask embeds params nodes n o → IsGoodTerm embeds params nodes n d → e < length embeds
+    collector_symbols : (collector : Collector) (o : Mask) (d : DartTerm) (e : ℕ) → IsLexeme kinds.Name (collector_word collector) → IsGoodMask embeds params nodes n o → IsGoodTerm embeds params nodes n d → IsGoodEmbed embeds params nodes e
         → (marks : List Mark) (more : List ℕ) (parts : List (Part Role)) → symbols_from more ≡ symbols_in parts
         → symbols_from (collector_text embeds nodes (collector_word collector) o d e ++ more) ≡ symbols_in (spell n (collect_at embeds params nodes marks collector o d e) parts)
     collector_symbols collector o d e lexeme mask good in_range marks more parts rest =
@@ -333,7 +333,7 @@ module _ (n : ℕ) (low : n ≤ 7) where
     spelled : (tree : Tree) → IsWritable embeds params nodes n tree → IsSpelled tree
     spelled (Number z) can = number_symbols z can
     spelled (Truth b) can = truth_symbols b
-    spelled (Parameter k) can = λ marks more parts behind_it rest. word_symbols (param_name params k) more _ (good_at (λ (param : Param). param.name) params k names.params_are can).0.1 behind_it rest
+    spelled (Parameter k) can = λ marks more parts behind_it rest. word_symbols (param_name params k) more _ (good_at (λ (param : Param). param.name) params k names.params_are (param_low embeds params nodes k can)).0.1 behind_it rest
     spelled (Field d e) can = λ marks more parts behind_it rest. field_symbols d e marks (behind (behind_term d marks)) more parts can.0 can.1 behind_it rest
     spelled (Same d d') can = same_symbols d d' can.0 can.1
     spelled (Count o d) can = count_symbols o d can.0 can.1

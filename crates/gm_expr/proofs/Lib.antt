@@ -1,3 +1,4 @@
+pub mod Found
 pub mod Canonical
 pub mod CanonicalLength
 pub mod CanonicalMeaning

@@ -1,16 +1,14 @@
 -- A tree that was read can be written.
-use Rattle.std.proofs.Common.{◌≡◌, ℕ, ◌<◌, Bool, true, false, if◌then◌else◌, List, [], ◌∷◌, ◌++◌, length, map, get_or, Option, Some, None, is_some, refl, sym, ap, subst, ◌∙◌, arith}
-use Rattle.std.specs.Prelude.{slice_get, IsTrue}
+use Rattle.std.proofs.Common.{◌≡◌, ℕ, Bool, true, false, if◌then◌else◌, List, [], ◌∷◌, ◌++◌, map, Option, Some, None, is_some, refl, sym, ap, subst, ◌∙◌}
+use Rattle.std.specs.Prelude.{slice_get}
 use Rattle.std.specs.List.{AllByRecursion, position}
 use Rattle.std.specs.Option.{option_map, unwrap_or}
 use Rattle.std.specs.Str.{bytes_eq}
-use Rattle.std.proofs.lemmas.List.{length-map}
-use Rattle.std.proofs.lemmas.List.Quantifiers.{position-Some}
-use Rattle.std.proofs.lemmas.Option.{slice_get-map, slice_get-get_or, slice_get_within}
+use Rattle.std.proofs.lemmas.Slice.Eq.{bytes_eq-Decides}
 use Rattle.gm_model.specs.declared.rule.Param.{Param}
 use Rattle.gm_model.specs.declared.schema.Embed.{Embed}
 use Rattle.gm_model.specs.Names.{Mention}
-use Rattle.gm_model.specs.Rules.{RuleNode}
+use Rattle.gm_model.specs.Rules.{RuleNode, name_at}
 use Rattle.gm_model.specs.Trees.{Tree}
 use Rattle.gm_text.specs.Cursor.{Cursor}
 use Rattle.gm_text.specs.SchemaText.{LabelForm}
@@ -21,35 +19,25 @@ use Rattle.gm_parse.specs.declared.key.Collector.{Collector}
 use Rattle.gm_parse.specs.declared.key.Collector.TheVariants as collectors
 use Rattle.gm_parse.specs.Answers.{IsExprRead}
 use Rattle.gm_parse.specs.Forms.{TermForm, Form, NumberForm, TruthForm, ParamForm, FieldForm, SameForm, CountForm, CollectForm, CallForm, ParenForm, MinusForm, NotForm, BinaryForm, IfForm, Arguments, First, Further, count_of}
-use Rattle.gm_parse.specs.Meaning.{Names, NameFault, is_named, node_number, embed_number, param_number, unknown, function_named, function_of, orbit_faults, term_faults, field_faults, faults_in, argument_faults, mask_of, collect, call_of, term_in, embed_in, tree_in, trees_in}
+use Rattle.gm_parse.specs.Meaning.{Names, NameFault, is_named, number_of, node_number, embed_number, param_number, unknown, function_named, function_of, orbit_faults, term_faults, field_faults, faults_in, argument_faults, mask_of, collect, call_of, term_in, embed_in, tree_in, trees_in}
 use Rattle.gm_tree.specs.Small.{IsSmall, AreSmall, IsSmallPath, IsSmallOrbit}
 use Rattle.gm_tree.proofs.ReadForms.{stands_small}
-use Rattle.gm_expr.specs.Writable.{left_name_of, IsGoodTerm, IsWritable}
+use Rattle.gm_expr.specs.Writable.{left_name_of, IsGoodParam, IsGoodEmbed, IsGoodTerm, IsWritable}
+use Rattle.gm_expr.proofs.Found.{found, mapped}
 use Rattle.gm_expr.proofs.MaskLabels.{low_labels}
 
 -- ---- what a name stands for
-
-found : {A : Type 0} (test : A → Bool) (xs : List A) (k : ℕ) → position test xs ≡ Some k → (x : A) × (slice_get xs k ≡ Some x) × (test x ≡ true)
-found test [] k e = absurd cc
-found test (first ∷ xs) k e = let (low, holds, before) = position-Some test (first ∷ xs) k first e in (get_or (first ∷ xs) k first, slice_get-get_or (first ∷ xs) k first low, holds)
 
 known : {A : Type 0} (mention : Mention) (number : Option A) → unknown mention number ≡ [] → (k : A) × (number ≡ Some k)
 known mention None e = absurd cc
 known mention (Some k) e = (k, refl)
 
-mapped : {A B : Type 0} (f : A → B) (xs : List A) (k : ℕ) (y : B) → slice_get (map f xs) k ≡ Some y → (x : A) × (slice_get xs k ≡ Some x) × (f x ≡ y)
-mapped {A = A} f xs k y e = go (slice_get xs k) refl
+left_named : (name : List ℕ) (node : RuleNode) → is_named name (left_name_of node) ≡ true → name ≡ node.name
+left_named name node e = go (is_some node.left) e
   where
-    go : (at : Option A) → slice_get xs k ≡ at → (x : A) × (slice_get xs k ≡ Some x) × (f x ≡ y)
-    go None is = let both : None ≡ Some y = sym (slice_get-map f xs k ∙ ap (option_map f) is) ∙ e in absurd cc
-    go (Some x) is = let both : Some (f x) ≡ Some y = sym (slice_get-map f xs k ∙ ap (option_map f) is) ∙ e in (x, is, cc both)
-
-left_is : (name : List ℕ) (node : RuleNode) → is_named name (left_name_of node) ≡ true → IsTrue (is_some node.left)
-left_is name node e = go (is_some node.left) refl e
-  where
-    go : (b : Bool) → is_some node.left ≡ b → is_named name (if b then Some node.name else None) ≡ true → IsTrue (is_some node.left)
-    go true is e = is
-    go false is e = absurd cc
+    go : (b : Bool) → is_named name (if b then Some node.name else None) ≡ true → name ≡ node.name
+    go true e = (bytes_eq-Decides name node.name).0 e
+    go false e = absurd cc
 
 both_none : (xs ys : List NameFault) → xs ++ ys ≡ [] → (xs ≡ []) × (ys ≡ [])
 both_none [] ys e = (refl, e)
@@ -65,7 +53,7 @@ module _ (embeds : List Embed) (params : List Param) (nodes : List RuleNode) (n 
   abbrev Can : Tree → Type 0
   Can = IsWritable embeds params nodes n
 
-  can_collect : (collector : Collector) (orbit : List LabelForm) (names : Names) (term : TermForm) (embed : Mention) → IsSmallOrbit n orbit → IsGoodTerm embeds params nodes n (term_in names term) → embed_in names embed < length embeds
+  can_collect : (collector : Collector) (orbit : List LabelForm) (names : Names) (term : TermForm) (embed : Mention) → IsSmallOrbit n orbit → IsGoodTerm embeds params nodes n (term_in names term) → IsGoodEmbed embeds params nodes (embed_in names embed)
       → Can (collect collector (mask_of orbit) (term_in names term) (embed_in names embed))
   can_collect collectors.Sum orbit names term embed small at field = (low_labels n orbit small, at, field)
   can_collect collectors.Least orbit names term embed small at field = (low_labels n orbit small, at, field)
@@ -85,26 +73,30 @@ module _ (embeds : List Embed) (params : List Param) (nodes : List RuleNode) (n 
         let (k, number) = known term.node (node_number names term.node) none in
         let (name, at, holds) = found (is_named term.node.name) names.nodes k number in
         let (node, there, is) = mapped left_name_of nodes k name (ap (λ (list : List (Option (List ℕ))). slice_get list k) (sym nodes_are) ∙ at) in
+        let named : term.node.name ≡ node.name = left_named term.node.name node (ap (is_named term.node.name) is ∙ holds) in
+        let at_k : name_at nodes k ≡ term.node.name = ap (λ (o : Option RuleNode). unwrap_or (option_map (λ (x : RuleNode). x.name) o) []) there ∙ sym named in
         let same : unwrap_or (node_number names term.node) 0 ≡ k = ap (λ (o : Option ℕ). unwrap_or o 0) number in
-        (node, ap (slice_get nodes) same ∙ there, left_is term.node.name node (ap (is_named term.node.name) is ∙ holds), small)
+        let leads : position (is_named (name_at nodes k)) (map left_name_of nodes) ≡ Some k = ap (λ (w : List ℕ). position (is_named w) (map left_name_of nodes)) at_k ∙ ap (position (is_named term.node.name)) (sym nodes_are) ∙ number in
+        (subst (λ (m : ℕ). position (is_named (name_at nodes m)) (map left_name_of nodes) ≡ Some m) (sym same) leads, small)
 
-    can_embed : (embed : Mention) → unknown embed (embed_number names embed) ≡ [] → embed_in names embed < length embeds
-    can_embed embed none =
-        let (k, number) = known embed (embed_number names embed) none in
-        let (name, at, holds) = found (bytes_eq embed.name) names.embeds k number in
-        let low = slice_get_within names.embeds k name at in
-        let many = ap (λ (list : List (List ℕ)). length list) embeds_are ∙ length-map embeds (λ (e : Embed). e.name) in
-        let same : unwrap_or (embed_number names embed) 0 ≡ k = ap (λ (o : Option ℕ). unwrap_or o 0) number in
-        omega (arith, low, many, same)
+    -- of the things with these names
+    can_name : {A : Type 0} (name_of : A → List ℕ) (xs : List A) (all : List (List ℕ)) (mention : Mention) → all ≡ map name_of xs → unknown mention (number_of all mention.name) ≡ []
+        → let m = unwrap_or (number_of all mention.name) 0 in position (bytes_eq (unwrap_or (option_map name_of (slice_get xs m)) [])) (map name_of xs) ≡ Some m
+    can_name {A = A} name_of xs all mention are none =
+        let (k, number) = known mention (number_of all mention.name) none in
+        let (name, at, holds) = found (bytes_eq mention.name) all k number in
+        let (x, there, is) = mapped name_of xs k name (ap (λ (list : List (List ℕ)). slice_get list k) (sym are) ∙ at) in
+        let named : mention.name ≡ name = (bytes_eq-Decides mention.name name).0 holds in
+        let at_k : unwrap_or (option_map name_of (slice_get xs k)) [] ≡ mention.name = ap (λ (o : Option A). unwrap_or (option_map name_of o) []) there ∙ is ∙ sym named in
+        let same : unwrap_or (number_of all mention.name) 0 ≡ k = ap (λ (o : Option ℕ). unwrap_or o 0) number in
+        let leads : position (bytes_eq (unwrap_or (option_map name_of (slice_get xs k)) [])) (map name_of xs) ≡ Some k = ap (λ (w : List ℕ). position (bytes_eq w) (map name_of xs)) at_k ∙ ap (position (bytes_eq mention.name)) (sym are) ∙ number in
+        subst (λ (m : ℕ). position (bytes_eq (unwrap_or (option_map name_of (slice_get xs m)) [])) (map name_of xs) ≡ Some m) (sym same) leads
 
-    can_param : (param : Mention) → unknown param (param_number names param) ≡ [] → unwrap_or (param_number names param) 0 < length params
-    can_param param none =
-        let (k, number) = known param (param_number names param) none in
-        let (name, at, holds) = found (bytes_eq param.name) names.params k number in
-        let low = slice_get_within names.params k name at in
-        let many = ap (λ (list : List (List ℕ)). length list) params_are ∙ length-map params (λ (p : Param). p.name) in
-        let same : unwrap_or (param_number names param) 0 ≡ k = ap (λ (o : Option ℕ). unwrap_or o 0) number in
-        omega (arith, low, many, same)
+    can_embed : (embed : Mention) → unknown embed (embed_number names embed) ≡ [] → IsGoodEmbed embeds params nodes (embed_in names embed)
+    can_embed embed none = can_name (λ (e : Embed). e.name) embeds names.embeds embed embeds_are none
+
+    can_param : (param : Mention) → unknown param (param_number names param) ≡ [] → IsGoodParam embeds params nodes (unwrap_or (param_number names param) 0)
+    can_param param none = can_name (λ (p : Param). p.name) params names.params param params_are none
 
     mutual
       pub can_form : (form : Form) → faults_in names form ≡ [] → IsSmall n form → IsWritable embeds params nodes n (tree_in names form)

@@ -1,8 +1,5 @@
 -- Worked expressions: their canonical texts, by computation, and one that is read again.
-use Rattle.std.proofs.Common.{◌≡◌, ℕ, zero, suc, List, [], ◌∷◌, Some, None, length, codes, refl, subst, pos, arith}
-use Rattle.std.specs.Prelude.{slice_get}
-use Rattle.std.specs.List.{position}
-use Rattle.std.specs.Str.{bytes_eq}
+use Rattle.std.proofs.Common.{◌≡◌, ℕ, List, [], ◌∷◌, Some, None, length, codes, refl, pos, arith}
 use Rattle.std.proofs.lemmas.Fmt.{decimal_digit}
 use Rattle.gm_model.specs.declared.expr.BinOp.TheVariants.{Add, Sub, Mul, Div, Eq, Lt}
 use Rattle.gm_model.specs.declared.expr.DartTerm.{DartTerm}
@@ -16,11 +13,11 @@ use Rattle.gm_model.specs.Rules.{RuleNode}
 use Rattle.gm_model.specs.Kinds.{tree_kind}
 use Rattle.gm_model.specs.Symbols.{marks_of}
 use Rattle.gm_model.specs.Trees.{Tree, Number, Param as Parameter, Field, Same, Count, Sum, Unary, Binary, If}
-use Rattle.gm_parse.specs.Meaning.{Names, is_named}
+use Rattle.gm_parse.specs.Meaning.{Names}
 use Rattle.gm_text.specs.SchemaText.{labels_in}
 use Rattle.gm_expr.specs.ExprText.{tree_text}
 use Rattle.gm_expr.specs.Whole.{IsReadWhole}
-use Rattle.gm_expr.specs.Writable.{AreDifferent, AreGoodNames, names_of}
+use Rattle.gm_expr.specs.Writable.{AreGoodNames, names_of}
 use Rattle.gm_expr.proofs.CanonicalRead.{short_read}
 
 abbrev face : Mask
@@ -125,28 +122,8 @@ good = record {
   nodes_are = (((omega arith, (refl, refl)), refl), tt);
 }
 
-different : AreDifferent names
-different = record { embeds_differ = embed; params_differ = param; nodes_differ = node }
-  where
-    embed : (k : ℕ) (name : List ℕ) → slice_get names.embeds k ≡ Some name → position (bytes_eq name) names.embeds ≡ Some k
-    embed zero name is = let same : codes "pos" ≡ name = cc is in subst (λ (w : List ℕ). position (bytes_eq w) names.embeds ≡ Some 0) same refl
-    embed (suc zero) name is = let same : codes "colour" ≡ name = cc is in subst (λ (w : List ℕ). position (bytes_eq w) names.embeds ≡ Some 1) same refl
-    embed (suc (suc k)) name is = absurd cc
-
-    param : (k : ℕ) (name : List ℕ) → slice_get names.params k ≡ Some name → position (bytes_eq name) names.params ≡ Some k
-    param zero name is = let same : codes "a" ≡ name = cc is in subst (λ (w : List ℕ). position (bytes_eq w) names.params ≡ Some 0) same refl
-    param (suc zero) name is = let same : codes "b" ≡ name = cc is in subst (λ (w : List ℕ). position (bytes_eq w) names.params ≡ Some 1) same refl
-    param (suc (suc zero)) name is = let same : codes "c" ≡ name = cc is in subst (λ (w : List ℕ). position (bytes_eq w) names.params ≡ Some 2) same refl
-    param (suc (suc (suc zero))) name is = let same : codes "v" ≡ name = cc is in subst (λ (w : List ℕ). position (bytes_eq w) names.params ≡ Some 3) same refl
-    param (suc (suc (suc (suc zero)))) name is = let same : codes "x" ≡ name = cc is in subst (λ (w : List ℕ). position (bytes_eq w) names.params ≡ Some 4) same refl
-    param (suc (suc (suc (suc (suc k))))) name is = absurd cc
-
-    node : (k : ℕ) (name : List ℕ) → slice_get names.nodes k ≡ Some (Some name) → position (is_named name) names.nodes ≡ Some k
-    node zero name is = let same : codes "a" ≡ name = cc is in subst (λ (w : List ℕ). position (is_named w) names.nodes ≡ Some 0) same refl
-    node (suc k) name is = absurd cc
-
 -- a name can be a node's and a parameter's
 read_again : IsReadWhole 2 names (codes "a.pos - (a - b)") (Binary Sub pos_at_a (Binary Sub a b))
 read_again =
     let many : length (marks_of (codes "a.pos - (a - b)")) ≡ 10 = refl in
-    short_read embeds params (node_a ∷ []) good 2 (omega arith) (Binary Sub pos_at_a (Binary Sub a b)) (((node_a, refl, refl, tt), omega arith), (omega arith, omega arith)) names refl refl refl different (omega (arith, many))
+    short_read embeds params (node_a ∷ []) good 2 (omega arith) (Binary Sub pos_at_a (Binary Sub a b)) (((refl, tt), refl), (refl, refl)) names refl refl refl (omega (arith, many))

@@ -309,3 +309,9 @@ next_line versions.Two next = codes "next " ++ (decimal next ++ codes "\n")
 abbrev pub canonical : MapVersion → ListedMap → List ℕ
 canonical version map =
     head_line version ++ (schema.canonical map.schema ++ (next_line version map.next ++ (codes "darts " ++ (decimal (length map.darts) ++ (codes "\n" ++ flat_map line_of map.darts)))))
+
+-- the bytes are the canonical text, in the version, of this map: a sound one, with its darts in ascending order of their names
+pub record IsCanonicalTextOf (version : MapVersion) (map : ListedMap) (bytes : List ℕ) : Type 0 where
+  pub is : bytes ≡ canonical version map
+  pub ascending : IsStrictlyIncreasing (names map.darts)
+  pub sound : IsSound (map_of map)

@@ -14,7 +14,10 @@ mod version;
 mod words;
 
 pub use fault::MapFault;
-pub use laws::{one_first_fault_at_most, one_map_at_most, what_is_printed_is_read_again};
+pub use laws::{
+    a_canonical_text_stands_for_its_map, one_first_fault_at_most, one_map_at_most,
+    what_is_printed_is_read_again,
+};
 pub use printing::{print_map, print_map_in_place_of};
 pub use reading::{MapRead, read_map};
 pub use version::MapVersion;

@@ -3,11 +3,15 @@ ghost use Rattle.std.specs.Prelude.{◌≡◌, ℕ, ◌+◌, ◌*◌, ◌<◌, �
 ghost use Rattle.std.specs.List.{flat_map};
 ghost use Rattle.std.specs.Fmt.{signed_decimal};
 ghost use Rattle.gm_text.specs.SchemaText as schema;
-ghost use Rattle.gm_mapfile.specs.MapText.{canonical, head_line, next_line, line_of, value_text};
+ghost use Rattle.gm_mapfile.specs.MapText.{MapText, IsCanonicalTextOf, canonical, head_line, next_line, line_of, value_text};
 ghost use Rattle.gm_text.specs.ValueText.{truth_text};
+ghost use Rattle.gm_model.specs.Maps.{IsSound};
+ghost use Rattle.gm_text.specs.SchemaPrinting.{AreParts};
+ghost use Rattle.gm_arena.specs.ArenaAsMap.{as_map};
 ghost use Rattle.gm_arena.specs.ArenaMap.{IsLiveSlot, name_at};
 ghost use Rattle.gm_arena.specs.declared.slot.Slot.{Slot};
 ghost use Rattle.gm_arena.specs.Lawful.{IsLawful};
+ghost use Rattle.gm_mapfile.specs.Printing.{renumbered};
 ghost use Rattle.gm_mapfile.specs.Rows.{darts_of, listed_of};
 
 use crate::version::MapVersion;
@@ -31,6 +35,8 @@ const LINE: usize = 9 * NAME + 8 * VALUE + 1;
 
 /// The canonical text of the map in the version, with one step or more for each dart: the schema,
 /// in the second version the next name, and a line for each dart in ascending order of their names.
+/// Of a sound map it is a text that stands for the map. The first version states no next name, so
+/// there that is the least above all names.
 pub fn print_map<L: Ledger>(
     alloc: Global,
     arena: &Arena,
@@ -38,6 +44,8 @@ pub fn print_map<L: Ledger>(
     steps: &mut Steps<L>,
 ) -> Result<Vec<u8>, OutOfMemory>
     ensures text { IfOk result (λ text. text.items ≡ canonical version (listed_of arena.now)) }
+    ensures canonical { IfOk result (λ text. IsSound (as_map arena.now) → IsCanonicalTextOf version (listed_of arena.now) text.items) }
+    ensures stands { IfOk result (λ text. IsSound (as_map arena.now) → MapText text.items version (renumbered version (listed_of arena.now))) }
     ensures most { steps.new ≤ steps.old + 8 * ((arena.now.schema.dim + 1) * (arena.now.schema.dim + 1)) * (arena.now.count + 1) }
     ensures least { IfOk result (λ _. steps.old + arena.now.count ≤ steps.new) }
 {
@@ -52,6 +60,8 @@ pub fn print_map_in_place_of<L: Ledger>(
     steps: &mut Steps<L>,
 ) -> Result<Vec<u8>, OutOfMemory>
     ensures text { IfOk result (λ text. text.items ≡ canonical version (listed_of arena.now)) }
+    ensures canonical { IfOk result (λ text. IsSound (as_map arena.now) → IsCanonicalTextOf version (listed_of arena.now) text.items) }
+    ensures stands { IfOk result (λ text. IsSound (as_map arena.now) → MapText text.items version (renumbered version (listed_of arena.now))) }
     ensures most { steps.new ≤ steps.old + 8 * ((arena.now.schema.dim + 1) * (arena.now.schema.dim + 1)) * (arena.now.count + 1) }
     ensures least { IfOk result (λ _. steps.old + arena.now.count ≤ steps.new) }
 {
@@ -69,6 +79,7 @@ fn print_text<L: Ledger>(
 ) -> Result<(), OutOfMemory>
     requires { IsLawful arena.now }
     ensures text { OnOk result (text.new ≡ text.old ++ canonical version (listed_of arena.now)) }
+    ensures parts { OnOk result (AreParts arena.now.schema.embeds) }
     ensures most { steps.new ≤ steps.old + (arena.now.schema.dim + 3) * arena.now.count + 1 }
     ensures least { OnOk result (steps.old + arena.now.count ≤ steps.new) }
 {
@@ -141,7 +152,8 @@ fn digits_of(name: u32) -> usize
 }
 
 fn print_header(text: &mut Text, arena: &Arena, version: MapVersion) -> Result<(), OutOfMemory>
-    ensures { OnOk result (text.new ≡ text.old ++ (head_line version ++ (schema.canonical arena.now.schema ++ (next_line version arena.now.next ++ (codes "darts " ++ (decimal arena.now.count ++ codes "\n")))))) }
+    ensures text { OnOk result (text.new ≡ text.old ++ (head_line version ++ (schema.canonical arena.now.schema ++ (next_line version arena.now.next ++ (codes "darts " ++ (decimal arena.now.count ++ codes "\n")))))) }
+    ensures parts { OnOk result (AreParts arena.now.schema.embeds) }
 {
     print_version(text, version)?;
     print_schema(text, arena.schema())?;

@@ -1,5 +1,5 @@
 -- What one mark comes to where an expression is read, and how steps are put together.
-use Rattle.std.proofs.Common.{◌≡◌, ◌<◌, ◌≤◌, ◌+◌, ℕ, Bool, true, false, List, [], ◌∷◌, ◌++◌, length, Option, Some, None, Result, Ok, Err, refl, sym, ap, subst, ◌∙◌, append_assoc, inl, inr, length-append, arith}
+use Rattle.std.proofs.Common.{◌≡◌, ◌<◌, ◌≤◌, ◌+◌, ℕ, Bool, true, false, List, [], ◌∷◌, ◌++◌, length, Option, Some, None, Result, Ok, Err, refl, sym, ap, subst, ◌∙◌, append_assoc, inl, inr, arith}
 use Rattle.std.specs.Option.{option_map}
 use Rattle.std.specs.Prelude.{IfOk, IfErr, nat_lt, IsTrue}
 use Rattle.gm_model.specs.declared.limit.LimitKind.{LimitKind}
@@ -9,7 +9,7 @@ use Rattle.gm_model.specs.Symbols.{Symbol, Mark}
 use Rattle.gm_text.specs.Cursor.{Cursor}
 use Rattle.gm_text.specs.Machine.{Stop, Ends, Passes}
 use Rattle.gm_text.specs.SchemaAnswers.{marks_left, IsNext, IsNoToken, AtStray, AtEnd, IsNoneNext, symbol_at, mark_at}
-use Rattle.gm_text.specs.Lexing.{IsBehindToken, GoesOverTokens}
+use Rattle.gm_text.specs.Lexing.{IsBehindToken}
 use Rattle.gm_text.proofs.Behind.{behind_next, over_then, behind_marks}
 use Rattle.gm_text.proofs.Machine.{last_of}
 use Rattle.gm_parse.specs.declared.fault.SyntaxFault.{SyntaxFault}

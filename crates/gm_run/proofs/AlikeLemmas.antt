@@ -103,7 +103,7 @@ suits_too rule a b alike suits = record {
   accepted = subst (λ (s : Schema). IsAccepted s rule) alike.schema suits.accepted;
 }
 
-some_embed : (embeds : List Embed) (e : ℕ) → e < length embeds → (embed : Embed) × (slice_get embeds e ≡ Some embed)
+pub some_embed : (embeds : List Embed) (e : ℕ) → e < length embeds → (embed : Embed) × (slice_get embeds e ≡ Some embed)
 some_embed [] e within = absurd (omega (arith, within))
 some_embed (embed ∷ embeds) zero within = (embed, refl)
 some_embed (embed ∷ embeds) (suc e) within = some_embed embeds e (omega (arith, within))

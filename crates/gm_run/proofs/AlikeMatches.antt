@@ -6,20 +6,21 @@ use Rattle.gm_model.specs.declared.rule.Side.TheVariants.{Left}
 use Rattle.gm_model.specs.declared.step.Step.{Step}
 use Rattle.gm_model.specs.declared.step.Step.TheVariants.{Absent, Exp, Imp}
 use Rattle.gm_model.specs.declared.value.Value.{Value}
-use Rattle.gm_model.specs.Applications.{Application, HasHookDarts, MeetsSteps, IsFirstBroken, IsRepeat, HasNoRepeat, IsFirstRepeat, IsFound}
+use Rattle.gm_model.specs.Applications.{Application, HasHookDarts, MeetsSteps, IsFirstBroken, IsRepeat, IsFirstRepeat}
 use Rattle.gm_model.specs.Maps.{Map, IsDart, dimension}
-use Rattle.gm_model.specs.Matches.{Placement, ArePositions, Created, Walked, IsCandidate, IsInstance, IsMetAt, IsPathTo, IsStepMet, along_hook}
+use Rattle.gm_model.specs.Matches.{Placement, ArePositions, Created, Walked, IsCandidate, IsMatch, IsInstance, IsMetAt, IsPathTo, IsStepMet, along_hook}
 use Rattle.gm_model.specs.Orbits.{IsLeastStep, IsPairBefore, IsWalk, follow}
 use Rattle.gm_model.specs.Rules.{Rule, hook_label, label_at, letters, step, width}
 use Rattle.gm_model.specs.Structure.{Leads}
 use Rattle.gm_theory.proofs.Candidates.{follow_live, hooks_live, letter_low}
+use Rattle.gm_theory.proofs.Found.{HasNoRepeat, IsFound, found_match, match_found}
 use Rattle.gm_theory.proofs.LeastPaths.{least_path}
 use Rattle.gm_theory.proofs.RuleLinks.{linked_in_range}
 use Rattle.gm_theory.proofs.RuleSteps.{step_back}
 use Rattle.gm_theory.proofs.Turns.{hook_label_up_to}
 use Rattle.gm_theory.proofs.Walks.{walk_keeps}
 use Rattle.gm_run.specs.Alike.{AreAlike}
-use Rattle.gm_run.proofs.AlikeLemmas.{Suits, label_there}
+use Rattle.gm_run.proofs.AlikeLemmas.{Suits, label_there, suits_too}
 
 -- a step is met by neighbours that are the same at its ends
 pub met_same : (alpha beta : ℕ → ℕ → ℕ) (place : Placement) (x p i : ℕ) (s : Step) → alpha i (place.dart_of x p) ≡ beta i (place.dart_of x p)
@@ -164,3 +165,8 @@ module _ (rule : Rule) (hooks : List ℕ) (params : List Value) (a b : Map) (sui
     steps = steps_there place found.candidate found.darts found.steps;
     distinct = distinct_there rule hooks params a b place found.distinct;
   }
+
+  pub match_there : (place : Placement) → IsMatch a rule hooks place → IsMatch b rule hooks place
+  match_there place matched =
+      let theirs = suits_too rule a b alike suits in
+      found_match there place theirs.sound.generalised theirs.accepted (found_there place (match_found here place suits.accepted matched))

@@ -5,7 +5,7 @@ use Rattle.std.proofs.lemmas.Option.{slice_get_within, get_or_from_slice_get}
 use Rattle.std.specs.List.{slice_get}
 use Rattle.gm_model.specs.declared.value.Value.{Value}
 use Rattle.gm_model.specs.declared.value.Value.TheVariants as values
-use Rattle.gm_model.specs.Applications.{Application, Cause, NoDart, Arc, Same, PreNoValue, PreFalse, FullDarts, FullNames, HasHookDarts, MeetsSteps, IsFirstBroken, IsRepeat, HasNoRepeat, IsFirstRepeat, IsFound, MeetsPre, IsReady, IsStaying, IsDone, IsRefused, NoHookDart, BrokenStep, Repeated, ValuelessPre, FalsePre, NoRoom, NoNames, more, reading_at}
+use Rattle.gm_model.specs.Applications.{Application, Cause, NoDart, Arc, Same, PreNoValue, PreFalse, FullDarts, FullNames, HasHookDarts, MeetsSteps, IsFirstBroken, IsRepeat, IsFirstRepeat, MeetsPre, IsReady, IsStaying, IsDone, IsRefused, NoHookDart, BrokenStep, Repeated, ValuelessPre, FalsePre, NoRoom, NoNames, more, reading_at}
 use Rattle.gm_model.specs.Applications as causes
 use Rattle.gm_model.specs.Expressions.{HasValue, HasNoValue}
 use Rattle.gm_model.specs.Limits.{most_darts, most_names}
@@ -20,10 +20,10 @@ use Rattle.gm_apply.proofs.LikePlaces.{AreLikeAt, same_map}
 use Rattle.gm_theory.specs.OneMatch.{IsLike}
 use Rattle.gm_theory.proofs.LikeCandidates.{instance_there, repeat_like, candidates_like, steps_like, found_like}
 use Rattle.gm_theory.proofs.Agreement.{met_alike}
-use Rattle.gm_theory.proofs.CandidatesFound.{some_position}
+use Rattle.gm_theory.proofs.Found.{HasNoRepeat, IsFound, found_match, match_found}
 use Rattle.gm_theory.proofs.Lists.{none_some, some_same}
 use Rattle.gm_theory.proofs.ReadingsDecided.{not_both_truths}
-use Rattle.gm_theory.proofs.ValuesKept.{found_match}
+use Rattle.gm_theory.proofs.Turns.{some_position_walked}
 use Rattle.gm_theory.proofs.ValuesUnique.{one_count}
 use Rattle.gm_theory.proofs.Walks.{pair_order}
 use Rattle.gm_run.proofs.AlikeLemmas.{Suits}
@@ -129,7 +129,7 @@ module _ (app : Application) (suits : Suits app.rule app.map) (place : Placement
   one_found_end told _ (Readies _ ready end) (Valueless tree is none) = absurd (met_or_valueless app place tree is none ready.pre)
   one_found_end told _ (Readies _ ready end) (Untrue tree is false_there) = absurd (met_or_false app place tree is false_there ready.pre)
   one_found_end told _ (Readies _ ready end) (Full live cause pre counted room) = absurd (full_or_ready app place live cause counted room ready)
-  one_found_end told other (Readies _ ready end) (Readies _ ready' end') = one_ready_end app suits place ready.found told other end end'
+  one_found_end told other (Readies _ ready end) (Readies _ ready' end') = one_ready_end app suits place ready.matched told other end end'
 
   one_end : (told other : Option Cause) → IsEnd app place told → IsEnd app place other → told ≡ other
   one_end _ _ (Breaks x p i first) (Breaks y q j second) = ap Some (one_broken app place x p i y q j first second)
@@ -144,13 +144,9 @@ module _ (app : Application) (suits : Suits app.rule app.map) (place : Placement
 
 -- ---- the same end over maps and places that are like
 
-module _ (rule : Rule) (hooks : List ℕ) (params : List Value) (a b : Map) (place other : Placement) (like : AreLikeAt rule a b place other) (of_schema : IsSchema a.schema) (found : IsFound (here rule hooks params a b place other like) place)
-    (found_too : IsFound (there rule hooks params a b place other like) other) where
+module _ (rule : Rule) (hooks : List ℕ) (params : List Value) (a b : Map) (place other : Placement) (like : AreLikeAt rule a b place other) (of_schema : IsSchema a.schema) (matched : IsMatch a rule hooks place) (matched_too : IsMatch b rule hooks other) where
   some : 0 < place.positions
-  some = some_position a rule hooks place found.candidate
-
-  matched : IsMatch a rule hooks place
-  matched = found_match (here rule hooks params a b place other like) place like.first_generalised like.accepted found
+  some = some_position_walked a rule hooks matched.walk place matched.positions
 
   pub found_end_there : (told : Option Cause) → IsFoundEnd (here rule hooks params a b place other like) place told → IsFoundEnd (there rule hooks params a b place other like) other told
   found_end_there _ (Valueless tree is none) = Valueless tree is (pre_no_value_there rule hooks params a b place other like some tree is none)
@@ -158,7 +154,7 @@ module _ (rule : Rule) (hooks : List ℕ) (params : List Value) (a b : Map) (pla
   found_end_there _ (Full live cause pre counted room) =
       Full live cause (meets_pre_there rule hooks params a b place other like some pre) (staying_there rule hooks params a b place other like live counted)
       (subst (λ n. IsRoom b.next (n * added_nodes rule) live (Some cause)) like.like.positions (subst (λ n. IsRoom n (place.positions * added_nodes rule) live (Some cause)) like.next room))
-  found_end_there told (Readies _ ready end) = Readies told (ready_there rule hooks params a b place other like ready found_too) (ready_end_there rule hooks params a b place other like of_schema matched told end)
+  found_end_there told (Readies _ ready end) = Readies told (ready_there rule hooks params a b place other like ready matched_too) (ready_end_there rule hooks params a b place other like of_schema matched told end)
 
 -- ---- candidates that are like have the same end
 
@@ -192,8 +188,8 @@ module _ (app : Application) (suits : Suits app.rule app.map) (place other : Pla
   found_here : MeetsSteps app place → HasNoRepeat app place → IsFound app place
   found_here steps distinct = record { darts = darts; candidate = ours; steps = steps; distinct = distinct }
 
-  both_places : IsFound app place → AreLikeAt app.rule app.map app.map place other
-  both_places found = same_map app.rule app.map place other suits.accepted suits.sound.is_map suits.sound.generalised like (found_match app place suits.sound.generalised suits.accepted found).embedded.live
+  both_places : IsMatch app.map app.rule app.hooks place → AreLikeAt app.rule app.map app.map place other
+  both_places matched = same_map app.rule app.map place other suits.accepted suits.sound.is_map suits.sound.generalised like matched.embedded.live
 
   end_like : (told : Option Cause) → IsEnd app place told → IsEnd app other told
   end_like _ (Breaks x p i first) = Breaks x p i (broken_like x p i first)
@@ -201,7 +197,8 @@ module _ (app : Application) (suits : Suits app.rule app.map) (place other : Pla
   end_like told (Fits _ steps distinct end) =
       let found = found_here steps distinct in
       let there = found_like app suits.accepted.in_range suits.accepted.incidence place other theirs found in
-      Fits told there.steps there.distinct (found_end_there app.rule app.hooks app.params app.map app.map place other (both_places found) suits.of_schema found there told end)
+      let matched = found_match app place suits.sound.generalised suits.accepted found in
+      Fits told there.steps there.distinct (found_end_there app.rule app.hooks app.params app.map app.map place other (both_places matched) suits.of_schema matched (found_match app other suits.sound.generalised suits.accepted there) told end)
 
 -- ---- the end of an application
 
@@ -224,8 +221,10 @@ abbrev pub IsRefusedBy : Application → Cause → Type 0
 IsRefusedBy app cause = ((index : ℕ) × IsDeadHook app index × (cause ≡ NoDart index)) ⊎ Ends app (Some cause)
 
 module _ (app : Application) (suits : Suits app.rule app.map) where
-  found_ends : (told : Option Cause) (place : Placement) → IsFound app place → IsFoundEnd app place told → Ends app told
-  found_ends told place found end = record { place = place; darts = found.darts; candidate = found.candidate; is_end = Fits told found.steps found.distinct end }
+  found_ends : (told : Option Cause) (place : Placement) → IsMatch app.map app.rule app.hooks place → IsFoundEnd app place told → Ends app told
+  found_ends told place matched end =
+      let found = match_found app place suits.accepted matched in
+      record { place = place; darts = found.darts; candidate = found.candidate; is_end = Fits told found.steps found.distinct end }
 
   pub refused_by : (cause : Cause) → IsRefused app cause → IsRefusedBy app cause
   refused_by _ (NoHookDart index d at dead before) = inl (index, record { dart = d; named = at; dead = dead; before = before }, refl)
@@ -236,12 +235,12 @@ module _ (app : Application) (suits : Suits app.rule app.map) where
   refused_by _ (NoRoom place live found pre counted full) = inr (found_ends _ place found (Full live _ pre counted (OverDarts full)))
   refused_by _ (NoNames place live found pre counted fits full) = inr (found_ends _ place found (Full live _ pre counted (OverNames fits full)))
   refused_by _ (causes.Valueless place live alpha decider ready unfolded first) =
-      inr (found_ends _ place ready.found (Readies _ ready (Lacks (record { live = live; alpha = alpha; next = app.map.next + more app place }) decider unfolded first)))
+      inr (found_ends _ place ready.matched (Readies _ ready (Lacks (record { live = live; alpha = alpha; next = app.map.next + more app place }) decider unfolded first)))
 
   pub done_ends : (after : Map) (added removed : ℕ) → IsDone app after added removed → Ends app None
   done_ends after added removed done =
-      found_ends None done.place done.ready.found
-      (Readies None done.ready (HasAll (record { live = after.live; alpha = after.alpha; next = after.next }) done.result_is.unfolded (result_has_all app suits done.place done.ready.found after done.result_is)))
+      found_ends None done.place done.ready.matched
+      (Readies None done.ready (HasAll (record { live = after.live; alpha = after.alpha; next = after.next }) done.result_is.unfolded (result_has_all app suits done.place done.ready.matched after done.result_is)))
 
   pub ends_once : (told other : Option Cause) → Ends app told → Ends app other → told ≡ other
   ends_once told other ours theirs =

@@ -4,7 +4,7 @@ use Rattle.gm_model.specs.declared.schema.Schema.{Schema}
 use Rattle.gm_model.specs.declared.value.Value.{Value}
 use Rattle.gm_model.specs.Applications.{Application, IsDone, IsResult, IsBudget}
 use Rattle.gm_model.specs.Maps.{Map, IsDart, dimension}
-use Rattle.gm_model.specs.Matches.{IsCandidate, IsMatch}
+use Rattle.gm_model.specs.Matches.{IsCandidate}
 use Rattle.gm_model.specs.Rules.{Rule}
 use Rattle.gm_model.specs.Runs.{Outcome, Done, Refused, IsOutcome}
 use Rattle.gm_model.specs.Unfolding.{IsGone, IsUnfolding, scene_of, added_nodes}
@@ -14,8 +14,10 @@ use Rattle.gm_apply.proofs.LikePlaces.{AreLikeAt, places_back}
 use Rattle.gm_apply.proofs.LikeScenes.{unfolding_there}
 use Rattle.gm_apply.proofs.LikeValues.{result_there}
 use Rattle.gm_theory.specs.Values.{KeepsWellEmbedded}
+use Rattle.gm_theory.proofs.Candidates.{match_is_candidate}
+use Rattle.gm_theory.proofs.Found.{hook_darts}
 use Rattle.gm_theory.proofs.LikeCandidates.{candidates_like}
-use Rattle.gm_theory.proofs.ValuesKept.{found_match, rules_keep_well_embedded_maps}
+use Rattle.gm_theory.proofs.ValuesKept.{rules_keep_well_embedded_maps}
 use Rattle.gm_theory.specs.OneMatch.{IsLike}
 use Rattle.gm_theory.proofs.ValuesUnique.{one_count}
 use Rattle.gm_run.specs.Alike.{AreAlike}
@@ -35,13 +37,13 @@ module _ (rule : Rule) (hooks : List ℕ) (params : List Value) where
     -- two that are done add and remove as many darts, and leave maps that are alike
     module _ (added removed added' removed' : ℕ) (after after' : Map) (first : IsDone (app_at a) after added removed) (second : IsDone (app_at b) after' added' removed') where
       candidate : IsCandidate b rule hooks first.place
-      candidate = candidate_there rule hooks params a b theirs alike first.place first.ready.found.candidate first.ready.found.darts
+      candidate = candidate_there rule hooks params a b theirs alike first.place (match_is_candidate a rule first.place theirs.accepted.in_range theirs.accepted.incidence hooks first.ready.matched) (hook_darts (app_at a) first.place theirs.accepted first.ready.matched)
 
       like : IsLike rule first.place second.place
-      like = candidates_like (app_at b) ours.accepted.in_range ours.accepted.incidence first.place second.place candidate second.ready.found.candidate
+      like = candidates_like (app_at b) ours.accepted.in_range ours.accepted.incidence first.place second.place candidate (match_is_candidate b rule second.place ours.accepted.in_range ours.accepted.incidence hooks second.ready.matched)
 
       both : AreLikeAt rule a b first.place second.place
-      both = alike_at rule a b alike theirs first.place second.place like (found_match (app_at a) first.place theirs.sound.generalised theirs.accepted first.ready.found).embedded.live
+      both = alike_at rule a b alike theirs first.place second.place like first.ready.matched.embedded.live
 
       unfolded : IsUnfolding (scene_of b rule second.place) (IsDart after) after.alpha after.next
       unfolded = unfolding_there rule a b first.place second.place both (IsDart after) after.alpha after.next first.result_is.unfolded
@@ -58,14 +60,11 @@ module _ (rule : Rule) (hooks : List ℕ) (params : List Value) where
       same_schema : after.schema ≡ b.schema
       same_schema = first.result_is.schema ∙ alike.schema
 
-      matched : IsMatch a rule hooks first.place
-      matched = found_match (app_at a) first.place theirs.sound.generalised theirs.accepted first.ready.found
-
       there : IsResult (app_at b) second.place after
-      there = result_there rule hooks params a b first.place second.place both theirs.of_schema matched after first.result_is
+      there = result_there rule hooks params a b first.place second.place both theirs.of_schema first.ready.matched after first.result_is
 
       kept : KeepsWellEmbedded (app_at b) second.place
-      kept = rules_keep_well_embedded_maps (app_at b) second.place ours.of_schema ours.sound.is_map ours.sound.generalised ours.sound.embedded ours.accepted (found_match (app_at b) second.place ours.sound.generalised ours.accepted second.ready.found)
+      kept = rules_keep_well_embedded_maps (app_at b) second.place ours.of_schema ours.sound.is_map ours.sound.generalised ours.sound.embedded ours.accepted second.ready.matched
 
       results_alike : AreAlike after after'
       results_alike = record {
@@ -92,6 +91,9 @@ module _ (rule : Rule) (hooks : List ℕ) (params : List Value) where
       ap Refused (one_cause (app_at b) ours cause cause' (refused_there rule hooks params a b theirs alike cause (refused_by (app_at a) theirs cause first.0)) (refused_by (app_at b) ours cause' second.0)),
       subst (λ m. AreAlike m after') (sym first.1) (subst (AreAlike a) (sym second.1) alike),
     )
+    one_outcome (Done added removed) o' after after' first none = absurd none
+    one_outcome (Refused cause) o' after after' first none = absurd none
+    one_outcome o o' after after' none second = absurd none
 
     -- and a budget of one is one of the other
     pub same_budget : (most : ℕ) → IsBudget (app_at a) most → IsBudget (app_at b) most

@@ -1,111 +1,366 @@
--- A run has one course: from maps that are alike the same lines have the same outcomes, and leave maps that are alike. And each run has a budget.
-use Rattle.std.proofs.Common.{◌≡◌, ℕ, ◌+◌, List, [], ◌∷◌, length, Some, refl, sym, ap, ap₂, subst, ◌∙◌}
-use Rattle.std.specs.Prelude.{All, slice_get}
-use Rattle.std.specs.List.{AllByRecursion}
+-- From states that are alike the same statements have one run at most, with one pair of bounds, and leave states that are alike.
+use Rattle.std.proofs.Common.{◌≡◌, ℕ, zero, suc, ◌+◌, ◌*◌, ◌<◌, ◌≤◌, Bool, true, false, IsTrue, List, [], ◌∷◌, Option, Some, None, slice_get, refl, sym, ap, ap₂, subst, ◌∙◌, arith, if◌then◌else◌}
+use Rattle.std.specs.List.{AllByRecursion, count_by}
+use Rattle.std.specs.List.Sorted.{IsStrictlyIncreasing}
+use Rattle.std.specs.Option.{option_map}
+use Rattle.std.specs.Prelude.{is_some}
+use Rattle.std.proofs.lemmas.List.Kept.{AllPairs-from_increasing}
 use Rattle.std.proofs.lemmas.Option.{slice_get_within, get_or_from_slice_get, same_Some}
 use Rattle.gm_model.specs.declared.schema.Schema.{Schema}
 use Rattle.gm_model.specs.declared.script.Line.{Line}
-use Rattle.gm_model.specs.Acceptance.{IsAccepted}
+use Rattle.gm_model.specs.declared.script.Stat.{Stat}
+use Rattle.gm_model.specs.declared.value.Value.{Value}
+use Rattle.gm_model.specs.declared.word.Mask.{Mask}
 use Rattle.gm_model.specs.Applications.{IsBudget}
+use Rattle.gm_model.specs.Budgets.{Bounds, Entries, HasBounds, OfDone, OfRefused, OfSkipped, OfUndone, OfNoPast, OfRedone, OfNoFuture, OfBegun, OfKept, OfDropped, OfEach, IsLineBudget, IsRunWithin, TurnCosts, AreTurnCosts, changed_darts, done_part, entered, group_entered, each_entered, up_to}
+use Rattle.gm_model.specs.Histories.{Group, changed, past_behind}
 use Rattle.gm_model.specs.Kinds.{AreGoodParams}
-use Rattle.gm_model.specs.Maps.{Map, IsSchema, IsSound}
+use Rattle.gm_model.specs.Labels.{has}
+use Rattle.gm_model.specs.Maps.{Map, IsDart, IsGeneralised, IsSchema, dimension}
+use Rattle.gm_model.specs.Orbits.{IsLead}
 use Rattle.gm_model.specs.Rules.{Rule}
-use Rattle.gm_model.specs.Runs.{Outcome, Done, Refused, application_of, IsOutcome, IsLineOutcome, IsRun, IsRunBudget}
-use Rattle.gm_theory.specs.Outcomes.{IsGoodLine}
-use Rattle.gm_theory.proofs.BudgetsFound.{applications_have_budgets}
-use Rattle.gm_theory.proofs.ValuesKept.{applications_keep_sound_maps}
-use Rattle.gm_run.specs.Alike.{AreAlike}
-use Rattle.gm_run.proofs.AlikeLemmas.{Suits}
-use Rattle.gm_run.proofs.OneOutcome.{one_outcome}
+use Rattle.gm_model.specs.Runs.{Outcome, Done, Refused, State, Turn, Taken, Passed, AreLeads, AreTurns, IsLineOutcome, IsOutcome, IsStep, IsDoneHere, IsRefusedHere, IsSkipped, GoesBack, HasNoPast, GoesForth, HasNoFuture, Begins, Ends, IsTakenBack, GoesOver, IsRun, application_of, behind_done, behind_each, is_done_turn, line_at, standing_at, told}
+use Rattle.gm_theory.specs.Outcomes.{IsGoodEach, IsGoodLine, IsSoundOf}
+use Rattle.gm_theory.specs.Suited.{IsRuleOf, IsSuited}
+use Rattle.gm_theory.proofs.RunsFound.{GoesOn, Stands, goes_on}
+use Rattle.gm_theory.proofs.TurnsFound.{each_line, line_costs, rule_accepted}
+use Rattle.gm_theory.proofs.ValuesLists.{in_contained, contains_in}
+use Rattle.gm_apply.proofs.Counting.{count_same}
+use Rattle.gm_apply.proofs.LikeOrbits.{orbit_same}
+use Rattle.gm_theory.proofs.ValuesUnique.{one_count}
+use Rattle.gm_run.specs.Alike.{AreAlike, AreAllAlike, AreAlikeGroups, AreAlikeStates}
+use Rattle.gm_run.proofs.AlikeLemmas.{Suits, alike_back, alike_generalised}
+use Rattle.gm_run.proofs.OneBudget.{one_budget, placed_sorted, same_sorted}
+use Rattle.gm_run.proofs.OneOutcome.{one_outcome, same_budget}
 
--- what all rules have, the rule of this number has
-rule_has : (P : Rule → Type 0) (rules : List Rule) (k : ℕ) (rule : Rule) → All P rules → slice_get rules k ≡ Some rule → P rule
-rule_has P rules k rule all at = subst P (get_or_from_slice_get rules k rule rule at) (all k rule (slice_get_within rules k rule at))
+-- ---- leads
 
--- a good line is good for its rule
-module _ (rules : List Rule) (line : Line) (good : IsGoodLine rules line) (rule : Rule) (is : slice_get rules line.rule ≡ Some rule) where
-  same_rule : good.rule ≡ rule
-  same_rule = same_Some good.rule rule (sym good.rule_is ∙ is)
+ascending_places : (ds : List ℕ) → IsStrictlyIncreasing ds → (k l : ℕ) (a b : ℕ) → k < l → slice_get ds k ≡ Some a → slice_get ds l ≡ Some b → a < b
+ascending_places ds up k l a b less at at' =
+    let below = AllPairs-from_increasing ds up k l 0 less (slice_get_within ds l b at') in
+    omega (arith, below, get_or_from_slice_get ds k a 0 at, get_or_from_slice_get ds l b 0 at')
 
-  params_for : AreGoodParams rule line.params
-  params_for = subst (λ (r : Rule). AreGoodParams r line.params) same_rule good.params
+less_asymmetric : (a b : ℕ) → a < b → b < a → ⊥
+less_asymmetric a b h k = omega arith
 
-  budget_for : (map : Map) → IsSchema map.schema → IsSound map → IsAccepted map.schema rule → (most : ℕ) × IsBudget (application_of map rule line) most
-  budget_for map of_schema sound accepted = applications_have_budgets (application_of map rule line) of_schema sound accepted (good.hooks ∙ ap (λ (r : Rule). length r.hooks) same_rule) params_for
+module _ (mask : Mask) where
+  -- a lead of one map is a lead of the other
+  lead_there : (a b : Map) → IsGeneralised a → AreAlike a b → ((i : ℕ) → IsTrue (has mask i) → i ≤ dimension a) → (d : ℕ) → IsLead (IsDart a) a.alpha (has mask) d → IsLead (IsDart b) b.alpha (has mask) d
+  lead_there a b old alike labels d lead = record {
+    live = (alike.same.darts d).0 lead.live;
+    least = λ e o live.
+        let back = alike_back a b alike in
+        let new = alike_generalised a b alike old in
+        let low : (i : ℕ) → IsTrue (has mask i) → i ≤ dimension b = λ i t. subst (λ (s : Schema). i ≤ s.dim) alike.schema (labels i t) in
+        lead.least e (orbit_same (dimension b) (IsDart b) b.alpha a.alpha new.stays back.same.arcs (has mask) low d e ((alike.same.darts d).0 lead.live) o) ((alike.same.darts e).1 live);
+  }
 
-module _ (schema : Schema) (is_schema : IsSchema schema) where
-  -- ---- one line
+  one_leads : (a b : Map) → IsGeneralised a → AreAlike a b → ((i : ℕ) → IsTrue (has mask i) → i ≤ dimension a) → (leads others : List ℕ) → AreLeads a mask leads → AreLeads b mask others → leads ≡ others
+  one_leads a b old alike labels leads others first second =
+      same_sorted (λ x y. x < y) less_asymmetric leads others (placed_sorted (λ x y. x < y) less_asymmetric leads (ascending_places leads first.ascending)) (placed_sorted (λ x y. x < y) less_asymmetric others (ascending_places others second.ascending))
+      (λ d. (
+        (λ i. in_contained others d ((second.same.same d).1 (lead_there a b old alike labels d ((first.same.same d).0 (contains_in leads d i))))),
+        (λ i. in_contained leads d ((first.same.same d).1 (lead_there b a (alike_generalised a b alike old) (alike_back a b alike) (λ l t. subst (λ (s : Schema). l ≤ s.dim) alike.schema (labels l t)) d ((second.same.same d).0 (contains_in others d i))))),
+      ))
 
-  -- no application changes the schema
-  outcome_schema : (a : Map) (rule : Rule) (line : Line) (outcome : Outcome) (after : Map) → a.schema ≡ schema → IsOutcome (application_of a rule line) outcome after → after.schema ≡ schema
-  outcome_schema a rule line (Done added removed) after of_schema done = done.result_is.schema ∙ of_schema
-  outcome_schema a rule line (Refused cause) after of_schema refused = ap (λ (m : Map). m.schema) refused.1 ∙ of_schema
+-- ---- lines
 
-  pub schema_at : (a : Map) → a.schema ≡ schema → IsSchema a.schema
-  schema_at a of_schema = subst IsSchema (sym of_schema) is_schema
+module _ (schema : Schema) (rules : List Rule) where
+  suits : (a : Map) (index : ℕ) (rule : Rule) → IsRuleOf schema rules index → IsSoundOf schema a → slice_get rules index ≡ Some rule → Suits rule a
+  suits a index rule of sound is = record {
+    of_schema = subst (λ (s : Schema). IsSchema s) (sym sound.schema_is) of.of_schema;
+    sound = sound.sound;
+    accepted = rule_accepted schema rules a index rule of sound is;
+  }
 
-  pub accepted_at : (a : Map) (rule : Rule) → a.schema ≡ schema → IsAccepted schema rule → IsAccepted a.schema rule
-  accepted_at a rule of_schema accepted = subst (λ s. IsAccepted s rule) (sym of_schema) accepted
+  pub one_line : (a b : Map) (line : Line) → IsRuleOf schema rules line.rule → IsSoundOf schema b → AreAlike a b → (outcome other : Outcome) (after end : Map) → IsLineOutcome rules a line outcome after → IsLineOutcome rules b line other end
+      → (outcome ≡ other) × AreAlike after end
+  one_line a b line of sound alike outcome other after end first second =
+      one_outcome first.rule line.hooks line.params a b (suits b line.rule first.rule of sound first.rule_is) alike outcome other after end first.outcome_is
+      (subst (λ r. IsOutcome (application_of b r line) other end) (same_Some second.rule first.rule (sym second.rule_is ∙ first.rule_is)) second.outcome_is)
 
-  -- and where its rule is accepted, it leaves a sound map again
-  outcome_sound : (a : Map) (rule : Rule) (line : Line) (outcome : Outcome) (after : Map) → a.schema ≡ schema → IsSound a → IsAccepted schema rule → AreGoodParams rule line.params → IsOutcome (application_of a rule line) outcome after → IsSound after
-  outcome_sound a rule line (Done added removed) after of_schema sound accepted params done =
-      applications_keep_sound_maps (application_of a rule line) after added removed (schema_at a of_schema) sound (accepted_at a rule of_schema accepted) params done
-  outcome_sound a rule line (Refused cause) after of_schema sound accepted params refused = subst IsSound (sym refused.1) sound
+  -- what a line may take at a map, it may take at a map alike
+  pub budget_alike : (a b : Map) (line : Line) → IsRuleOf schema rules line.rule → IsSoundOf schema b → AreAlike a b → (most : ℕ) → IsLineBudget rules a line most → IsLineBudget rules b line most
+  budget_alike a b line of sound alike most budget = record {
+    rule = budget.rule;
+    rule_is = budget.rule_is;
+    budget = same_budget budget.rule line.hooks line.params a b (suits b line.rule budget.rule of sound budget.rule_is) alike most budget.budget;
+  }
 
-  -- ---- all lines
+  one_line_budget : (a b : Map) (line : Line) → IsRuleOf schema rules line.rule → IsGoodLine rules line → IsSoundOf schema b → AreAlike a b → (most other : ℕ) → IsLineBudget rules a line most → IsLineBudget rules b line other → most ≡ other
+  one_line_budget a b line of good sound alike most other first second =
+      one_budget (application_of b second.rule line) (suits b line.rule second.rule of sound second.rule_is) params most other
+      (subst (λ r. IsBudget (application_of b r line) most) (same_Some there.rule second.rule (sym there.rule_is ∙ second.rule_is)) there.budget) second.budget
+    where
+      there : IsLineBudget rules b line most
+      there = budget_alike a b line of sound alike most first
 
-  module _ (rules : List Rule) (accepted : All (IsAccepted schema) rules) where
-    pub accepted_here : (line : Line) (rule : Rule) → slice_get rules line.rule ≡ Some rule → IsAccepted schema rule
-    accepted_here line rule is = rule_has (IsAccepted schema) rules line.rule rule accepted is
+      params : AreGoodParams second.rule line.params
+      params = subst (λ (r : Rule). AreGoodParams r line.params) (same_Some good.rule second.rule (sym good.rule_is ∙ second.rule_is)) good.params
 
-    -- what is used of a line
-    pub record IsTaken (a : Map) (line : Line) (outcome : Outcome) (after : Map) : Type 0 where
-      pub kept : after.schema ≡ schema
-      pub sound : IsSound after
+  -- ---- one application for each orbit
 
-    pub taken : (a : Map) (line : Line) (outcome : Outcome) (after : Map) → a.schema ≡ schema → IsSound a → IsGoodLine rules line → IsLineOutcome rules a line outcome after → IsTaken a line outcome after
-    taken a line outcome after of_schema sound good is = record {
-      kept = outcome_schema a is.rule line outcome after of_schema is.outcome_is;
-      sound = outcome_sound a is.rule line outcome after of_schema sound (accepted_here line is.rule is.rule_is) (params_for rules line good is.rule is.rule_is) is.outcome_is;
-    }
+  module _ (index : ℕ) (params : List Value) (of : IsRuleOf schema rules index) (good : (d : ℕ) → IsGoodLine rules (line_at index params d)) where
+    sound_between : (b : Map) (d : ℕ) (outcome : Outcome) (between : Map) → IsSoundOf schema b → IsLineOutcome rules b (line_at index params d) outcome between → IsSoundOf schema between
+    sound_between b d outcome between sound is = (line_costs schema rules b (line_at index params d) of sound (good d) outcome between is).sound
 
-    pub one_line : (a b : Map) → b.schema ≡ schema → IsSound b → AreAlike a b → (line : Line) (outcome outcome' : Outcome) (after after' : Map) → IsLineOutcome rules a line outcome after → IsLineOutcome rules b line outcome' after'
-        → (outcome ≡ outcome') × AreAlike after after'
-    one_line a b of_schema sound alike line outcome outcome' after after' first second =
-        one_outcome first.rule line.hooks line.params a b suits alike outcome outcome' after after' first.outcome_is
-        (subst (λ r. IsOutcome (application_of b r line) outcome' after') (same_Some second.rule first.rule (sym second.rule_is ∙ first.rule_is)) second.outcome_is)
-      where
-        suits : Suits first.rule b
-        suits = record {
-          of_schema = schema_at b of_schema;
-          sound = sound;
-          accepted = accepted_at b first.rule of_schema (accepted_here line first.rule first.rule_is);
-        }
+    pub one_turns : (leads : List ℕ) (turns others : List Turn) (a b after end : Map) → IsSoundOf schema b → AreAlike a b → AreTurns rules index params a leads turns after → AreTurns rules index params b leads others end
+        → (turns ≡ others) × AreAlike after end
+    one_turns [] [] [] a b after end sound alike e f = (refl, subst (λ m. AreAlike m end) (sym e) (subst (AreAlike a) (sym f) alike))
+    one_turns [] [] (other ∷ others) a b after end sound alike e f = absurd f
+    one_turns [] (turn ∷ turns) others a b after end sound alike e f = absurd e
+    one_turns (d ∷ leads) [] others a b after end sound alike e f = absurd e
+    one_turns (d ∷ leads) (turn ∷ turns) [] a b after end sound alike e f = absurd f
+    one_turns (d ∷ leads) (Taken outcome ∷ turns) (Taken other ∷ others) a b after end sound alike (live, m, is, rest) (live', n, is', rest') =
+        let one : (outcome ≡ other) × AreAlike m n = one_line a b (line_at index params d) of sound alike outcome other m n is is' in
+        let further : (turns ≡ others) × AreAlike after end = one_turns leads turns others m n after end (sound_between b d other n sound is') one.1 rest rest' in
+        (ap₂ (λ (o : Outcome) (ts : List Turn). Taken o ∷ ts) one.0 further.0, further.1)
+    one_turns (d ∷ leads) (Taken outcome ∷ turns) (Passed ∷ others) a b after end sound alike (live, m, is, rest) (dead, rest') = absurd (dead ((alike.same.darts d).0 live))
+    one_turns (d ∷ leads) (Passed ∷ turns) (Taken other ∷ others) a b after end sound alike (dead, rest) (live, n, is, rest') = absurd (dead ((alike.same.darts d).1 live))
+    one_turns (d ∷ leads) (Passed ∷ turns) (Passed ∷ others) a b after end sound alike (dead, rest) (dead', rest') =
+        let further : (turns ≡ others) × AreAlike after end = one_turns leads turns others a b after end sound alike rest rest' in
+        (ap (λ (ts : List Turn). Passed ∷ ts) further.0, further.1)
 
-    -- two runs of the same lines from maps that are alike have the same outcomes, and leave maps that are alike
-    pub one_run : (a b : Map) → b.schema ≡ schema → IsSound b → AreAlike a b → (lines : List Line) → AllByRecursion (IsGoodLine rules) lines → (outcomes outcomes' : List Outcome) (end end' : Map)
-        → IsRun rules a lines outcomes end → IsRun rules b lines outcomes' end' → (outcomes ≡ outcomes') × AreAlike end end'
-    one_run a b of_schema sound alike [] good [] [] end end' e e' = (refl, subst (λ m. AreAlike m end') (sym e) (subst (AreAlike a) (sym e') alike))
-    one_run a b of_schema sound alike [] good [] (o' ∷ outcomes') end end' e run' = absurd run'
-    one_run a b of_schema sound alike [] good (o ∷ outcomes) outcomes' end end' run run' = absurd run
-    one_run a b of_schema sound alike (line ∷ lines) good [] outcomes' end end' run run' = absurd run
-    one_run a b of_schema sound alike (line ∷ lines) good (o ∷ outcomes) [] end end' run run' = absurd run'
-    one_run a b of_schema sound alike (line ∷ lines) good (o ∷ outcomes) (o' ∷ outcomes') end end' (m, first, rest) (m', first', rest') =
-        let one : (o ≡ o') × AreAlike m m' = one_line a b of_schema sound alike line o o' m m' first first' in
-        let here : IsTaken b line o' m' = taken b line o' m' of_schema sound good.0 first' in
-        let others : (outcomes ≡ outcomes') × AreAlike end end' = one_run m m' here.kept here.sound one.1 lines good.1 outcomes outcomes' end end' rest rest' in
-        (ap₂ (λ (x : Outcome) (xs : List Outcome). x ∷ xs) one.0 others.0, others.1)
+    pub one_costs : (leads : List ℕ) (turns others : List Turn) (a b : Map) (costs other : TurnCosts) → IsSoundOf schema b → AreAlike a b → AreTurnCosts rules index params a leads turns costs → AreTurnCosts rules index params b leads others other → costs ≡ other
+    one_costs [] [] [] a b costs other sound alike e f = e ∙ sym f
+    one_costs [] [] (t ∷ others) a b costs other sound alike e f = absurd f
+    one_costs [] (t ∷ turns) others a b costs other sound alike e f = absurd e
+    one_costs (d ∷ leads) [] others a b costs other sound alike e f = absurd e
+    one_costs (d ∷ leads) (t ∷ turns) [] a b costs other sound alike e f = absurd f
+    one_costs (d ∷ leads) (Taken o ∷ turns) (Taken p ∷ others) a b costs other sound alike (live, m, most, rest, is, budget, are, e) (live', n, most', rest', is', budget', are', f) =
+        let one : (o ≡ p) × AreAlike m n = one_line a b (line_at index params d) of sound alike o p m n is is' in
+        let same : most ≡ most' = one_line_budget a b (line_at index params d) of (good d) sound alike most most' budget budget' in
+        let further : rest ≡ rest' = one_costs leads turns others m n rest rest' (sound_between b d p n sound is') one.1 are are' in
+        e
+        ∙ ap (λ (x : Outcome). record { least = changed_darts x + rest.least; most = most + rest.most; done = done_part x most + rest.done }) one.0
+        ∙ ap₂ (λ (x : ℕ) (r : TurnCosts). record { least = changed_darts p + r.least; most = x + r.most; done = done_part p x + r.done }) same further ∙ sym f
+    one_costs (d ∷ leads) (Taken o ∷ turns) (Passed ∷ others) a b costs other sound alike (live, m, most, rest, is, budget, are, e) (dead, are') = absurd (dead ((alike.same.darts d).0 live))
+    one_costs (d ∷ leads) (Passed ∷ turns) (Taken p ∷ others) a b costs other sound alike (dead, are) (live, n, most, rest, is, budget, are', e) = absurd (dead ((alike.same.darts d).1 live))
+    one_costs (d ∷ leads) (Passed ∷ turns) (Passed ∷ others) a b costs other sound alike (dead, are) (dead', are') = one_costs leads turns others a b costs other sound alike are are'
 
-    -- ---- the budget
+  one_each_leads : (a b : Map) (mask : Mask) (index : ℕ) (params : List Value) → IsGoodEach rules schema.dim mask index params → IsSoundOf schema b → AreAlike a b → (leads others : List ℕ) → AreLeads a mask leads → AreLeads b mask others → leads ≡ others
+  one_each_leads a b mask index params good sound alike leads others first second =
+      sym (one_leads mask b a sound.sound.generalised (alike_back a b alike) (λ i t. subst (λ (s : Schema). i ≤ s.dim) (sym sound.schema_is) (good.labels i t)) others leads second first)
 
-    -- a run has a budget
-    pub run_has_budget : (a : Map) → a.schema ≡ schema → IsSound a → (lines : List Line) → AllByRecursion (IsGoodLine rules) lines → (outcomes : List Outcome) (end : Map) → IsRun rules a lines outcomes end → (most : ℕ) × IsRunBudget rules a lines outcomes end most
-    run_has_budget a of_schema sound [] good [] end e = (0, (e, refl))
-    run_has_budget a of_schema sound [] good (o ∷ outcomes) end run = absurd run
-    run_has_budget a of_schema sound (line ∷ lines) good [] end run = absurd run
-    run_has_budget a of_schema sound (line ∷ lines) good (o ∷ outcomes) end (m, first, rest) =
-        let budget = budget_for rules line good.0 first.rule first.rule_is a (schema_at a of_schema) sound (accepted_at a first.rule of_schema (accepted_here line first.rule first.rule_is)) in
-        let here : IsTaken a line o m = taken a line o m of_schema sound good.0 first in
-        let others = run_has_budget m here.kept here.sound lines good.1 outcomes end rest in
-        (budget.0 + others.0, (m, budget.0, others.0, first, record { rule = first.rule; rule_is = first.rule_is; budget = budget.1 }, others.1, refl))
+  -- ---- states
+
+  -- an outcome, and a state alike
+  abbrev AreOne : Outcome → Outcome → State → State → Type 0
+  AreOne outcome other after end = (outcome ≡ other) × AreAlikeStates after end
+
+  past_alike : (group other : Option Group) (m n : Map) (past others : List Map) → AreAlikeGroups group other → AreAlike m n → AreAllAlike past others → AreAllAlike (past_behind m group past) (past_behind n other others)
+  past_alike None None m n past others groups alike all = (alike, all)
+  past_alike None (Some other) m n past others groups alike all = absurd groups
+  past_alike (Some group) None m n past others groups alike all = absurd groups
+  past_alike (Some group) (Some other) m n past others groups alike all = all
+
+  groups_changed : (group other : Option Group) → AreAlikeGroups group other → AreAlikeGroups (option_map changed group) (option_map changed other)
+  groups_changed None None groups = tt
+  groups_changed None (Some other) groups = absurd groups
+  groups_changed (Some group) None groups = absurd groups
+  groups_changed (Some group) (Some other) groups = (groups.0, refl)
+
+  both_open : (group other : Option Group) → AreAlikeGroups group other → is_some group ≡ is_some other
+  both_open None None groups = refl
+  both_open None (Some other) groups = absurd groups
+  both_open (Some group) None groups = absurd groups
+  both_open (Some group) (Some other) groups = refl
+
+  alike_done : (a b : State) (after end : Map) → AreAlikeStates a b → AreAlike after end → AreAlikeStates (behind_done a after) (behind_done b end)
+  alike_done a b after end alike maps = record {
+    map = maps;
+    past = past_alike a.history.group b.history.group a.map b.map a.history.past b.history.past alike.group alike.map alike.past;
+    future = tt;
+    group = groups_changed a.history.group b.history.group alike.group;
+    broken = alike.broken;
+  }
+
+  alike_each : (a b : State) (after end : Map) → AreAlikeStates a b → AreAlike after end → (done : ℕ) → AreAlikeStates (behind_each a done after) (behind_each b done end)
+  alike_each a b after end alike maps zero = alike
+  alike_each a b after end alike maps (suc done) = alike_done a b after end alike maps
+
+  -- a group of one is alike to the group of the other
+  groups_meet : (group other : Option Group) (g h : Group) → AreAlikeGroups group other → group ≡ Some g → other ≡ Some h → AreAlike g.map h.map × (g.is_changed ≡ h.is_changed)
+  groups_meet group other g h groups e f = subst (λ o. AreAlikeGroups (Some g) o) f (subst (λ o. AreAlikeGroups o other) e groups)
+
+  kept_alike : (g h : Group) (past others : List Map) → AreAlike g.map h.map → g.is_changed ≡ h.is_changed → AreAllAlike past others → AreAllAlike (if g.is_changed then g.map ∷ past else past) (if h.is_changed then h.map ∷ others else others)
+  kept_alike g h past others maps same all = go g.is_changed h.is_changed same
+    where
+      go : (c d : Bool) → c ≡ d → AreAllAlike (if c then g.map ∷ past else past) (if d then h.map ∷ others else others)
+      go true true e = (maps, all)
+      go true false e = absurd cc
+      go false true e = absurd cc
+      go false false e = all
+
+  -- where one has a past, the other has
+  pasts_meet : (past others : List Map) (m n : Map) (rest rest' : List Map) → AreAllAlike past others → past ≡ m ∷ rest → others ≡ n ∷ rest' → AreAlike m n × AreAllAlike rest rest'
+  pasts_meet past others m n rest rest' all e f = subst (AreAllAlike (m ∷ rest)) f (subst (λ ms. AreAllAlike ms others) e all)
+
+  not_empty : (past others : List Map) (m : Map) (rest : List Map) → AreAllAlike past others → past ≡ m ∷ rest → others ≡ [] → ⊥
+  not_empty past others m rest all e f = subst (AreAllAlike (m ∷ rest)) f (subst (λ ms. AreAllAlike ms others) e all)
+
+  not_empty_back : (past others : List Map) (m : Map) (rest : List Map) → AreAllAlike past others → past ≡ [] → others ≡ m ∷ rest → ⊥
+  not_empty_back past others m rest all e f = subst (AreAllAlike []) f (subst (λ ms. AreAllAlike ms others) e all)
+
+  -- ---- one step
+
+  broken_both : (a b : State) → AreAlikeStates a b → a.is_broken ≡ false → b.is_broken ≡ true → ⊥
+  broken_both a b alike e f = let same : false ≡ true = sym e ∙ alike.broken ∙ f in absurd cc
+
+  broken_back : (a b : State) → AreAlikeStates a b → a.is_broken ≡ true → b.is_broken ≡ false → ⊥
+  broken_back a b alike e f = let same : true ≡ false = sym e ∙ alike.broken ∙ f in absurd cc
+
+  pub one_step : (a b : State) (stat : Stat) (outcome other : Outcome) (after end : State) → IsSoundOf schema b.map → IsSuited schema rules stat → AreAlikeStates a b → IsStep rules a stat outcome after → IsStep rules b stat other end → AreOne outcome other after end
+  one_step a b _ _ _ _ _ sound suited alike (IsDoneHere line added removed after whole is) (IsDoneHere _ added' removed' end whole' is') =
+      let one = one_line a.map b.map line suited.1 sound alike.map (Done added removed) (Done added' removed') after end is is' in
+      (one.0, alike_done a b after end alike one.1)
+  one_step a b _ _ _ _ _ sound suited alike (IsDoneHere line added removed after whole is) (IsRefusedHere _ cause whole' is') =
+      let one = one_line a.map b.map line suited.1 sound alike.map (Done added removed) (Refused cause) after b.map is is' in
+      let same = one.0 in
+      absurd cc
+  one_step a b _ _ _ _ _ sound suited alike (IsDoneHere line added removed after whole is) (IsSkipped _ broken) = absurd (broken_both a b alike whole broken)
+  one_step a b _ _ _ _ _ sound suited alike (IsRefusedHere line cause whole is) (IsDoneHere _ added removed end whole' is') =
+      let one = one_line a.map b.map line suited.1 sound alike.map (Refused cause) (Done added removed) a.map end is is' in
+      let same = one.0 in
+      absurd cc
+  one_step a b _ _ _ _ _ sound suited alike (IsRefusedHere line cause whole is) (IsRefusedHere _ cause' whole' is') =
+      let one = one_line a.map b.map line suited.1 sound alike.map (Refused cause) (Refused cause') a.map b.map is is' in
+      (one.0, record { map = alike.map; past = alike.past; future = alike.future; group = alike.group; broken = both_open a.history.group b.history.group alike.group })
+  one_step a b _ _ _ _ _ sound suited alike (IsRefusedHere line cause whole is) (IsSkipped _ broken) = absurd (broken_both a b alike whole broken)
+  one_step a b _ _ _ _ _ sound suited alike (IsSkipped line broken) (IsDoneHere _ added removed end whole is) = absurd (broken_back a b alike broken whole)
+  one_step a b _ _ _ _ _ sound suited alike (IsSkipped line broken) (IsRefusedHere _ cause whole is) = absurd (broken_back a b alike broken whole)
+  one_step a b _ _ _ _ _ sound suited alike (IsSkipped line broken) (IsSkipped _ broken') = (refl, alike)
+  one_step a b _ _ _ _ _ sound suited alike (GoesBack m history is) (GoesBack n history' is') =
+      let nearest = pasts_meet a.history.past b.history.past m n is.rest is'.rest alike.past is.past is'.past in (
+        refl,
+        subst (λ h. AreAlikeStates (standing_at m h) (standing_at n history')) (sym is.after)
+            (subst (λ h. AreAlikeStates (standing_at m (record { past = is.rest; future = a.map ∷ a.history.future; group = None })) (standing_at n h)) (sym is'.after)
+            (record { map = nearest.0; past = nearest.1; future = (alike.map, alike.future); group = tt; broken = refl })),
+      )
+  one_step a b _ _ _ _ _ sound suited alike (GoesBack m history is) (HasNoPast none) = absurd (not_empty a.history.past b.history.past m is.rest alike.past is.past none)
+  one_step a b _ _ _ _ _ sound suited alike (HasNoPast none) (GoesBack n history is) = absurd (not_empty_back a.history.past b.history.past n is.rest alike.past none is.past)
+  one_step a b _ _ _ _ _ sound suited alike (HasNoPast none) (HasNoPast none') = (refl, alike)
+  one_step a b _ _ _ _ _ sound suited alike (GoesForth m history is) (GoesForth n history' is') =
+      let nearest = pasts_meet a.history.future b.history.future m n is.rest is'.rest alike.future is.future is'.future in (
+        refl,
+        subst (λ h. AreAlikeStates (standing_at m h) (standing_at n history')) (sym is.after)
+            (subst (λ h. AreAlikeStates (standing_at m (record { past = a.map ∷ a.history.past; future = is.rest; group = None })) (standing_at n h)) (sym is'.after)
+            (record { map = nearest.0; past = (alike.map, alike.past); future = nearest.1; group = tt; broken = refl })),
+      )
+  one_step a b _ _ _ _ _ sound suited alike (GoesForth m history is) (HasNoFuture none) = absurd (not_empty a.history.future b.history.future m is.rest alike.future is.future none)
+  one_step a b _ _ _ _ _ sound suited alike (HasNoFuture none) (GoesForth n history is) = absurd (not_empty_back a.history.future b.history.future n is.rest alike.future none is.future)
+  one_step a b _ _ _ _ _ sound suited alike (HasNoFuture none) (HasNoFuture none') = (refl, alike)
+  one_step a b _ _ _ _ _ sound suited alike (Begins outside) (Begins outside') = (refl, record { map = alike.map; past = alike.past; future = alike.future; group = (alike.map, refl); broken = refl })
+  one_step a b _ _ _ _ _ sound suited alike (Ends g e whole) (Ends h f whole') =
+      let same = groups_meet a.history.group b.history.group g h alike.group e f in
+      (refl, record { map = alike.map; past = kept_alike g h a.history.past b.history.past same.0 same.1 alike.past; future = alike.future; group = tt; broken = refl })
+  one_step a b _ _ _ _ _ sound suited alike (Ends g e whole) (IsTakenBack h f broken) = absurd (broken_both a b alike whole broken)
+  one_step a b _ _ _ _ _ sound suited alike (IsTakenBack g e broken) (Ends h f whole) = absurd (broken_back a b alike broken whole)
+  one_step a b _ _ _ _ _ sound suited alike (IsTakenBack g e broken) (IsTakenBack h f broken') =
+      (refl, record { map = (groups_meet a.history.group b.history.group g h alike.group e f).0; past = alike.past; future = alike.future; group = tt; broken = refl })
+  one_step a b _ _ _ _ _ sound suited alike (GoesOver mask index params leads turns after outside are are_turns) (GoesOver _ _ _ others turns' end outside' are' are_turns') =
+      let same : leads ≡ others = one_each_leads a.map b.map mask index params suited.0 sound alike.map leads others are are' in
+      let one = one_turns index params suited.1 (each_line rules schema.dim mask index params suited.0) others turns turns' a.map b.map after end sound alike.map (subst (λ ds. AreTurns rules index params a.map ds turns after) same are_turns) are_turns' in
+      (ap told one.0, subst (λ n. AreAlikeStates (behind_each a (count_by is_done_turn turns) after) (behind_each b n end)) (ap (count_by is_done_turn) one.0) (alike_each a b after end alike one.1 (count_by is_done_turn turns)))
+
+  -- ---- its bounds
+
+  entered_alike : (group other : Option Group) (most : ℕ) (entries : Entries) → AreAlikeGroups group other → entered group most entries ≡ entered other most entries
+  entered_alike None None most entries groups = refl
+  entered_alike None (Some other) most entries groups = absurd groups
+  entered_alike (Some group) None most entries groups = absurd groups
+  entered_alike (Some group) (Some other) most entries groups = refl
+
+  kept_entered : (g h : Group) (entries : Entries) → g.is_changed ≡ h.is_changed → group_entered g entries ≡ group_entered h entries
+  kept_entered g h entries same = ap (λ (c : Bool). record { past = if c then entries.group ∷ entries.past else entries.past; future = entries.future; group = 0 }) same
+
+  -- the first of a list, and the others
+  heads_same : (xs ys zs : List ℕ) (x y : ℕ) → zs ≡ x ∷ xs → zs ≡ y ∷ ys → (x ≡ y) × (xs ≡ ys)
+  heads_same xs ys zs x y e f = let same : x ∷ xs ≡ y ∷ ys = sym e ∙ f in (cc, cc)
+
+  abbrev AreSameBounds : Bounds → Bounds → Entries → Entries → Type 0
+  AreSameBounds bounds other behind further = (bounds ≡ other) × (behind ≡ further)
+
+  pub one_bounds : (a b : State) (entries : Entries) (stat : Stat) (outcome other : Outcome) (bounds bounds' : Bounds) (behind behind' : Entries) → IsSoundOf schema b.map → IsSuited schema rules stat → AreAlikeStates a b → outcome ≡ other
+      → HasBounds rules a entries stat outcome bounds behind → HasBounds rules b entries stat other bounds' behind' → AreSameBounds bounds bounds' behind behind'
+  one_bounds a b entries _ _ _ _ _ _ _ sound suited alike e (OfDone line added removed most budget) (OfDone _ added' removed' most' budget') =
+      let same = one_line_budget a.map b.map line suited.1 suited.0 sound alike.map most most' budget budget' in
+      let counts : (added ≡ added') × (removed ≡ removed') = (cc, cc) in (
+        ap₂ (λ (x y : ℕ). record { least = x; most = y }) (ap₂ ◌+◌ counts.0 counts.1) same,
+        ap (λ n. entered a.history.group n entries) same ∙ entered_alike a.history.group b.history.group most' entries alike.group,
+      )
+  one_bounds a b entries _ _ _ _ _ _ _ sound suited alike e (OfDone line added removed most budget) (OfRefused _ cause most' budget') = absurd cc
+  one_bounds a b entries _ _ _ _ _ _ _ sound suited alike e (OfDone line added removed most budget) (OfSkipped _) = absurd cc
+  one_bounds a b entries _ _ _ _ _ _ _ sound suited alike e (OfRefused line cause most budget) (OfDone _ added' removed' most' budget') = absurd cc
+  one_bounds a b entries _ _ _ _ _ _ _ sound suited alike e (OfRefused line cause most budget) (OfRefused _ cause' most' budget') =
+      (ap up_to (one_line_budget a.map b.map line suited.1 suited.0 sound alike.map most most' budget budget'), refl)
+  one_bounds a b entries _ _ _ _ _ _ _ sound suited alike e (OfRefused line cause most budget) (OfSkipped _) = absurd cc
+  one_bounds a b entries _ _ _ _ _ _ _ sound suited alike e (OfSkipped line) (OfDone _ added' removed' most' budget') = absurd cc
+  one_bounds a b entries _ _ _ _ _ _ _ sound suited alike e (OfSkipped line) (OfRefused _ cause' most' budget') = absurd cc
+  one_bounds a b entries _ _ _ _ _ _ _ sound suited alike e (OfSkipped line) (OfSkipped _) = (refl, refl)
+  one_bounds a b entries _ _ _ _ _ _ _ sound suited alike e (OfUndone most rest is) (OfUndone most' rest' is') =
+      let same = heads_same rest rest' entries.past most most' is is' in
+      (ap up_to same.0, ap₂ (λ (x : ℕ) (xs : List ℕ). record { past = xs; future = x ∷ entries.future; group = entries.group }) same.0 same.1)
+  one_bounds a b entries _ _ _ _ _ _ _ sound suited alike e (OfUndone most rest is) OfNoPast = absurd cc
+  one_bounds a b entries _ _ _ _ _ _ _ sound suited alike e OfNoPast (OfUndone most rest is) = absurd cc
+  one_bounds a b entries _ _ _ _ _ _ _ sound suited alike e OfNoPast OfNoPast = (refl, refl)
+  one_bounds a b entries _ _ _ _ _ _ _ sound suited alike e (OfRedone most rest is) (OfRedone most' rest' is') =
+      let same = heads_same rest rest' entries.future most most' is is' in
+      (ap up_to same.0, ap₂ (λ (x : ℕ) (xs : List ℕ). record { past = x ∷ entries.past; future = xs; group = entries.group }) same.0 same.1)
+  one_bounds a b entries _ _ _ _ _ _ _ sound suited alike e (OfRedone most rest is) OfNoFuture = absurd cc
+  one_bounds a b entries _ _ _ _ _ _ _ sound suited alike e OfNoFuture (OfRedone most rest is) = absurd cc
+  one_bounds a b entries _ _ _ _ _ _ _ sound suited alike e OfNoFuture OfNoFuture = (refl, refl)
+  one_bounds a b entries _ _ _ _ _ _ _ sound suited alike e OfBegun OfBegun = (refl, refl)
+  one_bounds a b entries _ _ _ _ _ _ _ sound suited alike e (OfKept g is) (OfKept h is') = (refl, kept_entered g h entries (groups_meet a.history.group b.history.group g h alike.group is is').1)
+  one_bounds a b entries _ _ _ _ _ _ _ sound suited alike e (OfKept g is) OfDropped = absurd cc
+  one_bounds a b entries _ _ _ _ _ _ _ sound suited alike e OfDropped (OfKept h is) = absurd cc
+  one_bounds a b entries _ _ _ _ _ _ _ sound suited alike e OfDropped OfDropped = (refl, refl)
+  one_bounds a b entries _ _ _ _ _ _ _ sound suited alike e (OfEach mask index params leads turns costs darts are are_costs count) (OfEach _ _ _ others turns' costs' darts' are' are_costs' count') =
+      let same : leads ≡ others = one_each_leads a.map b.map mask index params suited.0 sound alike.map leads others are are' in
+      let both : costs ≡ costs' = one_costs index params suited.1 (each_line rules schema.dim mask index params suited.0) others turns turns' a.map b.map costs costs' sound alike.map (subst (λ ds. AreTurnCosts rules index params a.map ds turns costs) same are_costs) are_costs' in
+      let counted : darts ≡ darts' = one_count (IsDart b.map) darts darts' (count_same (IsDart a.map) (IsDart b.map) darts (alike.map.same.darts) count) count' in (
+        ap₂ (λ (c : TurnCosts) (n : ℕ). record { least = c.least; most = c.most + 12 * (dimension a.map + 1) * (n + 1) }) both counted
+            ∙ ap (λ (s : Schema). record { least = costs'.least; most = costs'.most + 12 * (s.dim + 1) * (darts' + 1) }) alike.map.schema,
+        ap₂ (λ (o : Outcome) (c : TurnCosts). each_entered o c.done entries) e both,
+      )
+
+  -- ---- all statements
+
+  -- two runs of the same statements, from states that are alike
+  pub one_run : (stats : List Stat) → AllByRecursion (IsSuited schema rules) stats → (a b : State) (entries : Entries) → Stands schema b entries → AreAlikeStates a b → (outcomes others : List Outcome) (after end : State)
+      → IsRun rules a stats outcomes after → IsRun rules b stats others end → (outcomes ≡ others) × AreAlikeStates after end
+  one_run [] suited a b entries stands alike [] [] after end e f = (refl, subst (λ s. AreAlikeStates s end) (sym e) (subst (AreAlikeStates a) (sym f) alike))
+  one_run [] suited a b entries stands alike [] (o ∷ others) after end e f = absurd f
+  one_run [] suited a b entries stands alike (o ∷ outcomes) others after end e f = absurd e
+  one_run (stat ∷ stats) suited a b entries stands alike [] others after end e f = absurd e
+  one_run (stat ∷ stats) suited a b entries stands alike (o ∷ outcomes) [] after end e f = absurd f
+  one_run (stat ∷ stats) suited a b entries stands alike (o ∷ outcomes) (p ∷ others) after end (m, step, rest) (n, step', rest') =
+      let one : (o ≡ p) × AreAlikeStates m n = one_step a b stat o p m n stands.sound.map suited.0 alike step step' in
+      let on : GoesOn schema rules b entries stat p n = goes_on schema rules b entries stat p n stands suited.0 step' in
+      let further : (outcomes ≡ others) × AreAlikeStates after end = one_run stats suited.1 m n on.behind on.stands one.1 outcomes others after end rest rest' in
+      (ap₂ (λ (x : Outcome) (xs : List Outcome). x ∷ xs) one.0 further.0, further.1)
+
+  -- and their bounds, from the same costs of what goes back; the other costs say only that each state is sound
+  pub one_within : (stats : List Stat) → AllByRecursion (IsSuited schema rules) stats → (a b : State) (entries sound_by : Entries) → Stands schema b sound_by → AreAlikeStates a b → (outcomes others : List Outcome) (after end : State) (bounds other : Bounds)
+      → IsRunWithin rules a entries stats outcomes after bounds → IsRunWithin rules b entries stats others end other → bounds ≡ other
+  one_within [] suited a b entries sound_by stands alike [] [] after end bounds other (e, h) (f, k) = h ∙ sym k
+  one_within [] suited a b entries sound_by stands alike [] (o ∷ others) after end bounds other e f = absurd f
+  one_within [] suited a b entries sound_by stands alike (o ∷ outcomes) others after end bounds other e f = absurd e
+  one_within (stat ∷ stats) suited a b entries sound_by stands alike [] others after end bounds other e f = absurd e
+  one_within (stat ∷ stats) suited a b entries sound_by stands alike (o ∷ outcomes) [] after end bounds other e f = absurd f
+  one_within (stat ∷ stats) suited a b entries sound_by stands alike (o ∷ outcomes) (p ∷ others) after end bounds other (m, behind, first, rest, step, has, run, e) (n, behind', first', rest', step', has', run', f) =
+      let one : (o ≡ p) × AreAlikeStates m n = one_step a b stat o p m n stands.sound.map suited.0 alike step step' in
+      let same : AreSameBounds first first' behind behind' = one_bounds a b entries stat o p first first' behind behind' stands.sound.map suited.0 alike one.0 has has' in
+      let on : GoesOn schema rules b sound_by stat p n = goes_on schema rules b sound_by stat p n stands suited.0 step' in
+      let further : rest ≡ rest' = one_within stats suited.1 m n behind' on.behind on.stands one.1 outcomes others after end rest rest' (subst (λ (x : Entries). IsRunWithin rules m x stats outcomes after rest) same.1 run) run' in
+      e ∙ ap₂ (λ (x y : Bounds). record { least = x.least + y.least; most = x.most + y.most }) same.0 further ∙ sym f
+
+  -- a run has bounds
+  pub run_has_bounds : (stats : List Stat) → AllByRecursion (IsSuited schema rules) stats → (a : State) (entries : Entries) → Stands schema a entries → (outcomes : List Outcome) (after : State) → IsRun rules a stats outcomes after → (bounds : Bounds) × IsRunWithin rules a entries stats outcomes after bounds
+  run_has_bounds [] suited a entries stands [] after e = (up_to 0, (e, refl))
+  run_has_bounds [] suited a entries stands (o ∷ outcomes) after e = absurd e
+  run_has_bounds (stat ∷ stats) suited a entries stands [] after e = absurd e
+  run_has_bounds (stat ∷ stats) suited a entries stands (o ∷ outcomes) after (m, step, rest) =
+      let on : GoesOn schema rules a entries stat o m = goes_on schema rules a entries stat o m stands suited.0 step in
+      let further : (bounds : Bounds) × IsRunWithin rules m on.behind stats outcomes after bounds = run_has_bounds stats suited.1 m on.behind on.stands outcomes after rest in
+      (record { least = on.bounds.least + further.0.least; most = on.bounds.most + further.0.most }, (m, on.behind, on.bounds, further.0, step, on.has, further.1, refl))

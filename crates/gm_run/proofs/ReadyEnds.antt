@@ -2,7 +2,7 @@
 use Rattle.std.proofs.Common.{◌≡◌, ℕ, ◌<◌, ◌⊎◌, inl, inr, List, Option, Some, None, refl, sym, ap, ap₂, subst}
 use Rattle.std.proofs.lemmas.Bool.{cases_order}
 use Rattle.gm_model.specs.declared.value.Value.{Value}
-use Rattle.gm_model.specs.Applications.{Application, Cause, NoValue, Decider, IsDeciderBefore, IsFound, GivesValue, IsDecider, IsFirstValueless, IsResult}
+use Rattle.gm_model.specs.Applications.{Application, Cause, NoValue, Decider, IsDeciderBefore, GivesValue, IsDecider, IsFirstValueless, IsResult}
 use Rattle.gm_model.specs.Maps.{Map, IsSchema, type_of}
 use Rattle.gm_model.specs.Matches.{Placement, IsMatch}
 use Rattle.gm_model.specs.NewValues.{IsValueAfter, Decided, Kept, Added}
@@ -15,8 +15,7 @@ use Rattle.gm_apply.proofs.LikeResults.{AreLikeResults, results_like, results_ba
 use Rattle.gm_apply.proofs.LikeScenes.{unfolding_there}
 use Rattle.gm_apply.proofs.LikeValues.{decider_there, first_valueless_there, gives_there}
 use Rattle.gm_theory.specs.Theorem.{Unfolded, Unfolds, IsDartOf}
-use Rattle.gm_theory.proofs.LikeCandidates.{candidates_like}
-use Rattle.gm_theory.proofs.ValuesKept.{found_match}
+use Rattle.gm_theory.proofs.Agreement.{one_match}
 use Rattle.gm_theory.proofs.Walks.{pair_order}
 use Rattle.gm_run.proofs.AlikeLemmas.{Suits}
 
@@ -75,15 +74,12 @@ module _ (app : Application) (place : Placement) (result : Unfolded) where
   lacks_or_has : (d : Decider) → IsFirstValueless app place (IsDartOf result) result.alpha d → HasAllValues app place result → ⊥
   lacks_or_has d first all = let given = all d first.here in first.none given.0 given.1
 
-module _ (app : Application) (suits : Suits app.rule app.map) (place : Placement) (found : IsFound app place) where
-  matched_here : IsMatch app.map app.rule app.hooks place
-  matched_here = found_match app place suits.sound.generalised suits.accepted found
-
+module _ (app : Application) (suits : Suits app.rule app.map) (place : Placement) (matched : IsMatch app.map app.rule app.hooks place) where
   same_place : AreLikeAt app.rule app.map app.map place place
-  same_place = same_map app.rule app.map place place suits.accepted suits.sound.is_map suits.sound.generalised (candidates_like app suits.accepted.in_range suits.accepted.incidence place place found.candidate found.candidate) matched_here.embedded.live
+  same_place = same_map app.rule app.map place place suits.accepted suits.sound.is_map suits.sound.generalised (one_match app.map app.rule app.hooks place place suits.accepted.in_range suits.accepted.incidence matched matched) matched.embedded.live
 
   same_results : (result end : Unfolded) → Unfolds app.map app.rule place result → Unfolds app.map app.rule place end → AreLikeResults app.rule app.map app.map place place result end
-  same_results = results_like app.rule app.hooks app.map app.map place place same_place suits.of_schema matched_here
+  same_results = results_like app.rule app.hooks app.map app.map place place same_place suits.of_schema matched
 
   first_there : (result end : Unfolded) → Unfolds app.map app.rule place result → Unfolds app.map app.rule place end → (d : Decider) → IsFirstValueless app place (IsDartOf result) result.alpha d → IsFirstValueless app place (IsDartOf end) end.alpha d
   first_there result end u v d = first_valueless_there app.rule app.hooks app.params app.map app.map place place result end (same_results result end u v) d

@@ -1,17 +1,24 @@
 -- What a run answers can be printed: each cause names nodes of its line's rule.
-use Rattle.std.proofs.Common.{◌≡◌, ℕ, zero, suc, List, [], ◌∷◌, length, None, Some, refl, sym, ap, subst, ◌∙◌}
+use Rattle.std.proofs.Common.{◌≡◌, ℕ, zero, suc, List, [], ◌∷◌, length, Some, refl, sym, ap, subst, ◌∙◌}
 use Rattle.std.specs.Prelude.{slice_get}
+use Rattle.std.specs.List.{AllByRecursion}
 use Rattle.std.specs.Option.{option_map, unwrap_or}
 use Rattle.std.proofs.lemmas.Option.{slice_get_within, same_Some}
 use Rattle.gm_model.specs.declared.rule.Side.TheVariants.{Left}
 use Rattle.gm_model.specs.declared.schema.Schema.{Schema}
 use Rattle.gm_model.specs.declared.script.Line.{Line}
+use Rattle.gm_model.specs.declared.script.Stat.{Stat}
+use Rattle.gm_model.specs.declared.script.Stat.TheVariants as statements
 use Rattle.gm_model.specs.Applications.{Application, Cause, IsRefused, NoHookDart, BrokenStep, Repeated, ValuelessPre, FalsePre, NoRoom, NoNames, Valueless}
+use Rattle.gm_model.specs.Budgets.{Entries}
 use Rattle.gm_model.specs.Maps.{Map}
 use Rattle.gm_model.specs.Rules.{Rule}
-use Rattle.gm_model.specs.Runs.{IsOutcome, IsLineOutcome, IsRun}
+use Rattle.gm_model.specs.Runs.{State, IsOutcome, IsLineOutcome, IsStep, IsDoneHere, IsRefusedHere, IsSkipped, GoesBack, HasNoPast, GoesForth, HasNoFuture, Begins, Ends, IsTakenBack, GoesOver, IsRun}
 use Rattle.gm_model.specs.Runs as runs
+use Rattle.gm_theory.specs.Suited.{IsSuited}
+use Rattle.gm_theory.proofs.Lists.{none_some}
 use Rattle.gm_theory.proofs.RuleSteps.{word_below}
+use Rattle.gm_theory.proofs.RunsFound.{GoesOn, Stands, goes_on}
 use Rattle.gm_run.specs.declared.outcome.Outcome.{Outcome}
 use Rattle.gm_run.specs.Lines.{Tells}
 use Rattle.gm_run.specs.Printing.{SpeaksOf, IsSayable, CanBePrinted}
@@ -31,45 +38,57 @@ cause_speaks_of app cause (Valueless place live alpha decider ready unfolded fir
 speaks_of : (app : Application) (outcome : runs.Outcome) (after : Map) → IsOutcome app outcome after → SpeaksOf (length app.rule.nodes) (length app.map.schema.embeds) outcome
 speaks_of app (runs.Done added removed) after is = tt
 speaks_of app (runs.Refused cause) after is = cause_speaks_of app cause is.0
-
-schema_after : (app : Application) (outcome : runs.Outcome) (after : Map) → IsOutcome app outcome after → after.schema ≡ app.map.schema
-schema_after app (runs.Done added removed) after done = done.result_is.schema
-schema_after app (runs.Refused cause) after refused = ap (λ (map : Map). map.schema) refused.1
+speaks_of app outcome after none = absurd none
 
 module _ (schema : Schema) (rules : List Rule) where
-  line_sayable : (before after : Map) (line : Line) (outcome : runs.Outcome) → before.schema ≡ schema → IsLineOutcome rules before line outcome after → IsSayable schema rules line outcome
+  line_sayable : (before after : Map) (line : Line) (outcome : runs.Outcome) → before.schema ≡ schema → IsLineOutcome rules before line outcome after → IsSayable schema rules (statements.Apply line) outcome
   line_sayable before after line outcome same is = record {
     named = slice_get_within rules line.rule is.rule is.rule_is;
     speaks = subst (λ found. SpeaksOf (length (unwrap_or (option_map (λ (r : Rule). r.nodes) found) [])) (length schema.embeds) outcome) (sym is.rule_is)
         (subst (λ (s : Schema). SpeaksOf (length is.rule.nodes) (length s.embeds) outcome) same (speaks_of (runs.application_of before is.rule line) outcome after is.outcome_is));
   }
 
-  -- each line has an outcome that can be said of it
-  record AreSayable (lines : List Line) (outcomes : List runs.Outcome) : Type 0 where
-    pub each : length outcomes ≡ length lines
-    pub sayable : (k : ℕ) (line : Line) (outcome : runs.Outcome) → slice_get lines k ≡ Some line → slice_get outcomes k ≡ Some outcome → IsSayable schema rules line outcome
+  -- what a step tells can be said of its statement
+  step_sayable : (before after : State) (stat : Stat) (outcome : runs.Outcome) → before.map.schema ≡ schema → IsSuited schema rules stat → IsStep rules before stat outcome after → IsSayable schema rules stat outcome
+  step_sayable before _ _ _ same suited (IsDoneHere line added removed after whole is) = line_sayable before.map after line (runs.Done added removed) same is
+  step_sayable before _ _ _ same suited (IsRefusedHere line cause whole is) = line_sayable before.map before.map line (runs.Refused cause) same is
+  step_sayable before _ _ _ same suited (IsSkipped line broken) = record { named = slice_get_within rules line.rule suited.0.rule suited.0.rule_is; speaks = tt }
+  step_sayable before _ _ _ same suited (GoesBack map history is) = record { named = tt; speaks = tt }
+  step_sayable before _ _ _ same suited (HasNoPast none) = record { named = tt; speaks = tt }
+  step_sayable before _ _ _ same suited (GoesForth map history is) = record { named = tt; speaks = tt }
+  step_sayable before _ _ _ same suited (HasNoFuture none) = record { named = tt; speaks = tt }
+  step_sayable before _ _ _ same suited (Begins outside) = record { named = tt; speaks = tt }
+  step_sayable before _ _ _ same suited (Ends group is whole) = record { named = tt; speaks = tt }
+  step_sayable before _ _ _ same suited (IsTakenBack group is broken) = record { named = tt; speaks = tt }
+  step_sayable before _ _ _ same suited (GoesOver mask index params leads turns after outside are are_turns) = record { named = slice_get_within rules index suited.0.rule suited.0.rule_is; speaks = tt }
 
-  one_more : (x : Line) (y : runs.Outcome) (lines : List Line) (outcomes : List runs.Outcome) → IsSayable schema rules x y → AreSayable lines outcomes → AreSayable (x ∷ lines) (y ∷ outcomes)
-  one_more x y lines outcomes here others = record { each = ap suc others.each; sayable = at_place }
+  -- each statement has an outcome that can be said of it
+  record AreSayable (stats : List Stat) (outcomes : List runs.Outcome) : Type 0 where
+    pub each : length outcomes ≡ length stats
+    pub sayable : (k : ℕ) (stat : Stat) (outcome : runs.Outcome) → slice_get stats k ≡ Some stat → slice_get outcomes k ≡ Some outcome → IsSayable schema rules stat outcome
+
+  one_more : (x : Stat) (y : runs.Outcome) (stats : List Stat) (outcomes : List runs.Outcome) → IsSayable schema rules x y → AreSayable stats outcomes → AreSayable (x ∷ stats) (y ∷ outcomes)
+  one_more x y stats outcomes here others = record { each = ap suc others.each; sayable = at_place }
     where
-      at_place : (k : ℕ) (line : Line) (outcome : runs.Outcome) → slice_get (x ∷ lines) k ≡ Some line → slice_get (y ∷ outcomes) k ≡ Some outcome → IsSayable schema rules line outcome
-      at_place zero line outcome at other = subst (λ l. IsSayable schema rules l outcome) (same_Some x line at) (subst (IsSayable schema rules x) (same_Some y outcome other) here)
-      at_place (suc k) line outcome at other = others.sayable k line outcome at other
+      at_place : (k : ℕ) (stat : Stat) (outcome : runs.Outcome) → slice_get (x ∷ stats) k ≡ Some stat → slice_get (y ∷ outcomes) k ≡ Some outcome → IsSayable schema rules stat outcome
+      at_place zero stat outcome at other = subst (λ l. IsSayable schema rules l outcome) (same_Some x stat at) (subst (IsSayable schema rules x) (same_Some y outcome other) here)
+      at_place (suc k) stat outcome at other = others.sayable k stat outcome at other
 
-  run_sayable : (before after : Map) (lines : List Line) (outcomes : List runs.Outcome) → before.schema ≡ schema → IsRun rules before lines outcomes after → AreSayable lines outcomes
-  run_sayable before after [] [] same e = record {
+  run_sayable : (stats : List Stat) (before after : State) (entries : Entries) (outcomes : List runs.Outcome) → Stands schema before entries → AllByRecursion (IsSuited schema rules) stats → IsRun rules before stats outcomes after → AreSayable stats outcomes
+  run_sayable [] before after entries [] stands suited e = record {
     each = refl;
-    sayable = λ k line outcome at other. let none : None ≡ Some line = at in absurd cc;
+    sayable = λ k stat outcome at other. none_some stat at;
   }
-  run_sayable before after [] (y ∷ outcomes) same h = absurd h
-  run_sayable before after (x ∷ lines) [] same h = absurd h
-  run_sayable before after (x ∷ lines) (y ∷ outcomes) same (between, first, rest) =
-      one_more x y lines outcomes (line_sayable before between x y same first)
-      (run_sayable between after lines outcomes (schema_after (runs.application_of before first.rule x) y between first.outcome_is ∙ same) rest)
+  run_sayable [] before after entries (y ∷ outcomes) stands suited h = absurd h
+  run_sayable (x ∷ stats) before after entries [] stands suited h = absurd h
+  run_sayable (x ∷ stats) before after entries (y ∷ outcomes) stands suited (between, step, rest) =
+      let on : GoesOn schema rules before entries x y between = goes_on schema rules before entries x y between stands suited.0 step in
+      one_more x y stats outcomes (step_sayable before between x y stands.sound.map.schema_is suited.0 step) (run_sayable stats between after on.behind outcomes on.stands suited.1 rest)
 
-  pub run_can_be_printed : (before after : Map) (lines : List Line) (report : List Outcome) (outcomes : List runs.Outcome) → before.schema ≡ schema → Tells report outcomes → IsRun rules before lines outcomes after → CanBePrinted schema rules lines report
-  run_can_be_printed before after lines report outcomes same tells run =
-      let can = run_sayable before after lines outcomes same run in
+  pub run_can_be_printed : (stats : List Stat) (before after : State) (entries : Entries) (report : List Outcome) (outcomes : List runs.Outcome) → Stands schema before entries → AllByRecursion (IsSuited schema rules) stats → Tells report outcomes → IsRun rules before stats outcomes after
+      → CanBePrinted schema rules stats report
+  run_can_be_printed stats before after entries report outcomes stands suited tells run =
+      let can = run_sayable stats before after entries outcomes stands suited run in
       record {
         outcomes = outcomes;
         tells = tells;

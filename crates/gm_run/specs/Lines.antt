@@ -21,10 +21,19 @@ cause_of (refusals.FullNames next more) = Some (causes.FullNames next more)
 cause_of (refusals.NoValue e x) = Some (causes.NoValue e x)
 cause_of refusals.OutOfMemory = None
 
--- what became of the line; without a cause, a refusal tells nothing
+-- what became of the statement; without a cause, a refusal tells nothing
 abbrev pub outcome_of : Outcome → Option runs.Outcome
 outcome_of (outcomes.Done applied) = Some (runs.Done applied.added applied.removed)
 outcome_of (outcomes.Refused refusal) = option_map runs.Refused (cause_of refusal)
+outcome_of outcomes.Skipped = Some runs.Skipped
+outcome_of outcomes.Undone = Some runs.Undone
+outcome_of outcomes.Redone = Some runs.Redone
+outcome_of outcomes.NothingToUndo = Some runs.NothingToUndo
+outcome_of outcomes.NothingToRedo = Some runs.NothingToRedo
+outcome_of outcomes.Begun = Some runs.Begun
+outcome_of outcomes.Kept = Some runs.Kept
+outcome_of outcomes.Dropped = Some runs.Dropped
+outcome_of (outcomes.Each done refused passed) = Some (runs.Each done refused passed)
 
 -- the lines of a report tell these outcomes, each line its own
 abbrev pub Tells : List Outcome → List runs.Outcome → Type 0

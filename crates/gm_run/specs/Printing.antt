@@ -2,9 +2,10 @@
 use Rattle.std.specs.Prelude.{◌≡◌, ℕ, ◌<◌, List, [], ◌++◌, length, Some, slice_get, codes, decimal}
 use Rattle.std.specs.Option.{option_map, unwrap_or}
 use Rattle.gm_model.specs.declared.schema.Schema.{Schema}
-use Rattle.gm_model.specs.declared.script.Line.{Line}
+use Rattle.gm_model.specs.declared.script.Stat.{Stat}
+use Rattle.gm_model.specs.declared.script.Stat.TheVariants as statements
 use Rattle.gm_model.specs.Applications as causes
-use Rattle.gm_model.specs.Reports.{nodes_at, cause_words, outcome_words}
+use Rattle.gm_model.specs.Reports.{nodes_of, stat_words, cause_words, outcome_words}
 use Rattle.gm_model.specs.Rules.{Rule, RuleNode}
 use Rattle.gm_model.specs.Runs as runs
 use Rattle.gm_apply.specs.declared.refusal.Refusal.{Refusal}
@@ -20,17 +21,23 @@ SpeaksOf nodes embeds (runs.Refused (causes.Same x p y q)) = (x < nodes) × (y <
 SpeaksOf nodes embeds (runs.Refused (causes.NoValue e x)) = (e < embeds) × (x < nodes)
 SpeaksOf nodes embeds _ = Unit {0}
 
--- the line names a rule, and the outcome is one of that rule's
-pub record IsSayable (schema : Schema) (rules : List Rule) (line : Line) (outcome : runs.Outcome) : Type 0 where
-  pub named : line.rule < length rules
-  pub speaks : SpeaksOf (length (nodes_at rules line.rule)) (length schema.embeds) outcome
+-- the rule that the statement names is one of so many
+abbrev pub IsNamed : ℕ → Stat → Type 0
+IsNamed rules (statements.Apply line) = line.rule < rules
+IsNamed rules (statements.Each mask rule params) = rule < rules
+IsNamed rules _ = Unit {0}
 
--- the report tells an outcome of each line, and it is one of the line's rule
-pub record CanBePrinted (schema : Schema) (rules : List Rule) (lines : List Line) (report : List Outcome) : Type 0 where
+-- the statement names a rule, where it names one, and the outcome is one of that rule's
+pub record IsSayable (schema : Schema) (rules : List Rule) (stat : Stat) (outcome : runs.Outcome) : Type 0 where
+  pub named : IsNamed (length rules) stat
+  pub speaks : SpeaksOf (length (nodes_of rules stat)) (length schema.embeds) outcome
+
+-- the report tells an outcome of each statement, and it is one of the statement's rule
+pub record CanBePrinted (schema : Schema) (rules : List Rule) (stats : List Stat) (report : List Outcome) : Type 0 where
   pub outcomes : List runs.Outcome
   pub tells : Tells report outcomes
-  pub each : length report ≡ length lines
-  pub sayable : (k : ℕ) (line : Line) (outcome : runs.Outcome) → slice_get lines k ≡ Some line → slice_get outcomes k ≡ Some outcome → IsSayable schema rules line outcome
+  pub each : length report ≡ length stats
+  pub sayable : (k : ℕ) (stat : Stat) (outcome : runs.Outcome) → slice_get stats k ≡ Some stat → slice_get outcomes k ≡ Some outcome → IsSayable schema rules stat outcome
 
 -- ---- words
 
@@ -38,10 +45,10 @@ pub record CanBePrinted (schema : Schema) (rules : List Rule) (lines : List Line
 abbrev pub refusal_words : Schema → List RuleNode → Refusal → List ℕ
 refusal_words schema nodes refusal = unwrap_or (option_map (cause_words schema nodes) (cause_of refusal)) []
 
--- what is told of the line, in words
+-- what is told of a statement that speaks of these nodes, in words
 abbrev pub told_words : Schema → List RuleNode → Outcome → List ℕ
 told_words schema nodes outcome = unwrap_or (option_map (outcome_words schema nodes) (outcome_of outcome)) []
 
 -- 1 T done added 16 removed 0
-abbrev pub line_text : Schema → Rule → ℕ → Outcome → List ℕ
-line_text schema rule k outcome = decimal k ++ codes " " ++ rule.name ++ codes " " ++ told_words schema rule.nodes outcome ++ codes "\n"
+abbrev pub line_text : Schema → List Rule → ℕ → Stat → Outcome → List ℕ
+line_text schema rules k stat outcome = decimal k ++ codes " " ++ stat_words rules stat ++ codes " " ++ told_words schema (nodes_of rules stat) outcome ++ codes "\n"

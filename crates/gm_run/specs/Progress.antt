@@ -1,15 +1,20 @@
--- What a run needs, and how far it has come.
-use Rattle.std.specs.Prelude.{◌≡◌, ℕ, ◌+◌, ◌≤◌, All, List, [], ◌∷◌, map, take, length, Some, slice_get}
+-- What a run needs, and how far it came where memory was wanting.
+use Rattle.std.specs.Prelude.{◌≡◌, ℕ, ◌+◌, ◌≤◌, All, List, map, take, Some, slice_get}
 use Rattle.gm_model.specs.declared.schema.Schema.{Schema}
 use Rattle.gm_model.specs.declared.script.Line.{Line}
+use Rattle.gm_model.specs.declared.script.Stat.{Stat}
+use Rattle.gm_model.specs.declared.script.Stat.TheVariants as statements
+use Rattle.gm_model.specs.declared.value.Value.{Value}
+use Rattle.gm_model.specs.declared.word.Mask.{Mask}
+use Rattle.gm_model.specs.Budgets.{Bounds, no_entries, IsLineBudget, IsRunWithin, changed_darts}
 use Rattle.gm_model.specs.Maps.{Map}
 use Rattle.gm_model.specs.Rules.{Rule, rule_of}
-use Rattle.gm_model.specs.Runs.{IsLineOutcome, IsLineBudget, IsRun, IsRunBudget, changed_darts}
+use Rattle.gm_model.specs.Runs.{State, start_of, IsLineOutcome, IsRun, Turn, AreLeads, AreTurns}
 use Rattle.gm_model.specs.Runs as runs
 use Rattle.gm_plan.specs.Plans.{PlanOf}
-use Rattle.gm_run.specs.Alike.{AreAlike}
+use Rattle.gm_theory.specs.Outcomes.{IsGoodLine}
 use Rattle.gm_run.specs.declared.outcome.Outcome.{Outcome}
-use Rattle.gm_run.specs.Lines.{outcome_of, Tells}
+use Rattle.gm_run.specs.Lines.{outcome_of}
 
 -- ---- what a run needs
 
@@ -23,47 +28,48 @@ IsPlanFor schema plan = schema ≡ plan.schema
 abbrev pub ArePlansFor : Schema → List PlanOf → Type 0
 ArePlansFor schema plans = All (IsPlanFor schema) plans
 
--- ---- how far it has come
+-- an application, with all that is owed of its line
+abbrev pub IsGoodApplication : List Rule → Stat → Type 0
+IsGoodApplication rules (statements.Apply line) = IsGoodLine rules line
+IsGoodApplication rules _ = ⊥
 
--- One line took the map from one to another, as its outcome tells, within its budget, and with a step for each dart that it changed. A run that the definition gives may come to the line at a map that differs from this one at names without a dart, so two fields speak of each map alike.
+-- ---- one line
+
+-- One line took the map from one to another, as its outcome tells, within whatever budget it has, and with a step for each dart that it changed.
 pub record HasLine (rules : List Rule) (before : Map) (line : Line) (outcome : Outcome) (after : Map) (start steps : ℕ) : Type 0 where
   pub told : runs.Outcome
   pub tells : outcome_of outcome ≡ Some told
   pub is : IsLineOutcome rules before line told after
-  pub most : ℕ
-  pub budget : IsLineBudget rules before line most
-  -- whatever outcome of the line the definition gives, at a map alike, it is this one
-  pub only : (other : Map) → AreAlike other before → (o : runs.Outcome) (end : Map) → IsLineOutcome rules other line o end → (o ≡ told) × AreAlike end after
-  -- whatever budget of the line the definition gives, at a map alike, the steps are within it
-  pub within : (other : Map) → AreAlike other before → (most : ℕ) → IsLineBudget rules other line most → steps ≤ start + most
-  pub least : start + changed_darts (told ∷ []) ≤ steps
-
--- all lines did
-pub record HasRun (rules : List Rule) (before : Map) (lines : List Line) (outcomes : List Outcome) (after : Map) (start steps : ℕ) : Type 0 where
-  pub told : List runs.Outcome
-  pub tells : Tells outcomes told
-  pub run : IsRun rules before lines told after
-  pub most : ℕ
-  pub budget : IsRunBudget rules before lines told after most
-  -- whatever run of the lines the definition gives, from a map alike, it is this one
-  pub only : (other : Map) → AreAlike other before → (os : List runs.Outcome) (end : Map) → IsRun rules other lines os end → (os ≡ told) × AreAlike end after
-  -- whatever budget of the lines the definition gives, from a map alike, the steps are within it
-  pub within : (other : Map) → AreAlike other before → (os : List runs.Outcome) (end : Map) (most : ℕ) → IsRunBudget rules other lines os end most → steps ≤ start + most
+  pub most : (most : ℕ) → IsLineBudget rules before line most → steps ≤ start + most
   pub least : start + changed_darts told ≤ steps
 
--- memory was wanting at the line, which left the map, within whatever budget the line has at a map alike
+-- memory was wanting at the line, which left the map, within whatever budget it has
 pub record IsStopped (rules : List Rule) (before : Map) (line : Line) (after : Map) (start steps : ℕ) : Type 0 where
   pub same : after ≡ before
-  pub within : (other : Map) → AreAlike other before → (most : ℕ) → IsLineBudget rules other line most → steps ≤ start + most
+  pub most : (most : ℕ) → IsLineBudget rules before line most → steps ≤ start + most
 
--- Memory was wanting behind some of the lines, which left this map. The steps are within the budget of these lines and of the one behind them, where there is one, and so within that of all lines.
-pub record IsCutShort (rules : List Rule) (before : Map) (lines : List Line) (after : Map) (start steps : ℕ) : Type 0 where
+-- the line of a statement did
+abbrev pub HasStep : List Rule → Map → Stat → Outcome → Map → ℕ → ℕ → Type 0
+HasStep rules before (statements.Apply line) outcome after start steps = HasLine rules before line outcome after start steps
+HasStep rules before _ outcome after start steps = ⊥
+
+abbrev pub IsStoppedAt : List Rule → Map → Stat → Map → ℕ → ℕ → Type 0
+IsStoppedAt rules before (statements.Apply line) after start steps = IsStopped rules before line after start steps
+IsStoppedAt rules before _ after start steps = ⊥
+
+-- ---- where memory was wanting
+
+-- the map behind some of the statements, or behind some first applications of the `each` that follows them
+pub data IsLeft (rules : List Rule) (state : State) (stats : List Stat) (done : ℕ) : Map → Type 0 where
+  BehindAll : IsLeft rules state stats done state.map
+  WithinEach : (mask : Mask) (rule : ℕ) (params : List Value) (leads : List ℕ) (some : ℕ) (turns : List Turn) (map : Map) → slice_get stats done ≡ Some (statements.Each mask rule params)
+      → AreLeads state.map mask leads → AreTurns rules rule params state.map (take some leads) turns map → IsLeft rules state stats done map
+
+-- Some of the statements were run, the first ones, and left this map. The steps are within the bounds of these and of the one behind them, where there is one.
+pub record IsCutShort (rules : List Rule) (before : Map) (stats : List Stat) (after : Map) (start steps : ℕ) : Type 0 where
   pub done : ℕ
   pub outcomes : List runs.Outcome
-  pub run : IsRun rules before (take done lines) outcomes after
-  pub most : ℕ
-  pub budget : IsRunBudget rules before (take done lines) outcomes after most
-  pub within : (line : Line) (rest : ℕ) → slice_get lines done ≡ Some line → IsLineBudget rules after line rest → steps ≤ start + most + rest
-  pub ended : length lines ≤ done → steps ≤ start + most
-  -- whatever budget of all lines the definition gives, the steps are within it
-  pub whole : (os : List runs.Outcome) (end : Map) (most : ℕ) → IsRunBudget rules before lines os end most → steps ≤ start + most
+  pub behind : State
+  pub run : IsRun rules (start_of before) (take done stats) outcomes behind
+  pub left : IsLeft rules behind stats done after
+  pub most : (os : List runs.Outcome) (end : State) (bounds : Bounds) → IsRunWithin rules (start_of before) no_entries (take (done + 1) stats) os end bounds → steps ≤ start + bounds.most

@@ -1,20 +1,25 @@
 ghost use Rattle.std.specs.Prelude.{◌≡◌, ℕ, List, All};
 ghost use Rattle.gm_model.specs.declared.schema.Schema.{Schema};
-ghost use Rattle.gm_model.specs.declared.script.Line.{Line};
+ghost use Rattle.gm_model.specs.declared.script.Stat.{Stat};
 ghost use Rattle.gm_model.specs.Acceptance.{IsAccepted};
+ghost use Rattle.gm_model.specs.Budgets.{Bounds, no_entries, IsRunWithin};
 ghost use Rattle.gm_model.specs.Maps.{Map, IsSchema, IsSound};
 ghost use Rattle.gm_model.specs.Rules.{Rule};
-ghost use Rattle.gm_model.specs.Runs.{Outcome, IsRun, IsRunBudget};
-ghost use Rattle.gm_theory.specs.Outcomes.{IsGoodLine};
-ghost use Rattle.gm_run.specs.Alike.{AreAlike};
+ghost use Rattle.gm_model.specs.Runs.{Outcome, State, start_of, IsRun};
+ghost use Rattle.gm_theory.specs.Outcomes.{IsGoodStat};
+ghost use Rattle.gm_run.specs.Alike.{AreAlikeStates};
 
-/// From a sound map, lines over accepted rules have one run at most: the outcomes, causes and all,
-/// and the map that they leave. And each run has a budget.
+/// From a sound map, statements over accepted rules have one run at most: the outcomes, causes and
+/// all, and the state that they leave, with the maps to which undo and redo lead. And each run has
+/// bounds on its steps, and one pair of them.
 pub fn one_run_at_most()
-    ensures one { (schema : Schema) (rules : List Rule) (before : Map) (lines : List Line) (outcomes others : List Outcome) (after end : Map) →
-        before.schema ≡ schema → IsSchema schema → All (IsAccepted schema) rules → IsSound before → All (IsGoodLine rules) lines →
-        IsRun rules before lines outcomes after → IsRun rules before lines others end → (outcomes ≡ others) × AreAlike after end }
-    ensures budget { (schema : Schema) (rules : List Rule) (before : Map) (lines : List Line) (outcomes : List Outcome) (after : Map) →
-        before.schema ≡ schema → IsSchema schema → All (IsAccepted schema) rules → IsSound before → All (IsGoodLine rules) lines →
-        IsRun rules before lines outcomes after → (most : ℕ) × IsRunBudget rules before lines outcomes after most }
+    ensures one { (schema : Schema) (rules : List Rule) (before : Map) (stats : List Stat) (outcomes others : List Outcome) (after end : State) →
+        before.schema ≡ schema → IsSchema schema → All (IsAccepted schema) rules → IsSound before → All (IsGoodStat rules schema.dim) stats →
+        IsRun rules (start_of before) stats outcomes after → IsRun rules (start_of before) stats others end → (outcomes ≡ others) × AreAlikeStates after end }
+    ensures bounds { (schema : Schema) (rules : List Rule) (before : Map) (stats : List Stat) (outcomes : List Outcome) (after : State) →
+        before.schema ≡ schema → IsSchema schema → All (IsAccepted schema) rules → IsSound before → All (IsGoodStat rules schema.dim) stats →
+        IsRun rules (start_of before) stats outcomes after → (bounds : Bounds) × IsRunWithin rules (start_of before) no_entries stats outcomes after bounds }
+    ensures one_pair { (schema : Schema) (rules : List Rule) (before : Map) (stats : List Stat) (outcomes others : List Outcome) (after end : State) (bounds other : Bounds) →
+        before.schema ≡ schema → IsSchema schema → All (IsAccepted schema) rules → IsSound before → All (IsGoodStat rules schema.dim) stats →
+        IsRunWithin rules (start_of before) no_entries stats outcomes after bounds → IsRunWithin rules (start_of before) no_entries stats others end other → bounds ≡ other }
 {}

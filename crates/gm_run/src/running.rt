@@ -1,22 +1,24 @@
-//! A run: the lines of a script, one after another.
+//! A run: the statements of a script, one after another.
 ghost use Rattle.std.specs.Prelude.{◌≡◌, ◌≢◌, ℕ, ◌+◌, ◌≤◌, All, IfOk, IfErr, List, MatchResult};
+ghost use Rattle.gm_model.specs.Budgets.{Bounds, no_entries, IsRunWithin};
 ghost use Rattle.gm_model.specs.Maps.{Map, IsDart, IsSound};
 ghost use Rattle.gm_model.specs.Orbits.{HasCount};
-ghost use Rattle.gm_model.specs.Runs.{IsRun, IsRunBudget, changed_darts};
+ghost use Rattle.gm_model.specs.Runs.{State, start_of, IsRun};
 ghost use Rattle.gm_model.specs.Runs as runs;
 ghost use Rattle.gm_apply.specs.declared.refusal.Refusal.TheVariants as refusals;
 ghost use Rattle.gm_arena.specs.ArenaAsMap.{as_map};
 ghost use Rattle.gm_theory.specs.Outcomes.{IsGoodLine};
+ghost use Rattle.gm_theory.specs.Suited.{IsRuleOf, IsSuited};
 ghost use Rattle.gm_run.specs.Alike.{AreAlike};
 ghost use Rattle.gm_run.specs.declared.outcome.Outcome.TheVariants as outcomes;
 ghost use Rattle.gm_run.specs.Lines.{Tells};
 ghost use Rattle.gm_run.specs.Printing.{CanBePrinted};
-ghost use Rattle.gm_run.specs.Progress.{rules_of, ArePlansFor, HasLine, HasRun, IsCutShort, IsStopped};
+ghost use Rattle.gm_run.specs.Progress.{rules_of, ArePlansFor, HasLine, HasStep, IsCutShort, IsGoodApplication, IsStopped, IsStoppedAt};
 
 use crate::outcome::{Outcome, Report};
 use gm_apply::{Refusal, apply};
 use gm_arena::{Arena, Steps};
-use gm_model::{Items, Line, MOST_DARTS, OutOfMemory, Script};
+use gm_model::{Items, Line, MOST_DARTS, OutOfMemory, Script, Stat};
 use gm_plan::Plan;
 use gm_walk::Scratch;
 use std::alloc::Global;
@@ -30,7 +32,8 @@ use std::sync::ledger::Ledger;
 /// an outcome of each line, so no line is refused for want of memory.
 ///
 /// There is one run: whatever outcomes the definition gives, the report tells them, and whatever map,
-/// the arena has one alike. The steps are within whatever budget it gives, whatever the answer is.
+/// the arena has one alike. The steps are within whatever bounds it gives: the greatest, whatever the
+/// answer is, and the least, where each line was run.
 pub fn run<L: Ledger>(
     alloc: Global,
     plans: &[Plan<'_>],
@@ -40,54 +43,60 @@ pub fn run<L: Ledger>(
 ) -> Result<Report, OutOfMemory>
     requires sound { IsSound (as_map arena.old) }
     requires plans { ArePlansFor arena.old.schema plans.now }
-    requires lines { All (IsGoodLine (rules_of plans.now)) script.now.lines }
-    ensures run { IfOk result (λ report. (outcomes : List runs.Outcome) × Tells report.lines outcomes × IsRun (rules_of plans.now) (as_map arena.old) script.now.lines outcomes (as_map arena.new)) }
-    ensures only { IfOk result (λ report. (outcomes : List runs.Outcome) (after : Map) → IsRun (rules_of plans.now) (as_map arena.old) script.now.lines outcomes after → Tells report.lines outcomes × AreAlike after (as_map arena.new)) }
-    ensures most { (outcomes : List runs.Outcome) (after : Map) (most : ℕ) → IsRunBudget (rules_of plans.now) (as_map arena.old) script.now.lines outcomes after most → steps.new ≤ steps.old + most }
-    ensures budget { IfOk result (λ report. (outcomes : List runs.Outcome) → Tells report.lines outcomes → (most : ℕ) × IsRunBudget (rules_of plans.now) (as_map arena.old) script.now.lines outcomes (as_map arena.new) most) }
-    ensures least { IfOk result (λ report. (outcomes : List runs.Outcome) → Tells report.lines outcomes → steps.old + changed_darts outcomes ≤ steps.new) }
+    requires lines { All (IsGoodApplication (rules_of plans.now)) script.now.stats }
+    ensures run { IfOk result (λ report. (outcomes : List runs.Outcome) × (after : State) × Tells report.lines outcomes × (after.map ≡ as_map arena.new) × IsRun (rules_of plans.now) (start_of (as_map arena.old)) script.now.stats outcomes after) }
+    ensures only { IfOk result (λ report. (outcomes : List runs.Outcome) (after : State) → IsRun (rules_of plans.now) (start_of (as_map arena.old)) script.now.stats outcomes after → Tells report.lines outcomes × AreAlike after.map (as_map arena.new)) }
+    ensures most { (outcomes : List runs.Outcome) (after : State) (bounds : Bounds) → IsRunWithin (rules_of plans.now) (start_of (as_map arena.old)) no_entries script.now.stats outcomes after bounds → steps.new ≤ steps.old + bounds.most }
+    ensures least { IfOk result (λ report. (outcomes : List runs.Outcome) (after : State) (bounds : Bounds) → IsRunWithin (rules_of plans.now) (start_of (as_map arena.old)) no_entries script.now.stats outcomes after bounds → steps.old + bounds.least ≤ steps.new) }
+    ensures bounds { IfOk result (λ report. (outcomes : List runs.Outcome) → Tells report.lines outcomes → (after : State) × (bounds : Bounds) × (after.map ≡ as_map arena.new) × IsRunWithin (rules_of plans.now) (start_of (as_map arena.old)) no_entries script.now.stats outcomes after bounds) }
     ensures darts { IfOk result (λ report. (report.darts ≡ arena.new.count) × HasCount (IsDart (as_map arena.new)) report.darts) }
     ensures next { IfOk result (λ report. report.next ≡ arena.new.next) }
-    ensures printable { IfOk result (λ report. CanBePrinted arena.old.schema (rules_of plans.now) script.now.lines report.lines) }
-    ensures cut { IfErr result (λ _. IsCutShort (rules_of plans.now) (as_map arena.old) script.now.lines (as_map arena.new) steps.old steps.new) }
+    ensures printable { IfOk result (λ report. CanBePrinted arena.old.schema (rules_of plans.now) script.now.stats report.lines) }
+    ensures cut { IfErr result (λ _. IsCutShort (rules_of plans.now) (as_map arena.old) script.now.stats (as_map arena.new) steps.old steps.new) }
     ensures sound { IsSound (as_map arena.new) }
     ensures schema { arena.new.schema ≡ arena.old.schema }
     ensures spare_stays { arena.old.count + arena.old.spare ≤ arena.new.count + arena.new.spare }
     ensures reserved_stays { arena.old.reserved ≤ arena.new.reserved }
 {
-    let lines = line_outcomes(alloc, plans, script.lines.as_slice(), arena, steps)?;
+    let stats = script.stats.as_slice();
+    let mut scratch = Scratch::new(alloc);
+    let mut outcomes = Vec::with_capacity(alloc, stats.len())?;
+    for stat in stats {
+        let outcome = stat_outcome(alloc, plans, stat, arena, &mut scratch, steps)?;
+        outcomes.push_reserved(outcome);
+    }
     Ok(Report {
-        lines: Items::new(lines),
+        lines: Items::new(outcomes),
         darts: arena.count(),
         next: arena.next(),
     })
 }
 
-fn line_outcomes<L: Ledger>(
+/// Runs one statement. Where memory is wanting, the map is as it was.
+fn stat_outcome<L: Ledger>(
     alloc: Global,
     plans: &[Plan<'_>],
-    lines: &[Line],
+    stat: &Stat,
     arena: &mut Arena,
+    scratch: &mut Scratch,
     steps: &mut Steps<L>,
-) -> Result<Vec<Outcome>, OutOfMemory>
+) -> Result<Outcome, OutOfMemory>
     requires sound { IsSound (as_map arena.old) }
     requires plans { ArePlansFor arena.old.schema plans.now }
-    requires lines { All (IsGoodLine (rules_of plans.now)) lines.now }
-    ensures run { MatchResult result
-        (λ outcomes. HasRun (rules_of plans.now) (as_map arena.old) lines.now outcomes.items (as_map arena.new) steps.old steps.new)
-        (λ _. IsCutShort (rules_of plans.now) (as_map arena.old) lines.now (as_map arena.new) steps.old steps.new) }
+    requires good { IsGoodApplication (rules_of plans.now) stat.now }
+    ensures line { MatchResult result
+        (λ outcome. HasStep (rules_of plans.now) (as_map arena.old) stat.now outcome (as_map arena.new) steps.old steps.new)
+        (λ _. IsStoppedAt (rules_of plans.now) (as_map arena.old) stat.now (as_map arena.new) steps.old steps.new) }
+    ensures suited { IsSuited arena.old.schema (rules_of plans.now) stat.now }
     ensures sound { IsSound (as_map arena.new) }
     ensures schema { arena.new.schema ≡ arena.old.schema }
     ensures spare_stays { arena.old.count + arena.old.spare ≤ arena.new.count + arena.new.spare }
     ensures reserved_stays { arena.old.reserved ≤ arena.new.reserved }
 {
-    let mut scratch = Scratch::new(alloc);
-    let mut outcomes = Vec::with_capacity(alloc, lines.len())?;
-    for line in lines {
-        let outcome = line_outcome(alloc, plans, line, arena, &mut scratch, steps)?;
-        outcomes.push_reserved(outcome);
+    match stat {
+        Stat::Apply(line) => line_outcome(alloc, plans, line, arena, scratch, steps),
+        _ => Ok(Outcome::Skipped),
     }
-    Ok(outcomes)
 }
 
 /// Applies the rule of one line. Where memory is wanting, the map is as it was.
@@ -105,6 +114,7 @@ fn line_outcome<L: Ledger>(
     ensures line { MatchResult result
         (λ outcome. HasLine (rules_of plans.now) (as_map arena.old) line.now outcome (as_map arena.new) steps.old steps.new)
         (λ _. IsStopped (rules_of plans.now) (as_map arena.old) line.now (as_map arena.new) steps.old steps.new) }
+    ensures rule { IsRuleOf arena.old.schema (rules_of plans.now) line.now.rule }
     ensures sound { IsSound (as_map arena.new) }
     ensures schema { arena.new.schema ≡ arena.old.schema }
     ensures spare_stays { arena.old.count + arena.old.spare ≤ arena.new.count + arena.new.spare }
@@ -123,7 +133,7 @@ fn line_outcome<L: Ledger>(
     }
 }
 
-/// The outcome of a line that is refused. Want of memory isn't one.
+/// The outcome of an application that is refused. Want of memory isn't one.
 fn refused(refusal: Refusal) -> Result<Outcome, OutOfMemory>
     ensures { MatchResult result
         (λ outcome. (outcome ≡ outcomes.Refused refusal) × (refusal ≢ refusals.OutOfMemory))

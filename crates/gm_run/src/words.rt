@@ -1,6 +1,6 @@
-//! The words that say what became of a line.
-ghost use Rattle.std.specs.Prelude.{◌≡◌, ◌++◌, ◌<◌, IsSomeAnd, OnOk, decimal, length};
-ghost use Rattle.gm_model.specs.Rules.{name_at, rule_of};
+//! The words that say what became of a statement.
+ghost use Rattle.std.specs.Prelude.{◌≡◌, ◌++◌, ◌<◌, IsSomeAnd, OnOk, codes, decimal, length, map};
+ghost use Rattle.gm_model.specs.Rules.{name_at, node_of};
 ghost use Rattle.gm_model.specs.Reports.{instance_words, embed_name};
 ghost use Rattle.gm_model.specs.Runs as runs;
 ghost use Rattle.gm_run.specs.Lines.{outcome_of, cause_of};
@@ -8,18 +8,18 @@ ghost use Rattle.gm_run.specs.Printing.{SpeaksOf, refusal_words, told_words};
 
 use crate::outcome::Outcome;
 use gm_apply::{Applied, Refusal};
-use gm_model::{OutOfMemory, RuleTable, Schema};
+use gm_model::{Node, OutOfMemory, Schema};
 use gm_text::Text;
 
-/// Appends the outcome of a line of the rule.
+/// Appends the outcome of a statement whose rule has these nodes.
 pub(crate) fn put_outcome(
     text: &mut Text,
     schema: &Schema,
-    rule: &RuleTable,
+    nodes: &[Node],
     outcome: Outcome,
 ) -> Result<(), OutOfMemory>
-    requires { IsSomeAnd (outcome_of outcome) (SpeaksOf (length (rule_of rule.now).nodes) (length schema.now.embeds)) }
-    ensures { OnOk result (text.new ≡ text.old ++ told_words schema.now (rule_of rule.now).nodes outcome) }
+    requires { IsSomeAnd (outcome_of outcome) (SpeaksOf (length nodes.now) (length schema.now.embeds)) }
+    ensures { OnOk result (text.new ≡ text.old ++ told_words schema.now (map node_of nodes.now) outcome) }
 {
     match outcome {
         Outcome::Done(Applied { added, removed }) => {
@@ -33,19 +33,32 @@ pub(crate) fn put_outcome(
         }
         Outcome::Refused(refusal) => {
             text.put(b"refused ")?;
-            put_cause(text, schema, rule, refusal)
+            put_cause(text, schema, nodes, refusal)
         }
+        Outcome::Skipped => text.put(b"skipped"),
+        Outcome::Undone => text.put(b"done"),
+        Outcome::Redone => text.put(b"done"),
+        Outcome::NothingToUndo => text.put(b"refused nothing-to-undo"),
+        Outcome::NothingToRedo => text.put(b"refused nothing-to-redo"),
+        Outcome::Begun => text.put(b"begun"),
+        Outcome::Kept => text.put(b"kept"),
+        Outcome::Dropped => text.put(b"dropped"),
+        Outcome::Each {
+            done,
+            refused,
+            passed,
+        } => put_each(text, done, refused, passed),
     }
 }
 
 fn put_cause(
     text: &mut Text,
     schema: &Schema,
-    rule: &RuleTable,
+    nodes: &[Node],
     refusal: Refusal,
 ) -> Result<(), OutOfMemory>
-    requires { IsSomeAnd (cause_of refusal) (λ cause. SpeaksOf (length (rule_of rule.now).nodes) (length schema.now.embeds) (runs.Refused cause)) }
-    ensures { OnOk result (text.new ≡ text.old ++ refusal_words schema.now (rule_of rule.now).nodes refusal) }
+    requires { IsSomeAnd (cause_of refusal) (λ cause. SpeaksOf (length nodes.now) (length schema.now.embeds) (runs.Refused cause)) }
+    ensures { OnOk result (text.new ≡ text.old ++ refusal_words schema.now (map node_of nodes.now) refusal) }
 {
     match refusal {
         Refusal::NoDart { index } => put_number(text, b"no-dart hook ", u64::from(index)),
@@ -54,7 +67,7 @@ fn put_cause(
             position,
             label,
         } => {
-            put_instance(text, b"no-match arc ", rule, node, position)?;
+            put_instance(text, b"no-match arc ", nodes, node, position)?;
             put_number(text, b" ", u64::from(label))
         }
         Refusal::Same {
@@ -63,8 +76,8 @@ fn put_cause(
             node2,
             position2,
         } => {
-            put_instance(text, b"no-match same ", rule, node, position)?;
-            put_instance(text, b" ", rule, node2, position2)
+            put_instance(text, b"no-match same ", nodes, node, position)?;
+            put_instance(text, b" ", nodes, node2, position2)
         }
         Refusal::PreNoValue => text.put(b"pre-no-value"),
         Refusal::PreFalse => text.put(b"pre-false"),
@@ -76,34 +89,48 @@ fn put_cause(
         }
         Refusal::NoValue { embed, node } => {
             put_embed(text, b"no-value ", schema, embed)?;
-            put_node(text, b" ", rule, node)
+            put_node(text, b" ", nodes, node)
         }
         Refusal::OutOfMemory => Err(OutOfMemory),
     }
+}
+
+/// Appends how many applications of an `each` were done, refused, and passed over.
+fn put_each(text: &mut Text, done: u32, refused: u32, passed: u32) -> Result<(), OutOfMemory>
+    ensures { OnOk result (text.new ≡ text.old ++ (codes "done " ++ decimal done ++ codes " refused " ++ decimal refused ++ codes " passed " ++ decimal passed)) }
+{
+    put_numbers(
+        text,
+        b"done ",
+        u64::from(done),
+        b" refused ",
+        u64::from(refused),
+    )?;
+    put_number(text, b" passed ", u64::from(passed))
 }
 
 /// Appends words, and the name of a node with a position.
 fn put_instance(
     text: &mut Text,
     words: &[u8],
-    rule: &RuleTable,
+    nodes: &[Node],
     node: u8,
     position: u32,
 ) -> Result<(), OutOfMemory>
-    requires { node < length (rule_of rule.now).nodes }
-    ensures { OnOk result (text.new ≡ text.old ++ (words.now ++ instance_words (rule_of rule.now).nodes node position)) }
+    requires { node < length nodes.now }
+    ensures { OnOk result (text.new ≡ text.old ++ (words.now ++ instance_words (map node_of nodes.now) node position)) }
 {
-    put_node(text, words, rule, node)?;
+    put_node(text, words, nodes, node)?;
     put_number(text, b" ", u64::from(position))
 }
 
 /// Appends words and the name of a node.
-fn put_node(text: &mut Text, words: &[u8], rule: &RuleTable, node: u8) -> Result<(), OutOfMemory>
-    requires { node < length (rule_of rule.now).nodes }
-    ensures { OnOk result (text.new ≡ text.old ++ (words.now ++ name_at (rule_of rule.now).nodes node)) }
+fn put_node(text: &mut Text, words: &[u8], nodes: &[Node], node: u8) -> Result<(), OutOfMemory>
+    requires { node < length nodes.now }
+    ensures { OnOk result (text.new ≡ text.old ++ (words.now ++ name_at (map node_of nodes.now) node)) }
 {
     text.put(words)?;
-    text.put(rule.nodes.as_slice()[node as usize].name.bytes())
+    text.put(nodes[node as usize].name.bytes())
 }
 
 /// Appends words and the name of an embedding.

@@ -1,7 +1,8 @@
 -- Where a lexer stands that went past tokens.
-use Rattle.std.proofs.Common.{◌≡◌, ◌⊎◌, List, [], ◌∷◌, ◌++◌, length, refl, sym, ap, subst, inl, inr, ◌∙◌, append_assoc, length-append, arith}
+use Rattle.std.proofs.Common.{◌≡◌, List, [], ◌∷◌, ◌++◌, length, refl, sym, ap, subst, inl, inr, ◌∙◌, append_assoc, length-append, arith}
+use Rattle.std.proofs.lemmas.List.{length-map}
 use Rattle.gm_model.specs.declared.token.Token.{Token}
-use Rattle.gm_model.specs.Symbols.{Mark}
+use Rattle.gm_model.specs.Symbols.{Mark, mark_of}
 use Rattle.gm_model.specs.Tokens.{Item, Lexed}
 use Rattle.gm_text.specs.Cursor.{Cursor}
 use Rattle.gm_text.specs.Lexing.{rest_of, IsBehindToken, GoesOverTokens}
@@ -34,3 +35,24 @@ behind_marks old new before split (inl same) some = absurd (some (none before (m
     none : (before rest : List Mark) → rest ≡ before ++ rest → before ≡ []
     none [] rest e = refl
     none (mark ∷ before) rest e = absurd (omega (arith, ap length e, length-append before rest))
+
+-- ---- one place
+
+same_item : (before others : List Item) (item other : Item) (rest more : List Item) → before ++ item ∷ rest ≡ others ++ other ∷ more → length rest ≡ length more → item ≡ other
+same_item [] [] item other rest more e same = cc e
+same_item [] (first ∷ others) item other rest more e same =
+    let behind : rest ≡ others ++ other ∷ more = cc e in
+    absurd (omega (arith, ap length behind, length-append others (other ∷ more), same))
+same_item (first ∷ before) [] item other rest more e same =
+    let behind : before ++ item ∷ rest ≡ more = cc e in
+    absurd (omega (arith, ap length behind, length-append before (item ∷ rest), same))
+same_item (first ∷ before) (second ∷ others) item other rest more e same =
+    let behind : before ++ item ∷ rest ≡ others ++ other ∷ more = cc e in
+    same_item before others item other rest more behind same
+
+pub one_place : (old new other : Cursor) → IsBehindToken old new → IsBehindToken old other → marks_left new ≡ marks_left other → new.place ≡ other.place
+one_place old new other one two same =
+    let long : length (rest_of new) ≡ length (rest_of other) = sym (length-map (rest_of new) (mark_of new.text)) ∙ ap length same ∙ length-map (rest_of other) (mark_of other.text) in
+    let item : Lexed one.token ≡ Lexed two.token = same_item one.before two.before (Lexed one.token) (Lexed two.token) (rest_of new) (rest_of other) (sym one.items ∙ two.items) long in
+    let token : one.token ≡ two.token = cc item in
+    one.here ∙ ap (λ (t : Token). t.end) token ∙ sym two.here

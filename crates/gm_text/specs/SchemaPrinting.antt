@@ -20,9 +20,12 @@ abbrev pub gap_behind : List ℕ → List ℕ
 gap_behind [] = []
 gap_behind (label ∷ labels) = codes " "
 
--- what the types of a schema's parts say: each name is one, and a mask has bits for the labels 0 to 7
+-- what the types of an embedding's parts say: the name is one, and the mask has bits for the labels 0 to 7
+abbrev pub IsPart : Embed → Type 0
+IsPart embed = IsName embed.name × (embed.mask.bits < 2 ^ 8)
+
 abbrev pub AreParts : List Embed → Type 0
-AreParts embeds = AllByRecursion (λ (embed : Embed). IsName embed.name × (embed.mask.bits < 2 ^ 8)) embeds
+AreParts embeds = AllByRecursion IsPart embeds
 
 -- no embedding begins with these bytes
 abbrev pub BeginNoEmbed : List ℕ → Type 0

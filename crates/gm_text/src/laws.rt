@@ -3,6 +3,7 @@ ghost use Rattle.std.specs.Prelude.{◌≡◌, ◌≢◌, ◌++◌, ℕ, List};
 ghost use Rattle.gm_model.specs.declared.schema.Schema.{Schema};
 ghost use Rattle.gm_model.specs.Symbols.{Mark};
 ghost use Rattle.gm_text.specs.Cursor.{Cursor};
+ghost use Rattle.gm_text.specs.Lexing.{IsBehindToken};
 ghost use Rattle.gm_text.specs.SchemaAnswers.{marks_left, IsSchemaRead, IsSchemaSkipped, IsSchemaFault, IsSkipFault};
 ghost use Rattle.gm_text.specs.SchemaPrinting.{BeginNoEmbed, StandsBefore};
 ghost use Rattle.gm_text.specs.SchemaText.{canonical};
@@ -13,6 +14,12 @@ ghost use Rattle.gm_text.specs.declared.schema_fault.SchemaFault.TheVariants.{Ou
 pub fn one_schema_at_most()
     ensures read { (old new other : Cursor) (schema second : Schema) → IsSchemaRead old new schema → IsSchemaRead old other second → (schema ≡ second) × (marks_left new ≡ marks_left other) }
     ensures skipped { (old new other : Cursor) (schema : Schema) (n : ℕ) → IsSchemaRead old new schema → IsSchemaSkipped old other n → (schema.dim ≡ n) × (marks_left new ≡ marks_left other) }
+{}
+
+/// Where the same marks are left behind tokens, the lexer stands at the same place. So what is read
+/// settles the place that it is read to, and no reader can go on over blanks or comments.
+pub fn one_place_behind_tokens()
+    ensures { (old new other : Cursor) → IsBehindToken old new → IsBehindToken old other → marks_left new ≡ marks_left other → new.place ≡ other.place }
 {}
 
 /// There is one first fault at most, its kind and place included.

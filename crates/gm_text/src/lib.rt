@@ -21,8 +21,8 @@ mod text;
 pub use fault::LexFault;
 pub use gm_model::{Token, TokenKind};
 pub use laws::{
-    a_printed_schema_is_read_again, no_schema_at_a_fault, one_schema_at_most,
-    one_schema_fault_at_most,
+    a_printed_schema_is_read_again, no_schema_at_a_fault, one_place_behind_tokens,
+    one_schema_at_most, one_schema_fault_at_most,
 };
 pub use lexer::{Lexer, SmallNumber};
 pub use schema_fault::SchemaFault;

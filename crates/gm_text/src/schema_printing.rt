@@ -1,8 +1,8 @@
 //! The canonical text of a schema.
-ghost use Rattle.std.specs.Prelude.{◌≡◌, ◌++◌, OnOk, OnErr, decimal};
+ghost use Rattle.std.specs.Prelude.{◌≡◌, ◌<◌, ◌^◌, ◌++◌, OnOk, OnErr, decimal};
 ghost use Rattle.std.specs.List.{flat_map};
 ghost use Rattle.gm_text.specs.SchemaText.{canonical, embed_line, kind_word, labels_in, labels_text};
-ghost use Rattle.gm_text.specs.SchemaPrinting.{IsCut};
+ghost use Rattle.gm_text.specs.SchemaPrinting.{AreParts, IsCut, IsPart};
 
 use crate::text::Text;
 use gm_model::{Embed, Kind, Mask, OutOfMemory, Schema};
@@ -12,6 +12,7 @@ use gm_model::{Embed, Kind, Mask, OutOfMemory, Schema};
 pub fn print_schema(out: &mut Text, schema: &Schema) -> Result<(), OutOfMemory>
     ensures ok { OnOk result (out.new ≡ out.old ++ canonical schema.now) }
     ensures err { OnErr result (IsCut out.old (canonical schema.now) out.new) }
+    ensures parts { OnOk result (AreParts schema.now.embeds) }
 {
     out.put(b"dim ")?;
     out.number(u64::from(schema.dim.top()))?;
@@ -22,6 +23,7 @@ pub fn print_schema(out: &mut Text, schema: &Schema) -> Result<(), OutOfMemory>
 fn print_embeds(out: &mut Text, embeds: &[Embed]) -> Result<(), OutOfMemory>
     ensures ok { OnOk result (out.new ≡ out.old ++ flat_map embed_line embeds.now) }
     ensures err { OnErr result (IsCut out.old (flat_map embed_line embeds.now) out.new) }
+    ensures parts { OnOk result (AreParts embeds.now) }
 {
     for embed in embeds {
         print_embed(out, embed)?;
@@ -32,6 +34,7 @@ fn print_embeds(out: &mut Text, embeds: &[Embed]) -> Result<(), OutOfMemory>
 fn print_embed(out: &mut Text, embed: &Embed) -> Result<(), OutOfMemory>
     ensures ok { OnOk result (out.new ≡ out.old ++ embed_line embed.now) }
     ensures err { OnErr result (IsCut out.old (embed_line embed.now) out.new) }
+    ensures part { OnOk result (IsPart embed.now) }
 {
     put_between(out, b"embed ", embed.name.bytes(), b" <")?;
     print_labels(out, embed.mask)?;
@@ -53,6 +56,7 @@ fn put_between(out: &mut Text, lead: &[u8], bytes: &[u8], end: &[u8]) -> Result<
 pub fn print_labels(out: &mut Text, mask: Mask) -> Result<(), OutOfMemory>
     ensures ok { OnOk result (out.new ≡ out.old ++ labels_text (labels_in mask)) }
     ensures err { OnErr result (IsCut out.old (labels_text (labels_in mask)) out.new) }
+    ensures bits { mask.bits < 2 ^ 8 }
 {
     let mut gap: &'static [u8] = b"";
     for label in 0..8 {

@@ -109,7 +109,7 @@ module _ (rule : Rule) (reading : Reading) (good : IsReadingOf rule reading) whe
 
   listed : (mask : Mask) (term : DartTerm) → IsMaskInRange schema rule mask → IsTermInRange schema rule term → (darts : List ℕ) × IsListOf (IsCollected reading mask term) darts
   listed mask term m r = list_all_of (IsCollected reading mask term)
-      (λ d. decide_orbit schema.dim reading.map.alpha (has mask) (IsDart reading.map) reading.map.next m good.generalised.stays good.is_map.below (dart_at reading term) d (term_live rule reading good term r))
+      (λ d. decide_orbit schema.dim reading.map.alpha (has mask) (IsDart reading.map) reading.map.next m good.stays good.is_map.below (dart_at reading term) d (term_live rule reading good term r))
       reading.map.next (λ d c. good.is_map.below d (collected_live rule reading good mask term d m r c))
 
   pub counted : (mask : Mask) (term : DartTerm) → IsMaskInRange schema rule mask → IsTermInRange schema rule term → (count : ℕ) × HasCount (IsCollected reading mask term) count

@@ -18,13 +18,13 @@ use Rattle.gm_model.specs.declared.word.Mask.{Mask}
 use Rattle.gm_model.specs.Expressions.{Reading, HasValue, IsUnary, IsBinary, IsComponent, IsSum, IsFirstOf, components, dart_at}
 use Rattle.gm_model.specs.Kinds.{numeric, unary_kind, common, product_kind, quotient_kind, of_ints, of_bools, binary_kind, sum_kind, only_int, choice_kind, triple_kind, with_two, with_three, param_kinds, embed_kind, tree_kind, IsTermInRange, IsMaskInRange, IsTreeInRange, AreGoodParams}
 use Rattle.gm_model.specs.Labels.{has}
-use Rattle.gm_model.specs.Maps.{Map, IsDart, IsGeneralised, dimension}
+use Rattle.gm_model.specs.Maps.{Map, IsDart, dimension}
 use Rattle.gm_model.specs.Orbits.{IsPathIn, IsInOrbit, follow}
 use Rattle.gm_model.specs.Rules.{Rule}
 use Rattle.gm_model.specs.Trees.{Tree, Number, Truth, Param, Field, Same, Count, Sum, Least, Greatest, Unary, Binary, If, MakeVec2, MakeVec3, MakeRgb}
 use Rattle.gm_model.specs.Values.{IsInValueRange, IsValueOf, kind_of}
 use Rattle.gm_theory.proofs.Lists.{some_same, none_some}
-use Rattle.gm_theory.specs.Readings.{IsReadingOf, ValuesHaveTheirKinds}
+use Rattle.gm_theory.specs.Readings.{HasLiveNeighbours, IsReadingOf, ValuesHaveTheirKinds}
 
 -- ---- where a kind of the table comes from
 
@@ -203,9 +203,9 @@ param_typed (i ∷ others) (x ∷ params) (suc k) kind v all e f = param_typed o
 -- ---- darts
 
 -- labels of the map lead from live darts to live darts
-pub follow_labels : (map : Map) → IsGeneralised map → (path : List ℕ) (d : ℕ) → AllByRecursion (λ i. i ≤ dimension map) path → IsDart map d → IsDart map (follow map.alpha path d)
-follow_labels map old [] d all live = live
-follow_labels map old (i ∷ path) d all live = follow_labels map old path (map.alpha i d) all.1 (old.stays d i live all.0)
+pub follow_labels : (map : Map) → HasLiveNeighbours map → (path : List ℕ) (d : ℕ) → AllByRecursion (λ i. i ≤ dimension map) path → IsDart map d → IsDart map (follow map.alpha path d)
+follow_labels map stays [] d all live = live
+follow_labels map stays (i ∷ path) d all live = follow_labels map stays path (map.alpha i d) all.1 (stays d i live all.0)
 
 module _ (rule : Rule) (reading : Reading) (good : IsReadingOf rule reading) where
   abbrev schema : Schema
@@ -219,10 +219,10 @@ module _ (rule : Rule) (reading : Reading) (good : IsReadingOf rule reading) whe
   embedding_kind e = embed_kind schema.embeds (param_kinds rule.params) e
 
   pub term_live : (term : DartTerm) → IsTermInRange schema rule term → IsDart reading.map (dart_at reading term)
-  term_live term r = follow_labels reading.map good.generalised term.path (reading.place.dart_of term.node reading.position) r.path (good.darts term.node r.node)
+  term_live term r = follow_labels reading.map good.stays term.path (reading.place.dart_of term.node reading.position) r.path (good.darts term.node r.node)
 
   pub collected_live : (mask : Mask) (term : DartTerm) (d : ℕ) → IsMaskInRange schema rule mask → IsTermInRange schema rule term → IsInOrbit reading.map.alpha (has mask) (dart_at reading term) d → IsDart reading.map d
-  collected_live mask term d m r (path, all, e) = subst (IsDart reading.map) e (follow_labels reading.map good.generalised path (dart_at reading term) (labels path all) (term_live term r))
+  collected_live mask term d m r (path, all, e) = subst (IsDart reading.map) e (follow_labels reading.map good.stays path (dart_at reading term) (labels path all) (term_live term r))
     where
       labels : (path : List ℕ) → IsPathIn (has mask) path → AllByRecursion (λ i. i ≤ schema.dim) path
       labels [] all = tt

@@ -22,9 +22,10 @@ use Rattle.gm_theory.proofs.LeadsFound.{leads_exist}
 use Rattle.gm_theory.proofs.Lists.{some_same, none_some}
 use Rattle.gm_theory.proofs.OrbitsListed.{list_all_of}
 use Rattle.gm_theory.proofs.Tests.{true_or_false, not_both}
-use Rattle.gm_theory.proofs.TurnsFound.{IsRuleOf, LineCosts, LineFound, TurnsCost, TurnsFound, each_line, line_costs, line_found, turns_cost, turns_found}
+use Rattle.gm_theory.proofs.TurnsFound.{LineCosts, LineFound, TurnsCost, TurnsFound, each_line, line_costs, line_found, turns_cost, turns_found}
 use Rattle.gm_theory.proofs.ValuesReach.{IsDecided}
 use Rattle.gm_theory.specs.Outcomes.{IsGoodLine, IsGoodEach, IsGoodStat, IsSoundOf, IsSoundState, HasRun, ScriptsHaveRuns}
+use Rattle.gm_theory.specs.Suited.{IsRuleOf, IsSuited}
 
 decide_dart : (map : Map) (d : ℕ) → IsDecided (IsDart map d)
 decide_dart map d = go (true_or_false (map.live d))
@@ -32,12 +33,6 @@ decide_dart map d = go (true_or_false (map.live d))
     go : IsDart map d ⊎ (map.live d ≡ false) → IsDecided (IsDart map d)
     go (inl live) = inl live
     go (inr dead) = inr (λ live. not_both (map.live d) live dead)
-
--- what is owed of a statement, so that there is a step
-abbrev pub IsSuited : Schema → List Rule → Stat → Type 0
-IsSuited schema rules (statements.Apply line) = IsGoodLine rules line × IsRuleOf schema rules line.rule
-IsSuited schema rules (statements.Each mask index params) = IsGoodEach rules schema.dim mask index params × IsRuleOf schema rules index
-IsSuited schema rules _ = Unit {0}
 
 -- where each rule is accepted, good statements are
 pub all_suited : (schema : Schema) (rules : List Rule) → IsSchema schema → All (IsAccepted schema) rules → (stats : List Stat) → AllByRecursion (IsGoodStat rules schema.dim) stats → AllByRecursion (IsSuited schema rules) stats

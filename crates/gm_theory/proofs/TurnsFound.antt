@@ -17,11 +17,7 @@ use Rattle.gm_theory.proofs.OutcomesFound.{applications_have_outcomes}
 use Rattle.gm_theory.proofs.Tests.{true_or_false, not_both}
 use Rattle.gm_theory.proofs.ValuesKept.{applications_keep_sound_maps}
 use Rattle.gm_theory.specs.Outcomes.{IsGoodLine, IsGoodEach, IsSoundOf}
-
--- what a schema and the rule of a line owe, so that the line has an outcome
-pub record IsRuleOf (schema : Schema) (rules : List Rule) (index : ℕ) : Type 0 where
-  pub of_schema : IsSchema schema
-  pub accepted : (rule : Rule) → slice_get rules index ≡ Some rule → IsAccepted schema rule
+use Rattle.gm_theory.specs.Suited.{IsRuleOf}
 
 module _ (schema : Schema) (rules : List Rule) where
   -- ---- a line

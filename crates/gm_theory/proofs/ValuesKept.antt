@@ -158,7 +158,7 @@ rules_keep_well_embedded_maps app place of_schema is_map old embedded accepted f
 
 -- an expression is read at a position of a match
 pub match_reading : (app : Application) (place : Placement) → IsMap app.map → IsGeneralised app.map → IsMatch app.map app.rule app.hooks place → (p : ℕ) → p < place.positions → IsReadingOf app.rule (reading_at app place p)
-match_reading app place is_map old found p b = record { is_map = is_map; generalised = old; darts = λ x l. found.embedded.live x p (l, b) }
+match_reading app place is_map old found p b = record { is_map = is_map; stays = old.stays; darts = λ x l. found.embedded.live x p (l, b) }
 
 -- each new value is one of its embedding's kind
 value_typed : (app : Application) (place : Placement) (alpha : ℕ → ℕ → ℕ) → IsMap app.map → IsGeneralised app.map → IsAccepted app.map.schema app.rule → AreGoodParams app.rule app.params → IsMatch app.map app.rule app.hooks place →

@@ -3,5 +3,6 @@ pub mod ExamplesOutcomes
 pub mod OneMatch
 pub mod Outcomes
 pub mod Readings
+pub mod Suited
 pub mod Theorem
 pub mod Values

@@ -1,20 +1,24 @@
 -- That an expression of a rule has a value of its kind where it is read, or none, and that reading it takes one number of units.
-use Rattle.std.specs.Prelude.{◌≡◌, ℕ, ◌⊎◌, IsTrue}
+use Rattle.std.specs.Prelude.{◌≡◌, ℕ, ◌≤◌, ◌⊎◌, IsTrue}
 use Rattle.gm_model.specs.declared.rule.Side.TheVariants.{Left}
 use Rattle.gm_model.specs.declared.value.Kind.{Kind}
 use Rattle.gm_model.specs.declared.value.Value.{Value}
 use Rattle.gm_model.specs.Expressions.{Reading, HasValue, HasNoValue, HasUnits}
 use Rattle.gm_model.specs.Kinds.{HasKind, AreGoodParams}
-use Rattle.gm_model.specs.Maps.{IsDart, IsMap, IsGeneralised}
+use Rattle.gm_model.specs.Maps.{Map, IsDart, IsMap, dimension}
 use Rattle.gm_model.specs.Rules.{Rule, has_word}
 use Rattle.gm_model.specs.Trees.{Tree}
 use Rattle.gm_model.specs.Values.{IsValueOf}
 
--- Expressions of the rule are read in a generalised map, where each left node has a live dart. Each position of a match
--- is such a place.
+-- each neighbour is a dart
+abbrev pub HasLiveNeighbours : Map → Type 0
+HasLiveNeighbours map = (d i : ℕ) → IsDart map d → i ≤ dimension map → IsDart map (map.alpha i d)
+
+-- Expressions of the rule are read in a map whose neighbours are darts, where each left node has a live dart. Each
+-- position of a match in a generalised map is such a place.
 pub record IsReadingOf (rule : Rule) (reading : Reading) : Type 0 where
   pub is_map : IsMap reading.map
-  pub generalised : IsGeneralised reading.map
+  pub stays : HasLiveNeighbours reading.map
   pub darts : (x : ℕ) → IsTrue (has_word rule Left x) → IsDart reading.map (reading.place.dart_of x reading.position)
 
 -- The value of a typed expression is one of its kind, where each parameter has a value of its own kind.

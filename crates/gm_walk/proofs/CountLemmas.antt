@@ -7,7 +7,7 @@ use Rattle.std.proofs.lemmas.Bool.{cases_lt, false≢true, some_since}
 use Rattle.std.proofs.lemmas.List.{get_or_default, get_or_append_left, get_or_push, length_push, length-map}
 use Rattle.std.proofs.lemmas.List.Elements.{Contains-append_left, Contains-push, Contains-push_cases}
 use Rattle.std.proofs.lemmas.Option.{MatchOption-at_some}
-use Rattle.gm_model.specs.Orbits.{HasCount}
+use Rattle.gm_model.specs.Orbits.{HasCount, IsListOf}
 use Rattle.gm_arena.specs.declared.slot.Slot.{Slot}
 use Rattle.gm_arena.specs.ArenaMap.{ArenaMap, IsAt, IsLiveName}
 use Rattle.gm_arena.specs.Lawful.{IsLawful}
@@ -37,10 +37,15 @@ module _ (P : ℕ → Type 0) (m : ArenaMap) (names : List ℕ) (e : names ≡ k
   pub has_slot : (p d : ℕ) (o : Option Slot) → p < length names → MatchOption o (get m.darts (get_or names p d) ≡ None) (λ (s : Slot). IsAt m s.at (get_or names p d)) → IsSome o
   has_slot p d o h told = some_since o (get m.darts (get_or names p d) ≡ None) (λ (s : Slot). IsAt m s.at (get_or names p d)) told (λ none. false≢true (sym (ap is_some none) ∙ is_live p d h))
 
-  pub counted_none : CountedTo P names 0 0
-  counted_none = ([], record { distinct = λ p q h k. absurd (omega arith); same = λ d. ((λ c. absurd (let k = c.1 in omega arith)), (λ early. absurd (let k = early.before in omega arith))) }, refl)
+  pub listed_none : IsListOf (IsEarly P names 0) []
+  listed_none = record { distinct = λ p q h k. absurd (omega arith); same = λ d. ((λ c. absurd (let k = c.1 in omega arith)), (λ early. absurd (let k = early.before in omega arith))) }
 
-  module _ (p count : ℕ) (within : p < length names) (old : CountedTo P names p count) where
+  pub counted_none : CountedTo P names 0 0
+  counted_none = ([], listed_none, refl)
+
+  -- ---- the list of those among the first names
+
+  module _ (p : ℕ) (within : p < length names) (list : List ℕ) (old : IsListOf (IsEarly P names p) list) where
     further : (d : ℕ) → IsEarly P names p d → IsEarly P names (p + 1) d
     further d early = record { has = early.has; place = early.place; before = (let k = early.before in omega arith); is = early.is }
 
@@ -50,59 +55,61 @@ module _ (P : ℕ → Type 0) (m : ArenaMap) (names : List ℕ) (e : names ≡ k
       | inr l ↦ (let k = early.before in let same : early.place ≡ p = omega arith in inr (early.has, ap (λ q. get_or names q 0) (sym same) ∙ early.is))
     ]
 
-    pub counted_no : (P (get_or names p 0) → ⊥) → CountedTo P names (p + 1) count
-    counted_no fails = (
-      old.0,
-      record {
-        distinct = old.1.distinct;
-        same = λ d. ((λ c. further d ((old.1.same d).0 c)), (λ early. elim (earlier d early) [ inl k ↦ (old.1.same d).1 k | inr k ↦ absurd (fails (subst P (sym k.1) k.0)) ]));
-      },
-      old.2,
-    )
+    pub listed_no : (P (get_or names p 0) → ⊥) → IsListOf (IsEarly P names (p + 1)) list
+    listed_no fails = record {
+      distinct = old.distinct;
+      same = λ d. ((λ c. further d ((old.same d).0 c)), (λ early. elim (earlier d early) [ inl k ↦ (old.same d).1 k | inr k ↦ absurd (fails (subst P (sym k.1) k.0)) ]));
+    }
 
-    apart : (q : ℕ) → q < length old.0 → get_or old.0 q 0 ≡ get_or names p 0 → ⊥
-    apart q h same =
-        let early : IsEarly P names p (get_or old.0 q 0) = (old.1.same (get_or old.0 q 0)).0 (q, h, get_or_default old.0 q (get_or old.0 q 0) 0 h) in
+    pub less_than_next : (q : ℕ) → q < length list → get_or list q 0 < get_or names p 0
+    less_than_next q h =
+        let early : IsEarly P names p (get_or list q 0) = (old.same (get_or list q 0)).0 (q, h, get_or_default list q (get_or list q 0) 0 h) in
         let less = rises early.place p early.before within in
-        omega (arith, less, early.is, same)
+        omega (arith, less, early.is)
+
+    pub listed_yes : P (get_or names p 0) → IsListOf (IsEarly P names (p + 1)) (list ++ get_or names p 0 ∷ [])
+    listed_yes holds = record {
+      distinct = λ q r h k same. elim (cases_lt r (length list)) [
+        | inl l ↦ old.distinct q r h l (sym (get_or_append_left list (get_or names p 0 ∷ []) 0 q (omega arith)) ∙ same ∙ get_or_append_left list (get_or names p 0 ∷ []) 0 r l)
+        | inr l ↦
+            let end : length list ≡ r = omega (arith, length_push list (get_or names p 0)) in
+            let less : q < length list = omega arith in
+            let both : get_or list q 0 ≡ get_or names p 0 = sym (get_or_append_left list (get_or names p 0 ∷ []) 0 q less) ∙ same ∙ get_or_push list (get_or names p 0) 0 r end in
+            let apart = less_than_next q less in
+            absurd (omega (arith, both, apart))
+      ];
+      same = λ d. (
+        (λ c. elim (Contains-push_cases list (get_or names p 0) d c) [
+          | inl k ↦ further d ((old.same d).0 k)
+          | inr k ↦ record { has = subst P k holds; place = p; before = omega arith; is = k }
+        ]),
+        (λ early. elim (earlier d early) [
+          | inl k ↦ Contains-append_left list (get_or names p 0 ∷ []) d ((old.same d).1 k)
+          | inr k ↦ subst (Contains (list ++ get_or names p 0 ∷ [])) k.1 (Contains-push list (get_or names p 0))
+        ]),
+      );
+    }
+
+  pub listed_all : (p : ℕ) (list : List ℕ) → length names ≤ p → ((d : ℕ) → P d → IsLiveName m d) → IsListOf (IsEarly P names p) list → IsListOf P list
+  listed_all p list past lives old = record {
+    distinct = old.distinct;
+    same = λ d. (
+      (λ c. let early = (old.same d).0 c in early.has),
+      (λ holds. let at = is_named d (lives d holds) in (old.same d).1 (record { has = holds; place = at.0; before = omega (arith, at.1); is = at.2 })),
+    );
+  }
+
+  -- ---- and how many they are
+
+  module _ (p count : ℕ) (within : p < length names) (old : CountedTo P names p count) where
+    pub counted_no : (P (get_or names p 0) → ⊥) → CountedTo P names (p + 1) count
+    counted_no fails = (old.0, listed_no p within old.0 old.1 fails, old.2)
 
     pub counted_yes : P (get_or names p 0) → CountedTo P names (p + 1) (count + 1)
-    counted_yes holds = (
-      old.0 ++ get_or names p 0 ∷ [],
-      record {
-        distinct = λ q r h k same. elim (cases_lt r (length old.0)) [
-          | inl l ↦ old.1.distinct q r h l (sym (get_or_append_left old.0 (get_or names p 0 ∷ []) 0 q (omega arith)) ∙ same ∙ get_or_append_left old.0 (get_or names p 0 ∷ []) 0 r l)
-          | inr l ↦
-              let end : length old.0 ≡ r = omega (arith, length_push old.0 (get_or names p 0)) in
-              let less : q < length old.0 = omega arith in
-              apart q less (sym (get_or_append_left old.0 (get_or names p 0 ∷ []) 0 q less) ∙ same ∙ get_or_push old.0 (get_or names p 0) 0 r end)
-        ];
-        same = λ d. (
-          (λ c. elim (Contains-push_cases old.0 (get_or names p 0) d c) [
-            | inl k ↦ further d ((old.1.same d).0 k)
-            | inr k ↦ record { has = subst P k holds; place = p; before = omega arith; is = k }
-          ]),
-          (λ early. elim (earlier d early) [
-            | inl k ↦ Contains-append_left old.0 (get_or names p 0 ∷ []) d ((old.1.same d).1 k)
-            | inr k ↦ subst (Contains (old.0 ++ get_or names p 0 ∷ [])) k.1 (Contains-push old.0 (get_or names p 0))
-          ]),
-        );
-      },
-      length_push old.0 (get_or names p 0) ∙ ap (λ n. n + 1) old.2,
-    )
+    counted_yes holds = (old.0 ++ get_or names p 0 ∷ [], listed_yes p within old.0 old.1 holds, length_push old.0 (get_or names p 0) ∙ ap (λ n. n + 1) old.2)
 
   pub counted_all : (p count : ℕ) → length names ≤ p → ((d : ℕ) → P d → IsLiveName m d) → CountedTo P names p count → HasCount P count
-  counted_all p count past lives old = (
-    old.0,
-    record {
-      distinct = old.1.distinct;
-      same = λ d. (
-        (λ c. let early = (old.1.same d).0 c in early.has),
-        (λ holds. let at = is_named d (lives d holds) in (old.1.same d).1 (record { has = holds; place = at.0; before = omega (arith, at.1); is = at.2 })),
-      );
-    },
-    old.2,
-  )
+  counted_all p count past lives old = (old.0, listed_all p old.0 past lives old.1, old.2)
 
 -- the same property, the same count
 pub count_alike : (P Q : ℕ → Type 0) → ((d : ℕ) → P d → Q d) → ((d : ℕ) → Q d → P d) → (count : ℕ) → HasCount P count → HasCount Q count

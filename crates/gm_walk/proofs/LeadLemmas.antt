@@ -26,7 +26,7 @@ module _ (m : ArenaMap) (o : Labels) (word : List Letter) (letters : HasLettersO
       subst (λ label. Contains darts (alpha m label x)) (label_there m word place.0 i place.1) (closed x place.0 c (slice_get_within word place.0 (At i) place.1)) in
       along_path darts closed path (alpha m i x) next inside.1
 
-  has_orbit : (darts : List ℕ) → IsClosed m word darts → (d e : ℕ) → Contains darts d → IsInOrbit (alpha m) o d e → Contains darts e
+  pub has_orbit : (darts : List ℕ) → IsClosed m word darts → (d e : ℕ) → Contains darts d → IsInOrbit (alpha m) o d e → Contains darts e
   has_orbit darts closed d e c in_orbit = subst (Contains darts) in_orbit.2 (along_path darts closed in_orbit.0 d c in_orbit.1)
 
 -- the place of the least of some numbers

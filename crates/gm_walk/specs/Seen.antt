@@ -1,4 +1,4 @@
--- How orbits are counted: which slots were seen, and the list of the darts at them. No public clause cites this module.
+-- How orbits are counted and listed: which slots were seen, and the list of the darts at them.
 use Rattle.std.specs.Prelude.{◌≡◌, ℕ, ◌<◌, ◌≤◌, ◌⊎◌, ◌↔◌, Bool, List, length, slice_get, slice_index, slice_index_or, Some, false, IsTrue}
 use Rattle.std.specs.List.{Contains, count_by}
 use Rattle.gm_model.specs.declared.word.Letter.{Letter}

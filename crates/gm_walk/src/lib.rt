@@ -10,7 +10,7 @@ mod scratch;
 mod turns;
 mod walk;
 
-pub use orbit_count::orbits;
+pub use orbit_count::{none_seen, orbits, pair_of, see_orbit};
 pub use scratch::Scratch;
 pub use turns::walk_turns;
-pub use walk::{Walk, walk_mask, walk_word};
+pub use walk::{Walk, walk_mask, walk_word, word_of};

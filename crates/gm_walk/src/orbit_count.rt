@@ -52,7 +52,7 @@ pub fn orbits<L: Ledger>(
 }
 
 /// For each slot whether it was seen: none was.
-fn none_seen(alloc: Global, slots: usize) -> Result<Vec<bool>, OutOfMemory>
+pub fn none_seen(alloc: Global, slots: usize) -> Result<Vec<bool>, OutOfMemory>
     ensures { IfOk result (λ seen. seen.items ≡ replicate slots false) }
 {
     Ok(vec![in alloc; false; slots]?)
@@ -157,7 +157,7 @@ fn see_new<L: Ledger>(
 
 /// Sees the orbit of a slot that wasn't seen, along the labels of the word. Where these are two,
 /// `pair` has them.
-fn see_orbit<L: Ledger>(
+pub fn see_orbit<L: Ledger>(
     arena: &Arena,
     from: Slot,
     word: &Word,
@@ -187,7 +187,7 @@ fn see_orbit<L: Ledger>(
 }
 
 /// The two labels of a word that has two letters and no more.
-fn pair_of(word: &Word) -> Option<(u8, u8)>
+pub fn pair_of(word: &Word) -> Option<(u8, u8)>
     ensures { IfSome result (λ labels. word.now ≡ At labels.0 ∷ At labels.1 ∷ []) }
 {
     if word.len() != 2 {

@@ -118,7 +118,7 @@ pub(crate) fn take_in_neighbours<L: Ledger>(
 }
 
 /// The labels of the mask as a word, ascending.
-pub(crate) fn word_of(mask: Mask) -> Word
+pub fn word_of(mask: Mask) -> Word
     ensures { result ≡ letters_of mask }
 {
     let mut letters = [Letter::Gone; 8];

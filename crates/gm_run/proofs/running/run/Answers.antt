@@ -1,69 +1,137 @@
-use Rattle.std.proofs.Common.{ℕ, ◌+◌, ◌≤◌, List, refl, sym, subst}
-use Rattle.gm_model.specs.Maps.{Map, IsDart}
+use Rattle.std.proofs.Common.{◌+◌, ◌≤◌, List, [], All, length, take, refl, rules, ap, sym, subst, ◌∙◌, arith}
+use Rattle.std.proofs.lemmas.List.{length_push}
+use Rattle.std.proofs.lemmas.Result.{err_from_is_err_and}
+use Rattle.gm_model.specs.Budgets.{Bounds, no_entries, IsRunWithin}
+use Rattle.gm_model.specs.Maps.{IsDart}
 use Rattle.gm_model.specs.Orbits.{HasCount}
-use Rattle.gm_model.specs.Runs.{IsRun, IsRunBudget, changed_darts}
+use Rattle.gm_model.specs.Runs.{State, start_of, IsRun}
 use Rattle.gm_model.specs.Runs as runs
 use Rattle.gm_arena.specs.ArenaAsMap.{as_map}
 use Rattle.gm_arena.proofs.Keys.{darts_counted}
-use Rattle.gm_run.specs.Alike.{AreAlike}
-use Rattle.gm_run.specs.Lines.{Tells}
-use Rattle.gm_run.specs.Printing.{CanBePrinted}
-use Rattle.gm_run.specs.Progress.{rules_of}
-use Rattle.gm_run.proofs.AlikeLemmas.{alike_self}
+use Rattle.gm_theory.specs.Suited.{IsSuited}
+use Rattle.gm_theory.proofs.RunsFound.{stands_first}
+use Rattle.gm_run.specs.Progress.{rules_of, ArePlansFor, IsCutShort, IsGoodApplication}
 use Rattle.gm_run.proofs.Sayable.{run_can_be_printed}
-use Rattle.gm_run.proofs.Telling.{told_once}
+use Rattle.gm_run.proofs.Through.{IsThrough, cut_first, none_through, run_bounds, run_least, run_most, run_only, run_told, stat_cut, stat_through, through_all}
 use Rattle.gm_run.proofs.running.run.Goals as goal
+
+-- ---- the loop
+
+pub stat_outcome-requires-clause-sound : goal.stat_outcome-requires-clause-sound
+stat_outcome-requires-clause-sound g c = c.loop-stat.invariant.sound
+
+pub stat_outcome-requires-clause-plans : goal.stat_outcome-requires-clause-plans
+stat_outcome-requires-clause-plans g c = subst (λ schema. ArePlansFor schema c.args.plans.now) (sym c.loop-stat.invariant.schema) c.requires.plans
+
+pub stat_outcome-requires-clause-good : goal.stat_outcome-requires-clause-good
+stat_outcome-requires-clause-good g c =
+    subst (IsGoodApplication (rules_of c.args.plans.now)) (sym c.stat-item.is)
+    (subst (λ stats. All (IsGoodApplication (rules_of c.args.plans.now)) stats) (sym c.as_slice-stats.ensures) c.requires.lines c.loop-stat.stat-index c.stat-item.result c.loop-stat-test.true)
+
+pub loop-stat-init : goal.loop-stat-init
+loop-stat-init g c =
+    let items = c.in_ok-outcomes.ensures.items in
+    record {
+      sound = c.requires.sound;
+      schema = refl;
+      spare = omega arith;
+      reserved = omega arith;
+      long = ap length items;
+      capacity = search rules;
+      through = subst (λ lines. IsThrough (rules_of c.args.plans.now) (as_map c.args.arena.now) [] lines (as_map c.args.arena.now) c.args.steps.now c.args.steps.now) (sym items)
+          (none_through (rules_of c.args.plans.now) (as_map c.args.arena.now) c.requires.sound c.args.steps.now);
+    }
+
+pub loop-stat-preserved : goal.loop-stat-preserved
+loop-stat-preserved g c =
+    let before = c.loop-stat.invariant in
+    let items = c.push_reserved.ensures.items in
+    let long = before.long in
+    let room = before.capacity in
+    let same = c.push_reserved.ensures.capacity in
+    record {
+      sound = c.in_ok-outcome.ensures.sound;
+      schema = c.in_ok-outcome.ensures.schema ∙ before.schema;
+      spare = let more = c.in_ok-outcome.ensures.spare_stays in let so_far = before.spare in omega (arith, more, so_far);
+      reserved = let more = c.in_ok-outcome.ensures.reserved_stays in let so_far = before.reserved in omega (arith, more, so_far);
+      long = omega (arith, ap length items, length_push c.loop-stat.outcomes.items c.in_ok-outcome.outcome, long);
+      capacity = omega (arith, room, same);
+      through = subst (λ lines. IsThrough (rules_of c.args.plans.now) (as_map c.args.arena.now) (take (c.loop-stat.stat-index + 1) c.as_slice-stats.result.now) lines (as_map c.stat_outcome.new.arena) c.args.steps.now c.stat_outcome.new.steps) (sym items)
+          (stat_through (rules_of c.args.plans.now) (as_map c.args.arena.now) c.requires.sound c.as_slice-stats.result.now c.loop-stat.stat-index c.loop-stat.outcomes.items (as_map c.loop-stat.arena) (as_map c.stat_outcome.new.arena)
+          c.args.steps.now c.loop-stat.steps c.stat_outcome.new.steps before.through c.stat-item.result c.loop-stat-test.true c.stat-item.is
+          (subst (λ schema. IsSuited schema (rules_of c.args.plans.now) c.stat-item.result) before.schema c.in_ok-outcome.ensures.suited) c.in_ok-outcome.outcome c.in_ok-outcome.ensures.line);
+    }
+
+-- ---- memory is wanting
+
+pub returns-in_err-outcomes-clause-cut : goal.returns-in_err-outcomes-clause-cut
+returns-in_err-outcomes-clause-cut g c =
+    let p = err_from_is_err_and c.from_residual.result c.from_residual.ensures.1 in
+    rw p.1 (cut_first (rules_of c.args.plans.now) (as_map c.args.arena.now) c.requires.sound c.args.script.now.stats c.args.steps.now)
+
+pub returns-in_err-outcome-clause-cut : goal.returns-in_err-outcome-clause-cut
+returns-in_err-outcome-clause-cut g c =
+    let p = err_from_is_err_and c.from_residual-in_err-outcome.result c.from_residual-in_err-outcome.ensures.1 in
+    let rules = rules_of c.args.plans.now in
+    let before = as_map c.args.arena.now in
+    let cut = stat_cut rules before c.requires.sound c.as_slice-stats.result.now c.loop-stat.stat-index c.loop-stat.outcomes.items (as_map c.loop-stat.arena) (as_map c.stat_outcome.new.arena) c.args.steps.now c.loop-stat.steps c.stat_outcome.new.steps
+    c.loop-stat.invariant.through c.stat-item.result c.loop-stat-test.true c.stat-item.is
+    (subst (λ schema. IsSuited schema rules c.stat-item.result) c.loop-stat.invariant.schema c.in_err-outcome.ensures.suited) c.in_err-outcome.ensures.line in
+    rw p.1 (subst (λ stats. IsCutShort rules before stats (as_map c.stat_outcome.new.arena) c.args.steps.now c.stat_outcome.new.steps) c.as_slice-stats.ensures cut.short)
+
+pub returns-in_err-outcome-clause-most : goal.returns-in_err-outcome-clause-most
+returns-in_err-outcome-clause-most g c =
+    let rules = rules_of c.args.plans.now in
+    let before = as_map c.args.arena.now in
+    let cut = stat_cut rules before c.requires.sound c.as_slice-stats.result.now c.loop-stat.stat-index c.loop-stat.outcomes.items (as_map c.loop-stat.arena) (as_map c.stat_outcome.new.arena) c.args.steps.now c.loop-stat.steps c.stat_outcome.new.steps
+    c.loop-stat.invariant.through c.stat-item.result c.loop-stat-test.true c.stat-item.is
+    (subst (λ schema. IsSuited schema rules c.stat-item.result) c.loop-stat.invariant.schema c.in_err-outcome.ensures.suited) c.in_err-outcome.ensures.line in
+    subst (λ stats. (os : List runs.Outcome) (end : State) (bounds : Bounds) → IsRunWithin rules (start_of before) no_entries stats os end bounds → c.stat_outcome.new.steps ≤ c.args.steps.now + bounds.most) c.as_slice-stats.ensures cut.most
+
+-- ---- all statements were run
 
 pub returns-clause-run : goal.returns-clause-run
 returns-clause-run g c =
-    let run = c.in_ok-lines.ensures.run in
-    let before = as_map c.args.arena.now in
-    let after = as_map c.line_outcomes.new.arena in
     let rules = rules_of c.args.plans.now in
-    (run.told, subst (λ lines. Tells lines run.told) (sym c.new.ensures) run.tells, subst (λ lines. IsRun rules before lines run.told after) c.as_slice.ensures run.run)
+    let before = as_map c.args.arena.now in
+    let through = through_all rules before c.requires.sound c.as_slice-stats.result.now c.args.script.now.stats c.loop-stat.outcomes.items c.new.result c.loop-stat.stat-index (as_map c.loop-stat.arena) c.args.steps.now c.loop-stat.steps c.loop-stat-test.false c.as_slice-stats.ensures c.new.ensures c.loop-stat.invariant.through in
+    (through.told, through.state, through.tells, through.map, run_told rules before c.requires.sound c.args.script.now.stats c.new.result (as_map c.loop-stat.arena) c.args.steps.now c.loop-stat.steps through)
 
 pub returns-clause-only : goal.returns-clause-only
 returns-clause-only g c =
-    let run = c.in_ok-lines.ensures.run in
-    let before = as_map c.args.arena.now in
-    let after = as_map c.line_outcomes.new.arena in
     let rules = rules_of c.args.plans.now in
-    let tells = subst (λ lines. Tells lines run.told) (sym c.new.ensures) run.tells in
-    subst (λ lines. (os : List runs.Outcome) (end : Map) → IsRun rules before lines os end → Tells c.new.result os × AreAlike end after) c.as_slice.ensures
-    (λ os end is. let one = run.only before (alike_self before) os end is in (subst (Tells c.new.result) (sym one.0) tells, one.1))
+    let before = as_map c.args.arena.now in
+    let through = through_all rules before c.requires.sound c.as_slice-stats.result.now c.args.script.now.stats c.loop-stat.outcomes.items c.new.result c.loop-stat.stat-index (as_map c.loop-stat.arena) c.args.steps.now c.loop-stat.steps c.loop-stat-test.false c.as_slice-stats.ensures c.new.ensures c.loop-stat.invariant.through in
+    run_only rules before c.requires.sound c.args.script.now.stats c.new.result (as_map c.loop-stat.arena) c.args.steps.now c.loop-stat.steps through
 
 pub returns-clause-most : goal.returns-clause-most
 returns-clause-most g c =
-    let run = c.in_ok-lines.ensures.run in
+    let rules = rules_of c.args.plans.now in
     let before = as_map c.args.arena.now in
-    subst (λ lines. (os : List runs.Outcome) (end : Map) (most : ℕ) → IsRunBudget (rules_of c.args.plans.now) before lines os end most → c.line_outcomes.new.steps ≤ c.args.steps.now + most) c.as_slice.ensures
-    (run.within before (alike_self before))
+    let through = through_all rules before c.requires.sound c.as_slice-stats.result.now c.args.script.now.stats c.loop-stat.outcomes.items c.new.result c.loop-stat.stat-index (as_map c.loop-stat.arena) c.args.steps.now c.loop-stat.steps c.loop-stat-test.false c.as_slice-stats.ensures c.new.ensures c.loop-stat.invariant.through in
+    run_most rules before c.requires.sound c.args.script.now.stats c.new.result (as_map c.loop-stat.arena) c.args.steps.now c.loop-stat.steps through
+
+pub returns-clause-least : goal.returns-clause-least
+returns-clause-least g c =
+    let rules = rules_of c.args.plans.now in
+    let before = as_map c.args.arena.now in
+    let through = through_all rules before c.requires.sound c.as_slice-stats.result.now c.args.script.now.stats c.loop-stat.outcomes.items c.new.result c.loop-stat.stat-index (as_map c.loop-stat.arena) c.args.steps.now c.loop-stat.steps c.loop-stat-test.false c.as_slice-stats.ensures c.new.ensures c.loop-stat.invariant.through in
+    run_least rules before c.requires.sound c.args.script.now.stats c.new.result (as_map c.loop-stat.arena) c.args.steps.now c.loop-stat.steps through
+
+pub returns-clause-bounds : goal.returns-clause-bounds
+returns-clause-bounds g c =
+    let rules = rules_of c.args.plans.now in
+    let before = as_map c.args.arena.now in
+    let through = through_all rules before c.requires.sound c.as_slice-stats.result.now c.args.script.now.stats c.loop-stat.outcomes.items c.new.result c.loop-stat.stat-index (as_map c.loop-stat.arena) c.args.steps.now c.loop-stat.steps c.loop-stat-test.false c.as_slice-stats.ensures c.new.ensures c.loop-stat.invariant.through in
+    run_bounds rules before c.requires.sound c.args.script.now.stats c.new.result (as_map c.loop-stat.arena) c.args.steps.now c.loop-stat.steps through
 
 pub returns-clause-darts : goal.returns-clause-darts
-returns-clause-darts g c =
-    (c.count.ensures.count, subst (HasCount (IsDart (as_map c.line_outcomes.new.arena))) (sym c.count.ensures.count) (darts_counted c.line_outcomes.new.arena c.count.ensures.lawful))
+returns-clause-darts g c = (c.count.ensures.count, subst (HasCount (IsDart (as_map c.loop-stat.arena))) (sym c.count.ensures.count) (darts_counted c.loop-stat.arena c.count.ensures.lawful))
 
 pub returns-clause-printable : goal.returns-clause-printable
 returns-clause-printable g c =
-    let run = c.in_ok-lines.ensures.run in
-    let schema = c.args.arena.now.schema in
     let rules = rules_of c.args.plans.now in
-    subst (CanBePrinted schema rules c.args.script.now.lines) (sym c.new.ensures)
-    (subst (λ lines. CanBePrinted schema rules lines c.in_ok-lines.lines.items) c.as_slice.ensures
-    (run_can_be_printed schema rules (as_map c.args.arena.now) (as_map c.line_outcomes.new.arena) c.as_slice.result.now c.in_ok-lines.lines.items run.told refl run.tells run.run))
-
-pub returns-clause-budget : goal.returns-clause-budget
-returns-clause-budget g c told tells =
-    let run = c.in_ok-lines.ensures.run in
-    let after = as_map c.line_outcomes.new.arena in
-    let same = told_once c.in_ok-lines.lines.items run.told told run.tells (subst (λ lines. Tells lines told) c.new.ensures tells) in (
-      run.most,
-      subst (λ lines. IsRunBudget (rules_of c.args.plans.now) (as_map c.args.arena.now) lines told after run.most) c.as_slice.ensures
-          (subst (λ os. IsRunBudget (rules_of c.args.plans.now) (as_map c.args.arena.now) c.as_slice.result.now os after run.most) same run.budget),
-    )
-
-pub returns-clause-least : goal.returns-clause-least
-returns-clause-least g c told tells =
-    let run = c.in_ok-lines.ensures.run in
-    let same = told_once c.in_ok-lines.lines.items run.told told run.tells (subst (λ lines. Tells lines told) c.new.ensures tells) in
-    subst (λ os. c.args.steps.now + changed_darts os ≤ c.line_outcomes.new.steps) same run.least
+    let before = as_map c.args.arena.now in
+    let through = through_all rules before c.requires.sound c.as_slice-stats.result.now c.args.script.now.stats c.loop-stat.outcomes.items c.new.result c.loop-stat.stat-index (as_map c.loop-stat.arena) c.args.steps.now c.loop-stat.steps c.loop-stat-test.false c.as_slice-stats.ensures c.new.ensures c.loop-stat.invariant.through in
+    run_can_be_printed c.args.arena.now.schema rules c.args.script.now.stats (start_of before) through.state no_entries c.new.result through.told (stands_first before c.requires.sound) through.suited through.tells
+    (run_told rules before c.requires.sound c.args.script.now.stats c.new.result (as_map c.loop-stat.arena) c.args.steps.now c.loop-stat.steps through)

@@ -61,3 +61,6 @@ returns-clause-err c =
     (cut_behind c.put_between.new.out labels c.in_ok-print_labels.ensures.ok
     (subst (λ (word : List ℕ). IsCut c.print_labels.new.out (codes "> " ++ (word ++ codes "\n")) c.put_between-2.new.out) c.kind_word.ensures cut))))
     c.put_between-2.ensures.err
+
+pub returns-clause-part : goal.returns-clause-part
+returns-clause-part c = on_ok_weaker c.put_between-2.result (λ _. (c.bytes.ensures.name, c.print_labels.ensures.bits)) c.put_between-2.ensures.ok

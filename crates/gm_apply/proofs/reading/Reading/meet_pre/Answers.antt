@@ -17,9 +17,6 @@ returns-in_default-clause-least g c = stays _
 pub returns-in_default-clause-room : goal.returns-in_default-clause-room
 returns-in_default-clause-room g c = refl
 
-pub eval-requires-clause-generalised : goal.eval-requires-clause-generalised
-eval-requires-clause-generalised g c = c.requires.readable.1.sound.generalised
-
 pub eval-requires-clause-position : goal.eval-requires-clause-position
 eval-requires-clause-position g c = c.positions.ensures.some
 

@@ -6,9 +6,6 @@ use Rattle.gm_eval.proofs.Matched.{live_there}
 use Rattle.gm_apply.proofs.ReadValues.{tree_typed, gives, of_kind, of_units}
 use Rattle.gm_apply.proofs.reading.Reading.value.Goals as goal
 
-pub eval-requires-clause-generalised : goal.eval-requires-clause-generalised
-eval-requires-clause-generalised g c = c.requires.readable.1.sound.generalised
-
 pub eval-requires-clause-live : goal.eval-requires-clause-live
 eval-requires-clause-live g c = live_there c.args.self.now.arena.now (rule_of c.args.self.now.plan.now.table) c.requires.readable.0 c.args.self.now.found.now c.requires.readable.1.answer.matched c.args.position c.requires.position
 

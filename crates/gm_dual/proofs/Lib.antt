@@ -1,0 +1,3 @@
+pub mod LabelLemmas
+pub mod MaskLemmas
+pub mod TwiceLemmas

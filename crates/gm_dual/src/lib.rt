@@ -1,0 +1,9 @@
+//! The dual of a map and of a book of rules: label `i` and label `n - i` trade places.
+//!
+//! So cells of dimension `i` and of dimension `n - i` trade places, and each operation of a book has
+//! one on the dual map that it stands for.
+#![tactic(auto)]
+
+mod laws;
+
+pub use laws::{the_dual_of_the_dual_is_the_map, the_dual_of_the_dual_is_the_rule};

@@ -1,0 +1,8 @@
+//! The leads of a map: the least dart of each orbit.
+//!
+//! A script's `each` line applies a rule once for each orbit, at its lead.
+#![tactic(auto)]
+
+mod listing;
+
+pub use listing::leads;

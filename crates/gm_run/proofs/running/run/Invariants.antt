@@ -1,0 +1,17 @@
+use Rattle.std.proofs.Common.{◌≡◌, ◌+◌, ◌≤◌, length, take, vec_capacity}
+use Rattle.gm_model.specs.Maps.{IsSound}
+use Rattle.gm_arena.specs.ArenaAsMap.{as_map}
+use Rattle.gm_run.specs.Progress.{rules_of}
+use Rattle.gm_run.proofs.Through.{IsThrough}
+use Rattle.gm_run.proofs.running.run.Given as goal
+
+abbrev pub invariant-loop-stat : goal.invariant-loop-stat
+invariant-loop-stat g l = record {
+  sound : IsSound (as_map l.arena);
+  schema : l.arena.schema ≡ l.fn.arena.schema;
+  spare : l.fn.arena.count + l.fn.arena.spare ≤ l.arena.count + l.arena.spare;
+  reserved : l.fn.arena.reserved ≤ l.arena.reserved;
+  long : length l.outcomes.items ≡ l.stat-index;
+  capacity : length l.stats ≤ vec_capacity l.outcomes;
+  through : IsThrough (rules_of l.plans) (as_map l.fn.arena) (take l.stat-index l.stats) l.outcomes.items (as_map l.arena) l.fn.steps l.steps;
+}
