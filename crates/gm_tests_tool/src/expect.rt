@@ -1,11 +1,12 @@
 //! What a line does, over a store and a sink in memory, and the assertions on it. Each assertion
 //! stands in a function of its own, and whoever owns the store and the sink calls one that borrows them.
 
+use gm_arena::Steps;
 use gm_host::{MemSink, MemStore};
-use gm_tool::with_new_counter;
+use gm_tool::tool;
 use std::alloc::Global;
 use std::marker::Brand;
-use std::process::{Abort, ExitCode};
+use std::process::Abort;
 use std::sync::ledger::Blank;
 
 /// The words of a line, between single blanks.
@@ -18,9 +19,10 @@ fn words_of(rt: &impl Abort, alloc: Global, line: &str) -> Vec<String> {
     owned
 }
 
-/// How the program ends on the words, run over a step counter of their own.
-fn run(host: &HostRuntime, words: &[String], store: &mut MemStore, out: &mut MemSink) -> ExitCode {
-    with_new_counter::<MemStore, MemSink, Brand>(host, words, store, out, Blank::new(1))
+/// The status with which the program ends on the words, run over a step counter of their own.
+fn run(host: &HostRuntime, words: &[String], store: &mut MemStore, out: &mut MemSink) -> u8 {
+    let mut steps: Steps<Brand> = Steps::start(host, Blank::new(1));
+    tool(host.alloc(), words, store, out, &mut steps)
 }
 
 /// How a line ends: its status, and the text that it puts.
@@ -41,8 +43,8 @@ pub(crate) fn expect_end(
     expect_put(rt, out, put, line);
 }
 
-fn expect_status(rt: &impl Abort, ended: ExitCode, status: u8, about: &str) {
-    assert_eq!(rt; ended, ExitCode::from(status), "{about}");
+fn expect_status(rt: &impl Abort, ended: u8, status: u8, about: &str) {
+    assert_eq!(rt; ended, status, "{about}");
 }
 
 fn expect_put(rt: &impl Abort, out: &MemSink, put: &str, about: &str) {

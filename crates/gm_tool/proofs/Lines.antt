@@ -29,6 +29,7 @@ use Rattle.gm_plan.specs.Plans.{PlanOf, plan_of}
 use Rattle.gm_run.specs.declared.outcome.Outcome as answers
 use Rattle.gm_run.specs.Printing.{CanBePrinted}
 use Rattle.gm_run.specs.Progress.{IsPlanFor, ArePlansFor, rules_of}
+use Rattle.gm_lines.specs.Refusing.{Role}
 use Rattle.gm_tool.specs.MadeRuns.{CanRun, inputs_of, IsFitted, IsPrinted, IsRunOf, IsMapBytes, IsRunStatus}
 use Rattle.gm_tool.specs.Stops.{IsSoundStop}
 use Rattle.gm_tool.specs.declared.refusal.Refusal.TheVariants as refusals
@@ -138,7 +139,7 @@ fitted_printed status report map (Err (stops.NoText nothing.OutOfMemory)) h = tt
 fitted_printed status report map (Err (stops.NoText (nothing.Refused why))) h = h
 
 -- no run of lines stops for its words, for a save or for a load
-pub run_is_sound : (inputs : Inputs) (result : Result Made Stop) (P : Type 0) → IsRunOf inputs result → IfErr result (λ stop. IsSoundStop stop P)
+pub run_is_sound : (inputs : Inputs) (result : Result Made Stop) (P : Role → Type 0) → IsRunOf inputs result → IfErr result (λ stop. IsSoundStop stop P)
 run_is_sound inputs (Ok made) P h = tt
 run_is_sound inputs (Err (stops.Bad line)) P h = tt
 run_is_sound inputs (Err (stops.NoText nothing.OutOfMemory)) P h = tt

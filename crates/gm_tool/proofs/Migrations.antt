@@ -2,7 +2,7 @@
 use Rattle.std.proofs.Common.{◌≡◌, ℕ, List, inl, inr, Some, None, Result, Ok, Err, ◌++◌, refl, sym, ap, subst, ◌∙◌, append_assoc}
 use Rattle.std.specs.Prelude.{IfOk, IfSome}
 use Rattle.gm_host.specs.Store.{Contents}
-use Rattle.gm_lines.specs.Refusing.{TheMap}
+use Rattle.gm_lines.specs.Refusing.{Role, TheMap}
 use Rattle.gm_mapfile.proofs.Again.{printed_again}
 use Rattle.gm_mapfile.proofs.Listed.{listed_good}
 use Rattle.gm_mapfile.specs.MapText.{ListedMap}
@@ -79,7 +79,7 @@ migrated_bytes read made (bytes, is) made_is =
     subst IsMapBytes (sym made_is.2) (versions.Two, listed_of read.arena, refl, printed_again listed_good bytes read.version versions.Two (listed_of read.arena) is.stands)
 
 -- want of memory and a text that is too long are no faults of the store
-pub unmade_is_sound : (map : ListedMap) (none : NoText) (P Q : Type 0) → IsMigrated map (Err none) → IsSoundReply (Err none) P Q
+pub unmade_is_sound : (map : ListedMap) (none : NoText) (P : Role → Type 0) (Q : Type 0) → IsMigrated map (Err none) → IsSoundReply (Err none) P Q
 unmade_is_sound map nothing.OutOfMemory P Q is = tt
 unmade_is_sound map (nothing.Refused why) P Q is = subst (λ w. IsSoundReply (Err (nothing.Refused w)) P Q) (sym is.0) tt
 

@@ -115,6 +115,17 @@ GridStaysWithin words before after = (m : ℕ) → AsksGrid words m → WithinGr
 abbrev pub GridTakesLeast : List (List ℕ) → ℕ → ℕ → ℕ → Type 0
 GridTakesLeast words status before after = (m : ℕ) → AsksGrid words m → IsRunStatus status → AtLeastOfGrid m before after
 
+-- ---- whatever the words are
+
+-- what is stated of the steps of a call that ends with the status
+pub record KeepsSteps (words : List (List ℕ)) (contents : Contents) (status before after : ℕ) : Type 0 where
+  pub most : StaysWithin words contents before after
+  pub least : TakesLeast words contents status before after
+  pub show_most : ShowStaysWithin words contents before after
+  pub migrate_most : MigrateStaysWithin words contents before after
+  pub grid_most : GridStaysWithin words before after
+  pub grid_least : GridTakesLeast words status before after
+
 -- ---- the parts of a run
 
 -- where the bytes stand for a map, no more steps than reading it

@@ -4,8 +4,9 @@ ghost use Rattle.gm_model.specs.Maps.{IsSchema};
 ghost use Rattle.gm_model.specs.Rules.{rule_of};
 ghost use Rattle.gm_lines.specs.Refusing.{TheMap, TheBook, TheScript};
 ghost use Rattle.gm_tool.specs.Begun.{Counts, HasBegun};
-ghost use Rattle.gm_tool.specs.Loads.{FailsAt, StopsInTime, UnlessNoMemory, UnlessNoMemoryToMake};
-ghost use Rattle.gm_tool.specs.MadeRuns.{names_of, inputs_of, CanRun, IsFitted, IsPrinted, IsRunOf, IsMapBytes, IsMade, LacksInput, LoadsAtMostThrice, IsRunStatus, HoldsMap, IsRunText, IsSaving, IsSoundReply};
+ghost use Rattle.gm_tool.specs.Endings.{status_given};
+ghost use Rattle.gm_tool.specs.Loads.{FailsAt, StopsInTime, LoadsInOrder, IsUnloaded, CountsSaves, UnlessNoMemory, UnlessNoMemoryToMake};
+ghost use Rattle.gm_tool.specs.MadeRuns.{names_of, inputs_of, CanRun, IsFitted, IsPrinted, IsRunOf, IsMapBytes, IsMade, IsRunStatus, HoldsMap, IsRunText, IsSaving, IsSoundReply};
 ghost use Rattle.gm_tool.specs.Tool.{IsReplyStatus};
 ghost use Rattle.gm_tool.specs.RunAnswer.{IsBadMap, IsBadBook, IsBadScript, run_status};
 ghost use Rattle.gm_tool.specs.declared.refusal.NoText.TheVariants as nothing;
@@ -59,6 +60,7 @@ pub fn load_map<S: Store, L: Ledger>(
     steps: &mut Steps<L>,
 ) -> Result<LoadedMap, Stop>
     ensures held { S.holds store.new ≡ S.holds store.old }
+    ensures no_save { S.saves store.new ≡ S.saves store.old }
     ensures no_save_fault { S.save_faults store.new ≡ S.save_faults store.old }
     ensures faults_never_fall { S.load_faults store.old ≤ S.load_faults store.new }
     ensures once { S.loads store.new ≡ counted (S.loads store.old) }
@@ -74,6 +76,7 @@ pub fn load_map<S: Store, L: Ledger>(
 
 fn load_book<S: Store>(alloc: Global, name: &str, store: &mut S) -> Result<Book, Stop>
     ensures held { S.holds store.new ≡ S.holds store.old }
+    ensures no_save { S.saves store.new ≡ S.saves store.old }
     ensures no_save_fault { S.save_faults store.new ≡ S.save_faults store.old }
     ensures faults_never_fall { S.load_faults store.old ≤ S.load_faults store.new }
     ensures once { S.loads store.new ≡ counted (S.loads store.old) }
@@ -92,6 +95,7 @@ fn load_script<S: Store>(
     store: &mut S,
 ) -> Result<Script, Stop>
     ensures held { S.holds store.new ≡ S.holds store.old }
+    ensures no_save { S.saves store.new ≡ S.saves store.old }
     ensures no_save_fault { S.save_faults store.new ≡ S.save_faults store.old }
     ensures faults_never_fall { S.load_faults store.old ≤ S.load_faults store.new }
     ensures once { S.loads store.new ≡ counted (S.loads store.old) }
@@ -227,15 +231,16 @@ fn prepared<S: Store, L: Ledger>(
     steps: &mut Steps<L>,
 ) -> Result<Made, Stop>
     ensures held { S.holds store.new ≡ S.holds store.old }
+    ensures no_save { S.saves store.new ≡ S.saves store.old }
     ensures no_save_fault { S.save_faults store.new ≡ S.save_faults store.old }
-    ensures loads { LoadsAtMostThrice (S.loads store.old) (S.loads store.new) }
+    ensures in_order { LoadsInOrder (S.holds store.old) (names_of files.entry) (S.loads store.old) (S.loads store.new) }
     ensures counted_loads { IfSome (S.holds store.old) (λ held. UnlessNoMemoryToMake result (StopsInTime held (names_of files.entry) (Rises (S.load_faults store.old) (S.load_faults store.new)) (S.loads store.old) (S.loads store.new))) }
     ensures made { IfSome (S.holds store.old) (λ held. IsMade held (names_of files.entry) (FailsAt (S.load_faults store.old) (S.load_faults store.new) (S.loads store.old) (S.loads store.new)) result) }
     ensures map { IfOk result (λ made. IsMapBytes made.map.items) }
     ensures status { IfOk result (λ made. IsRunStatus made.status) }
     ensures most { IfSome (S.holds store.old) (λ held. WithinMost held (names_of files.entry) steps.old steps.new) }
     ensures least { IfOk result (λ _. IfSome (S.holds store.old) (λ held. AtLeast held (names_of files.entry) steps.old steps.new)) }
-    ensures sound { IfErr result (λ stop. IsSoundStop stop (Rises (S.load_faults store.old) (S.load_faults store.new) ⊎ LacksInput (S.holds store.old) (names_of files.entry))) }
+    ensures sound { IfErr result (λ stop. IsSoundStop stop (IsUnloaded (S.holds store.old) (names_of files.entry) (FailsAt (S.load_faults store.old) (S.load_faults store.new) (S.loads store.old) (S.loads store.new)))) }
 {
     let LoadedMap {
         mut read,
@@ -259,8 +264,10 @@ fn prepared_behind<S: Store, L: Ledger>(
     requires book { (bytes : List ℕ) × IsReadBook bytes book.now }
     requires declared { IsSchema book.now.schema }
     ensures held { S.holds store.new ≡ S.holds store.old }
+    ensures no_save { S.saves store.new ≡ S.saves store.old }
     ensures no_save_fault { S.save_faults store.new ≡ S.save_faults store.old }
-    ensures loads { (S.loads store.new ≡ S.loads store.old) ⊎ (S.loads store.new ≡ counted (S.loads store.old)) }
+    ensures in_order { (start : Counts) → HasBegun (S.holds store.old) (names_of files.entry) read.old book.now start (S.load_faults store.old) (S.loads store.old) steps.old →
+        LoadsInOrder (S.holds store.old) (names_of files.entry) start.loads (S.loads store.new) }
     ensures counted_loads { (start : Counts) → HasBegun (S.holds store.old) (names_of files.entry) read.old book.now start (S.load_faults store.old) (S.loads store.old) steps.old →
         IfSome (S.holds store.old) (λ held. UnlessNoMemoryToMake result (StopsInTime held (names_of files.entry) (Rises start.faults (S.load_faults store.new)) start.loads (S.loads store.new))) }
     ensures made { (start : Counts) → HasBegun (S.holds store.old) (names_of files.entry) read.old book.now start (S.load_faults store.old) (S.loads store.old) steps.old →
@@ -271,7 +278,8 @@ fn prepared_behind<S: Store, L: Ledger>(
         IfSome (S.holds store.old) (λ held. WithinMost held (names_of files.entry) start.steps steps.new) }
     ensures least { (start : Counts) → HasBegun (S.holds store.old) (names_of files.entry) read.old book.now start (S.load_faults store.old) (S.loads store.old) steps.old →
         IfOk result (λ _. IfSome (S.holds store.old) (λ held. AtLeast held (names_of files.entry) start.steps steps.new)) }
-    ensures sound { IfErr result (λ stop. IsSoundStop stop (Rises (S.load_faults store.old) (S.load_faults store.new) ⊎ LacksInput (S.holds store.old) (names_of files.entry))) }
+    ensures sound { (start : Counts) → HasBegun (S.holds store.old) (names_of files.entry) read.old book.now start (S.load_faults store.old) (S.loads store.old) steps.old →
+        IfErr result (λ stop. IsSoundStop stop (IsUnloaded (S.holds store.old) (names_of files.entry) (FailsAt start.faults (S.load_faults store.new) start.loads (S.loads store.new)))) }
 {
     let plans = plans_of(alloc, book)?;
     let script = load_script(alloc, files.script, book, store)?;
@@ -292,6 +300,7 @@ fn prepared_behind<S: Store, L: Ledger>(
 
 /// Saves the map, and answers the text to put.
 pub fn saved<S: Store>(out: &str, made: Made, store: &mut S) -> Result<Reply, NoText>
+    ensures one_save { S.saves store.new ≡ counted (S.saves store.old) }
     ensures no_load { S.loads store.new ≡ S.loads store.old }
     ensures no_load_fault { S.load_faults store.new ≡ S.load_faults store.old }
     ensures no_save_fault { IfOk result (λ _. S.save_faults store.new ≡ S.save_faults store.old) }
@@ -316,18 +325,19 @@ pub fn answer<S: Store, L: Ledger>(
     store: &mut S,
     steps: &mut Steps<L>,
 ) -> Result<Reply, NoText>
-    ensures loads { LoadsAtMostThrice (S.loads store.old) (S.loads store.new) }
+    ensures in_order { LoadsInOrder (S.holds store.old) (names_of files.entry) (S.loads store.old) (S.loads store.new) }
     ensures text { IfSome (S.holds store.old) (λ held. IsRunText held (names_of files.entry)
         (FailsAt (S.load_faults store.old) (S.load_faults store.new) (S.loads store.old) (S.loads store.new)) (Rises (S.save_faults store.old) (S.save_faults store.new)) (S.holds store.new) result) }
     ensures statuses { IfOk result (λ reply. IsReplyStatus reply.status) }
     ensures sound { IsSoundReply result
-        (Rises (S.load_faults store.old) (S.load_faults store.new) ⊎ LacksInput (S.holds store.old) (names_of files.entry))
+        (IsUnloaded (S.holds store.old) (names_of files.entry) (FailsAt (S.load_faults store.old) (S.load_faults store.new) (S.loads store.old) (S.loads store.new)))
         (Rises (S.save_faults store.old) (S.save_faults store.new)) }
     ensures map { IfOk result (λ reply. IsRunStatus reply.status → HoldsMap (S.holds store.new) files.entry.out.now) }
     ensures most { IfSome (S.holds store.old) (λ held. WithinMost held (names_of files.entry) steps.old steps.new) }
     ensures least { IfOk result (λ reply. IfSome (S.holds store.old) (λ held. IsRunStatus reply.status → AtLeast held (names_of files.entry) steps.old steps.new)) }
     ensures counted_loads { IfSome (S.holds store.old) (λ held. UnlessNoMemory result (StopsInTime held (names_of files.entry) (Rises (S.load_faults store.old) (S.load_faults store.new)) (S.loads store.old) (S.loads store.new))) }
     ensures no_memory { IsErrOf result nothing.OutOfMemory → S.holds store.new ≡ S.holds store.old }
+    ensures saves { CountsSaves (status_given result) (S.saves store.old) (S.saves store.new) }
     ensures no_save_fault { IfOk result (λ _. S.save_faults store.new ≡ S.save_faults store.old) }
 {
     match prepared(alloc, files, store, steps) {

@@ -2,14 +2,16 @@
 //! terminal.
 #![tactic(auto)]
 
-ghost use Rattle.std.specs.Prelude.{◌≡◌, ◌⊎◌};
+ghost use Rattle.std.specs.Prelude.{◌≡◌, ◌≢◌, ◌⊎◌, IfOk, drop};
 ghost use Rattle.std.specs.IoError.{error_kind};
 ghost use Rattle.std.specs.Process.{exit_status};
+ghost use Rattle.std.specs.Vec.Iter.{into_iter_items};
 
+use gm_arena::Steps;
 use gm_host::{FileStore, StdSink};
 pub use gm_tool::tool;
-use gm_tool::with_new_counter;
-use std::env::{self, Env};
+use std::alloc::Global;
+use std::env::{self, Args, Env};
 use std::io::{self, ErrorKind};
 use std::marker::Brand;
 use std::process::ExitCode;
@@ -20,6 +22,7 @@ use std::sync::ledger::Blank;
 fn without_words(error: &io::Error) -> ExitCode
     ensures statuses { (exit_status result ≡ 7) ⊎ (exit_status result ≡ 9) }
     ensures no_memory { error_kind error.now ≡ ErrorKind.OutOfMemory → exit_status result ≡ 7 }
+    ensures no_words { error_kind error.now ≢ ErrorKind.OutOfMemory → exit_status result ≡ 9 }
 {
     match error.kind() {
         ErrorKind::OutOfMemory => ExitCode::from(7),
@@ -27,26 +30,36 @@ fn without_words(error: &io::Error) -> ExitCode
     }
 }
 
-fn words_of(rt: &(impl Env + AllocGlobal)) -> io::Result<Vec<String>> {
-    let mut words = Vec::new(rt.alloc());
-    for word in env::args(rt)?.skip(1) {
+/// The words behind the first one, which is the program's name.
+fn behind_name(mut args: Args, alloc: Global) -> io::Result<Vec<String>>
+    ensures { IfOk result (λ words. words.items ≡ drop 1 (into_iter_items args)) }
+{
+    let mut words = Vec::new(alloc);
+    args.next();
+    while let Some(word) = args.next() {
         words.push(word)?;
     }
     Ok(words)
 }
 
+fn words_of(rt: &(impl Env + AllocGlobal)) -> io::Result<Vec<String>> {
+    behind_name(env::args(rt)?, rt.alloc())
+}
+
 fn main(rt: HostRuntime) -> ExitCode {
     match words_of(&rt) {
         Ok(words) => {
+            let mut steps: Steps<Brand> = Steps::start(&rt, Blank::new(1));
             let mut store = FileStore::new(&rt);
             let mut out = StdSink::new(&rt);
-            with_new_counter::<_, _, Brand>(
-                &rt,
+            let status = tool(
+                rt.alloc(),
                 words.as_slice(),
                 &mut store,
                 &mut out,
-                Blank::new(1),
-            )
+                &mut steps,
+            );
+            ExitCode::from(status)
         }
         Err(error) => without_words(&error),
     }
