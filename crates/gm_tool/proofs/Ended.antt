@@ -14,14 +14,14 @@ use Rattle.gm_tool.specs.Migrating.{MigrateNames, AsksMigrate, IsMigrateStatus}
 use Rattle.gm_tool.specs.Program.{IsCommand, IsSavingCommand}
 use Rattle.gm_tool.specs.RunAnswer.{RunNames, AsksRun}
 use Rattle.gm_tool.specs.Seen.{Seen}
-use Rattle.gm_tool.specs.StepBounds.{WithinMost, AtLeast, TakesLeast, FileShowsWithin, WithinGridMost, AtLeastOfGrid, KeepsSteps}
+use Rattle.gm_tool.specs.StepBounds.{WithinMost, AtLeast, TakesLeast, FileShowsWithin, WithinGridMost, AtLeastOfGrid, GridTakesLeast, KeepsSteps}
 use Rattle.gm_tool.specs.Tool.{IsPut, IsReplyStatus, EndsAs, HoldsSaved, ForFile, ForRun, ForMigrate}
 use Rattle.gm_tool.specs.declared.refusal.NoText.{NoText}
 use Rattle.gm_tool.specs.declared.refusal.NoText.TheVariants as nothing
 use Rattle.gm_tool.specs.declared.reply.Reply.{Reply}
 use Rattle.gm_tool.proofs.Asking.{file_is_no_run, file_is_no_migrate, file_is_no_grid, run_is_no_migrate, run_is_no_grid, migrate_is_no_grid, grid_reads_none, grid_reads_no_one, reads_some, run_reads_no_one, same_named, sound_no_usage, file_refused, migrate_refused, migrate_status, run_holds, migrate_holds, none_holds, sound_saved, grid_status, grid_refused, grid_is_sound}
 use Rattle.gm_tool.proofs.LoadCounts.{counts_of, no_counts}
-use Rattle.gm_tool.proofs.Putting.{given_is, given_one, given_two, given_three, given_five, given_run, given_done, unless_seven, six, seven, six_is_no_run, seven_is_no_run, refusal_is_no_run, run_put}
+use Rattle.gm_tool.proofs.Putting.{given_is, given_one, given_two, given_three, given_five, given_run, given_done, given_least, unless_seven, six, seven, six_is_no_run, seven_is_no_run, run_put}
 use Rattle.gm_tool.proofs.RunStops.{thrice_at_most}
 use Rattle.gm_tool.proofs.SaveCounts.{six_saves_none, seven_saves_none, six_is_unsaved, seven_is_unsaved}
 use Rattle.gm_tool.proofs.StepWords.{within_of, least_of, within_none, least_none, file_shown, none_shown, migrated_within, none_migrated, grid_within, none_gridded, grid_least, no_grid_least, least_put, least_refused, grid_least_put}
@@ -107,7 +107,7 @@ module _ (words : List (List ℕ)) (m : ℕ) (asks : AsksGrid words m) where
     show_most = none_shown words contents before after (λ command name shows. file_is_no_grid words command name m shows asks);
     migrate_most = none_migrated words contents before after (λ named migrates. migrate_is_no_grid words named m migrates asks);
     grid_most = grid_within words m before after asks most;
-    grid_least = λ other asks_too run. given_done _ reply (grid_least words m before after asks reply least other asks_too) run;
+    grid_least = given_least (λ status. GridTakesLeast words status before after) (λ status none other asks_too run. absurd (none run)) reply (grid_least words m before after asks reply least);
   }
 
 -- ---- words that are no command
@@ -181,17 +181,12 @@ module _ (words : List (List ℕ)) (named : RunNames) (asks : AsksRun words name
       → IfOk reply (λ r. IfSome contents (λ files. IsRunStatus r.status → AtLeast files named before after)) → KeepsSteps words contents (status_given reply) before after
   run_steps contents reply before after most least = record {
     most = within_of words named asks before after contents most;
-    least = left reply (least_of words named asks before after contents reply least);
+    least = given_least (λ status. TakesLeast words contents status before after) (λ status none. least_refused words contents status before after none) reply (least_of words named asks before after contents reply least);
     show_most = none_shown words contents before after (λ command name shows. file_is_no_run words command name named shows asks);
     migrate_most = none_migrated words contents before after (λ other migrates. run_is_no_migrate words named other asks migrates);
     grid_most = none_gridded words before after (λ m grid. run_is_no_grid words named m asks grid);
     grid_least = no_grid_least words (status_given reply) before after (λ m grid. run_is_no_grid words named m asks grid);
   }
-    where
-      left : (r : Result Reply NoText) → IfOk r (λ r. TakesLeast words contents r.status before after) → TakesLeast words contents (status_given r) before after
-      left (Ok r) h = h
-      left (Err nothing.OutOfMemory) h = least_refused words contents 7 before after seven_is_no_run
-      left (Err (nothing.Refused why)) h = least_refused words contents _ before after (refusal_is_no_run why)
 
 -- ---- a migration
 

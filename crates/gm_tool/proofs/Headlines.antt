@@ -67,7 +67,7 @@ module _ (files : Files) (named : RunNames) (status : ℕ) (before written text 
   stated given (MapFails h) s t stored = absurd (failing files _ _ _ given h (subst IsRunStatus s run))
   stated given (BookFails inputs the_map h) s t stored = absurd (failing files _ _ _ given h (subst IsRunStatus s run))
   stated given (ScriptFails inputs the_map the_book h) s t stored = absurd (failing files _ _ _ given h (subst IsRunStatus s run))
-  stated given (Disagree inputs the_map the_book the_script no e) s t stored = absurd (four given.status (ap status_of e) (subst IsRunStatus s run))
+  stated given (Disagree inputs the_map the_book the_script never e) s t stored = absurd (four given.status (ap status_of e) (subst IsRunStatus s run))
   stated given (LongOutput inputs ran good long e) s t stored = absurd (eight given.status (ap status_of e) (subst IsRunStatus s run))
   stated given (Done inputs ran good fits fits_too e) s t stored =
       let kept = subst (λ (a : Answer). IsStored files a.saved after) e stored in

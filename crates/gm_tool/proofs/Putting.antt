@@ -174,6 +174,12 @@ given_done P (Ok reply) h run = h
 given_done P (Err nothing.OutOfMemory) h run = absurd (seven_is_no_run run)
 given_done P (Err (nothing.Refused why)) h run = absurd (refusal_is_no_run why run)
 
+-- what is stated of a run that is done alone
+pub given_least : (Least : ℕ → Type 0) → ((status : ℕ) → (IsRunStatus status → ⊥) → Least status) → (reply : Result Reply NoText) → IfOk reply (λ r. Least r.status) → Least (status_given reply)
+given_least Least none (Ok reply) h = h
+given_least Least none (Err nothing.OutOfMemory) h = none 7 seven_is_no_run
+given_least Least none (Err (nothing.Refused why)) h = none (refusal_answer why).status (refusal_is_no_run why)
+
 -- ---- what is put of it
 
 module _ (before after : Option (List ℕ)) (fails : Type 0) (bytes : List ℕ) (status : ℕ) where

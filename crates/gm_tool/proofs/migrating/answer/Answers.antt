@@ -5,10 +5,9 @@ use Rattle.gm_tool.specs.Loads.{FailsAt}
 use Rattle.gm_tool.specs.Migrating.{migrate_names_of, IsMigrateStatus}
 use Rattle.gm_tool.specs.Stops.{reply_of}
 use Rattle.gm_tool.proofs.LoadCounts.{always}
-use Rattle.gm_tool.proofs.Migrations.{stopped_migration, unmade_migration, saved_migration, migrated_bytes, unmade_is_sound, migrated_status}
+use Rattle.gm_tool.proofs.Migrations.{unread_is_sound, stopped_migration, unmade_migration, saved_migration, migrated_bytes, unmade_is_sound, migrated_status}
 use Rattle.gm_tool.proofs.Saving.{map_saved, saving_is_sound, unsaved, stop_is_sound, stop_status, stop_is_no_run}
 use Rattle.gm_tool.proofs.SaveCounts.{none_saved, none_migrated, once_saved}
-use Rattle.gm_tool.proofs.Stopping.{sound_to}
 use Rattle.gm_tool.proofs.StepBounds.{if_done}
 use Rattle.gm_tool.proofs.StepWords.{read_shown, printed_shown}
 use Rattle.gm_tool.proofs.migrating.answer.Goals as goal
@@ -48,7 +47,7 @@ returns-in-Err-clause-statuses g c = rw c.stopped.ensures (stop_status IsMigrate
 
 pub returns-in-Err-clause-sound : goal.returns-in-Err-clause-sound
 returns-in-Err-clause-sound g c =
-    rw c.stopped.ensures (stop_is_sound c.in-Err.stop _ _ (sound_to _ _ (λ role why. elim why.1 [ inl rises ↦ inl (rises, c.load_map.ensures.once) | inr lacks ↦ inr lacks ]) c.in-Err.stop c.in-Err.ensures.from.1))
+    rw c.stopped.ensures (stop_is_sound c.in-Err.stop _ _ (unread_is_sound (g.S.Store.holds c.args.store.now) c.args.files.map.now _ _ (λ rises. (rises, c.load_map.ensures.once)) c.in-Err.stop c.in-Err.ensures.from.1))
 
 pub returns-in-Err-clause-saves : goal.returns-in-Err-clause-saves
 returns-in-Err-clause-saves g c = rw c.stopped.ensures (none_saved _ _ c.in-Err.stop _ c.in-Err.ensures.from.1 c.load_map.ensures.no_save)
