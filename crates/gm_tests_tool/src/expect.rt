@@ -1,5 +1,6 @@
 //! What a line does, over a store and a sink in memory, and the assertions on it. Each assertion
 //! stands in a function of its own, and whoever owns the store and the sink calls one that borrows them.
+ghost use Rattle.std.specs.Prelude.{◌≡◌, ◌<◌};
 
 use gm_arena::Steps;
 use gm_host::{MemSink, MemStore};
@@ -7,7 +8,7 @@ use gm_tool::tool;
 use std::alloc::Global;
 use std::marker::Brand;
 use std::process::Abort;
-use std::sync::ledger::Blank;
+use std::sync::ledger::{Blank, Ledger};
 
 /// The words of a line, between single blanks.
 fn words_of(rt: &impl Abort, alloc: Global, line: &str) -> Vec<String> {
@@ -20,8 +21,18 @@ fn words_of(rt: &impl Abort, alloc: Global, line: &str) -> Vec<String> {
 }
 
 /// The status with which the program ends on the words, run over a step counter of their own.
-fn run(host: &HostRuntime, words: &[String], store: &mut MemStore, out: &mut MemSink) -> u8 {
-    let mut steps: Steps<Brand> = Steps::start(host, Blank::new(1));
+fn run<L: Ledger>(
+    host: &HostRuntime,
+    words: &[String],
+    store: &mut MemStore,
+    out: &mut MemSink,
+    blank: Blank,
+) -> u8
+    requires name { blank.name ≡ L.name }
+    requires parts { blank.parts ≡ L.parts }
+    requires some { 0 < blank.parts }
+{
+    let mut steps: Steps<L> = Steps::start(host, blank);
     tool(host.alloc(), words, store, out, &mut steps)
 }
 
@@ -39,7 +50,8 @@ pub(crate) fn expect_end(
 ) {
     let words = words_of(rt, host.alloc(), line);
     let (status, put) = *end;
-    expect_status(rt, run(host, words.as_slice(), store, out), status, line);
+    let ended = run::<Brand>(host, words.as_slice(), store, out, Blank::new(1));
+    expect_status(rt, ended, status, line);
     expect_put(rt, out, put, line);
 }
 

@@ -2,7 +2,7 @@
 //! terminal.
 #![tactic(auto)]
 
-ghost use Rattle.std.specs.Prelude.{◌≡◌, ◌≢◌, ◌⊎◌, IfOk, drop};
+ghost use Rattle.std.specs.Prelude.{◌≡◌, ◌≢◌, ◌⊎◌, ◌<◌, IfOk, drop};
 ghost use Rattle.std.specs.IoError.{error_kind};
 ghost use Rattle.std.specs.Process.{exit_status};
 ghost use Rattle.std.specs.Vec.Iter.{into_iter_items};
@@ -15,7 +15,7 @@ use std::env::{self, Args, Env};
 use std::io::{self, ErrorKind};
 use std::marker::Brand;
 use std::process::ExitCode;
-use std::sync::ledger::Blank;
+use std::sync::ledger::{Blank, Ledger};
 
 /// The end of a program that can't have the words of its command line: status 7 where memory was
 /// wanting, else 9, which the program gives for nothing else.
@@ -46,21 +46,22 @@ fn words_of(rt: &(impl Env + AllocGlobal)) -> io::Result<Vec<String>> {
     behind_name(env::args(rt)?, rt.alloc())
 }
 
+/// Runs the command that the words ask for over the real files and the terminal, with a counter of
+/// steps that the blank ledger makes.
+fn run_over_files<L: Ledger>(rt: &HostRuntime, words: &[String], blank: Blank) -> ExitCode
+    requires name { blank.name ≡ L.name }
+    requires parts { blank.parts ≡ L.parts }
+    requires some { 0 < blank.parts }
+{
+    let mut steps: Steps<L> = Steps::start(rt, blank);
+    let mut store = FileStore::new(rt);
+    let mut out = StdSink::new(rt);
+    ExitCode::from(tool(rt.alloc(), words, &mut store, &mut out, &mut steps))
+}
+
 fn main(rt: HostRuntime) -> ExitCode {
     match words_of(&rt) {
-        Ok(words) => {
-            let mut steps: Steps<Brand> = Steps::start(&rt, Blank::new(1));
-            let mut store = FileStore::new(&rt);
-            let mut out = StdSink::new(&rt);
-            let status = tool(
-                rt.alloc(),
-                words.as_slice(),
-                &mut store,
-                &mut out,
-                &mut steps,
-            );
-            ExitCode::from(status)
-        }
+        Ok(words) => run_over_files::<Brand>(&rt, words.as_slice(), Blank::new(1)),
         Err(error) => without_words(&error),
     }
 }
