@@ -79,8 +79,8 @@ module _ (files : Files) (named : RunNames) (status : ℕ) (before written text 
         report = put ∙ ap (λ x. before ++ x) (t ∙ ap (λ (a : Answer). a.text) e);
         saved = kept;
         sound = sound_bytes (saved_of inputs ran) kept;
-        most = λ sum budget. most _ (MostOf inputs ran sum good budget);
-        least = least _ (LeastOf inputs ran good);
+        most = λ bounds within. most _ (MostOf inputs ran bounds good within);
+        least = λ bounds within. least _ (LeastOf inputs ran bounds good within);
       }
 
   answered : (words : List (List ℕ)) → AsksRun words named → (given : Answer) → IsAnswer words files given → status ≡ given.status → text ≡ given.text → IsStored files given.saved after → RunsAsStated files named status before written after steps later

@@ -64,7 +64,7 @@ module _ (named : RunNames) (load_fails : ℕ → Type 0) where
 
 -- the inputs, as far as they are known
 abbrev pub known : MapRead → Schema → List Rule → Inputs
-known m schema rules = record { version = m.version; map = listed_of m.arena; schema = schema; rules = rules; lines = [] }
+known m schema rules = record { version = m.version; map = listed_of m.arena; schema = schema; rules = rules; stats = [] }
 
 -- ---- the exits of a run, wherever the store tells
 

@@ -2,17 +2,17 @@
 use Rattle.std.specs.Prelude.{◌≡◌, ℕ, ◌+◌, ◌≤◌, List, ◌++◌, Option, Some}
 use Rattle.gm_host.specs.Saves.{IsSaved}
 use Rattle.gm_host.specs.Store.{Contents}
-use Rattle.gm_model.specs.Runs.{changed_darts}
+use Rattle.gm_model.specs.Budgets.{Bounds}
 use Rattle.gm_tool.specs.Answer.{Files}
 use Rattle.gm_tool.specs.MadeRuns.{IsRunStatus, IsSoundText}
 use Rattle.gm_tool.specs.RunAnswer.{RunNames, AsksRun, Inputs, Ran, IsGoodRun, report_of, saved_of, run_status}
-use Rattle.gm_tool.specs.StepBounds.{HasBudget, handling, dim_of, darts_read, darts_left}
+use Rattle.gm_tool.specs.StepBounds.{HasBounds, handling, dim_of, darts_read, darts_left}
 
 module _ (files : Files) (named : RunNames) (status : ℕ) (before written : List ℕ) (after : Contents) (steps later : ℕ) where
   pub record RunsAsStated : Type 0 where
     pub inputs : Inputs
     pub ran : Ran
-    -- the files are the texts of a map, of a book whose rules are accepted, and of a script; and the lines have these outcomes, and leave this map
+    -- the files are the texts of a map, of a book whose rules are accepted, and of a script; and the statements have these outcomes, and leave this map
     pub good : IsGoodRun files named inputs ran
     pub status_is : status ≡ run_status ran.outcomes
     -- the report is put, and nothing else
@@ -21,9 +21,9 @@ module _ (files : Files) (named : RunNames) (status : ℕ) (before written : Lis
     pub saved : IsSaved (Some files) named.out (saved_of inputs ran) after
     -- what is saved is the canonical text of a generalised map with one value on each embedding orbit
     pub sound : IsSoundText (saved_of inputs ran)
-    -- the steps stay within the budgets of the lines and what it takes to read, judge and print, and are no fewer than the darts that were touched
-    pub most : (sum : ℕ) → HasBudget inputs ran sum → later ≤ steps + (sum + handling (dim_of inputs) (darts_read inputs) (darts_left ran))
-    pub least : steps + (changed_darts ran.outcomes + darts_read inputs + darts_left ran) ≤ later
+    -- the steps stay within the most of the statements and what it takes to read, judge and print, and are no fewer than the least
+    pub most : (bounds : Bounds) → HasBounds inputs ran bounds → later ≤ steps + (bounds.most + handling (dim_of inputs) (darts_read inputs) (darts_left ran))
+    pub least : (bounds : Bounds) → HasBounds inputs ran bounds → steps + (bounds.least + darts_read inputs + darts_left ran) ≤ later
 
 -- where store and sink tell, the words are a run, and it ends with status 0 or 1
 abbrev pub HeadlineHolds : List (List ℕ) → Contents → Contents → Option (List ℕ) → ℕ → Option (List ℕ) → ℕ → ℕ → Type 0

@@ -37,7 +37,7 @@ names_of files = record { map = files.map.now; book = files.book.now; script = f
 -- ---- the lines are applied
 
 abbrev pub inputs_of : MapVersion → ArenaMap → Book → Script → Inputs
-inputs_of version m book script = record { version = version; map = listed_of m; schema = book.schema; rules = map rule_of book.rules; lines = script.lines }
+inputs_of version m book script = record { version = version; map = listed_of m; schema = book.schema; rules = map rule_of book.rules; stats = script.stats }
 
 -- what was read can be run
 pub record CanRun (m : ArenaMap) (book : Book) (script : Script) (plans : List PlanOf) : Type 0 where
@@ -46,7 +46,7 @@ pub record CanRun (m : ArenaMap) (book : Book) (script : Script) (plans : List P
   pub agree : m.schema ≡ book.schema
   pub plans_are : plans ≡ map (plan_of book.schema) book.rules
   pub text : List ℕ
-  pub lines : ScriptText text (map rule_of book.rules) script.lines
+  pub stats : ScriptText text (map rule_of book.rules) script.stats
 
 -- texts that are not too long, with the status; or one of them is
 abbrev pub IsFitted : ℕ → List ℕ → List ℕ → Result Made Stop → Type 0

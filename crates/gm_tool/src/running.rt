@@ -1,4 +1,4 @@
-ghost use Rattle.std.specs.Prelude.{◌≡◌, ◌↔◌, ◌+◌, ◌≤◌, ◌⊎◌, ℕ, IfOk, IfErr, IfSome, IsErrOf, IsTrue, List, map, not};
+ghost use Rattle.std.specs.Prelude.{◌≡◌, ◌↔◌, ◌+◌, ◌≤◌, ◌⊎◌, ℕ, IfOk, IfErr, IfSome, IsErrOf, IsTrue, List, map};
 ghost use Rattle.gm_host.specs.Count.{counted, Rises};
 ghost use Rattle.gm_model.specs.Maps.{IsSchema};
 ghost use Rattle.gm_model.specs.Rules.{rule_of};
@@ -8,7 +8,7 @@ ghost use Rattle.gm_tool.specs.Endings.{status_given};
 ghost use Rattle.gm_tool.specs.Loads.{FailsAt, StopsInTime, LoadsInOrder, IsUnloaded, CountsSaves, UnlessNoMemory, UnlessNoMemoryToMake};
 ghost use Rattle.gm_tool.specs.MadeRuns.{names_of, inputs_of, CanRun, IsFitted, IsPrinted, IsRunOf, IsMapBytes, IsMade, IsRunStatus, HoldsMap, IsRunText, IsSaving, IsSoundReply};
 ghost use Rattle.gm_tool.specs.Tool.{IsReplyStatus};
-ghost use Rattle.gm_tool.specs.RunAnswer.{IsBadMap, IsBadBook, IsBadScript, run_status};
+ghost use Rattle.gm_tool.specs.RunAnswer.{IsBadMap, IsBadBook, IsBadScript, says_refused, run_status};
 ghost use Rattle.gm_tool.specs.declared.refusal.NoText.TheVariants as nothing;
 ghost use Rattle.gm_tool.specs.StepBounds.{ReadsWithin, RunsWithin, RunsAtLeast, WithinMost, AtLeast, printing};
 ghost use Rattle.gm_tool.specs.Stops.{IsFrom, IsReadMap, IsReadBook, IsReadScript, IsSoundStop};
@@ -16,7 +16,6 @@ ghost use Rattle.gm_arena.specs.Lawful.{IsLawful};
 ghost use Rattle.gm_mapfile.specs.Rows.{listed_of};
 ghost use Rattle.gm_mapfile.specs.MapText.{canonical};
 ghost use Rattle.gm_model.specs.Reports.{report_text};
-ghost use Rattle.gm_model.specs.Runs.{is_done};
 ghost use Rattle.gm_model.specs.Runs as runs;
 ghost use Rattle.gm_run.specs.Lines.{outcome_of, Tells};
 ghost use Rattle.gm_run.specs.Printing.{CanBePrinted};
@@ -106,12 +105,20 @@ fn load_script<S: Store>(
     script::read(alloc, bytes.as_slice(), book)
 }
 
+/// The line of the outcome says that something was refused.
 fn is_refused(outcome: &Outcome) -> bool
-    ensures { (told : runs.Outcome) → outcome_of outcome.now ≡ Some told → result ≡ not (is_done told) }
+    ensures { (told : runs.Outcome) → outcome_of outcome.now ≡ Some told → result ≡ says_refused told }
 {
     match outcome {
-        Outcome::Done(_) => false,
-        Outcome::Refused(_) => true,
+        Outcome::Refused(_) | Outcome::NothingToUndo | Outcome::NothingToRedo => true,
+        Outcome::Each { refused, .. } => *refused > 0,
+        Outcome::Done(_)
+        | Outcome::Skipped
+        | Outcome::Undone
+        | Outcome::Redone
+        | Outcome::Begun
+        | Outcome::Kept
+        | Outcome::Dropped => false,
     }
 }
 
@@ -140,7 +147,7 @@ fn within_limit(status: u8, report: Vec<u8>, map: Vec<u8>) -> Result<Made, Stop>
     })
 }
 
-/// The report of the lines, and the text of the map that they left, in the version. The room is that
+/// The report of the statements, and the text of the map that they left, in the version. The room is that
 /// of bytes that are no longer used, and it is taken.
 fn printed<L: Ledger>(
     alloc: Global,
@@ -152,10 +159,10 @@ fn printed<L: Ledger>(
     version: MapVersion,
     steps: &mut Steps<L>,
 ) -> Result<Made, Stop>
-    requires printable { CanBePrinted book.now.schema (map rule_of book.now.rules) script.lines report.lines }
+    requires printable { CanBePrinted book.now.schema (map rule_of book.now.rules) script.stats report.lines }
     ensures lawful { IsLawful arena.now }
     ensures texts { (told : List runs.Outcome) → Tells report.lines told → IsPrinted (run_status told)
-        (report_text book.now.schema (map rule_of book.now.rules) script.lines told report.darts report.next)
+        (report_text book.now.schema (map rule_of book.now.rules) script.stats told report.darts report.next)
         (canonical version (listed_of arena.now)) result }
     ensures most { steps.new ≤ steps.old + printing arena.now.schema.dim arena.now.count }
     ensures least { IfOk result (λ _. steps.old + arena.now.count ≤ steps.new) }
@@ -171,7 +178,7 @@ fn printed<L: Ledger>(
     within_limit(status, text, map)
 }
 
-/// Applies the lines to the map, and makes the report and the text of the map that they leave.
+/// Runs the statements over the map, and makes the report and the text of the map that they leave.
 fn applied<L: Ledger>(
     alloc: Global,
     room: &mut Vec<u8>,
