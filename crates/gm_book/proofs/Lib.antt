@@ -8,6 +8,7 @@ pub mod ValueTokens
 pub mod LeastFault
 pub mod ValueFaults
 pub mod RuleFaults
+pub mod Checked
 pub mod RuleNames
 pub mod Lines
 pub mod Mapped

@@ -19,10 +19,10 @@ use Rattle.gm_model.specs.Names.{Mention, is_among}
 use Rattle.gm_model.specs.Rules.{RuleNode, Assignment}
 use Rattle.gm_model.specs.Trees.{Tree}
 use Rattle.gm_parse.specs.Meaning.{Names, embed_number, names_in}
-use Rattle.gm_forms.specs.BookText.{SetForm, Item, NodeItem, LinkItem, RuleForm, Count, no_count, count_after, counted, with_name, nodes_of, sets_in, node_in, links_in, hooks_in, names_for, param_of, MeansSet, MeansPre, MeansRule, IsSet, IsItem, assignments_in, UnknownAt, SetUnknown}
+use Rattle.gm_forms.specs.BookText.{SetForm, Item, NodeItem, LinkItem, RuleForm, Count, no_count, count_after, counted, with_name, nodes_of, sets_in, node_in, links_in, hooks_in, names_for, param_of, MeansSet, MeansPre, MeansRule, IsSet, IsItem, assignments_in}
 use Rattle.gm_text.specs.SchemaText.{names_in as names_of_embeds}
 use Rattle.gm_forms.proofs.Contained.{contains_here, contains_behind}
-use Rattle.gm_book.specs.Building.{HasNoFaultInRules, IsKnownSet, HasKnownSets, IsAssigned}
+use Rattle.gm_book.specs.Building.{IsKnownSet, HasKnownSets}
 use Rattle.gm_book.specs.Fitting.{HasExprs}
 use Rattle.gm_book.specs.FirstNameFault.{embed_names}
 
@@ -127,6 +127,11 @@ different_counted (LinkItem from label to ∷ items) count differ = different_co
 nodes_differ : (form : RuleForm) → AreDifferent (nodes_of form)
 nodes_differ form = different_counted form.right (counted no_count form.left) (different_counted form.left no_count tt)
 
+-- the node of the rule with the name, whose assignments mean what is written
+pub record IsAssigned (n : ℕ) (names : Names) (rule : RuleForm) (name : List ℕ) (node : RuleNode) : Type 0 where
+  pub sets : AllZip (MeansSet n names) (sets_in rule.right name) node.sets
+  pub same : node ≡ node_in rule (λ _. node.sets) name
+
 module _ (n : ℕ) (names : Names) (form : RuleForm) where
   -- an earlier node of another name changes nothing
   nodes_behind : (node : RuleNode) (nodes : List RuleNode) (behind : List (List ℕ)) → is_among behind node.name ≡ false → map (node_in form (sets_at (node ∷ nodes))) behind ≡ map (node_in form (sets_at nodes)) behind
@@ -189,13 +194,7 @@ among_number (other ∷ names) name among = go (bytes_eq name other) among (amon
 known_embed : (names : List (List ℕ)) (name : List ℕ) → is_among names name ≡ true → IsTrue (is_some (position (bytes_eq name) names))
 known_embed names name among = rw (number_there (bytes_eq name) names (among_number names name among)) refl
 
-module _ (n : ℕ) (embeds : List Embed) (form : RuleForm) (sound : HasNoFaultInRules n embeds (form ∷ [])) where
-  embed_there : (set : SetForm) → Contains (assignments_in form.right) set → is_among (names_of_embeds embeds) set.embed.name ≡ true
-  embed_there set there = elim (cases_Bool (is_among (names_of_embeds embeds) set.embed.name)) [
-    | inl known ↦ known
-    | inr unknown ↦ absurd (sound (UnknownAt set.embed.place) (SetUnknown form set (contains_here form []) there unknown))
-  ]
-
+module _ (n : ℕ) (embeds : List Embed) (form : RuleForm) where
   known_sets : (sets : List SetForm) → AllByRecursion (IsSet n) sets → ((set : SetForm) → Contains sets set → is_among (names_of_embeds embeds) set.embed.name ≡ true) → AllByRecursion (IsKnownSet n (names_for embeds form)) sets
   known_sets [] are known = tt
   known_sets (set ∷ sets) are known =
@@ -207,5 +206,6 @@ module _ (n : ℕ) (embeds : List Embed) (form : RuleForm) (sound : HasNoFaultIn
       (known_sets sets are.0.2 (λ set there. known set (Contains-append_left sets (assignments_in items) set there)), known_items items are.1 (λ set there. known set (Contains-append_right sets (assignments_in items) set there)))
   known_items (LinkItem from label to ∷ items) are known = (tt, known_items items are.1 known)
 
-  pub all_known : HasExprs n form → AllByRecursion (HasKnownSets n (names_for embeds form)) form.right
-  all_known exprs = known_items form.right exprs.sets embed_there
+  -- where each embedding that is assigned is known
+  pub all_known : ((set : SetForm) → Contains (assignments_in form.right) set → is_among (names_of_embeds embeds) set.embed.name ≡ true) → HasExprs n form → AllByRecursion (HasKnownSets n (names_for embeds form)) form.right
+  all_known there exprs = known_items form.right exprs.sets there

@@ -33,7 +33,7 @@ assigned_in (first ∷ nodes) sets set of among = elim (contains_cases first nod
   | inr behind ↦ Contains-append_right first (all_sets nodes) set (assigned_in nodes sets set behind among)
 ]
 
-node_of_set : (nodes : List (List SetForm)) (set : SetForm) → Contains (all_sets nodes) set → (sets : List SetForm) × Contains nodes sets × Contains sets set
+pub node_of_set : (nodes : List (List SetForm)) (set : SetForm) → Contains (all_sets nodes) set → (sets : List SetForm) × Contains nodes sets × Contains sets set
 node_of_set [] set among = absurd (contains_none set among)
 node_of_set (first ∷ nodes) set among = elim (Contains-append_cases first (all_sets nodes) set among) [
   | inl here ↦ (first, contains_here first nodes, here)
@@ -60,7 +60,7 @@ kind_fault (Twice p) place e = absurd cc
 kind_fault (Unknown p) place e = absurd cc
 kind_fault (WrongKind p) place e = ap WrongKind (ap text.place_of (sym e))
 
-again_from : (mentions : List Mention) (place : ℕ) (f : NameFault) → IsAgain mentions place → text.TwiceAt place ≡ fault_of f → IsAgainBehind [] mentions f
+pub again_from : (mentions : List Mention) (place : ℕ) (f : NameFault) → IsAgain mentions place → text.TwiceAt place ≡ fault_of f → IsAgainBehind [] mentions f
 again_from mentions place f h e = (h.front, h.mention, h.behind, h.split, ap Twice h.here ∙ same_fault f place e, h.again)
 
 unknown_from : (items : List Item) (place : ℕ) (f : NameFault) → IsStranger items place → text.UnknownAt place ≡ fault_of f → UnknownIn (with_items [] items) (text.ends_in items) f
@@ -155,7 +155,7 @@ module _ (n : ℕ) (embeds : List Embed) where
     | inr behind ↦ again_none (with_name [] mention.name) f behind
   ]
 
-  parts_of_one : (rule : RuleForm) (f : NameFault) → IsFaultInRule n embeds rule f → FaultOfRule rule f
+  pub parts_of_one : (rule : RuleForm) (f : NameFault) → IsFaultInRule n embeds rule f → FaultOfRule rule f
   parts_of_one rule f h = elim (parts_from (rule ∷ []) (fault_of f) h f refl) [
     | inl again ↦ absurd (alone rule.name f again)
     | inr (r, among, fault) ↦ elim (contains_cases rule [] r among) [
@@ -164,7 +164,7 @@ module _ (n : ℕ) (embeds : List Embed) where
     ]
   ]
 
-  there_in_one : (rule : RuleForm) (f : NameFault) → FaultOfRule rule f → IsFaultInRule n embeds rule f
+  pub there_in_one : (rule : RuleForm) (f : NameFault) → FaultOfRule rule f → IsFaultInRule n embeds rule f
   there_in_one rule f h = parts_there (rule ∷ []) f (inr (rule, contains_here rule [], h))
 
   pub least_in_rule : (rule : RuleForm) (names values : Option NameFault) → names ≡ rule_least (names_in embeds) rule → IsLeast (IsFaultOfValues n embeds rule) values → IsLeast (IsFaultInRule n embeds rule) (least_of names values)

@@ -45,9 +45,9 @@ module _ (n : ℕ) (embeds : List Embed) (params : List Param) (names : Names) (
           let none : faults_in names has.form ≡ [] = no_fault_of_other n names top tokens within other.form has.form other.value has.value other.known in
           absurd (contains_none first (subst (λ (faults : List meaning.NameFault). Contains faults first) none has.first.there))
 
-  pub name_fault_is_least : (fault : ExprFault) → IsReadFault n names tokens fault → (found : Option NameFault) → IsOfNames fault found → IsLeast IsFault found
-  name_fault_is_least (faults.Unknown place) has found is = subst (IsLeast IsFault) (sym is) (first_is_least (UnknownAt place) (Unknown place) refl has)
-  name_fault_is_least (faults.Twice place) has found is = subst (IsLeast IsFault) (sym is) (first_is_least (TwiceAt place) (Twice place) refl has)
+  pub name_fault_is_least : (fault : ExprFault) → IsReadFault n names tokens fault → (found : NameFault) → IsOfNames fault found → IsLeast IsFault (Some found)
+  name_fault_is_least (faults.Unknown place) has found is = subst (λ (f : NameFault). IsLeast IsFault (Some f)) (sym is) (first_is_least (UnknownAt place) (Unknown place) refl has)
+  name_fault_is_least (faults.Twice place) has found is = subst (λ (f : NameFault). IsLeast IsFault (Some f)) (sym is) (first_is_least (TwiceAt place) (Twice place) refl has)
   name_fault_is_least faults.OutOfMemory has found is = absurd is
 
   module _ (tree : Tree) (read : IsValueRead n names tokens tree) where

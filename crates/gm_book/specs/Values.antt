@@ -39,7 +39,7 @@ IsReadFault n names tokens (faults.Twice place) = HasFirstFault n names tokens (
 IsReadFault n names tokens faults.OutOfMemory = Unit {0}
 
 -- the fault of an expression is this one of the rules' names
-abbrev pub IsOfNames : ExprFault → Option NameFault → Type 0
-IsOfNames (faults.Unknown place) found = found ≡ Some (Unknown place)
-IsOfNames (faults.Twice place) found = found ≡ Some (Twice place)
+abbrev pub IsOfNames : ExprFault → NameFault → Type 0
+IsOfNames (faults.Unknown place) found = found ≡ Unknown place
+IsOfNames (faults.Twice place) found = found ≡ Twice place
 IsOfNames faults.OutOfMemory found = ⊥

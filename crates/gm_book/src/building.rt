@@ -1,38 +1,147 @@
-//! The book of a schema and of rules that are written in a text.
-ghost use Rattle.std.specs.Prelude.{◌≡◌, map, IfOk, IfErr};
+//! The book of a schema and of rules that are written in a text. Each expression of a book without a
+//! fault is built once.
+ghost use Rattle.std.specs.Prelude.{◌≡◌, ◌++◌, ◌∷◌, [], map, None, IfOk, IfErr, OnOk, MatchResult};
 ghost use Rattle.std.specs.List.{AllByRecursion, AllZip};
+ghost use Rattle.std.specs.Result.{result_err};
 ghost use Rattle.gm_model.specs.Maps.{IsSchema};
 ghost use Rattle.gm_model.specs.Rules.{rule_of};
-ghost use Rattle.gm_forms.specs.BookText.{MeansRule};
+ghost use Rattle.gm_forms.specs.BookText.{MeansRule, with_name};
 ghost use Rattle.gm_forms.specs.Forms.{IsRuleIn, AreRulesIn, rule_form_of, forms_of};
-ghost use Rattle.gm_book.specs.Building.{HasNoFaultInRules, IsFaultOfNames};
+ghost use Rattle.gm_forms.specs.Held.{names_held};
+ghost use Rattle.gm_book.specs.Building.{HasNoFaultInRules, IsFaultOfNames, IsSoundRule};
+ghost use Rattle.gm_book.specs.FirstNameFault.{IsLeast, least_of, IsFaultInRule, IsRuleFault, IsFaultBehind};
 ghost use Rattle.gm_book.specs.Fitting.{IsFitting, HasExprs};
 
 use crate::fault::BookFault;
-use crate::names::name_fault;
+use crate::names::{NameFault, earlier, rule_fault, rule_names_fault, take_in};
 use crate::table::table;
-use gm_forms::RuleForm;
+use gm_forms::{NameKey, RuleForm};
 use gm_model::{Book, Items, OutOfMemory, RuleTable, Schema};
+use indexmap::IndexSet;
 use std::alloc::Global;
 
-fn tables(
+/// The table of the rule, or a fault in it.
+fn table_or_fault(
+    alloc: Global,
+    text: &[u8],
+    schema: &Schema,
+    rule: &RuleForm,
+) -> Result<Result<RuleTable, NameFault>, OutOfMemory>
+    requires within { IsRuleIn text.now rule.now }
+    requires fits { IsFitting schema.now.dim (rule_form_of text.now rule.now) }
+    requires exprs { HasExprs schema.now.dim (rule_form_of text.now rule.now) }
+    requires schema { IsSchema schema.now }
+    ensures { IfOk result (λ read. MatchResult read (λ table. IsSoundRule schema.now.dim schema.now.embeds (rule_form_of text.now rule.now) (rule_of table)) (IsFaultInRule schema.now.dim schema.now.embeds (rule_form_of text.now rule.now))) }
+{
+    match rule_names_fault(alloc, text, schema, rule)? {
+        Some(fault) => Ok(Err(fault)),
+        None => table(alloc, text, schema, rule),
+    }
+}
+
+/// The table of the rule, or the first fault in it, its expressions included.
+fn checked_table(
+    alloc: Global,
+    text: &[u8],
+    schema: &Schema,
+    rule: &RuleForm,
+) -> Result<Result<RuleTable, NameFault>, OutOfMemory>
+    requires within { IsRuleIn text.now rule.now }
+    requires fits { IsFitting schema.now.dim (rule_form_of text.now rule.now) }
+    requires exprs { HasExprs schema.now.dim (rule_form_of text.now rule.now) }
+    requires schema { IsSchema schema.now }
+    ensures table { IfOk result (λ read. IfOk read (λ table. MeansRule schema.now.dim schema.now.embeds (rule_form_of text.now rule.now) (rule_of table))) }
+    ensures fault { IfOk result (λ read. IsLeast (IsFaultInRule schema.now.dim schema.now.embeds (rule_form_of text.now rule.now)) (result_err read)) }
+{
+    match table_or_fault(alloc, text, schema, rule)? {
+        Ok(table) => Ok(Ok(table)),
+        Err(fault) => {
+            // Another one may come before it.
+            let first = rule_fault(alloc, text, schema, rule)?;
+            Ok(Err(first.unwrap_or(fault)))
+        }
+    }
+}
+
+/// Takes the rule's name into the table of names. The answer is the table of the rule, or the first
+/// of its faults, that of its own name included.
+fn named_table<'t>(
+    alloc: Global,
+    names: &mut IndexSet<NameKey<'t>>,
+    text: &'t [u8],
+    schema: &Schema,
+    rule: &RuleForm,
+) -> Result<Result<RuleTable, NameFault>, OutOfMemory>
+    requires within { IsRuleIn text.now rule.now }
+    requires fits { IsFitting schema.now.dim (rule_form_of text.now rule.now) }
+    requires exprs { HasExprs schema.now.dim (rule_form_of text.now rule.now) }
+    requires schema { IsSchema schema.now }
+    ensures held { OnOk result (names_held names.new ≡ with_name (names_held names.old) (rule_form_of text.now rule.now).name.name) }
+    ensures table { IfOk result (λ read. IfOk read (λ table. MeansRule schema.now.dim schema.now.embeds (rule_form_of text.now rule.now) (rule_of table))) }
+    ensures fault { IfOk result (λ read. IsLeast (IsRuleFault schema.now.dim schema.now.embeds (names_held names.old) (rule_form_of text.now rule.now)) (result_err read)) }
+{
+    let again = take_in(names, text, &rule.name)?;
+    match checked_table(alloc, text, schema, rule)? {
+        Ok(table) => match again {
+            Some(fault) => {
+                drop(table);
+                Ok(Err(fault))
+            }
+            None => Ok(Ok(table)),
+        },
+        Err(fault) => Ok(Err(earlier(again, Some(fault)).unwrap_or(fault))),
+    }
+}
+
+/// The tables of the rules, and their first fault, where there is one.
+#[derive(Drop)]
+struct Tables {
+    tables: Vec<RuleTable>,
+    fault: Option<NameFault>,
+}
+
+impl Tables {
+    /// Takes in the table of a further rule, or its first fault.
+    fn take(&mut self, found: Result<RuleTable, NameFault>) -> Result<(), OutOfMemory>
+        ensures tables { OnOk result (MatchResult found (λ table. self.new.tables.items ≡ self.old.tables.items ++ table ∷ []) (λ _. self.new.tables.items ≡ self.old.tables.items)) }
+        ensures fault { OnOk result (self.new.fault ≡ least_of self.old.fault (result_err found)) }
+    {
+        match found {
+            Ok(table) => {
+                self.tables.push(table)?;
+                Ok(())
+            }
+            Err(fault) => {
+                self.fault = earlier(self.fault, Some(fault));
+                Ok(())
+            }
+        }
+    }
+}
+
+fn read_tables(
     alloc: Global,
     text: &[u8],
     schema: &Schema,
     rules: &[RuleForm],
-) -> Result<Vec<RuleTable>, OutOfMemory>
+) -> Result<Tables, OutOfMemory>
     requires within { AllByRecursion (IsRuleIn text.now) rules.now }
     requires schema { IsSchema schema.now }
     requires fits { AllByRecursion (IsFitting schema.now.dim) (map (rule_form_of text.now) rules.now) }
     requires exprs { AllByRecursion (HasExprs schema.now.dim) (map (rule_form_of text.now) rules.now) }
-    requires sound { HasNoFaultInRules schema.now.dim schema.now.embeds (map (rule_form_of text.now) rules.now) }
-    ensures { IfOk result (λ tables. AllZip (MeansRule schema.now.dim schema.now.embeds) (map (rule_form_of text.now) rules.now) (map rule_of tables.items)) }
+    ensures tables { IfOk result (λ made. made.fault ≡ None → AllZip (MeansRule schema.now.dim schema.now.embeds) (map (rule_form_of text.now) rules.now) (map rule_of made.tables.items)) }
+    ensures fault { IfOk result (λ made. IsLeast (IsFaultBehind schema.now.dim schema.now.embeds [] (map (rule_form_of text.now) rules.now)) made.fault) }
 {
-    let mut tables = Vec::new(alloc);
+    let mut names = IndexSet::new(alloc);
+    let mut made = Tables {
+        tables: Vec::new(alloc),
+        fault: None,
+    };
     for rule in rules {
-        tables.push(table(alloc, text, schema, rule)?)?;
+        let found = named_table(alloc, &mut names, text, schema, rule)?;
+        made.take(found)?;
     }
-    Ok(tables)
+    Ok(made)
 }
 
 /// The book of the rules over the schema. A fault is the first of the rules' names.
@@ -53,13 +162,13 @@ pub(crate) fn build(
     ensures sound { IfOk result (λ _. HasNoFaultInRules schema.dim schema.embeds (forms_of text.now forms.items)) }
     ensures fault { IfErr result (IsFaultOfNames schema.dim schema.embeds (forms_of text.now forms.items)) }
 {
-    if let Some(fault) = name_fault(alloc, text, &schema, &forms)? {
+    let Tables { tables, fault } = read_tables(alloc, text, &schema, &forms)?;
+    if let Some(fault) = fault {
         return Err(BookFault::from(fault));
     }
-    let rules = tables(alloc, text, &schema, &forms)?;
     Ok(Book {
         version,
         schema,
-        rules: Items::new(rules),
+        rules: Items::new(tables),
     })
 }

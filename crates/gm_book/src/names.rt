@@ -90,7 +90,7 @@ fn insert<'t>(table: &mut IndexSet<NameKey<'t>>, name: &'t [u8]) -> Result<bool,
 }
 
 /// Takes the name into the table. A fault is that it was there.
-fn take_in<'t>(
+pub(crate) fn take_in<'t>(
     table: &mut IndexSet<NameKey<'t>>,
     text: &'t [u8],
     name: &Token,
@@ -264,7 +264,7 @@ fn assigned_fault(
 }
 
 #[tactic(auto, unfolding(crate::specs::FirstNameFault::rule_least))]
-fn rule_names_fault(
+pub(crate) fn rule_names_fault(
     alloc: Global,
     text: &[u8],
     schema: &Schema,
@@ -281,7 +281,7 @@ fn rule_names_fault(
 }
 
 /// The first fault in the rule, its expressions included.
-fn rule_fault(
+pub(crate) fn rule_fault(
     alloc: Global,
     text: &[u8],
     schema: &Schema,
@@ -295,63 +295,4 @@ fn rule_fault(
 {
     let names = rule_names_fault(alloc, text, schema, rule)?;
     Ok(earlier(names, values_fault(alloc, text, schema, rule)?))
-}
-
-/// Takes the rule's name into the table. The fault is the first of the rule's names, its own
-/// included.
-fn take_in_rule_name<'t>(
-    alloc: Global,
-    table: &mut IndexSet<NameKey<'t>>,
-    text: &'t [u8],
-    schema: &Schema,
-    rule: &RuleForm,
-) -> Result<Option<NameFault>, OutOfMemory>
-    requires within { IsRuleIn text.now rule.now }
-    requires fits { IsFitting schema.now.dim (rule_form_of text.now rule.now) }
-    requires exprs { HasExprs schema.now.dim (rule_form_of text.now rule.now) }
-    requires schema { IsSchema schema.now }
-    ensures held { OnOk result (names_held table.new ≡ with_name (names_held table.old) (rule_form_of text.now rule.now).name.name) }
-    ensures fault { IfOk result (IsLeast (IsRuleFault schema.now.dim schema.now.embeds (names_held table.old) (rule_form_of text.now rule.now))) }
-{
-    let again = take_in(table, text, &rule.name)?;
-    Ok(earlier(again, rule_fault(alloc, text, schema, rule)?))
-}
-
-fn first_fault(
-    alloc: Global,
-    text: &[u8],
-    schema: &Schema,
-    rules: &[RuleForm],
-) -> Result<Option<NameFault>, OutOfMemory>
-    requires within { AllByRecursion (IsRuleIn text.now) rules.now }
-    requires fits { AllByRecursion (IsFitting schema.now.dim) (map (rule_form_of text.now) rules.now) }
-    requires exprs { AllByRecursion (HasExprs schema.now.dim) (map (rule_form_of text.now) rules.now) }
-    requires schema { IsSchema schema.now }
-    ensures { IfOk result (IsLeast (IsFaultBehind schema.now.dim schema.now.embeds [] (map (rule_form_of text.now) rules.now))) }
-{
-    let mut table = IndexSet::new(alloc);
-    let mut fault = None;
-    for rule in rules {
-        fault = earlier(
-            fault,
-            take_in_rule_name(alloc, &mut table, text, schema, rule)?,
-        );
-    }
-    Ok(fault)
-}
-
-/// The fault of the rules' names that counts first in the text, where there is one.
-pub(crate) fn name_fault(
-    alloc: Global,
-    text: &[u8],
-    schema: &Schema,
-    rules: &[RuleForm],
-) -> Result<Option<NameFault>, OutOfMemory>
-    requires within { AreRulesIn text.now rules.now }
-    requires fits { AllByRecursion (IsFitting schema.now.dim) (forms_of text.now rules.now) }
-    requires exprs { AllByRecursion (HasExprs schema.now.dim) (forms_of text.now rules.now) }
-    requires schema { IsSchema schema.now }
-    ensures { IfOk result (IsLeastFault schema.now.dim schema.now.embeds (forms_of text.now rules.now)) }
-{
-    first_fault(alloc, text, schema, rules)
 }

@@ -1,5 +1,5 @@
 //! The table of a rule whose names are in order.
-ghost use Rattle.std.specs.Prelude.{◌≡◌, ◌≤◌, [], ◌∷◌, length, map, IfOk, OnOk};
+ghost use Rattle.std.specs.Prelude.{◌≡◌, ◌≤◌, [], length, map, None, IfOk, OnOk, MatchResult};
 ghost use Rattle.std.specs.List.{AllByRecursion, AllZip};
 ghost use Rattle.std.specs.Option.{option_map};
 ghost use Rattle.gm_model.specs.Maps.{IsSchema};
@@ -7,16 +7,19 @@ ghost use Rattle.gm_model.specs.Names.{IsName};
 ghost use Rattle.gm_model.specs.Rules.{assignment_of, node_of, rule_of};
 ghost use Rattle.gm_model.specs.Trees.{tree_of};
 ghost use Rattle.gm_parse.specs.Meaning.{names_in};
-ghost use Rattle.gm_forms.specs.BookText.{nodes_of, number_of, word_in, links_in, hooks_in, node_in, sets_in, param_of, IsPre, MeansSet, MeansPre, MeansRule};
+ghost use Rattle.gm_forms.specs.BookText.{nodes_of, number_of, word_in, links_in, hooks_in, kind_of_embed, node_in, sets_in, param_of, IsPre};
 ghost use Rattle.gm_forms.specs.Forms.{IsIn, IsSetIn, IsItemIn, IsParamIn, IsPreIn, IsRuleIn, mention_of, value_of, set_form_of, item_of, param_form_of, rule_form_of};
 ghost use Rattle.gm_forms.specs.Held.{names_at, names_held};
-ghost use Rattle.gm_book.specs.Building.{HasNoFaultInRules, IsKnownSet, HasKnownSets, IsAssigned};
+ghost use Rattle.gm_book.specs.Building.{IsKnownSet, HasKnownSets, IsSoundSet, IsSoundNode, IsSoundPre, IsSoundRule, AreSoundValues};
+ghost use Rattle.gm_book.specs.FirstNameFault.{embed_names, rule_least, IsValueFault, IsSetFault, IsAssignedFault, IsPreFault, IsFaultOfValues, IsFaultInRule};
 ghost use Rattle.gm_book.specs.Fitting.{IsFitting, HasExprs};
 
-use crate::names::{bytes_in, take_in_nodes};
-use crate::values::{embed_number, read_value};
+use crate::names::{NameFault, bytes_in, take_in_nodes};
+use crate::values::{checked_value, embed_number, kind_needed};
 use gm_forms::{Item, NameKey, ParamForm, RuleForm, SetForm, Span};
-use gm_model::{Expr, Items, Link, Name, Node, OutOfMemory, Param, RuleTable, Schema, Set, Word};
+use gm_model::{
+    Expr, Items, Kind, Link, Name, Node, OutOfMemory, Param, RuleTable, Schema, Set, Word,
+};
 use gm_parse::Env;
 use gm_text::Token;
 use indexmap::IndexSet;
@@ -200,19 +203,26 @@ pub(crate) fn parts_of(alloc: Global, text: &[u8], rule: &RuleForm) -> Result<Pa
     numbered_parts(alloc, text, rule, names.as_slice())
 }
 
-/// An assignment. Its names are known, so a refusal is want of memory.
-fn set(alloc: Global, text: &[u8], env: &Env<'_>, form: &SetForm) -> Result<Set, OutOfMemory>
+/// An assignment of an embedding that is known, or the first fault of its expression.
+fn set(
+    alloc: Global,
+    text: &[u8],
+    env: &Env<'_>,
+    form: &SetForm,
+) -> Result<Result<Set, NameFault>, OutOfMemory>
     requires within { IsSetIn text.now form.now }
     requires known { IsKnownSet env.now.schema.now.dim (names_in env.now.schema.now env.now.params.now env.now.nodes.now) (set_form_of text.now form.now) }
-    ensures { IfOk result (λ set. MeansSet env.now.schema.now.dim (names_in env.now.schema.now env.now.params.now env.now.nodes.now) (set_form_of text.now form.now) (assignment_of set)) }
+    ensures { IfOk result (λ read. MatchResult read (λ set. IsSoundSet env.now.schema.now.dim env.now.schema.now.embeds env.now.params.now (names_in env.now.schema.now env.now.params.now env.now.nodes.now) (set_form_of text.now form.now) (assignment_of set)) (λ fault. IsValueFault env.now.schema.now.dim env.now.schema.now.embeds env.now.params.now (names_in env.now.schema.now env.now.params.now env.now.nodes.now) (value_of text.now form.now.value) (kind_of_embed env.now.schema.now.embeds (mention_of text.now form.now.embed).name) fault)) }
 {
-    let number = embed_number(env.schema, bytes_in(text, &form.embed));
-    match read_value(alloc, text, env, &form.value) {
-        Ok(expr) => Ok(Set {
+    let name = bytes_in(text, &form.embed);
+    let number = embed_number(env.schema, name);
+    let kind = kind_needed(env.schema, name);
+    match checked_value(alloc, text, env, &form.value, kind)? {
+        Ok(expr) => Ok(Ok(Set {
             embed: number.unwrap_or(0) as u8,
             expr,
-        }),
-        Err(_) => Err(OutOfMemory),
+        })),
+        Err(fault) => Ok(Err(fault)),
     }
 }
 
@@ -221,29 +231,32 @@ fn sets(
     text: &[u8],
     env: &Env<'_>,
     forms: &[SetForm],
-) -> Result<Vec<Set>, OutOfMemory>
+) -> Result<Result<Vec<Set>, NameFault>, OutOfMemory>
     requires within { AllByRecursion (IsSetIn text.now) forms.now }
     requires known { AllByRecursion (IsKnownSet env.now.schema.now.dim (names_in env.now.schema.now env.now.params.now env.now.nodes.now)) (map (set_form_of text.now) forms.now) }
-    ensures { IfOk result (λ sets. AllZip (MeansSet env.now.schema.now.dim (names_in env.now.schema.now env.now.params.now env.now.nodes.now)) (map (set_form_of text.now) forms.now) (map assignment_of sets.items)) }
+    ensures { IfOk result (λ read. MatchResult read (λ sets. AllZip (IsSoundSet env.now.schema.now.dim env.now.schema.now.embeds env.now.params.now (names_in env.now.schema.now env.now.params.now env.now.nodes.now)) (map (set_form_of text.now) forms.now) (map assignment_of sets.items)) (IsSetFault env.now.schema.now.dim env.now.schema.now.embeds env.now.params.now (names_in env.now.schema.now env.now.params.now env.now.nodes.now) (map (set_form_of text.now) forms.now))) }
 {
     let mut sets = Vec::new(alloc);
     for form in forms {
-        sets.push(set(alloc, text, env, form)?)?;
+        match set(alloc, text, env, form)? {
+            Ok(set) => sets.push(set)?,
+            Err(fault) => return Ok(Err(fault)),
+        }
     }
-    Ok(sets)
+    Ok(Ok(sets))
 }
 
-/// The assignments of the node with the name.
+/// The assignments of the node with the name, or a fault of their expressions.
 fn sets_of(
     alloc: Global,
     text: &[u8],
     env: &Env<'_>,
     items: &[Item],
     name: &[u8],
-) -> Result<Vec<Set>, OutOfMemory>
+) -> Result<Result<Vec<Set>, NameFault>, OutOfMemory>
     requires within { AllByRecursion (IsItemIn text.now) items.now }
     requires known { AllByRecursion (HasKnownSets env.now.schema.now.dim (names_in env.now.schema.now env.now.params.now env.now.nodes.now)) (map (item_of text.now) items.now) }
-    ensures { IfOk result (λ sets. AllZip (MeansSet env.now.schema.now.dim (names_in env.now.schema.now env.now.params.now env.now.nodes.now)) (sets_in (map (item_of text.now) items.now) name.now) (map assignment_of sets.items)) }
+    ensures { IfOk result (λ read. MatchResult read (λ sets. AllZip (IsSoundSet env.now.schema.now.dim env.now.schema.now.embeds env.now.params.now (names_in env.now.schema.now env.now.params.now env.now.nodes.now)) (sets_in (map (item_of text.now) items.now) name.now) (map assignment_of sets.items)) (IsSetFault env.now.schema.now.dim env.now.schema.now.embeds env.now.params.now (names_in env.now.schema.now env.now.params.now env.now.nodes.now) (sets_in (map (item_of text.now) items.now) name.now))) }
 {
     for item in items {
         if let Item::Node {
@@ -257,66 +270,116 @@ fn sets_of(
             }
         }
     }
-    Ok(Vec::new(alloc))
+    Ok(Ok(Vec::new(alloc)))
 }
 
-/// The node with the name, and its assignments.
+/// The node with the name, and its assignments, or a fault of their expressions.
 fn assigned_node(
     alloc: Global,
     text: &[u8],
     env: &Env<'_>,
     rule: &RuleForm,
     name: &[u8],
-) -> Result<Node, OutOfMemory>
+) -> Result<Result<Node, NameFault>, OutOfMemory>
     requires within { IsRuleIn text.now rule.now }
     requires good { IsName name.now }
     requires known { AllByRecursion (HasKnownSets env.now.schema.now.dim (names_in env.now.schema.now env.now.params.now env.now.nodes.now)) (rule_form_of text.now rule.now).right }
-    ensures { IfOk result (λ node. IsAssigned env.now.schema.now.dim (names_in env.now.schema.now env.now.params.now env.now.nodes.now) (rule_form_of text.now rule.now) name.now (node_of node)) }
+    ensures { IfOk result (λ read. MatchResult read (λ node. IsSoundNode env.now.schema.now.dim env.now.schema.now.embeds env.now.params.now (names_in env.now.schema.now env.now.params.now env.now.nodes.now) (rule_form_of text.now rule.now) name.now (node_of node)) (IsSetFault env.now.schema.now.dim env.now.schema.now.embeds env.now.params.now (names_in env.now.schema.now env.now.params.now env.now.nodes.now) (sets_in (rule_form_of text.now rule.now).right name.now))) }
 {
-    let sets = sets_of(alloc, text, env, rule.right.as_slice(), name)?;
-    Ok(Node {
-        sets: Items::new(sets),
-        ..node(alloc, text, rule, name)
-    })
+    match sets_of(alloc, text, env, rule.right.as_slice(), name)? {
+        Ok(sets) => Ok(Ok(Node {
+            sets: Items::new(sets),
+            ..node(alloc, text, rule, name)
+        })),
+        Err(fault) => Ok(Err(fault)),
+    }
 }
 
-/// The rule's nodes with their assignments.
+/// The rule's nodes with their assignments, or a fault of their expressions.
 fn assigned(
     alloc: Global,
     text: &[u8],
     env: &Env<'_>,
     rule: &RuleForm,
     names: &[NameKey<'_>],
-) -> Result<Vec<Node>, OutOfMemory>
+) -> Result<Result<Vec<Node>, NameFault>, OutOfMemory>
     requires within { IsRuleIn text.now rule.now }
     requires good { AllByRecursion IsName (names_at names.now) }
     requires known { AllByRecursion (HasKnownSets env.now.schema.now.dim (names_in env.now.schema.now env.now.params.now env.now.nodes.now)) (rule_form_of text.now rule.now).right }
-    ensures { IfOk result (λ nodes. AllZip (IsAssigned env.now.schema.now.dim (names_in env.now.schema.now env.now.params.now env.now.nodes.now) (rule_form_of text.now rule.now)) (names_at names.now) (map node_of nodes.items)) }
+    ensures { IfOk result (λ read. MatchResult read (λ nodes. AllZip (IsSoundNode env.now.schema.now.dim env.now.schema.now.embeds env.now.params.now (names_in env.now.schema.now env.now.params.now env.now.nodes.now) (rule_form_of text.now rule.now)) (names_at names.now) (map node_of nodes.items)) (IsAssignedFault env.now.schema.now.dim env.now.schema.now.embeds env.now.params.now (names_in env.now.schema.now env.now.params.now env.now.nodes.now) (rule_form_of text.now rule.now).right)) }
 {
     let mut nodes = Vec::new(alloc);
     for name in names {
-        nodes.push(assigned_node(alloc, text, env, rule, name.bytes)?)?;
+        match assigned_node(alloc, text, env, rule, name.bytes)? {
+            Ok(node) => nodes.push(node)?,
+            Err(fault) => return Ok(Err(fault)),
+        }
     }
-    Ok(nodes)
+    Ok(Ok(nodes))
 }
 
-/// The precondition. Its names are known, so a refusal is want of memory.
+/// The precondition, or its first fault.
 fn pre(
     alloc: Global,
     text: &[u8],
     env: &Env<'_>,
     form: Option<Span>,
-) -> Result<Option<Expr>, OutOfMemory>
+) -> Result<Result<Option<Expr>, NameFault>, OutOfMemory>
     requires within { IsPreIn text.now form }
     requires expr { IsPre env.now.schema.now.dim (option_map (value_of text.now) form) }
-    ensures { IfOk result (λ pre. MeansPre env.now.schema.now.dim (names_in env.now.schema.now env.now.params.now env.now.nodes.now) (option_map (value_of text.now) form) (option_map tree_of pre)) }
+    ensures { IfOk result (λ read. MatchResult read (λ pre. IsSoundPre env.now.schema.now.dim env.now.schema.now.embeds env.now.params.now (names_in env.now.schema.now env.now.params.now env.now.nodes.now) (option_map (value_of text.now) form) (option_map tree_of pre)) (IsPreFault env.now.schema.now.dim env.now.schema.now.embeds env.now.params.now (names_in env.now.schema.now env.now.params.now env.now.nodes.now) (option_map (value_of text.now) form))) }
 {
     match form {
-        Some(value) => match read_value(alloc, text, env, &value) {
-            Ok(expr) => Ok(Some(expr)),
-            Err(_) => Err(OutOfMemory),
+        Some(value) => match checked_value(alloc, text, env, &value, Some(Kind::Bool))? {
+            Ok(expr) => Ok(Ok(Some(expr))),
+            Err(fault) => Ok(Err(fault)),
         },
-        None => Ok(None),
+        None => Ok(Ok(None)),
+    }
+}
+
+/// What is read of a rule by its numbered names: its parameters, its nodes with their assignments,
+/// and its precondition.
+struct Values {
+    params: Vec<Param>,
+    nodes: Vec<Node>,
+    pre: Option<Expr>,
+}
+
+/// The values of the rule, whose names are in order, or a fault of its expressions.
+fn read_values(
+    alloc: Global,
+    text: &[u8],
+    schema: &Schema,
+    rule: &RuleForm,
+    names: &[NameKey<'_>],
+) -> Result<Result<Values, NameFault>, OutOfMemory>
+    requires within { IsRuleIn text.now rule.now }
+    requires numbered { names_at names.now ≡ nodes_of (rule_form_of text.now rule.now) }
+    requires good { AllByRecursion IsName (names_at names.now) }
+    requires schema { IsSchema schema.now }
+    requires fits { IsFitting schema.now.dim (rule_form_of text.now rule.now) }
+    requires exprs { HasExprs schema.now.dim (rule_form_of text.now rule.now) }
+    requires sound { rule_least (embed_names schema.now) (rule_form_of text.now rule.now) ≡ None }
+    ensures params { IfOk result (λ read. IfOk read (λ values. values.params.items ≡ map param_of (rule_form_of text.now rule.now).params)) }
+    ensures values { IfOk result (λ read. MatchResult read (λ values. AreSoundValues schema.now.dim schema.now.embeds (rule_form_of text.now rule.now) (map node_of values.nodes.items) (option_map tree_of values.pre)) (IsFaultOfValues schema.now.dim schema.now.embeds (rule_form_of text.now rule.now))) }
+{
+    let Parts { params, nodes } = numbered_parts(alloc, text, rule, names)?;
+    let env = Env {
+        schema,
+        params: params.as_slice(),
+        nodes: nodes.as_slice(),
+    };
+    match assigned(alloc, text, &env, rule, names)? {
+        Ok(assigned) => match pre(alloc, text, &env, rule.pre)? {
+            Ok(pre) => Ok(Ok(Values {
+                params,
+                nodes: assigned,
+                pre,
+            })),
+            Err(fault) => Ok(Err(fault)),
+        },
+        Err(fault) => Ok(Err(fault)),
     }
 }
 
@@ -346,60 +409,58 @@ fn arcs_of(
     })
 }
 
-/// The table of the rule, whose nodes have their numbers in `names`.
+/// The table of the rule, whose nodes have their numbers in `names`, or a fault of its expressions.
 fn numbered_table(
     alloc: Global,
     text: &[u8],
     schema: &Schema,
     rule: &RuleForm,
     names: &IndexSet<NameKey<'_>>,
-) -> Result<RuleTable, OutOfMemory>
+) -> Result<Result<RuleTable, NameFault>, OutOfMemory>
     requires within { IsRuleIn text.now rule.now }
     requires numbered { names_held names.now ≡ nodes_of (rule_form_of text.now rule.now) }
     requires good { AllByRecursion IsName (names_held names.now) }
     requires schema { IsSchema schema.now }
     requires fits { IsFitting schema.now.dim (rule_form_of text.now rule.now) }
     requires exprs { HasExprs schema.now.dim (rule_form_of text.now rule.now) }
-    requires sound { HasNoFaultInRules schema.now.dim schema.now.embeds (rule_form_of text.now rule.now ∷ []) }
-    ensures { IfOk result (λ table. MeansRule schema.now.dim schema.now.embeds (rule_form_of text.now rule.now) (rule_of table)) }
+    requires sound { rule_least (embed_names schema.now) (rule_form_of text.now rule.now) ≡ None }
+    ensures { IfOk result (λ read. MatchResult read (λ table. IsSoundRule schema.now.dim schema.now.embeds (rule_form_of text.now rule.now) (rule_of table)) (IsFaultInRule schema.now.dim schema.now.embeds (rule_form_of text.now rule.now))) }
 {
-    let Arcs {
-        left_links,
-        right_links,
-        hooks,
-    } = arcs_of(alloc, text, rule, names)?;
-    let Parts { params, nodes } = numbered_parts(alloc, text, rule, names.as_slice())?;
-    let env = Env {
-        schema,
-        params: params.as_slice(),
-        nodes: nodes.as_slice(),
-    };
-    let assigned = assigned(alloc, text, &env, rule, names.as_slice())?;
-    let pre = pre(alloc, text, &env, rule.pre)?;
-    Ok(RuleTable {
-        name: Name::new(bytes_in(text, &rule.name)).unwrap(),
-        params: Items::new(params),
-        nodes: Items::new(assigned),
-        left_links: Items::new(left_links),
-        right_links: Items::new(right_links),
-        hooks: Items::new(hooks),
-        pre,
-    })
+    match read_values(alloc, text, schema, rule, names.as_slice())? {
+        Ok(Values { params, nodes, pre }) => {
+            let Arcs {
+                left_links,
+                right_links,
+                hooks,
+            } = arcs_of(alloc, text, rule, names)?;
+            Ok(Ok(RuleTable {
+                name: Name::new(bytes_in(text, &rule.name)).unwrap(),
+                params: Items::new(params),
+                nodes: Items::new(nodes),
+                left_links: Items::new(left_links),
+                right_links: Items::new(right_links),
+                hooks: Items::new(hooks),
+                pre,
+            }))
+        }
+        Err(fault) => Ok(Err(fault)),
+    }
 }
 
-/// The table of the rule: its nodes by number, left nodes first.
+/// The table of the rule, whose names outside of expressions are in order: its nodes by number,
+/// left nodes first. Else a fault of its expressions.
 pub(crate) fn table(
     alloc: Global,
     text: &[u8],
     schema: &Schema,
     rule: &RuleForm,
-) -> Result<RuleTable, OutOfMemory>
+) -> Result<Result<RuleTable, NameFault>, OutOfMemory>
     requires within { IsRuleIn text.now rule.now }
     requires schema { IsSchema schema.now }
     requires fits { IsFitting schema.now.dim (rule_form_of text.now rule.now) }
     requires exprs { HasExprs schema.now.dim (rule_form_of text.now rule.now) }
-    requires sound { HasNoFaultInRules schema.now.dim schema.now.embeds (rule_form_of text.now rule.now ∷ []) }
-    ensures { IfOk result (λ table. MeansRule schema.now.dim schema.now.embeds (rule_form_of text.now rule.now) (rule_of table)) }
+    requires sound { rule_least (embed_names schema.now) (rule_form_of text.now rule.now) ≡ None }
+    ensures { IfOk result (λ read. MatchResult read (λ table. IsSoundRule schema.now.dim schema.now.embeds (rule_form_of text.now rule.now) (rule_of table)) (IsFaultInRule schema.now.dim schema.now.embeds (rule_form_of text.now rule.now))) }
 {
     let mut names = IndexSet::new(alloc);
     take_in_rule(&mut names, text, rule)?;

@@ -2,6 +2,7 @@
 ghost use Rattle.std.specs.Prelude.{◌≡◌, ◌↔◌, ◌∷◌, [], bytes_eq, map, Some, IfOk, IfErr, IsTrue};
 ghost use Rattle.std.specs.List.{AllByRecursion, position};
 ghost use Rattle.std.specs.Option.{option_map};
+ghost use Rattle.std.specs.Result.{result_err};
 ghost use Rattle.gm_model.specs.declared.rule.Side.TheVariants.{Right};
 ghost use Rattle.gm_model.specs.declared.value.Kind.TheVariants.{Bool};
 ghost use Rattle.gm_model.specs.Maps.{IsSchema};
@@ -67,13 +68,45 @@ fn has_kind(env: &Env<'_>, expr: &Expr, kind: Option<Kind>) -> bool
 }
 
 /// The fault of an expression as one of the rules' names.
-fn of_names(fault: ExprFault) -> Result<Option<NameFault>, OutOfMemory>
+fn of_names(fault: ExprFault) -> Result<NameFault, OutOfMemory>
     ensures { IfOk result (IsOfNames fault) }
 {
     match fault {
-        ExprFault::Unknown { place } => Ok(Some(NameFault::Unknown { place })),
-        ExprFault::Twice { place } => Ok(Some(NameFault::Twice { place })),
+        ExprFault::Unknown { place } => Ok(NameFault::Unknown { place }),
+        ExprFault::Twice { place } => Ok(NameFault::Twice { place }),
         ExprFault::OutOfMemory => Err(OutOfMemory),
+    }
+}
+
+/// The expression, where its names are known and it has the kind, where one is needed. Else its
+/// first fault.
+pub(crate) fn checked_value(
+    alloc: Global,
+    text: &[u8],
+    env: &Env<'_>,
+    value: &Span,
+    kind: Option<Kind>,
+) -> Result<Result<Expr, NameFault>, OutOfMemory>
+    requires within { IsSpanIn text.now value.now }
+    requires expr { IsExpr env.now.schema.now.dim (value_of text.now value.now) }
+    ensures expr { IfOk result (λ read. IfOk read (λ expr. IsValueRead env.now.schema.now.dim (names_in env.now.schema.now env.now.params.now env.now.nodes.now) (value_of text.now value.now) (tree_of expr))) }
+    ensures fault { IfOk result (λ read. IsLeast (IsValueFault env.now.schema.now.dim env.now.schema.now.embeds env.now.params.now (names_in env.now.schema.now env.now.params.now env.now.nodes.now) (value_of text.now value.now) kind) (result_err read)) }
+{
+    // A mask holds a label for one of the eight that there are.
+    let _top = env.schema.dim.top();
+    match read_value(alloc, text, env, value) {
+        Ok(expr) => {
+            if has_kind(env, &expr, kind) {
+                return Ok(Ok(expr));
+            }
+            drop(expr);
+            let place = first_of(text, value);
+            Ok(Err(NameFault::WrongKind { place }))
+        }
+        Err(fault) => {
+            let fault = of_names(fault)?;
+            Ok(Err(fault))
+        }
     }
 }
 
@@ -89,25 +122,17 @@ fn value_fault(
     requires expr { IsExpr env.now.schema.now.dim (value_of text.now value.now) }
     ensures { IfOk result (IsLeast (IsValueFault env.now.schema.now.dim env.now.schema.now.embeds env.now.params.now (names_in env.now.schema.now env.now.params.now env.now.nodes.now) (value_of text.now value.now) kind)) }
 {
-    // A mask holds a label for one of the eight that there are.
-    let _top = env.schema.dim.top();
-    match read_value(alloc, text, env, value) {
+    match checked_value(alloc, text, env, value, kind)? {
         Ok(expr) => {
-            let fits = has_kind(env, &expr, kind);
-            // Left to the ends of the scope, the drop would be proved at each, over all variants.
             drop(expr);
-            if fits {
-                return Ok(None);
-            }
-            let place = first_of(text, value);
-            Ok(Some(NameFault::WrongKind { place }))
+            Ok(None)
         }
-        Err(fault) => of_names(fault),
+        Err(fault) => Ok(Some(fault)),
     }
 }
 
 /// The kind that the embedding with the name needs, where there is one.
-fn kind_needed(schema: &Schema, name: &[u8]) -> Option<Kind>
+pub(crate) fn kind_needed(schema: &Schema, name: &[u8]) -> Option<Kind>
     ensures { result ≡ kind_of_embed schema.now.embeds name.now }
 {
     let number = embed_number(schema, name)?;

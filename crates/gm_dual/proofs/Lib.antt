@@ -1,3 +1,4 @@
 pub mod LabelLemmas
 pub mod MaskLemmas
 pub mod TwiceLemmas
+pub mod MapLemmas

@@ -1,5 +1,6 @@
 -- Masks and their duals.
-use Rattle.std.proofs.Common.{◌≡◌, ℕ, zero, suc, ◌+◌, ◌*◌, ◌/◌, ◌%◌, ◌^◌, ◌<◌, ◌≤◌, Bool, true, false, if◌then◌else◌, IsTrue, refl, sym, ap, subst, ◌∙◌, inl, inr, arith}
+use Rattle.std.proofs.Common.{◌≡◌, ℕ, zero, suc, ◌+◌, ◌*◌, ◌/◌, ◌%◌, ◌^◌, ◌<◌, ◌≤◌, Bool, true, false, if◌then◌else◌, IsTrue, refl, sym, ap, subst, ◌∙◌, inl, inr, arith, ◌-◌, ap₂}
+use mir.Val.{bool_byte}
 use Rattle.std.specs.Prelude.{◌==◌}
 use Rattle.std.proofs.lemmas.Bool.{cases_lt, false≢true, eq-eqb}
 use Rattle.std.proofs.lemmas.Nat.Bits.{bit_at_above, bit_at_cat_low, bit_at_lowest, bit_at-lt, bit_at-suc, same_from_bits}
@@ -92,3 +93,18 @@ module _ (n : ℕ) (most : n ≤ 7) where
   -- labels up to n have duals up to n
   pub dual_labels : (mask : Mask) → mask.bits < 256 → ((i : ℕ) → IsTrue (has mask i) → i ≤ n) → (i : ℕ) → IsTrue (has (dual_mask n mask) i) → i ≤ n
   dual_labels mask few labels i h = let there = labels (dual_label n i) (sym (has_dual mask few i) ∙ h) in subst (λ k. k ≤ n) (dual_twice n i) (dual_most n (dual_label n i) there)
+
+-- one more bit in front
+pub bits_more : (f : ℕ → Bool) (bits k : ℕ) (b : Bool) → k < 8 → bits ≡ bits_from f k (8 - k) → b ≡ f (7 - k) → 2 * bits + bool_byte b ≡ bits_from f (k + 1) (8 - (k + 1))
+bits_more f bits k b h is same =
+    let next : suc (7 - k) ≡ 8 - k = omega (arith, h) in
+    let whole : bits ≡ bits_from f k (suc (7 - k)) = is ∙ ap (bits_from f k) (sym next) in
+    let one : bool_byte b ≡ bit (f (7 - k)) = byte b ∙ ap bit same in
+    let start : 8 - (k + 1) ≡ 7 - k = omega arith in
+    let more : k + 1 ≡ suc k = omega arith in
+    let sum : 2 * bits + bool_byte b ≡ bits_from f (suc k) (7 - k) = omega (arith, ap (λ x. 2 * x) whole, one) in
+    sum ∙ ap₂ (bits_from f) (sym more) (sym start)
+  where
+    byte : (b : Bool) → bool_byte b ≡ bit b
+    byte true = refl
+    byte false = refl

@@ -103,4 +103,4 @@ dual_application app = record { map = dual_map app.map; rule = dual_rule (dimens
 pub record IsDualBook (book dual : Book) : Type 0 where
   pub version : dual.version ≡ book.version
   pub schema : dual.schema ≡ dual_schema book.schema
-  pub rules : map rule_of dual.rules ≡ map (λ table. dual_rule book.schema.dim (rule_of table)) book.rules
+  pub rules : map rule_of dual.rules ≡ map (dual_rule book.schema.dim) (map rule_of book.rules)

@@ -4,6 +4,12 @@
 //! one on the dual map that it stands for.
 #![tactic(auto)]
 
+mod book;
+mod expression;
+mod labels;
 mod laws;
+mod rule;
+mod schema;
 
+pub use book::dual_book;
 pub use laws::{the_dual_of_the_dual_is_the_map, the_dual_of_the_dual_is_the_rule};

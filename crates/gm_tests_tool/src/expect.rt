@@ -1,12 +1,14 @@
 //! What a line does, over a store and a sink in memory, and the assertions on it. Each assertion
 //! stands in a function of its own, and whoever owns the store and the sink calls one that borrows them.
+ghost use Rattle.std.specs.Prelude.{◌≡◌, ◌<◌};
 
+use gm_arena::Steps;
 use gm_host::{MemSink, MemStore};
-use gm_tool::with_new_counter;
+use gm_tool::tool;
 use std::alloc::Global;
 use std::marker::Brand;
-use std::process::{Abort, ExitCode};
-use std::sync::ledger::Blank;
+use std::process::Abort;
+use std::sync::ledger::{Blank, Ledger};
 
 /// The words of a line, between single blanks.
 fn words_of(rt: &impl Abort, alloc: Global, line: &str) -> Vec<String> {
@@ -18,9 +20,20 @@ fn words_of(rt: &impl Abort, alloc: Global, line: &str) -> Vec<String> {
     owned
 }
 
-/// How the program ends on the words, run over a step counter of their own.
-fn run(host: &HostRuntime, words: &[String], store: &mut MemStore, out: &mut MemSink) -> ExitCode {
-    with_new_counter::<MemStore, MemSink, Brand>(host, words, store, out, Blank::new(1))
+/// The status with which the program ends on the words, run over a step counter of their own.
+fn run<L: Ledger>(
+    host: &HostRuntime,
+    words: &[String],
+    store: &mut MemStore,
+    out: &mut MemSink,
+    blank: Blank,
+) -> u8
+    requires name { blank.name ≡ L.name }
+    requires parts { blank.parts ≡ L.parts }
+    requires some { 0 < blank.parts }
+{
+    let mut steps: Steps<L> = Steps::start(host, blank);
+    tool(host.alloc(), words, store, out, &mut steps)
 }
 
 /// How a line ends: its status, and the text that it puts.
@@ -37,12 +50,13 @@ pub(crate) fn expect_end(
 ) {
     let words = words_of(rt, host.alloc(), line);
     let (status, put) = *end;
-    expect_status(rt, run(host, words.as_slice(), store, out), status, line);
+    let ended = run::<Brand>(host, words.as_slice(), store, out, Blank::new(1));
+    expect_status(rt, ended, status, line);
     expect_put(rt, out, put, line);
 }
 
-fn expect_status(rt: &impl Abort, ended: ExitCode, status: u8, about: &str) {
-    assert_eq!(rt; ended, ExitCode::from(status), "{about}");
+fn expect_status(rt: &impl Abort, ended: u8, status: u8, about: &str) {
+    assert_eq!(rt; ended, status, "{about}");
 }
 
 fn expect_put(rt: &impl Abort, out: &MemSink, put: &str, about: &str) {

@@ -40,5 +40,5 @@ module _ (read : MapRead) (book : Book) (script : Script) where
     agree = same;
     plans_are = planned;
     text = of_script.0;
-    lines = of_script.1;
+    stats = of_script.1;
   }

@@ -8,7 +8,7 @@ use Rattle.gm_host.specs.declared.fault.LoadFault.{LoadFault}
 use Rattle.gm_host.specs.declared.fault.LoadFault.TheVariants as faults
 use Rattle.gm_tool.specs.Answer.{most_bytes, Answer, answers, Files, IsFileAnswer, Asks, IsOutput, role_of, NoFile, LongFile, BadFile, LongOutput, Done, Shown, Printed, Checked, Counted}
 use Rattle.gm_tool.specs.Endings.{IsEnding, Whole, LoadFailed, SaveFailed, IsStored, IsTextOf}
-use Rattle.gm_tool.specs.MadeRuns.{IsRunText, IsSoundReply, HasCause, LacksInput, HoldsMap, IsRunStatus}
+use Rattle.gm_tool.specs.MadeRuns.{IsRunText, IsSoundReply, HoldsSuch, HoldsMap, IsMapBytes, IsSoundText}
 use Rattle.gm_tool.specs.Migrating.{MigrateNames, AsksMigrate, IsMigrateText, IsMigrateStatus}
 use Rattle.gm_tool.specs.GridAnswer.{AsksGrid, IsGridReply}
 use Rattle.gm_tool.specs.Program.{IsCommand, IsFileCommand, IsRunCommand, IsSavingCommand, ReadsNoFile, ReadsOneFile, Usage, OfFile, OfRun, OfMigrate, OfGrid}
@@ -23,7 +23,7 @@ use Rattle.gm_tool.specs.declared.refusal.Role.{Role}
 use Rattle.gm_tool.specs.declared.reply.Reply.{Reply}
 use Rattle.gm_tool.specs.Refusals.{role_in, refusal_answer}
 use Rattle.gm_tool.specs.Replies.{IsLoading, IsLong, IsJudged, no_file_for}
-use Rattle.gm_tool.specs.Tool.{IsFileText, IsText, IsFileLoadFailure, IsReplyStatus, LacksFile, IsCheck, HoldsSavedMap}
+use Rattle.gm_tool.specs.Tool.{IsFileText, IsText, IsFileLoadFailure, IsReplyStatus, IsCheck, HoldsSaved}
 use Rattle.gm_tool.specs.Tool as tool
 
 pub two_items : {T : Type 0} (xs : List T) (a b : T) → length xs ≡ 2 → a ≡ get_or xs 0 a → b ≡ get_or xs 1 b → xs ≡ a ∷ b ∷ []
@@ -126,17 +126,18 @@ judged_status bytes command (Ok reply) (inr (four, line)) = inr (inr four)
 judged_status bytes command (Err none) h = tt
 
 -- the faults that a command on one file answers
-pub load_is_sound : (contents : Contents) (name : List ℕ) (role : Role) (fails : Type 0) (none : NoText) (Q : Type 0) → IsLoading contents name role fails (Err none) → IsSoundReply (Err none) (fails ⊎ Lacks contents name) Q
-load_is_sound contents name role fails nothing.OutOfMemory Q h = tt
-load_is_sound contents name role fails (nothing.Refused (refusals.Load other)) Q h = h.1
-load_is_sound contents name role fails (nothing.Refused (refusals.Size other)) Q h = tt
-load_is_sound contents name role fails (nothing.Refused refusals.Usage) Q h = absurd h
-load_is_sound contents name role fails (nothing.Refused refusals.SizeOutput) Q h = tt
-load_is_sound contents name role fails (nothing.Refused refusals.Agree) Q h = tt
-load_is_sound contents name role fails (nothing.Refused refusals.Save) Q h = absurd h
+pub load_is_sound : (contents : Contents) (name : List ℕ) (role : Role) (fails later : Type 0) → (fails → later) → (none : NoText) (Q : Type 0) → IsLoading contents name role fails (Err none)
+    → IsSoundReply (Err none) (λ _. later ⊎ Lacks contents name) Q
+load_is_sound contents name role fails later up nothing.OutOfMemory Q h = tt
+load_is_sound contents name role fails later up (nothing.Refused (refusals.Load other)) Q h = elim h.1 [ inl failed ↦ inl (up failed) | inr lacks ↦ inr lacks ]
+load_is_sound contents name role fails later up (nothing.Refused (refusals.Size other)) Q h = tt
+load_is_sound contents name role fails later up (nothing.Refused refusals.Usage) Q h = absurd h
+load_is_sound contents name role fails later up (nothing.Refused refusals.SizeOutput) Q h = tt
+load_is_sound contents name role fails later up (nothing.Refused refusals.Agree) Q h = tt
+load_is_sound contents name role fails later up (nothing.Refused refusals.Save) Q h = absurd h
 
 -- what is judged is no fault of the store
-pub judged_is_sound : (bytes : List ℕ) (command : answer.Command) (reply : Result Reply NoText) (P Q : Type 0) → IsJudged bytes command reply → IsSoundReply reply P Q
+pub judged_is_sound : (bytes : List ℕ) (command : answer.Command) (reply : Result Reply NoText) (P : refusing.Role → Type 0) (Q : Type 0) → IsJudged bytes command reply → IsSoundReply reply P Q
 judged_is_sound bytes command (Ok reply) P Q h = tt
 judged_is_sound bytes command (Err nothing.OutOfMemory) P Q h = tt
 judged_is_sound bytes command (Err (nothing.Refused refusals.SizeOutput)) P Q h = tt
@@ -199,20 +200,8 @@ pub usage_text : (words : List (List ℕ)) (load_fails : ℕ → Type 0) (save_f
 usage_text words load_fails save_fails None none = tt
 usage_text words load_fails save_fails (Some files) none = Whole (refusal_answer refusals.Usage) (Usage none refl) refl refl refl
 
--- ---- causes, said of the words
-
-cause_of : (P Q R : Type 0) → (P → R) → (reply : Result Reply NoText) → IsSoundReply reply P Q → HasCause reply R Q
-cause_of P Q R f (Ok reply) h = tt
-cause_of P Q R f (Err nothing.OutOfMemory) h = tt
-cause_of P Q R f (Err (nothing.Refused (refusals.Load role))) h = f h
-cause_of P Q R f (Err (nothing.Refused (refusals.Size role))) h = tt
-cause_of P Q R f (Err (nothing.Refused refusals.Usage)) h = tt
-cause_of P Q R f (Err (nothing.Refused refusals.SizeOutput)) h = tt
-cause_of P Q R f (Err (nothing.Refused refusals.Agree)) h = tt
-cause_of P Q R f (Err (nothing.Refused refusals.Save)) h = h
-
 -- no answer but to words that are no command is for them
-pub sound_no_usage : (reply : Result Reply NoText) (P Q : Type 0) → IsSoundReply reply P Q → IsErrOf reply (nothing.Refused refusals.Usage) → ⊥
+pub sound_no_usage : (reply : Result Reply NoText) (P : refusing.Role → Type 0) (Q : Type 0) → IsSoundReply reply P Q → IsErrOf reply (nothing.Refused refusals.Usage) → ⊥
 sound_no_usage (Ok reply) P Q h e = absurd cc
 sound_no_usage (Err nothing.OutOfMemory) P Q h e = absurd cc
 sound_no_usage (Err (nothing.Refused refusals.Usage)) P Q h e = h
@@ -221,16 +210,6 @@ sound_no_usage (Err (nothing.Refused (refusals.Size role))) P Q h e = absurd cc
 sound_no_usage (Err (nothing.Refused refusals.SizeOutput)) P Q h e = absurd cc
 sound_no_usage (Err (nothing.Refused refusals.Agree)) P Q h e = absurd cc
 sound_no_usage (Err (nothing.Refused refusals.Save)) P Q h e = absurd cc
-
-module _ (words : List (List ℕ)) (contents : Contents) (fails Q : Type 0) (reply : Result Reply NoText) where
-  pub file_lacks : (command : answer.Command) (name : List ℕ) → Asks words command name → IsSoundReply reply (fails ⊎ Lacks contents name) Q → HasCause reply (fails ⊎ LacksFile words contents) Q
-  file_lacks command name asks h = cause_of _ Q _ (λ either. elim either [ inl f ↦ inl f | inr l ↦ inr (inl (command, name, asks, l)) ]) reply h
-
-  pub run_lacks : (named : RunNames) → AsksRun words named → IsSoundReply reply (fails ⊎ LacksInput contents named) Q → HasCause reply (fails ⊎ LacksFile words contents) Q
-  run_lacks named asks h = cause_of _ Q _ (λ either. elim either [ inl f ↦ inl f | inr l ↦ inr (inr (inl (named, asks, l))) ]) reply h
-
-  pub migrate_lacks : (named : MigrateNames) → AsksMigrate words named → IsSoundReply reply (fails ⊎ Lacks contents named.map) Q → HasCause reply (fails ⊎ LacksFile words contents) Q
-  migrate_lacks named asks h = cause_of _ Q _ (λ either. elim either [ inl f ↦ inl f | inr l ↦ inr (inr (inr (named, asks, l))) ]) reply h
 
 -- a command on one file is refused for a rule under check alone
 pub file_refused : (words : List (List ℕ)) (command : answer.Command) (name : List ℕ) (R : Type 0) → Asks words command name → (reply : Result Reply NoText) → IfOk reply (λ r. r.status ≡ 1 → command ≡ answer.Check)
@@ -325,29 +304,29 @@ migrate_status (Ok reply) (inr four) = inr (inr four)
 migrate_status (Err none) h = tt
 
 -- the map is held under the name that the words give
-pub run_holds : (words : List (List ℕ)) (named : RunNames) (contents : Contents) → AsksRun words named → (reply : Result Reply NoText) → IfOk reply (λ r. IsRunStatus r.status → HoldsMap contents named.out)
-    → IfOk reply (λ r. IsRunStatus r.status → HoldsSavedMap words contents)
-run_holds words named contents asks (Ok reply) h = λ run. (
-  λ other asks_too. subst (λ (n : RunNames). HoldsMap contents n.out) (same_named words named other asks asks_too) (h run),
+pub run_holds : (words : List (List ℕ)) (named : RunNames) (contents : Contents) → AsksRun words named → HoldsMap contents named.out → HoldsSaved IsMapBytes words contents
+run_holds words named contents asks h = (
+  λ other asks_too. subst (λ (n : RunNames). HoldsMap contents n.out) (same_named words named other asks asks_too) h,
   λ other asks_too. absurd (run_is_no_migrate words named other asks asks_too),
 )
-run_holds words named contents asks (Err none) h = tt
 
-pub migrate_holds : (words : List (List ℕ)) (named : MigrateNames) (contents : Contents) → AsksMigrate words named → (reply : Result Reply NoText) → IfOk reply (λ r. IsRunStatus r.status → HoldsMap contents named.out)
-    → IfOk reply (λ r. IsRunStatus r.status → HoldsSavedMap words contents)
-migrate_holds words named contents asks (Ok reply) h = λ run. (
+pub migrate_holds : (words : List (List ℕ)) (named : MigrateNames) (contents : Contents) → AsksMigrate words named → HoldsMap contents named.out → HoldsSaved IsMapBytes words contents
+migrate_holds words named contents asks h = (
   λ other asks_too. absurd (run_is_no_migrate words other named asks_too asks),
-  λ other asks_too. subst (λ (n : MigrateNames). HoldsMap contents n.out) (same_migrated words named other asks asks_too) (h run),
+  λ other asks_too. subst (λ (n : MigrateNames). HoldsMap contents n.out) (same_migrated words named other asks asks_too) h,
 )
-migrate_holds words named contents asks (Err none) h = tt
 
--- a command on one file saves none
-pub file_holds : (words : List (List ℕ)) (command : answer.Command) (name : List ℕ) (contents : Contents) → Asks words command name → (reply : Result Reply NoText) → IfOk reply (λ r. IsRunStatus r.status → HoldsSavedMap words contents)
-file_holds words command name contents asks (Ok reply) = λ status. (
-  λ named runs. absurd (file_is_no_run words command name named asks runs),
-  λ named migrates. absurd (file_is_no_migrate words command name named asks migrates),
-)
-file_holds words command name contents asks (Err none) = tt
+-- words that are no command that saves hold none
+pub none_holds : (IsSuch : List ℕ → Type 0) (words : List (List ℕ)) (contents : Contents) → (IsSavingCommand words → ⊥) → HoldsSaved IsSuch words contents
+none_holds IsSuch words contents none = (λ named runs. absurd (none (inl (named, runs))), λ named migrates. absurd (none (inr (named, migrates))))
+
+-- a map whose text stands for it is sound
+sound_held : (contents : Contents) (name : List ℕ) → HoldsMap contents name → HoldsSuch IsSoundText contents name
+sound_held None name h = tt
+sound_held (Some files) name (bytes, held, (version, listed, is, stands)) = (bytes, held, (version, listed, is, stands.sound))
+
+pub sound_saved : (words : List (List ℕ)) (contents : Contents) → HoldsSaved IsMapBytes words contents → HoldsSaved IsSoundText words contents
+sound_saved words contents h = (λ named runs. sound_held contents named.out (h.0 named runs), λ named migrates. sound_held contents named.out (h.1 named migrates))
 
 -- ---- a grid: done, or without memory
 
@@ -360,18 +339,7 @@ module _ (m : ℕ) where
   grid_refused P (Ok reply) h = λ one. absurd (let f : ◌≡◌ {A = ℕ} 0 1 = sym h.0 ∙ one in cc)
   grid_refused P (Err none) h = tt
 
-  pub grid_no_usage : (reply : Result Reply NoText) → IsGridReply m reply → IsErrOf reply (nothing.Refused refusals.Usage) → ⊥
-  grid_no_usage (Ok reply) h e = absurd cc
-  grid_no_usage (Err none) h e = absurd cc
-
-  pub grid_cause : (P Q : Type 0) (reply : Result Reply NoText) → IsGridReply m reply → HasCause reply P Q
-  grid_cause P Q (Ok reply) h = tt
-  grid_cause P Q (Err nothing.OutOfMemory) h = tt
-  grid_cause P Q (Err (nothing.Refused why)) h = absurd cc
-
-  pub grid_holds : (words : List (List ℕ)) → AsksGrid words m → (contents : Contents) (reply : Result Reply NoText) → IfOk reply (λ r. IsRunStatus r.status → HoldsSavedMap words contents)
-  grid_holds words grid contents (Ok reply) = λ status. (
-    λ named runs. absurd (run_is_no_grid words named m runs grid),
-    λ named migrates. absurd (migrate_is_no_grid words named m migrates grid),
-  )
-  grid_holds words grid contents (Err none) = tt
+  pub grid_is_sound : (P : refusing.Role → Type 0) (Q : Type 0) (reply : Result Reply NoText) → IsGridReply m reply → IsSoundReply reply P Q
+  grid_is_sound P Q (Ok reply) h = tt
+  grid_is_sound P Q (Err nothing.OutOfMemory) h = tt
+  grid_is_sound P Q (Err (nothing.Refused why)) h = absurd cc

@@ -16,31 +16,31 @@ use Rattle.gm_model.specs.declared.memory.OutOfMemory.{OutOfMemory}
 use Rattle.gm_model.specs.declared.rule.Book.{Book}
 use Rattle.gm_model.specs.declared.rule.RuleTable.{RuleTable}
 use Rattle.gm_model.specs.declared.schema.Schema.{Schema}
-use Rattle.gm_model.specs.declared.script.Line.{Line}
+use Rattle.gm_model.specs.declared.script.Stat.{Stat}
 use Rattle.gm_model.specs.Acceptance.{IsAccepted}
+use Rattle.gm_model.specs.Budgets.{Bounds, no_entries, IsRunWithin}
 use Rattle.gm_model.specs.Maps.{Map, IsDart}
 use Rattle.gm_model.specs.Orbits.{HasCount}
 use Rattle.gm_model.specs.Rules.{Rule, rule_of}
-use Rattle.gm_model.specs.Runs.{Outcome, is_done, IsRun, IsRunBudget, changed_darts}
+use Rattle.gm_model.specs.Runs.{Outcome, is_done, State, start_of, IsRun}
 use Rattle.gm_plan.specs.Plans.{PlanOf, plan_of}
 use Rattle.gm_theory.proofs.NoFault.{accepted_no_fault}
 use Rattle.gm_run.specs.Alike.{AreAlike}
 use Rattle.gm_run.specs.declared.outcome.Outcome as answers
 use Rattle.gm_run.specs.Lines.{Tells}
-use Rattle.gm_run.specs.Progress.{IsPlanFor, ArePlansFor, rules_of}
+use Rattle.gm_run.specs.Progress.{IsPlanFor, ArePlansFor, IsGoodApplication, rules_of}
 use Rattle.gm_theory.proofs.ExamplesTriangulation.{accepted}
 use Rattle.gm_theory.proofs.ValuesUnique.{one_count}
-use Rattle.gm_theory.specs.Outcomes.{IsGoodLine}
 use Rattle.gm_walk.proofs.CountLemmas.{count_alike}
 use Rattle.gm_tool.specs.Books.{IsCheckable}
-use Rattle.gm_tool.specs.GridAnswer.{AreGridPlans, Gridded, IsGridded, IsGridText, IsGridReply, grid_rules, grid_lines, grid_line}
+use Rattle.gm_tool.specs.GridAnswer.{AreGridPlans, Gridded, IsGridded, IsGridText, IsGridReply, grid_rules, grid_stats, grid_line}
 use Rattle.gm_tool.specs.RunAnswer.{IsFirstRefused}
-use Rattle.gm_tool.specs.StepBounds.{HasGridBudget, GridRunsWithin, GridRunsAtLeast, WithinGridMost, AtLeastOfGrid, MostOfGrid, LeastOfGrid}
+use Rattle.gm_tool.specs.StepBounds.{HasGridBounds, GridRunsWithin, GridRunsAtLeast, WithinGridMost, AtLeastOfGrid, MostOfGrid, LeastOfGrid}
 use Rattle.gm_tool.specs.Stops.{IsBadFor, reply_of}
 use Rattle.gm_tool.specs.declared.refusal.NoText.TheVariants as nothing
 use Rattle.gm_tool.specs.declared.refusal.Stop.{Stop}
 use Rattle.gm_tool.specs.declared.refusal.Stop.TheVariants as stops
-use Rattle.gm_tool.proofs.Grids.{rules_accepted, lines_good, one_gridding, grid_budget}
+use Rattle.gm_tool.proofs.Grids.{rules_accepted, grid_stats_good, one_gridding, grid_bounds, gridding_bounded, run_here}
 use Rattle.gm_tool.proofs.Lines.{rules_planned}
 
 -- ---- the plans of the book
@@ -93,62 +93,74 @@ module _ (book : Book) (is : IsGridBook book) where
 
 -- ---- the run
 
-module _ (m : ℕ) (small : m ≤ 100) (arena : ArenaMap) (grid : IsGridMap m (as_map arena)) (plans : List PlanOf) (are : AreGridPlans plans) (lines : List Line) (lines_are : lines ≡ grid_lines m) where
+module _ (m : ℕ) (small : m ≤ 100) (arena : ArenaMap) (grid : IsGridMap m (as_map arena)) (plans : List PlanOf) (are : AreGridPlans plans) (stats : List Stat) (stats_are : stats ≡ grid_stats m) where
   pub plans_fit : ArePlansFor arena.schema plans
   plans_fit = subst (λ s. ArePlansFor s plans) (sym grid.schema_is) are.fit
 
-  pub lines_fit : All (IsGoodLine (rules_of plans)) lines
-  lines_fit = All-from_recursion (IsGoodLine (rules_of plans)) lines
-      (subst (λ rules. AllByRecursion (IsGoodLine rules) lines) (sym are.rules) (subst (AllByRecursion (IsGoodLine grid_rules)) (sym lines_are) (lines_good m)))
+  pub stats_fit : All (IsGoodApplication (rules_of plans)) stats
+  stats_fit = All-from_recursion (IsGoodApplication (rules_of plans)) stats
+      (subst (λ rules. AllByRecursion (IsGoodApplication rules) stats) (sym are.rules) (subst (AllByRecursion (IsGoodApplication grid_rules)) (sym stats_are) (grid_stats_good m)))
 
-  of_grid : (outcomes : List Outcome) (end : Map) → IsRun (rules_of plans) (as_map arena) lines outcomes end → IsRun grid_rules (as_map arena) (grid_lines m) outcomes end
-  of_grid outcomes end run = subst (λ rules. IsRun rules (as_map arena) (grid_lines m) outcomes end) are.rules (subst (λ ls. IsRun (rules_of plans) (as_map arena) ls outcomes end) lines_are run)
+  of_grid : (outcomes : List Outcome) (end : State) → IsRun (rules_of plans) (start_of (as_map arena)) stats outcomes end → IsRun grid_rules (start_of (as_map arena)) (grid_stats m) outcomes end
+  of_grid outcomes end run =
+      subst (λ rules. IsRun rules (start_of (as_map arena)) (grid_stats m) outcomes end) are.rules (subst (λ ss. IsRun (rules_of plans) (start_of (as_map arena)) ss outcomes end) stats_are run)
 
-  -- within the budgets of the lines, whatever grid they are of
-  lines_within : (start steps : ℕ) → ((outcomes : List Outcome) (end : Map) (most : ℕ) → IsRunBudget (rules_of plans) (as_map arena) lines outcomes end most → steps ≤ start + most)
-      → (made : Gridded) (sum : ℕ) → IsGridded m made → HasGridBudget m made sum → steps ≤ start + sum
-  lines_within start steps within made sum is budget =
-      let found = grid_budget m small made.grid (as_map arena) is.grid_is grid made.outcomes made.after sum budget in
-      within made.outcomes found.0 sum
-      (subst (λ rules. IsRunBudget rules (as_map arena) lines made.outcomes found.0 sum) (sym are.rules) (subst (λ ls. IsRunBudget grid_rules (as_map arena) ls made.outcomes found.0 sum) (sym lines_are) found.1))
+  within_grid : (outcomes : List Outcome) (end : State) (bounds : Bounds) → IsRunWithin grid_rules (start_of (as_map arena)) no_entries (grid_stats m) outcomes end bounds
+      → IsRunWithin (rules_of plans) (start_of (as_map arena)) no_entries stats outcomes end bounds
+  within_grid outcomes end bounds within =
+      subst (λ rules. IsRunWithin rules (start_of (as_map arena)) no_entries stats outcomes end bounds) (sym are.rules)
+      (subst (λ ss. IsRunWithin grid_rules (start_of (as_map arena)) no_entries ss outcomes end bounds) (sym stats_are) within)
 
-  pub cut_within : (start steps : ℕ) → ((outcomes : List Outcome) (end : Map) (most : ℕ) → IsRunBudget (rules_of plans) (as_map arena) lines outcomes end most → steps ≤ start + most) → GridRunsWithin m start steps
-  cut_within start steps within made left sum is budget count = let lines = lines_within start steps within made sum is budget in omega (arith, lines)
+  -- what holds of each pair of bounds of what is run
+  abbrev pub Bounded : (Bounds → Type 0) → Type 0
+  Bounded Holds = (outcomes : List Outcome) (end : State) (bounds : Bounds) → IsRunWithin (rules_of plans) (start_of (as_map arena)) no_entries stats outcomes end bounds → Holds bounds
 
-  module _ (after : ArenaMap) (outcomes : List Outcome) (run : IsRun (rules_of plans) (as_map arena) lines outcomes (as_map after)) (schema : after.schema ≡ arena.schema) (counted : HasCount (IsDart (as_map after)) after.count) where
+  -- whatever grid the bounds are of, the statements have a run from this one with the same bounds
+  stats_within : (Holds : Bounds → Type 0) → Bounded Holds → (made : Gridded) (bounds : Bounds) → IsGridded m made → HasGridBounds m made bounds → Holds bounds
+  stats_within Holds holds made bounds is has =
+      let found = run_here m small (as_map arena) grid in
+      let here = gridding_bounded m small (as_map arena) grid found.outcomes found.after found.run in
+      let same : bounds ≡ here.0 = grid_bounds m small made.grid (as_map arena) is.grid_is grid made.outcomes found.outcomes made.after found.after bounds here.0 has here.1 in
+      subst Holds (sym same) (holds found.outcomes found.after here.0 (within_grid found.outcomes found.after here.0 here.1))
+
+  pub cut_within : (start steps : ℕ) → Bounded (λ bounds. steps ≤ start + bounds.most) → GridRunsWithin m start steps
+  cut_within start steps within made left bounds is has count = let first = stats_within (λ bounds. steps ≤ start + bounds.most) within made bounds is has in omega (arith, first)
+
+  pub runs_least : (start middle steps : ℕ) → Bounded (λ bounds. start + bounds.least ≤ middle) → middle ≤ steps → GridRunsAtLeast m start steps
+  runs_least start middle steps least more made bounds is has = let first = stats_within (λ bounds. start + bounds.least ≤ middle) least made bounds is has in omega (arith, first, more)
+
+  module _ (after : ArenaMap) (outcomes : List Outcome) (behind : State) (behind_is : behind.map ≡ as_map after) (run : IsRun (rules_of plans) (start_of (as_map arena)) stats outcomes behind) (schema : after.schema ≡ arena.schema) (counted : HasCount (IsDart (as_map after)) after.count) where
     abbrev made_here : Gridded
-    made_here = record { grid = as_map arena; outcomes = outcomes; after = as_map after }
+    made_here = record { grid = as_map arena; outcomes = outcomes; after = behind }
 
-    same_run : (made : Gridded) → IsGridded m made → (made.outcomes ≡ outcomes) × AreAlike made.after (as_map after)
-    same_run made is = one_gridding m small made.grid (as_map arena) is.grid_is grid made.outcomes outcomes made.after (as_map after) is.run (of_grid outcomes (as_map after) run)
+    same_left : (made : Gridded) → IsGridded m made → AreAlike made.after.map (as_map after)
+    same_left made is =
+        subst (AreAlike made.after.map) behind_is (one_gridding m small made.grid (as_map arena) is.grid_is grid made.outcomes outcomes made.after behind is.run (of_grid outcomes behind run)).1.map
 
-    left_is : (made : Gridded) (left : ℕ) → IsGridded m made → HasCount (IsDart made.after) left → left ≡ after.count
+    left_is : (made : Gridded) (left : ℕ) → IsGridded m made → HasCount (IsDart made.after.map) left → left ≡ after.count
     left_is made left is count =
-        let darts = (same_run made is).1.same.darts in
-        one_count (IsDart (as_map after)) left after.count (count_alike (IsDart made.after) (IsDart (as_map after)) (λ d. (darts d).0) (λ d. (darts d).1) left count) counted
+        let darts = (same_left made is).same.darts in
+        one_count (IsDart (as_map after)) left after.count (count_alike (IsDart made.after.map) (IsDart (as_map after)) (λ d. (darts d).0) (λ d. (darts d).1) left count) counted
 
-    pub counted_within : (start middle steps : ℕ) → ((others : List Outcome) (end : Map) (most : ℕ) → IsRunBudget (rules_of plans) (as_map arena) lines others end most → middle ≤ start + most)
+    pub counted_within : (start middle steps : ℕ) → Bounded (λ bounds. middle ≤ start + bounds.most)
         → steps ≤ middle + (after.schema.dim + 1) * (8 * (after.schema.dim + 1) * after.count) → GridRunsWithin m start steps
-    counted_within start middle steps within cells made left sum is budget count =
-        let first = lines_within start middle within made sum is budget in
+    counted_within start middle steps within cells made left bounds is has count =
+        let first = stats_within (λ bounds. middle ≤ start + bounds.most) within made bounds is has in
         let dims : after.schema ≡ grid_schema = schema ∙ grid.schema_is in
         let last : steps ≤ middle + 3 * (24 * after.count) = subst (λ (s : Schema). steps ≤ middle + (s.dim + 1) * (8 * (s.dim + 1) * after.count)) dims cells in
         let darts = left_is made left is count in
         omega (arith, first, last, darts)
 
-    pub runs_least : (start middle steps : ℕ) → start + changed_darts outcomes ≤ middle → middle ≤ steps → GridRunsAtLeast m start steps
-    runs_least start middle steps least more made is = let same = ap changed_darts (same_run made is).0 in omega (arith, same, least, more)
-
     text_is : (text cells : List ℕ) (darts next : ℕ) → HasCells (as_map after) cells → darts ≡ after.count → next ≡ after.next → text ≡ grid_line m (count_by is_done outcomes) darts next cells → IsGridText m text
     text_is text cells darts next has darts_are next_is is = (
       made_here,
-      record { grid_is = grid; run = of_grid outcomes (as_map after) run },
+      record { grid_is = grid; run = of_grid outcomes behind run },
       record {
         darts = after.count;
-        darts_are = counted;
+        darts_are = subst (λ x. HasCount (IsDart x) after.count) (sym behind_is) counted;
         cells = cells;
-        cells_are = has;
-        is = is ∙ (λ k. grid_line m (count_by is_done outcomes) (darts_are k) (next_is k) cells);
+        cells_are = subst (λ x. HasCells x cells) (sym behind_is) has;
+        is = is ∙ (λ k. grid_line m (count_by is_done outcomes) (darts_are k) (next_is k) cells) ∙ ap (λ (x : Map). grid_line m (count_by is_done outcomes) after.count x.next cells) (sym behind_is);
       },
     )
 
@@ -158,14 +170,14 @@ module _ (m : ℕ) (small : m ≤ 100) (arena : ArenaMap) (grid : IsGridMap m (a
     line_made cells darts next (Ok text) has darts_are next_is lines tells is = text_is text.items cells darts next has darts_are next_is (is outcomes tells)
     line_made cells darts next (Err error) has darts_are next_is lines tells h = tt
 
--- a grid on which no line is applied
+-- a grid on which no statement is run
 pub none_run : (m steps : ℕ) → GridRunsWithin m steps steps
-none_run m steps made left sum is budget count = omega arith
+none_run m steps made left bounds is has count = omega arith
 
 -- ---- the whole
 
 pub grid_made : (m start middle steps : ℕ) → middle ≤ start + 4096 * (m * m) → GridRunsWithin m middle steps → WithinGridMost m start steps
-grid_made m start middle steps made runs most (MostOfGrid gridded left sum is budget count) = let lines = runs gridded left sum is budget count in omega (arith, made, lines)
+grid_made m start middle steps made runs most (MostOfGrid gridded left bounds is has count) = let lines = runs gridded left bounds is has count in omega (arith, made, lines)
 
 pub grid_reached : (m start middle steps : ℕ) → start + 8 * (m * m) ≤ middle → GridRunsAtLeast m middle steps → AtLeastOfGrid m start steps
-grid_reached m start middle steps made runs least (LeastOfGrid gridded is) = let lines = runs gridded is in omega (arith, made, lines)
+grid_reached m start middle steps made runs least (LeastOfGrid gridded bounds is has) = let lines = runs gridded bounds is has in omega (arith, made, lines)

@@ -1,36 +1,44 @@
--- Maps that are the grid of one number are alike, and so are the runs of the grid's lines from them.
+-- Maps that are the grid of one number are alike, and so are the runs of the grid's statements from them.
 use Rattle.std.proofs.Common.{◌≡◌, ℕ, ◌*◌, ◌≤◌, List, [], ◌∷◌, map, refl, sym, ap, subst, ◌∙◌}
-use Rattle.std.specs.Prelude.{All}
+use Rattle.std.specs.Prelude.{All, false}
 use Rattle.std.specs.List.{AllByRecursion, range_with_len}
 use Rattle.std.proofs.lemmas.List.Elements.{All-from_recursion}
-use Rattle.gm_grid.specs.GridBook.{triangulation, line_at}
+use Rattle.gm_grid.specs.GridBook.{triangulation, stat_at}
 use Rattle.gm_grid.specs.GridMap.{grid_schema, IsGridMap}
 use Rattle.gm_grid.proofs.GridSchema.{is_schema, only_positions}
 use Rattle.gm_grid.proofs.GridSound.{by_square, is_sound}
+use Rattle.gm_model.specs.declared.schema.Schema.{Schema}
 use Rattle.gm_model.specs.Acceptance.{IsAccepted}
-use Rattle.gm_model.specs.Maps.{Map, IsEmbedAt}
-use Rattle.gm_model.specs.Runs.{Outcome, IsRun, IsRunBudget}
-use Rattle.gm_run.specs.Alike.{AreAlike}
-use Rattle.gm_run.proofs.AlikeRuns.{budget_from_alike}
-use Rattle.gm_run.proofs.OneRun.{one_run}
+use Rattle.gm_model.specs.Budgets.{Bounds, no_entries, IsRunWithin}
+use Rattle.gm_model.specs.Maps.{Map, IsEmbedAt, IsSchema}
+use Rattle.gm_model.specs.Runs.{Outcome, State, start_of, IsRun, AreInOrder}
+use Rattle.gm_run.specs.Alike.{AreAlike, AreAlikeStates}
+use Rattle.gm_run.specs.Progress.{IsGoodApplication}
+use Rattle.gm_run.proofs.OneRun.{one_run, one_within, run_has_bounds}
+use Rattle.gm_theory.proofs.RunsFound.{Stands, stands_first, scripts_have_runs}
+use Rattle.gm_theory.specs.Outcomes.{HasRun}
+use Rattle.gm_theory.specs.Suited.{IsSuited}
 use Rattle.gm_theory.proofs.ExamplesTriangulation.{accepted}
-use Rattle.gm_theory.specs.Outcomes.{IsGoodLine}
-use Rattle.gm_tool.specs.GridAnswer.{grid_rules, grid_lines}
+use Rattle.gm_tool.specs.GridAnswer.{grid_rules, grid_stats}
+use Rattle.gm_tool.proofs.OneRan.{stats_good, stats_suit}
 
--- ---- the rules and the lines
+-- ---- the rules and the statements
 
 pub rules_accepted : All (IsAccepted grid_schema) grid_rules
 rules_accepted = All-from_recursion (IsAccepted grid_schema) grid_rules (accepted, tt)
 
-good_line : (square : ℕ) → IsGoodLine grid_rules (line_at square)
-good_line square = record { rule = triangulation; rule_is = refl; hooks = refl; params = tt }
+good_stat : (square : ℕ) → IsGoodApplication grid_rules (stat_at square)
+good_stat square = record { rule = triangulation; rule_is = refl; hooks = refl; params = tt }
 
-good_lines : (squares : List ℕ) → AllByRecursion (IsGoodLine grid_rules) (map line_at squares)
-good_lines [] = tt
-good_lines (square ∷ squares) = (good_line square, good_lines squares)
+good_stats : (squares : List ℕ) → AllByRecursion (IsGoodApplication grid_rules) (map stat_at squares)
+good_stats [] = tt
+good_stats (square ∷ squares) = (good_stat square, good_stats squares)
 
-pub lines_good : (m : ℕ) → AllByRecursion (IsGoodLine grid_rules) (grid_lines m)
-lines_good m = good_lines (range_with_len 0 (m * m))
+pub grid_stats_good : (m : ℕ) → AllByRecursion (IsGoodApplication grid_rules) (grid_stats m)
+grid_stats_good m = good_stats (range_with_len 0 (m * m))
+
+stats_suited : (m : ℕ) → AllByRecursion (IsSuited grid_schema grid_rules) (grid_stats m)
+stats_suited m = stats_suit grid_schema grid_rules (grid_stats m) is_schema rules_accepted (grid_stats_good m)
 
 -- ---- two grids
 
@@ -51,12 +59,36 @@ module _ (m : ℕ) (small : m ≤ 100) (a b : Map) (one : IsGridMap m a) (other 
         e embed (subst (λ s. IsEmbedAt s e embed) one.schema_is at);
   }
 
-  -- their runs have the same outcomes, and leave maps that are alike
-  pub one_gridding : (outcomes others : List Outcome) (after end : Map) → IsRun grid_rules a (grid_lines m) outcomes after → IsRun grid_rules b (grid_lines m) others end → (outcomes ≡ others) × AreAlike after end
-  one_gridding outcomes others after end first second =
-      one_run grid_schema is_schema grid_rules rules_accepted a b other.schema_is (is_sound m small b other) grids_alike (grid_lines m) (lines_good m) outcomes others after end first second
+  starts_alike : AreAlikeStates (start_of a) (start_of b)
+  starts_alike = record { map = grids_alike; past = tt; future = tt; group = tt; broken = refl }
 
-  -- and what one may take, the other may take too
-  pub grid_budget : (outcomes : List Outcome) (after : Map) (most : ℕ) → IsRunBudget grid_rules a (grid_lines m) outcomes after most → (end : Map) × IsRunBudget grid_rules b (grid_lines m) outcomes end most
-  grid_budget outcomes after most budget =
-      budget_from_alike grid_schema is_schema grid_rules rules_accepted a b other.schema_is (is_sound m small b other) grids_alike (grid_lines m) (lines_good m) outcomes after most budget
+  stands_other : Stands grid_schema (start_of b) no_entries
+  stands_other = subst (λ (schema : Schema). Stands schema (start_of b) no_entries) other.schema_is (stands_first b (is_sound m small b other))
+
+  -- their runs have the same outcomes, and leave states that are alike
+  pub one_gridding : (outcomes others : List Outcome) (after end : State) → IsRun grid_rules (start_of a) (grid_stats m) outcomes after → IsRun grid_rules (start_of b) (grid_stats m) others end → (outcomes ≡ others) × AreAlikeStates after end
+  one_gridding outcomes others after end first second =
+      one_run grid_schema grid_rules (grid_stats m) (stats_suited m) (start_of a) (start_of b) no_entries stands_other starts_alike outcomes others after end first second
+
+  -- and the same bounds
+  pub grid_bounds : (outcomes others : List Outcome) (after end : State) (bounds other_bounds : Bounds) → IsRunWithin grid_rules (start_of a) no_entries (grid_stats m) outcomes after bounds
+      → IsRunWithin grid_rules (start_of b) no_entries (grid_stats m) others end other_bounds → bounds ≡ other_bounds
+  grid_bounds outcomes others after end bounds other_bounds first second =
+      one_within grid_schema grid_rules (grid_stats m) (stats_suited m) (start_of a) (start_of b) no_entries no_entries stands_other starts_alike outcomes others after end bounds other_bounds first second
+
+-- a run of the grid's statements has bounds
+pub gridding_bounded : (m : ℕ) → m ≤ 100 → (a : Map) → IsGridMap m a → (outcomes : List Outcome) (after : State) → IsRun grid_rules (start_of a) (grid_stats m) outcomes after
+    → (bounds : Bounds) × IsRunWithin grid_rules (start_of a) no_entries (grid_stats m) outcomes after bounds
+gridding_bounded m small a is outcomes after run =
+    run_has_bounds grid_schema grid_rules (grid_stats m) (stats_suited m) (start_of a) no_entries (subst (λ (schema : Schema). Stands schema (start_of a) no_entries) is.schema_is (stands_first a (is_sound m small a is))) outcomes after run
+
+-- the statements are applications, which stand in any order
+in_order : (squares : List ℕ) → AreInOrder false (map stat_at squares)
+in_order [] = refl
+in_order (square ∷ squares) = in_order squares
+
+-- and from each grid they have a run
+pub run_here : (m : ℕ) → m ≤ 100 → (a : Map) → IsGridMap m a → HasRun grid_rules a.schema (start_of a) no_entries (grid_stats m)
+run_here m small a is =
+    scripts_have_runs grid_rules a (grid_stats m) (subst IsSchema (sym is.schema_is) is_schema) (is_sound m small a is) (subst (λ s. All (IsAccepted s) grid_rules) (sym is.schema_is) rules_accepted)
+    (stats_good grid_rules a.schema.dim (grid_stats m) (grid_stats_good m)) (in_order (range_with_len 0 (m * m)))

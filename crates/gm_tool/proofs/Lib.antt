@@ -11,10 +11,13 @@ mod RunStops
 mod Agreeing
 mod LoadCounts
 mod Saving
+mod SaveCounts
 mod Migrations
 mod StepBounds
 mod StepWords
 mod Putting
+mod Ended
+mod Headlines
 mod OneText
 mod OneVerdict
 mod OneCells

@@ -1,6 +1,6 @@
 -- The plans of a book that was read and the lines of its script are those that a run takes, and what a run answers is the run of what was read.
 use Rattle.std.proofs.Common.{◌≡◌, ℕ, List, [], ◌∷◌, inl, inr, Result, Ok, Err, length, map, All, refl, sym, ap, subst, ◌∙◌}
-use Rattle.std.specs.Prelude.{IfOk, IfErr}
+use Rattle.std.specs.Prelude.{Bool, true, false, if◌then◌else◌, IfOk, IfErr}
 use Rattle.std.specs.List.{AllByRecursion}
 use Rattle.std.proofs.lemmas.List.Elements.{All-from_recursion}
 use Rattle.gm_arena.specs.ArenaAsMap.{as_map}
@@ -12,27 +12,28 @@ use Rattle.gm_mapfile.proofs.Printed.{darts_counted}
 use Rattle.gm_model.specs.declared.rule.Book.{Book}
 use Rattle.gm_model.specs.declared.rule.RuleTable.{RuleTable}
 use Rattle.gm_model.specs.declared.schema.Schema.{Schema}
-use Rattle.gm_model.specs.declared.script.Line.{Line}
 use Rattle.gm_model.specs.declared.script.Script.{Script}
+use Rattle.gm_model.specs.declared.script.Stat.{Stat}
+use Rattle.gm_model.specs.declared.script.Stat.TheVariants.{Apply}
 use Rattle.gm_model.specs.Maps.{IsSound}
 use Rattle.gm_mapfile.specs.MapText.{map_of, canonical}
 use Rattle.gm_mapfile.specs.declared.version.MapVersion.{MapVersion}
 use Rattle.gm_model.specs.Reports.{report_text}
 use Rattle.gm_model.specs.Rules.{Rule, rule_of}
-use Rattle.gm_model.specs.Runs.{Outcome, IsRun}
-use Rattle.gm_model.specs.Runs as runs
+use Rattle.gm_model.specs.Runs.{Outcome, State, start_of, IsRun}
 use Rattle.gm_text.specs.SchemaPrinting.{AreParts}
-use Rattle.gm_script.specs.ScriptText.{LineForm, AreLines, ScriptText}
-use Rattle.gm_script.proofs.GoodParams.{HasGoodParams, script_params_good}
-use Rattle.gm_theory.specs.Outcomes.{IsGoodLine}
+use Rattle.gm_script.specs.ScriptText.{LineForm, IsStat, AreStats, ScriptText}
+use Rattle.gm_script.proofs.GoodParams.{script_params_good}
+use Rattle.gm_script.proofs.GoodParams as fitting
 use Rattle.gm_plan.specs.Plans.{PlanOf, plan_of}
 use Rattle.gm_run.specs.declared.outcome.Outcome as answers
 use Rattle.gm_run.specs.Printing.{CanBePrinted}
-use Rattle.gm_run.specs.Progress.{IsPlanFor, ArePlansFor, rules_of}
+use Rattle.gm_run.specs.Progress.{IsPlanFor, ArePlansFor, IsGoodApplication, rules_of}
+use Rattle.gm_lines.specs.Refusing.{Role}
 use Rattle.gm_tool.specs.MadeRuns.{CanRun, inputs_of, IsFitted, IsPrinted, IsRunOf, IsMapBytes, IsRunStatus}
 use Rattle.gm_tool.specs.Stops.{IsSoundStop}
 use Rattle.gm_tool.specs.declared.refusal.Refusal.TheVariants as refusals
-use Rattle.gm_tool.specs.RunAnswer.{Inputs, Ran, IsRan, report_of, saved_of, run_status}
+use Rattle.gm_tool.specs.RunAnswer.{Inputs, Ran, IsRan, report_of, saved_of, says_refused, run_status}
 use Rattle.gm_tool.specs.declared.refusal.NoText.TheVariants as nothing
 use Rattle.gm_tool.specs.declared.refusal.Stop.{Stop}
 use Rattle.gm_tool.specs.declared.refusal.Stop.TheVariants as stops
@@ -43,23 +44,29 @@ use Rattle.gm_tool.proofs.ArenaMaps.{darts_whole, text_of_arena}
 -- a run is done with status 0 or 1
 status_is : (outcomes : List Outcome) → IsRunStatus (run_status outcomes)
 status_is [] = inl refl
-status_is (runs.Done added removed ∷ outcomes) = status_is outcomes
-status_is (runs.Refused cause ∷ outcomes) = inr refl
+status_is (outcome ∷ outcomes) = either (says_refused outcome) (status_is outcomes)
+  where
+    either : (b : Bool) → IsRunStatus (run_status outcomes) → IsRunStatus (if b then 1 else run_status outcomes)
+    either true h = inr refl
+    either false h = h
 
 pub rules_planned : (schema : Schema) (tables : List RuleTable) → rules_of (map (plan_of schema) tables) ≡ map rule_of tables
 rules_planned schema [] = refl
 rules_planned schema (table ∷ tables) = ap (λ rules. rule_of table ∷ rules) (rules_planned schema tables)
 
--- the lines of a script that was read are good
-pub good_lines : (rules : List Rule) (text : List ℕ) (lines : List Line) → ScriptText text rules lines → AllByRecursion (IsGoodLine rules) lines
-good_lines rules text lines script = each script.forms lines script.same (script_params_good rules text lines script)
+-- the statements of a script that was read are good
+pub good_stats : (rules : List Rule) (text : List ℕ) (stats : List Stat) → ScriptText text rules stats → AllByRecursion (IsGoodApplication rules) stats
+good_stats rules text stats script = each script.forms stats script.same (script_params_good rules text stats script)
   where
-    each : (forms : List LineForm) (ls : List Line) → AreLines rules forms ls → AllByRecursion (HasGoodParams rules) ls → AllByRecursion (IsGoodLine rules) ls
-    each [] [] h good = tt
-    each [] (line ∷ ls) h good = absurd h
-    each (form ∷ forms) [] h good = absurd h
-    each (form ∷ forms) (line ∷ ls) h good =
-        (record { rule = h.0.rule; rule_is = h.0.named.there; hooks = ap length h.0.hooks ∙ h.0.count; params = good.0 h.0.rule h.0.named.there }, each forms ls h.1 good.1)
+    good : (form : LineForm) (stat : Stat) → IsStat rules form stat → fitting.IsGoodStat rules stat → IsGoodApplication rules stat
+    good form (Apply line) is params = record { rule = is.rule; rule_is = is.named.there; hooks = ap length is.hooks ∙ is.count; params = params is.rule is.named.there }
+    good form _ is params = absurd is
+
+    each : (forms : List LineForm) (ss : List Stat) → AreStats rules forms ss → AllByRecursion (fitting.IsGoodStat rules) ss → AllByRecursion (IsGoodApplication rules) ss
+    each [] [] h params = tt
+    each [] (stat ∷ ss) h params = absurd h
+    each (form ∷ forms) [] h params = absurd h
+    each (form ∷ forms) (stat ∷ ss) h params = (good form stat h.0 params.0, each forms ss h.1 params.1)
 
 module _ (m : ArenaMap) (book : Book) (script : Script) (plans : List PlanOf) (can : CanRun m book script plans) where
   pub same_rules : rules_of plans ≡ map rule_of book.rules
@@ -75,12 +82,12 @@ module _ (m : ArenaMap) (book : Book) (script : Script) (plans : List PlanOf) (c
       each [] = tt
       each (table ∷ tables) = (can.agree, each tables)
 
-  pub lines_fit : All (IsGoodLine (rules_of plans)) script.lines
-  lines_fit = All-from_recursion (IsGoodLine (rules_of plans)) script.lines
-      (subst (λ rules. AllByRecursion (IsGoodLine rules) script.lines) (sym same_rules) (good_lines (map rule_of book.rules) can.text script.lines can.lines))
+  pub stats_fit : All (IsGoodApplication (rules_of plans)) script.stats
+  stats_fit = All-from_recursion (IsGoodApplication (rules_of plans)) script.stats
+      (subst (λ rules. AllByRecursion (IsGoodApplication rules) script.stats) (sym same_rules) (good_stats (map rule_of book.rules) can.text script.stats can.stats))
 
-  pub printable : (outcomes : List answers.Outcome) → CanBePrinted m.schema (rules_of plans) script.lines outcomes → CanBePrinted book.schema (map rule_of book.rules) script.lines outcomes
-  printable outcomes h = subst (λ rules. CanBePrinted book.schema rules script.lines outcomes) same_rules (subst (λ schema. CanBePrinted schema (rules_of plans) script.lines outcomes) can.agree h)
+  pub printable : (outcomes : List answers.Outcome) → CanBePrinted m.schema (rules_of plans) script.stats outcomes → CanBePrinted book.schema (map rule_of book.rules) script.stats outcomes
+  printable outcomes h = subst (λ rules. CanBePrinted book.schema rules script.stats outcomes) same_rules (subst (λ schema. CanBePrinted schema (rules_of plans) script.stats outcomes) can.agree h)
 
   -- ---- what a run answers
 
@@ -91,32 +98,33 @@ module _ (m : ArenaMap) (book : Book) (script : Script) (plans : List PlanOf) (c
     abbrev pub left : List Outcome → Ran
     left outcomes = record { outcomes = outcomes; map = listed_of after }
 
-    is_ran : (outcomes : List Outcome) → IsRun (rules_of plans) (as_map m) script.lines outcomes (as_map after) → IsRan inputs (left outcomes)
-    is_ran outcomes h = record {
+    is_ran : (outcomes : List Outcome) (behind : State) → behind.map ≡ as_map after → IsRun (rules_of plans) (start_of (as_map m)) script.stats outcomes behind → IsRan inputs (left outcomes)
+    is_ran outcomes behind e h = record {
+      behind = behind;
       run =
-          subst (λ x. IsRun (map rule_of book.rules) (map_of (listed_of m)) script.lines outcomes x) (same_map after)
-          (subst (λ x. IsRun (map rule_of book.rules) x script.lines outcomes (as_map after)) (same_map m)
-          (subst (λ rules. IsRun rules (as_map m) script.lines outcomes (as_map after)) same_rules h));
+          subst (λ x. IsRun (map rule_of book.rules) (start_of x) script.stats outcomes behind) (same_map m)
+          (subst (λ rules. IsRun rules (start_of (as_map m)) script.stats outcomes behind) same_rules h);
+      map_is = e ∙ same_map after;
       schema_is = same_schema;
       ascending = darts_ascending after;
       whole = darts_whole after lawful_after;
     }
 
     -- the report and the text of the map are those of the run
-    pub run_made : (outcomes : List Outcome) (darts next : ℕ) (result : Result Made Stop) → IsRun (rules_of plans) (as_map m) script.lines outcomes (as_map after) → darts ≡ after.count → next ≡ after.next
-        → IsPrinted (run_status outcomes) (report_text book.schema (map rule_of book.rules) script.lines outcomes darts next) (canonical version (listed_of after)) result → IsRunOf inputs result
-    run_made outcomes darts next result h counted named = made result
+    pub run_made : (outcomes : List Outcome) (behind : State) (darts next : ℕ) (result : Result Made Stop) → behind.map ≡ as_map after → IsRun (rules_of plans) (start_of (as_map m)) script.stats outcomes behind → darts ≡ after.count → next ≡ after.next
+        → IsPrinted (run_status outcomes) (report_text book.schema (map rule_of book.rules) script.stats outcomes darts next) (canonical version (listed_of after)) result → IsRunOf inputs result
+    run_made outcomes behind darts next result e h counted named = made result
       where
-        report_is : report_text book.schema (map rule_of book.rules) script.lines outcomes darts next ≡ report_of inputs (left outcomes)
+        report_is : report_text book.schema (map rule_of book.rules) script.stats outcomes darts next ≡ report_of inputs (left outcomes)
         report_is =
-            ap (λ k. report_text book.schema (map rule_of book.rules) script.lines outcomes k next) (counted ∙ sym (darts_counted after lawful_after))
-            ∙ ap (λ k. report_text book.schema (map rule_of book.rules) script.lines outcomes (length (darts_of after)) k) named
+            ap (λ k. report_text book.schema (map rule_of book.rules) script.stats outcomes k next) (counted ∙ sym (darts_counted after lawful_after))
+            ∙ ap (λ k. report_text book.schema (map rule_of book.rules) script.stats outcomes (length (darts_of after)) k) named
 
-        fitted : (r : Result Made Stop) → IsFitted (run_status outcomes) (report_text book.schema (map rule_of book.rules) script.lines outcomes darts next) (canonical version (listed_of after)) r
+        fitted : (r : Result Made Stop) → IsFitted (run_status outcomes) (report_text book.schema (map rule_of book.rules) script.stats outcomes darts next) (canonical version (listed_of after)) r
             → (ran : Ran) × IsRan inputs ran × IsFitted (run_status ran.outcomes) (report_of inputs ran) (saved_of inputs ran) r
-        fitted r is = (left outcomes, is_ran outcomes h, subst (λ t. IsFitted (run_status outcomes) t (canonical version (listed_of after)) r) report_is is)
+        fitted r is = (left outcomes, is_ran outcomes behind e h, subst (λ t. IsFitted (run_status outcomes) t (canonical version (listed_of after)) r) report_is is)
 
-        made : (r : Result Made Stop) → IsPrinted (run_status outcomes) (report_text book.schema (map rule_of book.rules) script.lines outcomes darts next) (canonical version (listed_of after)) r → IsRunOf inputs r
+        made : (r : Result Made Stop) → IsPrinted (run_status outcomes) (report_text book.schema (map rule_of book.rules) script.stats outcomes darts next) (canonical version (listed_of after)) r → IsRunOf inputs r
         made (Ok value) is = fitted (Ok value) is
         made (Err (stops.Bad line)) is = fitted (Err (stops.Bad line)) is
         made (Err (stops.NoText nothing.OutOfMemory)) is = tt
@@ -138,7 +146,7 @@ fitted_printed status report map (Err (stops.NoText nothing.OutOfMemory)) h = tt
 fitted_printed status report map (Err (stops.NoText (nothing.Refused why))) h = h
 
 -- no run of lines stops for its words, for a save or for a load
-pub run_is_sound : (inputs : Inputs) (result : Result Made Stop) (P : Type 0) → IsRunOf inputs result → IfErr result (λ stop. IsSoundStop stop P)
+pub run_is_sound : (inputs : Inputs) (result : Result Made Stop) (P : Role → Type 0) → IsRunOf inputs result → IfErr result (λ stop. IsSoundStop stop P)
 run_is_sound inputs (Ok made) P h = tt
 run_is_sound inputs (Err (stops.Bad line)) P h = tt
 run_is_sound inputs (Err (stops.NoText nothing.OutOfMemory)) P h = tt

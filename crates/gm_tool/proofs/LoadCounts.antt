@@ -98,14 +98,9 @@ module _ (words : List (List ℕ)) (fails : Type 0) (before after : ℕ) where
   counts_of named asks (Some files) (Err (nothing.Refused why)) h = λ other asks_too. subst (λ n. StopsInTime files n fails before after) (same_named words named other asks asks_too) h
 
   -- words that are no run count none
-  no_counts : ((named : RunNames) → AsksRun words named → ⊥) → (contents : Contents) → CountsLoads words contents fails before after
+  pub no_counts : ((named : RunNames) → AsksRun words named → ⊥) → (contents : Contents) → CountsLoads words contents fails before after
   no_counts none None = tt
   no_counts none (Some files) = λ named asks. absurd (none named asks)
-
-  pub counts_none : ((named : RunNames) → AsksRun words named → ⊥) → (contents : Contents) (reply : Result Reply NoText) → UnlessNoMemory reply (CountsLoads words contents fails before after)
-  counts_none none contents (Ok reply) = no_counts none contents
-  counts_none none contents (Err nothing.OutOfMemory) = tt
-  counts_none none contents (Err (nothing.Refused why)) = no_counts none contents
 
 -- ---- a fact of each reply
 

@@ -1,8 +1,8 @@
 -- What a migration puts and saves, and why it stops.
-use Rattle.std.proofs.Common.{◌≡◌, ℕ, List, inl, inr, Some, None, Result, Ok, Err, ◌++◌, refl, sym, ap, subst, ◌∙◌, append_assoc}
+use Rattle.std.proofs.Common.{◌≡◌, ◌⊎◌, ℕ, List, inl, inr, Some, None, Result, Ok, Err, ◌++◌, refl, sym, ap, subst, ◌∙◌, append_assoc}
 use Rattle.std.specs.Prelude.{IfOk, IfSome}
-use Rattle.gm_host.specs.Store.{Contents}
-use Rattle.gm_lines.specs.Refusing.{TheMap}
+use Rattle.gm_host.specs.Store.{Contents, Lacks}
+use Rattle.gm_lines.specs.Refusing.{Role, TheMap}
 use Rattle.gm_mapfile.proofs.Again.{printed_again}
 use Rattle.gm_mapfile.proofs.Listed.{listed_good}
 use Rattle.gm_mapfile.specs.MapText.{ListedMap}
@@ -15,7 +15,7 @@ use Rattle.gm_tool.specs.MadeRuns.{IsMapBytes, IsSaving, IsSoundReply}
 use Rattle.gm_tool.specs.Migrating.{MigrateNames, HasMigrated, IsMigrateAnswer, MapFails, LongOutput, Done, IsMigrated, IsMigrateStatus, IsMigrateLoadFailure, IsMigrateText, migrated_line, migrated_text}
 use Rattle.gm_tool.specs.Refusals.{refusal_answer}
 use Rattle.gm_tool.specs.RunAnswer.{IsBadMap}
-use Rattle.gm_tool.specs.Stops.{IsReadMap, IsRoleStop, IsFrom, reply_of}
+use Rattle.gm_tool.specs.Stops.{IsReadMap, IsRoleStop, IsSoundStop, IsFrom, reply_of}
 use Rattle.gm_tool.specs.declared.refusal.NoText.{NoText}
 use Rattle.gm_tool.specs.declared.refusal.NoText.TheVariants as nothing
 use Rattle.gm_tool.specs.declared.refusal.Stop.{Stop}
@@ -23,6 +23,7 @@ use Rattle.gm_tool.specs.declared.refusal.Stop.TheVariants as stops
 use Rattle.gm_tool.specs.declared.reply.Reply.{Reply}
 use Rattle.gm_tool.specs.declared.running.Made.{Made}
 use Rattle.gm_tool.proofs.Saving.{saved_text}
+use Rattle.gm_tool.proofs.Stopping.{sound_to}
 
 module _ (named : MigrateNames) (load_fails : ℕ → Type 0) (fails save_fails : Type 0) (contents : Contents) where
   abbrev Reads : Contents → Result MapRead Stop → Type 0
@@ -78,8 +79,13 @@ pub migrated_bytes : (read : MapRead) (made : Made) → (bytes : List ℕ) × Is
 migrated_bytes read made (bytes, is) made_is =
     subst IsMapBytes (sym made_is.2) (versions.Two, listed_of read.arena, refl, printed_again listed_good bytes read.version versions.Two (listed_of read.arena) is.stands)
 
+-- the one load fails, or its file isn't there
+pub unread_is_sound : (contents : Contents) (name : List ℕ) (fails later : Type 0) → (fails → later) → (stop : Stop) → IsSoundStop stop (λ other. (other ≡ TheMap) × (fails ⊎ Lacks contents name)) → IsSoundStop stop (λ _. later ⊎ Lacks contents name)
+unread_is_sound contents name fails later up stop h =
+    sound_to (λ other. (other ≡ TheMap) × (fails ⊎ Lacks contents name)) (λ _. later ⊎ Lacks contents name) (λ role why. elim why.1 [ inl failed ↦ inl (up failed) | inr lacks ↦ inr lacks ]) stop h
+
 -- want of memory and a text that is too long are no faults of the store
-pub unmade_is_sound : (map : ListedMap) (none : NoText) (P Q : Type 0) → IsMigrated map (Err none) → IsSoundReply (Err none) P Q
+pub unmade_is_sound : (map : ListedMap) (none : NoText) (P : Role → Type 0) (Q : Type 0) → IsMigrated map (Err none) → IsSoundReply (Err none) P Q
 unmade_is_sound map nothing.OutOfMemory P Q is = tt
 unmade_is_sound map (nothing.Refused why) P Q is = subst (λ w. IsSoundReply (Err (nothing.Refused w)) P Q) (sym is.0) tt
 

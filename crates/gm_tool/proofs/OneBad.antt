@@ -2,7 +2,7 @@
 use Rattle.std.proofs.Common.{◌≡◌, ℕ, List, ◌++◌, length, All, refl, sym, ap, subst, ◌∙◌}
 use Rattle.std.proofs.Math.Path.{ap₂}
 use Rattle.gm_model.specs.declared.schema.Schema.{Schema}
-use Rattle.gm_model.specs.declared.script.Line.{Line}
+use Rattle.gm_model.specs.declared.script.Stat.{Stat}
 use Rattle.gm_model.specs.Acceptance.{IsAccepted}
 use Rattle.gm_forms.specs.BookText.{BookText}
 use Rattle.gm_book.specs.Canonical as books
@@ -85,5 +85,5 @@ no_bad_good_book bytes why version schema rules (RuleRefused version' schema' ru
 pub one_bad_script : (rules : List Rule) (bytes why other : List ℕ) → IsBadScript rules bytes why → IsBadScript rules bytes other → why ≡ other
 one_bad_script rules bytes why other (fault, a, e) (fault', b, f) = e ∙ ap script_fault_words (one_script_fault bytes rules fault fault' a b) ∙ sym f
 
-pub no_bad_script : (rules : List Rule) (bytes why : List ℕ) (lines : List Line) → IsBadScript rules bytes why → ScriptText bytes rules lines → ⊥
-no_bad_script rules bytes why lines (fault, a, e) stands = no_script_at bytes rules fault a lines stands
+pub no_bad_script : (rules : List Rule) (bytes why : List ℕ) (stats : List Stat) → IsBadScript rules bytes why → ScriptText bytes rules stats → ⊥
+no_bad_script rules bytes why stats (fault, a, e) stands = no_script_at bytes rules fault a stats stands

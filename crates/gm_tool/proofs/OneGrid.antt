@@ -1,24 +1,19 @@
 -- `grid` has one answer at most to its number.
-use Rattle.std.proofs.Common.{◌≡◌, ℕ, ◌≤◌, List, [], ◌∷◌, All, refl, sym, ap, subst, ◌∙◌}
+use Rattle.std.proofs.Common.{◌≡◌, ℕ, ◌≤◌, List, [], ◌∷◌, refl, sym, ap, subst, ◌∙◌}
 use Rattle.std.specs.List.{count_by}
 use Rattle.gm_cells.specs.Cells.{AreByLabel, HasCells, HasCellsOf, labels_but}
 use Rattle.gm_cells.proofs.LabelLemmas.{but_within}
-use Rattle.gm_grid.proofs.GridSchema.{is_schema}
-use Rattle.gm_grid.proofs.GridSound.{is_sound}
 use Rattle.gm_model.specs.declared.schema.Schema.{Schema}
-use Rattle.gm_model.specs.Acceptance.{IsAccepted}
-use Rattle.gm_model.specs.Maps.{Map, IsDart, IsGeneralised, IsSchema, dimension}
+use Rattle.gm_model.specs.Maps.{Map, IsDart, IsGeneralised, dimension}
 use Rattle.gm_model.specs.Orbits.{IsLead, IsPathIn, follow}
 use Rattle.gm_model.specs.Runs.{is_done}
 use Rattle.gm_run.specs.Alike.{AreAlike}
 use Rattle.gm_run.proofs.AlikeLemmas.{alike_back, alike_generalised}
-use Rattle.gm_theory.specs.Outcomes.{HasRun}
-use Rattle.gm_theory.proofs.RunsFound.{scripts_have_runs}
 use Rattle.gm_theory.proofs.ValuesUnique.{one_count}
 use Rattle.gm_walk.proofs.CountLemmas.{count_alike}
 use Rattle.gm_tool.specs.Answer.{Answer, answers}
-use Rattle.gm_tool.specs.GridAnswer.{Gridded, IsGridded, IsGridText, IsGridAnswer, grid_rules, grid_lines, grid_line}
-use Rattle.gm_tool.proofs.Grids.{rules_accepted, lines_good, one_gridding}
+use Rattle.gm_tool.specs.GridAnswer.{Gridded, IsGridded, IsGridText, IsGridAnswer, grid_line}
+use Rattle.gm_tool.proofs.Grids.{one_gridding, run_here}
 use Rattle.gm_tool.proofs.OneCells.{one_by_label}
 
 -- ---- maps that are alike have the same cells
@@ -54,20 +49,20 @@ module _ (a b : Map) (alike : AreAlike a b) (lawful : IsGeneralised a) where
 -- ---- one line
 
 module _ (m : ℕ) (small : m ≤ 100) where
-  after_generalised : (made : Gridded) → IsGridded m made → IsGeneralised made.after
+  after_generalised : (made : Gridded) → IsGridded m made → IsGeneralised made.after.map
   after_generalised made is =
-      let of_schema : IsSchema made.grid.schema = subst IsSchema (sym is.grid_is.schema_is) is_schema in
-      let found : HasRun grid_rules made.grid (grid_lines m) = scripts_have_runs grid_rules made.grid (grid_lines m) of_schema (is_sound m small made.grid is.grid_is) (subst (λ s. All (IsAccepted s) grid_rules) (sym is.grid_is.schema_is) rules_accepted) (lines_good m) in
+      let found = run_here m small made.grid is.grid_is in
       let same = one_gridding m small made.grid made.grid is.grid_is is.grid_is found.outcomes made.outcomes found.after made.after found.run is.run in
-      alike_generalised found.after made.after same.1 found.sound.generalised
+      alike_generalised found.after.map made.after.map same.1.map found.sound.map.sound.generalised
 
   one_text : (text other : List ℕ) → IsGridText m text → IsGridText m other → text ≡ other
   one_text text other (made, is, tells) (made', is', tells') =
       let same = one_gridding m small made.grid made'.grid is.grid_is is'.grid_is made.outcomes made'.outcomes made.after made'.after is.run is'.run in
-      let darts : tells.darts ≡ tells'.darts = one_count (IsDart made'.after) tells.darts tells'.darts (count_alike (IsDart made.after) (IsDart made'.after) (λ d. (same.1.same.darts d).0) (λ d. (same.1.same.darts d).1) tells.darts tells.darts_are) tells'.darts_are in
-      let cells : tells.cells ≡ tells'.cells = one_cells made.after made'.after same.1 (after_generalised made is) tells.cells tells'.cells tells.cells_are tells'.cells_are in
+      let alike : AreAlike made.after.map made'.after.map = same.1.map in
+      let darts : tells.darts ≡ tells'.darts = one_count (IsDart made'.after.map) tells.darts tells'.darts (count_alike (IsDart made.after.map) (IsDart made'.after.map) (λ d. (alike.same.darts d).0) (λ d. (alike.same.darts d).1) tells.darts tells.darts_are) tells'.darts_are in
+      let cells : tells.cells ≡ tells'.cells = one_cells made.after.map made'.after.map alike (after_generalised made is) tells.cells tells'.cells tells.cells_are tells'.cells_are in
       let outcomes : made.outcomes ≡ made'.outcomes = same.0 in
-      let next : made.after.next ≡ made'.after.next = same.1.same.next in
+      let next : made.after.map.next ≡ made'.after.map.next = alike.same.next in
       tells.is ∙ (λ k. grid_line m (count_by is_done (outcomes k)) (darts k) (next k) (cells k)) ∙ sym tells'.is
 
   pub one_grid_answer : (one other : Answer) → IsGridAnswer m one → IsGridAnswer m other → one ≡ other

@@ -26,20 +26,20 @@ module _ (files : Files) (named : RunNames) where
       let same = one_book bytes version version' a.schema b.schema a.rules b.rules stands (subst (λ t. BookText t version' b.schema b.rules) (same_bytes files named.book other bytes there.0 held.0) stands') in
       (same.1, same.2)
 
-  same_script : (a b : Inputs) → a.rules ≡ b.rules → HasScript files named a → HasScript files named b → a.lines ≡ b.lines
+  same_script : (a b : Inputs) → a.rules ≡ b.rules → HasScript files named a → HasScript files named b → a.stats ≡ b.stats
   same_script a b rules (bytes, held, stands) (other, there, stands') =
-      one_script bytes a.rules a.lines b.lines stands (subst (λ rs. ScriptText bytes rs b.lines) (sym rules) (subst (λ t. ScriptText t b.rules b.lines) (same_bytes files named.script other bytes there.0 held.0) stands'))
+      one_script bytes a.rules a.stats b.stats stands (subst (λ rs. ScriptText bytes rs b.stats) (sym rules) (subst (λ t. ScriptText t b.rules b.stats) (same_bytes files named.script other bytes there.0 held.0) stands'))
 
   pub same_inputs : (a b : Inputs) → HasMap files named a → HasMap files named b → HasBook files named a → HasBook files named b → HasScript files named a → HasScript files named b → a ≡ b
   same_inputs a b of_map to_map of_book to_book of_script to_script =
       let maps : (a.version ≡ b.version) × (a.map ≡ b.map) = same_map a b of_map to_map in
       let books : (a.schema ≡ b.schema) × (a.rules ≡ b.rules) = same_book a b of_book to_book in
-      let lines : a.lines ≡ b.lines = same_script a b books.1 of_script to_script in
+      let stats : a.stats ≡ b.stats = same_script a b books.1 of_script to_script in
       let version : a.version ≡ b.version = maps.0 in
       let listed : a.map ≡ b.map = maps.1 in
       let schema : a.schema ≡ b.schema = books.0 in
       let rules : a.rules ≡ b.rules = books.1 in
-      λ k. record { version = version k; map = listed k; schema = schema k; rules = rules k; lines = lines k }
+      λ k. record { version = version k; map = listed k; schema = schema k; rules = rules k; stats = stats k }
 
   -- ---- one answer where all files are good
 
@@ -100,7 +100,7 @@ module _ (files : Files) (named : RunNames) where
 
   script_fails_not : (inputs : Inputs) (rules : List Rule) (answer : Answer) → rules ≡ inputs.rules → IsFailing files TheScript named.script (IsBadScript rules) answer → HasScript files named inputs → ⊥
   script_fails_not inputs rules answer same fails (bytes, held, stands) =
-      no_failing_good files named.script TheScript (IsBadScript inputs.rules) (λ t. ScriptText t inputs.rules inputs.lines) (λ t why bad good. no_bad_script inputs.rules t why inputs.lines bad good) answer
+      no_failing_good files named.script TheScript (IsBadScript inputs.rules) (λ t. ScriptText t inputs.rules inputs.stats) (λ t why bad good. no_bad_script inputs.rules t why inputs.stats bad good) answer
       (subst (λ rs. IsFailing files TheScript named.script (IsBadScript rs) answer) same fails) bytes held stands
 
   module _ (a b : Inputs) (of_map : HasMap files named a) (to_map : HasMap files named b) (one other : Answer) where

@@ -1,16 +1,20 @@
--- What is put, and the status that comes of it.
-use Rattle.std.proofs.Common.{◌≡◌, ℕ, ◌<◌, List, ◌++◌, inl, inr, Option, Some, None, Ok, Err, take, refl, sym, ◌∙◌, subst, arith}
+-- What is put, and what the status that comes of it says.
+use Rattle.std.proofs.Common.{◌≡◌, ℕ, List, ◌++◌, inl, inr, Option, Some, None, Result, Ok, Err, take, refl, sym, ◌∙◌, subst}
 use Rattle.std.proofs.lemmas.Bool.{eqb-false}
-use Rattle.std.specs.Prelude.{IfSome, IsErrOf}
+use Rattle.std.specs.Prelude.{◌≢◌, IfOk, IfSome, IsErrOf}
 use Rattle.gm_host.specs.Store.{Contents}
 use Rattle.gm_tool.specs.Answer.{Files}
+use Rattle.gm_lines.specs.Refusing as refusing
+use Rattle.gm_tool.specs.declared.refusal.NoText.{NoText}
 use Rattle.gm_tool.specs.declared.refusal.NoText.TheVariants as nothing
 use Rattle.gm_tool.specs.declared.refusal.Refusal.{Refusal}
 use Rattle.gm_tool.specs.declared.refusal.Refusal.TheVariants as refusals
 use Rattle.gm_tool.specs.declared.reply.Reply.{Reply}
-use Rattle.gm_tool.specs.Refusals.{refusal_answer}
-use Rattle.gm_tool.specs.MadeRuns.{HasCause, IsRunStatus}
-use Rattle.gm_tool.specs.Tool.{IsText, IsPut, IsReplyStatus, IsStatus, IsUsageStatus, Ends, Leaves, Put, PutFailed, Unput, NoMemory, LeavesWhereTold}
+use Rattle.gm_tool.specs.Refusals.{role_in, refusal_answer}
+use Rattle.gm_tool.specs.Endings.{status_given}
+use Rattle.gm_tool.specs.Loads.{UnlessNoMemory}
+use Rattle.gm_tool.specs.MadeRuns.{IsSoundReply, IsRunStatus}
+use Rattle.gm_tool.specs.Tool.{IsText, IsPut, IsReplyStatus, IsStatus, Ends, Leaves, Put, PutFailed, Unput, NoMemory, LeavesWhereTold}
 
 module _ (words : List (List ℕ)) (load_fails : ℕ → Type 0) (save_fails put_fails : Type 0) (later : Contents) where
   put_ending : (files : Files) (text before : List ℕ) (given status : ℕ) (after : Option (List ℕ)) → Ends words files load_fails save_fails given text later
@@ -40,12 +44,12 @@ module _ (words : List (List ℕ)) (load_fails : ℕ → Type 0) (save_fails put
   put_nothing (Some files) None is = tt
   put_nothing (Some files) (Some before) is = (before, refl, NoMemory refl refl is)
 
--- ---- statuses
+-- ---- the status that is given
 
-abbrev six : IsStatus 6
+pub six : IsStatus 6
 six = inr (inr (inr (inr (inl refl))))
 
-abbrev seven : IsStatus 7
+pub seven : IsStatus 7
 seven = inr (inr (inr (inr (inr (inl refl)))))
 
 refusal_status : (why : Refusal) → IsStatus (refusal_answer why).status
@@ -56,195 +60,154 @@ refusal_status refusals.SizeOutput = inr (inr (inr (inr (inr (inr refl)))))
 refusal_status refusals.Agree = inl (inr (inr refl))
 refusal_status refusals.Save = inr (inr (inr (inl refl)))
 
-put_status : (before after : Option (List ℕ)) (fails : Type 0) (bytes : List ℕ) (given status : ℕ) → IsStatus given → IsPut before after fails bytes given status → IsStatus status
-put_status before after fails bytes given status is (inl p) = subst IsStatus (sym p.0) is
-put_status before after fails bytes given status is (inr (inl p)) = subst IsStatus (sym p.0) six
-put_status before after fails bytes given status is (inr (inr p)) = subst IsStatus (sym p.0) seven
+pub given_is : (reply : Result Reply NoText) → IfOk reply (λ r. IsReplyStatus r.status) → IsStatus (status_given reply)
+given_is (Ok reply) is = inl is
+given_is (Err nothing.OutOfMemory) is = seven
+given_is (Err (nothing.Refused why)) is = refusal_status why
 
-pub status_of_reply : (reply : Reply) (before after : Option (List ℕ)) (fails : Type 0) (bytes : List ℕ) (status : ℕ) → IsReplyStatus reply.status → IsPut before after fails bytes reply.status status → IsStatus status
-status_of_reply reply before after fails bytes status is put = put_status before after fails bytes reply.status status (inl is) put
+-- a refusal has none of these statuses
+module _ (k : ℕ) where
+  abbrev IsNone : Type 0
+  IsNone = (why : Refusal) → (refusal_answer why).status ≡ k → ⊥
 
-pub status_of_refusal : (why : Refusal) (before after : Option (List ℕ)) (fails : Type 0) (bytes : List ℕ) (status : ℕ) → IsPut before after fails bytes (refusal_answer why).status status → IsStatus status
-status_of_refusal why before after fails bytes status put = put_status before after fails bytes (refusal_answer why).status status (refusal_status why) put
+refused_none : (k : ℕ) → (2 ≡ k → ⊥) → (3 ≡ k → ⊥) → (4 ≡ k → ⊥) → (5 ≡ k → ⊥) → (8 ≡ k → ⊥) → IsNone k
+refused_none k two three four five eight refusals.Usage e = two e
+refused_none k two three four five eight (refusals.Load role) e = three e
+refused_none k two three four five eight (refusals.Size role) e = eight e
+refused_none k two three four five eight refusals.SizeOutput e = eight e
+refused_none k two three four five eight refusals.Agree e = four e
+refused_none k two three four five eight refusals.Save e = five e
 
-pub status_without_memory : IsStatus 7
-status_without_memory = seven
+not_zero : IsNone 0
+not_zero = refused_none 0 (eqb-false 2 0 refl) (eqb-false 3 0 refl) (eqb-false 4 0 refl) (eqb-false 5 0 refl) (eqb-false 8 0 refl)
 
-usage_put : (before after : Option (List ℕ)) (fails : Type 0) (bytes : List ℕ) (status : ℕ) → IsPut before after fails bytes 2 status → IsUsageStatus status
-usage_put before after fails bytes status (inl p) = inl p.0
-usage_put before after fails bytes status (inr (inl p)) = inr (inl p.0)
-usage_put before after fails bytes status (inr (inr p)) = inr (inr p.0)
+not_one : IsNone 1
+not_one = refused_none 1 (eqb-false 2 1 refl) (eqb-false 3 1 refl) (eqb-false 4 1 refl) (eqb-false 5 1 refl) (eqb-false 8 1 refl)
 
-pub usage_status : (why : Refusal) (before after : Option (List ℕ)) (fails : Type 0) (bytes : List ℕ) (status : ℕ) → IsPut before after fails bytes (refusal_answer why).status status
-    → IsErrOf {T = Reply} (Err (nothing.Refused why)) (nothing.Refused refusals.Usage) → IsUsageStatus status
-usage_status why before after fails bytes status put is =
-    let e : why ≡ refusals.Usage = cc in
-    usage_put before after fails bytes status (subst (λ (r : Refusal). IsPut before after fails bytes (refusal_answer r).status status) e put)
+not_six : IsNone 6
+not_six = refused_none 6 (eqb-false 2 6 refl) (eqb-false 3 6 refl) (eqb-false 4 6 refl) (eqb-false 5 6 refl) (eqb-false 8 6 refl)
 
--- the status 1 is that of a reply
-pub one_put : (before after : Option (List ℕ)) (fails : Type 0) (bytes : List ℕ) (given status : ℕ) → IsPut before after fails bytes given status → status ≡ 1 → given ≡ 1
-one_put before after fails bytes given status (inl p) one = sym p.0 ∙ one
-one_put before after fails bytes given status (inr (inl p)) one = absurd (eqb-false 6 1 refl (sym p.0 ∙ one))
-one_put before after fails bytes given status (inr (inr p)) one = absurd (eqb-false 7 1 refl (sym p.0 ∙ one))
+pub refusal_is_not_seven : IsNone 7
+refusal_is_not_seven = refused_none 7 (eqb-false 2 7 refl) (eqb-false 3 7 refl) (eqb-false 4 7 refl) (eqb-false 5 7 refl) (eqb-false 8 7 refl)
 
-pub not_one : (why : Refusal) → (refusal_answer why).status ≡ 1 → ⊥
-not_one refusals.Usage e = eqb-false 2 1 refl e
-not_one (refusals.Load role) e = eqb-false 3 1 refl e
-not_one (refusals.Size role) e = eqb-false 8 1 refl e
-not_one refusals.SizeOutput e = eqb-false 8 1 refl e
-not_one refusals.Agree e = eqb-false 4 1 refl e
-not_one refusals.Save e = eqb-false 5 1 refl e
+-- and a reply has none but 0, 1 and 4
+reply_none : (k : ℕ) → (0 ≡ k → ⊥) → (1 ≡ k → ⊥) → (4 ≡ k → ⊥) → (status : ℕ) → IsReplyStatus status → status ≡ k → ⊥
+reply_none k zero one four status (inl h) e = zero (sym h ∙ e)
+reply_none k zero one four status (inr (inl h)) e = one (sym h ∙ e)
+reply_none k zero one four status (inr (inr h)) e = four (sym h ∙ e)
 
--- and so is none of 6 and 7, which are left of a put that failed
-module _ (before after : Option (List ℕ)) (fails : Type 0) (bytes : List ℕ) (given status : ℕ) (is : IsReplyStatus given) where
-  reply_is_low : given < 5
-  reply_is_low = elim is [ inl zero ↦ omega (arith, zero) | inr (inl one) ↦ omega (arith, one) | inr (inr four) ↦ omega (arith, four) ]
+pub reply_is_not_seven : (status : ℕ) → IsReplyStatus status → status ≡ 7 → ⊥
+reply_is_not_seven = reply_none 7 (eqb-false 0 7 refl) (eqb-false 1 7 refl) (eqb-false 4 7 refl)
 
-  pub reply_six : IsPut before after fails bytes given status → status ≡ 6 → fails
-  reply_six (inl p) is_six = let low = reply_is_low in let same = p.0 in absurd (omega (arith, low, same, is_six))
-  reply_six (inr (inl p)) is_six = p.1
-  reply_six (inr (inr p)) is_six = absurd (eqb-false 7 6 refl (sym p.0 ∙ is_six))
+-- ---- what a status says of a reply
 
-  pub reply_seven : IsPut before after fails bytes given status → status ≡ 7 → after ≡ before
-  reply_seven (inl p) is_seven = let low = reply_is_low in let same = p.0 in absurd (omega (arith, low, same, is_seven))
-  reply_seven (inr (inl p)) is_seven = absurd (eqb-false 6 7 refl (sym p.0 ∙ is_seven))
-  reply_seven (inr (inr p)) is_seven = p.1
+pub given_one : (P : Type 0) (reply : Result Reply NoText) → IfOk reply (λ r. r.status ≡ 1 → P) → status_given reply ≡ 1 → P
+given_one P (Ok reply) h one = h one
+given_one P (Err nothing.OutOfMemory) h one = absurd (eqb-false 7 1 refl one)
+given_one P (Err (nothing.Refused why)) h one = absurd (not_one why one)
 
--- ---- want of memory
+two_refused : (why : Refusal) → (refusal_answer why).status ≡ 2 → why ≡ refusals.Usage
+two_refused refusals.Usage e = refl
+two_refused (refusals.Load role) e = absurd (eqb-false 3 2 refl e)
+two_refused (refusals.Size role) e = absurd (eqb-false 8 2 refl e)
+two_refused refusals.SizeOutput e = absurd (eqb-false 8 2 refl e)
+two_refused refusals.Agree e = absurd (eqb-false 4 2 refl e)
+two_refused refusals.Save e = absurd (eqb-false 5 2 refl e)
 
-pub reply_is_not_seven : (given : ℕ) → IsReplyStatus given → given ≡ 7 → ⊥
-reply_is_not_seven given (inl h) e = eqb-false 0 7 refl (sym h ∙ e)
-reply_is_not_seven given (inr (inl h)) e = eqb-false 1 7 refl (sym h ∙ e)
-reply_is_not_seven given (inr (inr h)) e = eqb-false 4 7 refl (sym h ∙ e)
+pub given_two : (reply : Result Reply NoText) → IfOk reply (λ r. IsReplyStatus r.status) → status_given reply ≡ 2 → IsErrOf reply (nothing.Refused refusals.Usage)
+given_two (Ok reply) is e = absurd (reply_none 2 (eqb-false 0 2 refl) (eqb-false 1 2 refl) (eqb-false 4 2 refl) reply.status is e)
+given_two (Err nothing.OutOfMemory) is e = absurd (eqb-false 7 2 refl e)
+given_two (Err (nothing.Refused why)) is e = let usage = two_refused why e in cc
 
-pub refusal_is_not_seven : (why : Refusal) → (refusal_answer why).status ≡ 7 → ⊥
-refusal_is_not_seven refusals.Usage e = eqb-false 2 7 refl e
-refusal_is_not_seven (refusals.Load role) e = eqb-false 3 7 refl e
-refusal_is_not_seven (refusals.Size role) e = eqb-false 8 7 refl e
-refusal_is_not_seven refusals.SizeOutput e = eqb-false 8 7 refl e
-refusal_is_not_seven refusals.Agree e = eqb-false 4 7 refl e
-refusal_is_not_seven refusals.Save e = eqb-false 5 7 refl e
+three_refused : (why : Refusal) (P : refusing.Role → Type 0) (Q : Type 0) → (refusal_answer why).status ≡ 3 → IsSoundReply (Err (nothing.Refused why)) P Q → (role : refusing.Role) × P role
+three_refused (refusals.Load role) P Q e h = (role_in role, h)
+three_refused refusals.Usage P Q e h = absurd (eqb-false 2 3 refl e)
+three_refused (refusals.Size role) P Q e h = absurd (eqb-false 8 3 refl e)
+three_refused refusals.SizeOutput P Q e h = absurd (eqb-false 8 3 refl e)
+three_refused refusals.Agree P Q e h = absurd (eqb-false 4 3 refl e)
+three_refused refusals.Save P Q e h = absurd (eqb-false 5 3 refl e)
 
--- ---- causes
+pub given_three : (reply : Result Reply NoText) (P : refusing.Role → Type 0) (Q : Type 0) → IfOk reply (λ r. IsReplyStatus r.status) → IsSoundReply reply P Q → status_given reply ≡ 3 → (role : refusing.Role) × P role
+given_three (Ok reply) P Q is h e = absurd (reply_none 3 (eqb-false 0 3 refl) (eqb-false 1 3 refl) (eqb-false 4 3 refl) reply.status is e)
+given_three (Err nothing.OutOfMemory) P Q is h e = absurd (eqb-false 7 3 refl e)
+given_three (Err (nothing.Refused why)) P Q is h e = three_refused why P Q e h
 
-module _ (before after : Option (List ℕ)) (fails : Type 0) (bytes : List ℕ) (status : ℕ) where
-  -- what a refusal with this status says, where it is the status that is left
-  three_refused : (why : Refusal) (P Q : Type 0) → (refusal_answer why).status ≡ 3 → HasCause (Err (nothing.Refused why)) P Q → P
-  three_refused (refusals.Load role) P Q e h = h
-  three_refused refusals.Usage P Q e h = absurd (eqb-false 2 3 refl e)
-  three_refused (refusals.Size role) P Q e h = absurd (eqb-false 8 3 refl e)
-  three_refused refusals.SizeOutput P Q e h = absurd (eqb-false 8 3 refl e)
-  three_refused refusals.Agree P Q e h = absurd (eqb-false 4 3 refl e)
-  three_refused refusals.Save P Q e h = absurd (eqb-false 5 3 refl e)
+five_refused : (why : Refusal) (P : refusing.Role → Type 0) (Q : Type 0) → (refusal_answer why).status ≡ 5 → IsSoundReply (Err (nothing.Refused why)) P Q → Q
+five_refused refusals.Save P Q e h = h
+five_refused (refusals.Load role) P Q e h = absurd (eqb-false 3 5 refl e)
+five_refused refusals.Usage P Q e h = absurd (eqb-false 2 5 refl e)
+five_refused (refusals.Size role) P Q e h = absurd (eqb-false 8 5 refl e)
+five_refused refusals.SizeOutput P Q e h = absurd (eqb-false 8 5 refl e)
+five_refused refusals.Agree P Q e h = absurd (eqb-false 4 5 refl e)
 
-  five_refused : (why : Refusal) (P Q : Type 0) → (refusal_answer why).status ≡ 5 → HasCause (Err (nothing.Refused why)) Q P → P
-  five_refused refusals.Save P Q e h = h
-  five_refused (refusals.Load role) P Q e h = absurd (eqb-false 3 5 refl e)
-  five_refused refusals.Usage P Q e h = absurd (eqb-false 2 5 refl e)
-  five_refused (refusals.Size role) P Q e h = absurd (eqb-false 8 5 refl e)
-  five_refused refusals.SizeOutput P Q e h = absurd (eqb-false 8 5 refl e)
-  five_refused refusals.Agree P Q e h = absurd (eqb-false 4 5 refl e)
+pub given_five : (reply : Result Reply NoText) (P : refusing.Role → Type 0) (Q : Type 0) → IfOk reply (λ r. IsReplyStatus r.status) → IsSoundReply reply P Q → status_given reply ≡ 5 → Q
+given_five (Ok reply) P Q is h e = absurd (reply_none 5 (eqb-false 0 5 refl) (eqb-false 1 5 refl) (eqb-false 4 5 refl) reply.status is e)
+given_five (Err nothing.OutOfMemory) P Q is h e = absurd (eqb-false 7 5 refl e)
+given_five (Err (nothing.Refused why)) P Q is h e = five_refused why P Q e h
 
-  pub three_put : (why : Refusal) (P Q : Type 0) → IsPut before after fails bytes (refusal_answer why).status status → status ≡ 3 → HasCause (Err (nothing.Refused why)) P Q → P
-  three_put why P Q (inl put) e h = three_refused why P Q (sym put.0 ∙ e) h
-  three_put why P Q (inr (inl put)) e h = absurd (eqb-false 6 3 refl (sym put.0 ∙ e))
-  three_put why P Q (inr (inr put)) e h = absurd (eqb-false 7 3 refl (sym put.0 ∙ e))
+pub unless_seven : (P : Type 0) (reply : Result Reply NoText) → UnlessNoMemory reply P → status_given reply ≢ 7 → P
+unless_seven P (Ok reply) h e = h
+unless_seven P (Err nothing.OutOfMemory) h e = absurd (e refl)
+unless_seven P (Err (nothing.Refused why)) h e = h
 
-  pub five_put : (why : Refusal) (P Q : Type 0) → IsPut before after fails bytes (refusal_answer why).status status → status ≡ 5 → HasCause (Err (nothing.Refused why)) Q P → P
-  five_put why P Q (inl put) e h = five_refused why P Q (sym put.0 ∙ e) h
-  five_put why P Q (inr (inl put)) e h = absurd (eqb-false 6 5 refl (sym put.0 ∙ e))
-  five_put why P Q (inr (inr put)) e h = absurd (eqb-false 7 5 refl (sym put.0 ∙ e))
-
-  -- the status 2 is that of words that are no command
-  two_refused : (why : Refusal) → (refusal_answer why).status ≡ 2 → why ≡ refusals.Usage
-  two_refused refusals.Usage e = refl
-  two_refused (refusals.Load role) e = absurd (eqb-false 3 2 refl e)
-  two_refused (refusals.Size role) e = absurd (eqb-false 8 2 refl e)
-  two_refused refusals.SizeOutput e = absurd (eqb-false 8 2 refl e)
-  two_refused refusals.Agree e = absurd (eqb-false 4 2 refl e)
-  two_refused refusals.Save e = absurd (eqb-false 5 2 refl e)
-
-  pub two_put : (why : Refusal) → IsPut before after fails bytes (refusal_answer why).status status → status ≡ 2 → IsErrOf {T = Reply} (Err (nothing.Refused why)) (nothing.Refused refusals.Usage)
-  two_put why (inl put) e = let usage = two_refused why (sym put.0 ∙ e) in cc
-  two_put why (inr (inl put)) e = absurd (eqb-false 6 2 refl (sym put.0 ∙ e))
-  two_put why (inr (inr put)) e = absurd (eqb-false 7 2 refl (sym put.0 ∙ e))
-
-  reply_two : (given : ℕ) → IsReplyStatus given → given ≡ 2 → ⊥
-  reply_two given (inl h) e = eqb-false 0 2 refl (sym h ∙ e)
-  reply_two given (inr (inl h)) e = eqb-false 1 2 refl (sym h ∙ e)
-  reply_two given (inr (inr h)) e = eqb-false 4 2 refl (sym h ∙ e)
-
-  pub not_two : (given : ℕ) → IsReplyStatus given → IsPut before after fails bytes given status → status ≡ 2 → ⊥
-  not_two given is (inl put) e = reply_two given is (sym put.0 ∙ e)
-  not_two given is (inr (inl put)) e = eqb-false 6 2 refl (sym put.0 ∙ e)
-  not_two given is (inr (inr put)) e = eqb-false 7 2 refl (sym put.0 ∙ e)
-
-  -- the statuses 6 and 7 are those of a put that failed
-  not_six : (why : Refusal) → (refusal_answer why).status ≡ 6 → ⊥
-  not_six refusals.Usage e = eqb-false 2 6 refl e
-  not_six (refusals.Load role) e = eqb-false 3 6 refl e
-  not_six (refusals.Size role) e = eqb-false 8 6 refl e
-  not_six refusals.SizeOutput e = eqb-false 8 6 refl e
-  not_six refusals.Agree e = eqb-false 4 6 refl e
-  not_six refusals.Save e = eqb-false 5 6 refl e
-
-  pub refusal_six : (why : Refusal) → IsPut before after fails bytes (refusal_answer why).status status → status ≡ 6 → fails
-  refusal_six why (inl put) e = absurd (not_six why (sym put.0 ∙ e))
-  refusal_six why (inr (inl put)) e = put.1
-  refusal_six why (inr (inr put)) e = absurd (eqb-false 7 6 refl (sym put.0 ∙ e))
-
-  pub refusal_seven : (why : Refusal) → IsPut before after fails bytes (refusal_answer why).status status → status ≡ 7 → after ≡ before
-  refusal_seven why (inl put) e = absurd (refusal_is_not_seven why (sym put.0 ∙ e))
-  refusal_seven why (inr (inl put)) e = absurd (eqb-false 6 7 refl (sym put.0 ∙ e))
-  refusal_seven why (inr (inr put)) e = put.1
-
-  reply_three : (given : ℕ) → IsReplyStatus given → given ≡ 3 → ⊥
-  reply_three given (inl h) e = eqb-false 0 3 refl (sym h ∙ e)
-  reply_three given (inr (inl h)) e = eqb-false 1 3 refl (sym h ∙ e)
-  reply_three given (inr (inr h)) e = eqb-false 4 3 refl (sym h ∙ e)
-
-  reply_five : (given : ℕ) → IsReplyStatus given → given ≡ 5 → ⊥
-  reply_five given (inl h) e = eqb-false 0 5 refl (sym h ∙ e)
-  reply_five given (inr (inl h)) e = eqb-false 1 5 refl (sym h ∙ e)
-  reply_five given (inr (inr h)) e = eqb-false 4 5 refl (sym h ∙ e)
-
-  -- no reply is left with these statuses
-  pub not_three : (given : ℕ) → IsReplyStatus given → IsPut before after fails bytes given status → status ≡ 3 → ⊥
-  not_three given is (inl put) e = reply_three given is (sym put.0 ∙ e)
-  not_three given is (inr (inl put)) e = eqb-false 6 3 refl (sym put.0 ∙ e)
-  not_three given is (inr (inr put)) e = eqb-false 7 3 refl (sym put.0 ∙ e)
-
-  pub not_five : (given : ℕ) → IsReplyStatus given → IsPut before after fails bytes given status → status ≡ 5 → ⊥
-  not_five given is (inl put) e = reply_five given is (sym put.0 ∙ e)
-  not_five given is (inr (inl put)) e = eqb-false 6 5 refl (sym put.0 ∙ e)
-  not_five given is (inr (inr put)) e = eqb-false 7 5 refl (sym put.0 ∙ e)
-
-  -- the statuses of a run that is done are given
-  pub run_put : (given : ℕ) → IsPut before after fails bytes given status → IsRunStatus status → IsRunStatus given
-  run_put given (inl put) is = subst IsRunStatus put.0 is
-  run_put given (inr (inl put)) (inl e) = absurd (eqb-false 6 0 refl (sym put.0 ∙ e))
-  run_put given (inr (inl put)) (inr e) = absurd (eqb-false 6 1 refl (sym put.0 ∙ e))
-  run_put given (inr (inr put)) (inl e) = absurd (eqb-false 7 0 refl (sym put.0 ∙ e))
-  run_put given (inr (inr put)) (inr e) = absurd (eqb-false 7 1 refl (sym put.0 ∙ e))
-
-  pub no_run_put : (why : Refusal) → IsPut before after fails bytes (refusal_answer why).status status → IsRunStatus status → ⊥
-  no_run_put why put is = done (run_put (refusal_answer why).status put is)
-    where
-      not_zero : (w : Refusal) → (refusal_answer w).status ≡ 0 → ⊥
-      not_zero refusals.Usage e = eqb-false 2 0 refl e
-      not_zero (refusals.Load role) e = eqb-false 3 0 refl e
-      not_zero (refusals.Size role) e = eqb-false 8 0 refl e
-      not_zero refusals.SizeOutput e = eqb-false 8 0 refl e
-      not_zero refusals.Agree e = eqb-false 4 0 refl e
-      not_zero refusals.Save e = eqb-false 5 0 refl e
-
-      done : IsRunStatus (refusal_answer why).status → ⊥
-      done (inl e) = not_zero why e
-      done (inr e) = not_one why e
+-- ---- a run that is done
 
 pub six_is_no_run : IsRunStatus 6 → ⊥
 six_is_no_run (inl e) = eqb-false 6 0 refl e
 six_is_no_run (inr e) = eqb-false 6 1 refl e
 
-pub reply_is_no_usage : (reply : Reply) → IsErrOf {T = Reply} (Ok reply) (nothing.Refused refusals.Usage) → ⊥
-reply_is_no_usage reply e = cc
+pub seven_is_no_run : IsRunStatus 7 → ⊥
+seven_is_no_run (inl e) = eqb-false 7 0 refl e
+seven_is_no_run (inr e) = eqb-false 7 1 refl e
+
+pub refusal_is_no_run : (why : Refusal) → IsRunStatus (refusal_answer why).status → ⊥
+refusal_is_no_run why (inl e) = not_zero why e
+refusal_is_no_run why (inr e) = not_one why e
+
+pub given_run : (P : Type 0) (reply : Result Reply NoText) → IfOk reply (λ r. IsRunStatus r.status → P) → IsRunStatus (status_given reply) → P
+given_run P (Ok reply) h run = h run
+given_run P (Err nothing.OutOfMemory) h run = absurd (seven_is_no_run run)
+given_run P (Err (nothing.Refused why)) h run = absurd (refusal_is_no_run why run)
+
+pub given_done : (P : Type 0) (reply : Result Reply NoText) → IfOk reply (λ _. P) → IsRunStatus (status_given reply) → P
+given_done P (Ok reply) h run = h
+given_done P (Err nothing.OutOfMemory) h run = absurd (seven_is_no_run run)
+given_done P (Err (nothing.Refused why)) h run = absurd (refusal_is_no_run why run)
+
+-- what is stated of a run that is done alone
+pub given_least : (Least : ℕ → Type 0) → ((status : ℕ) → (IsRunStatus status → ⊥) → Least status) → (reply : Result Reply NoText) → IfOk reply (λ r. Least r.status) → Least (status_given reply)
+given_least Least none (Ok reply) h = h
+given_least Least none (Err nothing.OutOfMemory) h = none 7 seven_is_no_run
+given_least Least none (Err (nothing.Refused why)) h = none (refusal_answer why).status (refusal_is_no_run why)
+
+-- ---- what is put of it
+
+module _ (before after : Option (List ℕ)) (fails : Type 0) (bytes : List ℕ) (status : ℕ) where
+  -- the status of a run that is done is that which was given
+  pub run_put : (given : ℕ) → IsPut before after fails bytes given status → IsRunStatus status → IsRunStatus given
+  run_put given (inl put) is = subst IsRunStatus put.0 is
+  run_put given (inr (inl put)) is = absurd (six_is_no_run (subst IsRunStatus put.0 is))
+  run_put given (inr (inr put)) is = absurd (seven_is_no_run (subst IsRunStatus put.0 is))
+
+  -- 6 and 7 are left of a put that failed, where they aren't given
+  pub six_put : (given : ℕ) → (given ≡ 6 → ⊥) → IsPut before after fails bytes given status → status ≡ 6 → fails
+  six_put given not_given (inl put) e = absurd (not_given (sym put.0 ∙ e))
+  six_put given not_given (inr (inl put)) e = put.1
+  six_put given not_given (inr (inr put)) e = absurd (eqb-false 7 6 refl (sym put.0 ∙ e))
+
+  pub seven_put : (given : ℕ) → (given ≡ 7 → ⊥) → IsPut before after fails bytes given status → status ≡ 7 → after ≡ before
+  seven_put given not_given (inl put) e = absurd (not_given (sym put.0 ∙ e))
+  seven_put given not_given (inr (inl put)) e = absurd (eqb-false 6 7 refl (sym put.0 ∙ e))
+  seven_put given not_given (inr (inr put)) e = put.1
+
+  pub reply_six : (given : ℕ) → IsReplyStatus given → IsPut before after fails bytes given status → status ≡ 6 → fails
+  reply_six given is = six_put given (reply_none 6 (eqb-false 0 6 refl) (eqb-false 1 6 refl) (eqb-false 4 6 refl) given is)
+
+  pub refusal_six : (why : Refusal) → IsPut before after fails bytes (refusal_answer why).status status → status ≡ 6 → fails
+  refusal_six why = six_put (refusal_answer why).status (not_six why)
+
+  pub reply_seven : (given : ℕ) → IsReplyStatus given → IsPut before after fails bytes given status → status ≡ 7 → after ≡ before
+  reply_seven given is = seven_put given (reply_is_not_seven given is)
+
+  pub refusal_seven : (why : Refusal) → IsPut before after fails bytes (refusal_answer why).status status → status ≡ 7 → after ≡ before
+  refusal_seven why = seven_put (refusal_answer why).status (refusal_is_not_seven why)

@@ -1,5 +1,5 @@
 -- Why a run stops before anything is saved, file by file.
-use Rattle.std.proofs.Common.{◌≡◌, ◌⊎◌, ℕ, ◌≤◌, List, [], inl, inr, Some, None, Result, Ok, Err, map, All, refl, ap, ◌∙◌, ◌+◌, arith}
+use Rattle.std.proofs.Common.{◌≡◌, ◌⊎◌, ℕ, ◌≤◌, List, [], inl, inr, Some, None, Result, Ok, Err, map, All, refl, sym, ap, subst, ◌∙◌, ◌+◌, arith}
 use Rattle.std.specs.Prelude.{IfSome}
 use Rattle.gm_host.specs.Count.{counted, Rises}
 use Rattle.gm_host.specs.Store.{Contents, Lacks}
@@ -11,9 +11,10 @@ use Rattle.gm_model.specs.declared.script.Script.{Script}
 use Rattle.gm_model.specs.Acceptance.{IsAccepted}
 use Rattle.gm_model.specs.Rules.{Rule, rule_of}
 use Rattle.gm_tool.specs.Answer.{Files, answers, HasFile}
-use Rattle.gm_lines.specs.Refusing.{TheMap, TheBook, TheScript}
+use Rattle.gm_lines.specs.Refusing.{Role, TheMap, TheBook, TheScript}
 use Rattle.gm_tool.specs.Begun.{Counts, HasBegun}
-use Rattle.gm_tool.specs.MadeRuns.{inputs_of, IsRunOf, IsMade, IsStopOf, LacksInput, LoadsAtMostThrice}
+use Rattle.gm_tool.specs.Loads.{load_of, file_of, PassesAt, LoadsInOrder, IsUnloaded}
+use Rattle.gm_tool.specs.MadeRuns.{inputs_of, IsRunOf, IsMade, IsStopOf, LoadsAtMostThrice}
 use Rattle.gm_tool.specs.Refusals.{refusal_answer}
 use Rattle.gm_tool.specs.RunAnswer.{RunNames, Inputs, HasMap, HasBook, HasScript, Agree, IsBadMap, IsBadBook, IsBadScript, IsFirstRefused, RuleRefused, Bad, MapFails, BookFails, ScriptFails, Disagree, LongOutput}
 use Rattle.gm_tool.specs.StepBounds.{ReadsWithin}
@@ -28,9 +29,6 @@ use Rattle.gm_tool.specs.declared.running.Made.{Made}
 pub rises_later : (before between after : ℕ) → before ≤ between → Rises between after → Rises before after
 rises_later before between after up (inl more) = inl (omega (arith, up, more))
 rises_later before between after up (inr full) = inr full
-
-pub rises_last : (before between later after : ℕ) → before ≤ between → between ≤ later → Rises later after → Rises before after
-rises_last before between later after up more rises = rises_later before later after (omega (arith, up, more)) rises
 
 module _ (named : RunNames) (load_fails : ℕ → Type 0) where
   module _ (files : Files) where
@@ -66,7 +64,7 @@ module _ (named : RunNames) (load_fails : ℕ → Type 0) where
 
 -- the inputs, as far as they are known
 abbrev pub known : MapRead → Schema → List Rule → Inputs
-known m schema rules = record { version = m.version; map = listed_of m.arena; schema = schema; rules = rules; lines = [] }
+known m schema rules = record { version = m.version; map = listed_of m.arena; schema = schema; rules = rules; stats = [] }
 
 -- ---- the exits of a run, wherever the store tells
 
@@ -134,21 +132,39 @@ has_begun contents named m book the_map the_book start between faults once loads
   least = least;
 }
 
-pub thrice_at_most : (before between after : ℕ) → between ≡ counted (counted before) → (after ≡ between) ⊎ (after ≡ counted between) → LoadsAtMostThrice before after
-thrice_at_most before between after twice (inl same) = inr (inr (inl (same ∙ twice)))
-thrice_at_most before between after twice (inr more) = inr (inr (inr (more ∙ ap counted twice)))
+-- ---- loads, in their order
 
--- ---- causes
+module _ (contents : Contents) (named : RunNames) where
+  pub passes_map : PassesAt contents named TheMap
+  passes_map = go contents
+    where
+      go : (c : Contents) → PassesAt c named TheMap
+      go None = tt
+      go (Some files) = tt
 
-module _ (contents : Contents) (named : RunNames) (fails : Type 0) where
-  pub lacks_map : fails ⊎ Lacks contents named.map → fails ⊎ LacksInput contents named
-  lacks_map (inl f) = inl f
-  lacks_map (inr l) = inr (inl l)
+  pub passes_book : (m : MapRead) (one : Type 0) → IsFrom contents TheMap named.map IsReadMap IsBadMap one (Ok m) → PassesAt contents named TheBook
+  passes_book m one the_map = go contents the_map
+    where
+      go : (c : Contents) → IsFrom c TheMap named.map IsReadMap IsBadMap one (Ok m) → PassesAt c named TheBook
+      go None f = tt
+      go (Some files) (bytes, held, read) = (known m m.arena.schema [], (bytes, held, read.stands))
 
-  pub lacks_book : (later : Type 0) → (later → fails) → later ⊎ Lacks contents named.book → fails ⊎ LacksInput contents named
-  lacks_book later up (inl f) = inl (up f)
-  lacks_book later up (inr l) = inr (inr (inl l))
+  pub passes_script : (m : MapRead) (book : Book) (one two : Type 0) → IsFrom contents TheMap named.map IsReadMap IsBadMap one (Ok m) → IsFrom contents TheBook named.book IsReadBook IsBadBook two (Ok book)
+      → All (IsAccepted book.schema) (map rule_of book.rules) → PassesAt contents named TheScript
+  passes_script m book one two the_map the_book accepted = go contents the_map the_book
+    where
+      go : (c : Contents) → IsFrom c TheMap named.map IsReadMap IsBadMap one (Ok m) → IsFrom c TheBook named.book IsReadBook IsBadBook two (Ok book) → PassesAt c named TheScript
+      go None f g = tt
+      go (Some files) (bytes, held, read) (text, there, is) = (known m book.schema (map rule_of book.rules), (bytes, held, read.stands), (text, book.version, there, is, accepted))
 
-  pub lacks_script : (later : Type 0) → (later → fails) → later ⊎ Lacks contents named.script → fails ⊎ LacksInput contents named
-  lacks_script later up (inl f) = inl (up f)
-  lacks_script later up (inr l) = inr (inr (inr l))
+  -- why the file of a role isn't loaded, where each before it is good
+  pub unloaded : (load_fails : ℕ → Type 0) (role : Role) (fails : Type 0) → PassesAt contents named role → (fails → load_fails (load_of role))
+      → (other : Role) → (other ≡ role) × (fails ⊎ Lacks contents (file_of named role)) → IsUnloaded contents named load_fails other
+  unloaded load_fails role fails passes up other (e, cause) =
+      subst (IsUnloaded contents named load_fails) (sym e) (passes, elim cause [ inl failed ↦ inl (up failed) | inr lacks ↦ inr lacks ])
+
+-- ordered loads are three at most
+pub thrice_at_most : (contents : Contents) (named : RunNames) (before after : ℕ) → LoadsInOrder contents named before after → LoadsAtMostThrice before after
+thrice_at_most contents named before after (TheMap, passes, is) = inr (inl is)
+thrice_at_most contents named before after (TheBook, passes, is) = inr (inr (inl is))
+thrice_at_most contents named before after (TheScript, passes, is) = inr (inr (inr is))

@@ -5,6 +5,7 @@ use Rattle.gm_host.specs.Store.{Contents}
 use Rattle.gm_host.specs.Saves.{IsSaved, IsSavedInPart}
 use Rattle.gm_tool.specs.Answer.{Files, Answer, answers, Saved}
 use Rattle.gm_tool.specs.Endings.{Whole, LoadFailed, SaveFailed, IsTextOf}
+use Rattle.gm_lines.specs.Refusing.{Role}
 use Rattle.gm_tool.specs.MadeRuns.{IsMade, IsStopOf, IsRunLoadFailure, IsSaving, IsRunText, IsRunStatus, IsMapBytes, HoldsMap, IsSoundReply}
 use Rattle.gm_tool.specs.Refusals.{refusal_answer}
 use Rattle.gm_tool.specs.RunAnswer.{RunNames, IsRunAnswer, Done, report_of, saved_of, run_status}
@@ -76,7 +77,7 @@ module _ (contents after : Contents) (out : List ℕ) (made : Made) (fails : Typ
   unsaved (Err nothing.OutOfMemory) saving e = saving
   unsaved (Err (nothing.Refused why)) saving e = absurd cc
 
-  pub saving_is_sound : (reply : Result Reply NoText) (P : Type 0) → IsSaving contents out made fails after reply → IsSoundReply reply P fails
+  pub saving_is_sound : (reply : Result Reply NoText) (P : Role → Type 0) → IsSaving contents out made fails after reply → IsSoundReply reply P fails
   saving_is_sound (Ok reply) P h = tt
   saving_is_sound (Err nothing.OutOfMemory) P h = tt
   saving_is_sound (Err (nothing.Refused refusals.Save)) P h = h.0
@@ -88,7 +89,7 @@ module _ (contents after : Contents) (out : List ℕ) (made : Made) (fails : Typ
 
 -- ---- a stop
 
-pub stop_is_sound : (stop : Stop) (P Q : Type 0) → IsSoundStop stop P → IsSoundReply (reply_of stop) P Q
+pub stop_is_sound : (stop : Stop) (P : Role → Type 0) (Q : Type 0) → IsSoundStop stop P → IsSoundReply (reply_of stop) P Q
 stop_is_sound (stops.Bad line) P Q h = tt
 stop_is_sound (stops.NoText nothing.OutOfMemory) P Q h = tt
 stop_is_sound (stops.NoText (nothing.Refused (refusals.Load role))) P Q h = h

@@ -19,13 +19,14 @@ use Rattle.gm_model.specs.declared.rule.Book.{Book}
 use Rattle.gm_model.specs.declared.schema.Schema.{Schema}
 use Rattle.gm_model.specs.declared.script.Script.{Script}
 use Rattle.gm_model.specs.Acceptance.{IsAccepted}
+use Rattle.gm_model.specs.Budgets.{Bounds, no_entries, IsRunWithin}
 use Rattle.gm_model.specs.Maps.{Map, IsDart}
 use Rattle.gm_mapfile.specs.MapText.{DartRow, map_of, names, rows_of}
 use Rattle.gm_mapfile.specs.declared.version.MapVersion.{MapVersion}
 use Rattle.gm_model.specs.GMap.{row_of}
 use Rattle.gm_model.specs.Orbits.{HasCount}
 use Rattle.gm_model.specs.Rules.{rule_of}
-use Rattle.gm_model.specs.Runs.{Outcome, IsRun, IsRunBudget, changed_darts}
+use Rattle.gm_model.specs.Runs.{Outcome, State, start_of, IsRun}
 use Rattle.gm_plan.specs.Plans.{PlanOf}
 use Rattle.gm_run.specs.declared.outcome.Outcome as report
 use Rattle.gm_run.specs.Alike.{AreAlike}
@@ -36,7 +37,7 @@ use Rattle.gm_tool.specs.Answer.{Files}
 use Rattle.gm_lines.specs.Refusing.{TheMap, TheBook, TheScript}
 use Rattle.gm_tool.specs.MadeRuns.{CanRun, inputs_of}
 use Rattle.gm_tool.specs.RunAnswer.{RunNames, Inputs, Ran, IsRan, IsGoodRun, HasMap, HasBook, HasScript, IsBadMap, IsBadBook, IsBadScript}
-use Rattle.gm_tool.specs.StepBounds.{HasBudget, IsMost, MostOf, IsLeast, LeastOf, WithinMost, AtLeast, BytesReadWithin, ReadsWithin, RunsWithin, RunsAtLeast, dim_of, darts_read, darts_left, printing}
+use Rattle.gm_tool.specs.StepBounds.{HasBounds, IsMost, MostOf, IsLeast, LeastOf, WithinMost, AtLeast, BytesReadWithin, ReadsWithin, RunsWithin, RunsAtLeast, dim_of, darts_read, darts_left, printing}
 use Rattle.gm_tool.specs.Stops.{IsReadMap, IsReadBook, IsReadScript, IsFrom}
 use Rattle.gm_mapfile.proofs.SoundRows.{same_map}
 use Rattle.gm_tool.proofs.Lines.{same_rules}
@@ -82,48 +83,54 @@ module _ (version : MapVersion) (m after : ArenaMap) (book : Book) (script : Scr
   abbrev inputs : Inputs
   inputs = inputs_of version m book script
 
-  pub lines_within : (start steps : ℕ)
-      → ((outcomes : List Outcome) (end : Map) (most : ℕ) → IsRunBudget (rules_of plans) (as_map m) script.lines outcomes end most → steps ≤ start + most)
-      → (ran : Ran) (sum : ℕ) → HasBudget inputs ran sum → steps ≤ start + sum
-  lines_within start steps within ran sum budget =
-      within ran.outcomes (map_of ran.map) sum
-      (subst (λ rules. IsRunBudget rules (as_map m) script.lines ran.outcomes (map_of ran.map) sum) (sym (same_rules m book script plans can))
-      (subst (λ x. IsRunBudget (map rule_of book.rules) x script.lines ran.outcomes (map_of ran.map) sum) (sym (same_map m)) budget))
+  -- bounds of the inputs are bounds of what is run
+  bounds_here : (ran : Ran) (behind : State) (bounds : Bounds) → IsRunWithin inputs.rules (start_of (map_of inputs.map)) no_entries script.stats ran.outcomes behind bounds
+      → IsRunWithin (rules_of plans) (start_of (as_map m)) no_entries script.stats ran.outcomes behind bounds
+  bounds_here ran behind bounds within =
+      subst (λ rules. IsRunWithin rules (start_of (as_map m)) no_entries script.stats ran.outcomes behind bounds) (sym (same_rules m book script plans can))
+      (subst (λ x. IsRunWithin (map rule_of book.rules) (start_of x) no_entries script.stats ran.outcomes behind bounds) (sym (same_map m)) within)
+
+  -- what holds of each pair of bounds of what is run
+  abbrev pub Bounded : (Bounds → Type 0) → Type 0
+  Bounded Holds = (outcomes : List Outcome) (end : State) (bounds : Bounds) → IsRunWithin (rules_of plans) (start_of (as_map m)) no_entries script.stats outcomes end bounds → Holds bounds
+
+  stats_within : (Holds : Bounds → Type 0) → Bounded Holds → (ran : Ran) (bounds : Bounds) → HasBounds inputs ran bounds → Holds bounds
+  stats_within Holds holds ran bounds (behind, within) = holds ran.outcomes behind bounds (bounds_here ran behind bounds within)
 
   module _ (lawful_after : IsLawful after) (lines : List report.Outcome)
-      (only : (outcomes : List Outcome) (end : Map) → IsRun (rules_of plans) (as_map m) script.lines outcomes end → Tells lines outcomes × AreAlike end (as_map after)) where
-    of_ran : (ran : Ran) → IsRan inputs ran → Tells lines ran.outcomes × AreAlike (map_of ran.map) (as_map after)
-    of_ran ran is =
-        only ran.outcomes (map_of ran.map)
-        (subst (λ rules. IsRun rules (as_map m) script.lines ran.outcomes (map_of ran.map)) (sym (same_rules m book script plans can))
-        (subst (λ x. IsRun (map rule_of book.rules) x script.lines ran.outcomes (map_of ran.map)) (sym (same_map m)) is.run))
+      (only : (outcomes : List Outcome) (end : State) → IsRun (rules_of plans) (start_of (as_map m)) script.stats outcomes end → Tells lines outcomes × AreAlike end.map (as_map after)) where
+    left_alike : (ran : Ran) → IsRan inputs ran → AreAlike (map_of ran.map) (as_map after)
+    left_alike ran is =
+        subst (λ x. AreAlike x (as_map after)) is.map_is
+        (only ran.outcomes is.behind
+        (subst (λ rules. IsRun rules (start_of (as_map m)) script.stats ran.outcomes is.behind) (sym (same_rules m book script plans can))
+        (subst (λ x. IsRun (map rule_of book.rules) (start_of x) script.stats ran.outcomes is.behind) (sym (same_map m)) is.run))).1
 
     -- the map that is left has as many darts
     left_counted : (ran : Ran) → IsRan inputs ran → darts_left ran ≡ after.count
     left_counted ran is =
-        let darts = (of_ran ran is).1.same.darts in
+        let darts = (left_alike ran is).same.darts in
         let own = rows_counted ran.map.darts is.ascending in
         one_count (IsDart (as_map after)) (darts_left ran) after.count
         (own.0, record { distinct = own.1.distinct; same = λ d. (λ c. (darts d).0 ((own.1.same d).0 c), λ live. (own.1.same d).1 ((darts d).1 live)) }, own.2) (darts_counted after lawful_after)
 
-    pub printed_within : (start middle steps : ℕ) → ((others : List Outcome) (end : Map) (most : ℕ) → IsRunBudget (rules_of plans) (as_map m) script.lines others end most → middle ≤ start + most)
+    pub printed_within : (start middle steps : ℕ) → Bounded (λ bounds. middle ≤ start + bounds.most)
         → after.schema ≡ m.schema → steps ≤ middle + printing after.schema.dim after.count → RunsWithin inputs start steps
-    printed_within start middle steps within same printed ran sum is budget =
-        let first = lines_within start middle within ran sum budget in
+    printed_within start middle steps within same printed ran bounds is has =
+        let first = stats_within (λ bounds. middle ≤ start + bounds.most) within ran bounds has in
         let dims = ap (λ (schema : Schema). schema.dim) same in
         let last : steps ≤ middle + printing m.schema.dim (darts_left ran) = rw (left_counted ran is) (subst (λ n. steps ≤ middle + printing n after.count) dims printed) in
         omega (arith, first, last)
 
-    pub printed_least : (start middle steps : ℕ) → ((outcomes : List Outcome) → Tells lines outcomes → start + changed_darts outcomes ≤ middle) → middle + after.count ≤ steps → RunsAtLeast inputs start steps
-    printed_least start middle steps ran_least printed ran is =
-        let changed = ran_least ran.outcomes (of_ran ran is).0 in
+    pub printed_least : (start middle steps : ℕ) → Bounded (λ bounds. start + bounds.least ≤ middle) → middle + after.count ≤ steps → RunsAtLeast inputs start steps
+    printed_least start middle steps least printed ran bounds is has =
+        let first = stats_within (λ bounds. start + bounds.least ≤ middle) least ran bounds has in
         let count = left_counted ran is in
-        omega (arith, printed, changed, count)
+        omega (arith, printed, first, count)
 
   -- a run that stops for want of memory prints nothing
-  pub unprinted_within : (start steps : ℕ) → ((others : List Outcome) (end : Map) (most : ℕ) → IsRunBudget (rules_of plans) (as_map m) script.lines others end most → steps ≤ start + most)
-      → RunsWithin inputs start steps
-  unprinted_within start steps within ran sum is budget = let first = lines_within start steps within ran sum budget in omega (arith, first)
+  pub unprinted_within : (start steps : ℕ) → Bounded (λ bounds. steps ≤ start + bounds.most) → RunsWithin inputs start steps
+  unprinted_within start steps within ran bounds is has = let first = stats_within (λ bounds. steps ≤ start + bounds.most) within ran bounds has in omega (arith, first)
 
 -- ---- the files
 
@@ -162,9 +169,9 @@ module _ (named : RunNames) where
   stopped_within (Some files) before after last same within = each
     where
       each : (most : ℕ) → IsMost files named most → last ≤ before + most
-      each _ (MostOf inputs ran sum good budget) =
+      each _ (MostOf inputs ran bounds good budget) =
           let read = within good.the_map.0 good.the_map.1 inputs.version inputs.map good.the_map.2 in
-          reading_below ((dim_of inputs + 1) * (dim_of inputs + 1)) (darts_read inputs) (darts_left ran) sum before last (omega (arith, same, read))
+          reading_below ((dim_of inputs + 1) * (dim_of inputs + 1)) (darts_read inputs) (darts_left ran) bounds.most before last (omega (arith, same, read))
 
   module _ (read : MapRead) (book : Book) (script : Script) (one two three : Type 0) (accepted : All (IsAccepted book.schema) (map rule_of book.rules)) where
     abbrev read_inputs : Inputs
@@ -184,20 +191,20 @@ module _ (named : RunNames) where
     ended_within (Some files) start middle after (the_map, the_book, the_script) reads runs = each
       where
         each : (most : ℕ) → IsMost files named most → after ≤ start + most
-        each _ (MostOf others ran sum good budget) =
+        each _ (MostOf others ran bounds good budget) =
             let same = of_read files named read.version read.arena book script the_map the_book the_script others ran good in
             let low = reads good.the_map.0 good.the_map.1 others.version others.map good.the_map.2 in
-            let high : after ≤ middle + sum + printing (dim_of others) (darts_left ran) = subst (λ x. RunsWithin x middle after) (sym same) runs ran sum good.is_ran budget in
-            handled ((dim_of others + 1) * (dim_of others + 1)) (darts_read others) (darts_left ran) sum start middle after low high
+            let high : after ≤ middle + bounds.most + printing (dim_of others) (darts_left ran) = subst (λ x. RunsWithin x middle after) (sym same) runs ran bounds good.is_ran budget in
+            handled ((dim_of others + 1) * (dim_of others + 1)) (darts_read others) (darts_left ran) bounds.most start middle after low high
 
     pub ended_least : (contents : Contents) (start middle after : ℕ) → IsLawful read.arena → AreRead contents → start + read.arena.count ≤ middle → RunsAtLeast read_inputs middle after → IfSome contents (λ files. AtLeast files named start after)
     ended_least None start middle after lawful are reads runs = tt
     ended_least (Some files) start middle after lawful (the_map, the_book, the_script) reads runs = each
       where
         each : (least : ℕ) → IsLeast files named least → start + least ≤ after
-        each _ (LeastOf others ran good) =
+        each _ (LeastOf others ran bounds good budget) =
             let same = of_read files named read.version read.arena book script the_map the_book the_script others ran good in
-            let low = subst (λ x. RunsAtLeast x middle after) (sym same) runs ran good.is_ran in
+            let low = subst (λ x. RunsAtLeast x middle after) (sym same) runs ran bounds good.is_ran budget in
             let count = ap darts_read same ∙ printed_darts.darts_counted read.arena lawful in
             omega (arith, low, reads, count)
 

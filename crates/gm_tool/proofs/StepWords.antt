@@ -57,10 +57,9 @@ module _ (words : List (List ℕ)) (none : (named : RunNames) → AsksRun words 
   within_none None = tt
   within_none (Some files) = λ named asks. absurd (none named asks)
 
-  pub least_none : (contents : Contents) (reply : Result Reply NoText) → IfOk reply (λ r. TakesLeast words contents r.status before after)
-  least_none None (Ok reply) = tt
-  least_none (Some files) (Ok reply) = λ named asks run. absurd (none named asks)
-  least_none contents (Err error) = tt
+  pub least_none : (contents : Contents) (status : ℕ) → TakesLeast words contents status before after
+  least_none None status = tt
+  least_none (Some files) status = λ named asks run. absurd (none named asks)
 
 -- ---- a map that is shown
 
@@ -126,9 +125,8 @@ pub grid_least : (words : List (List ℕ)) (m before after : ℕ) → AsksGrid w
 grid_least words m before after asks (Ok reply) h = λ other asks_too done. subst (λ n. AtLeastOfGrid n before after) (same_size words m other asks asks_too) h
 grid_least words m before after asks (Err none) h = tt
 
-pub no_grid_least : (words : List (List ℕ)) (before after : ℕ) → ((m : ℕ) → AsksGrid words m → ⊥) → (reply : Result Reply NoText) → IfOk reply (λ r. GridTakesLeast words r.status before after)
-no_grid_least words before after none (Ok reply) = λ m asks. absurd (none m asks)
-no_grid_least words before after none (Err error) = tt
+pub no_grid_least : (words : List (List ℕ)) (status before after : ℕ) → ((m : ℕ) → AsksGrid words m → ⊥) → GridTakesLeast words status before after
+no_grid_least words status before after none m asks = absurd (none m asks)
 
 -- ---- the status
 
@@ -157,12 +155,5 @@ pub least_refused : (words : List (List ℕ)) (contents : Contents) (status befo
 least_refused words None status before after none = tt
 least_refused words (Some files) status before after none = λ named asks run. absurd (none run)
 
-pub seven_is_no_run : IsRunStatus 7 → ⊥
-seven_is_no_run (inl e) = let f : ◌≡◌ {A = ℕ} 7 0 = e in cc
-seven_is_no_run (inr e) = let f : ◌≡◌ {A = ℕ} 7 1 = e in cc
-
 pub grid_least_put : (words : List (List ℕ)) (given status before after : ℕ) → (IsRunStatus status → IsRunStatus given) → GridTakesLeast words given before after → GridTakesLeast words status before after
 grid_least_put words given status before after runs h m asks run = h m asks (runs run)
-
-pub grid_least_refused : (words : List (List ℕ)) (status before after : ℕ) → (IsRunStatus status → ⊥) → GridTakesLeast words status before after
-grid_least_refused words status before after none m asks run = absurd (none run)

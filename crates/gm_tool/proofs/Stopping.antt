@@ -31,7 +31,6 @@ use Rattle.gm_tool.specs.declared.refusal.Refusal.TheVariants as refusals
 use Rattle.gm_tool.specs.declared.refusal.Role.{Role}
 use Rattle.gm_tool.specs.declared.refusal.Stop.{Stop}
 use Rattle.gm_tool.specs.declared.refusal.Stop.TheVariants as stops
-use Rattle.gm_tool.specs.declared.running.Made.{Made}
 
 -- ---- texts
 
@@ -102,25 +101,21 @@ rule_stopped schema rule fault line stop h says is =
     rule_says schema rule (codes "rule " ++ rule.name ++ codes " " ++ rule_fault_words schema rule fault) line stop (fault, h, refl) says is
 
 -- a text that can't be run is no fault of the store
-pub bad_is_sound : (role : refusing.Role) (IsWhy : List ℕ → Type 0) (P : Type 0) (stop : Stop) → IsBadFor role IsWhy stop → IsSoundStop stop P
+pub bad_is_sound : (role : refusing.Role) (IsWhy : List ℕ → Type 0) (P : refusing.Role → Type 0) (stop : Stop) → IsBadFor role IsWhy stop → IsSoundStop stop P
 bad_is_sound role IsWhy P (stops.Bad line) h = tt
 bad_is_sound role IsWhy P (stops.NoText nothing.OutOfMemory) h = tt
 bad_is_sound role IsWhy P (stops.NoText (nothing.Refused why)) h = absurd h
 
 -- another cause of the same
-pub sound_to : (P Q : Type 0) → (P → Q) → (stop : Stop) → IsSoundStop stop P → IsSoundStop stop Q
+pub sound_to : (P Q : refusing.Role → Type 0) → ((role : refusing.Role) → P role → Q role) → (stop : Stop) → IsSoundStop stop P → IsSoundStop stop Q
 sound_to P Q f (stops.Bad line) h = tt
 sound_to P Q f (stops.NoText nothing.OutOfMemory) h = tt
-sound_to P Q f (stops.NoText (nothing.Refused (refusals.Load role))) h = f h
+sound_to P Q f (stops.NoText (nothing.Refused (refusals.Load role))) h = f (role_in role) h
 sound_to P Q f (stops.NoText (nothing.Refused (refusals.Size role))) h = tt
 sound_to P Q f (stops.NoText (nothing.Refused refusals.Usage)) h = h
 sound_to P Q f (stops.NoText (nothing.Refused refusals.SizeOutput)) h = tt
 sound_to P Q f (stops.NoText (nothing.Refused refusals.Agree)) h = tt
 sound_to P Q f (stops.NoText (nothing.Refused refusals.Save)) h = h
-
-pub stops_soundly : (P Q : Type 0) → (P → Q) → (result : Result Made Stop) → IfErr result (λ stop. IsSoundStop stop P) → IfErr result (λ stop. IsSoundStop stop Q)
-stops_soundly P Q f (Ok made) h = tt
-stops_soundly P Q f (Err stop) h = sound_to P Q f stop h
 
 -- ---- files
 
@@ -139,19 +134,19 @@ module _ {A : Type 0} (role : refusing.Role) (name : List ℕ) (IsReadAs : List 
   failing_stop files of e (nothing.Refused refusals.Agree) h = absurd h
   failing_stop files of e (nothing.Refused refusals.Save) h = absurd h
 
-  load_cause : (contents : Contents) (of : Role) (none : NoText) → IsLoading contents name of fails (Err none) → IsSoundStop (stops.NoText none) (fails ⊎ Lacks contents name)
-  load_cause contents of nothing.OutOfMemory h = tt
-  load_cause contents of (nothing.Refused (refusals.Load other)) h = h.1
-  load_cause contents of (nothing.Refused (refusals.Size other)) h = tt
-  load_cause contents of (nothing.Refused refusals.Usage) h = absurd h
-  load_cause contents of (nothing.Refused refusals.SizeOutput) h = tt
-  load_cause contents of (nothing.Refused refusals.Agree) h = tt
-  load_cause contents of (nothing.Refused refusals.Save) h = absurd h
+  load_cause : (contents : Contents) (of : Role) → role_in of ≡ role → (none : NoText) → IsLoading contents name of fails (Err none) → IsSoundStop (stops.NoText none) (λ other. (other ≡ role) × (fails ⊎ Lacks contents name))
+  load_cause contents of e nothing.OutOfMemory h = tt
+  load_cause contents of e (nothing.Refused (refusals.Load other)) h = (ap role_in h.0 ∙ e, h.1)
+  load_cause contents of e (nothing.Refused (refusals.Size other)) h = tt
+  load_cause contents of e (nothing.Refused refusals.Usage) h = absurd h
+  load_cause contents of e (nothing.Refused refusals.SizeOutput) h = tt
+  load_cause contents of e (nothing.Refused refusals.Agree) h = tt
+  load_cause contents of e (nothing.Refused refusals.Save) h = absurd h
 
   -- a load that gave no file
   pub not_loaded_from : (contents : Contents) (of : Role) → role_in of ≡ role → (none : NoText) → IsLoading contents name of fails (Err none) → IsFrom {A = A} contents role name IsReadAs IsBadText fails (Err (stops.NoText none))
-  not_loaded_from None of e none h = (tt, load_cause None of none h)
-  not_loaded_from (Some files) of e none h = (failing_stop files of e none h, load_cause (Some files) of none h)
+  not_loaded_from None of e none h = (tt, load_cause None of e none h)
+  not_loaded_from (Some files) of e none h = (failing_stop files of e none h, load_cause (Some files) of e none h)
 
   -- a file that stands for nothing
   bad_stop : (files : Files) (bytes : List ℕ) → IsHeld (Some files) name bytes → length bytes ≤ most_bytes → (stop : Stop) → IsBadFor role (IsBadText bytes) stop → IsRoleStop files role name IsBadText fails stop

@@ -3,13 +3,13 @@ use Rattle.std.specs.Prelude.{◌≡◌, ℕ, ◌≤◌, ◌*◌, List, [], ◌�
 use Rattle.std.specs.List.{count_by, range_with_len}
 use Rattle.gm_cells.specs.Cells.{HasCells}
 use Rattle.gm_cells.specs.CellsText.{listed}
-use Rattle.gm_grid.specs.GridBook.{triangulation, line_at}
+use Rattle.gm_grid.specs.GridBook.{triangulation, stat_at}
 use Rattle.gm_grid.specs.GridMap.{IsGridMap, grid_schema}
-use Rattle.gm_model.specs.declared.script.Line.{Line}
+use Rattle.gm_model.specs.declared.script.Stat.{Stat}
 use Rattle.gm_model.specs.Maps.{Map, IsDart}
 use Rattle.gm_model.specs.Orbits.{HasCount}
 use Rattle.gm_model.specs.Rules.{Rule}
-use Rattle.gm_model.specs.Runs.{Outcome, is_done, IsRun}
+use Rattle.gm_model.specs.Runs.{Outcome, is_done, State, start_of, IsRun}
 use Rattle.gm_plan.specs.Plans.{PlanOf}
 use Rattle.gm_run.specs.Progress.{ArePlansFor, rules_of}
 use Rattle.gm_tool.specs.Answer.{Answer, answers}
@@ -29,18 +29,18 @@ abbrev pub grid_rules : List Rule
 grid_rules = triangulation ∷ []
 
 -- the rule at each square, ascending
-abbrev pub grid_lines : ℕ → List Line
-grid_lines m = map line_at (range_with_len 0 (m * m))
+abbrev pub grid_stats : ℕ → List Stat
+grid_stats m = map stat_at (range_with_len 0 (m * m))
 
--- the grid, the outcomes of the lines, and the map that they leave
+-- the grid, the outcomes of the statements, and the state that they leave
 pub record Gridded : Type 0 where
   pub grid : Map
   pub outcomes : List Outcome
-  pub after : Map
+  pub after : State
 
 pub record IsGridded (m : ℕ) (made : Gridded) : Type 0 where
   pub grid_is : IsGridMap m made.grid
-  pub run : IsRun grid_rules made.grid (grid_lines m) made.outcomes made.after
+  pub run : IsRun grid_rules (start_of made.grid) (grid_stats m) made.outcomes made.after
 
 -- ---- the line
 
@@ -52,10 +52,10 @@ grid_line m applied darts next cells =
 -- it tells how many lines are done, and of the map that is left the darts, the next name, and the cells by dimension
 pub record TellsGrid (m : ℕ) (made : Gridded) (text : List ℕ) : Type 0 where
   pub darts : ℕ
-  pub darts_are : HasCount (IsDart made.after) darts
+  pub darts_are : HasCount (IsDart made.after.map) darts
   pub cells : List ℕ
-  pub cells_are : HasCells made.after cells
-  pub is : text ≡ grid_line m (count_by is_done made.outcomes) darts made.after.next cells
+  pub cells_are : HasCells made.after.map cells
+  pub is : text ≡ grid_line m (count_by is_done made.outcomes) darts made.after.map.next cells
 
 -- ---- the answer
 

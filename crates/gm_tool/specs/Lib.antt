@@ -13,3 +13,5 @@ pub mod MadeRuns
 pub mod Tool
 pub mod StepBounds
 pub mod Begun
+pub mod Seen
+pub mod Headline

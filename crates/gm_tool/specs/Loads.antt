@@ -1,10 +1,10 @@
--- How many loads there were, at which of them the store failed, and behind which a run stops.
+-- How many loads and saves there were, at which load the store failed, and behind which a run stops.
 use Rattle.std.specs.Prelude.{◌≡◌, ◌⊎◌, ℕ, zero, suc, List, Result, Err, IfSome}
 use Rattle.gm_host.specs.Count.{counted, Rises}
-use Rattle.gm_host.specs.Store.{Contents}
+use Rattle.gm_host.specs.Store.{Contents, Lacks}
 use Rattle.gm_tool.specs.Answer.{Files, Answer}
-use Rattle.gm_lines.specs.Refusing.{Role, TheMap, TheBook}
-use Rattle.gm_tool.specs.RunAnswer.{RunNames, AsksRun, Inputs, HasMap, HasBook, IsFailing, IsBadMap, IsBadBook}
+use Rattle.gm_lines.specs.Refusing.{Role, TheMap, TheBook, TheScript}
+use Rattle.gm_tool.specs.RunAnswer.{RunNames, AsksRun, Inputs, HasMap, HasBook, IsFailing, IsBadMap, IsBadBook, PassesTo}
 use Rattle.gm_tool.specs.declared.refusal.NoText.{NoText}
 use Rattle.gm_tool.specs.declared.refusal.NoText.TheVariants as nothing
 use Rattle.gm_tool.specs.declared.refusal.Stop.{Stop}
@@ -23,6 +23,29 @@ FailsAt faults later_faults loads later_loads k = Rises faults later_faults × (
 
 -- ---- a run
 
+-- which load of a run is that of the role's file, counted from 1
+abbrev pub load_of : Role → ℕ
+load_of TheMap = 1
+load_of TheBook = 2
+load_of TheScript = 3
+
+abbrev pub file_of : RunNames → Role → List ℕ
+file_of named TheMap = named.map
+file_of named TheBook = named.book
+file_of named TheScript = named.script
+
+-- where the store tells, each file of a run that is taken before that of the role is good
+abbrev pub PassesAt : Contents → RunNames → Role → Type 0
+PassesAt contents named role = IfSome contents (λ files. PassesTo files named role)
+
+-- one load for each file of a run up to that of some role, each good but perhaps the last
+abbrev pub LoadsInOrder : Contents → RunNames → ℕ → ℕ → Type 0
+LoadsInOrder contents named before after = (role : Role) × PassesAt contents named role × (after ≡ loads_after (load_of role) before)
+
+-- the load of the role's file failed, or the store lacks that file; and each file before it is good
+abbrev pub IsUnloaded : Contents → RunNames → (ℕ → Type 0) → Role → Type 0
+IsUnloaded contents named load_fails role = PassesAt contents named role × (load_fails (load_of role) ⊎ Lacks contents (file_of named role))
+
 -- the file of the role is not good, or the store failed
 abbrev pub FailsHere : Files → Role → List ℕ → (List ℕ → List ℕ → Type 0) → Type 0 → Type 0
 FailsHere files role name IsBadText fails = fails ⊎ ((answer : Answer) × IsFailing files role name IsBadText answer)
@@ -39,6 +62,27 @@ StopsInTime files named fails before after = (last : ℕ) × StopsBehind files n
 -- where the words are a run and the store tells, there are as many loads as that
 abbrev pub CountsLoads : List (List ℕ) → Contents → Type 0 → ℕ → ℕ → Type 0
 CountsLoads words contents fails before after = IfSome contents (λ files. (named : RunNames) → AsksRun words named → StopsInTime files named fails before after)
+
+-- ---- saves
+
+-- the statuses with which a command that saves has called for its one save: it is done, or the save failed
+abbrev pub IsSaveStatus : ℕ → Type 0
+IsSaveStatus status = (status ≡ 0) ⊎ ((status ≡ 1) ⊎ (status ≡ 5))
+
+-- the statuses with which no save was called for
+abbrev pub IsUnsavedStatus : ℕ → Type 0
+IsUnsavedStatus status = (status ≡ 2) ⊎ ((status ≡ 3) ⊎ ((status ≡ 4) ⊎ (status ≡ 8)))
+
+abbrev pub OneAtMost : ℕ → ℕ → Type 0
+OneAtMost before after = (after ≡ before) ⊎ (after ≡ counted before)
+
+-- a command that saves does so once at most, and its status tells whether
+pub record CountsSaves (status before after : ℕ) : Type 0 where
+  pub one_at_most : OneAtMost before after
+  pub one : IsSaveStatus status → after ≡ counted before
+  pub none : IsUnsavedStatus status → after ≡ before
+
+-- ---- want of memory
 
 -- the fact, unless memory was wanting
 abbrev pub UnlessNoMemory : Result Reply NoText → Type 0 → Type 0

@@ -1,6 +1,6 @@
 -- What a run makes of its files before anything is saved, and what is left when the map is saved.
 use Rattle.std.specs.Prelude.{◌≡◌, ◌⊎◌, ℕ, ◌<◌, ◌≤◌, List, ◌++◌, length, map, Some, Result, Ok, Err, IfSome, codes}
-use Rattle.gm_host.specs.Store.{Contents, Lacks}
+use Rattle.gm_host.specs.Store.{Contents}
 use Rattle.gm_host.specs.Count.{counted}
 use Rattle.gm_host.specs.Saves.{IsSaved, IsSavedInPart}
 use Rattle.gm_arena.specs.ArenaAsMap.{as_map}
@@ -9,7 +9,7 @@ use Rattle.gm_mapfile.specs.Rows.{listed_of}
 use Rattle.gm_model.specs.declared.rule.Book.{Book}
 use Rattle.gm_model.specs.declared.script.Script.{Script}
 use Rattle.gm_model.specs.Maps.{IsSound}
-use Rattle.gm_mapfile.specs.MapText.{ListedMap, MapText, canonical}
+use Rattle.gm_mapfile.specs.MapText.{ListedMap, MapText, map_of, canonical}
 use Rattle.gm_mapfile.specs.declared.version.MapVersion.{MapVersion}
 use Rattle.gm_model.specs.Rules.{rule_of}
 use Rattle.gm_script.specs.ScriptText.{ScriptText}
@@ -19,7 +19,8 @@ use Rattle.gm_tool.specs.Answer.{most_bytes, Files, Answer, answers}
 use Rattle.gm_lines.specs.Refusing.{refusal, role_word}
 use Rattle.gm_lines.specs.Refusing as refusing
 use Rattle.gm_tool.specs.Endings.{IsTextOf}
-use Rattle.gm_tool.specs.Refusals.{refusal_answer}
+use Rattle.gm_tool.specs.Loads.{load_of}
+use Rattle.gm_tool.specs.Refusals.{role_in, refusal_answer}
 use Rattle.gm_tool.specs.RunAnswer.{RunNames, Inputs, Ran, IsRan, IsGoodRun, IsRunAnswer, PassesTo, report_of, saved_of, run_status}
 use Rattle.gm_tool.specs.declared.command.RunFiles.{RunFiles}
 use Rattle.gm_tool.specs.declared.refusal.NoText.{NoText}
@@ -36,7 +37,7 @@ names_of files = record { map = files.map.now; book = files.book.now; script = f
 -- ---- the lines are applied
 
 abbrev pub inputs_of : MapVersion → ArenaMap → Book → Script → Inputs
-inputs_of version m book script = record { version = version; map = listed_of m; schema = book.schema; rules = map rule_of book.rules; lines = script.lines }
+inputs_of version m book script = record { version = version; map = listed_of m; schema = book.schema; rules = map rule_of book.rules; stats = script.stats }
 
 -- what was read can be run
 pub record CanRun (m : ArenaMap) (book : Book) (script : Script) (plans : List PlanOf) : Type 0 where
@@ -45,7 +46,7 @@ pub record CanRun (m : ArenaMap) (book : Book) (script : Script) (plans : List P
   pub agree : m.schema ≡ book.schema
   pub plans_are : plans ≡ map (plan_of book.schema) book.rules
   pub text : List ℕ
-  pub lines : ScriptText text (map rule_of book.rules) script.lines
+  pub stats : ScriptText text (map rule_of book.rules) script.stats
 
 -- texts that are not too long, with the status; or one of them is
 abbrev pub IsFitted : ℕ → List ℕ → List ℕ → Result Made Stop → Type 0
@@ -62,17 +63,15 @@ abbrev pub IsRunOf : Inputs → Result Made Stop → Type 0
 IsRunOf inputs (Err (stops.NoText nothing.OutOfMemory)) = Unit {0}
 IsRunOf inputs made = (ran : Ran) × IsRan inputs ran × IsFitted (run_status ran.outcomes) (report_of inputs ran) (saved_of inputs ran) made
 
--- the bytes are the canonical text of a map, which it stands for: a generalised map with one value on each embedding orbit
+-- the bytes are the canonical text of a sound map: a generalised map with one value on each embedding orbit
+abbrev pub IsSoundText : List ℕ → Type 0
+IsSoundText bytes = (version : MapVersion) × (listed : ListedMap) × (bytes ≡ canonical version listed) × IsSound (map_of listed)
+
+-- and by the grammar they stand for it
 abbrev pub IsMapBytes : List ℕ → Type 0
 IsMapBytes bytes = (version : MapVersion) × (listed : ListedMap) × (bytes ≡ canonical version listed) × MapText bytes version listed
 
 -- ---- the files
-
--- which load of a run is that of the role's file, counted from 1
-abbrev pub load_of : refusing.Role → ℕ
-load_of refusing.TheMap = 1
-load_of refusing.TheBook = 2
-load_of refusing.TheScript = 3
 
 -- no file before that of this role fails, and the load of its file did; `load_fails` says so of a load by its number
 abbrev pub IsRunLoadFailure : Files → RunNames → (ℕ → Type 0) → Answer → Type 0
@@ -89,10 +88,6 @@ abbrev pub IsMade : Files → RunNames → (ℕ → Type 0) → Result Made Stop
 IsMade files named load_fails (Ok made) = (inputs : Inputs) × (ran : Ran) × IsGoodRun files named inputs ran × IsFitted (run_status ran.outcomes) (report_of inputs ran) (saved_of inputs ran) (Ok made)
 IsMade files named load_fails (Err stop) = IsStopOf files named load_fails stop
 
--- the store lacks a file that the run reads
-abbrev pub LacksInput : Contents → RunNames → Type 0
-LacksInput contents named = Lacks contents named.map ⊎ (Lacks contents named.book ⊎ Lacks contents named.script)
-
 -- no load, or one, two or three
 abbrev pub LoadsAtMostThrice : ℕ → ℕ → Type 0
 LoadsAtMostThrice before after = (after ≡ before) ⊎ ((after ≡ counted before) ⊎ ((after ≡ counted (counted before)) ⊎ (after ≡ counted (counted (counted before)))))
@@ -103,26 +98,23 @@ LoadsAtMostThrice before after = (after ≡ before) ⊎ ((after ≡ counted befo
 abbrev pub IsRunStatus : ℕ → Type 0
 IsRunStatus status = (status ≡ 0) ⊎ (status ≡ 1)
 
--- where the store tells, it holds the canonical text of a map under the name
+-- where the store tells, it holds such bytes under the name
+abbrev pub HoldsSuch : (List ℕ → Type 0) → Contents → List ℕ → Type 0
+HoldsSuch IsSuch contents name = IfSome contents (λ files. (bytes : List ℕ) × (files name ≡ Some bytes) × IsSuch bytes)
+
 abbrev pub HoldsMap : Contents → List ℕ → Type 0
-HoldsMap contents name = IfSome contents (λ files. (bytes : List ℕ) × (files name ≡ Some bytes) × IsMapBytes bytes)
+HoldsMap contents name = HoldsSuch IsMapBytes contents name
 
 -- the text to put of a run, and what the store then holds
 abbrev pub IsRunText : Files → RunNames → (ℕ → Type 0) → Type 0 → Contents → Result Reply NoText → Type 0
 IsRunText files named load_fails save_fails after reply = IsTextOf files (IsRunAnswer files named) (IsRunLoadFailure files named load_fails) save_fails after reply
 
--- an answer for a load has the first cause, one for a save the second, and none is for the words
-abbrev pub IsSoundReply : Result Reply NoText → Type 0 → Type 0 → Type 0
-IsSoundReply (Err (nothing.Refused (refusals.Load role))) P Q = P
+-- an answer for the load of a role's file has the first cause, one for a save the second, and none is for the words
+abbrev pub IsSoundReply : Result Reply NoText → (refusing.Role → Type 0) → Type 0 → Type 0
+IsSoundReply (Err (nothing.Refused (refusals.Load role))) P Q = P (role_in role)
 IsSoundReply (Err (nothing.Refused refusals.Save)) P Q = Q
 IsSoundReply (Err (nothing.Refused refusals.Usage)) P Q = ⊥
 IsSoundReply _ P Q = Unit {0}
-
--- an answer for a load has the first cause, and one for a save the second
-abbrev pub HasCause : Result Reply NoText → Type 0 → Type 0 → Type 0
-HasCause (Err (nothing.Refused (refusals.Load role))) P Q = P
-HasCause (Err (nothing.Refused refusals.Save)) P Q = Q
-HasCause _ P Q = Unit {0}
 
 -- the map is saved and the report is to be put; or the store failed and saved it in part; or memory was wanting, and nothing changed
 abbrev pub IsSaving : Contents → List ℕ → Made → Type 0 → Contents → Result Reply NoText → Type 0

@@ -1,19 +1,18 @@
 -- What a run of a script answers to the names of its files: the status, the report, and the map that is saved.
-use Rattle.std.specs.Prelude.{◌≡◌, ◌⊎◌, ℕ, ◌<◌, ◌≤◌, List, [], ◌∷◌, ◌++◌, length, Some, None, All, codes, slice_get}
+use Rattle.std.specs.Prelude.{◌≡◌, ◌⊎◌, ℕ, ◌<◌, ◌≤◌, List, [], ◌∷◌, ◌++◌, length, Some, None, All, Bool, nat_lt, if◌then◌else◌, codes, slice_get}
 use Rattle.std.specs.List.{AllByRecursion}
 use Rattle.std.specs.List.Sorted.{IsStrictlyIncreasing}
 use Rattle.gm_model.specs.declared.rule.RuleFault.{RuleFault}
 use Rattle.gm_model.specs.declared.schema.Schema.{Schema}
-use Rattle.gm_model.specs.declared.script.Line.{Line}
+use Rattle.gm_model.specs.declared.script.Stat.{Stat}
 use Rattle.gm_model.specs.Acceptance.{IsAccepted, IsFault}
 use Rattle.gm_forms.specs.BookText.{BookText}
 use Rattle.gm_mapfile.specs.MapReading.{IsWhole}
 use Rattle.gm_mapfile.specs.MapText.{ListedMap, MapText, map_of, canonical, names}
 use Rattle.gm_mapfile.specs.declared.version.MapVersion.{MapVersion}
-use Rattle.gm_model.specs.Reports.{report_text}
+use Rattle.gm_model.specs.Reports.{report_text, refused_in}
 use Rattle.gm_model.specs.Rules.{Rule}
-use Rattle.gm_model.specs.Runs.{Outcome, IsRun}
-use Rattle.gm_model.specs.Runs as runs
+use Rattle.gm_model.specs.Runs.{Outcome, State, start_of, IsRun}
 use Rattle.gm_script.specs.ScriptText.{ScriptText}
 use Rattle.gm_tool.specs.Answer.{most_bytes, Files, Answer, answers, HasFile}
 use Rattle.gm_lines.specs.Refusing.{Role, TheMap, TheBook, TheScript, role_word, refusal, IsBad}
@@ -69,7 +68,7 @@ pub record Inputs : Type 0 where
   pub map : ListedMap
   pub schema : Schema
   pub rules : List Rule
-  pub lines : List Line
+  pub stats : List Stat
 
 module _ (files : Files) (named : RunNames) (inputs : Inputs) where
   abbrev pub HasMap : Type 0
@@ -80,7 +79,7 @@ module _ (files : Files) (named : RunNames) (inputs : Inputs) where
   HasBook = (bytes : List ℕ) × (version : ℕ) × HasFile files named.book bytes × BookText bytes version inputs.schema inputs.rules × All (IsAccepted inputs.schema) inputs.rules
 
   abbrev pub HasScript : Type 0
-  HasScript = (bytes : List ℕ) × HasFile files named.script bytes × ScriptText bytes inputs.rules inputs.lines
+  HasScript = (bytes : List ℕ) × HasFile files named.script bytes × ScriptText bytes inputs.rules inputs.stats
 
 -- the map and the book are of one dimension, with the same embeddings in the same order
 abbrev pub Agree : Inputs → Type 0
@@ -88,32 +87,37 @@ Agree inputs = inputs.map.schema ≡ inputs.schema
 
 -- ---- the run
 
--- the outcomes of the lines, and the map after them, its darts in ascending order of their names
+-- the outcomes of the statements, and the map after them, its darts in ascending order of their names
 pub record Ran : Type 0 where
   pub outcomes : List Outcome
   pub map : ListedMap
 
 pub record IsRan (inputs : Inputs) (ran : Ran) : Type 0 where
-  pub run : IsRun inputs.rules (map_of inputs.map) inputs.lines ran.outcomes (map_of ran.map)
+  pub behind : State
+  pub run : IsRun inputs.rules (start_of (map_of inputs.map)) inputs.stats ran.outcomes behind
+  pub map_is : behind.map ≡ map_of ran.map
   pub schema_is : ran.map.schema ≡ inputs.map.schema
   pub ascending : IsStrictlyIncreasing (names ran.map.darts)
   pub whole : AllByRecursion (IsWhole ran.map.schema) ran.map.darts
 
 abbrev pub report_of : Inputs → Ran → List ℕ
-report_of inputs ran = report_text inputs.schema inputs.rules inputs.lines ran.outcomes (length ran.map.darts) ran.map.next
+report_of inputs ran = report_text inputs.schema inputs.rules inputs.stats ran.outcomes (length ran.map.darts) ran.map.next
 
 abbrev pub saved_of : Inputs → Ran → List ℕ
 saved_of inputs ran = canonical inputs.version ran.map
 
--- 1 where a line was refused
+-- the line of a statement says that something was refused
+abbrev pub says_refused : Outcome → Bool
+says_refused outcome = nat_lt 0 (refused_in outcome)
+
+-- 1 where a line says so
 abbrev pub run_status : List Outcome → ℕ
 run_status [] = 0
-run_status (runs.Done added removed ∷ outcomes) = run_status outcomes
-run_status (runs.Refused cause ∷ outcomes) = 1
+run_status (outcome ∷ outcomes) = if says_refused outcome then 1 else run_status outcomes
 
 -- ---- the answer
 
--- all files are good, and the lines run so
+-- all files are good, and the statements run so
 pub record IsGoodRun (files : Files) (named : RunNames) (inputs : Inputs) (ran : Ran) : Type 0 where
   pub the_map : HasMap files named inputs
   pub the_book : HasBook files named inputs

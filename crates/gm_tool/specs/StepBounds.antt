@@ -6,16 +6,17 @@ use Rattle.gm_mapfile.specs.MapText.{ListedMap, MapText, map_of}
 use Rattle.gm_mapfile.specs.declared.version.MapVersion.{MapVersion}
 use Rattle.gm_model.specs.Maps.{IsDart}
 use Rattle.gm_model.specs.Orbits.{HasCount}
-use Rattle.gm_model.specs.Runs.{IsRunBudget, changed_darts}
+use Rattle.gm_model.specs.Budgets.{Bounds, no_entries, IsRunWithin}
+use Rattle.gm_model.specs.Runs.{State, start_of}
 use Rattle.gm_tool.specs.Answer.{Files, HasFile, Asks, Show}
-use Rattle.gm_tool.specs.GridAnswer.{AsksGrid, Gridded, IsGridded, grid_rules, grid_lines}
+use Rattle.gm_tool.specs.GridAnswer.{AsksGrid, Gridded, IsGridded, grid_rules, grid_stats}
 use Rattle.gm_tool.specs.MadeRuns.{IsRunStatus}
 use Rattle.gm_tool.specs.Migrating.{MigrateNames, AsksMigrate}
 use Rattle.gm_tool.specs.RunAnswer.{RunNames, AsksRun, Inputs, Ran, IsRan, IsGoodRun}
 
--- the sum of the budgets of the lines, each at the map that it is applied to
-abbrev pub HasBudget : Inputs → Ran → ℕ → Type 0
-HasBudget inputs ran sum = IsRunBudget inputs.rules (map_of inputs.map) inputs.lines ran.outcomes (map_of ran.map) sum
+-- the fewest and the most steps of the statements together, each at the state that it is met in
+abbrev pub HasBounds : Inputs → Ran → Bounds → Type 0
+HasBounds inputs ran bounds = (behind : State) × IsRunWithin inputs.rules (start_of (map_of inputs.map)) no_entries inputs.stats ran.outcomes behind bounds
 
 abbrev pub dim_of : Inputs → ℕ
 dim_of inputs = inputs.map.schema.dim
@@ -44,13 +45,13 @@ handling n darts left = 64 * ((n + 1) * (n + 1)) * (darts + left + 1)
 -- ---- the whole call
 
 module _ (files : Files) (named : RunNames) where
-  -- the most steps that a run of these files takes: the budgets of its lines, and the handling of its darts
+  -- the most steps that a run of these files takes: the most of its statements, and the handling of its darts
   pub data IsMost : ℕ → Type 0 where
-    MostOf : (inputs : Inputs) (ran : Ran) (sum : ℕ) → IsGoodRun files named inputs ran → HasBudget inputs ran sum → IsMost (sum + handling (dim_of inputs) (darts_read inputs) (darts_left ran))
+    MostOf : (inputs : Inputs) (ran : Ran) (bounds : Bounds) → IsGoodRun files named inputs ran → HasBounds inputs ran bounds → IsMost (bounds.most + handling (dim_of inputs) (darts_read inputs) (darts_left ran))
 
-  -- the least: one for each dart that a line added or removed, for each that is read, and for each that is saved
+  -- the least: that of its statements, and one for each dart that is read, and for each that is saved
   pub data IsLeast : ℕ → Type 0 where
-    LeastOf : (inputs : Inputs) (ran : Ran) → IsGoodRun files named inputs ran → IsLeast (changed_darts ran.outcomes + darts_read inputs + darts_left ran)
+    LeastOf : (inputs : Inputs) (ran : Ran) (bounds : Bounds) → IsGoodRun files named inputs ran → HasBounds inputs ran bounds → IsLeast (bounds.least + darts_read inputs + darts_left ran)
 
   -- no more steps than the most of the run, where the files have one
   abbrev pub WithinMost : ℕ → ℕ → Type 0
@@ -88,18 +89,18 @@ MigrateStaysWithin words contents before after = (named : MigrateNames) → Asks
 
 -- ---- a grid
 
--- the sum of the budgets of the lines, each at the map that it is applied to
-abbrev pub HasGridBudget : ℕ → Gridded → ℕ → Type 0
-HasGridBudget m made sum = IsRunBudget grid_rules made.grid (grid_lines m) made.outcomes made.after sum
+-- the fewest and the most steps of the statements together, each at the state that it is met in
+abbrev pub HasGridBounds : ℕ → Gridded → Bounds → Type 0
+HasGridBounds m made bounds = IsRunWithin grid_rules (start_of made.grid) no_entries (grid_stats m) made.outcomes made.after bounds
 
 module _ (m : ℕ) where
-  -- the most steps: the budgets of the lines, and what it takes to handle the darts of the grid and those that are left
+  -- the most steps: the most of the statements, and what it takes to handle the darts of the grid and those that are left
   pub data IsGridMost : ℕ → Type 0 where
-    MostOfGrid : (made : Gridded) (left sum : ℕ) → IsGridded m made → HasGridBudget m made sum → HasCount (IsDart made.after) left → IsGridMost (sum + handling 2 (dart_count m) left)
+    MostOfGrid : (made : Gridded) (left : ℕ) (bounds : Bounds) → IsGridded m made → HasGridBounds m made bounds → HasCount (IsDart made.after.map) left → IsGridMost (bounds.most + handling 2 (dart_count m) left)
 
-  -- the least: one for each dart that a line added or removed, and for each of the grid
+  -- the least: that of the statements, and one for each dart of the grid
   pub data IsGridLeast : ℕ → Type 0 where
-    LeastOfGrid : (made : Gridded) → IsGridded m made → IsGridLeast (changed_darts made.outcomes + dart_count m)
+    LeastOfGrid : (made : Gridded) (bounds : Bounds) → IsGridded m made → HasGridBounds m made bounds → IsGridLeast (bounds.least + dart_count m)
 
   abbrev pub WithinGridMost : ℕ → ℕ → Type 0
   WithinGridMost before after = (most : ℕ) → IsGridMost most → after ≤ before + most
@@ -115,6 +116,17 @@ GridStaysWithin words before after = (m : ℕ) → AsksGrid words m → WithinGr
 abbrev pub GridTakesLeast : List (List ℕ) → ℕ → ℕ → ℕ → Type 0
 GridTakesLeast words status before after = (m : ℕ) → AsksGrid words m → IsRunStatus status → AtLeastOfGrid m before after
 
+-- ---- whatever the words are
+
+-- what is stated of the steps of a call that ends with the status
+pub record KeepsSteps (words : List (List ℕ)) (contents : Contents) (status before after : ℕ) : Type 0 where
+  pub most : StaysWithin words contents before after
+  pub least : TakesLeast words contents status before after
+  pub show_most : ShowStaysWithin words contents before after
+  pub migrate_most : MigrateStaysWithin words contents before after
+  pub grid_most : GridStaysWithin words before after
+  pub grid_least : GridTakesLeast words status before after
+
 -- ---- the parts of a run
 
 -- where the bytes stand for a map, no more steps than reading it
@@ -125,13 +137,13 @@ BytesReadWithin bytes before after = (version : MapVersion) (map : ListedMap) �
 abbrev pub ReadsWithin : Contents → List ℕ → ℕ → ℕ → Type 0
 ReadsWithin contents name before after = IfSome contents (λ files. (bytes : List ℕ) → HasFile files name bytes → BytesReadWithin bytes before after)
 
--- no more steps than the budgets of the lines, and than printing the map that they leave
+-- no more steps than the most of the statements, and than printing the map that they leave
 abbrev pub RunsWithin : Inputs → ℕ → ℕ → Type 0
-RunsWithin inputs before after = (ran : Ran) (sum : ℕ) → IsRan inputs ran → HasBudget inputs ran sum → after ≤ before + sum + printing (dim_of inputs) (darts_left ran)
+RunsWithin inputs before after = (ran : Ran) (bounds : Bounds) → IsRan inputs ran → HasBounds inputs ran bounds → after ≤ before + bounds.most + printing (dim_of inputs) (darts_left ran)
 
--- a step for each dart that a line added or removed, and for each that is left
+-- no fewer than the least of the statements, and one for each dart that is left
 abbrev pub RunsAtLeast : Inputs → ℕ → ℕ → Type 0
-RunsAtLeast inputs before after = (ran : Ran) → IsRan inputs ran → before + changed_darts ran.outcomes + darts_left ran ≤ after
+RunsAtLeast inputs before after = (ran : Ran) (bounds : Bounds) → IsRan inputs ran → HasBounds inputs ran bounds → before + bounds.least + darts_left ran ≤ after
 
 -- ---- the parts of a grid
 
@@ -139,10 +151,10 @@ RunsAtLeast inputs before after = (ran : Ran) → IsRan inputs ran → before + 
 abbrev pub counting : ℕ → ℕ
 counting darts = 72 * darts
 
--- no more steps than the budgets of the lines, and than counting the cells of the map that they leave
+-- no more steps than the most of the statements, and than counting the cells of the map that they leave
 abbrev pub GridRunsWithin : ℕ → ℕ → ℕ → Type 0
-GridRunsWithin m before after = (made : Gridded) (left sum : ℕ) → IsGridded m made → HasGridBudget m made sum → HasCount (IsDart made.after) left → after ≤ before + sum + counting left
+GridRunsWithin m before after = (made : Gridded) (left : ℕ) (bounds : Bounds) → IsGridded m made → HasGridBounds m made bounds → HasCount (IsDart made.after.map) left → after ≤ before + bounds.most + counting left
 
--- a step for each dart that a line added or removed
+-- no fewer than the least of the statements
 abbrev pub GridRunsAtLeast : ℕ → ℕ → ℕ → Type 0
-GridRunsAtLeast m before after = (made : Gridded) → IsGridded m made → before + changed_darts made.outcomes ≤ after
+GridRunsAtLeast m before after = (made : Gridded) (bounds : Bounds) → IsGridded m made → HasGridBounds m made bounds → before + bounds.least ≤ after

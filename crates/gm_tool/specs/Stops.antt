@@ -14,7 +14,7 @@ use Rattle.gm_model.specs.Rules.{Rule, rule_of}
 use Rattle.gm_script.specs.ScriptText.{ScriptText}
 use Rattle.gm_tool.specs.Answer.{Files, answers, HasFile}
 use Rattle.gm_lines.specs.Refusing.{refusal, Role, role_word}
-use Rattle.gm_tool.specs.Refusals.{refusal_answer}
+use Rattle.gm_tool.specs.Refusals.{role_in, refusal_answer}
 use Rattle.gm_tool.specs.RunAnswer.{IsFailing}
 use Rattle.gm_tool.specs.declared.refusal.NoText as none_of
 use Rattle.gm_tool.specs.declared.refusal.NoText.TheVariants as nothing
@@ -41,9 +41,9 @@ IsRoleStop files role name IsBadText fails (NoText nothing.OutOfMemory) = Unit {
 IsRoleStop files role name IsBadText fails (NoText (nothing.Refused why)) =
     IsFailing files role name IsBadText (refusal_answer why) ⊎ (fails × (refusal_answer why ≡ answers 3 (refusal (codes "load " ++ role_word role))))
 
--- a stop for a load has this cause, and none is for the words or for a save
-abbrev pub IsSoundStop : Stop → Type 0 → Type 0
-IsSoundStop (NoText (nothing.Refused (Load role))) P = P
+-- a stop for the load of a role's file has this cause, and none is for the words or for a save
+abbrev pub IsSoundStop : Stop → (Role → Type 0) → Type 0
+IsSoundStop (NoText (nothing.Refused (Load role))) P = P (role_in role)
 IsSoundStop (NoText (nothing.Refused Usage)) P = ⊥
 IsSoundStop (NoText (nothing.Refused Save)) P = ⊥
 IsSoundStop _ P = Unit {0}
@@ -64,9 +64,9 @@ abbrev pub IsReadBook : List ℕ → Book → Type 0
 IsReadBook bytes book = BookText bytes book.version book.schema (map rule_of book.rules)
 
 abbrev pub IsReadScript : List Rule → List ℕ → Script → Type 0
-IsReadScript rules bytes script = ScriptText bytes rules script.lines
+IsReadScript rules bytes script = ScriptText bytes rules script.stats
 
 -- where the store tells, the value is read from the file of that name, or the file is why there is none
 abbrev pub IsFrom : {A : Type 0} → Contents → Role → List ℕ → (List ℕ → A → Type 0) → (List ℕ → List ℕ → Type 0) → Type 0 → Result A Stop → Type 0
 IsFrom contents role name IsReadAs IsBadText fails (Ok value) = IfSome contents (λ files. (bytes : List ℕ) × HasFile files name bytes × IsReadAs bytes value)
-IsFrom contents role name IsReadAs IsBadText fails (Err stop) = IfSome contents (λ files. IsRoleStop files role name IsBadText fails stop) × IsSoundStop stop (fails ⊎ Lacks contents name)
+IsFrom contents role name IsReadAs IsBadText fails (Err stop) = IfSome contents (λ files. IsRoleStop files role name IsBadText fails stop) × IsSoundStop stop (λ other. (other ≡ role) × (fails ⊎ Lacks contents name))

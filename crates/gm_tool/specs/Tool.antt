@@ -1,14 +1,17 @@
 -- What a run of the program leaves: its status, what was written, and what its files and output did.
-use Rattle.std.specs.Prelude.{◌≡◌, ◌⊎◌, ℕ, List, ◌++◌, map, take, Option, Some, Result, codes, String, string_bytes}
+use Rattle.std.specs.Prelude.{◌≡◌, ◌≢◌, ◌⊎◌, ℕ, List, ◌++◌, map, take, Option, Some, Result, codes, String, string_bytes}
 use Rattle.std.specs.Global.{Global}
 use Rattle.gm_tool.specs.Answer.{Answer, answers, Files, Asks, role_of, IsFileAnswer}
-use Rattle.gm_lines.specs.Refusing.{role_word, refusal}
+use Rattle.gm_lines.specs.Refusing.{Role, role_word, refusal}
 use Rattle.gm_tool.specs.Answer as answer
 use Rattle.gm_tool.specs.Endings.{IsEnding, IsTextOf}
-use Rattle.gm_tool.specs.MadeRuns.{IsRunLoadFailure, LacksInput, HoldsMap}
+use Rattle.gm_tool.specs.Loads.{FailsAt, CountsLoads, LoadsInOrder, IsUnloaded, OneAtMost, CountsSaves}
+use Rattle.gm_tool.specs.MadeRuns.{IsRunLoadFailure, IsRunStatus, IsMapBytes, IsSoundText, HoldsSuch, LoadsAtMostThrice}
 use Rattle.gm_tool.specs.Migrating.{MigrateNames, AsksMigrate, IsMigrateLoadFailure}
-use Rattle.gm_tool.specs.Program.{IsAnswer}
+use Rattle.gm_tool.specs.Program.{IsAnswer, IsCommand, IsRunCommand, IsSavingCommand, ReadsOneFile, ReadsNoFile}
 use Rattle.gm_tool.specs.RunAnswer.{RunNames, AsksRun}
+use Rattle.gm_tool.specs.Seen.{Seen}
+use Rattle.gm_host.specs.Count.{counted, Rises}
 use Rattle.gm_host.specs.Store.{Contents, Lacks}
 use Rattle.gm_host.specs.Sink.{extended, ExtendsInPart}
 use Rattle.gm_tool.specs.declared.reply.Reply.{Reply}
@@ -61,15 +64,15 @@ LeavesWhereTold words (Some files) later load_fails save_fails put_fails (Some b
     (written : List ℕ) × (after ≡ Some written) × Leaves words files load_fails save_fails put_fails before status written later
 LeavesWhereTold words _ later load_fails save_fails put_fails _ status after = Unit {0}
 
--- the words ask for a file that the store tells it does not hold
-abbrev pub LacksFile : List (List ℕ) → Contents → Type 0
-LacksFile words contents =
-    ((command : answer.Command) × (name : List ℕ) × Asks words command name × Lacks contents name)
-    ⊎ (((named : RunNames) × AsksRun words named × LacksInput contents named) ⊎ ((named : MigrateNames) × AsksMigrate words named × Lacks contents named.map))
+-- why a file of the words is not loaded: its own load failed, or the store tells that it doesn't hold it; and each file before it is good
+pub data IsLoadCause (words : List (List ℕ)) (contents : Contents) (load_fails : ℕ → Type 0) : Type 0 where
+  ForFile : (command : answer.Command) (name : List ℕ) → Asks words command name → load_fails 1 ⊎ Lacks contents name → IsLoadCause words contents load_fails
+  ForRun : (named : RunNames) → AsksRun words named → (role : Role) → IsUnloaded contents named load_fails role → IsLoadCause words contents load_fails
+  ForMigrate : (named : MigrateNames) → AsksMigrate words named → load_fails 1 ⊎ Lacks contents named.map → IsLoadCause words contents load_fails
 
--- where the words are a command that saves and the store tells, the store holds the canonical text of a generalised map under the name to save under
-abbrev pub HoldsSavedMap : List (List ℕ) → Contents → Type 0
-HoldsSavedMap words contents = ((named : RunNames) → AsksRun words named → HoldsMap contents named.out) × ((named : MigrateNames) → AsksMigrate words named → HoldsMap contents named.out)
+-- where the words are a command that saves and the store tells, the store holds such bytes under the name to save under
+abbrev pub HoldsSaved : (List ℕ → Type 0) → List (List ℕ) → Contents → Type 0
+HoldsSaved IsSuch words contents = ((named : RunNames) → AsksRun words named → HoldsSuch IsSuch contents named.out) × ((named : MigrateNames) → AsksMigrate words named → HoldsSuch IsSuch contents named.out)
 
 -- bytes are put whole with the status given; or the sink failed, and some first bytes are; or memory was wanting, and none are
 abbrev pub IsPut : Option (List ℕ) → Option (List ℕ) → Type 0 → List ℕ → ℕ → ℕ → Type 0
@@ -90,3 +93,30 @@ IsUsageStatus status = (status ≡ 2) ⊎ ((status ≡ 6) ⊎ (status ≡ 7))
 -- the words are `check` and a file
 abbrev pub IsCheck : List (List ℕ) → Type 0
 IsCheck words = (name : List ℕ) × Asks words answer.Check name
+
+-- ---- whatever store and sink tell
+
+-- A call of the words ends with the status: what that says of the words, and of the loads and saves that there were.
+pub record EndsAs (words : List (List ℕ)) (before after : Seen) (status : ℕ) : Type 0 where
+  pub statuses : IsStatus status
+  pub usage : status ≡ 2 → IsCommand words → ⊥
+  pub no_command : (IsCommand words → ⊥) → IsUsageStatus status
+  pub refused : status ≡ 1 → IsCheck words ⊎ IsRunCommand words
+  -- each file is loaded once at most, and those of a run in their order
+  pub loads : LoadsAtMostThrice before.loads after.loads
+  pub no_load : ReadsNoFile words → after.loads ≡ before.loads
+  pub one_load : ReadsOneFile words → after.loads ≡ counted before.loads
+  pub loads_in_order : (named : RunNames) → AsksRun words named → LoadsInOrder before.holds named before.loads after.loads
+  pub counted_loads : status ≢ 7 → CountsLoads words before.holds (Rises before.load_faults after.load_faults) before.loads after.loads
+  pub load_failed : status ≡ 3 → IsLoadCause words before.holds (FailsAt before.load_faults after.load_faults before.loads after.loads)
+  -- there is one save at most, and only of a command that saves
+  pub held : (IsSavingCommand words → ⊥) → after.holds ≡ before.holds
+  pub no_save_fault : (IsSavingCommand words → ⊥) → after.save_faults ≡ before.save_faults
+  pub no_save : (IsSavingCommand words → ⊥) → after.saves ≡ before.saves
+  pub one_save : OneAtMost before.saves after.saves
+  pub saves : IsSavingCommand words → CountsSaves status before.saves after.saves
+  pub save_failed : status ≡ 5 → Rises before.save_faults after.save_faults
+  pub no_save_failed : IsRunStatus status → after.save_faults ≡ before.save_faults
+  -- the map that is saved is a generalised map with one value on each embedding orbit, and its text stands for it
+  pub map : IsRunStatus status → HoldsSaved IsSoundText words after.holds
+  pub stands : IsRunStatus status → HoldsSaved IsMapBytes words after.holds

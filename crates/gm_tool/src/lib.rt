@@ -18,4 +18,4 @@ mod running;
 mod script;
 
 pub use laws::one_answer_at_most;
-pub use program::{tool, with_new_counter};
+pub use program::tool;

@@ -25,6 +25,7 @@ pub fn load_file<S: Store>(
     store: &mut S,
 ) -> Result<Vec<u8>, NoText>
     ensures held { S.holds store.new ≡ S.holds store.old }
+    ensures no_save { S.saves store.new ≡ S.saves store.old }
     ensures no_save_fault { S.save_faults store.new ≡ S.save_faults store.old }
     ensures faults_never_fall { S.load_faults store.old ≤ S.load_faults store.new }
     ensures once { S.loads store.new ≡ counted (S.loads store.old) }

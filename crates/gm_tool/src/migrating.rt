@@ -4,7 +4,8 @@ ghost use Rattle.gm_arena.specs.Lawful.{IsLawful};
 ghost use Rattle.gm_host.specs.Count.{counted, Rises};
 ghost use Rattle.gm_host.specs.Store.{Lacks};
 ghost use Rattle.gm_mapfile.specs.Rows.{listed_of};
-ghost use Rattle.gm_tool.specs.Loads.{FailsAt};
+ghost use Rattle.gm_tool.specs.Endings.{status_given};
+ghost use Rattle.gm_tool.specs.Loads.{FailsAt, CountsSaves};
 ghost use Rattle.gm_tool.specs.MadeRuns.{HoldsMap, IsRunStatus, IsSoundReply};
 ghost use Rattle.gm_tool.specs.Migrating.{migrate_names_of, migrated_line, IsMigrated, IsMigrateStatus, IsMigrateText};
 ghost use Rattle.gm_tool.specs.StepBounds.{FileShowsWithin, printing};
@@ -73,11 +74,12 @@ pub fn answer<S: Store, L: Ledger>(
         (FailsAt (S.load_faults store.old) (S.load_faults store.new) (S.loads store.old) (S.loads store.new)) (Rises (S.save_faults store.old) (S.save_faults store.new)) (S.holds store.new) result) }
     ensures statuses { IfOk result (λ reply. IsMigrateStatus reply.status) }
     ensures sound { IsSoundReply result
-        (Rises (S.load_faults store.old) (S.load_faults store.new) ⊎ Lacks (S.holds store.old) files.entry.map.now)
+        (λ _. FailsAt (S.load_faults store.old) (S.load_faults store.new) (S.loads store.old) (S.loads store.new) 1 ⊎ Lacks (S.holds store.old) files.entry.map.now)
         (Rises (S.save_faults store.old) (S.save_faults store.new)) }
     ensures map { IfOk result (λ reply. IsRunStatus reply.status → HoldsMap (S.holds store.new) files.entry.out.now) }
     ensures most { FileShowsWithin (S.holds store.old) files.entry.map.now steps.old steps.new }
     ensures no_memory { IsErrOf result nothing.OutOfMemory → S.holds store.new ≡ S.holds store.old }
+    ensures saves { CountsSaves (status_given result) (S.saves store.old) (S.saves store.new) }
     ensures no_save_fault { IfOk result (λ _. S.save_faults store.new ≡ S.save_faults store.old) }
 {
     let LoadedMap { read, bytes } = match load_map(alloc, files.map, store, steps) {

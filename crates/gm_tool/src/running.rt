@@ -1,13 +1,14 @@
-ghost use Rattle.std.specs.Prelude.{◌≡◌, ◌↔◌, ◌+◌, ◌≤◌, ◌⊎◌, ℕ, IfOk, IfErr, IfSome, IsErrOf, IsTrue, List, map, not};
+ghost use Rattle.std.specs.Prelude.{◌≡◌, ◌↔◌, ◌+◌, ◌≤◌, ◌⊎◌, ℕ, IfOk, IfErr, IfSome, IsErrOf, IsTrue, List, map};
 ghost use Rattle.gm_host.specs.Count.{counted, Rises};
 ghost use Rattle.gm_model.specs.Maps.{IsSchema};
 ghost use Rattle.gm_model.specs.Rules.{rule_of};
 ghost use Rattle.gm_lines.specs.Refusing.{TheMap, TheBook, TheScript};
 ghost use Rattle.gm_tool.specs.Begun.{Counts, HasBegun};
-ghost use Rattle.gm_tool.specs.Loads.{FailsAt, StopsInTime, UnlessNoMemory, UnlessNoMemoryToMake};
-ghost use Rattle.gm_tool.specs.MadeRuns.{names_of, inputs_of, CanRun, IsFitted, IsPrinted, IsRunOf, IsMapBytes, IsMade, LacksInput, LoadsAtMostThrice, IsRunStatus, HoldsMap, IsRunText, IsSaving, IsSoundReply};
+ghost use Rattle.gm_tool.specs.Endings.{status_given};
+ghost use Rattle.gm_tool.specs.Loads.{FailsAt, StopsInTime, LoadsInOrder, IsUnloaded, CountsSaves, UnlessNoMemory, UnlessNoMemoryToMake};
+ghost use Rattle.gm_tool.specs.MadeRuns.{names_of, inputs_of, CanRun, IsFitted, IsPrinted, IsRunOf, IsMapBytes, IsMade, IsRunStatus, HoldsMap, IsRunText, IsSaving, IsSoundReply};
 ghost use Rattle.gm_tool.specs.Tool.{IsReplyStatus};
-ghost use Rattle.gm_tool.specs.RunAnswer.{IsBadMap, IsBadBook, IsBadScript, run_status};
+ghost use Rattle.gm_tool.specs.RunAnswer.{IsBadMap, IsBadBook, IsBadScript, says_refused, run_status};
 ghost use Rattle.gm_tool.specs.declared.refusal.NoText.TheVariants as nothing;
 ghost use Rattle.gm_tool.specs.StepBounds.{ReadsWithin, RunsWithin, RunsAtLeast, WithinMost, AtLeast, printing};
 ghost use Rattle.gm_tool.specs.Stops.{IsFrom, IsReadMap, IsReadBook, IsReadScript, IsSoundStop};
@@ -15,7 +16,6 @@ ghost use Rattle.gm_arena.specs.Lawful.{IsLawful};
 ghost use Rattle.gm_mapfile.specs.Rows.{listed_of};
 ghost use Rattle.gm_mapfile.specs.MapText.{canonical};
 ghost use Rattle.gm_model.specs.Reports.{report_text};
-ghost use Rattle.gm_model.specs.Runs.{is_done};
 ghost use Rattle.gm_model.specs.Runs as runs;
 ghost use Rattle.gm_run.specs.Lines.{outcome_of, Tells};
 ghost use Rattle.gm_run.specs.Printing.{CanBePrinted};
@@ -59,6 +59,7 @@ pub fn load_map<S: Store, L: Ledger>(
     steps: &mut Steps<L>,
 ) -> Result<LoadedMap, Stop>
     ensures held { S.holds store.new ≡ S.holds store.old }
+    ensures no_save { S.saves store.new ≡ S.saves store.old }
     ensures no_save_fault { S.save_faults store.new ≡ S.save_faults store.old }
     ensures faults_never_fall { S.load_faults store.old ≤ S.load_faults store.new }
     ensures once { S.loads store.new ≡ counted (S.loads store.old) }
@@ -74,6 +75,7 @@ pub fn load_map<S: Store, L: Ledger>(
 
 fn load_book<S: Store>(alloc: Global, name: &str, store: &mut S) -> Result<Book, Stop>
     ensures held { S.holds store.new ≡ S.holds store.old }
+    ensures no_save { S.saves store.new ≡ S.saves store.old }
     ensures no_save_fault { S.save_faults store.new ≡ S.save_faults store.old }
     ensures faults_never_fall { S.load_faults store.old ≤ S.load_faults store.new }
     ensures once { S.loads store.new ≡ counted (S.loads store.old) }
@@ -92,6 +94,7 @@ fn load_script<S: Store>(
     store: &mut S,
 ) -> Result<Script, Stop>
     ensures held { S.holds store.new ≡ S.holds store.old }
+    ensures no_save { S.saves store.new ≡ S.saves store.old }
     ensures no_save_fault { S.save_faults store.new ≡ S.save_faults store.old }
     ensures faults_never_fall { S.load_faults store.old ≤ S.load_faults store.new }
     ensures once { S.loads store.new ≡ counted (S.loads store.old) }
@@ -102,12 +105,20 @@ fn load_script<S: Store>(
     script::read(alloc, bytes.as_slice(), book)
 }
 
+/// The line of the outcome says that something was refused.
 fn is_refused(outcome: &Outcome) -> bool
-    ensures { (told : runs.Outcome) → outcome_of outcome.now ≡ Some told → result ≡ not (is_done told) }
+    ensures { (told : runs.Outcome) → outcome_of outcome.now ≡ Some told → result ≡ says_refused told }
 {
     match outcome {
-        Outcome::Done(_) => false,
-        Outcome::Refused(_) => true,
+        Outcome::Refused(_) | Outcome::NothingToUndo | Outcome::NothingToRedo => true,
+        Outcome::Each { refused, .. } => *refused > 0,
+        Outcome::Done(_)
+        | Outcome::Skipped
+        | Outcome::Undone
+        | Outcome::Redone
+        | Outcome::Begun
+        | Outcome::Kept
+        | Outcome::Dropped => false,
     }
 }
 
@@ -136,7 +147,7 @@ fn within_limit(status: u8, report: Vec<u8>, map: Vec<u8>) -> Result<Made, Stop>
     })
 }
 
-/// The report of the lines, and the text of the map that they left, in the version. The room is that
+/// The report of the statements, and the text of the map that they left, in the version. The room is that
 /// of bytes that are no longer used, and it is taken.
 fn printed<L: Ledger>(
     alloc: Global,
@@ -148,10 +159,10 @@ fn printed<L: Ledger>(
     version: MapVersion,
     steps: &mut Steps<L>,
 ) -> Result<Made, Stop>
-    requires printable { CanBePrinted book.now.schema (map rule_of book.now.rules) script.lines report.lines }
+    requires printable { CanBePrinted book.now.schema (map rule_of book.now.rules) script.stats report.lines }
     ensures lawful { IsLawful arena.now }
     ensures texts { (told : List runs.Outcome) → Tells report.lines told → IsPrinted (run_status told)
-        (report_text book.now.schema (map rule_of book.now.rules) script.lines told report.darts report.next)
+        (report_text book.now.schema (map rule_of book.now.rules) script.stats told report.darts report.next)
         (canonical version (listed_of arena.now)) result }
     ensures most { steps.new ≤ steps.old + printing arena.now.schema.dim arena.now.count }
     ensures least { IfOk result (λ _. steps.old + arena.now.count ≤ steps.new) }
@@ -167,7 +178,7 @@ fn printed<L: Ledger>(
     within_limit(status, text, map)
 }
 
-/// Applies the lines to the map, and makes the report and the text of the map that they leave.
+/// Runs the statements over the map, and makes the report and the text of the map that they leave.
 fn applied<L: Ledger>(
     alloc: Global,
     room: &mut Vec<u8>,
@@ -227,15 +238,16 @@ fn prepared<S: Store, L: Ledger>(
     steps: &mut Steps<L>,
 ) -> Result<Made, Stop>
     ensures held { S.holds store.new ≡ S.holds store.old }
+    ensures no_save { S.saves store.new ≡ S.saves store.old }
     ensures no_save_fault { S.save_faults store.new ≡ S.save_faults store.old }
-    ensures loads { LoadsAtMostThrice (S.loads store.old) (S.loads store.new) }
+    ensures in_order { LoadsInOrder (S.holds store.old) (names_of files.entry) (S.loads store.old) (S.loads store.new) }
     ensures counted_loads { IfSome (S.holds store.old) (λ held. UnlessNoMemoryToMake result (StopsInTime held (names_of files.entry) (Rises (S.load_faults store.old) (S.load_faults store.new)) (S.loads store.old) (S.loads store.new))) }
     ensures made { IfSome (S.holds store.old) (λ held. IsMade held (names_of files.entry) (FailsAt (S.load_faults store.old) (S.load_faults store.new) (S.loads store.old) (S.loads store.new)) result) }
     ensures map { IfOk result (λ made. IsMapBytes made.map.items) }
     ensures status { IfOk result (λ made. IsRunStatus made.status) }
     ensures most { IfSome (S.holds store.old) (λ held. WithinMost held (names_of files.entry) steps.old steps.new) }
     ensures least { IfOk result (λ _. IfSome (S.holds store.old) (λ held. AtLeast held (names_of files.entry) steps.old steps.new)) }
-    ensures sound { IfErr result (λ stop. IsSoundStop stop (Rises (S.load_faults store.old) (S.load_faults store.new) ⊎ LacksInput (S.holds store.old) (names_of files.entry))) }
+    ensures sound { IfErr result (λ stop. IsSoundStop stop (IsUnloaded (S.holds store.old) (names_of files.entry) (FailsAt (S.load_faults store.old) (S.load_faults store.new) (S.loads store.old) (S.loads store.new)))) }
 {
     let LoadedMap {
         mut read,
@@ -259,8 +271,10 @@ fn prepared_behind<S: Store, L: Ledger>(
     requires book { (bytes : List ℕ) × IsReadBook bytes book.now }
     requires declared { IsSchema book.now.schema }
     ensures held { S.holds store.new ≡ S.holds store.old }
+    ensures no_save { S.saves store.new ≡ S.saves store.old }
     ensures no_save_fault { S.save_faults store.new ≡ S.save_faults store.old }
-    ensures loads { (S.loads store.new ≡ S.loads store.old) ⊎ (S.loads store.new ≡ counted (S.loads store.old)) }
+    ensures in_order { (start : Counts) → HasBegun (S.holds store.old) (names_of files.entry) read.old book.now start (S.load_faults store.old) (S.loads store.old) steps.old →
+        LoadsInOrder (S.holds store.old) (names_of files.entry) start.loads (S.loads store.new) }
     ensures counted_loads { (start : Counts) → HasBegun (S.holds store.old) (names_of files.entry) read.old book.now start (S.load_faults store.old) (S.loads store.old) steps.old →
         IfSome (S.holds store.old) (λ held. UnlessNoMemoryToMake result (StopsInTime held (names_of files.entry) (Rises start.faults (S.load_faults store.new)) start.loads (S.loads store.new))) }
     ensures made { (start : Counts) → HasBegun (S.holds store.old) (names_of files.entry) read.old book.now start (S.load_faults store.old) (S.loads store.old) steps.old →
@@ -271,7 +285,8 @@ fn prepared_behind<S: Store, L: Ledger>(
         IfSome (S.holds store.old) (λ held. WithinMost held (names_of files.entry) start.steps steps.new) }
     ensures least { (start : Counts) → HasBegun (S.holds store.old) (names_of files.entry) read.old book.now start (S.load_faults store.old) (S.loads store.old) steps.old →
         IfOk result (λ _. IfSome (S.holds store.old) (λ held. AtLeast held (names_of files.entry) start.steps steps.new)) }
-    ensures sound { IfErr result (λ stop. IsSoundStop stop (Rises (S.load_faults store.old) (S.load_faults store.new) ⊎ LacksInput (S.holds store.old) (names_of files.entry))) }
+    ensures sound { (start : Counts) → HasBegun (S.holds store.old) (names_of files.entry) read.old book.now start (S.load_faults store.old) (S.loads store.old) steps.old →
+        IfErr result (λ stop. IsSoundStop stop (IsUnloaded (S.holds store.old) (names_of files.entry) (FailsAt start.faults (S.load_faults store.new) start.loads (S.loads store.new)))) }
 {
     let plans = plans_of(alloc, book)?;
     let script = load_script(alloc, files.script, book, store)?;
@@ -292,6 +307,7 @@ fn prepared_behind<S: Store, L: Ledger>(
 
 /// Saves the map, and answers the text to put.
 pub fn saved<S: Store>(out: &str, made: Made, store: &mut S) -> Result<Reply, NoText>
+    ensures one_save { S.saves store.new ≡ counted (S.saves store.old) }
     ensures no_load { S.loads store.new ≡ S.loads store.old }
     ensures no_load_fault { S.load_faults store.new ≡ S.load_faults store.old }
     ensures no_save_fault { IfOk result (λ _. S.save_faults store.new ≡ S.save_faults store.old) }
@@ -316,18 +332,19 @@ pub fn answer<S: Store, L: Ledger>(
     store: &mut S,
     steps: &mut Steps<L>,
 ) -> Result<Reply, NoText>
-    ensures loads { LoadsAtMostThrice (S.loads store.old) (S.loads store.new) }
+    ensures in_order { LoadsInOrder (S.holds store.old) (names_of files.entry) (S.loads store.old) (S.loads store.new) }
     ensures text { IfSome (S.holds store.old) (λ held. IsRunText held (names_of files.entry)
         (FailsAt (S.load_faults store.old) (S.load_faults store.new) (S.loads store.old) (S.loads store.new)) (Rises (S.save_faults store.old) (S.save_faults store.new)) (S.holds store.new) result) }
     ensures statuses { IfOk result (λ reply. IsReplyStatus reply.status) }
     ensures sound { IsSoundReply result
-        (Rises (S.load_faults store.old) (S.load_faults store.new) ⊎ LacksInput (S.holds store.old) (names_of files.entry))
+        (IsUnloaded (S.holds store.old) (names_of files.entry) (FailsAt (S.load_faults store.old) (S.load_faults store.new) (S.loads store.old) (S.loads store.new)))
         (Rises (S.save_faults store.old) (S.save_faults store.new)) }
     ensures map { IfOk result (λ reply. IsRunStatus reply.status → HoldsMap (S.holds store.new) files.entry.out.now) }
     ensures most { IfSome (S.holds store.old) (λ held. WithinMost held (names_of files.entry) steps.old steps.new) }
     ensures least { IfOk result (λ reply. IfSome (S.holds store.old) (λ held. IsRunStatus reply.status → AtLeast held (names_of files.entry) steps.old steps.new)) }
     ensures counted_loads { IfSome (S.holds store.old) (λ held. UnlessNoMemory result (StopsInTime held (names_of files.entry) (Rises (S.load_faults store.old) (S.load_faults store.new)) (S.loads store.old) (S.loads store.new))) }
     ensures no_memory { IsErrOf result nothing.OutOfMemory → S.holds store.new ≡ S.holds store.old }
+    ensures saves { CountsSaves (status_given result) (S.saves store.old) (S.saves store.new) }
     ensures no_save_fault { IfOk result (λ _. S.save_faults store.new ≡ S.save_faults store.old) }
 {
     match prepared(alloc, files, store, steps) {

@@ -1,4 +1,4 @@
 use Rattle.gmr.proofs.main.Given as goal
 
-abbrev pub ghosts-with_new_counter : goal.ghosts-with_new_counter
-ghosts-with_new_counter a = record { name = a.blank.name; parts = a.blank.parts }
+abbrev pub ghosts-run_over_files : goal.ghosts-run_over_files
+ghosts-run_over_files a = record { name = a.blank.name; parts = a.blank.parts }

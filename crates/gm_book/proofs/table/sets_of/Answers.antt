@@ -1,13 +1,15 @@
 use Rattle.std.proofs.Common.{◌≡◌, ◌+◌, List, [], ◌∷◌, map, drop, sym, ap, subst, ◌∙◌}
-use Rattle.std.proofs.lemmas.Result.{IfOk-weaker}
+use Rattle.std.specs.Prelude.{IfOk}
+use Rattle.std.specs.Result.{MatchResult}
 use Rattle.std.specs.List.{AllByRecursion, AllZip}
 use Rattle.gm_model.specs.Rules.{assignment_of}
 use Rattle.gm_parse.specs.Meaning.{names_in}
 use Rattle.gm_forms.specs.declared.form.Item.{Item}
 use Rattle.gm_forms.specs.declared.form.SetForm.{SetForm}
-use Rattle.gm_forms.specs.BookText.{MeansSet, sets_in}
+use Rattle.gm_forms.specs.BookText.{SetForm as Form, sets_in}
 use Rattle.gm_forms.specs.Forms.{IsSetIn, IsItemIn, set_form_of, item_of}
-use Rattle.gm_book.specs.Building.{IsKnownSet, HasKnownSets}
+use Rattle.gm_book.specs.Building.{IsKnownSet, HasKnownSets, IsSoundSet}
+use Rattle.gm_book.specs.FirstNameFault.{IsSetFault}
 use Rattle.gm_book.proofs.Items.{sets_there, no_sets, link_no_sets}
 use Rattle.gm_book.proofs.Onward.{each_on, passed_on, found_on, none_on}
 use Rattle.gm_book.proofs.ReadSets.{each_read}
@@ -41,10 +43,10 @@ returns-then-eq c =
     let env = c.args.env.now in
     let l = c.loop-item in
     let n = c.in-Node in
-    let means = MeansSet env.schema.now.dim (names_in env.schema.now env.params.now env.nodes.now) in
     let found = found_on (item_of text) (λ items. sets_in items name) c.args.items.now l.item-index _ c.item-item.result _ c.loop-item-test.true c.item-item.is
     (sets_there text (map (item_of text) (drop (l.item-index + 1) c.args.items.now)) c.item-item.result n.node n.word n.hook n.forms n.is c.bytes_in.result.now c.bytes_in.ensures name (sym c.eq.ensures ∙ c.if-eq.true)) l.invariant in
-    IfOk-weaker c.sets.result _ _ (λ made all. subst (λ forms. AllZip means forms (map assignment_of made.items)) (ap (map (set_form_of text)) c.as_slice.ensures.value ∙ found) all) c.sets.ensures
+    let same = ap (map (set_form_of text)) c.as_slice.ensures.value ∙ found in
+    subst (λ (forms : List Form). IfOk c.sets.result (λ read. MatchResult read (λ sets. AllZip (IsSoundSet env.schema.now.dim env.schema.now.embeds env.params.now (names_in env.schema.now env.params.now env.nodes.now)) forms (map assignment_of sets.items)) (IsSetFault env.schema.now.dim env.schema.now.embeds env.params.now (names_in env.schema.now env.params.now env.nodes.now) forms))) same c.sets.ensures
 
 pub loop-item-preserved : goal.loop-item-preserved
 loop-item-preserved c =
@@ -62,6 +64,5 @@ loop-item-preserved c =
 pub returns : goal.returns
 returns c =
     let env = c.args.env.now in
-    let means = MeansSet env.schema.now.dim (names_in env.schema.now env.params.now env.nodes.now) in
     let none : [] ≡ sets_in (map (item_of c.args.text.now) c.args.items.now) c.args.name.now = none_on (item_of c.args.text.now) (λ items. sets_in items c.args.name.now) c.args.items.now c.loop-item.item-index _ c.loop-item-test.false c.loop-item.invariant in
-    subst (λ forms. AllZip means forms (map assignment_of c.new.result.items)) none (subst (λ made. AllZip means [] (map assignment_of made)) (sym c.new.ensures.items) tt)
+    subst (λ (forms : List Form). AllZip (IsSoundSet env.schema.now.dim env.schema.now.embeds env.params.now (names_in env.schema.now env.params.now env.nodes.now)) forms (map assignment_of c.new.result.items)) none (subst (λ made. AllZip (IsSoundSet env.schema.now.dim env.schema.now.embeds env.params.now (names_in env.schema.now env.params.now env.nodes.now)) [] (map assignment_of made)) (sym c.new.ensures.items) tt)

@@ -1,12 +1,13 @@
-use Rattle.std.proofs.Common.{inr, refl, ◌∙◌}
+use Rattle.std.proofs.Common.{inl, inr, refl, ap, ◌∙◌}
 use Rattle.std.proofs.lemmas.Result.{err_from_is_err_and}
-use Rattle.gm_host.specs.Count.{Rises}
+use Rattle.gm_host.specs.Count.{counted, Rises}
 use Rattle.gm_tool.specs.Loads.{FailsAt}
 use Rattle.gm_tool.specs.Migrating.{migrate_names_of, IsMigrateStatus}
 use Rattle.gm_tool.specs.Stops.{reply_of}
 use Rattle.gm_tool.proofs.LoadCounts.{always}
-use Rattle.gm_tool.proofs.Migrations.{stopped_migration, unmade_migration, saved_migration, migrated_bytes, unmade_is_sound, migrated_status}
+use Rattle.gm_tool.proofs.Migrations.{unread_is_sound, stopped_migration, unmade_migration, saved_migration, migrated_bytes, unmade_is_sound, migrated_status}
 use Rattle.gm_tool.proofs.Saving.{map_saved, saving_is_sound, unsaved, stop_is_sound, stop_status, stop_is_no_run}
+use Rattle.gm_tool.proofs.SaveCounts.{none_saved, none_migrated, once_saved}
 use Rattle.gm_tool.proofs.StepBounds.{if_done}
 use Rattle.gm_tool.proofs.StepWords.{read_shown, printed_shown}
 use Rattle.gm_tool.proofs.migrating.answer.Goals as goal
@@ -45,7 +46,19 @@ pub returns-in-Err-clause-statuses : goal.returns-in-Err-clause-statuses
 returns-in-Err-clause-statuses g c = rw c.stopped.ensures (stop_status IsMigrateStatus (inr refl) c.in-Err.stop)
 
 pub returns-in-Err-clause-sound : goal.returns-in-Err-clause-sound
-returns-in-Err-clause-sound g c = rw c.stopped.ensures (stop_is_sound c.in-Err.stop _ _ c.in-Err.ensures.from.1)
+returns-in-Err-clause-sound g c =
+    rw c.stopped.ensures (stop_is_sound c.in-Err.stop _ _ (unread_is_sound (g.S.Store.holds c.args.store.now) c.args.files.map.now _ _ (λ rises. (rises, c.load_map.ensures.once)) c.in-Err.stop c.in-Err.ensures.from.1))
+
+pub returns-in-Err-clause-saves : goal.returns-in-Err-clause-saves
+returns-in-Err-clause-saves g c = rw c.stopped.ensures (none_saved _ _ c.in-Err.stop _ c.in-Err.ensures.from.1 c.load_map.ensures.no_save)
+
+pub returns-in_err-made-clause-saves : goal.returns-in_err-made-clause-saves
+returns-in_err-made-clause-saves g c =
+    let p = err_from_is_err_and c.from_residual.result c.from_residual.ensures.1 in
+    rw (p.1, p.2) (none_migrated _ _ _ c.in_err-made.field-0.0 c.in_err-made.ensures.made c.load_map.ensures.no_save)
+
+pub returns-clause-saves : goal.returns-clause-saves
+returns-clause-saves g c = once_saved _ _ _ _ c.args.files.out.now c.in_ok-made.made _ c.saved.result (inl c.in_ok-made.ensures.made.0) c.saved.ensures.saved (c.saved.ensures.one_save ∙ ap counted c.load_map.ensures.no_save)
 
 pub returns-in-Err-clause-map : goal.returns-in-Err-clause-map
 returns-in-Err-clause-map g c = rw c.stopped.ensures (stop_is_no_run _ c.in-Err.stop)

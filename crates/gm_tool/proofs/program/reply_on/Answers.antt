@@ -14,7 +14,7 @@ returns-in_err-bytes-clause-text g c =
 pub returns-in_err-bytes-clause-sound : goal.returns-in_err-bytes-clause-sound
 returns-in_err-bytes-clause-sound g c =
     let p = err_from_is_err_and c.from_residual.result c.from_residual.ensures.1 in
-    rw (p.1, p.2) (load_is_sound (g.S.Store.holds c.args.store.now) c.args.file.now c.role_of.result _ c.in_err-bytes.field-0.0 _ c.in_err-bytes.ensures.loading)
+    rw (p.1, p.2) (load_is_sound (g.S.Store.holds c.args.store.now) c.args.file.now c.role_of.result _ _ (λ rises. (rises, c.load_file.ensures.once)) c.in_err-bytes.field-0.0 _ c.in_err-bytes.ensures.loading)
 
 pub returns-clause-text : goal.returns-clause-text
 returns-clause-text g c =

@@ -1,10 +1,11 @@
-use Rattle.std.proofs.Common.{inr, refl, ◌∙◌}
-use Rattle.gm_host.specs.Count.{Rises}
+use Rattle.std.proofs.Common.{inr, refl, ap, ◌∙◌}
+use Rattle.gm_host.specs.Count.{counted, Rises}
 use Rattle.gm_tool.specs.Loads.{FailsAt}
 use Rattle.gm_tool.specs.MadeRuns.{names_of}
 use Rattle.gm_tool.specs.Stops.{reply_of}
 use Rattle.gm_tool.specs.Tool.{IsReplyStatus}
 use Rattle.gm_tool.proofs.Saving.{text_saved, stopped_text, map_saved, status_saved, saving_is_sound, stop_is_sound, stop_status, stop_is_no_run, unsaved}
+use Rattle.gm_tool.proofs.SaveCounts.{none_saved, once_saved}
 use Rattle.gm_tool.proofs.LoadCounts.{counts_saved, counts_stopped, always}
 use Rattle.gm_tool.proofs.StepBounds.{if_done}
 use Rattle.gm_tool.proofs.StepWords.{least_saved, least_stopped}
@@ -30,6 +31,15 @@ returns-in-Ok-clause-least g c = least_saved (g.S.Store.holds c.args.store.now) 
 pub returns-in-Ok-clause-counted_loads : goal.returns-in-Ok-clause-counted_loads
 returns-in-Ok-clause-counted_loads g c =
     rw (c.saved.ensures.no_load_fault, c.saved.ensures.no_load) (counts_saved (names_of c.args.files) (Rises (g.S.Store.load_faults c.args.store.now) (g.S.Store.load_faults c.prepared.new.store)) (g.S.Store.loads c.args.store.now) (g.S.Store.loads c.prepared.new.store) (g.S.Store.holds c.args.store.now) c.in-Ok.made c.saved.result c.in-Ok.ensures.counted_loads)
+
+pub returns-in-Ok-clause-in_order : goal.returns-in-Ok-clause-in_order
+returns-in-Ok-clause-in_order g c = rw c.saved.ensures.no_load c.prepared.ensures.in_order
+
+pub returns-in-Ok-clause-saves : goal.returns-in-Ok-clause-saves
+returns-in-Ok-clause-saves g c = once_saved _ _ _ _ c.args.files.out.now c.in-Ok.made _ c.saved.result c.in-Ok.ensures.status c.saved.ensures.saved (c.saved.ensures.one_save ∙ ap counted c.prepared.ensures.no_save)
+
+pub returns-in-Err-clause-saves : goal.returns-in-Err-clause-saves
+returns-in-Err-clause-saves g c = rw c.stopped.ensures (none_saved _ _ c.in-Err.stop _ c.in-Err.ensures.sound c.prepared.ensures.no_save)
 
 pub returns-in-Ok-clause-no_memory : goal.returns-in-Ok-clause-no_memory
 returns-in-Ok-clause-no_memory g c none = unsaved _ _ c.args.files.out.now c.in-Ok.made _ c.saved.result c.saved.ensures.saved none ∙ c.prepared.ensures.held

@@ -1,4 +1,4 @@
-use Rattle.gm_tool.proofs.Lines.{plans_fit, lines_fit, printable, run_made, map_made}
+use Rattle.gm_tool.proofs.Lines.{plans_fit, stats_fit, printable, run_made, map_made}
 use Rattle.gm_tool.proofs.StepBounds.{unprinted_within, printed_within, printed_least, if_done}
 use Rattle.gm_tool.proofs.running.applied.Goals as goal
 
@@ -6,7 +6,7 @@ pub run-requires-clause-plans : goal.run-requires-clause-plans
 run-requires-clause-plans g c = plans_fit c.args.arena.now c.args.book.now c.args.script c.args.plans.now c.requires
 
 pub run-requires-clause-lines : goal.run-requires-clause-lines
-run-requires-clause-lines g c = lines_fit c.args.arena.now c.args.book.now c.args.script c.args.plans.now c.requires
+run-requires-clause-lines g c = stats_fit c.args.arena.now c.args.book.now c.args.script c.args.plans.now c.requires
 
 pub printed-requires : goal.printed-requires
 printed-requires g c = record { printable = printable c.args.arena.now c.args.book.now c.args.script c.args.plans.now c.requires c.in_ok-report.report.lines c.in_ok-report.ensures.printable }
@@ -15,12 +15,12 @@ pub returns-clause-run : goal.returns-clause-run
 returns-clause-run g c =
     let run = c.in_ok-report.ensures.run in
     run_made c.args.arena.now c.args.book.now c.args.script c.args.plans.now c.requires c.args.version c.run.new.arena c.run.ensures.schema c.printed.ensures.lawful
-    run.0 c.in_ok-report.report.darts c.in_ok-report.report.next c.printed.result run.2 c.in_ok-report.ensures.darts.0 c.in_ok-report.ensures.next (c.printed.ensures.texts run.0 run.1)
+    run.0 run.1 c.in_ok-report.report.darts c.in_ok-report.report.next c.printed.result run.3 run.4 c.in_ok-report.ensures.darts.0 c.in_ok-report.ensures.next (c.printed.ensures.texts run.0 run.2)
 
 pub returns-clause-map : goal.returns-clause-map
 returns-clause-map g c =
     let run = c.in_ok-report.ensures.run in
-    map_made c.args.version c.run.new.arena _ _ c.printed.result c.printed.ensures.lawful (rw c.run.ensures.schema c.requires.parts) c.run.ensures.sound (c.printed.ensures.texts run.0 run.1)
+    map_made c.args.version c.run.new.arena _ _ c.printed.result c.printed.ensures.lawful (rw c.run.ensures.schema c.requires.parts) c.run.ensures.sound (c.printed.ensures.texts run.0 run.2)
 
 pub returns-in_err-report-clause-most : goal.returns-in_err-report-clause-most
 returns-in_err-report-clause-most g c =

@@ -1,12 +1,13 @@
-use Rattle.std.proofs.Common.{inl, inr, refl, ap, ◌∙◌}
+use Rattle.std.proofs.Common.{refl, ap, ◌∙◌}
 use Rattle.std.proofs.lemmas.Result.{err_from_is_err_and}
 use Rattle.gm_host.specs.Count.{counted, Rises}
+use Rattle.gm_lines.specs.Refusing.{TheMap, TheBook}
 use Rattle.gm_tool.specs.Loads.{FailsAt}
 use Rattle.gm_tool.specs.MadeRuns.{names_of}
 use Rattle.gm_tool.proofs.LoadCounts.{behind_map, behind_book}
-use Rattle.gm_tool.proofs.RunStops.{rises_later, rises_last, lacks_map, lacks_book, at_map, at_book, has_begun, thrice_at_most}
+use Rattle.gm_tool.proofs.RunStops.{rises_later, passes_map, passes_book, unloaded, at_map, at_book, has_begun}
 use Rattle.gm_tool.proofs.StepBounds.{stopped_within}
-use Rattle.gm_tool.proofs.Stopping.{sound_to, stops_soundly}
+use Rattle.gm_tool.proofs.Stopping.{sound_to}
 use Rattle.gm_tool.proofs.running.prepared.Goals as goal
 
 -- ---- the map fails
@@ -27,7 +28,12 @@ returns-in_err-read-clause-most g c = stopped_within (names_of c.args.files) (g.
 pub returns-in_err-read-clause-sound : goal.returns-in_err-read-clause-sound
 returns-in_err-read-clause-sound g c =
     let p = err_from_is_err_and c.from_residual.result c.from_residual.ensures.1 in
-    rw (p.1, p.2) (sound_to _ _ (lacks_map (g.S.Store.holds c.args.store.now) (names_of c.args.files) _) c.in_err-read.field-0.0 c.in_err-read.ensures.from.1)
+    rw (p.1, p.2)
+    (sound_to _ _ (unloaded (g.S.Store.holds c.args.store.now) (names_of c.args.files) (FailsAt (g.S.Store.load_faults c.args.store.now) (g.S.Store.load_faults c.load_map.new.store) (g.S.Store.loads c.args.store.now) (g.S.Store.loads c.load_map.new.store)) TheMap _ (passes_map (g.S.Store.holds c.args.store.now) (names_of c.args.files)) (λ rises. (rises, c.load_map.ensures.once)))
+    c.in_err-read.field-0.0 c.in_err-read.ensures.from.1)
+
+pub returns-in_err-read-clause-in_order : goal.returns-in_err-read-clause-in_order
+returns-in_err-read-clause-in_order g c = (TheMap, passes_map (g.S.Store.holds c.args.store.now) (names_of c.args.files), c.load_map.ensures.once)
 
 -- ---- the book fails
 
@@ -51,12 +57,14 @@ returns-in_err-book-clause-most g c = stopped_within (names_of c.args.files) (g.
 pub returns-in_err-book-clause-sound : goal.returns-in_err-book-clause-sound
 returns-in_err-book-clause-sound g c =
     let p = err_from_is_err_and c.from_residual-in_err-book.result c.from_residual-in_err-book.ensures.1 in
-    rw (p.1, p.2) (sound_to _ _ (lacks_book (g.S.Store.holds c.args.store.now) (names_of c.args.files) _ _ (rises_later _ _ _ c.load_map.ensures.faults_never_fall)) c.in_err-book.field-0.0 (rw c.load_map.ensures.held at c.in_err-book.ensures.from.1))
+    rw (p.1, p.2)
+    (sound_to _ _ (unloaded (g.S.Store.holds c.args.store.now) (names_of c.args.files) (FailsAt (g.S.Store.load_faults c.args.store.now) (g.S.Store.load_faults c.load_book.new.store) (g.S.Store.loads c.args.store.now) (g.S.Store.loads c.load_book.new.store)) TheBook _ (passes_book (g.S.Store.holds c.args.store.now) (names_of c.args.files) c.in_ok-read.field-0.read (Unit {0}) c.in_ok-read.ensures.from) (λ rises. (rises_later _ _ _ c.load_map.ensures.faults_never_fall rises, c.load_book.ensures.once ∙ ap counted c.load_map.ensures.once)))
+    c.in_err-book.field-0.0 (rw c.load_map.ensures.held at c.in_err-book.ensures.from.1))
+
+pub returns-in_err-book-clause-in_order : goal.returns-in_err-book-clause-in_order
+returns-in_err-book-clause-in_order g c = (TheBook, passes_book (g.S.Store.holds c.args.store.now) (names_of c.args.files) c.in_ok-read.field-0.read (Unit {0}) c.in_ok-read.ensures.from, c.load_book.ensures.once ∙ ap counted c.load_map.ensures.once)
 
 -- ---- both are read
-
-pub returns-clause-loads : goal.returns-clause-loads
-returns-clause-loads g c = thrice_at_most _ _ _ (c.load_book.ensures.once ∙ ap counted c.load_map.ensures.once) c.prepared_behind.ensures.loads
 
 pub returns-clause-made : goal.returns-clause-made
 returns-clause-made g c =
@@ -82,12 +90,17 @@ returns-clause-least g c =
     held (record { faults = g.S.Store.load_faults c.args.store.now; loads = g.S.Store.loads c.args.store.now; steps = c.args.steps.now }) (has_begun (g.S.Store.holds c.args.store.now) (names_of c.args.files) c.in_ok-read.field-0.read c.in_ok-book.book c.in_ok-read.ensures.from (rw c.load_map.ensures.held at c.in_ok-book.ensures.from) (record { faults = g.S.Store.load_faults c.args.store.now; loads = g.S.Store.loads c.args.store.now; steps = c.args.steps.now }) _ _ _ _ _
     c.load_map.ensures.faults_never_fall c.load_book.ensures.faults_never_fall c.load_map.ensures.once c.load_book.ensures.once c.in_ok-read.ensures.most c.in_ok-read.ensures.least)
 
+pub returns-clause-in_order : goal.returns-clause-in_order
+returns-clause-in_order g c =
+    let held = rw (c.load_book.ensures.held, c.load_map.ensures.held) at c.prepared_behind.ensures.in_order in
+    held (record { faults = g.S.Store.load_faults c.args.store.now; loads = g.S.Store.loads c.args.store.now; steps = c.args.steps.now }) (has_begun (g.S.Store.holds c.args.store.now) (names_of c.args.files) c.in_ok-read.field-0.read c.in_ok-book.book c.in_ok-read.ensures.from (rw c.load_map.ensures.held at c.in_ok-book.ensures.from) (record { faults = g.S.Store.load_faults c.args.store.now; loads = g.S.Store.loads c.args.store.now; steps = c.args.steps.now }) _ _ _ _ _
+    c.load_map.ensures.faults_never_fall c.load_book.ensures.faults_never_fall c.load_map.ensures.once c.load_book.ensures.once c.in_ok-read.ensures.most c.in_ok-read.ensures.least)
+
 pub returns-clause-sound : goal.returns-clause-sound
 returns-clause-sound g c =
-    stops_soundly _ _ (λ either. elim either [
-      | inl rises ↦ inl (rises_last _ _ _ _ c.load_map.ensures.faults_never_fall c.load_book.ensures.faults_never_fall rises)
-      | inr lacks ↦ inr lacks
-    ]) c.prepared_behind.result (rw (c.load_book.ensures.held, c.load_map.ensures.held) at c.prepared_behind.ensures.sound)
+    let held = rw (c.load_book.ensures.held, c.load_map.ensures.held) at c.prepared_behind.ensures.sound in
+    held (record { faults = g.S.Store.load_faults c.args.store.now; loads = g.S.Store.loads c.args.store.now; steps = c.args.steps.now }) (has_begun (g.S.Store.holds c.args.store.now) (names_of c.args.files) c.in_ok-read.field-0.read c.in_ok-book.book c.in_ok-read.ensures.from (rw c.load_map.ensures.held at c.in_ok-book.ensures.from) (record { faults = g.S.Store.load_faults c.args.store.now; loads = g.S.Store.loads c.args.store.now; steps = c.args.steps.now }) _ _ _ _ _
+    c.load_map.ensures.faults_never_fall c.load_book.ensures.faults_never_fall c.load_map.ensures.once c.load_book.ensures.once c.in_ok-read.ensures.most c.in_ok-read.ensures.least)
 
 pub returns-in_err-read-clause-map : goal.returns-in_err-read-clause-map
 returns-in_err-read-clause-map g c = rw (err_from_is_err_and c.from_residual.result c.from_residual.ensures.1).1 tt
@@ -106,9 +119,3 @@ returns-in_err-book-clause-status g c = rw (err_from_is_err_and c.from_residual-
 
 pub returns-in_err-book-clause-least : goal.returns-in_err-book-clause-least
 returns-in_err-book-clause-least g c = rw (err_from_is_err_and c.from_residual-in_err-book.result c.from_residual-in_err-book.ensures.1).1 tt
-
-pub returns-in_err-read-clause-loads : goal.returns-in_err-read-clause-loads
-returns-in_err-read-clause-loads g c = inr (inl c.load_map.ensures.once)
-
-pub returns-in_err-book-clause-loads : goal.returns-in_err-book-clause-loads
-returns-in_err-book-clause-loads g c = inr (inr (inl (c.load_book.ensures.once ∙ ap counted c.load_map.ensures.once)))

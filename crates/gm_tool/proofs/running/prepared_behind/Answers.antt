@@ -2,7 +2,7 @@ use Rattle.std.proofs.Common.{Err, rules, refl, map, ap, ◌∙◌}
 use Rattle.std.proofs.lemmas.Result.{err_from_is_err_and}
 use Rattle.gm_host.specs.Count.{counted, Rises}
 use Rattle.gm_model.specs.Rules.{rule_of}
-use Rattle.gm_lines.specs.Refusing.{TheBook}
+use Rattle.gm_lines.specs.Refusing.{TheBook, TheScript}
 use Rattle.gm_tool.specs.Loads.{FailsAt}
 use Rattle.gm_tool.specs.MadeRuns.{names_of}
 use Rattle.gm_tool.specs.RunAnswer.{IsFirstRefused}
@@ -13,7 +13,7 @@ use Rattle.gm_tool.proofs.Agreeing.{can_run}
 use Rattle.gm_tool.proofs.Lines.{run_is_sound, run_is_done}
 use Rattle.gm_tool.proofs.LoadCounts.{behind_rules, behind_script}
 use Rattle.gm_tool.proofs.ReadBooks.{checkable_rules}
-use Rattle.gm_tool.proofs.RunStops.{rises_later, lacks_script, at_rules, at_script, at_agreement, at_end}
+use Rattle.gm_tool.proofs.RunStops.{rises_later, passes_book, passes_script, unloaded, at_rules, at_script, at_agreement, at_end}
 use Rattle.gm_tool.proofs.StepBounds.{stopped_within, are_read, ended_within, ended_least, if_done}
 use Rattle.gm_tool.proofs.Stopping.{sound_to, bad_is_sound}
 use Rattle.gm_tool.proofs.running.prepared_behind.Goals as goal
@@ -41,8 +41,11 @@ returns-in_err-plans-clause-counted_loads g c start begun =
 pub returns-in_err-plans-clause-most : goal.returns-in_err-plans-clause-most
 returns-in_err-plans-clause-most g c start begun = stopped_within (names_of c.args.files) (g.S.Store.holds c.args.store.now) _ _ _ refl begun.most
 
+pub returns-in_err-plans-clause-in_order : goal.returns-in_err-plans-clause-in_order
+returns-in_err-plans-clause-in_order g c start begun = (TheBook, passes_book (g.S.Store.holds c.args.store.now) (names_of c.args.files) c.args.read.now (Unit {0}) begun.the_map, begun.twice)
+
 pub returns-in_err-plans-clause-sound : goal.returns-in_err-plans-clause-sound
-returns-in_err-plans-clause-sound g c =
+returns-in_err-plans-clause-sound g c start begun =
     let p = err_from_is_err_and c.from_residual.result c.from_residual.ensures.1 in
     rw (p.1, p.2) (bad_is_sound TheBook (IsFirstRefused c.args.book.now.schema (map rule_of c.args.book.now.rules)) _ c.in_err-plans.field-0.0 c.in_err-plans.ensures.stop)
 
@@ -64,10 +67,15 @@ returns-in_err-script-clause-counted_loads g c start begun =
 pub returns-in_err-script-clause-most : goal.returns-in_err-script-clause-most
 returns-in_err-script-clause-most g c start begun = stopped_within (names_of c.args.files) (g.S.Store.holds c.args.store.now) _ _ _ refl begun.most
 
+pub returns-in_err-script-clause-in_order : goal.returns-in_err-script-clause-in_order
+returns-in_err-script-clause-in_order g c start begun = (TheScript, passes_script (g.S.Store.holds c.args.store.now) (names_of c.args.files) c.args.read.now c.args.book.now (Unit {0}) (Unit {0}) begun.the_map begun.the_book c.in_ok-plans.ensures.accepted, c.load_script.ensures.once ∙ ap counted begun.twice)
+
 pub returns-in_err-script-clause-sound : goal.returns-in_err-script-clause-sound
-returns-in_err-script-clause-sound g c =
+returns-in_err-script-clause-sound g c start begun =
     let p = err_from_is_err_and c.from_residual-in_err-script.result c.from_residual-in_err-script.ensures.1 in
-    rw (p.1, p.2) (sound_to _ _ (lacks_script (g.S.Store.holds c.args.store.now) (names_of c.args.files) _ _ (λ rises. rises)) c.in_err-script.field-0.0 c.in_err-script.ensures.from.1)
+    rw (p.1, p.2)
+    (sound_to _ _ (unloaded (g.S.Store.holds c.args.store.now) (names_of c.args.files) (FailsAt start.faults (g.S.Store.load_faults c.load_script.new.store) start.loads (g.S.Store.loads c.load_script.new.store)) TheScript _
+    (passes_script (g.S.Store.holds c.args.store.now) (names_of c.args.files) c.args.read.now c.args.book.now (Unit {0}) (Unit {0}) begun.the_map begun.the_book c.in_ok-plans.ensures.accepted) (λ rises. (rises_later _ _ _ begun.faults_never_fall rises, c.load_script.ensures.once ∙ ap counted begun.twice))) c.in_err-script.field-0.0 c.in_err-script.ensures.from.1)
 
 -- ---- map and book don't agree
 
@@ -105,8 +113,17 @@ returns-clause-least g c start begun =
     (ended_least (names_of c.args.files) c.args.read.now c.args.book.now c.in_ok-script.script (Unit {0}) (Unit {0}) (Unit {0}) c.in_ok-plans.ensures.accepted (g.S.Store.holds c.args.store.now) _ _ _ c.applied.ensures.lawful
     (are_read (names_of c.args.files) c.args.read.now c.args.book.now c.in_ok-script.script (Unit {0}) (Unit {0}) (Unit {0}) c.in_ok-plans.ensures.accepted (g.S.Store.holds c.args.store.now) begun.the_map begun.the_book c.in_ok-script.ensures.from) begun.least) c.applied.result c.applied.ensures.least
 
+pub returns-clause-in_order : goal.returns-clause-in_order
+returns-clause-in_order g c start begun = (TheScript, passes_script (g.S.Store.holds c.args.store.now) (names_of c.args.files) c.args.read.now c.args.book.now (Unit {0}) (Unit {0}) begun.the_map begun.the_book c.in_ok-plans.ensures.accepted, c.load_script.ensures.once ∙ ap counted begun.twice)
+
+pub returns-then-not-agree-clause-in_order : goal.returns-then-not-agree-clause-in_order
+returns-then-not-agree-clause-in_order g c start begun = (TheScript, passes_script (g.S.Store.holds c.args.store.now) (names_of c.args.files) c.args.read.now c.args.book.now (Unit {0}) (Unit {0}) begun.the_map begun.the_book c.in_ok-plans.ensures.accepted, c.load_script.ensures.once ∙ ap counted begun.twice)
+
+pub returns-then-not-agree-clause-sound : goal.returns-then-not-agree-clause-sound
+returns-then-not-agree-clause-sound g c start begun = tt
+
 pub returns-clause-sound : goal.returns-clause-sound
-returns-clause-sound g c = run_is_sound _ c.applied.result _ c.applied.ensures.run
+returns-clause-sound g c start begun = run_is_sound _ c.applied.result _ c.applied.ensures.run
 
 pub returns-clause-status : goal.returns-clause-status
 returns-clause-status g c = run_is_done _ c.applied.result c.applied.ensures.run

@@ -1,0 +1,23 @@
+use Rattle.std.proofs.Common.{◌≡◌, Option, Some, Result, sym, ap, subst, ◌∙◌}
+use Rattle.std.specs.Option.{unwrap_or}
+use Rattle.std.specs.Result.{result_err}
+use Rattle.gm_model.specs.declared.rule.RuleTable.{RuleTable}
+use Rattle.gm_forms.specs.Forms.{rule_form_of}
+use Rattle.gm_forms.specs.Held.{names_held}
+use Rattle.gm_book.specs.declared.names.NameFault.{NameFault}
+use Rattle.gm_book.specs.FirstNameFault.{IsLeast, IsFaultInRule, IsRuleFault}
+use Rattle.gm_book.proofs.Checked.{earlier_or}
+use Rattle.gm_book.proofs.RuleFaults.{least_of_rule}
+use Rattle.gm_book.proofs.building.named_table.Goals as goal
+
+pub returns-in-Err-clause-fault : goal.returns-in-Err-clause-fault
+returns-in-Err-clause-fault c =
+    let n = c.args.schema.now.dim in
+    let embeds = c.args.schema.now.embeds in
+    let rule = rule_form_of c.args.text.now c.args.rule.now in
+    let names = names_held c.args.names.now in
+    let fault = c.in-Err.fault in
+    let here = subst (λ (r : Result RuleTable NameFault). IsLeast (IsFaultInRule n embeds rule) (result_err r)) c.in-Err.is c.in_ok-table.ensures.fault in
+    let least = least_of_rule n embeds names rule c.in_ok-again.again (Some fault) c.in_ok-again.ensures.fault here in
+    let told : c.unwrap_or.result ≡ unwrap_or c.earlier.result fault = c.unwrap_or.ensures in
+    subst (IsLeast (IsRuleFault n embeds names rule)) (earlier_or c.in_ok-again.again fault ∙ ap Some (sym (told ∙ ap (λ (o : Option NameFault). unwrap_or o fault) c.earlier.ensures))) least

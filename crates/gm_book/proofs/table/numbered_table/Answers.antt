@@ -1,0 +1,40 @@
+use Rattle.std.proofs.Common.{◌≡◌, List, map, Option, Result, sym, ap, subst, ◌∙◌, rules}
+use Rattle.std.specs.List.{AllZip}
+use Rattle.std.specs.Option.{option_map}
+use Rattle.std.specs.Prelude.{IfOk}
+use Rattle.gm_model.specs.declared.rule.Node.{Node}
+use Rattle.gm_model.specs.Rules.{node_of}
+use Rattle.gm_model.specs.Trees.{tree_of}
+use Rattle.gm_forms.specs.BookText.{param_of, nodes_of, links_in, hooks_in, names_for}
+use Rattle.gm_forms.specs.Forms.{rule_form_of}
+use Rattle.gm_book.specs.declared.names.NameFault.{NameFault}
+use Rattle.gm_book.specs.declared.table.Values.{Values}
+use Rattle.gm_book.specs.Building.{AreSoundValues}
+use Rattle.gm_book.proofs.Checked.{at_ok, at_err, nodes_mean, rule_sound, values_fault_there}
+use Rattle.gm_book.proofs.ReadSets.{IsAssigned, means_rule}
+use Rattle.gm_book.proofs.table.numbered_table.Goals as goal
+
+pub returns-in_ok-left_links-in-Ok : goal.returns-in_ok-left_links-in-Ok
+returns-in_ok-left_links-in-Ok c =
+    let form = rule_form_of c.args.text.now c.args.rule.now in
+    let schema = c.args.schema.now in
+    let read = c.in-Ok.field-0 in
+    let values : AreSoundValues schema.dim schema.embeds form (map node_of read.nodes.items) (option_map tree_of read.pre) = at_ok _ _ c.in_ok-params.field-0 read c.in-Ok.is c.in_ok-params.ensures.values in
+    let declared = subst (λ (r : Result Values NameFault). IfOk r (λ values. values.params.items ≡ map param_of form.params)) c.in-Ok.is c.in_ok-params.ensures.params in
+    let name : c.unwrap.result ≡ form.name.name = search rules in
+    let params : c.new-in-Ok.result ≡ map param_of form.params = c.new-in-Ok.ensures ∙ declared in
+    let nodes : c.new-in-Ok-2.result ≡ read.nodes.items = c.new-in-Ok-2.ensures in
+    let left : c.new-in-Ok-3.result ≡ links_in (nodes_of form) form.left = search rules in
+    let right : c.new-in-Ok-4.result ≡ links_in (nodes_of form) form.right = search rules in
+    let hooks : c.new-in-Ok-5.result ≡ hooks_in (nodes_of form) form.left = search rules in
+    let same : map node_of read.nodes.items ≡ map node_of c.new-in-Ok-2.result = ap (map node_of) (sym nodes) in
+    record {
+      means = means_rule schema.dim schema.embeds form c.unwrap.result c.new-in-Ok.result (map node_of c.new-in-Ok-2.result) c.new-in-Ok-3.result c.new-in-Ok-4.result c.new-in-Ok-5.result (option_map tree_of read.pre)
+          name params (subst (λ ns. AllZip (IsAssigned schema.dim (names_for schema.embeds form) form) (nodes_of form) ns) same (nodes_mean schema.dim schema.embeds (map param_of form.params) (names_for schema.embeds form) form (nodes_of form) (map node_of read.nodes.items) values.nodes_are)) left right hooks values.pre_is.means;
+      sound = rule_sound schema.dim schema.embeds form c.requires.sound (map node_of read.nodes.items) (option_map tree_of read.pre) values;
+    }
+
+pub returns-in-Err : goal.returns-in-Err
+returns-in-Err c =
+    let schema = c.args.schema.now in
+    values_fault_there schema.dim schema.embeds (rule_form_of c.args.text.now c.args.rule.now) c.in-Err.fault (at_err _ _ c.in_ok-params.field-0 c.in-Err.fault c.in-Err.is c.in_ok-params.ensures.values)

@@ -1,0 +1,116 @@
+-- What is left of a run that is done, read off what is left of any call.
+use Rattle.std.proofs.Common.{◌≡◌, ℕ, List, ◌++◌, inl, inr, Option, Some, None, refl, sym, ap, subst, ◌∙◌}
+use Rattle.std.proofs.lemmas.Bool.{eqb-false}
+use Rattle.std.specs.Prelude.{IfSome}
+use Rattle.gm_host.specs.Saves.{IsSaved}
+use Rattle.gm_host.specs.Store.{Contents}
+use Rattle.gm_lines.specs.Refusing.{Role}
+use Rattle.gm_tool.specs.Answer.{Files, Answer, Saved}
+use Rattle.gm_tool.specs.Endings.{IsStored, IsEnding, Whole, LoadFailed, SaveFailed}
+use Rattle.gm_tool.specs.Headline.{RunsAsStated, HeadlineHolds}
+use Rattle.gm_tool.specs.MadeRuns.{IsRunStatus, IsSoundText, HoldsSuch}
+use Rattle.gm_tool.specs.Program.{IsAnswer, Usage, OfFile, OfRun, OfMigrate, OfGrid}
+use Rattle.gm_tool.specs.RunAnswer.{RunNames, AsksRun, IsRunAnswer, IsFailing, Missing, Long, Bad, MapFails, BookFails, ScriptFails, Disagree, LongOutput, Done, saved_of}
+use Rattle.gm_tool.specs.StepBounds.{WithinMost, AtLeast, StaysWithin, TakesLeast, KeepsSteps, MostOf, LeastOf}
+use Rattle.gm_tool.specs.Tool.{IsLoadFailure, HoldsSaved, Ends, Leaves, Put, PutFailed, Unput, NoMemory, LeavesWhereTold}
+use Rattle.gm_tool.specs.Tool as tool
+use Rattle.gm_tool.proofs.Asking.{file_is_no_run, run_is_no_migrate, run_is_no_grid, same_named}
+use Rattle.gm_tool.proofs.Putting.{six_is_no_run, seven_is_no_run}
+
+-- ---- statuses that no run is done with
+
+not_done : (status k : ℕ) → (k ≡ 0 → ⊥) → (k ≡ 1 → ⊥) → status ≡ k → IsRunStatus status → ⊥
+not_done status k zero one e (inl run) = zero (sym e ∙ run)
+not_done status k zero one e (inr run) = one (sym e ∙ run)
+
+three : (status : ℕ) → status ≡ 3 → IsRunStatus status → ⊥
+three status = not_done status 3 (eqb-false 3 0 refl) (eqb-false 3 1 refl)
+
+four : (status : ℕ) → status ≡ 4 → IsRunStatus status → ⊥
+four status = not_done status 4 (eqb-false 4 0 refl) (eqb-false 4 1 refl)
+
+five : (status : ℕ) → status ≡ 5 → IsRunStatus status → ⊥
+five status = not_done status 5 (eqb-false 5 0 refl) (eqb-false 5 1 refl)
+
+eight : (status : ℕ) → status ≡ 8 → IsRunStatus status → ⊥
+eight status = not_done status 8 (eqb-false 8 0 refl) (eqb-false 8 1 refl)
+
+abbrev status_of : Answer → ℕ
+status_of given = given.status
+
+failing : (files : Files) (role : Role) (name : List ℕ) (IsBadText : List ℕ → List ℕ → Type 0) (given : Answer) → IsFailing files role name IsBadText given → IsRunStatus given.status → ⊥
+failing files role name IsBadText given (Missing lacks e) = three given.status (ap status_of e)
+failing files role name IsBadText given (Long bytes held long e) = eight given.status (ap status_of e)
+failing files role name IsBadText given (Bad bytes why held bad e) = four given.status (ap status_of e)
+
+-- the answer for a load that failed
+load_failing : (words : List (List ℕ)) (files : Files) (load_fails : ℕ → Type 0) (given : Answer) → IsLoadFailure words files load_fails given → IsRunStatus given.status → ⊥
+load_failing words files load_fails given (tool.OfFile command name asks h) = three given.status (ap status_of h.1)
+load_failing words files load_fails given (tool.OfRun named asks (role, fails, passes, e)) = three given.status (ap status_of e)
+load_failing words files load_fails given (tool.OfMigrate named asks h) = three given.status (ap status_of h.1)
+
+-- ---- the run
+
+module _ (files : Files) (named : RunNames) (status : ℕ) (before written text : List ℕ) (after : Contents) (steps later : ℕ) (run : IsRunStatus status) (put : written ≡ before ++ text)
+    (map : HoldsSuch IsSoundText after named.out) (most : WithinMost files named steps later) (least : AtLeast files named steps later) where
+  sound_bytes : (bytes : List ℕ) → IsSaved (Some files) named.out bytes after → IsSoundText bytes
+  sound_bytes bytes is = go after is map
+    where
+      go : (c : Contents) → IsSaved (Some files) named.out bytes c → HoldsSuch IsSoundText c named.out → IsSoundText bytes
+      go None h sound = absurd h
+      go (Some held) h (other, there, sound) =
+          let same : Some other ≡ Some bytes = sym there ∙ h.0 in
+          let equal : other ≡ bytes = cc same in
+          subst IsSoundText equal sound
+
+  stated : (given : Answer) → IsRunAnswer files named given → status ≡ given.status → text ≡ given.text → IsStored files given.saved after → RunsAsStated files named status before written after steps later
+  stated given (MapFails h) s t stored = absurd (failing files _ _ _ given h (subst IsRunStatus s run))
+  stated given (BookFails inputs the_map h) s t stored = absurd (failing files _ _ _ given h (subst IsRunStatus s run))
+  stated given (ScriptFails inputs the_map the_book h) s t stored = absurd (failing files _ _ _ given h (subst IsRunStatus s run))
+  stated given (Disagree inputs the_map the_book the_script never e) s t stored = absurd (four given.status (ap status_of e) (subst IsRunStatus s run))
+  stated given (LongOutput inputs ran good long e) s t stored = absurd (eight given.status (ap status_of e) (subst IsRunStatus s run))
+  stated given (Done inputs ran good fits fits_too e) s t stored =
+      let kept = subst (λ (a : Answer). IsStored files a.saved after) e stored in
+      record {
+        inputs = inputs;
+        ran = ran;
+        good = good;
+        status_is = s ∙ ap status_of e;
+        report = put ∙ ap (λ x. before ++ x) (t ∙ ap (λ (a : Answer). a.text) e);
+        saved = kept;
+        sound = sound_bytes (saved_of inputs ran) kept;
+        most = λ bounds within. most _ (MostOf inputs ran bounds good within);
+        least = λ bounds within. least _ (LeastOf inputs ran bounds good within);
+      }
+
+  answered : (words : List (List ℕ)) → AsksRun words named → (given : Answer) → IsAnswer words files given → status ≡ given.status → text ≡ given.text → IsStored files given.saved after → RunsAsStated files named status before written after steps later
+  answered words asks given (Usage none e) s t stored = absurd (none (inr (inl (inl (named, asks)))))
+  answered words asks given (OfFile command name other h) s t stored = absurd (file_is_no_run words command name named other asks)
+  answered words asks given (OfRun other runs h) s t stored = stated given (subst (λ (n : RunNames). IsRunAnswer files n given) (same_named words other named runs asks) h) s t stored
+  answered words asks given (OfMigrate other migrates h) s t stored = absurd (run_is_no_migrate words named other asks migrates)
+  answered words asks given (OfGrid m grid h) s t stored = absurd (run_is_no_grid words named m asks grid)
+
+  pub ended : (words : List (List ℕ)) → AsksRun words named → (load_fails : ℕ → Type 0) (save_fails : Type 0) → Ends words files load_fails save_fails status text after → RunsAsStated files named status before written after steps later
+  ended words asks load_fails save_fails (Whole given is s t stored) = answered words asks given is s t stored
+  ended words asks load_fails save_fails (LoadFailed h same) = absurd (load_failing words files load_fails _ h run)
+  ended words asks load_fails save_fails (SaveFailed fails given saved is e s t kept) = absurd (five status s run)
+
+pub headline : (words : List (List ℕ)) (contents after : Contents) (load_fails : ℕ → Type 0) (save_fails put_fails : Type 0) (before written : Option (List ℕ)) (status steps later : ℕ)
+    → LeavesWhereTold words contents after load_fails save_fails put_fails before status written → (IsRunStatus status → HoldsSaved IsSoundText words after) → KeepsSteps words contents status steps later
+    → HeadlineHolds words contents after before status written steps later
+headline words None after load_fails save_fails put_fails before written status steps later left map keeps = tt
+headline words (Some files) after load_fails save_fails put_fails None written status steps later left map keeps = tt
+headline words (Some files) after load_fails save_fails put_fails (Some before) written status steps later (put, is, left) map keeps = λ named asks run. (put, is, of named asks run left)
+  where
+    of : (named : RunNames) → AsksRun words named → IsRunStatus status → Leaves words files load_fails save_fails put_fails before status put after → RunsAsStated files named status before put after steps later
+    of named asks run (Put text ends e) =
+        ended files named status before put text after steps later run e ((map run).0 named asks) (keeps.most named asks) (keeps.least named asks run) words asks load_fails save_fails ends
+    of named asks run (PutFailed fails given text kept ends e same) = absurd (six_is_no_run (subst IsRunStatus e run))
+    of named asks run (Unput given text ends e same) = absurd (seven_is_no_run (subst IsRunStatus e run))
+    of named asks run (NoMemory e same held) = absurd (seven_is_no_run (subst IsRunStatus e run))
+
+-- a call that isn't done has none
+pub no_headline : (words : List (List ℕ)) (contents after : Contents) (before written : Option (List ℕ)) (status steps later : ℕ) → (IsRunStatus status → ⊥) → HeadlineHolds words contents after before status written steps later
+no_headline words None after before written status steps later none = tt
+no_headline words (Some files) after None written status steps later none = tt
+no_headline words (Some files) after (Some before) written status steps later none = λ named asks run. absurd (none run)
