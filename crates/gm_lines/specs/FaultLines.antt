@@ -54,6 +54,7 @@ book_words book.OutOfMemory = []
 abbrev pub IsSaidOfScript : ScriptFault → Type 0
 IsSaidOfScript (script.Text place) = Unit {0}
 IsSaidOfScript (script.Limit what place) = Unit {0}
+IsSaidOfScript (script.Twice place) = Unit {0}
 IsSaidOfScript (script.UnknownRule place) = Unit {0}
 IsSaidOfScript (script.HookCount place) = Unit {0}
 IsSaidOfScript (script.Params place) = Unit {0}
@@ -62,7 +63,8 @@ IsSaidOfScript script.OutOfMemory = ⊥
 abbrev pub script_words : ScriptFault → List ℕ
 script_words (script.Text place) = script_fault_words (script_faults.Ends place)
 script_words (script.Limit what place) = script_fault_words (script_faults.Passes what place)
-script_words (script.UnknownRule place) = script_fault_words (script_faults.OfLine (UnknownRuleAt place))
-script_words (script.HookCount place) = script_fault_words (script_faults.OfLine (HookCountAt place))
-script_words (script.Params place) = script_fault_words (script_faults.OfLine (ParamsAt place))
+script_words (script.Twice place) = script_fault_words (script_faults.Again place)
+script_words (script.UnknownRule place) = script_fault_words (script_faults.OfStat (UnknownRuleAt place))
+script_words (script.HookCount place) = script_fault_words (script_faults.OfStat (HookCountAt place))
+script_words (script.Params place) = script_fault_words (script_faults.OfStat (ParamsAt place))
 script_words script.OutOfMemory = []

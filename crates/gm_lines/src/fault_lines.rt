@@ -140,6 +140,7 @@ fn put_script_fault(text: &mut Text, fault: ScriptFault) -> Result<(), OutOfMemo
     match fault {
         ScriptFault::Text { place } => put_at(text, b"text ", place as u64),
         ScriptFault::Limit { what, place } => put_limit(text, what, place),
+        ScriptFault::Twice { place } => put_at(text, b"twice ", place as u64),
         ScriptFault::UnknownRule { place } => put_at(text, b"unknown-rule ", place as u64),
         ScriptFault::HookCount { place } => put_at(text, b"hook-count ", place as u64),
         ScriptFault::Params { place } => put_at(text, b"params ", place as u64),
