@@ -32,7 +32,7 @@ all_same embeds others at so_far long end = same_lists embeds others long (λ k 
 -- ---- what was read
 
 module _ (read : MapRead) (book : Book) (script : Script) where
-  pub can_run : (plans : List PlanOf) (of_map_file : (bytes : List ℕ) × IsReadMap bytes read) (of_book : (bytes : List ℕ) × IsReadBook bytes book) (of_script : (bytes : List ℕ) × IsReadScript (map rule_of book.rules) bytes script)
+  pub can_run : (plans : List PlanOf) (of_map_file : (bytes : List ℕ) × IsReadMap bytes read) (of_book : (bytes : List ℕ) × IsReadBook bytes book) (of_script : (bytes : List ℕ) × IsReadScript book.schema.dim (map rule_of book.rules) bytes script)
       → plans ≡ map (plan_of book.schema) book.rules → read.arena.schema ≡ book.schema → CanRun read.arena book script plans
   can_run plans of_map_file of_book of_script planned same = record {
     sound = of_map_file.1.sound;

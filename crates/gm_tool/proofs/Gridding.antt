@@ -22,13 +22,14 @@ use Rattle.gm_model.specs.Budgets.{Bounds, no_entries, IsRunWithin}
 use Rattle.gm_model.specs.Maps.{Map, IsDart}
 use Rattle.gm_model.specs.Orbits.{HasCount}
 use Rattle.gm_model.specs.Rules.{Rule, rule_of}
-use Rattle.gm_model.specs.Runs.{Outcome, is_done, State, start_of, IsRun}
+use Rattle.gm_model.specs.Runs.{Outcome, is_done, State, start_of, IsRun, AreInOrder}
 use Rattle.gm_plan.specs.Plans.{PlanOf, plan_of}
 use Rattle.gm_theory.proofs.NoFault.{accepted_no_fault}
 use Rattle.gm_run.specs.Alike.{AreAlike}
 use Rattle.gm_run.specs.declared.outcome.Outcome as answers
 use Rattle.gm_run.specs.Lines.{Tells}
-use Rattle.gm_run.specs.Progress.{IsPlanFor, ArePlansFor, IsGoodApplication, rules_of}
+use Rattle.gm_theory.specs.Outcomes.{IsGoodStat}
+use Rattle.gm_run.specs.Progress.{IsPlanFor, ArePlansFor, rules_of}
 use Rattle.gm_theory.proofs.ExamplesTriangulation.{accepted}
 use Rattle.gm_theory.proofs.ValuesUnique.{one_count}
 use Rattle.gm_walk.proofs.CountLemmas.{count_alike}
@@ -40,7 +41,7 @@ use Rattle.gm_tool.specs.Stops.{IsBadFor, reply_of}
 use Rattle.gm_tool.specs.declared.refusal.NoText.TheVariants as nothing
 use Rattle.gm_tool.specs.declared.refusal.Stop.{Stop}
 use Rattle.gm_tool.specs.declared.refusal.Stop.TheVariants as stops
-use Rattle.gm_tool.proofs.Grids.{rules_accepted, grid_stats_good, one_gridding, grid_bounds, gridding_bounded, run_here}
+use Rattle.gm_tool.proofs.Grids.{rules_accepted, grid_stats_good, grid_in_order, one_gridding, grid_bounds, gridding_bounded, run_here}
 use Rattle.gm_tool.proofs.Lines.{rules_planned}
 
 -- ---- the plans of the book
@@ -97,9 +98,12 @@ module _ (m : ℕ) (small : m ≤ 100) (arena : ArenaMap) (grid : IsGridMap m (a
   pub plans_fit : ArePlansFor arena.schema plans
   plans_fit = subst (λ s. ArePlansFor s plans) (sym grid.schema_is) are.fit
 
-  pub stats_fit : All (IsGoodApplication (rules_of plans)) stats
-  stats_fit = All-from_recursion (IsGoodApplication (rules_of plans)) stats
-      (subst (λ rules. AllByRecursion (IsGoodApplication rules) stats) (sym are.rules) (subst (AllByRecursion (IsGoodApplication grid_rules)) (sym stats_are) (grid_stats_good m)))
+  pub stats_fit : All (IsGoodStat (rules_of plans) arena.schema.dim) stats
+  stats_fit = All-from_recursion (IsGoodStat (rules_of plans) arena.schema.dim) stats
+      (subst (λ rules. AllByRecursion (IsGoodStat rules arena.schema.dim) stats) (sym are.rules) (subst (AllByRecursion (IsGoodStat grid_rules arena.schema.dim)) (sym stats_are) (grid_stats_good arena.schema.dim m)))
+
+  pub stats_in_order : AreInOrder false stats
+  stats_in_order = subst (AreInOrder false) (sym stats_are) (grid_in_order m)
 
   of_grid : (outcomes : List Outcome) (end : State) → IsRun (rules_of plans) (start_of (as_map arena)) stats outcomes end → IsRun grid_rules (start_of (as_map arena)) (grid_stats m) outcomes end
   of_grid outcomes end run =

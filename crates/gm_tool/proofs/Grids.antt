@@ -13,32 +13,31 @@ use Rattle.gm_model.specs.Budgets.{Bounds, no_entries, IsRunWithin}
 use Rattle.gm_model.specs.Maps.{Map, IsEmbedAt, IsSchema}
 use Rattle.gm_model.specs.Runs.{Outcome, State, start_of, IsRun, AreInOrder}
 use Rattle.gm_run.specs.Alike.{AreAlike, AreAlikeStates}
-use Rattle.gm_run.specs.Progress.{IsGoodApplication}
 use Rattle.gm_run.proofs.OneRun.{one_run, one_within, run_has_bounds}
-use Rattle.gm_theory.proofs.RunsFound.{Stands, stands_first, scripts_have_runs}
-use Rattle.gm_theory.specs.Outcomes.{HasRun}
+use Rattle.gm_theory.proofs.RunsFound.{Stands, stands_first, all_suited, scripts_have_runs}
+use Rattle.gm_theory.specs.Outcomes.{HasRun, IsGoodStat}
 use Rattle.gm_theory.specs.Suited.{IsSuited}
 use Rattle.gm_theory.proofs.ExamplesTriangulation.{accepted}
 use Rattle.gm_tool.specs.GridAnswer.{grid_rules, grid_stats}
-use Rattle.gm_tool.proofs.OneRan.{stats_good, stats_suit}
 
 -- ---- the rules and the statements
 
 pub rules_accepted : All (IsAccepted grid_schema) grid_rules
 rules_accepted = All-from_recursion (IsAccepted grid_schema) grid_rules (accepted, tt)
 
-good_stat : (square : ℕ) → IsGoodApplication grid_rules (stat_at square)
-good_stat square = record { rule = triangulation; rule_is = refl; hooks = refl; params = tt }
+module _ (n : ℕ) where
+  good_stat : (square : ℕ) → IsGoodStat grid_rules n (stat_at square)
+  good_stat square = record { rule = triangulation; rule_is = refl; hooks = refl; params = tt }
 
-good_stats : (squares : List ℕ) → AllByRecursion (IsGoodApplication grid_rules) (map stat_at squares)
-good_stats [] = tt
-good_stats (square ∷ squares) = (good_stat square, good_stats squares)
+  good_stats : (squares : List ℕ) → AllByRecursion (IsGoodStat grid_rules n) (map stat_at squares)
+  good_stats [] = tt
+  good_stats (square ∷ squares) = (good_stat square, good_stats squares)
 
-pub grid_stats_good : (m : ℕ) → AllByRecursion (IsGoodApplication grid_rules) (grid_stats m)
-grid_stats_good m = good_stats (range_with_len 0 (m * m))
+pub grid_stats_good : (n m : ℕ) → AllByRecursion (IsGoodStat grid_rules n) (grid_stats m)
+grid_stats_good n m = good_stats n (range_with_len 0 (m * m))
 
 stats_suited : (m : ℕ) → AllByRecursion (IsSuited grid_schema grid_rules) (grid_stats m)
-stats_suited m = stats_suit grid_schema grid_rules (grid_stats m) is_schema rules_accepted (grid_stats_good m)
+stats_suited m = all_suited grid_schema grid_rules is_schema rules_accepted (grid_stats m) (grid_stats_good grid_schema.dim m)
 
 -- ---- two grids
 
@@ -87,8 +86,11 @@ in_order : (squares : List ℕ) → AreInOrder false (map stat_at squares)
 in_order [] = refl
 in_order (square ∷ squares) = in_order squares
 
+pub grid_in_order : (m : ℕ) → AreInOrder false (grid_stats m)
+grid_in_order m = in_order (range_with_len 0 (m * m))
+
 -- and from each grid they have a run
 pub run_here : (m : ℕ) → m ≤ 100 → (a : Map) → IsGridMap m a → HasRun grid_rules a.schema (start_of a) no_entries (grid_stats m)
 run_here m small a is =
     scripts_have_runs grid_rules a (grid_stats m) (subst IsSchema (sym is.schema_is) is_schema) (is_sound m small a is) (subst (λ s. All (IsAccepted s) grid_rules) (sym is.schema_is) rules_accepted)
-    (stats_good grid_rules a.schema.dim (grid_stats m) (grid_stats_good m)) (in_order (range_with_len 0 (m * m)))
+    (grid_stats_good a.schema.dim m) (grid_in_order m)

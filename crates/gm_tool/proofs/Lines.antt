@@ -14,21 +14,22 @@ use Rattle.gm_model.specs.declared.rule.RuleTable.{RuleTable}
 use Rattle.gm_model.specs.declared.schema.Schema.{Schema}
 use Rattle.gm_model.specs.declared.script.Script.{Script}
 use Rattle.gm_model.specs.declared.script.Stat.{Stat}
-use Rattle.gm_model.specs.declared.script.Stat.TheVariants.{Apply}
+use Rattle.gm_model.specs.declared.script.Stat.TheVariants as statements
 use Rattle.gm_model.specs.Maps.{IsSound}
 use Rattle.gm_mapfile.specs.MapText.{map_of, canonical}
 use Rattle.gm_mapfile.specs.declared.version.MapVersion.{MapVersion}
 use Rattle.gm_model.specs.Reports.{report_text}
 use Rattle.gm_model.specs.Rules.{Rule, rule_of}
-use Rattle.gm_model.specs.Runs.{Outcome, State, start_of, IsRun}
+use Rattle.gm_model.specs.Runs.{Outcome, State, start_of, IsRun, AreInOrder}
 use Rattle.gm_text.specs.SchemaPrinting.{AreParts}
-use Rattle.gm_script.specs.ScriptText.{LineForm, IsStat, AreStats, ScriptText}
-use Rattle.gm_script.proofs.GoodParams.{script_params_good}
-use Rattle.gm_script.proofs.GoodParams as fitting
+use Rattle.gm_script.specs.Agreement.{Agrees}
+use Rattle.gm_script.specs.ScriptText.{ScriptText}
+use Rattle.gm_script.proofs.Agreement.{script_agrees, script_in_order}
+use Rattle.gm_theory.specs.Outcomes.{IsGoodStat}
 use Rattle.gm_plan.specs.Plans.{PlanOf, plan_of}
 use Rattle.gm_run.specs.declared.outcome.Outcome as answers
 use Rattle.gm_run.specs.Printing.{CanBePrinted}
-use Rattle.gm_run.specs.Progress.{IsPlanFor, ArePlansFor, IsGoodApplication, rules_of}
+use Rattle.gm_run.specs.Progress.{IsPlanFor, ArePlansFor, rules_of}
 use Rattle.gm_lines.specs.Refusing.{Role}
 use Rattle.gm_tool.specs.MadeRuns.{CanRun, inputs_of, IsFitted, IsPrinted, IsRunOf, IsMapBytes, IsRunStatus}
 use Rattle.gm_tool.specs.Stops.{IsSoundStop}
@@ -54,19 +55,22 @@ pub rules_planned : (schema : Schema) (tables : List RuleTable) → rules_of (ma
 rules_planned schema [] = refl
 rules_planned schema (table ∷ tables) = ap (λ rules. rule_of table ∷ rules) (rules_planned schema tables)
 
--- the statements of a script that was read are good
-pub good_stats : (rules : List Rule) (text : List ℕ) (stats : List Stat) → ScriptText text rules stats → AllByRecursion (IsGoodApplication rules) stats
-good_stats rules text stats script = each script.forms stats script.same (script_params_good rules text stats script)
-  where
-    good : (form : LineForm) (stat : Stat) → IsStat rules form stat → fitting.IsGoodStat rules stat → IsGoodApplication rules stat
-    good form (Apply line) is params = record { rule = is.rule; rule_is = is.named.there; hooks = ap length is.hooks ∙ is.count; params = params is.rule is.named.there }
-    good form _ is params = absurd is
+-- a statement that agrees with the rules is a good one
+module _ (rules : List Rule) (n : ℕ) where
+  good_stat : (stat : Stat) → Agrees n rules stat → IsGoodStat rules n stat
+  good_stat (statements.Apply line) takes = record { rule = takes.rule; rule_is = takes.rule_is; hooks = takes.hooks_are; params = takes.params_are }
+  good_stat (statements.Each mask k params) (labels, takes) = record { rule = takes.rule; rule_is = takes.rule_is; one_hook = sym takes.hooks_are; labels = labels; params = takes.params_are }
+  good_stat statements.Undo h = tt
+  good_stat statements.Redo h = tt
+  good_stat statements.Group h = tt
+  good_stat statements.End h = tt
 
-    each : (forms : List LineForm) (ss : List Stat) → AreStats rules forms ss → AllByRecursion (fitting.IsGoodStat rules) ss → AllByRecursion (IsGoodApplication rules) ss
-    each [] [] h params = tt
-    each [] (stat ∷ ss) h params = absurd h
-    each (form ∷ forms) [] h params = absurd h
-    each (form ∷ forms) (stat ∷ ss) h params = (good form stat h.0 params.0, each forms ss h.1 params.1)
+  all_good : (stats : List Stat) → AllByRecursion (Agrees n rules) stats → AllByRecursion (IsGoodStat rules n) stats
+  all_good [] h = tt
+  all_good (stat ∷ stats) h = (good_stat stat h.0, all_good stats h.1)
+
+  pub good_stats : (text : List ℕ) (stats : List Stat) → ScriptText text n rules stats → AllByRecursion (IsGoodStat rules n) stats
+  good_stats text stats script = all_good stats (script_agrees n rules text stats script)
 
 module _ (m : ArenaMap) (book : Book) (script : Script) (plans : List PlanOf) (can : CanRun m book script plans) where
   pub same_rules : rules_of plans ≡ map rule_of book.rules
@@ -82,9 +86,14 @@ module _ (m : ArenaMap) (book : Book) (script : Script) (plans : List PlanOf) (c
       each [] = tt
       each (table ∷ tables) = (can.agree, each tables)
 
-  pub stats_fit : All (IsGoodApplication (rules_of plans)) script.stats
-  stats_fit = All-from_recursion (IsGoodApplication (rules_of plans)) script.stats
-      (subst (λ rules. AllByRecursion (IsGoodApplication rules) script.stats) (sym same_rules) (good_stats (map rule_of book.rules) can.text script.stats can.stats))
+  pub stats_fit : All (IsGoodStat (rules_of plans) m.schema.dim) script.stats
+  stats_fit = All-from_recursion (IsGoodStat (rules_of plans) m.schema.dim) script.stats
+      (subst (λ rules. AllByRecursion (IsGoodStat rules m.schema.dim) script.stats) (sym same_rules)
+      (subst (λ (schema : Schema). AllByRecursion (IsGoodStat (map rule_of book.rules) schema.dim) script.stats) (sym can.agree)
+      (good_stats (map rule_of book.rules) book.schema.dim can.text script.stats can.stats)))
+
+  pub stats_in_order : AreInOrder false script.stats
+  stats_in_order = script_in_order book.schema.dim (map rule_of book.rules) can.text script.stats can.stats
 
   pub printable : (outcomes : List answers.Outcome) → CanBePrinted m.schema (rules_of plans) script.stats outcomes → CanBePrinted book.schema (map rule_of book.rules) script.stats outcomes
   printable outcomes h = subst (λ rules. CanBePrinted book.schema rules script.stats outcomes) same_rules (subst (λ schema. CanBePrinted schema (rules_of plans) script.stats outcomes) can.agree h)

@@ -82,8 +82,9 @@ no_bad_good_book bytes why version schema rules (RuleRefused version' schema' ru
     let same = one_book bytes version version' schema schema' rules rules' stands a in
     none_refused schema rules why accepted (subst (λ s. IsFirstRefused s rules why) (sym same.1) (subst (λ rs. IsFirstRefused schema' rs why) (sym same.2) first))
 
-pub one_bad_script : (rules : List Rule) (bytes why other : List ℕ) → IsBadScript rules bytes why → IsBadScript rules bytes other → why ≡ other
-one_bad_script rules bytes why other (fault, a, e) (fault', b, f) = e ∙ ap script_fault_words (one_script_fault bytes rules fault fault' a b) ∙ sym f
+module _ (n : ℕ) (rules : List Rule) where
+  pub one_bad_script : (bytes why other : List ℕ) → IsBadScript n rules bytes why → IsBadScript n rules bytes other → why ≡ other
+  one_bad_script bytes why other (fault, a, e) (fault', b, f) = e ∙ ap script_fault_words (one_script_fault bytes n rules fault fault' a b) ∙ sym f
 
-pub no_bad_script : (rules : List Rule) (bytes why : List ℕ) (stats : List Stat) → IsBadScript rules bytes why → ScriptText bytes rules stats → ⊥
-no_bad_script rules bytes why stats (fault, a, e) stands = no_script_at bytes rules fault a stats stands
+  pub no_bad_script : (bytes why : List ℕ) (stats : List Stat) → IsBadScript n rules bytes why → ScriptText bytes n rules stats → ⊥
+  no_bad_script bytes why stats (fault, a, e) stands = no_script_at bytes n rules fault a stats stands

@@ -12,7 +12,6 @@ use Rattle.gm_model.specs.Maps.{Map, IsSchema, IsSound}
 use Rattle.gm_model.specs.Rules.{Rule}
 use Rattle.gm_model.specs.Runs.{Outcome, State, start_of, IsRun}
 use Rattle.gm_run.specs.Alike.{AreAlike, AreAlikeStates}
-use Rattle.gm_run.specs.Progress.{IsGoodApplication}
 use Rattle.gm_run.proofs.AlikeStates.{states_alike_self}
 use Rattle.gm_run.proofs.OneRun.{one_run}
 use Rattle.gm_script.specs.ScriptText.{ScriptText}
@@ -23,18 +22,8 @@ use Rattle.gm_tool.specs.RunAnswer.{Inputs, Ran, IsRan, Agree}
 use Rattle.gm_tool.proofs.Lines.{good_stats}
 use Rattle.gm_tool.proofs.SameRows.{same_listed}
 
--- applications whose lines are good are good statements
-pub stats_good : (rules : List Rule) (n : ℕ) (stats : List Stat) → AllByRecursion (IsGoodApplication rules) stats → AllByRecursion (IsGoodStat rules n) stats
-stats_good rules n [] all = tt
-stats_good rules n (Apply line ∷ stats) all = (all.0, stats_good rules n stats all.1)
-stats_good rules n (_ ∷ stats) all = absurd all.0
-
--- and suit rules that are accepted
-pub stats_suit : (schema : Schema) (rules : List Rule) (stats : List Stat) → IsSchema schema → All (IsAccepted schema) rules → AllByRecursion (IsGoodApplication rules) stats → AllByRecursion (IsSuited schema rules) stats
-stats_suit schema rules stats of_schema accepted all = all_suited schema rules of_schema accepted stats (stats_good rules schema.dim stats all)
-
 module _ (inputs : Inputs) (text : List ℕ) (stands : MapText text inputs.version inputs.map) (accepted : All (IsAccepted inputs.schema) inputs.rules)
-    (script : List ℕ) (stats : ScriptText script inputs.rules inputs.stats) (agree : Agree inputs) where
+    (script : List ℕ) (stats : ScriptText script inputs.schema.dim inputs.rules inputs.stats) (agree : Agree inputs) where
   declared : IsSchema inputs.schema
   declared = subst IsSchema agree (listed_good text stands.written inputs.map.schema stands.darts stands.listed).declared
 
@@ -44,7 +33,7 @@ module _ (inputs : Inputs) (text : List ℕ) (stands : MapText text inputs.versi
   runs : (a b : Ran) → IsRan inputs a → IsRan inputs b → (a.outcomes ≡ b.outcomes) × AreAlike (map_of a.map) (map_of b.map)
   runs a b one other =
       let both : (a.outcomes ≡ b.outcomes) × AreAlikeStates one.behind other.behind =
-      one_run inputs.schema inputs.rules inputs.stats (stats_suit inputs.schema inputs.rules inputs.stats declared accepted (good_stats inputs.rules script inputs.stats stats)) (start_of (map_of inputs.map)) (start_of (map_of inputs.map)) no_entries
+      one_run inputs.schema inputs.rules inputs.stats (all_suited inputs.schema inputs.rules declared accepted inputs.stats (good_stats inputs.rules inputs.schema.dim script inputs.stats stats)) (start_of (map_of inputs.map)) (start_of (map_of inputs.map)) no_entries
       stands_at (states_alike_self (start_of (map_of inputs.map))) a.outcomes b.outcomes one.behind other.behind one.run other.run in
       (both.0, subst (λ x. AreAlike x (map_of b.map)) one.map_is (subst (AreAlike one.behind.map) other.map_is both.1.map))
 

@@ -26,15 +26,20 @@ module _ (files : Files) (named : RunNames) where
       let same = one_book bytes version version' a.schema b.schema a.rules b.rules stands (subst (λ t. BookText t version' b.schema b.rules) (same_bytes files named.book other bytes there.0 held.0) stands') in
       (same.1, same.2)
 
-  same_script : (a b : Inputs) → a.rules ≡ b.rules → HasScript files named a → HasScript files named b → a.stats ≡ b.stats
-  same_script a b rules (bytes, held, stands) (other, there, stands') =
-      one_script bytes a.rules a.stats b.stats stands (subst (λ rs. ScriptText bytes rs b.stats) (sym rules) (subst (λ t. ScriptText t b.rules b.stats) (same_bytes files named.script other bytes there.0 held.0) stands'))
+  -- what holds under one book holds under the other
+  like : (a b : Inputs) (P : ℕ → List Rule → Type 0) → (a.schema ≡ b.schema) × (a.rules ≡ b.rules) → P b.schema.dim b.rules → P a.schema.dim a.rules
+  like a b P same h = subst (λ (schema : Schema). P schema.dim a.rules) (sym same.0) (subst (P b.schema.dim) (sym same.1) h)
+
+  same_script : (a b : Inputs) → (a.schema ≡ b.schema) × (a.rules ≡ b.rules) → HasScript files named a → HasScript files named b → a.stats ≡ b.stats
+  same_script a b same (bytes, held, stands) (other, there, stands') =
+      one_script bytes a.schema.dim a.rules a.stats b.stats stands
+      (like a b (λ n rules. ScriptText bytes n rules b.stats) same (subst (λ t. ScriptText t b.schema.dim b.rules b.stats) (same_bytes files named.script other bytes there.0 held.0) stands'))
 
   pub same_inputs : (a b : Inputs) → HasMap files named a → HasMap files named b → HasBook files named a → HasBook files named b → HasScript files named a → HasScript files named b → a ≡ b
   same_inputs a b of_map to_map of_book to_book of_script to_script =
       let maps : (a.version ≡ b.version) × (a.map ≡ b.map) = same_map a b of_map to_map in
       let books : (a.schema ≡ b.schema) × (a.rules ≡ b.rules) = same_book a b of_book to_book in
-      let stats : a.stats ≡ b.stats = same_script a b books.1 of_script to_script in
+      let stats : a.stats ≡ b.stats = same_script a b books of_script to_script in
       let version : a.version ≡ b.version = maps.0 in
       let listed : a.map ≡ b.map = maps.1 in
       let schema : a.schema ≡ b.schema = books.0 in
@@ -72,7 +77,7 @@ module _ (files : Files) (named : RunNames) where
   -- ---- file by file
 
   abbrev AtScript : Inputs → Answer → Type 0
-  AtScript inputs answer = IsFailing files TheScript named.script (IsBadScript inputs.rules) answer ⊎ (HasScript files named inputs × AtEnd inputs answer)
+  AtScript inputs answer = IsFailing files TheScript named.script (IsBadScript inputs.schema.dim inputs.rules) answer ⊎ (HasScript files named inputs × AtEnd inputs answer)
 
   abbrev AtBook : Inputs → Answer → Type 0
   AtBook inputs answer = IsFailing files TheBook named.book IsBadBook answer ⊎ (HasBook files named inputs × AtScript inputs answer)
@@ -98,18 +103,20 @@ module _ (files : Files) (named : RunNames) where
   book_fails_not inputs answer fails (bytes, version, held, stands, accepted) =
       no_failing_good files named.book TheBook IsBadBook (λ t. BookText t version inputs.schema inputs.rules) (λ t why bad good. no_bad_good_book t why version inputs.schema inputs.rules bad good accepted) answer fails bytes held stands
 
-  script_fails_not : (inputs : Inputs) (rules : List Rule) (answer : Answer) → rules ≡ inputs.rules → IsFailing files TheScript named.script (IsBadScript rules) answer → HasScript files named inputs → ⊥
-  script_fails_not inputs rules answer same fails (bytes, held, stands) =
-      no_failing_good files named.script TheScript (IsBadScript inputs.rules) (λ t. ScriptText t inputs.rules inputs.stats) (λ t why bad good. no_bad_script inputs.rules t why inputs.stats bad good) answer
-      (subst (λ rs. IsFailing files TheScript named.script (IsBadScript rs) answer) same fails) bytes held stands
+  script_fails_not : (inputs others : Inputs) (answer : Answer) → (inputs.schema ≡ others.schema) × (inputs.rules ≡ others.rules)
+      → IsFailing files TheScript named.script (IsBadScript others.schema.dim others.rules) answer → HasScript files named inputs → ⊥
+  script_fails_not inputs others answer same fails (bytes, held, stands) =
+      no_failing_good files named.script TheScript (IsBadScript inputs.schema.dim inputs.rules) (λ t. ScriptText t inputs.schema.dim inputs.rules inputs.stats)
+      (λ t why bad good. no_bad_script inputs.schema.dim inputs.rules t why inputs.stats bad good) answer
+      (like inputs others (λ n rules. IsFailing files TheScript named.script (IsBadScript n rules) answer) same fails) bytes held stands
 
   module _ (a b : Inputs) (of_map : HasMap files named a) (to_map : HasMap files named b) (one other : Answer) where
     one_at_script : HasBook files named a → HasBook files named b → AtScript a one → AtScript b other → one ≡ other
     one_at_script of_book to_book (inl f) (inl g) =
-        one_failing files named.script TheScript (IsBadScript a.rules) (λ bytes why more bad worse. one_bad_script a.rules bytes why more bad worse) one other f
-        (subst (λ rs. IsFailing files TheScript named.script (IsBadScript rs) other) (sym (same_book a b of_book to_book).1) g)
-    one_at_script of_book to_book (inl f) (inr (to_script, rest)) = absurd (script_fails_not b a.rules one (same_book a b of_book to_book).1 f to_script)
-    one_at_script of_book to_book (inr (of_script, rest)) (inl g) = absurd (script_fails_not a b.rules other (sym (same_book a b of_book to_book).1) g of_script)
+        one_failing files named.script TheScript (IsBadScript a.schema.dim a.rules) (λ bytes why more bad worse. one_bad_script a.schema.dim a.rules bytes why more bad worse) one other f
+        (like a b (λ n rules. IsFailing files TheScript named.script (IsBadScript n rules) other) (same_book a b of_book to_book) g)
+    one_at_script of_book to_book (inl f) (inr (to_script, rest)) = absurd (script_fails_not b a one (same_book b a to_book of_book) f to_script)
+    one_at_script of_book to_book (inr (of_script, rest)) (inl g) = absurd (script_fails_not a b other (same_book a b of_book to_book) g of_script)
     one_at_script of_book to_book (inr (of_script, rest)) (inr (to_script, rest')) =
         let same : b ≡ a = sym (same_inputs a b of_map to_map of_book to_book of_script to_script) in
         one_at_end a of_map of_book of_script one other rest (subst (λ i. AtEnd i other) same rest')

@@ -8,7 +8,8 @@ use Rattle.gm_book.specs.declared.fault.BookFault.TheVariants as faults
 use Rattle.gm_book.specs.Faults.{IsFaultOf}
 use Rattle.gm_book.proofs.OneBook.{one_fault, no_book}
 use Rattle.gm_script.specs.ScriptText.{StandsForNoScript}
-use Rattle.gm_script.proofs.FirstFault.{one_text_fault, one_limit_fault, text_or_limit, no_lines_at_text, no_lines_at_limit}
+use Rattle.gm_text.specs.SchemaText.{LimitOf, Again}
+use Rattle.gm_script.proofs.FirstFault.{one_text_fault, one_limit_fault, one_again_fault, limit_or_again, text_or_passed, none_at_text, none_at_passed}
 use Rattle.gm_script.proofs.OneScript.{one_disagreement, no_script_at_disagreement}
 use Rattle.gm_lines.specs.BookFaults as books
 use Rattle.gm_lines.specs.BookFaults.{BookTextFault, IsFirstBookFault}
@@ -65,18 +66,27 @@ no_book_at text fault is = no_book text (as_read fault) (no_memory fault) (is_re
 
 -- ---- scripts
 
-pub one_script_fault : (text : List ℕ) (rules : List Rule) (fault other : ScriptTextFault) → IsFirstScriptFault text rules fault → IsFirstScriptFault text rules other → fault ≡ other
-one_script_fault text rules _ _ (scripts.AtEnds p a) (scripts.AtEnds q b) = ap scripts.Ends (one_text_fault text p q a b)
-one_script_fault text rules _ _ (scripts.AtEnds p a) (scripts.AtPasses what q b) = absurd (text_or_limit text what p q a b)
-one_script_fault text rules _ _ (scripts.AtEnds p a) (scripts.AtLine fault b) = absurd (no_lines_at_text text p _ a b.written)
-one_script_fault text rules _ _ (scripts.AtPasses what p a) (scripts.AtEnds q b) = absurd (text_or_limit text what q p b a)
-one_script_fault text rules _ _ (scripts.AtPasses what p a) (scripts.AtPasses other q b) = let same = one_limit_fault text what other p q a b in ap₂ scripts.Passes same.0 same.1
-one_script_fault text rules _ _ (scripts.AtPasses what p a) (scripts.AtLine fault b) = absurd (no_lines_at_limit text what p _ a b.written)
-one_script_fault text rules _ _ (scripts.AtLine fault a) (scripts.AtEnds q b) = absurd (no_lines_at_text text q _ b a.written)
-one_script_fault text rules _ _ (scripts.AtLine fault a) (scripts.AtPasses what q b) = absurd (no_lines_at_limit text what q _ b a.written)
-one_script_fault text rules _ _ (scripts.AtLine fault a) (scripts.AtLine other b) = ap scripts.OfLine (one_disagreement text rules fault other a b)
+module _ (text : List ℕ) (n : ℕ) (rules : List Rule) where
+  pub one_script_fault : (fault other : ScriptTextFault) → IsFirstScriptFault text n rules fault → IsFirstScriptFault text n rules other → fault ≡ other
+  one_script_fault _ _ (scripts.AtEnds p a) (scripts.AtEnds q b) = ap scripts.Ends (one_text_fault n text p q a b)
+  one_script_fault _ _ (scripts.AtEnds p a) (scripts.AtPasses what q b) = absurd (text_or_passed n text (LimitOf what) p q a b)
+  one_script_fault _ _ (scripts.AtEnds p a) (scripts.AtAgain q b) = absurd (text_or_passed n text Again p q a b)
+  one_script_fault _ _ (scripts.AtEnds p a) (scripts.AtStat fault b) = absurd (none_at_text n text p _ a b.written)
+  one_script_fault _ _ (scripts.AtPasses what p a) (scripts.AtEnds q b) = absurd (text_or_passed n text (LimitOf what) q p b a)
+  one_script_fault _ _ (scripts.AtPasses what p a) (scripts.AtPasses other q b) = let same = one_limit_fault n text what other p q a b in ap₂ scripts.Passes same.0 same.1
+  one_script_fault _ _ (scripts.AtPasses what p a) (scripts.AtAgain q b) = absurd (limit_or_again n text what p q a b)
+  one_script_fault _ _ (scripts.AtPasses what p a) (scripts.AtStat fault b) = absurd (none_at_passed n text (LimitOf what) p _ a b.written)
+  one_script_fault _ _ (scripts.AtAgain p a) (scripts.AtEnds q b) = absurd (text_or_passed n text Again q p b a)
+  one_script_fault _ _ (scripts.AtAgain p a) (scripts.AtPasses what q b) = absurd (limit_or_again n text what q p b a)
+  one_script_fault _ _ (scripts.AtAgain p a) (scripts.AtAgain q b) = ap scripts.Again (one_again_fault n text p q a b)
+  one_script_fault _ _ (scripts.AtAgain p a) (scripts.AtStat fault b) = absurd (none_at_passed n text Again p _ a b.written)
+  one_script_fault _ _ (scripts.AtStat fault a) (scripts.AtEnds q b) = absurd (none_at_text n text q _ b a.written)
+  one_script_fault _ _ (scripts.AtStat fault a) (scripts.AtPasses what q b) = absurd (none_at_passed n text (LimitOf what) q _ b a.written)
+  one_script_fault _ _ (scripts.AtStat fault a) (scripts.AtAgain q b) = absurd (none_at_passed n text Again q _ b a.written)
+  one_script_fault _ _ (scripts.AtStat fault a) (scripts.AtStat other b) = ap scripts.OfStat (one_disagreement text n rules fault other a b)
 
-pub no_script_at : (text : List ℕ) (rules : List Rule) (fault : ScriptTextFault) → IsFirstScriptFault text rules fault → StandsForNoScript text rules
-no_script_at text rules _ (scripts.AtEnds place h) = λ lines stands. no_lines_at_text text place stands.forms h stands.written
-no_script_at text rules _ (scripts.AtPasses what place h) = λ lines stands. no_lines_at_limit text what place stands.forms h stands.written
-no_script_at text rules _ (scripts.AtLine fault h) = no_script_at_disagreement text rules fault h
+  pub no_script_at : (fault : ScriptTextFault) → IsFirstScriptFault text n rules fault → StandsForNoScript text n rules
+  no_script_at _ (scripts.AtEnds place h) = λ stats stands. none_at_text n text place stands.forms h stands.written
+  no_script_at _ (scripts.AtPasses what place h) = λ stats stands. none_at_passed n text (LimitOf what) place stands.forms h stands.written
+  no_script_at _ (scripts.AtAgain place h) = λ stats stands. none_at_passed n text Again place stands.forms h stands.written
+  no_script_at _ (scripts.AtStat fault h) = no_script_at_disagreement text n rules fault h

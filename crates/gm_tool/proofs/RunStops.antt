@@ -48,7 +48,7 @@ module _ (named : RunNames) (load_fails : ℕ → Type 0) where
       book_stop later up (stops.NoText (nothing.Refused why)) (inr h) = inr (TheBook, up h.0, (inputs, the_map), h.1)
 
       module _ (the_book : HasBook files named inputs) where
-        script_stop : (later : Type 0) → (later → load_fails 3) → (stop : Stop) → IsRoleStop files TheScript named.script (IsBadScript inputs.rules) later stop → IsStopOf files named load_fails stop
+        script_stop : (later : Type 0) → (later → load_fails 3) → (stop : Stop) → IsRoleStop files TheScript named.script (IsBadScript inputs.schema.dim inputs.rules) later stop → IsStopOf files named load_fails stop
         script_stop later up (stops.Bad line) h = ScriptFails inputs the_map the_book h
         script_stop later up (stops.NoText nothing.OutOfMemory) h = tt
         script_stop later up (stops.NoText (nothing.Refused why)) (inl h) = inl (ScriptFails inputs the_map the_book h)
@@ -85,7 +85,7 @@ module _ (named : RunNames) (load_fails : ℕ → Type 0) where
 
   pub at_script : (contents : Contents) (m : MapRead) (book : Book) (one two later : Type 0) (stop : Stop) → (later → load_fails 3) → IsFrom contents TheMap named.map IsReadMap IsBadMap one (Ok m)
       → IsFrom contents TheBook named.book IsReadBook IsBadBook two (Ok book) → All (IsAccepted book.schema) (map rule_of book.rules)
-      → IsFrom {A = Script} contents TheScript named.script (IsReadScript (map rule_of book.rules)) (IsBadScript (map rule_of book.rules)) later (Err stop) → IfSome contents (λ files. IsMade files named load_fails (Err stop))
+      → IsFrom {A = Script} contents TheScript named.script (IsReadScript book.schema.dim (map rule_of book.rules)) (IsBadScript book.schema.dim (map rule_of book.rules)) later (Err stop) → IfSome contents (λ files. IsMade files named load_fails (Err stop))
   at_script None m book one two later stop up f g accepted h = tt
   at_script (Some files) m book one two later stop up (bytes, held, read) (text, there, is) accepted h =
       script_stop named load_fails files (known m book.schema (map rule_of book.rules)) (bytes, held, read.stands) (text, book.version, there, is, accepted) later up stop h.0
@@ -93,12 +93,12 @@ module _ (named : RunNames) (load_fails : ℕ → Type 0) where
   -- all three files are read
   module _ (contents : Contents) (m : MapRead) (book : Book) (script : Script) (one two three : Type 0) (the_map : IsFrom contents TheMap named.map IsReadMap IsBadMap one (Ok m))
       (the_book : IsFrom contents TheBook named.book IsReadBook IsBadBook two (Ok book)) (accepted : All (IsAccepted book.schema) (map rule_of book.rules))
-      (the_script : IsFrom contents TheScript named.script (IsReadScript (map rule_of book.rules)) (IsBadScript (map rule_of book.rules)) three (Ok script)) where
+      (the_script : IsFrom contents TheScript named.script (IsReadScript book.schema.dim (map rule_of book.rules)) (IsBadScript book.schema.dim (map rule_of book.rules)) three (Ok script)) where
     pub at_agreement : (Agree (inputs_of m.version m.arena book script) → ⊥) → IfSome contents (λ files. IsMade files named load_fails (Err (stops.NoText (nothing.Refused refusals.Agree))))
     at_agreement no_agreement = go contents the_map the_book the_script
       where
         go : (c : Contents) → IsFrom c TheMap named.map IsReadMap IsBadMap one (Ok m) → IsFrom c TheBook named.book IsReadBook IsBadBook two (Ok book)
-            → IsFrom c TheScript named.script (IsReadScript (map rule_of book.rules)) (IsBadScript (map rule_of book.rules)) three (Ok script) → IfSome c (λ files. IsMade files named load_fails (Err (stops.NoText (nothing.Refused refusals.Agree))))
+            → IsFrom c TheScript named.script (IsReadScript book.schema.dim (map rule_of book.rules)) (IsBadScript book.schema.dim (map rule_of book.rules)) three (Ok script) → IfSome c (λ files. IsMade files named load_fails (Err (stops.NoText (nothing.Refused refusals.Agree))))
         go None f g h = tt
         go (Some files) (bytes, held, read) (text, there, is) h = inl (Disagree (inputs_of m.version m.arena book script) (bytes, held, read.stands) (text, book.version, there, is, accepted) h no_agreement refl)
 
@@ -114,7 +114,7 @@ module _ (named : RunNames) (load_fails : ℕ → Type 0) where
         run files a b c (Err (stops.Bad line)) (ran, is, (e, long)) = absurd cc
 
         go : (c : Contents) → IsFrom c TheMap named.map IsReadMap IsBadMap one (Ok m) → IsFrom c TheBook named.book IsReadBook IsBadBook two (Ok book)
-            → IsFrom c TheScript named.script (IsReadScript (map rule_of book.rules)) (IsBadScript (map rule_of book.rules)) three (Ok script) → IfSome c (λ files. IsMade files named load_fails result)
+            → IsFrom c TheScript named.script (IsReadScript book.schema.dim (map rule_of book.rules)) (IsBadScript book.schema.dim (map rule_of book.rules)) three (Ok script) → IfSome c (λ files. IsMade files named load_fails result)
         go None f g h = tt
         go (Some files) (bytes, held, read) (text, there, is) h = run files (bytes, held, read.stands) (text, book.version, there, is, accepted) h result made
 

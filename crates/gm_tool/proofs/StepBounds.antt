@@ -182,7 +182,7 @@ module _ (named : RunNames) where
     AreRead contents = IfSome contents (λ files. HasMap files named read_inputs × HasBook files named read_inputs × HasScript files named read_inputs)
 
     pub are_read : (contents : Contents) → IsFrom contents TheMap named.map IsReadMap IsBadMap one (Ok read) → IsFrom contents TheBook named.book IsReadBook IsBadBook two (Ok book)
-        → IsFrom contents TheScript named.script (IsReadScript (map rule_of book.rules)) (IsBadScript (map rule_of book.rules)) three (Ok script) → AreRead contents
+        → IsFrom contents TheScript named.script (IsReadScript book.schema.dim (map rule_of book.rules)) (IsBadScript book.schema.dim (map rule_of book.rules)) three (Ok script) → AreRead contents
     are_read None a b c = tt
     are_read (Some files) (bytes, held, is) (text, there, book_is) script_read = ((bytes, held, is.stands), (text, book.version, there, book_is, accepted), script_read)
 

@@ -65,21 +65,22 @@ module _ {E : Type 0} (bytes : List ℕ) (line : Result (Vec ℕ) E) (stop : Sto
       both (Ok l) e = (book_unread fault h e.0, e.1)
       both (Err e) f = tt
 
-  module _ (rules : List Rule) where
-    script_unread : (fault : ScriptFault) → script_faults.IsFaultOf bytes rules fault → IsSaidOfScript fault → IsBadScript rules bytes (script_words fault)
+  module _ (n : ℕ) (rules : List Rule) where
+    script_unread : (fault : ScriptFault) → script_faults.IsFaultOf bytes n rules fault → IsSaidOfScript fault → IsBadScript n rules bytes (script_words fault)
     script_unread (script.Text place) h said = (first_script.Ends place, first_script.AtEnds place h, refl)
     script_unread (script.Limit what place) h said = (first_script.Passes what place, first_script.AtPasses what place h, refl)
-    script_unread (script.UnknownRule place) h said = (first_script.OfLine _, first_script.AtLine _ h, refl)
-    script_unread (script.HookCount place) h said = (first_script.OfLine _, first_script.AtLine _ h, refl)
-    script_unread (script.Params place) h said = (first_script.OfLine _, first_script.AtLine _ h, refl)
+    script_unread (script.Twice place) h said = (first_script.Again place, first_script.AtAgain place h, refl)
+    script_unread (script.UnknownRule place) h said = (first_script.OfStat _, first_script.AtStat _ h, refl)
+    script_unread (script.HookCount place) h said = (first_script.OfStat _, first_script.AtStat _ h, refl)
+    script_unread (script.Params place) h said = (first_script.OfStat _, first_script.AtStat _ h, refl)
     script_unread script.OutOfMemory h said = absurd said
 
-    pub script_stopped : (fault : ScriptFault) → script_faults.IsFaultOf bytes rules fault → IfOk line (λ text. IsSaidOfScript fault × (text.items ≡ refusal (codes "SCRIPT" ++ codes " " ++ script_words fault)))
-        → IsStopWith line stop → IsBadFor TheScript (IsBadScript rules bytes) stop
-    script_stopped fault h says is = stopped TheScript (IsBadScript rules bytes) (script_words fault) line stop (both line says) is
+    pub script_stopped : (fault : ScriptFault) → script_faults.IsFaultOf bytes n rules fault → IfOk line (λ text. IsSaidOfScript fault × (text.items ≡ refusal (codes "SCRIPT" ++ codes " " ++ script_words fault)))
+        → IsStopWith line stop → IsBadFor TheScript (IsBadScript n rules bytes) stop
+    script_stopped fault h says is = stopped TheScript (IsBadScript n rules bytes) (script_words fault) line stop (both line says) is
       where
         both : (l : Result (Vec ℕ) E) → IfOk l (λ text. IsSaidOfScript fault × (text.items ≡ refusal (codes "SCRIPT" ++ codes " " ++ script_words fault)))
-            → IfOk l (λ text. IsBadScript rules bytes (script_words fault) × (text.items ≡ refusal (codes "SCRIPT" ++ codes " " ++ script_words fault)))
+            → IfOk l (λ text. IsBadScript n rules bytes (script_words fault) × (text.items ≡ refusal (codes "SCRIPT" ++ codes " " ++ script_words fault)))
         both (Ok l) e = (script_unread fault h e.0, e.1)
         both (Err e) f = tt
 

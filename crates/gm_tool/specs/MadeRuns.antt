@@ -46,7 +46,7 @@ pub record CanRun (m : ArenaMap) (book : Book) (script : Script) (plans : List P
   pub agree : m.schema ≡ book.schema
   pub plans_are : plans ≡ map (plan_of book.schema) book.rules
   pub text : List ℕ
-  pub stats : ScriptText text (map rule_of book.rules) script.stats
+  pub stats : ScriptText text book.schema.dim (map rule_of book.rules) script.stats
 
 -- texts that are not too long, with the status; or one of them is
 abbrev pub IsFitted : ℕ → List ℕ → List ℕ → Result Made Stop → Type 0

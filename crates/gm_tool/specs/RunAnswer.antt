@@ -58,8 +58,8 @@ pub data IsBadBook (bytes why : List ℕ) : Type 0 where
 abbrev pub IsBadMap : List ℕ → List ℕ → Type 0
 IsBadMap bytes why = IsBad bytes TheMap why
 
-abbrev pub IsBadScript : List Rule → List ℕ → List ℕ → Type 0
-IsBadScript rules bytes why = (fault : ScriptTextFault) × IsFirstScriptFault bytes rules fault × (why ≡ script_fault_words fault)
+abbrev pub IsBadScript : ℕ → List Rule → List ℕ → List ℕ → Type 0
+IsBadScript n rules bytes why = (fault : ScriptTextFault) × IsFirstScriptFault bytes n rules fault × (why ≡ script_fault_words fault)
 
 -- ---- the files that are good
 
@@ -79,7 +79,7 @@ module _ (files : Files) (named : RunNames) (inputs : Inputs) where
   HasBook = (bytes : List ℕ) × (version : ℕ) × HasFile files named.book bytes × BookText bytes version inputs.schema inputs.rules × All (IsAccepted inputs.schema) inputs.rules
 
   abbrev pub HasScript : Type 0
-  HasScript = (bytes : List ℕ) × HasFile files named.script bytes × ScriptText bytes inputs.rules inputs.stats
+  HasScript = (bytes : List ℕ) × HasFile files named.script bytes × ScriptText bytes inputs.schema.dim inputs.rules inputs.stats
 
 -- the map and the book are of one dimension, with the same embeddings in the same order
 abbrev pub Agree : Inputs → Type 0
@@ -129,7 +129,7 @@ pub record IsGoodRun (files : Files) (named : RunNames) (inputs : Inputs) (ran :
 pub data IsRunAnswer (files : Files) (named : RunNames) (answer : Answer) : Type 0 where
   MapFails : IsFailing files TheMap named.map IsBadMap answer → IsRunAnswer files named answer
   BookFails : (inputs : Inputs) → HasMap files named inputs → IsFailing files TheBook named.book IsBadBook answer → IsRunAnswer files named answer
-  ScriptFails : (inputs : Inputs) → HasMap files named inputs → HasBook files named inputs → IsFailing files TheScript named.script (IsBadScript inputs.rules) answer → IsRunAnswer files named answer
+  ScriptFails : (inputs : Inputs) → HasMap files named inputs → HasBook files named inputs → IsFailing files TheScript named.script (IsBadScript inputs.schema.dim inputs.rules) answer → IsRunAnswer files named answer
   Disagree : (inputs : Inputs) → HasMap files named inputs → HasBook files named inputs → HasScript files named inputs → (Agree inputs → ⊥) → answer ≡ answers 4 (refusal (codes "agree")) → IsRunAnswer files named answer
   -- the report or the map is too long
   LongOutput : (inputs : Inputs) (ran : Ran) → IsGoodRun files named inputs ran → (most_bytes < length (report_of inputs ran)) ⊎ (most_bytes < length (saved_of inputs ran))

@@ -63,8 +63,8 @@ pub record IsReadMap (bytes : List ℕ) (read : MapRead) : Type 0 where
 abbrev pub IsReadBook : List ℕ → Book → Type 0
 IsReadBook bytes book = BookText bytes book.version book.schema (map rule_of book.rules)
 
-abbrev pub IsReadScript : List Rule → List ℕ → Script → Type 0
-IsReadScript rules bytes script = ScriptText bytes rules script.stats
+abbrev pub IsReadScript : ℕ → List Rule → List ℕ → Script → Type 0
+IsReadScript n rules bytes script = ScriptText bytes n rules script.stats
 
 -- where the store tells, the value is read from the file of that name, or the file is why there is none
 abbrev pub IsFrom : {A : Type 0} → Contents → Role → List ℕ → (List ℕ → A → Type 0) → (List ℕ → List ℕ → Type 0) → Type 0 → Result A Stop → Type 0

@@ -98,8 +98,8 @@ fn load_script<S: Store>(
     ensures no_save_fault { S.save_faults store.new ≡ S.save_faults store.old }
     ensures faults_never_fall { S.load_faults store.old ≤ S.load_faults store.new }
     ensures once { S.loads store.new ≡ counted (S.loads store.old) }
-    ensures read { IfOk result (λ script. (bytes : List ℕ) × IsReadScript (map rule_of book.now.rules) bytes script) }
-    ensures from { IsFrom (S.holds store.old) TheScript name.now (IsReadScript (map rule_of book.now.rules)) (IsBadScript (map rule_of book.now.rules)) (Rises (S.load_faults store.old) (S.load_faults store.new)) result }
+    ensures read { IfOk result (λ script. (bytes : List ℕ) × IsReadScript book.now.schema.dim (map rule_of book.now.rules) bytes script) }
+    ensures from { IsFrom (S.holds store.old) TheScript name.now (IsReadScript book.now.schema.dim (map rule_of book.now.rules)) (IsBadScript book.now.schema.dim (map rule_of book.now.rules)) (Rises (S.load_faults store.old) (S.load_faults store.new)) result }
 {
     let bytes = load_file(alloc, name, Role::Script, store)?;
     script::read(alloc, bytes.as_slice(), book)

@@ -12,8 +12,8 @@ use std::alloc::Global;
 
 /// The script that a file's text stands for under the book, or the line that refuses it.
 pub fn read(alloc: Global, bytes: &[u8], book: &Book) -> Result<Script, Stop>
-    ensures script { IfOk result (IsReadScript (map rule_of book.now.rules) bytes.now) }
-    ensures stop { IfErr result (IsBadFor TheScript (IsBadScript (map rule_of book.now.rules) bytes.now)) }
+    ensures script { IfOk result (IsReadScript book.now.schema.dim (map rule_of book.now.rules) bytes.now) }
+    ensures stop { IfErr result (IsBadFor TheScript (IsBadScript book.now.schema.dim (map rule_of book.now.rules) bytes.now)) }
 {
     match read_script(alloc, bytes, book) {
         Ok(script) => Ok(script),

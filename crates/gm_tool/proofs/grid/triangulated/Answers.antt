@@ -3,7 +3,7 @@ use Rattle.gm_arena.specs.ArenaAsMap.{as_map}
 use Rattle.gm_grid.proofs.GridSound.{is_sound}
 use Rattle.gm_model.specs.Maps.{IsDart}
 use Rattle.gm_model.specs.Orbits.{HasCount}
-use Rattle.gm_tool.proofs.Gridding.{plans_fit, stats_fit, cut_within, counted_within, runs_least, line_made}
+use Rattle.gm_tool.proofs.Gridding.{plans_fit, stats_fit, stats_in_order, cut_within, counted_within, runs_least, line_made}
 use Rattle.gm_tool.proofs.LoadCounts.{always}
 use Rattle.gm_tool.proofs.grid.triangulated.Goals as goal
 
@@ -13,8 +13,11 @@ run-requires-clause-sound g c = is_sound c.args.size c.requires.small (as_map c.
 pub run-requires-clause-plans : goal.run-requires-clause-plans
 run-requires-clause-plans g c = plans_fit c.args.size c.requires.small c.args.arena.now c.requires.grid c.args.plans.now c.requires.plans c.args.script.now.stats c.requires.script
 
-pub run-requires-clause-lines : goal.run-requires-clause-lines
-run-requires-clause-lines g c = stats_fit c.args.size c.requires.small c.args.arena.now c.requires.grid c.args.plans.now c.requires.plans c.args.script.now.stats c.requires.script
+pub run-requires-clause-good : goal.run-requires-clause-good
+run-requires-clause-good g c = stats_fit c.args.size c.requires.small c.args.arena.now c.requires.grid c.args.plans.now c.requires.plans c.args.script.now.stats c.requires.script
+
+pub run-requires-clause-order : goal.run-requires-clause-order
+run-requires-clause-order g c = stats_in_order c.args.size c.requires.small c.args.arena.now c.requires.grid c.args.plans.now c.requires.plans c.args.script.now.stats c.requires.script
 
 pub returns-in_err-report-clause-most : goal.returns-in_err-report-clause-most
 returns-in_err-report-clause-most g c = cut_within c.args.size c.requires.small c.args.arena.now c.requires.grid c.args.plans.now c.requires.plans c.args.script.now.stats c.requires.script _ _ c.run.ensures.most

@@ -1,12 +1,15 @@
-use Rattle.gm_tool.proofs.Lines.{plans_fit, stats_fit, printable, run_made, map_made}
+use Rattle.gm_tool.proofs.Lines.{plans_fit, stats_fit, stats_in_order, printable, run_made, map_made}
 use Rattle.gm_tool.proofs.StepBounds.{unprinted_within, printed_within, printed_least, if_done}
 use Rattle.gm_tool.proofs.running.applied.Goals as goal
 
 pub run-requires-clause-plans : goal.run-requires-clause-plans
 run-requires-clause-plans g c = plans_fit c.args.arena.now c.args.book.now c.args.script c.args.plans.now c.requires
 
-pub run-requires-clause-lines : goal.run-requires-clause-lines
-run-requires-clause-lines g c = stats_fit c.args.arena.now c.args.book.now c.args.script c.args.plans.now c.requires
+pub run-requires-clause-good : goal.run-requires-clause-good
+run-requires-clause-good g c = stats_fit c.args.arena.now c.args.book.now c.args.script c.args.plans.now c.requires
+
+pub run-requires-clause-order : goal.run-requires-clause-order
+run-requires-clause-order g c = stats_in_order c.args.arena.now c.args.book.now c.args.script c.args.plans.now c.requires
 
 pub printed-requires : goal.printed-requires
 printed-requires g c = record { printable = printable c.args.arena.now c.args.book.now c.args.script c.args.plans.now c.requires c.in_ok-report.report.lines c.in_ok-report.ensures.printable }

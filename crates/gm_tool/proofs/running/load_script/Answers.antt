@@ -12,14 +12,14 @@ pub returns-in_err-bytes-clause-from : goal.returns-in_err-bytes-clause-from
 returns-in_err-bytes-clause-from g c =
     let p = err_from_is_err_and c.from_residual.result c.from_residual.ensures.1 in
     rw (p.1, p.2)
-    (not_loaded_from TheScript c.args.name.now (IsReadScript (map rule_of c.args.book.now.rules)) (IsBadScript (map rule_of c.args.book.now.rules)) _ (g.S.Store.holds c.args.store.now) roles.Script refl c.in_err-bytes.field-0.0 c.in_err-bytes.ensures.loading)
+    (not_loaded_from TheScript c.args.name.now (IsReadScript c.args.book.now.schema.dim (map rule_of c.args.book.now.rules)) (IsBadScript c.args.book.now.schema.dim (map rule_of c.args.book.now.rules)) _ (g.S.Store.holds c.args.store.now) roles.Script refl c.in_err-bytes.field-0.0 c.in_err-bytes.ensures.loading)
 
 pub returns-clause-read : goal.returns-clause-read
-returns-clause-read g c = some_bytes (IsReadScript (map rule_of c.args.book.now.rules)) c.read.result c.as_slice.result.now c.read.ensures.script
+returns-clause-read g c = some_bytes (IsReadScript c.args.book.now.schema.dim (map rule_of c.args.book.now.rules)) c.read.result c.as_slice.result.now c.read.ensures.script
 
 pub returns-clause-from : goal.returns-clause-from
 returns-clause-from g c =
-    read_from TheScript c.args.name.now (IsReadScript (map rule_of c.args.book.now.rules)) (IsBadScript (map rule_of c.args.book.now.rules)) _ (g.S.Store.holds c.args.store.now) c.in_ok-bytes.bytes.items c.read.result c.in_ok-bytes.ensures.loading
+    read_from TheScript c.args.name.now (IsReadScript c.args.book.now.schema.dim (map rule_of c.args.book.now.rules)) (IsBadScript c.args.book.now.schema.dim (map rule_of c.args.book.now.rules)) _ (g.S.Store.holds c.args.store.now) c.in_ok-bytes.bytes.items c.read.result c.in_ok-bytes.ensures.loading
     (rw c.as_slice.ensures.value at c.read.ensures.script) (rw c.as_slice.ensures.value at c.read.ensures.stop)
 
 pub returns-in_err-bytes-clause-read : goal.returns-in_err-bytes-clause-read
