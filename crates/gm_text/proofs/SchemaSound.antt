@@ -58,10 +58,10 @@ not_reserved name free among = let both : true ≡ false = sym (list_any-from_Co
 abbrev pub IsLow : ℕ → Mask → Type 0
 IsLow n mask = (i : ℕ) → IsTrue (has mask i) → i ≤ n
 
-low_none : (n : ℕ) → IsLow n no_labels
+pub low_none : (n : ℕ) → IsLow n no_labels
 low_none n i there = let bit : bit_at 0 i ≡ 0 = bit_at-zero i in let no_way : false ≡ true = sym (ap (λ (b : ℕ). b == 1) bit) ∙ there in absurd cc
 
-low_more : (n label : ℕ) (mask : Mask) → IsLow n mask → label ≤ n → IsLow n (with_label mask label)
+pub low_more : (n label : ℕ) (mask : Mask) → IsLow n mask → label ≤ n → IsLow n (with_label mask label)
 low_more n label mask low small i there = go (i == label) refl
   where
     go : (b : Bool) → (i == label) ≡ b → i ≤ n
