@@ -1,1 +1,2 @@
 pub mod Duals
+pub mod Building

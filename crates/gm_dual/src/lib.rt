@@ -8,8 +8,10 @@ mod book;
 mod expression;
 mod labels;
 mod laws;
+mod map;
 mod rule;
 mod schema;
 
 pub use book::dual_book;
 pub use laws::{the_dual_of_the_dual_is_the_map, the_dual_of_the_dual_is_the_rule};
+pub use map::dual_map;

@@ -1,0 +1,5 @@
+use Rattle.gm_dual.specs.Building.{AreAdded}
+use Rattle.gm_dual.proofs.map.add_darts.Given as goal
+
+abbrev pub invariant-loop-name : goal.invariant-loop-name
+invariant-loop-name g l = AreAdded l.arena l.names l.name-index l.dual

@@ -1,0 +1,44 @@
+use Rattle.std.proofs.Common.{sym, ap, subst, ◌∙◌, arith}
+use Rattle.std.specs.FinMap.{get}
+use Rattle.gm_model.specs.Maps.{IsSchema, IsSound}
+use Rattle.gm_arena.specs.ArenaAsMap.{as_map}
+use Rattle.gm_arena.specs.ArenaMap.{ArenaMap}
+use Rattle.gm_walk.proofs.CountLemmas.{names_counted}
+use Rattle.gm_dual.specs.Duals.{dual_schema}
+use Rattle.gm_dual.specs.Building.{AreLinked}
+use Rattle.gm_dual.proofs.BuildLemmas.{all_linked, as_dual, none_added, none_linked}
+use Rattle.gm_dual.proofs.SoundLemmas.{schema_dual, sound_dual}
+use Rattle.gm_dual.proofs.map.dual_map.Goals as goal
+
+pub new-dual-requires : goal.new-dual-requires
+new-dual-requires g c =
+    let lawful = c.count-count.ensures.lawful in
+    subst IsSchema (sym (c.in_ok-dual_schema.ensures ∙ ap dual_schema c.schema.ensures)) (schema_dual c.args.arena.now.schema lawful.dim.1 lawful.schema)
+
+pub add_darts-requires-clause-none : goal.add_darts-requires-clause-none
+add_darts-requires-clause-none g c =
+    let m = c.args.arena.now in
+    let names = c.deref.result.now in
+    let counted = names_counted m names (c.deref.ensures.value ∙ c.in_ok-names.ensures.names) c.count-count.ensures.lawful in
+    none_added m names c.in_ok-dual_schema.field-0 c.new-dual.result c.reserve.new.self (c.in_ok-dual_schema.ensures ∙ ap dual_schema c.schema.ensures) c.new-dual.ensures
+    (omega (arith, counted, c.count-count.ensures.count, c.in_ok-reserve.ensures.darts)) (omega (arith, c.next.ensures.next, c.in_ok-reserve.ensures.names)) c.reserve.ensures.map
+
+pub link_darts-requires-clause-free : goal.link_darts-requires-clause-free
+link_darts-requires-clause-free g c =
+    let m = c.args.arena.now in
+    let same = c.deref-2.ensures.value ∙ sym c.deref.ensures.value in
+    subst (λ names. AreLinked m names 0 c.add_darts.new.dual) (sym same) (none_linked m c.deref.result.now (c.deref.ensures.value ∙ c.in_ok-names.ensures.names) c.add_darts.new.dual c.add_darts.ensures)
+
+pub returns-clause-dual : goal.returns-clause-dual
+returns-clause-dual g c =
+    let m = c.args.arena.now in
+    let all = all_linked m c.deref-2.result.now (c.deref-2.ensures.value ∙ c.in_ok-names.ensures.names) c.link_darts.new.dual c.link_darts.ensures in
+    as_dual m c.set_next.new.self c.count-count.ensures.lawful (ap (λ (x : ArenaMap). x.schema) c.set_next.ensures ∙ c.link_darts.ensures.schema_is) (ap (λ (x : ArenaMap). x.next) c.set_next.ensures ∙ c.next-2.ensures.next) (λ name. ap (λ (x : ArenaMap). get x.darts name) c.set_next.ensures ∙ all name)
+
+pub returns-clause-sound : goal.returns-clause-sound
+returns-clause-sound g c =
+    let m = c.args.arena.now in
+    let lawful = c.count-count.ensures.lawful in
+    let all = all_linked m c.deref-2.result.now (c.deref-2.ensures.value ∙ c.in_ok-names.ensures.names) c.link_darts.new.dual c.link_darts.ensures in
+    let same = as_dual m c.set_next.new.self lawful (ap (λ (x : ArenaMap). x.schema) c.set_next.ensures ∙ c.link_darts.ensures.schema_is) (ap (λ (x : ArenaMap). x.next) c.set_next.ensures ∙ c.next-2.ensures.next) (λ name. ap (λ (x : ArenaMap). get x.darts name) c.set_next.ensures ∙ all name) in
+    subst IsSound (sym same) (sound_dual (as_map m) lawful.dim.1 lawful.schema c.requires.sound)
