@@ -12,7 +12,7 @@ from kit.program import answer
 
 FOLDER = Path(__file__).resolve().parents[2] / "examples" / "subdivision"
 BOOK = FOLDER / "subdivision.gbook"
-NEAR = 2  # a round has points that are at most so many units away from the plain ones: up to three are rounded down
+NEAR = 2  # quotients are rounded down, also those of quotients: so far apart a point may be after a round
 Point = tuple[float, ...]
 
 
