@@ -81,8 +81,8 @@ fn exact_nodes(rule: &RuleTable, right: &[Row], top: u8, labels: Mask) -> NodeSe
 {
     let mut nodes = [false; MOST_NODES];
     for node in 0..rule.node_count() {
-        nodes[node as usize] =
-            has_letters_among(rule, labels, node) && turns_at(&right[node as usize], top, labels);
+        nodes[node as usize] = has_letters_among(rule, labels, node)
+            && turns_at(&right[node as usize], top, labels);
     }
     nodes
 }

@@ -1,4 +1,4 @@
-use Rattle.std.proofs.Common.{◌≡◌, ◌<◌, true, length, sym, ◌∙◌, arith}
+use Rattle.std.proofs.Common.{◌<◌, length, sym, ◌∙◌, arith}
 use Rattle.std.proofs.lemmas.Bool.{false≢true}
 use Rattle.std.proofs.lemmas.List.{length-set}
 use Rattle.gm_model.specs.declared.rule.Side.TheVariants.{Right}
@@ -25,13 +25,13 @@ loop-node-preserved c =
       long = length-set nodes x c.if-has_letters_among.nodes ∙ c.loop-node.invariant.long;
       done = marked_more (HasExactLetters c.args.top rule o) nodes x c.if-has_letters_among.nodes long c.loop-node.invariant.done (elim c.if-has_letters_among.branch [
         | then-has_letters_among w ↦ (λ t. record {
-            right = c.has_letters_among.ensures.right w.if-has_letters_among.true;
-            among = c.has_letters_among.ensures.among w.if-has_letters_among.true;
-            each = λ i low wanted.
-                let turn = w.turns_at.ensures (sym w.nodes-is ∙ t) i low wanted in
-                let top = c.requires.top in
-                (turn.0, sym (row_at (step rule Right) (length rule.nodes) c.args.right.now c.requires.right x i within (omega arith) _) ∙ turn.1);
-          })
+          right = c.has_letters_among.ensures.right w.if-has_letters_among.true;
+          among = c.has_letters_among.ensures.among w.if-has_letters_among.true;
+          each = λ i low wanted.
+              let turn = w.turns_at.ensures (sym w.nodes-is ∙ t) i low wanted in
+              let top = c.requires.top in
+              (turn.0, sym (row_at (step rule Right) (length rule.nodes) c.args.right.now c.requires.right x i within (omega arith) _) ∙ turn.1);
+        })
         | else-has_letters_among w ↦ (λ t. absurd (false≢true (sym w.if-has_letters_among.false ∙ sym w.nodes-is ∙ t)))
       ]);
     }
