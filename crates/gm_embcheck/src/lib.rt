@@ -18,9 +18,10 @@ mod nodes;
 mod places;
 mod sources;
 
+use crate::component::nodes_of;
 use crate::sources::check_component;
 pub use assignments::assigns;
-pub use component::{Leaders, NodeSet, component_of, leaders_of, nodes_of};
+pub use component::{Leaders, NodeSet, leaders_of};
 use gm_model::{Mask, RuleFault, RuleTable, Schema, Side};
 pub use keepers::{Keepers, keepers_of};
 
