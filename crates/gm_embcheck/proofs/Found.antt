@@ -4,14 +4,14 @@ use Rattle.std.proofs.lemmas.Bool.{cases_order, true_from_ne_false}
 use Rattle.gm_model.specs.declared.rule.RuleFault.{RuleFault}
 use Rattle.gm_model.specs.declared.rule.RuleFault.TheVariants as faults
 use Rattle.gm_model.specs.declared.rule.Side.TheVariants.{Left, Right}
-use Rattle.gm_model.specs.Components.{IsTogether, WereTogether, IsAssigned, IsLeastTogether, IsUnassigned, IsKeeper, ComesFromOne, ComesAlong, IsInherited, HasSource, IsComponentFault, Twice, Sourceless, Merged, MergedAlong}
+use Rattle.gm_model.specs.Components.{IsTogether, WereTogether, IsAssigned, IsLeastTogether, IsUnassigned, IsNew, IsKeeper, ComesFromOne, ComesAlong, IsInherited, HasSource, IsComponentFault, Twice, Sourceless, Merged, MergedAlong}
 use Rattle.gm_model.specs.Orbits.{Labels}
 use Rattle.gm_model.specs.Rules.{Rule, has_word, width}
 use Rattle.gm_model.specs.Structure.{AreGood, IsFirstBad, IsJoined}
 use Rattle.gm_embcheck.specs.Bounds.{HasBounds}
 use Rattle.gm_embcheck.specs.Faults.{IsSecondAssigned}
 use Rattle.gm_embcheck.specs.Firsts.{HasNoneFrom, IsFirstFrom}
-use Rattle.gm_embcheck.specs.NodeSets.{is_in, IsIn, IsAssignedIn, IsPreservedIn, IsPreservedOutside, IsCovered}
+use Rattle.gm_embcheck.specs.NodeSets.{is_in, IsIn, IsAssignedIn, IsPreservedOutside, IsCovered}
 
 first_true : (a b : Bool) → (a && b) ≡ true → a ≡ true
 first_true true b h = refl
@@ -52,15 +52,8 @@ module _ (rule : Rule) (e : ℕ) (o : Labels) (x : ℕ) (nodes : List Bool) (sam
   module _ (free : IsUnassigned rule e o x) where
     -- ---- the keeper
 
-    pub sourceless : HasNoneFrom (IsPreservedIn rule nodes) 0 → IsComponentFault rule e o x (faults.NoValue e x)
-    sourceless none = Sourceless free (λ y t p. none y (omega arith) ((same y).1 t, p))
-
-    pub keeper_found : (keeper : ℕ) → IsFirstFrom (IsPreservedIn rule nodes) 0 keeper → IsKeeper rule o x keeper
-    keeper_found keeper f = record {
-      together = (same keeper).0 f.has.0;
-      preserved = f.has.1;
-      least = λ y b t p. f.before y (omega arith) b ((same y).1 t, p);
-    }
+    pub sourceless : IsNew rule o x → IsComponentFault rule e o x (faults.NoValue e x)
+    sourceless none = Sourceless free none
 
     pub inherited : (keeper : ℕ) → IsInherited rule o x keeper → HasSource rule e o x
     inherited keeper h = record {

@@ -131,20 +131,24 @@ module _ (links : List Link) (o : Labels) where
             omega arith;
       }
 
-    -- the nodes that have the leader of this one
-    module _ (leaders : List ℕ) (h : AreLeaders links o leaders) (x : ℕ) (b : x < 32) (nodes : List Bool) (have : (y : ℕ) → IsIn nodes y ↔ ((y < 32) × (leader_in leaders y ≡ leader_in leaders x))) where
-      same_leader : (y : ℕ) → y < 32 → IsJoined links o x y → leader_in leaders y ≡ leader_in leaders x
-      same_leader y by p =
-          let first : leader_in leaders x ≤ leader_in leaders y = h.least x (leader_in leaders y) b (joined_all links o x y (leader_in leaders y) p (h.joined y by)) in
-          let back = joined_back links o x y p in
-          let second : leader_in leaders y ≤ leader_in leaders x = h.least y (leader_in leaders x) by (joined_all links o y x (leader_in leaders x) back (h.joined x b)) in
-          omega arith
+  -- ---- the nodes with one leader are those of a component
 
-      pub nodes_joined : (y : ℕ) → IsIn nodes y ↔ IsJoined links o x y
-      nodes_joined y = (
-        (λ p.
-            let q = (have y).0 p in
-            let there : IsJoined links o x (leader_in leaders y) = subst (IsJoined links o x) (sym q.1) (h.joined x b) in
-            joined_all links o x (leader_in leaders y) y there (joined_back links o y (leader_in leaders y) (h.joined y q.0))),
-        (λ p. let by = below_along x p.0 y p.2 b in (have y).1 (by, same_leader y by p)),
-      )
+  module _ (leaders : List ℕ) (h : AreLeaders links o leaders) (x y : ℕ) (bx : x < 32) (by : y < 32) where
+    pub same_leader : IsJoined links o x y → leader_in leaders y ≡ leader_in leaders x
+    same_leader p =
+        let first : leader_in leaders x ≤ leader_in leaders y = h.least x (leader_in leaders y) bx (joined_all links o x y (leader_in leaders y) p (h.joined y by)) in
+        let back = joined_back links o x y p in
+        let second : leader_in leaders y ≤ leader_in leaders x = h.least y (leader_in leaders x) by (joined_all links o y x (leader_in leaders x) back (h.joined x bx)) in
+        omega arith
+
+    pub led_joined : leader_in leaders y ≡ leader_in leaders x → IsJoined links o x y
+    led_joined e =
+        let there : IsJoined links o x (leader_in leaders y) = subst (IsJoined links o x) (sym e) (h.joined x bx) in
+        joined_all links o x (leader_in leaders y) y there (joined_back links o y (leader_in leaders y) (h.joined y by))
+
+  pub nodes_joined : HasLinkBounds links → (leaders : List ℕ) → AreLeaders links o leaders → (x : ℕ) → x < 32 → (nodes : List Bool) →
+      ((y : ℕ) → IsIn nodes y ↔ ((y < 32) × (leader_in leaders y ≡ leader_in leaders x))) → (y : ℕ) → IsIn nodes y ↔ IsJoined links o x y
+  nodes_joined bounds leaders h x b nodes have y = (
+    (λ p. let q = (have y).0 p in led_joined leaders h x y b q.0 q.1),
+    (λ p. let by = below_along bounds x p.0 y p.2 b in (have y).1 (by, same_leader leaders h x y b by p)),
+  )

@@ -3,7 +3,6 @@
 //! labels up to 7, as a rule in range has them on each side.
 ghost use Rattle.std.specs.Prelude.{◌≡◌, ◌<◌, ℕ, ◌↔◌, length, slice_get};
 ghost use Rattle.gm_model.specs.Labels.{has};
-ghost use Rattle.gm_model.specs.Structure.{IsJoined};
 ghost use Rattle.gm_embcheck.specs.Bounds.{HasLinkBounds};
 ghost use Rattle.gm_embcheck.specs.Leaders.{leader_in, AreLeaders, HasJoined, replaced};
 ghost use Rattle.gm_embcheck.specs.NodeSets.{IsIn};
@@ -15,15 +14,6 @@ pub type NodeSet = [bool; MOST_NODES];
 
 /// By the number of the node, the least node of its component.
 pub type Leaders = [u8; MOST_NODES];
-
-/// The nodes to which links with labels of the mask lead from the node.
-pub fn component_of(links: &[Link], mask: Mask, node: u8) -> NodeSet
-    requires node { node < 32 }
-    requires links { HasLinkBounds links.now }
-    ensures { (x : ℕ) → IsIn result x ↔ IsJoined links.now (has mask) node x }
-{
-    nodes_of(&leaders_of(links, mask), node)
-}
 
 /// The leader of each node: the least one to which links with labels of the mask lead from it.
 pub fn leaders_of(links: &[Link], mask: Mask) -> Leaders

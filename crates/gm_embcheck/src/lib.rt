@@ -13,16 +13,17 @@ ghost use Rattle.gm_embcheck.specs.Faults.{IsFirstComponentFault};
 
 mod assignments;
 mod component;
+mod keepers;
 mod nodes;
 mod places;
-mod preserved;
 mod sources;
 
+use crate::component::nodes_of;
 use crate::sources::check_component;
 pub use assignments::assigns;
-pub use component::{Leaders, NodeSet, component_of, leaders_of, nodes_of};
+pub use component::{Leaders, NodeSet, leaders_of};
 use gm_model::{Mask, RuleFault, RuleTable, Schema, Side};
-pub use preserved::first_preserved;
+pub use keepers::{Keepers, keepers_of};
 
 /// Tests the right components of a rule, for each embedding and then by their least node, and
 /// answers the first fault in that order.
@@ -52,10 +53,12 @@ fn check_embedding(rule: &RuleTable, embed: u8, mask: Mask) -> Result<(), RuleFa
 {
     let left = leaders_of(rule.links(Side::Left), mask);
     let right = leaders_of(rule.links(Side::Right), mask);
+    let keepers = keepers_of(rule, &right);
     for node in 0..rule.node_count() {
         if rule.word(Side::Right, node).is_some() && right[node as usize] == node {
             let component = nodes_of(&right, node);
-            check_component(rule, embed, mask, node, &component, &left)?;
+            let keeper = keepers[node as usize];
+            check_component(rule, embed, mask, node, &component, &left, keeper)?;
         }
     }
     Ok(())

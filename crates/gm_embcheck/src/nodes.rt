@@ -6,7 +6,7 @@ ghost use Rattle.gm_embcheck.specs.NodeSets.{IsAssignedIn, IsPreservedOutside};
 
 use crate::assignments::assigns;
 use crate::component::NodeSet;
-use crate::preserved::preserves;
+use crate::keepers::preserves;
 use gm_model::RuleTable;
 
 /// The first node of the component, from `start` on, with an assignment to the embedding.

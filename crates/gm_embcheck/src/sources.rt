@@ -1,6 +1,6 @@
 //! Where the value of a component comes from.
-ghost use Rattle.std.specs.Prelude.{◌+◌, ◌<◌, ◌≤◌, ℕ, ◌↔◌, length, MatchResult};
-ghost use Rattle.gm_model.specs.Components.{IsTogether, IsKeeper, IsUnassigned, IsInherited, HasSource, IsComponentFault};
+ghost use Rattle.std.specs.Prelude.{◌+◌, ◌<◌, ◌≤◌, ℕ, ◌↔◌, length, MatchOption, MatchResult};
+ghost use Rattle.gm_model.specs.Components.{IsTogether, IsKeeper, IsNew, IsUnassigned, IsInherited, HasSource, IsComponentFault};
 ghost use Rattle.gm_model.specs.Labels.{has};
 ghost use Rattle.gm_model.specs.Rules.{rule_of};
 ghost use Rattle.gm_embcheck.specs.Bounds.{HasBounds};
@@ -12,7 +12,6 @@ ghost use Rattle.gm_embcheck.specs.NodeSets.{IsIn, IsAssignedIn};
 use crate::component::{Leaders, NodeSet, nodes_of};
 use crate::nodes::{first_assigned, first_outside};
 use crate::places::first_uncovered;
-use crate::preserved::first_preserved;
 use gm_model::{Mask, RuleFault, RuleTable};
 
 /// The first fault of the right component of the node, which is its least.
@@ -23,17 +22,19 @@ pub fn check_component(
     node: u8,
     component: &NodeSet,
     left: &Leaders,
+    keeper: Option<u8>,
 ) -> Result<(), RuleFault>
     requires bounds { HasBounds (rule_of rule.now) }
     requires component { (x : ℕ) → IsIn component.now x ↔ IsTogether (rule_of rule.now) (has mask) node x }
     requires left { AreLeaders (rule_of rule.now).left_links (has mask) left.now }
+    requires keeper { MatchOption keeper (IsNew (rule_of rule.now) (has mask) node) (IsKeeper (rule_of rule.now) (has mask) node) }
     ensures { MatchResult result
         (λ _. HasSource (rule_of rule.now) embed (has mask) node)
         (λ fault. IsComponentFault (rule_of rule.now) embed (has mask) node fault) }
 {
     match first_assigned(rule, embed, component, 0) {
         Some(first) => check_only(rule, embed, component, first),
-        None => check_unassigned(rule, embed, mask, node, component, left),
+        None => check_unassigned(rule, embed, mask, node, component, left, keeper),
     }
 }
 
@@ -63,16 +64,18 @@ fn check_unassigned(
     node: u8,
     component: &NodeSet,
     left: &Leaders,
+    keeper: Option<u8>,
 ) -> Result<(), RuleFault>
     requires bounds { HasBounds (rule_of rule.now) }
     requires component { (x : ℕ) → IsIn component.now x ↔ IsTogether (rule_of rule.now) (has mask) node x }
     requires left { AreLeaders (rule_of rule.now).left_links (has mask) left.now }
+    requires keeper { MatchOption keeper (IsNew (rule_of rule.now) (has mask) node) (IsKeeper (rule_of rule.now) (has mask) node) }
     requires unassigned { IsUnassigned (rule_of rule.now) embed (has mask) node }
     ensures { MatchResult result
         (λ _. HasSource (rule_of rule.now) embed (has mask) node)
         (λ fault. IsComponentFault (rule_of rule.now) embed (has mask) node fault) }
 {
-    match first_preserved(rule, component) {
+    match keeper {
         Some(keeper) => check_inherited(rule, embed, mask, node, component, left, keeper),
         None => Err(RuleFault::NoValue { embed, node }),
     }

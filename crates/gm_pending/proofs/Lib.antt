@@ -6,7 +6,6 @@ pub mod Following
 pub mod Giving
 pub mod Law
 pub mod Lefts
-pub mod Letters
 pub mod Reached
 pub mod Spread
 pub mod Valued

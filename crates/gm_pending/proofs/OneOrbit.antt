@@ -5,11 +5,11 @@ use Rattle.std.proofs.lemmas.Option.{slice_get_within}
 use Rattle.gm_model.specs.declared.rule.Side.TheVariants.{Right}
 use Rattle.gm_model.specs.declared.schema.Embed.{Embed}
 use Rattle.gm_model.specs.declared.step.Step.TheVariants.{Imp}
-use Rattle.gm_model.specs.Components.{HasLetterIn}
+use Rattle.gm_model.specs.Components.{HasLetterIn, IsAssigned}
 use Rattle.gm_model.specs.Maps.{IsEmbedAt, type_of}
 use Rattle.gm_model.specs.Matches.{IsFirstTurn}
 use Rattle.gm_model.specs.Orbits.{IsInOrbit}
-use Rattle.gm_model.specs.Rules.{has_word, step, width}
+use Rattle.gm_model.specs.Rules.{Rule, has_word, step, width}
 use Rattle.gm_arena.specs.ArenaAsMap.{as_map}
 use Rattle.gm_theory.proofs.Arcs.{letter_arc, right_dart, same_instance}
 use Rattle.gm_theory.proofs.Keeps.{rules_keep_generalised_maps}
@@ -29,6 +29,10 @@ use Rattle.gm_pending.proofs.Spread.{closed_along, label_within, mark_kept, orbi
 -- no step is counted, and no mark is lost
 pub longer_cost : (dim start old new : ℕ) → old ≤ new → start + (dim + 1) * old ≤ start + (dim + 1) * new
 longer_cost dim start old new h = grind arith
+
+-- a node with an assignment is a node of the rule
+pub assigned_within : (rule : Rule) (e x : ℕ) → IsAssigned rule e x → x < length rule.nodes
+assigned_within rule e x (tree, (node, here, held)) = slice_get_within rule.nodes x node here
 
 module _ (app : PendingOf) (prepared : IsPrepared app) (x : ℕ) (right : IsTrue (has_word (rule_in app) Right x)) where
   abbrev name : ℕ → ℕ

@@ -54,6 +54,7 @@ impl Pending<'_, '_> {
     /// Prepares the look-up of slots, where the rule assigns the embedding and has more than a few
     /// instances.
     fn look_up(&mut self, embed: u8) -> Result<(), OutOfMemory>
+        requires { embed < length self.old.map.schema.embeds }
         ensures { self.new ≡ self.old }
     {
         let nodes = self.plan.left_nodes();
@@ -130,13 +131,24 @@ impl Pending<'_, '_> {
         ensures cost { steps.new + (self.now.map.schema.dim + 1) * length asked.old.marks ≤ steps.old + (self.now.map.schema.dim + 1) * length asked.new.marks }
         ensures least { steps.old ≤ steps.new }
     {
-        if self.is_one_orbit(embed, declared, node) {
+        if self.is_one_orbit(embed, node) {
             return self.decide_orbit(embed, declared, node, asked);
         }
         for position in 0..self.positions() {
             self.decide_instance(embed, declared, node, position, asked, steps)?;
         }
         Ok(())
+    }
+
+    /// Whether the instances of a node are one orbit of the embedding's type, whatever is matched.
+    /// Where each letter of the node is a label of the type, they are joined as the positions are;
+    /// and where each label of the type is a letter of it, no other dart is joined to them.
+    fn is_one_orbit(&self, embed: u8, node: u8) -> bool
+        requires embed { embed < length self.now.map.schema.embeds }
+        requires node { node < length (rule_in self.now).nodes }
+        ensures { IsTrue result → (kept : Embed) → IsEmbedAt self.now.map.schema embed kept → IsAlwaysOneOrbit self.now kept node }
+    {
+        self.plan.is_exact(embed, node)
     }
 
     /// Looks at the instances of a node that are one orbit: the first decides it, unless an earlier

@@ -4,7 +4,6 @@ use crate::asked::{Answers, none_asked};
 use crate::at::At;
 use crate::lookup::{Lookup, instance_at};
 use gm_arena::{Arena, Slot, Steps};
-use gm_embcheck::assigns;
 use gm_model::{MOST_DARTS, OutOfMemory, Side, Step};
 use gm_plan::{Instances, Plan};
 use std::alloc::Global;
@@ -176,16 +175,19 @@ impl<'a, 'm> Pending<'a, 'm> {
 
     /// Whether the node has an assignment to the embedding.
     pub(crate) fn assigns(&self, embed: u8, node: u8) -> bool
-        requires { node < length (rule_in self.now).nodes }
+        requires embed { embed < length self.now.map.schema.embeds }
+        requires node { node < length (rule_in self.now).nodes }
         ensures { IsTrue result ↔ IsAssigned (rule_in self.now) embed node }
     {
-        assigns(self.plan.rule(), embed, node)
+        self.plan.assigns(embed, node)
     }
 
     /// Whether some node has an assignment to the embedding.
-    pub(crate) fn assigns_any(&self, embed: u8) -> bool {
-        for node in 0..self.plan.rule().node_count() {
-            if assigns(self.plan.rule(), embed, node) {
+    pub(crate) fn assigns_any(&self, embed: u8) -> bool
+        requires { embed < length self.now.map.schema.embeds }
+    {
+        for node in 0..self.nodes() {
+            if self.assigns(embed, node) {
                 return true;
             }
         }

@@ -13,7 +13,6 @@ ghost use Rattle.gm_pending.specs.Results.{IsPrepared, IsAsked, AreAllGiven, IsR
 
 use crate::asked::{Asked, keep, take_out};
 use crate::at::At;
-use crate::component::keeper_of;
 use crate::decider::Decider;
 use crate::pending::Pending;
 use gm_arena::{Slot, Steps};
@@ -118,8 +117,7 @@ impl Pending<'_, '_> {
         requires embed { embed < length self.now.map.schema.embeds }
         ensures { IsKeeperFor self.now embed node result }
     {
-        let declared = &self.arena.schema().embeds.as_slice()[embed as usize];
-        keeper_of(self.plan.rule(), declared.mask, node)
+        self.plan.keeper(embed, node)
     }
 
     /// The slot of a preserved node at the position.

@@ -1,5 +1,6 @@
 pub mod Changed
 pub mod Distinct
+pub mod EmbedTables
 pub mod Extended
 pub mod Forced
 pub mod Found

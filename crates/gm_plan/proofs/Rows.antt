@@ -25,6 +25,11 @@ read_row f count rows are x i h k row read = get_or_from_slice_get row i (f x i)
     at : slice_get rows x ≡ Some row
     at = slice_get-get_or rows x row (subst (λ n. x < n) (sym are.long) h) ∙ ap Some (sym read)
 
+-- and in whichever way the row was read
+pub row_at : (f : ℕ → ℕ → Step) (count : ℕ) (rows : List (List Step)) → AreRows f count rows → (x i : ℕ) → x < count → i < 8 → (default : List Step) → get_or (get_or rows x default) i Absent ≡ f x i
+row_at f count rows are x i h k default = read_row f count rows are x i h k (get_or rows x default)
+    (sym (get_or_from_slice_get rows x (get_or rows x default) (get_or rows x default) (slice_get-get_or rows x default (subst (λ n. x < n) (sym are.long) h))))
+
 absent_not : (y : ℕ) → Absent ≡ Exp y → ⊥
 absent_not y e = cc
 
@@ -41,12 +46,12 @@ no_rows f rows none = subst (AreRows f 0) (sym none) (record {
 pub all_rows : (f : ℕ → ℕ → Step) (rows : List (List Step)) (done end count : ℕ) → AreRows f done rows → done ≤ end → end ≤ done → end ≡ count → AreRows f count rows
 all_rows f rows done end count are most least e = subst (λ n. AreRows f n rows) (le_antisymm most least ∙ e) are
 
-row_old : (rows : List (List Step)) (row : List Step) (x : ℕ) → x < length rows → slice_get (rows ++ row ∷ []) x ≡ slice_get rows x
+pub row_old : {X : Type 0} (rows : List X) (row : X) (x : ℕ) → x < length rows → slice_get (rows ++ row ∷ []) x ≡ slice_get rows x
 row_old [] row x h = absurd (omega arith)
 row_old (r ∷ rows) row zero h = refl
 row_old (r ∷ rows) row (suc x) h = row_old rows row x (omega arith)
 
-row_new : (rows : List (List Step)) (row : List Step) (x : ℕ) → x ≡ length rows → slice_get (rows ++ row ∷ []) x ≡ Some row
+pub row_new : {X : Type 0} (rows : List X) (row : X) (x : ℕ) → x ≡ length rows → slice_get (rows ++ row ∷ []) x ≡ Some row
 row_new [] row zero e = refl
 row_new [] row (suc x) e = absurd (omega arith)
 row_new (r ∷ rows) row zero e = absurd (omega arith)

@@ -6,4 +6,5 @@ pub mod Placed
 pub mod Plans
 pub mod Refusals
 pub mod Searches
+pub mod Sources
 pub mod Tested

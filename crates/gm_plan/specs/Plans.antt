@@ -11,9 +11,11 @@ use Rattle.gm_model.specs.Acceptance.{IsAccepted}
 use Rattle.gm_model.specs.Rules.{Rule, has_word, step}
 use Rattle.gm_model.specs.Structure.{IsWithinLimits}
 use Rattle.gm_model.specs.Unfolding.{added_nodes}
+use Rattle.gm_plan.specs.declared.sources.Sources.{Sources}
 use Rattle.gm_plan.specs.Changes.{freed_step, made_step}
 use Rattle.gm_plan.specs.Counts.{removed_nodes}
 use Rattle.gm_plan.specs.Paths.{ArePaths}
+use Rattle.gm_plan.specs.Sources.{AreSources}
 use Rattle.gm_plan.specs.Tested.{tested_step}
 
 -- a plan is that of a rule over a schema
@@ -50,7 +52,7 @@ pub record AreCounts (rule : Rule) (left added removed : ℕ) : Type 0 where
   pub added_is : added ≡ added_nodes rule
   pub removed_is : removed ≡ removed_nodes rule
 
-pub record IsCompiled (schema : Schema) (rule : Rule) (left right made freed tested : List (List Step)) (paths : List Link) (left_nodes added removed : ℕ) : Type 0 where
+pub record IsCompiled (schema : Schema) (rule : Rule) (left right made freed tested : List (List Step)) (paths : List Link) (sources : List Sources) (left_nodes added removed : ℕ) : Type 0 where
   pub planned : IsPlanned schema rule
   pub left_steps : AreSteps rule Left (length rule.nodes) left
   pub right_steps : AreSteps rule Right (length rule.nodes) right
@@ -58,4 +60,5 @@ pub record IsCompiled (schema : Schema) (rule : Rule) (left right made freed tes
   pub freed_steps : AreRows (freed_step rule) (length rule.nodes) freed
   pub tested_steps : AreRows (tested_step rule paths) (length rule.nodes) tested
   pub are_paths : ArePaths rule paths
+  pub are_sources : AreSources schema rule sources
   pub are_counts : AreCounts rule left_nodes added removed

@@ -9,6 +9,7 @@ mod laws;
 mod paths;
 mod plan;
 mod sides;
+mod sources;
 mod table;
 mod tested;
 

@@ -4,6 +4,7 @@ ghost use Rattle.std.specs.List.{Contains};
 use crate::changes::{Freed, Made};
 use crate::paths::{Paths, least_paths, link_to};
 use crate::sides::{count_added, count_left, count_removed, side_steps};
+use crate::sources::{Sources, sources_of};
 use crate::table::{Row, rows_of};
 use crate::tested::{Tested, has_step};
 use gm_model::{Link, OutOfMemory, RuleTable, Schema, Side, Step};
@@ -24,6 +25,8 @@ pub struct Plan<'b> {
     freed: Vec<Row>,
     tested: Vec<Row>,
     paths: Paths,
+    /// By embedding.
+    sources: Vec<Sources>,
     left_nodes: u8,
     added: u8,
     removed: u8,
@@ -41,18 +44,22 @@ impl<'b> Model for Plan<'b> {
 
     ghost view = { λ a. record { schema = a.schema.now; table = a.rule.now } };
 
-    ghost invariant = { λ a. IsCompiled a.schema.now (rule_of a.rule.now) a.left.items a.right.items a.made.items a.freed.items a.tested.items a.paths.items a.left_nodes a.added a.removed };
+    ghost invariant = { λ a. IsCompiled a.schema.now (rule_of a.rule.now) a.left.items a.right.items a.made.items a.freed.items a.tested.items a.paths.items a.sources.items a.left_nodes a.added a.removed };
 }
 
 impl<'b> Plan<'b> {
-    ghost use Rattle.gm_model.specs.declared.rule.Side.TheVariants.{Left};
+    ghost use Rattle.gm_model.specs.declared.rule.Side.TheVariants.{Left, Right};
+    ghost use Rattle.gm_model.specs.declared.schema.Embed.{Embed};
     ghost use Rattle.gm_model.specs.declared.step.Step.TheVariants.{Absent};
+    ghost use Rattle.gm_model.specs.Components.{IsAssigned, IsKeeper, IsNew};
+    ghost use Rattle.gm_model.specs.Maps.{IsEmbedAt, type_of};
     ghost use Rattle.gm_model.specs.Rules.{rule_of, has_word, link_from, step};
     ghost use Rattle.gm_model.specs.Unfolding.{added_nodes};
     ghost use Rattle.gm_plan.specs.Changes.{freed_step, made_step};
     ghost use Rattle.gm_plan.specs.Counts.{removed_nodes};
     ghost use Rattle.gm_plan.specs.Paths.{ArePaths, IsLastLink};
     ghost use Rattle.gm_plan.specs.Plans.{AreRows, IsPlanned, IsLeftCount, plan_of};
+    ghost use Rattle.gm_plan.specs.Sources.{HasExactLetters};
     ghost use Rattle.gm_plan.specs.Tested.{IsForcedStep};
 
     /// The plan of a rule that is accepted.
@@ -61,7 +68,8 @@ impl<'b> Plan<'b> {
         schema: &'b Schema,
         rule: &'b RuleTable,
     ) -> Result<Plan<'b>, OutOfMemory>
-        requires { IsPlanned schema.now (rule_of rule.now) }
+        requires planned { IsPlanned schema.now (rule_of rule.now) }
+        requires embeds { length schema.now.embeds ≤ 8 }
         ensures { IfOk result (λ plan. plan ≡ plan_of schema.now rule.now) }
     {
         let nodes = rule.node_count();
@@ -74,6 +82,7 @@ impl<'b> Plan<'b> {
         let paths = least_paths(alloc, schema, rule, left)?;
         let links = paths.as_slice();
         let tested = rows_of(alloc, &Tested { rule, left, links }, nodes)?;
+        let sources = sources_of(alloc, schema, rule, right)?;
         Ok(Plan {
             schema,
             rule,
@@ -83,6 +92,7 @@ impl<'b> Plan<'b> {
             freed,
             tested,
             paths,
+            sources,
             left_nodes: count_left(rule),
             added: count_added(rule),
             removed: count_removed(rule),
@@ -197,6 +207,38 @@ impl<'b> Plan<'b> {
         ensures kept { result ≢ Absent → result ≡ step (rule_of self.now.table) Left node label }
     {
         self.tested[node as usize][label as usize]
+    }
+
+    /// Whether the node has an assignment to the embedding.
+    pub fn assigns(&self, embed: u8, node: u8) -> bool
+        requires embed { embed < length self.now.schema.embeds }
+        requires node { node < length (rule_of self.now.table).nodes }
+        ensures { IsTrue result ↔ IsAssigned (rule_of self.now.table) embed node }
+    {
+        self.sources[embed as usize].assigned[node as usize]
+    }
+
+    /// The keeper of a right node for the embedding: the least preserved node of its component,
+    /// whose value it takes over where no node of the component has an assignment. None where no
+    /// node of it is preserved.
+    pub fn keeper(&self, embed: u8, node: u8) -> Option<u8>
+        requires embed { embed < length self.now.schema.embeds }
+        requires right { IsTrue (has_word (rule_of self.now.table) Right node) }
+        ensures { (declared : Embed) → IsEmbedAt self.now.schema embed declared → MatchOption result
+            (IsNew (rule_of self.now.table) (type_of declared) node)
+            (IsKeeper (rule_of self.now.table) (type_of declared) node) }
+    {
+        self.sources[embed as usize].keepers[node as usize]
+    }
+
+    /// Whether the letters of a right node are the labels of the embedding's type. Its instances
+    /// are one orbit of that type then, whatever is matched.
+    pub fn is_exact(&self, embed: u8, node: u8) -> bool
+        requires embed { embed < length self.now.schema.embeds }
+        requires node { node < length (rule_of self.now.table).nodes }
+        ensures { IsTrue result → (declared : Embed) → IsEmbedAt self.now.schema embed declared → HasExactLetters self.now.schema.dim (rule_of self.now.table) (type_of declared) node }
+    {
+        self.sources[embed as usize].exact[node as usize]
     }
 
     /// The last link of the least path to each left node but the hooks, in an order in which each

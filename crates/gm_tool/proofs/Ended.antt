@@ -1,5 +1,5 @@
 -- What the end of a call says of the words, the loads and the save, command by command; and what a put makes of it.
-use Rattle.std.proofs.Common.{◌≡◌, ◌⊎◌, ℕ, List, inl, inr, Option, Result, Ok, Err, refl, sym, subst}
+use Rattle.std.proofs.Common.{◌≡◌, ◌⊎◌, ℕ, List, inl, inr, Option, Result, Ok, refl, sym, subst}
 use Rattle.std.proofs.lemmas.Bool.{eqb-false}
 use Rattle.std.specs.Prelude.{IfOk, IfSome}
 use Rattle.gm_host.specs.Count.{counted, Rises}
@@ -9,15 +9,14 @@ use Rattle.gm_tool.specs.Answer.{Asks}
 use Rattle.gm_tool.specs.Endings.{status_given}
 use Rattle.gm_tool.specs.GridAnswer.{AsksGrid, IsGridReply}
 use Rattle.gm_tool.specs.Loads.{FailsAt, LoadsInOrder, IsUnloaded, CountsSaves, StopsInTime, UnlessNoMemory}
-use Rattle.gm_tool.specs.MadeRuns.{IsSoundReply, HoldsMap, IsMapBytes, IsRunStatus}
+use Rattle.gm_tool.specs.MadeRuns.{IsSoundReply, HoldsMap, IsRunStatus}
 use Rattle.gm_tool.specs.Migrating.{MigrateNames, AsksMigrate, IsMigrateStatus}
 use Rattle.gm_tool.specs.Program.{IsCommand, IsSavingCommand}
 use Rattle.gm_tool.specs.RunAnswer.{RunNames, AsksRun}
 use Rattle.gm_tool.specs.Seen.{Seen}
 use Rattle.gm_tool.specs.StepBounds.{WithinMost, AtLeast, TakesLeast, FileShowsWithin, WithinGridMost, AtLeastOfGrid, GridTakesLeast, KeepsSteps}
-use Rattle.gm_tool.specs.Tool.{IsPut, IsReplyStatus, EndsAs, HoldsSaved, ForFile, ForRun, ForMigrate}
+use Rattle.gm_tool.specs.Tool.{IsPut, IsReplyStatus, EndsAs, ForFile, ForRun, ForMigrate}
 use Rattle.gm_tool.specs.declared.refusal.NoText.{NoText}
-use Rattle.gm_tool.specs.declared.refusal.NoText.TheVariants as nothing
 use Rattle.gm_tool.specs.declared.reply.Reply.{Reply}
 use Rattle.gm_tool.proofs.Asking.{file_is_no_run, file_is_no_migrate, file_is_no_grid, run_is_no_migrate, run_is_no_grid, migrate_is_no_grid, grid_reads_none, grid_reads_no_one, reads_some, run_reads_no_one, same_named, sound_no_usage, file_refused, migrate_refused, migrate_status, run_holds, migrate_holds, none_holds, sound_saved, grid_status, grid_refused, grid_is_sound}
 use Rattle.gm_tool.proofs.LoadCounts.{counts_of, no_counts}

@@ -1,17 +1,16 @@
 -- What is left of a run that is done, read off what is left of any call.
 use Rattle.std.proofs.Common.{◌≡◌, ℕ, List, ◌++◌, inl, inr, Option, Some, None, refl, sym, ap, subst, ◌∙◌}
 use Rattle.std.proofs.lemmas.Bool.{eqb-false}
-use Rattle.std.specs.Prelude.{IfSome}
 use Rattle.gm_host.specs.Saves.{IsSaved}
 use Rattle.gm_host.specs.Store.{Contents}
 use Rattle.gm_lines.specs.Refusing.{Role}
-use Rattle.gm_tool.specs.Answer.{Files, Answer, Saved}
-use Rattle.gm_tool.specs.Endings.{IsStored, IsEnding, Whole, LoadFailed, SaveFailed}
+use Rattle.gm_tool.specs.Answer.{Files, Answer}
+use Rattle.gm_tool.specs.Endings.{IsStored, Whole, LoadFailed, SaveFailed}
 use Rattle.gm_tool.specs.Headline.{RunsAsStated, HeadlineHolds}
 use Rattle.gm_tool.specs.MadeRuns.{IsRunStatus, IsSoundText, HoldsSuch}
 use Rattle.gm_tool.specs.Program.{IsAnswer, Usage, OfFile, OfRun, OfMigrate, OfGrid}
 use Rattle.gm_tool.specs.RunAnswer.{RunNames, AsksRun, IsRunAnswer, IsFailing, Missing, Long, Bad, MapFails, BookFails, ScriptFails, Disagree, LongOutput, Done, saved_of}
-use Rattle.gm_tool.specs.StepBounds.{WithinMost, AtLeast, StaysWithin, TakesLeast, KeepsSteps, MostOf, LeastOf}
+use Rattle.gm_tool.specs.StepBounds.{WithinMost, AtLeast, KeepsSteps, MostOf, LeastOf}
 use Rattle.gm_tool.specs.Tool.{IsLoadFailure, HoldsSaved, Ends, Leaves, Put, PutFailed, Unput, NoMemory, LeavesWhereTold}
 use Rattle.gm_tool.specs.Tool as tool
 use Rattle.gm_tool.proofs.Asking.{file_is_no_run, run_is_no_migrate, run_is_no_grid, same_named}

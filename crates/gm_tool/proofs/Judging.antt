@@ -7,7 +7,7 @@ use Rattle.gm_book.specs.Faults as book_faults
 use Rattle.gm_model.specs.declared.schema.Schema.{Schema}
 use Rattle.gm_forms.specs.BookText.{BookText}
 use Rattle.gm_model.specs.Rules.{Rule}
-use Rattle.gm_tool.specs.Answer.{IsOutput, role_of, most_bytes, Checked}
+use Rattle.gm_tool.specs.Answer.{IsOutput, role_of, Checked}
 use Rattle.gm_lines.specs.Refusing.{IsBad, BadBook, TheMap, TheBook, refusal, IsBadLine}
 use Rattle.gm_lines.specs.BookFaults.{AtEnds, AtPasses, AtName}
 use Rattle.gm_tool.specs.Answer as answer

@@ -16,7 +16,7 @@ use Rattle.gm_model.specs.declared.script.Script.{Script}
 use Rattle.gm_model.specs.declared.script.Stat.{Stat}
 use Rattle.gm_model.specs.declared.script.Stat.TheVariants as statements
 use Rattle.gm_model.specs.Maps.{IsSound}
-use Rattle.gm_mapfile.specs.MapText.{map_of, canonical}
+use Rattle.gm_mapfile.specs.MapText.{canonical}
 use Rattle.gm_mapfile.specs.declared.version.MapVersion.{MapVersion}
 use Rattle.gm_model.specs.Reports.{report_text}
 use Rattle.gm_model.specs.Rules.{Rule, rule_of}

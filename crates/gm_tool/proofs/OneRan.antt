@@ -1,5 +1,5 @@
 -- A script has one run: the same outcomes, and the same map after it.
-use Rattle.std.proofs.Common.{◌≡◌, ℕ, List, [], ◌∷◌, All, sym, subst}
+use Rattle.std.proofs.Common.{◌≡◌, ℕ, List, [], ◌∷◌, All, subst}
 use Rattle.std.specs.List.{AllByRecursion}
 use Rattle.gm_mapfile.proofs.Listed.{listed_good}
 use Rattle.gm_mapfile.specs.MapText.{MapText, map_of}
@@ -8,9 +8,9 @@ use Rattle.gm_model.specs.declared.script.Stat.{Stat}
 use Rattle.gm_model.specs.declared.script.Stat.TheVariants.{Apply}
 use Rattle.gm_model.specs.Acceptance.{IsAccepted}
 use Rattle.gm_model.specs.Budgets.{no_entries}
-use Rattle.gm_model.specs.Maps.{Map, IsSchema, IsSound}
+use Rattle.gm_model.specs.Maps.{IsSchema}
 use Rattle.gm_model.specs.Rules.{Rule}
-use Rattle.gm_model.specs.Runs.{Outcome, State, start_of, IsRun}
+use Rattle.gm_model.specs.Runs.{start_of}
 use Rattle.gm_run.specs.Alike.{AreAlike, AreAlikeStates}
 use Rattle.gm_run.proofs.AlikeStates.{states_alike_self}
 use Rattle.gm_run.proofs.OneRun.{one_run}

@@ -20,7 +20,7 @@ use Rattle.gm_model.specs.declared.schema.Schema.{Schema}
 use Rattle.gm_model.specs.declared.script.Script.{Script}
 use Rattle.gm_model.specs.Acceptance.{IsAccepted}
 use Rattle.gm_model.specs.Budgets.{Bounds, no_entries, IsRunWithin}
-use Rattle.gm_model.specs.Maps.{Map, IsDart}
+use Rattle.gm_model.specs.Maps.{IsDart}
 use Rattle.gm_mapfile.specs.MapText.{DartRow, map_of, names, rows_of}
 use Rattle.gm_mapfile.specs.declared.version.MapVersion.{MapVersion}
 use Rattle.gm_model.specs.GMap.{row_of}

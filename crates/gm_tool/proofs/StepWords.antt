@@ -1,5 +1,5 @@
 -- The bounds on steps, said of the words of the command line and of the status that is left.
-use Rattle.std.proofs.Common.{◌≡◌, ℕ, ◌+◌, ◌*◌, ◌≤◌, List, inl, inr, Some, None, Result, Ok, Err, length, sym, subst, ◌∙◌, arith}
+use Rattle.std.proofs.Common.{◌≡◌, ℕ, ◌+◌, ◌*◌, ◌≤◌, List, Some, None, Result, Ok, Err, length, sym, subst, ◌∙◌, arith}
 use Rattle.std.specs.Prelude.{IfOk, IfSome}
 use Rattle.std.proofs.Math.Nat.{mul_assoc}
 use Rattle.gm_arena.specs.Lawful.{IsLawful}

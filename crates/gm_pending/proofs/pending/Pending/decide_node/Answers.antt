@@ -1,7 +1,9 @@
 use Rattle.std.proofs.Common.{◌≡◌, length, subst, arith}
+use Rattle.std.proofs.lemmas.Option.{slice_get_within}
 use Rattle.gm_pending.specs.Reached.{IsDecidedUpTo}
+use Rattle.gm_pending.specs.Results.{rule_in}
 use Rattle.gm_pending.proofs.Decided.{decided_reached, node_decided}
-use Rattle.gm_pending.proofs.OneOrbit.{longer_cost}
+use Rattle.gm_pending.proofs.OneOrbit.{assigned_within, longer_cost}
 use Rattle.gm_pending.proofs.pending.Pending.decide_node.Goals as goal
 
 pub returns-clause-decided : goal.returns-clause-decided
@@ -55,7 +57,7 @@ pub decide_orbit-requires-clause-assigned : goal.decide_orbit-requires-clause-as
 decide_orbit-requires-clause-assigned g c = c.requires.assigned
 
 pub decide_orbit-requires-clause-orbit : goal.decide_orbit-requires-clause-orbit
-decide_orbit-requires-clause-orbit g c = c.is_one_orbit.ensures c.if-is_one_orbit.true
+decide_orbit-requires-clause-orbit g c = c.is_one_orbit.ensures c.if-is_one_orbit.true c.args.declared.now c.requires.embed
 
 pub decide_orbit-requires-clause-earlier : goal.decide_orbit-requires-clause-earlier
 decide_orbit-requires-clause-earlier g c = c.requires.earlier
@@ -74,3 +76,9 @@ returns-then-is_one_orbit-clause-cost g c = longer_cost c.args.self.now.map.sche
 
 pub returns-then-is_one_orbit-clause-least : goal.returns-then-is_one_orbit-clause-least
 returns-then-is_one_orbit-clause-least g c = omega arith
+
+pub is_one_orbit-requires-clause-embed : goal.is_one_orbit-requires-clause-embed
+is_one_orbit-requires-clause-embed g c = slice_get_within c.args.self.now.map.schema.embeds c.args.embed c.args.declared.now c.requires.embed
+
+pub is_one_orbit-requires-clause-node : goal.is_one_orbit-requires-clause-node
+is_one_orbit-requires-clause-node g c = assigned_within (rule_in c.args.self.now) c.args.embed c.args.node c.requires.assigned

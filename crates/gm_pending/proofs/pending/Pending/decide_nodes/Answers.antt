@@ -1,5 +1,6 @@
 use Rattle.std.proofs.Common.{sym, ◌∙◌, arith, ◌≡◌, length, subst}
 use Rattle.std.proofs.lemmas.Bool.{false≢true}
+use Rattle.std.proofs.lemmas.Option.{slice_get_within}
 use Rattle.gm_pending.proofs.Decided.{decided_reached, node_passed}
 use Rattle.gm_pending.specs.Reached.{IsDecidedUpTo}
 use Rattle.gm_pending.specs.Results.{rule_in}
@@ -27,8 +28,11 @@ returns-clause-reached g c = decided_reached c.args.self.now c.nodes-nodes.ensur
 pub loop-node-init : goal.loop-node-init
 loop-node-init g c = record { decided = c.requires.earlier; cost = omega arith; least = omega arith }
 
-pub assigns-requires : goal.assigns-requires
-assigns-requires g c = omega (arith, c.loop-node-test.true, c.nodes-nodes.ensures.nodes)
+pub assigns-requires-clause-embed : goal.assigns-requires-clause-embed
+assigns-requires-clause-embed g c = slice_get_within c.args.self.now.map.schema.embeds c.args.embed c.args.declared.now c.requires.embed
+
+pub assigns-requires-clause-node : goal.assigns-requires-clause-node
+assigns-requires-clause-node g c = omega (arith, c.loop-node-test.true, c.nodes-nodes.ensures.nodes)
 
 pub decide_node-requires-clause-embed : goal.decide_node-requires-clause-embed
 decide_node-requires-clause-embed g c = c.requires.embed

@@ -6,16 +6,16 @@ use Rattle.gm_plan.specs.Plans.{AreSteps}
 use Rattle.gm_plan.proofs.plan.Plan.new.Goals as goal
 
 pub node_count-nodes-requires : goal.node_count-nodes-requires
-node_count-nodes-requires c = omega (arith, c.requires.within.nodes)
+node_count-nodes-requires c = omega (arith, c.requires.planned.within.nodes)
 
 pub side_steps-requires : goal.side_steps-requires
-side_steps-requires c = c.requires.within.nodes
+side_steps-requires c = c.requires.planned.within.nodes
 
 pub returns-in_err-left_rows : goal.returns-in_err-left_rows
 returns-in_err-left_rows c = IfOk-from_err c.from_residual.result _ c.from_residual.ensures.0
 
 pub side_steps-requires-2 : goal.side_steps-requires-2
-side_steps-requires-2 c = c.requires.within.nodes
+side_steps-requires-2 c = c.requires.planned.within.nodes
 
 pub returns-in_err-right_rows : goal.returns-in_err-right_rows
 returns-in_err-right_rows c = IfOk-from_err c.from_residual-in_err-right_rows.result _ c.from_residual-in_err-right_rows.ensures.0
@@ -40,7 +40,7 @@ pub returns-in_err-freed : goal.returns-in_err-freed
 returns-in_err-freed c = IfOk-from_err c.from_residual-in_err-freed.result _ c.from_residual-in_err-freed.ensures.0
 
 pub least_paths-requires-clause-planned : goal.least_paths-requires-clause-planned
-least_paths-requires-clause-planned c = c.requires
+least_paths-requires-clause-planned c = c.requires.planned
 
 pub least_paths-requires-clause-rows : goal.least_paths-requires-clause-rows
 least_paths-requires-clause-rows c = subst (AreSteps (rule_of c.args.rule.now) Left (length (rule_of c.args.rule.now).nodes)) (sym c.as_slice-left.ensures.value) c.in_ok-left_rows.ensures
@@ -58,26 +58,27 @@ pub returns-in_err-tested : goal.returns-in_err-tested
 returns-in_err-tested c = IfOk-from_err c.from_residual-in_err-tested.result _ c.from_residual-in_err-tested.ensures.0
 
 pub count_left-requires-clause-within : goal.count_left-requires-clause-within
-count_left-requires-clause-within c = c.requires.within.nodes
+count_left-requires-clause-within c = c.requires.planned.within.nodes
 
 pub count_left-requires-clause-left_first : goal.count_left-requires-clause-left_first
-count_left-requires-clause-left_first c = c.requires.accepted.in_range.left_first
+count_left-requires-clause-left_first c = c.requires.planned.accepted.in_range.left_first
 
 pub count_added-requires : goal.count_added-requires
-count_added-requires c = c.requires.within.nodes
+count_added-requires c = c.requires.planned.within.nodes
 
 pub count_removed-requires : goal.count_removed-requires
-count_removed-requires c = c.requires.within.nodes
+count_removed-requires c = c.requires.planned.within.nodes
 
 pub invariant_of-result : goal.invariant_of-result
 invariant_of-result c = record {
-  planned = c.requires;
+  planned = c.requires.planned;
   left_steps = c.in_ok-left_rows.ensures;
   right_steps = c.in_ok-right_rows.ensures;
   made_steps = rw (← c.node_count-nodes.ensures) c.in_ok-made.ensures;
   freed_steps = rw (← c.node_count-nodes.ensures) c.in_ok-freed.ensures;
   tested_steps = rw (← c.as_slice-links.ensures, ← c.node_count-nodes.ensures) c.in_ok-tested.ensures;
   are_paths = c.in_ok-paths.ensures;
+  are_sources = c.in_ok-sources.ensures;
   are_counts = record { left_is = c.count_left.ensures; added_is = c.count_added.ensures; removed_is = c.count_removed.ensures };
 }
 

@@ -1,0 +1,12 @@
+use Rattle.std.proofs.Common.{◌≡◌, ℕ, ◌<◌, length}
+use Rattle.gm_model.specs.Labels.{has}
+use Rattle.gm_model.specs.Rules.{rule_of}
+use Rattle.gm_embcheck.specs.NodeSets.{IsIn}
+use Rattle.gm_plan.specs.Sources.{HasExactLetters}
+use Rattle.gm_plan.proofs.sources.exact_nodes.Given as goal
+
+abbrev pub invariant-loop-node : goal.invariant-loop-node
+invariant-loop-node l = record {
+  long : length l.nodes ≡ 32;
+  done : (x : ℕ) → x < l.node → IsIn l.nodes x → HasExactLetters l.top (rule_of l.rule) (has l.labels) x;
+}
