@@ -1,14 +1,16 @@
 -- What the dual is of a map, of a rule and of a book: label i and label n - i trade places, and all else stays.
-use Rattle.std.specs.Prelude.{◌≡◌, ℕ, zero, suc, ◌+◌, ◌-◌, ◌*◌, Bool, nat_lt, if◌then◌else◌, List, map}
+use Rattle.std.specs.Prelude.{◌≡◌, ◌↔◌, Some, slice_get, ℕ, zero, suc, ◌+◌, ◌-◌, ◌*◌, Bool, nat_lt, if◌then◌else◌, List, map}
 use Rattle.std.specs.Option.{option_map}
 use Rattle.gm_model.specs.declared.expr.DartTerm.{DartTerm}
 use Rattle.gm_model.specs.declared.rule.Book.{Book}
 use Rattle.gm_model.specs.declared.rule.Link.{Link}
+use Rattle.gm_model.specs.declared.rule.RuleTable.{RuleTable}
 use Rattle.gm_model.specs.declared.schema.Embed.{Embed}
 use Rattle.gm_model.specs.declared.schema.Schema.{Schema}
 use Rattle.gm_model.specs.declared.word.Letter.{Letter}
 use Rattle.gm_model.specs.declared.word.Letter.TheVariants.{At, Gone}
 use Rattle.gm_model.specs.declared.word.Mask.{Mask}
+use Rattle.gm_model.specs.Acceptance.{IsAccepted}
 use Rattle.gm_model.specs.Applications.{Application}
 use Rattle.gm_model.specs.Labels.{has}
 use Rattle.gm_model.specs.Maps.{Map, dimension}
@@ -104,3 +106,7 @@ pub record IsDualBook (book dual : Book) : Type 0 where
   pub version : dual.version ≡ book.version
   pub schema : dual.schema ≡ dual_schema book.schema
   pub rules : map rule_of dual.rules ≡ map (dual_rule book.schema.dim) (map rule_of book.rules)
+
+-- of each rule, the dual is accepted exactly where the rule is
+abbrev pub AreAcceptedAlike : Book → Book → Type 0
+AreAcceptedAlike book dual = (r : ℕ) (rule other : RuleTable) → slice_get book.rules r ≡ Some rule → slice_get dual.rules r ≡ Some other → IsAccepted book.schema (rule_of rule) ↔ IsAccepted dual.schema (rule_of other)
