@@ -9,16 +9,18 @@ use Rattle.gm_model.specs.declared.rule.Book.{Book}
 use Rattle.gm_model.specs.declared.rule.RuleTable.{RuleTable}
 use Rattle.gm_model.specs.declared.schema.Schema.{Schema}
 use Rattle.gm_model.specs.Acceptance.{IsAccepted}
+use Rattle.gm_model.specs.Applications.{Application, IsDone}
 use Rattle.gm_model.specs.Kinds.{IsTyped}
 use Rattle.gm_model.specs.Maps.{IsSchema}
 use Rattle.gm_model.specs.Rules.{Rule, rule_of}
 use Rattle.gm_model.specs.Structure.{IsInRange}
-use Rattle.gm_dual.specs.Duals.{AreAcceptedAlike, IsDualBook, dual_rule, dual_schema}
+use Rattle.gm_dual.specs.Duals.{AreAcceptedAlike, AreAppliedAlike, IsDualBook, LeadsTo, application_of, dual_application, dual_map, dual_rule, dual_schema}
 use Rattle.gm_dual.proofs.AcceptLemmas.{range_dual, typed_dual}
 use Rattle.gm_dual.proofs.ConditionLemmas.{incidence_dual, sources_dual}
+use Rattle.gm_dual.proofs.DoneLemmas.{done_dual}
 use Rattle.gm_dual.proofs.SoundLemmas.{schema_dual}
 use Rattle.gm_dual.proofs.SquareLemmas.{squares_dual}
-use Rattle.gm_dual.proofs.TwiceLemmas.{rule_twice, schema_twice}
+use Rattle.gm_dual.proofs.TwiceLemmas.{map_is_twice, rule_twice, schema_twice}
 
 pub ok_too : {A E : Type 0} (P Q : A → Type 0) (r : Result A E) → ((x : A) → P x → Q x) → IfOk r P → IfOk r Q
 ok_too P Q (Ok x) more h = more x h
@@ -83,4 +85,35 @@ module _ (book dual : Book) (most : book.schema.dim ≤ 7) (lawful : IsSchema bo
       let to : IsAccepted dual.schema (rule_of other) ≡ IsAccepted (dual_schema book.schema) (dual_rule book.schema.dim (rule_of rule)) = (λ k. IsAccepted (is.schema k) (same k)) in (
         (λ a. subst (λ (A : Type 0). A) (sym to) (accepted_dual book.schema (rule_of rule) most lawful a)),
         (λ a. accepted_back book.schema (rule_of rule) most lawful in_range kinds (subst (λ (A : Type 0). A) to a)),
+      )
+
+-- ---- applications
+
+-- the dual of the dual of an application of a rule in range is the application itself
+application_twice : (app : Application) → app.map.schema.dim ≤ 7 → IsSchema app.map.schema → IsInRange app.map.schema app.rule → IsTyped app.map.schema app.rule → dual_application (dual_application app) ≡ app
+application_twice app most lawful in_range typed =
+    let before = map_is_twice app.map most lawful in
+    let rule = rule_twice app.map.schema app.rule most in_range typed in
+    λ k. record { map = before k; rule = rule k; hooks = app.hooks; params = app.params }
+
+pub applied_to : (app : Application) → app.map.schema.dim ≤ 7 → IsSchema app.map.schema → IsAccepted app.map.schema app.rule → LeadsTo app (dual_application app)
+applied_to app most lawful accepted = done_dual app most lawful accepted
+
+pub applied_from : (app : Application) → app.map.schema.dim ≤ 7 → IsSchema app.map.schema → IsAccepted app.map.schema app.rule → LeadsTo (dual_application app) app
+applied_from app most lawful accepted result added removed done =
+    subst (λ a. IsDone a (dual_map result) added removed) (application_twice app most lawful accepted.in_range accepted.typed)
+    (done_dual (dual_application app) most (schema_dual app.map.schema most lawful) (accepted_dual app.map.schema app.rule most lawful accepted) result added removed done)
+
+module _ (book dual : Book) (most : book.schema.dim ≤ 7) (lawful : IsSchema book.schema) (is : IsDualBook book dual) where
+  pub applied_alike : AreAppliedAlike book dual
+  applied_alike r rule other before hooks params here there accepted of =
+      let app : Application = application_of before rule hooks params in
+      let low : before.schema.dim ≤ 7 = subst (λ (s : Schema). s.dim ≤ 7) (sym of) most in
+      let good = subst IsSchema (sym of) lawful in
+      let fine = subst (λ s. IsAccepted s (rule_of rule)) (sym of) accepted in
+      let same : application_of (dual_map before) other hooks params ≡ dual_application app =
+      (let rules : rule_of other ≡ dual_rule before.schema.dim (rule_of rule) = rule_at book dual most lawful is r rule other here there ∙ ap (λ (s : Schema). dual_rule s.dim (rule_of rule)) (sym of) in
+      λ k. record { map = dual_map before; rule = rules k; hooks = hooks; params = params }) in (
+        subst (λ a. LeadsTo app a) (sym same) (applied_to app low good fine),
+        subst (λ a. LeadsTo a app) (sym same) (applied_from app low good fine),
       )

@@ -1,6 +1,6 @@
 use Rattle.gm_model.specs.Maps.{IsSchema}
 use Rattle.gm_dual.specs.Duals.{IsDualBook}
-use Rattle.gm_dual.proofs.BookLemmas.{accepted_alike, all_in_range, all_typed, ok_too, schema_is_dual}
+use Rattle.gm_dual.proofs.BookLemmas.{accepted_alike, applied_alike, all_in_range, all_typed, ok_too, schema_is_dual}
 use Rattle.gm_dual.proofs.book.dual_book.Goals as goal
 
 pub returns-clause-schema : goal.returns-clause-schema
@@ -14,3 +14,6 @@ returns-clause-typed c = ok_too (IsDualBook c.args.book.now) _ c.make_dual.resul
 
 pub returns-clause-accepted : goal.returns-clause-accepted
 returns-clause-accepted c = ok_too (IsDualBook c.args.book.now) _ c.make_dual.result (λ dual is. accepted_alike c.args.book.now dual c.top-top.ensures.greatest c.requires.schema is c.requires.in_range c.requires.typed) c.make_dual.ensures
+
+pub returns-clause-applied : goal.returns-clause-applied
+returns-clause-applied c = ok_too (IsDualBook c.args.book.now) _ c.make_dual.result (λ dual is. applied_alike c.args.book.now dual c.top-top.ensures.greatest c.requires.schema is) c.make_dual.ensures
