@@ -4,3 +4,12 @@ pub mod TwiceLemmas
 pub mod MapLemmas
 pub mod SoundLemmas
 pub mod BuildLemmas
+pub mod RuleLemmas
+pub mod AcceptLemmas
+pub mod ConditionLemmas
+pub mod SquareLemmas
+pub mod BookLemmas
+pub mod MatchLemmas
+pub mod ReadLemmas
+pub mod SceneLemmas
+pub mod DoneLemmas

@@ -10,7 +10,7 @@ use Rattle.gm_model.specs.Maps.{IsEmbedAt, IsSchema, IsSound, Map, type_of}
 use Rattle.gm_model.specs.Orbits.{IsInOrbit, IsPathIn, Labels, follow}
 use Rattle.gm_arena.proofs.InsideLemmas.{some_from_map}
 use Rattle.gm_dual.specs.Duals.{dual_embed, dual_label, dual_map, dual_schema}
-use Rattle.gm_dual.proofs.LabelLemmas.{dual_apart, dual_most}
+use Rattle.gm_dual.proofs.LabelLemmas.{dual_apart, dual_most, dual_twice, duals_twice}
 use Rattle.gm_dual.proofs.MaskLemmas.{dual_labels, few_bits, has_dual}
 
 -- ---- orbits
@@ -29,6 +29,14 @@ module _ (n : ℕ) (alpha : ℕ → ℕ → ℕ) where
     -- an orbit of the dual is one of the map
     pub orbit_from_dual : (d e : ℕ) → IsInOrbit (λ i. alpha (dual_label n i)) o' d e → IsInOrbit alpha o d e
     orbit_from_dual d e to = (map (dual_label n) to.0, path_dual to.0 to.1, sym (follow_dual to.0 d) ∙ to.2)
+
+    path_to_dual : (path : List ℕ) → IsPathIn o path → IsPathIn o' (map (dual_label n) path)
+    path_to_dual [] inside = tt
+    path_to_dual (i ∷ path) inside = (same (dual_label n i) ∙ (ap o (dual_twice n i) ∙ inside.0), path_to_dual path inside.1)
+
+    -- and an orbit of the map one of the dual
+    pub orbit_to_dual : (d e : ℕ) → IsInOrbit alpha o d e → IsInOrbit (λ i. alpha (dual_label n i)) o' d e
+    orbit_to_dual d e to = (map (dual_label n) to.0, path_to_dual to.0 to.1, follow_dual (map (dual_label n) to.0) d ∙ (ap (λ path. follow alpha path d) (duals_twice n to.0) ∙ to.2))
 
 -- ---- schemas
 

@@ -1,15 +1,18 @@
 -- What the dual is of a map, of a rule and of a book: label i and label n - i trade places, and all else stays.
-use Rattle.std.specs.Prelude.{◌≡◌, ℕ, zero, suc, ◌+◌, ◌-◌, ◌*◌, Bool, nat_lt, if◌then◌else◌, List, map}
+use Rattle.std.specs.Prelude.{◌≡◌, ◌↔◌, Some, slice_get, ℕ, zero, suc, ◌+◌, ◌-◌, ◌*◌, Bool, nat_lt, if◌then◌else◌, List, map}
 use Rattle.std.specs.Option.{option_map}
 use Rattle.gm_model.specs.declared.expr.DartTerm.{DartTerm}
 use Rattle.gm_model.specs.declared.rule.Book.{Book}
 use Rattle.gm_model.specs.declared.rule.Link.{Link}
+use Rattle.gm_model.specs.declared.rule.RuleTable.{RuleTable}
 use Rattle.gm_model.specs.declared.schema.Embed.{Embed}
 use Rattle.gm_model.specs.declared.schema.Schema.{Schema}
+use Rattle.gm_model.specs.declared.value.Value.{Value}
 use Rattle.gm_model.specs.declared.word.Letter.{Letter}
 use Rattle.gm_model.specs.declared.word.Letter.TheVariants.{At, Gone}
 use Rattle.gm_model.specs.declared.word.Mask.{Mask}
-use Rattle.gm_model.specs.Applications.{Application}
+use Rattle.gm_model.specs.Acceptance.{IsAccepted}
+use Rattle.gm_model.specs.Applications.{Application, IsDone}
 use Rattle.gm_model.specs.Labels.{has}
 use Rattle.gm_model.specs.Maps.{Map, dimension}
 use Rattle.gm_model.specs.Rules.{Assignment, Rule, RuleNode, rule_of}
@@ -99,8 +102,25 @@ dual_application app = record { map = dual_map app.map; rule = dual_rule (dimens
 
 -- ---- books
 
+-- the rule of a table, applied to the map
+abbrev pub application_of : Map → RuleTable → List ℕ → List Value → Application
+application_of before rule hooks params = record { map = before; rule = rule_of rule; hooks = hooks; params = params }
+
 -- the second book is the dual of the first
 pub record IsDualBook (book dual : Book) : Type 0 where
   pub version : dual.version ≡ book.version
   pub schema : dual.schema ≡ dual_schema book.schema
   pub rules : map rule_of dual.rules ≡ map (dual_rule book.schema.dim) (map rule_of book.rules)
+
+-- of each rule, the dual is accepted exactly where the rule is
+abbrev pub AreAcceptedAlike : Book → Book → Type 0
+AreAcceptedAlike book dual = (r : ℕ) (rule other : RuleTable) → slice_get book.rules r ≡ Some rule → slice_get dual.rules r ≡ Some other → IsAccepted book.schema (rule_of rule) ↔ IsAccepted dual.schema (rule_of other)
+
+-- Where one application is done, so is the other, with the dual of its result, and as many darts added and removed.
+abbrev pub LeadsTo : Application → Application → Type 0
+LeadsTo app other = (result : Map) (added removed : ℕ) → IsDone app result added removed → IsDone other (dual_map result) added removed
+
+-- an application of an accepted rule is done exactly where that of its dual to the dual map is, with the dual of its result
+abbrev pub AreAppliedAlike : Book → Book → Type 0
+AreAppliedAlike book dual = (r : ℕ) (rule other : RuleTable) (before : Map) (hooks : List ℕ) (params : List Value) → slice_get book.rules r ≡ Some rule → slice_get dual.rules r ≡ Some other → IsAccepted book.schema (rule_of rule) → before.schema ≡ book.schema
+    → LeadsTo (application_of before rule hooks params) (application_of (dual_map before) other hooks params) × LeadsTo (application_of (dual_map before) other hooks params) (application_of before rule hooks params)
