@@ -7,7 +7,7 @@ ghost use Rattle.gm_model.specs.Maps.{IsSchema};
 ghost use Rattle.gm_model.specs.Rules.{rule_of};
 ghost use Rattle.gm_model.specs.Structure.{IsInRange};
 ghost use Rattle.gm_dual.specs.Duals as duals;
-ghost use Rattle.gm_dual.specs.Duals.{AreAcceptedAlike, AreAppliedAlike, IsDualBook};
+ghost use Rattle.gm_dual.specs.Duals.{AreAcceptedAlike, AreAppliedAlike, AreRefusedAlike, IsDualBook};
 
 use crate::rule::dual_rule;
 use crate::schema::dual_schema;
@@ -25,6 +25,7 @@ pub fn dual_book(alloc: Global, book: &Book) -> Result<Book, OutOfMemory>
     ensures typed { IfOk result (λ dual. AllByRecursion (λ rule. IsTyped dual.schema (rule_of rule)) dual.rules) }
     ensures accepted { IfOk result (AreAcceptedAlike book.now) }
     ensures applied { IfOk result (AreAppliedAlike book.now) }
+    ensures refused { IfOk result (AreRefusedAlike book.now) }
 {
     let _top = book.schema.dim.top();
     make_dual(alloc, book)
