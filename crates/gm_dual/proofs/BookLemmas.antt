@@ -1,5 +1,5 @@
 -- What holds of the dual of a book whose rules are in range and typed.
-use Rattle.std.proofs.Common.{◌≡◌, ℕ, ◌+◌, ◌<◌, ◌≤◌, ◌↔◌, List, [], ◌∷◌, map, length, Option, Some, None, Result, Ok, Err, IfOk, slice_get, refl, sym, ap, subst, ◌∙◌, arith}
+use Rattle.std.proofs.Common.{◌≡◌, ℕ, ◌+◌, ◌<◌, ◌≤◌, ◌↔◌, List, [], ◌∷◌, map, length, Option, Some, None, Result, Ok, Err, IfOk, slice_get, refl, sym, ap, ap₂, subst, ◌∙◌, arith}
 use Rattle.std.specs.List.{AllByRecursion}
 use Rattle.std.specs.Option.{option_map}
 use Rattle.std.proofs.lemmas.List.Elements.{All-from_recursion}
@@ -77,6 +77,18 @@ module _ (book dual : Book) (most : book.schema.dim ≤ 7) (lawful : IsSchema bo
     where
       same : (a b : Rule) → Some a ≡ Some b → a ≡ b
       same a b e = cc
+
+  rules_twice : (tables : List RuleTable) → AllByRecursion (λ rule. IsInRange book.schema (rule_of rule)) tables → AllByRecursion (λ rule. IsTyped book.schema (rule_of rule)) tables → map (dual_rule book.schema.dim) (map (dual_rule book.schema.dim) (map rule_of tables)) ≡ map rule_of tables
+  rules_twice [] ranges typed = refl
+  rules_twice (table ∷ tables) ranges typed = ap₂ (λ x xs. x ∷ xs) (rule_twice book.schema (rule_of table) most ranges.0 typed.0) (rules_twice tables ranges.1 typed.1)
+
+  -- the dual of the dual is the book
+  pub book_twice : AllByRecursion (λ rule. IsInRange book.schema (rule_of rule)) book.rules → AllByRecursion (λ rule. IsTyped book.schema (rule_of rule)) book.rules → IsDualBook dual book
+  book_twice ranges typed = record {
+    version = sym is.version;
+    schema = sym (schema_twice book.schema most lawful) ∙ ap dual_schema (sym is.schema);
+    rules = sym (rules_twice book.rules ranges typed) ∙ (ap (map (dual_rule book.schema.dim)) (sym is.rules) ∙ ap (λ (s : Schema). map (dual_rule s.dim) (map rule_of dual.rules)) (sym is.schema));
+  }
 
   pub accepted_alike : AllByRecursion (λ rule. IsInRange book.schema (rule_of rule)) book.rules → AllByRecursion (λ rule. IsTyped book.schema (rule_of rule)) book.rules → AreAcceptedAlike book dual
   accepted_alike ranges typed r rule other here there =

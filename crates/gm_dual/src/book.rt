@@ -20,6 +20,7 @@ pub fn dual_book(alloc: Global, book: &Book) -> Result<Book, OutOfMemory>
     requires in_range { AllByRecursion (λ rule. IsInRange book.now.schema (rule_of rule)) book.now.rules }
     requires typed { AllByRecursion (λ rule. IsTyped book.now.schema (rule_of rule)) book.now.rules }
     ensures dual { IfOk result (IsDualBook book.now) }
+    ensures twice { IfOk result (λ dual. IsDualBook dual book.now) }
     ensures schema { IfOk result (λ dual. IsSchema dual.schema) }
     ensures in_range { IfOk result (λ dual. AllByRecursion (λ rule. IsInRange dual.schema (rule_of rule)) dual.rules) }
     ensures typed { IfOk result (λ dual. AllByRecursion (λ rule. IsTyped dual.schema (rule_of rule)) dual.rules) }
