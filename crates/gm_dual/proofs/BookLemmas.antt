@@ -1,5 +1,5 @@
 -- What holds of the dual of a book whose rules are in range and typed.
-use Rattle.std.proofs.Common.{◌≡◌, ℕ, ◌+◌, ◌<◌, ◌≤◌, ◌↔◌, List, [], ◌∷◌, map, length, Option, Some, None, Result, Ok, Err, IfOk, slice_get, refl, sym, ap, subst, ◌∙◌, arith}
+use Rattle.std.proofs.Common.{◌≡◌, ℕ, ◌+◌, ◌<◌, ◌≤◌, ◌↔◌, List, [], ◌∷◌, map, length, Option, Some, None, Result, Ok, Err, IfOk, slice_get, refl, sym, ap, ap₂, subst, ◌∙◌, arith}
 use Rattle.std.specs.List.{AllByRecursion}
 use Rattle.std.specs.Option.{option_map}
 use Rattle.std.proofs.lemmas.List.Elements.{All-from_recursion}
@@ -9,16 +9,19 @@ use Rattle.gm_model.specs.declared.rule.Book.{Book}
 use Rattle.gm_model.specs.declared.rule.RuleTable.{RuleTable}
 use Rattle.gm_model.specs.declared.schema.Schema.{Schema}
 use Rattle.gm_model.specs.Acceptance.{IsAccepted}
-use Rattle.gm_model.specs.Applications.{Application, IsDone}
-use Rattle.gm_model.specs.Kinds.{IsTyped}
-use Rattle.gm_model.specs.Maps.{IsSchema}
+use Rattle.gm_model.specs.Applications.{Application, Cause, IsDone, IsRefused}
+use Rattle.gm_model.specs.Kinds.{AreGoodParams, IsTyped}
+use Rattle.gm_model.specs.Maps.{IsSchema, Map}
 use Rattle.gm_model.specs.Rules.{Rule, rule_of}
+use Rattle.gm_model.specs.Runs.{IsOutcome, Outcome}
+use Rattle.gm_model.specs.Runs.Outcome.{Begun, Done, Dropped, Each, Kept, NothingToRedo, NothingToUndo, Redone, Refused, Skipped, Undone}
 use Rattle.gm_model.specs.Structure.{IsInRange}
-use Rattle.gm_dual.specs.Duals.{AreAcceptedAlike, AreAppliedAlike, IsDualBook, LeadsTo, application_of, dual_application, dual_map, dual_rule, dual_schema}
+use Rattle.gm_theory.proofs.OutcomesFound.{applications_have_outcomes}
+use Rattle.gm_dual.specs.Duals.{AreAcceptedAlike, AreAppliedAlike, AreRefusedAlike, IsDualBook, LeadsTo, application_of, dual_application, dual_map, dual_rule, dual_schema}
 use Rattle.gm_dual.proofs.AcceptLemmas.{range_dual, typed_dual}
 use Rattle.gm_dual.proofs.ConditionLemmas.{incidence_dual, sources_dual}
 use Rattle.gm_dual.proofs.DoneLemmas.{done_dual}
-use Rattle.gm_dual.proofs.SoundLemmas.{schema_dual}
+use Rattle.gm_dual.proofs.SoundLemmas.{schema_dual, sound_dual}
 use Rattle.gm_dual.proofs.SquareLemmas.{squares_dual}
 use Rattle.gm_dual.proofs.TwiceLemmas.{map_is_twice, rule_twice, schema_twice}
 
@@ -75,6 +78,18 @@ module _ (book dual : Book) (most : book.schema.dim ≤ 7) (lawful : IsSchema bo
       same : (a b : Rule) → Some a ≡ Some b → a ≡ b
       same a b e = cc
 
+  rules_twice : (tables : List RuleTable) → AllByRecursion (λ rule. IsInRange book.schema (rule_of rule)) tables → AllByRecursion (λ rule. IsTyped book.schema (rule_of rule)) tables → map (dual_rule book.schema.dim) (map (dual_rule book.schema.dim) (map rule_of tables)) ≡ map rule_of tables
+  rules_twice [] ranges typed = refl
+  rules_twice (table ∷ tables) ranges typed = ap₂ (λ x xs. x ∷ xs) (rule_twice book.schema (rule_of table) most ranges.0 typed.0) (rules_twice tables ranges.1 typed.1)
+
+  -- the dual of the dual is the book
+  pub book_twice : AllByRecursion (λ rule. IsInRange book.schema (rule_of rule)) book.rules → AllByRecursion (λ rule. IsTyped book.schema (rule_of rule)) book.rules → IsDualBook dual book
+  book_twice ranges typed = record {
+    version = sym is.version;
+    schema = sym (schema_twice book.schema most lawful) ∙ ap dual_schema (sym is.schema);
+    rules = sym (rules_twice book.rules ranges typed) ∙ (ap (map (dual_rule book.schema.dim)) (sym is.rules) ∙ ap (λ (s : Schema). map (dual_rule s.dim) (map rule_of dual.rules)) (sym is.schema));
+  }
+
   pub accepted_alike : AllByRecursion (λ rule. IsInRange book.schema (rule_of rule)) book.rules → AllByRecursion (λ rule. IsTyped book.schema (rule_of rule)) book.rules → AreAcceptedAlike book dual
   accepted_alike ranges typed r rule other here there =
       let same = rule_at r rule other here there in
@@ -117,3 +132,32 @@ module _ (book dual : Book) (most : book.schema.dim ≤ 7) (lawful : IsSchema bo
         subst (λ a. LeadsTo app a) (sym same) (applied_to app low good fine),
         subst (λ a. LeadsTo a app) (sym same) (applied_from app low good fine),
       )
+
+  -- each application has an outcome, so where that of the rule is not done, that of the dual is not done either but refused
+  pub refused_alike : AreRefusedAlike book dual
+  refused_alike r rule other before hooks params here there accepted of sound count good never =
+      let low : before.schema.dim ≤ 7 = subst (λ (s : Schema). s.dim ≤ 7) (sym of) most in
+      let lawful_before = subst IsSchema (sym of) lawful in
+      let same : rule_of other ≡ dual_rule before.schema.dim (rule_of rule) = rule_at book dual most lawful is r rule other here there ∙ ap (λ (s : Schema). dual_rule s.dim (rule_of rule)) (sym of) in
+      let fine = subst (λ s. IsAccepted s (rule_of rule)) (sym of) accepted in
+      let fine_dual = subst (λ x. IsAccepted (dual_schema before.schema) x) (sym same) (accepted_dual before.schema (rule_of rule) low lawful_before fine) in
+      let long = count ∙ ap (λ (x : Rule). length x.hooks) (sym same) in
+      let values = subst (λ (x : Rule). AreGoodParams x params) (sym same) good in
+      let found = applications_have_outcomes (application_of (dual_map before) other hooks params) (schema_dual before.schema low lawful_before) (sound_dual before low lawful_before sound) fine_dual long values in
+      go found.0 found.1 found.2
+    where
+      back : LeadsTo (application_of (dual_map before) other hooks params) (application_of before rule hooks params)
+      back = (applied_alike r rule other before hooks params here there accepted of).1
+
+      go : (outcome : Outcome) (after : Map) → IsOutcome (application_of (dual_map before) other hooks params) outcome after → (cause : Cause) × IsRefused (application_of (dual_map before) other hooks params) cause
+      go (Done added removed) after done = absurd (never (dual_map after) added removed (back after added removed done))
+      go (Refused cause) after h = (cause, h.0)
+      go Skipped after h = absurd h
+      go Undone after h = absurd h
+      go Redone after h = absurd h
+      go NothingToUndo after h = absurd h
+      go NothingToRedo after h = absurd h
+      go Begun after h = absurd h
+      go Kept after h = absurd h
+      go Dropped after h = absurd h
+      go (Each done refused passed) after h = absurd h

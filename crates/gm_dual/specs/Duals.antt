@@ -1,5 +1,5 @@
 -- What the dual is of a map, of a rule and of a book: label i and label n - i trade places, and all else stays.
-use Rattle.std.specs.Prelude.{◌≡◌, ◌↔◌, Some, slice_get, ℕ, zero, suc, ◌+◌, ◌-◌, ◌*◌, Bool, nat_lt, if◌then◌else◌, List, map}
+use Rattle.std.specs.Prelude.{◌≡◌, ◌↔◌, Some, slice_get, ℕ, zero, suc, ◌+◌, ◌-◌, ◌*◌, Bool, nat_lt, if◌then◌else◌, List, length, map}
 use Rattle.std.specs.Option.{option_map}
 use Rattle.gm_model.specs.declared.expr.DartTerm.{DartTerm}
 use Rattle.gm_model.specs.declared.rule.Book.{Book}
@@ -12,9 +12,10 @@ use Rattle.gm_model.specs.declared.word.Letter.{Letter}
 use Rattle.gm_model.specs.declared.word.Letter.TheVariants.{At, Gone}
 use Rattle.gm_model.specs.declared.word.Mask.{Mask}
 use Rattle.gm_model.specs.Acceptance.{IsAccepted}
-use Rattle.gm_model.specs.Applications.{Application, IsDone}
+use Rattle.gm_model.specs.Applications.{Application, Cause, IsDone, IsRefused}
+use Rattle.gm_model.specs.Kinds.{AreGoodParams}
 use Rattle.gm_model.specs.Labels.{has}
-use Rattle.gm_model.specs.Maps.{Map, dimension}
+use Rattle.gm_model.specs.Maps.{IsSound, Map, dimension}
 use Rattle.gm_model.specs.Rules.{Assignment, Rule, RuleNode, rule_of}
 use Rattle.gm_model.specs.Trees.{Tree, Number, Truth, Param, Field, Same, Count, Sum, Least, Greatest, Unary, Binary, If, MakeVec2, MakeVec3, MakeRgb}
 
@@ -124,3 +125,9 @@ LeadsTo app other = (result : Map) (added removed : ℕ) → IsDone app result a
 abbrev pub AreAppliedAlike : Book → Book → Type 0
 AreAppliedAlike book dual = (r : ℕ) (rule other : RuleTable) (before : Map) (hooks : List ℕ) (params : List Value) → slice_get book.rules r ≡ Some rule → slice_get dual.rules r ≡ Some other → IsAccepted book.schema (rule_of rule) → before.schema ≡ book.schema
     → LeadsTo (application_of before rule hooks params) (application_of (dual_map before) other hooks params) × LeadsTo (application_of (dual_map before) other hooks params) (application_of before rule hooks params)
+
+-- Where an application of an accepted rule to a sound map is not done, but refused, so is that of its dual. The causes may differ.
+abbrev pub AreRefusedAlike : Book → Book → Type 0
+AreRefusedAlike book dual = (r : ℕ) (rule other : RuleTable) (before : Map) (hooks : List ℕ) (params : List Value) → slice_get book.rules r ≡ Some rule → slice_get dual.rules r ≡ Some other → IsAccepted book.schema (rule_of rule) → before.schema ≡ book.schema
+    → IsSound before → length hooks ≡ length rule.hooks → AreGoodParams (rule_of rule) params
+    → ((result : Map) (added removed : ℕ) → IsDone (application_of before rule hooks params) result added removed → ⊥) → (cause : Cause) × IsRefused (application_of (dual_map before) other hooks params) cause

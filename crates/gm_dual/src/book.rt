@@ -7,7 +7,7 @@ ghost use Rattle.gm_model.specs.Maps.{IsSchema};
 ghost use Rattle.gm_model.specs.Rules.{rule_of};
 ghost use Rattle.gm_model.specs.Structure.{IsInRange};
 ghost use Rattle.gm_dual.specs.Duals as duals;
-ghost use Rattle.gm_dual.specs.Duals.{AreAcceptedAlike, AreAppliedAlike, IsDualBook};
+ghost use Rattle.gm_dual.specs.Duals.{AreAcceptedAlike, AreAppliedAlike, AreRefusedAlike, IsDualBook};
 
 use crate::rule::dual_rule;
 use crate::schema::dual_schema;
@@ -20,11 +20,13 @@ pub fn dual_book(alloc: Global, book: &Book) -> Result<Book, OutOfMemory>
     requires in_range { AllByRecursion (λ rule. IsInRange book.now.schema (rule_of rule)) book.now.rules }
     requires typed { AllByRecursion (λ rule. IsTyped book.now.schema (rule_of rule)) book.now.rules }
     ensures dual { IfOk result (IsDualBook book.now) }
+    ensures twice { IfOk result (λ dual. IsDualBook dual book.now) }
     ensures schema { IfOk result (λ dual. IsSchema dual.schema) }
     ensures in_range { IfOk result (λ dual. AllByRecursion (λ rule. IsInRange dual.schema (rule_of rule)) dual.rules) }
     ensures typed { IfOk result (λ dual. AllByRecursion (λ rule. IsTyped dual.schema (rule_of rule)) dual.rules) }
     ensures accepted { IfOk result (AreAcceptedAlike book.now) }
     ensures applied { IfOk result (AreAppliedAlike book.now) }
+    ensures refused { IfOk result (AreRefusedAlike book.now) }
 {
     let _top = book.schema.dim.top();
     make_dual(alloc, book)
