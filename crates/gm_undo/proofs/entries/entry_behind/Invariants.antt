@@ -1,0 +1,6 @@
+use Rattle.std.proofs.Common.{◌≡◌, ℕ, ◌<◌, false}
+use Rattle.gm_undo.specs.Layout.{made_at}
+use Rattle.gm_undo.proofs.entries.entry_behind.Given as goal
+
+abbrev pub invariant-loop-index : goal.invariant-loop-index
+invariant-loop-index l = record { none : (k : ℕ) → l.start < k → k < l.index → (made_at l.changes k).begins ≡ false }

@@ -1,0 +1,15 @@
+use Rattle.std.proofs.Common.{◌≤◌, ℕ, ◌+◌}
+use Rattle.gm_undo.specs.Costs.{cost_to}
+use Rattle.gm_undo.specs.Layout.{changes_in}
+use Rattle.gm_undo.specs.Standing.{AreChained, Rows}
+use Rattle.gm_undo.specs.Writing.{HasRoomOf}
+use Rattle.gm_undo.proofs.entries.go_back.Given as goal
+
+abbrev pub invariant-loop-index : goal.invariant-loop-index
+invariant-loop-index g l = record {
+  chained : (states : ℕ → Rows) → AreChained (changes_in l.rows.rows l.changes) l.fn.arena states l.fn.end → AreChained (changes_in l.rows.rows l.changes) l.arena states l.index;
+  room : HasRoomOf l.fn.arena l.arena;
+  most : l.steps + cost_to l.fn.arena.schema.dim (changes_in l.rows.rows l.changes) l.index ≤ l.fn.steps + cost_to l.fn.arena.schema.dim (changes_in l.rows.rows l.changes) l.fn.end;
+  least : l.fn.start ≤ l.index;
+  rises : l.fn.steps ≤ l.steps;
+}

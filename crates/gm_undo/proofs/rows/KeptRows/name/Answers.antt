@@ -1,0 +1,19 @@
+use Rattle.std.proofs.Common.{◌≡◌, ℕ, ◌+◌, ◌-◌, ◌*◌, ◌<◌, ◌≤◌, length, refl, sym, ap, subst, ◌∙◌, arith}
+use Rattle.std.proofs.Common.{false}
+use Rattle.std.proofs.lemmas.List.{get_or_default}
+use Rattle.gm_undo.specs.Flat.{RowsOf, row_in, flat_row}
+use Rattle.gm_undo.specs.Kept.{KeptRow}
+use Rattle.gm_undo.proofs.Flats.{marked, pushed, row_is, rows_long, stretch, truncated}
+use Rattle.gm_undo.proofs.rows.KeptRows.name.Goals as goal
+
+pub index-requires : goal.index-requires
+index-requires c =
+    let s = c.self.inside in
+    let low : c.args.index < length s.names.items = omega (arith, subst (λ (r : RowsOf). c.args.index < length r.rows) (sym c.self.view_is) c.requires, rows_long s.labels s.width s.room s.names.items s.staying.items s.neighbours.items s.values.items) in
+    omega (arith, low, c.self.invariant.stays_long, s.names.ok.0)
+
+pub returns : goal.returns
+returns c =
+    let s = c.self.inside in
+    let low : c.args.index < length s.names.items = omega (arith, subst (λ (r : RowsOf). c.args.index < length r.rows) (sym c.self.view_is) c.requires, rows_long s.labels s.width s.room s.names.items s.staying.items s.neighbours.items s.values.items) in
+    c.index.ensures ∙ get_or_default s.names.items c.args.index _ 0 (omega (arith, low, c.self.invariant.stays_long)) ∙ sym (ap (λ (r : KeptRow). r.name) (row_is s.labels s.width s.room s.names.items s.staying.items s.neighbours.items s.values.items c.args.index _ low)) ∙ ap (λ (r : RowsOf). (row_in r.rows c.args.index).name) c.self.view_is

@@ -1,0 +1,30 @@
+use Rattle.std.proofs.Common.{rules, ◌≡◌, ◌≢◌, ℕ, ◌+◌, ◌-◌, ◌*◌, ◌<◌, ◌≤◌, false, All, Some, None, length, ◌/◌, ◌%◌, Bool, true, nat_eq, nat_lt, List, [], ◌∷◌, ◌++◌, slice_index_or, slice_set, bit_and, bit_or, Fits, w8, w32, w64, Bor, MutBor}
+use Rattle.std.specs.FinMap.{get}
+use Rattle.gm_model.specs.Limits.{most_names}
+use Rattle.gm_arena.specs.ArenaMap.{Dart, IsAt, IsLiveName, IsLiveSlot, alpha, name_at}
+use Rattle.gm_arena.specs.Edits.{IsAlone}
+use Rattle.gm_arena.specs.Lawful.{AreGoodValues}
+use Rattle.gm_undo.specs.Flat.{row_in}
+use Rattle.gm_undo.specs.Standing.{Rows, rows_in}
+use Rattle.gm_undo.specs.Writing.{AreOnce, CanCome, CanGo, CanLink, CanWrite, HasFrame, HasRoomOf, IsAddedRow, IsAmong, IsClearedRow, IsFreeRow, IsOwnRow, IsWritten}
+use Rattle.std.proofs.Common.{refl, sym, ap, ap₂, subst, ◌∙◌, inl, inr, arith, cond}
+use Rattle.gm_arena.proofs.MapLemmas.{name_at-is, get-with_dart_same, get-with_dart_other, get-without_dart_same, get-without_dart_other}
+use Rattle.gm_undo.proofs.OneDart.{free_none, free_more, frame_more, linked_more, linked_all, named, valued_more, valued_all, value_there}
+use Rattle.gm_arena.specs.Edits.{with_dart, without_dart, with_alpha, with_value, free_dart}
+use Rattle.gm_arena.specs.ArenaMap.{ArenaMap}
+use Rattle.gm_pending.proofs.Whole.{lawful_whole}
+use Rattle.gm_undo.proofs.writing.free_row.Goals as goal
+
+pub loop-label-init : goal.loop-label-init
+loop-label-init g c = record { freed = free_none c.args.name c.args.arena.now c.requires (lawful_whole c.args.arena.now c.count.ensures.lawful); steps = omega (arith, c.in-Some.ensures.cost) }
+
+pub loop-label-preserved : goal.loop-label-preserved
+loop-label-preserved g c =
+    let inv = c.loop-label.invariant in
+    let is : name_at c.loop-label.arena c.in-Some.slot.at ≡ c.args.name = named c.args.arena.now c.loop-label.arena c.in-Some.slot.at inv.freed.frame ∙ name_at-is c.args.arena.now c.in-Some.slot.at c.args.name c.in-Some.ensures.slot in
+    let dim : c.loop-label.arena.schema.dim ≡ c.args.arena.now.schema.dim = ap (λ (m : ArenaMap). m.schema.dim) inv.freed.frame in
+    let top : c.top-labels.result ≡ c.args.arena.now.schema.dim = c.top-labels.ensures.value ∙ ap (λ s. s.dim) c.schema.ensures in
+    record {
+      freed = free_more c.args.name c.args.arena.now c.loop-label.arena c.set_alpha.new.self c.loop-label.label inv.freed (omega (arith, c.loop-label-test.true, top, dim)) (c.set_alpha.ensures.map ∙ ap (λ n. with_alpha c.loop-label.arena n c.loop-label.label n) is);
+      steps = omega (arith, inv.steps, c.set_alpha.ensures.cost);
+    }

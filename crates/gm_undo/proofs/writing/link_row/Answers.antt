@@ -1,0 +1,30 @@
+use Rattle.std.proofs.Common.{rules, ◌≡◌, ◌≢◌, ℕ, ◌+◌, ◌-◌, ◌*◌, ◌<◌, ◌≤◌, false, All, Some, None, length, ◌/◌, ◌%◌, Bool, true, nat_eq, nat_lt, List, [], ◌∷◌, ◌++◌, slice_index_or, slice_set, bit_and, bit_or, Fits, w8, w32, w64, Bor, MutBor}
+use Rattle.std.specs.FinMap.{get}
+use Rattle.gm_model.specs.Limits.{most_names}
+use Rattle.gm_arena.specs.ArenaMap.{Dart, IsAt, IsLiveName, IsLiveSlot, alpha, name_at}
+use Rattle.gm_arena.specs.Edits.{IsAlone}
+use Rattle.gm_arena.specs.Lawful.{AreGoodValues}
+use Rattle.gm_undo.specs.Flat.{row_in}
+use Rattle.gm_undo.specs.Standing.{Rows, rows_in}
+use Rattle.gm_undo.specs.Writing.{AreOnce, CanCome, CanGo, CanLink, CanWrite, HasFrame, HasRoomOf, IsAddedRow, IsAmong, IsClearedRow, IsFreeRow, IsOwnRow, IsWritten}
+use Rattle.std.proofs.Common.{refl, sym, ap, ap₂, subst, ◌∙◌, inl, inr, arith, cond}
+use Rattle.gm_arena.proofs.MapLemmas.{name_at-is, get-with_dart_same, get-with_dart_other, get-without_dart_same, get-without_dart_other}
+use Rattle.gm_undo.proofs.OneDart.{free_none, free_more, frame_more, linked_more, linked_all, named, valued_more, valued_all, value_there}
+use Rattle.gm_arena.specs.Edits.{with_dart, without_dart, with_alpha, with_value, free_dart}
+use Rattle.gm_arena.specs.ArenaMap.{ArenaMap}
+use Rattle.gm_arena.proofs.InsideLemmas.{some_of, is_some_at}
+use Rattle.gm_arena.proofs.ValueLemmas.{length-values}
+use Rattle.gm_undo.proofs.writing.link_row.Goals as goal
+
+pub returns-clause-own : goal.returns-clause-own
+returns-clause-own g c =
+    let old = c.args.arena.now in
+    let slot = c.in-Some.slot.at in
+    let name : name_at old slot ≡ c.args.name = name_at-is old slot c.args.name c.in-Some.ensures.slot in
+    let same : name_at c.link.new.arena slot ≡ name_at old slot = named old c.link.new.arena slot c.link.ensures.frame in
+    let d : (dart : Dart) × (get old.darts c.args.name ≡ Some dart) = some_of (get old.darts c.args.name) c.requires.live in
+    let dart = c.count.ensures.lawful.dart c.args.name d.0 d.1 in
+    let linked = c.link.ensures.own d.0 (ap (get old.darts) name ∙ d.1) (omega (arith, dart.whole, c.requires.whole)) in
+    let long : length d.0.values ≡ length c.args.values.now = length-values old.schema d.0.values dart.valued ∙ sym (length-values old.schema c.args.values.now c.requires.values) in
+    let valued = c.set_values.ensures.own (record { alphas = c.args.neighbours.now; values = d.0.values }) (ap (get c.link.new.arena.darts) same ∙ linked) long in
+    ap (get c.set_values.new.arena.darts) (sym (same ∙ name)) ∙ valued

@@ -1,0 +1,36 @@
+use Rattle.std.proofs.Common.{rules, ◌≡◌, ◌≢◌, ℕ, ◌+◌, ◌-◌, ◌*◌, ◌<◌, ◌≤◌, false, All, Some, None, length, ◌/◌, ◌%◌, Bool, true, nat_eq, nat_lt, List, [], ◌∷◌, ◌++◌, slice_index_or, slice_set, bit_and, bit_or, Fits, w8, w32, w64, Bor, MutBor}
+use Rattle.std.specs.FinMap.{get}
+use Rattle.gm_model.specs.Limits.{most_names}
+use Rattle.gm_arena.specs.ArenaMap.{Dart, IsAt, IsLiveName, IsLiveSlot, alpha, name_at}
+use Rattle.gm_arena.specs.Edits.{IsAlone}
+use Rattle.gm_arena.specs.Lawful.{AreGoodValues}
+use Rattle.gm_undo.specs.Flat.{row_in}
+use Rattle.gm_undo.specs.Standing.{Rows, rows_in}
+use Rattle.gm_undo.specs.Writing.{AreOnce, CanCome, CanGo, CanLink, CanWrite, HasFrame, HasRoomOf, IsAddedRow, IsAmong, IsClearedRow, IsFreeRow, IsOwnRow, IsWritten}
+use Rattle.std.proofs.Common.{refl, sym, ap, ap₂, subst, ◌∙◌, inl, inr, arith, cond}
+use Rattle.gm_undo.proofs.Written.{written_more, next_outside, some_spare, has_name}
+use Rattle.gm_undo.proofs.OneDart.{free_none, free_more, frame_more, linked_more, linked_all, named, valued_more, valued_all, value_there}
+use Rattle.gm_undo.proofs.Sides.{one_more, can_go, can_come, can_link, all_written, cost_within}
+use Rattle.gm_arena.specs.ArenaMap.{ArenaMap}
+use Rattle.std.proofs.lemmas.Bool.{cases_eq}
+use Rattle.gm_arena.proofs.InsideLemmas.{some_of, is_some_at}
+use Rattle.gm_undo.proofs.writing.link_rows.Goals as goal
+
+pub loop-index-preserved : goal.loop-index-preserved
+loop-index-preserved g c =
+    let inv = c.loop-index.invariant in
+    let row = row_in c.args.rows.now.rows c.loop-index.index in
+    let e : c.name.result ≡ row.name = c.name.ensures in
+    let dim : c.loop-index.arena.schema.dim ≡ c.args.arena.now.schema.dim = ap (λ (m : ArenaMap). m.schema.dim) inv.frame in
+    let wide : length c.loop-index.arena.schema.embeds ≡ length c.args.arena.now.schema.embeds = ap (λ (m : ArenaMap). length m.schema.embeds) inv.frame in
+    let others : (d : ℕ) → d ≢ row.name → get c.link_row.new.arena.darts d ≡ get c.loop-index.arena.darts d = λ d apart. c.link_row.ensures.others d (λ same. apart (same ∙ e)) in
+    let own : get c.link_row.new.arena.darts row.name ≡ Some row.dart = ap (get c.link_row.new.arena.darts) (sym e) ∙ c.link_row.ensures.own ∙ ap₂ (λ a v. Some (record { alphas = a; values = v })) c.neighbours.ensures c.values.ensures in
+    record {
+      written = written_more IsOwnRow c.args.rows.now.rows c.args.part.start c.args.arena.now c.args.part.end c.loop-index.index c.loop-index.arena c.link_row.new.arena c.requires.once c.loop-index.auto.index c.loop-index-test.true inv.written others own;
+      frame = frame_more c.args.arena.now c.loop-index.arena c.link_row.new.arena c.link_row.new.arena.darts inv.frame c.link_row.ensures.frame;
+      live = λ d is. elim (cases_eq d row.name) [
+        | inl same ↦ subst (IsLiveName c.link_row.new.arena) (sym same) (is_some_at (get c.link_row.new.arena.darts row.name) row.dart own)
+        | inr apart ↦ rw (others d apart) (inv.live d is)
+      ];
+      steps = omega (arith, inv.steps, c.link_row.ensures.cost, dim, wide, one_more (2 * (c.args.arena.now.schema.dim + 1) + length c.args.arena.now.schema.embeds + 1) c.loop-index.index c.args.part.start c.loop-index.auto.index);
+    }

@@ -1,0 +1,36 @@
+use Rattle.std.proofs.Common.{rules, ◌≡◌, ◌≢◌, ℕ, ◌+◌, ◌-◌, ◌*◌, ◌<◌, ◌≤◌, false, All, Some, None, length, ◌/◌, ◌%◌, Bool, true, nat_eq, nat_lt, List, [], ◌∷◌, ◌++◌, slice_index_or, slice_set, bit_and, bit_or, Fits, w8, w32, w64, Bor, MutBor}
+use Rattle.std.specs.FinMap.{get}
+use Rattle.gm_model.specs.Limits.{most_names}
+use Rattle.gm_arena.specs.ArenaMap.{Dart, IsAt, IsLiveName, IsLiveSlot, alpha, name_at}
+use Rattle.gm_arena.specs.Edits.{IsAlone}
+use Rattle.gm_arena.specs.Lawful.{AreGoodValues}
+use Rattle.gm_undo.specs.Flat.{row_in}
+use Rattle.gm_undo.specs.Standing.{Rows, rows_in}
+use Rattle.gm_undo.specs.Writing.{AreOnce, CanCome, CanGo, CanLink, CanWrite, HasFrame, HasRoomOf, IsAddedRow, IsAmong, IsClearedRow, IsFreeRow, IsOwnRow, IsWritten}
+use Rattle.std.proofs.Common.{refl, sym, ap, ap₂, subst, ◌∙◌, inl, inr, arith, cond}
+use Rattle.gm_arena.proofs.MapLemmas.{name_at-is, get-with_dart_same, get-with_dart_other, get-without_dart_same, get-without_dart_other}
+use Rattle.gm_arena.specs.Edits.{with_dart, without_dart, with_alpha, with_value, free_dart}
+use Rattle.gm_arena.specs.ArenaMap.{ArenaMap}
+use Rattle.gm_undo.proofs.Counts.{some_dart}
+use Rattle.gm_undo.proofs.writing.remove_dart.Goals as goal
+
+pub returns-clause-gone : goal.returns-clause-gone
+returns-clause-gone g c =
+    let name : name_at c.args.arena.now c.in-Some.slot.at ≡ c.args.name = name_at-is c.args.arena.now c.in-Some.slot.at c.args.name c.in-Some.ensures.slot in
+    let map : c.remove.new.self ≡ without_dart c.args.arena.now c.in-Some.slot.at c.args.name = c.remove.ensures.map ∙ ap (without_dart c.args.arena.now c.in-Some.slot.at) name in
+    ap (λ (m : ArenaMap). get m.darts c.args.name) map ∙ get-without_dart_same c.args.arena.now c.in-Some.slot.at c.args.name
+
+pub returns-clause-others : goal.returns-clause-others
+returns-clause-others g c =
+    let name : name_at c.args.arena.now c.in-Some.slot.at ≡ c.args.name = name_at-is c.args.arena.now c.in-Some.slot.at c.args.name c.in-Some.ensures.slot in
+    let map : c.remove.new.self ≡ without_dart c.args.arena.now c.in-Some.slot.at c.args.name = c.remove.ensures.map ∙ ap (without_dart c.args.arena.now c.in-Some.slot.at) name in
+    λ d apart. ap (λ (m : ArenaMap). get m.darts d) map ∙ get-without_dart_other c.args.arena.now c.in-Some.slot.at c.args.name d apart
+
+pub returns-clause-room : goal.returns-clause-room
+returns-clause-room g c =
+    let name : name_at c.args.arena.now c.in-Some.slot.at ≡ c.args.name = name_at-is c.args.arena.now c.in-Some.slot.at c.args.name c.in-Some.ensures.slot in
+    let map : c.remove.new.self ≡ without_dart c.args.arena.now c.in-Some.slot.at c.args.name = c.remove.ensures.map ∙ ap (without_dart c.args.arena.now c.in-Some.slot.at) name in
+    let some : 1 ≤ c.args.arena.now.count = omega (arith, some_dart c.args.arena.now.darts c.args.name c.requires.live, c.count.ensures.lawful.counted) in
+    let counts : c.remove.new.self.count ≡ c.args.arena.now.count - 1 = ap (λ (m : ArenaMap). m.count) map in
+    let spares : c.remove.new.self.spare ≡ c.args.arena.now.spare + 1 = ap (λ (m : ArenaMap). m.spare) map in
+    record { schema = ap (λ (m : ArenaMap). m.schema) map; reserved = ap (λ (m : ArenaMap). m.reserved) map; total = omega (arith, some, counts, spares) }

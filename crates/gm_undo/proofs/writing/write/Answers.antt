@@ -1,0 +1,57 @@
+use Rattle.std.proofs.Common.{rules, ◌≡◌, ◌≢◌, ℕ, ◌+◌, ◌-◌, ◌*◌, ◌<◌, ◌≤◌, false, All, Some, None, length, ◌/◌, ◌%◌, Bool, true, nat_eq, nat_lt, List, [], ◌∷◌, ◌++◌, slice_index_or, slice_set, bit_and, bit_or, Fits, w8, w32, w64, Bor, MutBor}
+use Rattle.std.specs.FinMap.{get}
+use Rattle.gm_model.specs.Limits.{most_names}
+use Rattle.gm_arena.specs.ArenaMap.{Dart, IsAt, IsLiveName, IsLiveSlot, alpha, name_at}
+use Rattle.gm_arena.specs.Edits.{IsAlone}
+use Rattle.gm_arena.specs.Lawful.{AreGoodValues}
+use Rattle.gm_undo.specs.Flat.{row_in}
+use Rattle.gm_undo.specs.Standing.{Rows, rows_in}
+use Rattle.gm_undo.specs.Writing.{AreOnce, CanCome, CanGo, CanLink, CanWrite, HasFrame, HasRoomOf, IsAddedRow, IsAmong, IsClearedRow, IsFreeRow, IsOwnRow, IsWritten}
+use Rattle.std.proofs.Common.{refl, sym, ap, ap₂, subst, ◌∙◌, inl, inr, arith, cond}
+use Rattle.gm_undo.proofs.Sides.{one_more, can_go, can_come, can_link, all_written, cost_within}
+use Rattle.gm_arena.specs.ArenaMap.{ArenaMap}
+use Rattle.gm_undo.proofs.writing.write.Goals as goal
+
+pub remove_rows-requires-clause-can : goal.remove_rows-requires-clause-can
+remove_rows-requires-clause-can g c =
+    let f = c.free_rows.ensures in
+    let schema1 : c.free_rows.new.arena.schema ≡ c.args.arena.now.schema = ap (λ (m : ArenaMap). m.schema) f.frame in
+    let total1 : c.free_rows.new.arena.count + c.free_rows.new.arena.spare ≡ c.args.arena.now.count + c.args.arena.now.spare = ap (λ (m : ArenaMap). m.count + m.spare) f.frame in
+    let reserved1 : c.free_rows.new.arena.reserved ≡ c.args.arena.now.reserved = ap (λ (m : ArenaMap). m.reserved) f.frame in
+    can_go c.args.rows.now.rows c.args.from.start c.args.from.end c.args.to.start c.args.to.end c.args.arena.now c.requires.can.0 c.requires.can.1 c.free_rows.new.arena f.written f.live schema1
+
+pub add_rows-requires-clause-can : goal.add_rows-requires-clause-can
+add_rows-requires-clause-can g c =
+    let f = c.free_rows.ensures in
+    let schema1 : c.free_rows.new.arena.schema ≡ c.args.arena.now.schema = ap (λ (m : ArenaMap). m.schema) f.frame in
+    let total1 : c.free_rows.new.arena.count + c.free_rows.new.arena.spare ≡ c.args.arena.now.count + c.args.arena.now.spare = ap (λ (m : ArenaMap). m.count + m.spare) f.frame in
+    let reserved1 : c.free_rows.new.arena.reserved ≡ c.args.arena.now.reserved = ap (λ (m : ArenaMap). m.reserved) f.frame in
+    (c.requires.can.0, can_come c.args.rows.now.rows c.args.from.start c.args.from.end c.args.to.start c.args.to.end c.args.arena.now c.requires.can.0 c.requires.can.1 c.free_rows.new.arena f.written f.live schema1 c.remove_rows.new.arena c.remove_rows.ensures.written c.remove_rows.ensures.room total1 reserved1)
+
+pub link_rows-requires-clause-can : goal.link_rows-requires-clause-can
+link_rows-requires-clause-can g c =
+    let f = c.free_rows.ensures in
+    let schema1 : c.free_rows.new.arena.schema ≡ c.args.arena.now.schema = ap (λ (m : ArenaMap). m.schema) f.frame in
+    let total1 : c.free_rows.new.arena.count + c.free_rows.new.arena.spare ≡ c.args.arena.now.count + c.args.arena.now.spare = ap (λ (m : ArenaMap). m.count + m.spare) f.frame in
+    let reserved1 : c.free_rows.new.arena.reserved ≡ c.args.arena.now.reserved = ap (λ (m : ArenaMap). m.reserved) f.frame in
+    can_link c.args.rows.now.rows c.args.from.start c.args.from.end c.args.to.start c.args.to.end c.args.arena.now c.requires.can.0 c.requires.can.1 c.free_rows.new.arena f.written f.live schema1 c.remove_rows.new.arena c.remove_rows.ensures.written c.remove_rows.ensures.room total1 reserved1 c.add_rows.new.arena c.add_rows.ensures.written c.add_rows.ensures.room
+
+pub returns-clause-rows : goal.returns-clause-rows
+returns-clause-rows g c there can next =
+    let f = c.free_rows.ensures in
+    let schema1 : c.free_rows.new.arena.schema ≡ c.args.arena.now.schema = ap (λ (m : ArenaMap). m.schema) f.frame in
+    let total1 : c.free_rows.new.arena.count + c.free_rows.new.arena.spare ≡ c.args.arena.now.count + c.args.arena.now.spare = ap (λ (m : ArenaMap). m.count + m.spare) f.frame in
+    let reserved1 : c.free_rows.new.arena.reserved ≡ c.args.arena.now.reserved = ap (λ (m : ArenaMap). m.reserved) f.frame in
+    let darts : c.link_rows.new.arena.darts ≡ there.darts = all_written c.args.rows.now.rows c.args.from.start c.args.from.end c.args.to.start c.args.to.end c.args.arena.now there can c.free_rows.new.arena f.written f.live schema1 c.remove_rows.new.arena c.remove_rows.ensures.written c.remove_rows.ensures.room total1 reserved1 c.add_rows.new.arena c.add_rows.ensures.written c.add_rows.ensures.room c.link_rows.new.arena c.link_rows.ensures.written in
+    ap rows_in c.set_next.ensures ∙ (λ i. record { darts = darts i; next = next i })
+
+pub returns-clause-cost : goal.returns-clause-cost
+returns-clause-cost g c =
+    let f = c.free_rows.ensures in
+    let schema1 : c.free_rows.new.arena.schema ≡ c.args.arena.now.schema = ap (λ (m : ArenaMap). m.schema) f.frame in
+    let total1 : c.free_rows.new.arena.count + c.free_rows.new.arena.spare ≡ c.args.arena.now.count + c.args.arena.now.spare = ap (λ (m : ArenaMap). m.count + m.spare) f.frame in
+    let reserved1 : c.free_rows.new.arena.reserved ≡ c.args.arena.now.reserved = ap (λ (m : ArenaMap). m.reserved) f.frame in
+    let schema3 : c.add_rows.new.arena.schema ≡ c.args.arena.now.schema = c.add_rows.ensures.room.schema ∙ c.remove_rows.ensures.room.schema ∙ schema1 in
+    let lawful = c.count.ensures.lawful in
+    cost_within c.args.arena.now.schema.dim (length c.args.arena.now.schema.embeds) (c.args.from.end - c.args.from.start) (c.args.to.end - c.args.to.start) c.args.steps.now c.free_rows.new.steps c.remove_rows.new.steps c.add_rows.new.steps c.link_rows.new.steps
+      lawful.dim.0 lawful.schema.count f.cost c.remove_rows.ensures.cost c.add_rows.ensures.cost (rw schema3 at c.link_rows.ensures.cost)
