@@ -1,7 +1,7 @@
-mod Agreement
+pub mod Agreement
 mod Compared
 mod Drafts
-mod FirstFault
+pub mod FirstFault
 mod Grammar
 mod Held
 mod HeldStats
@@ -10,7 +10,7 @@ mod Leads
 mod Limits
 mod Loop
 mod OneForm
-mod OneScript
+pub mod OneScript
 mod Params
 mod Script
 mod Sights
