@@ -1,5 +1,5 @@
 -- A map with all darts of another has as many at least.
-use Rattle.std.proofs.Common.{◌≡◌, ◌≢◌, ℕ, zero, suc, ◌+◌, ◌<◌, ◌≤◌, List, [], ◌∷◌, length, get_or, Option, Some, None, IsSome, refl, sym, ap, ◌∙◌, subst, inl, inr, arith}
+use Rattle.std.proofs.Common.{◌≡◌, ◌≢◌, ℕ, zero, suc, ◌+◌, ◌<◌, ◌≤◌, List, [], ◌∷◌, length, get_or, Some, IsSome, sym, ap, ◌∙◌, subst, inl, inr, arith}
 use Rattle.std.specs.FinMap.{FinMap, get, insert, remove, len, keys, entries, len-entries}
 use Rattle.std.specs.Ordering.{nat_cmp}
 use Rattle.std.specs.List.{Contains}
@@ -9,7 +9,7 @@ use Rattle.gm_arena.specs.ArenaMap.{ArenaMap, Dart, IsLiveName}
 use Rattle.gm_arena.proofs.FilledLemmas.{same_maps, get-insert_same, get-insert_other, get-remove_same, get-remove_other, len-insert_new}
 use Rattle.gm_arena.proofs.InsideLemmas.{some_of}
 use Rattle.gm_arena.proofs.Keys.{rising, live}
-use Rattle.gm_pending.proofs.Whole.{contains_first, contains_later, contains_none}
+use Rattle.gm_pending.proofs.Whole.{contains_first, contains_later}
 
 -- no element comes twice
 abbrev AreApart : List ℕ → Type 0

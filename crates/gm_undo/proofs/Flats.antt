@@ -1,5 +1,5 @@
 -- Rows that are kept in lists of their own: what they are after one is put behind them, is marked, or some are forgotten.
-use Rattle.std.proofs.Common.{◌≡◌, ℕ, ◌+◌, ◌*◌, ◌<◌, ◌≤◌, ◌⊎◌, Bool, true, false, List, [], ◌∷◌, ◌++◌, map, length, take, drop, set, get_or, Some, refl, sym, ap, ap₂, ◌∙◌, inl, inr, arith, length-append}
+use Rattle.std.proofs.Common.{◌≡◌, ℕ, ◌+◌, ◌*◌, ◌<◌, ◌≤◌, Bool, true, false, List, [], ◌∷◌, ◌++◌, map, length, take, set, get_or, Some, refl, sym, ap, ◌∙◌, inl, inr, arith}
 use Rattle.std.specs.List.{range_with_len}
 use Rattle.std.proofs.lemmas.Bool.{cases_eq, cases_lt}
 use Rattle.std.proofs.lemmas.List.{drop_at, get_or_append_left, get_or-append-add, get_or-set_other, get_or-set_same, length-map, length_push, length-set, length-take-le, take_all, take_at, get_or-take}
@@ -14,7 +14,7 @@ use Rattle.gm_arena.specs.Inside.{part_of}
 use Rattle.gm_arena.specs.Lawful.{IsLawful}
 use Rattle.gm_arena.proofs.MapLemmas.{name_at-is}
 use Rattle.gm_arena.proofs.ValueLemmas.{length-values, part_kept}
-use Rattle.gm_undo.specs.Flat.{flat_row, flat_rows, row_in, staying}
+use Rattle.gm_undo.specs.Flat.{flat_row, row_in, staying}
 use Rattle.gm_undo.specs.Kept.{KeptRow}
 
 none : KeptRow

@@ -1,15 +1,14 @@
 -- The rows that an application changes, kept one after another.
-use Rattle.std.proofs.Common.{◌≡◌, ◌≢◌, ℕ, ◌+◌, ◌-◌, ◌*◌, ◌<◌, ◌≤◌, true, false, Bool, List, [], ◌∷◌, ◌++◌, length, take, set, Option, Some, None, IsSome, is_some, get_or, refl, sym, ap, subst, ◌∙◌, inl, inr, arith}
+use Rattle.std.proofs.Common.{◌≡◌, ◌≢◌, ℕ, ◌+◌, ◌-◌, ◌<◌, ◌≤◌, true, false, List, [], ◌∷◌, ◌++◌, length, set, Some, None, is_some, get_or, refl, sym, ap, subst, ◌∙◌, inl, inr, arith}
 use Rattle.std.specs.FinMap.{get}
 use Rattle.std.proofs.lemmas.Bool.{cases_eq, cases_lt, false≢true}
 use Rattle.std.proofs.lemmas.List.{get_or_append_left, get_or-append-add, length_push, length-set}
 use Rattle.gm_arena.specs.ArenaMap.{ArenaMap, Dart, IsLiveName, name_at}
 use Rattle.gm_arena.specs.declared.slot.Slot.{Slot}
-use Rattle.gm_arena.proofs.InsideLemmas.{is_some_at}
 use Rattle.gm_undo.specs.Flat.{RowsOf, row_in, staying}
 use Rattle.gm_undo.specs.Kept.{KeptRow}
 use Rattle.gm_undo.specs.Keeping.{AreAddedKept, AreBehindKept, AreTouchedKept, HasMoreRows}
-use Rattle.gm_undo.specs.Writing.{AreOnce, IsAmong}
+use Rattle.gm_undo.specs.Writing.{AreOnce}
 use Rattle.gm_undo.proofs.Ranges.{row_before, row_behind, row_marked, row_unmarked}
 
 -- with one row more
@@ -241,7 +240,7 @@ module _ (m : ArenaMap) (first end : ℕ) (old : RowsOf) where
           | inl less ↦ elim (cases_lt l (length mid.rows)) [
             | inl less' ↦
                 kept.once was j l (a.0, less) (b.0, less')
-                  (ap (λ (r : KeptRow). r.name) (sym (other j (λ e. omega (arith, e, a.0, high)) less)) ∙ same ∙ ap (λ (r : KeptRow). r.name) (other l (λ e. omega (arith, e, b.0, high)) less'))
+                (ap (λ (r : KeptRow). r.name) (sym (other j (λ e. omega (arith, e, a.0, high)) less)) ∙ same ∙ ap (λ (r : KeptRow). r.name) (other l (λ e. omega (arith, e, b.0, high)) less'))
             | inr more ↦
                 let e : l ≡ length mid.rows = omega (arith, b.1, after_long, more) in
                 absurd (clash was j a.0 less (ap (λ (r : KeptRow). r.name) (sym (other j (λ f. omega (arith, f, a.0, high)) less)) ∙ same ∙ ap (λ (r : KeptRow). r.name) (last l e)))

@@ -1,12 +1,12 @@
 -- The kept rows of an application lead from the map before it to the one behind it.
-use Rattle.std.proofs.Common.{◌≡◌, ◌≢◌, ℕ, zero, suc, ◌+◌, ◌*◌, ◌-◌, ◌<◌, ◌≤◌, not, true, false, Bool, List, [], ◌∷◌, ◌++◌, length, take, drop, get_or, Option, Some, None, IsSome, IsTrue, is_some, refl, sym, ap, subst, ◌∙◌, inl, inr, arith, mul_comm}
+use Rattle.std.proofs.Common.{◌≡◌, ◌≢◌, ℕ, zero, suc, ◌+◌, ◌*◌, ◌-◌, ◌<◌, ◌≤◌, not, false, Bool, List, [], ◌∷◌, ◌++◌, length, take, drop, get_or, Option, Some, None, IsSome, IsTrue, is_some, refl, sym, ap, subst, ◌∙◌, inl, inr, arith, mul_comm}
 use Rattle.std.specs.FinMap.{get}
 use Rattle.std.specs.List.{Contains}
 use Rattle.std.proofs.lemmas.Bool.{cases_lt, false≢true}
 use Rattle.std.proofs.lemmas.List.{ext_get_or, get_or_default, get_or-take, length-take-le, take-append-drop}
 use Rattle.std.proofs.lemmas.List.Elements.{Contains-get_or}
 use Rattle.gm_model.specs.declared.rule.Side.TheVariants.{Left, Right}
-use Rattle.gm_model.specs.Rules.{has_word, is_added}
+use Rattle.gm_model.specs.Rules.{has_word}
 use Rattle.gm_model.specs.Unfolding.{added_before, added_nodes}
 use Rattle.gm_theory.proofs.NewNames.{new_name}
 use Rattle.gm_theory.proofs.RuleSteps.{word_below}
@@ -23,8 +23,8 @@ use Rattle.gm_pending.proofs.Numbers.{numbered, number_below}
 use Rattle.gm_undo.specs.Flat.{RowsOf, row_in}
 use Rattle.gm_undo.specs.Kept.{KeptRow}
 use Rattle.gm_undo.specs.Keeping.{AreAddedKept, AreBehindKept, AreTouchedKept}
-use Rattle.gm_undo.specs.Standing.{Rows, IsDartIn, rows_in}
-use Rattle.gm_undo.specs.Writing.{AreOnce, AreRowsAt, AreSidesAt, IsAmong, IsOutside}
+use Rattle.gm_undo.specs.Standing.{rows_in}
+use Rattle.gm_undo.specs.Writing.{AreOnce, AreRowsAt, AreSidesAt, IsAmong}
 
 -- ---- the added darts of a result
 
@@ -205,11 +205,11 @@ module _ (m m' : ArenaMap) (touched : List Slot) (added : ℕ) (old t b a : Rows
         (λ new. absurd (yes (n_stays k new)));
     once = λ k l x y same. by_part k x
         (λ behind. by_part l y
-          (λ behind'. kb.once t_once k l behind behind' (ap (λ (r : KeptRow). r.name) (sym (b_row k behind)) ∙ same ∙ ap (λ (r : KeptRow). r.name) (b_row l behind')))
-          (λ new'. absurd (omega (arith, b_low k behind, n_name l new', same))))
+        (λ behind'. kb.once t_once k l behind behind' (ap (λ (r : KeptRow). r.name) (sym (b_row k behind)) ∙ same ∙ ap (λ (r : KeptRow). r.name) (b_row l behind')))
+        (λ new'. absurd (omega (arith, b_low k behind, n_name l new', same))))
         (λ new. by_part l y
-          (λ behind'. absurd (omega (arith, b_low l behind', n_name k new, same)))
-          (λ new'. omega (arith, n_name k new, n_name l new', same, new.0, new'.0)));
+        (λ behind'. absurd (omega (arith, b_low l behind', n_name k new, same)))
+        (λ new'. omega (arith, n_name k new, n_name l new', same, new.0, new'.0)));
   }
 
   pub sides : AreSidesAt a.rows (length old.rows) (length t.rows) (length t.rows) (length a.rows) (rows_in m) (rows_in m')

@@ -1,6 +1,6 @@
 -- One dart that is written label by label and value by value.
-use Rattle.std.proofs.Common.{◌≡◌, ◌≢◌, ℕ, ◌+◌, ◌<◌, ◌≤◌, List, length, set, slice_get, get_or, take, Option, Some, None, IsSome, refl, sym, ap, subst, ◌∙◌, inl, inr, arith, pos}
-use Rattle.std.specs.FinMap.{FinMap, get, len}
+use Rattle.std.proofs.Common.{◌≡◌, ◌≢◌, ℕ, ◌+◌, ◌<◌, ◌≤◌, List, length, set, slice_get, get_or, Option, Some, None, refl, sym, ap, ◌∙◌, inl, inr, arith, pos}
+use Rattle.std.specs.FinMap.{FinMap, get}
 use Rattle.std.specs.Option.{option_map}
 use Rattle.std.specs.Ordering.{nat_cmp}
 use Rattle.std.proofs.lemmas.Bool.{cases_eq}
@@ -62,7 +62,7 @@ value_there schema values e good h =
     kind embed at = same_Some _ _ (
         sym (slice_get-map kind_of values e ∙ ap (option_map kind_of) (slice_get-get_or values e (Int (pos 0)) h))
         ∙ (ap (λ kinds. slice_get kinds e) good.kinds ∙ (slice_get-map (λ (embed : Embed). embed.kind) schema.embeds e ∙ ap (option_map (λ (embed : Embed). embed.kind)) at))
-    )
+        )
 
 module _ (name : ℕ) (old : ArenaMap) where
   -- the dart is its own neighbour for the first labels
@@ -104,8 +104,7 @@ module _ (name : ℕ) (old : ArenaMap) where
   pub linked_more : (neighbours : List ℕ) (m m' : ArenaMap) (label to : ℕ) → IsLinkedTo neighbours m label → label < length neighbours → to ≡ get_or neighbours label 0 → m' ≡ with_alpha m name label to → IsLinkedTo neighbours m' (label + 1)
   linked_more neighbours m m' label to linked low to_is is = rw is (record {
     own = λ dart here long.
-        let before = linked.own dart here long in
-        (
+        let before = linked.own dart here long in (
           set before.0 label to,
           get-with_alpha_same m name label to ∙ ap (option_map (λ (d : Dart). turned d label to)) before.1,
           length-set before.0 label to ∙ before.2,
@@ -139,8 +138,7 @@ module _ (name : ℕ) (old : ArenaMap) where
   pub valued_more : (values : List Value) (m m' : ArenaMap) (embed : ℕ) (v : Value) → IsValuedTo values m embed → embed < length values → v ≡ get_or values embed (Int (pos 0)) → m' ≡ with_value m name embed v → IsValuedTo values m' (embed + 1)
   valued_more values m m' embed v valued low v_is is = rw is (record {
     own = λ dart was long.
-        let before = valued.own dart was long in
-        (
+        let before = valued.own dart was long in (
           set before.0 embed v,
           get-with_value_same m name embed v ∙ ap (option_map (λ (d : Dart). revalued d embed v)) before.1,
           length-set before.0 embed v ∙ before.2,

@@ -1,13 +1,13 @@
 -- The rows of a change, as a part of all the kept rows.
-use Rattle.std.proofs.Common.{◌≡◌, ◌≢◌, ℕ, ◌+◌, ◌-◌, ◌<◌, ◌≤◌, true, false, Bool, List, [], ◌∷◌, ◌++◌, length, take, drop, set, Option, Some, None, IsSome, is_some, slice_get, get_or, refl, sym, ap, subst, ◌∙◌, inl, inr, arith}
+use Rattle.std.proofs.Common.{◌≡◌, ◌≢◌, ℕ, ◌+◌, ◌-◌, ◌<◌, ◌≤◌, true, false, Bool, List, [], ◌∷◌, ◌++◌, length, drop, set, Option, Some, None, is_some, slice_get, refl, sym, ap, ◌∙◌, arith}
 use Rattle.std.specs.FinMap.{get}
 use Rattle.std.specs.List.{slice_range}
-use Rattle.std.proofs.lemmas.Bool.{cases_eq, cases_lt, false≢true}
-use Rattle.std.proofs.lemmas.List.{get_or_append_left, get_or-append-add, get_or_default, get_or-drop, get_or-take, get_or-set_other, get_or-set_same, length-drop, length-take-le}
-use Rattle.std.proofs.lemmas.Option.{get_or_from_slice_get, same_Some, slice_get-get_or, slice_get_within}
+use Rattle.std.proofs.lemmas.Bool.{false≢true}
+use Rattle.std.proofs.lemmas.List.{get_or_append_left, get_or-append-add, get_or-drop, get_or-take, get_or-set_other, get_or-set_same, length-drop, length-take-le}
+use Rattle.std.proofs.lemmas.Option.{get_or_from_slice_get, slice_get-get_or, slice_get_within}
 use Rattle.gm_undo.specs.Flat.{row_in, staying}
 use Rattle.gm_undo.specs.Kept.{KeptRow}
-use Rattle.gm_undo.specs.Standing.{Rows, AreRowsOf, AreSides, IsDartIn, IsNoneOf}
+use Rattle.gm_undo.specs.Standing.{Rows, AreRowsOf, AreSides, IsNoneOf}
 use Rattle.gm_undo.specs.Writing.{AreRowsAt, AreSidesAt, IsAmong, IsOutside}
 
 abbrev no_row : KeptRow

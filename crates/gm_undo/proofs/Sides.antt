@@ -1,18 +1,18 @@
 -- One side of a change written in the place of the other, stage by stage.
-use Rattle.std.proofs.Common.{◌≡◌, ◌≢◌, ℕ, ◌+◌, ◌*◌, ◌-◌, ◌<◌, ◌≤◌, true, false, Bool, List, length, Option, Some, None, IsSome, All, cond, refl, sym, ap, subst, ◌∙◌, inl, inr, arith}
-use Rattle.std.specs.FinMap.{get, len}
+use Rattle.std.proofs.Common.{◌≡◌, ℕ, ◌+◌, ◌*◌, ◌-◌, ◌<◌, ◌≤◌, true, false, Bool, List, Option, Some, None, IsSome, cond, refl, sym, ap, subst, ◌∙◌, inl, inr, arith}
+use Rattle.std.specs.FinMap.{get}
 use Rattle.std.proofs.lemmas.Bool.{false≢true}
 use Rattle.std.proofs.lemmas.List.Elements.{All-get_or}
 use Rattle.std.proofs.lemmas.Nat.{mul-le}
-use Rattle.gm_arena.specs.ArenaMap.{ArenaMap, Dart, IsLiveName, alpha}
+use Rattle.gm_arena.specs.ArenaMap.{ArenaMap, IsLiveName, alpha}
 use Rattle.gm_arena.specs.Edits.{IsAlone, free_dart}
 use Rattle.gm_arena.proofs.FilledLemmas.{same_maps}
 use Rattle.gm_arena.proofs.InsideLemmas.{is_some_at, none_of, some_of}
 use Rattle.gm_arena.proofs.MapLemmas.{alpha-alike}
 use Rattle.gm_undo.specs.Flat.{row_in}
 use Rattle.gm_undo.specs.Kept.{KeptRow}
-use Rattle.gm_undo.specs.Standing.{Rows, IsDartIn, IsGoodDart, HasRoomFor, rows_in}
-use Rattle.gm_undo.specs.Writing.{AreRowsAt, AreSidesAt, CanCome, CanGo, CanLink, CanWrite, HasFrame, HasRoomOf, IsAddedRow, IsAmong, IsClearedRow, IsFreeRow, IsOutside, IsOwnRow, IsWritten}
+use Rattle.gm_undo.specs.Standing.{Rows, IsDartIn, IsGoodDart, rows_in}
+use Rattle.gm_undo.specs.Writing.{CanCome, CanGo, CanLink, CanWrite, HasRoomOf, IsAddedRow, IsAmong, IsClearedRow, IsFreeRow, IsOutside, IsOwnRow, IsWritten}
 use Rattle.gm_undo.proofs.Written.{find_row}
 
 by_stays : {P : Type 0} (b : Bool) → (b ≡ true → P) → (b ≡ false → P) → P
@@ -76,8 +76,8 @@ module _ (rows : List KeptRow) (fs fe ts te : ℕ) (m0 : ArenaMap) (there : Rows
       -- a row's dart that is there too has stayed
       lasting2 : (j : ℕ) → IsAmong fs fe j → IsDartIn there (row_in rows j).name → IsLiveName m2 (row_in rows j).name
       lasting2 j among lasts = by_stays (row_in rows j).stays
-        (λ stays. rw (cleared.own j among ∙ ap (λ b. cond b (get m1.darts (row_in rows j).name) None) stays) (freed.own j among).0)
-        (λ goes. absurd (no_none (get there.darts (row_in rows j).name) (can.sides.from.goes j among goes) lasts))
+          (λ stays. rw (cleared.own j among ∙ ap (λ b. cond b (get m1.darts (row_in rows j).name) None) stays) (freed.own j among).0)
+          (λ goes. absurd (no_none (get there.darts (row_in rows j).name) (can.sides.from.goes j among goes) lasts))
 
       good : (k : ℕ) → IsAmong ts te k → IsGoodDart m0.schema there (row_in rows k).name (row_in rows k).dart
       good k among = can.sound.dart (row_in rows k).name (row_in rows k).dart (can.sides.to.rows_are k among)
@@ -90,7 +90,7 @@ module _ (rows : List KeptRow) (fs fe ts te : ℕ) (m0 : ArenaMap) (there : Rows
         new = λ k among comes.
             let none : get m0.darts (row_in rows k).name ≡ None = can.sides.to.goes k among comes in
             let outside : IsOutside rows fs fe (row_in rows k).name =
-                λ j amongj e. no_none (get m0.darts (row_in rows k).name) none (subst (IsLiveName m0) (sym e) (is_some_at (get m0.darts (row_in rows j).name) (row_in rows j).dart (can.sides.from.rows_are j amongj))) in
+            λ j amongj e. no_none (get m0.darts (row_in rows k).name) none (subst (IsLiveName m0) (sym e) (is_some_at (get m0.darts (row_in rows j).name) (row_in rows j).dart (can.sides.from.rows_are j amongj))) in
             untouched2 (row_in rows k).name outside ∙ none;
         values = λ k among. rw schema2 (good k among).valued;
         among = in_there;
@@ -108,9 +108,9 @@ module _ (rows : List KeptRow) (fs fe ts te : ℕ) (m0 : ArenaMap) (there : Rows
         live3 d lives = elim (find_row rows ts te d) [
           | inl (k, among, e) ↦
               subst (IsLiveName m3) (sym e) (by_stays (row_in rows k).stays
-                (λ stays. rw (added.own k among ∙ ap (λ b. cond b (get m2.darts (row_in rows k).name) (Some (free_dart m2.schema.dim (row_in rows k).name (row_in rows k).dart.values))) stays)
-                  (stayed k among (can.sides.to.lasts k among (λ comes. false≢true (sym comes ∙ stays)))))
-                (λ comes. is_some_at (get m3.darts (row_in rows k).name) (free_dart m2.schema.dim (row_in rows k).name (row_in rows k).dart.values) (added.own k among ∙ ap (λ b. cond b (get m2.darts (row_in rows k).name) (Some (free_dart m2.schema.dim (row_in rows k).name (row_in rows k).dart.values))) comes)))
+              (λ stays. rw (added.own k among ∙ ap (λ b. cond b (get m2.darts (row_in rows k).name) (Some (free_dart m2.schema.dim (row_in rows k).name (row_in rows k).dart.values))) stays)
+              (stayed k among (can.sides.to.lasts k among (λ comes. false≢true (sym comes ∙ stays)))))
+              (λ comes. is_some_at (get m3.darts (row_in rows k).name) (free_dart m2.schema.dim (row_in rows k).name (row_in rows k).dart.values) (added.own k among ∙ ap (λ b. cond b (get m2.darts (row_in rows k).name) (Some (free_dart m2.schema.dim (row_in rows k).name (row_in rows k).dart.values))) comes)))
           | inr outside' ↦ elim (find_row rows fs fe d) [
             | inl (j, among, e) ↦ absurd (can.sides.from_lasts j among (subst (IsDartIn there) e lives) (subst (IsOutside rows ts te) e outside'))
             | inr outside ↦ rw (added.others d outside' ∙ untouched2 d outside ∙ sym (can.sides.elsewhere d outside outside')) lives
@@ -141,8 +141,8 @@ module _ (rows : List KeptRow) (fs fe ts te : ℕ) (m0 : ArenaMap) (there : Rows
                 let no : IsDartIn there (row_in rows j).name → ⊥ = λ lives. can.sides.from_lasts j among lives (subst (IsOutside rows ts te) e outside') in
                 let gone : get there.darts (row_in rows j).name ≡ None = none_of (get there.darts (row_in rows j).name) no in
                 let here : get m2.darts (row_in rows j).name ≡ None = by_stays (row_in rows j).stays
-                    (λ stays. absurd (no (can.sides.from.lasts j among (λ goes. false≢true (sym goes ∙ stays)))))
-                    (λ goes. gone2 j among goes) in
+                (λ stays. absurd (no (can.sides.from.lasts j among (λ goes. false≢true (sym goes ∙ stays)))))
+                (λ goes. gone2 j among goes) in
                 linked.others d outside' ∙ added.others d outside' ∙ ap (get m2.darts) e ∙ here ∙ sym gone ∙ ap (get there.darts) (sym e)
             | inr outside ↦ linked.others d outside' ∙ added.others d outside' ∙ untouched2 d outside ∙ sym (can.sides.elsewhere d outside outside')
           ]

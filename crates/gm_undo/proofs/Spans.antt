@@ -1,5 +1,5 @@
 -- Where entries begin and end, and changes that are made and taken back.
-use Rattle.std.proofs.Common.{◌≡◌, ◌≢◌, ℕ, zero, suc, ◌+◌, ◌*◌, ◌-◌, ◌<◌, ◌≤◌, true, false, List, [], ◌∷◌, ◌++◌, length, map, take, sum, Option, Some, None, slice_get, get_or, refl, sym, ap, ap₂, subst, ◌∙◌, inl, inr, arith}
+use Rattle.std.proofs.Common.{◌≡◌, ℕ, zero, suc, ◌+◌, ◌*◌, ◌-◌, ◌<◌, ◌≤◌, true, false, List, [], ◌∷◌, ◌++◌, length, map, take, sum, Option, Some, slice_get, sym, ap, ap₂, ◌∙◌, inl, inr, arith}
 use Rattle.std.specs.Option.{option_map}
 use Rattle.std.proofs.lemmas.Bool.{cases_eq, cases_lt, false≢true}
 use Rattle.std.proofs.lemmas.List.{length-map}
@@ -10,7 +10,7 @@ use Rattle.gm_arena.specs.ArenaMap.{ArenaMap}
 use Rattle.gm_undo.specs.Costs.{cost_to, rows_of}
 use Rattle.gm_undo.specs.Kept.{Change, KeptRow}
 use Rattle.gm_undo.specs.Layout.{IsLaidOut, change_in, changes_in, end_of, made_at}
-use Rattle.gm_undo.specs.Standing.{AreChained, BeginsAt, HasRoomFor, IsEntry, Rows, rows_in}
+use Rattle.gm_undo.specs.Standing.{AreChained, HasRoomFor, IsEntry, Rows, rows_in}
 use Rattle.gm_undo.specs.Writing.{CanWrite, HasRoomOf}
 use Rattle.gm_undo.specs.declared.keeping.Made.{Made}
 use Rattle.gm_undo.proofs.Ranges.{range_long, sides_at, sides_back}
@@ -19,12 +19,12 @@ use Rattle.gm_undo.proofs.Ranges.{range_long, sides_at, sides_back}
 pub cost_more : (dim : ℕ) (all : List Change) (k : ℕ) (change : Change) → slice_get all k ≡ Some change → cost_to dim all (k + 1) ≡ cost_to dim all k + 7 * (dim + 1) * rows_of change
 cost_more dim all k change is =
     let next : take (k + 1) all ≡ take k all ++ change ∷ [] =
-        ap (λ n. take n all) (let e : k + 1 ≡ suc k = omega arith in e) ∙ take-suc all k change (slice_get_within all k change is) ∙ ap (λ c. take k all ++ c ∷ []) (get_or_from_slice_get all k change change is) in
+    ap (λ n. take n all) (let e : k + 1 ≡ suc k = omega arith in e) ∙ take-suc all k change (slice_get_within all k change is) ∙ ap (λ c. take k all ++ c ∷ []) (get_or_from_slice_get all k change change is) in
     let sums : sum (map rows_of (take (k + 1) all)) ≡ sum (map rows_of (take k all)) + rows_of change =
-        ap (λ (l : List Change). sum (map rows_of l)) next
-        ∙ sum-map rows_of (take k all ++ change ∷ [])
-        ∙ sum_by_push rows_of (take k all) change
-        ∙ ap (λ n. n + rows_of change) (sym (sum-map rows_of (take k all))) in
+    ap (λ (l : List Change). sum (map rows_of l)) next
+    ∙ sum-map rows_of (take k all ++ change ∷ [])
+    ∙ sum_by_push rows_of (take k all) change
+    ∙ ap (λ n. n + rows_of change) (sym (sum-map rows_of (take k all))) in
     ap (λ n. 7 * (dim + 1) * n) sums ∙ spread (7 * (dim + 1)) (sum (map rows_of (take k all))) (rows_of change)
   where
     spread : (w a b : ℕ) → w * (a + b) ≡ w * a + w * b
@@ -102,8 +102,7 @@ module _ (rows : List KeptRow) (changes : List Made) where
       pub can_back : AreChained (changes_in rows changes) m states (k + 1)
           → CanWrite rows (made_at changes k).middle (made_at changes k).end (made_at changes k).first (made_at changes k).middle m (states k) × ((made_at changes k).next_before ≡ (states k).next)
       can_back chained =
-          let leads = chained.leads k _ (change_there k h) in
-          (
+          let leads = chained.leads k _ (change_there k h) in (
             record {
               sides = rw (← chained.here) (sides_at rows (made_at changes k).middle (made_at changes k).end (made_at changes k).first (made_at changes k).middle (end_high k h) (rows_high k h) (middle_high k h) (middle_within k h) (states (k + 1)) (states k) (sides_back _ _ _ _ leads.sides));
               sound = chained.sound k low;
@@ -115,8 +114,7 @@ module _ (rows : List KeptRow) (changes : List Made) where
       pub can_on : AreChained (changes_in rows changes) m states k
           → CanWrite rows (made_at changes k).first (made_at changes k).middle (made_at changes k).middle (made_at changes k).end m (states (k + 1)) × ((made_at changes k).next_after ≡ (states (k + 1)).next)
       can_on chained =
-          let leads = chained.leads k _ (change_there k h) in
-          (
+          let leads = chained.leads k _ (change_there k h) in (
             record {
               sides = rw (← chained.here) (sides_at rows (made_at changes k).first (made_at changes k).middle (made_at changes k).middle (made_at changes k).end (middle_high k h) (middle_within k h) (end_high k h) (rows_high k h) (states k) (states (k + 1)) leads.sides);
               sound = chained.sound (k + 1) high;

@@ -1,5 +1,5 @@
 -- What a history stands for once it is new, and once entries were taken back or brought again.
-use Rattle.std.proofs.Common.{◌≡◌, ◌≢◌, ℕ, ◌+◌, ◌-◌, ◌<◌, ◌≤◌, true, false, Bool, if◌then◌else◌, List, [], ◌∷◌, length, Option, Some, None, is_some, refl, sym, ap, subst, ◌∙◌, arith}
+use Rattle.std.proofs.Common.{◌≡◌, ◌≢◌, ℕ, ◌+◌, ◌<◌, ◌≤◌, true, false, Bool, if◌then◌else◌, List, [], ◌∷◌, length, Option, Some, None, is_some, refl, sym, ap, subst, ◌∙◌, arith}
 use Rattle.std.specs.FinMap.{get}
 use Rattle.std.specs.Option.{unwrap_or}
 use Rattle.std.proofs.lemmas.Bool.{false≢true, le-ltb, ltb-true, ltb-false}
@@ -126,8 +126,7 @@ module _ (labels width : ℕ) (changes : List Change) where
           let entry = tells.1 in
           let same : made' ≡ start = is start entry in
           let chained = go s.rows s.held.chained in
-          let here : IsEntry changes made' made = subst (λ k. IsEntry changes k made) (sym same) entry in
-          (
+          let here : IsEntry changes made' made = subst (λ k. IsEntry changes k made) (sym same) entry in (
             record { past = rest; future = as_map m ∷ told.future; group = None },
             record {
               outside = none_told m.schema (at made None) s.rows told.group s.group;
@@ -153,8 +152,7 @@ module _ (labels width : ℕ) (changes : List Change) where
           let entry = tells.1 in
           let same : made' ≡ end = is end entry in
           let chained = go s.rows s.held.chained in
-          let here : IsEntry changes made made' = subst (λ k. IsEntry changes made k) (sym same) entry in
-          (
+          let here : IsEntry changes made made' = subst (λ k. IsEntry changes made k) (sym same) entry in (
             record { past = as_map m ∷ told.past; future = rest; group = None },
             record {
               outside = none_told m.schema (at made None) s.rows told.group s.group;
@@ -191,8 +189,7 @@ module _ (labels width : ℕ) (changes : List Change) where
     back_from is some cost entries may (most ∷ rest) e tells =
         let same : made' ≡ tells.0 = is tells.0 tells.1 in
         let here : IsEntry changes made' made = subst (λ k. IsEntry changes k made) (sym same) tells.1 in
-        let within : cost_to dim changes made ≤ cost_to dim changes made' + most = subst (λ k. cost_to dim changes made ≤ cost_to dim changes k + most) (sym same) tells.2 in
-        (
+        let within : cost_to dim changes made ≤ cost_to dim changes made' + most = subst (λ k. cost_to dim changes made ≤ cost_to dim changes k + most) (sym same) tells.2 in (
           most,
           rest,
           e,
@@ -210,8 +207,7 @@ module _ (labels width : ℕ) (changes : List Change) where
     on_from is some cost entries may (most ∷ rest) e tells =
         let same : made' ≡ tells.0 = is tells.0 tells.1 in
         let here : IsEntry changes made made' = subst (λ k. IsEntry changes made k) (sym same) tells.1 in
-        let within : cost_to dim changes made' ≤ cost_to dim changes made + most = subst (λ k. cost_to dim changes k ≤ cost_to dim changes made + most) (sym same) tells.2 in
-        (
+        let within : cost_to dim changes made' ≤ cost_to dim changes made + most = subst (λ k. cost_to dim changes k ≤ cost_to dim changes made + most) (sym same) tells.2 in (
           most,
           rest,
           e,

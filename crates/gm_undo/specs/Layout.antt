@@ -1,5 +1,5 @@
 -- How a history keeps its changes: each by the numbers of its rows. No public clause cites this module.
-use Rattle.std.specs.Prelude.{◌≡◌, ℕ, zero, suc, ◌+◌, ◌≤◌, false, List, length, map, Option, Some, IfSome, slice_get, slice_index_or, slice_range}
+use Rattle.std.specs.Prelude.{◌≡◌, ℕ, zero, suc, ◌≤◌, false, List, length, map, Option, Some, slice_get, slice_index_or, slice_range}
 use Rattle.gm_undo.specs.declared.keeping.Made.{Made}
 use Rattle.gm_undo.specs.Flat.{RowsOf}
 use Rattle.gm_undo.specs.Kept.{KeptRow, Change, HistoryOf}

@@ -1,5 +1,5 @@
 -- What each stage of writing rows leaves of an arena's map. No public clause cites this module.
-use Rattle.std.specs.Prelude.{◌≡◌, ◌≢◌, ℕ, ◌+◌, ◌*◌, ◌<◌, ◌≤◌, if◌then◌else◌, false, List, length, Option, Some, None, IsSome, All, slice_index_or}
+use Rattle.std.specs.Prelude.{◌≡◌, ◌≢◌, ℕ, ◌+◌, ◌<◌, ◌≤◌, if◌then◌else◌, false, List, length, Option, Some, None, IsSome, All, slice_index_or}
 use Rattle.std.specs.FinMap.{get}
 use Rattle.std.specs.Option.{option_map_or}
 use Rattle.gm_arena.specs.ArenaMap.{ArenaMap, Dart, IsLiveName}

@@ -129,7 +129,11 @@ impl History {
 
     /// Takes the last entry of the past back: the map is again what it was before, its next name
     /// included. No group is open. It takes no memory.
-    pub fn undo<L: Ledger>(&mut self, arena: &mut Arena, steps: &mut Steps<L>) -> Result<(), Nothing>
+    pub fn undo<L: Ledger>(
+        &mut self,
+        arena: &mut Arena,
+        steps: &mut Steps<L>,
+    ) -> Result<(), Nothing>
         requires stands { (told : definition.History) × StandsFor self.old arena.old told × (told.group ≡ None) }
         ensures history { (told : definition.History) → StandsFor self.old arena.old told → MatchResult result
             (λ _. (behind : definition.History) × IsUndone (as_map arena.old) told (as_map arena.new) behind × StandsFor self.new arena.new behind)
@@ -153,7 +157,11 @@ impl History {
     }
 
     /// Brings the last entry that was taken back again. No group is open. It takes no memory.
-    pub fn redo<L: Ledger>(&mut self, arena: &mut Arena, steps: &mut Steps<L>) -> Result<(), Nothing>
+    pub fn redo<L: Ledger>(
+        &mut self,
+        arena: &mut Arena,
+        steps: &mut Steps<L>,
+    ) -> Result<(), Nothing>
         requires stands { (told : definition.History) × StandsFor self.old arena.old told × (told.group ≡ None) }
         ensures history { (told : definition.History) → StandsFor self.old arena.old told → MatchResult result
             (λ _. (behind : definition.History) × IsRedone (as_map arena.old) told (as_map arena.new) behind × StandsFor self.new arena.new behind)

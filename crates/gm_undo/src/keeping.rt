@@ -37,7 +37,11 @@ pub(crate) fn kept_end(changes: &[Made], count: usize) -> usize
     requires { count ≤ length changes.now }
     ensures { result ≡ end_of changes.now count }
 {
-    if count == 0 { 0 } else { changes[count - 1].end }
+    if count == 0 {
+        0
+    } else {
+        changes[count - 1].end
+    }
 }
 
 /// Makes room for the rows and the change of the edits, behind so many rows.
@@ -115,12 +119,7 @@ pub(crate) fn keep<L: Ledger>(
 }
 
 /// Puts the rows of the darts at the slots behind the others.
-fn keep_touched<L: Ledger>(
-    rows: &mut KeptRows,
-    slots: &[Slot],
-    arena: &Arena,
-    steps: &mut Steps<L>,
-)
+fn keep_touched<L: Ledger>(rows: &mut KeptRows, slots: &[Slot], arena: &Arena, steps: &mut Steps<L>)
     requires labels { rows.old.labels ≡ arena.now.schema.dim + 1 }
     requires width { rows.old.width ≡ length arena.now.schema.embeds }
     requires room { length rows.old.rows + length slots.now ≤ rows.old.room }

@@ -1,13 +1,7 @@
-use Rattle.std.proofs.Common.{rules, ◌≡◌, ℕ, ◌+◌, ◌-◌, ◌*◌, ◌<◌, ◌≤◌, List, None, length, ◌/◌, ◌%◌, Bool, true, false, nat_eq, nat_lt, [], ◌∷◌, ◌++◌, slice_index_or, slice_set, bit_and, bit_or, Fits, w8, w32, w64, Bor, MutBor}
-use Rattle.gm_undo.specs.Costs.{cost_to}
-use Rattle.gm_undo.specs.Layout.{IsLaidOut, changes_in}
-use Rattle.gm_undo.specs.Standing.{AreChained, BeginsAt, IsEntry, Rows}
-use Rattle.gm_undo.specs.Writing.{HasRoomOf}
-use Rattle.gm_undo.specs.Kept.{KeptRow}
-use Rattle.std.proofs.Common.{false, refl, sym, ap, subst, ◌∙◌, inl, inr, arith}
+use Rattle.std.proofs.Common.{◌-◌}
+use Rattle.std.proofs.Common.{sym, ◌∙◌, arith}
 use Rattle.std.proofs.lemmas.Bool.{false≢true}
-use Rattle.gm_undo.proofs.Spans.{entry_first, entry_end, change_there, changes_long, first_is, middle_high, end_high, rows_high, middle_within, can_back, can_on, cost_next, moved}
-use Rattle.gm_undo.specs.Layout.{made_at, change_in}
+use Rattle.gm_undo.proofs.Spans.{entry_first, change_there, changes_long}
 use Rattle.gm_undo.proofs.entries.entry_before.Goals as goal
 
 pub returns-then-changes-index : goal.returns-then-changes-index

@@ -1,26 +1,16 @@
-use Rattle.std.proofs.Common.{rules, ◌≡◌, ℕ, ◌+◌, ◌-◌, ◌*◌, ◌<◌, ◌≤◌, ◌++◌, List, length, drop, OnErr, OnOk, ◌/◌, ◌%◌, Bool, true, false, nat_eq, nat_lt, [], ◌∷◌, slice_index_or, slice_set, bit_and, bit_or, Fits, w8, w32, w64, Bor, MutBor}
-use Rattle.std.specs.Vec.{vec_capacity}
-use Rattle.gm_model.specs.Applications.{Application, IsDone}
-use Rattle.gm_model.specs.Maps.{IsSound}
-use Rattle.gm_arena.specs.ArenaAsMap.{as_map}
-use Rattle.gm_arena.specs.ArenaMap.{IsLiveName, IsLiveSlot}
+use Rattle.std.proofs.Common.{◌≡◌, ℕ, ◌+◌, ◌<◌, ◌≤◌, List, length}
+use Rattle.gm_arena.specs.ArenaMap.{IsLiveName}
 use Rattle.gm_arena.specs.declared.slot.Slot.{Slot}
-use Rattle.gm_apply.specs.Prepared.{IsReadyToCommit, cost_with_rows, rows_of}
 use Rattle.gm_undo.specs.Keeping.{AreAddedKept, AreBehindKept, AreTouchedKept}
-use Rattle.gm_undo.specs.Layout.{change_in, end_of}
-use Rattle.gm_undo.specs.Standing.{LeadsTo, rows_in}
+use Rattle.gm_undo.specs.Standing.{rows_in}
 use Rattle.std.specs.List.{Contains}
-use Rattle.std.proofs.Common.{◌≢◌, take, suc, get_or, refl, sym, ap, ap₂, subst, ◌∙◌, inl, inr, arith, Some}
-use Rattle.gm_arena.specs.ArenaMap.{ArenaMap, Dart, IsAt, name_at}
-use Rattle.gm_arena.proofs.InsideLemmas.{some_of, is_some_at}
-use Rattle.gm_arena.proofs.MapLemmas.{name_at-is, name_below, IsLiveName-name_at}
+use Rattle.std.proofs.Common.{◌≢◌, sym, ap, subst, ◌∙◌, arith}
+use Rattle.gm_arena.specs.ArenaMap.{ArenaMap, name_at}
 use Rattle.std.specs.FinMap.{get}
-use Rattle.gm_undo.specs.Flat.{RowsOf, row_in, staying}
-use Rattle.gm_arena.proofs.ValueLemmas.{length-values}
-use Rattle.gm_pending.specs.EditLists.{IsResultOf, IsTouchedBy}
-use Rattle.gm_undo.proofs.Leads.{added_live, added_only, front_kept, sides, middle_high, end_high}
+use Rattle.gm_undo.specs.Flat.{row_in}
+use Rattle.gm_pending.specs.EditLists.{IsResultOf}
+use Rattle.gm_undo.proofs.Leads.{added_live, added_only, front_kept, sides}
 use Rattle.gm_undo.proofs.Ranges.{sides_of}
-use Rattle.gm_undo.specs.Kept.{KeptRow}
 use Rattle.gm_undo.proofs.keeping.keep.Goals as goal
 
 pub keep_touched-requires-clause-live : goal.keep_touched-requires-clause-live
@@ -72,9 +62,9 @@ returns-clause-leads g c =
     let ka : AreAddedKept c.commit.new.arena m.next c.args.edits.lists.added c.keep_staying.new.rows c.keep_added.new.rows = rw (c.next-next_before.ensures.next, added) at c.keep_added.ensures.kept in
     let ready = c.requires.ready.1 in
     let only : (d : ℕ) → IsLiveName c.commit.new.arena d → m.next ≤ d → (number : ℕ) × (number < c.args.edits.lists.added) × (d ≡ m.next + number) =
-        λ d live high. let n = added_only app c.args.edits.lists here.2 c.commit.new.arena result d live (omega (arith, high, next)) in (n.0, n.1, omega (arith, n.2, next)) in
+    λ d live high. let n = added_only app c.args.edits.lists here.2 c.commit.new.arena result d live (omega (arith, high, next)) in (n.0, n.1, omega (arith, n.2, next)) in
     let others : (d : ℕ) → d < m.next → ((slot : Slot) → Contains touched slot → name_at m slot.at ≢ d) → get c.commit.new.arena.darts d ≡ get m.darts d =
-        λ d low apart. c.commit.ensures.elsewhere d low (λ slot is. apart slot (ready.touched.all slot is)) in
+    λ d low apart. c.commit.ensures.elsewhere d low (λ slot is. apart slot (ready.touched.all slot is)) in
     let all = sides m c.commit.new.arena touched c.args.edits.lists.added old c.keep_touched.new.rows c.keep_staying.new.rows c.keep_added.new.rows kt kb ka c.next-next_before.ensures.lawful ready.touched.live ready.touched.distinct only others in
     let end_at : length c.keep_touched.new.rows.rows ≤ length c.keep_added.new.rows.rows = omega (arith, kb.more.long, ka.more.long) in
     record {

@@ -1,22 +1,12 @@
-use Rattle.std.proofs.Common.{rules, ◌≡◌, ℕ, ◌+◌, ◌-◌, ◌*◌, ◌<◌, ◌≤◌, ◌++◌, List, length, drop, OnErr, OnOk, ◌/◌, ◌%◌, Bool, true, false, nat_eq, nat_lt, [], ◌∷◌, slice_index_or, slice_set, bit_and, bit_or, Fits, w8, w32, w64, Bor, MutBor}
-use Rattle.std.specs.Vec.{vec_capacity}
-use Rattle.gm_model.specs.Applications.{Application, IsDone}
-use Rattle.gm_model.specs.Maps.{IsSound}
-use Rattle.gm_arena.specs.ArenaAsMap.{as_map}
-use Rattle.gm_arena.specs.ArenaMap.{IsLiveName, IsLiveSlot}
-use Rattle.gm_arena.specs.declared.slot.Slot.{Slot}
-use Rattle.gm_apply.specs.Prepared.{IsReadyToCommit, cost_with_rows, rows_of}
-use Rattle.gm_undo.specs.Keeping.{AreAddedKept, AreBehindKept, AreTouchedKept}
-use Rattle.gm_undo.specs.Layout.{change_in, end_of}
-use Rattle.gm_undo.specs.Standing.{LeadsTo, rows_in}
-use Rattle.std.specs.List.{Contains}
-use Rattle.std.proofs.Common.{take, suc, get_or, refl, sym, ap, ap₂, subst, ◌∙◌, inl, inr, arith, Some}
-use Rattle.gm_arena.specs.ArenaMap.{ArenaMap, Dart, IsAt, name_at}
-use Rattle.gm_arena.proofs.InsideLemmas.{some_of, is_some_at}
-use Rattle.gm_arena.proofs.MapLemmas.{name_at-is, name_below, IsLiveName-name_at}
+use Rattle.std.proofs.Common.{◌≡◌, ◌+◌, ◌++◌, true, [], ◌∷◌}
+use Rattle.gm_arena.specs.ArenaMap.{IsLiveName}
+use Rattle.std.proofs.Common.{sym, ap, subst, ◌∙◌, arith, Some}
+use Rattle.gm_arena.specs.ArenaMap.{Dart, name_at}
+use Rattle.gm_arena.proofs.InsideLemmas.{some_of}
+use Rattle.gm_arena.proofs.MapLemmas.{name_at-is}
 use Rattle.std.specs.FinMap.{get}
-use Rattle.gm_undo.proofs.Keep.{touched_more, added_more, behind_more, behind_gone, behind_all, AreBehindTo}
-use Rattle.gm_undo.specs.Flat.{RowsOf, row_in, staying}
+use Rattle.gm_undo.proofs.Keep.{behind_more, behind_gone, behind_all}
+use Rattle.gm_undo.specs.Flat.{RowsOf, row_in}
 use Rattle.gm_undo.proofs.Sides.{one_more}
 use Rattle.gm_undo.proofs.keeping.keep_staying.Goals.{in-Some, in_default}
 use Rattle.gm_undo.proofs.keeping.keep_staying.Goals as goal

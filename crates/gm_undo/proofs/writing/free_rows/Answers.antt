@@ -1,16 +1,12 @@
-use Rattle.std.proofs.Common.{rules, ◌≡◌, ◌≢◌, ℕ, ◌+◌, ◌-◌, ◌*◌, ◌<◌, ◌≤◌, false, All, Some, None, length, ◌/◌, ◌%◌, Bool, true, nat_eq, nat_lt, List, [], ◌∷◌, ◌++◌, slice_index_or, slice_set, bit_and, bit_or, Fits, w8, w32, w64, Bor, MutBor}
+use Rattle.std.proofs.Common.{◌≡◌, ◌≢◌, ℕ, ◌+◌}
 use Rattle.std.specs.FinMap.{get}
-use Rattle.gm_model.specs.Limits.{most_names}
-use Rattle.gm_arena.specs.ArenaMap.{Dart, IsAt, IsLiveName, IsLiveSlot, alpha, name_at}
-use Rattle.gm_arena.specs.Edits.{IsAlone}
-use Rattle.gm_arena.specs.Lawful.{AreGoodValues}
+use Rattle.gm_arena.specs.ArenaMap.{IsLiveName, alpha}
 use Rattle.gm_undo.specs.Flat.{row_in}
-use Rattle.gm_undo.specs.Standing.{Rows, rows_in}
-use Rattle.gm_undo.specs.Writing.{AreOnce, CanCome, CanGo, CanLink, CanWrite, HasFrame, HasRoomOf, IsAddedRow, IsAmong, IsClearedRow, IsFreeRow, IsOwnRow, IsWritten}
-use Rattle.std.proofs.Common.{refl, sym, ap, ap₂, subst, ◌∙◌, inl, inr, arith, cond}
-use Rattle.gm_undo.proofs.Written.{written_more, next_outside, some_spare, has_name}
-use Rattle.gm_undo.proofs.OneDart.{free_none, free_more, frame_more, linked_more, linked_all, named, valued_more, valued_all, value_there}
-use Rattle.gm_undo.proofs.Sides.{one_more, can_go, can_come, can_link, all_written, cost_within}
+use Rattle.gm_undo.specs.Writing.{IsFreeRow}
+use Rattle.std.proofs.Common.{sym, ap, subst, ◌∙◌, inl, inr, arith}
+use Rattle.gm_undo.proofs.Written.{written_more}
+use Rattle.gm_undo.proofs.OneDart.{frame_more}
+use Rattle.gm_undo.proofs.Sides.{one_more}
 use Rattle.gm_arena.specs.ArenaMap.{ArenaMap}
 use Rattle.std.proofs.lemmas.Bool.{cases_eq}
 use Rattle.gm_undo.proofs.writing.free_rows.Goals as goal
@@ -24,13 +20,13 @@ loop-index-preserved g c =
     let others : (d : ℕ) → d ≢ row.name → get c.free_row.new.arena.darts d ≡ get c.loop-index.arena.darts d = λ d apart. c.free_row.ensures.others d (λ same. apart (same ∙ e)) in
     record {
       written = written_more (IsFreeRow c.args.arena.now.schema.dim) c.args.rows.now.rows c.args.part.start c.args.arena.now c.args.part.end c.loop-index.index c.loop-index.arena c.free_row.new.arena c.requires.once c.loop-index.auto.index c.loop-index-test.true inv.written others
-        (subst (IsLiveName c.free_row.new.arena) e c.free_row.ensures.live, λ i h. subst (λ n. alpha c.free_row.new.arena i n ≡ n) e (c.free_row.ensures.free i (omega (arith, h, dim))));
+          (subst (IsLiveName c.free_row.new.arena) e c.free_row.ensures.live, λ i h. subst (λ n. alpha c.free_row.new.arena i n ≡ n) e (c.free_row.ensures.free i (omega (arith, h, dim))));
       live = λ d is. elim (cases_eq d row.name) [
         | inl same ↦ subst (IsLiveName c.args.arena.now) (sym same) (c.requires.live c.loop-index.index (c.loop-index.auto.index, c.loop-index-test.true))
         | inr apart ↦ inv.live d (rw (others d apart) at is)
       ];
       frame = frame_more c.args.arena.now c.loop-index.arena c.free_row.new.arena c.free_row.new.arena.darts inv.frame c.free_row.ensures.frame;
       steps =
-        let wide : c.loop-index.arena.schema.dim + 2 ≡ c.args.arena.now.schema.dim + 2 = ap (λ n. n + 2) dim in
-        omega (arith, inv.steps, c.free_row.ensures.cost, wide, one_more (c.args.arena.now.schema.dim + 2) c.loop-index.index c.args.part.start c.loop-index.auto.index);
+          let wide : c.loop-index.arena.schema.dim + 2 ≡ c.args.arena.now.schema.dim + 2 = ap (λ n. n + 2) dim in
+          omega (arith, inv.steps, c.free_row.ensures.cost, wide, one_more (c.args.arena.now.schema.dim + 2) c.loop-index.index c.args.part.start c.loop-index.auto.index);
     }

@@ -1,19 +1,15 @@
-use Rattle.std.proofs.Common.{rules, ◌≡◌, ◌≢◌, ℕ, ◌+◌, ◌-◌, ◌*◌, ◌<◌, ◌≤◌, false, All, Some, None, length, ◌/◌, ◌%◌, Bool, true, nat_eq, nat_lt, List, [], ◌∷◌, ◌++◌, slice_index_or, slice_set, bit_and, bit_or, Fits, w8, w32, w64, Bor, MutBor}
+use Rattle.std.proofs.Common.{◌≡◌, ◌≢◌, ℕ, ◌+◌, ◌*◌, Some, length}
 use Rattle.std.specs.FinMap.{get}
-use Rattle.gm_model.specs.Limits.{most_names}
-use Rattle.gm_arena.specs.ArenaMap.{Dart, IsAt, IsLiveName, IsLiveSlot, alpha, name_at}
-use Rattle.gm_arena.specs.Edits.{IsAlone}
-use Rattle.gm_arena.specs.Lawful.{AreGoodValues}
+use Rattle.gm_arena.specs.ArenaMap.{IsLiveName}
 use Rattle.gm_undo.specs.Flat.{row_in}
-use Rattle.gm_undo.specs.Standing.{Rows, rows_in}
-use Rattle.gm_undo.specs.Writing.{AreOnce, CanCome, CanGo, CanLink, CanWrite, HasFrame, HasRoomOf, IsAddedRow, IsAmong, IsClearedRow, IsFreeRow, IsOwnRow, IsWritten}
-use Rattle.std.proofs.Common.{refl, sym, ap, ap₂, subst, ◌∙◌, inl, inr, arith, cond}
-use Rattle.gm_undo.proofs.Written.{written_more, next_outside, some_spare, has_name}
-use Rattle.gm_undo.proofs.OneDart.{free_none, free_more, frame_more, linked_more, linked_all, named, valued_more, valued_all, value_there}
-use Rattle.gm_undo.proofs.Sides.{one_more, can_go, can_come, can_link, all_written, cost_within}
+use Rattle.gm_undo.specs.Writing.{IsOwnRow}
+use Rattle.std.proofs.Common.{sym, ap, ap₂, subst, ◌∙◌, inl, inr, arith}
+use Rattle.gm_undo.proofs.Written.{written_more}
+use Rattle.gm_undo.proofs.OneDart.{frame_more}
+use Rattle.gm_undo.proofs.Sides.{one_more}
 use Rattle.gm_arena.specs.ArenaMap.{ArenaMap}
 use Rattle.std.proofs.lemmas.Bool.{cases_eq}
-use Rattle.gm_arena.proofs.InsideLemmas.{some_of, is_some_at}
+use Rattle.gm_arena.proofs.InsideLemmas.{is_some_at}
 use Rattle.gm_undo.proofs.writing.link_rows.Goals as goal
 
 pub loop-index-preserved : goal.loop-index-preserved

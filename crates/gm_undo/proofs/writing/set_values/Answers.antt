@@ -1,16 +1,9 @@
-use Rattle.std.proofs.Common.{rules, ◌≡◌, ◌≢◌, ℕ, ◌+◌, ◌-◌, ◌*◌, ◌<◌, ◌≤◌, false, All, Some, None, length, ◌/◌, ◌%◌, Bool, true, nat_eq, nat_lt, List, [], ◌∷◌, ◌++◌, slice_index_or, slice_set, bit_and, bit_or, Fits, w8, w32, w64, Bor, MutBor}
-use Rattle.std.specs.FinMap.{get}
-use Rattle.gm_model.specs.Limits.{most_names}
-use Rattle.gm_arena.specs.ArenaMap.{Dart, IsAt, IsLiveName, IsLiveSlot, alpha, name_at}
-use Rattle.gm_arena.specs.Edits.{IsAlone}
+use Rattle.std.proofs.Common.{◌≡◌, length}
+use Rattle.gm_arena.specs.ArenaMap.{name_at}
 use Rattle.gm_arena.specs.Lawful.{AreGoodValues}
-use Rattle.gm_undo.specs.Flat.{row_in}
-use Rattle.gm_undo.specs.Standing.{Rows, rows_in}
-use Rattle.gm_undo.specs.Writing.{AreOnce, CanCome, CanGo, CanLink, CanWrite, HasFrame, HasRoomOf, IsAddedRow, IsAmong, IsClearedRow, IsFreeRow, IsOwnRow, IsWritten}
-use Rattle.std.proofs.Common.{refl, sym, ap, ap₂, subst, ◌∙◌, inl, inr, arith, cond}
-use Rattle.gm_arena.proofs.MapLemmas.{name_at-is, get-with_dart_same, get-with_dart_other, get-without_dart_same, get-without_dart_other}
-use Rattle.gm_undo.proofs.OneDart.{free_none, free_more, frame_more, linked_more, linked_all, named, valued_more, valued_all, value_there}
-use Rattle.gm_arena.specs.Edits.{with_dart, without_dart, with_alpha, with_value, free_dart}
+use Rattle.std.proofs.Common.{refl, sym, ap, subst, ◌∙◌, arith}
+use Rattle.gm_undo.proofs.OneDart.{named, valued_more, valued_all, value_there}
+use Rattle.gm_arena.specs.Edits.{with_value}
 use Rattle.gm_arena.specs.ArenaMap.{ArenaMap}
 use Rattle.gm_model.specs.declared.schema.Schema.{Schema}
 use Rattle.std.proofs.Common.{get_or, pos}
@@ -28,7 +21,7 @@ loop-embed-preserved g c =
     let is : name_at c.loop-embed.arena c.args.slot.at ≡ name_at c.args.arena.now c.args.slot.at = named c.args.arena.now c.loop-embed.arena c.args.slot.at inv.valued.frame in
     record {
       valued = valued_more (name_at c.args.arena.now c.args.slot.at) c.args.arena.now c.args.values.now c.loop-embed.arena c.set_value.new.self c.loop-embed.embed (get_or c.args.values.now c.loop-embed.embed (Int (pos 0))) inv.valued c.loop-embed-test.true refl
-        (c.set_value.ensures.map ∙ ap (λ n. with_value c.loop-embed.arena n c.loop-embed.embed (get_or c.args.values.now c.loop-embed.embed (Int (pos 0)))) is);
+          (c.set_value.ensures.map ∙ ap (λ n. with_value c.loop-embed.arena n c.loop-embed.embed (get_or c.args.values.now c.loop-embed.embed (Int (pos 0)))) is);
       steps = omega (arith, inv.steps, c.set_value.ensures.cost);
     }
 

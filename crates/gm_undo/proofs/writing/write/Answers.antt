@@ -1,14 +1,7 @@
-use Rattle.std.proofs.Common.{rules, ◌≡◌, ◌≢◌, ℕ, ◌+◌, ◌-◌, ◌*◌, ◌<◌, ◌≤◌, false, All, Some, None, length, ◌/◌, ◌%◌, Bool, true, nat_eq, nat_lt, List, [], ◌∷◌, ◌++◌, slice_index_or, slice_set, bit_and, bit_or, Fits, w8, w32, w64, Bor, MutBor}
-use Rattle.std.specs.FinMap.{get}
-use Rattle.gm_model.specs.Limits.{most_names}
-use Rattle.gm_arena.specs.ArenaMap.{Dart, IsAt, IsLiveName, IsLiveSlot, alpha, name_at}
-use Rattle.gm_arena.specs.Edits.{IsAlone}
-use Rattle.gm_arena.specs.Lawful.{AreGoodValues}
-use Rattle.gm_undo.specs.Flat.{row_in}
-use Rattle.gm_undo.specs.Standing.{Rows, rows_in}
-use Rattle.gm_undo.specs.Writing.{AreOnce, CanCome, CanGo, CanLink, CanWrite, HasFrame, HasRoomOf, IsAddedRow, IsAmong, IsClearedRow, IsFreeRow, IsOwnRow, IsWritten}
-use Rattle.std.proofs.Common.{refl, sym, ap, ap₂, subst, ◌∙◌, inl, inr, arith, cond}
-use Rattle.gm_undo.proofs.Sides.{one_more, can_go, can_come, can_link, all_written, cost_within}
+use Rattle.std.proofs.Common.{◌≡◌, ◌+◌, ◌-◌, length}
+use Rattle.gm_undo.specs.Standing.{rows_in}
+use Rattle.std.proofs.Common.{ap, ◌∙◌}
+use Rattle.gm_undo.proofs.Sides.{can_go, can_come, can_link, all_written, cost_within}
 use Rattle.gm_arena.specs.ArenaMap.{ArenaMap}
 use Rattle.gm_undo.proofs.writing.write.Goals as goal
 
@@ -54,4 +47,4 @@ returns-clause-cost g c =
     let schema3 : c.add_rows.new.arena.schema ≡ c.args.arena.now.schema = c.add_rows.ensures.room.schema ∙ c.remove_rows.ensures.room.schema ∙ schema1 in
     let lawful = c.count.ensures.lawful in
     cost_within c.args.arena.now.schema.dim (length c.args.arena.now.schema.embeds) (c.args.from.end - c.args.from.start) (c.args.to.end - c.args.to.start) c.args.steps.now c.free_rows.new.steps c.remove_rows.new.steps c.add_rows.new.steps c.link_rows.new.steps
-      lawful.dim.0 lawful.schema.count f.cost c.remove_rows.ensures.cost c.add_rows.ensures.cost (rw schema3 at c.link_rows.ensures.cost)
+    lawful.dim.0 lawful.schema.count f.cost c.remove_rows.ensures.cost c.add_rows.ensures.cost (rw schema3 at c.link_rows.ensures.cost)

@@ -72,8 +72,8 @@ returns-clause-history g c told s =
     let some : c.self.inside.made ≢ length (changes_in c.self.inside.rows.rows c.self.inside.changes.items) = omega (arith, c.if-self-len.false, c.len.ensures, c.self.inside.changes.ok.0, changes_long c.self.inside.rows.rows c.self.inside.changes.items) in
     let is : (end : ℕ) → IsEntry (changes_in c.self.inside.rows.rows c.self.inside.changes.items) c.self.inside.made end → c.entry_behind-end.result ≡ end = λ end entry. c.entry_behind-end.ensures c.self.inside.rows.rows end (rw c.deref.ensures.value entry) in
     redone _ _ _ c.args.arena.now c.go_on.new.arena c.self.inside.made c.entry_behind-end.result c.go_on.ensures.room
-      (rw c.deref-2.ensures.value at c.go_on.ensures.chained)
-      c.self.inside.group outside is some told (rw (← c.self.view_is) at s)
+    (rw c.deref-2.ensures.value at c.go_on.ensures.chained)
+    c.self.inside.group outside is some told (rw (← c.self.view_is) at s)
 
 pub returns-clause-most : goal.returns-clause-most
 returns-clause-most g c entries may =
@@ -81,7 +81,7 @@ returns-clause-most g c entries may =
     let some : c.self.inside.made ≢ length (changes_in c.self.inside.rows.rows c.self.inside.changes.items) = omega (arith, c.if-self-len.false, c.len.ensures, c.self.inside.changes.ok.0, changes_long c.self.inside.rows.rows c.self.inside.changes.items) in
     let is : (end : ℕ) → IsEntry (changes_in c.self.inside.rows.rows c.self.inside.changes.items) c.self.inside.made end → c.entry_behind-end.result ≡ end = λ end entry. c.entry_behind-end.ensures c.self.inside.rows.rows end (rw c.deref.ensures.value entry) in
     rw c.go_on.ensures.room.schema (on_takes _ _ _ c.args.arena.now.schema.dim c.self.inside.made c.entry_behind-end.result c.args.steps.now c.go_on.new.steps
-      c.self.inside.group outside is some (rw c.deref-2.ensures.value at c.go_on.ensures.cost) entries (rw (← c.self.view_is) at may))
+    c.self.inside.group outside is some (rw c.deref-2.ensures.value at c.go_on.ensures.cost) entries (rw (← c.self.view_is) at may))
 
 pub returns-clause-sound : goal.returns-clause-sound
 returns-clause-sound g c =

@@ -1,13 +1,8 @@
-use Rattle.std.proofs.Common.{rules, ◌≡◌, ◌≢◌, ℕ, ◌+◌, ◌≤◌, ◌<◌, List, None, Some, is_some, length, refl, sym, ap, subst, ◌∙◌, arith}
-use Rattle.gm_model.specs.Budgets.{Entries}
-use Rattle.gm_model.specs.Histories as definition
-use Rattle.gm_model.specs.Histories.{Group, dropped}
-use Rattle.gm_arena.specs.ArenaAsMap.{as_map}
-use Rattle.gm_undo.specs.Costs.{MayTake}
+use Rattle.std.proofs.Common.{◌≡◌, ℕ, ◌≤◌, None, Some, is_some, length, sym, ap, ◌∙◌, arith}
 use Rattle.std.proofs.lemmas.Bool.{false≢true}
-use Rattle.gm_undo.specs.Layout.{changes_in, end_of}
-use Rattle.gm_undo.specs.Standing.{StandsFor, map_of}
-use Rattle.gm_undo.proofs.Entering.{changes_cut, dropped_costs, dropped_cut, dropped_same, dropped_same_costs, end_low, group_low, group_map, group_one, laid_cut, take_less}
+use Rattle.gm_undo.specs.Layout.{end_of}
+use Rattle.gm_undo.specs.Standing.{map_of}
+use Rattle.gm_undo.proofs.Entering.{changes_cut, dropped_costs, dropped_cut, dropped_same, dropped_same_costs, end_low, group_low, group_map, laid_cut, take_less}
 use Rattle.gm_undo.proofs.Tellings.{sound_here, sound_held}
 use Rattle.gm_undo.proofs.history.History.take_back.Goals as goal
 use Rattle.gm_undo.proofs.history.History.take_back.Goals.{then-start-self, else-start-self}

@@ -1,4 +1,4 @@
-use Rattle.std.proofs.Common.{◌≡◌, ◌≢◌, ℕ, ◌≤◌, is_some, length, refl, sym, ap, ◌∙◌, arith}
+use Rattle.std.proofs.Common.{◌≡◌, ℕ, ◌≤◌, is_some, length, refl, sym, ap, ◌∙◌, arith}
 use Rattle.std.proofs.lemmas.Bool.{false≢true}
 use Rattle.gm_undo.specs.Layout.{changes_in}
 use Rattle.gm_undo.specs.Standing.{IsEntry}
@@ -51,15 +51,15 @@ returns-clause-history g c told s =
     let outside = not_open _ c.args.arena.now (rw (← c.self.view_is) at c.requires.stands) in
     let is : (start : ℕ) → IsEntry (changes_in c.self.inside.rows.rows c.self.inside.changes.items) start c.self.inside.made → c.entry_before-start.result ≡ start = λ start entry. c.entry_before-start.ensures c.self.inside.rows.rows start (rw c.deref.ensures.value entry) in
     undone _ _ _ c.args.arena.now c.go_back.new.arena c.self.inside.made c.entry_before-start.result c.go_back.ensures.room
-      (rw c.deref-2.ensures.value at c.go_back.ensures.chained)
-      c.self.inside.group outside is c.if-self-eq0.false told (rw (← c.self.view_is) at s)
+    (rw c.deref-2.ensures.value at c.go_back.ensures.chained)
+    c.self.inside.group outside is c.if-self-eq0.false told (rw (← c.self.view_is) at s)
 
 pub returns-clause-most : goal.returns-clause-most
 returns-clause-most g c entries may =
     let outside = not_open _ c.args.arena.now (rw (← c.self.view_is) at c.requires.stands) in
     let is : (start : ℕ) → IsEntry (changes_in c.self.inside.rows.rows c.self.inside.changes.items) start c.self.inside.made → c.entry_before-start.result ≡ start = λ start entry. c.entry_before-start.ensures c.self.inside.rows.rows start (rw c.deref.ensures.value entry) in
     rw c.go_back.ensures.room.schema (back_takes _ _ _ c.args.arena.now.schema.dim c.self.inside.made c.entry_before-start.result c.args.steps.now c.go_back.new.steps
-      c.self.inside.group outside is c.if-self-eq0.false (rw c.deref-2.ensures.value at c.go_back.ensures.cost) entries (rw (← c.self.view_is) at may))
+    c.self.inside.group outside is c.if-self-eq0.false (rw c.deref-2.ensures.value at c.go_back.ensures.cost) entries (rw (← c.self.view_is) at may))
 
 pub returns-clause-sound : goal.returns-clause-sound
 returns-clause-sound g c =

@@ -1,7 +1,6 @@
-use Rattle.std.proofs.Common.{◌≡◌, ℕ, ◌+◌, ◌-◌, ◌*◌, ◌<◌, ◌≤◌, length, refl, sym, ap, subst, ◌∙◌, arith}
-use Rattle.gm_undo.specs.Flat.{RowsOf, row_in, flat_row}
-use Rattle.gm_undo.specs.Kept.{KeptRow}
-use Rattle.gm_undo.proofs.Flats.{marked, pushed, row_is, rows_long, stretch, truncated}
+use Rattle.std.proofs.Common.{length, sym, ap, ◌∙◌}
+use Rattle.gm_undo.specs.Flat.{RowsOf}
+use Rattle.gm_undo.proofs.Flats.{rows_long}
 use Rattle.gm_undo.proofs.rows.KeptRows.len.Goals as goal
 
 pub returns : goal.returns

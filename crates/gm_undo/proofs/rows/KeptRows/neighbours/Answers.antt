@@ -1,7 +1,7 @@
-use Rattle.std.proofs.Common.{◌≡◌, ℕ, ◌+◌, ◌-◌, ◌*◌, ◌<◌, ◌≤◌, length, refl, sym, ap, subst, ◌∙◌, arith}
-use Rattle.gm_undo.specs.Flat.{RowsOf, row_in, flat_row}
+use Rattle.std.proofs.Common.{◌≡◌, ℕ, ◌+◌, ◌-◌, ◌*◌, ◌<◌, ◌≤◌, length, sym, ap, subst, ◌∙◌, arith}
+use Rattle.gm_undo.specs.Flat.{RowsOf, row_in}
 use Rattle.gm_undo.specs.Kept.{KeptRow}
-use Rattle.gm_undo.proofs.Flats.{marked, pushed, row_is, rows_long, stretch, truncated}
+use Rattle.gm_undo.proofs.Flats.{row_is, rows_long, stretch}
 use Rattle.std.proofs.Common.{take, drop}
 use Rattle.gm_undo.proofs.rows.KeptRows.neighbours.Goals as goal
 

@@ -1,11 +1,7 @@
-use Rattle.std.proofs.Common.{◌≡◌, ℕ, ◌+◌, ◌-◌, ◌*◌, ◌<◌, ◌≤◌, List, [], ◌∷◌, ◌++◌, map, length, refl, sym, ap, subst, ◌∙◌, inl, inr, arith, length-append}
+use Rattle.std.proofs.Common.{◌≡◌, ℕ, ◌*◌, ◌<◌, length, sym, ap, ◌∙◌, inl, inr, arith}
 use Rattle.std.proofs.lemmas.Bool.{cases_lt}
-use Rattle.std.proofs.lemmas.List.{length-map, length_push}
-use Rattle.gm_arena.specs.ArenaMap.{name_at}
-use Rattle.gm_arena.specs.declared.slot.Slot.{Slot}
-use Rattle.gm_undo.specs.Flat.{RowsOf, flat_rows}
-use Rattle.gm_undo.specs.Kept.{KeptRow}
-use Rattle.gm_undo.proofs.Flats.{dart_row, more_fits, more_long, pushed, row_whole, rows_long}
+use Rattle.gm_undo.specs.Flat.{RowsOf}
+use Rattle.gm_undo.proofs.Flats.{rows_long}
 use Rattle.gm_undo.proofs.rows.KeptRows.reserve.Goals as goal
 
 -- where the shape changes there are no rows yet

@@ -1,9 +1,9 @@
-use Rattle.std.proofs.Common.{◌≡◌, ℕ, ◌+◌, ◌-◌, ◌*◌, ◌<◌, ◌≤◌, length, refl, sym, ap, subst, ◌∙◌, arith}
+use Rattle.std.proofs.Common.{◌<◌, length, sym, ap, subst, ◌∙◌, arith}
 use Rattle.std.proofs.Common.{false}
 use Rattle.std.proofs.lemmas.List.{get_or_default}
-use Rattle.gm_undo.specs.Flat.{RowsOf, row_in, flat_row}
+use Rattle.gm_undo.specs.Flat.{RowsOf, row_in}
 use Rattle.gm_undo.specs.Kept.{KeptRow}
-use Rattle.gm_undo.proofs.Flats.{marked, pushed, row_is, rows_long, stretch, truncated}
+use Rattle.gm_undo.proofs.Flats.{row_is, rows_long}
 use Rattle.gm_undo.proofs.rows.KeptRows.stays.Goals as goal
 
 pub index-requires : goal.index-requires

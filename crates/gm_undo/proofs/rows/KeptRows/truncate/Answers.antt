@@ -1,8 +1,8 @@
-use Rattle.std.proofs.Common.{◌≡◌, ℕ, ◌+◌, ◌-◌, ◌*◌, ◌<◌, ◌≤◌, length, refl, sym, ap, subst, ◌∙◌, arith}
+use Rattle.std.proofs.Common.{◌≤◌, length, sym, ap, subst, ◌∙◌, arith}
 use Rattle.std.proofs.Common.{List, take}
-use Rattle.gm_undo.specs.Flat.{RowsOf, row_in, flat_rows}
+use Rattle.gm_undo.specs.Flat.{RowsOf, flat_rows}
 use Rattle.gm_undo.specs.Kept.{KeptRow}
-use Rattle.gm_undo.proofs.Flats.{marked, pushed, row_is, rows_long, stretch, truncated}
+use Rattle.gm_undo.proofs.Flats.{rows_long, truncated}
 use Rattle.std.proofs.lemmas.Nat.{mul-le}
 use Rattle.gm_undo.proofs.rows.KeptRows.truncate.Goals as goal
 

@@ -1,0 +1,109 @@
+use Rattle.std.proofs.Common.{◌≡◌, ◌+◌, ◌*◌, ◌≤◌, length, take, sym, ap, ◌∙◌, arith}
+use Rattle.std.proofs.lemmas.Result.{err_from_is_err_and}
+use Rattle.gm_apply.proofs.Applying.{sound_again}
+use Rattle.std.proofs.lemmas.Nat.{mul-le}
+use Rattle.gm_apply.specs.Prepared as prepared
+use Rattle.gm_undo.specs.Costs.{rows_of}
+use Rattle.gm_undo.proofs.Ranges.{range_long}
+use Rattle.gm_undo.specs.Layout.{changes_in, change_in, end_of}
+use Rattle.gm_arena.specs.ArenaMap.{ArenaMap}
+use Rattle.gm_arena.specs.ArenaAsMap.{as_map}
+use Rattle.gm_arena.specs.Lawful.{IsLawful}
+use Rattle.gm_model.specs.declared.schema.Schema.{Schema}
+use Rattle.gm_undo.proofs.Entering.{changes_one, laid_one, some_changes, end_low, entered_costs, entered_history, next_begins, stands_grown}
+use Rattle.gm_undo.proofs.Tellings.{sound_held}
+use Rattle.gm_undo.proofs.history.History.apply.Goals as goal
+use Rattle.gm_undo.proofs.history.History.apply.Goals.{in-Some, in-None}
+
+pub prepare-requires-clause-sound : goal.prepare-requires-clause-sound
+prepare-requires-clause-sound g c = sound_held _ c.args.arena.now c.requires.stands.0 c.requires.stands.1
+
+pub returns-in_err-edits-clause-history : goal.returns-in_err-edits-clause-history
+returns-in_err-edits-clause-history g c told s =
+    let p = err_from_is_err_and c.from_residual.result c.from_residual.ensures.1 in
+    rw p.1 (stands_grown _ c.args.arena.now c.prepare.new.arena told c.in_err-edits.ensures.rows c.in_err-edits.ensures.spare_stays c.in_err-edits.ensures.reserved_stays s)
+
+pub returns-in_err-edits-clause-sound : goal.returns-in_err-edits-clause-sound
+returns-in_err-edits-clause-sound g c = sound_again c.args.arena.now c.prepare.new.arena c.in_err-edits.ensures.rows (sound_held _ c.args.arena.now c.requires.stands.0 c.requires.stands.1)
+
+pub make_room-requires-clause-kept : goal.make_room-requires-clause-kept
+make_room-requires-clause-kept g c = omega (arith, rw c.deref.ensures.value at c.kept_end-kept.ensures, end_low c.self.inside.rows.rows c.self.inside.changes.items c.self.inside.made c.self.inside.group c.self.invariant c.self.inside.made c.self.invariant.within)
+
+pub make_room-requires-clause-labels : goal.make_room-requires-clause-labels
+make_room-requires-clause-labels g c some =
+    let stands = rw (← c.self.view_is) at c.requires.stands in
+    (stands.1.held.shape (some_changes _ _ _ _ c.self.invariant some)).0 ∙ ap (λ (m : ArenaMap). m.schema.dim + 1) (sym c.in_ok-edits.ensures.rows)
+
+pub make_room-requires-clause-width : goal.make_room-requires-clause-width
+make_room-requires-clause-width g c some =
+    let stands = rw (← c.self.view_is) at c.requires.stands in
+    (stands.1.held.shape (some_changes _ _ _ _ c.self.invariant some)).1 ∙ ap (λ (m : ArenaMap). length m.schema.embeds) (sym c.in_ok-edits.ensures.rows)
+
+pub returns-in_err-make_room-clause-history : goal.returns-in_err-make_room-clause-history
+returns-in_err-make_room-clause-history g c told s =
+    let p = err_from_is_err_and c.from_residual-in_err-make_room.result c.from_residual-in_err-make_room.ensures.1 in
+    rw (p.1, c.in_err-make_room.ensures.stays, c.in_err-make_room.ensures.changes) (stands_grown _ c.args.arena.now c.prepare.new.arena told c.in_ok-edits.ensures.rows c.in_ok-edits.ensures.spare_stays c.in_ok-edits.ensures.reserved_stays (rw (← c.self.view_is) at s))
+
+pub returns-in_err-make_room-clause-sound : goal.returns-in_err-make_room-clause-sound
+returns-in_err-make_room-clause-sound g c = sound_again c.args.arena.now c.prepare.new.arena c.in_ok-edits.ensures.rows (sound_held _ c.args.arena.now c.requires.stands.0 c.requires.stands.1)
+
+pub truncate-requires : goal.truncate-requires
+truncate-requires g c = rw (ap (λ r. r.rows) c.in_ok-make_room.ensures.rows) (omega (arith, rw c.deref.ensures.value at c.kept_end-kept.ensures, end_low c.self.inside.rows.rows c.self.inside.changes.items c.self.inside.made c.self.inside.group c.self.invariant c.self.inside.made c.self.invariant.within))
+
+pub invariant_of-self-2 : goal.invariant_of-self-2
+invariant_of-self-2 g c =
+    let kept : c.kept_end-kept.result ≡ end_of c.self.inside.changes.items c.self.inside.made = rw c.deref.ensures.value at c.kept_end-kept.ensures in
+    let cut : c.truncate.new.self.rows ≡ take (end_of c.self.inside.changes.items c.self.inside.made) c.self.inside.rows.rows =
+    ap (λ r. r.rows) c.truncate.ensures ∙ ap (λ n. take n c.make_room.new.rows.rows) kept ∙ ap (take (end_of c.self.inside.changes.items c.self.inside.made)) (ap (λ r. r.rows) c.in_ok-make_room.ensures.rows) in
+    let is = ap (λ r. r.rows) c.keep-change.ensures.rows in
+    rw (c.push_reserved.ensures.items, c.truncate-2.ensures.items, c.in_ok-make_room.ensures.changes, is, cut)
+    (laid_one c.self.inside.rows.rows _ c.self.inside.changes.items c.self.inside.made c.self.inside.group c.self.invariant c.keep-change.result (c.keep-change.ensures.first ∙ ap length cut) c.keep-change.ensures.middle c.keep-change.ensures.end (c.keep-change.ensures.ends ∙ ap length (rw cut at is)))
+
+pub returns-clause-outcome : goal.returns-clause-outcome
+returns-clause-outcome g c = rw (c.applied-applied.ensures.added, c.applied-applied.ensures.removed) (c.keep-change.ensures.done _ c.in_ok-edits.ensures.outcome)
+
+pub returns-clause-history : goal.returns-clause-history
+returns-clause-history g c told s =
+    let kept : c.kept_end-kept.result ≡ end_of c.self.inside.changes.items c.self.inside.made = rw c.deref.ensures.value at c.kept_end-kept.ensures in
+    let cut : c.truncate.new.self.rows ≡ take (end_of c.self.inside.changes.items c.self.inside.made) c.self.inside.rows.rows =
+    ap (λ r. r.rows) c.truncate.ensures ∙ ap (λ n. take n c.make_room.new.rows.rows) kept ∙ ap (take (end_of c.self.inside.changes.items c.self.inside.made)) (ap (λ r. r.rows) c.in_ok-make_room.ensures.rows) in
+    let is = ap (λ r. r.rows) c.keep-change.ensures.rows in
+    let same = c.in_ok-edits.ensures.rows in
+    let stands = stands_grown _ c.args.arena.now c.prepare.new.arena told same c.in_ok-edits.ensures.spare_stays c.in_ok-edits.ensures.reserved_stays (rw (← c.self.view_is) at s) in
+    let labels = ap (λ r. r.labels) c.keep-change.ensures.rows ∙ ap (λ r. r.labels) c.truncate.ensures ∙ ap (λ r. r.labels) c.in_ok-make_room.ensures.rows ∙ ap (λ (s : Schema). s.dim + 1) (sym c.keep-change.ensures.schema) in
+    let width = ap (λ r. r.width) c.keep-change.ensures.rows ∙ ap (λ r. r.width) c.truncate.ensures ∙ ap (λ r. r.width) c.in_ok-make_room.ensures.rows ∙ ap (λ (s : Schema). length s.embeds) (sym c.keep-change.ensures.schema) in
+    let begins : c.keep-change.result.begins ≡ next_begins c.self.inside.group c.self.inside.made = c.keep-change.ensures.begins ∙ (elim c.match-self.branch [
+      | in-Some w ↦ rw w.in-Some.is w.begins-is
+      | in-None w ↦ rw w.in-None.is w.begins-is
+    ]) in
+    let lawful : IsLawful c.keep-change.new.arena = c.keep-change.ensures.lawful in
+    rw (← ap as_map same, c.push_reserved.ensures.items, c.truncate-2.ensures.items, c.in_ok-make_room.ensures.changes, is, cut, changes_one c.self.inside.rows.rows _ c.self.inside.changes.items c.self.inside.made c.self.inside.group c.self.invariant c.keep-change.result stands.held.within)
+    (entered_history c.self.inside.rows.labels c.self.inside.rows.width _ _ (changes_in c.self.inside.rows.rows c.self.inside.changes.items) c.self.inside.made _ stands.held.within c.prepare.new.arena c.keep-change.new.arena c.keep-change.ensures.schema c.self.inside.group told stands begins c.keep-change.ensures.total (omega (arith, c.keep-change.ensures.reserved)) (rw (is, cut) at c.keep-change.ensures.leads) lawful c.keep-change.ensures.sound (labels, width))
+
+pub returns-clause-entries : goal.returns-clause-entries
+returns-clause-entries g c told entries most s may budget =
+    let kept : c.kept_end-kept.result ≡ end_of c.self.inside.changes.items c.self.inside.made = rw c.deref.ensures.value at c.kept_end-kept.ensures in
+    let cut : c.truncate.new.self.rows ≡ take (end_of c.self.inside.changes.items c.self.inside.made) c.self.inside.rows.rows =
+    ap (λ r. r.rows) c.truncate.ensures ∙ ap (λ n. take n c.make_room.new.rows.rows) kept ∙ ap (take (end_of c.self.inside.changes.items c.self.inside.made)) (ap (λ r. r.rows) c.in_ok-make_room.ensures.rows) in
+    let is = ap (λ r. r.rows) c.keep-change.ensures.rows in
+    let stands = rw (← c.self.view_is) at s in
+    let schema = c.keep-change.ensures.schema ∙ ap (λ (m : ArenaMap). m.schema) c.in_ok-edits.ensures.rows in
+    let begins : c.keep-change.result.begins ≡ next_begins c.self.inside.group c.self.inside.made = c.keep-change.ensures.begins ∙ (elim c.match-self.branch [
+      | in-Some w ↦ rw w.in-Some.is w.begins-is
+      | in-None w ↦ rw w.in-None.is w.begins-is
+    ]) in
+    let few : 7 * (c.args.arena.now.schema.dim + 1) * rows_of (change_in c.keep-change.new.rows.rows c.keep-change.result) ≤ most =
+    let ends = c.keep-change.ensures.ends in
+    let middle = c.keep-change.ensures.middle in
+    let end = c.keep-change.ensures.end in
+    let before = range_long c.keep-change.new.rows.rows c.keep-change.result.first c.keep-change.result.middle middle (omega (arith, end, ends)) in
+    let after = range_long c.keep-change.new.rows.rows c.keep-change.result.middle c.keep-change.result.end end (omega (arith, ends)) in
+    let few : rows_of (change_in c.keep-change.new.rows.rows c.keep-change.result) ≤ prepared.rows_of c.in_ok-edits.edits = omega (arith, before, after, middle, end, c.keep-change.ensures.few) in
+    omega (arith, mul-le (7 * (c.args.arena.now.schema.dim + 1)) (rows_of (change_in c.keep-change.new.rows.rows c.keep-change.result)) (7 * (c.args.arena.now.schema.dim + 1)) (prepared.rows_of c.in_ok-edits.edits) (omega arith) few, c.in_ok-edits.ensures.few most budget) in
+    rw (schema, c.push_reserved.ensures.items, c.truncate-2.ensures.items, c.in_ok-make_room.ensures.changes, is, cut, changes_one c.self.inside.rows.rows _ c.self.inside.changes.items c.self.inside.made c.self.inside.group c.self.invariant c.keep-change.result stands.held.within)
+    (entered_costs c.self.inside.rows.labels c.self.inside.rows.width _ _ (changes_in c.self.inside.rows.rows c.self.inside.changes.items) c.self.inside.made _ stands.held.within c.args.arena.now c.keep-change.new.arena schema c.self.inside.group told c.args.arena.now.schema.dim most entries stands begins (rw (is, cut) at few) (rw (← c.self.view_is) at may))
+
+pub returns-clause-most : goal.returns-clause-most
+returns-clause-most g c most budget =
+    let cost = rw (ap (λ (m : ArenaMap). m.schema) c.in_ok-edits.ensures.rows) at c.keep-change.ensures.cost in
+    omega (arith, cost, c.in_ok-edits.ensures.left most budget)
