@@ -1,7 +1,8 @@
 -- What one line of a script comes to, by the call that applies its rule.
-use Rattle.std.proofs.Common.{◌≡◌, ◌≢◌, ℕ, ◌+◌, ◌<◌, ◌≤◌, List, length, get_or, Some, refl, sym, ap, subst, ap₂, ◌∙◌, Result, Ok, Err, arith}
-use Rattle.std.specs.Prelude.{slice_get, MatchResult}
-use Rattle.std.specs.Option.{option_map}
+use Rattle.std.proofs.Common.{◌≡◌, ◌≢◌, ℕ, ◌+◌, ◌<◌, ◌≤◌, List, length, get_or, true, false, IsTrue, None, Some, Option, refl, sym, ap, subst, ap₂, ◌∙◌, Result, Ok, Err, arith}
+use Rattle.std.specs.FinMap.{get}
+use Rattle.std.specs.Prelude.{slice_get, MatchOption, MatchResult}
+use Rattle.std.specs.Option.{is_some, option_map}
 use Rattle.std.proofs.lemmas.List.{length-map}
 use Rattle.std.proofs.lemmas.Option.{slice_get_within, slice_get-get_or, slice_get-map, same_Some}
 use Rattle.gm_model.specs.declared.memory.OutOfMemory.{OutOfMemory}
@@ -13,7 +14,7 @@ use Rattle.gm_model.specs.Applications.{Application, Cause, IsDone, IsRefused, I
 use Rattle.gm_model.specs.Applications as causes
 use Rattle.gm_model.specs.Kinds.{AreGoodParams}
 use Rattle.gm_model.specs.Limits.{most_darts}
-use Rattle.gm_model.specs.Maps.{Map, IsSound}
+use Rattle.gm_model.specs.Maps.{Map, IsDart, IsSound}
 use Rattle.gm_model.specs.Rules.{Rule, rule_of}
 use Rattle.gm_model.specs.Runs.{IsOutcome, IsLineOutcome}
 use Rattle.gm_model.specs.Budgets.{IsLineBudget, changed_darts}
@@ -23,7 +24,8 @@ use Rattle.gm_pending.specs.declared.applied.Applied.{Applied}
 use Rattle.gm_apply.specs.declared.refusal.Refusal.{Refusal}
 use Rattle.gm_apply.specs.declared.refusal.Refusal.TheVariants as refusals
 use Rattle.gm_arena.specs.ArenaAsMap.{as_map}
-use Rattle.gm_arena.specs.ArenaMap.{ArenaMap}
+use Rattle.gm_arena.specs.declared.slot.Slot.{Slot}
+use Rattle.gm_arena.specs.ArenaMap.{ArenaMap, IsAt}
 use Rattle.gm_arena.specs.Lawful.{IsLawful}
 use Rattle.gm_match.specs.Outcome as matches
 use Rattle.gm_pending.specs.EditLists.{HasSameRows}
@@ -33,7 +35,8 @@ use Rattle.gm_theory.specs.Suited.{IsRuleOf}
 use Rattle.gm_run.specs.declared.outcome.Outcome.{Outcome}
 use Rattle.gm_run.specs.declared.outcome.Outcome.TheVariants as outcomes
 use Rattle.gm_run.specs.Lines.{cause_of, outcome_of}
-use Rattle.gm_run.specs.Progress.{rules_of, IsPlanFor, ArePlansFor, HasLine, IsStopped}
+use Rattle.gm_run.specs.Progress.{rules_of, IsPlanFor, ArePlansFor}
+use Rattle.gm_run.specs.Standing.{HasLine, WasDone, WasRefused, IsUnapplied}
 
 -- ---- one line
 
@@ -61,28 +64,18 @@ module _ (rules : List Rule) (m n : ArenaMap) (line : Line) (rule : Rule) (rule_
   within_line : (most : ℕ) → IsLineBudget rules (as_map m) line most → steps ≤ start + most
   within_line most given = within most (budget_here rules (as_map m) line rule most rule_is given)
 
-  has_line : (outcome : Outcome) (told : runs.Outcome) → outcome_of outcome ≡ Some told → IsOutcome (matches.application_of m rule line.hooks line.params) told (as_map n) → start + changed_darts told ≤ steps
-      → HasLine rules (as_map m) line outcome (as_map n) start steps
-  has_line outcome told tells is least = record {
-    told = told;
-    tells = tells;
-    is = record { rule = rule; rule_is = rule_is; outcome_is = is };
-    most = within_line;
-    least = least;
-  }
-
   pub has_done : (applied : Applied) → IsDone (matches.application_of m rule line.hooks line.params) (as_map n) applied.added applied.removed → start + applied.added + applied.removed ≤ steps
-      → HasLine rules (as_map m) line (outcomes.Done applied) (as_map n) start steps
-  has_done applied done least = has_line (outcomes.Done applied) (runs.Done applied.added applied.removed) refl done (omega (arith, least))
+      → HasLine rules (as_map m) line (as_map n) start steps (outcomes.Done applied)
+  has_done applied done least = WasDone applied (record { rule = rule; rule_is = rule_is; outcome_is = done }) within_line (omega (arith, least))
 
   pub has_refused : (refusal : Refusal) → (refusal ≢ refusals.OutOfMemory) → IsRefusedFor (matches.application_of m rule line.hooks line.params) refusal → HasSameRows m n → start ≤ steps
-      → HasLine rules (as_map m) line (outcomes.Refused refusal) (as_map n) start steps
+      → HasLine rules (as_map m) line (as_map n) start steps (outcomes.Refused refusal)
   has_refused refusal other refused same rises =
       let cause = refused_for (matches.application_of m rule line.hooks line.params) refusal other refused in
-      has_line (outcomes.Refused refusal) (runs.Refused cause.0) (ap (option_map runs.Refused) cause.1) (cause.2, ap as_map same) (omega (arith, rises))
+      WasRefused refusal cause.0 cause.1 (record { rule = rule; rule_is = rule_is; outcome_is = (cause.2, ap as_map same) }) within_line rises
 
-  pub is_stopped : HasSameRows m n → IsStopped rules (as_map m) line (as_map n) start steps
-  is_stopped same = record { same = ap as_map same; most = within_line }
+  pub is_unapplied : HasSameRows m n → IsUnapplied rules (as_map m) line (as_map n) start steps
+  is_unapplied same = record { same = ap as_map same; most = within_line }
 
 -- ---- the line's plan
 
@@ -110,35 +103,46 @@ module _ (plans : List PlanOf) (line : Line) (plan : PlanOf) (good : IsGoodLine 
   pub plan_for : (schema : Schema) → ArePlansFor schema plans → IsPlanFor schema plan
   plan_for schema all_for = subst (IsPlanFor schema) (sym is) (all_for line.rule plan (named plans line good))
 
-module _ (plans : List PlanOf) (m n : ArenaMap) (line : Line) (plan : PlanOf) (all_for : ArePlansFor m.schema plans) (good : IsGoodLine (rules_of plans) line) (is : plan ≡ get_or plans line.rule plan)
-    (hooks : List ℕ) (params : List Value) (same_hooks : hooks ≡ line.hooks) (same_params : params ≡ line.params) (start steps : ℕ)
-    (lawful : IsLawful m) (sound : IsSound (as_map m)) (planned : IsPlanned plan.schema (rule_of plan.table))
-    (within : (most : ℕ) → IsBudget (matches.application_of m (rule_of plan.table) hooks params) most → steps ≤ start + most) where
-  pub rule_of_line : IsRuleOf m.schema (rules_of plans) line.rule
-  rule_of_line = record {
-    of_schema = lawful.schema;
-    accepted = λ rule at. subst (λ (r : Rule). IsAccepted m.schema r) (same_Some (rule_of plan.table) rule (sym (rule_is plans line plan good is) ∙ at))
-        (subst (λ (s : Schema). IsAccepted s (rule_of plan.table)) (sym (plan_for plans line plan good is m.schema all_for)) planned.accepted);
-  }
+-- a budget of the line is one of its application
+pub line_budget_of : (plans : List PlanOf) (m : ArenaMap) (line : Line) (plan : PlanOf) (good : IsGoodLine (rules_of plans) line) (is : plan ≡ get_or plans line.rule plan) (most : ℕ) → IsLineBudget (rules_of plans) (as_map m) line most
+    → IsBudget (matches.application_of m (rule_of plan.table) line.hooks line.params) most
+line_budget_of plans m line plan good is most budget = budget_here (rules_of plans) (as_map m) line (rule_of plan.table) most (rule_is plans line plan good is) budget
 
-  same_app : matches.application_of m (rule_of plan.table) hooks params ≡ matches.application_of m (rule_of plan.table) line.hooks line.params
-  same_app = ap₂ (matches.application_of m (rule_of plan.table)) same_hooks same_params
+-- the rule of this number is accepted
+pub rule_accepted_here : (plans : List PlanOf) (m : ArenaMap) (rule : ℕ) (plan : PlanOf) → rule < length plans → plan ≡ get_or plans rule plan → ArePlansFor m.schema plans → IsLawful m → IsPlanned plan.schema (rule_of plan.table) → IsRuleOf m.schema (rules_of plans) rule
+rule_accepted_here plans m rule plan within is all_for lawful planned = record {
+  of_schema = lawful.schema;
+  accepted = λ other at. subst (IsAccepted m.schema) (same_Some (rule_of plan.table) other (sym here ∙ at)) (subst (λ (s : Schema). IsAccepted s (rule_of plan.table)) (sym for_it) planned.accepted);
+}
+  where
+    here : slice_get (rules_of plans) rule ≡ Some (rule_of plan.table)
+    here = slice_get-map (λ (p : PlanOf). rule_of p.table) plans rule ∙ ap (option_map (λ (p : PlanOf). rule_of p.table)) (slice_get-get_or plans rule plan within ∙ ap Some (sym is))
 
-  within_here : (most : ℕ) → IsBudget (matches.application_of m (rule_of plan.table) line.hooks line.params) most → steps ≤ start + most
-  within_here most budget = within most (subst (λ app. IsBudget app most) (sym same_app) budget)
+    for_it : m.schema ≡ plan.schema
+    for_it = subst (IsPlanFor m.schema) (sym is) (all_for rule plan within)
 
-  pub line_done : (applied : Applied) → IsDone (matches.application_of m (rule_of plan.table) hooks params) (as_map n) applied.added applied.removed → start + applied.added + applied.removed ≤ steps
-      → HasLine (rules_of plans) (as_map m) line (outcomes.Done applied) (as_map n) start steps
+module _ (plans : List PlanOf) (m n : ArenaMap) (line : Line) (plan : PlanOf) (good : IsGoodLine (rules_of plans) line) (is : plan ≡ get_or plans line.rule plan) (start steps : ℕ)
+    (within : (most : ℕ) → IsBudget (matches.application_of m (rule_of plan.table) line.hooks line.params) most → steps ≤ start + most) where
+  pub line_done : (applied : Applied) → IsDone (matches.application_of m (rule_of plan.table) line.hooks line.params) (as_map n) applied.added applied.removed → start + applied.added + applied.removed ≤ steps
+      → HasLine (rules_of plans) (as_map m) line (as_map n) start steps (outcomes.Done applied)
   line_done applied done least =
-      has_done (rules_of plans) m n line (rule_of plan.table) (rule_is plans line plan good is) start steps within_here applied
-      (subst (λ app. IsDone app (as_map n) applied.added applied.removed) same_app done) least
+      has_done (rules_of plans) m n line (rule_of plan.table) (rule_is plans line plan good is) start steps within applied done least
 
   pub line_refused : (refusal : Refusal) (result : Result Outcome OutOfMemory) → MatchResult result (λ outcome. (outcome ≡ outcomes.Refused refusal) × (refusal ≢ refusals.OutOfMemory)) (λ _. refusal ≡ refusals.OutOfMemory)
-      → IsRefusedFor (matches.application_of m (rule_of plan.table) hooks params) refusal × HasSameRows m n → start ≤ steps
-      → MatchResult result (λ outcome. HasLine (rules_of plans) (as_map m) line outcome (as_map n) start steps) (λ _. IsStopped (rules_of plans) (as_map m) line (as_map n) start steps)
+      → IsRefusedFor (matches.application_of m (rule_of plan.table) line.hooks line.params) refusal × HasSameRows m n → start ≤ steps
+      → MatchResult result (HasLine (rules_of plans) (as_map m) line (as_map n) start steps) (λ _. IsUnapplied (rules_of plans) (as_map m) line (as_map n) start steps)
   line_refused refusal (Ok outcome) told refused rises =
-      subst (λ o. HasLine (rules_of plans) (as_map m) line o (as_map n) start steps) (sym told.0)
-      (has_refused (rules_of plans) m n line (rule_of plan.table) (rule_is plans line plan good is) start steps within_here refusal told.1
-      (subst (λ app. IsRefusedFor app refusal) same_app refused.0) refused.1 rises)
+      subst (HasLine (rules_of plans) (as_map m) line (as_map n) start steps) (sym told.0)
+      (has_refused (rules_of plans) m n line (rule_of plan.table) (rule_is plans line plan good is) start steps within refusal told.1 refused.0 refused.1 rises)
   line_refused refusal (Err error) told refused rises =
-      is_stopped (rules_of plans) m n line (rule_of plan.table) (rule_is plans line plan good is) start steps within_here refused.1
+      is_unapplied (rules_of plans) m n line (rule_of plan.table) (rule_is plans line plan good is) start steps within refused.1
+
+-- ---- a dart by its name
+
+pub live_at : (m : ArenaMap) (name : ℕ) (slot : Option Slot) → IsLawful m → MatchOption slot (get m.darts name ≡ None) (λ s. IsAt m s.at name) → IsTrue (is_some slot) → IsDart (as_map m) name
+live_at m name (Some s) lawful at some = lawful.live s.at name at
+live_at m name None lawful at some = absurd cc
+
+pub dead_at : (m : ArenaMap) (name : ℕ) (slot : Option Slot) → MatchOption slot (get m.darts name ≡ None) (λ s. IsAt m s.at name) → is_some slot ≡ false → IsDart (as_map m) name → ⊥
+dead_at m name None at none live = let gone : is_some (get m.darts name) ≡ false = ap is_some at in let here : true ≡ false = sym live ∙ gone in absurd cc
+dead_at m name (Some s) at none live = absurd cc

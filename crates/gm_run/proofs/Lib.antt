@@ -9,7 +9,10 @@ pub mod OneBudget
 pub mod OneOutcome
 pub mod OneRun
 pub mod ReadyEnds
+pub mod EachSteps
 pub mod Sayable
+pub mod Stepping
+pub mod Tallies
 pub mod Telling
 pub mod Through
 pub mod Told

@@ -87,7 +87,7 @@ module _ (schema : Schema) (rules : List Rule) where
     budget = same_budget budget.rule line.hooks line.params a b (suits b line.rule budget.rule of sound budget.rule_is) alike most budget.budget;
   }
 
-  one_line_budget : (a b : Map) (line : Line) → IsRuleOf schema rules line.rule → IsGoodLine rules line → IsSoundOf schema b → AreAlike a b → (most other : ℕ) → IsLineBudget rules a line most → IsLineBudget rules b line other → most ≡ other
+  pub one_line_budget : (a b : Map) (line : Line) → IsRuleOf schema rules line.rule → IsGoodLine rules line → IsSoundOf schema b → AreAlike a b → (most other : ℕ) → IsLineBudget rules a line most → IsLineBudget rules b line other → most ≡ other
   one_line_budget a b line of good sound alike most other first second =
       one_budget (application_of b second.rule line) (suits b line.rule second.rule of sound second.rule_is) params most other
       (subst (λ r. IsBudget (application_of b r line) most) (same_Some there.rule second.rule (sym there.rule_is ∙ second.rule_is)) there.budget) second.budget
@@ -138,7 +138,7 @@ module _ (schema : Schema) (rules : List Rule) where
     one_costs (d ∷ leads) (Passed ∷ turns) (Taken p ∷ others) a b costs other sound alike (dead, are) (live, n, most, rest, is, budget, are', e) = absurd (dead ((alike.same.darts d).1 live))
     one_costs (d ∷ leads) (Passed ∷ turns) (Passed ∷ others) a b costs other sound alike (dead, are) (dead', are') = one_costs leads turns others a b costs other sound alike are are'
 
-  one_each_leads : (a b : Map) (mask : Mask) (index : ℕ) (params : List Value) → IsGoodEach rules schema.dim mask index params → IsSoundOf schema b → AreAlike a b → (leads others : List ℕ) → AreLeads a mask leads → AreLeads b mask others → leads ≡ others
+  pub one_each_leads : (a b : Map) (mask : Mask) (index : ℕ) (params : List Value) → IsGoodEach rules schema.dim mask index params → IsSoundOf schema b → AreAlike a b → (leads others : List ℕ) → AreLeads a mask leads → AreLeads b mask others → leads ≡ others
   one_each_leads a b mask index params good sound alike leads others first second =
       sym (one_leads mask b a sound.sound.generalised (alike_back a b alike) (λ i t. subst (λ (s : Schema). i ≤ s.dim) (sym sound.schema_is) (good.labels i t)) others leads second first)
 

@@ -1,29 +1,35 @@
 -- How far a run has come, statement by statement, and what is known where it ends.
-use Rattle.std.proofs.Common.{◌≡◌, ℕ, ◌+◌, ◌<◌, ◌≤◌, false, List, [], ◌∷◌, ◌++◌, take, drop, length, get_or, None, Some, refl, sym, ap, subst, ◌∙◌, arith}
-use Rattle.std.specs.List.{AllByRecursion}
+use Rattle.std.proofs.Common.{◌≡◌, ℕ, zero, suc, ◌+◌, ◌<◌, ◌≤◌, Bool, true, false, List, [], ◌∷◌, ◌++◌, take, drop, length, get_or, Option, None, Some, refl, sym, ap, subst, ◌∙◌, arith}
+use Rattle.std.specs.List.{AllByRecursion, count_by}
 use Rattle.std.specs.Option.{option_map}
-use Rattle.std.specs.Prelude.{is_some, slice_get}
-use Rattle.std.proofs.lemmas.List.{take_more, take_all, take-append-drop}
-use Rattle.std.proofs.lemmas.Option.{slice_get_within, slice_get-get_or, get_or_from_slice_get}
-use Rattle.gm_model.specs.declared.script.Line.{Line}
+use Rattle.std.specs.Prelude.{is_some}
+use Rattle.std.proofs.lemmas.List.{drop_more, take_more, take_all, take-append-drop}
+use Rattle.std.proofs.lemmas.Option.{slice_get-get_or}
 use Rattle.gm_model.specs.declared.script.Stat.{Stat}
 use Rattle.gm_model.specs.declared.script.Stat.TheVariants as statements
-use Rattle.gm_model.specs.Budgets.{Bounds, Entries, HasBounds, OfDone, OfRefused, OfSkipped, IsLineBudget, IsRunWithin, changed_darts, no_entries, up_to}
-use Rattle.gm_model.specs.Histories.{changed}
+use Rattle.gm_model.specs.Budgets.{Bounds, Entries, HasBounds, IsRunWithin, no_entries, up_to}
+use Rattle.gm_model.specs.Histories.{Group, History, changed, no_history}
 use Rattle.gm_model.specs.Maps.{Map, IsSound}
 use Rattle.gm_model.specs.Rules.{Rule}
-use Rattle.gm_model.specs.Runs.{State, start_of, IsLineOutcome, IsRun, IsStep, IsDoneHere, IsRefusedHere, IsSkipped, behind_done, behind_refused}
+use Rattle.gm_model.specs.Runs.{State, start_of, AreInOrder, IsRun, IsStep, IsDoneHere, IsRefusedHere, IsSkipped, GoesBack, HasNoPast, GoesForth, HasNoFuture, Begins, Ends, IsTakenBack, GoesOver, behind_each, is_done_turn}
 use Rattle.gm_model.specs.Runs as runs
-use Rattle.gm_theory.specs.Outcomes.{IsGoodLine}
-use Rattle.gm_theory.specs.Suited.{IsRuleOf, IsSuited}
+use Rattle.gm_arena.specs.ArenaAsMap.{as_map}
+use Rattle.gm_arena.specs.ArenaMap.{ArenaMap}
+use Rattle.gm_theory.specs.Suited.{IsSuited}
 use Rattle.gm_theory.proofs.RunsFound.{GoesOn, Stands, goes_on, stands_first}
+use Rattle.gm_undo.specs.Costs.{MayTake}
+use Rattle.gm_undo.specs.Standing.{StandsFor}
 use Rattle.gm_run.specs.declared.outcome.Outcome.{Outcome}
+use Rattle.gm_run.specs.declared.standing.Open.{Open}
+use Rattle.gm_run.specs.declared.standing.Open.TheVariants as opens
+use Rattle.gm_run.specs.declared.standing.Standing.{Standing}
 use Rattle.gm_run.specs.Alike.{AreAlike, AreAlikeStates}
-use Rattle.gm_run.specs.Lines.{outcome_of, Tells}
-use Rattle.gm_run.specs.Progress.{HasLine, HasStep, IsCutShort, IsStopped, IsStoppedAt, IsLeft, BehindAll}
+use Rattle.gm_run.specs.Lines.{Tells}
+use Rattle.gm_run.specs.Progress.{IsCutShort, IsLeft, BehindAll}
+use Rattle.gm_run.specs.Standing.{HasOpen, HasStep, IsAllowed, IsInGroup, IsStopped, StandsAt}
 use Rattle.gm_run.proofs.AlikeStates.{states_alike_self}
-use Rattle.gm_run.proofs.Courses.{IsCourse, course_on, run_of, split, together, within_of}
-use Rattle.gm_run.proofs.OneRun.{budget_alike, one_run, one_within}
+use Rattle.gm_run.proofs.Courses.{IsCourse, IsSplit, course_on, run_of, split, together, within_of}
+use Rattle.gm_run.proofs.OneRun.{one_bounds, one_run, one_within}
 use Rattle.gm_run.proofs.Telling.{tells_more, told_once}
 
 -- ---- lists
@@ -34,99 +40,131 @@ all_more P (y ∷ xs) x all here = (all.0, all_more P xs x all.1 here)
 
 -- ---- the first statements, so many of them, were run
 
-pub record IsThrough (rules : List Rule) (before : Map) (stats : List Stat) (lines : List Outcome) (now : Map) (start steps : ℕ) : Type 0 where
+pub record IsThrough (rules : List Rule) (before : Map) (stats : List Stat) (lines : List Outcome) (standing : Standing) (m : ArenaMap) (start steps : ℕ) : Type 0 where
   pub told : List runs.Outcome
   pub tells : Tells lines told
   pub state : State
   pub costs : Entries
   pub bounds : Bounds
   pub course : IsCourse rules (start_of before) no_entries stats told state costs bounds
-  pub map : state.map ≡ now
   pub suited : AllByRecursion (IsSuited before.schema rules) stats
-  pub stands : Stands before.schema state costs
-  -- no group is open, and none was
-  pub whole : state.is_broken ≡ false
-  pub outside : state.history.group ≡ None
+  -- the state is sound, and it is where the run stands
+  pub sound : Stands before.schema state costs
+  pub stands : StandsAt standing m state costs
   pub least : start + bounds.least ≤ steps
   pub most : steps ≤ start + bounds.most
 
+-- in which a group is open
+abbrev pub is_open : Open → Bool
+is_open opens.Nothing = false
+is_open opens.Whole = true
+is_open opens.Broken = true
+
+-- ---- the order of statements
+
+-- a statement, and those behind it
+pub next_of : (stats : List Stat) (k : ℕ) (stat : Stat) → k < length stats → stat ≡ get_or stats k stat → drop k stats ≡ stat ∷ drop (k + 1) stats
+next_of stats k stat within is = drop_more stats k stat within ∙ ap (λ s. s ∷ drop (k + 1) stats) (sym is)
+
+open_as : (opened : Open) (state : State) → HasOpen opened state → is_open opened ≡ is_some state.history.group
+open_as opens.Nothing state has = sym (ap is_some has.0)
+open_as opens.Whole state has = sym (ap is_some has.1)
+open_as opens.Broken state has = sym (ap is_some has.1)
+
+still_open : (group : Option Group) → is_some group ≡ is_some (option_map changed group)
+still_open None = refl
+still_open (Some group) = refl
+
+each_open : (state : State) (after : Map) (done : ℕ) → is_some state.history.group ≡ is_some (behind_each state done after).history.group
+each_open state after zero = refl
+each_open state after (suc done) = still_open state.history.group
+
+-- behind a step the order goes on
+order_behind : (rules : List Rule) (state : State) (stat : Stat) (outcome : runs.Outcome) (after : State) (rest : List Stat) → IsStep rules state stat outcome after → AreInOrder (is_some state.history.group) (stat ∷ rest) → AreInOrder (is_some after.history.group) rest
+order_behind rules state _ _ _ rest (IsDoneHere line added removed after whole is) order = subst (λ o. AreInOrder o rest) (still_open state.history.group) order
+order_behind rules state _ _ _ rest (IsRefusedHere line cause whole is) order = order
+order_behind rules state _ _ _ rest (IsSkipped line broken) order = order
+order_behind rules state _ _ _ rest (GoesBack before history is) order = subst (λ o. AreInOrder o rest) (order.0 ∙ sym (ap (λ (h : History). is_some h.group) is.after)) order.1
+order_behind rules state _ _ _ rest (HasNoPast none) order = order.1
+order_behind rules state _ _ _ rest (GoesForth after history is) order = subst (λ o. AreInOrder o rest) (order.0 ∙ sym (ap (λ (h : History). is_some h.group) is.after)) order.1
+order_behind rules state _ _ _ rest (HasNoFuture none) order = order.1
+order_behind rules state _ _ _ rest (Begins outside) order = order.1
+order_behind rules state _ _ _ rest (Ends group is whole) order = order.1
+order_behind rules state _ _ _ rest (IsTakenBack group is broken) order = order.1
+order_behind rules state _ _ _ rest (GoesOver mask index params leads turns after outside are are_turns) order = subst (λ o. AreInOrder o rest) (each_open state after (count_by is_done_turn turns)) order.1
+
+outside : (opened : Open) → is_open opened ≡ false → opened ≡ opens.Nothing
+outside opens.Nothing e = refl
+outside opens.Whole e = absurd cc
+outside opens.Broken e = absurd cc
+
+pub allowed : (opened : Open) (stat : Stat) (rest : List Stat) → AreInOrder (is_open opened) (stat ∷ rest) → IsAllowed opened stat
+allowed opened (statements.Apply line) rest order = tt
+allowed opened statements.End rest order = inside opened order.0
+  where
+    inside : (opened : Open) → is_open opened ≡ true → IsInGroup opened
+    inside opens.Nothing e = absurd cc
+    inside opens.Whole e = tt
+    inside opens.Broken e = tt
+allowed opened statements.Undo rest order = outside opened order.0
+allowed opened statements.Redo rest order = outside opened order.0
+allowed opened statements.Group rest order = outside opened order.0
+allowed opened (statements.Each mask rule params) rest order = outside opened order.0
+
 module _ (rules : List Rule) (before : Map) (sound : IsSound before) where
-  pub none_through : (start : ℕ) → IsThrough rules before [] [] before start start
-  none_through start = record {
+  pub none_through : (standing : Standing) (m : ArenaMap) (start : ℕ) → before ≡ as_map m → StandsFor standing.history m no_history → MayTake standing.history m.schema.dim no_entries → standing.group ≡ opens.Nothing → IsThrough rules before [] [] standing m start start
+  none_through standing m start same history costs outside = record {
     told = [];
     tells = refl;
     state = start_of before;
     costs = no_entries;
     bounds = up_to 0;
     course = (refl, refl, refl);
-    map = refl;
     suited = tt;
-    stands = stands_first before sound;
-    whole = refl;
-    outside = refl;
+    sound = stands_first before sound;
+    stands = record { map = same; history = history; costs = costs; group = subst (λ o. HasOpen o (start_of before)) (sym outside) (refl, refl) };
     least = omega arith;
     most = omega arith;
   }
 
-  -- ---- one line more
+  -- ---- one statement more
 
-  module _ (stats : List Stat) (lines : List Outcome) (now after : Map) (start middle steps : ℕ) (through : IsThrough rules before stats lines now start middle) (line : Line) (good : IsGoodLine rules line) (of : IsRuleOf before.schema rules line.rule) where
-    suited : IsSuited before.schema rules (statements.Apply line)
-    suited = (good, of)
-
-    line_here : (outcome : runs.Outcome) → IsLineOutcome rules now line outcome after → IsLineOutcome rules through.state.map line outcome after
-    line_here outcome is = subst (λ m. IsLineOutcome rules m line outcome after) (sym through.map) is
-
-    budget_here : (most : ℕ) → IsLineBudget rules through.state.map line most → IsLineBudget rules now line most
-    budget_here most budget = subst (λ m. IsLineBudget rules m line most) through.map budget
-
-    -- the step, its bounds, and the steps within them
-    goes_through : (outcome : Outcome) (told : runs.Outcome) (state : State) → outcome_of outcome ≡ Some told → IsStep rules through.state (statements.Apply line) told state → state.map ≡ after → state.is_broken ≡ false → state.history.group ≡ None
-        → ((bounds : Bounds) (behind : Entries) → HasBounds rules through.state through.costs (statements.Apply line) told bounds behind → (middle + bounds.least ≤ steps) × (steps ≤ middle + bounds.most))
-        → IsThrough rules before (stats ++ statements.Apply line ∷ []) (lines ++ outcome ∷ []) after start steps
-    goes_through outcome told state tells step map whole outside within =
-        let on : GoesOn before.schema rules through.state through.costs (statements.Apply line) told state = goes_on before.schema rules through.state through.costs (statements.Apply line) told state through.stands suited step in
-        let here = within on.bounds on.behind on.has in
+  module _ (stats : List Stat) (k : ℕ) (lines : List Outcome) (old new : Standing) (m n : ArenaMap) (start middle steps : ℕ) (through : IsThrough rules before (take k stats) lines old m start middle)
+      (stat : Stat) (within : k < length stats) (is : stat ≡ get_or stats k stat) (suited : IsSuited before.schema rules stat) where
+    pub stat_through : (outcome : Outcome) → HasStep rules through.state through.costs stat outcome new n middle steps → IsThrough rules before (take (k + 1) stats) (lines ++ outcome ∷ []) new n start steps
+    stat_through outcome has =
         let least = through.least in
         let most = through.most in
-        record {
-          told = through.told ++ told ∷ [];
-          tells = tells_more lines through.told through.tells outcome told tells;
-          state = state;
-          costs = on.behind;
-          bounds = together through.bounds on.bounds;
-          course = course_on rules (start_of before) through.state state no_entries through.costs on.behind stats through.told (statements.Apply line) told through.bounds on.bounds through.course step on.has;
-          map = map;
-          suited = all_more (IsSuited before.schema rules) stats (statements.Apply line) through.suited suited;
-          stands = on.stands;
-          whole = whole;
-          outside = outside;
-          least = omega (arith, here.0, least);
-          most = omega (arith, here.1, most);
-        }
-
-    pub line_through : (outcome : Outcome) → HasLine rules now line outcome after middle steps → IsThrough rules before (stats ++ statements.Apply line ∷ []) (lines ++ outcome ∷ []) after start steps
-    line_through outcome has = go has.told has.tells has.is has.least
+        let last_least = has.least in
+        let last_most = has.most in
+        let on : GoesOn before.schema rules through.state through.costs stat has.told has.after = goes_on before.schema rules through.state through.costs stat has.told has.after through.sound suited has.step in
+        subst (λ ss. IsThrough rules before ss (lines ++ outcome ∷ []) new n start steps) (ap (λ s. take k stats ++ s ∷ []) is ∙ sym (take_more stats k stat within)) (record {
+          told = through.told ++ has.told ∷ [];
+          tells = tells_more lines through.told through.tells outcome has.told has.tells;
+          state = has.after;
+          costs = has.behind;
+          bounds = together through.bounds has.bounds;
+          course = course_on rules (start_of before) through.state has.after no_entries through.costs has.behind (take k stats) through.told stat has.told through.bounds has.bounds through.course has.step has.has;
+          suited = all_more (IsSuited before.schema rules) (take k stats) stat through.suited suited;
+          sound = subst (Stands before.schema has.after) (same_behind has.told has.after has.bounds has.behind has.has on) on.stands;
+          stands = has.stands;
+          least = omega (arith, least, last_least);
+          most = omega (arith, most, last_most);
+        })
       where
-        go : (told : runs.Outcome) → outcome_of outcome ≡ Some told → IsLineOutcome rules now line told after → middle + changed_darts told ≤ steps → IsThrough rules before (stats ++ statements.Apply line ∷ []) (lines ++ outcome ∷ []) after start steps
-        go (runs.Done added removed) tells is least =
-            goes_through outcome (runs.Done added removed) (behind_done through.state after) tells (IsDoneHere line added removed after through.whole (line_here (runs.Done added removed) is)) refl through.whole (ap (λ g. option_map changed g) through.outside) within
-          where
-            within : (bounds : Bounds) (behind : Entries) → HasBounds rules through.state through.costs (statements.Apply line) (runs.Done added removed) bounds behind → (middle + bounds.least ≤ steps) × (steps ≤ middle + bounds.most)
-            within _ _ (OfDone _ _ _ most budget) = (omega (arith, least), has.most most (budget_here most budget))
-        go (runs.Refused cause) tells is least =
-            goes_through outcome (runs.Refused cause) (behind_refused through.state) tells (IsRefusedHere line cause through.whole (subst (IsLineOutcome rules through.state.map line (runs.Refused cause)) same (line_here (runs.Refused cause) is))) (sym same ∙ refl) (ap is_some through.outside) through.outside within
-          where
-            same : after ≡ through.state.map
-            same = is.outcome_is.1 ∙ sym through.map
+        -- what the step costs is one
+        same_behind : (told : runs.Outcome) (after : State) (bounds : Bounds) (behind : Entries) → HasBounds rules through.state through.costs stat told bounds behind → (on : GoesOn before.schema rules through.state through.costs stat told after) → on.behind ≡ behind
+        same_behind told after bounds behind has on =
+            (one_bounds before.schema rules through.state through.state through.costs stat told told on.bounds bounds on.behind behind through.sound.sound.map suited (states_alike_self through.state) refl on.has has).1
 
-            within : (bounds : Bounds) (behind : Entries) → HasBounds rules through.state through.costs (statements.Apply line) (runs.Refused cause) bounds behind → (middle + bounds.least ≤ steps) × (steps ≤ middle + bounds.most)
-            within _ _ (OfRefused _ _ most budget) = (omega (arith, least), has.most most (budget_here most budget))
-        go told tells is least = absurd is.outcome_is
+    pub order_on : (outcome : Outcome) (rest : List Stat) → HasStep rules through.state through.costs stat outcome new n middle steps → AreInOrder (is_open old.group) (stat ∷ rest) → AreInOrder (is_open new.group) rest
+    order_on outcome rest has order =
+        subst (λ o. AreInOrder o rest) (sym (open_as new.group has.after has.stands.group))
+        (order_behind rules through.state stat has.told has.after rest has.step (subst (λ o. AreInOrder o (stat ∷ rest)) (open_as old.group through.state through.stands.group) order))
 
   -- ---- who is through
 
-  module _ (stats : List Stat) (lines : List Outcome) (now : Map) (start steps : ℕ) (through : IsThrough rules before stats lines now start steps) where
+  module _ (stats : List Stat) (lines : List Outcome) (standing : Standing) (m : ArenaMap) (start steps : ℕ) (through : IsThrough rules before stats lines standing m start steps) where
     pub run_told : IsRun rules (start_of before) stats through.told through.state
     run_told = run_of rules (start_of before) through.state no_entries stats through.told through.bounds (within_of rules (start_of before) through.state no_entries through.costs stats through.told through.bounds through.course)
 
@@ -136,8 +174,8 @@ module _ (rules : List Rule) (before : Map) (sound : IsSound before) where
     same_run : (outcomes : List runs.Outcome) (after : State) → IsRun rules (start_of before) stats outcomes after → (outcomes ≡ through.told) × AreAlikeStates after through.state
     same_run outcomes after is = one_run before.schema rules stats through.suited (start_of before) (start_of before) no_entries (stands_first before sound) (states_alike_self (start_of before)) outcomes through.told after through.state is run_told
 
-    pub run_only : (outcomes : List runs.Outcome) (after : State) → IsRun rules (start_of before) stats outcomes after → Tells lines outcomes × AreAlike after.map now
-    run_only outcomes after is = let one = same_run outcomes after is in (subst (Tells lines) (sym one.0) through.tells, subst (AreAlike after.map) through.map one.1.map)
+    pub run_only : (outcomes : List runs.Outcome) (after : State) → IsRun rules (start_of before) stats outcomes after → Tells lines outcomes × AreAlike after.map (as_map m)
+    run_only outcomes after is = let one = same_run outcomes after is in (subst (Tells lines) (sym one.0) through.tells, subst (AreAlike after.map) through.stands.map one.1.map)
 
     same_bounds : (outcomes : List runs.Outcome) (after : State) (bounds : Bounds) → IsRunWithin rules (start_of before) no_entries stats outcomes after bounds → bounds ≡ through.bounds
     same_bounds outcomes after bounds is =
@@ -149,16 +187,8 @@ module _ (rules : List Rule) (before : Map) (sound : IsSound before) where
     pub run_least : (outcomes : List runs.Outcome) (after : State) (bounds : Bounds) → IsRunWithin rules (start_of before) no_entries stats outcomes after bounds → start + bounds.least ≤ steps
     run_least outcomes after bounds is = subst (λ (b : Bounds). start + b.least ≤ steps) (sym (same_bounds outcomes after bounds is)) through.least
 
-    pub run_bounds : (outcomes : List runs.Outcome) → Tells lines outcomes → (after : State) × (bounds : Bounds) × (after.map ≡ now) × IsRunWithin rules (start_of before) no_entries stats outcomes after bounds
-    run_bounds outcomes tells = (through.state, through.bounds, through.map, subst (λ os. IsRunWithin rules (start_of before) no_entries stats os through.state through.bounds) (told_once lines through.told outcomes through.tells tells) run_within)
-
-    -- within the bounds of whatever follows
-    pub front_most : (back : List Stat) (outcomes : List runs.Outcome) (after : State) (bounds : Bounds) → IsRunWithin rules (start_of before) no_entries (stats ++ back) outcomes after bounds → steps ≤ start + bounds.most
-    front_most back outcomes after bounds is =
-        let s = split rules (start_of before) after no_entries stats back outcomes bounds is in
-        let first = run_most s.firsts s.between s.first_bounds (within_of rules (start_of before) s.between no_entries s.costs stats s.firsts s.first_bounds s.first) in
-        let sum : bounds.most ≡ s.first_bounds.most + s.last_bounds.most = ap (λ (b : Bounds). b.most) s.sum_is in
-        omega (arith, first, sum)
+    pub run_bounds : (outcomes : List runs.Outcome) → Tells lines outcomes → (after : State) × (bounds : Bounds) × (after.map ≡ as_map m) × IsRunWithin rules (start_of before) no_entries stats outcomes after bounds
+    run_bounds outcomes tells = (through.state, through.bounds, through.stands.map, subst (λ os. IsRunWithin rules (start_of before) no_entries stats os through.state through.bounds) (told_once lines through.told outcomes through.tells tells) run_within)
 
   -- ---- memory was wanting
 
@@ -166,82 +196,53 @@ module _ (rules : List Rule) (before : Map) (sound : IsSound before) where
   pub cut_first : (stats : List Stat) (start : ℕ) → IsCutShort rules before stats before start start
   cut_first stats start = record { done = 0; outcomes = []; behind = start_of before; run = refl; left = BehindAll; most = λ os end bounds is. omega arith }
 
-  module _ (stats : List Stat) (k : ℕ) (lines : List Outcome) (now after : Map) (start middle steps : ℕ) (through : IsThrough rules before (take k stats) lines now start middle)
-      (line : Line) (good : IsGoodLine rules line) (of : IsRuleOf before.schema rules line.rule) (at : slice_get stats k ≡ Some (statements.Apply line)) (stopped : IsStopped rules now line after middle steps) where
-    front_is : take (k + 1) stats ≡ take k stats ++ statements.Apply line ∷ []
-    front_is = take_more stats k (statements.Apply line) (slice_get_within stats k (statements.Apply line) at) ∙ ap (λ stat. take k stats ++ stat ∷ []) (get_or_from_slice_get stats k (statements.Apply line) (statements.Apply line) at)
-
-    -- the line is within the bounds that it has at a state alike
-    line_most : (other end : State) (costs behind : Entries) (outcome : runs.Outcome) (bounds : Bounds) → AreAlikeStates other through.state → IsStep rules other (statements.Apply line) outcome end → HasBounds rules other costs (statements.Apply line) outcome bounds behind → steps ≤ middle + bounds.most
-    line_most other end costs behind _ _ alike step (OfDone _ added removed most budget) = stopped.most most (subst (λ m. IsLineBudget rules m line most) through.map (budget_alike before.schema rules other.map through.state.map line of through.stands.sound.map alike.map most budget))
-    line_most other end costs behind _ _ alike step (OfRefused _ cause most budget) = stopped.most most (subst (λ m. IsLineBudget rules m line most) through.map (budget_alike before.schema rules other.map through.state.map line of through.stands.sound.map alike.map most budget))
-    line_most other end costs behind _ _ alike (IsSkipped _ broken) (OfSkipped _) = let same = alike.broken in let whole = through.whole in absurd cc
-
-    cut_most : (os : List runs.Outcome) (end : State) (bounds : Bounds) → IsRunWithin rules (start_of before) no_entries (take (k + 1) stats) os end bounds → steps ≤ start + bounds.most
-    cut_most os end bounds is =
-        let s = split rules (start_of before) end no_entries (take k stats) (statements.Apply line ∷ []) os bounds (subst (λ ss. IsRunWithin rules (start_of before) no_entries ss os end bounds) front_is is) in
-        let front = within_of rules (start_of before) s.between no_entries s.costs (take k stats) s.firsts s.first_bounds s.first in
-        let one = same_run (take k stats) lines now start middle through s.firsts s.between (run_of rules (start_of before) s.between no_entries (take k stats) s.firsts s.first_bounds front) in
-        let earlier = run_most (take k stats) lines now start middle through s.firsts s.between s.first_bounds front in
-        let here = last s.between s.costs s.lasts end s.last_bounds one.1 s.last in
-        let sum : bounds.most ≡ s.first_bounds.most + s.last_bounds.most = ap (λ (b : Bounds). b.most) s.sum_is in
-        let same : s.first_bounds ≡ through.bounds = same_bounds (take k stats) lines now start middle through s.firsts s.between s.first_bounds front in
-        omega (arith, here, sum, ap (λ (b : Bounds). b.most) same, through.most)
-      where
-        last : (other : State) (costs : Entries) (lasts : List runs.Outcome) (end : State) (bounds : Bounds) → AreAlikeStates other through.state → IsRunWithin rules other costs (statements.Apply line ∷ []) lasts end bounds → steps ≤ middle + bounds.most
-        last other costs [] end bounds alike h = absurd h
-        last other costs (o ∷ p ∷ lasts) end bounds alike (m, x, first, rest, step, has, run, e) = absurd run
-        last other costs (o ∷ []) end bounds alike (m, x, first, rest, step, has, run, e) =
-            let here = line_most other m costs x o first alike step has in
-            let sum : bounds.most ≡ first.most + rest.most = ap (λ (b : Bounds). b.most) e in
-            omega (arith, here, sum)
-
-    pub cut_at : IsCutShort rules before stats after start steps
-    cut_at = record {
-      done = k;
-      outcomes = through.told;
-      behind = through.state;
-      run = run_told (take k stats) lines now start middle through;
-      left = subst (IsLeft rules through.state stats k) (through.map ∙ sym stopped.same) BehindAll;
-      most = cut_most;
-    }
-
-    -- so they are within the bounds of all statements
-    pub cut_whole : (os : List runs.Outcome) (end : State) (bounds : Bounds) → IsRunWithin rules (start_of before) no_entries stats os end bounds → steps ≤ start + bounds.most
-    cut_whole os end bounds is =
-        let s = split rules (start_of before) end no_entries (take (k + 1) stats) (drop (k + 1) stats) os bounds (subst (λ ss. IsRunWithin rules (start_of before) no_entries ss os end bounds) (sym (take-append-drop (k + 1) stats)) is) in
-        let first = cut_most s.firsts s.between s.first_bounds (within_of rules (start_of before) s.between no_entries s.costs (take (k + 1) stats) s.firsts s.first_bounds s.first) in
-        let sum : bounds.most ≡ s.first_bounds.most + s.last_bounds.most = ap (λ (b : Bounds). b.most) s.sum_is in
-        omega (arith, first, sum)
-
-  -- ---- statements that are lines
-
-  pub stat_through : (stats : List Stat) (k : ℕ) (lines : List Outcome) (now after : Map) (start middle steps : ℕ) → IsThrough rules before (take k stats) lines now start middle → (stat : Stat) → k < length stats → stat ≡ get_or stats k stat
-      → IsSuited before.schema rules stat → (outcome : Outcome) → HasStep rules now stat outcome after middle steps → IsThrough rules before (take (k + 1) stats) (lines ++ outcome ∷ []) after start steps
-  stat_through stats k lines now after start middle steps through stat within is suited outcome has =
-      subst (λ ss. IsThrough rules before ss (lines ++ outcome ∷ []) after start steps) (ap (λ s. take k stats ++ s ∷ []) is ∙ sym (take_more stats k stat within)) (go stat suited has)
-    where
-      go : (stat : Stat) → IsSuited before.schema rules stat → HasStep rules now stat outcome after middle steps → IsThrough rules before (take k stats ++ stat ∷ []) (lines ++ outcome ∷ []) after start steps
-      go (statements.Apply line) suited has = line_through (take k stats) lines now after start middle steps through line suited.0 suited.1 outcome has
-      go other suited has = absurd has
-
-  -- where memory was wanting at a statement, the steps are within the bounds of all
+  -- where it was wanting at a statement, the steps are within the bounds of all
   pub record IsCut (stats : List Stat) (after : Map) (start steps : ℕ) : Type 0 where
     pub short : IsCutShort rules before stats after start steps
     pub most : (os : List runs.Outcome) (end : State) (bounds : Bounds) → IsRunWithin rules (start_of before) no_entries stats os end bounds → steps ≤ start + bounds.most
 
-  pub stat_cut : (stats : List Stat) (k : ℕ) (lines : List Outcome) (now after : Map) (start middle steps : ℕ) → IsThrough rules before (take k stats) lines now start middle → (stat : Stat) → k < length stats → stat ≡ get_or stats k stat
-      → IsSuited before.schema rules stat → IsStoppedAt rules now stat after middle steps → IsCut stats after start steps
-  stat_cut stats k lines now after start middle steps through stat within is suited stopped = go stat (slice_get-get_or stats k stat within ∙ ap Some (sym is)) suited stopped
-    where
-      go : (stat : Stat) → slice_get stats k ≡ Some stat → IsSuited before.schema rules stat → IsStoppedAt rules now stat after middle steps → IsCut stats after start steps
-      go (statements.Apply line) at suited stopped = record {
-        short = cut_at stats k lines now after start middle steps through line suited.0 suited.1 at stopped;
-        most = cut_whole stats k lines now after start middle steps through line suited.0 suited.1 at stopped;
-      }
-      go other at suited stopped = absurd stopped
+  module _ (stats : List Stat) (k : ℕ) (lines : List Outcome) (standing : Standing) (m : ArenaMap) (after : Map) (start middle steps : ℕ) (through : IsThrough rules before (take k stats) lines standing m start middle)
+      (stat : Stat) (within : k < length stats) (is : stat ≡ get_or stats k stat) (stopped : IsStopped rules through.state stat after middle steps) where
+    front_is : take (k + 1) stats ≡ take k stats ++ stat ∷ []
+    front_is = take_more stats k stat within ∙ ap (λ s. take k stats ++ s ∷ []) (sym is)
+
+    cut_most : (os : List runs.Outcome) (end : State) (bounds : Bounds) → IsRunWithin rules (start_of before) no_entries (take (k + 1) stats) os end bounds → steps ≤ start + bounds.most
+    cut_most os end bounds run =
+        let s = split rules (start_of before) end no_entries (take k stats) (stat ∷ []) os bounds (subst (λ ss. IsRunWithin rules (start_of before) no_entries ss os end bounds) front_is run) in
+        let front = within_of rules (start_of before) s.between no_entries s.costs (take k stats) s.firsts s.first_bounds s.first in
+        let one = same_run (take k stats) lines standing m start middle through s.firsts s.between (run_of rules (start_of before) s.between no_entries (take k stats) s.firsts s.first_bounds front) in
+        let same : s.first_bounds ≡ through.bounds = same_bounds (take k stats) lines standing m start middle through s.firsts s.between s.first_bounds front in
+        let here = last s.between s.costs s.lasts end s.last_bounds one.1 s.last in
+        let sum : bounds.most ≡ s.first_bounds.most + s.last_bounds.most = ap (λ (b : Bounds). b.most) s.sum_is in
+        let so_far = through.most in
+        omega (arith, here, sum, ap (λ (b : Bounds). b.most) same, so_far)
+      where
+        last : (other : State) (costs : Entries) (lasts : List runs.Outcome) (end : State) (bounds : Bounds) → AreAlikeStates other through.state → IsRunWithin rules other costs (stat ∷ []) lasts end bounds → steps ≤ middle + bounds.most
+        last other costs [] end bounds alike h = absurd h
+        last other costs (o ∷ p ∷ lasts) end bounds alike (n, x, first, rest, step, has, run, e) = absurd run
+        last other costs (o ∷ []) end bounds alike (n, x, first, rest, step, has, run, e) =
+            let here = stopped.most other n costs x o first alike step has in
+            let sum : bounds.most ≡ first.most + rest.most = ap (λ (b : Bounds). b.most) e in
+            omega (arith, here, sum)
+
+    pub stat_cut : IsCut stats after start steps
+    stat_cut = record {
+      short = record {
+        done = k;
+        outcomes = through.told;
+        behind = through.state;
+        run = run_told (take k stats) lines standing m start middle through;
+        left = subst (λ next. IsLeft rules through.state next after) (sym (slice_get-get_or stats k stat within ∙ ap Some (sym is))) stopped.left;
+        most = cut_most;
+      };
+      most = λ os end bounds run.
+          let s = split rules (start_of before) end no_entries (take (k + 1) stats) (drop (k + 1) stats) os bounds (subst (λ ss. IsRunWithin rules (start_of before) no_entries ss os end bounds) (sym (take-append-drop (k + 1) stats)) run) in
+          let first = cut_most s.firsts s.between s.first_bounds (within_of rules (start_of before) s.between no_entries s.costs (take (k + 1) stats) s.firsts s.first_bounds s.first) in
+          let sum : bounds.most ≡ s.first_bounds.most + s.last_bounds.most = ap (λ (b : Bounds). b.most) s.sum_is in
+          omega (arith, first, sum);
+    }
 
   -- who is past the last statement has run all
-  pub through_all : (stats script : List Stat) (lines report : List Outcome) (k : ℕ) (now : Map) (start steps : ℕ) → length stats ≤ k → stats ≡ script → report ≡ lines → IsThrough rules before (take k stats) lines now start steps → IsThrough rules before script report now start steps
-  through_all stats script lines report k now start steps past same told through =
-      subst (λ ls. IsThrough rules before script ls now start steps) (sym told) (subst (λ ss. IsThrough rules before ss lines now start steps) (take_all k stats past ∙ same) through)
+  pub through_all : (stats script : List Stat) (lines report : List Outcome) (k : ℕ) (standing : Standing) (m : ArenaMap) (start steps : ℕ) → length stats ≤ k → stats ≡ script → report ≡ lines → IsThrough rules before (take k stats) lines standing m start steps → IsThrough rules before script report standing m start steps
+  through_all stats script lines report k standing m start steps past same told through =
+      subst (λ ls. IsThrough rules before script ls standing m start steps) (sym told) (subst (λ ss. IsThrough rules before ss lines standing m start steps) (take_all k stats past ∙ same) through)

@@ -2,10 +2,13 @@
 //! what became of the lines is told in a report.
 #![tactic(auto)]
 
+mod each;
 mod laws;
+mod lines;
 mod outcome;
 mod printing;
 mod running;
+mod standing;
 mod words;
 
 pub use laws::one_run_at_most;

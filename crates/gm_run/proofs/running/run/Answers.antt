@@ -1,18 +1,22 @@
-use Rattle.std.proofs.Common.{◌+◌, ◌≤◌, List, [], All, length, take, refl, rules, ap, sym, subst, ◌∙◌, arith}
+use Rattle.std.proofs.Common.{false, drop, ◌+◌, ◌≤◌, List, [], All, length, take, refl, rules, ap, sym, subst, ◌∙◌, arith}
 use Rattle.std.proofs.lemmas.List.{length_push}
 use Rattle.std.proofs.lemmas.Result.{err_from_is_err_and}
+use Rattle.gm_model.specs.declared.schema.Schema.{Schema}
 use Rattle.gm_model.specs.Budgets.{Bounds, no_entries, IsRunWithin}
 use Rattle.gm_model.specs.Maps.{IsDart}
 use Rattle.gm_model.specs.Orbits.{HasCount}
-use Rattle.gm_model.specs.Runs.{State, start_of, IsRun}
+use Rattle.gm_model.specs.Runs.{State, start_of, AreInOrder, IsRun}
 use Rattle.gm_model.specs.Runs as runs
 use Rattle.gm_arena.specs.ArenaAsMap.{as_map}
 use Rattle.gm_arena.proofs.Keys.{darts_counted}
+use Rattle.gm_theory.specs.Outcomes.{IsGoodStat}
 use Rattle.gm_theory.specs.Suited.{IsSuited}
 use Rattle.gm_theory.proofs.RunsFound.{stands_first}
-use Rattle.gm_run.specs.Progress.{rules_of, ArePlansFor, IsCutShort, IsGoodApplication}
+use Rattle.gm_run.specs.declared.standing.Open.TheVariants as opens
+use Rattle.gm_run.specs.Progress.{rules_of, ArePlansFor, IsCutShort}
 use Rattle.gm_run.proofs.Sayable.{run_can_be_printed}
-use Rattle.gm_run.proofs.Through.{IsThrough, cut_first, none_through, run_bounds, run_least, run_most, run_only, run_told, stat_cut, stat_through, through_all}
+use Rattle.gm_run.proofs.Advancing.{never_more}
+use Rattle.gm_run.proofs.Through.{IsThrough, allowed, cut_first, is_open, next_of, none_through, order_on, run_bounds, run_least, run_most, run_only, run_told, stat_cut, stat_through, through_all}
 use Rattle.gm_run.proofs.running.run.Goals as goal
 
 -- ---- the loop
@@ -25,8 +29,20 @@ stat_outcome-requires-clause-plans g c = subst (λ schema. ArePlansFor schema c.
 
 pub stat_outcome-requires-clause-good : goal.stat_outcome-requires-clause-good
 stat_outcome-requires-clause-good g c =
-    subst (IsGoodApplication (rules_of c.args.plans.now)) (sym c.stat-item.is)
-    (subst (λ stats. All (IsGoodApplication (rules_of c.args.plans.now)) stats) (sym c.as_slice-stats.ensures) c.requires.lines c.loop-stat.stat-index c.stat-item.result c.loop-stat-test.true)
+    subst (λ (schema : Schema). IsGoodStat (rules_of c.args.plans.now) schema.dim c.stat-item.result) (sym c.loop-stat.invariant.schema)
+    (subst (IsGoodStat (rules_of c.args.plans.now) c.args.arena.now.schema.dim) (sym c.stat-item.is)
+    (subst (λ stats. All (IsGoodStat (rules_of c.args.plans.now) c.args.arena.now.schema.dim) stats) (sym c.as_slice-stats.ensures) c.requires.good c.loop-stat.stat-index c.stat-item.result c.loop-stat-test.true))
+
+pub stat_outcome-requires-clause-stands : goal.stat_outcome-requires-clause-stands
+stat_outcome-requires-clause-stands g c = let through = c.loop-stat.invariant.through in (through.state, through.costs, through.stands)
+
+pub stat_outcome-requires-clause-allowed : goal.stat_outcome-requires-clause-allowed
+stat_outcome-requires-clause-allowed g c =
+    allowed c.loop-stat.standing.group c.stat-item.result (drop (c.loop-stat.stat-index + 1) c.as_slice-stats.result.now)
+    (subst (AreInOrder (is_open c.loop-stat.standing.group)) (next_of c.as_slice-stats.result.now c.loop-stat.stat-index c.stat-item.result c.loop-stat-test.true c.stat-item.is) c.loop-stat.invariant.order)
+
+pub prove-unreachable-requires : goal.prove-unreachable-requires
+prove-unreachable-requires g c = never_more c.args.arena.now c.count.result c.count.ensures.lawful c.count.ensures.count c.if-prove.true
 
 pub loop-stat-init : goal.loop-stat-init
 loop-stat-init g c =
@@ -38,8 +54,10 @@ loop-stat-init g c =
       reserved = omega arith;
       long = ap length items;
       capacity = search rules;
-      through = subst (λ lines. IsThrough (rules_of c.args.plans.now) (as_map c.args.arena.now) [] lines (as_map c.args.arena.now) c.args.steps.now c.args.steps.now) (sym items)
-          (none_through (rules_of c.args.plans.now) (as_map c.args.arena.now) c.requires.sound c.args.steps.now);
+      order = subst (AreInOrder false) (sym c.as_slice-stats.ensures) c.requires.order;
+      through = subst (λ lines. IsThrough (rules_of c.args.plans.now) (as_map c.args.arena.now) [] lines (record { history = c.new.result; group = opens.Nothing; scratch = c.new-2.result }) c.args.arena.now c.args.steps.now c.args.steps.now) (sym items)
+          (none_through (rules_of c.args.plans.now) (as_map c.args.arena.now) c.requires.sound (record { history = c.new.result; group = opens.Nothing; scratch = c.new-2.result }) c.args.arena.now c.args.steps.now refl
+          (c.new.ensures.history c.args.arena.now c.count.ensures.lawful c.requires.sound) (c.new.ensures.entries c.args.arena.now.schema.dim) refl);
     }
 
 pub loop-stat-preserved : goal.loop-stat-preserved
@@ -56,10 +74,15 @@ loop-stat-preserved g c =
       reserved = let more = c.in_ok-outcome.ensures.reserved_stays in let so_far = before.reserved in omega (arith, more, so_far);
       long = omega (arith, ap length items, length_push c.loop-stat.outcomes.items c.in_ok-outcome.outcome, long);
       capacity = omega (arith, room, same);
-      through = subst (λ lines. IsThrough (rules_of c.args.plans.now) (as_map c.args.arena.now) (take (c.loop-stat.stat-index + 1) c.as_slice-stats.result.now) lines (as_map c.stat_outcome.new.arena) c.args.steps.now c.stat_outcome.new.steps) (sym items)
-          (stat_through (rules_of c.args.plans.now) (as_map c.args.arena.now) c.requires.sound c.as_slice-stats.result.now c.loop-stat.stat-index c.loop-stat.outcomes.items (as_map c.loop-stat.arena) (as_map c.stat_outcome.new.arena)
+      order = order_on (rules_of c.args.plans.now) (as_map c.args.arena.now) c.requires.sound c.as_slice-stats.result.now c.loop-stat.stat-index c.loop-stat.outcomes.items c.loop-stat.standing c.stat_outcome.new.standing c.loop-stat.arena c.stat_outcome.new.arena
           c.args.steps.now c.loop-stat.steps c.stat_outcome.new.steps before.through c.stat-item.result c.loop-stat-test.true c.stat-item.is
-          (subst (λ schema. IsSuited schema (rules_of c.args.plans.now) c.stat-item.result) before.schema c.in_ok-outcome.ensures.suited) c.in_ok-outcome.outcome c.in_ok-outcome.ensures.line);
+          (subst (λ schema. IsSuited schema (rules_of c.args.plans.now) c.stat-item.result) before.schema c.in_ok-outcome.ensures.suited) c.in_ok-outcome.outcome (drop (c.loop-stat.stat-index + 1) c.as_slice-stats.result.now)
+          (c.in_ok-outcome.ensures.step before.through.state before.through.costs before.through.stands)
+          (subst (AreInOrder (is_open c.loop-stat.standing.group)) (next_of c.as_slice-stats.result.now c.loop-stat.stat-index c.stat-item.result c.loop-stat-test.true c.stat-item.is) before.order);
+      through = subst (λ lines. IsThrough (rules_of c.args.plans.now) (as_map c.args.arena.now) (take (c.loop-stat.stat-index + 1) c.as_slice-stats.result.now) lines c.stat_outcome.new.standing c.stat_outcome.new.arena c.args.steps.now c.stat_outcome.new.steps) (sym items)
+          (stat_through (rules_of c.args.plans.now) (as_map c.args.arena.now) c.requires.sound c.as_slice-stats.result.now c.loop-stat.stat-index c.loop-stat.outcomes.items c.loop-stat.standing c.stat_outcome.new.standing c.loop-stat.arena c.stat_outcome.new.arena
+          c.args.steps.now c.loop-stat.steps c.stat_outcome.new.steps before.through c.stat-item.result c.loop-stat-test.true c.stat-item.is
+          (subst (λ schema. IsSuited schema (rules_of c.args.plans.now) c.stat-item.result) before.schema c.in_ok-outcome.ensures.suited) c.in_ok-outcome.outcome (c.in_ok-outcome.ensures.step before.through.state before.through.costs before.through.stands));
     }
 
 -- ---- memory is wanting
@@ -74,18 +97,18 @@ returns-in_err-outcome-clause-cut g c =
     let p = err_from_is_err_and c.from_residual-in_err-outcome.result c.from_residual-in_err-outcome.ensures.1 in
     let rules = rules_of c.args.plans.now in
     let before = as_map c.args.arena.now in
-    let cut = stat_cut rules before c.requires.sound c.as_slice-stats.result.now c.loop-stat.stat-index c.loop-stat.outcomes.items (as_map c.loop-stat.arena) (as_map c.stat_outcome.new.arena) c.args.steps.now c.loop-stat.steps c.stat_outcome.new.steps
-    c.loop-stat.invariant.through c.stat-item.result c.loop-stat-test.true c.stat-item.is
-    (subst (λ schema. IsSuited schema rules c.stat-item.result) c.loop-stat.invariant.schema c.in_err-outcome.ensures.suited) c.in_err-outcome.ensures.line in
+    let through = c.loop-stat.invariant.through in
+    let cut = stat_cut rules before c.requires.sound c.as_slice-stats.result.now c.loop-stat.stat-index c.loop-stat.outcomes.items c.loop-stat.standing c.loop-stat.arena (as_map c.stat_outcome.new.arena) c.args.steps.now c.loop-stat.steps c.stat_outcome.new.steps
+    through c.stat-item.result c.loop-stat-test.true c.stat-item.is (c.in_err-outcome.ensures.step through.state through.costs through.stands) in
     rw p.1 (subst (λ stats. IsCutShort rules before stats (as_map c.stat_outcome.new.arena) c.args.steps.now c.stat_outcome.new.steps) c.as_slice-stats.ensures cut.short)
 
 pub returns-in_err-outcome-clause-most : goal.returns-in_err-outcome-clause-most
 returns-in_err-outcome-clause-most g c =
     let rules = rules_of c.args.plans.now in
     let before = as_map c.args.arena.now in
-    let cut = stat_cut rules before c.requires.sound c.as_slice-stats.result.now c.loop-stat.stat-index c.loop-stat.outcomes.items (as_map c.loop-stat.arena) (as_map c.stat_outcome.new.arena) c.args.steps.now c.loop-stat.steps c.stat_outcome.new.steps
-    c.loop-stat.invariant.through c.stat-item.result c.loop-stat-test.true c.stat-item.is
-    (subst (λ schema. IsSuited schema rules c.stat-item.result) c.loop-stat.invariant.schema c.in_err-outcome.ensures.suited) c.in_err-outcome.ensures.line in
+    let through = c.loop-stat.invariant.through in
+    let cut = stat_cut rules before c.requires.sound c.as_slice-stats.result.now c.loop-stat.stat-index c.loop-stat.outcomes.items c.loop-stat.standing c.loop-stat.arena (as_map c.stat_outcome.new.arena) c.args.steps.now c.loop-stat.steps c.stat_outcome.new.steps
+    through c.stat-item.result c.loop-stat-test.true c.stat-item.is (c.in_err-outcome.ensures.step through.state through.costs through.stands) in
     subst (λ stats. (os : List runs.Outcome) (end : State) (bounds : Bounds) → IsRunWithin rules (start_of before) no_entries stats os end bounds → c.stat_outcome.new.steps ≤ c.args.steps.now + bounds.most) c.as_slice-stats.ensures cut.most
 
 -- ---- all statements were run
@@ -94,44 +117,44 @@ pub returns-clause-run : goal.returns-clause-run
 returns-clause-run g c =
     let rules = rules_of c.args.plans.now in
     let before = as_map c.args.arena.now in
-    let through = through_all rules before c.requires.sound c.as_slice-stats.result.now c.args.script.now.stats c.loop-stat.outcomes.items c.new.result c.loop-stat.stat-index (as_map c.loop-stat.arena) c.args.steps.now c.loop-stat.steps c.loop-stat-test.false c.as_slice-stats.ensures c.new.ensures c.loop-stat.invariant.through in
-    (through.told, through.state, through.tells, through.map, run_told rules before c.requires.sound c.args.script.now.stats c.new.result (as_map c.loop-stat.arena) c.args.steps.now c.loop-stat.steps through)
+    let through = through_all rules before c.requires.sound c.as_slice-stats.result.now c.args.script.now.stats c.loop-stat.outcomes.items c.new-3.result c.loop-stat.stat-index c.loop-stat.standing c.loop-stat.arena c.args.steps.now c.loop-stat.steps c.loop-stat-test.false c.as_slice-stats.ensures c.new-3.ensures c.loop-stat.invariant.through in
+    (through.told, through.state, through.tells, through.stands.map, run_told rules before c.requires.sound c.args.script.now.stats c.new-3.result c.loop-stat.standing c.loop-stat.arena c.args.steps.now c.loop-stat.steps through)
 
 pub returns-clause-only : goal.returns-clause-only
 returns-clause-only g c =
     let rules = rules_of c.args.plans.now in
     let before = as_map c.args.arena.now in
-    let through = through_all rules before c.requires.sound c.as_slice-stats.result.now c.args.script.now.stats c.loop-stat.outcomes.items c.new.result c.loop-stat.stat-index (as_map c.loop-stat.arena) c.args.steps.now c.loop-stat.steps c.loop-stat-test.false c.as_slice-stats.ensures c.new.ensures c.loop-stat.invariant.through in
-    run_only rules before c.requires.sound c.args.script.now.stats c.new.result (as_map c.loop-stat.arena) c.args.steps.now c.loop-stat.steps through
+    let through = through_all rules before c.requires.sound c.as_slice-stats.result.now c.args.script.now.stats c.loop-stat.outcomes.items c.new-3.result c.loop-stat.stat-index c.loop-stat.standing c.loop-stat.arena c.args.steps.now c.loop-stat.steps c.loop-stat-test.false c.as_slice-stats.ensures c.new-3.ensures c.loop-stat.invariant.through in
+    run_only rules before c.requires.sound c.args.script.now.stats c.new-3.result c.loop-stat.standing c.loop-stat.arena c.args.steps.now c.loop-stat.steps through
 
 pub returns-clause-most : goal.returns-clause-most
 returns-clause-most g c =
     let rules = rules_of c.args.plans.now in
     let before = as_map c.args.arena.now in
-    let through = through_all rules before c.requires.sound c.as_slice-stats.result.now c.args.script.now.stats c.loop-stat.outcomes.items c.new.result c.loop-stat.stat-index (as_map c.loop-stat.arena) c.args.steps.now c.loop-stat.steps c.loop-stat-test.false c.as_slice-stats.ensures c.new.ensures c.loop-stat.invariant.through in
-    run_most rules before c.requires.sound c.args.script.now.stats c.new.result (as_map c.loop-stat.arena) c.args.steps.now c.loop-stat.steps through
+    let through = through_all rules before c.requires.sound c.as_slice-stats.result.now c.args.script.now.stats c.loop-stat.outcomes.items c.new-3.result c.loop-stat.stat-index c.loop-stat.standing c.loop-stat.arena c.args.steps.now c.loop-stat.steps c.loop-stat-test.false c.as_slice-stats.ensures c.new-3.ensures c.loop-stat.invariant.through in
+    run_most rules before c.requires.sound c.args.script.now.stats c.new-3.result c.loop-stat.standing c.loop-stat.arena c.args.steps.now c.loop-stat.steps through
 
 pub returns-clause-least : goal.returns-clause-least
 returns-clause-least g c =
     let rules = rules_of c.args.plans.now in
     let before = as_map c.args.arena.now in
-    let through = through_all rules before c.requires.sound c.as_slice-stats.result.now c.args.script.now.stats c.loop-stat.outcomes.items c.new.result c.loop-stat.stat-index (as_map c.loop-stat.arena) c.args.steps.now c.loop-stat.steps c.loop-stat-test.false c.as_slice-stats.ensures c.new.ensures c.loop-stat.invariant.through in
-    run_least rules before c.requires.sound c.args.script.now.stats c.new.result (as_map c.loop-stat.arena) c.args.steps.now c.loop-stat.steps through
+    let through = through_all rules before c.requires.sound c.as_slice-stats.result.now c.args.script.now.stats c.loop-stat.outcomes.items c.new-3.result c.loop-stat.stat-index c.loop-stat.standing c.loop-stat.arena c.args.steps.now c.loop-stat.steps c.loop-stat-test.false c.as_slice-stats.ensures c.new-3.ensures c.loop-stat.invariant.through in
+    run_least rules before c.requires.sound c.args.script.now.stats c.new-3.result c.loop-stat.standing c.loop-stat.arena c.args.steps.now c.loop-stat.steps through
 
 pub returns-clause-bounds : goal.returns-clause-bounds
 returns-clause-bounds g c =
     let rules = rules_of c.args.plans.now in
     let before = as_map c.args.arena.now in
-    let through = through_all rules before c.requires.sound c.as_slice-stats.result.now c.args.script.now.stats c.loop-stat.outcomes.items c.new.result c.loop-stat.stat-index (as_map c.loop-stat.arena) c.args.steps.now c.loop-stat.steps c.loop-stat-test.false c.as_slice-stats.ensures c.new.ensures c.loop-stat.invariant.through in
-    run_bounds rules before c.requires.sound c.args.script.now.stats c.new.result (as_map c.loop-stat.arena) c.args.steps.now c.loop-stat.steps through
+    let through = through_all rules before c.requires.sound c.as_slice-stats.result.now c.args.script.now.stats c.loop-stat.outcomes.items c.new-3.result c.loop-stat.stat-index c.loop-stat.standing c.loop-stat.arena c.args.steps.now c.loop-stat.steps c.loop-stat-test.false c.as_slice-stats.ensures c.new-3.ensures c.loop-stat.invariant.through in
+    run_bounds rules before c.requires.sound c.args.script.now.stats c.new-3.result c.loop-stat.standing c.loop-stat.arena c.args.steps.now c.loop-stat.steps through
 
 pub returns-clause-darts : goal.returns-clause-darts
-returns-clause-darts g c = (c.count.ensures.count, subst (HasCount (IsDart (as_map c.loop-stat.arena))) (sym c.count.ensures.count) (darts_counted c.loop-stat.arena c.count.ensures.lawful))
+returns-clause-darts g c = (c.count-2.ensures.count, subst (HasCount (IsDart (as_map c.loop-stat.arena))) (sym c.count-2.ensures.count) (darts_counted c.loop-stat.arena c.count-2.ensures.lawful))
 
 pub returns-clause-printable : goal.returns-clause-printable
 returns-clause-printable g c =
     let rules = rules_of c.args.plans.now in
     let before = as_map c.args.arena.now in
-    let through = through_all rules before c.requires.sound c.as_slice-stats.result.now c.args.script.now.stats c.loop-stat.outcomes.items c.new.result c.loop-stat.stat-index (as_map c.loop-stat.arena) c.args.steps.now c.loop-stat.steps c.loop-stat-test.false c.as_slice-stats.ensures c.new.ensures c.loop-stat.invariant.through in
-    run_can_be_printed c.args.arena.now.schema rules c.args.script.now.stats (start_of before) through.state no_entries c.new.result through.told (stands_first before c.requires.sound) through.suited through.tells
-    (run_told rules before c.requires.sound c.args.script.now.stats c.new.result (as_map c.loop-stat.arena) c.args.steps.now c.loop-stat.steps through)
+    let through = through_all rules before c.requires.sound c.as_slice-stats.result.now c.args.script.now.stats c.loop-stat.outcomes.items c.new-3.result c.loop-stat.stat-index c.loop-stat.standing c.loop-stat.arena c.args.steps.now c.loop-stat.steps c.loop-stat-test.false c.as_slice-stats.ensures c.new-3.ensures c.loop-stat.invariant.through in
+    run_can_be_printed c.args.arena.now.schema rules c.args.script.now.stats (start_of before) through.state no_entries c.new-3.result through.told (stands_first before c.requires.sound) through.suited through.tells
+    (run_told rules before c.requires.sound c.args.script.now.stats c.new-3.result c.loop-stat.standing c.loop-stat.arena c.args.steps.now c.loop-stat.steps through)

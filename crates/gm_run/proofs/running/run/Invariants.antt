@@ -1,8 +1,9 @@
-use Rattle.std.proofs.Common.{◌≡◌, ◌+◌, ◌≤◌, length, take, vec_capacity}
+use Rattle.std.proofs.Common.{◌≡◌, ◌+◌, ◌≤◌, drop, length, take, vec_capacity}
 use Rattle.gm_model.specs.Maps.{IsSound}
+use Rattle.gm_model.specs.Runs.{AreInOrder}
 use Rattle.gm_arena.specs.ArenaAsMap.{as_map}
 use Rattle.gm_run.specs.Progress.{rules_of}
-use Rattle.gm_run.proofs.Through.{IsThrough}
+use Rattle.gm_run.proofs.Through.{IsThrough, is_open}
 use Rattle.gm_run.proofs.running.run.Given as goal
 
 abbrev pub invariant-loop-stat : goal.invariant-loop-stat
@@ -13,5 +14,6 @@ invariant-loop-stat g l = record {
   reserved : l.fn.arena.reserved ≤ l.arena.reserved;
   long : length l.outcomes.items ≡ l.stat-index;
   capacity : length l.stats ≤ vec_capacity l.outcomes;
-  through : IsThrough (rules_of l.plans) (as_map l.fn.arena) (take l.stat-index l.stats) l.outcomes.items (as_map l.arena) l.fn.steps l.steps;
+  order : AreInOrder (is_open l.standing.group) (drop l.stat-index l.stats);
+  through : IsThrough (rules_of l.plans) (as_map l.fn.arena) (take l.stat-index l.stats) l.outcomes.items l.standing l.arena l.fn.steps l.steps;
 }

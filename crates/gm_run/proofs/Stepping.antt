@@ -1,0 +1,286 @@
+-- What the calls of a run come to, as steps of the definition.
+use Rattle.std.proofs.Common.{◌≡◌, ◌≢◌, ℕ, ◌+◌, ◌≤◌, true, false, List, [], ◌∷◌, Option, None, Some, refl, sym, ap, subst, ◌∙◌, arith}
+use Rattle.std.specs.Option.{option_map}
+use Rattle.std.specs.Prelude.{is_some}
+use Rattle.gm_model.specs.declared.script.Line.{Line}
+use Rattle.gm_model.specs.declared.script.Stat.TheVariants as statements
+use Rattle.gm_model.specs.Budgets.{Bounds, Entries, HasBounds, OfDone, OfRefused, OfSkipped, OfUndone, OfNoPast, OfRedone, OfNoFuture, OfBegun, OfKept, OfDropped, IsLineBudget, entered, group_entered, up_to}
+use Rattle.gm_model.specs.Histories.{Group, History, IsRedone, IsUndone, begun_at, changed, done_at, dropped, kept}
+use Rattle.gm_model.specs.Maps.{Map, IsSound}
+use Rattle.gm_model.specs.Rules.{Rule}
+use Rattle.gm_model.specs.Runs.{State, IsLineOutcome, IsStep, IsDoneHere, IsRefusedHere, IsSkipped, GoesBack, HasNoPast, GoesForth, HasNoFuture, Begins, Ends, IsTakenBack, behind_done, behind_refused, standing_at}
+use Rattle.gm_model.specs.Runs as runs
+use Rattle.gm_apply.specs.declared.refusal.Refusal.{Refusal}
+use Rattle.gm_arena.specs.ArenaAsMap.{as_map}
+use Rattle.gm_arena.specs.ArenaMap.{ArenaMap}
+use Rattle.gm_theory.specs.Outcomes.{IsGoodLine, IsSoundOf}
+use Rattle.gm_theory.specs.Suited.{IsRuleOf}
+use Rattle.gm_theory.proofs.TurnsFound.{LineFound, line_costs, line_found}
+use Rattle.gm_undo.specs.Costs.{MayTake}
+use Rattle.gm_undo.specs.Standing.{StandsFor}
+use Rattle.gm_run.specs.declared.outcome.Outcome.{Outcome}
+use Rattle.gm_run.specs.declared.outcome.Outcome.TheVariants as outcomes
+use Rattle.gm_run.specs.declared.standing.Open.{Open}
+use Rattle.gm_run.specs.declared.standing.Open.TheVariants as opens
+use Rattle.gm_run.specs.declared.standing.Standing.{Standing}
+use Rattle.gm_run.specs.Alike.{AreAlike, AreAlikeStates}
+use Rattle.gm_run.specs.Progress.{IsLeft, BehindAll}
+use Rattle.gm_run.specs.Standing.{HasLine, WasDone, WasRefused, HasOpen, HasStep, IsInGroup, IsStopped, IsUnapplied, StandsAt, entered_by, group_behind, told_behind}
+use Rattle.gm_run.proofs.OneRun.{budget_alike}
+
+-- ---- the open group
+
+-- where no group of the state is broken
+pub whole : (opened : Open) (state : State) → opened ≢ opens.Broken → HasOpen opened state → state.is_broken ≡ false
+whole opens.Nothing state other has = has.1
+whole opens.Whole state other has = has.2
+whole opens.Broken state other has = absurd (other refl)
+
+open_done : (opened : Open) (state : State) (after : Map) → HasOpen opened state → HasOpen opened (behind_done state after)
+open_done opens.Nothing state after has = (ap (option_map changed) has.0, has.1)
+open_done opens.Whole state after has = (changed has.0, ap (option_map changed) has.1, has.2)
+open_done opens.Broken state after has = (changed has.0, ap (option_map changed) has.1, has.2)
+
+open_refused : (opened : Open) (state : State) (refusal : Refusal) → opened ≢ opens.Broken → HasOpen opened state → HasOpen (group_behind (outcomes.Refused refusal) opened) (behind_refused state)
+open_refused opens.Nothing state refusal other has = (has.0, ap is_some has.0)
+open_refused opens.Whole state refusal other has = (has.0, has.1, ap is_some has.1)
+open_refused opens.Broken state refusal other has = absurd (other refl)
+
+-- outside, the history has no group either
+pub outside_of : (m : ArenaMap) (standing : Standing) → (state : State) × (entries : Entries) × StandsAt standing m state entries → standing.group ≡ opens.Nothing → (behind : History) × StandsFor standing.history m behind × (behind.group ≡ None)
+outside_of m standing (state, entries, stands) outside = (state.history, stands.history, (subst (λ o. HasOpen o state) outside stands.group).0)
+
+-- the group that is open
+pub open_group : (opened : Open) (state : State) → IsInGroup opened → HasOpen opened state → (group : Group) × (state.history.group ≡ Some group)
+open_group opens.Nothing state inside has = absurd inside
+open_group opens.Whole state inside has = (has.0, has.1)
+open_group opens.Broken state inside has = (has.0, has.1)
+
+pub inside_of : (m : ArenaMap) (standing : Standing) → (state : State) × (entries : Entries) × StandsAt standing m state entries → IsInGroup standing.group → (behind : History) × (group : Group) × StandsFor standing.history m behind × (behind.group ≡ Some group)
+inside_of m standing (state, entries, stands) inside = let group : (group : Group) × (state.history.group ≡ Some group) = open_group standing.group state inside stands.group in (state.history, group.0, stands.history, group.1)
+
+-- whether it is broken
+pub open_broken : (opened : Open) (state : State) → opened ≡ opens.Broken → HasOpen opened state → state.is_broken ≡ true
+open_broken opened state e has = (subst (λ o. HasOpen o state) e has).2
+
+-- ---- lines
+
+-- a good line has a budget
+pub budget_of : (rules : List Rule) (line : Line) (m : ArenaMap) → IsRuleOf m.schema rules line.rule → IsSound (as_map m) → IsGoodLine rules line → (most : ℕ) × IsLineBudget rules (as_map m) line most
+budget_of rules line m of sound good =
+    let here : IsSoundOf m.schema (as_map m) = record { schema_is = refl; sound = sound } in
+    let found : LineFound m.schema rules (as_map m) line = line_found m.schema rules (as_map m) line of here good in
+    let costs = line_costs m.schema rules (as_map m) line of here good found.outcome found.after found.is in
+    (costs.most, costs.budget)
+
+module _ (rules : List Rule) (line : Line) (m n : ArenaMap) (old new : Standing) (state : State) (entries : Entries) (start steps : ℕ) (stands : StandsAt old m state entries) where
+  -- skipped, in a group that is broken
+  pub skipped : old.group ≡ opens.Broken → HasStep rules state entries (statements.Apply line) outcomes.Skipped old m start start
+  skipped e = record {
+    told = runs.Skipped;
+    tells = refl;
+    after = state;
+    step = IsSkipped line (subst (λ o. HasOpen o state) e stands.group).2;
+    bounds = up_to 0;
+    behind = entries;
+    has = OfSkipped line;
+    stands = stands;
+    least = omega arith;
+    most = omega arith;
+  }
+
+  line_here : (outcome : runs.Outcome) (after : Map) → IsLineOutcome rules (as_map m) line outcome after → IsLineOutcome rules state.map line outcome after
+  line_here outcome after is = subst (λ map. IsLineOutcome rules map line outcome after) (sym stands.map) is
+
+  module _ (other : old.group ≢ opens.Broken) (budget : (most : ℕ) × IsLineBudget rules (as_map m) line most) where
+    budget_here : IsLineBudget rules state.map line budget.0
+    budget_here = subst (λ map. IsLineBudget rules map line budget.0) (sym stands.map) budget.1
+
+    pub applies : (outcome : Outcome) → HasLine rules (as_map m) line (as_map n) start steps outcome → StandsFor new.history n (told_behind outcome (as_map m) state.history)
+        → MayTake new.history n.schema.dim (entered_by outcome state.history.group budget.0 entries) → new.group ≡ group_behind outcome old.group → HasStep rules state entries (statements.Apply line) outcome new n start steps
+    applies _ (WasDone applied is most least) history costs group = record {
+      told = runs.Done applied.added applied.removed;
+      tells = refl;
+      after = behind_done state (as_map n);
+      step = IsDoneHere line applied.added applied.removed (as_map n) (whole old.group state other stands.group) (line_here (runs.Done applied.added applied.removed) (as_map n) is);
+      bounds = record { least = applied.added + applied.removed; most = budget.0 };
+      behind = entered state.history.group budget.0 entries;
+      has = OfDone line applied.added applied.removed budget.0 budget_here;
+      stands = record {
+        map = refl;
+        history = subst (λ map. StandsFor new.history n (done_at map state.history)) (sym stands.map) history;
+        costs = costs;
+        group = subst (λ o. HasOpen o (behind_done state (as_map n))) (sym group) (open_done old.group state (as_map n) stands.group);
+      };
+      least = least;
+      most = most budget.0 budget.1;
+    }
+    applies _ (WasRefused refusal cause tells is most rises) history costs group = record {
+      told = runs.Refused cause;
+      tells = ap (option_map runs.Refused) tells;
+      after = behind_refused state;
+      step = IsRefusedHere line cause (whole old.group state other stands.group) (subst (IsLineOutcome rules state.map line (runs.Refused cause)) same (line_here (runs.Refused cause) (as_map n) is));
+      bounds = up_to budget.0;
+      behind = entries;
+      has = OfRefused line cause budget.0 budget_here;
+      stands = record {
+        map = sym same;
+        history = history;
+        costs = costs;
+        group = subst (λ o. HasOpen o (behind_refused state)) (sym group) (open_refused old.group state refusal other stands.group);
+      };
+      least = omega (arith, rises);
+      most = most budget.0 budget.1;
+    }
+      where
+        same : as_map n ≡ state.map
+        same = is.outcome_is.1 ∙ sym stands.map
+
+    pub unapplied : IsSoundOf m.schema (as_map m) → IsRuleOf m.schema rules line.rule → IsUnapplied rules (as_map m) line (as_map n) start steps → IsStopped rules state (statements.Apply line) (as_map n) start steps
+    unapplied sound of stopped = record {
+      left = subst (IsLeft rules state (Some (statements.Apply line))) (stands.map ∙ sym stopped.same) BehindAll;
+      most = λ first end costs behind outcome bounds alike step has. within first end costs behind outcome bounds alike step has;
+    }
+      where
+        moved : (first : State) (most : ℕ) → AreAlikeStates first state → IsLineBudget rules first.map line most → steps ≤ start + most
+        moved first most alike given = stopped.most most (budget_alike m.schema rules first.map (as_map m) line of sound (subst (AreAlike first.map) stands.map alike.map) most given)
+
+        within : (first end : State) (costs behind : Entries) (outcome : runs.Outcome) (bounds : Bounds) → AreAlikeStates first state → IsStep rules first (statements.Apply line) outcome end → HasBounds rules first costs (statements.Apply line) outcome bounds behind → steps ≤ start + bounds.most
+        within first end costs behind _ _ alike step (OfDone _ added removed most given) = moved first most alike given
+        within first end costs behind _ _ alike step (OfRefused _ cause most given) = moved first most alike given
+        within first end costs behind _ _ alike (IsSkipped _ broken) (OfSkipped _) = let same = alike.broken in let here = whole old.group state other stands.group in absurd cc
+
+-- ---- undo and redo
+
+module _ (rules : List Rule) (m n : ArenaMap) (old new : Standing) (state : State) (entries : Entries) (start steps : ℕ) (stands : StandsAt old m state entries) (outside : old.group ≡ opens.Nothing) (same_group : new.group ≡ old.group) where
+  none_open : HasOpen opens.Nothing state
+  none_open = subst (λ o. HasOpen o state) outside stands.group
+
+  open_new : (map : Map) (history : History) → history.group ≡ None → HasOpen new.group (standing_at map history)
+  open_new map history none = subst (λ o. HasOpen o (standing_at map history)) (sym (same_group ∙ outside)) (none, refl)
+
+  pub undone : (behind : History) → IsUndone (as_map m) state.history (as_map n) behind → StandsFor new.history n behind → start ≤ steps
+      → (most : ℕ) × (rest : List ℕ) × (entries.past ≡ most ∷ rest) × (steps ≤ start + most) × MayTake new.history n.schema.dim (record { past = rest; future = most ∷ entries.future; group = entries.group })
+      → HasStep rules state entries statements.Undo outcomes.Undone new n start steps
+  undone behind is history rises (most, rest, costs_are, within, costs) = record {
+    told = runs.Undone;
+    tells = refl;
+    after = standing_at (as_map n) behind;
+    step = GoesBack (as_map n) behind (subst (λ map. IsUndone map state.history (as_map n) behind) (sym stands.map) is);
+    bounds = up_to most;
+    behind = record { past = rest; future = most ∷ entries.future; group = entries.group };
+    has = OfUndone most rest costs_are;
+    stands = record { map = refl; history = history; costs = costs; group = open_new (as_map n) behind (ap (λ (h : History). h.group) is.after) };
+    least = omega (arith, rises);
+    most = within;
+  }
+
+  pub redone : (behind : History) → IsRedone (as_map m) state.history (as_map n) behind → StandsFor new.history n behind → start ≤ steps
+      → (most : ℕ) × (rest : List ℕ) × (entries.future ≡ most ∷ rest) × (steps ≤ start + most) × MayTake new.history n.schema.dim (record { past = most ∷ entries.past; future = rest; group = entries.group })
+      → HasStep rules state entries statements.Redo outcomes.Redone new n start steps
+  redone behind is history rises (most, rest, costs_are, within, costs) = record {
+    told = runs.Redone;
+    tells = refl;
+    after = standing_at (as_map n) behind;
+    step = GoesForth (as_map n) behind (subst (λ map. IsRedone map state.history (as_map n) behind) (sym stands.map) is);
+    bounds = up_to most;
+    behind = record { past = most ∷ entries.past; future = rest; group = entries.group };
+    has = OfRedone most rest costs_are;
+    stands = record { map = refl; history = history; costs = costs; group = open_new (as_map n) behind (ap (λ (h : History). h.group) is.after) };
+    least = omega (arith, rises);
+    most = within;
+  }
+
+  -- nothing to go to: all is as it was
+  stands_still : new.history ≡ old.history → n ≡ m → StandsAt new n state entries
+  stands_still same map = record {
+    map = stands.map ∙ sym (ap as_map map);
+    history = subst (λ h. StandsFor h n state.history) (sym same) (subst (λ a. StandsFor old.history a state.history) (sym map) stands.history);
+    costs = subst (λ h. MayTake h n.schema.dim entries) (sym same) (subst (λ (a : ArenaMap). MayTake old.history a.schema.dim entries) (sym map) stands.costs);
+    group = subst (λ o. HasOpen o state) (sym same_group) stands.group;
+  }
+
+  pub no_past : state.history.past ≡ [] → new.history ≡ old.history → n ≡ m → steps ≡ start → HasStep rules state entries statements.Undo outcomes.NothingToUndo new n start steps
+  no_past none same map still = record {
+    told = runs.NothingToUndo;
+    tells = refl;
+    after = state;
+    step = HasNoPast none;
+    bounds = up_to 0;
+    behind = entries;
+    has = OfNoPast;
+    stands = stands_still same map;
+    least = omega (arith, still);
+    most = omega (arith, still);
+  }
+
+  pub no_future : state.history.future ≡ [] → new.history ≡ old.history → n ≡ m → steps ≡ start → HasStep rules state entries statements.Redo outcomes.NothingToRedo new n start steps
+  no_future none same map still = record {
+    told = runs.NothingToRedo;
+    tells = refl;
+    after = state;
+    step = HasNoFuture none;
+    bounds = up_to 0;
+    behind = entries;
+    has = OfNoFuture;
+    stands = stands_still same map;
+    least = omega (arith, still);
+    most = omega (arith, still);
+  }
+
+-- ---- groups
+
+module _ (rules : List Rule) (m n : ArenaMap) (old new : Standing) (state : State) (entries : Entries) (start steps : ℕ) (stands : StandsAt old m state entries) where
+  pub began : old.group ≡ opens.Nothing → new.group ≡ opens.Whole → StandsFor new.history m (begun_at (as_map m) state.history) → MayTake new.history m.schema.dim (record { past = entries.past; future = entries.future; group = 0 })
+      → HasStep rules state entries statements.Group outcomes.Begun new m start start
+  began outside group history costs = record {
+    told = runs.Begun;
+    tells = refl;
+    after = standing_at state.map (begun_at state.map state.history);
+    step = Begins (subst (λ o. HasOpen o state) outside stands.group).0;
+    bounds = up_to 0;
+    behind = record { past = entries.past; future = entries.future; group = 0 };
+    has = OfBegun;
+    stands = record {
+      map = stands.map;
+      history = subst (λ map. StandsFor new.history m (begun_at map state.history)) (sym stands.map) history;
+      costs = costs;
+      group = subst (λ o. HasOpen o (standing_at state.map (begun_at state.map state.history))) (sym group) (record { map = state.map; is_changed = false }, refl, refl);
+    };
+    least = omega arith;
+    most = omega arith;
+  }
+
+  module _ (closed : new.group ≡ opens.Nothing) where
+    open_none : (map : Map) (history : History) → history.group ≡ None → HasOpen new.group (standing_at map history)
+    open_none map history none = subst (λ o. HasOpen o (standing_at map history)) (sym closed) (none, refl)
+
+    pub was_kept : (group : Group) → state.history.group ≡ Some group → state.is_broken ≡ false → StandsFor new.history m (kept group state.history) → MayTake new.history m.schema.dim (group_entered group entries)
+        → HasStep rules state entries statements.End outcomes.Kept new m start start
+    was_kept group is whole history costs = record {
+      told = runs.Kept;
+      tells = refl;
+      after = standing_at state.map (kept group state.history);
+      step = Ends group is whole;
+      bounds = up_to 0;
+      behind = group_entered group entries;
+      has = OfKept group is;
+      stands = record { map = stands.map; history = history; costs = costs; group = open_none state.map (kept group state.history) refl };
+      least = omega arith;
+      most = omega arith;
+    }
+
+    pub was_dropped : (group : Group) → state.history.group ≡ Some group → state.is_broken ≡ true → as_map n ≡ group.map → StandsFor new.history n (dropped state.history) → MayTake new.history n.schema.dim (record { past = entries.past; future = entries.future; group = 0 })
+        → start ≤ steps → steps ≤ start + entries.group → HasStep rules state entries statements.End outcomes.Dropped new n start steps
+    was_dropped group is broken map history costs rises within = record {
+      told = runs.Dropped;
+      tells = refl;
+      after = standing_at group.map (dropped state.history);
+      step = IsTakenBack group is broken;
+      bounds = up_to entries.group;
+      behind = record { past = entries.past; future = entries.future; group = 0 };
+      has = OfDropped;
+      stands = record { map = sym map; history = history; costs = costs; group = open_none group.map (dropped state.history) refl };
+      least = omega (arith, rises);
+      most = within;
+    }

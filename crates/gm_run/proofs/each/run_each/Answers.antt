@@ -1,0 +1,55 @@
+use Rattle.std.proofs.Common.{◌≡◌, ◌+◌, ◌<◌, length, refl, sym, subst, ◌∙◌, arith}
+use Rattle.std.proofs.lemmas.Result.{err_from_is_err_and}
+use Rattle.gm_arena.specs.ArenaAsMap.{as_map}
+use Rattle.gm_arena.proofs.Keys.{darts_counted}
+use Rattle.std.specs.List.{count_by}
+use Rattle.gm_model.specs.Runs.{AreLeads, is_done_turn}
+use Rattle.gm_run.specs.Progress.{rules_of}
+use Rattle.gm_run.specs.Turns.{within_turns}
+use Rattle.gm_run.proofs.EachSteps.{each_step, each_stopped, few_leads, group_is, group_within, leads_stopped}
+use Rattle.gm_run.proofs.Stepping.{outside_of}
+use Rattle.gm_run.proofs.each.run_each.Goals as goal
+
+pub begin-requires-clause-stands : goal.begin-requires-clause-stands
+begin-requires-clause-stands g c = outside_of c.args.arena.now c.args.standing.now c.requires.stands c.requires.outside
+
+pub take_turns-requires-clause-few : goal.take_turns-requires-clause-few
+take_turns-requires-clause-few g c =
+    let few = few_leads (as_map c.args.arena.now) c.args.mask c.deref.result.now c.args.arena.now.count (subst (AreLeads (as_map c.args.arena.now) c.args.mask) (sym c.deref.ensures.value) c.in_ok-leads.ensures.leads) (darts_counted c.args.arena.now c.accepted.ensures.lawful) in
+    let darts = c.accepted.ensures.lawful.few_darts in
+    omega (arith, few, darts)
+
+pub take_turns-requires-clause-stands : goal.take_turns-requires-clause-stands
+take_turns-requires-clause-stands g c = let out = outside_of c.args.arena.now c.args.standing.now c.requires.stands c.requires.outside in (out.0, c.begin.ensures.history out.0 out.1)
+
+pub keep-requires-clause-stands : goal.keep-requires-clause-stands
+keep-requires-clause-stands g c =
+    let from = as_map c.args.arena.now in
+    let state = c.requires.stands.0 in
+    let entries = c.requires.stands.1 in
+    let stands = c.requires.stands.2 in
+    let have = c.in_ok-counts.ensures.turns state.history entries (c.begin.ensures.history state.history stands.history) (c.begin.ensures.entries entries stands.costs) in
+    let done = count_by is_done_turn have.turns in
+    (within_turns from state.history done, group_within from done, have.stands, group_is from state.history done)
+
+pub returns-in_err-leads-clause-step : goal.returns-in_err-leads-clause-step
+returns-in_err-leads-clause-step g c state entries stands =
+    let p = err_from_is_err_and c.from_residual.result c.from_residual.ensures.1 in
+    rw p.1
+    (leads_stopped c.args.arena.now.schema (rules_of c.args.plans.now) c.args.mask c.args.rule c.args.params.now c.requires.good c.args.arena.now c.accepted.ensures.lawful refl (record { schema_is = refl; sound = c.requires.sound }) c.args.standing.now state entries stands c.requires.outside
+    c.args.steps.now c.leads.new.steps c.in_err-leads.ensures.cost)
+
+pub returns-in_err-counts-clause-step : goal.returns-in_err-counts-clause-step
+returns-in_err-counts-clause-step g c state entries stands =
+    let p = err_from_is_err_and c.from_residual-in_err-counts.result c.from_residual-in_err-counts.ensures.1 in
+    rw p.1
+    (each_stopped c.args.arena.now.schema (rules_of c.args.plans.now) c.args.mask c.args.rule c.args.params.now c.requires.good c.args.arena.now c.accepted.ensures.lawful refl (record { schema_is = refl; sound = c.requires.sound }) c.args.standing.now state entries stands c.requires.outside
+    c.deref.result.now (subst (AreLeads (as_map c.args.arena.now) c.args.mask) (sym c.deref.ensures.value) c.in_ok-leads.ensures.leads) c.args.steps.now c.leads.new.steps c.in_ok-leads.ensures.cost c.in_ok-leads.ensures.least c.accepted.ensures.rule
+    (as_map c.take_turns.new.arena) c.take_turns.new.steps (c.in_err-counts.ensures.turns state.history entries (c.begin.ensures.history state.history stands.history) (c.begin.ensures.entries entries stands.costs)))
+
+pub returns-clause-step : goal.returns-clause-step
+returns-clause-step g c state entries stands =
+    each_step c.args.arena.now.schema (rules_of c.args.plans.now) c.args.mask c.args.rule c.args.params.now c.requires.good c.args.arena.now c.accepted.ensures.lawful refl (record { schema_is = refl; sound = c.requires.sound }) c.args.standing.now state entries stands c.requires.outside
+    c.deref.result.now (subst (AreLeads (as_map c.args.arena.now) c.args.mask) (sym c.deref.ensures.value) c.in_ok-leads.ensures.leads) c.args.steps.now c.leads.new.steps c.in_ok-leads.ensures.cost c.in_ok-leads.ensures.least
+    c.in_ok-counts.counts c.take_turns.new.standing (record { history = c.keep.new.self; group = c.take_turns.new.standing.group; scratch = c.take_turns.new.standing.scratch }) c.take_turns.new.arena c.take_turns.new.steps
+    (c.in_ok-counts.ensures.turns state.history entries (c.begin.ensures.history state.history stands.history) (c.begin.ensures.entries entries stands.costs)) c.in_ok-counts.ensures.schema c.keep.ensures.history c.keep.ensures.entries c.in_ok-counts.ensures.group

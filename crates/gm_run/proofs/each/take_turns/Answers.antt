@@ -1,0 +1,72 @@
+use Rattle.std.proofs.Common.{◌≡◌, ◌+◌, ◌≤◌, [], take, refl, sym, subst, ◌∙◌, arith}
+use Rattle.std.proofs.lemmas.Result.{err_from_is_err_and}
+use Rattle.gm_model.specs.Histories.{begun_at}
+use Rattle.gm_arena.specs.ArenaAsMap.{as_map}
+use Rattle.gm_theory.specs.Suited.{IsRuleOf}
+use Rattle.gm_run.specs.Progress.{rules_of, ArePlansFor}
+use Rattle.gm_run.specs.Turns.{HaveTurns, counted, told_by}
+use Rattle.gm_run.proofs.EachSteps.{counted_sum, no_turns, stops_at, turns_all, turns_more}
+use Rattle.gm_run.proofs.each.take_turns.Goals as goal
+
+pub take_turn-requires-clause-sound : goal.take_turn-requires-clause-sound
+take_turn-requires-clause-sound g c = c.loop-lead.invariant.sound
+
+pub take_turn-requires-clause-plans : goal.take_turn-requires-clause-plans
+take_turn-requires-clause-plans g c = subst (λ schema. ArePlansFor schema c.args.plans.now) (sym c.loop-lead.invariant.schema) c.requires.plans
+
+pub take_turn-requires-clause-good : goal.take_turn-requires-clause-good
+take_turn-requires-clause-good g c = c.requires.good _
+
+pub take_turn-requires-clause-stands : goal.take_turn-requires-clause-stands
+take_turn-requires-clause-stands g c = c.loop-lead.invariant.stands
+
+pub loop-lead-init : goal.loop-lead-init
+loop-lead-init g c = record {
+  sound = c.requires.sound;
+  schema = refl;
+  spare = omega arith;
+  reserved = omega arith;
+  group = refl;
+  sum = refl;
+  stands = (begun_at (as_map c.args.arena.now) c.requires.stands.0, c.requires.stands.1);
+  turns = λ told entries stands costs.
+      no_turns c.args.arena.now.schema (rules_of c.args.plans.now) c.args.rule c.args.params.now c.requires.rule c.requires.good (as_map c.args.arena.now) told entries c.args.standing.now c.args.arena.now c.args.steps.now refl stands costs;
+}
+
+pub loop-lead-preserved : goal.loop-lead-preserved
+loop-lead-preserved g c =
+    let before = c.loop-lead.invariant in
+    let last = c.in_ok-turn.ensures in
+    let spare = last.spare_stays in
+    let reserved = last.reserved_stays in
+    let so_far = before.spare in
+    let names = before.reserved in
+    record {
+      sound = last.sound;
+      schema = last.schema ∙ before.schema;
+      spare = omega (arith, spare, so_far);
+      reserved = omega (arith, reserved, names);
+      group = last.group ∙ before.group;
+      sum = counted_sum c.loop-lead.counts c.in_ok-turn.turn c.loop-lead.lead-index c.counted-counts.result c.counted-counts.ensures before.sum;
+      stands = (told_by c.in_ok-turn.turn (as_map c.loop-lead.arena) before.stands.0, last.history before.stands.0 before.stands.1);
+      turns = λ told entries stands costs.
+          let rules = rules_of c.args.plans.now in
+          let start = as_map c.args.arena.now in
+          subst (λ counts. HaveTurns rules c.args.rule c.args.params.now start told entries (take (c.loop-lead.lead-index + 1) c.args.leads.now) counts c.take_turn.new.standing c.take_turn.new.arena c.args.steps.now c.take_turn.new.steps) (sym c.counted-counts.ensures)
+          (turns_more c.args.arena.now.schema rules c.args.rule c.args.params.now c.requires.rule c.requires.good start told entries c.args.leads.now c.loop-lead.lead-index _ _ c.loop-lead.counts c.loop-lead.standing c.take_turn.new.standing c.loop-lead.arena c.take_turn.new.arena
+          c.args.steps.now c.loop-lead.steps c.take_turn.new.steps c.loop-lead-test.true refl (record { schema_is = refl; sound = c.requires.sound }) c.in_ok-turn.turn (before.turns told entries stands costs) last.turn last.history last.entries);
+    }
+
+pub returns-in_err-turn-clause-turns : goal.returns-in_err-turn-clause-turns
+returns-in_err-turn-clause-turns g c told entries stands costs =
+    let p = err_from_is_err_and c.from_residual.result c.from_residual.ensures.1 in
+    let rules = rules_of c.args.plans.now in
+    let start = as_map c.args.arena.now in
+    rw p.1
+    (stops_at c.args.arena.now.schema rules c.args.rule c.args.params.now c.requires.rule c.requires.good start told entries c.args.leads.now c.loop-lead.lead-index _ _ c.loop-lead.counts c.loop-lead.standing c.loop-lead.arena c.take_turn.new.arena
+    c.args.steps.now c.loop-lead.steps c.take_turn.new.steps c.loop-lead-test.true refl (record { schema_is = refl; sound = c.requires.sound }) (c.loop-lead.invariant.turns told entries stands costs) c.in_err-turn.ensures.turn)
+
+pub returns-clause-turns : goal.returns-clause-turns
+returns-clause-turns g c told entries stands costs =
+    turns_all c.args.arena.now.schema (rules_of c.args.plans.now) c.args.rule c.args.params.now c.requires.rule c.requires.good (as_map c.args.arena.now) told entries c.args.leads.now c.loop-lead.lead-index c.loop-lead.counts c.loop-lead.standing c.loop-lead.arena c.args.steps.now c.loop-lead.steps c.loop-lead-test.false
+    (c.loop-lead.invariant.turns told entries stands costs)

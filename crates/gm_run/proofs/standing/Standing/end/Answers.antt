@@ -1,0 +1,24 @@
+use Rattle.std.proofs.Common.{refl, rules}
+use Rattle.gm_run.specs.declared.standing.Open.TheVariants as opens
+use Rattle.gm_run.proofs.Stepping.{inside_of, open_broken, open_group, was_dropped, was_kept, whole}
+use Rattle.gm_run.proofs.standing.Standing.end.Goals as goal
+
+pub take_back-requires-clause-stands : goal.take_back-requires-clause-stands
+take_back-requires-clause-stands g c = inside_of c.args.arena.now c.args.self.now c.requires.stands c.requires.inside
+
+pub keep-requires-clause-stands : goal.keep-requires-clause-stands
+keep-requires-clause-stands g c = inside_of c.args.arena.now c.args.self.now c.requires.stands c.requires.inside
+
+pub returns-then-is_broken-clause-step : goal.returns-then-is_broken-clause-step
+returns-then-is_broken-clause-step g c rules state entries stands =
+    let group = open_group c.args.self.now.group state c.requires.inside stands.group in
+    let broken = open_broken c.args.self.now.group state (c.is_broken-is_broken.ensures.broken c.if-is_broken.true) stands.group in
+    was_dropped rules c.args.arena.now c.take_back.new.arena c.args.self.now (record { history = c.take_back.new.self; group = opens.Nothing; scratch = c.args.self.now.scratch }) state entries c.args.steps.now c.take_back.new.steps stands refl
+    group.0 group.1 broken (c.take_back.ensures.map state.history group.0 stands.history group.1) (c.take_back.ensures.history state.history stands.history) (c.take_back.ensures.entries entries stands.costs) c.take_back.ensures.rises (c.take_back.ensures.most entries stands.costs)
+
+pub returns-clause-step : goal.returns-clause-step
+returns-clause-step g c rules state entries stands =
+    let group = open_group c.args.self.now.group state c.requires.inside stands.group in
+    let unbroken = whole c.args.self.now.group state (c.is_broken-is_broken.ensures.whole c.if-is_broken.false) stands.group in
+    was_kept rules c.args.arena.now c.args.arena.now c.args.self.now (record { history = c.keep.new.self; group = opens.Nothing; scratch = c.args.self.now.scratch }) state entries c.args.steps.now c.args.steps.now stands refl
+    group.0 group.1 unbroken (c.keep.ensures.history state.history group.0 stands.history group.1) (c.keep.ensures.entries state.history group.0 entries stands.history group.1 stands.costs)

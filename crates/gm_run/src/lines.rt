@@ -1,0 +1,137 @@
+//! Applications that lines of a script ask for.
+ghost use Rattle.std.specs.Prelude.{◌≡◌, ◌≢◌, ◌+◌, ◌<◌, ◌≤◌, ℕ, IfOk, List, MatchResult, length};
+ghost use Rattle.gm_model.specs.declared.script.Stat.TheVariants as statements;
+ghost use Rattle.gm_model.specs.Budgets.{Entries, IsLineBudget};
+ghost use Rattle.gm_model.specs.Histories as definition;
+ghost use Rattle.gm_model.specs.Maps.{IsSound};
+ghost use Rattle.gm_model.specs.Runs.{State};
+ghost use Rattle.gm_apply.specs.declared.refusal.Refusal.TheVariants as refusals;
+ghost use Rattle.gm_arena.specs.ArenaAsMap.{as_map};
+ghost use Rattle.gm_arena.specs.Lawful.{IsLawful};
+ghost use Rattle.gm_theory.specs.Outcomes.{IsGoodLine};
+ghost use Rattle.gm_theory.specs.Suited.{IsRuleOf};
+ghost use Rattle.gm_undo.specs.Costs.{MayTake};
+ghost use Rattle.gm_undo.specs.Standing.{StandsFor};
+ghost use Rattle.gm_run.specs.declared.outcome.Outcome.TheVariants as outcomes;
+ghost use Rattle.gm_run.specs.Progress.{rules_of, ArePlansFor};
+ghost use Rattle.gm_run.specs.Standing.{StandsAt, HasStep, HasLine, IsStopped, IsUnapplied, entered_by, group_behind, line_of, told_behind};
+
+use crate::outcome::Outcome;
+use crate::standing::{Open, Standing};
+use gm_apply::Refusal;
+use gm_arena::{Arena, Steps};
+use gm_model::{Line, MOST_DARTS, OutOfMemory, Value};
+use gm_plan::Plan;
+use std::alloc::Global;
+use std::sync::ledger::Ledger;
+
+/// Runs a line. In a group that is broken it is skipped, and where it is refused in a group, it breaks
+/// the group.
+pub(crate) fn run_line<L: Ledger>(
+    alloc: Global,
+    plans: &[Plan<'_>],
+    line: &Line,
+    arena: &mut Arena,
+    standing: &mut Standing,
+    steps: &mut Steps<L>,
+) -> Result<Outcome, OutOfMemory>
+    requires sound { IsSound (as_map arena.old) }
+    requires plans { ArePlansFor arena.old.schema plans.now }
+    requires good { IsGoodLine (rules_of plans.now) line.now }
+    requires stands { (state : State) × (entries : Entries) × StandsAt standing.old arena.old state entries }
+    ensures step { (state : State) (entries : Entries) → StandsAt standing.old arena.old state entries → MatchResult result
+        (λ outcome. HasStep (rules_of plans.now) state entries (statements.Apply line.now) outcome standing.new arena.new steps.old steps.new)
+        (λ _. IsStopped (rules_of plans.now) state (statements.Apply line.now) (as_map arena.new) steps.old steps.new) }
+    ensures rule { IsRuleOf arena.old.schema (rules_of plans.now) line.now.rule }
+    ensures sound { IsSound (as_map arena.new) }
+    ensures schema { arena.new.schema ≡ arena.old.schema }
+    ensures spare_stays { arena.old.count + arena.old.spare ≤ arena.new.count + arena.new.spare }
+    ensures reserved_stays { arena.old.reserved ≤ arena.new.reserved }
+{
+    accepted(plans, line.rule, arena);
+    if standing.group.is_broken() {
+        return Ok(Outcome::Skipped);
+    }
+    let hooks = line.hooks.as_slice();
+    let params = line.params.as_slice();
+    let outcome = apply_rule(
+        alloc, plans, line.rule, hooks, params, arena, standing, steps,
+    )?;
+    standing.group = behind(outcome, standing.group);
+    Ok(outcome)
+}
+
+/// The open group behind an application.
+fn behind(outcome: Outcome, group: Open) -> Open
+    ensures { result ≡ group_behind outcome group }
+{
+    match (outcome, group) {
+        (Outcome::Refused(_), Open::Whole) => Open::Broken,
+        (_, group) => group,
+    }
+}
+
+/// Applies the rule of this number to the map.
+pub(crate) fn apply_rule<L: Ledger>(
+    alloc: Global,
+    plans: &[Plan<'_>],
+    rule: u16,
+    hooks: &[u32],
+    params: &[Value],
+    arena: &mut Arena,
+    standing: &mut Standing,
+    steps: &mut Steps<L>,
+) -> Result<Outcome, OutOfMemory>
+    requires sound { IsSound (as_map arena.old) }
+    requires plans { ArePlansFor arena.old.schema plans.now }
+    requires good { IsGoodLine (rules_of plans.now) (line_of rule hooks.now params.now) }
+    requires stands { (told : definition.History) × StandsFor standing.old.history arena.old told }
+    ensures line { MatchResult result
+        (HasLine (rules_of plans.now) (as_map arena.old) (line_of rule hooks.now params.now) (as_map arena.new) steps.old steps.new)
+        (λ _. IsUnapplied (rules_of plans.now) (as_map arena.old) (line_of rule hooks.now params.now) (as_map arena.new) steps.old steps.new) }
+    ensures history { (told : definition.History) → StandsFor standing.old.history arena.old told → IfOk result (λ outcome. StandsFor standing.new.history arena.new (told_behind outcome (as_map arena.old) told)) }
+    ensures entries { (told : definition.History) (entries : Entries) (most : ℕ) → StandsFor standing.old.history arena.old told → MayTake standing.old.history arena.old.schema.dim entries
+        → IsLineBudget (rules_of plans.now) (as_map arena.old) (line_of rule hooks.now params.now) most → IfOk result (λ outcome. MayTake standing.new.history arena.new.schema.dim (entered_by outcome told.group most entries)) }
+    ensures group { standing.new.group ≡ standing.old.group }
+    ensures sound { IsSound (as_map arena.new) }
+    ensures schema { arena.new.schema ≡ arena.old.schema }
+    ensures spare_stays { arena.old.count + arena.old.spare ≤ arena.new.count + arena.new.spare }
+    ensures reserved_stays { arena.old.reserved ≤ arena.new.reserved }
+{
+    let plan = &plans[rule as usize];
+    prove!(plan.hooks() as usize == hooks.len());
+    let Standing {
+        history,
+        scratch,
+        ..
+    } = standing;
+    match history.apply(alloc, plan, arena, hooks, params, scratch, steps) {
+        Ok(applied) => Ok(Outcome::Done(applied)),
+        Err(refusal) => refused(refusal),
+    }
+}
+
+/// The outcome of an application that is refused. Want of memory isn't one.
+fn refused(refusal: Refusal) -> Result<Outcome, OutOfMemory>
+    ensures { MatchResult result
+        (λ outcome. (outcome ≡ outcomes.Refused refusal) × (refusal ≢ refusals.OutOfMemory))
+        (λ _. refusal ≡ refusals.OutOfMemory) }
+{
+    if refusal == Refusal::OutOfMemory {
+        return Err(OutOfMemory);
+    }
+    Ok(Outcome::Refused(refusal))
+}
+
+/// The rule of this number is accepted for the maps that the arena may have. The facts are the
+/// clauses; the function does nothing.
+pub(crate) fn accepted(plans: &[Plan<'_>], rule: u16, arena: &Arena)
+    requires named { rule < length plans.now }
+    requires plans { ArePlansFor arena.now.schema plans.now }
+    ensures rule { IsRuleOf arena.now.schema (rules_of plans.now) rule }
+    ensures lawful { IsLawful arena.now }
+{
+    let plan = &plans[rule as usize];
+    prove!(plan.rule().hooks.as_slice().len() == plan.hooks() as usize);
+    prove!(arena.count() <= MOST_DARTS);
+}
