@@ -2,6 +2,7 @@
 use Rattle.std.proofs.Common.{◌≡◌, ◌⊎◌, ℕ, ◌<◌, ◌≤◌, List, inl, inr, Some, length, codes, sym, subst, ◌∙◌, arith}
 use Rattle.gm_forms.specs.BookText.{BookText}
 use Rattle.gm_mapfile.specs.MapText.{MapText}
+use Rattle.gm_model.specs.declared.schema.Schema.{Schema}
 use Rattle.gm_model.specs.Rules.{Rule}
 use Rattle.gm_book.proofs.OneBook.{one_book}
 use Rattle.gm_mapfile.proofs.OneMap.{one_map}
