@@ -10,8 +10,8 @@ use Rattle.gm_run.proofs.EachSteps.{each_step, each_stopped, few_leads, group_is
 use Rattle.gm_run.proofs.Stepping.{outside_of}
 use Rattle.gm_run.proofs.each.run_each.Goals as goal
 
-pub begin-requires-clause-stands : goal.begin-requires-clause-stands
-begin-requires-clause-stands g c = outside_of c.args.arena.now c.args.standing.now c.requires.stands c.requires.outside
+pub begin-requires : goal.begin-requires
+begin-requires g c = record { stands = outside_of c.args.arena.now c.args.standing.now c.requires.stands c.requires.outside }
 
 pub take_turns-requires-clause-few : goal.take_turns-requires-clause-few
 take_turns-requires-clause-few g c =
@@ -22,15 +22,17 @@ take_turns-requires-clause-few g c =
 pub take_turns-requires-clause-stands : goal.take_turns-requires-clause-stands
 take_turns-requires-clause-stands g c = let out = outside_of c.args.arena.now c.args.standing.now c.requires.stands c.requires.outside in (out.0, c.begin.ensures.history out.0 out.1)
 
-pub keep-requires-clause-stands : goal.keep-requires-clause-stands
-keep-requires-clause-stands g c =
-    let from = as_map c.args.arena.now in
-    let state = c.requires.stands.0 in
-    let entries = c.requires.stands.1 in
-    let stands = c.requires.stands.2 in
-    let have = c.in_ok-counts.ensures.turns state.history entries (c.begin.ensures.history state.history stands.history) (c.begin.ensures.entries entries stands.costs) in
-    let done = count_by is_done_turn have.turns in
-    (within_turns from state.history done, group_within from done, have.stands, group_is from state.history done)
+pub keep-requires : goal.keep-requires
+keep-requires g c = record {
+  stands =
+      let from = as_map c.args.arena.now in
+      let state = c.requires.stands.0 in
+      let entries = c.requires.stands.1 in
+      let stands = c.requires.stands.2 in
+      let have = c.in_ok-counts.ensures.turns state.history entries (c.begin.ensures.history state.history stands.history) (c.begin.ensures.entries entries stands.costs) in
+      let done = count_by is_done_turn have.turns in
+      (within_turns from state.history done, group_within from done, have.stands, group_is from state.history done);
+}
 
 pub returns-in_err-leads-clause-step : goal.returns-in_err-leads-clause-step
 returns-in_err-leads-clause-step g c state entries stands =

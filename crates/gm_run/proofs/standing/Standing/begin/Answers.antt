@@ -3,8 +3,8 @@ use Rattle.gm_run.specs.declared.standing.Open.TheVariants as opens
 use Rattle.gm_run.proofs.Stepping.{began, outside_of}
 use Rattle.gm_run.proofs.standing.Standing.begin.Goals as goal
 
-pub begin-requires-clause-stands : goal.begin-requires-clause-stands
-begin-requires-clause-stands c = outside_of c.args.arena.now c.args.self.now c.requires.stands c.requires.outside
+pub begin-requires : goal.begin-requires
+begin-requires c = record { stands = outside_of c.args.arena.now c.args.self.now c.requires.stands c.requires.outside }
 
 pub returns : goal.returns
 returns c = record {

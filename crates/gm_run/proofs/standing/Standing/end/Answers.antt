@@ -3,11 +3,11 @@ use Rattle.gm_run.specs.declared.standing.Open.TheVariants as opens
 use Rattle.gm_run.proofs.Stepping.{inside_of, open_broken, open_group, was_dropped, was_kept, whole}
 use Rattle.gm_run.proofs.standing.Standing.end.Goals as goal
 
-pub take_back-requires-clause-stands : goal.take_back-requires-clause-stands
-take_back-requires-clause-stands g c = inside_of c.args.arena.now c.args.self.now c.requires.stands c.requires.inside
+pub take_back-requires : goal.take_back-requires
+take_back-requires g c = record { stands = inside_of c.args.arena.now c.args.self.now c.requires.stands c.requires.inside }
 
-pub keep-requires-clause-stands : goal.keep-requires-clause-stands
-keep-requires-clause-stands g c = inside_of c.args.arena.now c.args.self.now c.requires.stands c.requires.inside
+pub keep-requires : goal.keep-requires
+keep-requires g c = record { stands = inside_of c.args.arena.now c.args.self.now c.requires.stands c.requires.inside }
 
 pub returns-then-is_broken-clause-step : goal.returns-then-is_broken-clause-step
 returns-then-is_broken-clause-step g c rules state entries stands =

@@ -2,8 +2,8 @@ use Rattle.std.proofs.Common.{refl}
 use Rattle.gm_run.proofs.Stepping.{no_future, outside_of, redone}
 use Rattle.gm_run.proofs.standing.Standing.redo.Goals as goal
 
-pub redo-requires-clause-stands : goal.redo-requires-clause-stands
-redo-requires-clause-stands g c = outside_of c.args.arena.now c.args.self.now c.requires.stands c.requires.outside
+pub redo-requires : goal.redo-requires
+redo-requires g c = record { stands = outside_of c.args.arena.now c.args.self.now c.requires.stands c.requires.outside }
 
 pub returns-in-Ok-clause-step : goal.returns-in-Ok-clause-step
 returns-in-Ok-clause-step g c rules state entries stands =

@@ -2,8 +2,8 @@ use Rattle.std.proofs.Common.{refl}
 use Rattle.gm_run.proofs.Stepping.{no_past, outside_of, undone}
 use Rattle.gm_run.proofs.standing.Standing.undo.Goals as goal
 
-pub undo-requires-clause-stands : goal.undo-requires-clause-stands
-undo-requires-clause-stands g c = outside_of c.args.arena.now c.args.self.now c.requires.stands c.requires.outside
+pub undo-requires : goal.undo-requires
+undo-requires g c = record { stands = outside_of c.args.arena.now c.args.self.now c.requires.stands c.requires.outside }
 
 pub returns-in-Ok-clause-step : goal.returns-in-Ok-clause-step
 returns-in-Ok-clause-step g c rules state entries stands =
