@@ -17,10 +17,11 @@ const MOST_DARTS: usize = 1 << 20;
 
 type Point = [i64; 3];
 
-/// A file, read in pieces. Behind what is read stands a newline, so that a number ends there.
+/// A file, read in pieces. Behind what is read stand eight newlines, so that a number ends there and
+/// eight bytes can be looked at from any.
 struct Input {
     file: File,
-    piece: Box<[u8; PIECE + 1]>,
+    piece: Box<[u8; PIECE + EIGHT]>,
     at: usize,
     end: usize,
 }
@@ -28,10 +29,29 @@ struct Input {
 /// No number and no word that is read is longer.
 const LONGEST: usize = 64;
 
+/// So many bytes are looked at in one.
+const EIGHT: usize = 8;
+
+/// The digits at the start of these bytes: how many there are, and the number that they are.
+#[inline(always)]
+fn leading_digits(bytes: [u8; EIGHT]) -> (usize, u64) {
+    let values = u64::from_le_bytes(bytes) ^ 0x3030_3030_3030_3030;
+    let others = (values.wrapping_add(0x7676_7676_7676_7676) | values) & 0x8080_8080_8080_8080;
+    let count = others.trailing_zeros() / 8;
+    if count == 0 {
+        return (0, 0);
+    }
+    // The digits go to the end, zeros before them; then two, four and eight of them become one number.
+    let digits = values << (64 - 8 * count);
+    let pairs = digits.wrapping_mul(10).wrapping_add(digits >> 8);
+    let low = (pairs & 0x0000_00ff_0000_00ff).wrapping_mul(0x000f_4240_0000_0064);
+    let high = ((pairs >> 16) & 0x0000_00ff_0000_00ff).wrapping_mul(0x0000_2710_0000_0001);
+    (count as usize, low.wrapping_add(high) >> 32)
+}
+
 impl Input {
     fn open(path: &str) -> Input {
-        let mut piece: Box<[u8; PIECE + 1]> = vec![0; PIECE + 1].try_into().expect("as long");
-        piece[0] = b'\n';
+        let piece: Box<[u8; PIECE + EIGHT]> = vec![b'\n'; PIECE + EIGHT].try_into().expect("as long");
         Input { file: File::open(path).expect("open"), piece, at: 0, end: 0 }
     }
 
@@ -55,7 +75,7 @@ impl Input {
             }
             self.end += count;
         }
-        self.piece[self.end] = b'\n';
+        self.piece[self.end..self.end + EIGHT].fill(b'\n');
     }
 
     #[inline(always)]
@@ -70,8 +90,10 @@ impl Input {
         let negative = byte == b'-';
         at += usize::from(negative);
         let first = at;
-        let mut number: u64 = 0;
-        loop {
+        let eight = self.piece[at..at + EIGHT].try_into().expect("as long");
+        let (count, mut number) = leading_digits(eight);
+        at += count;
+        while count == EIGHT {
             let digit = self.piece[at].wrapping_sub(b'0');
             if digit > 9 {
                 break;
