@@ -1,8 +1,12 @@
+pub mod Ascending
+pub mod CountsFound
 pub mod FreeLemmas
 pub mod LabelLemmas
 pub mod LeastLemmas
+pub mod LeastWalkFound
 pub mod MaskLemmas
 pub mod OneAnswer
+pub mod OrientationFound
 pub mod SearchLemmas
 pub mod SettledLemmas
 pub mod TextLemmas

@@ -6,6 +6,7 @@
 
 mod colouring;
 mod counts;
+mod existence;
 mod free;
 mod laws;
 mod masks;
@@ -16,6 +17,7 @@ mod search;
 
 pub use colouring::orient;
 pub use counts::{Counts, count, count_cells};
+pub use existence::{maps_have_counts, maps_have_orientations};
 pub use laws::{
     never_two_colours_and_an_odd_walk, one_orientation_at_most, two_colours_or_an_odd_walk,
 };

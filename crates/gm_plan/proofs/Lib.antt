@@ -1,10 +1,14 @@
 pub mod Changed
+pub mod Decided
 pub mod Distinct
 pub mod EmbedTables
 pub mod Extended
+pub mod FaultFound
 pub mod Forced
 pub mod Found
 pub mod Hooks
+pub mod IncidenceFound
+pub mod JoinedFound
 pub mod LeftNodes
 pub mod OneFault
 pub mod Orders
@@ -12,3 +16,5 @@ pub mod PathLinks
 pub mod Ranks
 pub mod Rows
 pub mod Search
+pub mod SourcesFound
+pub mod SquaresFound

@@ -4,6 +4,7 @@
 
 mod changes;
 mod compiler;
+mod existence;
 mod instances;
 mod laws;
 mod paths;
@@ -14,6 +15,7 @@ mod table;
 mod tested;
 
 pub use compiler::{PlanFault, compile};
+pub use existence::{accepted_or_a_first_fault, each_condition_is_met_or_has_a_fault};
 pub use instances::Instances;
 pub use laws::{no_fault_of_a_condition_that_is_met, one_fault_at_most};
 pub use plan::Plan;
