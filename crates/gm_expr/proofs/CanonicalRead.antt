@@ -8,7 +8,7 @@ use Rattle.gm_model.specs.declared.schema.Embed.{Embed}
 use Rattle.gm_model.specs.declared.schema.Schema.{Schema}
 use Rattle.gm_model.specs.declared.token.TokenKind.{TokenKind}
 use Rattle.gm_model.specs.declared.token.TokenKind.TheVariants as kinds
-use Rattle.gm_model.specs.Reading.{Part, symbols_in}
+use Rattle.gm_model.specs.Reading.{Part, symbols_in, ArePlaced}
 use Rattle.gm_model.specs.Rules.{RuleNode, node_of, rule_of}
 use Rattle.gm_model.specs.Symbols.{Symbol, Stray, End, symbol_of_kind, Mark, mark_of, marks_at, marks_of, symbols}
 use Rattle.gm_model.specs.Tokens.{StrayAt, EndAt, Front, Gap, Lexeme, Stray as StrayFront, front_of, size_of, item_before, items_from}
@@ -20,7 +20,7 @@ use Rattle.gm_text.proofs.Printed.{symbols_from, symbols_from-end, symbols_of-fr
 use Rattle.gm_parse.specs.Answers.{IsExprRead}
 use Rattle.gm_parse.specs.Forms.{Form}
 use Rattle.gm_parse.specs.Meaning.{Names, left_name, names_in}
-use Rattle.gm_parse.specs.Spelling.{Role, Fixed, spell, parts_of, ArePlaced, Stands}
+use Rattle.gm_parse.specs.Spelling.{Role, Fixed, spell, parts_of, Stands, IsPlacedAt}
 use Rattle.gm_parse.proofs.Counted.{spot_behind, no_longer}
 use Rattle.gm_parse.proofs.Standing.{other_spot}
 use Rattle.gm_expr.specs.ExprText.{tree_text}
@@ -105,12 +105,12 @@ are_ended (mark ∷ marks) (symbol ∷ front) same =
       ends = rest.ends;
     }
 
-placed_front : (before rest : List Mark) (parts : List (Part Role)) → ArePlaced (before ++ rest) parts → ArePlaced before parts
+placed_front : (before rest : List Mark) (parts : List (Part Role)) → ArePlaced IsPlacedAt (before ++ rest) parts → ArePlaced IsPlacedAt before parts
 placed_front [] rest parts placed = tt
 placed_front (mark ∷ before) rest [] placed = tt
 placed_front (mark ∷ before) rest (part ∷ parts) placed = (placed.0, placed_front before rest parts placed.1)
 
-none_placed : (marks : List Mark) → ArePlaced marks []
+none_placed : (marks : List Mark) → ArePlaced IsPlacedAt marks []
 none_placed [] = tt
 none_placed (mark ∷ marks) = tt
 
@@ -144,7 +144,7 @@ module _ (embeds : List Embed) (params : List Param) (nodes : List RuleNode) (go
         good = tree_good embeds params nodes good n tree writable (marks_of written);
         spelled = ended.spelled;
         within = within;
-        placed = placed_front ended.before (ended.last ∷ []) (spell n canon []) (subst (λ (ms : List Mark). ArePlaced ms (spell n canon [])) ended.split placed);
+        placed = placed_front ended.before (ended.last ∷ []) (spell n canon []) (subst (λ (ms : List Mark). ArePlaced IsPlacedAt ms (spell n canon [])) ended.split placed);
         next = last;
         others = [];
         behind = rest;
