@@ -1,6 +1,6 @@
 -- The canonical text of a tree that can be written is read as that tree.
-use Rattle.std.proofs.Common.{◌≡◌, ℕ, zero, suc, ◌+◌, ◌-◌, ◌≤◌, List, [], ◌∷◌, ◌++◌, length, map, take, Option, refl, sym, ap, subst, ◌∙◌, append-nil, arith}
-use Rattle.std.proofs.lemmas.List.{length-append, length-map, map-append, take_all}
+use Rattle.std.proofs.Common.{◌≡◌, ℕ, zero, suc, ◌+◌, ◌-◌, List, [], ◌∷◌, ◌++◌, length, map, Option, refl, sym, ap, subst, ◌∙◌, append-nil, arith}
+use Rattle.std.proofs.lemmas.List.{length-append, length-map, map-append}
 use Rattle.gm_model.specs.declared.rule.Param.{Param}
 use Rattle.gm_model.specs.declared.rule.Node.{Node}
 use Rattle.gm_model.specs.declared.rule.RuleTable.{RuleTable}
@@ -179,14 +179,9 @@ module _ (embeds : List Embed) (params : List Param) (nodes : List RuleNode) (go
 
 -- ---- the names that are known
 
--- of few nodes, and so of all that a rule can have
 names_of_nodes : (nodes : List Node) → map left_name nodes ≡ map left_name_of (map node_of nodes)
 names_of_nodes [] = refl
 names_of_nodes (node ∷ nodes) = ap (λ (names : List (Option (List ℕ))). left_name node ∷ names) (names_of_nodes nodes)
 
-pub few_known : (schema : Schema) (table : RuleTable) → length schema.embeds ≤ 256 → length table.params ≤ 256 → length table.nodes ≤ 256 → names_in schema table.params table.nodes ≡ names_of schema.embeds table.params (rule_of table).nodes
-few_known schema table embeds params nodes =
-    let one : take 256 (map (λ (embed : Embed). embed.name) schema.embeds) ≡ map (λ (embed : Embed). embed.name) schema.embeds = take_all 256 (map (λ (embed : Embed). embed.name) schema.embeds) (omega (arith, embeds, length-map schema.embeds (λ (embed : Embed). embed.name))) in
-    let two : take 256 (map (λ (param : Param). param.name) table.params) ≡ map (λ (param : Param). param.name) table.params = take_all 256 (map (λ (param : Param). param.name) table.params) (omega (arith, params, length-map table.params (λ (param : Param). param.name))) in
-    let three : take 256 (map left_name table.nodes) ≡ map left_name_of (map node_of table.nodes) = take_all 256 (map left_name table.nodes) (omega (arith, nodes, length-map table.nodes left_name)) ∙ names_of_nodes table.nodes in
-    λ i. record { embeds = one i; params = two i; nodes = three i }
+pub all_known : (schema : Schema) (table : RuleTable) → names_in schema table.params table.nodes ≡ names_of schema.embeds table.params (rule_of table).nodes
+all_known schema table = let nodes = names_of_nodes table.nodes in λ i. record { embeds = map (λ (embed : Embed). embed.name) schema.embeds; params = map (λ (param : Param). param.name) table.params; nodes = nodes i }

@@ -1,5 +1,5 @@
 -- How a script is written: the grammar of its texts with their limits, and the statements that a text stands for under a book of rules, or the first fault in which it disagrees with the book.
-use Rattle.std.specs.Prelude.{◌≡◌, ◌≢◌, ℕ, ◌+◌, ◌^◌, Bool, true, false, ◌&&◌, nat_lt, nat_le, if◌then◌else◌, ℤ, nat_abs, List, [], ◌∷◌, ◌++◌, length, map, take, Option, Some, None, codes, slice_get}
+use Rattle.std.specs.Prelude.{◌≡◌, ◌≢◌, ℕ, ◌+◌, Bool, true, false, ◌&&◌, nat_lt, nat_le, if◌then◌else◌, ℤ, nat_abs, List, [], ◌∷◌, ◌++◌, length, map, Option, Some, None, codes, slice_get}
 use Rattle.std.specs.List.{position, AllByRecursion}
 use Rattle.std.specs.Str.{bytes_eq}
 use Rattle.gm_model.specs.declared.limit.LimitKind.{LimitKind}
@@ -201,9 +201,9 @@ IsAgainFault n text place = LimitStandsAt (IsSentence n) passed_of (λ role. fal
 
 -- ---- a line under a book
 
--- The index of the rule with the name, of rules with one name the first. An index has 16 bits, which is more than the rules of any book's text need.
+-- the index of the rule with the name, of rules with one name the first
 unfoldable pub index_of : List Rule → List ℕ → Option ℕ
-index_of rules name = position (λ (rule : Rule). bytes_eq name rule.name) (take (2 ^ 16) rules)
+index_of rules name = position (λ (rule : Rule). bytes_eq name rule.name) rules
 
 -- the colour of these components
 abbrev pub colour : ℤ → ℤ → ℤ → Option Value

@@ -16,7 +16,8 @@ use Rattle.gm_parse.specs.declared.fault.ExprFault.TheVariants as faults
 use Rattle.gm_parse.specs.Forms.{TermForm, Form, NumberForm, TruthForm, ParamForm, FieldForm, SameForm, CountForm, CollectForm, CallForm, ParenForm, MinusForm, NotForm, BinaryForm, IfForm, Arguments, First, Further, IsGood}
 use Rattle.gm_parse.specs.Spelling.{Role, Fixed, greatest, limit_of, limit_in, passed_by, counted_from, parts_of, spell, spell_arguments, spell_labels, spell_path, spell_term, name, operator, Stands, IsPlacedAt}
 use Rattle.gm_tree.specs.Small.{IsSmall, AreSmall, IsSmallPath, IsSmallOrbit}
-use Rattle.gm_parse.specs.Meaning.{Names, NameFault, UnknownAt, TwiceAt, fault_place, fault_rank, faults_in, tree_in, names_in, IsFirstFault, IsNotAfter, IsUnsigned}
+use Rattle.gm_parse.specs.Meaning.{Names, NameFault, UnknownAt, TwiceAt, fault_place, fault_rank, faults_in, tree_in, IsFirstFault, IsNotAfter, IsUnsigned}
+use Rattle.gm_tree.specs.FirstNames.{first_names}
 use Rattle.gm_model.specs.declared.rule.Node.{Node}
 use Rattle.gm_model.specs.declared.rule.Param.{Param}
 use Rattle.gm_model.specs.declared.schema.Schema.{Schema}
@@ -274,6 +275,6 @@ module _ (n : ℕ) (names : Names) (top : n ≤ 7) (old new : Cursor) (w : Work)
 pub read_unsigned : (n : ℕ) (names : Names) (old new : Cursor) (tree : Tree) → IsExprRead n names old new tree → IsUnsigned tree
 read_unsigned n names old new tree read = subst IsUnsigned (sym read.means) (unsigned names read.form)
 
-pub read_in_range : (schema : Schema) (params : List Param) (nodes : List Node) (old new : Cursor) (tree : Tree) → IsExprRead schema.dim (names_in schema params nodes) old new tree → IsInRangeOf schema params nodes tree
+pub read_in_range : (schema : Schema) (params : List Param) (nodes : List Node) (old new : Cursor) (tree : Tree) → IsExprRead schema.dim (first_names schema params nodes) old new tree → IsInRangeOf schema params nodes tree
 read_in_range schema params nodes old new tree read rule same left =
     subst (IsTreeInRange schema rule) (sym read.means) (in_range schema params nodes rule same left read.form read.known (stands_small schema.dim read.form (marks_left old) (marks_left new) read.stands))
