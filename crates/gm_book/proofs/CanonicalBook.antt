@@ -4,7 +4,7 @@ use Rattle.std.specs.Prelude.{decimal}
 use Rattle.std.specs.List.{flat_map, AllByRecursion, AllZip}
 use Rattle.gm_model.specs.declared.schema.Schema.{Schema}
 use Rattle.gm_model.specs.Symbols.{Symbol, Word, Numeral, End, Mark, symbols, marks_of}
-use Rattle.gm_model.specs.Reading.{Part, IsWithin, symbols_in}
+use Rattle.gm_model.specs.Reading.{Part, IsWithin, symbols_in, the_end}
 use Rattle.gm_model.specs.Rules.{Rule}
 use Rattle.gm_text.specs.SchemaText as schemas
 use Rattle.gm_text.specs.SchemaText.{SchemaForm, Passed, schema_of, spell, is_again, passed_of}
@@ -12,7 +12,7 @@ use Rattle.gm_text.specs.SchemaPrinting.{AreParts}
 use Rattle.gm_text.proofs.Printed.{symbols_from, symbols_of-from, symbols_from-word_blank, symbols_from-decimal_blank}
 use Rattle.gm_text.proofs.SchemaAgain.{form_again}
 use Rattle.gm_text.proofs.SchemaSound.{nothing_passed}
-use Rattle.gm_forms.specs.BookText.{RuleForm, BookForm, BookText, NameFault, IsFaultInRules, IsNameFault, SchemaTwice, RulesFault, MeansRule, spell_rules, the_end}
+use Rattle.gm_forms.specs.BookText.{RuleForm, BookForm, BookText, NameFault, IsFaultInRules, IsNameFault, SchemaTwice, RulesFault, MeansRule, spell_rules, Fixed}
 use Rattle.gm_book.specs.Canonical.{rule_lines, canonical}
 use Rattle.gm_forms.specs.Standing.{IsHeaded}
 use Rattle.gm_book.proofs.CanonicalForm.{forms_at, AreNew, IsWritable, HasGoodExprs}
@@ -57,7 +57,7 @@ book_symbols version schema rules low =
     symbols_of-from (canonical version schema rules) ∙ ap symbols_from grouped ∙ head_symbols version more low
 
 -- what stands behind the schema begins no embedding
-begins : (schema : Schema) (rules : List Rule) (marks : List Mark) → (next : Symbol) × (others : List Symbol) × (symbols_in (spell_rules schema.dim 0 (forms_at schema marks rules) (the_end ∷ [])) ≡ next ∷ others) × (next ≢ Word (codes "embed"))
+begins : (schema : Schema) (rules : List Rule) (marks : List Mark) → (next : Symbol) × (others : List Symbol) × (symbols_in (spell_rules schema.dim 0 (forms_at schema marks rules) (the_end Fixed ∷ [])) ≡ next ∷ others) × (next ≢ Word (codes "embed"))
 begins schema [] marks = (End, [], refl, λ e. absurd cc)
 begins schema (rule ∷ rules) marks = (Word (codes "rule"), _, refl, λ e. absurd cc)
 

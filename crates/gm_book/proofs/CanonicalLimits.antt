@@ -12,14 +12,14 @@ use Rattle.gm_model.specs.declared.rule.Side.TheVariants.{Left, Right}
 use Rattle.gm_model.specs.declared.schema.Embed.{Embed}
 use Rattle.gm_model.specs.declared.schema.Schema.{Schema}
 use Rattle.gm_model.specs.Symbols.{Mark}
-use Rattle.gm_model.specs.Reading.{Part, IsWithin}
+use Rattle.gm_model.specs.Reading.{Part, IsWithin, the_end}
 use Rattle.gm_model.specs.Rules.{Rule, RuleNode, Assignment, word_on}
 use Rattle.gm_model.specs.Trees.{Tree}
 use Rattle.gm_expr.specs.ExprText.{embed_name}
 use Rattle.gm_expr.proofs.Canonical.{behind}
 use Rattle.gm_expr.proofs.CanonicalMeaning.{good_at}
 use Rattle.gm_expr.specs.Writable.{AreGoodNames}
-use Rattle.gm_forms.specs.BookText.{Item, NodeItem, LinkItem, RuleForm, hook_count, nodes_of, hooks_in, Role, Count, no_count, count_after, count_across, counted, with_name, the_end, limit_of, spell_letters, spell_hook, spell_sets, spell_item, spell_items, spell_pre, spell_more_params, spell_params, spell_rule, spell_rules, IsSet, IsItem, IsParam, IsPre, IsRule, IsSentence}
+use Rattle.gm_forms.specs.BookText.{Item, NodeItem, LinkItem, RuleForm, hook_count, nodes_of, hooks_in, Role, Fixed, Count, no_count, count_after, count_across, counted, with_name, limit_of, spell_letters, spell_hook, spell_sets, spell_item, spell_items, spell_pre, spell_more_params, spell_params, spell_rule, spell_rules, IsSet, IsItem, IsParam, IsPre, IsRule, IsSentence}
 use Rattle.gm_model.specs.Names.{is_among}
 use Rattle.gm_book.proofs.CanonicalForm.{Line, NodeLine, LinkLine, behind_word, expr_at, sets_at, behind_set, behind_line, node_lines, line_before, sets_on, tie, hook_on, item_at, items_at, lines_of, pre_at, left_marks, right_marks, pre_marks, behind_rule, form_at, forms_at, node_names, params_at, behind_param, IsGoodName, IsGoodParam, IsGoodLetter, IsGoodLine, IsWritable, IsGoodValue, IsGoodSet, HasGoodExprs}
 use Rattle.gm_book.proofs.CanonicalText.{good_names, good_lines}
@@ -256,7 +256,7 @@ module _ (schema : Schema) where
       )
 
   pub rules_within : (k : ℕ) (rules : List Rule) (marks : List Mark) → AllByRecursion (λ (embed : Embed). IsGoodName embed.name) schema.embeds → k + length rules ≤ 256 → AllByRecursion (IsWritable schema.dim) rules → AllByRecursion (HasGoodExprs schema) rules
-      → IsIn (spell_rules schema.dim k (forms_at schema marks rules) (the_end ∷ []))
+      → IsIn (spell_rules schema.dim k (forms_at schema marks rules) (the_end Fixed ∷ []))
   rules_within k [] marks embeds few ok exprs = (refl, tt)
   rules_within k (rule ∷ rules) marks embeds few ok exprs =
       rule_within (k + 1) rule marks _ (omega (arith, few)) (good_names schema rule embeds ok.0) ok.0 exprs.0 (rules_within (k + 1) rules (behind_rule schema rule marks) embeds (omega (arith, few)) ok.1 exprs.1)

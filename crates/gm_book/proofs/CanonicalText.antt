@@ -18,11 +18,11 @@ use Rattle.gm_model.specs.declared.rule.Side.{Side}
 use Rattle.gm_model.specs.declared.rule.Side.TheVariants.{Left, Right}
 use Rattle.gm_model.specs.Symbols.{Symbol, Word, Sign, Mark}
 use Rattle.gm_model.specs.Tokens.{IsLexeme, begins_two_byte_sign, is_name_byte}
-use Rattle.gm_model.specs.Reading.{Part, symbols_in}
+use Rattle.gm_model.specs.Reading.{Part, symbols_in, word, the_end}
 use Rattle.gm_model.specs.Rules.{Rule, RuleNode, Assignment, has_word, word_on, links_on, name_at}
 use Rattle.gm_expr.proofs.Canonical.{behind}
 use Rattle.gm_expr.specs.Writable.{AreGoodNames}
-use Rattle.gm_forms.specs.BookText.{Role, Fixed, the_end, word, no_count, counted, count_across, spell_items, spell_more_params, spell_params, spell_pre, spell_rule, spell_rules}
+use Rattle.gm_forms.specs.BookText.{Role, Fixed, no_count, counted, count_across, spell_items, spell_more_params, spell_params, spell_pre, spell_rule, spell_rules}
 use Rattle.gm_book.specs.Canonical.{hook_text, node_line, set_text, left_lines, right_line, right_lines, link_line, param_text, params_text, pre_line, rule_lines}
 use Rattle.gm_text.proofs.Printed.{symbols_from, Stops, symbols_from-end, symbols_from-blank, symbols_from-sign, symbols_from-word, symbols_from-word_blank}
 use Rattle.gm_text.specs.SchemaText.{kind_word}
@@ -252,7 +252,7 @@ module _ (schema : Schema) (low : schema.dim ≤ 7) (embeds : AllByRecursion (λ
       ∙ lines_symbols schema rule low names (lines_of rule Left) no_count (left_marks rule marks) (codes "right\n" ++ (right ++ last)) _ (good_lines schema rule Left ok exprs) behind_left))))
 
   pub rules_symbols : (k : ℕ) (rules : List Rule) (marks : List Mark) → AllByRecursion (IsWritable schema.dim) rules → AllByRecursion (HasGoodExprs schema) rules
-      → symbols_from (flat_map (rule_lines schema) rules) ≡ symbols_in (spell_rules schema.dim k (forms_at schema marks rules) (the_end ∷ []))
+      → symbols_from (flat_map (rule_lines schema) rules) ≡ symbols_in (spell_rules schema.dim k (forms_at schema marks rules) (the_end Fixed ∷ []))
   rules_symbols k [] marks ok exprs = symbols_from-end
   rules_symbols k (rule ∷ rules) marks ok exprs =
       rule_symbols (k + 1) rule marks (flat_map (rule_lines schema) rules) _ ok.0 exprs.0 (rules_symbols (k + 1) rules (behind_rule schema rule marks) ok.1 exprs.1)

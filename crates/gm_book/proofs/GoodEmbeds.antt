@@ -5,7 +5,7 @@ use Rattle.std.specs.List.{AllByRecursion}
 use Rattle.std.proofs.lemmas.List.{map-append}
 use Rattle.gm_model.specs.declared.schema.Embed.{Embed}
 use Rattle.gm_model.specs.declared.word.Mask.{Mask}
-use Rattle.gm_model.specs.Reading.{Part, IsWithin}
+use Rattle.gm_model.specs.Reading.{Part, IsWithin, word}
 use Rattle.gm_text.specs.SchemaText as schemas
 use Rattle.gm_text.specs.SchemaText.{LabelForm, EmbedForm, SchemaForm, Role, passed_of, is_again, no_labels, with_label, embed_of, schema_of, names_in, spell, spell_labels, spell_embeds}
 use Rattle.gm_text.specs.SchemaPrinting.{AreParts}
@@ -37,8 +37,8 @@ behind_labels n mask (label ∷ labels) rest none = behind_labels n (with_label 
 all_differ : (n : ℕ) (declared : List Embed) (forms : List EmbedForm) → PassNothing (spell_embeds n declared forms []) → AreNew (names_in declared) (names_in (map embed_of forms))
 all_differ n declared [] none = tt
 all_differ n declared (form ∷ forms) none =
-    let new = (nothing_passed (schemas.limit_of (schemas.NameAt (names_in declared) form.name.place) (schemas.word (schemas.NameAt (names_in declared) form.name.place) form.name.name).symbol)
-    (is_again (schemas.NameAt (names_in declared) form.name.place) (schemas.word (schemas.NameAt (names_in declared) form.name.place) form.name.name).symbol) none.1.0).1 in
+    let new = (nothing_passed (schemas.limit_of (schemas.NameAt (names_in declared) form.name.place) (word (schemas.NameAt (names_in declared) form.name.place) form.name.name).symbol)
+    (is_again (schemas.NameAt (names_in declared) form.name.place) (word (schemas.NameAt (names_in declared) form.name.place) form.name.name).symbol) none.1.0).1 in
     let later = behind_labels n no_labels form.labels _ none.1.1.1 in
     (new, subst (λ seen. AreNew seen (names_in (map embed_of forms))) (map-append (λ (embed : Embed). embed.name) declared (embed_of form ∷ [])) (all_differ n (declared ++ embed_of form ∷ []) forms later.1.1))
 

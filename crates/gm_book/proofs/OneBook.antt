@@ -10,7 +10,7 @@ use Rattle.gm_model.specs.declared.schema.Schema.{Schema}
 use Rattle.gm_model.specs.Names.{is_among}
 use Rattle.gm_model.specs.Rules.{Rule, RuleNode, Assignment}
 use Rattle.gm_model.specs.Symbols.{Symbol, Word, Numeral, Mark, symbols, marks_of}
-use Rattle.gm_model.specs.Reading.{symbols_in}
+use Rattle.gm_model.specs.Reading.{symbols_in, the_end, in_role, ArePlaced}
 use Rattle.gm_model.specs.Reading as reading
 use Rattle.gm_model.specs.Trees.{Tree}
 use Rattle.gm_text.specs.Machine.{Stop, Ends, Passes}
@@ -22,7 +22,7 @@ use Rattle.gm_text.proofs.Machine.{Along, part_at, reading_runs, ends_run, passe
 use Rattle.gm_text.proofs.SchemaSpelled.{same_form}
 use Rattle.gm_parse.specs.Meaning.{Names}
 use Rattle.gm_parse.specs.Reading.{spot_move, spot_role}
-use Rattle.gm_forms.specs.BookText.{ExprToken, SetForm, RuleForm, BookForm, Role, InSchema, NameAt, ParamName, InExpr, in_schema, limit_of, stands_before, the_end, spell_rules, spelling, IsSentence, IsPlacedAt, ArePlaced, IsWritten, nodes_of, sets_in, names_for, node_in, rule_in, MeansTree, MeansSet, MeansPre, MeansRule, BookText, StandsForNoBook, NameFault, TwiceAt, UnknownAt, WrongKindAt, IsNotAfter, IsNameFault, IsFirstNameFault}
+use Rattle.gm_forms.specs.BookText.{ExprToken, SetForm, RuleForm, BookForm, Role, Fixed, InSchema, NameAt, ParamName, InExpr, limit_of, stands_before, spell_rules, spelling, IsSentence, IsPlacedAt, IsWritten, nodes_of, sets_in, names_for, node_in, rule_in, MeansTree, MeansSet, MeansPre, MeansRule, BookText, StandsForNoBook, NameFault, TwiceAt, UnknownAt, WrongKindAt, IsNotAfter, IsNameFault, IsFirstNameFault}
 use Rattle.gm_book.specs.declared.fault.BookFault.{BookFault}
 use Rattle.gm_book.specs.declared.fault.BookFault.TheVariants as faults
 use Rattle.gm_book.specs.Faults.{IsFaultOf}
@@ -91,7 +91,7 @@ moved_role (Inside inner) symbol place other at = go (is_some (book_nesting.inne
     go false e = rw e refl
 
 -- marks of a sentence's symbols at its places are its parts along the states
-led_along : (state : Whole) (marks : List Mark) (parts : Parts) → LedWhole state parts (in_rules AtEnd) → symbols marks ≡ symbols_in parts → ArePlaced marks parts → Along limit_of stands_before role_at move_on state marks parts (in_rules AtEnd)
+led_along : (state : Whole) (marks : List Mark) (parts : Parts) → LedWhole state parts (in_rules AtEnd) → symbols marks ≡ symbols_in parts → ArePlaced IsPlacedAt marks parts → Along limit_of stands_before role_at move_on state marks parts (in_rules AtEnd)
 led_along state [] [] e same placed = e
 led_along state [] (part ∷ parts) led same placed = absurd cc
 led_along state (mark ∷ marks) [] led same placed = absurd cc
@@ -140,29 +140,29 @@ behind [] = []
 behind (part ∷ parts) = either_rest part.role (behind parts) (part ∷ parts)
 
 -- rules begin with no part of a schema
-inside_rules : (n : ℕ) (forms : List RuleForm) → inside (spell_rules n 0 forms (the_end ∷ [])) ≡ []
+inside_rules : (n : ℕ) (forms : List RuleForm) → inside (spell_rules n 0 forms (the_end Fixed ∷ [])) ≡ []
 inside_rules n [] = refl
 inside_rules n (form ∷ forms) = refl
 
-behind_rules : (n : ℕ) (forms : List RuleForm) → behind (spell_rules n 0 forms (the_end ∷ [])) ≡ spell_rules n 0 forms (the_end ∷ [])
+behind_rules : (n : ℕ) (forms : List RuleForm) → behind (spell_rules n 0 forms (the_end Fixed ∷ [])) ≡ spell_rules n 0 forms (the_end Fixed ∷ [])
 behind_rules n [] = refl
 behind_rules n (form ∷ forms) = refl
 
-inside_is : (parts : List (reading.Part schemas.Role)) (rest : Parts) → inside rest ≡ [] → inside (map in_schema parts ++ rest) ≡ parts
+inside_is : (parts : List (reading.Part schemas.Role)) (rest : Parts) → inside rest ≡ [] → inside (map (in_role InSchema) parts ++ rest) ≡ parts
 inside_is [] rest none = none
 inside_is (part ∷ parts) rest none = ap (λ (ps : List (reading.Part schemas.Role)). part ∷ ps) (inside_is parts rest none)
 
-behind_is : (parts : List (reading.Part schemas.Role)) (rest : Parts) → behind rest ≡ rest → behind (map in_schema parts ++ rest) ≡ rest
+behind_is : (parts : List (reading.Part schemas.Role)) (rest : Parts) → behind rest ≡ rest → behind (map (in_role InSchema) parts ++ rest) ≡ rest
 behind_is [] rest same = same
 behind_is (part ∷ parts) rest same = behind_is parts rest same
 
 pub one_written : (text : List ℕ) (one other : BookForm) → IsWritten text one → IsWritten text other → one ≡ other
 one_written text one other w v =
     let same : spelling one ≡ spelling other = one_along (Outside AtFormat) (in_rules AtEnd) (in_rules AtEnd) (marks_of text) (spelling one) (spelling other) (written_along text one w) (written_along text other v) in
-    let rest_one = spell_rules one.schema.dim 0 one.rules (the_end ∷ []) in
-    let rest_two = spell_rules other.schema.dim 0 other.rules (the_end ∷ []) in
+    let rest_one = spell_rules one.schema.dim 0 one.rules (the_end Fixed ∷ []) in
+    let rest_two = spell_rules other.schema.dim 0 other.rules (the_end Fixed ∷ []) in
     let version : one.version ≡ other.version = ap version_in same in
-    let tail : map in_schema (spell one.schema []) ++ rest_one ≡ map in_schema (spell other.schema []) ++ rest_two = ap tail_of same in
+    let tail : map (in_role InSchema) (spell one.schema []) ++ rest_one ≡ map (in_role InSchema) (spell other.schema []) ++ rest_two = ap tail_of same in
     let spelled : spell one.schema [] ≡ spell other.schema [] =
     sym (inside_is (spell one.schema []) rest_one (inside_rules one.schema.dim one.rules)) ∙ ap inside tail ∙ inside_is (spell other.schema []) rest_two (inside_rules other.schema.dim other.rules) in
     let schema : one.schema ≡ other.schema = same_form one.schema other.schema w.form.1 v.form.1 spelled in

@@ -8,7 +8,7 @@ use Rattle.gm_model.specs.declared.rule.Book.{Book}
 use Rattle.gm_model.specs.declared.rule.RuleTable.{RuleTable}
 use Rattle.gm_model.specs.declared.schema.Schema.{Schema}
 use Rattle.gm_model.specs.Rules.{Rule, rule_of}
-use Rattle.gm_model.specs.Reading.{Part, IsWithin, symbols_in}
+use Rattle.gm_model.specs.Reading.{Part, IsWithin, symbols_in, the_end, ArePlaced}
 use Rattle.gm_model.specs.Kinds.{IsTyped}
 use Rattle.gm_model.specs.Structure.{IsInRange, IsWithinLimits}
 use Rattle.gm_model.specs.Symbols.{Mark, marks_of}
@@ -24,7 +24,7 @@ use Rattle.gm_text.specs.declared.schema_fault.SchemaFault.TheVariants as schema
 use Rattle.gm_text.proofs.Lexemes.{IsSound, words_are_lexemes}
 use Rattle.gm_text.proofs.Machine.{run_reads, run_ends, run_passes, ended_is, passing_is, along_spelled}
 use Rattle.gm_text.proofs.OneSchema.{one_skipped}
-use Rattle.gm_forms.specs.BookText.{RuleForm, BookForm, Role, limit_of, stands_before, IsSentence, the_end, spell_rules, ArePlaced, IsWritten, IsTextFault, IsLimitFault, NameFault, TwiceAt, UnknownAt, WrongKindAt, IsNotAfter, IsNameFault, SchemaTwice, RulesFault, MeansRule, BookText}
+use Rattle.gm_forms.specs.BookText.{RuleForm, BookForm, Role, Fixed, limit_of, stands_before, IsSentence, spell_rules, IsWritten, IsTextFault, IsLimitFault, NameFault, TwiceAt, UnknownAt, WrongKindAt, IsNotAfter, IsNameFault, SchemaTwice, RulesFault, MeansRule, BookText, IsPlacedAt}
 use Rattle.gm_book.specs.declared.fault.BookFault.{BookFault}
 use Rattle.gm_book.specs.declared.fault.BookFault.TheVariants as faults
 use Rattle.gm_forms.specs.declared.form_fault.FormFault.{FormFault}
@@ -62,13 +62,13 @@ rules_there version n marks rules read =
       good = is.rules_good;
       spelled = spelled ∙ ap (λ (ps : List (Part Role)). symbols_in ps) is.same;
       within = subst (λ (ps : List (Part Role)). IsWithin IsSentence limit_of ps) is.same parts.within;
-      placed = subst (λ (ps : List (Part Role)). ArePlaced marks ps) is.same placed;
+      placed = subst (λ (ps : List (Part Role)). ArePlaced IsPlacedAt marks ps) is.same placed;
     } in
     subst (λ rs. AreThere version n rs marks) same there
 
 -- they pass no limit, and their expressions are expressions
 pub fitting_there : (version n : ℕ) (cursor : Cursor) (rules : List RuleForm) → AreThere version n rules (marks_left cursor) → AllByRecursion (IsFitting n) rules
-fitting_there version n cursor rules there = all_fitting version n rules there.good (both_fit (spell_rules n 0 rules (the_end ∷ [])) (subst (AllByRecursion IsSound) there.spelled (words_are_lexemes cursor.text cursor.place)) there.within)
+fitting_there version n cursor rules there = all_fitting version n rules there.good (both_fit (spell_rules n 0 rules (the_end Fixed ∷ [])) (subst (AllByRecursion IsSound) there.spelled (words_are_lexemes cursor.text cursor.place)) there.within)
 
 pub exprs_there : (version n : ℕ) (marks : List Mark) (rules : List RuleForm) → AreThere version n rules marks → AllByRecursion (HasExprs n) rules
 exprs_there version n marks rules there = all_exprs version n rules there.good

@@ -11,12 +11,12 @@ use Rattle.gm_model.specs.declared.rule.Side.{Side}
 use Rattle.gm_model.specs.declared.rule.Side.TheVariants.{Left, Right}
 use Rattle.gm_model.specs.Tokens.{IsLexeme}
 use Rattle.gm_model.specs.Symbols.{symbols_of}
-use Rattle.gm_model.specs.Reading.{Part, symbols_in, IsWithin}
+use Rattle.gm_model.specs.Reading.{Part, symbols_in, IsWithin, the_end, in_role}
 use Rattle.gm_model.specs.Names.{reserved, is_among}
 use Rattle.gm_text.specs.SchemaText as schemas
 use Rattle.gm_text.specs.SchemaText.{spell}
 use Rattle.gm_text.proofs.Lexemes.{IsSound, words_are_lexemes}
-use Rattle.gm_forms.specs.BookText.{ExprToken, SetForm, NodeItem, LinkItem, ParamForm, RuleForm, BookForm, Role, Count, no_count, count_after, count_across, counted, with_name, the_end, in_schema, limit_of, spell_letters, spell_hook, spell_value, spell_sets, spell_item, spell_items, spell_pre, spell_more_params, spell_params, spell_rule, spell_rules, spelling, nodes_of, IsSet, IsItem, IsParam, IsRule, IsForm, IsSentence}
+use Rattle.gm_forms.specs.BookText.{ExprToken, SetForm, NodeItem, LinkItem, ParamForm, RuleForm, BookForm, Role, Fixed, InSchema, Count, no_count, count_after, count_across, counted, with_name, limit_of, spell_letters, spell_hook, spell_value, spell_sets, spell_item, spell_items, spell_pre, spell_more_params, spell_params, spell_rule, spell_rules, spelling, nodes_of, IsSet, IsItem, IsParam, IsRule, IsForm, IsSentence}
 use Rattle.gm_forms.specs.BookText as text
 use Rattle.gm_book.proofs.CanonicalForm.{IsGoodName, IsGoodLetter, IsGoodWord}
 use Rattle.gm_book.proofs.CanonicalLimits.{AreFew}
@@ -199,7 +199,7 @@ module _ (n : ℕ) where
         pre.1,
       )
 
-  forms_good : (version k : ℕ) (forms : List RuleForm) → k ≤ 256 → AllByRecursion (IsRule version n) forms → AreFit (spell_rules n k forms (the_end ∷ [])) → AllByRecursion (IsReadable n) forms × (k + length forms ≤ 256)
+  forms_good : (version k : ℕ) (forms : List RuleForm) → k ≤ 256 → AllByRecursion (IsRule version n) forms → AreFit (spell_rules n k forms (the_end Fixed ∷ [])) → AllByRecursion (IsReadable n) forms × (k + length forms ≤ 256)
   forms_good version k [] few are fit = (tt, omega (arith, few))
   forms_good version k (form ∷ forms) few are fit =
       let first = form_good version (k + 1) form _ are.0 fit in
@@ -247,13 +247,13 @@ pub all_exprs : (version n : ℕ) (forms : List RuleForm) → AllByRecursion (Is
 all_exprs version n [] are = tt
 all_exprs version n (form ∷ forms) are = (record { sets = are.0.right; pre = are.0.pre }, all_exprs version n forms are.1)
 
-pub all_fitting : (version n : ℕ) (forms : List RuleForm) → AllByRecursion (IsRule version n) forms → AreFit (spell_rules n 0 forms (the_end ∷ [])) → AllByRecursion (IsFitting n) forms
+pub all_fitting : (version n : ℕ) (forms : List RuleForm) → AllByRecursion (IsRule version n) forms → AreFit (spell_rules n 0 forms (the_end Fixed ∷ [])) → AllByRecursion (IsFitting n) forms
 all_fitting version n forms are fit = all_fit n forms (forms_good n version 0 forms (omega arith) are fit).0
 
 -- ---- a book
 
 -- the parts of the schema, and of the rules behind it
-parts_behind : (parts : List (Part schemas.Role)) (rest : List (Part Role)) → AreFit (map in_schema parts ++ rest) → AllByRecursion IsSound (symbols_in parts) × IsWithin schemas.IsSentence schemas.limit_of parts × AreFit rest
+parts_behind : (parts : List (Part schemas.Role)) (rest : List (Part Role)) → AreFit (map (in_role InSchema) parts ++ rest) → AllByRecursion IsSound (symbols_in parts) × IsWithin schemas.IsSentence schemas.limit_of parts × AreFit rest
 parts_behind [] rest fit = (tt, tt, fit)
 parts_behind (part ∷ parts) rest fit = let behind = parts_behind parts rest fit.1 in ((fit.0.sound, behind.0), (fit.0.within, behind.1), behind.2)
 
@@ -268,7 +268,7 @@ pub record IsReadableBook (book : BookForm) : Type 0 where
 pub book_good : (book : BookForm) → IsForm book → AreFit (spelling book) → IsReadableBook book
 book_good book is fit =
     let n = book.schema.dim in
-    let behind = parts_behind (spell book.schema []) (spell_rules n 0 book.rules (the_end ∷ [])) fit.1.1 in
+    let behind = parts_behind (spell book.schema []) (spell_rules n 0 book.rules (the_end Fixed ∷ [])) fit.1.1 in
     let top = or_parts (eqb n 0) (ltb 7 n) (not_passed (eqb n 0 || ltb 7 n) _ _ behind.1.1.0).0 in
     let rules = forms_good n book.version 0 book.rules (omega arith) is.2 behind.2 in
     record {

@@ -434,6 +434,9 @@ module _ (whole : List ℕ) (version : ℕ) (schema : Schema) (rules : List Rule
   pub writable_from_text : AreWritable version schema.dim rules
   writable_from_text = subst (λ n. AreWritable version n rules) (sym (ap (λ (s : Schema). s.dim) stands.means)) (subst (λ v. AreWritable v told.dim rules) (sym stands.versions) writable)
 
+pub few_at_most : (whole : List ℕ) (version : ℕ) (schema : Schema) (rules : List Rule) → BookText whole version schema rules → length rules ≤ 256
+few_at_most whole version schema rules stands = (writable_from_text whole version schema rules stands).few
+
 pub one_hook_at_most : (whole : List ℕ) (schema : Schema) (rules : List Rule) → BookText whole 1 schema rules → All (λ (rule : Rule). length rule.hooks ≤ 1) rules
 one_hook_at_most whole schema rules stands =
     All-from_recursion (λ (rule : Rule). length rule.hooks ≤ 1) rules (each (HasFewHooks 1) (λ rule. length rule.hooks ≤ 1) (λ rule few. few refl) rules (writable_from_text whole 1 schema rules stands).hooks)

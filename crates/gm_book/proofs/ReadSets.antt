@@ -18,9 +18,10 @@ use Rattle.gm_model.specs.declared.rule.Side.TheVariants.{Right}
 use Rattle.gm_model.specs.Names.{Mention, is_among}
 use Rattle.gm_model.specs.Rules.{RuleNode, Assignment}
 use Rattle.gm_model.specs.Trees.{Tree}
-use Rattle.gm_parse.specs.Meaning.{Names, embed_number, names_in}
+use Rattle.gm_parse.specs.Meaning.{Names, embed_number}
+use Rattle.gm_tree.specs.FirstNames.{first_names}
 use Rattle.gm_forms.specs.BookText.{SetForm, Item, NodeItem, LinkItem, RuleForm, Count, no_count, count_after, counted, with_name, nodes_of, sets_in, node_in, links_in, hooks_in, names_for, param_of, MeansSet, MeansPre, MeansRule, IsSet, IsItem, assignments_in}
-use Rattle.gm_text.specs.SchemaText.{names_in as names_of_embeds}
+use Rattle.gm_text.specs.SchemaText.{first_names as names_of_embeds}
 use Rattle.gm_forms.proofs.Contained.{contains_here, contains_behind}
 use Rattle.gm_book.specs.Building.{IsKnownSet, HasKnownSets}
 use Rattle.gm_book.specs.Fitting.{HasExprs}
@@ -80,7 +81,7 @@ number_there test xs less = rw (lt-ltb (position_or_len test xs) (length xs) les
 
 -- an embedding that is known among the first ones has its number among all
 pub embed_known : (schema : Schema) (params : List Param) (nodes : List Node) (mention : Mention) (number : Option ℕ) → number ≡ position (bytes_eq mention.name) (embed_names schema)
-    → IsTrue (is_some (embed_number (names_in schema params nodes) mention)) → (embed_number (names_in schema params nodes) mention ≡ Some (unwrap_or number 0)) × (unwrap_or number 0 < 256)
+    → IsTrue (is_some (embed_number (first_names schema params nodes) mention)) → (embed_number (first_names schema params nodes) mention ≡ Some (unwrap_or number 0)) × (unwrap_or number 0 < 256)
 embed_known schema params nodes mention number is known =
     let test = bytes_eq mention.name in
     let inside : position_or_len test (take 256 (embed_names schema)) < length (take 256 (embed_names schema)) = number_known test (take 256 (embed_names schema)) known in

@@ -7,7 +7,8 @@ use Rattle.gm_model.specs.declared.rule.Param.{Param}
 use Rattle.gm_model.specs.declared.schema.Embed.{Embed}
 use Rattle.gm_model.specs.declared.schema.Schema.{Schema}
 use Rattle.gm_model.specs.Rules.{RuleNode, node_of}
-use Rattle.gm_parse.specs.Meaning.{left_name, names_in}
+use Rattle.gm_parse.specs.Meaning.{left_name}
+use Rattle.gm_tree.specs.FirstNames.{first_names}
 use Rattle.gm_forms.specs.BookText.{ParamForm, RuleForm, nodes_of, node_in, param_of, name_if_left, names_for}
 
 abbrev name_where_left : RuleNode → Option (List ℕ)
@@ -42,7 +43,7 @@ module _ (schema : Schema) (rule : RuleForm) (params : List Param) (nodes : List
       let few : length (map left_name nodes) ≤ 256 = omega (arith, few_nodes, ap length named, length-map (nodes_of rule) (name_if_left rule)) in
       take_all 256 (map left_name nodes) few ∙ named
 
-  pub names_same : names_in schema params nodes ≡ names_for schema.embeds rule
+  pub names_same : first_names schema params nodes ≡ names_for schema.embeds rule
   names_same =
       ap (λ embeds. record { embeds = embeds; params = take 256 (map (λ (param : Param). param.name) params); nodes = take 256 (map left_name nodes) }) embeds_same
       ∙ ap (λ ps. record { embeds = map (λ (embed : Embed). embed.name) schema.embeds; params = ps; nodes = take 256 (map left_name nodes) }) params_same

@@ -1,13 +1,13 @@
 -- The tokens of a span spell an expression, and so does what stands at its beginning.
 use Rattle.std.proofs.Common.{◌≡◌, ℕ, suc, ◌+◌, Bool, true, false, ltb, List, [], ◌∷◌, map, take_while, Some, None, refl, sym, ap, subst, ◌∙◌, arith}
 use Rattle.std.specs.List.{AllByRecursion, prefix_len}
-use Rattle.gm_model.specs.Reading.{Part, IsWithin, symbols_in}
+use Rattle.gm_model.specs.Reading.{Part, IsWithin, symbols_in, ArePlaced}
 use Rattle.gm_model.specs.Symbols.{Mark, marks_at}
 use Rattle.gm_model.specs.Trees.{Tree}
 use Rattle.gm_text.specs.Cursor.{Cursor}
 use Rattle.gm_text.specs.SchemaAnswers.{marks_left}
 use Rattle.gm_parse.specs.Forms.{Form, IsGood}
-use Rattle.gm_parse.specs.Spelling.{Role, Counted, limit_in, counted_from, spell, parts_of, symbols_of, IsSentence, ArePlaced, Stands}
+use Rattle.gm_parse.specs.Spelling.{Role, Counted, limit_in, counted_from, spell, parts_of, symbols_of, IsSentence, Stands, IsPlacedAt}
 use Rattle.gm_parse.specs.Reading.{Spot, first_spot, spot_move, is_whole_spot}
 use Rattle.gm_parse.specs.Answers.{HasExpr, IsExprRead, HasFirstFault, IsExprFault}
 use Rattle.gm_parse.specs.declared.fault.ExprFault.{ExprFault}
@@ -76,7 +76,7 @@ module _ (bytes : List ℕ) (span : Span) (n : ℕ) (within : IsSpanIn bytes spa
         good = expr.1.good;
         spelled = stands.spelled ∙ same_symbols;
         within = subst (λ (ps : List (Part Counted)). IsWithin (IsSentence n) limit_in ps) same_parts stands.within;
-        placed = subst (ArePlaced stands.before) (parts_uncounted 0 (spell m within.form []) (spell n expr.0 []) same_parts) stands.placed;
+        placed = subst (ArePlaced IsPlacedAt stands.before) (parts_uncounted 0 (spell m within.form []) (spell n expr.0 []) same_parts) stands.placed;
         next = stands.next;
         others = stands.others;
         behind = stands.behind;

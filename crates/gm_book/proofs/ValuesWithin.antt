@@ -6,10 +6,10 @@ use Rattle.std.specs.Prelude.{◌==◌, nat_lt}
 use Rattle.std.specs.Str.{bytes_eq}
 use Rattle.gm_model.specs.declared.limit.LimitKind.TheVariants as limits
 use Rattle.gm_model.specs.declared.word.Letter.{Letter}
-use Rattle.gm_model.specs.Reading.{Part, IsWithin}
+use Rattle.gm_model.specs.Reading.{Part, IsWithin, the_end, in_role}
 use Rattle.gm_text.specs.SchemaText as schemas
 use Rattle.gm_text.specs.SchemaText.{spell}
-use Rattle.gm_forms.specs.BookText.{ExprToken, SetForm, Item, NodeItem, LinkItem, ParamForm, RuleForm, BookForm, Role, Count, no_count, count_after, count_across, counted, the_end, in_schema, limit_of, spell_letters, spell_hook, spell_value, spell_sets, spell_items, spell_pre, spell_more_params, spell_params, spell_rules, spelling, IsSentence, sets_in}
+use Rattle.gm_forms.specs.BookText.{ExprToken, SetForm, Item, NodeItem, LinkItem, ParamForm, RuleForm, BookForm, Role, Fixed, InSchema, Count, no_count, count_after, count_across, counted, limit_of, spell_letters, spell_hook, spell_value, spell_sets, spell_items, spell_pre, spell_more_params, spell_params, spell_rules, spelling, IsSentence, sets_in}
 use Rattle.gm_book.proofs.OneValue.{AreWithin}
 
 -- no part passes a limit
@@ -89,7 +89,7 @@ module _ (n : ℕ) where
 
 -- ---- a whole book
 
-behind_schema : (parts : List (Part schemas.Role)) (rest : List (Part Role)) → IsBookWithin (map in_schema parts ++ rest) → IsBookWithin rest
+behind_schema : (parts : List (Part schemas.Role)) (rest : List (Part Role)) → IsBookWithin (map (in_role InSchema) parts ++ rest) → IsBookWithin rest
 behind_schema [] rest within = within
 behind_schema (part ∷ parts) rest within = behind_schema parts rest within.1
 
@@ -104,4 +104,4 @@ pub dim_within : (book : BookForm) → IsBookWithin (spelling book) → book.sch
 dim_within book within = low_dim book.schema.dim within.1.1.1.0
 
 pub values_within : (book : BookForm) → IsBookWithin (spelling book) → AllByRecursion AreValuesWithin book.rules
-values_within book within = rules_within book.schema.dim 0 book.rules (the_end ∷ []) (behind_schema (spell book.schema []) (spell_rules book.schema.dim 0 book.rules (the_end ∷ [])) within.1.1)
+values_within book within = rules_within book.schema.dim 0 book.rules (the_end Fixed ∷ []) (behind_schema (spell book.schema []) (spell_rules book.schema.dim 0 book.rules (the_end Fixed ∷ [])) within.1.1)

@@ -34,6 +34,11 @@ pub fn what_is_printed_is_read_again()
     ensures { (text : List ℕ) (version : ℕ) (schema : Schema) (rules : List Rule) → BookText text version schema rules → BookText (canonical version schema rules) version schema rules }
 {}
 
+/// A text stands for a book of 256 rules at most.
+pub fn few_rules_at_most()
+    ensures { (text : List ℕ) (version : ℕ) (schema : Schema) (rules : List Rule) → BookText text version schema rules → length rules ≤ 256 }
+{}
+
 /// In version 1 a rule that a text stands for has one hook at most.
 pub fn one_hook_at_most_in_version_one()
     ensures { (text : List ℕ) (schema : Schema) (rules : List Rule) → BookText text 1 schema rules → All (λ rule. length rule.hooks ≤ 1) rules }

@@ -6,7 +6,7 @@ ghost use Rattle.gm_model.specs.Maps.{IsSchema};
 ghost use Rattle.gm_model.specs.Names.{IsName};
 ghost use Rattle.gm_model.specs.Rules.{assignment_of, node_of, rule_of};
 ghost use Rattle.gm_model.specs.Trees.{tree_of};
-ghost use Rattle.gm_parse.specs.Meaning.{names_in};
+ghost use Rattle.gm_tree.specs.FirstNames.{first_names};
 ghost use Rattle.gm_forms.specs.BookText.{nodes_of, number_of, word_in, links_in, hooks_in, kind_of_embed, node_in, sets_in, param_of, IsPre};
 ghost use Rattle.gm_forms.specs.Forms.{IsIn, IsSetIn, IsItemIn, IsParamIn, IsPreIn, IsRuleIn, mention_of, value_of, set_form_of, item_of, param_form_of, rule_form_of};
 ghost use Rattle.gm_forms.specs.Held.{names_at, names_held};
@@ -211,8 +211,8 @@ fn set(
     form: &SetForm,
 ) -> Result<Result<Set, NameFault>, OutOfMemory>
     requires within { IsSetIn text.now form.now }
-    requires known { IsKnownSet env.now.schema.now.dim (names_in env.now.schema.now env.now.params.now env.now.nodes.now) (set_form_of text.now form.now) }
-    ensures { IfOk result (λ read. MatchResult read (λ set. IsSoundSet env.now.schema.now.dim env.now.schema.now.embeds env.now.params.now (names_in env.now.schema.now env.now.params.now env.now.nodes.now) (set_form_of text.now form.now) (assignment_of set)) (λ fault. IsValueFault env.now.schema.now.dim env.now.schema.now.embeds env.now.params.now (names_in env.now.schema.now env.now.params.now env.now.nodes.now) (value_of text.now form.now.value) (kind_of_embed env.now.schema.now.embeds (mention_of text.now form.now.embed).name) fault)) }
+    requires known { IsKnownSet env.now.schema.now.dim (first_names env.now.schema.now env.now.params.now env.now.nodes.now) (set_form_of text.now form.now) }
+    ensures { IfOk result (λ read. MatchResult read (λ set. IsSoundSet env.now.schema.now.dim env.now.schema.now.embeds env.now.params.now (first_names env.now.schema.now env.now.params.now env.now.nodes.now) (set_form_of text.now form.now) (assignment_of set)) (λ fault. IsValueFault env.now.schema.now.dim env.now.schema.now.embeds env.now.params.now (first_names env.now.schema.now env.now.params.now env.now.nodes.now) (value_of text.now form.now.value) (kind_of_embed env.now.schema.now.embeds (mention_of text.now form.now.embed).name) fault)) }
 {
     let name = bytes_in(text, &form.embed);
     let number = embed_number(env.schema, name);
@@ -233,8 +233,8 @@ fn sets(
     forms: &[SetForm],
 ) -> Result<Result<Vec<Set>, NameFault>, OutOfMemory>
     requires within { AllByRecursion (IsSetIn text.now) forms.now }
-    requires known { AllByRecursion (IsKnownSet env.now.schema.now.dim (names_in env.now.schema.now env.now.params.now env.now.nodes.now)) (map (set_form_of text.now) forms.now) }
-    ensures { IfOk result (λ read. MatchResult read (λ sets. AllZip (IsSoundSet env.now.schema.now.dim env.now.schema.now.embeds env.now.params.now (names_in env.now.schema.now env.now.params.now env.now.nodes.now)) (map (set_form_of text.now) forms.now) (map assignment_of sets.items)) (IsSetFault env.now.schema.now.dim env.now.schema.now.embeds env.now.params.now (names_in env.now.schema.now env.now.params.now env.now.nodes.now) (map (set_form_of text.now) forms.now))) }
+    requires known { AllByRecursion (IsKnownSet env.now.schema.now.dim (first_names env.now.schema.now env.now.params.now env.now.nodes.now)) (map (set_form_of text.now) forms.now) }
+    ensures { IfOk result (λ read. MatchResult read (λ sets. AllZip (IsSoundSet env.now.schema.now.dim env.now.schema.now.embeds env.now.params.now (first_names env.now.schema.now env.now.params.now env.now.nodes.now)) (map (set_form_of text.now) forms.now) (map assignment_of sets.items)) (IsSetFault env.now.schema.now.dim env.now.schema.now.embeds env.now.params.now (first_names env.now.schema.now env.now.params.now env.now.nodes.now) (map (set_form_of text.now) forms.now))) }
 {
     let mut sets = Vec::new(alloc);
     for form in forms {
@@ -255,8 +255,8 @@ fn sets_of(
     name: &[u8],
 ) -> Result<Result<Vec<Set>, NameFault>, OutOfMemory>
     requires within { AllByRecursion (IsItemIn text.now) items.now }
-    requires known { AllByRecursion (HasKnownSets env.now.schema.now.dim (names_in env.now.schema.now env.now.params.now env.now.nodes.now)) (map (item_of text.now) items.now) }
-    ensures { IfOk result (λ read. MatchResult read (λ sets. AllZip (IsSoundSet env.now.schema.now.dim env.now.schema.now.embeds env.now.params.now (names_in env.now.schema.now env.now.params.now env.now.nodes.now)) (sets_in (map (item_of text.now) items.now) name.now) (map assignment_of sets.items)) (IsSetFault env.now.schema.now.dim env.now.schema.now.embeds env.now.params.now (names_in env.now.schema.now env.now.params.now env.now.nodes.now) (sets_in (map (item_of text.now) items.now) name.now))) }
+    requires known { AllByRecursion (HasKnownSets env.now.schema.now.dim (first_names env.now.schema.now env.now.params.now env.now.nodes.now)) (map (item_of text.now) items.now) }
+    ensures { IfOk result (λ read. MatchResult read (λ sets. AllZip (IsSoundSet env.now.schema.now.dim env.now.schema.now.embeds env.now.params.now (first_names env.now.schema.now env.now.params.now env.now.nodes.now)) (sets_in (map (item_of text.now) items.now) name.now) (map assignment_of sets.items)) (IsSetFault env.now.schema.now.dim env.now.schema.now.embeds env.now.params.now (first_names env.now.schema.now env.now.params.now env.now.nodes.now) (sets_in (map (item_of text.now) items.now) name.now))) }
 {
     for item in items {
         if let Item::Node {
@@ -283,8 +283,8 @@ fn assigned_node(
 ) -> Result<Result<Node, NameFault>, OutOfMemory>
     requires within { IsRuleIn text.now rule.now }
     requires good { IsName name.now }
-    requires known { AllByRecursion (HasKnownSets env.now.schema.now.dim (names_in env.now.schema.now env.now.params.now env.now.nodes.now)) (rule_form_of text.now rule.now).right }
-    ensures { IfOk result (λ read. MatchResult read (λ node. IsSoundNode env.now.schema.now.dim env.now.schema.now.embeds env.now.params.now (names_in env.now.schema.now env.now.params.now env.now.nodes.now) (rule_form_of text.now rule.now) name.now (node_of node)) (IsSetFault env.now.schema.now.dim env.now.schema.now.embeds env.now.params.now (names_in env.now.schema.now env.now.params.now env.now.nodes.now) (sets_in (rule_form_of text.now rule.now).right name.now))) }
+    requires known { AllByRecursion (HasKnownSets env.now.schema.now.dim (first_names env.now.schema.now env.now.params.now env.now.nodes.now)) (rule_form_of text.now rule.now).right }
+    ensures { IfOk result (λ read. MatchResult read (λ node. IsSoundNode env.now.schema.now.dim env.now.schema.now.embeds env.now.params.now (first_names env.now.schema.now env.now.params.now env.now.nodes.now) (rule_form_of text.now rule.now) name.now (node_of node)) (IsSetFault env.now.schema.now.dim env.now.schema.now.embeds env.now.params.now (first_names env.now.schema.now env.now.params.now env.now.nodes.now) (sets_in (rule_form_of text.now rule.now).right name.now))) }
 {
     match sets_of(alloc, text, env, rule.right.as_slice(), name)? {
         Ok(sets) => Ok(Ok(Node {
@@ -305,8 +305,8 @@ fn assigned(
 ) -> Result<Result<Vec<Node>, NameFault>, OutOfMemory>
     requires within { IsRuleIn text.now rule.now }
     requires good { AllByRecursion IsName (names_at names.now) }
-    requires known { AllByRecursion (HasKnownSets env.now.schema.now.dim (names_in env.now.schema.now env.now.params.now env.now.nodes.now)) (rule_form_of text.now rule.now).right }
-    ensures { IfOk result (λ read. MatchResult read (λ nodes. AllZip (IsSoundNode env.now.schema.now.dim env.now.schema.now.embeds env.now.params.now (names_in env.now.schema.now env.now.params.now env.now.nodes.now) (rule_form_of text.now rule.now)) (names_at names.now) (map node_of nodes.items)) (IsAssignedFault env.now.schema.now.dim env.now.schema.now.embeds env.now.params.now (names_in env.now.schema.now env.now.params.now env.now.nodes.now) (rule_form_of text.now rule.now).right)) }
+    requires known { AllByRecursion (HasKnownSets env.now.schema.now.dim (first_names env.now.schema.now env.now.params.now env.now.nodes.now)) (rule_form_of text.now rule.now).right }
+    ensures { IfOk result (λ read. MatchResult read (λ nodes. AllZip (IsSoundNode env.now.schema.now.dim env.now.schema.now.embeds env.now.params.now (first_names env.now.schema.now env.now.params.now env.now.nodes.now) (rule_form_of text.now rule.now)) (names_at names.now) (map node_of nodes.items)) (IsAssignedFault env.now.schema.now.dim env.now.schema.now.embeds env.now.params.now (first_names env.now.schema.now env.now.params.now env.now.nodes.now) (rule_form_of text.now rule.now).right)) }
 {
     let mut nodes = Vec::new(alloc);
     for name in names {
@@ -327,7 +327,7 @@ fn pre(
 ) -> Result<Result<Option<Expr>, NameFault>, OutOfMemory>
     requires within { IsPreIn text.now form }
     requires expr { IsPre env.now.schema.now.dim (option_map (value_of text.now) form) }
-    ensures { IfOk result (λ read. MatchResult read (λ pre. IsSoundPre env.now.schema.now.dim env.now.schema.now.embeds env.now.params.now (names_in env.now.schema.now env.now.params.now env.now.nodes.now) (option_map (value_of text.now) form) (option_map tree_of pre)) (IsPreFault env.now.schema.now.dim env.now.schema.now.embeds env.now.params.now (names_in env.now.schema.now env.now.params.now env.now.nodes.now) (option_map (value_of text.now) form))) }
+    ensures { IfOk result (λ read. MatchResult read (λ pre. IsSoundPre env.now.schema.now.dim env.now.schema.now.embeds env.now.params.now (first_names env.now.schema.now env.now.params.now env.now.nodes.now) (option_map (value_of text.now) form) (option_map tree_of pre)) (IsPreFault env.now.schema.now.dim env.now.schema.now.embeds env.now.params.now (first_names env.now.schema.now env.now.params.now env.now.nodes.now) (option_map (value_of text.now) form))) }
 {
     match form {
         Some(value) => match checked_value(alloc, text, env, &value, Some(Kind::Bool))? {

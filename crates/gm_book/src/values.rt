@@ -8,7 +8,8 @@ ghost use Rattle.gm_model.specs.declared.value.Kind.TheVariants.{Bool};
 ghost use Rattle.gm_model.specs.Maps.{IsSchema};
 ghost use Rattle.gm_model.specs.Trees.{tree_of};
 ghost use Rattle.gm_parse.specs.Answers.{IsInRangeOf};
-ghost use Rattle.gm_parse.specs.Meaning.{names_in, IsUnsigned};
+ghost use Rattle.gm_parse.specs.Meaning.{IsUnsigned};
+ghost use Rattle.gm_tree.specs.FirstNames.{first_names};
 ghost use Rattle.gm_forms.specs.Forms.{IsSpanIn, IsSetIn, IsItemIn, IsPreIn, IsRuleIn, value_of, set_form_of, item_of, rule_form_of};
 ghost use Rattle.gm_forms.specs.BookText.{IsExpr, IsSet, IsItem, IsPre, first_place, kind_of_embed};
 ghost use Rattle.gm_book.specs.FirstNameFault.{IsLeast, embed_names, IsValueFault, IsSetFault, IsAssignedFault, IsPreFault, IsFaultOfValues};
@@ -40,10 +41,10 @@ pub(crate) fn read_value(
 ) -> Result<Expr, ExprFault>
     requires within { IsSpanIn text.now value.now }
     requires expr { IsExpr env.now.schema.now.dim (value_of text.now value.now) }
-    ensures expr { IfOk result (λ expr. IsValueRead env.now.schema.now.dim (names_in env.now.schema.now env.now.params.now env.now.nodes.now) (value_of text.now value.now) (tree_of expr)) }
+    ensures expr { IfOk result (λ expr. IsValueRead env.now.schema.now.dim (first_names env.now.schema.now env.now.params.now env.now.nodes.now) (value_of text.now value.now) (tree_of expr)) }
     ensures unsigned { IfOk result (λ expr. IsUnsigned (tree_of expr)) }
     ensures in_range { IfOk result (λ expr. IsInRangeOf env.now.schema.now env.now.params.now env.now.nodes.now (tree_of expr)) }
-    ensures fault { IfErr result (IsReadFault env.now.schema.now.dim (names_in env.now.schema.now env.now.params.now env.now.nodes.now) (value_of text.now value.now)) }
+    ensures fault { IfErr result (IsReadFault env.now.schema.now.dim (first_names env.now.schema.now env.now.params.now env.now.nodes.now) (value_of text.now value.now)) }
 {
     let mut lexer = Lexer::at(text, value.start);
     read_expr(alloc, &mut lexer, env)
@@ -89,8 +90,8 @@ pub(crate) fn checked_value(
 ) -> Result<Result<Expr, NameFault>, OutOfMemory>
     requires within { IsSpanIn text.now value.now }
     requires expr { IsExpr env.now.schema.now.dim (value_of text.now value.now) }
-    ensures expr { IfOk result (λ read. IfOk read (λ expr. IsValueRead env.now.schema.now.dim (names_in env.now.schema.now env.now.params.now env.now.nodes.now) (value_of text.now value.now) (tree_of expr))) }
-    ensures fault { IfOk result (λ read. IsLeast (IsValueFault env.now.schema.now.dim env.now.schema.now.embeds env.now.params.now (names_in env.now.schema.now env.now.params.now env.now.nodes.now) (value_of text.now value.now) kind) (result_err read)) }
+    ensures expr { IfOk result (λ read. IfOk read (λ expr. IsValueRead env.now.schema.now.dim (first_names env.now.schema.now env.now.params.now env.now.nodes.now) (value_of text.now value.now) (tree_of expr))) }
+    ensures fault { IfOk result (λ read. IsLeast (IsValueFault env.now.schema.now.dim env.now.schema.now.embeds env.now.params.now (first_names env.now.schema.now env.now.params.now env.now.nodes.now) (value_of text.now value.now) kind) (result_err read)) }
 {
     // A mask holds a label for one of the eight that there are.
     let _top = env.schema.dim.top();
@@ -120,7 +121,7 @@ fn value_fault(
 ) -> Result<Option<NameFault>, OutOfMemory>
     requires within { IsSpanIn text.now value.now }
     requires expr { IsExpr env.now.schema.now.dim (value_of text.now value.now) }
-    ensures { IfOk result (IsLeast (IsValueFault env.now.schema.now.dim env.now.schema.now.embeds env.now.params.now (names_in env.now.schema.now env.now.params.now env.now.nodes.now) (value_of text.now value.now) kind)) }
+    ensures { IfOk result (IsLeast (IsValueFault env.now.schema.now.dim env.now.schema.now.embeds env.now.params.now (first_names env.now.schema.now env.now.params.now env.now.nodes.now) (value_of text.now value.now) kind)) }
 {
     match checked_value(alloc, text, env, value, kind)? {
         Ok(expr) => {
@@ -147,7 +148,7 @@ fn sets_fault(
 ) -> Result<Option<NameFault>, OutOfMemory>
     requires within { AllByRecursion (IsSetIn text.now) sets.now }
     requires exprs { AllByRecursion (IsSet env.now.schema.now.dim) (map (set_form_of text.now) sets.now) }
-    ensures { IfOk result (IsLeast (IsSetFault env.now.schema.now.dim env.now.schema.now.embeds env.now.params.now (names_in env.now.schema.now env.now.params.now env.now.nodes.now) (map (set_form_of text.now) sets.now))) }
+    ensures { IfOk result (IsLeast (IsSetFault env.now.schema.now.dim env.now.schema.now.embeds env.now.params.now (first_names env.now.schema.now env.now.params.now env.now.nodes.now) (map (set_form_of text.now) sets.now))) }
 {
     let mut fault = None;
     for set in sets {
@@ -166,7 +167,7 @@ fn item_fault(
 ) -> Result<Option<NameFault>, OutOfMemory>
     requires within { IsItemIn text.now item.now }
     requires exprs { IsItem env.now.schema.now.dim Right (item_of text.now item.now) }
-    ensures { IfOk result (IsLeast (IsAssignedFault env.now.schema.now.dim env.now.schema.now.embeds env.now.params.now (names_in env.now.schema.now env.now.params.now env.now.nodes.now) (item_of text.now item.now ∷ []))) }
+    ensures { IfOk result (IsLeast (IsAssignedFault env.now.schema.now.dim env.now.schema.now.embeds env.now.params.now (first_names env.now.schema.now env.now.params.now env.now.nodes.now) (item_of text.now item.now ∷ []))) }
 {
     match item {
         Item::Node { sets, .. } => sets_fault(alloc, text, env, sets.as_slice()),
@@ -182,7 +183,7 @@ fn items_fault(
 ) -> Result<Option<NameFault>, OutOfMemory>
     requires within { AllByRecursion (IsItemIn text.now) items.now }
     requires exprs { AllByRecursion (IsItem env.now.schema.now.dim Right) (map (item_of text.now) items.now) }
-    ensures { IfOk result (IsLeast (IsAssignedFault env.now.schema.now.dim env.now.schema.now.embeds env.now.params.now (names_in env.now.schema.now env.now.params.now env.now.nodes.now) (map (item_of text.now) items.now))) }
+    ensures { IfOk result (IsLeast (IsAssignedFault env.now.schema.now.dim env.now.schema.now.embeds env.now.params.now (first_names env.now.schema.now env.now.params.now env.now.nodes.now) (map (item_of text.now) items.now))) }
 {
     let mut fault = None;
     for item in items {
@@ -199,7 +200,7 @@ fn pre_fault(
 ) -> Result<Option<NameFault>, OutOfMemory>
     requires within { IsPreIn text.now pre }
     requires expr { IsPre env.now.schema.now.dim (option_map (value_of text.now) pre) }
-    ensures { IfOk result (IsLeast (IsPreFault env.now.schema.now.dim env.now.schema.now.embeds env.now.params.now (names_in env.now.schema.now env.now.params.now env.now.nodes.now) (option_map (value_of text.now) pre))) }
+    ensures { IfOk result (IsLeast (IsPreFault env.now.schema.now.dim env.now.schema.now.embeds env.now.params.now (first_names env.now.schema.now env.now.params.now env.now.nodes.now) (option_map (value_of text.now) pre))) }
 {
     match pre {
         Some(value) => value_fault(alloc, text, env, &value, Some(Kind::Bool)),

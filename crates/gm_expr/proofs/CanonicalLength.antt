@@ -15,7 +15,7 @@ use Rattle.gm_model.specs.declared.rule.Param.{Param}
 use Rattle.gm_model.specs.declared.schema.Embed.{Embed}
 use Rattle.gm_model.specs.declared.word.Mask.{Mask}
 use Rattle.gm_model.specs.Names.{Mention}
-use Rattle.gm_model.specs.Reading.{Part}
+use Rattle.gm_model.specs.Reading.{Part, word, sign}
 use Rattle.gm_model.specs.Rules.{RuleNode, name_at}
 use Rattle.gm_model.specs.Symbols.{Word, Mark}
 use Rattle.gm_model.specs.Trees.{Tree, Number, Truth, Param as Parameter, Field, Same, Count, Sum, Least, Greatest, Unary, Binary, If, MakeVec2, MakeVec3, MakeRgb}
@@ -27,7 +27,7 @@ use Rattle.gm_parse.specs.declared.key.Collector.TheVariants as collectors
 use Rattle.gm_parse.specs.Forms.{TermForm, Form, NumberForm, TruthForm, ParamForm, FieldForm, SameForm, CountForm, CollectForm, CallForm, ParenForm, MinusForm, NotForm, BinaryForm, IfForm, Arguments, First, Further, level_of, IsGood, AreGood}
 use Rattle.gm_parse.specs.Levels.{unary_level, least_of_part, least_on_left, least_on_right}
 use Rattle.gm_parse.specs.Meaning.{Names, function_named, call_of, tree_in, trees_in}
-use Rattle.gm_parse.specs.Spelling.{Role, NameAt, Counted, greatest, limit_of, passed_by, limit_in, sign, word, operator, spell_labels, spell_orbit, spell_path, spell_term, spell_field, spell, spell_arguments, counted_from, parts_of}
+use Rattle.gm_parse.specs.Spelling.{Role, Fixed, NameAt, Counted, greatest, limit_of, passed_by, limit_in, operator, spell_labels, spell_orbit, spell_path, spell_term, spell_field, spell, spell_arguments, counted_from, parts_of}
 use Rattle.gm_expr.specs.ExprText.{level, param_name, embed_name}
 use Rattle.gm_expr.specs.Writable.{AreGoodNames, IsGoodEmbed, IsGoodTerm, IsGoodMask, IsWritable}
 use Rattle.gm_expr.proofs.Found.{param_low, embed_low, node_low}
@@ -82,8 +82,8 @@ module _ (n : ℕ) where
     spell_length (SameForm left right) rest = omega (arith, path_length)
     spell_length (CountForm orbit term) rest = omega (arith, labels_length, path_length)
     spell_length (CollectForm collector orbit term embed) rest = omega (arith, labels_length, path_length)
-    spell_length (CallForm function arguments) rest = let inside = arguments_length arguments (sign (codes ")") ∷ rest) in omega (arith, inside)
-    spell_length (ParenForm part) rest = let inside = spell_length part (sign (codes ")") ∷ rest) in omega (arith, inside)
+    spell_length (CallForm function arguments) rest = let inside = arguments_length arguments (sign Fixed (codes ")") ∷ rest) in omega (arith, inside)
+    spell_length (ParenForm part) rest = let inside = spell_length part (sign Fixed (codes ")") ∷ rest) in omega (arith, inside)
     spell_length (MinusForm part) rest = let inside = spell_length part rest in omega (arith, inside)
     spell_length (NotForm part) rest = let inside = spell_length part rest in omega (arith, inside)
     spell_length (BinaryForm op left right) rest =
@@ -92,15 +92,15 @@ module _ (n : ℕ) where
         omega (arith, first, second)
     spell_length (IfForm c a b) rest =
         let third = spell_length b rest in
-        let second = spell_length a (word (codes "else") ∷ spell n b rest) in
-        let first = spell_length c (word (codes "then") ∷ spell n a (word (codes "else") ∷ spell n b rest)) in
+        let second = spell_length a (word Fixed (codes "else") ∷ spell n b rest) in
+        let first = spell_length c (word Fixed (codes "then") ∷ spell n a (word Fixed (codes "else") ∷ spell n b rest)) in
         omega (arith, first, second, third)
 
     arguments_length : (arguments : Arguments) (rest : List (Part Role)) → length (spell_arguments n arguments rest) ≡ arguments_size arguments + length rest
     arguments_length (First form) rest = spell_length form rest
     arguments_length (Further arguments form) rest =
         let second = spell_length form rest in
-        let first = arguments_length arguments (sign (codes ",") ∷ spell n form rest) in
+        let first = arguments_length arguments (sign Fixed (codes ",") ∷ spell n form rest) in
         omega (arith, first, second)
 
 -- ---- how many the canonical form of a tree has
@@ -402,18 +402,18 @@ module _ (n : ℕ) where
   IsLimited form = (rest : List (Part Role)) → AreLimited rest → AreLimited (spell n form rest)
 
   enclosed_limited : (wrapped : Bool) (form : Form) → IsLimited form → IsLimited (enclosed wrapped form)
-  enclosed_limited true form inside rest limited = (refl, inside (sign (codes ")") ∷ rest) (refl, limited))
+  enclosed_limited true form inside rest limited = (refl, inside (sign Fixed (codes ")") ∷ rest) (refl, limited))
   enclosed_limited false form inside rest limited = inside rest limited
 
   unary_limited : (op : UnOp) (marks : List Mark) (part : Form) → IsLimited part → IsLimited (unary_form op (at marks (function_name op)) part)
   unary_limited unary.Neg marks part inside rest limited = (refl, inside rest limited)
   unary_limited unary.Not marks part inside rest limited = (refl, inside rest limited)
-  unary_limited unary.X marks part inside rest limited = (refl, (refl, inside (sign (codes ")") ∷ rest) (refl, limited)))
-  unary_limited unary.Y marks part inside rest limited = (refl, (refl, inside (sign (codes ")") ∷ rest) (refl, limited)))
-  unary_limited unary.Z marks part inside rest limited = (refl, (refl, inside (sign (codes ")") ∷ rest) (refl, limited)))
-  unary_limited unary.Red marks part inside rest limited = (refl, (refl, inside (sign (codes ")") ∷ rest) (refl, limited)))
-  unary_limited unary.Green marks part inside rest limited = (refl, (refl, inside (sign (codes ")") ∷ rest) (refl, limited)))
-  unary_limited unary.Blue marks part inside rest limited = (refl, (refl, inside (sign (codes ")") ∷ rest) (refl, limited)))
+  unary_limited unary.X marks part inside rest limited = (refl, (refl, inside (sign Fixed (codes ")") ∷ rest) (refl, limited)))
+  unary_limited unary.Y marks part inside rest limited = (refl, (refl, inside (sign Fixed (codes ")") ∷ rest) (refl, limited)))
+  unary_limited unary.Z marks part inside rest limited = (refl, (refl, inside (sign Fixed (codes ")") ∷ rest) (refl, limited)))
+  unary_limited unary.Red marks part inside rest limited = (refl, (refl, inside (sign Fixed (codes ")") ∷ rest) (refl, limited)))
+  unary_limited unary.Green marks part inside rest limited = (refl, (refl, inside (sign Fixed (codes ")") ∷ rest) (refl, limited)))
+  unary_limited unary.Blue marks part inside rest limited = (refl, (refl, inside (sign Fixed (codes ")") ∷ rest) (refl, limited)))
 
 module _ (embeds : List Embed) (params : List Param) (nodes : List RuleNode) (good : AreGoodNames embeds params nodes) (n : ℕ) where
   abbrev canon : List Mark → Tree → Form
@@ -434,11 +434,11 @@ module _ (embeds : List Embed) (params : List Param) (nodes : List RuleNode) (go
   field_limited marks behind_it term e rest is low limited = term_limited marks term _ is (refl, (embed_limited e (place_in behind_it) low, limited))
 
   orbit_limited : (marks : List Mark) (mask : Mask) (rest : List (Part Role)) → IsGoodMask embeds params nodes n mask → AreLimited rest → AreLimited (spell_orbit n (orbit_at marks mask) rest)
-  orbit_limited marks mask rest is limited = (refl, labels_limited n (behind marks) (labels_in mask) (sign (codes ">") ∷ rest) (all_labels (λ i. i ≤ n) mask is) (refl, limited))
+  orbit_limited marks mask rest is limited = (refl, labels_limited n (behind marks) (labels_in mask) (sign Fixed (codes ">") ∷ rest) (all_labels (λ i. i ≤ n) mask is) (refl, limited))
 
   collect_limited : (collector : Collector) (marks : List Mark) (mask : Mask) (term : DartTerm) (e : ℕ) → IsGoodMask embeds params nodes n mask → IsGoodTerm embeds params nodes n term → IsGoodEmbed embeds params nodes e → IsLimited n (collect_at embeds params nodes marks collector mask term e)
   collect_limited collector marks mask term e small is low rest limited =
-      (refl, orbit_limited (behind marks) mask _ small (refl, field_limited (behind (behind_orbit mask (behind marks))) (behind (behind_term term (behind (behind_orbit mask (behind marks))))) term e (sign (codes ")") ∷ rest) is low (refl, limited)))
+      (refl, orbit_limited (behind marks) mask _ small (refl, field_limited (behind (behind_orbit mask (behind marks))) (behind (behind_term term (behind (behind_orbit mask (behind marks))))) term e (sign Fixed (codes ")") ∷ rest) is low (refl, limited)))
 
   tree_limited : (tree : Tree) → IsWritable embeds params nodes n tree → (marks : List Mark) → IsLimited n (form_at embeds params nodes marks tree)
   tree_limited (Number z) (k, is, low) marks rest limited =
@@ -448,9 +448,9 @@ module _ (embeds : List Embed) (params : List Param) (nodes : List RuleNode) (go
   tree_limited (Field d e) is marks rest limited = field_limited marks (behind (behind_term d marks)) d e rest is.0 is.1 limited
   tree_limited (Same d d') is marks rest limited =
       let first = behind (behind marks) in
-      (refl, (refl, term_limited first d _ is.0 (refl, term_limited (behind (behind_term d first)) d' (sign (codes ")") ∷ rest) is.1 (refl, limited))))
+      (refl, (refl, term_limited first d _ is.0 (refl, term_limited (behind (behind_term d first)) d' (sign Fixed (codes ")") ∷ rest) is.1 (refl, limited))))
   tree_limited (Count o d) is marks rest limited =
-      (refl, orbit_limited (behind marks) o _ is.0 (refl, term_limited (behind (behind_orbit o (behind marks))) d (sign (codes ")") ∷ rest) is.1 (refl, limited)))
+      (refl, orbit_limited (behind marks) o _ is.0 (refl, term_limited (behind (behind_orbit o (behind marks))) d (sign Fixed (codes ")") ∷ rest) is.1 (refl, limited)))
   tree_limited (Sum o d e) is marks rest limited = collect_limited collectors.Sum marks o d e is.0 is.1 is.2 rest limited
   tree_limited (Least o d e) is marks rest limited = collect_limited collectors.Least marks o d e is.0 is.1 is.2 rest limited
   tree_limited (Greatest o d e) is marks rest limited = collect_limited collectors.Greatest marks o d e is.0 is.1 is.2 rest limited
@@ -468,27 +468,27 @@ module _ (embeds : List Embed) (params : List Param) (nodes : List RuleNode) (go
   tree_limited (If c a b) is marks rest limited =
       let second = behind (behind_tree c (behind marks)) in
       let third = behind (behind_tree a second) in
-      let last : List (Part Role) = word (codes "else") ∷ spell n (canon third b) rest in
-      (refl, tree_limited c is.0 (behind marks) (word (codes "then") ∷ spell n (canon second a) last) (refl, tree_limited a is.1 second last (refl, tree_limited b is.2 third rest limited)))
+      let last : List (Part Role) = word Fixed (codes "else") ∷ spell n (canon third b) rest in
+      (refl, tree_limited c is.0 (behind marks) (word Fixed (codes "then") ∷ spell n (canon second a) last) (refl, tree_limited a is.1 second last (refl, tree_limited b is.2 third rest limited)))
   tree_limited (MakeVec2 a b) is marks rest limited =
       let first = behind (behind marks) in
       let second = behind (behind_tree a first) in
-      let end : List (Part Role) = sign (codes ")") ∷ rest in
-      (refl, (refl, tree_limited a is.0 first (sign (codes ",") ∷ spell n (canon second b) end) (refl, tree_limited b is.1 second end (refl, limited))))
+      let end : List (Part Role) = sign Fixed (codes ")") ∷ rest in
+      (refl, (refl, tree_limited a is.0 first (sign Fixed (codes ",") ∷ spell n (canon second b) end) (refl, tree_limited b is.1 second end (refl, limited))))
   tree_limited (MakeVec3 a b c) is marks rest limited =
       let first = behind (behind marks) in
       let second = behind (behind_tree a first) in
       let third = behind (behind_tree b second) in
-      let end : List (Part Role) = sign (codes ")") ∷ rest in
-      let last : List (Part Role) = sign (codes ",") ∷ spell n (canon third c) end in
-      (refl, (refl, tree_limited a is.0 first (sign (codes ",") ∷ spell n (canon second b) last) (refl, tree_limited b is.1 second last (refl, tree_limited c is.2 third end (refl, limited)))))
+      let end : List (Part Role) = sign Fixed (codes ")") ∷ rest in
+      let last : List (Part Role) = sign Fixed (codes ",") ∷ spell n (canon third c) end in
+      (refl, (refl, tree_limited a is.0 first (sign Fixed (codes ",") ∷ spell n (canon second b) last) (refl, tree_limited b is.1 second last (refl, tree_limited c is.2 third end (refl, limited)))))
   tree_limited (MakeRgb a b c) is marks rest limited =
       let first = behind (behind marks) in
       let second = behind (behind_tree a first) in
       let third = behind (behind_tree b second) in
-      let end : List (Part Role) = sign (codes ")") ∷ rest in
-      let last : List (Part Role) = sign (codes ",") ∷ spell n (canon third c) end in
-      (refl, (refl, tree_limited a is.0 first (sign (codes ",") ∷ spell n (canon second b) last) (refl, tree_limited b is.1 second last (refl, tree_limited c is.2 third end (refl, limited)))))
+      let end : List (Part Role) = sign Fixed (codes ")") ∷ rest in
+      let last : List (Part Role) = sign Fixed (codes ",") ∷ spell n (canon third c) end in
+      (refl, (refl, tree_limited a is.0 first (sign Fixed (codes ",") ∷ spell n (canon second b) last) (refl, tree_limited b is.1 second last (refl, tree_limited c is.2 third end (refl, limited)))))
 
   -- where it has few parts
   pub short_within : (tree : Tree) → IsWritable embeds params nodes n tree → (marks : List Mark) → length (spell n (form_at embeds params nodes marks tree) []) ≤ 256 → AreWithin (parts_of n (form_at embeds params nodes marks tree))

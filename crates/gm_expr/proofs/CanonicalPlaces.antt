@@ -8,7 +8,7 @@ use Rattle.gm_model.specs.declared.expr.UnOp.TheVariants as unary
 use Rattle.gm_model.specs.declared.rule.Param.{Param}
 use Rattle.gm_model.specs.declared.schema.Embed.{Embed}
 use Rattle.gm_model.specs.declared.word.Mask.{Mask}
-use Rattle.gm_model.specs.Reading.{Part}
+use Rattle.gm_model.specs.Reading.{Part, ArePlaced}
 use Rattle.gm_model.specs.Rules.{RuleNode}
 use Rattle.gm_model.specs.Symbols.{Mark}
 use Rattle.gm_model.specs.Trees.{Tree, Number, Truth, Param as Parameter, Field, Same, Count, Sum, Least, Greatest, Unary, Binary, If, MakeVec2, MakeVec3, MakeRgb}
@@ -16,7 +16,7 @@ use Rattle.gm_parse.specs.declared.key.Collector.{Collector}
 use Rattle.gm_parse.specs.declared.key.Collector.TheVariants as collectors
 use Rattle.gm_parse.specs.Forms.{CallForm, First}
 use Rattle.gm_parse.specs.Levels.{least_of_part, least_on_left, least_on_right}
-use Rattle.gm_parse.specs.Spelling.{Role, Fixed, operator, spell, spell_labels, spell_orbit, spell_path, spell_term, spell_field, IsPlacedAt, ArePlaced}
+use Rattle.gm_parse.specs.Spelling.{Role, Fixed, operator, spell, spell_labels, spell_orbit, spell_path, spell_term, spell_field, IsPlacedAt}
 use Rattle.gm_text.specs.SchemaText.{labels_in}
 use Rattle.gm_expr.proofs.Canonical.{behind, place_in, at, function_name, unary_form, within_unary, behind_unary, behind_labels, behind_orbit, behind_path, behind_term, behind_field, behind_tree, labels_at, orbit_at, term_at, embed_at, collect_at, is_wrapped, enclosed, within, form_at}
 
@@ -140,7 +140,7 @@ module _ (Holds : List Mark → List (Part Role) → Type 0)
 
 -- ---- places
 
-placed_first : (marks : List Mark) (part : Part Role) (parts : List (Part Role)) → IsPlacedAt (place_in marks) part.role → ArePlaced (behind marks) parts → ArePlaced marks (part ∷ parts)
+placed_first : (marks : List Mark) (part : Part Role) (parts : List (Part Role)) → IsPlacedAt (place_in marks) part.role → ArePlaced IsPlacedAt (behind marks) parts → ArePlaced IsPlacedAt marks (part ∷ parts)
 placed_first [] part parts here later = tt
 placed_first (mark ∷ marks) part parts here later = (here, later)
 
@@ -156,8 +156,8 @@ module _ (end : List Mark) where
   leads_first (mark ∷ marks) part parts here later = later
 
 module _ (embeds : List Embed) (params : List Param) (nodes : List RuleNode) where
-  pub tree_placed : (n : ℕ) (tree : Tree) (marks : List Mark) (parts : List (Part Role)) → ArePlaced (behind_tree tree marks) parts → ArePlaced marks (spell n (form_at embeds params nodes marks tree) parts)
-  tree_placed n tree marks parts later = tree_holds ArePlaced placed_first n embeds params nodes tree marks parts later
+  pub tree_placed : (n : ℕ) (tree : Tree) (marks : List Mark) (parts : List (Part Role)) → ArePlaced IsPlacedAt (behind_tree tree marks) parts → ArePlaced IsPlacedAt marks (spell n (form_at embeds params nodes marks tree) parts)
+  tree_placed n tree marks parts later = tree_holds ArePlaced IsPlacedAt placed_first n embeds params nodes tree marks parts later
 
   pub tree_behind : (n : ℕ) (tree : Tree) (marks : List Mark) → behind_tree tree marks ≡ drop (length (spell n (form_at embeds params nodes marks tree) [])) marks
   tree_behind n tree marks = sym (tree_holds (LeadsTo (behind_tree tree marks)) (leads_first (behind_tree tree marks)) n embeds params nodes tree marks [] refl)

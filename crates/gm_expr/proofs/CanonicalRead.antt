@@ -1,6 +1,6 @@
 -- The canonical text of a tree that can be written is read as that tree.
-use Rattle.std.proofs.Common.{◌≡◌, ℕ, zero, suc, ◌+◌, ◌-◌, ◌≤◌, List, [], ◌∷◌, ◌++◌, length, map, take, Option, refl, sym, ap, subst, ◌∙◌, append-nil, arith}
-use Rattle.std.proofs.lemmas.List.{length-append, length-map, map-append, take_all}
+use Rattle.std.proofs.Common.{◌≡◌, ℕ, zero, suc, ◌+◌, ◌-◌, List, [], ◌∷◌, ◌++◌, length, map, Option, refl, sym, ap, subst, ◌∙◌, append-nil, arith}
+use Rattle.std.proofs.lemmas.List.{length-append, length-map, map-append}
 use Rattle.gm_model.specs.declared.rule.Param.{Param}
 use Rattle.gm_model.specs.declared.rule.Node.{Node}
 use Rattle.gm_model.specs.declared.rule.RuleTable.{RuleTable}
@@ -8,7 +8,7 @@ use Rattle.gm_model.specs.declared.schema.Embed.{Embed}
 use Rattle.gm_model.specs.declared.schema.Schema.{Schema}
 use Rattle.gm_model.specs.declared.token.TokenKind.{TokenKind}
 use Rattle.gm_model.specs.declared.token.TokenKind.TheVariants as kinds
-use Rattle.gm_model.specs.Reading.{Part, symbols_in}
+use Rattle.gm_model.specs.Reading.{Part, symbols_in, ArePlaced}
 use Rattle.gm_model.specs.Rules.{RuleNode, node_of, rule_of}
 use Rattle.gm_model.specs.Symbols.{Symbol, Stray, End, symbol_of_kind, Mark, mark_of, marks_at, marks_of, symbols}
 use Rattle.gm_model.specs.Tokens.{StrayAt, EndAt, Front, Gap, Lexeme, Stray as StrayFront, front_of, size_of, item_before, items_from}
@@ -20,7 +20,7 @@ use Rattle.gm_text.proofs.Printed.{symbols_from, symbols_from-end, symbols_of-fr
 use Rattle.gm_parse.specs.Answers.{IsExprRead}
 use Rattle.gm_parse.specs.Forms.{Form}
 use Rattle.gm_parse.specs.Meaning.{Names, left_name, names_in}
-use Rattle.gm_parse.specs.Spelling.{Role, Fixed, spell, parts_of, ArePlaced, Stands}
+use Rattle.gm_parse.specs.Spelling.{Role, Fixed, spell, parts_of, Stands, IsPlacedAt}
 use Rattle.gm_parse.proofs.Counted.{spot_behind, no_longer}
 use Rattle.gm_parse.proofs.Standing.{other_spot}
 use Rattle.gm_expr.specs.ExprText.{tree_text}
@@ -105,12 +105,12 @@ are_ended (mark ∷ marks) (symbol ∷ front) same =
       ends = rest.ends;
     }
 
-placed_front : (before rest : List Mark) (parts : List (Part Role)) → ArePlaced (before ++ rest) parts → ArePlaced before parts
+placed_front : (before rest : List Mark) (parts : List (Part Role)) → ArePlaced IsPlacedAt (before ++ rest) parts → ArePlaced IsPlacedAt before parts
 placed_front [] rest parts placed = tt
 placed_front (mark ∷ before) rest [] placed = tt
 placed_front (mark ∷ before) rest (part ∷ parts) placed = (placed.0, placed_front before rest parts placed.1)
 
-none_placed : (marks : List Mark) → ArePlaced marks []
+none_placed : (marks : List Mark) → ArePlaced IsPlacedAt marks []
 none_placed [] = tt
 none_placed (mark ∷ marks) = tt
 
@@ -144,7 +144,7 @@ module _ (embeds : List Embed) (params : List Param) (nodes : List RuleNode) (go
         good = tree_good embeds params nodes good n tree writable (marks_of written);
         spelled = ended.spelled;
         within = within;
-        placed = placed_front ended.before (ended.last ∷ []) (spell n canon []) (subst (λ (ms : List Mark). ArePlaced ms (spell n canon [])) ended.split placed);
+        placed = placed_front ended.before (ended.last ∷ []) (spell n canon []) (subst (λ (ms : List Mark). ArePlaced IsPlacedAt ms (spell n canon [])) ended.split placed);
         next = last;
         others = [];
         behind = rest;
@@ -179,14 +179,9 @@ module _ (embeds : List Embed) (params : List Param) (nodes : List RuleNode) (go
 
 -- ---- the names that are known
 
--- of few nodes, and so of all that a rule can have
 names_of_nodes : (nodes : List Node) → map left_name nodes ≡ map left_name_of (map node_of nodes)
 names_of_nodes [] = refl
 names_of_nodes (node ∷ nodes) = ap (λ (names : List (Option (List ℕ))). left_name node ∷ names) (names_of_nodes nodes)
 
-pub few_known : (schema : Schema) (table : RuleTable) → length schema.embeds ≤ 256 → length table.params ≤ 256 → length table.nodes ≤ 256 → names_in schema table.params table.nodes ≡ names_of schema.embeds table.params (rule_of table).nodes
-few_known schema table embeds params nodes =
-    let one : take 256 (map (λ (embed : Embed). embed.name) schema.embeds) ≡ map (λ (embed : Embed). embed.name) schema.embeds = take_all 256 (map (λ (embed : Embed). embed.name) schema.embeds) (omega (arith, embeds, length-map schema.embeds (λ (embed : Embed). embed.name))) in
-    let two : take 256 (map (λ (param : Param). param.name) table.params) ≡ map (λ (param : Param). param.name) table.params = take_all 256 (map (λ (param : Param). param.name) table.params) (omega (arith, params, length-map table.params (λ (param : Param). param.name))) in
-    let three : take 256 (map left_name table.nodes) ≡ map left_name_of (map node_of table.nodes) = take_all 256 (map left_name table.nodes) (omega (arith, nodes, length-map table.nodes left_name)) ∙ names_of_nodes table.nodes in
-    λ i. record { embeds = one i; params = two i; nodes = three i }
+pub all_known : (schema : Schema) (table : RuleTable) → names_in schema table.params table.nodes ≡ names_of schema.embeds table.params (rule_of table).nodes
+all_known schema table = let nodes = names_of_nodes table.nodes in λ i. record { embeds = map (λ (embed : Embed). embed.name) schema.embeds; params = map (λ (param : Param). param.name) table.params; nodes = nodes i }

@@ -23,10 +23,9 @@ pub fn no_text_is_shorter()
 /// Under good names the canonical text of a tree is read as that tree, from the beginning to the end:
 /// where the tree can be written and its text has at most 256 tokens, and where some text gave the
 /// tree, whatever its length. Of several things with one name, that name leads to the first, so a tree
-/// that can be written has no number of another. The names are those that reading takes where a
-/// schema and a rule have no more of them than can be numbered.
+/// that can be written has no number of another. The names are those of a schema and a rule.
 pub fn what_is_printed_is_read_again()
     ensures written { (n : ℕ) (schema : Schema) (rule : Rule) (tree : Tree) → n ≤ 7 → AreGoodNames schema.embeds rule.params rule.nodes → IsWritable schema.embeds rule.params rule.nodes n tree → length (marks_of (expr_text schema rule tree)) ≤ 257 → IsReadWhole n (names_of schema.embeds rule.params rule.nodes) (expr_text schema rule tree) tree }
     ensures read { (n : ℕ) (schema : Schema) (rule : Rule) (old new : Cursor) (tree : Tree) → n ≤ 7 → AreGoodNames schema.embeds rule.params rule.nodes → IsExprRead n (names_of schema.embeds rule.params rule.nodes) old new tree → IsReadWhole n (names_of schema.embeds rule.params rule.nodes) (expr_text schema rule tree) tree }
-    ensures names { (schema : Schema) (table : RuleTable) → length schema.embeds ≤ 256 → length table.params ≤ 256 → length table.nodes ≤ 256 → names_in schema table.params table.nodes ≡ names_of schema.embeds (rule_of table).params (rule_of table).nodes }
+    ensures names { (schema : Schema) (table : RuleTable) → names_in schema table.params table.nodes ≡ names_of schema.embeds (rule_of table).params (rule_of table).nodes }
 {}

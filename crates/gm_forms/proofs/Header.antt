@@ -8,7 +8,7 @@ use Rattle.std.specs.Str.{bytes_eq}
 use Rattle.gm_model.specs.declared.limit.LimitKind.{LimitKind}
 use Rattle.gm_model.specs.declared.schema.Embed.{Embed}
 use Rattle.gm_model.specs.Symbols.{Symbol, Word, Numeral, Sign, Gone, Stray, End}
-use Rattle.gm_model.specs.Reading.{Part}
+use Rattle.gm_model.specs.Reading.{Part, word, number, the_end, in_role}
 use Rattle.gm_text.specs.Machine.{Leads, IsGrammar}
 use Rattle.gm_text.specs.Nested.{Outside, Inside, IsApart, HasPieces, IsNestedSentence, LeadsNested, LeadsInside}
 use Rattle.gm_text.specs.Nested as nested
@@ -21,7 +21,7 @@ use Rattle.gm_text.proofs.SchemaGrammar as schema_grammar
 use Rattle.gm_text.proofs.SchemaStanding.{limit_placeless}
 use Rattle.gm_text.proofs.SchemaStanding as schema_standing
 use Rattle.gm_forms.specs.declared.state.Heading.{Heading}
-use Rattle.gm_forms.specs.BookText.{BookForm, Role, Fixed, InSchema, limit_of, stands_before, word, number, the_end, spell_rules, spelling, IsSentence}
+use Rattle.gm_forms.specs.BookText.{BookForm, Role, Fixed, InSchema, limit_of, stands_before, spell_rules, spelling, IsSentence}
 use Rattle.gm_forms.specs.Reading.{State, AtRules, AtName, AtEnd, heading_at, Outer, AtFormat, AtVersion, InRules, Header, header_at, Whole, is_version, outer_role, in_rules, outer_move, heading_in, book_nesting, role_at, move}
 use Rattle.gm_forms.proofs.Grammar.{same_limit, same_before, has_marks}
 use Rattle.gm_forms.proofs.Leading.{at_header, led_rules, goes_on}
@@ -204,7 +204,7 @@ inner_goes_on inner =
 
 -- a whole book of nothing
 abbrev empty_schema : Parts
-empty_schema = record { symbol = Word (codes "dim"); role = InSchema schemas.Fixed } ∷ record { symbol = Numeral 1; role = InSchema schemas.Dimension } ∷ the_end ∷ []
+empty_schema = record { symbol = Word (codes "dim"); role = InSchema schemas.Fixed } ∷ record { symbol = Numeral 1; role = InSchema schemas.Dimension } ∷ the_end Fixed ∷ []
 
 version_goes_on : LedWhole (Outside AtVersion) (number Fixed 1 ∷ empty_schema) (in_rules AtEnd)
 version_goes_on = (0, Inside (header_at 1 schema.AtDim), refl, refl, (0, Inside (header_at 1 schema.AtTop), refl, refl, (0, Inside (header_at 1 (schema.AtEmbeds 1 [])), refl, refl, (0, in_rules AtEnd, refl, refl, refl))))
@@ -258,7 +258,7 @@ AreNested parts = IsNestedSentence book_nesting limit_of stands_before IsFront I
 to_nested : (parts : Parts) → IsSentence parts → AreNested parts
 to_nested parts (book, good, is) =
     let h = heading_at book.version book.schema.dim in
-    let rest = spell_rules book.schema.dim 0 book.rules (the_end ∷ []) in
+    let rest = spell_rules book.schema.dim 0 book.rules (the_end Fixed ∷ []) in
     record {
       front = front_of book.version;
       entry = header_at book.version schema.AtDim;
@@ -283,9 +283,9 @@ of_nested parts sentence =
     let rules = along_rules h has.marks sentence.back has.along in
     let book : BookForm = record { version = version; schema = form; rules = rules.rules } in
     let spelled : parts ≡ spelling book =
-    sentence.spelled ∙ ap (λ (ps : Parts). ps ++ (map (nested.wrapped book_nesting) sentence.inner ++ sentence.back)) front
-    ∙ ap (λ (ps : List (Part schemas.Role)). front_of version ++ (map (nested.wrapped book_nesting) ps ++ sentence.back)) inner
-    ∙ ap (λ (ps : Parts). front_of version ++ (map (nested.wrapped book_nesting) (spell form []) ++ ps)) rules.same in
+    sentence.spelled ∙ ap (λ (ps : Parts). ps ++ (map (in_role book_nesting.wrap) sentence.inner ++ sentence.back)) front
+    ∙ ap (λ (ps : List (Part schemas.Role)). front_of version ++ (map (in_role book_nesting.wrap) ps ++ sentence.back)) inner
+    ∙ ap (λ (ps : Parts). front_of version ++ (map (in_role book_nesting.wrap) (spell form []) ++ ps)) rules.same in
     (book, (version_known version known, good, rules.rules_good), spelled)
 
 pub book_grammar : IsGrammar limit_of stands_before (nested.role_at book_nesting) (nested.move book_nesting) IsSentence (Outside AtFormat) (in_rules AtEnd)

@@ -12,8 +12,8 @@ use Rattle.gm_model.specs.declared.word.Letter.{Letter}
 use Rattle.gm_model.specs.declared.word.Letter.TheVariants as letters
 use Rattle.gm_model.specs.Names.{reserved, Mention, is_among, IsFree}
 use Rattle.gm_model.specs.Symbols.{Symbol, Word, Numeral, Sign, Gone, Stray, End}
-use Rattle.gm_model.specs.Reading.{Part}
-use Rattle.gm_forms.specs.BookText.{Item, NodeItem, LinkItem, ParamForm, ExprToken, SetForm, RuleForm, Count, no_count, count_after, counted, count_across, with_name, hook_count, Role, Fixed, RuleWord, NameAt, InExpr, NodeSign, limit_of, stands_before, word, sign, named, the_end, spell_letters, part_of, in_expr, spell_value, spell_sets, spell_hook, spell_item, spell_items, spell_pre, spell_param, spell_more_params, spell_params, spell_rules, IsTokenPlaced, IsExpr, IsSet, IsPre, IsItem, IsParam, IsRule}
+use Rattle.gm_model.specs.Reading.{Part, word, sign, the_end}
+use Rattle.gm_forms.specs.BookText.{Item, NodeItem, LinkItem, ParamForm, ExprToken, SetForm, RuleForm, Count, no_count, count_after, counted, count_across, with_name, hook_count, Role, Fixed, RuleWord, NameAt, InExpr, NodeSign, limit_of, stands_before, named, spell_letters, part_of, in_expr, spell_value, spell_sets, spell_hook, spell_item, spell_items, spell_pre, spell_param, spell_more_params, spell_params, spell_rules, IsTokenPlaced, IsExpr, IsSet, IsPre, IsItem, IsParam, IsRule}
 use Rattle.std.specs.Option.{option_map}
 use Rattle.std.specs.Prelude.{IsTrue}
 use Rattle.gm_parse.specs.Reading as exprs
@@ -336,14 +336,14 @@ led_pre : (h : Heading) (k : ℕ) (count : Count) (hooked : Bool) (pre : Option 
 led_pre h k count hooked None rest good led end = led
 led_pre h k count hooked (Some tokens) rest good led end = (0, AtExpr (PreSlot h k) first_spot, refl, refl, led_value (PreSlot h k) tokens rest good end)
 
-pub led_rules : (state : State) (h : Heading) (k : ℕ) (rules : List RuleForm) → CanEnd state h k → AllByRecursion (IsRule h.version h.dim) rules → Led state (spell_rules h.dim k rules (the_end ∷ []))
+pub led_rules : (state : State) (h : Heading) (k : ℕ) (rules : List RuleForm) → CanEnd state h k → AllByRecursion (IsRule h.version h.dim) rules → Led state (spell_rules h.dim k rules (the_end Fixed ∷ []))
 led_rules state h k [] can good = (0, AtEnd, sym can.end_role, can.end_move, refl)
 led_rules state h k (rule ∷ rules) can (is, good) =
     let across = count_across (counted no_count rule.left) in
     let behind = counted across rule.right in
     let hooked = hooked_in false rule.left in
     let hooked_behind = hooked_in hooked rule.right in
-    let later = spell_rules h.dim (k + 1) rules (the_end ∷ []) in
+    let later = spell_rules h.dim (k + 1) rules (the_end Fixed ∷ []) in
     let rest = spell_pre rule.pre later in (
       0,
       AtName h (k + 1),
@@ -372,9 +372,9 @@ led_rules state h k (rule ∷ rules) can (is, good) =
 
 -- a rule goes on with nothing on either side
 item_goes_on : (h : Heading) (k : ℕ) (side : Side) (count : Count) (hooked : Bool) → (rest : List (Part Role)) × Led (AtItem (spot_at h k side count hooked)) rest
-item_goes_on h k Right count hooked = (the_end ∷ [], (0, AtEnd, refl, refl, refl))
+item_goes_on h k Right count hooked = (the_end Fixed ∷ [], (0, AtEnd, refl, refl, refl))
 item_goes_on h k Left count hooked =
-    (word Fixed (codes "right") ∷ the_end ∷ [], (0, AtItem (spot_at h k Right (count_across count) hooked), refl, refl, (0, AtEnd, refl, refl, refl)))
+    (word Fixed (codes "right") ∷ the_end Fixed ∷ [], (0, AtItem (spot_at h k Right (count_across count) hooked), refl, refl, (0, AtEnd, refl, refl, refl)))
 
 abbrev name_part : Part Role
 name_part = word (NameAt 0) (codes "a")

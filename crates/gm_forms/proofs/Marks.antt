@@ -14,7 +14,8 @@ use Rattle.gm_model.specs.declared.word.Letter.TheVariants as letters
 use Rattle.gm_model.specs.Names.{Mention, IsFree}
 use Rattle.gm_model.specs.Symbols.{Symbol, Word, Numeral, Sign, Gone, End, Stray, Mark}
 use Rattle.gm_model.specs.Reading as reading
-use Rattle.gm_forms.specs.BookText.{Item, NodeItem, LinkItem, ParamForm, ExprToken, SetForm, RuleForm, Count, with_name, Role, Fixed, RuleWord, NameAt, ParamName, LetterAt, NodeSign, LinkSign, LabelAt, limit_of, stands_before, word, number, sign, named, part_of, in_expr, spell_sets, spell_hook, IsExpr, IsSet, IsItem, IsRule}
+use Rattle.gm_model.specs.Reading.{word, number, sign}
+use Rattle.gm_forms.specs.BookText.{Item, NodeItem, LinkItem, ParamForm, ExprToken, SetForm, RuleForm, Count, with_name, Role, Fixed, RuleWord, NameAt, ParamName, LetterAt, NodeSign, LinkSign, LabelAt, limit_of, stands_before, named, part_of, in_expr, spell_sets, spell_hook, IsExpr, IsSet, IsItem, IsRule}
 use Rattle.std.specs.Option.{option_map}
 use Rattle.gm_text.specs.SchemaText.{kind_word}
 use Rattle.gm_text.specs.SchemaReading.{kind_named}

@@ -7,11 +7,11 @@ use Rattle.gm_model.specs.declared.word.Letter.{Letter}
 use Rattle.gm_model.specs.declared.word.Letter.TheVariants as letters
 use Rattle.gm_model.specs.Tokens.{Front, Gap, Lexeme, Stray, front_of, item_before, items_from}
 use Rattle.gm_model.specs.Symbols.{Symbol, Mark, mark_of, marks_of, symbols}
-use Rattle.gm_model.specs.Reading.{Part, symbols_in}
+use Rattle.gm_model.specs.Reading.{Part, symbols_in, the_end, in_role, ArePlaced}
 use Rattle.gm_model.specs.Names.{Mention}
 use Rattle.gm_text.specs.SchemaText as schemas
 use Rattle.gm_text.specs.SchemaText.{spell, schema_of, is_again}
-use Rattle.gm_forms.specs.BookText.{ExprToken, SetForm, Item, NodeItem, LinkItem, ParamForm, RuleForm, BookForm, Count, no_count, count_after, count_across, counted, Role, InSchema, NameAt, ParamName, InExpr, in_schema, the_end, spell_letters, spell_hook, spell_value, spell_sets, spell_items, spell_pre, spell_more_params, spell_params, spell_rules, params_in, nodes_in, ends_in, embeds_in, sets_of, assignments_in, items_on, first_place, IsPlacedAt, ArePlaced, IsWritten, IsAgain, IsStranger, IsValueIn, SetValue, PreValue, names_for, fault_in_value, NameFault, TwiceAt, place_of, IsNotAfter, IsFaultInRules, RuleTwice, ParamTwice, NodeTwice, NodeUnknown, SetTwice, SetUnknown, ValueFault, SetKind, PreKind, IsNameFault, SchemaTwice, RulesFault, spelling}
+use Rattle.gm_forms.specs.BookText.{ExprToken, SetForm, Item, NodeItem, LinkItem, ParamForm, RuleForm, BookForm, Count, no_count, count_after, count_across, counted, Role, Fixed, InSchema, NameAt, ParamName, InExpr, spell_letters, spell_hook, spell_value, spell_sets, spell_items, spell_pre, spell_more_params, spell_params, spell_rules, params_in, nodes_in, ends_in, embeds_in, sets_of, assignments_in, items_on, first_place, IsPlacedAt, IsWritten, IsAgain, IsStranger, IsValueIn, SetValue, PreValue, names_for, fault_in_value, NameFault, TwiceAt, place_of, IsNotAfter, IsFaultInRules, RuleTwice, ParamTwice, NodeTwice, NodeUnknown, SetTwice, SetUnknown, ValueFault, SetKind, PreKind, IsNameFault, SchemaTwice, RulesFault, spelling}
 use Rattle.gm_model.specs.declared.schema.Embed.{Embed}
 use Rattle.std.proofs.lemmas.Bool.{cases_lt}
 use Rattle.gm_forms.proofs.Contained.{contains_cases, contains_here, contains_behind, contains_none, contains_either}
@@ -77,7 +77,7 @@ names_from_less (part ∷ parts) less more up rise = go part.role (names_from_le
     go (InSchema (schemas.LabelAt n mask place)) lower (here, later) = (omega (arith, up, here), later)
     go role lower later = lower later
 
-placed_rise : (low : ℕ) (marks : List Mark) (parts : List (Part Role)) → symbols marks ≡ symbols_in parts → MarksRise low marks → ArePlaced marks parts → NamesRise low parts
+placed_rise : (low : ℕ) (marks : List Mark) (parts : List (Part Role)) → symbols marks ≡ symbols_in parts → MarksRise low marks → ArePlaced IsPlacedAt marks parts → NamesRise low parts
 placed_rise low marks [] same rise placed = tt
 placed_rise low [] (part ∷ parts) same rise placed = absurd cc
 placed_rise low (mark ∷ marks) (part ∷ parts) same (up, rise) (here, placed) =
@@ -175,7 +175,7 @@ module _ (n : ℕ) where
   params_follow [] rest places later low rise = later low rise
   params_follow (param ∷ params) rest places later low (here, rise) = (here, more_params_follow 1 params rest places later (suc param.name.place) rise)
 
-  rules_follow : (k : ℕ) (rules : List RuleForm) → Follows (spell_rules n k rules (the_end ∷ [])) (places_of rules)
+  rules_follow : (k : ℕ) (rules : List RuleForm) → Follows (spell_rules n k rules (the_end Fixed ∷ [])) (places_of rules)
   rules_follow k [] low rise = tt
   rules_follow k (rule ∷ rules) low (here, rise) = (
     here,
@@ -183,11 +183,11 @@ module _ (n : ℕ) where
         (items_follow no_count rule.left _ _ (items_follow (count_across (counted no_count rule.left)) rule.right _ _ (pre_follows rule.pre _ _ (rules_follow (k + 1) rules)))) (suc rule.name.place) rise,
   )
 
-schema_follows : (parts : List (Part schemas.Role)) (rest : List (Part Role)) (places : List ℕ) → Follows rest places → Follows (map in_schema parts ++ rest) (places_in_schema parts places)
+schema_follows : (parts : List (Part schemas.Role)) (rest : List (Part Role)) (places : List ℕ) → Follows rest places → Follows (map (in_role InSchema) parts ++ rest) (places_in_schema parts places)
 schema_follows [] rest places later low rise = later low rise
 schema_follows (part ∷ parts) rest places later low rise = go part.role (λ next. schema_follows parts rest places later next) rise
   where
-    go : (role : schemas.Role) → Follows (map in_schema parts ++ rest) (places_in_schema parts places) → behind_in_schema role low (λ next. NamesRise next (map in_schema parts ++ rest)) → Rise low (placed_as role (places_in_schema parts places))
+    go : (role : schemas.Role) → Follows (map (in_role InSchema) parts ++ rest) (places_in_schema parts places) → behind_in_schema role low (λ next. NamesRise next (map (in_role InSchema) parts ++ rest)) → Rise low (placed_as role (places_in_schema parts places))
     go (schemas.NameAt names place) behind (here, others) = (here, behind (suc place) others)
     go (schemas.LabelAt n mask place) behind (here, others) = (here, behind (suc place) others)
     go schemas.Fixed behind others = behind low others
@@ -197,7 +197,7 @@ schema_follows (part ∷ parts) rest places later low rise = go part.role (λ ne
 places_rise : (text : List ℕ) (book : BookForm) → IsWritten text book → Rise 0 (places_in_book book)
 places_rise text book written =
     let n = book.schema.dim in
-    schema_follows (spell book.schema []) (spell_rules n 0 book.rules (the_end ∷ [])) (places_of book.rules) (rules_follow n 0 book.rules) 0 (written_rises text book written)
+    schema_follows (spell book.schema []) (spell_rules n 0 book.rules (the_end Fixed ∷ [])) (places_of book.rules) (rules_follow n 0 book.rules) 0 (written_rises text book written)
 
 -- ---- the faults of names stand at such places
 

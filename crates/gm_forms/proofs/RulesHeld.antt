@@ -10,7 +10,8 @@ use Rattle.gm_model.specs.declared.word.Letter.TheVariants as letters
 use Rattle.gm_model.specs.Symbols.{Symbol, Word, Mark}
 use Rattle.gm_model.specs.Reading as reading
 use Rattle.gm_model.specs.Names.{Mention, IsFree, reserved, is_among}
-use Rattle.gm_forms.specs.BookText.{ExprToken, SetForm, Item, NodeItem, LinkItem, ParamForm, RuleForm, Count, no_count, count_after, counted, count_across, Role, Fixed, NameAt, ParamName, InExpr, word, sign, named, the_end, part_of, in_expr, spell_value, spell_sets, spell_pre, spell_letters, spell_hook, spell_item, spell_items, spell_more_params, spell_params, spell_rules, IsTokenPlaced, IsExpr, IsSet, IsPre, IsItem, IsParam, IsRule}
+use Rattle.gm_model.specs.Reading.{word, sign, the_end}
+use Rattle.gm_forms.specs.BookText.{ExprToken, SetForm, Item, NodeItem, LinkItem, ParamForm, RuleForm, Count, no_count, count_after, counted, count_across, Role, Fixed, NameAt, ParamName, InExpr, named, part_of, in_expr, spell_value, spell_sets, spell_pre, spell_letters, spell_hook, spell_item, spell_items, spell_more_params, spell_params, spell_rules, IsTokenPlaced, IsExpr, IsSet, IsPre, IsItem, IsParam, IsRule}
 use Rattle.gm_forms.specs.declared.state.Heading.{Heading}
 use Rattle.gm_forms.specs.Reading.{Spot, State, AtRules, AtName, AtLeft, AtComma, AtBody, AtItem, AtSign, AtSet, closed, AtExpr, AtRuleEnd, AtEnd, Slot, SetSlot, PreSlot, behind_slot, dim_of, on_right, left_spot, AtLetter, AtBehind, with_node, with_hook, takes_hook, is_hook_on, is_with_on, plain_move, Part, Nothing, Assigned, Required, Lettered, Held, put_expr, with_token, assign_last, with_param, hook_last, held_behind}
 use Rattle.gm_forms.proofs.Leading.{spot_at, hooked_by, hooked_in, IsTaken, AreTaken, left_taken, right_taken, kind_again, free_closes, free_pre, free_with, free_hook, hook_side, link_free}
@@ -230,35 +231,35 @@ module _ (h : Heading) (k : ℕ) (before : List RuleForm) (last : Held) where
 -- ---- rules
 
 -- what can stand behind the right items
-plain_rules : (h : Heading) (k : ℕ) (pre : Option (List ExprToken)) (rules : List RuleForm) → IsPlain Right (spell_pre pre (spell_rules h.dim k rules (the_end ∷ [])))
+plain_rules : (h : Heading) (k : ℕ) (pre : Option (List ExprToken)) (rules : List RuleForm) → IsPlain Right (spell_pre pre (spell_rules h.dim k rules (the_end Fixed ∷ [])))
 plain_rules h k (Some tokens) rules = (λ takes w e. (let same : codes "pre" ≡ w = cc e in rw (← same) (refl, refl)), λ spot on right. (AtExpr (PreSlot spot.heading spot.rules) first_spot, rw right refl))
 plain_rules h k None [] = (λ takes w e. absurd cc, λ spot on right. (AtEnd, rw right refl))
 plain_rules h k None (rule ∷ rules) = (λ takes w e. (let same : codes "rule" ≡ w = cc e in rw (← same) (refl, refl)), λ spot on right. (AtName spot.heading (spot.rules + 1), rw right refl))
 
 pre_held : (h : Heading) (k : ℕ) (count : Count) (hook_before : Bool) (pre : Option (List ExprToken)) (rules : List RuleForm) (before : List RuleForm) (rule : RuleForm) (part : Part) (last : Held) → IsPre h.dim pre → rule.pre ≡ None
-    → ((p : Part) → Leaves (AtItem (spot_at h k Right count hook_before)) (spell_rules h.dim k rules (the_end ∷ [])) (within before (record rule { pre = pre }) p) last)
-    → Leaves (AtRuleEnd h k) (spell_rules h.dim k rules (the_end ∷ [])) (within before (record rule { pre = pre }) Nothing) last
-    → Leaves (AtItem (spot_at h k Right count hook_before)) (spell_pre pre (spell_rules h.dim k rules (the_end ∷ []))) (within before rule part) last
+    → ((p : Part) → Leaves (AtItem (spot_at h k Right count hook_before)) (spell_rules h.dim k rules (the_end Fixed ∷ [])) (within before (record rule { pre = pre }) p) last)
+    → Leaves (AtRuleEnd h k) (spell_rules h.dim k rules (the_end Fixed ∷ [])) (within before (record rule { pre = pre }) Nothing) last
+    → Leaves (AtItem (spot_at h k Right count hook_before)) (spell_pre pre (spell_rules h.dim k rules (the_end Fixed ∷ []))) (within before rule part) last
 pre_held h k count hook_before None rules before rule part last good none ends later =
-    ap (λ (pre : Option (List ExprToken)). held_behind (AtItem (spot_at h k Right count hook_before)) (marks_for (spell_rules h.dim k rules (the_end ∷ []))) (within before (record rule { pre = pre }) part)) none ∙ ends part
+    ap (λ (pre : Option (List ExprToken)). held_behind (AtItem (spot_at h k Right count hook_before)) (marks_for (spell_rules h.dim k rules (the_end Fixed ∷ []))) (within before (record rule { pre = pre }) part)) none ∙ ends part
 pre_held h k count hook_before (Some tokens) rules before rule part last good none ends later =
-    let rest = spell_rules h.dim k rules (the_end ∷ []) in
+    let rest = spell_rules h.dim k rules (the_end Fixed ∷ []) in
     value_held (PreSlot h k) tokens rest (within before rule (Required [])) good (follows rules)
     ∙ ap (λ (p : Part). held_behind (AtRuleEnd h k) (marks_for rest) (put_expr (within before rule p) p)) (required_tokens tokens []) ∙ later
   where
-    follows : (rules : List RuleForm) → CanFollow (PreSlot h k) (spell_rules h.dim k rules (the_end ∷ []))
+    follows : (rules : List RuleForm) → CanFollow (PreSlot h k) (spell_rules h.dim k rules (the_end Fixed ∷ []))
     follows [] = (AtEnd, refl)
     follows (rule ∷ rules) = (AtName h (k + 1), refl)
 
 rule_held : (h : Heading) (k : ℕ) (before : List RuleForm) (rule : RuleForm) (rules : List RuleForm) → IsRule h.version h.dim rule
-    → ((count : Count) (hook_before : Bool) (part : Part) → Leaves (AtItem (spot_at h k Right count hook_before)) (spell_rules h.dim k rules (the_end ∷ [])) (within before rule part) (behind (before ++ rule ∷ rules)))
-    → Leaves (AtRuleEnd h k) (spell_rules h.dim k rules (the_end ∷ [])) (within before rule Nothing) (behind (before ++ rule ∷ rules))
-    → Leaves (AtName h k) (named rule.name ∷ spell_params rule.params (word Fixed (codes "left") ∷ spell_items h.dim no_count rule.left (word Fixed (codes "right") ∷ spell_items h.dim (count_across (counted no_count rule.left)) rule.right (spell_pre rule.pre (spell_rules h.dim k rules (the_end ∷ [])))))) (behind before) (behind (before ++ rule ∷ rules))
+    → ((count : Count) (hook_before : Bool) (part : Part) → Leaves (AtItem (spot_at h k Right count hook_before)) (spell_rules h.dim k rules (the_end Fixed ∷ [])) (within before rule part) (behind (before ++ rule ∷ rules)))
+    → Leaves (AtRuleEnd h k) (spell_rules h.dim k rules (the_end Fixed ∷ [])) (within before rule Nothing) (behind (before ++ rule ∷ rules))
+    → Leaves (AtName h k) (named rule.name ∷ spell_params rule.params (word Fixed (codes "left") ∷ spell_items h.dim no_count rule.left (word Fixed (codes "right") ∷ spell_items h.dim (count_across (counted no_count rule.left)) rule.right (spell_pre rule.pre (spell_rules h.dim k rules (the_end Fixed ∷ [])))))) (behind before) (behind (before ++ rule ∷ rules))
 rule_held h k before rule rules is later ended =
     let across = count_across (counted no_count rule.left) in
     let hook_left = hooked_in false rule.left in
     let hook_right = hooked_in hook_left rule.right in
-    let rest = spell_pre rule.pre (spell_rules h.dim k rules (the_end ∷ [])) in
+    let rest = spell_pre rule.pre (spell_rules h.dim k rules (the_end Fixed ∷ [])) in
     let unread : RuleForm = record { name = rule.name; params = []; left = []; right = []; pre = None } in
     let empty : RuleForm = record { name = rule.name; params = rule.params; left = []; right = []; pre = None } in
     let lefts : RuleForm = record { name = rule.name; params = rule.params; left = rule.left; right = []; pre = None } in
@@ -278,7 +279,7 @@ rule_held h k before rule rules is later ended =
 
 mutual
   rules_held : (h : Heading) (k : ℕ) (count : Count) (hook_before : Bool) (before : List RuleForm) (rule : RuleForm) (part : Part) (rules : List RuleForm) → AllByRecursion (IsRule h.version h.dim) rules
-      → Leaves (AtItem (spot_at h k Right count hook_before)) (spell_rules h.dim k rules (the_end ∷ [])) (within before rule part) (behind (before ++ rule ∷ rules))
+      → Leaves (AtItem (spot_at h k Right count hook_before)) (spell_rules h.dim k rules (the_end Fixed ∷ [])) (within before rule part) (behind (before ++ rule ∷ rules))
   rules_held h k count hook_before before rule part [] good = refl
   rules_held h k count hook_before before rule part (next ∷ rules) good =
       rule_held h (k + 1) (before ++ rule ∷ []) next rules good.0 (λ c b p. rules_held h (k + 1) c b (before ++ rule ∷ []) next p rules good.1) (rules_ended h (k + 1) (before ++ rule ∷ []) next rules good.1)
@@ -286,12 +287,12 @@ mutual
 
   -- behind a precondition
   rules_ended : (h : Heading) (k : ℕ) (before : List RuleForm) (rule : RuleForm) (rules : List RuleForm) → AllByRecursion (IsRule h.version h.dim) rules
-      → Leaves (AtRuleEnd h k) (spell_rules h.dim k rules (the_end ∷ [])) (within before rule Nothing) (behind (before ++ rule ∷ rules))
+      → Leaves (AtRuleEnd h k) (spell_rules h.dim k rules (the_end Fixed ∷ [])) (within before rule Nothing) (behind (before ++ rule ∷ rules))
   rules_ended h k before rule [] good = refl
   rules_ended h k before rule (next ∷ rules) good =
       rule_held h (k + 1) (before ++ rule ∷ []) next rules good.0 (λ c b p. rules_held h (k + 1) c b (before ++ rule ∷ []) next p rules good.1) (rules_ended h (k + 1) (before ++ rule ∷ []) next rules good.1)
       ∙ ap (λ (rs : List RuleForm). behind rs) (append_assoc before (rule ∷ []) (next ∷ rules))
 
-pub header_held : (h : Heading) (rules : List RuleForm) → AllByRecursion (IsRule h.version h.dim) rules → Leaves (AtRules h) (spell_rules h.dim 0 rules (the_end ∷ [])) (behind []) (behind rules)
+pub header_held : (h : Heading) (rules : List RuleForm) → AllByRecursion (IsRule h.version h.dim) rules → Leaves (AtRules h) (spell_rules h.dim 0 rules (the_end Fixed ∷ [])) (behind []) (behind rules)
 header_held h [] good = refl
 header_held h (rule ∷ rules) good = rule_held h 1 [] rule rules good.0 (λ c b p. rules_held h 1 c b [] rule p rules good.1) (rules_ended h 1 [] rule rules good.1)

@@ -6,10 +6,10 @@ use Rattle.gm_model.specs.declared.limit.LimitKind.{LimitKind}
 use Rattle.gm_model.specs.declared.schema.Embed.{Embed}
 use Rattle.gm_model.specs.declared.word.Mask.{Mask}
 use Rattle.gm_model.specs.Symbols.{Symbol, Word, Numeral, Sign, Gone, Stray, End, Mark, symbols}
-use Rattle.gm_model.specs.Reading.{Part, IsWithin, symbols_in}
+use Rattle.gm_model.specs.Reading.{Part, IsWithin, symbols_in, ArePlaced}
 use Rattle.gm_text.specs.Cursor.{Cursor}
 use Rattle.gm_text.specs.Machine.{Stop, Ends, Passes, Leads}
-use Rattle.gm_text.specs.SchemaText.{SchemaForm, Role, NameAt, LabelAt, Passed, LimitOf, Again, limit_of, is_again, embed_of, names_in, spell, IsSentence, IsPlacedAt, ArePlaced}
+use Rattle.gm_text.specs.SchemaText.{SchemaForm, Role, NameAt, LabelAt, Passed, LimitOf, Again, limit_of, is_again, embed_of, names_in, spell, IsSentence, IsPlacedAt}
 use Rattle.gm_text.specs.SchemaReading.{State, AtDim, AtTop, AtEmbeds, AtName, AtOrbit, AtLabel, AtKind, role_at, label_role, move, is_whole, never, Stands}
 use Rattle.gm_text.specs.SchemaAnswers.{marks_left, run_in, StopsOrLost}
 use Rattle.gm_text.specs.declared.schema_fault.SchemaFault.{SchemaFault}
@@ -42,7 +42,7 @@ moved_role (AtKind n declared name mask) symbol place other at = refl
 abbrev AreAlong : State → List Mark → List (Part Role) → State → Type 0
 AreAlong state marks parts last = Along limit_of never role_at move state marks parts last
 
-led_along : (state last : State) (marks : List Mark) (parts : List (Part Role)) → Leads limit_of never role_at move state parts last → symbols marks ≡ symbols_in parts → ArePlaced marks parts → AreAlong state marks parts last
+led_along : (state last : State) (marks : List Mark) (parts : List (Part Role)) → Leads limit_of never role_at move state parts last → symbols marks ≡ symbols_in parts → ArePlaced IsPlacedAt marks parts → AreAlong state marks parts last
 led_along state last [] [] e same placed = e
 led_along state last [] (part ∷ parts) led same placed = absurd cc
 led_along state last (mark ∷ marks) [] led same placed = absurd cc

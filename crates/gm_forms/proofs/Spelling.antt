@@ -11,7 +11,8 @@ use Rattle.gm_model.specs.declared.word.Letter.{Letter}
 use Rattle.gm_model.specs.Names.{reserved, Mention, is_among, IsFree}
 use Rattle.gm_model.specs.Symbols.{Symbol, Mark}
 use Rattle.gm_model.specs.Reading as reading
-use Rattle.gm_forms.specs.BookText.{Item, NodeItem, LinkItem, ParamForm, ExprToken, SetForm, RuleForm, Count, count_after, counted, count_across, Role, Fixed, RuleWord, LabelAt, word, number, sign, named, the_end, part_of, spell_value, spell_sets, spell_pre, spell_letters, spell_hook, spell_item, spell_items, spell_param, spell_more_params, spell_params, spell_rule, spell_rules, IsTokenPlaced, IsExpr, IsSet, IsPre, IsItem, IsParam, IsRule}
+use Rattle.gm_model.specs.Reading.{word, number, sign, the_end}
+use Rattle.gm_forms.specs.BookText.{Item, NodeItem, LinkItem, ParamForm, ExprToken, SetForm, RuleForm, Count, count_after, counted, count_across, Role, Fixed, RuleWord, LabelAt, named, part_of, spell_value, spell_sets, spell_pre, spell_letters, spell_hook, spell_item, spell_items, spell_param, spell_more_params, spell_params, spell_rule, spell_rules, IsTokenPlaced, IsExpr, IsSet, IsPre, IsItem, IsParam, IsRule}
 use Rattle.gm_text.specs.SchemaText.{kind_word}
 use Rattle.std.specs.Prelude.{IsTrue}
 use Rattle.gm_parse.specs.Reading as exprs
@@ -47,7 +48,7 @@ declared params rule = record { name = rule.name; params = rule.params ++ params
 -- ---- what still stands before the end
 
 abbrev pub spell_right : ℕ → ℕ → Count → List Item → Option (List ExprToken) → List RuleForm → Parts
-spell_right n k count right pre rules = spell_items n count right (spell_pre pre (spell_rules n k rules (the_end ∷ [])))
+spell_right n k count right pre rules = spell_items n count right (spell_pre pre (spell_rules n k rules (the_end Fixed ∷ [])))
 
 -- from where an item can begin
 abbrev pub spell_from : ℕ → ℕ → Side → Count → List Item → List Item → Option (List ExprToken) → List RuleForm → Parts
@@ -176,13 +177,13 @@ pub record AfterRule (h : Heading) (k : ℕ) (marks : List Mark) (parts : Parts)
   pub rules : List RuleForm
   pub rule_good : IsRule h.version h.dim rule
   pub rules_good : AllByRecursion (IsRule h.version h.dim) rules
-  pub same : word (RuleWord k) (codes "rule") ∷ parts ≡ spell_rule h.dim k rule (spell_rules h.dim k rules (the_end ∷ []))
+  pub same : word (RuleWord k) (codes "rule") ∷ parts ≡ spell_rule h.dim k rule (spell_rules h.dim k rules (the_end Fixed ∷ []))
   pub held : (before : List RuleForm) → held_behind (AtName h k) marks (behind before) ≡ behind (before ++ rule ∷ rules)
 
 pub record AfterHeader (h : Heading) (marks : List Mark) (parts : Parts) : Type 0 where
   pub rules : List RuleForm
   pub rules_good : AllByRecursion (IsRule h.version h.dim) rules
-  pub same : parts ≡ spell_rules h.dim 0 rules (the_end ∷ [])
+  pub same : parts ≡ spell_rules h.dim 0 rules (the_end Fixed ∷ [])
   pub held : held_behind (AtRules h) marks nothing_held ≡ behind rules
 
 -- in an assignment: what stands behind its name's `with`
@@ -228,13 +229,13 @@ pub record AfterPre (h : Heading) (k : ℕ) (at : exprs.Spot) (marks : List Mark
   pub value : Rest h.dim at
   pub rules : List RuleForm
   pub rules_good : AllByRecursion (IsRule h.version h.dim) rules
-  pub same : parts ≡ spell_value value.tokens (spell_rules h.dim k rules (the_end ∷ []))
+  pub same : parts ≡ spell_value value.tokens (spell_rules h.dim k rules (the_end Fixed ∷ []))
   pub held : (before : List RuleForm) (rule : RuleForm) (front : List ExprToken) → held_behind (AtExpr (PreSlot h k) at) marks (within before rule (Required front)) ≡ behind (before ++ require (front ++ value.tokens) rule ∷ rules)
 
 pub record AfterRuleEnd (h : Heading) (k : ℕ) (marks : List Mark) (parts : Parts) : Type 0 where
   pub rules : List RuleForm
   pub rules_good : AllByRecursion (IsRule h.version h.dim) rules
-  pub same : parts ≡ spell_rules h.dim k rules (the_end ∷ [])
+  pub same : parts ≡ spell_rules h.dim k rules (the_end Fixed ∷ [])
   pub held : (before : List RuleForm) (rule : RuleForm) (part : Part) → held_behind (AtRuleEnd h k) marks (within before rule part) ≡ behind (before ++ rule ∷ rules)
 
 -- `left`, and then the items

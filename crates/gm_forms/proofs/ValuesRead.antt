@@ -4,7 +4,7 @@ use Rattle.std.proofs.lemmas.Bool.{lt-ltb, le-ltb}
 use Rattle.std.specs.List.{AllByRecursion, prefix_len}
 use Rattle.gm_model.specs.declared.token.Token.{Token}
 use Rattle.gm_model.specs.Symbols.{Symbol, Mark, symbols, marks_at}
-use Rattle.gm_model.specs.Reading.{Part, symbols_in}
+use Rattle.gm_model.specs.Reading.{Part, symbols_in, ArePlaced}
 use Rattle.gm_text.specs.Cursor.{Cursor}
 use Rattle.gm_text.specs.SchemaAnswers.{marks_left, mark_at, IsNext, IsNoneNext}
 use Rattle.gm_parse.specs.Answers.{IsExprSkipped, SkipsExpr, run_in}
@@ -66,7 +66,7 @@ AreAt [] parts = Unit {0}
 AreAt (mark ∷ marks) [] = Unit {0}
 AreAt (mark ∷ marks) (part ∷ parts) = spelling.IsPlacedAt mark.place part.role.role × AreAt marks parts
 
-counted_at : (k : ℕ) (marks : List Mark) (parts : List (Part Role)) → spelling.ArePlaced marks parts → AreAt marks (counted_from k parts)
+counted_at : (k : ℕ) (marks : List Mark) (parts : List (Part Role)) → ArePlaced spelling.IsPlacedAt marks parts → AreAt marks (counted_from k parts)
 counted_at k [] parts placed = tt
 counted_at k (mark ∷ marks) [] placed = tt
 counted_at k (mark ∷ marks) (part ∷ parts) placed = (placed.0, counted_at (k + 1) marks parts placed.1)

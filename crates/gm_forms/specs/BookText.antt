@@ -16,10 +16,10 @@ use Rattle.gm_model.specs.declared.schema.Schema.{Schema}
 use Rattle.gm_model.specs.declared.value.Kind.{Kind}
 use Rattle.gm_model.specs.declared.value.Kind.TheVariants.{Bool as Truth}
 use Rattle.gm_model.specs.Kinds.{param_kinds, tree_kind}
-use Rattle.gm_model.specs.Symbols.{Symbol, Word, Numeral, Sign, Gone, End, Mark, marks_of}
+use Rattle.gm_model.specs.Symbols.{Symbol, Word, Numeral, Sign, Gone, marks_of}
 use Rattle.gm_model.specs.Names.{Mention, IsFree, is_among}
 use Rattle.gm_model.specs.Rules.{Rule, RuleNode, Assignment}
-use Rattle.gm_model.specs.Reading.{Part, IsReadAs, TextEndsAt, LimitStandsAt}
+use Rattle.gm_model.specs.Reading.{Part, word, number, sign, the_end, in_role, ArePlaced, IsReadAs, TextEndsAt, LimitStandsAt}
 use Rattle.gm_model.specs.Trees.{Tree}
 use Rattle.gm_text.specs.SchemaText as schemas
 use Rattle.gm_text.specs.SchemaText.{SchemaForm, schema_of, names_in, spell, is_again, kind_word}
@@ -202,18 +202,6 @@ stands_before (NodeSign k) = true
 stands_before (LinkSign k) = true
 stands_before _ = false
 
-abbrev pub word : Role → List ℕ → Part Role
-word role bytes = record { symbol = Word bytes; role = role }
-
-abbrev pub number : Role → ℕ → Part Role
-number role n = record { symbol = Numeral n; role = role }
-
-abbrev pub sign : Role → List ℕ → Part Role
-sign role bytes = record { symbol = Sign bytes; role = role }
-
-abbrev pub the_end : Part Role
-the_end = record { symbol = End; role = Fixed }
-
 abbrev pub named : Mention → Part Role
 named mention = word (NameAt mention.place) mention.name
 
@@ -287,16 +275,12 @@ abbrev pub spell_rules : ℕ → ℕ → List RuleForm → List (Part Role) → 
 spell_rules n k [] rest = rest
 spell_rules n k (rule ∷ rules) rest = spell_rule n (k + 1) rule (spell_rules n (k + 1) rules rest)
 
--- a part of the schema as one of the book
-abbrev pub in_schema : Part schemas.Role → Part Role
-in_schema part = record { symbol = part.symbol; role = InSchema part.role }
-
 -- book 2 dim 3 embed ..
 abbrev pub header : ℕ → SchemaForm → List (Part Role) → List (Part Role)
-header version schema rest = word Fixed (codes "book") ∷ number Fixed version ∷ (map in_schema (spell schema []) ++ rest)
+header version schema rest = word Fixed (codes "book") ∷ number Fixed version ∷ (map (in_role InSchema) (spell schema []) ++ rest)
 
 abbrev pub spelling : BookForm → List (Part Role)
-spelling book = header book.version book.schema (spell_rules book.schema.dim 0 book.rules (the_end ∷ []))
+spelling book = header book.version book.schema (spell_rules book.schema.dim 0 book.rules (the_end Fixed ∷ []))
 
 abbrev pub IsSet : ℕ → SetForm → Type 0
 IsSet n set = IsFree set.embed × IsExpr n set.value
@@ -331,6 +315,7 @@ IsSentence parts = (book : BookForm) × IsForm book × (parts ≡ spelling book)
 
 -- ---- how a text is read
 
+-- each name, each label of an orbit and each symbol of an expression knows its place
 abbrev pub IsPlacedAt : ℕ → Role → Type 0
 IsPlacedAt place (NameAt named) = named ≡ place
 IsPlacedAt place (ParamName k named) = named ≡ place
@@ -338,17 +323,11 @@ IsPlacedAt place (InSchema role) = schemas.IsPlacedAt place role
 IsPlacedAt place (InExpr named role) = named ≡ place
 IsPlacedAt place _ = Unit {0}
 
--- each name, each label of an orbit and each symbol of an expression has the place of its mark
-abbrev pub ArePlaced : List Mark → List (Part Role) → Type 0
-ArePlaced [] parts = Unit {0}
-ArePlaced (mark ∷ marks) [] = Unit {0}
-ArePlaced (mark ∷ marks) (part ∷ parts) = IsPlacedAt mark.place part.role × ArePlaced marks parts
-
 -- this is written in the text, and passes no limit
 pub record IsWritten (text : List ℕ) (book : BookForm) : Type 0 where
   pub form : IsForm book
   pub read : IsReadAs IsSentence limit_of (marks_of text) (spelling book)
-  pub placed : ArePlaced (marks_of text) (spelling book)
+  pub placed : ArePlaced IsPlacedAt (marks_of text) (spelling book)
 
 -- the first fault of a text by the grammar and its limits
 abbrev pub IsTextFault : List ℕ → ℕ → Type 0

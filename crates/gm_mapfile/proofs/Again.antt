@@ -12,13 +12,13 @@ use Rattle.gm_model.specs.declared.schema.Schema.{Schema}
 use Rattle.gm_model.specs.GMap.{row_of}
 use Rattle.gm_model.specs.Limits.{most_darts, most_names}
 use Rattle.gm_model.specs.Maps.{IsSound}
-use Rattle.gm_model.specs.Reading.{Part, IsWithin, symbols_in}
+use Rattle.gm_model.specs.Reading.{Part, IsWithin, symbols_in, word, number, in_role}
 use Rattle.gm_model.specs.Symbols.{Symbol, Word, Numeral}
 use Rattle.gm_text.specs.SchemaText as schema
 use Rattle.gm_text.proofs.Printed.{symbols_from, symbols_of-from}
 use Rattle.gm_text.proofs.SchemaAgain.{schema_form, same_embeds}
 use Rattle.gm_arena.specs.Lawful.{AreGoodValues}
-use Rattle.gm_mapfile.specs.MapText.{Version, First, Second, Role, Fixed, passed_of, word, number, in_schema, number_of, spell_next, spell_listing, spelling, embeds_of, IsShaped, IsForm, IsSentence, DartRow, ListedMap, names, rows_of, map_of, IsListed, IsLeastAbove, IsNext, MapText, next_line, canonical}
+use Rattle.gm_mapfile.specs.MapText.{Version, First, Second, Role, Fixed, InSchema, passed_of, number_of, spell_next, spell_listing, spelling, embeds_of, IsShaped, IsForm, IsSentence, DartRow, ListedMap, names, rows_of, map_of, IsListed, IsLeastAbove, IsNext, MapText, next_line, canonical}
 use Rattle.gm_mapfile.specs.MapReading.{IsWhole}
 use Rattle.gm_mapfile.specs.Printing.{behind_last, renumbered, IsPrintableDart, IsPrintable}
 use Rattle.gm_mapfile.specs.declared.version.MapVersion.{MapVersion}
@@ -55,8 +55,8 @@ module _ (version : MapVersion) (listed : ListedMap) (printable : IsPrintable li
   -- the spelling, where the darts' values go by these embeddings
   abbrev spelled_by : List Embed → List (Part Role)
   spelled_by es =
-      word (codes "gmap") ∷ number Fixed (number_of (written_in version listed.next))
-      ∷ (map in_schema (schema.spell (schema_form listed.schema) []) ++ spell_next (written_in version listed.next) (listing es))
+      word Fixed (codes "gmap") ∷ number Fixed (number_of (written_in version listed.next))
+      ∷ (map (in_role InSchema) (schema.spell (schema_form listed.schema) []) ++ spell_next (written_in version listed.next) (listing es))
 
   spelled_with : symbols_from (canonical version listed) ≡ symbols_in (spelled_by listed.schema.embeds)
   spelled_with =

@@ -7,10 +7,10 @@ use Rattle.std.proofs.lemmas.Bool.Decides.{nat_tests}
 use Rattle.gm_model.specs.declared.limit.LimitKind.{LimitKind}
 use Rattle.gm_model.specs.declared.limit.LimitKind.TheVariants as limits
 use Rattle.gm_model.specs.Limits.{most_darts, most_names}
-use Rattle.gm_model.specs.Reading.{Part, IsWithin}
+use Rattle.gm_model.specs.Reading.{Part, IsWithin, the_end, in_role}
 use Rattle.gm_text.specs.SchemaText.{LimitOf}
 use Rattle.gm_text.specs.SchemaText as text
-use Rattle.gm_mapfile.specs.MapText.{Version, First, Second, MapForm, Role, the_end, in_schema, spell_listing, spell_next, embeds_of, spelling}
+use Rattle.gm_mapfile.specs.MapText.{Version, First, Second, MapForm, Role, Fixed, InSchema, spell_listing, spell_next, embeds_of, spelling}
 use Rattle.gm_mapfile.proofs.GoodListing.{IsStatedSmall}
 use Rattle.gm_mapfile.proofs.MapWithin.{AreWithin, IsGoodForm, darts_within}
 
@@ -25,7 +25,7 @@ low most n what e = go (nat_lt most n) refl e
 abbrev SchemaWithin : List (Part text.Role) → Type 0
 SchemaWithin parts = IsWithin text.IsSentence text.passed_of parts
 
-schema_within : (parts : List (Part text.Role)) (rest : List (Part Role)) → AreWithin (map in_schema parts ++ rest) → SchemaWithin parts × AreWithin rest
+schema_within : (parts : List (Part text.Role)) (rest : List (Part Role)) → AreWithin (map (in_role InSchema) parts ++ rest) → SchemaWithin parts × AreWithin rest
 schema_within [] rest within = (tt, within)
 schema_within (part ∷ parts) rest within = let behind = schema_within parts rest within.1 in ((within.0, behind.0), behind.1)
 
@@ -47,5 +47,5 @@ form_good form within =
       schema = inside.0;
       next = behind.0;
       few = low most_darts (length form.darts) limits.Darts behind.1.1.0;
-      darts = (darts_within (embeds_of form) form.darts (the_end ∷ []) behind.1.1.1).0;
+      darts = (darts_within (embeds_of form) form.darts (the_end Fixed ∷ []) behind.1.1.1).0;
     }

@@ -11,7 +11,7 @@ use Rattle.gm_model.specs.declared.value.Kind.{Kind}
 use Rattle.gm_model.specs.declared.value.Value.{Value}
 use Rattle.gm_model.specs.Limits.{most_darts, most_names}
 use Rattle.gm_model.specs.Maps.{IsSchema}
-use Rattle.gm_model.specs.Reading.{Part, IsWithin, symbols_in}
+use Rattle.gm_model.specs.Reading.{Part, IsWithin, symbols_in, in_role}
 use Rattle.gm_model.specs.Values.{IsInValueRange}
 use Rattle.gm_text.specs.SchemaPrinting.{AreParts}
 use Rattle.gm_text.specs.SchemaText.{SchemaForm}
@@ -20,7 +20,7 @@ use Rattle.gm_text.specs.ValueText.{Signed}
 use Rattle.gm_text.proofs.Lexemes.{IsSound, words_are_lexemes}
 use Rattle.gm_text.proofs.SchemaSound.{nothing_passed, form_sound, form_parts, dim_read}
 use Rattle.gm_arena.specs.Lawful.{AreGoodValues}
-use Rattle.gm_mapfile.specs.MapText.{Version, DartForm, DartRow, Role, in_schema, spell_next, spell_listing, embeds_of, spelling, IsShaped, AreMade, AreRows, IsListed}
+use Rattle.gm_mapfile.specs.MapText.{Version, DartForm, DartRow, Role, InSchema, spell_next, spell_listing, embeds_of, spelling, IsShaped, AreMade, AreRows, IsListed}
 use Rattle.gm_mapfile.specs.MapReading.{AreOfKinds, IsWhole}
 use Rattle.gm_mapfile.proofs.GoodListing.{IsSmall, IsStatedSmall, IsGoodListing}
 use Rattle.gm_mapfile.proofs.FormWithin.{form_good}
@@ -39,7 +39,7 @@ dim_positive n e = go (n == 0) refl e
 dim_good : (form : SchemaForm) → IsWithin schemas.IsSentence schemas.passed_of (schemas.spell form []) → (0 < form.dim) × (form.dim ≤ 7)
 dim_good form within = (dim_positive form.dim (nothing_passed _ _ within.1.0).0, dim_read form within)
 
-sound_schema : (parts : List (Part schemas.Role)) (rest : List (Part Role)) → AllByRecursion IsSound (symbols_in (map in_schema parts ++ rest)) → AllByRecursion IsSound (symbols_in parts)
+sound_schema : (parts : List (Part schemas.Role)) (rest : List (Part Role)) → AllByRecursion IsSound (symbols_in (map (in_role InSchema) parts ++ rest)) → AllByRecursion IsSound (symbols_in parts)
 sound_schema [] rest sound = tt
 sound_schema (part ∷ parts) rest sound = (sound.0, sound_schema parts rest sound.1)
 

@@ -5,9 +5,9 @@ use Rattle.std.specs.List.{AllByRecursion}
 use Rattle.gm_model.specs.declared.schema.Embed.{Embed}
 use Rattle.gm_model.specs.declared.schema.Schema.{Schema}
 use Rattle.gm_model.specs.Symbols.{Symbol, Word, Numeral}
-use Rattle.gm_model.specs.Reading.{Part}
+use Rattle.gm_model.specs.Reading.{Part, word, number, sign, the_end, in_role}
 use Rattle.gm_text.specs.Machine.{Leads, IsGrammar}
-use Rattle.gm_text.specs.Nested.{Outside, Inside, IsApart, HasPieces, IsNestedSentence, LeadsInside, wrapped}
+use Rattle.gm_text.specs.Nested.{Outside, Inside, IsApart, HasPieces, IsNestedSentence, LeadsInside}
 use Rattle.gm_text.specs.Nested as nested
 use Rattle.gm_text.specs.SchemaReading as schema
 use Rattle.gm_text.specs.SchemaText.{SchemaForm, embed_of, schema_of}
@@ -17,7 +17,7 @@ use Rattle.gm_text.proofs.SchemaGrammar.{led_form, form_is}
 use Rattle.gm_text.proofs.SchemaGrammar as schemas
 use Rattle.gm_text.proofs.SchemaStanding.{passed_placeless}
 use Rattle.gm_text.proofs.SchemaStanding as standing
-use Rattle.gm_mapfile.specs.MapText.{DartForm, Version, First, Second, MapForm, Role, Fixed, InSchema, NextName, Count, passed_of, word, number, sign, the_end, in_schema, spell_darts, spell_listing, spell_next, number_of, embeds_of, IsShaped, IsForm, IsSentence}
+use Rattle.gm_mapfile.specs.MapText.{DartForm, Version, First, Second, MapForm, Role, Fixed, InSchema, NextName, Count, passed_of, spell_darts, spell_listing, spell_next, number_of, embeds_of, IsShaped, IsForm, IsSentence}
 use Rattle.gm_mapfile.specs.MapReading.{Want, TheNumber, Component, TheSign, Head, State, AtFormat, AtVersion, AtNext, AtNextName, AtDarts, AtCount, AtNumbers, Done, Within, Whole, behind_schema, behind_state, number_in, outer_role, outer_move, into_schema, move_within, nesting, never, start, among}
 use Rattle.gm_mapfile.proofs.MapMoves.{format_moved, version_number, version_moved, word_behind, next_moved, name_moved, behind_moved, sign_moves}
 use Rattle.gm_mapfile.proofs.MapLed.{Led, all_form_numbers, led_darts}
@@ -88,12 +88,12 @@ head_of form = record { version = form.version; schema = schema_of form.schema }
 
 -- darts k, and then the k darts, before something else
 abbrev pub spell_listing_to : List Embed → List DartForm → List (Part Role) → List (Part Role)
-spell_listing_to embeds darts rest = word (codes "darts") ∷ number Count (length darts) ∷ spell_darts embeds darts rest
+spell_listing_to embeds darts rest = word Fixed (codes "darts") ∷ number Count (length darts) ∷ spell_darts embeds darts rest
 
 -- a map's form before something else
 abbrev pub spell_to : MapForm → List (Part Role) → List (Part Role)
 spell_to form rest =
-    word (codes "gmap") ∷ number Fixed (number_of form.version) ∷ (map in_schema (text.spell form.schema []) ++ spell_next form.version (spell_listing_to (embeds_of form) form.darts rest))
+    word Fixed (codes "gmap") ∷ number Fixed (number_of form.version) ∷ (map (in_role InSchema) (text.spell form.schema []) ++ spell_next form.version (spell_listing_to (embeds_of form) form.darts rest))
 
 module _ (last : Whole) where
   led_listing : (head : Head) (darts : List DartForm) (rest : List (Part Role)) → AllByRecursion (IsShaped head.schema.dim head.schema.embeds) darts → Led (among head (all_form_numbers darts) []) rest last
@@ -102,39 +102,39 @@ module _ (last : Whole) where
       (0, Outside (AtCount head), refl, refl, (0, among head [] _, refl, refl, led_darts head head.schema [] darts rest last shaped led))
 
   led_schema : (second : Bool) (form : SchemaForm) (part : Part Role) (back : List (Part Role)) → text.IsForm form → Led (Outside (behind_schema second (schema_of form))) (part ∷ back) last
-      → Led (Inside (in_version second schema.AtDim)) (map in_schema (text.spell form []) ++ part ∷ back) last
+      → Led (Inside (in_version second schema.AtDim)) (map (in_role InSchema) (text.spell form []) ++ part ∷ back) last
   led_schema second form part back good led =
       let inside = led_within second schema.AtDim (schema.AtEmbeds form.dim (map embed_of form.embeds)) (text.spell form []) (led_form (λ role. passed_of (InSchema role)) form good) in
       join nesting passed_of never is_apart (in_version second schema.AtDim) (in_version second (schema.AtEmbeds form.dim (map embed_of form.embeds))) (text.spell form []) part back last inside refl led
 
   led_from_schema : (version : Version) (form : SchemaForm) (darts : List DartForm) (rest : List (Part Role)) → text.IsForm form → AllByRecursion (IsShaped form.dim (map embed_of form.embeds)) darts
       → Led (among (record { version = version; schema = schema_of form }) (all_form_numbers darts) []) rest last
-      → Led (Inside (in_version (is_second version) schema.AtDim)) (map in_schema (text.spell form []) ++ spell_next version (spell_listing_to (map embed_of form.embeds) darts rest)) last
+      → Led (Inside (in_version (is_second version) schema.AtDim)) (map (in_role InSchema) (text.spell form []) ++ spell_next version (spell_listing_to (map embed_of form.embeds) darts rest)) last
   led_from_schema First form darts rest good shaped led = led_schema false form _ _ good (led_listing (record { version = First; schema = schema_of form }) darts rest shaped led)
   led_from_schema (Second next) form darts rest good shaped led =
       let head : Head = record { version = Second next; schema = schema_of form } in
-      let behind : Led (Outside (AtNext (schema_of form))) (word (codes "next") ∷ number NextName next ∷ spell_listing_to (map embed_of form.embeds) darts rest) last =
+      let behind : Led (Outside (AtNext (schema_of form))) (word Fixed (codes "next") ∷ number NextName next ∷ spell_listing_to (map embed_of form.embeds) darts rest) last =
       (0, Outside (AtNextName (schema_of form)), refl, refl, (0, Outside (AtDarts head), refl, refl, led_listing head darts rest shaped led)) in
       led_schema true form _ _ good behind
 
-  led_from_start : (version : Version) (parts : List (Part Role)) → Led (Inside (in_version (is_second version) schema.AtDim)) parts last → Led start (word (codes "gmap") ∷ number Fixed (number_of version) ∷ parts) last
+  led_from_start : (version : Version) (parts : List (Part Role)) → Led (Inside (in_version (is_second version) schema.AtDim)) parts last → Led start (word Fixed (codes "gmap") ∷ number Fixed (number_of version) ∷ parts) last
   led_from_start First parts led = (0, Outside AtVersion, refl, refl, (0, into_schema false, refl, refl, led))
   led_from_start (Second next) parts led = (0, Outside AtVersion, refl, refl, (0, into_schema true, refl, refl, led))
 
   -- behind a form's darts all their numbers are taken
   pub led_map : (form : MapForm) (rest : List (Part Role)) → IsForm form → Led (among (head_of form) (all_form_numbers form.darts) []) rest last → Led start (spell_to form rest) last
   led_map form rest good led =
-      led_from_start form.version (map in_schema (text.spell form.schema []) ++ spell_next form.version (spell_listing_to (embeds_of form) form.darts rest)) (led_from_schema form.version form.schema form.darts rest good.0 good.1 led)
+      led_from_start form.version (map (in_role InSchema) (text.spell form.schema []) ++ spell_next form.version (spell_listing_to (embeds_of form) form.darts rest)) (led_from_schema form.version form.schema form.darts rest good.0 good.1 led)
 
 pub sentence_leads : (parts : List (Part Role)) → IsSentence parts → Led start parts (Outside Done)
 sentence_leads parts (form, good, spelled) =
-    let end : Led (among (head_of form) (all_form_numbers form.darts) []) (the_end ∷ []) (Outside Done) = (0, Outside Done, refl, refl, refl) in
-    subst (λ (ps : List (Part Role)). Led start ps (Outside Done)) (sym spelled) (led_map (Outside Done) form (the_end ∷ []) good end)
+    let end : Led (among (head_of form) (all_form_numbers form.darts) []) (the_end Fixed ∷ []) (Outside Done) = (0, Outside Done, refl, refl, refl) in
+    subst (λ (ps : List (Part Role)). Led start ps (Outside Done)) (sym spelled) (led_map (Outside Done) form (the_end Fixed ∷ []) good end)
 
 -- ---- and each path is a form
 
 abbrev IsFront : List (Part Role) → Within → Type 0
-IsFront parts inner = (second : Bool) × (parts ≡ word (codes "gmap") ∷ number Fixed (version_number second) ∷ []) × (inner ≡ in_version second schema.AtDim)
+IsFront parts inner = (second : Bool) × (parts ≡ word Fixed (codes "gmap") ∷ number Fixed (version_number second) ∷ []) × (inner ≡ in_version second schema.AtDim)
 
 abbrev IsInner : Within → List (Part text.Role) → Within → Type 0
 IsInner inner parts last = LedInside inner parts last × IsTrue (schema.is_whole last.state)
@@ -160,11 +160,11 @@ front_is [] led = let no_way : start ≡ Outside Done = led in absurd cc
 front_is (part ∷ parts) (place, next, is, moves, led) =
     let at = format_moved part.symbol next moves in
     let (second, rest, spelled, behind) = version_is parts (subst (λ (s : Whole). Led s parts (Outside Done)) at.1 led) in (
-      word (codes "gmap") ∷ number Fixed (version_number second) ∷ [],
+      word Fixed (codes "gmap") ∷ number Fixed (version_number second) ∷ [],
       rest,
       in_version second schema.AtDim,
       (second, refl, refl),
-      both part (word (codes "gmap")) parts (number Fixed (version_number second) ∷ rest) (the_part part (Word (codes "gmap")) Fixed at.0 is) spelled,
+      both part (word Fixed (codes "gmap")) parts (number Fixed (version_number second) ∷ rest) (the_part part (Word (codes "gmap")) Fixed at.0 is) spelled,
       behind,
     )
 
@@ -186,7 +186,7 @@ inner_goes_on inner =
 -- ---- each state can be gone on from
 
 wants_go_on : (head : Head) (taken : List ℤ) (wants : List Want) → (rest : List (Part Role)) × Led (among head taken wants) rest (Outside Done)
-wants_go_on head taken [] = (the_end ∷ [], (0, Outside Done, refl, refl, refl))
+wants_go_on head taken [] = (the_end Fixed ∷ [], (0, Outside Done, refl, refl, refl))
 wants_go_on head taken (TheNumber role ∷ wants) =
     let behind = wants_go_on head (taken ++ number_in role 0 ∷ []) wants in
     (number role 0 ∷ behind.0, (0, among head (taken ++ number_in role 0 ∷ []) wants, refl, refl, behind.1))
@@ -195,13 +195,13 @@ wants_go_on head taken (Component colour ∷ wants) =
     (number _ 0 ∷ behind.0, (0, among head (taken ++ pos 0 ∷ []) wants, refl, refl, behind.1))
 wants_go_on head taken (TheSign wanted ∷ wants) =
     let behind = wants_go_on head taken wants in
-    (sign wanted ∷ behind.0, (0, among head taken wants, refl, sign_moves head taken wanted wants, behind.1))
+    (sign Fixed wanted ∷ behind.0, (0, among head taken wants, refl, sign_moves head taken wanted wants, behind.1))
 
 count_goes_on : (head : Head) → (rest : List (Part Role)) × Led (Outside (AtCount head)) rest (Outside Done)
-count_goes_on head = (number Count 0 ∷ the_end ∷ [], (0, among head [] [], refl, refl, (0, Outside Done, refl, refl, refl)))
+count_goes_on head = (number Count 0 ∷ the_end Fixed ∷ [], (0, among head [] [], refl, refl, (0, Outside Done, refl, refl, refl)))
 
 darts_go_on : (head : Head) → (rest : List (Part Role)) × Led (Outside (AtDarts head)) rest (Outside Done)
-darts_go_on head = let behind = count_goes_on head in (word (codes "darts") ∷ behind.0, (0, Outside (AtCount head), refl, refl, behind.1))
+darts_go_on head = let behind = count_goes_on head in (word Fixed (codes "darts") ∷ behind.0, (0, Outside (AtCount head), refl, refl, behind.1))
 
 name_goes_on : (schema : Schema) → (rest : List (Part Role)) × Led (Outside (AtNextName schema)) rest (Outside Done)
 name_goes_on schema =
@@ -213,15 +213,15 @@ version_goes_on : (rest : List (Part Role)) × Led (Outside AtVersion) rest (Out
 version_goes_on =
     let form : SchemaForm = record { dim = 1; embeds = [] } in
     let head : Head = record { version = First; schema = schema_of form } in
-    let behind = led_listing (Outside Done) head [] (the_end ∷ []) tt (0, Outside Done, refl, refl, refl) in (
-      number Fixed 1 ∷ (map in_schema (text.spell form []) ++ spell_listing_to [] [] (the_end ∷ [])),
-      (0, into_schema false, refl, refl, led_schema (Outside Done) false form (word (codes "darts")) (number Count 0 ∷ the_end ∷ []) tt behind),
+    let behind = led_listing (Outside Done) head [] (the_end Fixed ∷ []) tt (0, Outside Done, refl, refl, refl) in (
+      number Fixed 1 ∷ (map (in_role InSchema) (text.spell form []) ++ spell_listing_to [] [] (the_end Fixed ∷ [])),
+      (0, into_schema false, refl, refl, led_schema (Outside Done) false form (word Fixed (codes "darts")) (number Count 0 ∷ the_end Fixed ∷ []) tt behind),
     )
 
 outer_goes_on : (outer : State) → (rest : List (Part Role)) × Led (Outside outer) rest (Outside Done)
-outer_goes_on AtFormat = let behind = version_goes_on in (word (codes "gmap") ∷ behind.0, (0, Outside AtVersion, refl, refl, behind.1))
+outer_goes_on AtFormat = let behind = version_goes_on in (word Fixed (codes "gmap") ∷ behind.0, (0, Outside AtVersion, refl, refl, behind.1))
 outer_goes_on AtVersion = version_goes_on
-outer_goes_on (AtNext schema) = let behind = name_goes_on schema in (word (codes "next") ∷ behind.0, (0, Outside (AtNextName schema), refl, refl, behind.1))
+outer_goes_on (AtNext schema) = let behind = name_goes_on schema in (word Fixed (codes "next") ∷ behind.0, (0, Outside (AtNextName schema), refl, refl, behind.1))
 outer_goes_on (AtNextName schema) = name_goes_on schema
 outer_goes_on (AtDarts head) = darts_go_on head
 outer_goes_on (AtCount head) = count_goes_on head
@@ -285,7 +285,7 @@ back_is true schema (part ∷ parts) (place, to, is, moves, led) =
       second_is = refl;
       darts = darts;
       shaped = shaped;
-      spelled = both part (word (codes "next")) parts (number NextName next ∷ spell_listing schema.embeds darts) (the_part part (Word (codes "next")) Fixed at.0 is) spelled;
+      spelled = both part (word Fixed (codes "next")) parts (number NextName next ∷ spell_listing schema.embeds darts) (the_part part (Word (codes "next")) Fixed at.0 is) spelled;
     }
 
 of_nested : (parts : List (Part Role)) → IsNestedSentence nesting passed_of never IsFront IsInner IsBack parts → IsSentence parts
@@ -299,13 +299,13 @@ of_nested parts sentence =
     let back = back_is second (schema_of is.form) sentence.back (subst (λ (s : State). Led (Outside s) sentence.back (Outside Done)) behind sentence.is_back) in
     let form : MapForm = record { version = back.version; schema = is.form; darts = back.darts } in
     let rest = spell_next back.version (spell_listing (embeds_of form) back.darts) in
-    let inside : map (wrapped nesting) sentence.inner ++ sentence.back ≡ map in_schema (text.spell is.form []) ++ rest =
-    ap (λ (ps : List (Part text.Role)). map in_schema ps ++ sentence.back) is.spelled ∙ ap (λ (ps : List (Part Role)). map in_schema (text.spell is.form []) ++ ps) back.spelled in
-    let before : sentence.front ≡ word (codes "gmap") ∷ number Fixed (number_of back.version) ∷ [] = front ∙ ap (λ (k : ℕ). word (codes "gmap") ∷ number Fixed k ∷ []) (sym back.second_is) in (
+    let inside : map (in_role nesting.wrap) sentence.inner ++ sentence.back ≡ map (in_role InSchema) (text.spell is.form []) ++ rest =
+    ap (λ (ps : List (Part text.Role)). map (in_role InSchema) ps ++ sentence.back) is.spelled ∙ ap (λ (ps : List (Part Role)). map (in_role InSchema) (text.spell is.form []) ++ ps) back.spelled in
+    let before : sentence.front ≡ word Fixed (codes "gmap") ∷ number Fixed (number_of back.version) ∷ [] = front ∙ ap (λ (k : ℕ). word Fixed (codes "gmap") ∷ number Fixed k ∷ []) (sym back.second_is) in (
       form,
       (is.good, back.shaped),
-      sentence.spelled ∙ ap (λ (ps : List (Part Role)). ps ++ (map (wrapped nesting) sentence.inner ++ sentence.back)) before
-          ∙ ap (λ (ps : List (Part Role)). word (codes "gmap") ∷ number Fixed (number_of back.version) ∷ ps) inside,
+      sentence.spelled ∙ ap (λ (ps : List (Part Role)). ps ++ (map (in_role nesting.wrap) sentence.inner ++ sentence.back)) before
+          ∙ ap (λ (ps : List (Part Role)). word Fixed (codes "gmap") ∷ number Fixed (number_of back.version) ∷ ps) inside,
     )
 
 pub map_grammar : IsGrammar passed_of never (nested.role_at nesting) (nested.move nesting) IsSentence start (Outside Done)

@@ -6,11 +6,11 @@ use Rattle.gm_model.specs.declared.schema.Embed.{Embed}
 use Rattle.gm_model.specs.declared.schema.Schema.{Schema}
 use Rattle.gm_model.specs.declared.value.Kind.{Kind}
 use Rattle.gm_model.specs.declared.value.Kind.TheVariants as kinds
-use Rattle.gm_model.specs.Reading.{Part}
+use Rattle.gm_model.specs.Reading.{Part, sign}
 use Rattle.gm_text.specs.Machine.{Leads}
 use Rattle.gm_text.specs.Nested as nested
 use Rattle.gm_text.specs.ValueText.{Signed, integer, spell_signed, signed}
-use Rattle.gm_mapfile.specs.MapText.{DartForm, Role, Fixed, DartName, passed_of, sign, width, size_role, spell_names, spell_components, spell_value, spell_values, spell_dart, spell_darts, AreWide, IsShaped}
+use Rattle.gm_mapfile.specs.MapText.{DartForm, Role, Fixed, DartName, passed_of, width, size_role, spell_names, spell_components, spell_value, spell_values, spell_dart, spell_darts, AreWide, IsShaped}
 use Rattle.gm_mapfile.specs.MapReading.{Want, TheNumber, Component, TheSign, value_wants, values_wants, dart_wants, darts_wants, Head, Whole, number_in, nesting, never, among}
 use Rattle.gm_mapfile.proofs.MapMoves.{sign_moves}
 
@@ -62,17 +62,17 @@ module _ (head : Head) where
 
   -- a vector or a colour
   led_bracketed : (colour : Bool) (count : ℕ) (taken : List ℤ) (wants : List Want) (xs : List Signed) (rest : List (Part Role)) (last : Whole) → length xs ≡ count → From (taken ++ map integer xs) wants rest last
-      → From taken (TheSign (codes "(") ∷ (replicate count (Component colour) ++ TheSign (codes ")") ∷ []) ++ wants) (sign (codes "(") ∷ spell_components colour xs (sign (codes ")") ∷ rest)) last
+      → From taken (TheSign (codes "(") ∷ (replicate count (Component colour) ++ TheSign (codes ")") ∷ []) ++ wants) (sign Fixed (codes "(") ∷ spell_components colour xs (sign Fixed (codes ")") ∷ rest)) last
   led_bracketed colour count taken wants xs rest last long led =
-      let close : From (taken ++ map integer xs) (TheSign (codes ")") ∷ wants) (sign (codes ")") ∷ rest) last = (0, among head (taken ++ map integer xs) wants, refl, sign_moves head (taken ++ map integer xs) (codes ")") wants, led) in
-      let inner = led_components colour taken (TheSign (codes ")") ∷ wants) xs (sign (codes ")") ∷ rest) last close in
+      let close : From (taken ++ map integer xs) (TheSign (codes ")") ∷ wants) (sign Fixed (codes ")") ∷ rest) last = (0, among head (taken ++ map integer xs) wants, refl, sign_moves head (taken ++ map integer xs) (codes ")") wants, led) in
+      let inner = led_components colour taken (TheSign (codes ")") ∷ wants) xs (sign Fixed (codes ")") ∷ rest) last close in
       let same : replicate (length xs) (Component colour) ++ TheSign (codes ")") ∷ wants ≡ (replicate count (Component colour) ++ TheSign (codes ")") ∷ []) ++ wants =
       ap (λ (k : ℕ). replicate k (Component colour) ++ TheSign (codes ")") ∷ wants) long ∙ sym (append_assoc (replicate count (Component colour)) (TheSign (codes ")") ∷ []) wants) in (
         0,
         among head taken ((replicate count (Component colour) ++ TheSign (codes ")") ∷ []) ++ wants),
         refl,
         sign_moves head taken (codes "(") _,
-        wanted_as taken (replicate (length xs) (Component colour) ++ TheSign (codes ")") ∷ wants) ((replicate count (Component colour) ++ TheSign (codes ")") ∷ []) ++ wants) (spell_components colour xs (sign (codes ")") ∷ rest)) last same inner,
+        wanted_as taken (replicate (length xs) (Component colour) ++ TheSign (codes ")") ∷ wants) ((replicate count (Component colour) ++ TheSign (codes ")") ∷ []) ++ wants) (spell_components colour xs (sign Fixed (codes ")") ∷ rest)) last same inner,
       )
 
   led_value : (kind : Kind) (taken : List ℤ) (wants : List Want) (xs : List Signed) (rest : List (Part Role)) (last : Whole) → length xs ≡ width kind → From (taken ++ map integer xs) wants rest last

@@ -6,10 +6,10 @@ use Rattle.gm_model.specs.declared.schema.Schema.{Schema}
 use Rattle.gm_model.specs.declared.value.Kind.{Kind}
 use Rattle.gm_model.specs.declared.value.Kind.TheVariants as kinds
 use Rattle.gm_model.specs.Symbols.{Symbol, Word, Numeral, Sign, End}
-use Rattle.gm_model.specs.Reading.{Part}
+use Rattle.gm_model.specs.Reading.{Part, word, number, sign, the_end}
 use Rattle.gm_text.specs.Nested.{Outside}
 use Rattle.gm_text.specs.ValueText.{Signed, spell_signed}
-use Rattle.gm_mapfile.specs.MapText.{DartForm, Role, Fixed, DartName, Count, number, sign, word, the_end, width, size_role, spell_names, spell_components, spell_value, spell_values, spell_dart, spell_darts, spell_listing, AreWide, IsShaped}
+use Rattle.gm_mapfile.specs.MapText.{DartForm, Role, Fixed, DartName, Count, width, size_role, spell_names, spell_components, spell_value, spell_values, spell_dart, spell_darts, spell_listing, AreWide, IsShaped}
 use Rattle.gm_mapfile.specs.MapReading.{Want, TheNumber, Component, TheSign, value_wants, values_wants, dart_wants, darts_wants, Head, AtDarts, AtCount, Done, Whole, number_in, among}
 use Rattle.gm_mapfile.proofs.MapMoves.{end_moved, number_moved, component_moved, AtNumber, AtMinus, sign_moved, darts_moved, count_moved}
 use Rattle.gm_mapfile.proofs.MapLed.{Led}
@@ -33,11 +33,11 @@ module _ (head : Head) where
   to_end_as : (state other : Whole) (parts : List (Part Role)) → state ≡ other → Led state parts (Outside Done) → Led other parts (Outside Done)
   to_end_as state other parts same led = subst (λ (s : Whole). Led s parts (Outside Done)) same led
 
-  pub end_is : (taken : List ℤ) (parts : List (Part Role)) → ToEnd taken [] parts → parts ≡ the_end ∷ []
+  pub end_is : (taken : List ℤ) (parts : List (Part Role)) → ToEnd taken [] parts → parts ≡ the_end Fixed ∷ []
   end_is taken [] led = let no_way : among head taken [] ≡ Outside Done = led in absurd cc
   end_is taken (part ∷ parts) (place, next, is, moves, led) =
       let at = end_moved head taken part.symbol next moves in
-      both part the_end parts [] (the_part part End Fixed at.0 is) (done_is parts (to_end_as next (Outside Done) parts at.1 led))
+      both part (the_end Fixed) parts [] (the_part part End Fixed at.0 is) (done_is parts (to_end_as next (Outside Done) parts at.1 led))
 
   -- ---- a name, a sign, a number of a value
 
@@ -55,7 +55,7 @@ module _ (head : Head) where
 
   record IsSignFirst (wanted : List ℕ) (taken : List ℤ) (wants : List Want) (parts : List (Part Role)) : Type 0 where
     rest : List (Part Role)
-    spelled : parts ≡ sign wanted ∷ rest
+    spelled : parts ≡ sign Fixed wanted ∷ rest
     behind : ToEnd taken wants rest
 
   sign_is : (wanted : List ℕ) (taken : List ℤ) (wants : List Want) (parts : List (Part Role)) → ToEnd taken (TheSign wanted ∷ wants) parts → IsSignFirst wanted taken wants parts
@@ -94,7 +94,7 @@ module _ (head : Head) where
             record {
               x = x;
               rest = size.rest;
-              spelled = both part (sign (codes "-")) parts (number (size_role colour true) size.n ∷ size.rest) (the_part part (Sign (codes "-")) Fixed symbol role) size.spelled;
+              spelled = both part (sign Fixed (codes "-")) parts (number (size_role colour true) size.n ∷ size.rest) (the_part part (Sign (codes "-")) Fixed symbol role) size.spelled;
               behind = (taken ++ number_in (size_role colour true) size.n ∷ [], size.behind);
             }
       ]
@@ -148,7 +148,7 @@ module _ (head : Head) where
     xs : List Signed
     long : length xs ≡ count
     rest : List (Part Role)
-    spelled : parts ≡ sign (codes "(") ∷ spell_components colour xs (sign (codes ")") ∷ rest)
+    spelled : parts ≡ sign Fixed (codes "(") ∷ spell_components colour xs (sign Fixed (codes ")") ∷ rest)
     behind : ToEndOf wants rest
 
   bracketed_is : (colour : Bool) (count : ℕ) (taken : List ℤ) (wants : List Want) (parts : List (Part Role))
@@ -162,7 +162,7 @@ module _ (head : Head) where
         xs = inner.xs;
         long = inner.long;
         rest = close.rest;
-        spelled = opening.spelled ∙ ap (λ (ps : List (Part Role)). sign (codes "(") ∷ ps) (inner.spelled ∙ ap (λ (ps : List (Part Role)). spell_components colour inner.xs ps) close.spelled);
+        spelled = opening.spelled ∙ ap (λ (ps : List (Part Role)). sign Fixed (codes "(") ∷ ps) (inner.spelled ∙ ap (λ (ps : List (Part Role)). spell_components colour inner.xs ps) close.spelled);
         behind = (inner.behind.0, close.behind);
       }
 
@@ -223,7 +223,7 @@ module _ (head : Head) where
     darts : List DartForm
     shaped : AllByRecursion (IsShaped schema.dim schema.embeds) darts
     long : length darts ≡ count
-    spelled : parts ≡ spell_darts schema.embeds darts (the_end ∷ [])
+    spelled : parts ≡ spell_darts schema.embeds darts (the_end Fixed ∷ [])
 
   darts_are : (schema : Schema) (count : ℕ) (taken : List ℤ) (parts : List (Part Role)) → ToEnd taken (darts_wants schema count) parts → AreDartsOf schema count parts
   darts_are schema zero taken parts led = record { darts = []; shaped = tt; long = refl; spelled = end_is taken parts led }
@@ -244,13 +244,13 @@ module _ (head : Head) where
     pub shaped : AllByRecursion (IsShaped head.schema.dim head.schema.embeds) darts
     pub spelled : parts ≡ spell_listing head.schema.embeds darts
 
-  count_is : (parts : List (Part Role)) → Led (Outside (AtCount head)) parts (Outside Done) → (darts : List DartForm) × AllByRecursion (IsShaped head.schema.dim head.schema.embeds) darts × (parts ≡ number Count (length darts) ∷ spell_darts head.schema.embeds darts (the_end ∷ []))
+  count_is : (parts : List (Part Role)) → Led (Outside (AtCount head)) parts (Outside Done) → (darts : List DartForm) × AllByRecursion (IsShaped head.schema.dim head.schema.embeds) darts × (parts ≡ number Count (length darts) ∷ spell_darts head.schema.embeds darts (the_end Fixed ∷ []))
   count_is [] led = let no_way : Outside (AtCount head) ≡ Outside Done = led in absurd cc
   count_is (part ∷ parts) (place, next, is, moves, led) =
       let (n, symbol, at) = count_moved head part.symbol next moves in
       let darts = darts_are head.schema n [] parts (to_end_as next (among head [] (darts_wants head.schema n)) parts at led) in
       let first = the_part part (Numeral n) Count symbol is ∙ ap (λ (k : ℕ). number Count k) (sym darts.long) in
-      (darts.darts, darts.shaped, both part (number Count (length darts.darts)) parts (spell_darts head.schema.embeds darts.darts (the_end ∷ [])) first darts.spelled)
+      (darts.darts, darts.shaped, both part (number Count (length darts.darts)) parts (spell_darts head.schema.embeds darts.darts (the_end Fixed ∷ [])) first darts.spelled)
 
   pub listing_is : (parts : List (Part Role)) → Led (Outside (AtDarts head)) parts (Outside Done) → IsListingOf parts
   listing_is [] led = let no_way : Outside (AtDarts head) ≡ Outside Done = led in absurd cc
@@ -260,5 +260,5 @@ module _ (head : Head) where
       record {
         darts = darts;
         shaped = shaped;
-        spelled = both part (word (codes "darts")) parts (number Count (length darts) ∷ spell_darts head.schema.embeds darts (the_end ∷ [])) (the_part part (Word (codes "darts")) Fixed at.0 is) spelled;
+        spelled = both part (word Fixed (codes "darts")) parts (number Count (length darts) ∷ spell_darts head.schema.embeds darts (the_end Fixed ∷ [])) (the_part part (Word (codes "darts")) Fixed at.0 is) spelled;
       }

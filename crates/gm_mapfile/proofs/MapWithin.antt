@@ -13,12 +13,12 @@ use Rattle.gm_model.specs.declared.value.Value.{Value}
 use Rattle.gm_model.specs.declared.value.Value.TheVariants as values
 use Rattle.gm_model.specs.Expressions.{components}
 use Rattle.gm_model.specs.Limits.{most_names}
-use Rattle.gm_model.specs.Reading.{Part, IsWithin}
+use Rattle.gm_model.specs.Reading.{Part, IsWithin, sign}
 use Rattle.gm_model.specs.Symbols.{Numeral}
 use Rattle.gm_model.specs.Values.{kind_of, IsInValueRange}
 use Rattle.gm_text.specs.SchemaText.{LimitOf}
 use Rattle.gm_text.specs.ValueText.{Signed, integer, greatest, is_channel, spell_signed, signed}
-use Rattle.gm_mapfile.specs.MapText.{DartForm, Role, Fixed, DartName, passed_of, sign, is_colour, size_role, spell_names, spell_components, spell_value, spell_values, spell_darts, IsSentence}
+use Rattle.gm_mapfile.specs.MapText.{DartForm, Role, Fixed, DartName, passed_of, is_colour, size_role, spell_names, spell_components, spell_value, spell_values, spell_darts, IsSentence}
 
 abbrev pub AreWithin : List (Part Role) → Type 0
 AreWithin parts = IsWithin IsSentence passed_of parts
@@ -75,8 +75,8 @@ components_within colour (x ∷ xs) rest within =
     let others = components_within colour xs rest first.1 in
     ((first.0, others.0), others.1)
 
-bracketed_within : (colour : Bool) (xs : List Signed) (rest : List (Part Role)) → AreWithin (sign (codes "(") ∷ spell_components colour xs (sign (codes ")") ∷ rest)) → AllByRecursion (IsGoodNumber colour) (map integer xs) × AreWithin rest
-bracketed_within colour xs rest within = let inner = components_within colour xs (sign (codes ")") ∷ rest) within.1 in (inner.0, inner.1.1)
+bracketed_within : (colour : Bool) (xs : List Signed) (rest : List (Part Role)) → AreWithin (sign Fixed (codes "(") ∷ spell_components colour xs (sign Fixed (codes ")") ∷ rest)) → AllByRecursion (IsGoodNumber colour) (map integer xs) × AreWithin rest
+bracketed_within colour xs rest within = let inner = components_within colour xs (sign Fixed (codes ")") ∷ rest) within.1 in (inner.0, inner.1.1)
 
 value_within : (kind : Kind) (xs : List Signed) (rest : List (Part Role)) → AreWithin (spell_value kind xs rest) → AllByRecursion (IsGoodNumber (is_colour kind)) (map integer xs) × AreWithin rest
 value_within kinds.Int xs rest within = components_within false xs rest within

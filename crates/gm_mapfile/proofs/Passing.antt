@@ -13,12 +13,12 @@ use Rattle.gm_model.specs.declared.value.Value.TheVariants as values
 use Rattle.gm_model.specs.Expressions.{components}
 use Rattle.gm_model.specs.Limits.{most_darts, most_names}
 use Rattle.gm_model.specs.Maps.{IsSchema}
-use Rattle.gm_model.specs.Reading.{Part, IsWithin}
+use Rattle.gm_model.specs.Reading.{Part, IsWithin, the_end}
 use Rattle.gm_model.specs.Symbols.{Numeral}
 use Rattle.gm_model.specs.Values.{kind_of, IsInValueRange}
 use Rattle.gm_text.specs.ValueText.{integer, greatest, spell_signed}
 use Rattle.gm_arena.specs.Lawful.{AreGoodValues}
-use Rattle.gm_mapfile.specs.MapText.{Role, Fixed, NextName, Count, DartName, Size, Channel, size_role, passed_of, the_end, width, spell_names, spell_value, spell_values, spell_darts, spell_listing, spell_next, AreWide, IsShaped, IsSentence, DartRow, AreMade, AreRows}
+use Rattle.gm_mapfile.specs.MapText.{Role, Fixed, NextName, Count, DartName, Size, Channel, size_role, passed_of, width, spell_names, spell_value, spell_values, spell_darts, spell_listing, spell_next, AreWide, IsShaped, IsSentence, DartRow, AreMade, AreRows}
 use Rattle.gm_mapfile.specs.declared.version.MapVersion.{MapVersion}
 use Rattle.gm_mapfile.specs.declared.version.MapVersion.TheVariants as versions
 use Rattle.gm_mapfile.proofs.Spelled.{signed_of, parts_of, dart_form, written_in, AreFitting, IsFitting}
@@ -89,7 +89,7 @@ pub listing_passes : (embeds : List Embed) (darts : List DartRow) → length (ma
 listing_passes embeds darts few fit =
     let count : ltb 1048576 (length (map dart_form darts)) ≡ false = le-ltb 1048576 (length (map dart_form darts)) few in
     let counted : passed_of Count (Numeral (length (map dart_form darts))) ≡ None = rw count refl in
-    (refl, (counted, darts_pass embeds darts (the_end ∷ []) fit (refl, tt)))
+    (refl, (counted, darts_pass embeds darts (the_end Fixed ∷ []) fit (refl, tt)))
 
 pub next_passes : (version : MapVersion) (next : ℕ) (rest : List (Part Role)) → next ≤ most_names → AreWithin rest → AreWithin (spell_next (written_in version next) rest)
 next_passes versions.One next rest small within = within

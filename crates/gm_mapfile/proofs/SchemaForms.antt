@@ -10,7 +10,7 @@ use Rattle.gm_model.specs.declared.schema.Embed.{Embed}
 use Rattle.gm_model.specs.declared.schema.Schema.{Schema}
 use Rattle.gm_model.specs.Maps.{IsSchema}
 use Rattle.gm_model.specs.Names.{reserved, IsReserved, is_among}
-use Rattle.gm_model.specs.Reading.{Part, IsWithin, symbols_in}
+use Rattle.gm_model.specs.Reading.{Part, IsWithin, symbols_in, in_role}
 use Rattle.gm_model.specs.Symbols.{Symbol, Numeral}
 use Rattle.gm_text.specs.SchemaPrinting.{AreParts}
 use Rattle.gm_text.specs.SchemaText as schema
@@ -18,7 +18,7 @@ use Rattle.gm_text.proofs.Printed.{symbols_from}
 use Rattle.gm_text.proofs.SchemaAgain.{forms_of, schema_form, same_embeds, embeds_pass, canonical_symbols}
 use Rattle.gm_text.proofs.SchemaGrammar.{spell_before}
 use Rattle.gm_text.proofs.SchemaSound.{IsGood, IsNew, AreNew}
-use Rattle.gm_mapfile.specs.MapText.{Role, passed_of, in_schema, IsSentence}
+use Rattle.gm_mapfile.specs.MapText.{Role, InSchema, passed_of, IsSentence}
 
 -- ---- what a schema owes, embedding by embedding
 
@@ -77,7 +77,7 @@ form_passes s is parts low high =
     let dim : schema.passed_of schema.Dimension (Numeral s.dim) ≡ None = rw (some, top) refl in
     (refl, (dim, embeds_pass s.dim [] s.embeds parts (are_good s is) (are_new [] s.embeds (λ _ _ _. refl) is.differ) (omega (arith, is.count))))
 
-pub passes_in : (parts : List (Part schema.Role)) (rest : List (Part Role)) → IsWithin schema.IsSentence schema.passed_of parts → IsWithin IsSentence passed_of rest → IsWithin IsSentence passed_of (map in_schema parts ++ rest)
+pub passes_in : (parts : List (Part schema.Role)) (rest : List (Part Role)) → IsWithin schema.IsSentence schema.passed_of parts → IsWithin IsSentence passed_of rest → IsWithin IsSentence passed_of (map (in_role InSchema) parts ++ rest)
 passes_in [] rest within behind = behind
 passes_in (part ∷ parts) rest within behind = (within.0, passes_in parts rest within.1 behind)
 
@@ -99,13 +99,13 @@ beyond_symbols : (others : List Symbol) → symbols_in (map schema.beyond others
 beyond_symbols [] = refl
 beyond_symbols (symbol ∷ others) = ap (λ (ss : List Symbol). symbol ∷ ss) (beyond_symbols others)
 
-in_symbols : (parts : List (Part schema.Role)) (rest : List (Part Role)) → symbols_in (map in_schema parts ++ rest) ≡ symbols_in parts ++ symbols_in rest
+in_symbols : (parts : List (Part schema.Role)) (rest : List (Part Role)) → symbols_in (map (in_role InSchema) parts ++ rest) ≡ symbols_in parts ++ symbols_in rest
 in_symbols [] rest = refl
 in_symbols (part ∷ parts) rest = ap (λ (ss : List Symbol). part.symbol ∷ ss) (in_symbols parts rest)
 
 -- before anything
 pub schema_symbols : (s : Schema) (more : List ℕ) (rest : List (Part Role)) → s.dim ≤ 7 → AreParts s.embeds → symbols_from more ≡ symbols_in rest
-    → symbols_from (schema.canonical s ++ more) ≡ symbols_in (map in_schema (schema.spell (schema_form s) []) ++ rest)
+    → symbols_from (schema.canonical s ++ more) ≡ symbols_in (map (in_role InSchema) (schema.spell (schema_form s) []) ++ rest)
 schema_symbols s more rest low parts behind =
     let others = map schema.beyond (symbols_from more) in
     let form = schema.spell (schema_form s) [] in

@@ -2,13 +2,13 @@
 use Rattle.std.proofs.Common.{◌≡◌, ◌≢◌, ℕ, List, [], ◌∷◌, ◌++◌, map, refl, sym, ap, ◌∙◌, codes, arith}
 use Rattle.std.proofs.lemmas.List.{map-append}
 use Rattle.gm_model.specs.declared.schema.Schema.{Schema}
-use Rattle.gm_model.specs.Reading.{Part, symbols_in}
+use Rattle.gm_model.specs.Reading.{Part, symbols_in, in_role}
 use Rattle.gm_model.specs.Symbols.{Symbol, Word, Numeral, Mark, symbols, marks_of}
 use Rattle.gm_text.specs.SchemaReading.{Stands}
 use Rattle.gm_text.specs.SchemaText.{SchemaForm, passed_of, schema_of}
 use Rattle.gm_text.specs.SchemaText as schemas
 use Rattle.gm_text.proofs.SchemaAgain.{spelled_stands, first_mark}
-use Rattle.gm_mapfile.specs.MapText.{Version, First, Second, DartRow, Role, IsListed, in_schema, number_of, spell_next, spell_listing, embeds_of}
+use Rattle.gm_mapfile.specs.MapText.{Version, First, Second, DartRow, Role, InSchema, IsListed, number_of, spell_next, spell_listing, embeds_of}
 use Rattle.gm_mapfile.proofs.FormWithin.{form_good}
 
 -- the text's marks are those of the format and its version, and then those of the schema and what is behind it
@@ -25,7 +25,7 @@ pub record IsSchemaThere (text : List ℕ) (schema : Schema) : Type 0 where
   pub stands : Stands passed_of form rest behind
   pub means : schema ≡ schema_of form
 
-inside_symbols : (parts : List (Part schemas.Role)) → symbols_in (map in_schema parts) ≡ symbols_in parts
+inside_symbols : (parts : List (Part schemas.Role)) → symbols_in (map (in_role InSchema) parts) ≡ symbols_in parts
 inside_symbols [] = refl
 inside_symbols (part ∷ parts) = ap (λ (ss : List Symbol). part.symbol ∷ ss) (inside_symbols parts)
 
@@ -45,11 +45,11 @@ schema_there text version schema darts listed =
     let good = form_good form listed.written.read.within in
     let spelled = schemas.spell form.schema [] in
     let tail = spell_next form.version (spell_listing (embeds_of form) form.darts) in
-    let (format, others, is, format_is) = first_mark (marks_of text) (Word (codes "gmap")) (Numeral (number_of form.version) ∷ symbols_in (map in_schema spelled ++ tail)) listed.written.read.spelled in
-    let behind = behind_mark format others (Word (codes "gmap")) (Numeral (number_of form.version) ∷ symbols_in (map in_schema spelled ++ tail)) (ap symbols (sym is) ∙ listed.written.read.spelled) in
-    let (number, rest, there, number_is) = first_mark others (Numeral (number_of form.version)) (symbols_in (map in_schema spelled ++ tail)) behind in
-    let left = behind_mark number rest (Numeral (number_of form.version)) (symbols_in (map in_schema spelled ++ tail)) (ap symbols (sym there) ∙ behind) in
-    let all : symbols rest ≡ symbols_in spelled ++ symbols_in tail = left ∙ (map-append (λ (part : Part Role). part.symbol) (map in_schema spelled) tail ∙ ap (λ (ss : List Symbol). ss ++ symbols_in tail) (inside_symbols spelled)) in
+    let (format, others, is, format_is) = first_mark (marks_of text) (Word (codes "gmap")) (Numeral (number_of form.version) ∷ symbols_in (map (in_role InSchema) spelled ++ tail)) listed.written.read.spelled in
+    let behind = behind_mark format others (Word (codes "gmap")) (Numeral (number_of form.version) ∷ symbols_in (map (in_role InSchema) spelled ++ tail)) (ap symbols (sym is) ∙ listed.written.read.spelled) in
+    let (number, rest, there, number_is) = first_mark others (Numeral (number_of form.version)) (symbols_in (map (in_role InSchema) spelled ++ tail)) behind in
+    let left = behind_mark number rest (Numeral (number_of form.version)) (symbols_in (map (in_role InSchema) spelled ++ tail)) (ap symbols (sym there) ∙ behind) in
+    let all : symbols rest ≡ symbols_in spelled ++ symbols_in tail = left ∙ (map-append (λ (part : Part Role). part.symbol) (map (in_role InSchema) spelled) tail ∙ ap (λ (ss : List Symbol). ss ++ symbols_in tail) (inside_symbols spelled)) in
     let (next, more, begins, apart) = begins_so form.version in
     let stands = spelled_stands form.schema rest (symbols_in tail) listed.written.good.0 good.schema all next more begins apart in
     record {

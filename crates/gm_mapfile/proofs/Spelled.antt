@@ -11,14 +11,14 @@ use Rattle.gm_model.specs.declared.value.Value.{Value}
 use Rattle.gm_model.specs.declared.value.Value.TheVariants as values
 use Rattle.gm_model.specs.Expressions.{components}
 use Rattle.gm_model.specs.Limits.{most_names}
-use Rattle.gm_model.specs.Reading.{Part, symbols_in}
+use Rattle.gm_model.specs.Reading.{Part, symbols_in, sign, the_end}
 use Rattle.gm_model.specs.Symbols.{Symbol, Word, Numeral, Sign}
 use Rattle.gm_model.specs.Tokens.{is_digit, begins_two_byte_sign}
 use Rattle.gm_model.specs.Values.{kind_of, IsInValueRange, IsValueOf}
 use Rattle.gm_text.specs.ValueText.{Signed, spell_signed}
 use Rattle.gm_text.proofs.Printed.{Stops, symbols_from, symbols_from-end, symbols_from-blank, symbols_from-word_blank, symbols_from-digits, symbols_from-decimal, symbols_from-decimal_blank, symbols_from-sign, signed_symbols, symbols_from-signed}
 use Rattle.gm_text.proofs.SchemaAgain.{schema_form}
-use Rattle.gm_mapfile.specs.MapText.{DartForm, Version, First, Second, MapForm, Role, Fixed, size_role, sign, the_end, spell_names, spell_value, spell_values, spell_dart, spell_darts, spell_listing, spell_next, number_of, DartRow, ListedMap, value_text, line_of, head_line, next_line}
+use Rattle.gm_mapfile.specs.MapText.{DartForm, Version, First, Second, MapForm, Role, Fixed, size_role, spell_names, spell_value, spell_values, spell_dart, spell_darts, spell_listing, spell_next, number_of, DartRow, ListedMap, value_text, line_of, head_line, next_line}
 use Rattle.gm_mapfile.specs.declared.version.MapVersion.{MapVersion}
 use Rattle.gm_mapfile.specs.declared.version.MapVersion.TheVariants as versions
 use Rattle.gm_mapfile.proofs.GoodListing.{IsSmall}
@@ -71,10 +71,10 @@ close_alone : (bytes : List ℕ) → begins_two_byte_sign 41 bytes ≡ false
 close_alone [] = refl
 close_alone (b ∷ bytes) = refl
 
-close_symbols : (more : List ℕ) (parts : List (Part Role)) → symbols_from more ≡ symbols_in parts → symbols_from (41 ∷ more) ≡ symbols_in (sign (codes ")") ∷ parts)
+close_symbols : (more : List ℕ) (parts : List (Part Role)) → symbols_from more ≡ symbols_in parts → symbols_from (41 ∷ more) ≡ symbols_in (sign Fixed (codes ")") ∷ parts)
 close_symbols more parts behind = symbols_from-sign 41 more refl (close_alone more) ∙ ap (λ (ss : List Symbol). Sign (codes ")") ∷ ss) behind
 
-open_symbols : (more : List ℕ) (parts : List (Part Role)) → symbols_from more ≡ symbols_in parts → symbols_from (40 ∷ more) ≡ symbols_in (sign (codes "(") ∷ parts)
+open_symbols : (more : List ℕ) (parts : List (Part Role)) → symbols_from more ≡ symbols_in parts → symbols_from (40 ∷ more) ≡ symbols_in (sign Fixed (codes "(") ∷ parts)
 open_symbols more parts behind = symbols_from-sign 40 more refl (open_alone more) ∙ ap (λ (ss : List Symbol). Sign (codes "(") ∷ ss) behind
 
 -- a number with a blank behind it
@@ -84,7 +84,7 @@ spaced size z more parts small behind = component_symbols size z (32 ∷ more) p
 
 pair_symbols : (size : Bool → Role) (x y : ℤ) (more : List ℕ) (parts : List (Part Role)) → mag x < 2 ^ 63 → mag y < 2 ^ 63 → symbols_from more ≡ symbols_in parts
     → symbols_from ((40 ∷ (signed_decimal x ++ 32 ∷ (signed_decimal y ++ 41 ∷ []))) ++ more)
-    ≡ symbols_in (sign (codes "(") ∷ spell_signed Fixed size (signed_of x) (spell_signed Fixed size (signed_of y) (sign (codes ")") ∷ parts)))
+    ≡ symbols_in (sign Fixed (codes "(") ∷ spell_signed Fixed size (signed_of x) (spell_signed Fixed size (signed_of y) (sign Fixed (codes ")") ∷ parts)))
 pair_symbols size x y more parts small_x small_y behind =
     let a = signed_decimal x in
     let b = signed_decimal y in
@@ -95,7 +95,7 @@ pair_symbols size x y more parts small_x small_y behind =
 
 triple_symbols : (size : Bool → Role) (x y z : ℤ) (more : List ℕ) (parts : List (Part Role)) → mag x < 2 ^ 63 → mag y < 2 ^ 63 → mag z < 2 ^ 63 → symbols_from more ≡ symbols_in parts
     → symbols_from ((40 ∷ (signed_decimal x ++ 32 ∷ (signed_decimal y ++ 32 ∷ (signed_decimal z ++ 41 ∷ [])))) ++ more)
-    ≡ symbols_in (sign (codes "(") ∷ spell_signed Fixed size (signed_of x) (spell_signed Fixed size (signed_of y) (spell_signed Fixed size (signed_of z) (sign (codes ")") ∷ parts))))
+    ≡ symbols_in (sign Fixed (codes "(") ∷ spell_signed Fixed size (signed_of x) (spell_signed Fixed size (signed_of y) (spell_signed Fixed size (signed_of z) (sign Fixed (codes ")") ∷ parts))))
 triple_symbols size x y z more parts small_x small_y small_z behind =
     let a = signed_decimal x in
     let b = signed_decimal y in
@@ -169,9 +169,9 @@ line_symbols embeds dart more parts ((name_small, small), fit) behind =
     ∙ symbols_from-decimal dart.name (alphas ++ (values ++ 10 ∷ more)) (omega (arith, name_small)) (names_stop dart.alphas (values ++ 10 ∷ more) stops)
     ∙ ap (λ (ss : List Symbol). Numeral dart.name ∷ ss) (names_symbols dart.alphas (values ++ 10 ∷ more) (spell_values embeds (map parts_of dart.values) parts) small stops those)
 
-lines_symbols : (embeds : List Embed) (darts : List DartRow) → AllByRecursion (IsFitting embeds) darts → symbols_from (flat_map line_of darts) ≡ symbols_in (spell_darts embeds (map dart_form darts) (the_end ∷ []))
+lines_symbols : (embeds : List Embed) (darts : List DartRow) → AllByRecursion (IsFitting embeds) darts → symbols_from (flat_map line_of darts) ≡ symbols_in (spell_darts embeds (map dart_form darts) (the_end Fixed ∷ []))
 lines_symbols embeds [] fit = symbols_from-end
-lines_symbols embeds (dart ∷ darts) fit = line_symbols embeds dart (flat_map line_of darts) (spell_darts embeds (map dart_form darts) (the_end ∷ [])) fit.0 (lines_symbols embeds darts fit.1)
+lines_symbols embeds (dart ∷ darts) fit = line_symbols embeds dart (flat_map line_of darts) (spell_darts embeds (map dart_form darts) (the_end Fixed ∷ [])) fit.0 (lines_symbols embeds darts fit.1)
 
 -- ---- of what stands before the lines
 

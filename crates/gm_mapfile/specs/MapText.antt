@@ -16,8 +16,8 @@ use Rattle.gm_model.specs.Expressions.{IsMade}
 use Rattle.gm_model.specs.GMap.{Row, row_of, alpha}
 use Rattle.gm_model.specs.Limits.{most_darts, most_names}
 use Rattle.gm_model.specs.Maps.{Map, IsSound}
-use Rattle.gm_model.specs.Reading.{Part, IsReadAs, TextEndsAt, LimitStandsAt}
-use Rattle.gm_model.specs.Symbols.{Symbol, Word, Numeral, Sign, End, marks_of}
+use Rattle.gm_model.specs.Reading.{Part, word, number, sign, the_end, in_role, IsReadAs, TextEndsAt, LimitStandsAt}
+use Rattle.gm_model.specs.Symbols.{Symbol, Numeral, marks_of}
 use Rattle.gm_text.specs.SchemaText.{SchemaForm, Passed, LimitOf, Again, schema_of}
 use Rattle.gm_text.specs.SchemaText as schema
 use Rattle.gm_text.specs.ValueText.{Signed, signed, integer, greatest, is_channel, truth_text, spell_signed}
@@ -61,8 +61,6 @@ pub data Role : Type 0 where
   -- the same in a colour
   Channel : Bool → Role
 
--- the whole number that is written, behind a minus or without one
-
 abbrev pub channel_limit : ℤ → Option LimitKind
 channel_limit n = if is_channel n then None else Some limits.Channel
 
@@ -79,21 +77,6 @@ limit_of _ _ = None
 abbrev pub passed_of : Role → Symbol → Option Passed
 passed_of (InSchema role) symbol = schema.passed_of role symbol
 passed_of role symbol = option_map LimitOf (limit_of role symbol)
-
-abbrev pub word : List ℕ → Part Role
-word bytes = record { symbol = Word bytes; role = Fixed }
-
-abbrev pub number : Role → ℕ → Part Role
-number role n = record { symbol = Numeral n; role = role }
-
-abbrev pub sign : List ℕ → Part Role
-sign bytes = record { symbol = Sign bytes; role = Fixed }
-
-abbrev pub the_end : Part Role
-the_end = record { symbol = End; role = Fixed }
-
-abbrev pub in_schema : Part schema.Role → Part Role
-in_schema part = record { symbol = part.symbol; role = InSchema part.role }
 
 -- how many numbers a value of the kind has
 abbrev pub width : Kind → ℕ
@@ -124,7 +107,7 @@ spell_components colour (x ∷ xs) rest = spell_signed Fixed (size_role colour) 
 -- 4, or (4 -1 0)
 abbrev pub spell_value : Kind → List Signed → List (Part Role) → List (Part Role)
 spell_value kinds.Int xs rest = spell_components false xs rest
-spell_value kind xs rest = sign (codes "(") ∷ spell_components (is_colour kind) xs (sign (codes ")") ∷ rest)
+spell_value kind xs rest = sign Fixed (codes "(") ∷ spell_components (is_colour kind) xs (sign Fixed (codes ")") ∷ rest)
 
 abbrev pub spell_values : List Embed → List (List Signed) → List (Part Role) → List (Part Role)
 spell_values (embed ∷ embeds) (value ∷ values) rest = spell_value embed.kind value (spell_values embeds values rest)
@@ -139,11 +122,11 @@ spell_darts embeds (dart ∷ darts) rest = spell_dart embeds dart (spell_darts e
 
 -- darts k, and then the k darts
 abbrev pub spell_listing : List Embed → List DartForm → List (Part Role)
-spell_listing embeds darts = word (codes "darts") ∷ number Count (length darts) ∷ spell_darts embeds darts (the_end ∷ [])
+spell_listing embeds darts = word Fixed (codes "darts") ∷ number Count (length darts) ∷ spell_darts embeds darts (the_end Fixed ∷ [])
 
 abbrev pub spell_next : Version → List (Part Role) → List (Part Role)
 spell_next First rest = rest
-spell_next (Second next) rest = word (codes "next") ∷ number NextName next ∷ rest
+spell_next (Second next) rest = word Fixed (codes "next") ∷ number NextName next ∷ rest
 
 abbrev pub number_of : Version → ℕ
 number_of First = 1
@@ -155,8 +138,8 @@ embeds_of form = (schema_of form.schema).embeds
 -- gmap 1 dim 2 embed .. darts .., or gmap 2 dim 2 embed .. next .. darts ..
 abbrev pub spelling : MapForm → List (Part Role)
 spelling form =
-    word (codes "gmap") ∷ number Fixed (number_of form.version)
-    ∷ (map in_schema (schema.spell form.schema []) ++ spell_next form.version (spell_listing (embeds_of form) form.darts))
+    word Fixed (codes "gmap") ∷ number Fixed (number_of form.version)
+    ∷ (map (in_role InSchema) (schema.spell form.schema []) ++ spell_next form.version (spell_listing (embeds_of form) form.darts))
 
 -- for each embedding so many numbers as its kind has
 abbrev pub AreWide : List Embed → List (List Signed) → Type 0

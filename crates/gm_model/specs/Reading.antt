@@ -1,7 +1,7 @@
 -- What it is for a text to be read by a grammar with limits, and which fault is the first from left to right where it can't be.
 use Rattle.std.specs.Prelude.{◌≡◌, ℕ, Bool, if◌then◌else◌, List, [], ◌∷◌, ◌++◌, map, Option, Some, None}
 use Rattle.std.specs.List.{AllByRecursion}
-use Rattle.gm_model.specs.Symbols.{Symbol, Mark, symbols}
+use Rattle.gm_model.specs.Symbols.{Symbol, Word, Numeral, Sign, End, Mark, symbols}
 
 -- A grammar is its set of sentences. A sentence is a list of parts, the end of the text included: a part is a symbol
 -- in the role that it has there, and the role decides which limit the symbol can pass.
@@ -11,6 +11,32 @@ pub record Part (Role : Type 0) : Type 0 where
 
 abbrev pub symbols_in : {Role : Type 0} → List (Part Role) → List Symbol
 symbols_in parts = map (λ part. part.symbol) parts
+
+-- ---- what the grammars are written with
+
+abbrev pub word : {Role : Type 0} → Role → List ℕ → Part Role
+word role bytes = record { symbol = Word bytes; role = role }
+
+abbrev pub number : {Role : Type 0} → Role → ℕ → Part Role
+number role n = record { symbol = Numeral n; role = role }
+
+abbrev pub sign : {Role : Type 0} → Role → List ℕ → Part Role
+sign role bytes = record { symbol = Sign bytes; role = role }
+
+abbrev pub the_end : {Role : Type 0} → Role → Part Role
+the_end role = record { symbol = End; role = role }
+
+-- a part of a grammar within another one as a part of the whole
+abbrev pub in_role : {Inner Role : Type 0} → (Inner → Role) → Part Inner → Part Role
+in_role wrap part = record { symbol = part.symbol; role = wrap part.role }
+
+-- each place that a role names is that of the part's mark
+abbrev pub ArePlaced : {Role : Type 0} → (ℕ → Role → Type 0) → List Mark → List (Part Role) → Type 0
+ArePlaced IsPlacedAt [] parts = Unit {0}
+ArePlaced IsPlacedAt (mark ∷ marks) [] = Unit {0}
+ArePlaced IsPlacedAt (mark ∷ marks) (part ∷ parts) = IsPlacedAt mark.place part.role × ArePlaced IsPlacedAt marks parts
+
+-- ---- sentences and faults
 
 -- the place of the last mark
 abbrev pub last_place : List Mark → ℕ

@@ -5,12 +5,12 @@ use Rattle.std.proofs.lemmas.Bool.Decides.{nat_tests}
 use Rattle.gm_model.specs.declared.expr.BinOp.{BinOp}
 use Rattle.gm_model.specs.declared.expr.BinOp.TheVariants as ops
 use Rattle.gm_model.specs.Names.{Mention, IsFree}
-use Rattle.gm_model.specs.Reading.{Part}
+use Rattle.gm_model.specs.Reading.{Part, word, sign}
 use Rattle.gm_parse.specs.declared.place.Bracket.{Bracket}
 use Rattle.gm_parse.specs.declared.place.Bracket.TheVariants as brackets
 use Rattle.gm_parse.specs.Forms.{Form, MinusForm, NotForm, BinaryForm, IfForm, Arguments, level_of, IsGood, AreGood}
 use Rattle.gm_parse.specs.Levels.{binary_level, least_on_left, least_on_right}
-use Rattle.gm_parse.specs.Spelling.{Role, name, operator, spell, spell_arguments, sign, word}
+use Rattle.gm_parse.specs.Spelling.{Role, Fixed, name, operator, spell, spell_arguments}
 use Rattle.gm_parse.proofs.Leading.{compared_by}
 
 pub data Frame : Type 0 where
@@ -31,14 +31,14 @@ module _ (n : ℕ) where
   -- what a frame is spelled as
   abbrev pub spell_frame : Frame → List (Part Role) → List (Part Role)
   spell_frame (LeftOf op left) rest = spell n left (operator op ∷ rest)
-  spell_frame MinusOf rest = sign (codes "-") ∷ rest
-  spell_frame NotOf rest = word (codes "not") ∷ rest
-  spell_frame (ElseOf c a) rest = word (codes "if") ∷ spell n c (word (codes "then") ∷ spell n a (word (codes "else") ∷ rest))
-  spell_frame GroupOf rest = sign (codes "(") ∷ rest
-  spell_frame (FirstOf function) rest = name function ∷ sign (codes "(") ∷ rest
-  spell_frame (FurtherOf function arguments) rest = name function ∷ sign (codes "(") ∷ spell_arguments n arguments (sign (codes ",") ∷ rest)
-  spell_frame IfOf rest = word (codes "if") ∷ rest
-  spell_frame (ThenOf c) rest = word (codes "if") ∷ spell n c (word (codes "then") ∷ rest)
+  spell_frame MinusOf rest = sign Fixed (codes "-") ∷ rest
+  spell_frame NotOf rest = word Fixed (codes "not") ∷ rest
+  spell_frame (ElseOf c a) rest = word Fixed (codes "if") ∷ spell n c (word Fixed (codes "then") ∷ spell n a (word Fixed (codes "else") ∷ rest))
+  spell_frame GroupOf rest = sign Fixed (codes "(") ∷ rest
+  spell_frame (FirstOf function) rest = name function ∷ sign Fixed (codes "(") ∷ rest
+  spell_frame (FurtherOf function arguments) rest = name function ∷ sign Fixed (codes "(") ∷ spell_arguments n arguments (sign Fixed (codes ",") ∷ rest)
+  spell_frame IfOf rest = word Fixed (codes "if") ∷ rest
+  spell_frame (ThenOf c) rest = word Fixed (codes "if") ∷ spell n c (word Fixed (codes "then") ∷ rest)
 
   abbrev pub spell_frames : List Frame → List (Part Role) → List (Part Role)
   spell_frames [] rest = rest

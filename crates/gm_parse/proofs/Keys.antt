@@ -8,15 +8,16 @@ use Rattle.gm_model.specs.declared.token.TokenKind.{TokenKind}
 use Rattle.gm_model.specs.declared.token.TokenKind.TheVariants as tokens
 use Rattle.gm_model.specs.Names.{reserved, is_among}
 use Rattle.gm_model.specs.Symbols.{Symbol, Word, Numeral, Sign, Gone, Stray, End, symbol_of_kind}
+use Rattle.gm_text.specs.ValueText.{truth_text}
 use Rattle.gm_parse.specs.declared.key.Collector.TheVariants as collectors
 use Rattle.gm_parse.specs.declared.key.Key.{Key}
 use Rattle.gm_parse.specs.declared.key.Key.TheVariants as keys
-use Rattle.gm_parse.specs.Spelling.{operator, truth_word, collector_word}
+use Rattle.gm_parse.specs.Spelling.{operator, collector_word}
 use Rattle.gm_parse.specs.Reading.{keyword, sign_key, key_of}
 
 -- the symbol of a key that has one alone
 abbrev pub symbol_of : Key → Symbol
-symbol_of (keys.Truth b) = Word (truth_word b)
+symbol_of (keys.Truth b) = Word (truth_text b)
 symbol_of (keys.Operator op) = (operator op).symbol
 symbol_of keys.If = Word (codes "if")
 symbol_of keys.Then = Word (codes "then")

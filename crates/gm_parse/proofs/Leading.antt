@@ -4,9 +4,10 @@ use Rattle.std.specs.Prelude.{IsTrue}
 use Rattle.gm_model.specs.declared.expr.BinOp.{BinOp}
 use Rattle.gm_model.specs.declared.expr.BinOp.TheVariants as ops
 use Rattle.gm_model.specs.Names.{Mention, reserved, is_among}
-use Rattle.gm_model.specs.Reading.{Part}
+use Rattle.gm_model.specs.Reading.{Part, word, number, sign}
 use Rattle.gm_text.specs.Machine.{Leads}
 use Rattle.gm_text.specs.SchemaText.{LabelForm}
+use Rattle.gm_text.specs.ValueText.{truth_text}
 use Rattle.gm_parse.specs.declared.key.Collector.{Collector}
 use Rattle.gm_parse.specs.declared.key.Collector.TheVariants as collectors
 use Rattle.gm_parse.specs.declared.key.Key.{Key}
@@ -21,7 +22,7 @@ use Rattle.gm_parse.specs.declared.place.Place.{Place}
 use Rattle.gm_parse.specs.declared.place.Place.TheVariants as places
 use Rattle.gm_parse.specs.Forms.{TermForm, Form, NumberForm, TruthForm, ParamForm, FieldForm, SameForm, CountForm, CollectForm, CallForm, ParenForm, MinusForm, NotForm, BinaryForm, IfForm, Arguments, First, Further, level_of, IsGood, AreGood}
 use Rattle.gm_parse.specs.Levels.{binary_level, least_on_left, least_on_right}
-use Rattle.gm_parse.specs.Spelling.{Role, Fixed, limit_of, name, operator, spell, spell_arguments, spell_labels, spell_path, spell_term, sign, word, number, Quantity, StepAt, truth_word, collector_word}
+use Rattle.gm_parse.specs.Spelling.{Role, Fixed, limit_of, name, operator, spell, spell_arguments, spell_labels, spell_path, spell_term, Quantity, StepAt, collector_word}
 use Rattle.gm_parse.specs.Reading.{State, state_at, operator_move, behind_move, move_by, move, role_at, key_role, key_of, is_whole}
 use Rattle.gm_parse.proofs.Keys.{key_operator, key_name}
 
@@ -218,7 +219,7 @@ module _ (n : ℕ) where
 
   -- behind a name that is a node
   led_field : (open_brackets : List Bracket) (compared : Bool) (path : List ℕ) (embed : Mention) (rest : List (Part Role)) (last : State) → is_among reserved embed.name ≡ false
-      → Led n (state_at open_brackets compared places.Behind) rest last → Led n (state_at open_brackets compared places.BehindName) (spell_path n path (sign (codes ".") ∷ name embed ∷ rest)) last
+      → Led n (state_at open_brackets compared places.Behind) rest last → Led n (state_at open_brackets compared places.BehindName) (spell_path n path (sign Fixed (codes ".") ∷ name embed ∷ rest)) last
   led_field open_brackets compared [] embed rest last free led =
       (0, state_at open_brackets compared (places.Field endings.Field), refl, refl, named (state_at open_brackets compared (places.Field endings.Field)) (state_at open_brackets compared places.Behind) embed rest last free refl led)
   led_field open_brackets compared (label ∷ path) embed rest last free led = (
@@ -231,42 +232,42 @@ module _ (n : ℕ) where
       state_at open_brackets compared (places.BehindNode endings.Field),
       refl,
       refl,
-      led_path open_brackets compared endings.Field path (sign (codes ".") ∷ name embed ∷ rest) last
+      led_path open_brackets compared endings.Field path (sign Fixed (codes ".") ∷ name embed ∷ rest) last
           (0, state_at open_brackets compared (places.Field endings.Field), refl, refl, named (state_at open_brackets compared (places.Field endings.Field)) (state_at open_brackets compared places.Behind) embed rest last free refl led),
     ),
   )
 
   led_orbit : (open_brackets : List Bracket) (compared : Bool) (ending : Ending) (orbit : List LabelForm) (rest : List (Part Role)) (last : State)
       → Led n (state_at open_brackets compared (places.Node ending)) rest last
-      → Led n (state_at open_brackets compared (places.Orbit ending)) (sign (codes "<") ∷ spell_labels n orbit (sign (codes ">") ∷ sign (codes "(") ∷ rest)) last
+      → Led n (state_at open_brackets compared (places.Orbit ending)) (sign Fixed (codes "<") ∷ spell_labels n orbit (sign Fixed (codes ">") ∷ sign Fixed (codes "(") ∷ rest)) last
   led_orbit open_brackets compared ending orbit rest last led = (
     0,
     state_at open_brackets compared (places.Label ending),
     refl,
     refl,
-    led_labels open_brackets compared ending orbit (sign (codes ">") ∷ sign (codes "(") ∷ rest) last
+    led_labels open_brackets compared ending orbit (sign Fixed (codes ">") ∷ sign Fixed (codes "(") ∷ rest) last
         (0, state_at open_brackets compared (places.Open ending), refl, refl, (0, state_at open_brackets compared (places.Node ending), refl, refl, led)),
   )
 
   led_collect : (collector : Collector) (open_brackets : List Bracket) (compared : Bool) (need : Need) (rest : List (Part Role)) (last : State)
-      → Led n (state_at open_brackets compared (places.Orbit endings.FieldClose)) rest last → Led n (state_at open_brackets compared (places.Operand need)) (word (collector_word collector) ∷ rest) last
+      → Led n (state_at open_brackets compared (places.Orbit endings.FieldClose)) rest last → Led n (state_at open_brackets compared (places.Operand need)) (word Fixed (collector_word collector) ∷ rest) last
   led_collect collectors.Sum open_brackets compared need rest last led = (0, state_at open_brackets compared (places.Orbit endings.FieldClose), refl, refl, led)
   led_collect collectors.Least open_brackets compared need rest last led = (0, state_at open_brackets compared (places.Orbit endings.FieldClose), refl, refl, led)
   led_collect collectors.Greatest open_brackets compared need rest last led = (0, state_at open_brackets compared (places.Orbit endings.FieldClose), refl, refl, led)
 
   led_truth : (b : Bool) (open_brackets : List Bracket) (compared : Bool) (need : Need) (rest : List (Part Role)) (last : State)
-      → Led n (state_at open_brackets compared places.Behind) rest last → Led n (state_at open_brackets compared (places.Operand need)) (word (truth_word b) ∷ rest) last
+      → Led n (state_at open_brackets compared places.Behind) rest last → Led n (state_at open_brackets compared (places.Operand need)) (word Fixed (truth_text b) ∷ rest) last
   led_truth true open_brackets compared need rest last led = (0, state_at open_brackets compared places.Behind, refl, refl, led)
   led_truth false open_brackets compared need rest last led = (0, state_at open_brackets compared places.Behind, refl, refl, led)
 
   not_need : (need : Need) (open_brackets : List Bracket) (rest : List (Part Role)) (last : State) → least_for need false ≤ 3
-      → Led n (state_at open_brackets false (places.Operand needs.NoIf)) rest last → Led n (state_at open_brackets false (places.Operand need)) (word (codes "not") ∷ rest) last
+      → Led n (state_at open_brackets false (places.Operand needs.NoIf)) rest last → Led n (state_at open_brackets false (places.Operand need)) (word Fixed (codes "not") ∷ rest) last
   not_need needs.Any open_brackets rest last low led = (0, state_at open_brackets false (places.Operand needs.NoIf), refl, refl, led)
   not_need needs.NoIf open_brackets rest last low led = (0, state_at open_brackets false (places.Operand needs.NoIf), refl, refl, led)
   not_need needs.Tight open_brackets rest last low led = absurd (omega (arith, low))
 
   if_need : (need : Need) (open_brackets : List Bracket) (rest : List (Part Role)) (last : State) → least_for need false ≤ 0
-      → Led n (state_at (brackets.If ∷ open_brackets) false (places.Operand needs.Any)) rest last → Led n (state_at open_brackets false (places.Operand need)) (word (codes "if") ∷ rest) last
+      → Led n (state_at (brackets.If ∷ open_brackets) false (places.Operand needs.Any)) rest last → Led n (state_at open_brackets false (places.Operand need)) (word Fixed (codes "if") ∷ rest) last
   if_need needs.Any open_brackets rest last low led = (0, state_at (brackets.If ∷ open_brackets) false (places.Operand needs.Any), refl, refl, led)
   if_need needs.NoIf open_brackets rest last low led = absurd (omega (arith, low))
   if_need needs.Tight open_brackets rest last low led = absurd (omega (arith, low))
@@ -286,28 +287,28 @@ module _ (n : ℕ) where
     led_form (TruthForm b) o c need rest last good fits led = led_truth b o c need rest last led
     led_form (ParamForm param) o c need rest last good fits led = named (state_at o c (places.Operand need)) (state_at o c places.BehindName) param rest last good refl led
     led_form (FieldForm term embed) o c need rest last good fits led =
-        named (state_at o c (places.Operand need)) (state_at o c places.BehindName) term.node (spell_path n term.path (sign (codes ".") ∷ name embed ∷ rest)) last good.0 refl (led_field o c term.path embed rest last good.1 led)
+        named (state_at o c (places.Operand need)) (state_at o c places.BehindName) term.node (spell_path n term.path (sign Fixed (codes ".") ∷ name embed ∷ rest)) last good.0 refl (led_field o c term.path embed rest last good.1 led)
     led_form (SameForm left right) o c need rest last good fits led =
-        let close = led_term o c endings.Close right (sign (codes ")") ∷ rest) last good.1 (0, state_at o c places.Behind, refl, refl, led) in
-        let first = led_term o c endings.Comma left (sign (codes ",") ∷ spell_term n right (sign (codes ")") ∷ rest)) last good.0 (0, state_at o c (places.Node endings.Close), refl, refl, close) in
+        let close = led_term o c endings.Close right (sign Fixed (codes ")") ∷ rest) last good.1 (0, state_at o c places.Behind, refl, refl, led) in
+        let first = led_term o c endings.Comma left (sign Fixed (codes ",") ∷ spell_term n right (sign Fixed (codes ")") ∷ rest)) last good.0 (0, state_at o c (places.Node endings.Close), refl, refl, close) in
         (0, state_at o c places.Same, refl, refl, (0, state_at o c (places.Node endings.Comma), refl, refl, first))
     led_form (CountForm orbit term) o c need rest last good fits led =
-        let close = led_term o c endings.Close term (sign (codes ")") ∷ rest) last good (0, state_at o c places.Behind, refl, refl, led) in
-        (0, state_at o c (places.Orbit endings.Close), refl, refl, led_orbit o c endings.Close orbit (spell_term n term (sign (codes ")") ∷ rest)) last close)
+        let close = led_term o c endings.Close term (sign Fixed (codes ")") ∷ rest) last good (0, state_at o c places.Behind, refl, refl, led) in
+        (0, state_at o c (places.Orbit endings.Close), refl, refl, led_orbit o c endings.Close orbit (spell_term n term (sign Fixed (codes ")") ∷ rest)) last close)
     led_form (CollectForm collector orbit term embed) o c need rest last good fits led =
-        let field = named (state_at o c (places.Field endings.FieldClose)) (state_at o c places.Close) embed (sign (codes ")") ∷ rest) last good.1 refl (0, state_at o c places.Behind, refl, refl, led) in
-        let close = led_term o c endings.FieldClose term (sign (codes ".") ∷ name embed ∷ sign (codes ")") ∷ rest) last good.0 (0, state_at o c (places.Field endings.FieldClose), refl, refl, field) in
-        led_collect collector o c need (sign (codes "<") ∷ spell_labels n orbit (sign (codes ">") ∷ sign (codes "(") ∷ spell_term n term (sign (codes ".") ∷ name embed ∷ sign (codes ")") ∷ rest))) last
-        (led_orbit o c endings.FieldClose orbit (spell_term n term (sign (codes ".") ∷ name embed ∷ sign (codes ")") ∷ rest)) last close)
+        let field = named (state_at o c (places.Field endings.FieldClose)) (state_at o c places.Close) embed (sign Fixed (codes ")") ∷ rest) last good.1 refl (0, state_at o c places.Behind, refl, refl, led) in
+        let close = led_term o c endings.FieldClose term (sign Fixed (codes ".") ∷ name embed ∷ sign Fixed (codes ")") ∷ rest) last good.0 (0, state_at o c (places.Field endings.FieldClose), refl, refl, field) in
+        led_collect collector o c need (sign Fixed (codes "<") ∷ spell_labels n orbit (sign Fixed (codes ">") ∷ sign Fixed (codes "(") ∷ spell_term n term (sign Fixed (codes ".") ∷ name embed ∷ sign Fixed (codes ")") ∷ rest))) last
+        (led_orbit o c endings.FieldClose orbit (spell_term n term (sign Fixed (codes ".") ∷ name embed ∷ sign Fixed (codes ")") ∷ rest)) last close)
     led_form (CallForm function arguments) o c need rest last good fits led =
-        let close : (form : Form) (within : Bool) → Led n (state_at (brackets.Call c ∷ o) within (place_behind form)) (sign (codes ")") ∷ rest) last =
-        λ form within. after_form form (brackets.Call c ∷ o) within (state_at o c places.Behind) keys.Close (sign (codes ")")) rest last refl refl refl refl led in
-        let bracket : Led n (state_at o c places.BehindName) (sign (codes "(") ∷ spell_arguments n arguments (sign (codes ")") ∷ rest)) last =
-        (0, state_at (brackets.Call c ∷ o) false (places.Operand needs.Any), refl, refl, led_arguments arguments o c (sign (codes ")") ∷ rest) last good.1 close) in
-        named (state_at o c (places.Operand need)) (state_at o c places.BehindName) function (sign (codes "(") ∷ spell_arguments n arguments (sign (codes ")") ∷ rest)) last good.0 refl bracket
+        let close : (form : Form) (within : Bool) → Led n (state_at (brackets.Call c ∷ o) within (place_behind form)) (sign Fixed (codes ")") ∷ rest) last =
+        λ form within. after_form form (brackets.Call c ∷ o) within (state_at o c places.Behind) keys.Close (sign Fixed (codes ")")) rest last refl refl refl refl led in
+        let bracket : Led n (state_at o c places.BehindName) (sign Fixed (codes "(") ∷ spell_arguments n arguments (sign Fixed (codes ")") ∷ rest)) last =
+        (0, state_at (brackets.Call c ∷ o) false (places.Operand needs.Any), refl, refl, led_arguments arguments o c (sign Fixed (codes ")") ∷ rest) last good.1 close) in
+        named (state_at o c (places.Operand need)) (state_at o c places.BehindName) function (sign Fixed (codes "(") ∷ spell_arguments n arguments (sign Fixed (codes ")") ∷ rest)) last good.0 refl bracket
     led_form (ParenForm part) o c need rest last good fits led =
-        let close = after_form part (brackets.Group c ∷ o) (compared_behind false part) (state_at o c places.Behind) keys.Close (sign (codes ")")) rest last refl refl refl refl led in
-        (0, state_at (brackets.Group c ∷ o) false (places.Operand needs.Any), refl, refl, led_form part (brackets.Group c ∷ o) false needs.Any (sign (codes ")") ∷ rest) last good (omega arith) close)
+        let close = after_form part (brackets.Group c ∷ o) (compared_behind false part) (state_at o c places.Behind) keys.Close (sign Fixed (codes ")")) rest last refl refl refl refl led in
+        (0, state_at (brackets.Group c ∷ o) false (places.Operand needs.Any), refl, refl, led_form part (brackets.Group c ∷ o) false needs.Any (sign Fixed (codes ")") ∷ rest) last good (omega arith) close)
     led_form (MinusForm part) o c need rest last good fits led =
         (0, state_at o c (places.Operand needs.Tight), refl, refl, led_form part o c needs.Tight rest last good.1 (fits_tightly (level_of part) (omega (arith, good.0)) c) led)
     led_form (NotForm part) o c need rest last good fits led =
@@ -326,18 +327,18 @@ module _ (n : ℕ) where
     led_form (IfForm condition one two) o c need rest last good fits led =
         let false_is = low_false need c 0 fits (omega arith) in
         let tail = led_form two o false needs.Any rest last good.2 (omega arith) led in
-        let on_else = after_form one (brackets.Then ∷ o) (compared_behind false one) (state_at o false (places.Operand needs.Any)) keys.Else (word (codes "else")) (spell n two rest) last refl refl refl refl tail in
-        let middle = led_form one (brackets.Then ∷ o) false needs.Any (word (codes "else") ∷ spell n two rest) last good.1 (omega arith) on_else in
-        let on_then = after_form condition (brackets.If ∷ o) (compared_behind false condition) (state_at (brackets.Then ∷ o) false (places.Operand needs.Any)) keys.Then (word (codes "then")) (spell n one (word (codes "else") ∷ spell n two rest)) last refl refl refl refl middle in
-        let head = led_form condition (brackets.If ∷ o) false needs.Any (word (codes "then") ∷ spell n one (word (codes "else") ∷ spell n two rest)) last good.0 (omega arith) on_then in
+        let on_else = after_form one (brackets.Then ∷ o) (compared_behind false one) (state_at o false (places.Operand needs.Any)) keys.Else (word Fixed (codes "else")) (spell n two rest) last refl refl refl refl tail in
+        let middle = led_form one (brackets.Then ∷ o) false needs.Any (word Fixed (codes "else") ∷ spell n two rest) last good.1 (omega arith) on_else in
+        let on_then = after_form condition (brackets.If ∷ o) (compared_behind false condition) (state_at (brackets.Then ∷ o) false (places.Operand needs.Any)) keys.Then (word Fixed (codes "then")) (spell n one (word Fixed (codes "else") ∷ spell n two rest)) last refl refl refl refl middle in
+        let head = led_form condition (brackets.If ∷ o) false needs.Any (word Fixed (codes "then") ∷ spell n one (word Fixed (codes "else") ∷ spell n two rest)) last good.0 (omega arith) on_then in
         subst (λ (b : Bool). Led n (state_at o b (places.Operand need)) (spell n (IfForm condition one two) rest) last) (sym false_is)
-        (if_need need o (spell n condition (word (codes "then") ∷ spell n one (word (codes "else") ∷ spell n two rest))) last (subst (λ (b : Bool). least_for need b ≤ 0) false_is fits) head)
+        (if_need need o (spell n condition (word Fixed (codes "then") ∷ spell n one (word Fixed (codes "else") ∷ spell n two rest))) last (subst (λ (b : Bool). least_for need b ≤ 0) false_is fits) head)
 
     pub led_arguments : (arguments : Arguments) → LedArguments arguments
     led_arguments (First form) o c rest last good led = led_form form (brackets.Call c ∷ o) false needs.Any rest last good (omega arith) (led form (compared_behind false form))
     led_arguments (Further arguments form) o c rest last good led =
-        led_arguments arguments o c (sign (codes ",") ∷ spell n form rest) last good.0
-        (λ before within. after_form before (brackets.Call c ∷ o) within (state_at (brackets.Call c ∷ o) false (places.Operand needs.Any)) keys.Comma (sign (codes ",")) (spell n form rest) last refl refl refl refl
+        led_arguments arguments o c (sign Fixed (codes ",") ∷ spell n form rest) last good.0
+        (λ before within. after_form before (brackets.Call c ∷ o) within (state_at (brackets.Call c ∷ o) false (places.Operand needs.Any)) keys.Comma (sign Fixed (codes ",")) (spell n form rest) last refl refl refl refl
         (led_form form (brackets.Call c ∷ o) false needs.Any rest last good.1 (omega arith) (led form (compared_behind false form))))
 
 -- ---- each state can be gone on from
@@ -352,15 +353,15 @@ module _ (n : ℕ) where
   -- each bracket is closed in its turn
   closes : (open_brackets : List Bracket) (compared : Bool) → GoesOn (state_at open_brackets compared places.Behind)
   closes [] compared = ([], state_at [] compared places.Behind, refl, refl)
-  closes (brackets.Group before ∷ others) compared = onward _ (state_at others before places.Behind) (sign (codes ")")) 0 refl refl (closes others before)
-  closes (brackets.Call before ∷ others) compared = onward _ (state_at others before places.Behind) (sign (codes ")")) 0 refl refl (closes others before)
+  closes (brackets.Group before ∷ others) compared = onward _ (state_at others before places.Behind) (sign Fixed (codes ")")) 0 refl refl (closes others before)
+  closes (brackets.Call before ∷ others) compared = onward _ (state_at others before places.Behind) (sign Fixed (codes ")")) 0 refl refl (closes others before)
   closes (brackets.If ∷ others) compared =
-      onward _ (state_at (brackets.Then ∷ others) false (places.Operand needs.Any)) (word (codes "then")) 0 refl refl
+      onward _ (state_at (brackets.Then ∷ others) false (places.Operand needs.Any)) (word Fixed (codes "then")) 0 refl refl
       (onward _ (state_at (brackets.Then ∷ others) false places.Behind) (number Quantity 0) 0 refl refl
-      (onward _ (state_at others false (places.Operand needs.Any)) (word (codes "else")) 0 refl refl
+      (onward _ (state_at others false (places.Operand needs.Any)) (word Fixed (codes "else")) 0 refl refl
       (onward _ (state_at others false places.Behind) (number Quantity 0) 0 refl refl (closes others false))))
   closes (brackets.Then ∷ others) compared =
-      onward _ (state_at others false (places.Operand needs.Any)) (word (codes "else")) 0 refl refl
+      onward _ (state_at others false (places.Operand needs.Any)) (word Fixed (codes "else")) 0 refl refl
       (onward _ (state_at others false places.Behind) (number Quantity 0) 0 refl refl (closes others false))
 
   -- the name of what there may be
@@ -368,7 +369,7 @@ module _ (n : ℕ) where
   a = record { name = codes "a"; place = 0 }
 
   close_place : (o : List Bracket) (c : Bool) → GoesOn (state_at o c places.Close)
-  close_place o c = onward _ (state_at o c places.Behind) (sign (codes ")")) 0 refl refl (closes o c)
+  close_place o c = onward _ (state_at o c places.Behind) (sign Fixed (codes ")")) 0 refl refl (closes o c)
 
   field_place : (o : List Bracket) (c : Bool) (ending : Ending) → GoesOn (state_at o c (places.Field ending))
   field_place o c endings.FieldClose = onward _ (state_at o c places.Close) (name a) 0 refl refl (close_place o c)
@@ -378,28 +379,28 @@ module _ (n : ℕ) where
 
   node_place : (o : List Bracket) (c : Bool) (ending : Ending) → GoesOn (state_at o c (places.BehindNode ending))
   node_place o c endings.Comma =
-      onward _ (state_at o c (places.Node endings.Close)) (sign (codes ",")) 0 refl refl
-      (onward _ (state_at o c (places.BehindNode endings.Close)) (name a) 0 refl refl (onward _ (state_at o c places.Behind) (sign (codes ")")) 0 refl refl (closes o c)))
-  node_place o c endings.Close = onward _ (state_at o c places.Behind) (sign (codes ")")) 0 refl refl (closes o c)
-  node_place o c endings.Field = onward _ (state_at o c (places.Field endings.Field)) (sign (codes ".")) 0 refl refl (field_place o c endings.Field)
-  node_place o c endings.FieldClose = onward _ (state_at o c (places.Field endings.FieldClose)) (sign (codes ".")) 0 refl refl (field_place o c endings.FieldClose)
+      onward _ (state_at o c (places.Node endings.Close)) (sign Fixed (codes ",")) 0 refl refl
+      (onward _ (state_at o c (places.BehindNode endings.Close)) (name a) 0 refl refl (onward _ (state_at o c places.Behind) (sign Fixed (codes ")")) 0 refl refl (closes o c)))
+  node_place o c endings.Close = onward _ (state_at o c places.Behind) (sign Fixed (codes ")")) 0 refl refl (closes o c)
+  node_place o c endings.Field = onward _ (state_at o c (places.Field endings.Field)) (sign Fixed (codes ".")) 0 refl refl (field_place o c endings.Field)
+  node_place o c endings.FieldClose = onward _ (state_at o c (places.Field endings.FieldClose)) (sign Fixed (codes ".")) 0 refl refl (field_place o c endings.FieldClose)
 
   term_place : (o : List Bracket) (c : Bool) (ending : Ending) → GoesOn (state_at o c (places.Node ending))
   term_place o c ending = onward _ (state_at o c (places.BehindNode ending)) (name a) 0 refl refl (node_place o c ending)
 
   open_place : (o : List Bracket) (c : Bool) (ending : Ending) → GoesOn (state_at o c (places.Open ending))
-  open_place o c ending = onward _ (state_at o c (places.Node ending)) (sign (codes "(")) 0 refl refl (term_place o c ending)
+  open_place o c ending = onward _ (state_at o c (places.Node ending)) (sign Fixed (codes "(")) 0 refl refl (term_place o c ending)
 
   label_place : (o : List Bracket) (c : Bool) (ending : Ending) → GoesOn (state_at o c (places.Label ending))
-  label_place o c ending = onward _ (state_at o c (places.Open ending)) (sign (codes ">")) 0 refl refl (open_place o c ending)
+  label_place o c ending = onward _ (state_at o c (places.Open ending)) (sign Fixed (codes ">")) 0 refl refl (open_place o c ending)
 
   pub goes_on : (o : List Bracket) (c : Bool) (place : Place) → GoesOn (state_at o c place)
   goes_on o c (places.Operand need) = onward _ (state_at o c places.Behind) (number Quantity 0) 0 refl refl (closes o c)
   goes_on o c places.Behind = closes o c
   goes_on [] c places.BehindName = ([], state_at [] c places.BehindName, refl, refl)
-  goes_on (bracket ∷ o) c places.BehindName = onward _ (state_at (bracket ∷ o) c (places.Field endings.Field)) (sign (codes ".")) 0 refl refl (field_place (bracket ∷ o) c endings.Field)
-  goes_on o c places.Same = onward _ (state_at o c (places.Node endings.Comma)) (sign (codes "(")) 0 refl refl (term_place o c endings.Comma)
-  goes_on o c (places.Orbit ending) = onward _ (state_at o c (places.Label ending)) (sign (codes "<")) 0 refl refl (label_place o c ending)
+  goes_on (bracket ∷ o) c places.BehindName = onward _ (state_at (bracket ∷ o) c (places.Field endings.Field)) (sign Fixed (codes ".")) 0 refl refl (field_place (bracket ∷ o) c endings.Field)
+  goes_on o c places.Same = onward _ (state_at o c (places.Node endings.Comma)) (sign Fixed (codes "(")) 0 refl refl (term_place o c endings.Comma)
+  goes_on o c (places.Orbit ending) = onward _ (state_at o c (places.Label ending)) (sign Fixed (codes "<")) 0 refl refl (label_place o c ending)
   goes_on o c (places.Label ending) = label_place o c ending
   goes_on o c (places.Open ending) = open_place o c ending
   goes_on o c (places.Node ending) = term_place o c ending

@@ -4,9 +4,10 @@ use Rattle.std.specs.Prelude.{IsTrue}
 use Rattle.gm_model.specs.declared.expr.BinOp.{BinOp}
 use Rattle.gm_model.specs.declared.expr.BinOp.TheVariants as ops
 use Rattle.gm_model.specs.Names.{Mention, IsFree}
-use Rattle.gm_model.specs.Reading.{Part}
+use Rattle.gm_model.specs.Reading.{Part, word, number, sign}
 use Rattle.gm_model.specs.Symbols.{Symbol, Word, Numeral, Sign}
 use Rattle.gm_text.specs.SchemaText.{LabelForm}
+use Rattle.gm_text.specs.ValueText.{truth_text}
 use Rattle.gm_parse.specs.declared.key.Collector.{Collector}
 use Rattle.gm_parse.specs.declared.key.Key.{Key}
 use Rattle.gm_parse.specs.declared.key.Key.TheVariants as keys
@@ -20,7 +21,7 @@ use Rattle.gm_parse.specs.declared.place.Place.{Place}
 use Rattle.gm_parse.specs.declared.place.Place.TheVariants as places
 use Rattle.gm_parse.specs.Forms.{TermForm, Form, NumberForm, TruthForm, ParamForm, FieldForm, SameForm, CountForm, CollectForm, CallForm, ParenForm, First, Further, level_of, IsGood, IsGoodTerm}
 use Rattle.gm_parse.specs.Levels.{binary_level, least_on_right}
-use Rattle.gm_parse.specs.Spelling.{Role, Fixed, Quantity, NameAt, LabelAt, StepAt, name, operator, spell, spell_labels, spell_orbit, spell_path, spell_term, spell_field, sign, word, number, truth_word, collector_word}
+use Rattle.gm_parse.specs.Spelling.{Role, Fixed, Quantity, NameAt, LabelAt, StepAt, name, operator, spell, spell_labels, spell_orbit, spell_path, spell_term, spell_field, collector_word}
 use Rattle.gm_parse.specs.Reading.{State, state_at, operator_move, behind_move, close_move, comma_move, then_move, else_move, move_by, move, role_at, key_role, key_of, is_whole, start}
 use Rattle.gm_parse.proofs.Keys.{symbol_of, is_fixed, fixed_is, number_is, name_is}
 use Rattle.gm_parse.proofs.Leading.{compared_by, need_behind, Led, tables}
@@ -93,31 +94,31 @@ nowhere next e = absurd cc
 
 module _ (n : ℕ) where
   abbrev spell_head : (ending : Ending) → Head ending → List (Part Role) → List (Part Role)
-  spell_head endings.Close head rest = word (codes "count") ∷ rest
-  spell_head endings.FieldClose collector rest = word (collector_word collector) ∷ rest
+  spell_head endings.Close head rest = word Fixed (codes "count") ∷ rest
+  spell_head endings.FieldClose collector rest = word Fixed (collector_word collector) ∷ rest
   spell_head endings.Comma head rest = rest
   spell_head endings.Field head rest = rest
 
   abbrev spell_lead : (ending : Ending) → Lead ending → List (Part Role) → List (Part Role)
-  spell_lead endings.Comma lead rest = word (codes "same") ∷ sign (codes "(") ∷ rest
-  spell_lead endings.Close (inl term) rest = word (codes "same") ∷ sign (codes "(") ∷ spell_term n term (sign (codes ",") ∷ rest)
-  spell_lead endings.Close (inr orbit) rest = word (codes "count") ∷ spell_orbit n orbit (sign (codes "(") ∷ rest)
+  spell_lead endings.Comma lead rest = word Fixed (codes "same") ∷ sign Fixed (codes "(") ∷ rest
+  spell_lead endings.Close (inl term) rest = word Fixed (codes "same") ∷ sign Fixed (codes "(") ∷ spell_term n term (sign Fixed (codes ",") ∷ rest)
+  spell_lead endings.Close (inr orbit) rest = word Fixed (codes "count") ∷ spell_orbit n orbit (sign Fixed (codes "(") ∷ rest)
   spell_lead endings.Field lead rest = rest
-  spell_lead endings.FieldClose lead rest = word (collector_word lead.0) ∷ spell_orbit n lead.1 (sign (codes "(") ∷ rest)
+  spell_lead endings.FieldClose lead rest = word Fixed (collector_word lead.0) ∷ spell_orbit n lead.1 (sign Fixed (codes "(") ∷ rest)
 
   abbrev spell_partial : (place : Place) → Partial place → List (Part Role) → List (Part Role)
   spell_partial (places.Operand need) partial rest = rest
   spell_partial places.Behind form rest = spell n form rest
   spell_partial places.BehindName mention rest = name mention ∷ rest
-  spell_partial places.Same partial rest = word (codes "same") ∷ rest
+  spell_partial places.Same partial rest = word Fixed (codes "same") ∷ rest
   spell_partial (places.Orbit ending) head rest = spell_head ending head rest
-  spell_partial (places.Label ending) partial rest = spell_head ending partial.0 (sign (codes "<") ∷ spell_labels n partial.1 rest)
-  spell_partial (places.Open ending) partial rest = spell_head ending partial.0 (sign (codes "<") ∷ spell_labels n partial.1 (sign (codes ">") ∷ rest))
+  spell_partial (places.Label ending) partial rest = spell_head ending partial.0 (sign Fixed (codes "<") ∷ spell_labels n partial.1 rest)
+  spell_partial (places.Open ending) partial rest = spell_head ending partial.0 (sign Fixed (codes "<") ∷ spell_labels n partial.1 (sign Fixed (codes ">") ∷ rest))
   spell_partial (places.Node ending) lead rest = spell_lead ending lead rest
   spell_partial (places.BehindNode ending) partial rest = spell_lead ending partial.0 (spell_term n partial.1 rest)
-  spell_partial (places.Step ending) partial rest = spell_lead ending partial.0 (spell_term n partial.1 (sign (codes "@") ∷ rest))
-  spell_partial (places.Field ending) partial rest = spell_lead ending partial.0 (spell_term n partial.1 (sign (codes ".") ∷ rest))
-  spell_partial places.Close partial rest = word (collector_word partial.0) ∷ spell_orbit n partial.1 (sign (codes "(") ∷ spell_field n partial.2 partial.3 rest)
+  spell_partial (places.Step ending) partial rest = spell_lead ending partial.0 (spell_term n partial.1 (sign Fixed (codes "@") ∷ rest))
+  spell_partial (places.Field ending) partial rest = spell_lead ending partial.0 (spell_term n partial.1 (sign Fixed (codes ".") ∷ rest))
+  spell_partial places.Close partial rest = word Fixed (collector_word partial.0) ∷ spell_orbit n partial.1 (sign Fixed (codes "(") ∷ spell_field n partial.2 partial.3 rest)
 
   -- what is read so far, where reading is in this state
   record Zip (state : State) : Type 0 where
@@ -192,44 +193,44 @@ module _ (n : ℕ) where
         put _ part (number Quantity value) next (the_part part (Numeral value) Quantity is role)
         (as_next _ _ (state_at o c places.Behind) next moves (stays (places.Operand need) places.Behind tt (NumberForm value) (number Quantity value) (tt, omega arith) (λ rest. refl)))
     operand_next need (keys.Truth b) part at next needed key role moves =
-        put _ part (word (truth_word b)) next (the_part part (Word (truth_word b)) Fixed (fixed_is part.symbol (keys.Truth b) key refl) role)
-        (as_next _ _ (state_at o c places.Behind) next moves (stays (places.Operand need) places.Behind tt (TruthForm b) (word (truth_word b)) (tt, omega arith) (λ rest. refl)))
+        put _ part (word Fixed (truth_text b)) next (the_part part (Word (truth_text b)) Fixed (fixed_is part.symbol (keys.Truth b) key refl) role)
+        (as_next _ _ (state_at o c places.Behind) next moves (stays (places.Operand need) places.Behind tt (TruthForm b) (word Fixed (truth_text b)) (tt, omega arith) (λ rest. refl)))
     operand_next need keys.Name part at next needed key role moves =
         let (w, free, is) = name_is part.symbol key in
         let mention : Mention = record { name = w; place = at } in
         put _ part (name mention) next (the_part part (Word w) (NameAt at) is role)
         (as_next _ _ (state_at o c places.BehindName) next moves (stays (places.Operand need) places.BehindName tt mention (name mention) free (λ rest. refl)))
     operand_next need keys.Open part at next needed key role moves =
-        put _ part (sign (codes "(")) next (the_part part (Sign (codes "(")) Fixed (fixed_is part.symbol keys.Open key refl) role)
+        put _ part (sign Fixed (codes "(")) next (the_part part (Sign (codes "(")) Fixed (fixed_is part.symbol keys.Open key refl) role)
         (as_next _ _ (state_at (brackets.Group c ∷ o) false (places.Operand needs.Any)) next moves
         (record {
           zip = record { frames = GroupOf ∷ frames; partial = tt; good = (tt, good); fits = omega arith; brackets = ap (λ (b : Bool). brackets.Group b ∷ o) compared_is ∙ ap (λ (bs : List Bracket). brackets.Group (compared_in frames) ∷ bs) open_are; compared = refl };
           spells = λ rest. refl;
         }))
     operand_next need (keys.Operator ops.Sub) part at next needed key role moves =
-        put _ part (sign (codes "-")) next (the_part part (Sign (codes "-")) Fixed (fixed_is part.symbol (keys.Operator ops.Sub) key refl) role)
+        put _ part (sign Fixed (codes "-")) next (the_part part (Sign (codes "-")) Fixed (fixed_is part.symbol (keys.Operator ops.Sub) key refl) role)
         (as_next _ _ (state_at o c (places.Operand needs.Tight)) next moves
         (record {
           zip = record { frames = MinusOf ∷ frames; partial = tt; good = (tt, good); fits = tt; brackets = open_are; compared = compared_is };
           spells = λ rest. refl;
         }))
     operand_next need keys.Not part at next needed key role moves =
-        put _ part (word (codes "not")) next (the_part part (Word (codes "not")) Fixed (fixed_is part.symbol keys.Not key refl) role) (go need needed moves)
+        put _ part (word Fixed (codes "not")) next (the_part part (Word (codes "not")) Fixed (fixed_is part.symbol keys.Not key refl) role) (go need needed moves)
       where
-        inner : least_of frames ≤ 3 → Next (λ rest. spell_frames n frames rest) (word (codes "not")) (state_at o c (places.Operand needs.NoIf))
+        inner : least_of frames ≤ 3 → Next (λ rest. spell_frames n frames rest) (word Fixed (codes "not")) (state_at o c (places.Operand needs.NoIf))
         inner low = record {
           zip = record { frames = NotOf ∷ frames; partial = tt; good = (low, good); fits = omega arith; brackets = open_are; compared = compared_is ∙ low_compared frames low };
           spells = λ rest. refl;
         }
 
-        go : (need : Need) → IsNeeded need (least_of frames) → move_by (state_at o c (places.Operand need)) (places.Operand need) keys.Not ≡ Some next → Next (λ rest. spell_frames n frames rest) (word (codes "not")) next
+        go : (need : Need) → IsNeeded need (least_of frames) → move_by (state_at o c (places.Operand need)) (places.Operand need) keys.Not ≡ Some next → Next (λ rest. spell_frames n frames rest) (word Fixed (codes "not")) next
         go needs.Any low moves = as_next _ _ (state_at o c (places.Operand needs.NoIf)) next moves (inner (omega (arith, low)))
         go needs.NoIf low moves = as_next _ _ (state_at o c (places.Operand needs.NoIf)) next moves (inner low)
         go needs.Tight low moves = absurd (nowhere next moves)
     operand_next need keys.If part at next needed key role moves =
-        put _ part (word (codes "if")) next (the_part part (Word (codes "if")) Fixed (fixed_is part.symbol keys.If key refl) role) (go need needed moves)
+        put _ part (word Fixed (codes "if")) next (the_part part (Word (codes "if")) Fixed (fixed_is part.symbol keys.If key refl) role) (go need needed moves)
       where
-        go : (need : Need) → IsNeeded need (least_of frames) → move_by (state_at o c (places.Operand need)) (places.Operand need) keys.If ≡ Some next → Next (λ rest. spell_frames n frames rest) (word (codes "if")) next
+        go : (need : Need) → IsNeeded need (least_of frames) → move_by (state_at o c (places.Operand need)) (places.Operand need) keys.If ≡ Some next → Next (λ rest. spell_frames n frames rest) (word Fixed (codes "if")) next
         go needs.Any low moves =
             as_next _ _ (state_at (brackets.If ∷ o) false (places.Operand needs.Any)) next moves
             (record {
@@ -239,14 +240,14 @@ module _ (n : ℕ) where
         go needs.NoIf low moves = absurd (nowhere next moves)
         go needs.Tight low moves = absurd (nowhere next moves)
     operand_next need keys.Same part at next needed key role moves =
-        put _ part (word (codes "same")) next (the_part part (Word (codes "same")) Fixed (fixed_is part.symbol keys.Same key refl) role)
-        (as_next _ _ (state_at o c places.Same) next moves (stays (places.Operand need) places.Same tt tt (word (codes "same")) tt (λ rest. refl)))
+        put _ part (word Fixed (codes "same")) next (the_part part (Word (codes "same")) Fixed (fixed_is part.symbol keys.Same key refl) role)
+        (as_next _ _ (state_at o c places.Same) next moves (stays (places.Operand need) places.Same tt tt (word Fixed (codes "same")) tt (λ rest. refl)))
     operand_next need keys.Count part at next needed key role moves =
-        put _ part (word (codes "count")) next (the_part part (Word (codes "count")) Fixed (fixed_is part.symbol keys.Count key refl) role)
-        (as_next _ _ (state_at o c (places.Orbit endings.Close)) next moves (stays (places.Operand need) (places.Orbit endings.Close) tt tt (word (codes "count")) tt (λ rest. refl)))
+        put _ part (word Fixed (codes "count")) next (the_part part (Word (codes "count")) Fixed (fixed_is part.symbol keys.Count key refl) role)
+        (as_next _ _ (state_at o c (places.Orbit endings.Close)) next moves (stays (places.Operand need) (places.Orbit endings.Close) tt tt (word Fixed (codes "count")) tt (λ rest. refl)))
     operand_next need (keys.Collect collector) part at next needed key role moves =
-        put _ part (word (collector_word collector)) next (the_part part (Word (collector_word collector)) Fixed (fixed_is part.symbol (keys.Collect collector) key refl) role)
-        (as_next _ _ (state_at o c (places.Orbit endings.FieldClose)) next moves (stays (places.Operand need) (places.Orbit endings.FieldClose) tt collector (word (collector_word collector)) tt (λ rest. refl)))
+        put _ part (word Fixed (collector_word collector)) next (the_part part (Word (collector_word collector)) Fixed (fixed_is part.symbol (keys.Collect collector) key refl) role)
+        (as_next _ _ (state_at o c (places.Orbit endings.FieldClose)) next moves (stays (places.Operand need) (places.Orbit endings.FieldClose) tt collector (word Fixed (collector_word collector)) tt (λ rest. refl)))
     operand_next need _ part at next needed key role moves = absurd (nowhere next moves)
 
   -- ---- behind an operand
@@ -315,15 +316,15 @@ module _ (n : ℕ) where
   closed_next : (form : Form) (part : Part Role) (frame : Frame) (frames : List Frame) (next : State) → is_open frame ≡ true → key_of part.symbol ≡ keys.Close → part.role ≡ Fixed → IsHeld (held (frame ∷ frames) form)
       → close_move (brackets_of (frame ∷ frames)) ≡ Some next → Next (λ rest. spell_frames n (frame ∷ frames) (spell n form rest)) part next
   closed_next form part GroupOf frames next opens key role h moves =
-      put _ part (sign (codes ")")) next (the_part part (Sign (codes ")")) Fixed (fixed_is part.symbol keys.Close key refl) role)
+      put _ part (sign Fixed (codes ")")) next (the_part part (Sign (codes ")")) Fixed (fixed_is part.symbol keys.Close key refl) role)
       (as_next _ _ (state_at (brackets_of frames) (compared_in frames) places.Behind) next moves
       (record { zip = record { frames = frames; partial = ParenForm form; good = h.frames.1; fits = (h.form, omega arith); brackets = refl; compared = refl }; spells = λ rest. refl }))
   closed_next form part (FirstOf function) frames next opens key role h moves =
-      put _ part (sign (codes ")")) next (the_part part (Sign (codes ")")) Fixed (fixed_is part.symbol keys.Close key refl) role)
+      put _ part (sign Fixed (codes ")")) next (the_part part (Sign (codes ")")) Fixed (fixed_is part.symbol keys.Close key refl) role)
       (as_next _ _ (state_at (brackets_of frames) (compared_in frames) places.Behind) next moves
       (record { zip = record { frames = frames; partial = CallForm function (First form); good = h.frames.1; fits = ((h.frames.0, h.form), omega arith); brackets = refl; compared = refl }; spells = λ rest. refl }))
   closed_next form part (FurtherOf function arguments) frames next opens key role h moves =
-      put _ part (sign (codes ")")) next (the_part part (Sign (codes ")")) Fixed (fixed_is part.symbol keys.Close key refl) role)
+      put _ part (sign Fixed (codes ")")) next (the_part part (Sign (codes ")")) Fixed (fixed_is part.symbol keys.Close key refl) role)
       (as_next _ _ (state_at (brackets_of frames) (compared_in frames) places.Behind) next moves
       (record { zip = record { frames = frames; partial = CallForm function (Further arguments form); good = h.frames.1; fits = ((h.frames.0.0, (h.frames.0.1, h.form)), omega arith); brackets = refl; compared = refl }; spells = λ rest. refl }))
   closed_next form part IfOf frames next opens key role h moves = absurd (nowhere next moves)
@@ -336,11 +337,11 @@ module _ (n : ℕ) where
   comma_next : (form : Form) (part : Part Role) (frame : Frame) (frames : List Frame) (next : State) → is_open frame ≡ true → key_of part.symbol ≡ keys.Comma → part.role ≡ Fixed → IsHeld (held (frame ∷ frames) form)
       → comma_move (brackets_of (frame ∷ frames)) ≡ Some next → Next (λ rest. spell_frames n (frame ∷ frames) (spell n form rest)) part next
   comma_next form part (FirstOf function) frames next opens key role h moves =
-      put _ part (sign (codes ",")) next (the_part part (Sign (codes ",")) Fixed (fixed_is part.symbol keys.Comma key refl) role)
+      put _ part (sign Fixed (codes ",")) next (the_part part (Sign (codes ",")) Fixed (fixed_is part.symbol keys.Comma key refl) role)
       (as_next _ _ (state_at (brackets.Call (compared_in frames) ∷ brackets_of frames) false (places.Operand needs.Any)) next moves
       (record { zip = record { frames = FurtherOf function (First form) ∷ frames; partial = tt; good = ((h.frames.0, h.form), h.frames.1); fits = omega arith; brackets = refl; compared = refl }; spells = λ rest. refl }))
   comma_next form part (FurtherOf function arguments) frames next opens key role h moves =
-      put _ part (sign (codes ",")) next (the_part part (Sign (codes ",")) Fixed (fixed_is part.symbol keys.Comma key refl) role)
+      put _ part (sign Fixed (codes ",")) next (the_part part (Sign (codes ",")) Fixed (fixed_is part.symbol keys.Comma key refl) role)
       (as_next _ _ (state_at (brackets.Call (compared_in frames) ∷ brackets_of frames) false (places.Operand needs.Any)) next moves
       (record { zip = record { frames = FurtherOf function (Further arguments form) ∷ frames; partial = tt; good = ((h.frames.0.0, (h.frames.0.1, h.form)), h.frames.1); fits = omega arith; brackets = refl; compared = refl }; spells = λ rest. refl }))
   comma_next form part GroupOf frames next opens key role h moves = absurd (nowhere next moves)
@@ -354,7 +355,7 @@ module _ (n : ℕ) where
   then_next : (form : Form) (part : Part Role) (frame : Frame) (frames : List Frame) (next : State) → is_open frame ≡ true → key_of part.symbol ≡ keys.Then → part.role ≡ Fixed → IsHeld (held (frame ∷ frames) form)
       → then_move (brackets_of (frame ∷ frames)) ≡ Some next → Next (λ rest. spell_frames n (frame ∷ frames) (spell n form rest)) part next
   then_next form part IfOf frames next opens key role h moves =
-      put _ part (word (codes "then")) next (the_part part (Word (codes "then")) Fixed (fixed_is part.symbol keys.Then key refl) role)
+      put _ part (word Fixed (codes "then")) next (the_part part (Word (codes "then")) Fixed (fixed_is part.symbol keys.Then key refl) role)
       (as_next _ _ (state_at (brackets.Then ∷ brackets_of frames) false (places.Operand needs.Any)) next moves
       (record { zip = record { frames = ThenOf form ∷ frames; partial = tt; good = ((h.form, h.frames.0), h.frames.1); fits = omega arith; brackets = refl; compared = refl }; spells = λ rest. refl }))
   then_next form part GroupOf frames next opens key role h moves = absurd (nowhere next moves)
@@ -369,7 +370,7 @@ module _ (n : ℕ) where
   else_next : (form : Form) (part : Part Role) (frame : Frame) (frames : List Frame) (next : State) → is_open frame ≡ true → key_of part.symbol ≡ keys.Else → part.role ≡ Fixed → IsHeld (held (frame ∷ frames) form)
       → else_move (brackets_of (frame ∷ frames)) ≡ Some next → Next (λ rest. spell_frames n (frame ∷ frames) (spell n form rest)) part next
   else_next form part (ThenOf c) frames next opens key role h moves =
-      put _ part (word (codes "else")) next (the_part part (Word (codes "else")) Fixed (fixed_is part.symbol keys.Else key refl) role)
+      put _ part (word Fixed (codes "else")) next (the_part part (Word (codes "else")) Fixed (fixed_is part.symbol keys.Else key refl) role)
       (as_next _ _ (state_at (brackets_of frames) false (places.Operand needs.Any)) next moves
       (record { zip = record { frames = ElseOf c form ∷ frames; partial = tt; good = ((h.frames.0.0, h.form, h.frames.0.1), h.frames.1); fits = omega arith; brackets = refl; compared = refl }; spells = λ rest. refl }))
   else_next form part IfOf frames next opens key role h moves = absurd (nowhere next moves)
@@ -430,9 +431,9 @@ module _ (n : ℕ) where
   labels_behind [] form rest = refl
   labels_behind (first ∷ orbit) form rest = ap (λ (ps : List (Part Role)). number (LabelAt n first.place) first.label ∷ ps) (labels_behind orbit form rest)
 
-  path_behind : (path : List ℕ) (label : ℕ) (rest : List (Part Role)) → spell_path n path (sign (codes "@") ∷ number (StepAt n) label ∷ rest) ≡ spell_path n (path ++ label ∷ []) rest
+  path_behind : (path : List ℕ) (label : ℕ) (rest : List (Part Role)) → spell_path n path (sign Fixed (codes "@") ∷ number (StepAt n) label ∷ rest) ≡ spell_path n (path ++ label ∷ []) rest
   path_behind [] label rest = refl
-  path_behind (first ∷ path) label rest = ap (λ (ps : List (Part Role)). sign (codes "@") ∷ number (StepAt n) first ∷ ps) (path_behind path label rest)
+  path_behind (first ∷ path) label rest = ap (λ (ps : List (Part Role)). sign Fixed (codes "@") ∷ number (StepAt n) first ∷ ps) (path_behind path label rest)
 
   module _ (o : List Bracket) (c : Bool) (frames : List Frame) (good : AreGoodFrames frames) (open_are : o ≡ brackets_of frames) (compared_is : c ≡ compared_in frames) where
     abbrev NextOf : (place : Place) → Partial place → Part Role → State → Type 0
@@ -479,7 +480,7 @@ module _ (n : ℕ) where
         → NextOf (places.Label ending) (head, orbit) part next
     label_next ending head orbit keys.Number part at next is role moves =
         by_number (LabelAt n at) (places.Label ending) (places.Label ending) (head, orbit) (λ label. (head, orbit ++ record { label = label; place = at } ∷ [])) part next is role moves (λ value. tt)
-        (λ value rest. ap (λ (ps : List (Part Role)). spell_head ending head (sign (codes "<") ∷ ps)) (labels_behind orbit (record { label = value; place = at }) rest))
+        (λ value rest. ap (λ (ps : List (Part Role)). spell_head ending head (sign Fixed (codes "<") ∷ ps)) (labels_behind orbit (record { label = value; place = at }) rest))
     label_next ending head orbit (keys.Operator ops.Gt) part at next is role moves = by_sign (keys.Operator ops.Gt) (places.Label ending) (places.Open ending) (head, orbit) (head, orbit) part next is refl role moves tt (λ rest. refl)
     label_next ending head orbit _ part at next is role moves = absurd (nowhere next moves)
 
@@ -539,7 +540,7 @@ module _ (n : ℕ) where
 
     name_next : (mention : Mention) → IsFree mention → (key : Key) (part : Part Role) (at : ℕ) (next : State) → key_of part.symbol ≡ key → part.role ≡ key_role n places.BehindName key at → Moves places.BehindName key next → NextOf places.BehindName mention part next
     name_next mention free keys.Open part at next is role moves =
-        put _ part (sign (codes "(")) next (the_part part (Sign (codes "(")) Fixed (fixed_is part.symbol keys.Open is refl) role)
+        put _ part (sign Fixed (codes "(")) next (the_part part (Sign (codes "(")) Fixed (fixed_is part.symbol keys.Open is refl) role)
         (as_next _ _ (state_at (brackets.Call c ∷ o) false (places.Operand needs.Any)) next moves
         (record {
           zip = record { frames = FirstOf mention ∷ frames; partial = tt; good = (free, good); fits = omega arith; brackets = ap (λ (b : Bool). brackets.Call b ∷ o) compared_is ∙ ap (λ (bs : List Bracket). brackets.Call (compared_in frames) ∷ bs) open_are; compared = refl };

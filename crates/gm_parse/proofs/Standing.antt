@@ -4,10 +4,10 @@ use Rattle.std.specs.Option.{option_map}
 use Rattle.gm_parse.specs.declared.place.Bracket.{Bracket}
 use Rattle.std.specs.Prelude.{IsTrue, is_some, nat_lt}
 use Rattle.gm_model.specs.declared.limit.LimitKind.{LimitKind}
-use Rattle.gm_model.specs.Reading.{Part, IsWithin, TextEndsAt, LimitStandsAt}
+use Rattle.gm_model.specs.Reading.{Part, in_role, IsWithin, TextEndsAt, LimitStandsAt, ArePlaced}
 use Rattle.gm_model.specs.Symbols.{Symbol, Word, Numeral, Sign, Gone, Stray, End, Mark}
 use Rattle.gm_text.specs.Machine.{Ends, Passes, IsGrammar}
-use Rattle.gm_text.specs.Nested.{Nested, Outside, Inside, IsApart, HasPieces, IsNestedSentence, LeadsNested, wrapped}
+use Rattle.gm_text.specs.Nested.{Nested, Outside, Inside, IsApart, HasPieces, IsNestedSentence, LeadsNested}
 use Rattle.gm_text.specs.Nested as nested
 use Rattle.gm_text.proofs.Machine.{Along, run_reads, run_ends, run_passes, along_leads, along_spelled, ended_is, passing_is}
 use Rattle.gm_text.proofs.Nested.{nested_grammar, run_inside_ends, run_inside_passes}
@@ -16,7 +16,7 @@ use Rattle.gm_parse.specs.declared.key.Key.TheVariants as keys
 use Rattle.gm_parse.specs.declared.place.Place.{Place}
 use Rattle.gm_parse.specs.declared.place.Place.TheVariants as places
 use Rattle.gm_parse.specs.Forms.{Form, IsGood}
-use Rattle.gm_parse.specs.Spelling.{Role, Fixed, NameAt, Counted, limit_of, limit_in, passed_by, counted_from, spell, parts_of, beyond, IsSentence, IsPlacedAt, ArePlaced, Stands}
+use Rattle.gm_parse.specs.Spelling.{Role, Fixed, NameAt, Counted, limit_of, limit_in, passed_by, counted_from, spell, parts_of, beyond, IsSentence, IsPlacedAt, Stands}
 use Rattle.gm_parse.specs.Reading.{State, state_at, move_by, is_whole_at, key_of, number_role, key_role, role_at, Spot, spot_at, first_spot, spot_move, spot_role, is_whole_spot, never, Around, AtNext, AtRest, around_move, standing}
 use Rattle.gm_parse.specs.Answers.{run_in}
 use Rattle.gm_parse.proofs.Counted.{LedSpot, spot_behind, form_whole, form_leads, path_form, path_end, spot_goes_on, no_longer, stays_ended, parts_symbols}
@@ -102,7 +102,7 @@ module _ (n : ℕ) where
   is_apart : IsApart (standing n)
   is_apart spot symbol next whole moves = (next_moved spot symbol next moves).0
 
-  all_wrapped : (parts : List (Part Counted)) → map (wrapped (standing n)) parts ≡ parts
+  all_wrapped : (parts : List (Part Counted)) → map (in_role (standing n).wrap) parts ≡ parts
   all_wrapped [] = refl
   all_wrapped (part ∷ parts) = ap (λ (ps : List (Part Counted)). part ∷ ps) (all_wrapped parts)
 
@@ -194,7 +194,7 @@ module _ (n : ℕ) where
         next = next;
         others = others;
         ends = no_longer n form good next none;
-        spelled = sentence.spelled ∙ ap (λ (ps : List (Part Counted)). ps ++ (map (wrapped (standing n)) sentence.inner ++ sentence.back)) sentence.is_front.0
+        spelled = sentence.spelled ∙ ap (λ (ps : List (Part Counted)). ps ++ (map (in_role (standing n).wrap) sentence.inner ++ sentence.back)) sentence.is_front.0
             ∙ ap (λ (ps : List (Part Counted)). ps ++ sentence.back) (all_wrapped sentence.inner ∙ inner)
             ∙ ap (λ (ps : List (Part Counted)). parts_of n form ++ ps) spelled;
       }
@@ -232,7 +232,7 @@ module _ (n : ℕ) where
   placed_key where_it_is keys.Name place = refl
   placed_key where_it_is _ place = tt
 
-  placed_along : (k : ℕ) (spot last : Spot) (marks : List Mark) (parts : List (Part Role)) → Along limit_in never (spot_role n) spot_move spot marks (counted_from k parts) last → ArePlaced marks parts
+  placed_along : (k : ℕ) (spot last : Spot) (marks : List Mark) (parts : List (Part Role)) → Along limit_in never (spot_role n) spot_move spot marks (counted_from k parts) last → ArePlaced IsPlacedAt marks parts
   placed_along k spot last [] parts along = tt
   placed_along k spot last (mark ∷ marks) [] along = tt
   placed_along k spot last (mark ∷ marks) (part ∷ parts) (next, is, moves, along) =

@@ -1,5 +1,5 @@
 -- What a form of an expression means where names are known: its tree, and the faults of its names.
-use Rattle.std.specs.Prelude.{◌≡◌, ℕ, ◌<◌, ◌≤◌, ◌⊎◌, pos, Bool, false, if◌then◌else◌, List, [], ◌∷◌, ◌++◌, map, take, Option, Some, None, is_some, nat_eq, codes}
+use Rattle.std.specs.Prelude.{◌≡◌, ℕ, ◌<◌, ◌≤◌, ◌⊎◌, pos, Bool, false, if◌then◌else◌, List, [], ◌∷◌, ◌++◌, map, Option, Some, None, is_some, nat_eq, codes}
 use Rattle.std.specs.List.{Contains, position}
 use Rattle.std.specs.Option.{unwrap_or}
 use Rattle.std.specs.Str.{bytes_eq}
@@ -31,12 +31,12 @@ pub record Names : Type 0 where
 abbrev pub left_name : Node → Option (List ℕ)
 left_name node = if is_some node.left then Some node.name else None
 
--- A number of a node, a parameter or an embedding is one byte, so there are no more of them.
+-- those of a schema, and of a rule's parameters and nodes
 abbrev pub names_in : Schema → List Param → List Node → Names
 names_in schema params nodes = record {
-  embeds = take 256 (map (λ (embed : Embed). embed.name) schema.embeds);
-  params = take 256 (map (λ (param : Param). param.name) params);
-  nodes = take 256 (map left_name nodes);
+  embeds = map (λ (embed : Embed). embed.name) schema.embeds;
+  params = map (λ (param : Param). param.name) params;
+  nodes = map left_name nodes;
 }
 
 abbrev pub number_of : List (List ℕ) → List ℕ → Option ℕ

@@ -5,9 +5,10 @@ use Rattle.gm_model.specs.declared.expr.BinOp.TheVariants as ops
 use Rattle.gm_model.specs.declared.limit.LimitKind.{LimitKind}
 use Rattle.gm_model.specs.declared.limit.LimitKind.TheVariants as limits
 use Rattle.gm_model.specs.Names.{Mention}
-use Rattle.gm_model.specs.Symbols.{Symbol, Word, Numeral, Sign, Mark, symbols}
-use Rattle.gm_model.specs.Reading.{Part, IsWithin, symbols_in}
+use Rattle.gm_model.specs.Symbols.{Symbol, Word, Numeral, Mark, symbols}
+use Rattle.gm_model.specs.Reading.{Part, word, number, sign, ArePlaced, IsWithin, symbols_in}
 use Rattle.gm_text.specs.SchemaText.{LabelForm}
+use Rattle.gm_text.specs.ValueText.{truth_text}
 use Rattle.gm_parse.specs.declared.key.Collector.{Collector}
 use Rattle.gm_parse.specs.declared.key.Collector.TheVariants as collectors
 use Rattle.gm_parse.specs.Forms.{TermForm, Form, NumberForm, TruthForm, ParamForm, FieldForm, SameForm, CountForm, CollectForm, CallForm, ParenForm, MinusForm, NotForm, BinaryForm, IfForm, Arguments, First, Further, IsGood}
@@ -55,36 +56,23 @@ limit_in counted symbol = passed_by (limit_of counted.role symbol) (nat_lt 256 c
 
 -- ---- spellings
 
-abbrev pub word : List ℕ → Part Role
-word bytes = record { symbol = Word bytes; role = Fixed }
-
-abbrev pub sign : List ℕ → Part Role
-sign bytes = record { symbol = Sign bytes; role = Fixed }
-
 abbrev pub name : Mention → Part Role
-name mention = record { symbol = Word mention.name; role = NameAt mention.place }
-
-abbrev pub number : Role → ℕ → Part Role
-number role n = record { symbol = Numeral n; role = role }
-
-abbrev pub truth_word : Bool → List ℕ
-truth_word true = codes "true"
-truth_word false = codes "false"
+name mention = word (NameAt mention.place) mention.name
 
 abbrev pub operator : BinOp → Part Role
-operator ops.Or = word (codes "or")
-operator ops.And = word (codes "and")
-operator ops.Eq = sign (codes "==")
-operator ops.Ne = sign (codes "!=")
-operator ops.Lt = sign (codes "<")
-operator ops.Le = sign (codes "<=")
-operator ops.Gt = sign (codes ">")
-operator ops.Ge = sign (codes ">=")
-operator ops.Add = sign (codes "+")
-operator ops.Sub = sign (codes "-")
-operator ops.Mul = sign (codes "*")
-operator ops.Div = sign (codes "/")
-operator ops.Rem = sign (codes "%")
+operator ops.Or = word Fixed (codes "or")
+operator ops.And = word Fixed (codes "and")
+operator ops.Eq = sign Fixed (codes "==")
+operator ops.Ne = sign Fixed (codes "!=")
+operator ops.Lt = sign Fixed (codes "<")
+operator ops.Le = sign Fixed (codes "<=")
+operator ops.Gt = sign Fixed (codes ">")
+operator ops.Ge = sign Fixed (codes ">=")
+operator ops.Add = sign Fixed (codes "+")
+operator ops.Sub = sign Fixed (codes "-")
+operator ops.Mul = sign Fixed (codes "*")
+operator ops.Div = sign Fixed (codes "/")
+operator ops.Rem = sign Fixed (codes "%")
 
 abbrev pub collector_word : Collector → List ℕ
 collector_word collectors.Sum = codes "sum"
@@ -99,12 +87,12 @@ spell_labels n (form ∷ forms) rest = number (LabelAt n form.place) form.label 
 
 -- <0 1>
 abbrev pub spell_orbit : ℕ → List LabelForm → List (Part Role) → List (Part Role)
-spell_orbit n orbit rest = sign (codes "<") ∷ spell_labels n orbit (sign (codes ">") ∷ rest)
+spell_orbit n orbit rest = sign Fixed (codes "<") ∷ spell_labels n orbit (sign Fixed (codes ">") ∷ rest)
 
 -- @0@1
 abbrev pub spell_path : ℕ → List ℕ → List (Part Role) → List (Part Role)
 spell_path n [] rest = rest
-spell_path n (label ∷ labels) rest = sign (codes "@") ∷ number (StepAt n) label ∷ spell_path n labels rest
+spell_path n (label ∷ labels) rest = sign Fixed (codes "@") ∷ number (StepAt n) label ∷ spell_path n labels rest
 
 -- a@0@1
 abbrev pub spell_term : ℕ → TermForm → List (Part Role) → List (Part Role)
@@ -112,27 +100,27 @@ spell_term n term rest = name term.node ∷ spell_path n term.path rest
 
 -- a@0.pos
 abbrev pub spell_field : ℕ → TermForm → Mention → List (Part Role) → List (Part Role)
-spell_field n term embed rest = spell_term n term (sign (codes ".") ∷ name embed ∷ rest)
+spell_field n term embed rest = spell_term n term (sign Fixed (codes ".") ∷ name embed ∷ rest)
 
 abbrev mutual
   pub spell : ℕ → Form → List (Part Role) → List (Part Role)
   spell n (NumberForm value) rest = number Quantity value ∷ rest
-  spell n (TruthForm b) rest = word (truth_word b) ∷ rest
+  spell n (TruthForm b) rest = word Fixed (truth_text b) ∷ rest
   spell n (ParamForm param) rest = name param ∷ rest
   spell n (FieldForm term embed) rest = spell_field n term embed rest
-  spell n (SameForm left right) rest = word (codes "same") ∷ sign (codes "(") ∷ spell_term n left (sign (codes ",") ∷ spell_term n right (sign (codes ")") ∷ rest))
-  spell n (CountForm orbit term) rest = word (codes "count") ∷ spell_orbit n orbit (sign (codes "(") ∷ spell_term n term (sign (codes ")") ∷ rest))
-  spell n (CollectForm collector orbit term embed) rest = word (collector_word collector) ∷ spell_orbit n orbit (sign (codes "(") ∷ spell_field n term embed (sign (codes ")") ∷ rest))
-  spell n (CallForm function arguments) rest = name function ∷ sign (codes "(") ∷ spell_arguments n arguments (sign (codes ")") ∷ rest)
-  spell n (ParenForm part) rest = sign (codes "(") ∷ spell n part (sign (codes ")") ∷ rest)
-  spell n (MinusForm part) rest = sign (codes "-") ∷ spell n part rest
-  spell n (NotForm part) rest = word (codes "not") ∷ spell n part rest
+  spell n (SameForm left right) rest = word Fixed (codes "same") ∷ sign Fixed (codes "(") ∷ spell_term n left (sign Fixed (codes ",") ∷ spell_term n right (sign Fixed (codes ")") ∷ rest))
+  spell n (CountForm orbit term) rest = word Fixed (codes "count") ∷ spell_orbit n orbit (sign Fixed (codes "(") ∷ spell_term n term (sign Fixed (codes ")") ∷ rest))
+  spell n (CollectForm collector orbit term embed) rest = word Fixed (collector_word collector) ∷ spell_orbit n orbit (sign Fixed (codes "(") ∷ spell_field n term embed (sign Fixed (codes ")") ∷ rest))
+  spell n (CallForm function arguments) rest = name function ∷ sign Fixed (codes "(") ∷ spell_arguments n arguments (sign Fixed (codes ")") ∷ rest)
+  spell n (ParenForm part) rest = sign Fixed (codes "(") ∷ spell n part (sign Fixed (codes ")") ∷ rest)
+  spell n (MinusForm part) rest = sign Fixed (codes "-") ∷ spell n part rest
+  spell n (NotForm part) rest = word Fixed (codes "not") ∷ spell n part rest
   spell n (BinaryForm op left right) rest = spell n left (operator op ∷ spell n right rest)
-  spell n (IfForm c a b) rest = word (codes "if") ∷ spell n c (word (codes "then") ∷ spell n a (word (codes "else") ∷ spell n b rest))
+  spell n (IfForm c a b) rest = word Fixed (codes "if") ∷ spell n c (word Fixed (codes "then") ∷ spell n a (word Fixed (codes "else") ∷ spell n b rest))
 
   pub spell_arguments : ℕ → Arguments → List (Part Role) → List (Part Role)
   spell_arguments n (First form) rest = spell n form rest
-  spell_arguments n (Further arguments form) rest = spell_arguments n arguments (sign (codes ",") ∷ spell n form rest)
+  spell_arguments n (Further arguments form) rest = spell_arguments n arguments (sign Fixed (codes ",") ∷ spell n form rest)
 
 -- the parts, counted on from a number
 abbrev pub counted_from : ℕ → List (Part Role) → List (Part Counted)
@@ -165,16 +153,11 @@ pub record IsSentence (n : ℕ) (parts : List (Part Counted)) : Type 0 where
   pub ends : GoesOn n form next → ⊥
   pub spelled : parts ≡ parts_of n form ++ map beyond (next ∷ others)
 
+-- each name and each label of an orbit knows its place
 abbrev pub IsPlacedAt : ℕ → Role → Type 0
 IsPlacedAt place (NameAt at) = at ≡ place
 IsPlacedAt place (LabelAt n at) = at ≡ place
 IsPlacedAt place _ = Unit {0}
-
--- each name and each label of an orbit has the place of its mark
-abbrev pub ArePlaced : List Mark → List (Part Role) → Type 0
-ArePlaced [] parts = Unit {0}
-ArePlaced (mark ∷ marks) [] = Unit {0}
-ArePlaced (mark ∷ marks) (part ∷ parts) = IsPlacedAt mark.place part.role × ArePlaced marks parts
 
 -- The marks begin with this form, which passes no limit, and these are left behind it: no expression goes on so.
 pub record Stands (n : ℕ) (form : Form) (marks rest : List Mark) : Type 0 where
@@ -183,7 +166,7 @@ pub record Stands (n : ℕ) (form : Form) (marks rest : List Mark) : Type 0 wher
   pub good : IsGood form
   pub spelled : symbols before ≡ symbols_of n form
   pub within : IsWithin (IsSentence n) limit_in (parts_of n form)
-  pub placed : ArePlaced before (spell n form [])
+  pub placed : ArePlaced IsPlacedAt before (spell n form [])
   pub next : Mark
   pub others : List Mark
   pub behind : rest ≡ next ∷ others

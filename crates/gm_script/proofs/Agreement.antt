@@ -17,7 +17,7 @@ use Rattle.gm_model.specs.declared.value.Value.TheVariants as values
 use Rattle.gm_model.specs.declared.word.Mask.{Mask}
 use Rattle.gm_model.specs.Kinds.{AreGoodParams, param_kinds}
 use Rattle.gm_model.specs.Labels.{has}
-use Rattle.gm_model.specs.Reading.{Part, IsWithin}
+use Rattle.gm_model.specs.Reading.{Part, IsWithin, word, number, sign, the_end}
 use Rattle.gm_model.specs.Rules.{Rule}
 use Rattle.gm_model.specs.Runs.{AreInOrder}
 use Rattle.gm_model.specs.Symbols.{Symbol, Numeral}
@@ -26,7 +26,7 @@ use Rattle.gm_text.specs.SchemaText.{Passed, LimitOf, Again, no_labels, with_lab
 use Rattle.gm_text.specs.ValueText.{Signed, integer, greatest, is_channel}
 use Rattle.gm_text.proofs.SchemaSound.{IsLow, low_none, low_more, nothing_passed}
 use Rattle.gm_script.specs.Agreement.{Takes, Agrees}
-use Rattle.gm_script.specs.ScriptText.{ValueForm, Plain, Truth, Pair, Triple, StatForm, Applies, GoesOver, Says, Undo, Redo, Group, Close, Role, RuleAt, Hook, LabelBehind, Size, limit_of, passed_of, number, sign, word, the_end, spell_signed, spell_value, spell_values, spell_params, spell_labels, spell_stats, IsSentence, value_as, colour, mask_of, AreParams, IsStat, AreStats, AreNested, ScriptText}
+use Rattle.gm_script.specs.ScriptText.{ValueForm, Plain, Truth, Pair, Triple, StatForm, Applies, GoesOver, Says, Undo, Redo, Group, Close, Role, Fixed, RuleAt, Hook, LabelBehind, Size, limit_of, passed_of, spell_signed, spell_value, spell_values, spell_params, spell_labels, spell_stats, IsSentence, value_as, colour, mask_of, AreParams, IsStat, AreStats, AreNested, ScriptText}
 
 abbrev AreWithin : List (Part Role) → Type 0
 AreWithin parts = AllByRecursion (λ (part : Part Role). passed_of part.role part.symbol ≡ None) parts
@@ -66,12 +66,12 @@ value_within (Plain x) rest within = signed_within x.minus x.size rest within
 value_within (Truth true) rest within = (tt, within.1)
 value_within (Truth false) rest within = (tt, within.1)
 value_within (Pair x y) rest within =
-    let last = sign (codes ")") ∷ rest in
+    let last = sign Fixed (codes ")") ∷ rest in
     let first = signed_within x.minus x.size (spell_signed y last) within.1 in
     let second = signed_within y.minus y.size last first.1 in
     ((first.0, second.0), second.1.1)
 value_within (Triple x y z) rest within =
-    let last = sign (codes ")") ∷ rest in
+    let last = sign Fixed (codes ")") ∷ rest in
     let first = signed_within x.minus x.size (spell_signed y (spell_signed z last)) within.1 in
     let second = signed_within y.minus y.size (spell_signed z last) first.1 in
     let third = signed_within z.minus z.size last second.1 in
@@ -119,7 +119,7 @@ forms_within n k (Applies line ∷ forms) rest within =
     (here.0, forms_within n (k + 1) forms rest here.1)
 forms_within n k (GoesOver form ∷ forms) rest within =
     let behind = spell_stats n (k + 1) forms rest in
-    let labels = labels_within n no_labels form.labels (sign (codes ">") ∷ word (RuleAt form.rule.place) form.rule.name ∷ spell_params form.values behind) (low_none n) within.1.1 in
+    let labels = labels_within n no_labels form.labels (sign Fixed (codes ">") ∷ word (RuleAt form.rule.place) form.rule.name ∷ spell_params form.values behind) (low_none n) within.1.1 in
     let here = params_within form.values behind labels.1.1.1 in
     ((labels.0, here.0), forms_within n (k + 1) forms rest here.1)
 forms_within n k (Says bare place ∷ forms) rest within = (tt, forms_within n (k + 1) forms rest within.1)
@@ -198,7 +198,7 @@ module _ (n : ℕ) (rules : List Rule) where
   in_order within (_ ∷ forms) (_ ∷ stats) nested are = absurd are.0
 
   pub script_agrees : (text : List ℕ) (stats : List Stat) → ScriptText text n rules stats → AllByRecursion (Agrees n rules) stats
-  script_agrees text stats script = stats_agree script.forms stats (forms_within n 0 script.forms (the_end ∷ []) script.written.read.within) script.same
+  script_agrees text stats script = stats_agree script.forms stats (forms_within n 0 script.forms (the_end Fixed ∷ []) script.written.read.within) script.same
 
   pub script_in_order : (text : List ℕ) (stats : List Stat) → ScriptText text n rules stats → AreInOrder false stats
   script_in_order text stats script = in_order false script.forms stats script.written.form.1 script.same

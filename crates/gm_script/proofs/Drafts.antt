@@ -2,8 +2,8 @@
 use Rattle.std.proofs.Common.{◌≡◌, ℕ, ◌+◌, Bool, true, false, List, [], ◌∷◌, ◌++◌, length, map, Option, Some, None, refl, sym, ap, ◌∙◌, arith, codes}
 use Rattle.std.specs.List.{AllByRecursion}
 use Rattle.gm_model.specs.Names.{Mention, IsFree}
-use Rattle.gm_model.specs.Reading.{Part}
-use Rattle.gm_script.specs.ScriptText.{ValueForm, Plain, Pair, Triple, StatForm, Applies, GoesOver, Says, Undo, Redo, Group, Close, Role, Fixed, StatAt, RuleAt, Hook, word, number, sign, mask_of, spell_signed, spell_values, spell_labels, spell_stats, spell_stat, IsStatForm, AreNested}
+use Rattle.gm_model.specs.Reading.{Part, word, number, sign}
+use Rattle.gm_script.specs.ScriptText.{ValueForm, Plain, Pair, Triple, StatForm, Applies, GoesOver, Says, Undo, Redo, Group, Close, Role, Fixed, StatAt, RuleAt, Hook, mask_of, spell_signed, spell_values, spell_labels, spell_stats, spell_stat, IsStatForm, AreNested}
 use Rattle.gm_text.specs.SchemaText.{no_labels}
 use Rattle.gm_text.specs.ValueText.{Signed}
 use Rattle.gm_script.specs.Reading.{Been, head_word, is_minus, is_whole, been_behind}
@@ -113,12 +113,12 @@ add_vector _ draft = with_value (Triple draft.x draft.y draft.z) draft
 module _ (n : ℕ) where
   -- the statement that is being read up to its labels
   abbrev pub spell_orbit : ℕ → DraftStat → List (Part Role) → List (Part Role)
-  spell_orbit k stat rest = word (StatAt k stat.place) (codes "each") ∷ sign (codes "<") ∷ spell_labels n no_labels stat.labels rest
+  spell_orbit k stat rest = word (StatAt k stat.place) (codes "each") ∷ sign Fixed (codes "<") ∷ spell_labels n no_labels stat.labels rest
 
   -- and up to its rule and hooks
   abbrev pub spell_named : ℕ → Head → DraftStat → List (Part Role) → List (Part Role)
   spell_named k heads.Apply stat rest = word (StatAt k stat.place) (codes "apply") ∷ word (RuleAt stat.rule.place) stat.rule.name ∷ (map (number Hook) stat.hooks ++ rest)
-  spell_named k heads.Each stat rest = spell_orbit k stat (sign (codes ">") ∷ word (RuleAt stat.rule.place) stat.rule.name ∷ rest)
+  spell_named k heads.Each stat rest = spell_orbit k stat (sign Fixed (codes ">") ∷ word (RuleAt stat.rule.place) stat.rule.name ∷ rest)
   spell_named k head stat rest = rest
 
   -- with its values, and what stands behind it
@@ -132,18 +132,18 @@ module _ (n : ℕ) where
   so_far spots.Rule k draft rest = spell_stats n 0 draft.stats (spell_named k heads.Apply draft.stat rest)
   so_far spots.Each k draft rest = spell_stats n 0 draft.stats (word (StatAt k draft.stat.place) (codes "each") ∷ rest)
   so_far spots.Orbit k draft rest = spell_stats n 0 draft.stats (spell_orbit k draft.stat rest)
-  so_far spots.Over k draft rest = spell_stats n 0 draft.stats (spell_orbit k draft.stat (sign (codes ">") ∷ rest))
+  so_far spots.Over k draft rest = spell_stats n 0 draft.stats (spell_orbit k draft.stat (sign Fixed (codes ">") ∷ rest))
   so_far spots.Named k draft rest = spell_stats n 0 draft.stats (spell_named k heads.Each draft.stat rest)
   so_far spots.With k draft rest = in_stat k draft rest
   so_far spots.Value k draft rest = in_stat k draft rest
-  so_far spots.Minus k draft rest = in_stat k draft (sign (codes "-") ∷ rest)
-  so_far spots.Open k draft rest = in_stat k draft (sign (codes "(") ∷ rest)
-  so_far spots.OpenMinus k draft rest = in_stat k draft (sign (codes "(") ∷ sign (codes "-") ∷ rest)
-  so_far spots.First k draft rest = in_stat k draft (sign (codes "(") ∷ spell_signed draft.x rest)
-  so_far spots.FirstMinus k draft rest = in_stat k draft (sign (codes "(") ∷ spell_signed draft.x (sign (codes "-") ∷ rest))
-  so_far spots.Second k draft rest = in_stat k draft (sign (codes "(") ∷ spell_signed draft.x (spell_signed draft.y rest))
-  so_far spots.SecondMinus k draft rest = in_stat k draft (sign (codes "(") ∷ spell_signed draft.x (spell_signed draft.y (sign (codes "-") ∷ rest)))
-  so_far spots.Third k draft rest = in_stat k draft (sign (codes "(") ∷ spell_signed draft.x (spell_signed draft.y (spell_signed draft.z rest)))
+  so_far spots.Minus k draft rest = in_stat k draft (sign Fixed (codes "-") ∷ rest)
+  so_far spots.Open k draft rest = in_stat k draft (sign Fixed (codes "(") ∷ rest)
+  so_far spots.OpenMinus k draft rest = in_stat k draft (sign Fixed (codes "(") ∷ sign Fixed (codes "-") ∷ rest)
+  so_far spots.First k draft rest = in_stat k draft (sign Fixed (codes "(") ∷ spell_signed draft.x rest)
+  so_far spots.FirstMinus k draft rest = in_stat k draft (sign Fixed (codes "(") ∷ spell_signed draft.x (sign Fixed (codes "-") ∷ rest))
+  so_far spots.Second k draft rest = in_stat k draft (sign Fixed (codes "(") ∷ spell_signed draft.x (spell_signed draft.y rest))
+  so_far spots.SecondMinus k draft rest = in_stat k draft (sign Fixed (codes "(") ∷ spell_signed draft.x (spell_signed draft.y (sign Fixed (codes "-") ∷ rest)))
+  so_far spots.Third k draft rest = in_stat k draft (sign Fixed (codes "(") ∷ spell_signed draft.x (spell_signed draft.y (spell_signed draft.z rest)))
 
 -- the statement is one word
 abbrev pub IsBare : Head → Type 0

@@ -2,9 +2,9 @@
 use Rattle.std.proofs.Common.{◌≡◌, ℕ, ◌+◌, Bool, true, false, cond, List, [], ◌∷◌, Option, Some, None, refl, sym, ap, subst, ◌∙◌}
 use Rattle.std.specs.Option.{option_map}
 use Rattle.gm_model.specs.Symbols.{Symbol, Word, Numeral, Sign, Gone, Stray, End}
-use Rattle.gm_model.specs.Reading.{Part}
+use Rattle.gm_model.specs.Reading.{Part, the_end}
 use Rattle.gm_text.specs.SchemaText.{no_labels}
-use Rattle.gm_script.specs.ScriptText.{StatForm, Role, Fixed, StatAt, RuleAt, passed_of, the_end, spelling, IsForm, IsSentence}
+use Rattle.gm_script.specs.ScriptText.{StatForm, Role, Fixed, StatAt, RuleAt, passed_of, spelling, IsForm, IsSentence}
 use Rattle.gm_text.specs.Machine.{IsGrammar}
 use Rattle.gm_script.specs.Reading.{Been, State, At, Ended, no_been, first_state, can_end, been_behind, move, next_spot, sight_of, role_in, role_at, never}
 use Rattle.gm_script.specs.declared.sight.Head.TheVariants as heads
@@ -69,10 +69,10 @@ module _ (n : ℕ) where
       elim (moved spot been part.symbol next moves) [
         | ToEnd symbol can e ↦
             let role : part.role ≡ Fixed = is ∙ ap (λ (s : Symbol). role_in n spot been (sight_of s) place) symbol ∙ end_role spot been place been.within can in
-            let part_is : part ≡ the_end = same_part part End Fixed symbol role in
+            let part_is : part ≡ (the_end Fixed) = same_part part End Fixed symbol role in
             let none : parts ≡ [] = ended_led parts (subst (λ s. Led n s parts) e led) in
             let all = whole n spot been draft good can in
-            (whole_stats spot draft, all.form, ap (λ (p : Part Role). so_far n spot been.begun draft (p ∷ parts)) part_is ∙ ap (λ (ps : List (Part Role)). so_far n spot been.begun draft (the_end ∷ ps)) none ∙ all.written)
+            (whole_stats spot draft, all.form, ap (λ (p : Part Role). so_far n spot been.begun draft (p ∷ parts)) part_is ∙ ap (λ (ps : List (Part Role)). so_far n spot been.begun draft (the_end Fixed ∷ ps)) none ∙ all.written)
         | OnTo to e f ↦
             let behind = been_behind spot (sight_of part.symbol) part.symbol been in
             let more = add_next n spot been place part.symbol draft to good e in

@@ -122,20 +122,15 @@ take_least most xs =
 
 -- ---- rules by their tables
 
-take_map : {X Y : Type 0} (f : X → Y) (n : ℕ) (xs : List X) → take n (map f xs) ≡ map f (take n xs)
-take_map f zero xs = refl
-take_map f (suc n) [] = refl
-take_map f (suc n) (x ∷ xs) = ap (λ ys. f x ∷ ys) (take_map f n xs)
-
 from_map : (name : List ℕ) (k : ℕ) (rules : List RuleTable) → position_from (λ (rule : Rule). bytes_eq name rule.name) k (map rule_of rules) ≡ position_from (named name) k rules
 from_map name k [] = refl
 from_map name k (rule ∷ rules) = ap (λ (o : Option ℕ). cond (bytes_eq name rule.name) (Some k) o) (from_map name (k + 1) rules)
 
-pub index_is : (rules : List RuleTable) (name : List ℕ) → index_of (map rule_of rules) name ≡ at (take (2 ^ 16) rules) name
+pub index_is : (rules : List RuleTable) (name : List ℕ) → index_of (map rule_of rules) name ≡ at rules name
 unfolding index_of
 index_is rules name =
     let test : Rule → Bool = λ rule. bytes_eq name rule.name in
-    ap (position test) (take_map rule_of (2 ^ 16) rules) ∙ position_from-zero test (map rule_of (take (2 ^ 16) rules)) ∙ from_map name 0 (take (2 ^ 16) rules) ∙ sym (at_from (take (2 ^ 16) rules) name)
+    position_from-zero test (map rule_of rules) ∙ from_map name 0 rules ∙ sym (at_from rules name)
 
 -- the index of a rule is below their number
 within_by : (b : Bool) (k j size : ℕ) (later : Option ℕ) → cond b (Some k) later ≡ Some j → (later ≡ Some j → j < k + 1 + size) → j < k + suc size
@@ -150,8 +145,8 @@ pub index_below : (rules : List Rule) (name : List ℕ) (j : ℕ) → index_of r
 unfolding index_of
 index_below rules name j e =
     let test : Rule → Bool = λ rule. bytes_eq name rule.name in
-    let there : j < 0 + length (take (2 ^ 16) rules) = from_within test 0 j (take (2 ^ 16) rules) (sym (position_from-zero test (take (2 ^ 16) rules)) ∙ e) in
-    omega (arith, there, length-take {A = Rule})
+    let there : j < 0 + length rules = from_within test 0 j rules (sym (position_from-zero test rules) ∙ e) in
+    omega (arith, there)
 
 index_within : (rules : List RuleTable) (name : List ℕ) (j : ℕ) → index_of (map rule_of rules) name ≡ Some j → j < length rules
 index_within rules name j e =
@@ -161,12 +156,6 @@ index_within rules name j e =
 pub within : (rules : List RuleTable) (name : List ℕ) (found : Option ℕ) → found ≡ index_of (map rule_of rules) name → IfSome found (λ k. k < length rules)
 within rules name None e = tt
 within rules name (Some k) e = index_within rules name k (sym e)
-
--- where the rules are few, all have an index
-pub index_of_few : (rules : List RuleTable) (name : List ℕ) → length rules ≤ 8 → index_of (map rule_of rules) name ≡ at rules name
-index_of_few rules name few =
-    let all : take (2 ^ 16) rules ≡ rules = take_all (2 ^ 16) rules (omega (arith, few)) in
-    index_is rules name ∙ ap (λ (listed : List RuleTable). at listed name) all
 
 pub get_map : (rules : List RuleTable) (j : ℕ) (rule : RuleTable) → j < length rules → rule ≡ get_or rules j rule → slice_get (map rule_of rules) j ≡ Some (rule_of rule)
 get_map [] j rule inside is = absurd (omega arith)

@@ -6,10 +6,10 @@ use Rattle.std.specs.List.{AllByRecursion}
 use Rattle.std.specs.Str.{bytes_eq}
 use Rattle.gm_model.specs.Names.{reserved, is_among}
 use Rattle.gm_model.specs.Symbols.{Word, End}
-use Rattle.gm_model.specs.Reading.{Part}
+use Rattle.gm_model.specs.Reading.{Part, word, number, sign, the_end}
 use Rattle.gm_model.specs.declared.word.Mask.{Mask}
 use Rattle.gm_text.specs.SchemaText.{no_labels, with_label}
-use Rattle.gm_script.specs.ScriptText.{ValueForm, Plain, Truth, Pair, Triple, LineForm, EachForm, StatForm, Applies, GoesOver, Says, Bare, Undo, Redo, Group, Close, Role, Fixed, StatAt, RuleAt, Hook, LabelBehind, Size, passed_of, word, number, sign, the_end, mask_of, bare_word, spell_signed, spell_value, spell_values, spell_params, spell_line, spell_labels, spell_each, spell_stat, spell_stats, IsForm, IsStatForm, AreNested, IsSentence}
+use Rattle.gm_script.specs.ScriptText.{ValueForm, Plain, Truth, Pair, Triple, LineForm, EachForm, StatForm, Applies, GoesOver, Says, Bare, Undo, Redo, Group, Close, Role, Fixed, StatAt, RuleAt, Hook, LabelBehind, Size, passed_of, mask_of, bare_word, spell_signed, spell_value, spell_values, spell_params, spell_line, spell_labels, spell_each, spell_stat, spell_stats, IsForm, IsStatForm, AreNested, IsSentence}
 use Rattle.gm_text.specs.ValueText.{Signed}
 use Rattle.gm_text.specs.Machine.{Leads}
 use Rattle.gm_script.specs.Reading.{Been, State, At, Ended, first_state, is_whole, move, role_at, role_in, never, next_spot, next_word, next_head, within_behind, been_behind, begun_behind, labelled, head_word, sight_of_word}
@@ -56,7 +56,7 @@ module _ (n : ℕ) where
   plain_led AsSecond k m rest led = (0, At spots.Second k, refl, refl, led)
   plain_led AsThird k m rest led = (0, At spots.Third k, refl, refl, led)
 
-  minus_led : (place : Place) (k : Been) (m : ℕ) (rest : List (Part Role)) → Led n (At (behind place) k) rest → Led n (At (before place) k) (sign (codes "-") ∷ number (Size true) m ∷ rest)
+  minus_led : (place : Place) (k : Been) (m : ℕ) (rest : List (Part Role)) → Led n (At (behind place) k) rest → Led n (At (before place) k) (sign Fixed (codes "-") ∷ number (Size true) m ∷ rest)
   minus_led Alone k m rest led = (0, At spots.Minus k, refl, refl, (0, At spots.Value k, refl, refl, led))
   minus_led Later k m rest led = (0, At spots.Minus k, refl, refl, (0, At spots.Value k, refl, refl, led))
   minus_led AsFirst k m rest led = (0, At spots.OpenMinus k, refl, refl, (0, At spots.First k, refl, refl, led))
@@ -67,21 +67,21 @@ module _ (n : ℕ) where
   signed_led place k x rest led =
       by x.minus
     where
-      by : (minus : Bool) → Led n (At (before place) k) (if minus then sign (codes "-") ∷ number (Size true) x.size ∷ rest else number (Size false) x.size ∷ rest)
+      by : (minus : Bool) → Led n (At (before place) k) (if minus then sign Fixed (codes "-") ∷ number (Size true) x.size ∷ rest else number (Size false) x.size ∷ rest)
       by true = minus_led place k x.size rest led
       by false = plain_led place k x.size rest led
 
   -- the numbers of a vector, and its end
-  pair_led : (k : Been) (x y : Signed) (rest : List (Part Role)) → Led n (At spots.Value k) rest → Led n (At spots.Open k) (spell_signed x (spell_signed y (sign (codes ")") ∷ rest)))
+  pair_led : (k : Been) (x y : Signed) (rest : List (Part Role)) → Led n (At spots.Value k) rest → Led n (At spots.Open k) (spell_signed x (spell_signed y (sign Fixed (codes ")") ∷ rest)))
   pair_led k x y rest led =
-      let close = sign (codes ")") ∷ rest in
+      let close = sign Fixed (codes ")") ∷ rest in
       let last : Led n (At spots.Second k) close = (0, At spots.Value k, refl, refl, led) in
       signed_led AsFirst k x (spell_signed y close)
       (signed_led AsSecond k y close last)
 
-  triple_led : (k : Been) (x y z : Signed) (rest : List (Part Role)) → Led n (At spots.Value k) rest → Led n (At spots.Open k) (spell_signed x (spell_signed y (spell_signed z (sign (codes ")") ∷ rest))))
+  triple_led : (k : Been) (x y z : Signed) (rest : List (Part Role)) → Led n (At spots.Value k) rest → Led n (At spots.Open k) (spell_signed x (spell_signed y (spell_signed z (sign Fixed (codes ")") ∷ rest))))
   triple_led k x y z rest led =
-      let close = sign (codes ")") ∷ rest in
+      let close = sign Fixed (codes ")") ∷ rest in
       let last : Led n (At spots.Third k) close = (0, At spots.Value k, refl, refl, led) in
       signed_led AsFirst k x (spell_signed y (spell_signed z close))
       (signed_led AsSecond k y (spell_signed z close)
@@ -213,9 +213,9 @@ module _ (n : ℕ) where
       let over = been_at k been.within (mask_of form.labels no_labels) in
       let named : Led n (At spots.Over over) (word (RuleAt form.rule.place) form.rule.name ∷ spell_params form.values rest) =
       (form.rule.place, At spots.Named over, refl, over_moves over form.rule.name free, over_params_led over form.values rest (subst (λ w. EndsStat k w rest) (sym out) led)) in
-      let behind = sign (codes ">") ∷ word (RuleAt form.rule.place) form.rule.name ∷ spell_params form.values rest in
+      let behind = sign Fixed (codes ">") ∷ word (RuleAt form.rule.place) form.rule.name ∷ spell_params form.values rest in
       let orbit = labels_led k been.within no_labels form.labels behind (0, At spots.Over over, refl, refl, named) in
-      head_led spot been heads.Each form.place spots.Each (sign (codes "<") ∷ spell_labels n no_labels form.labels behind) is (rw out refl) (0, At spots.Orbit (been_at k been.within no_labels), refl, refl, orbit)
+      head_led spot been heads.Each form.place spots.Each (sign Fixed (codes "<") ∷ spell_labels n no_labels form.labels behind) is (rw out refl) (0, At spots.Orbit (been_at k been.within no_labels), refl, refl, orbit)
 
   -- a word alone
   bare_led : (spot : Spot) (been : Been) (head : Head) (place : ℕ) (next : Bool) (rest : List (Part Role)) → is_whole spot ≡ true → next_head been.within head ≡ Some spots.Bare → within_behind head been.within ≡ next
@@ -223,7 +223,7 @@ module _ (n : ℕ) where
   bare_led spot been head place next rest is to behind led =
       head_led spot been head place spots.Bare rest is to (subst (λ w. Led n (At spots.Bare (been_at (been.begun + 1) w no_labels)) rest) (sym behind) (led spots.Bare no_labels refl))
 
-  pub end_led : (spot : Spot) (been : Been) → is_whole spot ≡ true → been.within ≡ false → Led n (At spot been) (the_end ∷ [])
+  pub end_led : (spot : Spot) (been : Been) → is_whole spot ≡ true → been.within ≡ false → Led n (At spot been) (the_end Fixed ∷ [])
   end_led spot been is out = (0, Ended, role spot is, moves, refl)
     where
       role : (spot : Spot) → is_whole spot ≡ true → Fixed ≡ role_in n spot been sights.Other 0
@@ -238,20 +238,20 @@ module _ (n : ℕ) where
       moves = rw (out, is) refl
 
   stats_led : (spot : Spot) (k : ℕ) (within : Bool) (labels : Mask) (forms : List StatForm) → is_whole spot ≡ true → AllByRecursion IsStatForm forms → AreNested within forms
-      → Led n (At spot (been_at k within labels)) (spell_stats n k forms (the_end ∷ []))
+      → Led n (At spot (been_at k within labels)) (spell_stats n k forms (the_end Fixed ∷ []))
   stats_led spot k within labels [] is form nested = end_led spot (been_at k within labels) is nested
   stats_led spot k within labels (Applies line ∷ forms) is form nested =
-      line_led spot (been_at k within labels) line (spell_stats n (k + 1) forms (the_end ∷ [])) is form.0 (λ next mask ends. stats_led next (k + 1) within mask forms ends form.1 nested)
+      line_led spot (been_at k within labels) line (spell_stats n (k + 1) forms (the_end Fixed ∷ [])) is form.0 (λ next mask ends. stats_led next (k + 1) within mask forms ends form.1 nested)
   stats_led spot k within labels (GoesOver each ∷ forms) is form nested =
-      each_led spot (been_at k within labels) each (spell_stats n (k + 1) forms (the_end ∷ [])) is nested.0 form.0 (λ next mask ends. stats_led next (k + 1) false mask forms ends form.1 (subst (λ w. AreNested w forms) nested.0 nested.1))
+      each_led spot (been_at k within labels) each (spell_stats n (k + 1) forms (the_end Fixed ∷ [])) is nested.0 form.0 (λ next mask ends. stats_led next (k + 1) false mask forms ends form.1 (subst (λ w. AreNested w forms) nested.0 nested.1))
   stats_led spot k within labels (Says Undo place ∷ forms) is form nested =
-      bare_led spot (been_at k within labels) heads.Undo place within (spell_stats n (k + 1) forms (the_end ∷ [])) is (rw nested.0 refl) refl (λ next mask ends. stats_led next (k + 1) within mask forms ends form.1 nested.1)
+      bare_led spot (been_at k within labels) heads.Undo place within (spell_stats n (k + 1) forms (the_end Fixed ∷ [])) is (rw nested.0 refl) refl (λ next mask ends. stats_led next (k + 1) within mask forms ends form.1 nested.1)
   stats_led spot k within labels (Says Redo place ∷ forms) is form nested =
-      bare_led spot (been_at k within labels) heads.Redo place within (spell_stats n (k + 1) forms (the_end ∷ [])) is (rw nested.0 refl) refl (λ next mask ends. stats_led next (k + 1) within mask forms ends form.1 nested.1)
+      bare_led spot (been_at k within labels) heads.Redo place within (spell_stats n (k + 1) forms (the_end Fixed ∷ [])) is (rw nested.0 refl) refl (λ next mask ends. stats_led next (k + 1) within mask forms ends form.1 nested.1)
   stats_led spot k within labels (Says Group place ∷ forms) is form nested =
-      bare_led spot (been_at k within labels) heads.Group place true (spell_stats n (k + 1) forms (the_end ∷ [])) is (rw nested.0 refl) refl (λ next mask ends. stats_led next (k + 1) true mask forms ends form.1 nested.1)
+      bare_led spot (been_at k within labels) heads.Group place true (spell_stats n (k + 1) forms (the_end Fixed ∷ [])) is (rw nested.0 refl) refl (λ next mask ends. stats_led next (k + 1) true mask forms ends form.1 nested.1)
   stats_led spot k within labels (Says Close place ∷ forms) is form nested =
-      bare_led spot (been_at k within labels) heads.End place false (spell_stats n (k + 1) forms (the_end ∷ [])) is (rw nested.0 refl) refl (λ next mask ends. stats_led next (k + 1) false mask forms ends form.1 nested.1)
+      bare_led spot (been_at k within labels) heads.End place false (spell_stats n (k + 1) forms (the_end Fixed ∷ [])) is (rw nested.0 refl) refl (λ next mask ends. stats_led next (k + 1) false mask forms ends form.1 nested.1)
 
   pub sentence_leads : (parts : List (Part Role)) → IsSentence n parts → Led n first_state parts
   sentence_leads parts sentence = rw sentence.2 (stats_led spots.Start 0 false no_labels sentence.0 refl sentence.1.0 sentence.1.1)
@@ -263,10 +263,10 @@ module _ (n : ℕ) where
   whole_goes spot been is = by been.within refl
     where
       by : (within : Bool) → been.within ≡ within → (rest : List (Part Role)) × Led n (At spot been) rest
-      by false out = (the_end ∷ [], end_led spot been is out)
+      by false out = (the_end Fixed ∷ [], end_led spot been is out)
       by true open_ = (
-        word (StatAt (been.begun + 1) 0) (codes "end") ∷ the_end ∷ [],
-        bare_led spot been heads.End 0 false (the_end ∷ []) is (rw open_ refl) refl (λ next mask ends. end_led next (been_at (been.begun + 1) false mask) ends refl),
+        word (StatAt (been.begun + 1) 0) (codes "end") ∷ the_end Fixed ∷ [],
+        bare_led spot been heads.End 0 false (the_end Fixed ∷ []) is (rw open_ refl) refl (λ next mask ends. end_led next (been_at (been.begun + 1) false mask) ends refl),
       )
 
   abbrev GoesFrom : Been → Spot → Type 0
@@ -280,10 +280,10 @@ module _ (n : ℕ) where
       value = whole_goes spots.Value been refl
 
       close : GoesFrom been spots.Third
-      close = (sign (codes ")") ∷ value.0, (0, At spots.Value been, refl, refl, value.1))
+      close = (sign Fixed (codes ")") ∷ value.0, (0, At spots.Value been, refl, refl, value.1))
 
       second : GoesFrom been spots.Second
-      second = (sign (codes ")") ∷ value.0, (0, At spots.Value been, refl, refl, value.1))
+      second = (sign Fixed (codes ")") ∷ value.0, (0, At spots.Value been, refl, refl, value.1))
 
       first : GoesFrom been spots.First
       first = (number (Size false) 0 ∷ second.0, (0, At spots.Second been, refl, refl, second.1))
@@ -294,14 +294,14 @@ module _ (n : ℕ) where
           (word (RuleAt 0) (codes "r") ∷ named.0, (0, At spots.Named (been_at been.begun been.within mask), refl, refl, named.1))
 
       orbit : GoesFrom been spots.Orbit
-      orbit = let next = over been.labels in (sign (codes ">") ∷ next.0, (0, At spots.Over been, refl, refl, next.1))
+      orbit = let next = over been.labels in (sign Fixed (codes ">") ∷ next.0, (0, At spots.Over been, refl, refl, next.1))
 
       at : (spot : Spot) → GoesFrom been spot
       at spots.Start = whole_goes spots.Start been refl
       at spots.Bare = whole_goes spots.Bare been refl
       at spots.Apply = let rule = whole_goes spots.Rule been refl in (word (RuleAt 0) (codes "r") ∷ rule.0, (0, At spots.Rule been, refl, refl, rule.1))
       at spots.Rule = whole_goes spots.Rule been refl
-      at spots.Each = (sign (codes "<") ∷ orbit.0, (0, At spots.Orbit been, refl, refl, orbit.1))
+      at spots.Each = (sign Fixed (codes "<") ∷ orbit.0, (0, At spots.Orbit been, refl, refl, orbit.1))
       at spots.Orbit = orbit
       at spots.Over = over been.labels
       at spots.Named = whole_goes spots.Named been refl

@@ -3,10 +3,10 @@ use Rattle.std.proofs.Common.{◌≡◌, ◌≢◌, ℕ, ◌+◌, Bool, true, fa
 use Rattle.std.proofs.lemmas.Slice.Eq.{bytes_eq-Decides}
 use Rattle.std.specs.Str.{bytes_eq}
 use Rattle.gm_model.specs.Symbols.{Symbol, Word, Numeral, Sign, Stray, End, Mark, symbols, marks_of}
-use Rattle.gm_model.specs.Reading.{Part, symbols_in}
+use Rattle.gm_model.specs.Reading.{Part, symbols_in, word, number, sign, the_end, ArePlaced}
 use Rattle.gm_model.specs.declared.word.Mask.{Mask}
 use Rattle.gm_text.specs.SchemaText.{no_labels, with_label}
-use Rattle.gm_script.specs.ScriptText.{ValueForm, Plain, Truth, Pair, Triple, LineForm, EachForm, StatForm, Applies, GoesOver, Says, Bare, Undo, Redo, Group, Close, Role, Fixed, StatAt, RuleAt, Hook, LabelBehind, Size, word, number, sign, the_end, bare_word, spell_signed, spell_value, spell_values, spell_params, spell_labels, spell_stats, spelling, IsPlacedAt, ArePlaced, IsWritten}
+use Rattle.gm_script.specs.ScriptText.{ValueForm, Plain, Truth, Pair, Triple, LineForm, EachForm, StatForm, Applies, GoesOver, Says, Bare, Undo, Redo, Group, Close, Role, Fixed, StatAt, RuleAt, Hook, LabelBehind, Size, bare_word, spell_signed, spell_value, spell_values, spell_params, spell_labels, spell_stats, spelling, IsPlacedAt, IsWritten}
 use Rattle.gm_text.specs.ValueText.{Signed}
 use Rattle.gm_script.specs.Reading.{Been, State, At, Ended, first_state, move, sight_of, role_in, role_at}
 use Rattle.gm_script.specs.declared.sight.Sight.{Sight}
@@ -38,7 +38,7 @@ module _ (n : ℕ) where
       ap (λ (s : Symbol). let p : Part Role = record { symbol = s; role = part.role } in p) (sym same) ∙ ap (λ (r : Role). let p : Part Role = record { symbol = mark.symbol; role = r } in p) at
 
   same_parts : (state : State) (marks : List Mark) (ones others : List (Part Role)) → Led n state ones → Led n state others → symbols marks ≡ symbols_in ones → symbols marks ≡ symbols_in others
-      → ArePlaced marks ones → ArePlaced marks others → ones ≡ others
+      → ArePlaced IsPlacedAt marks ones → ArePlaced IsPlacedAt marks others → ones ≡ others
   same_parts state [] [] [] led led' e f placed placed' = refl
   same_parts state [] (part ∷ ones) others led led' e f placed placed' = absurd cc
   same_parts state [] [] (part ∷ others) led led' e f placed placed' = absurd cc
@@ -90,7 +90,7 @@ size_in (Numeral n) = n
 size_in _ = 0
 
 signed_of : (b c : Bool) (m n : ℕ) (r s : List (Part Role))
-    → (if b then sign (codes "-") ∷ number (Size true) m ∷ r else number (Size false) m ∷ r) ≡ (if c then sign (codes "-") ∷ number (Size true) n ∷ s else number (Size false) n ∷ s)
+    → (if b then sign Fixed (codes "-") ∷ number (Size true) m ∷ r else number (Size false) m ∷ r) ≡ (if c then sign Fixed (codes "-") ∷ number (Size true) n ∷ s else number (Size false) n ∷ s)
     → (b ≡ c) × (m ≡ n) × (r ≡ s)
 signed_of true true m n r s e = (refl, ap (λ (ps : List (Part Role)). size_in (head_symbol (tail_of ps))) e, ap (λ (ps : List (Part Role)). tail_of (tail_of ps)) e)
 signed_of false false m n r s e = (refl, ap (λ (ps : List (Part Role)). size_in (head_symbol ps)) e, ap tail_of e)
@@ -103,16 +103,16 @@ signed_same x y r s e =
     (ap (λ (b : Bool). let v : Signed = record { minus = b; size = x.size } in v) same.0 ∙ ap (λ (n : ℕ). let v : Signed = record { minus = y.minus; size = n } in v) same.1, same.2)
 
 -- a number begins with a minus or with itself
-apart : (b : Bool) (n : ℕ) (r : List (Part Role)) (p : Part Role) (s : List (Part Role)) → (p ≡ sign (codes "-") → ⊥) → ((m : ℕ) → p ≡ number (Size false) m → ⊥)
-    → (if b then sign (codes "-") ∷ number (Size true) n ∷ r else number (Size false) n ∷ r) ≡ p ∷ s → ⊥
+apart : (b : Bool) (n : ℕ) (r : List (Part Role)) (p : Part Role) (s : List (Part Role)) → (p ≡ sign Fixed (codes "-") → ⊥) → ((m : ℕ) → p ≡ number (Size false) m → ⊥)
+    → (if b then sign Fixed (codes "-") ∷ number (Size true) n ∷ r else number (Size false) n ∷ r) ≡ p ∷ s → ⊥
 apart true n r p s minus size e = minus (cc e)
 apart false n r p s minus size e = size n (cc e)
 
-no_sign_number : (b : Bool) (n : ℕ) (r : List (Part Role)) (bytes : List ℕ) (s : List (Part Role)) → bytes ≢ codes "-" → (if b then sign (codes "-") ∷ number (Size true) n ∷ r else number (Size false) n ∷ r) ≡ sign bytes ∷ s → ⊥
+no_sign_number : (b : Bool) (n : ℕ) (r : List (Part Role)) (bytes : List ℕ) (s : List (Part Role)) → bytes ≢ codes "-" → (if b then sign Fixed (codes "-") ∷ number (Size true) n ∷ r else number (Size false) n ∷ r) ≡ sign Fixed bytes ∷ s → ⊥
 no_sign_number b n r bytes s other =
-    apart b n r (sign bytes) s (λ e. other (ap (λ (p : Part Role). bytes_in p.symbol) e)) (λ m e. let symbols_are : Sign bytes ≡ Numeral m = ap (λ (p : Part Role). p.symbol) e in absurd cc)
+    apart b n r (sign Fixed bytes) s (λ e. other (ap (λ (p : Part Role). bytes_in p.symbol) e)) (λ m e. let symbols_are : Sign bytes ≡ Numeral m = ap (λ (p : Part Role). p.symbol) e in absurd cc)
 
-no_word_number : (b : Bool) (n : ℕ) (r : List (Part Role)) (bytes : List ℕ) (s : List (Part Role)) → (if b then sign (codes "-") ∷ number (Size true) n ∷ r else number (Size false) n ∷ r) ≡ word Fixed bytes ∷ s → ⊥
+no_word_number : (b : Bool) (n : ℕ) (r : List (Part Role)) (bytes : List ℕ) (s : List (Part Role)) → (if b then sign Fixed (codes "-") ∷ number (Size true) n ∷ r else number (Size false) n ∷ r) ≡ word Fixed bytes ∷ s → ⊥
 no_word_number b n r bytes s =
     apart b n r (word Fixed bytes) s (λ e. let symbols_are : Word bytes ≡ Sign (codes "-") = ap (λ (p : Part Role). p.symbol) e in absurd cc) (λ m e. let symbols_are : Word bytes ≡ Numeral m = ap (λ (p : Part Role). p.symbol) e in absurd cc)
 
@@ -126,10 +126,10 @@ plain_same_truth_false : (x : Signed) (r s : List (Part Role)) → spell_value (
 plain_same_truth_false x r s e = absurd (no_word_number x.minus x.size r (codes "false") s e)
 
 plain_same_pair : (x y z : Signed) (r s : List (Part Role)) → spell_value (Plain x) r ≡ spell_value (Pair y z) s → (Plain x ≡ Pair y z) × (r ≡ s)
-plain_same_pair x y z r s e = absurd (no_sign_number x.minus x.size r (codes "(") (spell_signed y (spell_signed z (sign (codes ")") ∷ s))) (λ f. absurd (cc f)) e)
+plain_same_pair x y z r s e = absurd (no_sign_number x.minus x.size r (codes "(") (spell_signed y (spell_signed z (sign Fixed (codes ")") ∷ s))) (λ f. absurd (cc f)) e)
 
 plain_same_triple : (x y z u : Signed) (r s : List (Part Role)) → spell_value (Plain x) r ≡ spell_value (Triple y z u) s → (Plain x ≡ Triple y z u) × (r ≡ s)
-plain_same_triple x y z u r s e = absurd (no_sign_number x.minus x.size r (codes "(") (spell_signed y (spell_signed z (spell_signed u (sign (codes ")") ∷ s)))) (λ f. absurd (cc f)) e)
+plain_same_triple x y z u r s e = absurd (no_sign_number x.minus x.size r (codes "(") (spell_signed y (spell_signed z (spell_signed u (sign Fixed (codes ")") ∷ s)))) (λ f. absurd (cc f)) e)
 
 plain_same : (x : Signed) (w : ValueForm) (r s : List (Part Role)) → spell_value (Plain x) r ≡ spell_value w s → (Plain x ≡ w) × (r ≡ s)
 plain_same x (Plain y) r s e = plain_same_plain x y r s e
@@ -183,7 +183,7 @@ false_same (Pair y z) r s e = false_same_pair y z r s e
 false_same (Triple y z u) r s e = false_same_triple y z u r s e
 
 pair_same_plain : (x y z : Signed) (r s : List (Part Role)) → spell_value (Pair x y) r ≡ spell_value (Plain z) s → (Pair x y ≡ Plain z) × (r ≡ s)
-pair_same_plain x y z r s e = absurd (no_sign_number z.minus z.size s (codes "(") (spell_signed x (spell_signed y (sign (codes ")") ∷ r))) (λ f. absurd (cc f)) (sym e))
+pair_same_plain x y z r s e = absurd (no_sign_number z.minus z.size s (codes "(") (spell_signed x (spell_signed y (sign Fixed (codes ")") ∷ r))) (λ f. absurd (cc f)) (sym e))
 
 pair_same_truth_true : (x y : Signed) (r s : List (Part Role)) → spell_value (Pair x y) r ≡ spell_value (Truth true) s → (Pair x y ≡ Truth true) × (r ≡ s)
 pair_same_truth_true x y r s e = let heads : Sign (codes "(") ≡ Word (codes "true") = ap head_symbol e in absurd cc
@@ -193,15 +193,15 @@ pair_same_truth_false x y r s e = let heads : Sign (codes "(") ≡ Word (codes "
 
 pair_same_pair : (x y x' y' : Signed) (r s : List (Part Role)) → spell_value (Pair x y) r ≡ spell_value (Pair x' y') s → (Pair x y ≡ Pair x' y') × (r ≡ s)
 pair_same_pair x y x' y' r s e =
-    let one = signed_same x x' (spell_signed y (sign (codes ")") ∷ r)) (spell_signed y' (sign (codes ")") ∷ s)) (ap tail_of e) in
-    let two = signed_same y y' (sign (codes ")") ∷ r) (sign (codes ")") ∷ s) one.1 in
+    let one = signed_same x x' (spell_signed y (sign Fixed (codes ")") ∷ r)) (spell_signed y' (sign Fixed (codes ")") ∷ s)) (ap tail_of e) in
+    let two = signed_same y y' (sign Fixed (codes ")") ∷ r) (sign Fixed (codes ")") ∷ s) one.1 in
     (ap (λ (u : Signed). Pair u y) one.0 ∙ ap (Pair x') two.0, ap tail_of two.1)
 
 pair_same_triple : (x y x' y' z' : Signed) (r s : List (Part Role)) → spell_value (Pair x y) r ≡ spell_value (Triple x' y' z') s → (Pair x y ≡ Triple x' y' z') × (r ≡ s)
 pair_same_triple x y x' y' z' r s e =
-    let one = signed_same x x' (spell_signed y (sign (codes ")") ∷ r)) (spell_signed y' (spell_signed z' (sign (codes ")") ∷ s))) (ap tail_of e) in
-    let two = signed_same y y' (sign (codes ")") ∷ r) (spell_signed z' (sign (codes ")") ∷ s)) one.1 in
-    absurd (no_sign_number z'.minus z'.size (sign (codes ")") ∷ s) (codes ")") r (λ f. absurd (cc f)) (sym two.1))
+    let one = signed_same x x' (spell_signed y (sign Fixed (codes ")") ∷ r)) (spell_signed y' (spell_signed z' (sign Fixed (codes ")") ∷ s))) (ap tail_of e) in
+    let two = signed_same y y' (sign Fixed (codes ")") ∷ r) (spell_signed z' (sign Fixed (codes ")") ∷ s)) one.1 in
+    absurd (no_sign_number z'.minus z'.size (sign Fixed (codes ")") ∷ s) (codes ")") r (λ f. absurd (cc f)) (sym two.1))
 
 pair_same : (x y : Signed) (w : ValueForm) (r s : List (Part Role)) → spell_value (Pair x y) r ≡ spell_value w s → (Pair x y ≡ w) × (r ≡ s)
 pair_same x y (Plain z) r s e = pair_same_plain x y z r s e
@@ -211,7 +211,7 @@ pair_same x y (Pair x' y') r s e = pair_same_pair x y x' y' r s e
 pair_same x y (Triple x' y' z') r s e = pair_same_triple x y x' y' z' r s e
 
 triple_same_plain : (x y z u : Signed) (r s : List (Part Role)) → spell_value (Triple x y z) r ≡ spell_value (Plain u) s → (Triple x y z ≡ Plain u) × (r ≡ s)
-triple_same_plain x y z u r s e = absurd (no_sign_number u.minus u.size s (codes "(") (spell_signed x (spell_signed y (spell_signed z (sign (codes ")") ∷ r)))) (λ f. absurd (cc f)) (sym e))
+triple_same_plain x y z u r s e = absurd (no_sign_number u.minus u.size s (codes "(") (spell_signed x (spell_signed y (spell_signed z (sign Fixed (codes ")") ∷ r)))) (λ f. absurd (cc f)) (sym e))
 
 triple_same_truth_true : (x y z : Signed) (r s : List (Part Role)) → spell_value (Triple x y z) r ≡ spell_value (Truth true) s → (Triple x y z ≡ Truth true) × (r ≡ s)
 triple_same_truth_true x y z r s e = let heads : Sign (codes "(") ≡ Word (codes "true") = ap head_symbol e in absurd cc
@@ -221,15 +221,15 @@ triple_same_truth_false x y z r s e = let heads : Sign (codes "(") ≡ Word (cod
 
 triple_same_pair : (x y z x' y' : Signed) (r s : List (Part Role)) → spell_value (Triple x y z) r ≡ spell_value (Pair x' y') s → (Triple x y z ≡ Pair x' y') × (r ≡ s)
 triple_same_pair x y z x' y' r s e =
-    let one = signed_same x x' (spell_signed y (spell_signed z (sign (codes ")") ∷ r))) (spell_signed y' (sign (codes ")") ∷ s)) (ap tail_of e) in
-    let two = signed_same y y' (spell_signed z (sign (codes ")") ∷ r)) (sign (codes ")") ∷ s) one.1 in
-    absurd (no_sign_number z.minus z.size (sign (codes ")") ∷ r) (codes ")") s (λ f. absurd (cc f)) two.1)
+    let one = signed_same x x' (spell_signed y (spell_signed z (sign Fixed (codes ")") ∷ r))) (spell_signed y' (sign Fixed (codes ")") ∷ s)) (ap tail_of e) in
+    let two = signed_same y y' (spell_signed z (sign Fixed (codes ")") ∷ r)) (sign Fixed (codes ")") ∷ s) one.1 in
+    absurd (no_sign_number z.minus z.size (sign Fixed (codes ")") ∷ r) (codes ")") s (λ f. absurd (cc f)) two.1)
 
 triple_same_triple : (x y z x' y' z' : Signed) (r s : List (Part Role)) → spell_value (Triple x y z) r ≡ spell_value (Triple x' y' z') s → (Triple x y z ≡ Triple x' y' z') × (r ≡ s)
 triple_same_triple x y z x' y' z' r s e =
-    let one = signed_same x x' (spell_signed y (spell_signed z (sign (codes ")") ∷ r))) (spell_signed y' (spell_signed z' (sign (codes ")") ∷ s))) (ap tail_of e) in
-    let two = signed_same y y' (spell_signed z (sign (codes ")") ∷ r)) (spell_signed z' (sign (codes ")") ∷ s)) one.1 in
-    let three = signed_same z z' (sign (codes ")") ∷ r) (sign (codes ")") ∷ s) two.1 in
+    let one = signed_same x x' (spell_signed y (spell_signed z (sign Fixed (codes ")") ∷ r))) (spell_signed y' (spell_signed z' (sign Fixed (codes ")") ∷ s))) (ap tail_of e) in
+    let two = signed_same y y' (spell_signed z (sign Fixed (codes ")") ∷ r)) (spell_signed z' (sign Fixed (codes ")") ∷ s)) one.1 in
+    let three = signed_same z z' (sign Fixed (codes ")") ∷ r) (sign Fixed (codes ")") ∷ s) two.1 in
     ((λ i. Triple (one.0 i) (two.0 i) (three.0 i)), ap tail_of three.1)
 
 triple_same : (x y z : Signed) (w : ValueForm) (r s : List (Part Role)) → spell_value (Triple x y z) r ≡ spell_value w s → (Triple x y z ≡ w) × (r ≡ s)
@@ -262,7 +262,7 @@ value_goes_on : (v : ValueForm) (r : List (Part Role)) → stops (spell_value v 
 value_goes_on (Plain x) r =
     by x.minus
   where
-    by : (b : Bool) → stops (if b then sign (codes "-") ∷ number (Size true) x.size ∷ r else number (Size false) x.size ∷ r) ≡ false
+    by : (b : Bool) → stops (if b then sign Fixed (codes "-") ∷ number (Size true) x.size ∷ r else number (Size false) x.size ∷ r) ≡ false
     by true = refl
     by false = refl
 value_goes_on (Truth true) r = refl
@@ -341,7 +341,7 @@ labels_same n mask (l ∷ labels) (m ∷ others) r s one other e =
 
 -- ---- statements
 
-stats_stop : (n k : ℕ) (forms : List StatForm) → stops (spell_stats n k forms (the_end ∷ [])) ≡ true
+stats_stop : (n k : ℕ) (forms : List StatForm) → stops (spell_stats n k forms (the_end Fixed ∷ [])) ≡ true
 stats_stop n k [] = refl
 stats_stop n k (Applies line ∷ forms) = refl
 stats_stop n k (GoesOver form ∷ forms) = refl
@@ -391,7 +391,7 @@ first_is n k (Applies line) forms rest = refl
 first_is n k (GoesOver form) forms rest = refl
 first_is n k (Says bare place) forms rest = refl
 
-no_more : (n k : ℕ) (form : StatForm) (forms : List StatForm) → the_end ∷ [] ≡ spell_stats n k (form ∷ forms) (the_end ∷ []) → ⊥
+no_more : (n k : ℕ) (form : StatForm) (forms : List StatForm) → the_end Fixed ∷ [] ≡ spell_stats n k (form ∷ forms) (the_end Fixed ∷ []) → ⊥
 no_more n k (Applies line) forms e = let heads : End ≡ Word (codes "apply") = ap head_symbol e in absurd cc
 no_more n k (GoesOver form) forms e = let heads : End ≡ Word (codes "each") = ap head_symbol e in absurd cc
 no_more n k (Says bare place) forms e = let heads : End ≡ Word (bare_word bare) = ap head_symbol e in absurd cc
@@ -408,18 +408,18 @@ line_same k one other r s r_stops s_stops e =
     ((λ i. record { place = place i; rule = record { name = name i; place = name_place i }; hooks = hooks.0 i; values = values.0 i }), values.1)
 
 each_same : (n k : ℕ) (one other : EachForm) (r s : List (Part Role)) → stops r ≡ true → stops s ≡ true
-    → word (StatAt k one.place) (codes "each") ∷ sign (codes "<") ∷ spell_labels n no_labels one.labels (sign (codes ">") ∷ word (RuleAt one.rule.place) one.rule.name ∷ spell_params one.values r)
-    ≡ word (StatAt k other.place) (codes "each") ∷ sign (codes "<") ∷ spell_labels n no_labels other.labels (sign (codes ">") ∷ word (RuleAt other.rule.place) other.rule.name ∷ spell_params other.values s) → (one ≡ other) × (r ≡ s)
+    → word (StatAt k one.place) (codes "each") ∷ sign Fixed (codes "<") ∷ spell_labels n no_labels one.labels (sign Fixed (codes ">") ∷ word (RuleAt one.rule.place) one.rule.name ∷ spell_params one.values r)
+    ≡ word (StatAt k other.place) (codes "each") ∷ sign Fixed (codes "<") ∷ spell_labels n no_labels other.labels (sign Fixed (codes ">") ∷ word (RuleAt other.rule.place) other.rule.name ∷ spell_params other.values s) → (one ≡ other) × (r ≡ s)
 each_same n k one other r s r_stops s_stops e =
     let place : one.place ≡ other.place = ap head_place e in
-    let labels = labels_same n no_labels one.labels other.labels (sign (codes ">") ∷ word (RuleAt one.rule.place) one.rule.name ∷ spell_params one.values r) (sign (codes ">") ∷ word (RuleAt other.rule.place) other.rule.name ∷ spell_params other.values s) refl refl (ap tail_of (ap tail_of e)) in
+    let labels = labels_same n no_labels one.labels other.labels (sign Fixed (codes ">") ∷ word (RuleAt one.rule.place) one.rule.name ∷ spell_params one.values r) (sign Fixed (codes ">") ∷ word (RuleAt other.rule.place) other.rule.name ∷ spell_params other.values s) refl refl (ap tail_of (ap tail_of e)) in
     let named = ap tail_of labels.1 in
     let name : one.rule.name ≡ other.rule.name = ap (λ (ps : List (Part Role)). bytes_in (head_symbol ps)) named in
     let name_place : one.rule.place ≡ other.rule.place = ap head_place named in
     let values = params_same one.values other.values r s r_stops s_stops (ap tail_of named) in
     ((λ i. record { place = place i; labels = labels.0 i; rule = record { name = name i; place = name_place i }; values = values.0 i }), values.1)
 
-stats_same : (n k : ℕ) (ones others : List StatForm) → spell_stats n k ones (the_end ∷ []) ≡ spell_stats n k others (the_end ∷ []) → ones ≡ others
+stats_same : (n k : ℕ) (ones others : List StatForm) → spell_stats n k ones (the_end Fixed ∷ []) ≡ spell_stats n k others (the_end Fixed ∷ []) → ones ≡ others
 stats_same n k [] [] e = refl
 stats_same n k [] (other ∷ others) e = absurd (no_more n k other others e)
 stats_same n k (one ∷ ones) [] e = absurd (no_more n k one ones (sym e))
@@ -427,14 +427,14 @@ stats_same n k (one ∷ ones) (other ∷ others) e =
     by (stats_same n (k + 1) ones others) one other refl refl
   where
     r : List (Part Role)
-    r = spell_stats n (k + 1) ones (the_end ∷ [])
+    r = spell_stats n (k + 1) ones (the_end Fixed ∷ [])
 
     s : List (Part Role)
-    s = spell_stats n (k + 1) others (the_end ∷ [])
+    s = spell_stats n (k + 1) others (the_end Fixed ∷ [])
 
     -- both begin with the same word
     firsts : first_word one ≡ first_word other
-    firsts = sym (first_is n k one ones (the_end ∷ [])) ∙ ap (λ (ps : List (Part Role)). bytes_in (head_symbol ps)) e ∙ first_is n k other others (the_end ∷ [])
+    firsts = sym (first_is n k one ones (the_end Fixed ∷ [])) ∙ ap (λ (ps : List (Part Role)). bytes_in (head_symbol ps)) e ∙ first_is n k other others (the_end Fixed ∷ [])
 
     joined : (x y : StatForm) → x ≡ y → ones ≡ others → x ∷ ones ≡ y ∷ others
     joined x y p q = λ i. p i ∷ q i

@@ -1,9 +1,9 @@
 -- What is spelled where one more hook, label, value or statement stands behind others.
 use Rattle.std.proofs.Common.{◌≡◌, ℕ, ◌+◌, List, [], ◌∷◌, ◌++◌, length, map, refl, ap, ◌∙◌, arith}
 use Rattle.gm_model.specs.declared.word.Mask.{Mask}
-use Rattle.gm_model.specs.Reading.{Part}
+use Rattle.gm_model.specs.Reading.{Part, number}
 use Rattle.gm_text.specs.SchemaText.{with_label}
-use Rattle.gm_script.specs.ScriptText.{ValueForm, StatForm, Role, Hook, LabelBehind, number, mask_of, spell_value, spell_values, spell_labels, spell_stat, spell_stats}
+use Rattle.gm_script.specs.ScriptText.{ValueForm, StatForm, Role, Hook, LabelBehind, mask_of, spell_value, spell_values, spell_labels, spell_stat, spell_stats}
 
 pub hooks_more : (hooks : List ℕ) (n : ℕ) (rest : List (Part Role)) → map (number Hook) (hooks ++ n ∷ []) ++ rest ≡ map (number Hook) hooks ++ number Hook n ∷ rest
 hooks_more [] n rest = refl

@@ -7,10 +7,10 @@ use Rattle.gm_model.specs.declared.token.TokenKind.{TokenKind}
 use Rattle.gm_model.specs.declared.token.TokenKind.TheVariants as kinds
 use Rattle.gm_model.specs.Tokens.{Item, Lexed, StrayAt, EndAt, items_of, bytes_of}
 use Rattle.gm_model.specs.Symbols.{Symbol, Word, Stray, End, Mark, symbols, mark_of, symbol_of_kind, marks_of}
-use Rattle.gm_model.specs.Reading.{Part, symbols_in, IsWithin, TextEndsAt, LimitStandsAt}
+use Rattle.gm_model.specs.Reading.{Part, symbols_in, IsWithin, TextEndsAt, LimitStandsAt, the_end, ArePlaced}
 use Rattle.gm_model.specs.Rules.{Rule}
 use Rattle.gm_text.specs.SchemaText.{Passed, LimitOf, Again, no_labels}
-use Rattle.gm_script.specs.ScriptText.{StatForm, Role, passed_of, spelling, the_end, IsForm, IsSentence, ArePlaced, IsPlacedAt}
+use Rattle.gm_script.specs.ScriptText.{StatForm, Role, Fixed, passed_of, spelling, IsForm, IsSentence, IsPlacedAt}
 use Rattle.gm_text.specs.Machine as machine
 use Rattle.gm_text.specs.Machine.{run}
 use Rattle.gm_text.proofs.Machine.{run_ends, run_passes, ended_is, passing_is}
@@ -148,7 +148,7 @@ module _ (n : ℕ) (low : n ≤ 7) (text : List ℕ) where
     parts : List (Part Role)
     spelled : symbols (map (mark_of text) items) ≡ symbols_in parts
     within : IsWithin (IsSentence n) passed_of parts
-    placed : ArePlaced (map (mark_of text) items) parts
+    placed : ArePlaced IsPlacedAt (map (mark_of text) items) parts
     written : so_far n held.spot held.begun draft parts ≡ spelling n forms
 
   placed_at : (spot : Spot) (been : Been) (sight : Sight) (place : ℕ) → IsPlacedAt place (role_in n spot been sight place)
@@ -162,7 +162,7 @@ module _ (n : ℕ) (low : n ≤ 7) (text : List ℕ) where
   whole_read : (place : ℕ) (held : Held) (draft : Draft) (stats : List HeldStat) → IsDraft held.spot (been_of held) draft → can_end held.within held.spot ≡ true → AreHeld text stats (whole_stats held.spot draft) → Read (EndAt place ∷ []) held draft stats
   whole_read place held draft stats good can are =
       let all = whole n held.spot (been_of held) draft good can in
-      record { forms = whole_stats held.spot draft; form = all.form; are_held = are; parts = the_end ∷ []; spelled = refl; within = (refl, tt); placed = (tt, tt); written = all.written }
+      record { forms = whole_stats held.spot draft; form = all.form; are_held = are; parts = the_end Fixed ∷ []; spelled = refl; within = (refl, tt); placed = (tt, tt); written = all.written }
 
   end_read : (place : ℕ) (held : Held) (draft : Draft) (before stats : List HeldStat) → AreHeld text before draft.stats → IsHeld text held draft → IsDraft held.spot (been_of held) draft
       → (finished place held >>= λ stat. Ok (put_first stat [])) ≡ Ok stats → Read (EndAt place ∷ []) held draft (before ++ stats)
@@ -249,7 +249,7 @@ module _ (n : ℕ) (low : n ≤ 7) (text : List ℕ) where
         record {
           form = read.form;
           read = record { spelled = spelled; sentence = (read.forms, read.form, refl); within = subst (IsWithin (IsSentence n) passed_of) read.written read.within };
-          placed = subst (ArePlaced (marks_of text)) read.written read.placed;
+          placed = subst (ArePlaced IsPlacedAt (marks_of text)) read.written read.placed;
         },
         read.are_held,
       )

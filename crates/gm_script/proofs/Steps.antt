@@ -3,9 +3,9 @@ use Rattle.std.proofs.Common.{◌≡◌, ℕ, ◌+◌, ◌^◌, ◌-◌, min, Bo
 use Rattle.std.specs.List.{AllByRecursion}
 use Rattle.gm_model.specs.Names.{reserved, is_among}
 use Rattle.gm_model.specs.Symbols.{Symbol, Word, Numeral, Sign}
-use Rattle.gm_model.specs.Reading.{Part}
+use Rattle.gm_model.specs.Reading.{Part, word, number, sign, the_end}
 use Rattle.gm_text.specs.SchemaText.{no_labels, with_label}
-use Rattle.gm_script.specs.ScriptText.{ValueForm, StatForm, Plain, Truth, Pair, Triple, Role, Fixed, StatAt, RuleAt, Hook, LabelBehind, number, word, sign, the_end, mask_of, spell_value, spell_values, spell_labels, spell_stats, spelling, IsForm, IsStatForm}
+use Rattle.gm_script.specs.ScriptText.{ValueForm, StatForm, Plain, Truth, Pair, Triple, Role, Fixed, StatAt, RuleAt, Hook, LabelBehind, mask_of, spell_value, spell_values, spell_labels, spell_stats, spelling, IsForm, IsStatForm}
 use Rattle.gm_script.specs.Reading.{Been, head_word, sight_of, next_spot, next_word, next_head, within_behind, can_end, is_whole, been_behind, begun_behind, labelled, role_in}
 use Rattle.gm_script.specs.declared.sight.Head.{Head}
 use Rattle.gm_script.specs.declared.sight.Head.TheVariants as heads
@@ -216,7 +216,7 @@ module _ (n : ℕ) where
       labels = ap (λ mask. with_label mask m) good.labels ∙ sym (mask_more draft.stat.labels m no_labels);
     };
     written = λ rest.
-        ap (λ (ps : List (Part Role)). spell_stats n 0 draft.stats (word (StatAt been.begun draft.stat.place) (codes "each") ∷ sign (codes "<") ∷ ps)) (labels_more n no_labels draft.stat.labels m rest
+        ap (λ (ps : List (Part Role)). spell_stats n 0 draft.stats (word (StatAt been.begun draft.stat.place) (codes "each") ∷ sign Fixed (codes "<") ∷ ps)) (labels_more n no_labels draft.stat.labels m rest
         ∙ ap (λ mask. spell_labels n no_labels draft.stat.labels (number (LabelBehind n mask) m ∷ rest)) (sym good.labels));
   }
   on_number m l spots.With been place draft good = record {
@@ -314,12 +314,12 @@ whole_stats _ draft = (closed draft).stats
 
 pub record IsWhole (n : ℕ) (spot : Spot) (been : Been) (draft : Draft) : Type 0 where
   pub form : IsForm (whole_stats spot draft)
-  pub written : so_far n spot been.begun draft (the_end ∷ []) ≡ spelling n (whole_stats spot draft)
+  pub written : so_far n spot been.begun draft (the_end Fixed ∷ []) ≡ spelling n (whole_stats spot draft)
 
 ended : (n : ℕ) (spot : Spot) (been : Been) (draft : Draft) → IsClosed n spot been draft → been.within ≡ false → (whole_stats spot draft ≡ (closed draft).stats) → IsWhole n spot been draft
 ended n spot been draft whole out e = record {
   form = rw e (whole.form, nests_nested false (closed draft).stats (subst (NestsTo false (closed draft).stats) out whole.nested));
-  written = rw e (sym (whole.written (the_end ∷ [])));
+  written = rw e (sym (whole.written (the_end Fixed ∷ [])));
 }
 
 out_of : (within : Bool) (spot : Spot) → can_end within spot ≡ true → (within ≡ false) × (is_whole spot ≡ true)

@@ -4,3 +4,4 @@ pub mod Comparing
 pub mod Faults
 pub mod SoFar
 pub mod Agreement
+pub mod FirstRules

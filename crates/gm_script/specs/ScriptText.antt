@@ -1,5 +1,5 @@
 -- How a script is written: the grammar of its texts with their limits, and the statements that a text stands for under a book of rules, or the first fault in which it disagrees with the book.
-use Rattle.std.specs.Prelude.{◌≡◌, ◌≢◌, ℕ, ◌+◌, ◌^◌, Bool, true, false, ◌&&◌, nat_lt, nat_le, if◌then◌else◌, ℤ, nat_abs, List, [], ◌∷◌, ◌++◌, length, map, take, Option, Some, None, codes, slice_get}
+use Rattle.std.specs.Prelude.{◌≡◌, ◌≢◌, ℕ, ◌+◌, Bool, true, false, ◌&&◌, nat_lt, nat_le, if◌then◌else◌, ℤ, nat_abs, List, [], ◌∷◌, ◌++◌, length, map, Option, Some, None, codes, slice_get}
 use Rattle.std.specs.List.{position, AllByRecursion}
 use Rattle.std.specs.Str.{bytes_eq}
 use Rattle.gm_model.specs.declared.limit.LimitKind.{LimitKind}
@@ -15,12 +15,12 @@ use Rattle.gm_model.specs.declared.value.Value.TheVariants as values
 use Rattle.gm_model.specs.declared.word.Mask.{Mask}
 use Rattle.gm_model.specs.Labels.{has}
 use Rattle.gm_model.specs.Limits.{most_names}
-use Rattle.gm_model.specs.Symbols.{Symbol, Word, Numeral, Sign, End, Mark, marks_of}
+use Rattle.gm_model.specs.Symbols.{Symbol, Word, Numeral, marks_of}
 use Rattle.gm_model.specs.Rules.{Rule}
-use Rattle.gm_model.specs.Reading.{Part, IsReadAs, TextEndsAt, LimitStandsAt}
+use Rattle.gm_model.specs.Reading.{Part, word, number, sign, the_end, ArePlaced, IsReadAs, TextEndsAt, LimitStandsAt}
 use Rattle.gm_model.specs.Names.{Mention, IsFree}
 use Rattle.gm_text.specs.SchemaText.{Passed, LimitOf, Again, no_labels, with_label, passed_by}
-use Rattle.gm_text.specs.ValueText.{Signed, integer, greatest, is_channel}
+use Rattle.gm_text.specs.ValueText.{Signed, integer, greatest, is_channel, truth_text}
 use Rattle.gm_text.specs.ValueText as numbers
 
 -- ---- what is written in a script
@@ -103,18 +103,6 @@ is_again _ _ = false
 abbrev pub passed_of : Role → Symbol → Option Passed
 passed_of role symbol = passed_by (limit_of role symbol) (is_again role symbol)
 
-abbrev pub word : Role → List ℕ → Part Role
-word role bytes = record { symbol = Word bytes; role = role }
-
-abbrev pub number : Role → ℕ → Part Role
-number role n = record { symbol = Numeral n; role = role }
-
-abbrev pub sign : List ℕ → Part Role
-sign bytes = record { symbol = Sign bytes; role = Fixed }
-
-abbrev pub the_end : Part Role
-the_end = record { symbol = End; role = Fixed }
-
 -- Each spelling takes what stands behind it.
 
 abbrev pub spell_signed : Signed → List (Part Role) → List (Part Role)
@@ -123,10 +111,9 @@ spell_signed x rest = numbers.spell_signed Fixed Size x rest
 -- 3, or true, or (1 2), or (1 2 3)
 abbrev pub spell_value : ValueForm → List (Part Role) → List (Part Role)
 spell_value (Plain x) rest = spell_signed x rest
-spell_value (Truth true) rest = word Fixed (codes "true") ∷ rest
-spell_value (Truth false) rest = word Fixed (codes "false") ∷ rest
-spell_value (Pair x y) rest = sign (codes "(") ∷ spell_signed x (spell_signed y (sign (codes ")") ∷ rest))
-spell_value (Triple x y z) rest = sign (codes "(") ∷ spell_signed x (spell_signed y (spell_signed z (sign (codes ")") ∷ rest)))
+spell_value (Truth b) rest = word Fixed (truth_text b) ∷ rest
+spell_value (Pair x y) rest = sign Fixed (codes "(") ∷ spell_signed x (spell_signed y (sign Fixed (codes ")") ∷ rest))
+spell_value (Triple x y z) rest = sign Fixed (codes "(") ∷ spell_signed x (spell_signed y (spell_signed z (sign Fixed (codes ")") ∷ rest)))
 
 abbrev pub spell_values : List ValueForm → List (Part Role) → List (Part Role)
 spell_values [] rest = rest
@@ -151,8 +138,8 @@ spell_labels n mask (label ∷ labels) rest = number (LabelBehind n mask) label 
 -- each <0 1> r with 3
 abbrev pub spell_each : ℕ → ℕ → EachForm → List (Part Role) → List (Part Role)
 spell_each n k form rest =
-    word (StatAt k form.place) (codes "each") ∷ sign (codes "<")
-    ∷ spell_labels n no_labels form.labels (sign (codes ">") ∷ word (RuleAt form.rule.place) form.rule.name ∷ spell_params form.values rest)
+    word (StatAt k form.place) (codes "each") ∷ sign Fixed (codes "<")
+    ∷ spell_labels n no_labels form.labels (sign Fixed (codes ">") ∷ word (RuleAt form.rule.place) form.rule.name ∷ spell_params form.values rest)
 
 abbrev pub spell_stat : ℕ → ℕ → StatForm → List (Part Role) → List (Part Role)
 spell_stat n k (Applies line) rest = spell_line k line rest
@@ -166,7 +153,7 @@ spell_stats n k (form ∷ forms) rest = spell_stat n (k + 1) form (spell_stats n
 
 -- of a script whose labels go up to the number
 abbrev pub spelling : ℕ → List StatForm → List (Part Role)
-spelling n forms = spell_stats n 0 forms (the_end ∷ [])
+spelling n forms = spell_stats n 0 forms (the_end Fixed ∷ [])
 
 -- a reserved word is no rule's name
 abbrev pub IsStatForm : StatForm → Type 0
@@ -195,17 +182,11 @@ IsPlacedAt place (StatAt k at) = at ≡ place
 IsPlacedAt place (RuleAt at) = at ≡ place
 IsPlacedAt place _ = Unit {0}
 
--- each place that a part names is that of its mark
-abbrev pub ArePlaced : List Mark → List (Part Role) → Type 0
-ArePlaced [] parts = Unit {0}
-ArePlaced (mark ∷ marks) [] = Unit {0}
-ArePlaced (mark ∷ marks) (part ∷ parts) = IsPlacedAt mark.place part.role × ArePlaced marks parts
-
 -- these statements are written in the text, with labels up to the number, and pass nothing
 pub record IsWritten (n : ℕ) (text : List ℕ) (forms : List StatForm) : Type 0 where
   pub form : IsForm forms
   pub read : IsReadAs (IsSentence n) passed_of (marks_of text) (spelling n forms)
-  pub placed : ArePlaced (marks_of text) (spelling n forms)
+  pub placed : ArePlaced IsPlacedAt (marks_of text) (spelling n forms)
 
 -- the first fault of a text by the grammar and its limits
 abbrev pub IsTextFault : ℕ → List ℕ → ℕ → Type 0
@@ -220,9 +201,9 @@ IsAgainFault n text place = LimitStandsAt (IsSentence n) passed_of (λ role. fal
 
 -- ---- a line under a book
 
--- The index of the rule with the name, of rules with one name the first. An index has 16 bits, which is more than the rules of any book's text need.
+-- the index of the rule with the name, of rules with one name the first
 unfoldable pub index_of : List Rule → List ℕ → Option ℕ
-index_of rules name = position (λ (rule : Rule). bytes_eq name rule.name) (take (2 ^ 16) rules)
+index_of rules name = position (λ (rule : Rule). bytes_eq name rule.name) rules
 
 -- the colour of these components
 abbrev pub colour : ℤ → ℤ → ℤ → Option Value

@@ -8,6 +8,7 @@ ghost use Rattle.gm_model.specs.Tokens.{EndAt};
 ghost use Rattle.gm_text.specs.Lexing.{rest_of};
 ghost use Rattle.gm_script.specs.ScriptText.{ScriptText};
 ghost use Rattle.gm_script.specs.Faults.{IsFaultOf};
+ghost use Rattle.gm_script.specs.FirstRules.{first_rules};
 ghost use Rattle.gm_script.specs.Reading.{nothing, IsNext, IsStray};
 ghost use Rattle.gm_script.specs.SoFar.{IsSoFar};
 
@@ -93,11 +94,11 @@ fn read_stats(
 }
 
 /// The script that the text stands for under the book. A fault of the text, by its grammar and
-/// limits, comes before any disagreement of a statement with the book. A book's text has so few rules
-/// that a statement can name each; of more than 65,536, the first so many.
+/// limits, comes before any disagreement of a statement with the book. A book that a text stands for
+/// has so few rules that a statement can name each; of more than 65,536, the first so many.
 pub fn read_script(alloc: Global, bytes: &[u8], book: &Book) -> Result<Script, ScriptFault>
-    ensures script { IfOk result (λ script. ScriptText bytes.now book.now.schema.dim (map rule_of book.now.rules) script.stats) }
-    ensures fault { IfErr result (IsFaultOf bytes.now book.now.schema.dim (map rule_of book.now.rules)) }
+    ensures script { IfOk result (λ script. ScriptText bytes.now book.now.schema.dim (first_rules book.now.rules) script.stats) }
+    ensures fault { IfErr result (IsFaultOf bytes.now book.now.schema.dim (first_rules book.now.rules)) }
 {
     let rules = RulesByName::new(alloc, book.rules.as_slice())?;
     let stats = read_stats(alloc, bytes, book.schema.dim, &rules)?;

@@ -1,5 +1,5 @@
 //! The rules of a book by their names.
-ghost use Rattle.std.specs.Prelude.{◌≡◌, ◌<◌, ◌≤◌, ℕ, List, length, map, bytes_eq, IfOk, IfSome};
+ghost use Rattle.std.specs.Prelude.{◌≡◌, ◌<◌, ◌≤◌, ◌^◌, ℕ, List, length, map, take, bytes_eq, IfOk, IfSome};
 ghost use Rattle.std.specs.HashMap as hash;
 ghost use Rattle.std.specs.List.{position};
 ghost use Rattle.gm_model.specs.declared.rule.RuleTable.{RuleTable};
@@ -17,7 +17,7 @@ const MOST_RULES: usize = 1 << 16;
 /// Among so few rules, comparing a name with each is faster than hashing it.
 const FEW_RULES: usize = 8;
 
-/// The rules of a book, of which each is found by its name. Contracts see the rules.
+/// The rules of a book that a line can name, each found by its name. Contracts see these rules.
 #[derive(Drop)]
 pub(crate) struct RulesByName<'a> {
     rules: &'a [RuleTable],
@@ -45,8 +45,9 @@ impl<'a> Model for RulesByName<'a> {
 
 impl<'a> RulesByName<'a> {
     pub(crate) fn new(alloc: Global, rules: &'a [RuleTable]) -> Result<RulesByName<'a>, AllocError>
-        ensures { IfOk result (λ book. book ≡ rules.now) }
+        ensures { IfOk result (λ book. book ≡ take (2 ^ 16) rules.now) }
     {
+        let rules = first_ones(rules);
         let indices = if rules.len() > FEW_RULES {
             indices_by_name(alloc, rules)?
         } else {
@@ -75,6 +76,14 @@ impl<'a> RulesByName<'a> {
     }
 }
 
+/// The rules that a line can name: of more than it has indices for, the first.
+fn first_ones(rules: &[RuleTable]) -> &[RuleTable]
+    ensures value { result.now ≡ take (2 ^ 16) rules.now }
+    ensures few { length result.now ≤ 2 ^ 16 }
+{
+    &rules[..rules.len().min(MOST_RULES)]
+}
+
 /// The place of the first rule with the name.
 fn place_named(rules: &[RuleTable], name: &[u8]) -> Option<usize>
     ensures place { result ≡ position (λ (rule : RuleTable). bytes_eq name.now rule.name) rules.now }
@@ -99,11 +108,11 @@ fn indices_by_name<'a>(
     alloc: Global,
     rules: &'a [RuleTable],
 ) -> Result<HashMap<&'a [u8], u16>, AllocError>
+    requires few { length rules.now ≤ 2 ^ 16 }
     ensures { IfOk result (λ indices. (name : List ℕ) → hash.get_by (λ k. bytes_eq name k.now) indices ≡ index_of (map rule_of rules.now) name) }
 {
-    let named = &rules[..rules.len().min(MOST_RULES)];
     let mut indices = HashMap::new(alloc);
-    for (index, rule) in named.iter().enumerate() {
+    for (index, rule) in rules.iter().enumerate() {
         let name = rule.name.bytes();
         if !indices.contains_key(name) {
             indices.insert(name, index as u16)?;

@@ -2,10 +2,10 @@
 use Rattle.std.proofs.Common.{◌≡◌, ℕ, Bool, true, false, cond, List, [], ◌∷◌, ◌++◌, map, Option, Some, None, Result, Ok, Err, refl, sym, ap, subst, ◌∙◌}
 use Rattle.std.specs.Prelude.{IsTrue, is_some}
 use Rattle.gm_model.specs.Symbols.{Symbol, Mark}
-use Rattle.gm_model.specs.Reading.{Part}
+use Rattle.gm_model.specs.Reading.{Part, in_role}
 use Rattle.gm_text.specs.Machine.{Stop, Ends, Passes, IsGrammar, limit_place, step, run}
 use Rattle.gm_text.proofs.Machine.{last_of, stepped, Refused, Limited, Moved}
-use Rattle.gm_text.specs.Nested.{Nested, Outside, Inside, Nesting, role_at, move_inside, move, IsApart, wrapped, LeadsInside, LeadsNested, IsNestedSentence, HasPieces}
+use Rattle.gm_text.specs.Nested.{Nested, Outside, Inside, Nesting, role_at, move_inside, move, IsApart, LeadsInside, LeadsNested, IsNestedSentence, HasPieces}
 
 module _ {Outer Inner Role InnerRole What : Type 0} (nesting : Nesting Outer Inner Role InnerRole) (limit_of : Role → Symbol → Option What) (stands_before : Role → Bool) where
   abbrev Led : Nested Outer Inner → List (Part Role) → Nested Outer Inner → Type 0
@@ -15,7 +15,7 @@ module _ {Outer Inner Role InnerRole What : Type 0} (nesting : Nesting Outer Inn
   LedInside inner parts last = LeadsInside nesting limit_of stands_before inner parts last
 
   abbrev wraps : List (Part InnerRole) → List (Part Role)
-  wraps parts = map (wrapped nesting) parts
+  wraps parts = map (in_role nesting.wrap) parts
 
   -- ---- one symbol in an inner state
 
@@ -65,12 +65,12 @@ module _ {Outer Inner Role InnerRole What : Type 0} (nesting : Nesting Outer Inn
         | Within to goes at ↦
             let rest = split to parts last (subst (λ (s : Nested Outer Inner). Led s parts (Outside last)) at led) in
             let first : Part InnerRole = record { symbol = part.symbol; role = nesting.inner_role inner part.symbol place } in
-            let same : part ≡ wrapped nesting first = ap (λ (r : Role). let p : Part Role = record { symbol = part.symbol; role = r } in p) (is ∙ inside_role inner to part.symbol place goes) in
+            let same : part ≡ in_role nesting.wrap first = ap (λ (r : Role). let p : Part Role = record { symbol = part.symbol; role = r } in p) (is ∙ inside_role inner to part.symbol place goes) in
             record {
               inside = first ∷ rest.inside;
               whole = rest.whole;
               back = rest.back;
-              spelled = ap (λ (p : Part Role). p ∷ parts) same ∙ ap (λ (ps : List (Part Role)). wrapped nesting first ∷ ps) rest.spelled;
+              spelled = ap (λ (p : Part Role). p ∷ parts) same ∙ ap (λ (ps : List (Part Role)). in_role nesting.wrap first ∷ ps) rest.spelled;
               leads = (place, to, refl, goes, rest.leads);
               is_whole = rest.is_whole;
               behind = rest.behind;

@@ -13,10 +13,10 @@ use Rattle.gm_model.specs.declared.word.Mask.{Mask}
 use Rattle.gm_model.specs.Labels.{has}
 use Rattle.gm_model.specs.Symbols.{Symbol, Word, Numeral, Sign, Mark, symbols, marks_of}
 use Rattle.gm_model.specs.Tokens.{is_digit, begins_two_byte_sign, IsLexeme}
-use Rattle.gm_model.specs.Reading.{Part, IsWithin, symbols_in}
+use Rattle.gm_model.specs.Reading.{Part, IsWithin, symbols_in, word, sign}
 use Rattle.gm_text.specs.Cursor.{Cursor}
 use Rattle.gm_text.specs.Machine.{Leads, run}
-use Rattle.gm_text.specs.SchemaText.{LabelForm, EmbedForm, SchemaForm, Role, Fixed, EmbedWord, NameAt, LabelAt, passed_of, no_labels, with_label, with_labels, embed_of, names_in, kind_word, schema_of, word, sign, spell_labels, spell_embed, spell_embeds, spell, IsEmbed, IsForm, IsSentence, beyond, labels_below, labels_in, labels_text, embed_line, canonical}
+use Rattle.gm_text.specs.SchemaText.{LabelForm, EmbedForm, SchemaForm, Role, Fixed, EmbedWord, NameAt, LabelAt, passed_of, no_labels, with_label, with_labels, embed_of, names_in, kind_word, schema_of, spell_labels, spell_embed, spell_embeds, spell, IsEmbed, IsForm, IsSentence, beyond, labels_below, labels_in, labels_text, embed_line, canonical}
 use Rattle.gm_text.specs.SchemaReading.{State, AtDim, AtEmbeds, role_at, move, never, Stands}
 use Rattle.gm_text.specs.SchemaAnswers.{IsSchemaRead}
 use Rattle.gm_text.specs.SchemaPrinting.{AreParts, BeginNoEmbed, StandsBefore}
@@ -158,10 +158,10 @@ line_symbols n declared embed more parts name rest =
     (append_assoc embed.name (codes " <" ++ (labels ++ (codes "> " ++ (kind ++ codes "\n")))) more
     ∙ ap (λ (bytes : List ℕ). embed.name ++ 32 ∷ 60 ∷ bytes) (append_assoc labels (codes "> " ++ (kind ++ codes "\n")) more ∙ ap (λ (bytes : List ℕ). labels ++ 62 ∷ 32 ∷ bytes) (append_assoc kind (codes "\n") more))) in
     let kind_symbols = symbols_from-word_blank kind 10 more (kind_lexeme embed.kind) refl ∙ ap (λ (s : List Symbol). Word kind ∷ s) rest in
-    let close : symbols_from (62 ∷ 32 ∷ behind_kind) ≡ symbols_in (sign (codes ">") ∷ word Fixed kind ∷ parts) =
+    let close : symbols_from (62 ∷ 32 ∷ behind_kind) ≡ symbols_in (sign Fixed (codes ">") ∷ word Fixed kind ∷ parts) =
     symbols_from-sign 62 (32 ∷ behind_kind) refl refl ∙ ap (λ (s : List Symbol). Sign (codes ">") ∷ s) (symbols_from-blank 32 behind_kind refl ∙ kind_symbols) in
     let orbit = ap (λ labels. symbols_from (60 ∷ (labels_text labels ++ 62 ∷ 32 ∷ behind_kind))) (sym (labels_all embed.mask))
-    ∙ labels_symbols n no_labels (labels_below embed.mask 8) (32 ∷ behind_kind) (sign (codes ">") ∷ word Fixed kind ∷ parts) (small_below embed.mask 8 (omega arith)) close in
+    ∙ labels_symbols n no_labels (labels_below embed.mask 8) (32 ∷ behind_kind) (sign Fixed (codes ">") ∷ word Fixed kind ∷ parts) (small_below embed.mask 8 (omega arith)) close in
     ap symbols_from apart
     ∙ symbols_from-word_blank (codes "embed") 32 (embed.name ++ 32 ∷ 60 ∷ behind_orbit) (refl, refl) refl
     ∙ ap (λ (s : List Symbol). Word (codes "embed") ∷ s) (symbols_from-word_blank embed.name 32 (60 ∷ behind_orbit) name refl ∙ ap (λ (s : List Symbol). Word embed.name ∷ s) orbit)

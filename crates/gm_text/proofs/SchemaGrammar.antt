@@ -12,9 +12,9 @@ use Rattle.gm_model.specs.declared.value.Kind.TheVariants as kinds
 use Rattle.gm_model.specs.declared.word.Mask.{Mask}
 use Rattle.gm_model.specs.Names.{Mention, reserved, is_among}
 use Rattle.gm_model.specs.Symbols.{Symbol, Word, Numeral, Sign, Gone, Stray, End}
-use Rattle.gm_model.specs.Reading.{Part}
+use Rattle.gm_model.specs.Reading.{Part, word, number, sign}
 use Rattle.gm_text.specs.Machine.{Leads}
-use Rattle.gm_text.specs.SchemaText.{LabelForm, EmbedForm, SchemaForm, Role, Fixed, Dimension, EmbedWord, NameAt, LabelAt, no_labels, with_label, with_labels, embed_of, names_in, kind_word, word, number, sign, spell_labels, spell_embeds, spell, IsEmbed, IsForm}
+use Rattle.gm_text.specs.SchemaText.{LabelForm, EmbedForm, SchemaForm, Role, Fixed, Dimension, EmbedWord, NameAt, LabelAt, no_labels, with_label, with_labels, embed_of, names_in, kind_word, spell_labels, spell_embeds, spell, IsEmbed, IsForm}
 use Rattle.gm_text.specs.SchemaReading.{State, AtDim, AtTop, AtEmbeds, AtName, AtOrbit, AtLabel, AtKind, role_at, kind_named, expect, with_kind, move, is_whole, never}
 
 -- ---- spellings before something else
@@ -28,10 +28,10 @@ embeds_before : (n : ℕ) (declared : List Embed) (embeds : List EmbedForm) (mor
 embeds_before n declared [] more = refl
 embeds_before n declared (embed ∷ embeds) more =
     let behind = spell_embeds n (declared ++ embed_of embed ∷ []) embeds [] in
-    let rest = sign (codes ">") ∷ word Fixed (kind_word embed.kind) ∷ behind in
-    ap (λ (ps : List (Part Role)). word (EmbedWord (length declared + 1)) (codes "embed") ∷ word (NameAt (names_in declared) embed.name.place) embed.name.name ∷ sign (codes "<") ∷ ps)
+    let rest = sign Fixed (codes ">") ∷ word Fixed (kind_word embed.kind) ∷ behind in
+    ap (λ (ps : List (Part Role)). word (EmbedWord (length declared + 1)) (codes "embed") ∷ word (NameAt (names_in declared) embed.name.place) embed.name.name ∷ sign Fixed (codes "<") ∷ ps)
     (labels_before n no_labels embed.labels rest more
-    ∙ ap (λ (ps : List (Part Role)). spell_labels n no_labels embed.labels (sign (codes ">") ∷ word Fixed (kind_word embed.kind) ∷ ps)) (embeds_before n (declared ++ embed_of embed ∷ []) embeds more))
+    ∙ ap (λ (ps : List (Part Role)). spell_labels n no_labels embed.labels (sign Fixed (codes ">") ∷ word Fixed (kind_word embed.kind) ∷ ps)) (embeds_before n (declared ++ embed_of embed ∷ []) embeds more))
 
 pub spell_before : (form : SchemaForm) (more : List (Part Role)) → spell form [] ++ more ≡ spell form more
 spell_before form more = ap (λ (ps : List (Part Role)). word Fixed (codes "dim") ∷ number Dimension form.dim ∷ ps) (embeds_before form.dim [] form.embeds more)
@@ -177,7 +177,7 @@ module _ {What : Type 0} (limit_of : Role → Symbol → Option What) where
       let behind = led_embeds n (declared ++ embed_of embed ∷ []) embeds good.1 in
       let free : is_among reserved name ≡ false = good.0.0 in
       let named : move (AtName n declared) (Word name) ≡ Some (AtOrbit n declared name) = rw free refl in
-      let close : Led (AtLabel n declared name orbit) (sign (codes ">") ∷ word Fixed (kind_word embed.kind) ∷ rest) last = (0, AtKind n declared name orbit, refl, refl, (0, AtEmbeds n (declared ++ embed_of embed ∷ []), refl, moves, behind)) in (
+      let close : Led (AtLabel n declared name orbit) (sign Fixed (codes ">") ∷ word Fixed (kind_word embed.kind) ∷ rest) last = (0, AtKind n declared name orbit, refl, refl, (0, AtEmbeds n (declared ++ embed_of embed ∷ []), refl, moves, behind)) in (
         0,
         AtName n declared,
         refl,
@@ -192,7 +192,7 @@ module _ {What : Type 0} (limit_of : Role → Symbol → Option What) where
             AtLabel n declared name no_labels,
             refl,
             refl,
-            led_labels n declared name no_labels embed.labels (sign (codes ">") ∷ word Fixed (kind_word embed.kind) ∷ rest) last close,
+            led_labels n declared name no_labels embed.labels (sign Fixed (codes ">") ∷ word Fixed (kind_word embed.kind) ∷ rest) last close,
           ),
         ),
       )
@@ -212,10 +212,10 @@ module _ {What : Type 0} (limit_of : Role → Symbol → Option What) where
   Rest (AtName n declared) parts last = (embed : EmbedForm) × (embeds : List EmbedForm) × AllByRecursion IsEmbed (embed ∷ embeds)
       × (word (EmbedWord (length declared + 1)) (codes "embed") ∷ parts ≡ spell_embeds n declared (embed ∷ embeds) []) × (last ≡ AtEmbeds n (declared_by declared (embed ∷ embeds)))
   Rest (AtOrbit n declared name) parts last = (labels : List LabelForm) × (kind : Kind) × (embeds : List EmbedForm) × (kind ≢ kinds.Bool) × AllByRecursion IsEmbed embeds
-      × (parts ≡ sign (codes "<") ∷ spell_labels n no_labels labels (sign (codes ">") ∷ word Fixed (kind_word kind) ∷ spell_embeds n (declared ++ record { name = name; mask = with_labels no_labels labels; kind = kind } ∷ []) embeds []))
+      × (parts ≡ sign Fixed (codes "<") ∷ spell_labels n no_labels labels (sign Fixed (codes ">") ∷ word Fixed (kind_word kind) ∷ spell_embeds n (declared ++ record { name = name; mask = with_labels no_labels labels; kind = kind } ∷ []) embeds []))
       × (last ≡ AtEmbeds n (declared_by (declared ++ record { name = name; mask = with_labels no_labels labels; kind = kind } ∷ []) embeds))
   Rest (AtLabel n declared name mask) parts last = (labels : List LabelForm) × (kind : Kind) × (embeds : List EmbedForm) × (kind ≢ kinds.Bool) × AllByRecursion IsEmbed embeds
-      × (parts ≡ spell_labels n mask labels (sign (codes ">") ∷ word Fixed (kind_word kind) ∷ spell_embeds n (declared ++ record { name = name; mask = with_labels mask labels; kind = kind } ∷ []) embeds []))
+      × (parts ≡ spell_labels n mask labels (sign Fixed (codes ">") ∷ word Fixed (kind_word kind) ∷ spell_embeds n (declared ++ record { name = name; mask = with_labels mask labels; kind = kind } ∷ []) embeds []))
       × (last ≡ AtEmbeds n (declared_by (declared ++ record { name = name; mask = with_labels mask labels; kind = kind } ∷ []) embeds))
   Rest (AtKind n declared name mask) parts last = (kind : Kind) × (embeds : List EmbedForm) × (kind ≢ kinds.Bool) × AllByRecursion IsEmbed embeds
       × (parts ≡ word Fixed (kind_word kind) ∷ spell_embeds n (declared ++ record { name = name; mask = mask; kind = kind } ∷ []) embeds [])
@@ -259,7 +259,7 @@ module _ {What : Type 0} (limit_of : Role → Symbol → Option What) where
   rest_is (part ∷ parts) (AtOrbit n declared name) last (place, next, is, moves, led) whole =
       let at = orbit_moved n declared name part.symbol next moves in
       let (labels, kind, embeds, other, good, spelled, end) = rest_is parts (AtLabel n declared name no_labels) last (subst (λ (s : State). Led s parts last) at.1 led) whole in
-      (labels, kind, embeds, other, good, both part (sign (codes "<")) parts _ (the_part part (Sign (codes "<")) Fixed at.0 is) spelled, end)
+      (labels, kind, embeds, other, good, both part (sign Fixed (codes "<")) parts _ (the_part part (Sign (codes "<")) Fixed at.0 is) spelled, end)
   rest_is (part ∷ parts) (AtLabel n declared name mask) last (place, next, is, moves, led) whole =
       elim (label_moved n declared name mask part.symbol next moves) [
         | OnLabel label symbol at ↦
@@ -270,7 +270,7 @@ module _ {What : Type 0} (limit_of : Role → Symbol → Option What) where
         | OnClose symbol at ↦
             let (kind, embeds, other, good, spelled, end) = rest_is parts (AtKind n declared name mask) last (subst (λ (s : State). Led s parts last) at led) whole in
             let role : part.role ≡ Fixed = rw symbol at is in
-            ([], kind, embeds, other, good, both part (sign (codes ">")) parts _ (the_part part (Sign (codes ">")) Fixed symbol role) spelled, end)
+            ([], kind, embeds, other, good, both part (sign Fixed (codes ">")) parts _ (the_part part (Sign (codes ">")) Fixed symbol role) spelled, end)
       ]
   rest_is (part ∷ parts) (AtKind n declared name mask) last (place, next, is, moves, led) whole =
       let (kind, symbol, other, at) = kind_moved n declared name mask part.symbol next moves in
@@ -298,21 +298,21 @@ module _ {What : Type 0} (limit_of : Role → Symbol → Option What) where
   goes_on (AtName n declared) =
       let name = codes "e" in
       let last = with_kind n declared name no_labels kinds.Int in (
-        word (NameAt (names_in declared) 0) name ∷ sign (codes "<") ∷ sign (codes ">") ∷ word Fixed (codes "int") ∷ [],
+        word (NameAt (names_in declared) 0) name ∷ sign Fixed (codes "<") ∷ sign Fixed (codes ">") ∷ word Fixed (codes "int") ∷ [],
         last,
         (0, AtOrbit n declared name, refl, refl, (0, AtLabel n declared name no_labels, refl, refl, (0, AtKind n declared name no_labels, refl, refl, (0, last, refl, refl, refl)))),
         refl,
       )
   goes_on (AtOrbit n declared name) =
       let last = with_kind n declared name no_labels kinds.Int in (
-        sign (codes "<") ∷ sign (codes ">") ∷ word Fixed (codes "int") ∷ [],
+        sign Fixed (codes "<") ∷ sign Fixed (codes ">") ∷ word Fixed (codes "int") ∷ [],
         last,
         (0, AtLabel n declared name no_labels, refl, refl, (0, AtKind n declared name no_labels, refl, refl, (0, last, refl, refl, refl))),
         refl,
       )
   goes_on (AtLabel n declared name mask) =
       let last = with_kind n declared name mask kinds.Int in
-      (sign (codes ">") ∷ word Fixed (codes "int") ∷ [], last, (0, AtKind n declared name mask, refl, refl, (0, last, refl, refl, refl)), refl)
+      (sign Fixed (codes ">") ∷ word Fixed (codes "int") ∷ [], last, (0, AtKind n declared name mask, refl, refl, (0, last, refl, refl, refl)), refl)
   goes_on (AtKind n declared name mask) =
       let last = with_kind n declared name mask kinds.Int in
       (word Fixed (codes "int") ∷ [], last, (0, last, refl, refl, refl), refl)

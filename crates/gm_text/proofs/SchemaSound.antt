@@ -23,9 +23,9 @@ use Rattle.gm_model.specs.Labels.{has}
 use Rattle.gm_model.specs.Maps.{IsSchema}
 use Rattle.gm_model.specs.Names.{reserved, IsReserved, is_among}
 use Rattle.gm_model.specs.Symbols.{Symbol, Mark, symbols}
-use Rattle.gm_model.specs.Reading.{Part, IsWithin, symbols_in}
+use Rattle.gm_model.specs.Reading.{Part, IsWithin, symbols_in, word, sign}
 use Rattle.gm_text.specs.Cursor.{Cursor}
-use Rattle.gm_text.specs.SchemaText.{LabelForm, EmbedForm, SchemaForm, Role, Fixed, passed_by, passed_of, no_labels, with_label, with_labels, embed_of, schema_of, names_in, kind_word, word, sign, spell_labels, spell_embeds, spell, IsEmbed, IsForm, IsSentence}
+use Rattle.gm_text.specs.SchemaText.{LabelForm, EmbedForm, SchemaForm, Role, Fixed, passed_by, passed_of, no_labels, with_label, with_labels, embed_of, schema_of, names_in, kind_word, spell_labels, spell_embeds, spell, IsEmbed, IsForm, IsSentence}
 use Rattle.gm_text.specs.SchemaAnswers.{IsSchemaRead, marks_left}
 use Rattle.gm_text.specs.SchemaPrinting.{AreParts}
 use Rattle.gm_text.proofs.Lexemes.{IsSound, words_are_lexemes}
@@ -117,7 +117,7 @@ sound_from n declared (embed ∷ embeds) good within =
     let few = within_limit 8 (length declared + 1) limits.Embeddings (nothing_passed _ _ within.0).0 in
     let new = (nothing_passed _ _ within.1.0).1 in
     let rest = spell_embeds n (declared ++ embed_of embed ∷ []) embeds [] in
-    let labels = labels_within n no_labels embed.labels (sign (codes ">") ∷ word Fixed (kind_word embed.kind) ∷ rest) (low_none n) within.1.1.1 in
+    let labels = labels_within n no_labels embed.labels (sign Fixed (codes ">") ∷ word Fixed (kind_word embed.kind) ∷ rest) (low_none n) within.1.1.1 in
     let others = sound_from n (declared ++ embed_of embed ∷ []) embeds good.1 labels.1.1.1 in
     let count : length (declared ++ embed_of embed ∷ []) ≡ length declared + 1 = length-append declared (embed_of embed ∷ []) in
     record {
@@ -193,7 +193,7 @@ parts_from : (n : ℕ) (declared : List Embed) (embeds : List EmbedForm) → n �
 parts_from n declared [] top within sound = tt
 parts_from n declared (embed ∷ embeds) top within sound =
     let rest = spell_embeds n (declared ++ embed_of embed ∷ []) embeds [] in
-    let behind = sign (codes ">") ∷ word Fixed (kind_word embed.kind) ∷ rest in
+    let behind = sign Fixed (codes ">") ∷ word Fixed (kind_word embed.kind) ∷ rest in
     let short = within_limit 32 (length embed.name.name) limits.Name (nothing_passed _ _ within.1.0).0 in
     let labels = labels_within n no_labels embed.labels behind (low_none n) within.1.1.1 in
     let small = small_labels n no_labels embed.labels behind top (omega arith) within.1.1.1 sound.1.1.1 in

@@ -7,8 +7,8 @@ use Rattle.gm_model.specs.declared.value.Kind.TheVariants as kinds
 use Rattle.gm_model.specs.declared.word.Mask.{Mask}
 use Rattle.gm_model.specs.Names.{Mention}
 use Rattle.gm_model.specs.Symbols.{Symbol, Word, Numeral, Sign}
-use Rattle.gm_model.specs.Reading.{Part}
-use Rattle.gm_text.specs.SchemaText.{LabelForm, EmbedForm, SchemaForm, Role, Fixed, Dimension, EmbedWord, NameAt, LabelAt, no_labels, with_label, embed_of, names_in, kind_word, word, number, sign, spell_labels, spell_embeds, spell, IsEmbed, IsForm}
+use Rattle.gm_model.specs.Reading.{Part, word, number, sign}
+use Rattle.gm_text.specs.SchemaText.{LabelForm, EmbedForm, SchemaForm, Role, Fixed, Dimension, EmbedWord, NameAt, LabelAt, no_labels, with_label, embed_of, names_in, kind_word, spell_labels, spell_embeds, spell, IsEmbed, IsForm}
 use Rattle.gm_text.specs.SchemaReading.{kind_named}
 use Rattle.gm_text.proofs.SchemaGrammar.{kind_again}
 
@@ -41,26 +41,26 @@ place_of : (part other : Part Role) → part ≡ other → place_in part.role �
 place_of part other e = ap (λ (p : Part Role). place_in p.role) e
 
 -- a sign is no label
-no_label : (s : List ℕ) (role : Role) (label : ℕ) (parts others : List (Part Role)) → sign s ∷ parts ≡ number role label ∷ others → ⊥
+no_label : (s : List ℕ) (role : Role) (label : ℕ) (parts others : List (Part Role)) → sign Fixed s ∷ parts ≡ number role label ∷ others → ⊥
 no_label s role label parts others e =
-    let same : Sign s ≡ Numeral label = ap (λ (p : Part Role). p.symbol) (front_is (sign s) (number role label) parts others e) in
+    let same : Sign s ≡ Numeral label = ap (λ (p : Part Role). p.symbol) (front_is (sign Fixed s) (number role label) parts others e) in
     absurd cc
 
-same_labels : (n : ℕ) (mask : Mask) (labels others : List LabelForm) (rest more : List (Part Role)) → spell_labels n mask labels (sign (codes ">") ∷ rest) ≡ spell_labels n mask others (sign (codes ">") ∷ more) → (labels ≡ others) × (rest ≡ more)
-same_labels n mask [] [] rest more e = (refl, behind_is (sign (codes ">")) (sign (codes ">")) rest more e)
-same_labels n mask [] (other ∷ others) rest more e = absurd (no_label (codes ">") (LabelAt n mask other.place) other.label rest (spell_labels n (with_label mask other.label) others (sign (codes ">") ∷ more)) e)
-same_labels n mask (form ∷ labels) [] rest more e = absurd (no_label (codes ">") (LabelAt n mask form.place) form.label more (spell_labels n (with_label mask form.label) labels (sign (codes ">") ∷ rest)) (sym e))
+same_labels : (n : ℕ) (mask : Mask) (labels others : List LabelForm) (rest more : List (Part Role)) → spell_labels n mask labels (sign Fixed (codes ">") ∷ rest) ≡ spell_labels n mask others (sign Fixed (codes ">") ∷ more) → (labels ≡ others) × (rest ≡ more)
+same_labels n mask [] [] rest more e = (refl, behind_is (sign Fixed (codes ">")) (sign Fixed (codes ">")) rest more e)
+same_labels n mask [] (other ∷ others) rest more e = absurd (no_label (codes ">") (LabelAt n mask other.place) other.label rest (spell_labels n (with_label mask other.label) others (sign Fixed (codes ">") ∷ more)) e)
+same_labels n mask (form ∷ labels) [] rest more e = absurd (no_label (codes ">") (LabelAt n mask form.place) form.label more (spell_labels n (with_label mask form.label) labels (sign Fixed (codes ">") ∷ rest)) (sym e))
 same_labels n mask (form ∷ labels) (other ∷ others) rest more e =
     let one = number (LabelAt n mask form.place) form.label in
     let two = number (LabelAt n mask other.place) other.label in
-    let behind_one = spell_labels n (with_label mask form.label) labels (sign (codes ">") ∷ rest) in
-    let behind_two = spell_labels n (with_label mask other.label) others (sign (codes ">") ∷ more) in
+    let behind_one = spell_labels n (with_label mask form.label) labels (sign Fixed (codes ">") ∷ rest) in
+    let behind_two = spell_labels n (with_label mask other.label) others (sign Fixed (codes ">") ∷ more) in
     let first = front_is one two behind_one behind_two e in
     let label : form.label ≡ other.label = numeral_of one two first in
     let place : form.place ≡ other.place = place_of one two first in
     let tail : behind_one ≡ behind_two = behind_is one two behind_one behind_two e in
     let same : form ≡ other = ap (λ (l : ℕ). let f : LabelForm = record { label = l; place = form.place } in f) label ∙ ap (λ (p : ℕ). let f : LabelForm = record { label = other.label; place = p } in f) place in
-    let behind = same_labels n (with_label mask form.label) labels others rest more (tail ∙ ap (λ (l : ℕ). spell_labels n (with_label mask l) others (sign (codes ">") ∷ more)) (sym label)) in
+    let behind = same_labels n (with_label mask form.label) labels others rest more (tail ∙ ap (λ (l : ℕ). spell_labels n (with_label mask l) others (sign Fixed (codes ">") ∷ more)) (sym label)) in
     (ap (λ (f : LabelForm). f ∷ labels) same ∙ ap (λ (fs : List LabelForm). other ∷ fs) behind.0, behind.1)
 
 same_kind : (kind other : Kind) → kind ≢ kinds.Bool → other ≢ kinds.Bool → kind_word kind ≡ kind_word other → kind ≡ other
@@ -77,12 +77,12 @@ same_embeds n declared (embed ∷ embeds) (other ∷ others) good fine e =
     let behind_two = spell_embeds n (declared ++ embed_of other ∷ []) others [] in
     let kind_one = word Fixed (kind_word embed.kind) in
     let kind_two = word Fixed (kind_word other.kind) in
-    let orbit_one = spell_labels n no_labels embed.labels (sign (codes ">") ∷ kind_one ∷ behind_one) in
-    let orbit_two = spell_labels n no_labels other.labels (sign (codes ">") ∷ kind_two ∷ behind_two) in
+    let orbit_one = spell_labels n no_labels embed.labels (sign Fixed (codes ">") ∷ kind_one ∷ behind_one) in
+    let orbit_two = spell_labels n no_labels other.labels (sign Fixed (codes ">") ∷ kind_two ∷ behind_two) in
     let name_one = word (NameAt (names_in declared) embed.name.place) embed.name.name in
     let name_two = word (NameAt (names_in declared) other.name.place) other.name.name in
     let begin = word (EmbedWord (length declared + 1)) (codes "embed") in
-    let opens = sign (codes "<") in
+    let opens = sign Fixed (codes "<") in
     let named = behind_is begin begin (name_one ∷ opens ∷ orbit_one) (name_two ∷ opens ∷ orbit_two) e in
     let first = front_is name_one name_two (opens ∷ orbit_one) (opens ∷ orbit_two) named in
     let name : embed.name.name ≡ other.name.name = word_of name_one name_two first in

@@ -7,11 +7,11 @@ use Rattle.gm_model.specs.declared.schema.Embed.{Embed}
 use Rattle.gm_model.specs.declared.schema.Schema.{Schema}
 use Rattle.gm_model.specs.declared.word.Mask.{Mask}
 use Rattle.gm_model.specs.Symbols.{Symbol, Word, Numeral, Sign, Gone, Stray, End, Mark}
-use Rattle.gm_model.specs.Reading.{Part, IsWithin, TextEndsAt, LimitStandsAt}
+use Rattle.gm_model.specs.Reading.{Part, in_role, IsWithin, TextEndsAt, LimitStandsAt, ArePlaced}
 use Rattle.gm_text.specs.Machine.{Stop, Ends, Passes, Leads, IsGrammar, run}
-use Rattle.gm_text.specs.Nested.{Nested, Outside, Inside, IsApart, HasPieces, IsNestedSentence, LeadsNested, wrapped}
+use Rattle.gm_text.specs.Nested.{Nested, Outside, Inside, IsApart, HasPieces, IsNestedSentence, LeadsNested}
 use Rattle.gm_text.specs.Nested as nested
-use Rattle.gm_text.specs.SchemaText.{SchemaForm, Role, Fixed, NameAt, LabelAt, limit_of, passed_of, embed_of, schema_of, spell, IsForm, beyond, IsSentence, IsPlacedAt, ArePlaced}
+use Rattle.gm_text.specs.SchemaText.{SchemaForm, Role, Fixed, NameAt, LabelAt, limit_of, passed_of, embed_of, schema_of, spell, IsForm, beyond, IsSentence, IsPlacedAt}
 use Rattle.gm_text.specs.SchemaReading.{State, AtDim, AtTop, AtEmbeds, AtName, AtOrbit, AtLabel, AtKind, role_at, label_role, move, is_whole, Around, AtNext, AtRest, around_move, standing, never, Stands}
 use Rattle.gm_text.proofs.Machine.{Along, run_reads, run_ends, run_passes, along_leads, along_spelled, ended_is, passing_is}
 use Rattle.gm_text.proofs.Nested.{nested_grammar, run_inside_ends, run_inside_passes}
@@ -124,7 +124,7 @@ is_apart state symbol next whole moves =
     let (n, declared, at) = whole_is state whole in
     ap (λ (s : State). move s symbol) at ∙ no_embedding n declared symbol (next_moved symbol next moves).0
 
-all_wrapped : (parts : List (Part Role)) → map (wrapped standing) parts ≡ parts
+all_wrapped : (parts : List (Part Role)) → map (in_role standing.wrap) parts ≡ parts
 all_wrapped [] = refl
 all_wrapped (part ∷ parts) = ap (λ (ps : List (Part Role)). part ∷ ps) (all_wrapped parts)
 
@@ -226,7 +226,7 @@ module _ {What : Type 0} (passed : Role → Symbol → Option What) (placeless :
         next = next;
         others = others;
         ends = ends;
-        spelled = sentence.spelled ∙ ap (λ (ps : List (Part Role)). ps ++ (map (wrapped standing) sentence.inner ++ sentence.back)) sentence.is_front.0
+        spelled = sentence.spelled ∙ ap (λ (ps : List (Part Role)). ps ++ (map (in_role standing.wrap) sentence.inner ++ sentence.back)) sentence.is_front.0
             ∙ ap (λ (ps : List (Part Role)). ps ++ sentence.back) (all_wrapped sentence.inner ∙ inner)
             ∙ ap (λ (ps : List (Part Role)). spell form [] ++ ps) spelled ∙ spell_before form (map beyond (next ∷ others));
       }
@@ -274,7 +274,7 @@ module _ {What : Type 0} (passed : Role → Symbol → Option What) (placeless :
   placed_role (AtLabel n declared name mask) symbol place = placed_label n mask symbol place
   placed_role (AtKind n declared name mask) symbol place = tt
 
-  pub placed_along : (state last : State) (marks : List Mark) (parts : List (Part Role)) → Along passed never role_at move state marks parts last → ArePlaced marks parts
+  pub placed_along : (state last : State) (marks : List Mark) (parts : List (Part Role)) → Along passed never role_at move state marks parts last → ArePlaced IsPlacedAt marks parts
   placed_along state last [] parts along = tt
   placed_along state last (mark ∷ marks) [] along = tt
   placed_along state last (mark ∷ marks) (part ∷ parts) (next, is, moves, along) = rw is (placed_role state mark.symbol mark.place, placed_along next last marks parts along)
@@ -302,7 +302,7 @@ module _ {What : Type 0} (passed : Role → Symbol → Option What) (placeless :
           good = is.good;
           spelled = along_spelled passed never role_at move AtDim (AtEmbeds n embeds) before read.parts read.along ∙ ap (λ (ps : List (Part Role)). map (λ part. part.symbol) ps) is.spelled;
           within = subst (λ (ps : List (Part Role)). IsWithin IsSentence passed ps) is.spelled read.within;
-          placed = subst (λ (ps : List (Part Role)). ArePlaced before ps) is.spelled placed;
+          placed = subst (λ (ps : List (Part Role)). ArePlaced IsPlacedAt before ps) is.spelled placed;
           next = next;
           others = others;
           behind = behind;

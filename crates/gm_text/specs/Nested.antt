@@ -1,7 +1,7 @@
 -- A grammar that is read by states and has another one within it: which symbols are the inner one's, and what follows it.
 use Rattle.std.specs.Prelude.{◌≡◌, ℕ, Bool, if◌then◌else◌, List, ◌++◌, map, Option, Some, None, is_some, IsTrue}
 use Rattle.gm_model.specs.Symbols.{Symbol}
-use Rattle.gm_model.specs.Reading.{Part}
+use Rattle.gm_model.specs.Reading.{Part, in_role}
 use Rattle.gm_text.specs.Machine.{Leads}
 
 pub data Nested (Outer Inner : Type 0) : Type 0 where
@@ -40,9 +40,6 @@ module _ {Outer Inner Role InnerRole : Type 0} (nesting : Nesting Outer Inner Ro
   abbrev pub IsApart : Type 0
   IsApart = (inner : Inner) (symbol : Symbol) (next : Nested Outer Inner) → IsTrue (nesting.is_whole inner) → nesting.outer_move (nesting.behind inner) symbol ≡ Some next → nesting.inner_move inner symbol ≡ None
 
-  abbrev pub wrapped : Part InnerRole → Part Role
-  wrapped part = record { symbol = part.symbol; role = nesting.wrap part.role }
-
   module _ {What : Type 0} (limit_of : Role → Symbol → Option What) (stands_before : Role → Bool) where
     -- within the inner grammar the parts lead from the one state to the other
     abbrev pub LeadsInside : Inner → List (Part InnerRole) → Inner → Type 0
@@ -64,7 +61,7 @@ module _ {Outer Inner Role InnerRole : Type 0} (nesting : Nesting Outer Inner Ro
         pub is_front : IsFront front entry
         pub is_inner : IsInner entry inner last
         pub is_back : IsBack (nesting.behind last) back
-        pub spelled : parts ≡ front ++ (map wrapped inner ++ back)
+        pub spelled : parts ≡ front ++ (map (in_role nesting.wrap) inner ++ back)
 
       -- what each piece owes, with the first state of the whole and its last
       pub record HasPieces (first : Nested Outer Inner) (last : Outer) : Type 0 where

@@ -8,8 +8,8 @@ use Rattle.gm_model.specs.declared.value.Kind.TheVariants as kinds
 use Rattle.gm_model.specs.declared.word.Mask.{Mask}
 use Rattle.gm_model.specs.Names.{reserved, is_among}
 use Rattle.gm_model.specs.Symbols.{Symbol, Word, Numeral, Sign, Mark, symbols}
-use Rattle.gm_model.specs.Reading.{IsWithin, symbols_in}
-use Rattle.gm_text.specs.SchemaText.{SchemaForm, Role, Fixed, Dimension, EmbedWord, NameAt, LabelAt, no_labels, with_label, names_in, spell, IsForm, IsSentence, ArePlaced}
+use Rattle.gm_model.specs.Reading.{IsWithin, symbols_in, ArePlaced}
+use Rattle.gm_text.specs.SchemaText.{SchemaForm, Role, Fixed, Dimension, EmbedWord, NameAt, LabelAt, no_labels, with_label, names_in, spell, IsForm, IsSentence, IsPlacedAt}
 use Rattle.gm_text.specs.Nested.{Nested, Outside, Nesting}
 
 pub data State : Type 0 where
@@ -102,7 +102,7 @@ pub record Stands {What : Type 0} (passed_of : Role → Symbol → Option What) 
   pub good : IsForm form
   pub spelled : symbols before ≡ symbols_in (spell form [])
   pub within : IsWithin IsSentence passed_of (spell form [])
-  pub placed : ArePlaced before (spell form [])
+  pub placed : ArePlaced IsPlacedAt before (spell form [])
   pub next : Mark
   pub others : List Mark
   pub behind : rest ≡ next ∷ others

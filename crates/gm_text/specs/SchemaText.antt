@@ -11,8 +11,8 @@ use Rattle.gm_model.specs.declared.value.Kind.TheVariants as kinds
 use Rattle.gm_model.specs.declared.word.Mask.{Mask}
 use Rattle.gm_model.specs.Labels.{has}
 use Rattle.gm_model.specs.Names.{Mention, IsFree, is_among}
-use Rattle.gm_model.specs.Symbols.{Symbol, Word, Numeral, Sign, Mark}
-use Rattle.gm_model.specs.Reading.{Part}
+use Rattle.gm_model.specs.Symbols.{Symbol, Word, Numeral}
+use Rattle.gm_model.specs.Reading.{Part, word, number, sign}
 
 -- ---- what is written
 
@@ -103,15 +103,6 @@ passed_by None false = None
 abbrev pub passed_of : Role → Symbol → Option Passed
 passed_of role symbol = passed_by (limit_of role symbol) (is_again role symbol)
 
-abbrev pub word : Role → List ℕ → Part Role
-word role bytes = record { symbol = Word bytes; role = role }
-
-abbrev pub number : Role → ℕ → Part Role
-number role n = record { symbol = Numeral n; role = role }
-
-abbrev pub sign : List ℕ → Part Role
-sign bytes = record { symbol = Sign bytes; role = Fixed }
-
 -- Each spelling takes what stands behind it.
 
 -- labels up to the number, behind these of one orbit
@@ -123,7 +114,7 @@ spell_labels n mask (form ∷ forms) rest = number (LabelAt n mask form.place) f
 abbrev pub spell_embed : ℕ → List Embed → EmbedForm → List (Part Role) → List (Part Role)
 spell_embed n declared embed rest =
     word (EmbedWord (length declared + 1)) (codes "embed") ∷ word (NameAt (names_in declared) embed.name.place) embed.name.name
-    ∷ sign (codes "<") ∷ spell_labels n no_labels embed.labels (sign (codes ">") ∷ word Fixed (kind_word embed.kind) ∷ rest)
+    ∷ sign Fixed (codes "<") ∷ spell_labels n no_labels embed.labels (sign Fixed (codes ">") ∷ word Fixed (kind_word embed.kind) ∷ rest)
 
 abbrev pub spell_embeds : ℕ → List Embed → List EmbedForm → List (Part Role) → List (Part Role)
 spell_embeds n declared [] rest = rest
@@ -155,16 +146,11 @@ pub record IsSentence (parts : List (Part Role)) : Type 0 where
 
 -- ---- how a text is read
 
+-- each name and each label knows its place
 abbrev pub IsPlacedAt : ℕ → Role → Type 0
 IsPlacedAt place (NameAt names at) = at ≡ place
 IsPlacedAt place (LabelAt n mask at) = at ≡ place
 IsPlacedAt place _ = Unit {0}
-
--- each name and label has the place of its mark
-abbrev pub ArePlaced : List Mark → List (Part Role) → Type 0
-ArePlaced [] parts = Unit {0}
-ArePlaced (mark ∷ marks) [] = Unit {0}
-ArePlaced (mark ∷ marks) (part ∷ parts) = IsPlacedAt mark.place part.role × ArePlaced marks parts
 
 -- ---- the canonical text
 

@@ -1,5 +1,6 @@
--- The rules of a book that was read can be checked.
-use Rattle.std.proofs.Common.{ℕ, List, [], ◌∷◌, map, All}
+-- The rules of a book that was read can be checked, and a script can name each.
+use Rattle.std.proofs.Common.{◌≡◌, ℕ, ◌^◌, List, [], ◌∷◌, map, All, ap, arith}
+use Rattle.std.proofs.lemmas.List.{length-map, take_all}
 use Rattle.std.specs.List.{AllByRecursion}
 use Rattle.std.proofs.lemmas.List.Elements.{All-from_recursion, recursion_from_All}
 use Rattle.gm_model.specs.declared.rule.Book.{Book}
@@ -8,6 +9,8 @@ use Rattle.gm_forms.specs.BookText.{BookText}
 use Rattle.gm_model.specs.Maps.{IsSchema}
 use Rattle.gm_model.specs.Rules.{rule_of}
 use Rattle.gm_book.proofs.ReadRange.{range_from_text}
+use Rattle.gm_book.proofs.ReadRules.{few_at_most}
+use Rattle.gm_script.specs.FirstRules.{first_rules}
 use Rattle.gm_tool.specs.Books.{IsCheckable}
 
 pub unmap : {X Y : Type 0} (P : Y → Type 0) (f : X → Y) (xs : List X) → All P (map f xs) → All (λ x. P (f x)) xs
@@ -27,3 +30,7 @@ checkable_rules text book read declared = unmap (IsCheckable book.schema) rule_o
       within = ranges.1;
       typed = ranges.2;
     })
+
+pub all_first : (text : List ℕ) (book : Book) → BookText text book.version book.schema (map rule_of book.rules) → first_rules book.rules ≡ map rule_of book.rules
+all_first text book read =
+    ap (map rule_of) (take_all (2 ^ 16) book.rules (omega (arith, few_at_most text book.version book.schema (map rule_of book.rules) read, length-map book.rules rule_of)))

@@ -1,8 +1,8 @@
-ghost use Rattle.std.specs.Prelude.{IfOk, IfErr, map};
+ghost use Rattle.std.specs.Prelude.{ℕ, List, IfOk, IfErr, map};
 ghost use Rattle.gm_model.specs.Rules.{rule_of};
 ghost use Rattle.gm_lines.specs.Refusing.{TheScript};
 ghost use Rattle.gm_tool.specs.RunAnswer.{IsBadScript};
-ghost use Rattle.gm_tool.specs.Stops.{IsReadScript, IsBadFor};
+ghost use Rattle.gm_tool.specs.Stops.{IsReadBook, IsReadScript, IsBadFor};
 
 use crate::refusal::Stop;
 use gm_lines::script_line;
@@ -10,8 +10,9 @@ use gm_model::{Book, Script};
 use gm_script::read_script;
 use std::alloc::Global;
 
-/// The script that a file's text stands for under the book, or the line that refuses it.
+/// The script that a file's text stands for under a book that was read, or the line that refuses it.
 pub fn read(alloc: Global, bytes: &[u8], book: &Book) -> Result<Script, Stop>
+    requires book { (text : List ℕ) × IsReadBook text book.now }
     ensures script { IfOk result (IsReadScript book.now.schema.dim (map rule_of book.now.rules) bytes.now) }
     ensures stop { IfErr result (IsBadFor TheScript (IsBadScript book.now.schema.dim (map rule_of book.now.rules) bytes.now)) }
 {

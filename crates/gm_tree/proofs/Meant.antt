@@ -10,10 +10,11 @@ use Rattle.gm_model.specs.declared.expr.DartTerm.{DartTerm}
 use Rattle.gm_model.specs.declared.word.Mask.{Mask}
 use Rattle.gm_model.specs.Labels.{has}
 use Rattle.gm_model.specs.Names.{Mention, IsFree}
-use Rattle.gm_model.specs.Reading.{Part}
+use Rattle.gm_model.specs.Reading.{Part, word, number, sign}
 use Rattle.gm_model.specs.Symbols.{Symbol, Word, Mark}
 use Rattle.gm_model.specs.Trees.{Tree, Number as Quantity_tree, Truth}
 use Rattle.gm_text.specs.SchemaText.{LabelForm, no_labels, with_label, with_labels}
+use Rattle.gm_text.specs.ValueText.{truth_text}
 use Rattle.gm_parse.specs.declared.function.Function.{Function}
 use Rattle.gm_parse.specs.declared.function.Function.TheVariants as functions
 use Rattle.gm_parse.specs.declared.key.Collector.{Collector}
@@ -28,7 +29,7 @@ use Rattle.gm_tree.specs.declared.partial.Lead.TheVariants as leads
 use Rattle.gm_tree.specs.declared.partial.Named.{Named}
 use Rattle.gm_parse.specs.Forms.{TermForm, Form, NumberForm, TruthForm, ParamForm, FieldForm, SameForm, CountForm, CollectForm, CallForm, ParenForm, MinusForm, NotForm, BinaryForm, IfForm, Arguments, First, Further, count_of, level_of, IsGood, AreGood}
 use Rattle.gm_parse.specs.Levels.{binary_level, least_on_left, least_on_right}
-use Rattle.gm_parse.specs.Spelling.{Role, Quantity, LabelAt, StepAt, greatest, IsPlacedAt, spell, spell_arguments, spell_path, spell_labels, spell_term, operator, sign, word, name, number, truth_word, collector_word}
+use Rattle.gm_parse.specs.Spelling.{Role, Fixed, Quantity, LabelAt, StepAt, greatest, IsPlacedAt, spell, spell_arguments, spell_path, spell_labels, spell_term, operator, name, collector_word}
 use Rattle.gm_tree.specs.Small.{IsSmall, AreSmall, IsSmallPath, IsSmallOrbit}
 use Rattle.gm_parse.specs.Reading.{key_of}
 use Rattle.gm_parse.specs.Meaning.{Names, NameFault, UnknownAt, TwiceAt, node_number, embed_number, param_number, function_named, function_of, with_arity, arity, unknown, again_in, orbit_faults, term_faults, field_faults, faults_in, argument_faults, call_of, mask_of, term_in, embed_in, tree_in, trees_in}
@@ -206,7 +207,7 @@ module _ (n : ℕ) (names : Names) where
   runs_path top frames least lead term (label ∷ path) rest marks small fits =
       let here = work frames least (BehindTerm lead term) in
       let along : DartTerm = record term { path = term.path ++ label ∷ [] } in
-      runs_then here here _ marks (number (StepAt n) label ∷ spell_path n path rest) rest (by_part here here (sign (codes "@")) (number (StepAt n) label ∷ spell_path n path rest) marks fits (λ place placed. refl))
+      runs_then here here _ marks (number (StepAt n) label ∷ spell_path n path rest) rest (by_part here here (sign Fixed (codes "@")) (number (StepAt n) label ∷ spell_path n path rest) marks fits (λ place placed. refl))
       (λ left fits. runs_then here (work frames least (BehindTerm lead along)) _ left (spell_path n path rest) rest
       (by_part here (work frames least (BehindTerm lead along)) (number (StepAt n) label) (spell_path n path rest) left fits (λ place placed. ap (λ (k : ℕ). work frames least (BehindTerm lead (record term { path = term.path ++ k ∷ [] }))) (label_small label top small.0)))
       (λ more fits. subst (λ (p : List ℕ). Runs (work frames least (BehindTerm lead along)) more (work frames least (BehindTerm lead (record term { path = p }))) rest) (append_assoc term.path (label ∷ []) path) (runs_path top frames least lead along path rest more small.1 fits)))
@@ -223,46 +224,46 @@ module _ (n : ℕ) (names : Names) where
   field_work frames least lead term embed = work frames (missed least embed.place (embed_number names embed)) (field_part lead term (embed_in names embed))
 
   -- behind a whole term
-  runs_field_end : (frames : List Frame) (least : Option NameFault) (lead : Lead) (term : DartTerm) (embed : Mention) (rest : List (Part Role)) (marks : List Mark) → IsFree embed → Fits marks (sign (codes ".") ∷ name embed ∷ rest)
+  runs_field_end : (frames : List Frame) (least : Option NameFault) (lead : Lead) (term : DartTerm) (embed : Mention) (rest : List (Part Role)) (marks : List Mark) → IsFree embed → Fits marks (sign Fixed (codes ".") ∷ name embed ∷ rest)
       → Runs (work frames least (BehindTerm lead term)) marks (field_work frames least lead term embed) rest
   runs_field_end frames least lead term embed rest marks free fits =
       let here = work frames least (BehindTerm lead term) in
-      runs_then here here (field_work frames least lead term embed) marks (name embed ∷ rest) rest (by_part here here (sign (codes ".")) (name embed ∷ rest) marks fits (λ place placed. refl))
+      runs_then here here (field_work frames least lead term embed) marks (name embed ∷ rest) rest (by_part here here (sign Fixed (codes ".")) (name embed ∷ rest) marks fits (λ place placed. refl))
       (λ left fits. named_part frames least (field_work frames least lead term embed) (BehindTerm lead term) embed rest left free fits refl)
 
   -- behind a name that is a node
   runs_named_field : n ≤ 7 → (frames : List Frame) (least : Option NameFault) (named : Named) (path : List ℕ) (embed : Mention) (rest : List (Part Role)) (marks : List Mark) → IsFree embed → IsSmallPath n path
-      → Fits marks (spell_path n path (sign (codes ".") ∷ name embed ∷ rest))
+      → Fits marks (spell_path n path (sign Fixed (codes ".") ∷ name embed ∷ rest))
       → Runs (work frames least (Name named)) marks (field_work frames (missed least named.place named.node) leads.Plain (record { node = unwrap_or named.node 0; path = path }) embed) rest
   runs_named_field top frames least named [] embed rest marks free small fits =
       let at = missed least named.place named.node in
       let begun = work frames at (BehindTerm leads.Plain (term_at named.node)) in
-      runs_then (work frames least (Name named)) begun _ marks (name embed ∷ rest) rest (by_part (work frames least (Name named)) begun (sign (codes ".")) (name embed ∷ rest) marks fits (λ place placed. refl))
+      runs_then (work frames least (Name named)) begun _ marks (name embed ∷ rest) rest (by_part (work frames least (Name named)) begun (sign Fixed (codes ".")) (name embed ∷ rest) marks fits (λ place placed. refl))
       (λ left fits. named_part frames at (field_work frames at leads.Plain (term_at named.node) embed) (BehindTerm leads.Plain (term_at named.node)) embed rest left free fits refl)
   runs_named_field top frames least named (label ∷ path) embed rest marks free small fits =
       let at = missed least named.place named.node in
       let begun = work frames at (BehindTerm leads.Plain (term_at named.node)) in
       let first : DartTerm = record { node = unwrap_or named.node 0; path = label ∷ [] } in
       let whole : DartTerm = record { node = unwrap_or named.node 0; path = label ∷ path } in
-      let field = sign (codes ".") ∷ name embed ∷ rest in
-      runs_then (work frames least (Name named)) begun (field_work frames at leads.Plain whole embed) marks (number (StepAt n) label ∷ spell_path n path field) rest (by_part (work frames least (Name named)) begun (sign (codes "@")) (number (StepAt n) label ∷ spell_path n path field) marks fits (λ place placed. refl))
+      let field = sign Fixed (codes ".") ∷ name embed ∷ rest in
+      runs_then (work frames least (Name named)) begun (field_work frames at leads.Plain whole embed) marks (number (StepAt n) label ∷ spell_path n path field) rest (by_part (work frames least (Name named)) begun (sign Fixed (codes "@")) (number (StepAt n) label ∷ spell_path n path field) marks fits (λ place placed. refl))
       (λ left fits. runs_then begun (work frames at (BehindTerm leads.Plain first)) (field_work frames at leads.Plain whole embed) left (spell_path n path field) rest
       (by_part begun (work frames at (BehindTerm leads.Plain first)) (number (StepAt n) label) (spell_path n path field) left fits (λ place placed. ap (λ (k : ℕ). let t : DartTerm = record { node = unwrap_or named.node 0; path = k ∷ [] } in work frames at (BehindTerm leads.Plain t)) (label_small label top small.0)))
       (λ more fits. runs_then (work frames at (BehindTerm leads.Plain first)) (work frames at (BehindTerm leads.Plain whole)) (field_work frames at leads.Plain whole embed) more field rest (runs_path top frames at leads.Plain first path field more small.1 fits)
       (λ last fits. runs_field_end frames at leads.Plain whole embed rest last free fits)))
 
   runs_orbit : n ≤ 7 → (frames : List Frame) (least : Option NameFault) (head : Head) (orbit : List LabelForm) (rest : List (Part Role)) (marks : List Mark) → IsSmallOrbit n orbit
-      → Fits marks (sign (codes "<") ∷ spell_labels n orbit (sign (codes ">") ∷ sign (codes "(") ∷ rest))
+      → Fits marks (sign Fixed (codes "<") ∷ spell_labels n orbit (sign Fixed (codes ">") ∷ sign Fixed (codes "(") ∷ rest))
       → Runs (work frames least (InOrbit head no_labels)) marks (work frames (noted least (orbit_faults orbit)) (BeforeTerm (lead_of head (mask_of orbit)))) rest
   runs_orbit top frames least head orbit rest marks small fits =
       let here = work frames least (InOrbit head no_labels) in
       let labelled = work frames (noted least (orbit_faults orbit)) (InOrbit head (mask_of orbit)) in
       let before = work frames (noted least (orbit_faults orbit)) (BeforeTerm (lead_of head (mask_of orbit))) in
-      let behind = sign (codes ">") ∷ sign (codes "(") ∷ rest in
-      runs_then here here before marks (spell_labels n orbit behind) rest (by_part here here (sign (codes "<")) (spell_labels n orbit behind) marks fits (λ place placed. refl))
+      let behind = sign Fixed (codes ">") ∷ sign Fixed (codes "(") ∷ rest in
+      runs_then here here before marks (spell_labels n orbit behind) rest (by_part here here (sign Fixed (codes "<")) (spell_labels n orbit behind) marks fits (λ place placed. refl))
       (λ left fits. runs_then here labelled before left behind rest (runs_labels top frames least head no_labels orbit behind left small fits)
-      (λ more fits. runs_then labelled labelled before more (sign (codes "(") ∷ rest) rest (by_part labelled labelled (sign (codes ">")) (sign (codes "(") ∷ rest) more fits (λ place placed. refl))
-      (λ last fits. by_part labelled before (sign (codes "(")) rest last fits (λ place placed. refl))))
+      (λ more fits. runs_then labelled labelled before more (sign Fixed (codes "(") ∷ rest) rest (by_part labelled labelled (sign Fixed (codes ">")) (sign Fixed (codes "(") ∷ rest) more fits (λ place placed. refl))
+      (λ last fits. by_part labelled before (sign Fixed (codes "(")) rest last fits (λ place placed. refl))))
 
   -- ---- behind a form
 
@@ -401,11 +402,11 @@ module _ (n : ℕ) (names : Names) where
       rw is (ap (λ (l : Option NameFault). work frames l (Value (Truth false))) unknown_is ∙ ap (λ (t : Tree). work frames (noted least (unknown mention (function_of mention.name (count_of all)))) (Value t)) (sym tree))
 
   -- a function of an orbit begins
-  collect_word : (collector : Collector) (frames : List Frame) (least : Option NameFault) (rest : List (Part Role)) (marks : List Mark) → Fits marks (word (collector_word collector) ∷ rest)
+  collect_word : (collector : Collector) (frames : List Frame) (least : Option NameFault) (rest : List (Part Role)) (marks : List Mark) → Fits marks (word Fixed (collector_word collector) ∷ rest)
       → Runs (work frames least Nothing) marks (work frames least (InOrbit (heads.Collect collector) no_labels)) rest
-  collect_word collectors.Sum frames least rest marks fits = by_part (work frames least Nothing) (work frames least (InOrbit (heads.Collect collectors.Sum) no_labels)) (word (codes "sum")) rest marks fits (λ place placed. refl)
-  collect_word collectors.Least frames least rest marks fits = by_part (work frames least Nothing) (work frames least (InOrbit (heads.Collect collectors.Least) no_labels)) (word (codes "min")) rest marks fits (λ place placed. refl)
-  collect_word collectors.Greatest frames least rest marks fits = by_part (work frames least Nothing) (work frames least (InOrbit (heads.Collect collectors.Greatest) no_labels)) (word (codes "max")) rest marks fits (λ place placed. refl)
+  collect_word collectors.Sum frames least rest marks fits = by_part (work frames least Nothing) (work frames least (InOrbit (heads.Collect collectors.Sum) no_labels)) (word Fixed (codes "sum")) rest marks fits (λ place placed. refl)
+  collect_word collectors.Least frames least rest marks fits = by_part (work frames least Nothing) (work frames least (InOrbit (heads.Collect collectors.Least) no_labels)) (word Fixed (codes "min")) rest marks fits (λ place placed. refl)
+  collect_word collectors.Greatest frames least rest marks fits = by_part (work frames least Nothing) (work frames least (InOrbit (heads.Collect collectors.Greatest) no_labels)) (word Fixed (codes "max")) rest marks fits (λ place placed. refl)
 
   least_bracket : (callee : Callee) (arguments : Arguments) (form : Form) (frames : List Frame) → least_of (bracket callee arguments ∷ frames) ≤ level_of form
   least_bracket callee (First a) form frames = omega arith
@@ -441,8 +442,8 @@ module _ (n : ℕ) (names : Names) where
           let low : min value greatest ≡ value = omega (arith, small) in
           whole (work frames least Nothing) marks frames least (tree_in names (NumberForm value)) rest
           (by_part (work frames least Nothing) (work frames least (Value (tree_in names (NumberForm value)))) (number Quantity value) rest marks fits (λ place placed. ap (λ (k : ℕ). work frames least (Value (Quantity_tree (pos k)))) low))
-      is_built (TruthForm true) frames least rest marks good small fits_in fits = whole (work frames least Nothing) marks frames least (Truth true) rest (by_part (work frames least Nothing) (work frames least (Value (Truth true))) (word (truth_word true)) rest marks fits (λ place placed. refl))
-      is_built (TruthForm false) frames least rest marks good small fits_in fits = whole (work frames least Nothing) marks frames least (Truth false) rest (by_part (work frames least Nothing) (work frames least (Value (Truth false))) (word (truth_word false)) rest marks fits (λ place placed. refl))
+      is_built (TruthForm true) frames least rest marks good small fits_in fits = whole (work frames least Nothing) marks frames least (Truth true) rest (by_part (work frames least Nothing) (work frames least (Value (Truth true))) (word Fixed (truth_text true)) rest marks fits (λ place placed. refl))
+      is_built (TruthForm false) frames least rest marks good small fits_in fits = whole (work frames least Nothing) marks frames least (Truth false) rest (by_part (work frames least Nothing) (work frames least (Value (Truth false))) (word Fixed (truth_text false)) rest marks fits (λ place placed. refl))
       is_built (ParamForm param) frames least rest marks good small fits_in fits =
           let named = named_at names param.name param.place in
           record {
@@ -457,8 +458,8 @@ module _ (n : ℕ) (names : Names) where
           sym (noted-append least (term_faults names term) (unknown embed (embed_number names embed)) ∙ ap (λ (l : Option NameFault). noted l (unknown embed (embed_number names embed))) (noted_unknown least term.node (node_number names term.node)) ∙ noted_unknown at embed (embed_number names embed)) in
           faults_are (work frames least Nothing) marks frames (missed at embed.place (embed_number names embed)) (noted least (field_faults names term embed)) (tree_in names (FieldForm term embed)) rest same
           (whole (work frames least Nothing) marks frames (missed at embed.place (embed_number names embed)) (tree_in names (FieldForm term embed)) rest
-          (runs_then (work frames least Nothing) (work frames least (Name named)) (field_work frames at leads.Plain (term_in names term) embed) marks (spell_path n term.path (sign (codes ".") ∷ name embed ∷ rest)) rest
-          (named_part frames least (work frames least (Name named)) Nothing term.node (spell_path n term.path (sign (codes ".") ∷ name embed ∷ rest)) marks good.0 fits refl)
+          (runs_then (work frames least Nothing) (work frames least (Name named)) (field_work frames at leads.Plain (term_in names term) embed) marks (spell_path n term.path (sign Fixed (codes ".") ∷ name embed ∷ rest)) rest
+          (named_part frames least (work frames least (Name named)) Nothing term.node (spell_path n term.path (sign Fixed (codes ".") ∷ name embed ∷ rest)) marks good.0 fits refl)
           (λ left fits. runs_named_field top frames least named term.path embed rest left good.1 small fits)))
       is_built (SameForm one two) frames least rest marks good small fits_in fits =
           let first = noted least (term_faults names one) in
@@ -466,29 +467,29 @@ module _ (n : ℕ) (names : Names) where
           let before = work frames least (BeforeTerm leads.First) in
           let second = work frames first (BeforeTerm (leads.Second (term_in names one))) in
           let tree = tree_in names (SameForm one two) in
-          let close = sign (codes ")") ∷ rest in
-          let comma = sign (codes ",") ∷ spell_term n two close in
+          let close = sign Fixed (codes ")") ∷ rest in
+          let comma = sign Fixed (codes ",") ∷ spell_term n two close in
           faults_are (work frames least Nothing) marks frames both (noted least (faults_in names (SameForm one two))) tree rest (sym (noted-append least (term_faults names one) (term_faults names two)))
-          (prefix (work frames least Nothing) before (work frames both (Value tree)) marks (word (codes "same")) (sign (codes "(") ∷ spell_term n one comma) rest fits (λ place. refl)
-          (λ left fits. prefix before before (work frames both (Value tree)) left (sign (codes "(")) (spell_term n one comma) rest fits (λ place. refl)
+          (prefix (work frames least Nothing) before (work frames both (Value tree)) marks (word Fixed (codes "same")) (sign Fixed (codes "(") ∷ spell_term n one comma) rest fits (λ place. refl)
+          (λ left fits. prefix before before (work frames both (Value tree)) left (sign Fixed (codes "(")) (spell_term n one comma) rest fits (λ place. refl)
           (λ left fits. runs_before before (work frames first (BehindTerm leads.First (term_in names one))) (work frames both (Value tree)) left comma rest (runs_term top frames least leads.First one comma left good.0 small.0 fits)
-          (λ left fits. prefix (work frames first (BehindTerm leads.First (term_in names one))) second (work frames both (Value tree)) left (sign (codes ",")) (spell_term n two close) rest fits (λ place. refl)
+          (λ left fits. prefix (work frames first (BehindTerm leads.First (term_in names one))) second (work frames both (Value tree)) left (sign Fixed (codes ",")) (spell_term n two close) rest fits (λ place. refl)
           (λ left fits. runs_before second (work frames both (BehindTerm (leads.Second (term_in names one)) (term_in names two))) (work frames both (Value tree)) left close rest (runs_term top frames first (leads.Second (term_in names one)) two close left good.1 small.1 fits)
           (λ left fits. whole (work frames both (BehindTerm (leads.Second (term_in names one)) (term_in names two))) left frames both tree rest
-          (by_part (work frames both (BehindTerm (leads.Second (term_in names one)) (term_in names two))) (work frames both (Value tree)) (sign (codes ")")) rest left fits (λ place placed. refl))))))))
+          (by_part (work frames both (BehindTerm (leads.Second (term_in names one)) (term_in names two))) (work frames both (Value tree)) (sign Fixed (codes ")")) rest left fits (λ place placed. refl))))))))
       is_built (CountForm orbit term) frames least rest marks good small fits_in fits =
           let first = noted least (orbit_faults orbit) in
           let both = noted first (term_faults names term) in
           let lead = leads.Counted (mask_of orbit) in
           let tree = tree_in names (CountForm orbit term) in
-          let close = sign (codes ")") ∷ rest in
+          let close = sign Fixed (codes ")") ∷ rest in
           let counted = work frames least (InOrbit heads.Count no_labels) in
-          let angle = sign (codes "<") ∷ spell_labels n orbit (sign (codes ">") ∷ sign (codes "(") ∷ spell_term n term close) in
+          let angle = sign Fixed (codes "<") ∷ spell_labels n orbit (sign Fixed (codes ">") ∷ sign Fixed (codes "(") ∷ spell_term n term close) in
           faults_are (work frames least Nothing) marks frames both (noted least (faults_in names (CountForm orbit term))) tree rest (sym (noted-append least (orbit_faults orbit) (term_faults names term)))
-          (prefix (work frames least Nothing) counted (work frames both (Value tree)) marks (word (codes "count")) angle rest fits (λ place. refl)
+          (prefix (work frames least Nothing) counted (work frames both (Value tree)) marks (word Fixed (codes "count")) angle rest fits (λ place. refl)
           (λ left fits. runs_before counted (work frames first (BeforeTerm lead)) (work frames both (Value tree)) left (spell_term n term close) rest (runs_orbit top frames least heads.Count orbit (spell_term n term close) left small.0 fits)
           (λ left fits. runs_before (work frames first (BeforeTerm lead)) (work frames both (BehindTerm lead (term_in names term))) (work frames both (Value tree)) left close rest (runs_term top frames first lead term close left good small.1 fits)
-          (λ left fits. whole (work frames both (BehindTerm lead (term_in names term))) left frames both tree rest (by_part (work frames both (BehindTerm lead (term_in names term))) (work frames both (Value tree)) (sign (codes ")")) rest left fits (λ place placed. refl))))))
+          (λ left fits. whole (work frames both (BehindTerm lead (term_in names term))) left frames both tree rest (by_part (work frames both (BehindTerm lead (term_in names term))) (work frames both (Value tree)) (sign Fixed (codes ")")) rest left fits (λ place placed. refl))))))
       is_built (CollectForm collector orbit term embed) frames least rest marks good small fits_in fits =
           let first = noted least (orbit_faults orbit) in
           let second = noted first (term_faults names term) in
@@ -496,10 +497,10 @@ module _ (n : ℕ) (names : Names) where
           let lead = leads.Collected collector (mask_of orbit) in
           let head = heads.Collect collector in
           let tree = tree_in names (CollectForm collector orbit term embed) in
-          let close = sign (codes ")") ∷ rest in
-          let dot = sign (codes ".") ∷ name embed ∷ close in
+          let close = sign Fixed (codes ")") ∷ rest in
+          let dot = sign Fixed (codes ".") ∷ name embed ∷ close in
           let collected = work frames least (InOrbit head no_labels) in
-          let angle = sign (codes "<") ∷ spell_labels n orbit (sign (codes ">") ∷ sign (codes "(") ∷ spell_term n term dot) in
+          let angle = sign Fixed (codes "<") ∷ spell_labels n orbit (sign Fixed (codes ">") ∷ sign Fixed (codes "(") ∷ spell_term n term dot) in
           let field = work frames third (BehindField collector (mask_of orbit) (term_in names term) (embed_in names embed)) in
           let same : third ≡ noted least (faults_in names (CollectForm collector orbit term embed)) =
           sym (noted-append least (orbit_faults orbit) (field_faults names term embed) ∙ noted-append first (term_faults names term) (unknown embed (embed_number names embed)) ∙ noted_unknown second embed (embed_number names embed)) in
@@ -508,35 +509,35 @@ module _ (n : ℕ) (names : Names) where
           (λ left fits. runs_before collected (work frames first (BeforeTerm lead)) (work frames third (Value tree)) left (spell_term n term dot) rest (runs_orbit top frames least head orbit (spell_term n term dot) left small.0 fits)
           (λ left fits. runs_before (work frames first (BeforeTerm lead)) (work frames second (BehindTerm lead (term_in names term))) (work frames third (Value tree)) left dot rest (runs_term top frames first lead term dot left good.0 small.1 fits)
           (λ left fits. runs_before (work frames second (BehindTerm lead (term_in names term))) field (work frames third (Value tree)) left close rest (runs_field_end frames second lead (term_in names term) embed close left good.1 fits)
-          (λ left fits. whole field left frames third tree rest (by_part field (work frames third (Value tree)) (sign (codes ")")) rest left fits (λ place placed. refl)))))))
+          (λ left fits. whole field left frames third tree rest (by_part field (work frames third (Value tree)) (sign Fixed (codes ")")) rest left fits (λ place placed. refl)))))))
       is_built (CallForm function arguments) frames least rest marks good small fits_in fits =
           let named = named_at names function.name function.place in
           let callee = callee_at function in
           let inside = noted least (argument_faults names arguments) in
           let tree = tree_in names (CallForm function arguments) in
-          let close = sign (codes ")") ∷ rest in
+          let close = sign Fixed (codes ")") ∷ rest in
           let to = work frames (noted inside (unknown function (function_of function.name (count_of arguments)))) (Value tree) in
           let shut : behind_value (pending names (last_argument arguments) (bracket callee arguments ∷ frames)) inside (last_tree names (last_argument arguments)) keys.Close ≡ to =
           ap (close_held inside) (in_bracket (last_argument arguments) (bracket callee arguments) frames (bracket_is callee arguments)) ∙ closes frames inside function arguments callee refl in
           faults_are (work frames least Nothing) marks frames (noted inside (unknown function (function_of function.name (count_of arguments)))) (noted least (faults_in names (CallForm function arguments))) tree rest (sym (noted-append least (argument_faults names arguments) (unknown function (function_of function.name (count_of arguments)))))
-          (runs_before (work frames least Nothing) (work frames least (Name named)) to marks (sign (codes "(") ∷ spell_arguments n arguments close) rest (named_part frames least (work frames least (Name named)) Nothing function (sign (codes "(") ∷ spell_arguments n arguments close) marks good.0 fits refl)
-          (λ left fits. prefix (work frames least (Name named)) (work (FirstOf callee ∷ frames) least Nothing) to left (sign (codes "(")) (spell_arguments n arguments close) rest fits (λ place. refl)
-          (λ left fits. form_then (work (FirstOf callee ∷ frames) least Nothing) to to (pending names (last_argument arguments) (bracket callee arguments ∷ frames)) inside (last_tree names (last_argument arguments)) left (sign (codes ")")) rest rest keys.Close
+          (runs_before (work frames least Nothing) (work frames least (Name named)) to marks (sign Fixed (codes "(") ∷ spell_arguments n arguments close) rest (named_part frames least (work frames least (Name named)) Nothing function (sign Fixed (codes "(") ∷ spell_arguments n arguments close) marks good.0 fits refl)
+          (λ left fits. prefix (work frames least (Name named)) (work (FirstOf callee ∷ frames) least Nothing) to left (sign Fixed (codes "(")) (spell_arguments n arguments close) rest fits (λ place. refl)
+          (λ left fits. form_then (work (FirstOf callee ∷ frames) least Nothing) to to (pending names (last_argument arguments) (bracket callee arguments ∷ frames)) inside (last_tree names (last_argument arguments)) left (sign Fixed (codes ")")) rest rest keys.Close
           (are_built arguments frames least callee close left good.1 small fits) refl refl shut
           (λ left fits. whole to left frames (noted inside (unknown function (function_of function.name (count_of arguments)))) tree rest (record { left = left; fits = fits; runs = refl })))))
       is_built (ParenForm part) frames least rest marks good small fits_in fits =
           let inside = noted least (faults_in names part) in
           let to = work frames inside (Value (tree_in names part)) in
-          let close = sign (codes ")") ∷ rest in
+          let close = sign Fixed (codes ")") ∷ rest in
           let shut : behind_value (pending names part (GroupOf ∷ frames)) inside (last_tree names part) keys.Close ≡ to = ap (close_held inside) (in_bracket part GroupOf frames refl) in
-          prefix (work frames least Nothing) (work (GroupOf ∷ frames) least Nothing) to marks (sign (codes "(")) (spell n part close) rest fits (λ place. refl)
-          (λ left fits. form_then (work (GroupOf ∷ frames) least Nothing) to to (pending names part (GroupOf ∷ frames)) inside (last_tree names part) left (sign (codes ")")) rest rest keys.Close (is_built part (GroupOf ∷ frames) least close left good small (omega arith) fits) refl refl shut
+          prefix (work frames least Nothing) (work (GroupOf ∷ frames) least Nothing) to marks (sign Fixed (codes "(")) (spell n part close) rest fits (λ place. refl)
+          (λ left fits. form_then (work (GroupOf ∷ frames) least Nothing) to to (pending names part (GroupOf ∷ frames)) inside (last_tree names part) left (sign Fixed (codes ")")) rest rest keys.Close (is_built part (GroupOf ∷ frames) least close left good small (omega arith) fits) refl refl shut
           (λ left fits. whole to left frames inside (tree_in names part) rest (record { left = left; fits = fits; runs = refl })))
       is_built (MinusForm part) frames least rest marks good small fits_in fits =
-          prefix (work frames least Nothing) (work (MinusOf ∷ frames) least Nothing) (after_form frames least (MinusForm part)) marks (sign (codes "-")) (spell n part rest) rest fits (λ place. refl)
+          prefix (work frames least Nothing) (work (MinusOf ∷ frames) least Nothing) (after_form frames least (MinusForm part)) marks (sign Fixed (codes "-")) (spell n part rest) rest fits (λ place. refl)
           (λ left fits. is_built part (MinusOf ∷ frames) least rest left good.1 small good.0 fits)
       is_built (NotForm part) frames least rest marks good small fits_in fits =
-          prefix (work frames least Nothing) (work (NotOf ∷ frames) least Nothing) (after_form frames least (NotForm part)) marks (word (codes "not")) (spell n part rest) rest fits (λ place. refl)
+          prefix (work frames least Nothing) (work (NotOf ∷ frames) least Nothing) (after_form frames least (NotForm part)) marks (word Fixed (codes "not")) (spell n part rest) rest fits (λ place. refl)
           (λ left fits. is_built part (NotOf ∷ frames) least rest left good.1 small good.0 fits)
       is_built (BinaryForm op left right) frames least rest marks good small fits_in fits =
           let first = noted least (faults_in names left) in
@@ -556,16 +557,16 @@ module _ (n : ℕ) (names : Names) where
           let frame = ElseOf (tree_in names c) (tree_in names a) in
           let on_else = work (frame ∷ frames) second Nothing in
           let to = after_form (frame ∷ frames) second b in
-          let tail = word (codes "else") ∷ spell n b rest in
-          let middle = word (codes "then") ∷ spell n a tail in
+          let tail = word Fixed (codes "else") ∷ spell n b rest in
+          let middle = word Fixed (codes "then") ∷ spell n a tail in
           let then_is : behind_value (pending names c (IfOf ∷ frames)) first (last_tree names c) keys.Then ≡ on_then = ap (λ (h : Held). work (next_held keys.Then h) first Nothing) (in_bracket c IfOf frames refl) in
           let else_is : behind_value (pending names a (ThenOf (tree_in names c) ∷ frames)) second (last_tree names a) keys.Else ≡ on_else = ap (λ (h : Held). work (next_held keys.Else h) second Nothing) (in_bracket a (ThenOf (tree_in names c)) frames refl) in
           let same : noted second (faults_in names b) ≡ noted least (faults_in names (IfForm c a b)) =
           sym (noted-append least (faults_in names c ++ faults_in names a) (faults_in names b) ∙ ap (λ (l : Option NameFault). noted l (faults_in names b)) (noted-append least (faults_in names c) (faults_in names a))) in
           faults_are (work frames least Nothing) marks (pending names b (frame ∷ frames)) (noted second (faults_in names b)) (noted least (faults_in names (IfForm c a b))) (last_tree names b) rest same
-          (prefix (work frames least Nothing) (work (IfOf ∷ frames) least Nothing) to marks (word (codes "if")) (spell n c middle) rest fits (λ place. refl)
-          (λ left fits. form_then (work (IfOf ∷ frames) least Nothing) to on_then (pending names c (IfOf ∷ frames)) first (last_tree names c) left (word (codes "then")) (spell n a tail) rest keys.Then (is_built c (IfOf ∷ frames) least middle left good.0 small.0 (omega arith) fits) refl refl then_is
-          (λ left fits. form_then on_then to on_else (pending names a (ThenOf (tree_in names c) ∷ frames)) second (last_tree names a) left (word (codes "else")) (spell n b rest) rest keys.Else (is_built a (ThenOf (tree_in names c) ∷ frames) first tail left good.1 small.1 (omega arith) fits) refl refl else_is
+          (prefix (work frames least Nothing) (work (IfOf ∷ frames) least Nothing) to marks (word Fixed (codes "if")) (spell n c middle) rest fits (λ place. refl)
+          (λ left fits. form_then (work (IfOf ∷ frames) least Nothing) to on_then (pending names c (IfOf ∷ frames)) first (last_tree names c) left (word Fixed (codes "then")) (spell n a tail) rest keys.Then (is_built c (IfOf ∷ frames) least middle left good.0 small.0 (omega arith) fits) refl refl then_is
+          (λ left fits. form_then on_then to on_else (pending names a (ThenOf (tree_in names c) ∷ frames)) second (last_tree names a) left (word Fixed (codes "else")) (spell n b rest) rest keys.Else (is_built a (ThenOf (tree_in names c) ∷ frames) first tail left good.1 small.1 (omega arith) fits) refl refl else_is
           (λ left fits. is_built b (frame ∷ frames) second rest left good.2 small.2 (omega arith) fits))))
 
       are_built : (arguments : Arguments) → AreBuilt arguments
@@ -578,6 +579,6 @@ module _ (n : ℕ) (names : Names) where
           let goes : behind_value (pending names (last_argument arguments) (bracket callee arguments ∷ frames)) first (last_tree names (last_argument arguments)) keys.Comma ≡ middle =
           ap (λ (h : Held). work (next_held keys.Comma h) first Nothing) (in_bracket (last_argument arguments) (bracket callee arguments) frames (bracket_is callee arguments)) ∙ ap (λ (f : Frame). work (f ∷ frames) first Nothing) (next_is callee arguments form) in
           faults_are (work (FirstOf callee ∷ frames) least Nothing) marks (pending names form (frame ∷ frames)) (noted first (faults_in names form)) (noted least (argument_faults names (Further arguments form))) (last_tree names form) rest (sym (noted-append least (argument_faults names arguments) (faults_in names form)))
-          (form_then (work (FirstOf callee ∷ frames) least Nothing) to middle (pending names (last_argument arguments) (bracket callee arguments ∷ frames)) first (last_tree names (last_argument arguments)) marks (sign (codes ",")) (spell n form rest) rest keys.Comma
-          (are_built arguments frames least callee (sign (codes ",") ∷ spell n form rest) marks good.0 small.0 fits) refl refl goes
+          (form_then (work (FirstOf callee ∷ frames) least Nothing) to middle (pending names (last_argument arguments) (bracket callee arguments ∷ frames)) first (last_tree names (last_argument arguments)) marks (sign Fixed (codes ",")) (spell n form rest) rest keys.Comma
+          (are_built arguments frames least callee (sign Fixed (codes ",") ∷ spell n form rest) marks good.0 small.0 fits) refl refl goes
           (λ left fits. is_built form (frame ∷ frames) first rest left good.1 small.1 (least_bracket callee (Further arguments form) form frames) fits))

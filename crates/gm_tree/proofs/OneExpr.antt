@@ -2,13 +2,14 @@
 use Rattle.std.proofs.Common.{◌≡◌, ◌≤◌, ℕ, List, [], Some, None, sym, ap, subst, ◌∙◌}
 use Rattle.gm_model.specs.Symbols.{Mark, symbols}
 use Rattle.gm_model.specs.Trees.{Tree}
+use Rattle.gm_model.specs.Reading.{ArePlaced}
 use Rattle.gm_text.specs.Cursor.{Cursor}
 use Rattle.gm_text.specs.SchemaAnswers.{marks_left}
 use Rattle.gm_parse.specs.declared.fault.SyntaxFault.{SyntaxFault}
 use Rattle.gm_parse.specs.Answers.{IsExprRead, HasFirstFault, IsSyntaxFault}
 use Rattle.gm_parse.specs.Forms.{Form}
 use Rattle.gm_parse.specs.Meaning.{Names, NameFault, faults_in, tree_in}
-use Rattle.gm_parse.specs.Spelling.{spell, ArePlaced, Stands}
+use Rattle.gm_parse.specs.Spelling.{spell, Stands, IsPlacedAt}
 use Rattle.gm_parse.proofs.OneReading.{one_stands, no_syntax_fault}
 use Rattle.gm_tree.specs.Building.{noted}
 use Rattle.gm_tree.proofs.OneMeaning.{one_meaning, first_is_noted}
@@ -19,7 +20,7 @@ module _ (n : ℕ) (names : Names) where
   same_meaning top form other marks rest end one two =
       let same = (one_stands n form other marks rest end one two).0 in
       one_meaning n names top form other one.before one.good two.good one.within two.within (fits_of one.before (spell n form []) one.spelled one.placed)
-      (fits_of one.before (spell n other []) (ap symbols same ∙ two.spelled) (subst (λ (ms : List Mark). ArePlaced ms (spell n other [])) (sym same) two.placed))
+      (fits_of one.before (spell n other []) (ap symbols same ∙ two.spelled) (subst (λ (ms : List Mark). ArePlaced IsPlacedAt ms (spell n other [])) (sym same) two.placed))
 
   pub one_expr : (old new other : Cursor) (tree second : Tree) → n ≤ 7 → IsExprRead n names old new tree → IsExprRead n names old other second → (tree ≡ second) × (marks_left new ≡ marks_left other)
   one_expr old new other tree second top one two = (

@@ -5,7 +5,7 @@ use Rattle.std.specs.List.{AllByRecursion, Contains}
 use Rattle.std.specs.Prelude.{◌||◌, ◌&&◌, nat_eq, nat_lt}
 use Rattle.gm_model.specs.declared.limit.LimitKind.{LimitKind}
 use Rattle.gm_model.specs.declared.limit.LimitKind.TheVariants as limits
-use Rattle.gm_model.specs.Reading.{Part, symbols_in}
+use Rattle.gm_model.specs.Reading.{Part, symbols_in, sign, ArePlaced}
 use Rattle.gm_model.specs.Symbols.{Mark, symbols}
 use Rattle.gm_model.specs.Trees.{Tree}
 use Rattle.gm_text.specs.SchemaText.{LabelForm}
@@ -14,9 +14,10 @@ use Rattle.gm_text.specs.SchemaAnswers.{marks_left}
 use Rattle.gm_parse.specs.declared.fault.ExprFault.{ExprFault}
 use Rattle.gm_parse.specs.declared.fault.ExprFault.TheVariants as faults
 use Rattle.gm_parse.specs.Forms.{TermForm, Form, NumberForm, TruthForm, ParamForm, FieldForm, SameForm, CountForm, CollectForm, CallForm, ParenForm, MinusForm, NotForm, BinaryForm, IfForm, Arguments, First, Further, IsGood}
-use Rattle.gm_parse.specs.Spelling.{Role, greatest, limit_of, limit_in, passed_by, counted_from, parts_of, spell, spell_arguments, spell_labels, spell_path, spell_term, sign, name, operator, ArePlaced, Stands}
+use Rattle.gm_parse.specs.Spelling.{Role, Fixed, greatest, limit_of, limit_in, passed_by, counted_from, parts_of, spell, spell_arguments, spell_labels, spell_path, spell_term, name, operator, Stands, IsPlacedAt}
 use Rattle.gm_tree.specs.Small.{IsSmall, AreSmall, IsSmallPath, IsSmallOrbit}
-use Rattle.gm_parse.specs.Meaning.{Names, NameFault, UnknownAt, TwiceAt, fault_place, fault_rank, faults_in, tree_in, names_in, IsFirstFault, IsNotAfter, IsUnsigned}
+use Rattle.gm_parse.specs.Meaning.{Names, NameFault, UnknownAt, TwiceAt, fault_place, fault_rank, faults_in, tree_in, IsFirstFault, IsNotAfter, IsUnsigned}
+use Rattle.gm_tree.specs.FirstNames.{first_names}
 use Rattle.gm_model.specs.declared.rule.Node.{Node}
 use Rattle.gm_model.specs.declared.rule.Param.{Param}
 use Rattle.gm_model.specs.declared.schema.Schema.{Schema}
@@ -66,7 +67,7 @@ module _ (n : ℕ) where
     small_form (NumberForm value) rest free = (at_most greatest value limits.Integer free.0, free.1)
     small_form (TruthForm b) rest free = (tt, free.1)
     small_form (ParamForm param) rest free = (tt, free.1)
-    small_form (FieldForm term embed) rest free = let (small, behind) = small_term term (sign _ ∷ name embed ∷ rest) free in (small, behind.1.1)
+    small_form (FieldForm term embed) rest free = let (small, behind) = small_term term (sign Fixed _ ∷ name embed ∷ rest) free in (small, behind.1.1)
     small_form (SameForm one two) rest free =
         let (first, behind) = small_term one _ free.1.1 in
         let (second, last) = small_term two _ behind.1 in
@@ -108,7 +109,7 @@ module _ (n : ℕ) where
 
 -- ---- the marks of a form
 
-pub fits_of : (marks : List Mark) (parts : List (Part Role)) → symbols marks ≡ symbols_in parts → ArePlaced marks parts → Fits marks parts
+pub fits_of : (marks : List Mark) (parts : List (Part Role)) → symbols marks ≡ symbols_in parts → ArePlaced IsPlacedAt marks parts → Fits marks parts
 fits_of [] [] same placed = tt
 fits_of [] (part ∷ parts) same placed = absurd cc
 fits_of (mark ∷ marks) [] same placed = absurd cc
@@ -274,6 +275,6 @@ module _ (n : ℕ) (names : Names) (top : n ≤ 7) (old new : Cursor) (w : Work)
 pub read_unsigned : (n : ℕ) (names : Names) (old new : Cursor) (tree : Tree) → IsExprRead n names old new tree → IsUnsigned tree
 read_unsigned n names old new tree read = subst IsUnsigned (sym read.means) (unsigned names read.form)
 
-pub read_in_range : (schema : Schema) (params : List Param) (nodes : List Node) (old new : Cursor) (tree : Tree) → IsExprRead schema.dim (names_in schema params nodes) old new tree → IsInRangeOf schema params nodes tree
+pub read_in_range : (schema : Schema) (params : List Param) (nodes : List Node) (old new : Cursor) (tree : Tree) → IsExprRead schema.dim (first_names schema params nodes) old new tree → IsInRangeOf schema params nodes tree
 read_in_range schema params nodes old new tree read rule same left =
     subst (IsTreeInRange schema rule) (sym read.means) (in_range schema params nodes rule same left read.form read.known (stands_small schema.dim read.form (marks_left old) (marks_left new) read.stands))

@@ -1,12 +1,16 @@
 //! What holds of the texts of expressions, whoever reads them.
-ghost use Rattle.std.specs.Prelude.{◌≡◌, ◌≤◌, ℕ, List};
+ghost use Rattle.std.specs.Prelude.{◌≡◌, ◌≤◌, ℕ, List, length};
+ghost use Rattle.gm_model.specs.declared.rule.Node.{Node};
+ghost use Rattle.gm_model.specs.declared.rule.Param.{Param};
+ghost use Rattle.gm_model.specs.declared.schema.Schema.{Schema};
 ghost use Rattle.gm_model.specs.Symbols.{Mark};
 ghost use Rattle.gm_model.specs.Trees.{Tree};
 ghost use Rattle.gm_text.specs.Cursor.{Cursor};
 ghost use Rattle.gm_text.specs.SchemaAnswers.{marks_left};
 ghost use Rattle.gm_parse.specs.declared.fault.SyntaxFault.{SyntaxFault};
 ghost use Rattle.gm_parse.specs.Answers.{HasFirstFault, IsExprRead, IsSyntaxFault};
-ghost use Rattle.gm_parse.specs.Meaning.{NameFault, Names};
+ghost use Rattle.gm_parse.specs.Meaning.{NameFault, Names, names_in};
+ghost use Rattle.gm_tree.specs.FirstNames.{first_names};
 
 /// Under the same names one tree at most stands at a place of a text, with the same tokens behind
 /// it: `a - b - c` has one grouping, and no reader can choose another.
@@ -26,4 +30,10 @@ pub fn one_fault_at_most()
 pub fn no_tree_at_a_fault()
     ensures names { (n : ℕ) (names : Names) (old new : Cursor) (tree : Tree) (fault : NameFault) → n ≤ 7 → IsExprRead n names old new tree → HasFirstFault n names (marks_left old) fault → ⊥ }
     ensures syntax { (n : ℕ) (names : Names) (old new : Cursor) (tree : Tree) (fault : SyntaxFault) → IsExprRead n names old new tree → IsSyntaxFault n (marks_left old) fault → ⊥ }
+{}
+
+/// Where a schema and a rule have no more of them than a number of one byte counts, an expression
+/// can use all their names.
+pub fn few_names_are_all_first()
+    ensures { (schema : Schema) (params : List Param) (nodes : List Node) → length schema.embeds ≤ 256 → length params ≤ 256 → length nodes ≤ 256 → first_names schema params nodes ≡ names_in schema params nodes }
 {}

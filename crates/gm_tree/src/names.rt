@@ -5,7 +5,8 @@ ghost use Rattle.gm_model.specs.declared.rule.Node.{Node};
 ghost use Rattle.gm_model.specs.declared.rule.Param.{Param};
 ghost use Rattle.gm_tree.specs.Building as building;
 ghost use Rattle.gm_parse.specs.Meaning as meaning;
-ghost use Rattle.gm_parse.specs.Meaning.{names_in, number_of};
+ghost use Rattle.gm_parse.specs.Meaning.{number_of};
+ghost use Rattle.gm_tree.specs.FirstNames.{first_names};
 
 use crate::partial::Named;
 use gm_model::{Node, Param, UnOp};
@@ -66,21 +67,21 @@ fn byte_of(index: Option<usize>) -> Option<u8>
 }
 
 pub(crate) fn embed_named(env: &Env<'_>, name: &[u8]) -> Option<u8>
-    ensures { result ≡ building.embed_of (names_in env.now.schema.now env.now.params.now env.now.nodes.now) name.now }
+    ensures { result ≡ building.embed_of (first_names env.now.schema.now env.now.params.now env.now.nodes.now) name.now }
 {
     let embeds = first_ones(env.schema.embeds.as_slice());
     byte_of(embed_index(embeds, name))
 }
 
 fn param_named(env: &Env<'_>, name: &[u8]) -> Option<u8>
-    ensures { result ≡ number_of (names_in env.now.schema.now env.now.params.now env.now.nodes.now).params name.now }
+    ensures { result ≡ number_of (first_names env.now.schema.now env.now.params.now env.now.nodes.now).params name.now }
 {
     let params = first_ones(env.params);
     byte_of(param_index(params, name))
 }
 
 pub(crate) fn node_named(env: &Env<'_>, name: &[u8]) -> Option<u8>
-    ensures { result ≡ building.node_of (names_in env.now.schema.now env.now.params.now env.now.nodes.now) name.now }
+    ensures { result ≡ building.node_of (first_names env.now.schema.now env.now.params.now env.now.nodes.now) name.now }
 {
     let nodes = first_ones(env.nodes);
     byte_of(node_index(nodes, name))
@@ -94,7 +95,7 @@ fn function_named(name: &[u8]) -> Option<Function>
 
 /// All that the name at the place can stand for.
 pub(crate) fn look_up(env: &Env<'_>, name: &[u8], place: usize) -> Named
-    ensures { result ≡ building.named_at (names_in env.now.schema.now env.now.params.now env.now.nodes.now) name.now place }
+    ensures { result ≡ building.named_at (first_names env.now.schema.now env.now.params.now env.now.nodes.now) name.now place }
 {
     Named {
         place,

@@ -9,7 +9,8 @@ ghost use Rattle.gm_parse.specs.Answers.{Advances, HasExpr, Stops, IsExprRead, I
 ghost use Rattle.gm_tree.specs.Building.{fault_behind, frames_of, name_fault, operand_tree, part_of, tree_behind, work_of};
 ghost use Rattle.gm_tree.specs.Built.{IsBuiltOver, IsLeastOrLost};
 ghost use Rattle.std.specs.Option.{option_map};
-ghost use Rattle.gm_parse.specs.Meaning.{names_in, IsUnsigned};
+ghost use Rattle.gm_parse.specs.Meaning.{IsUnsigned};
+ghost use Rattle.gm_tree.specs.FirstNames.{first_names};
 
 use crate::builder::Builder;
 use crate::partial::Partial;
@@ -41,7 +42,7 @@ fn go_on(lexer: &mut Lexer<'_>, dim: Dim, count: usize, state: &mut State) -> Op
 fn build(alloc: Global, lexer: &mut Lexer<'_>, env: &Env<'_>) -> Result<Built, OutOfMemory>
     requires { HasExpr env.now.schema.now.dim lexer.old }
     ensures top { IfOk result (λ _. env.now.schema.now.dim ≤ 7) }
-    ensures over { IfOk result (λ built. IsBuiltOver env.now.schema.now.dim (names_in env.now.schema.now env.now.params.now env.now.nodes.now) lexer.old lexer.new (work_of built.builder built.partial)) }
+    ensures over { IfOk result (λ built. IsBuiltOver env.now.schema.now.dim (first_names env.now.schema.now env.now.params.now env.now.nodes.now) lexer.old lexer.new (work_of built.builder built.partial)) }
 {
     let dim = env.schema.dim;
     // What is built takes a label for one of the eight that there are.
@@ -105,11 +106,11 @@ fn finish(alloc: Global, built: Built) -> Result<Expr, ExprFault>
 /// unknown name.
 pub fn read_expr(alloc: Global, lexer: &mut Lexer<'_>, env: &Env<'_>) -> Result<Expr, ExprFault>
     requires { HasExpr env.now.schema.now.dim lexer.old }
-    ensures expr { IfOk result (λ expr. IsExprRead env.now.schema.now.dim (names_in env.now.schema.now env.now.params.now env.now.nodes.now) lexer.old lexer.new (tree_of expr)) }
+    ensures expr { IfOk result (λ expr. IsExprRead env.now.schema.now.dim (first_names env.now.schema.now env.now.params.now env.now.nodes.now) lexer.old lexer.new (tree_of expr)) }
     ensures behind { IfOk result (λ _. IsBehindToken lexer.old lexer.new) }
     ensures unsigned { IfOk result (λ expr. IsUnsigned (tree_of expr)) }
     ensures in_range { IfOk result (λ expr. IsInRangeOf env.now.schema.now env.now.params.now env.now.nodes.now (tree_of expr)) }
-    ensures fault { IfErr result (IsExprFault env.now.schema.now.dim (names_in env.now.schema.now env.now.params.now env.now.nodes.now) (marks_left lexer.old)) }
+    ensures fault { IfErr result (IsExprFault env.now.schema.now.dim (first_names env.now.schema.now env.now.params.now env.now.nodes.now) (marks_left lexer.old)) }
     ensures text { lexer.new.text ≡ lexer.old.text }
     ensures refused { OnErr result (lexer.new ≡ lexer.old) }
 {

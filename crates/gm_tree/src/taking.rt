@@ -4,7 +4,7 @@ ghost use Rattle.std.specs.Option.{option_map};
 ghost use Rattle.gm_text.specs.SchemaAnswers.{IsToken, mark_at, symbol_at};
 ghost use Rattle.gm_tree.specs.Building as building;
 ghost use Rattle.gm_tree.specs.Building.{frames_of, name_fault, part_of, take_in, work_of};
-ghost use Rattle.gm_parse.specs.Meaning.{names_in};
+ghost use Rattle.gm_tree.specs.FirstNames.{first_names};
 ghost use Rattle.gm_parse.specs.Reading.{key_of};
 
 use crate::builder::Builder;
@@ -24,7 +24,7 @@ use std::alloc::Global;
 fn begin_operand(env: &Env<'_>, lexer: &Lexer<'_>, token: &Token, key: Key) -> Partial
     requires token { IsToken lexer.now.text token.now }
     requires key { key ≡ key_of (symbol_at lexer.now.text token.now) }
-    ensures { part_of result ≡ building.begin_part (names_in env.now.schema.now env.now.params.now env.now.nodes.now) key (mark_at lexer.now.text token.now) }
+    ensures { part_of result ≡ building.begin_part (first_names env.now.schema.now env.now.params.now env.now.nodes.now) key (mark_at lexer.now.text token.now) }
 {
     match key {
         Key::Number => Partial::Value(Expr::Int(number_at(lexer, token))),
@@ -60,7 +60,7 @@ impl Builder {
     ) -> Result<Partial, OutOfMemory>
         requires token { IsToken lexer.now.text token.now }
         requires key { key ≡ key_of (symbol_at lexer.now.text token.now) }
-        ensures { IfOk result (λ partial. work_of self.new partial ≡ building.begin (names_in env.now.schema.now env.now.params.now env.now.nodes.now) (frames_of self.old.waiting.items) (option_map name_fault self.old.least) key (mark_at lexer.now.text token.now)) }
+        ensures { IfOk result (λ partial. work_of self.new partial ≡ building.begin (first_names env.now.schema.now env.now.params.now env.now.nodes.now) (frames_of self.old.waiting.items) (option_map name_fault self.old.least) key (mark_at lexer.now.text token.now)) }
     {
         match waiting_behind(key) {
             Some(waiting) => {
@@ -99,7 +99,7 @@ impl Builder {
         place: usize,
         lead: Lead,
     ) -> Partial
-        ensures { work_of self.new result ≡ building.term_in (names_in env.now.schema.now env.now.params.now env.now.nodes.now) (frames_of self.old.waiting.items) (option_map name_fault self.old.least) lead name.now place }
+        ensures { work_of self.new result ≡ building.term_in (first_names env.now.schema.now env.now.params.now env.now.nodes.now) (frames_of self.old.waiting.items) (option_map name_fault self.old.least) lead name.now place }
     {
         let node = node_named(env, name);
         self.expect(node.is_some(), place);
@@ -117,7 +117,7 @@ impl Builder {
     ) -> Partial
         requires token { IsToken lexer.now.text token.now }
         requires key { key ≡ key_of (symbol_at lexer.now.text token.now) }
-        ensures { work_of self.new result ≡ building.before_term (names_in env.now.schema.now env.now.params.now env.now.nodes.now) (frames_of self.old.waiting.items) (option_map name_fault self.old.least) lead key (mark_at lexer.now.text token.now) }
+        ensures { work_of self.new result ≡ building.before_term (first_names env.now.schema.now env.now.params.now env.now.nodes.now) (frames_of self.old.waiting.items) (option_map name_fault self.old.least) lead key (mark_at lexer.now.text token.now) }
     {
         match key {
             Key::Name => self.begin_term(alloc, env, lexer.text(token), token.start, lead),
@@ -134,7 +134,7 @@ impl Builder {
         lead: Lead,
         term: DartTerm,
     ) -> Partial
-        ensures { work_of self.new result ≡ building.field_in (names_in env.now.schema.now env.now.params.now env.now.nodes.now) (frames_of self.old.waiting.items) (option_map name_fault self.old.least) lead term name.now place }
+        ensures { work_of self.new result ≡ building.field_in (first_names env.now.schema.now env.now.params.now env.now.nodes.now) (frames_of self.old.waiting.items) (option_map name_fault self.old.least) lead term name.now place }
     {
         let embed = embed_named(env, name);
         self.expect(embed.is_some(), place);
@@ -152,7 +152,7 @@ impl Builder {
     ) -> Result<Partial, OutOfMemory>
         requires token { IsToken lexer.now.text token.now }
         requires key { key ≡ key_of (symbol_at lexer.now.text token.now) }
-        ensures { IfOk result (λ partial. work_of self.new partial ≡ building.behind_term (names_in env.now.schema.now env.now.params.now env.now.nodes.now) (frames_of self.old.waiting.items) (option_map name_fault self.old.least) lead term key (mark_at lexer.now.text token.now)) }
+        ensures { IfOk result (λ partial. work_of self.new partial ≡ building.behind_term (first_names env.now.schema.now env.now.params.now env.now.nodes.now) (frames_of self.old.waiting.items) (option_map name_fault self.old.least) lead term key (mark_at lexer.now.text token.now)) }
     {
         match key {
             Key::Number => go_along_behind(lead, term, label_at(lexer, token)),
@@ -175,7 +175,7 @@ impl Builder {
     ) -> Result<Partial, OutOfMemory>
         requires token { IsToken lexer.now.text token.now }
         requires key { key ≡ key_of (symbol_at lexer.now.text token.now) }
-        ensures { IfOk result (λ next. work_of self.new next ≡ take_in (names_in env.now.schema.now env.now.params.now env.now.nodes.now) (frames_of self.old.waiting.items) (option_map name_fault self.old.least) (part_of partial) key (mark_at lexer.now.text token.now)) }
+        ensures { IfOk result (λ next. work_of self.new next ≡ take_in (first_names env.now.schema.now env.now.params.now env.now.nodes.now) (frames_of self.old.waiting.items) (option_map name_fault self.old.least) (part_of partial) key (mark_at lexer.now.text token.now)) }
     {
         match partial {
             Partial::Nothing => self.begin(env, lexer, token, key),

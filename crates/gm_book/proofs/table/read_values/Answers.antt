@@ -9,7 +9,8 @@ use Rattle.gm_model.specs.declared.schema.Schema.{Schema}
 use Rattle.gm_model.specs.Maps.{IsSchema}
 use Rattle.gm_model.specs.Rules.{node_of}
 use Rattle.gm_model.specs.Trees.{tree_of}
-use Rattle.gm_parse.specs.Meaning.{Names, names_in}
+use Rattle.gm_parse.specs.Meaning.{Names}
+use Rattle.gm_tree.specs.FirstNames.{first_names}
 use Rattle.gm_forms.specs.BookText.{RuleForm, names_for, param_of, nodes_of, node_in}
 use Rattle.gm_forms.specs.Forms.{rule_form_of}
 use Rattle.gm_forms.specs.Held.{names_at}
@@ -24,7 +25,7 @@ use Rattle.gm_book.proofs.table.read_values.Goals as goal
 
 -- the names of what was lent are those of the form
 module _ (schema : Schema) (form : RuleForm) (good : IsSchema schema) (fits : IsFitting schema.dim form) where
-  names_are : (params : List Param) (nodes made : List Node) (keys : List (List ℕ)) → params ≡ map param_of form.params → nodes ≡ made → map node_of made ≡ map (node_in form (λ node. [])) keys → keys ≡ nodes_of form → names_in schema params nodes ≡ names_for schema.embeds form
+  names_are : (params : List Param) (nodes made : List Node) (keys : List (List ℕ)) → params ≡ map param_of form.params → nodes ≡ made → map node_of made ≡ map (node_in form (λ node. [])) keys → keys ≡ nodes_of form → first_names schema params nodes ≡ names_for schema.embeds form
   names_are params nodes made keys declared lent is numbered = names_same schema form params nodes good.count fits.params fits.nodes declared (ap (map node_of) lent ∙ is ∙ ap (map (node_in form (λ node. []))) numbered)
 
 pub assigned-requires-clause-known : goal.assigned-requires-clause-known
@@ -42,7 +43,7 @@ returns-in-Ok-2-clause-values c =
     let params = c.as_slice.result.now in
     let declared : params ≡ map param_of form.params = c.as_slice.ensures.value ∙ c.in_ok-params.ensures.params in
     let same = names_are schema form c.requires.schema c.requires.fits params c.as_slice-2.result.now c.in_ok-params.field-0.nodes.items (names_at c.args.names.now) declared c.as_slice-2.ensures.value c.in_ok-params.ensures.nodes c.requires.numbered in
-    values_of schema.dim schema.embeds form params (names_in schema params c.as_slice-2.result.now) declared same (names_at c.args.names.now) (map node_of c.in-Ok.assigned.items) (option_map tree_of c.in-Ok-2.pre) c.requires.numbered
+    values_of schema.dim schema.embeds form params (first_names schema params c.as_slice-2.result.now) declared same (names_at c.args.names.now) (map node_of c.in-Ok.assigned.items) (option_map tree_of c.in-Ok-2.pre) c.requires.numbered
     (at_ok _ _ c.in_ok-assigned.field-0 c.in-Ok.assigned c.in-Ok.is c.in_ok-assigned.ensures) (at_ok _ _ c.in_ok-pre-in-Ok.field-0 c.in-Ok-2.pre c.in-Ok-2.is c.in_ok-pre-in-Ok.ensures)
 
 pub returns-in-Err-2-clause-values : goal.returns-in-Err-2-clause-values
@@ -52,7 +53,7 @@ returns-in-Err-2-clause-values c =
     let params = c.as_slice.result.now in
     let declared : params ≡ map param_of form.params = c.as_slice.ensures.value ∙ c.in_ok-params.ensures.params in
     let same = names_are schema form c.requires.schema c.requires.fits params c.as_slice-2.result.now c.in_ok-params.field-0.nodes.items (names_at c.args.names.now) declared c.as_slice-2.ensures.value c.in_ok-params.ensures.nodes c.requires.numbered in
-    pre_fault_in schema.dim schema.embeds form params (names_in schema params c.as_slice-2.result.now) declared same c.in-Err-2.fault (at_err _ _ c.in_ok-pre-in-Ok.field-0 c.in-Err-2.fault c.in-Err-2.is c.in_ok-pre-in-Ok.ensures)
+    pre_fault_in schema.dim schema.embeds form params (first_names schema params c.as_slice-2.result.now) declared same c.in-Err-2.fault (at_err _ _ c.in_ok-pre-in-Ok.field-0 c.in-Err-2.fault c.in-Err-2.is c.in_ok-pre-in-Ok.ensures)
 
 pub returns-in-Err-clause-values : goal.returns-in-Err-clause-values
 returns-in-Err-clause-values c =
@@ -61,4 +62,4 @@ returns-in-Err-clause-values c =
     let params = c.as_slice.result.now in
     let declared : params ≡ map param_of form.params = c.as_slice.ensures.value ∙ c.in_ok-params.ensures.params in
     let same = names_are schema form c.requires.schema c.requires.fits params c.as_slice-2.result.now c.in_ok-params.field-0.nodes.items (names_at c.args.names.now) declared c.as_slice-2.ensures.value c.in_ok-params.ensures.nodes c.requires.numbered in
-    set_fault_in schema.dim schema.embeds form params (names_in schema params c.as_slice-2.result.now) declared same c.in-Err.fault (at_err _ _ c.in_ok-assigned.field-0 c.in-Err.fault c.in-Err.is c.in_ok-assigned.ensures)
+    set_fault_in schema.dim schema.embeds form params (first_names schema params c.as_slice-2.result.now) declared same c.in-Err.fault (at_err _ _ c.in_ok-assigned.field-0 c.in-Err.fault c.in-Err.is c.in_ok-assigned.ensures)

@@ -3,7 +3,7 @@ use Rattle.std.specs.Prelude.{IfOk}
 use Rattle.std.specs.Result.{MatchResult}
 use Rattle.std.specs.List.{AllByRecursion, AllZip}
 use Rattle.gm_model.specs.Rules.{assignment_of}
-use Rattle.gm_parse.specs.Meaning.{names_in}
+use Rattle.gm_tree.specs.FirstNames.{first_names}
 use Rattle.gm_forms.specs.declared.form.Item.{Item}
 use Rattle.gm_forms.specs.declared.form.SetForm.{SetForm}
 use Rattle.gm_forms.specs.BookText.{SetForm as Form, sets_in}
@@ -20,7 +20,7 @@ pub sets-requires-clause-known : goal.sets-requires-clause-known
 sets-requires-clause-known c =
     let env = c.args.env.now in
     let n = env.schema.now.dim in
-    let names = names_in env.schema.now env.params.now env.nodes.now in
+    let names = first_names env.schema.now env.params.now env.nodes.now in
     let text = c.args.text.now in
     let item = c.item-item.result in
     let here = each_read (HasKnownSets n names) (item_of text) c.args.items.now c.loop-item.item-index item item c.requires.known c.loop-item-test.true c.item-item.is in
@@ -46,7 +46,7 @@ returns-then-eq c =
     let found = found_on (item_of text) (λ items. sets_in items name) c.args.items.now l.item-index _ c.item-item.result _ c.loop-item-test.true c.item-item.is
     (sets_there text (map (item_of text) (drop (l.item-index + 1) c.args.items.now)) c.item-item.result n.node n.word n.hook n.forms n.is c.bytes_in.result.now c.bytes_in.ensures name (sym c.eq.ensures ∙ c.if-eq.true)) l.invariant in
     let same = ap (map (set_form_of text)) c.as_slice.ensures.value ∙ found in
-    subst (λ (forms : List Form). IfOk c.sets.result (λ read. MatchResult read (λ sets. AllZip (IsSoundSet env.schema.now.dim env.schema.now.embeds env.params.now (names_in env.schema.now env.params.now env.nodes.now)) forms (map assignment_of sets.items)) (IsSetFault env.schema.now.dim env.schema.now.embeds env.params.now (names_in env.schema.now env.params.now env.nodes.now) forms))) same c.sets.ensures
+    subst (λ (forms : List Form). IfOk c.sets.result (λ read. MatchResult read (λ sets. AllZip (IsSoundSet env.schema.now.dim env.schema.now.embeds env.params.now (first_names env.schema.now env.params.now env.nodes.now)) forms (map assignment_of sets.items)) (IsSetFault env.schema.now.dim env.schema.now.embeds env.params.now (first_names env.schema.now env.params.now env.nodes.now) forms))) same c.sets.ensures
 
 pub loop-item-preserved : goal.loop-item-preserved
 loop-item-preserved c =
@@ -65,4 +65,4 @@ pub returns : goal.returns
 returns c =
     let env = c.args.env.now in
     let none : [] ≡ sets_in (map (item_of c.args.text.now) c.args.items.now) c.args.name.now = none_on (item_of c.args.text.now) (λ items. sets_in items c.args.name.now) c.args.items.now c.loop-item.item-index _ c.loop-item-test.false c.loop-item.invariant in
-    subst (λ (forms : List Form). AllZip (IsSoundSet env.schema.now.dim env.schema.now.embeds env.params.now (names_in env.schema.now env.params.now env.nodes.now)) forms (map assignment_of c.new.result.items)) none (subst (λ made. AllZip (IsSoundSet env.schema.now.dim env.schema.now.embeds env.params.now (names_in env.schema.now env.params.now env.nodes.now)) [] (map assignment_of made)) (sym c.new.ensures.items) tt)
+    subst (λ (forms : List Form). AllZip (IsSoundSet env.schema.now.dim env.schema.now.embeds env.params.now (first_names env.schema.now env.params.now env.nodes.now)) forms (map assignment_of c.new.result.items)) none (subst (λ made. AllZip (IsSoundSet env.schema.now.dim env.schema.now.embeds env.params.now (first_names env.schema.now env.params.now env.nodes.now)) [] (map assignment_of made)) (sym c.new.ensures.items) tt)

@@ -1,6 +1,6 @@
 use Rattle.std.proofs.Common.{◌∷◌, [], List, IfOk, map, sym, ap, subst, ◌∙◌}
 use Rattle.std.proofs.lemmas.List.{append-nil}
-use Rattle.gm_parse.specs.Meaning.{names_in}
+use Rattle.gm_tree.specs.FirstNames.{first_names}
 use Rattle.gm_forms.specs.declared.form.Item.{Item}
 use Rattle.gm_forms.specs.BookText as text
 use Rattle.gm_forms.specs.Forms.{item_of, set_form_of}
@@ -12,7 +12,7 @@ returns-in-Node c =
     let bytes = c.args.text.now in
     let schema = c.args.env.now.schema.now in
     let params = c.args.env.now.params.now in
-    let names = names_in schema params c.args.env.now.nodes.now in
+    let names = first_names schema params c.args.env.now.nodes.now in
     let found = c.sets_fault.result in
     let same = ap (map (set_form_of bytes)) c.as_slice.ensures.value ∙ sym (append-nil (map (set_form_of bytes) c.in-Node.sets.items)) in
     let there = subst (λ (sets : List text.SetForm). IfOk found (IsLeast (IsSetFault schema.dim schema.embeds params names sets))) same c.sets_fault.ensures in

@@ -1,7 +1,7 @@
 use Rattle.std.proofs.Common.{◌≡◌, ◌+◌, ◌∷◌, List, [], Option, None, map, drop, sym, ap, subst, ◌∙◌}
 use Rattle.std.proofs.lemmas.List.{drop_all}
 use Rattle.gm_model.specs.declared.rule.Side.TheVariants.{Right}
-use Rattle.gm_parse.specs.Meaning.{names_in}
+use Rattle.gm_tree.specs.FirstNames.{first_names}
 use Rattle.gm_forms.specs.declared.form.Item.{Item}
 use Rattle.gm_forms.specs.BookText.{IsItem}
 use Rattle.gm_forms.specs.Forms.{item_of}
@@ -23,7 +23,7 @@ loop-item-preserved c = λ behind least.
     let n = schema.dim in
     let embeds = schema.embeds in
     let params = c.args.env.now.params.now in
-    let names = names_in schema params c.args.env.now.nodes.now in
+    let names = first_names schema params c.args.env.now.nodes.now in
     let item = c.item-item.result in
     let l = c.loop-item in
     let others = map (item_of text) (drop (l.item-index + 1) c.args.items.now) in
@@ -39,7 +39,7 @@ returns c =
     let text = c.args.text.now in
     let schema = c.args.env.now.schema.now in
     let params = c.args.env.now.params.now in
-    let names = names_in schema params c.args.env.now.nodes.now in
+    let names = first_names schema params c.args.env.now.nodes.now in
     let l = c.loop-item in
     let none : [] ≡ drop l.item-index c.args.items.now = sym (drop_all l.item-index c.args.items.now c.loop-item-test.false) in
     let there = subst (λ (is : List Item). IsLeast (IsAssignedFault schema.dim schema.embeds params names (map (item_of text) is)) None) none (no_set schema.dim schema.embeds params names) in

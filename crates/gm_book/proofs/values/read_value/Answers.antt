@@ -4,7 +4,7 @@ use Rattle.gm_model.specs.declared.expr.Expr.{Expr}
 use Rattle.gm_model.specs.Trees.{tree_of}
 use Rattle.gm_text.specs.SchemaAnswers.{marks_left}
 use Rattle.gm_parse.specs.Answers.{HasExpr, IsExprRead, IsExprFault}
-use Rattle.gm_parse.specs.Meaning.{names_in}
+use Rattle.gm_tree.specs.FirstNames.{first_names}
 use Rattle.gm_forms.specs.Forms.{value_of}
 use Rattle.gm_book.specs.Values.{IsValueRead, IsReadFault}
 use Rattle.gm_book.proofs.ValueTokens.{has_expr, read_is, fault_is}
@@ -18,7 +18,7 @@ read_expr-requires c =
 pub returns-clause-expr : goal.returns-clause-expr
 returns-clause-expr c =
     let n = c.args.env.now.schema.now.dim in
-    let names = names_in c.args.env.now.schema.now c.args.env.now.params.now c.args.env.now.nodes.now in
+    let names = first_names c.args.env.now.schema.now c.args.env.now.params.now c.args.env.now.nodes.now in
     let tokens = value_of c.args.text.now c.args.value.now in
     let old = c.at-lexer.result in
     let new = c.read_expr.new.lexer in
@@ -28,7 +28,7 @@ returns-clause-expr c =
 pub returns-clause-fault : goal.returns-clause-fault
 returns-clause-fault c =
     let n = c.args.env.now.schema.now.dim in
-    let names = names_in c.args.env.now.schema.now c.args.env.now.params.now c.args.env.now.nodes.now in
+    let names = first_names c.args.env.now.schema.now c.args.env.now.params.now c.args.env.now.nodes.now in
     let tokens = value_of c.args.text.now c.args.value.now in
     let old = c.at-lexer.result in
     IfErr-weaker c.read_expr.result (IsExprFault n names (marks_left old)) (IsReadFault n names tokens)

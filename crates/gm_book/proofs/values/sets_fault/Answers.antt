@@ -1,7 +1,7 @@
 use Rattle.std.proofs.Common.{◌≡◌, ◌+◌, ◌∷◌, List, [], Option, None, map, drop, sym, ap, subst, ◌∙◌}
 use Rattle.std.proofs.lemmas.List.{drop_all}
 use Rattle.gm_model.specs.declared.value.Kind.{Kind}
-use Rattle.gm_parse.specs.Meaning.{names_in}
+use Rattle.gm_tree.specs.FirstNames.{first_names}
 use Rattle.gm_forms.specs.declared.form.SetForm.{SetForm}
 use Rattle.gm_forms.specs.BookText.{IsSet, kind_of_embed}
 use Rattle.gm_forms.specs.Forms.{IsSetIn, set_form_of}
@@ -29,7 +29,7 @@ loop-set-preserved c = λ behind least.
     let n = schema.dim in
     let embeds = schema.embeds in
     let params = c.args.env.now.params.now in
-    let names = names_in schema params c.args.env.now.nodes.now in
+    let names = first_names schema params c.args.env.now.nodes.now in
     let set = c.set-item.result in
     let l = c.loop-set in
     let form = set_form_of text set in
@@ -48,7 +48,7 @@ returns c =
     let text = c.args.text.now in
     let schema = c.args.env.now.schema.now in
     let params = c.args.env.now.params.now in
-    let names = names_in schema params c.args.env.now.nodes.now in
+    let names = first_names schema params c.args.env.now.nodes.now in
     let l = c.loop-set in
     let none : [] ≡ drop l.set-index c.args.sets.now = sym (drop_all l.set-index c.args.sets.now c.loop-set-test.false) in
     let there = subst (λ (ss : List SetForm). IsLeast (IsSetFault schema.dim schema.embeds params names (map (set_form_of text) ss)) None) none (no_set schema.dim schema.embeds params names) in

@@ -1,6 +1,6 @@
 use Rattle.std.proofs.Common.{◌≡◌, List, map, sym, ap, subst, ◌∙◌}
 use Rattle.gm_model.specs.Rules.{node_of}
-use Rattle.gm_parse.specs.Meaning.{names_in}
+use Rattle.gm_tree.specs.FirstNames.{first_names}
 use Rattle.gm_forms.specs.declared.form.Item.{Item}
 use Rattle.gm_forms.specs.BookText.{names_for, param_of}
 use Rattle.gm_forms.specs.Forms.{item_of, rule_form_of}
@@ -18,7 +18,7 @@ returns c =
     let rule = rule_form_of bytes c.args.rule.now in
     let params = c.as_slice.result.now in
     let nodes = c.as_slice-2.result.now in
-    let names = names_in schema params nodes in
+    let names = first_names schema params nodes in
     let params_are : params ≡ map param_of rule.params = c.as_slice.ensures.value ∙ c.in_ok-params.ensures.params in
     let nodes_are = ap (map node_of) c.as_slice-2.ensures.value ∙ c.in_ok-params.ensures.nodes in
     let same : names ≡ names_for embeds rule = names_same schema rule params nodes c.requires.schema.count c.requires.fits.params c.requires.fits.nodes params_are nodes_are in

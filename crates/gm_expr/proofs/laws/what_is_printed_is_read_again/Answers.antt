@@ -1,6 +1,6 @@
 use Rattle.std.proofs.Common.{refl}
 use Rattle.gm_expr.specs.Writable.{names_of}
-use Rattle.gm_expr.proofs.CanonicalRead.{short_read, again_read, few_known}
+use Rattle.gm_expr.proofs.CanonicalRead.{short_read, again_read, all_known}
 use Rattle.gm_expr.proofs.ReadWritable.{read_writable}
 use Rattle.gm_expr.proofs.laws.what_is_printed_is_read_again.Goals as goal
 
@@ -15,4 +15,4 @@ returns-clause-read c n schema rule old new tree top good read =
     again_read schema.embeds rule.params rule.nodes good n top tree writable names refl refl refl old new read
 
 pub returns-clause-names : goal.returns-clause-names
-returns-clause-names c = few_known
+returns-clause-names c = all_known

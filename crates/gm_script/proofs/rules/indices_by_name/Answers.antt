@@ -4,18 +4,18 @@ use Rattle.std.proofs.lemmas.Map.Text.{hash_map_updates_str}
 use Rattle.std.specs.HashMap as map
 use Rattle.std.specs.Str.{bytes_eq}
 use Rattle.gm_model.specs.declared.rule.RuleTable.{RuleTable}
-use Rattle.gm_script.proofs.Indices.{at, stays, added, take_least, index_is}
+use Rattle.gm_script.proofs.Indices.{at, stays, added, index_is}
 use Rattle.gm_script.proofs.rules.indices_by_name.Goals as goal
 use Rattle.gm_script.proofs.rules.indices_by_name.Goals.{then-not-contains_key+in_ok-insert, else-not-contains_key}
 
 pub loop-index-preserved : goal.loop-index-preserved
 loop-index-preserved c = λ name.
-    let listed = take c.min.result c.args.rules.now in
+    let listed = c.args.rules.now in
     let before = take c.loop-index.index listed in
-    let rule = c.index-named-index.result in
+    let rule = c.index-rules-index.result in
     let found : List ℕ → Option ℕ = λ bytes. map.get_by (λ k. bytes_eq bytes k.now) c.loop-index.indices in
     let whole : before ++ rule ∷ [] ≡ take (c.loop-index.index + 1) listed =
-    ap (λ (r : RuleTable). before ++ r ∷ []) c.index-named-index.is ∙ sym (take_more listed c.loop-index.index rule c.loop-index-test.true) in
+    ap (λ (r : RuleTable). before ++ r ∷ []) c.index-rules-index.is ∙ sym (take_more listed c.loop-index.index rule c.loop-index-test.true) in
     let many : length before ≡ c.loop-index.index = omega (arith, length-take {A = RuleTable}, c.loop-index-test.true) in
     let there : c.contains_key.result ≡ is_some (found rule.name) = c.contains_key.ensures ∙ ap (λ (bytes : List ℕ). is_some (found bytes)) c.bytes-name.ensures.value in
     elim c.if-not-contains_key.branch [
@@ -36,7 +36,5 @@ loop-index-preserved c = λ name.
 
 pub returns : goal.returns
 returns c = λ name.
-    let listed = take c.min.result c.args.rules.now in
-    let all : take c.loop-index.index listed ≡ listed = take_all c.loop-index.index listed c.loop-index-test.false in
-    let least : listed ≡ take 65536 c.args.rules.now = ap (λ (n : ℕ). take n c.args.rules.now) c.min.ensures ∙ take_least 65536 c.args.rules.now in
-    c.loop-index.invariant name ∙ ap (λ (rules : List RuleTable). at rules name) (all ∙ least) ∙ sym (index_is c.args.rules.now name)
+    let all : take c.loop-index.index c.args.rules.now ≡ c.args.rules.now = take_all c.loop-index.index c.args.rules.now c.loop-index-test.false in
+    c.loop-index.invariant name ∙ ap (λ (rules : List RuleTable). at rules name) all ∙ sym (index_is c.args.rules.now name)

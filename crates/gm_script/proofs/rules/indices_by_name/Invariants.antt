@@ -5,4 +5,4 @@ use Rattle.std.specs.Str.{bytes_eq}
 use Rattle.gm_script.proofs.rules.indices_by_name.Given as goal
 
 abbrev pub invariant-loop-index : goal.invariant-loop-index
-invariant-loop-index l = (name : List ℕ) → map.get_by (λ k. bytes_eq name k.now) l.indices ≡ position (λ rule. bytes_eq name rule.name) (take l.index l.named)
+invariant-loop-index l = (name : List ℕ) → map.get_by (λ k. bytes_eq name k.now) l.indices ≡ position (λ rule. bytes_eq name rule.name) (take l.index l.rules)

@@ -6,7 +6,8 @@ use Rattle.gm_parse.specs.declared.key.Key.{Key}
 use Rattle.gm_parse.specs.Answers.{Advances}
 use Rattle.gm_tree.specs.Building.{Frame, Nothing, Work, work, work_of, frames_of, name_fault, part_of, take_in}
 use Rattle.gm_tree.specs.Built.{IsUnderway}
-use Rattle.gm_parse.specs.Meaning.{names_in, NameFault}
+use Rattle.gm_parse.specs.Meaning.{NameFault}
+use Rattle.gm_tree.specs.FirstNames.{first_names}
 use Rattle.gm_parse.specs.Reading.{State, spot_at, start}
 use Rattle.gm_tree.proofs.Underway.{underway_start, underway_on, underway_ends, no_stop}
 use Rattle.gm_tree.proofs.reading.build.Goals as goal
@@ -14,7 +15,7 @@ use Rattle.gm_tree.proofs.reading.build.Goals as goal
 pub loop-token-init : goal.loop-token-init
 loop-token-init c =
     let n = c.args.env.now.schema.now.dim in
-    let names = names_in c.args.env.now.schema.now c.args.env.now.params.now c.args.env.now.nodes.now in
+    let names = first_names c.args.env.now.schema.now c.args.env.now.params.now c.args.env.now.nodes.now in
     let frames : frames_of c.new-builder.result.waiting.items ≡ [] = c.new-builder.ensures.waiting in
     let least : option_map name_fault c.new-builder.result.least ≡ None = ap (option_map name_fault) c.new-builder.ensures.least in
     let same : work [] None Nothing ≡ work (frames_of c.new-builder.result.waiting.items) (option_map name_fault c.new-builder.result.least) Nothing =
@@ -30,7 +31,7 @@ loop-token-init c =
 pub loop-token-preserved : goal.loop-token-preserved
 loop-token-preserved c =
     let n = c.args.env.now.schema.now.dim in
-    let names = names_in c.args.env.now.schema.now c.args.env.now.params.now c.args.env.now.nodes.now in
+    let names = first_names c.args.env.now.schema.now c.args.env.now.params.now c.args.env.now.nodes.now in
     let l = c.loop-token in
     let advances = subst (λ (found : Option Token). Advances n (spot_at l.count l.state) l.lexer found c.go_on.new.state c.go_on.new.lexer) c.in-Some.is c.go_on.ensures in
     let mark = mark_at c.go_on.new.lexer.text c.in-Some.token in
@@ -40,7 +41,7 @@ loop-token-preserved c =
 pub returns-clause-over : goal.returns-clause-over
 returns-clause-over c =
     let n = c.args.env.now.schema.now.dim in
-    let names = names_in c.args.env.now.schema.now c.args.env.now.params.now c.args.env.now.nodes.now in
+    let names = first_names c.args.env.now.schema.now c.args.env.now.params.now c.args.env.now.nodes.now in
     let l = c.loop-token in
     let advances = subst (λ (found : Option Token). Advances n (spot_at l.count l.state) l.lexer found c.go_on.new.state c.go_on.new.lexer) c.in_default.is c.go_on.ensures in
     underway_ends n names c.args.lexer.now l.lexer c.go_on.new.lexer (spot_at l.count l.state) c.go_on.new.state (work_of l.builder l.partial) l.invariant.2 advances
@@ -48,4 +49,4 @@ returns-clause-over c =
 pub go_on-requires-clause-faultless : goal.go_on-requires-clause-faultless
 go_on-requires-clause-faultless c fault stops =
     let l = c.loop-token in
-    no_stop c.args.env.now.schema.now.dim (names_in c.args.env.now.schema.now c.args.env.now.params.now c.args.env.now.nodes.now) c.args.lexer.now l.lexer (spot_at l.count l.state) fault (work_of l.builder l.partial) l.invariant.2 c.requires stops
+    no_stop c.args.env.now.schema.now.dim (first_names c.args.env.now.schema.now c.args.env.now.params.now c.args.env.now.nodes.now) c.args.lexer.now l.lexer (spot_at l.count l.state) fault (work_of l.builder l.partial) l.invariant.2 c.requires stops

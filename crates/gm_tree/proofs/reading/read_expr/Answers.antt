@@ -4,14 +4,14 @@ use Rattle.gm_model.specs.Trees.{tree_of}
 use Rattle.gm_text.specs.Cursor.{Cursor}
 use Rattle.gm_tree.specs.Building.{work_of}
 use Rattle.gm_tree.specs.Built.{IsBuiltOver}
-use Rattle.gm_parse.specs.Meaning.{names_in}
+use Rattle.gm_tree.specs.FirstNames.{first_names}
 use Rattle.gm_tree.proofs.ReadForms.{expr_is, fault_is, read_unsigned, read_in_range}
 use Rattle.gm_tree.proofs.reading.read_expr.Goals as goal
 
 pub returns-in_err-expr-clause-fault : goal.returns-in_err-expr-clause-fault
 returns-in_err-expr-clause-fault c =
     let n = c.args.env.now.schema.now.dim in
-    let names = names_in c.args.env.now.schema.now c.args.env.now.params.now c.args.env.now.nodes.now in
+    let names = first_names c.args.env.now.schema.now c.args.env.now.params.now c.args.env.now.nodes.now in
     let over = subst (λ (cursor : Cursor). IsBuiltOver n names cursor c.build.new.lexer (work_of c.in_ok-built.built.builder c.in_ok-built.built.partial)) c.fork-ahead.ensures c.in_ok-built.ensures.over in
     let p = err_from_is_err_and c.from_residual-in_err-expr.result c.from_residual-in_err-expr.ensures.1 in
     rw (p.1, p.2) (fault_is n names c.in_ok-built.ensures.top c.args.lexer.now c.build.new.lexer (work_of c.in_ok-built.built.builder c.in_ok-built.built.partial) over c.in_err-expr.field-0.0 c.in_err-expr.ensures.fault)
@@ -19,14 +19,14 @@ returns-in_err-expr-clause-fault c =
 pub returns-clause-expr : goal.returns-clause-expr
 returns-clause-expr c =
     let n = c.args.env.now.schema.now.dim in
-    let names = names_in c.args.env.now.schema.now c.args.env.now.params.now c.args.env.now.nodes.now in
+    let names = first_names c.args.env.now.schema.now c.args.env.now.params.now c.args.env.now.nodes.now in
     let over = subst (λ (cursor : Cursor). IsBuiltOver n names cursor c.build.new.lexer (work_of c.in_ok-built.built.builder c.in_ok-built.built.partial)) c.fork-ahead.ensures c.in_ok-built.ensures.over in
     expr_is n names c.in_ok-built.ensures.top c.args.lexer.now c.build.new.lexer (work_of c.in_ok-built.built.builder c.in_ok-built.built.partial) over (tree_of c.in_ok-expr.expr) c.in_ok-expr.ensures.tree c.in_ok-expr.ensures.known
 
 pub returns-clause-unsigned : goal.returns-clause-unsigned
 returns-clause-unsigned c =
     let n = c.args.env.now.schema.now.dim in
-    let names = names_in c.args.env.now.schema.now c.args.env.now.params.now c.args.env.now.nodes.now in
+    let names = first_names c.args.env.now.schema.now c.args.env.now.params.now c.args.env.now.nodes.now in
     let over = subst (λ (cursor : Cursor). IsBuiltOver n names cursor c.build.new.lexer (work_of c.in_ok-built.built.builder c.in_ok-built.built.partial)) c.fork-ahead.ensures c.in_ok-built.ensures.over in
     read_unsigned n names c.args.lexer.now c.build.new.lexer (tree_of c.in_ok-expr.expr)
     (expr_is n names c.in_ok-built.ensures.top c.args.lexer.now c.build.new.lexer (work_of c.in_ok-built.built.builder c.in_ok-built.built.partial) over (tree_of c.in_ok-expr.expr) c.in_ok-expr.ensures.tree c.in_ok-expr.ensures.known)
@@ -36,7 +36,7 @@ returns-clause-in_range c =
     let schema = c.args.env.now.schema.now in
     let params = c.args.env.now.params.now in
     let nodes = c.args.env.now.nodes.now in
-    let names = names_in schema params nodes in
+    let names = first_names schema params nodes in
     let over = subst (λ (cursor : Cursor). IsBuiltOver schema.dim names cursor c.build.new.lexer (work_of c.in_ok-built.built.builder c.in_ok-built.built.partial)) c.fork-ahead.ensures c.in_ok-built.ensures.over in
     read_in_range schema params nodes c.args.lexer.now c.build.new.lexer (tree_of c.in_ok-expr.expr)
     (expr_is schema.dim names c.in_ok-built.ensures.top c.args.lexer.now c.build.new.lexer (work_of c.in_ok-built.built.builder c.in_ok-built.built.partial) over (tree_of c.in_ok-expr.expr) c.in_ok-expr.ensures.tree c.in_ok-expr.ensures.known)
@@ -44,6 +44,6 @@ returns-clause-in_range c =
 pub returns-clause-behind : goal.returns-clause-behind
 returns-clause-behind c =
     let n = c.args.env.now.schema.now.dim in
-    let names = names_in c.args.env.now.schema.now c.args.env.now.params.now c.args.env.now.nodes.now in
+    let names = first_names c.args.env.now.schema.now c.args.env.now.params.now c.args.env.now.nodes.now in
     let over = subst (λ (cursor : Cursor). IsBuiltOver n names cursor c.build.new.lexer (work_of c.in_ok-built.built.builder c.in_ok-built.built.partial)) c.fork-ahead.ensures c.in_ok-built.ensures.over in
     over.behind
