@@ -157,7 +157,7 @@ module _ (end : List Mark) where
 
 module _ (embeds : List Embed) (params : List Param) (nodes : List RuleNode) where
   pub tree_placed : (n : ℕ) (tree : Tree) (marks : List Mark) (parts : List (Part Role)) → ArePlaced IsPlacedAt (behind_tree tree marks) parts → ArePlaced IsPlacedAt marks (spell n (form_at embeds params nodes marks tree) parts)
-  tree_placed n tree marks parts later = tree_holds ArePlaced IsPlacedAt placed_first n embeds params nodes tree marks parts later
+  tree_placed n tree marks parts later = tree_holds (ArePlaced IsPlacedAt) placed_first n embeds params nodes tree marks parts later
 
   pub tree_behind : (n : ℕ) (tree : Tree) (marks : List Mark) → behind_tree tree marks ≡ drop (length (spell n (form_at embeds params nodes marks tree) [])) marks
   tree_behind n tree marks = sym (tree_holds (LeadsTo (behind_tree tree marks)) (leads_first (behind_tree tree marks)) n embeds params nodes tree marks [] refl)

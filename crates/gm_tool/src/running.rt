@@ -93,7 +93,7 @@ fn load_script<S: Store>(
     book: &Book,
     store: &mut S,
 ) -> Result<Script, Stop>
-    requires book { (bytes : List ℕ) × IsReadBook bytes book.now }
+    requires { (bytes : List ℕ) × IsReadBook bytes book.now }
     ensures held { S.holds store.new ≡ S.holds store.old }
     ensures no_save { S.saves store.new ≡ S.saves store.old }
     ensures no_save_fault { S.save_faults store.new ≡ S.save_faults store.old }

@@ -12,7 +12,7 @@ use std::alloc::Global;
 
 /// The script that a file's text stands for under a book that was read, or the line that refuses it.
 pub fn read(alloc: Global, bytes: &[u8], book: &Book) -> Result<Script, Stop>
-    requires book { (text : List ℕ) × IsReadBook text book.now }
+    requires { (text : List ℕ) × IsReadBook text book.now }
     ensures script { IfOk result (IsReadScript book.now.schema.dim (map rule_of book.now.rules) bytes.now) }
     ensures stop { IfErr result (IsBadFor TheScript (IsBadScript book.now.schema.dim (map rule_of book.now.rules) bytes.now)) }
 {

@@ -8,6 +8,9 @@ use Rattle.gm_tool.specs.declared.refusal.Role.TheVariants as roles
 use Rattle.gm_tool.proofs.Stopping.{not_loaded_from, read_from, some_bytes}
 use Rattle.gm_tool.proofs.running.load_script.Goals as goal
 
+pub read-requires : goal.read-requires
+read-requires g c = c.requires
+
 pub returns-in_err-bytes-clause-from : goal.returns-in_err-bytes-clause-from
 returns-in_err-bytes-clause-from g c =
     let p = err_from_is_err_and c.from_residual.result c.from_residual.ensures.1 in

@@ -21,6 +21,9 @@ use Rattle.gm_tool.proofs.running.prepared_behind.Goals as goal
 pub plans_of-requires : goal.plans_of-requires
 plans_of-requires g c = checkable_rules c.requires.book.0 c.args.book.now c.requires.book.1 c.requires.declared
 
+pub load_script-requires : goal.load_script-requires
+load_script-requires g c = c.requires.book
+
 pub applied-requires : goal.applied-requires
 applied-requires g c =
     can_run c.args.read.now c.args.book.now c.in_ok-script.script c.as_slice.result.now c.requires.read c.requires.book c.in_ok-script.ensures.read (rw c.as_slice.ensures.value c.in_ok-plans.ensures.plans)
