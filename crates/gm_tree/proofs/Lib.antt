@@ -7,3 +7,4 @@ pub mod ReadTrees
 pub mod ReadForms
 pub mod OneMeaning
 pub mod OneExpr
+pub mod AtLeast
