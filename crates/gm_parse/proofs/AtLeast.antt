@@ -1,5 +1,5 @@
 -- An expression stands at each place of a text, or the marks there have a first fault.
-use Rattle.std.proofs.Common.{◌≡◌, ◌⊎◌, ℕ, Bool, true, false, List, ◌∷◌, ◌++◌, Option, Some, None, Result, Ok, Err, inl, inr, refl, sym, ap, subst, ◌∙◌}
+use Rattle.std.proofs.Common.{◌≡◌, ◌⊎◌, ℕ, Bool, true, false, List, ◌++◌, Some, None, Result, Ok, Err, inl, inr, refl, sym, ap, ◌∙◌}
 use Rattle.gm_model.specs.declared.limit.LimitKind.{LimitKind}
 use Rattle.gm_model.specs.Symbols.{Symbol, Mark}
 use Rattle.gm_text.specs.Cursor.{Cursor}

@@ -17,7 +17,7 @@ use Rattle.gm_text.proofs.TextMarks.{text_end}
 use Rattle.gm_script.specs.Comparing.{◌>>=◌}
 use Rattle.gm_script.specs.Faults.{IsFaultOf}
 use Rattle.gm_script.specs.Reading.{Been, State, At, Ended, first_state, can_end, move, sight_of, role_in, role_at, never}
-use Rattle.gm_script.specs.ScriptText.{ValueForm, StatForm, Applies, GoesOver, Says, Undo, Redo, Group, Close, Role, passed_of, spelling, IsSentence, IsPlacedAt, ArePlaced, IsWritten, index_of, value_as, mask_of, AreParams, IsOfRule, ScriptText, Disagreement, UnknownRuleAt, HookCountAt, ParamsAt, DisagreesAt, UnknownRule, HookCount, Params, IsFirstDisagreement}
+use Rattle.gm_script.specs.ScriptText.{ValueForm, StatForm, Applies, GoesOver, Says, Undo, Redo, Group, Close, Role, passed_of, IsSentence, IsPlacedAt, ArePlaced, IsWritten, index_of, value_as, mask_of, AreParams, IsOfRule, ScriptText, Disagreement, UnknownRuleAt, HookCountAt, ParamsAt, DisagreesAt, UnknownRule, HookCount, Params, IsFirstDisagreement}
 use Rattle.gm_script.specs.declared.fault.ScriptFault.{ScriptFault}
 use Rattle.gm_script.specs.declared.fault.ScriptFault.TheVariants as faults
 use Rattle.gm_script.specs.declared.sight.Sight.{Sight}

@@ -1,13 +1,12 @@
 -- A schema stands at each place of a text, or the marks there have a first fault.
-use Rattle.std.proofs.Common.{◌≡◌, ◌≢◌, ◌⊎◌, ℕ, Bool, true, false, List, [], ◌∷◌, ◌++◌, Option, Some, None, Result, Ok, Err, inl, inr, refl, sym, ap, subst, ◌∙◌, codes}
-use Rattle.gm_model.specs.declared.limit.LimitKind.{LimitKind}
+use Rattle.std.proofs.Common.{◌≡◌, ◌≢◌, ◌⊎◌, ℕ, Bool, true, false, List, ◌++◌, Option, Some, None, Result, Ok, Err, inl, inr, refl, sym, ap, subst, ◌∙◌, codes}
 use Rattle.gm_model.specs.declared.schema.Embed.{Embed}
 use Rattle.gm_model.specs.declared.schema.Schema.{Schema}
 use Rattle.gm_model.specs.Symbols.{Symbol, Word, Mark}
 use Rattle.gm_model.specs.Reading.{TextEndsAt, LimitStandsAt}
 use Rattle.gm_text.specs.Cursor.{Cursor}
 use Rattle.gm_text.specs.Machine.{Stop, Ends, Passes, run}
-use Rattle.gm_text.specs.SchemaText.{Role, Passed, LimitOf, Again, limit_of, passed_of, IsSentence}
+use Rattle.gm_text.specs.SchemaText.{Role, LimitOf, Again, limit_of, passed_of, IsSentence}
 use Rattle.gm_text.specs.SchemaReading.{State, AtDim, AtTop, AtEmbeds, AtName, AtOrbit, AtLabel, AtKind, role_at, move, is_whole, never}
 use Rattle.gm_text.specs.SchemaAnswers.{IsNoToken, AtStray, AtEnd, marks_left, IsSchemaRead, IsSchemaSkipped, IsSchemaFault, IsSkipFault}
 use Rattle.gm_text.specs.declared.schema_fault.SchemaFault.{SchemaFault}
@@ -17,21 +16,24 @@ use Rattle.gm_text.proofs.SchemaStanding.{IsPlaceless, limit_placeless, passed_p
 use Rattle.gm_text.proofs.TextMarks.{left_end, place_of_mark}
 
 -- no schema goes on with what is no token
+pub stands_still : (state : State) (symbol : Symbol) → IsNoToken symbol → move state symbol ≡ None
+stands_still AtDim symbol AtStray = refl
+stands_still AtDim symbol AtEnd = refl
+stands_still AtTop symbol AtStray = refl
+stands_still AtTop symbol AtEnd = refl
+stands_still (AtEmbeds n declared) symbol AtStray = refl
+stands_still (AtEmbeds n declared) symbol AtEnd = refl
+stands_still (AtName n declared) symbol AtStray = refl
+stands_still (AtName n declared) symbol AtEnd = refl
+stands_still (AtOrbit n declared name) symbol AtStray = refl
+stands_still (AtOrbit n declared name) symbol AtEnd = refl
+stands_still (AtLabel n declared name mask) symbol AtStray = refl
+stands_still (AtLabel n declared name mask) symbol AtEnd = refl
+stands_still (AtKind n declared name mask) symbol AtStray = refl
+stands_still (AtKind n declared name mask) symbol AtEnd = refl
+
 none_moves : (state next : State) (symbol : Symbol) → IsNoToken symbol → move state symbol ≡ Some next → ⊥
-none_moves AtDim next symbol AtStray e = absurd cc
-none_moves AtDim next symbol AtEnd e = absurd cc
-none_moves AtTop next symbol AtStray e = absurd cc
-none_moves AtTop next symbol AtEnd e = absurd cc
-none_moves (AtEmbeds n declared) next symbol AtStray e = absurd cc
-none_moves (AtEmbeds n declared) next symbol AtEnd e = absurd cc
-none_moves (AtName n declared) next symbol AtStray e = absurd cc
-none_moves (AtName n declared) next symbol AtEnd e = absurd cc
-none_moves (AtOrbit n declared name) next symbol AtStray e = absurd cc
-none_moves (AtOrbit n declared name) next symbol AtEnd e = absurd cc
-none_moves (AtLabel n declared name mask) next symbol AtStray e = absurd cc
-none_moves (AtLabel n declared name mask) next symbol AtEnd e = absurd cc
-none_moves (AtKind n declared name mask) next symbol AtStray e = absurd cc
-none_moves (AtKind n declared name mask) next symbol AtEnd e = absurd cc
+none_moves state next symbol none moves = let no_way : Some next ≡ None = sym moves ∙ stands_still state symbol none in absurd cc
 
 -- an embedding would go on with its word
 no_embed : (n : ℕ) (declared : List Embed) (symbol : Symbol) → move (AtEmbeds n declared) symbol ≡ None → symbol ≢ Word (codes "embed")
