@@ -3,6 +3,7 @@ use Rattle.std.proofs.Common.{◌≡◌, ◌≢◌, ℕ, suc, ◌+◌, ◌<◌, 
 use Rattle.std.specs.Prelude.{IsTrue}
 use Rattle.std.specs.List.{AllByRecursion}
 use Rattle.std.proofs.lemmas.Bool.{cases_lt}
+use Rattle.std.proofs.lemmas.List.Elements.{All-from_recursion}
 use Rattle.std.proofs.lemmas.Option.{slice_get_within}
 use Rattle.gm_model.specs.declared.schema.Embed.{Embed}
 use Rattle.gm_model.specs.declared.schema.Schema.{Schema}
@@ -12,15 +13,15 @@ use Rattle.gm_model.specs.Labels.{has}
 use Rattle.gm_model.specs.Maps.{IsEmbedAt}
 use Rattle.gm_mapfile.specs.MapText.{Version, First, Second, DartRow, IsListed, names, rows_of, value_in}
 use Rattle.gm_mapfile.specs.MapFaults.{TextFault, DartTwice, NotBelow, NoTarget, OneWay, Crossing, Unshared, rows_named, AreNamed, AreNumbered, AreJoined, IsFirstFault, AtTwice, AtNotBelow, AtNoTarget, AtOneWay, AtCrossing, AtUnshared}
-use Rattle.gm_mapfile.proofs.Again.{live_below}
 use Rattle.gm_mapfile.proofs.Named.{named_none}
-use Rattle.gm_mapfile.proofs.Searching.{IsDecided, stable, decide_both, decide_not, decide_true, decide_le, decide_eq, decide_value, IsFirst, HasFirst, first_number, IsBeforeIn, first_beside}
+use Rattle.gm_mapfile.proofs.NamesOf.{live_named}
+use Rattle.gm_mapfile.proofs.Searching.{IsDecided, stable, decide_both, decide_three, decide_four, decide_not, decide_true, decide_le, decide_eq, decide_value, IsFirst, HasFirst, first_number, IsBeforeIn, first_beside}
 
 -- ---- a number above all names
 
 abbrev above_all : List ℕ → ℕ
 above_all [] = 0
-above_all (n ∷ ns) = suc (n + above_all ns)
+above_all (n ∷ ns) = suc n + above_all ns
 
 all_lower : (m : ℕ) (ns : List ℕ) → AllByRecursion (λ n. n < m) ns → (k : ℕ) → AllByRecursion (λ n. n < k + m) ns
 all_lower m [] all k = tt
@@ -51,7 +52,7 @@ module _ (text : List ℕ) (version : Version) (schema : Schema) (darts : List D
   most = above_all (names darts)
 
   below : (d : ℕ) → Live d → d < most
-  below d live = live_below darts (above_all (names darts)) d (all_below (names darts)) live
+  below d live = live_named (λ name. name < above_all (names darts)) darts (All-from_recursion (λ name. name < above_all (names darts)) (names darts) (all_below (names darts))) d live
 
   decide_live : (d : ℕ) → IsDecided (Live d)
   decide_live d = decide_true (is_some (row_of (rows_of darts) d))
@@ -69,13 +70,13 @@ module _ (text : List ℕ) (version : Version) (schema : Schema) (darts : List D
 
       at_embed : (embed : Embed) → IsEmbedAt schema e embed
           → IsDecided (Live d × (l ≤ schema.dim) × IsTrue (has embed.mask l) × (value_in darts e (neighbour l d) ≢ value_in darts e d)) → IsDecided (Differs (e, (d, l)))
-      at_embed embed at (inl h) = inl (embed, (at, h))
-      at_embed embed at (inr none) = inr (λ h. none (subst (λ (x : Embed). Live d × (l ≤ schema.dim) × IsTrue (has x.mask l) × (value_in darts e (neighbour l d) ≢ value_in darts e d)) (same embed h.0 at h.1) h.2))
+      at_embed embed at (inl h) = inl (embed, at, h.0, h.1, h.2, h.3)
+      at_embed embed at (inr none) = inr (λ h. none (subst (λ (x : Embed). Live d × (l ≤ schema.dim) × IsTrue (has x.mask l) × (value_in darts e (neighbour l d) ≢ value_in darts e d)) (same embed h.0 at h.1) (h.2, h.3, h.4, h.5)))
 
       go : (found : Option Embed) → slice_get schema.embeds e ≡ found → IsDecided (Differs (e, (d, l)))
       go None is = inr (λ h. let both : Some h.0 ≡ None = sym h.1 ∙ is in absurd cc)
       go (Some embed) is =
-          at_embed embed is (decide_both (decide_live d) (decide_both (decide_le l schema.dim) (decide_both (decide_true (has embed.mask l)) (decide_not (decide_value (value_in darts e (neighbour l d)) (value_in darts e d))))))
+          at_embed embed is (decide_four (decide_live d) (decide_le l schema.dim) (decide_true (has embed.mask l)) (decide_not (decide_value (value_in darts e (neighbour l d)) (value_in darts e d))))
 
   first_differing : HasFirst (IsBeforeIn (IsBeforeIn ◌<◌)) Differs
   first_differing =
@@ -119,7 +120,7 @@ module _ (text : List ℕ) (version : Version) (schema : Schema) (darts : List D
   Crosses p = Live p.0 × (p.1.0 + 2 ≤ p.1.1) × (p.1.1 ≤ schema.dim) × (neighbour p.1.0 (neighbour p.1.1 p.0) ≢ neighbour p.1.1 (neighbour p.1.0 p.0))
 
   decide_crosses : (d i j : ℕ) → IsDecided (Crosses (d, (i, j)))
-  decide_crosses d i j = decide_both (decide_live d) (decide_both (decide_le (i + 2) j) (decide_both (decide_le j schema.dim) (decide_not (decide_eq (neighbour i (neighbour j d)) (neighbour j (neighbour i d))))))
+  decide_crosses d i j = decide_four (decide_live d) (decide_le (i + 2) j) (decide_le j schema.dim) (decide_not (decide_eq (neighbour i (neighbour j d)) (neighbour j (neighbour i d))))
 
   first_crossing : HasFirst (IsBeforeIn (IsBeforeIn ◌<◌)) Crosses
   first_crossing =
@@ -154,7 +155,7 @@ module _ (text : List ℕ) (version : Version) (schema : Schema) (darts : List D
   first_one_way : HasFirst (IsBeforeIn ◌<◌) GoesOneWay
   first_one_way =
       first_beside ◌<◌ GoesOneWay
-      (λ d. first_number (λ i. GoesOneWay (d, i)) (λ i. decide_both (decide_live d) (decide_both (decide_le i schema.dim) (decide_not (decide_eq (neighbour i (neighbour i d)) d)))) (suc schema.dim) (λ i h. omega (arith, h.1)))
+      (λ d. first_number (λ i. GoesOneWay (d, i)) (λ i. decide_three (decide_live d) (decide_le i schema.dim) (decide_not (decide_eq (neighbour i (neighbour i d)) d))) (suc schema.dim) (λ i h. omega (arith, h.1)))
       most (λ d i h. below d h.0)
 
   of_ways : AreJoined text version schema darts → HasFault ⊎ AreLawful
@@ -180,7 +181,7 @@ module _ (text : List ℕ) (version : Version) (schema : Schema) (darts : List D
   first_lack : HasFirst (IsBeforeIn ◌<◌) LacksTarget
   first_lack =
       first_beside ◌<◌ LacksTarget
-      (λ d. first_number (λ i. LacksTarget (d, i)) (λ i. decide_both (decide_live d) (decide_both (decide_le i schema.dim) (decide_not (decide_live (neighbour i d))))) (suc schema.dim) (λ i h. omega (arith, h.1)))
+      (λ d. first_number (λ i. LacksTarget (d, i)) (λ i. decide_three (decide_live d) (decide_le i schema.dim) (decide_not (decide_live (neighbour i d)))) (suc schema.dim) (λ i h. omega (arith, h.1)))
       most (λ d i h. below d h.0)
 
   of_targets : AreNumbered text version schema darts → HasFault ⊎ AreLawful

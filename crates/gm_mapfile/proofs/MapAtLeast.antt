@@ -27,7 +27,7 @@ use Rattle.gm_text.proofs.TextMarks.{text_end}
 use Rattle.gm_arena.specs.Lawful.{AreGoodValues}
 use Rattle.gm_mapfile.specs.MapFaults.{TextFault, AreBelowStated, IsFirstFault, AtEnds, AtPasses, AtAgain}
 use Rattle.gm_mapfile.specs.MapFaults as first
-use Rattle.gm_mapfile.specs.MapReading.{State, AtFormat, AtVersion, AtNext, AtNextName, AtDarts, AtCount, AtNumbers, Done, Whole, behind_state, outer_move, nesting, never, start}
+use Rattle.gm_mapfile.specs.MapReading.{TheNumber, Component, TheSign, State, AtFormat, AtVersion, AtNext, AtNextName, AtDarts, AtCount, AtNumbers, Done, Whole, behind_state, outer_move, nesting, never, start}
 use Rattle.gm_mapfile.specs.MapText.{Version, First, Second, MapForm, DartRow, ListedMap, Role, passed_of, embeds_of, IsSentence, IsWritten, IsListed, IsNext, MapText, names, rows_of, dart_of, value_in, version_of}
 use Rattle.gm_mapfile.specs.Printing.{behind_last}
 use Rattle.gm_mapfile.specs.declared.version.MapVersion.{MapVersion}
@@ -61,7 +61,13 @@ outer_end (AtDarts head) next symbol AtEnd e = absurd cc
 outer_end (AtCount head) next symbol AtStray e = absurd cc
 outer_end (AtCount head) next symbol AtEnd e = absurd cc
 outer_end (AtNumbers head taken []) next symbol AtEnd e = sym (cc e)
-outer_end (AtNumbers head taken wants) next symbol none e = absurd cc
+outer_end (AtNumbers head taken []) next symbol AtStray e = absurd cc
+outer_end (AtNumbers head taken (TheNumber role ∷ wants)) next symbol AtStray e = absurd cc
+outer_end (AtNumbers head taken (TheNumber role ∷ wants)) next symbol AtEnd e = absurd cc
+outer_end (AtNumbers head taken (Component colour ∷ wants)) next symbol AtStray e = absurd cc
+outer_end (AtNumbers head taken (Component colour ∷ wants)) next symbol AtEnd e = absurd cc
+outer_end (AtNumbers head taken (TheSign found ∷ wants)) next symbol AtStray e = absurd cc
+outer_end (AtNumbers head taken (TheSign found ∷ wants)) next symbol AtEnd e = absurd cc
 outer_end Done next symbol AtStray e = absurd cc
 outer_end Done next symbol AtEnd e = absurd cc
 

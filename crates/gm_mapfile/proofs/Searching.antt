@@ -19,6 +19,19 @@ decide_both (inl a) (inl b) = inl (a, b)
 decide_both (inl a) (inr no_b) = inr (λ both. no_b both.1)
 decide_both (inr no_a) b = inr (λ both. no_a both.0)
 
+pub decide_three : {A B C : Type 0} → IsDecided A → IsDecided B → IsDecided C → IsDecided (A × B × C)
+decide_three (inl a) (inl b) (inl c) = inl (a, b, c)
+decide_three (inl a) (inl b) (inr no_c) = inr (λ all. no_c all.2)
+decide_three (inl a) (inr no_b) c = inr (λ all. no_b all.1)
+decide_three (inr no_a) b c = inr (λ all. no_a all.0)
+
+pub decide_four : {A B C D : Type 0} → IsDecided A → IsDecided B → IsDecided C → IsDecided D → IsDecided (A × B × C × D)
+decide_four (inl a) (inl b) (inl c) (inl d) = inl (a, b, c, d)
+decide_four (inl a) (inl b) (inl c) (inr no_d) = inr (λ all. no_d all.3)
+decide_four (inl a) (inl b) (inr no_c) d = inr (λ all. no_c all.2)
+decide_four (inl a) (inr no_b) c d = inr (λ all. no_b all.1)
+decide_four (inr no_a) b c d = inr (λ all. no_a all.0)
+
 pub decide_not : {A : Type 0} → IsDecided A → IsDecided (A → ⊥)
 decide_not (inl a) = inr (λ f. f a)
 decide_not (inr no_a) = inl no_a
@@ -61,13 +74,13 @@ decide_vec2 x y u v = elim (decide_both (decide_int x u) (decide_int y v)) [
 ]
 
 decide_vec3 : (x y z u v w : ℤ) → IsDecided (values.Vec3 x y z ≡ values.Vec3 u v w)
-decide_vec3 x y z u v w = elim (decide_both (decide_int x u) (decide_both (decide_int y v) (decide_int z w))) [
+decide_vec3 x y z u v w = elim (decide_three (decide_int x u) (decide_int y v) (decide_int z w)) [
   | inl same ↦ inl (λ i. values.Vec3 (same.0 i) (same.1 i) (same.2 i))
   | inr other ↦ inr (λ e. let first : x ≡ u = cc e in let second : y ≡ v = cc e in let third : z ≡ w = cc e in other (first, second, third))
 ]
 
 decide_rgb : (x y z u v w : ℕ) → IsDecided (values.Rgb x y z ≡ values.Rgb u v w)
-decide_rgb x y z u v w = elim (decide_both (decide_eq x u) (decide_both (decide_eq y v) (decide_eq z w))) [
+decide_rgb x y z u v w = elim (decide_three (decide_eq x u) (decide_eq y v) (decide_eq z w)) [
   | inl same ↦ inl (λ i. values.Rgb (same.0 i) (same.1 i) (same.2 i))
   | inr other ↦ inr (λ e. let first : x ≡ u = cc e in let second : y ≡ v = cc e in let third : z ≡ w = cc e in other (first, second, third))
 ]
