@@ -12,7 +12,7 @@ use Rattle.gm_text.specs.Nested.{Outside, Inside}
 use Rattle.gm_text.specs.Nested as nested
 use Rattle.gm_text.specs.SchemaAnswers.{IsNoToken, AtStray, AtEnd as NoMore}
 use Rattle.gm_text.specs.SchemaReading as schema
-use Rattle.gm_text.specs.SchemaText.{schema_of, spell}
+use Rattle.gm_text.specs.SchemaText.{schema_of, spell, limit_of as schema_limit}
 use Rattle.gm_text.proofs.AtLeast.{IsAnswered, Read, Ended, Passed, answered}
 use Rattle.gm_text.proofs.Machine.{Along, IsRead}
 use Rattle.gm_text.proofs.SchemaAtLeast.{stands_still}
@@ -125,7 +125,7 @@ role_placed (Inside header) symbol place = go (schema.move header.state symbol) 
   where
     go : (to : Option schema.State) → schema.move header.state symbol ≡ to → IsPlacedAt place (nested.role_at book_nesting (Inside header) symbol place)
     go None e = rw e (placed_role (AtRules (heading_in header)) symbol place)
-    go (Some to) e = rw e (schemas.placed_role header.state symbol place)
+    go (Some to) e = rw e (schemas.placed_role schema_limit schemas.limit_placeless header.state symbol place)
 
 placed_along : (state last : Whole) (marks : List Mark) (parts : List (Part Role)) → Along limit_of stands_before (nested.role_at book_nesting) (nested.move book_nesting) state marks parts last → ArePlaced marks parts
 placed_along state last [] parts along = tt

@@ -189,11 +189,11 @@ module _ (book : BookForm) where
   book_cases f h = go (fault_of f) h refl
     where
       go : (fault : text.NameFault) → IsNameFault book fault → fault ≡ fault_of f → IsTwiceIn (spell book.schema []) f ⊎ InRules f
-      go _ (SchemaTwice place part among again here) e = inl (part, among, place, twice_is place f e, again, here)
+      go _ (SchemaTwice place part among again here) e = inl (part, among, (place, twice_is place f e, again, here))
       go fault (RulesFault _ found) e = inr (subst (text.IsFaultInRules book.schema.dim (schema_of book.schema).embeds book.rules) e found)
 
   of_schema : (f : NameFault) → IsTwiceIn (spell book.schema []) f → IsBookFault f
-  of_schema f (part, among, place, e, again, here) = subst IsBookFault e (SchemaTwice place part among again here)
+  of_schema f (part, among, (place, e, again, here)) = subst IsBookFault e (SchemaTwice place part among again here)
 
   of_rules : (f : NameFault) → InRules f → IsBookFault f
   of_rules f h = RulesFault (fault_of f) h

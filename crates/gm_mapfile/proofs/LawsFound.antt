@@ -48,7 +48,7 @@ module _ (text : List ℕ) (version : Version) (schema : Schema) (darts : List D
     pub commute : Commute schema.dim (IsLive (rows_of darts)) (alpha (rows_of darts))
     pub shared : AreShared schema.dim (IsLive (rows_of darts)) (alpha (rows_of darts)) schema (value_in darts)
 
-  most : ℕ
+  abbrev most : ℕ
   most = above_all (names darts)
 
   below : (d : ℕ) → Live d → d < most
