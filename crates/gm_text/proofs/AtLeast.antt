@@ -1,5 +1,5 @@
 -- Marks that end as a text's do are read by a grammar of states, or have a first fault.
-use Rattle.std.proofs.Common.{◌≡◌, ℕ, Bool, List, [], ◌∷◌, ◌++◌, Option, Some, None, Result, Ok, Err, refl, sym, ap, ◌∙◌}
+use Rattle.std.proofs.Common.{◌≡◌, ℕ, Bool, List, [], ◌∷◌, ◌++◌, Option, Some, None, Result, Ok, Err, refl, ap, ◌∙◌}
 use Rattle.gm_model.specs.Symbols.{Symbol, Mark}
 use Rattle.gm_model.specs.Reading.{Part, IsReadAs, TextEndsAt, LimitStandsAt}
 use Rattle.gm_text.specs.Machine.{Stop, Ends, Passes, IsGrammar, limit_place, run}
