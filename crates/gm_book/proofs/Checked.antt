@@ -90,7 +90,7 @@ module _ (n : ℕ) (embeds : List Embed) (rule : RuleForm) (params : List Param)
 
 -- ---- each assignment is one of a node's
 
-sets_of_name : (items : List Item) (name : List ℕ) (set : SetForm) → Contains (sets_in items name) set → Contains (assignments_in items) set
+pub sets_of_name : (items : List Item) (name : List ℕ) (set : SetForm) → Contains (sets_in items name) set → Contains (assignments_in items) set
 sets_of_name [] name set there = absurd (contains_none set there)
 sets_of_name (NodeItem node word hook sets ∷ items) name set there = go (bytes_eq name node.name) there (λ behind. sets_of_name items name set behind)
   where

@@ -40,3 +40,6 @@ pub mod ReadBook
 pub mod WorkedPrinting
 pub mod OneValue
 pub mod ValuesWithin
+pub mod FaultFound
+pub mod BookFound
+pub mod BookAtLeast

@@ -34,7 +34,7 @@ value_within : (tokens : List ExprToken) (rest : List (Part Role)) → IsBookWit
 value_within [] rest within = (tt, within)
 value_within (token ∷ tokens) rest within = let (first, behind) = value_within tokens rest within.1 in ((within.0, first), behind)
 
-sets_within : (sets : List SetForm) (rest : List (Part Role)) → IsBookWithin (spell_sets sets rest) → AreSetsWithin sets × IsBookWithin rest
+pub sets_within : (sets : List SetForm) (rest : List (Part Role)) → IsBookWithin (spell_sets sets rest) → AreSetsWithin sets × IsBookWithin rest
 sets_within [] rest within = (tt, within)
 sets_within (set ∷ sets) rest within =
     let (value, others) = value_within set.value (spell_sets sets rest) within.1.1.1 in
@@ -42,11 +42,11 @@ sets_within (set ∷ sets) rest within =
     ((value, first), behind)
 
 module _ (n : ℕ) where
-  letters_within : (k : ℕ) (word : List Letter) (rest : List (Part Role)) → IsBookWithin (spell_letters n k word rest) → IsBookWithin rest
+  pub letters_within : (k : ℕ) (word : List Letter) (rest : List (Part Role)) → IsBookWithin (spell_letters n k word rest) → IsBookWithin rest
   letters_within k [] rest within = within
   letters_within k (letter ∷ word) rest within = letters_within (k + 1) word rest within.1
 
-  hook_within : (hook : Bool) (rest : List (Part Role)) → IsBookWithin (spell_hook hook rest) → IsBookWithin rest
+  pub hook_within : (hook : Bool) (rest : List (Part Role)) → IsBookWithin (spell_hook hook rest) → IsBookWithin rest
   hook_within true rest within = within.1
   hook_within false rest within = within
 
@@ -67,11 +67,11 @@ more_params_within : (k : ℕ) (params : List ParamForm) (rest : List (Part Role
 more_params_within k [] rest within = within.1
 more_params_within k (param ∷ params) rest within = more_params_within (k + 1) params rest within.1.1.1.1
 
-params_within : (params : List ParamForm) (rest : List (Part Role)) → IsBookWithin (spell_params params rest) → IsBookWithin rest
+pub params_within : (params : List ParamForm) (rest : List (Part Role)) → IsBookWithin (spell_params params rest) → IsBookWithin rest
 params_within [] rest within = within
 params_within (param ∷ params) rest within = more_params_within 1 params rest within.1.1.1.1
 
-pre_within : (pre : Option (List ExprToken)) (rest : List (Part Role)) → IsBookWithin (spell_pre pre rest) → IsPreWithin pre × IsBookWithin rest
+pub pre_within : (pre : Option (List ExprToken)) (rest : List (Part Role)) → IsBookWithin (spell_pre pre rest) → IsPreWithin pre × IsBookWithin rest
 pre_within None rest within = (tt, within)
 pre_within (Some tokens) rest within = value_within tokens rest within.1
 
@@ -89,7 +89,7 @@ module _ (n : ℕ) where
 
 -- ---- a whole book
 
-behind_schema : (parts : List (Part schemas.Role)) (rest : List (Part Role)) → IsBookWithin (map (in_role InSchema) parts ++ rest) → IsBookWithin rest
+pub behind_schema : (parts : List (Part schemas.Role)) (rest : List (Part Role)) → IsBookWithin (map (in_role InSchema) parts ++ rest) → IsBookWithin rest
 behind_schema [] rest within = within
 behind_schema (part ∷ parts) rest within = behind_schema parts rest within.1
 

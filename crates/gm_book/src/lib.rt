@@ -2,6 +2,7 @@
 //! printed.
 #![tactic(auto)]
 
+mod at_least;
 mod building;
 mod fault;
 mod laws;
@@ -11,6 +12,7 @@ mod reading;
 mod table;
 mod values;
 
+pub use at_least::a_text_stands_for_a_book_or_has_a_first_fault;
 pub use fault::BookFault;
 pub use laws::{
     no_book_at_a_fault, one_book_at_most, one_first_fault_at_most, one_hook_at_most_in_version_one,

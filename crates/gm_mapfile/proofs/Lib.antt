@@ -50,3 +50,8 @@ pub mod Whole
 pub mod Built
 pub mod Reordered
 pub mod ReadMap
+pub mod Searching
+pub mod Sorting
+pub mod LawsFound
+pub mod RowsFound
+pub mod MapAtLeast

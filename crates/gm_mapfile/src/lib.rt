@@ -1,6 +1,7 @@
 //! Maps as texts, in both versions: read to an arena and printed from it.
 #![tactic(auto)]
 
+mod at_least;
 mod building;
 mod fault;
 mod laws;
@@ -13,6 +14,7 @@ mod values;
 mod version;
 mod words;
 
+pub use at_least::a_text_stands_for_a_map_or_has_a_first_fault;
 pub use fault::MapFault;
 pub use laws::{
     a_canonical_text_stands_for_its_map, one_first_fault_at_most, one_map_at_most,

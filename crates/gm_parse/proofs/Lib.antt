@@ -8,3 +8,4 @@ pub mod OpenBrackets
 pub mod Steps
 pub mod FaultOrder
 pub mod OneReading
+pub mod AtLeast

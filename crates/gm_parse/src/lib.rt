@@ -2,6 +2,7 @@
 //! grammar, and how its tokens go on one after another.
 #![tactic(auto)]
 
+mod at_least;
 mod brackets;
 mod env;
 mod fault;
@@ -14,6 +15,7 @@ mod state;
 mod table;
 mod tokens;
 
+pub use at_least::an_expression_stands_or_has_a_first_fault;
 pub use env::Env;
 pub use fault::{ExprFault, SyntaxFault};
 pub use function::Function;

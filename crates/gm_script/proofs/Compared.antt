@@ -66,7 +66,7 @@ params_only (param ∷ params) (form ∷ forms) (value ∷ values) are =
 
 -- ---- a statement
 
-there_is : {X : Type 0} (xs : List X) (k : ℕ) → k < length xs → slice_get xs k ≡ None → ⊥
+pub there_is : {X : Type 0} (xs : List X) (k : ℕ) → k < length xs → slice_get xs k ≡ None → ⊥
 there_is [] k inside e = absurd (omega arith)
 there_is (x ∷ xs) zero inside e = absurd cc
 there_is (x ∷ xs) (suc k) inside e = there_is xs k (omega arith) e
@@ -161,7 +161,7 @@ module _ (text : List ℕ) (rules : List Rule) where
     found = all.found;
   }
 
-  at_front : (form : StatForm) (forms : List StatForm) (answer : Result Stat Disagreement) (others : Result (List Stat) Disagreement) → Agrees form answer → AllAgree forms others → AllAgree (form ∷ forms) (answer >>= λ stat. others >>= λ stats. Ok (stat ∷ stats))
+  pub at_front : (form : StatForm) (forms : List StatForm) (answer : Result Stat Disagreement) (others : Result (List Stat) Disagreement) → Agrees form answer → AllAgree forms others → AllAgree (form ∷ forms) (answer >>= λ stat. others >>= λ stats. Ok (stat ∷ stats))
   at_front form forms (Ok stat) others is all = behind form forms stat others is all
   at_front form forms (Err fault) others is all = record { before = []; form = form; after = forms; split = refl; agree = ([], tt); found = is }
 

@@ -1,4 +1,5 @@
 pub mod Agreement
+pub mod AtLeast
 mod Compared
 mod Drafts
 pub mod FirstFault

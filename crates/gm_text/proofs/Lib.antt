@@ -29,3 +29,6 @@ pub mod WorkedNested
 pub mod WorkedSchema
 pub mod Printed
 pub mod Worked
+pub mod AtLeast
+pub mod TextMarks
+pub mod SchemaAtLeast

@@ -6,6 +6,7 @@
 //! text.
 #![tactic(auto)]
 
+mod at_least;
 mod bytes;
 mod fault;
 mod laws;
@@ -18,6 +19,7 @@ mod schema_words;
 mod signed;
 mod text;
 
+pub use at_least::a_schema_is_read_or_has_a_first_fault;
 pub use fault::LexFault;
 pub use gm_model::{Token, TokenKind};
 pub use laws::{

@@ -8,3 +8,4 @@ pub mod ReadForms
 pub mod OneMeaning
 pub mod OneExpr
 pub mod FewNames
+pub mod AtLeast

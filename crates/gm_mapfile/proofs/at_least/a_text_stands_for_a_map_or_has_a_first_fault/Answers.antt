@@ -1,0 +1,5 @@
+use Rattle.gm_mapfile.proofs.MapAtLeast.{stands_or_fault}
+use Rattle.gm_mapfile.proofs.at_least.a_text_stands_for_a_map_or_has_a_first_fault.Goals as goal
+
+pub returns : goal.returns
+returns c = stands_or_fault
