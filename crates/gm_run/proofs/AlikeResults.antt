@@ -1,6 +1,5 @@
 -- Where an application leaves a map, it leaves each map that is alike.
 use Rattle.std.proofs.Common.{ℕ, ◌≤◌, sym, subst, ◌∙◌}
-use Rattle.gm_model.specs.declared.schema.Embed.{Embed}
 use Rattle.gm_model.specs.declared.schema.Schema.{Schema}
 use Rattle.gm_model.specs.Applications.{Application, GivesValue, IsDone, IsResult}
 use Rattle.gm_model.specs.Maps.{Map, IsDart, IsEmbedAt, dimension, type_of}

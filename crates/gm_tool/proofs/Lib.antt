@@ -31,3 +31,6 @@ mod Grids
 mod OneGrid
 mod Gridding
 mod OneAnswer
+mod ListedMaps
+mod RunsMade
+mod GridMade

@@ -6,6 +6,7 @@ mod book;
 mod cells;
 mod check;
 mod command;
+mod existence;
 mod grid;
 mod laws;
 mod load;
@@ -17,5 +18,6 @@ mod reply;
 mod running;
 mod script;
 
+pub use existence::{good_files_have_runs, grids_have_answers, runs_have_bounds};
 pub use laws::one_answer_at_most;
 pub use program::tool;
