@@ -34,3 +34,5 @@ mod OneAnswer
 mod ListedMaps
 mod RunsMade
 mod GridMade
+mod WordsDecided
+mod AnswersFound
