@@ -30,7 +30,7 @@ each_number P a b c d e f g h (suc (suc (suc (suc (suc (suc zero)))))) small = g
 each_number P a b c d e f g h (suc (suc (suc (suc (suc (suc (suc zero))))))) small = h
 each_number P a b c d e f g h (suc (suc (suc (suc (suc (suc (suc (suc k)))))))) small = absurd (omega (arith, small))
 
-below_from : (a b : ℕ) → nat_lt a b ≡ true → a < b
+pub below_from : (a b : ℕ) → nat_lt a b ≡ true → a < b
 below_from a b is = grind (arith, nat_tests, is)
 
 along_low : (k : ℕ) → k < 8 → along k < 8

@@ -3,3 +3,4 @@ pub mod GridSchema
 pub mod Stages
 pub mod Finished
 pub mod GridSound
+pub mod GridFound

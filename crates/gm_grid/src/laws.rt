@@ -12,6 +12,11 @@ pub fn grids_are_sound()
     ensures { (m : ℕ) (map : Map) → m ≤ 100 → IsGridMap m map → IsSound map }
 {}
 
+/// There is a grid of each number of rows, so what is said of each of them is said of one.
+pub fn grids_exist()
+    ensures { (m : ℕ) → (map : Map) × IsGridMap m map }
+{}
+
 /// The rule of a grid's book is accepted, and lies within the limits of a rule: so it has a plan.
 pub fn the_rule_is_accepted()
     ensures declared { IsSchema grid_schema }

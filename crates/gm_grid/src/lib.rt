@@ -10,4 +10,4 @@ mod schema;
 mod script;
 
 pub use grid::{Grid, make_grid};
-pub use laws::{grids_are_sound, the_rule_is_accepted};
+pub use laws::{grids_are_sound, grids_exist, the_rule_is_accepted};

@@ -1,6 +1,8 @@
 pub mod Advancing
 pub mod AlikeLemmas
 pub mod AlikeMatches
+pub mod AlikeResults
+pub mod AlikeRuns
 pub mod AlikeStates
 pub mod AlikeWork
 pub mod Courses
@@ -9,6 +11,7 @@ pub mod OneBudget
 pub mod OneOutcome
 pub mod OneRun
 pub mod ReadyEnds
+pub mod RunsThrough
 pub mod EachSteps
 pub mod Sayable
 pub mod Stepping

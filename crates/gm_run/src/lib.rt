@@ -2,6 +2,7 @@
 //! what became of the lines is told in a report.
 #![tactic(auto)]
 
+mod alike;
 mod each;
 mod laws;
 mod lines;
@@ -11,6 +12,7 @@ mod running;
 mod standing;
 mod words;
 
+pub use alike::alike_maps_run_alike;
 pub use laws::one_run_at_most;
 pub use outcome::{Outcome, Report};
 pub use printing::{count_done, print_report};

@@ -31,3 +31,8 @@ mod Grids
 mod OneGrid
 mod Gridding
 mod OneAnswer
+mod ListedMaps
+mod RunsMade
+mod GridMade
+mod WordsDecided
+mod AnswersFound

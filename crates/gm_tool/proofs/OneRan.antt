@@ -24,10 +24,10 @@ use Rattle.gm_tool.proofs.SameRows.{same_listed}
 
 module _ (inputs : Inputs) (text : List ℕ) (stands : MapText text inputs.version inputs.map) (accepted : All (IsAccepted inputs.schema) inputs.rules)
     (script : List ℕ) (stats : ScriptText script inputs.schema.dim inputs.rules inputs.stats) (agree : Agree inputs) where
-  declared : IsSchema inputs.schema
+  pub declared : IsSchema inputs.schema
   declared = subst IsSchema agree (listed_good text stands.written inputs.map.schema stands.darts stands.listed).declared
 
-  stands_at : Stands inputs.schema (start_of (map_of inputs.map)) no_entries
+  pub stands_at : Stands inputs.schema (start_of (map_of inputs.map)) no_entries
   stands_at = subst (λ (schema : Schema). Stands schema (start_of (map_of inputs.map)) no_entries) agree (stands_first (map_of inputs.map) stands.sound)
 
   runs : (a b : Ran) → IsRan inputs a → IsRan inputs b → (a.outcomes ≡ b.outcomes) × AreAlike (map_of a.map) (map_of b.map)

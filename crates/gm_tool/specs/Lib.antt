@@ -15,3 +15,4 @@ pub mod StepBounds
 pub mod Begun
 pub mod Seen
 pub mod Headline
+pub mod Judged

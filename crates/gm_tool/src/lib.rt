@@ -2,10 +2,12 @@
 //! is put and saved, and with which status.
 #![tactic(auto)]
 
+mod answers;
 mod book;
 mod cells;
 mod check;
 mod command;
+mod existence;
 mod grid;
 mod laws;
 mod load;
@@ -17,5 +19,7 @@ mod reply;
 mod running;
 mod script;
 
+pub use answers::one_answer_at_least;
+pub use existence::{good_files_have_runs, grids_have_answers, runs_have_bounds};
 pub use laws::one_answer_at_most;
 pub use program::tool;

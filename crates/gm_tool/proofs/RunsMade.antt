@@ -1,0 +1,114 @@
+-- Good files that agree have a run, and what bounds the steps of each run of files is one number.
+use Rattle.std.proofs.Common.{◌≡◌, ℕ, ◌+◌, false, refl, sym, ap, subst, ◌∙◌}
+use Rattle.std.specs.List.{AllByRecursion}
+use Rattle.gm_mapfile.specs.MapReading.{IsWhole}
+use Rattle.gm_mapfile.specs.MapText.{map_of}
+use Rattle.gm_mapfile.proofs.Again.{moved}
+use Rattle.gm_mapfile.proofs.Listed.{listed_good}
+use Rattle.gm_model.specs.Budgets.{Bounds, no_entries, IsRunWithin}
+use Rattle.gm_model.specs.Runs.{AreInOrder, start_of}
+use Rattle.gm_run.proofs.AlikeStates.{states_alike_self}
+use Rattle.gm_run.proofs.OneRun.{one_within, run_has_bounds}
+use Rattle.gm_run.proofs.RunsThrough.{RunThrough, run_through}
+use Rattle.gm_script.proofs.Agreement.{script_in_order}
+use Rattle.gm_theory.proofs.Lists.{none_some}
+use Rattle.gm_theory.proofs.RunsFound.{Stands, all_suited}
+use Rattle.gm_theory.specs.Suited.{IsSuited}
+use Rattle.gm_tool.specs.Answer.{Files}
+use Rattle.gm_tool.specs.RunAnswer.{RunNames, Inputs, Ran, HasMap, HasBook, HasScript, Agree, IsRan, IsGoodRun}
+use Rattle.gm_tool.specs.StepBounds.{HasBounds, IsMost, MostOf, IsLeast, LeastOf, handling, dim_of, darts_read, darts_left}
+use Rattle.gm_tool.proofs.Lines.{good_stats}
+use Rattle.gm_tool.proofs.ListedMaps.{IsListedMap, settle}
+use Rattle.gm_tool.proofs.OneRan.{declared, one_ran, stands_at}
+use Rattle.gm_tool.proofs.OneRunAnswer.{same_inputs}
+
+module _ (files : Files) (named : RunNames) (inputs : Inputs) (the_map : HasMap files named inputs) (the_book : HasBook files named inputs) (the_script : HasScript files named inputs) (agree : Agree inputs) where
+  suited : AllByRecursion (IsSuited inputs.schema inputs.rules) inputs.stats
+  suited = all_suited inputs.schema inputs.rules (declared inputs the_map.0 the_map.2 the_book.4 the_script.0 the_script.2 agree) the_book.4 inputs.stats (good_stats inputs.rules inputs.schema.dim the_script.0 inputs.stats the_script.2)
+
+  stands : Stands inputs.schema (start_of (map_of inputs.map)) no_entries
+  stands = stands_at inputs the_map.0 the_map.2 the_book.4 the_script.0 the_script.2 agree
+
+  in_order : AreInOrder false inputs.stats
+  in_order = script_in_order inputs.schema.dim inputs.rules the_script.0 inputs.stats the_script.2
+
+  -- ---- a run
+
+  starts_listed : IsListedMap inputs.schema (map_of inputs.map)
+  starts_listed = record {
+    listed = inputs.map;
+    is = refl;
+    schema_is = agree;
+    ascending = the_map.2.ascending;
+    whole = moved (IsWhole inputs.map.schema) the_map.2.darts inputs.map.darts the_map.2.same (listed_good the_map.0 the_map.2.written inputs.map.schema the_map.2.darts the_map.2.listed).whole;
+  }
+
+  run : RunThrough (IsListedMap inputs.schema) inputs.rules (start_of (map_of inputs.map)) inputs.stats
+  run = run_through inputs.schema inputs.rules (IsListedMap inputs.schema) (settle inputs.schema) inputs.stats false (start_of (map_of inputs.map)) no_entries stands
+      (record { map = starts_listed; past = tt; future = tt; group = λ group e. none_some group e }) refl suited in_order
+
+  pub run_made : (ran : Ran) × IsGoodRun files named inputs ran
+  run_made = (
+    record { outcomes = run.outcomes; map = run.through.map.listed },
+    record {
+      the_map = the_map;
+      the_book = the_book;
+      the_script = the_script;
+      agree = agree;
+      is_ran = record {
+        behind = run.after;
+        run = run.run;
+        map_is = run.through.map.is;
+        schema_is = run.through.map.schema_is ∙ sym agree;
+        ascending = run.through.map.ascending;
+        whole = run.through.map.whole;
+      };
+    },
+  )
+
+  -- ---- its bounds
+
+  pub bounds_made : (ran : Ran) → IsRan inputs ran → (bounds : Bounds) × HasBounds inputs ran bounds
+  bounds_made ran is =
+      let found : (bounds : Bounds) × IsRunWithin inputs.rules (start_of (map_of inputs.map)) no_entries inputs.stats ran.outcomes is.behind bounds =
+      run_has_bounds inputs.schema inputs.rules inputs.stats suited (start_of (map_of inputs.map)) no_entries stands ran.outcomes is.behind is.run in
+      (found.0, (is.behind, found.1))
+
+  pub one_ran_here : (a b : Ran) → IsRan inputs a → IsRan inputs b → a ≡ b
+  one_ran_here = one_ran inputs the_map.0 the_map.2 the_book.4 the_script.0 the_script.2 agree
+
+  pub one_bounds : (a b : Ran) (bounds other : Bounds) → HasBounds inputs a bounds → HasBounds inputs b other → bounds ≡ other
+  one_bounds a b bounds other (behind, within) (behind', within') =
+      one_within inputs.schema inputs.rules inputs.stats suited (start_of (map_of inputs.map)) (start_of (map_of inputs.map)) no_entries no_entries stands (states_alike_self (start_of (map_of inputs.map)))
+      a.outcomes b.outcomes behind behind' bounds other within within'
+
+module _ (files : Files) (named : RunNames) where
+  pub bounds_of : (inputs : Inputs) (ran : Ran) → IsGoodRun files named inputs ran → (bounds : Bounds) × HasBounds inputs ran bounds
+  bounds_of inputs ran good = bounds_made files named inputs good.the_map good.the_book good.the_script good.agree ran good.is_ran
+
+  pub most_made : (inputs : Inputs) (ran : Ran) → IsGoodRun files named inputs ran → (most : ℕ) × IsMost files named most
+  most_made inputs ran good = let has = bounds_of inputs ran good in (has.0.most + handling (dim_of inputs) (darts_read inputs) (darts_left ran), MostOf inputs ran has.0 good has.1)
+
+  pub least_made : (inputs : Inputs) (ran : Ran) → IsGoodRun files named inputs ran → (least : ℕ) × IsLeast files named least
+  least_made inputs ran good = let has = bounds_of inputs ran good in (has.0.least + darts_read inputs + darts_left ran, LeastOf inputs ran has.0 good has.1)
+
+  -- ---- one number
+
+  -- what is read of two good runs of the files, with their bounds, is the same
+  module _ (Number : Inputs → Ran → Bounds → ℕ) where
+    one_number : (a b : Inputs) (ran other : Ran) (bounds others : Bounds) → IsGoodRun files named a ran → IsGoodRun files named b other → HasBounds a ran bounds → HasBounds b other others → Number a ran bounds ≡ Number b other others
+    one_number a b ran other bounds others good good' has has' =
+        let same : b ≡ a = sym (same_inputs files named a b good.the_map good'.the_map good.the_book good'.the_book good.the_script good'.the_script) in
+        let there : IsRan a other = subst (λ i. IsRan i other) same good'.is_ran in
+        let within : HasBounds a other others = subst (λ i. HasBounds i other others) same has' in
+        let rans : ran ≡ other = one_ran_here files named a good.the_map good.the_book good.the_script good.agree ran other good.is_ran there in
+        let all : bounds ≡ others = one_bounds files named a good.the_map good.the_book good.the_script good.agree ran other bounds others has within in
+        ap (λ r. Number a r bounds) rans ∙ (ap (Number a other) all ∙ ap (λ i. Number i other others) (sym same))
+
+  pub one_most : (most other : ℕ) → IsMost files named most → IsMost files named other → most ≡ other
+  one_most _ _ (MostOf a ran bounds good has) (MostOf b other others good' has') =
+      one_number (λ i r (x : Bounds). x.most + handling (dim_of i) (darts_read i) (darts_left r)) a b ran other bounds others good good' has has'
+
+  pub one_least : (least other : ℕ) → IsLeast files named least → IsLeast files named other → least ≡ other
+  one_least _ _ (LeastOf a ran bounds good has) (LeastOf b other others good' has') =
+      one_number (λ i r (x : Bounds). x.least + darts_read i + darts_left r) a b ran other bounds others good good' has has'
