@@ -35,13 +35,13 @@ use Rattle.gm_theory.proofs.Lists.{some_same}
 use Rattle.gm_theory.proofs.ValuesReach.{IsDecided}
 use Rattle.gm_tool.specs.Answer.{most_bytes, Files, Answer, answers, Command, Show, Book, Check, Cells, Asks, role_of, HasFile, IsOutput, Shown, Printed, Checked, Counted, IsFileAnswer, NoFile, LongFile, BadFile, TellsCells}
 use Rattle.gm_tool.specs.Answer as of_file
-use Rattle.gm_tool.specs.Judged.{IsEachJudged}
 use Rattle.gm_tool.specs.Migrating.{MigrateNames, HasMigrated, IsMigrateAnswer, migrated_line, migrated_text}
 use Rattle.gm_tool.specs.Migrating as migrating
 use Rattle.gm_tool.specs.Program.{IsAnswer, IsCommand, IsFileCommand, IsGridCommand, IsMigrateCommand, IsRunCommand, Usage, OfFile, OfRun, OfMigrate, OfGrid}
 use Rattle.gm_tool.specs.RunAnswer.{RunNames, Inputs, Ran, HasMap, HasBook, HasScript, Agree, IsFailing, Missing, Long, Bad, IsBadMap, IsBadBook, Unread, RuleRefused, IsBadScript, IsFirstRefused, IsGoodRun, IsRunAnswer, MapFails, BookFails, ScriptFails, Disagree, report_of, saved_of, run_status}
 use Rattle.gm_tool.specs.RunAnswer as running
 use Rattle.gm_tool.proofs.GridMade.{grid_answered}
+use Rattle.gm_tool.proofs.Owed.{IsEachJudged}
 use Rattle.gm_tool.proofs.OneAnswer.{one_answer}
 use Rattle.gm_tool.proofs.RunsMade.{run_made}
 use Rattle.gm_tool.proofs.WordsDecided.{decide_file, decide_grid, decide_migrate, decide_run, same_schema}

@@ -35,4 +35,5 @@ mod ListedMaps
 mod RunsMade
 mod GridMade
 mod WordsDecided
+mod Owed
 mod AnswersFound

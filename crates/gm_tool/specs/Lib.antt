@@ -15,4 +15,3 @@ pub mod StepBounds
 pub mod Begun
 pub mod Seen
 pub mod Headline
-pub mod Judged

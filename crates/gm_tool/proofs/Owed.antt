@@ -23,6 +23,12 @@ use Rattle.gm_script.specs.declared.fault.ScriptFault.{ScriptFault}
 use Rattle.gm_script.specs.declared.fault.ScriptFault.TheVariants as script_faults
 use Rattle.gm_script.specs.Faults as scripts
 use Rattle.gm_script.specs.ScriptText.{ScriptText}
+use Rattle.gm_book.proofs.BookAtLeast as of_books
+use Rattle.gm_cells.proofs.CountsFound.{counts_exist}
+use Rattle.gm_cells.proofs.OrientationFound.{orientation_exists}
+use Rattle.gm_mapfile.proofs.MapAtLeast as of_maps
+use Rattle.gm_plan.proofs.FaultFound.{accepted_or_fault}
+use Rattle.gm_script.proofs.AtLeast as of_scripts
 
 pub record IsEachJudged : Type 0 where
   pub map : (bytes : List ℕ) → ((version : MapVersion) × (listed : ListedMap) × MapText bytes version listed) ⊎ ((fault : TextFault) × IsFirstFault bytes fault)
@@ -31,3 +37,14 @@ pub record IsEachJudged : Type 0 where
   pub rule : (schema : Schema) (rule : Rule) → IsInRange schema rule → IsTyped schema rule → IsAccepted schema rule ⊎ ((fault : RuleFault) × IsFault schema rule fault)
   pub counts : (map : Map) → ((d : ℕ) → IsDart map d → d < map.next) → IsGeneralised map → (counts : Counts) × AreCounts map counts
   pub orientation : (map : Map) → ((d : ℕ) → IsDart map d → d < map.next) → IsGeneralised map → (orientation : Orientation) × IsOrientation map orientation
+
+-- the laws of the crates that read, check and count
+pub each_judged : IsEachJudged
+each_judged = record {
+  map = of_maps.stands_or_fault;
+  book = of_books.stands_or_fault;
+  script = of_scripts.stands_or_fault;
+  rule = accepted_or_fault;
+  counts = counts_exist;
+  orientation = orientation_exists;
+}
