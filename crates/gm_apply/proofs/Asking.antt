@@ -10,8 +10,8 @@ use Rattle.std.proofs.lemmas.Option.{slice_get-get_or}
 use Rattle.gm_model.specs.declared.schema.Embed.{Embed}
 use Rattle.gm_model.specs.Applications.{Decider}
 use Rattle.gm_model.specs.Maps.{IsEmbedAt}
-use Rattle.gm_pending.specs.declared.decider.Decider.{Decider as Entry}
-use Rattle.gm_pending.specs.Results.{PendingOf, IsAsked, IsWithinReach, AreDeciders, deciders_of, entry_of, with_deciders}
+use Rattle.gm_pending.specs.declared.deciding_instance.DecidingInstance.{DecidingInstance as Entry}
+use Rattle.gm_pending.specs.Results.{PendingOf, IsAsked, IsWithinReach, AreDecidingInstances, instances_of, deciding_of, with_instances}
 use Rattle.gm_apply.specs.declared.reading.Reading.{Reading}
 use Rattle.gm_apply.specs.Reads.{pending_at, unasked_at, decider_at, seen_before, seen_to, IsGivenRight, IsWithinSeen, HasRead}
 use Rattle.gm_apply.proofs.ReadValues.{some_embed}
@@ -44,21 +44,21 @@ split_last IsUnit (y ∷ xs) x (u ∷ units) all =
 -- ---- one embedding's answer is changed
 
 module _ (pending : PendingOf) (e : ℕ) (entries : List Entry) (within : e < length pending.asked) where
-  pub entry_same : entry_of (with_deciders pending e entries) e ≡ Some entries
+  pub entry_same : deciding_of (with_instances pending e entries) e ≡ Some entries
   entry_same = get_or-set_same pending.asked e (Some entries) None within
 
-  pub entry_other : (k : ℕ) → (k ≡ e → ⊥) → entry_of (with_deciders pending e entries) k ≡ entry_of pending k
+  pub entry_other : (k : ℕ) → (k ≡ e → ⊥) → deciding_of (with_instances pending e entries) k ≡ deciding_of pending k
   entry_other k apart = get_or-set_other pending.asked e k (Some entries) None apart
 
-pub seen_same : (before after : PendingOf) (n : ℕ) → ((k : ℕ) → k < n → deciders_of after k ≡ deciders_of before k) → seen_before after n ≡ seen_before before n
+pub seen_same : (before after : PendingOf) (n : ℕ) → ((k : ℕ) → k < n → instances_of after k ≡ instances_of before k) → seen_before after n ≡ seen_before before n
 seen_same before after zero same = refl
 seen_same before after (suc n) same = ap₂ (λ xs ys. xs ++ ys) (seen_same before after n (λ k h. same k (omega (arith, h)))) (ap (map (decider_at n)) (same n (omega arith)))
 
 module _ (reading : Reading) (hooks : List ℕ) where
   -- the application that is pending is that of the reading
-  pub is_there : (before after : PendingOf) (e : ℕ) (entries : List Entry) → before ≡ pending_at reading before → after ≡ with_deciders before e entries → after ≡ pending_at reading after
+  pub is_there : (before after : PendingOf) (e : ℕ) (entries : List Entry) → before ≡ pending_at reading before → after ≡ with_instances before e entries → after ≡ pending_at reading after
   is_there before after e entries is changed =
-      changed ∙ ap (λ p. with_deciders p e entries) is
+      changed ∙ ap (λ p. with_instances p e entries) is
       ∙ ap (λ asked. record { map = reading.arena.now; table = reading.plan.now.table; placed = reading.found.now; asked = asked }) (sym (ap (λ (p : PendingOf). p.asked) changed))
 
   -- ---- nothing was asked
@@ -109,33 +109,33 @@ module _ (reading : Reading) (hooks : List ℕ) where
         let spread : 2 * d * sum (take (suc e) reached.counts) ≡ 2 * d * sum (take e reached.counts) + 2 * d * get_or reached.counts e 0 = ap (λ n. 2 * d * n) whole ∙ omega arith in
         omega (arith, first, here, spread)
 
-  module _ (before after : PendingOf) (e start steps later : ℕ) (h : HasRead reading hooks before e e 0 start steps) (within : e < length reading.arena.now.schema.embeds) (changed : after ≡ with_deciders before e (deciders_of after e))
-      (are : (embed : Embed) → IsEmbedAt before.map.schema e embed → AreDeciders before e embed (deciders_of after e))
+  module _ (before after : PendingOf) (e start steps later : ℕ) (h : HasRead reading hooks before e e 0 start steps) (within : e < length reading.arena.now.schema.embeds) (changed : after ≡ with_instances before e (instances_of after e))
+      (are : (embed : Embed) → IsEmbedAt before.map.schema e embed → AreDecidingInstances before e embed (instances_of after e))
       (cost : (embed : Embed) → IsEmbedAt before.map.schema e embed → IsWithinReach before e embed steps later) (rises : steps ≤ later) where
     long : e < length before.asked
     long = let each = h.each in omega (arith, within, each)
 
-    other_entry : (k : ℕ) → (k ≡ e → ⊥) → entry_of after k ≡ entry_of before k
-    other_entry k apart = ap (λ p. entry_of p k) changed ∙ entry_other before e (deciders_of after e) long k apart
+    other_entry : (k : ℕ) → (k ≡ e → ⊥) → deciding_of after k ≡ deciding_of before k
+    other_entry k apart = ap (λ p. deciding_of p k) changed ∙ entry_other before e (instances_of after e) long k apart
 
-    same_deciders : (k : ℕ) → (k ≡ e → ⊥) → deciders_of after k ≡ deciders_of before k
+    same_deciders : (k : ℕ) → (k ≡ e → ⊥) → instances_of after k ≡ instances_of before k
     same_deciders k apart = ap (λ o. unwrap_or o []) (other_entry k apart)
 
     same_seen : seen_to after e 0 ≡ seen_to before e 0
     same_seen = ap (λ xs. xs ++ []) (seen_same before after e (λ k less. same_deciders k (λ same. omega (arith, less, same))))
 
     asked_here : IsAsked after e
-    asked_here = subst IsSome (sym (ap (λ p. entry_of p e) changed ∙ entry_same before e (deciders_of after e) long)) refl
+    asked_here = subst IsSome (sym (ap (λ p. deciding_of p e) changed ∙ entry_same before e (instances_of after e) long)) refl
 
-    deciders_here : (embed : Embed) → IsEmbedAt reading.arena.now.schema e embed → AreDeciders (unasked_at reading) e embed (deciders_of after e)
+    deciders_here : (embed : Embed) → IsEmbedAt reading.arena.now.schema e embed → AreDecidingInstances (unasked_at reading) e embed (instances_of after e)
     deciders_here embed at =
-        let these = subst (λ (p : PendingOf). (embed : Embed) → IsEmbedAt p.map.schema e embed → AreDeciders p e embed (deciders_of after e)) h.is are embed at in
+        let these = subst (λ (p : PendingOf). (embed : Embed) → IsEmbedAt p.map.schema e embed → AreDecidingInstances p e embed (instances_of after e)) h.is are embed at in
         record { ascending = these.ascending; decide = these.decide; all = these.all }
 
     pub asked_more : HasRead reading hooks after (suc e) e 0 start later
     asked_more = record {
-      is = is_there before after e (deciders_of after e) h.is changed;
-      each = ap (λ (p : PendingOf). length p.asked) changed ∙ length-set before.asked e (Some (deciders_of after e)) ∙ h.each;
+      is = is_there before after e (instances_of after e) h.is changed;
+      each = ap (λ (p : PendingOf). length p.asked) changed ∙ length-set before.asked e (Some (instances_of after e)) ∙ h.each;
       few = omega (arith, within);
       known = λ k less. go k less (cases_eq k e);
       unknown = λ k more there. h.unknown k (omega (arith, more)) (subst IsSome (other_entry k (λ same. omega (arith, more, same))) there);
@@ -149,10 +149,10 @@ module _ (reading : Reading) (hooks : List ℕ) where
         go k less (inl same) = subst (IsAsked after) (sym same) asked_here
         go k less (inr apart) = subst IsSome (sym (other_entry k apart)) (h.known k (omega (arith, less, apart)))
 
-        decide : (k : ℕ) (embed : Embed) → k < suc e → IsEmbedAt reading.arena.now.schema k embed → (k ≡ e) ⊎ (k ≡ e → ⊥) → AreDeciders (unasked_at reading) k embed (deciders_of after k)
-        decide k embed less at (inl same) = subst (λ n. AreDeciders (unasked_at reading) n embed (deciders_of after n)) (sym same) (deciders_here embed (subst (λ n. IsEmbedAt reading.arena.now.schema n embed) same at))
-        decide k embed less at (inr apart) = subst (AreDeciders (unasked_at reading) k embed) (sym (same_deciders k apart)) (h.deciders k embed (omega (arith, less, apart)) at)
+        decide : (k : ℕ) (embed : Embed) → k < suc e → IsEmbedAt reading.arena.now.schema k embed → (k ≡ e) ⊎ (k ≡ e → ⊥) → AreDecidingInstances (unasked_at reading) k embed (instances_of after k)
+        decide k embed less at (inl same) = subst (λ n. AreDecidingInstances (unasked_at reading) n embed (instances_of after n)) (sym same) (deciders_here embed (subst (λ n. IsEmbedAt reading.arena.now.schema n embed) same at))
+        decide k embed less at (inr apart) = subst (AreDecidingInstances (unasked_at reading) k embed) (sym (same_deciders k apart)) (h.deciders k embed (omega (arith, less, apart)) at)
 
-        give : (k j : ℕ) (entry : Entry) → slice_get (deciders_of after k) j ≡ Some entry → (k < e) ⊎ ((k ≡ e) × (j < 0)) → IsGivenRight reading hooks k entry
+        give : (k j : ℕ) (entry : Entry) → slice_get (instances_of after k) j ≡ Some entry → (k < e) ⊎ ((k ≡ e) × (j < 0)) → IsGivenRight reading hooks k entry
         give k j entry at (inl less) = h.given k j entry (subst (λ entries. slice_get entries j ≡ Some entry) (same_deciders k (λ same. omega (arith, less, same))) at) (inl less)
         give k j entry at (inr here) = absurd (let less = here.1 in omega (arith, less))

@@ -18,9 +18,9 @@ use Rattle.gm_theory.specs.Theorem.{IsDartOf}
 use Rattle.gm_theory.proofs.Keeps.{rules_keep_generalised_maps}
 use Rattle.gm_theory.proofs.Lists.{get_contained, contained_at, none_some, some_same}
 use Rattle.gm_arena.specs.ArenaAsMap.{as_map}
-use Rattle.gm_pending.specs.declared.decider.Decider.{Decider as Entry}
+use Rattle.gm_pending.specs.declared.deciding_instance.DecidingInstance.{DecidingInstance as Entry}
 use Rattle.gm_pending.specs.EditLists.{EditLists, AllGiven, AreEditsOf, IsReachedSumIn}
-use Rattle.gm_pending.specs.Results.{PendingOf, IsAsked, IsWithinReach, AreDeciders, IsDecidingIn, deciders_of, entry_of, with_deciders, given_at, place_of, rule_in}
+use Rattle.gm_pending.specs.Results.{PendingOf, IsAsked, IsWithinReach, AreDecidingInstances, IsDecidingIn, instances_of, deciding_of, with_instances, given_at, place_of, rule_in}
 use Rattle.gm_apply.specs.declared.reading.Reading.{Reading}
 use Rattle.gm_apply.specs.declared.refusal.Refusal.TheVariants as refusals
 use Rattle.gm_apply.specs.Reads.{IsReadable, app_at, place_at, pending_at, unasked_at, decider_at, seen_at, seen_before, seen_to, IsGivenRight, IsWithinSeen, IsWithinRead, IsWithinEdits, IsEnded, HasEdits, HasRead}
@@ -39,10 +39,10 @@ given_long [] i v = refl
 given_long (entry ∷ entries) zero v = refl
 given_long (entry ∷ entries) (suc i) v = ap suc (given_long entries i v)
 
-given_here : (entries : List Entry) (i : ℕ) (v : Value) (entry other : Entry) → slice_get entries i ≡ Some entry → slice_get (given_at entries i v) i ≡ Some other → other ≡ record { node = entry.node; position = entry.position; value = Some v }
+given_here : (entries : List Entry) (i : ℕ) (v : Value) (entry other : Entry) → slice_get entries i ≡ Some entry → slice_get (given_at entries i v) i ≡ Some other → other ≡ record { node = entry.node; position = entry.position; given = Some v }
 given_here [] i v entry other at there = none_some entry at
 given_here (first ∷ entries) zero v entry other at there =
-    sym (some_same _ other there) ∙ ap (λ (x : Entry). record { node = x.node; position = x.position; value = Some v }) (some_same first entry at)
+    sym (some_same _ other there) ∙ ap (λ (x : Entry). record { node = x.node; position = x.position; given = Some v }) (some_same first entry at)
 given_here (first ∷ entries) (suc i) v entry other at there = given_here entries i v entry other at there
 
 given_other : (entries : List Entry) (i j : ℕ) (v : Value) → (j ≡ i → ⊥) → slice_get (given_at entries i v) j ≡ slice_get entries j
@@ -69,13 +69,13 @@ place_before (first ∷ entries) (suc i) (suc j) v entry at = let rest = place_b
 place_after : (entries : List Entry) (i j : ℕ) (v : Value) (entry : Entry) → slice_get entries j ≡ Some entry → HasPlaceOf (given_at entries i v) j entry
 place_after [] i j v entry at = none_some entry at
 place_after (first ∷ entries) zero zero v entry at =
-    record { other = record { node = first.node; position = first.position; value = Some v }; at = refl; node_is = ap (λ (x : Entry). x.node) (some_same first entry at); position_is = ap (λ (x : Entry). x.position) (some_same first entry at) }
+    record { other = record { node = first.node; position = first.position; given = Some v }; at = refl; node_is = ap (λ (x : Entry). x.node) (some_same first entry at); position_is = ap (λ (x : Entry). x.position) (some_same first entry at) }
 place_after (first ∷ entries) zero (suc j) v entry at = record { other = entry; at = at; node_is = refl; position_is = refl }
 place_after (first ∷ entries) (suc i) zero v entry at = record { other = entry; at = at; node_is = refl; position_is = refl }
 place_after (first ∷ entries) (suc i) (suc j) v entry at = let rest = place_after entries i j v entry at in record { other = rest.other; at = rest.at; node_is = rest.node_is; position_is = rest.position_is }
 
 -- they are the same deciding instances
-still_deciders : (app : PendingOf) (e : ℕ) (embed : Embed) (entries : List Entry) (i : ℕ) (v : Value) → AreDeciders app e embed entries → AreDeciders app e embed (given_at entries i v)
+still_deciders : (app : PendingOf) (e : ℕ) (embed : Embed) (entries : List Entry) (i : ℕ) (v : Value) → AreDecidingInstances app e embed entries → AreDecidingInstances app e embed (given_at entries i v)
 still_deciders app e embed entries i v are = record {
   ascending = λ k l a b less at there.
       let first = place_before entries i k v a at in
@@ -123,7 +123,7 @@ module _ (reading : Reading) (hooks : List ℕ) where
   }
 
   -- a deciding instance is an assigned one, at a position
-  pub assigned_at : (pending : PendingOf) (e i start steps node position : ℕ) → IsReadable reading hooks → HasRead reading hooks pending (suc e) e i start steps → IsEntryAt (deciders_of pending e) i node position
+  pub assigned_at : (pending : PendingOf) (e i start steps node position : ℕ) → IsReadable reading hooks → HasRead reading hooks pending (suc e) e i start steps → IsEntryAt (instances_of pending e) i node position
       → IsAssigned (rule_of reading.plan.now.table) e node × (position < reading.found.now.positions)
   assigned_at pending e i start steps node position readable h here =
       let kept = rules_keep_generalised_maps (as_map reading.arena.now) (rule_of reading.plan.now.table) hooks (place_at reading) readable.sound.is_map.below readable.sound.generalised readable.accepted readable.answer.matched.is_match in
@@ -132,10 +132,10 @@ module _ (reading : Reading) (hooks : List ℕ) where
 
   -- ---- one deciding instance is read
 
-  module _ (before : PendingOf) (e i start steps later node position : ℕ) (h : HasRead reading hooks before (suc e) e i start steps) (here : IsEntryAt (deciders_of before e) i node position)
+  module _ (before : PendingOf) (e i start steps later node position : ℕ) (h : HasRead reading hooks before (suc e) e i start steps) (here : IsEntryAt (instances_of before e) i node position)
       (cost : (u : ℕ) → IsReadUnits (app_at reading hooks) (place_at reading) (record { embed = e; node = node; position = position }) u → later ≤ steps + 6 * (reading.arena.now.schema.dim + 1) * u) where
     within_list : i < length (seen_at before e)
-    within_list = let inside = slice_get_within (deciders_of before e) i here.entry here.at in let same = length-map (deciders_of before e) (decider_at e) in omega (arith, inside, same)
+    within_list = let inside = slice_get_within (instances_of before e) i here.entry here.at in let same = length-map (instances_of before e) (decider_at e) in omega (arith, inside, same)
 
     one_more : seen_to before e (suc i) ≡ seen_to before e i ++ decider_at e here.entry ∷ []
     one_more =
@@ -150,7 +150,7 @@ module _ (reading : Reading) (hooks : List ℕ) where
         mapped_get (entry ∷ entries) (suc n) at = mapped_get entries n at
 
         mapped : get_or (seen_at before e) i (decider_at e here.entry) ≡ decider_at e here.entry
-        mapped = mapped_get (deciders_of before e) i here.at
+        mapped = mapped_get (instances_of before e) i here.at
 
     same_decider : record { embed = e; node = node; position = position } ≡ decider_at e here.entry
     same_decider = ap₂ (λ x p. record { embed = e; node = x; position = p }) (sym here.node_is) (sym here.position_is)
@@ -187,29 +187,29 @@ module _ (reading : Reading) (hooks : List ℕ) where
       }
 
     -- it is given its value
-    module _ (after : PendingOf) (v : Value) (gives : GivesValue (app_at reading hooks) (place_at reading) e node position v) (changed : after ≡ with_deciders before e (given_at (deciders_of before e) i v)) (rises : steps ≤ later) where
+    module _ (after : PendingOf) (v : Value) (gives : GivesValue (app_at reading hooks) (place_at reading) e node position v) (changed : after ≡ with_instances before e (given_at (instances_of before e) i v)) (rises : steps ≤ later) where
       long : e < length before.asked
       long = let each = h.each in let few = h.few in omega (arith, each, few)
 
-      other_entry : (k : ℕ) → (k ≡ e → ⊥) → entry_of after k ≡ entry_of before k
-      other_entry k apart = ap (λ p. entry_of p k) changed ∙ entry_other before e (given_at (deciders_of before e) i v) long k apart
+      other_entry : (k : ℕ) → (k ≡ e → ⊥) → deciding_of after k ≡ deciding_of before k
+      other_entry k apart = ap (λ p. deciding_of p k) changed ∙ entry_other before e (given_at (instances_of before e) i v) long k apart
 
-      same_deciders : (k : ℕ) → (k ≡ e → ⊥) → deciders_of after k ≡ deciders_of before k
+      same_deciders : (k : ℕ) → (k ≡ e → ⊥) → instances_of after k ≡ instances_of before k
       same_deciders k apart = ap (λ o. unwrap_or o []) (other_entry k apart)
 
-      this_entry : entry_of after e ≡ Some (given_at (deciders_of before e) i v)
-      this_entry = ap (λ p. entry_of p e) changed ∙ entry_same before e (given_at (deciders_of before e) i v) long
+      this_entry : deciding_of after e ≡ Some (given_at (instances_of before e) i v)
+      this_entry = ap (λ p. deciding_of p e) changed ∙ entry_same before e (given_at (instances_of before e) i v) long
 
-      pub these_deciders : deciders_of after e ≡ given_at (deciders_of before e) i v
+      pub these_deciders : instances_of after e ≡ given_at (instances_of before e) i v
       these_deciders = ap (λ o. unwrap_or o []) this_entry
 
       same_seen : seen_to after e (suc i) ≡ seen_to before e (suc i)
-      same_seen = ap₂ (λ xs ys. xs ++ take (suc i) ys) (seen_same before after e (λ k less. same_deciders k (λ same. omega (arith, less, same)))) (ap (map (decider_at e)) these_deciders ∙ given_places e (deciders_of before e) i v)
+      same_seen = ap₂ (λ xs ys. xs ++ take (suc i) ys) (seen_same before after e (λ k less. same_deciders k (λ same. omega (arith, less, same)))) (ap (map (decider_at e)) these_deciders ∙ given_places e (instances_of before e) i v)
 
       pub given_more : HasRead reading hooks after (suc e) e (suc i) start later
       given_more = record {
-        is = is_there reading hooks before after e (given_at (deciders_of before e) i v) h.is changed;
-        each = ap (λ (p : PendingOf). length p.asked) changed ∙ length-set before.asked e (Some (given_at (deciders_of before e) i v)) ∙ h.each;
+        is = is_there reading hooks before after e (given_at (instances_of before e) i v) h.is changed;
+        each = ap (λ (p : PendingOf). length p.asked) changed ∙ length-set before.asked e (Some (given_at (instances_of before e) i v)) ∙ h.each;
         few = h.few;
         known = λ k less. known k less (cases_eq k e);
         unknown = λ k more there. h.unknown k more (subst IsSome (other_entry k (λ same. omega (arith, more, same))) there);
@@ -223,37 +223,37 @@ module _ (reading : Reading) (hooks : List ℕ) where
           known k less (inl same) = subst (IsAsked after) (sym same) (subst IsSome (sym this_entry) refl)
           known k less (inr apart) = subst IsSome (sym (other_entry k apart)) (h.known k less)
 
-          decide : (k : ℕ) (embed : Embed) → k < suc e → IsEmbedAt reading.arena.now.schema k embed → (k ≡ e) ⊎ (k ≡ e → ⊥) → AreDeciders (unasked_at reading) k embed (deciders_of after k)
+          decide : (k : ℕ) (embed : Embed) → k < suc e → IsEmbedAt reading.arena.now.schema k embed → (k ≡ e) ⊎ (k ≡ e → ⊥) → AreDecidingInstances (unasked_at reading) k embed (instances_of after k)
           decide k embed less at (inl same) =
-              subst (λ n. AreDeciders (unasked_at reading) n embed (deciders_of after n)) (sym same)
-              (subst (AreDeciders (unasked_at reading) e embed) (sym these_deciders)
-              (still_deciders (unasked_at reading) e embed (deciders_of before e) i v (h.deciders e embed (omega arith) (subst (λ n. IsEmbedAt reading.arena.now.schema n embed) same at))))
-          decide k embed less at (inr apart) = subst (AreDeciders (unasked_at reading) k embed) (sym (same_deciders k apart)) (h.deciders k embed less at)
+              subst (λ n. AreDecidingInstances (unasked_at reading) n embed (instances_of after n)) (sym same)
+              (subst (AreDecidingInstances (unasked_at reading) e embed) (sym these_deciders)
+              (still_deciders (unasked_at reading) e embed (instances_of before e) i v (h.deciders e embed (omega arith) (subst (λ n. IsEmbedAt reading.arena.now.schema n embed) same at))))
+          decide k embed less at (inr apart) = subst (AreDecidingInstances (unasked_at reading) k embed) (sym (same_deciders k apart)) (h.deciders k embed less at)
 
-          right_here : (entry : Entry) → entry ≡ record { node = here.entry.node; position = here.entry.position; value = Some v } → IsGivenRight reading hooks e entry
+          right_here : (entry : Entry) → entry ≡ record { node = here.entry.node; position = here.entry.position; given = Some v } → IsGivenRight reading hooks e entry
           right_here entry same = (
             v,
-            ap (λ (x : Entry). x.value) same,
+            ap (λ (x : Entry). x.given) same,
             subst (λ (x : Entry). GivesValue (app_at reading hooks) (place_at reading) e x.node x.position v) (sym same)
                 (subst (λ x. GivesValue (app_at reading hooks) (place_at reading) e x here.entry.position v) (sym here.node_is) (subst (λ p. GivesValue (app_at reading hooks) (place_at reading) e node p v) (sym here.position_is) gives)),
           )
 
-          in_this : (j : ℕ) (entry : Entry) → slice_get (deciders_of after e) j ≡ Some entry → j < suc i → (j ≡ i) ⊎ (j ≡ i → ⊥) → IsGivenRight reading hooks e entry
+          in_this : (j : ℕ) (entry : Entry) → slice_get (instances_of after e) j ≡ Some entry → j < suc i → (j ≡ i) ⊎ (j ≡ i → ⊥) → IsGivenRight reading hooks e entry
           in_this j entry at less (inl same) =
-              right_here entry (given_here (deciders_of before e) i v here.entry entry here.at (subst (λ n. slice_get (given_at (deciders_of before e) i v) n ≡ Some entry) same (subst (λ entries. slice_get entries j ≡ Some entry) these_deciders at)))
+              right_here entry (given_here (instances_of before e) i v here.entry entry here.at (subst (λ n. slice_get (given_at (instances_of before e) i v) n ≡ Some entry) same (subst (λ entries. slice_get entries j ≡ Some entry) these_deciders at)))
           in_this j entry at less (inr apart) =
-              h.given e j entry (sym (given_other (deciders_of before e) i j v apart) ∙ subst (λ entries. slice_get entries j ≡ Some entry) these_deciders at) (inr (refl, omega (arith, less, apart)))
+              h.given e j entry (sym (given_other (instances_of before e) i j v apart) ∙ subst (λ entries. slice_get entries j ≡ Some entry) these_deciders at) (inr (refl, omega (arith, less, apart)))
 
-          give : (k j : ℕ) (entry : Entry) → slice_get (deciders_of after k) j ≡ Some entry → (k < e) ⊎ ((k ≡ e) × (j < suc i)) → (k ≡ e) ⊎ (k ≡ e → ⊥) → IsGivenRight reading hooks k entry
+          give : (k j : ℕ) (entry : Entry) → slice_get (instances_of after k) j ≡ Some entry → (k < e) ⊎ ((k ≡ e) × (j < suc i)) → (k ≡ e) ⊎ (k ≡ e → ⊥) → IsGivenRight reading hooks k entry
           give k j entry at early (inl same) =
               subst (λ n. IsGivenRight reading hooks n entry) (sym same)
-              (in_this j entry (subst (λ n. slice_get (deciders_of after n) j ≡ Some entry) same at) (elim early [ inl less ↦ absurd (omega (arith, less, same)) | inr this ↦ this.1 ]) (cases_eq j i))
+              (in_this j entry (subst (λ n. slice_get (instances_of after n) j ≡ Some entry) same at) (elim early [ inl less ↦ absurd (omega (arith, less, same)) | inr this ↦ this.1 ]) (cases_eq j i))
           give k j entry at early (inr apart) =
               h.given k j entry (subst (λ entries. slice_get entries j ≡ Some entry) (same_deciders k apart) at) (elim early [ inl less ↦ inl less | inr this ↦ absurd (apart this.0) ])
 
   -- ---- all of an embedding are given
 
-  pub all_given : (pending : PendingOf) (e i start steps : ℕ) → HasRead reading hooks pending (suc e) e i start steps → length (deciders_of pending e) ≤ i → HasRead reading hooks pending (suc e) (suc e) 0 start steps
+  pub all_given : (pending : PendingOf) (e i start steps : ℕ) → HasRead reading hooks pending (suc e) e i start steps → length (instances_of pending e) ≤ i → HasRead reading hooks pending (suc e) (suc e) 0 start steps
   all_given pending e i start steps h past = record {
     is = h.is;
     each = h.each;
@@ -266,24 +266,24 @@ module _ (reading : Reading) (hooks : List ℕ) where
     within = subst (λ seen. IsWithinSeen reading hooks seen (suc e) start steps) whole h.within;
   }
     where
-      give : (k j : ℕ) (entry : Entry) → slice_get (deciders_of pending k) j ≡ Some entry → (k < suc e) ⊎ ((k ≡ suc e) × (j < 0)) → (k ≡ e) ⊎ (k ≡ e → ⊥) → IsGivenRight reading hooks k entry
+      give : (k j : ℕ) (entry : Entry) → slice_get (instances_of pending k) j ≡ Some entry → (k < suc e) ⊎ ((k ≡ suc e) × (j < 0)) → (k ≡ e) ⊎ (k ≡ e → ⊥) → IsGivenRight reading hooks k entry
       give k j entry at early (inl same) =
-          let inside = slice_get_within (deciders_of pending k) j entry at in
-          let long : length (deciders_of pending k) ≡ length (deciders_of pending e) = ap (λ n. length (deciders_of pending n)) same in
+          let inside = slice_get_within (instances_of pending k) j entry at in
+          let long : length (instances_of pending k) ≡ length (instances_of pending e) = ap (λ n. length (instances_of pending n)) same in
           h.given k j entry at (inr (same, omega (arith, inside, long, past)))
       give k j entry at (inl less) (inr apart) = h.given k j entry at (inl (omega (arith, less, apart)))
       give k j entry at (inr none) (inr apart) = absurd (let less = none.1 in omega (arith, less))
 
       whole : seen_to pending e i ≡ seen_to pending (suc e) 0
       whole =
-          let same = length-map (deciders_of pending e) (decider_at e) in
+          let same = length-map (instances_of pending e) (decider_at e) in
           ap (λ xs. seen_before pending e ++ xs) (take_all i (seen_at pending e) (omega (arith, past, same))) ∙ sym (nothing_behind (seen_before pending e ++ seen_at pending e))
 
   -- ---- all are given
 
   module _ (pending : PendingOf) (start steps : ℕ) (h : HasRead reading hooks pending (length reading.arena.now.schema.embeds) (length reading.arena.now.schema.embeds) 0 start steps) where
-    pub all_right : (k : ℕ) (entry : Entry) → k < length reading.arena.now.schema.embeds → Contains (deciders_of pending k) entry → IsGivenRight reading hooks k entry
-    all_right k entry less among = h.given k among.0 entry (contained_at (deciders_of pending k) entry among) (inl less)
+    pub all_right : (k : ℕ) (entry : Entry) → k < length reading.arena.now.schema.embeds → Contains (instances_of pending k) entry → IsGivenRight reading hooks k entry
+    all_right k entry less among = h.given k among.0 entry (contained_at (instances_of pending k) entry among) (inl less)
 
     pub every_one : AllGiven pending
     every_one e less =

@@ -14,8 +14,8 @@ use Rattle.gm_model.specs.Rules.{rule_of}
 use Rattle.gm_theory.specs.Theorem.{Unfolded, Unfolds, IsDartOf}
 use Rattle.gm_theory.proofs.Lists.{contained_at, get_contained, none_some, some_same}
 use Rattle.gm_arena.specs.ArenaAsMap.{as_map}
-use Rattle.gm_pending.specs.declared.decider.Decider.{Decider as Entry}
-use Rattle.gm_pending.specs.Results.{PendingOf, IsAsked, deciders_of, entry_of}
+use Rattle.gm_pending.specs.declared.deciding_instance.DecidingInstance.{DecidingInstance as Entry}
+use Rattle.gm_pending.specs.Results.{PendingOf, IsAsked, instances_of, deciding_of}
 use Rattle.gm_apply.specs.declared.reading.Reading.{Reading}
 use Rattle.gm_apply.specs.Reads.{app_at, place_at, decider_at, seen_at, seen_before, seen_to, IsWithinSeen, IsWithinRead, HasRead}
 use Rattle.gm_apply.proofs.ReadValues.{some_embed}
@@ -91,10 +91,10 @@ pair_both_ways x p y q (inr (same, h)) (inr (same', k)) = omega (arith, h, k)
 -- ---- what was seen
 
 -- where an entry stands, the embedding was asked for
-asked_there : (pending : PendingOf) (k j : ℕ) (entry : Entry) → slice_get (deciders_of pending k) j ≡ Some entry → IsAsked pending k
-asked_there pending k j entry at = go (entry_of pending k) refl
+asked_there : (pending : PendingOf) (k j : ℕ) (entry : Entry) → slice_get (instances_of pending k) j ≡ Some entry → IsAsked pending k
+asked_there pending k j entry at = go (deciding_of pending k) refl
   where
-    go : (o : Option (List Entry)) → entry_of pending k ≡ o → IsAsked pending k
+    go : (o : Option (List Entry)) → deciding_of pending k ≡ o → IsAsked pending k
     go (Some entries) e = rw e refl
     go None e = none_some entry (ap (λ o. slice_get (unwrap_or o []) j) (sym e) ∙ at)
 
@@ -102,7 +102,7 @@ module _ (reading : Reading) (hooks : List ℕ) (pending : PendingOf) (asked e i
   abbrev app : Application
   app = app_at reading hooks
 
-  entry_known : (k j : ℕ) (entry : Entry) → slice_get (deciders_of pending k) j ≡ Some entry → k < asked
+  entry_known : (k j : ℕ) (entry : Entry) → slice_get (instances_of pending k) j ≡ Some entry → k < asked
   entry_known k j entry at = go (cases_lt k asked)
     where
       go : (k < asked) ⊎ (asked ≤ k) → k < asked
@@ -113,27 +113,27 @@ module _ (reading : Reading) (hooks : List ℕ) (pending : PendingOf) (asked e i
   embed_at k known = let few = h.few in some_embed reading.arena.now.schema.embeds k (omega (arith, known, few))
 
   module _ (result : Unfolded) (unfolds : Unfolds (as_map reading.arena.now) (rule_of reading.plan.now.table) (place_at reading) result) where
-    pub decides : (k j : ℕ) (entry : Entry) → slice_get (deciders_of pending k) j ≡ Some entry → IsDecider app (place_at reading) (IsDartOf result) result.alpha (decider_at k entry)
+    pub decides : (k j : ℕ) (entry : Entry) → slice_get (instances_of pending k) j ≡ Some entry → IsDecider app (place_at reading) (IsDartOf result) result.alpha (decider_at k entry)
     decides k j entry at =
         let known = entry_known k j entry at in
         let embed = embed_at k known in
-        record { embed = embed.0; embed_at = embed.1; deciding = (h.deciders k embed.0 known embed.1).decide result unfolds entry (get_contained (deciders_of pending k) j entry at) }
+        record { embed = embed.0; embed_at = embed.1; deciding = (h.deciders k embed.0 known embed.1).decide result unfolds entry (get_contained (instances_of pending k) j entry at) }
 
     -- a deciding instance, among the entries
     record IsEntry (d : Decider) : Type 0 where
       place : ℕ
       entry : Entry
-      at : slice_get (deciders_of pending d.embed) place ≡ Some entry
+      at : slice_get (instances_of pending d.embed) place ≡ Some entry
       node_is : entry.node ≡ d.node
       position_is : entry.position ≡ d.position
 
     entry_for : (d : Decider) → IsDecider app (place_at reading) (IsDartOf result) result.alpha d → d.embed < asked → IsEntry d
     entry_for d is known =
         let found = (h.deciders d.embed is.embed known is.embed_at).all result unfolds d.node d.position is.deciding in
-        record { place = found.1.0; entry = found.0; at = contained_at (deciders_of pending d.embed) found.0 found.1; node_is = found.2; position_is = found.3 }
+        record { place = found.1.0; entry = found.0; at = contained_at (instances_of pending d.embed) found.0 found.1; node_is = found.2; position_is = found.3 }
 
     -- the entries before it have their values
-    pub valued_before : (k j : ℕ) (entry : Entry) → slice_get (deciders_of pending k) j ≡ Some entry → (k < e) ⊎ ((k ≡ e) × (j ≤ i)) → IsValuedBefore app (place_at reading) (IsDartOf result) result.alpha (decider_at k entry)
+    pub valued_before : (k j : ℕ) (entry : Entry) → slice_get (instances_of pending k) j ≡ Some entry → (k < e) ⊎ ((k ≡ e) × (j ≤ i)) → IsValuedBefore app (place_at reading) (IsDartOf result) result.alpha (decider_at k entry)
     valued_before k j entry at here other before is = given (entry_for other is (known before)) (earlier before (entry_for other is (known before)))
       where
         known : IsDeciderBefore other (decider_at k entry) → other.embed < asked
@@ -148,15 +148,15 @@ module _ (reading : Reading) (hooks : List ℕ) (pending : PendingOf) (asked e i
         earlier (inl less) found = inl (elim here [ inl below ↦ omega (arith, less, below) | inr same ↦ let eq = same.0 in omega (arith, less, eq) ])
         earlier (inr (same, pair)) found = go (cases_order found.place j)
           where
-            there : slice_get (deciders_of pending k) found.place ≡ Some found.entry
-            there = subst (λ n. slice_get (deciders_of pending n) found.place ≡ Some found.entry) same found.at
+            there : slice_get (instances_of pending k) found.place ≡ Some found.entry
+            there = subst (λ n. slice_get (instances_of pending n) found.place ≡ Some found.entry) same found.at
 
             moved : IsPairBefore found.entry.node found.entry.position entry.node entry.position
             moved = subst (λ x. IsPairBefore x found.entry.position entry.node entry.position) (sym found.node_is) (subst (λ p. IsPairBefore other.node p entry.node entry.position) (sym found.position_is) pair)
 
             go : (found.place ≡ j) ⊎ ((found.place < j) ⊎ (j < found.place)) → (other.embed < e) ⊎ ((other.embed ≡ e) × (found.place < i))
             go (inl same_place) =
-                let one : found.entry ≡ entry = some_same found.entry entry (sym there ∙ ap (slice_get (deciders_of pending k)) same_place ∙ at) in
+                let one : found.entry ≡ entry = some_same found.entry entry (sym there ∙ ap (slice_get (instances_of pending k)) same_place ∙ at) in
                 absurd (pair_both_ways entry.node entry.position entry.node entry.position (subst (λ (x : Entry). IsPairBefore x.node x.position entry.node entry.position) one moved) (subst (λ (x : Entry). IsPairBefore x.node x.position entry.node entry.position) one moved))
             go (inr (inl less)) = within here same found.place less
             go (inr (inr more)) =
@@ -168,7 +168,7 @@ module _ (reading : Reading) (hooks : List ℕ) (pending : PendingOf) (asked e i
             let right = h.given other.embed found.place found.entry found.at early in
             (right.0, subst (λ x. GivesValue app (place_at reading) other.embed x other.position right.0) found.node_is (subst (λ p. GivesValue app (place_at reading) other.embed found.entry.node p right.0) found.position_is right.2))
 
-    read_there : (k j : ℕ) (entry : Entry) → slice_get (deciders_of pending k) j ≡ Some entry → (k < e) ⊎ ((k ≡ e) × (j ≤ i)) → IsRead app (place_at reading) (IsDartOf result) result.alpha (decider_at k entry)
+    read_there : (k j : ℕ) (entry : Entry) → slice_get (instances_of pending k) j ≡ Some entry → (k < e) ⊎ ((k ≡ e) × (j ≤ i)) → IsRead app (place_at reading) (IsDartOf result) result.alpha (decider_at k entry)
     read_there k j entry at here = (decides k j entry at, valued_before k j entry at here)
 
     -- what an element of those of the first embeddings is
@@ -177,7 +177,7 @@ module _ (reading : Reading) (hooks : List ℕ) (pending : PendingOf) (asked e i
       place : ℕ
       entry : Entry
       below : embed < n
-      at : slice_get (deciders_of pending embed) place ≡ Some entry
+      at : slice_get (instances_of pending embed) place ≡ Some entry
       is : d ≡ decider_at embed entry
 
     before_at : (n : ℕ) (d : Decider) → Contains (seen_before pending n) d → IsBefore n d
@@ -186,7 +186,7 @@ module _ (reading : Reading) (hooks : List ℕ) (pending : PendingOf) (asked e i
       where
         go : Contains (seen_before pending n) d ⊎ Contains (seen_at pending n) d → (Contains (seen_before pending n) d → IsBefore n d) → IsBefore (suc n) d
         go (inl first) rest = let found = rest first in record { embed = found.embed; place = found.place; entry = found.entry; below = (let b = found.below in omega (arith, b)); at = found.at; is = found.is }
-        go (inr last) rest = let found = mapped_at n (deciders_of pending n) d last in record { embed = n; place = found.0; entry = found.1; below = omega arith; at = found.2; is = found.3 }
+        go (inr last) rest = let found = mapped_at n (instances_of pending n) d last in record { embed = n; place = found.0; entry = found.1; below = omega arith; at = found.2; is = found.3 }
 
     all_read : (n : ℕ) → n ≤ suc i → (d : Decider) → Contains (seen_to pending e n) d → IsRead app (place_at reading) (IsDartOf result) result.alpha d
     all_read n few d c = go (appended (seen_before pending e) (take n (seen_at pending e)) d c)
@@ -194,11 +194,11 @@ module _ (reading : Reading) (hooks : List ℕ) (pending : PendingOf) (asked e i
         go : Contains (seen_before pending e) d ⊎ Contains (take n (seen_at pending e)) d → IsRead app (place_at reading) (IsDartOf result) result.alpha d
         go (inl first) = let found = before_at e d first in subst (IsRead app (place_at reading) (IsDartOf result) result.alpha) (sym found.is) (read_there found.embed found.place found.entry found.at (inl found.below))
         go (inr last) =
-            let found = taken_at e n (deciders_of pending e) d last in
+            let found = taken_at e n (instances_of pending e) d last in
             let less = found.2 in
             subst (IsRead app (place_at reading) (IsDartOf result) result.alpha) (sym found.4) (read_there e found.0 found.1 found.3 (inr (refl, omega (arith, less, few))))
 
-    ascending_at : (k : ℕ) → IsAscending (deciders_of pending k)
+    ascending_at : (k : ℕ) → IsAscending (instances_of pending k)
     ascending_at k j l a b less at there =
         let known = entry_known k j a at in
         let embed = embed_at k known in
@@ -206,16 +206,16 @@ module _ (reading : Reading) (hooks : List ℕ) (pending : PendingOf) (asked e i
 
     before_ordered : (n : ℕ) → AreOrdered (seen_before pending n)
     before_ordered zero = tt
-    before_ordered (suc n) = ordered_append (seen_before pending n) (seen_at pending n) (before_ordered n) (entries_ordered n (deciders_of pending n) (ascending_at n)) (λ d f c b. across d f (before_at n d c) (mapped_at n (deciders_of pending n) f b))
+    before_ordered (suc n) = ordered_append (seen_before pending n) (seen_at pending n) (before_ordered n) (entries_ordered n (instances_of pending n) (ascending_at n)) (λ d f c b. across d f (before_at n d c) (mapped_at n (instances_of pending n) f b))
       where
-        across : (d f : Decider) → IsBefore n d → (j : ℕ) × (entry : Entry) × (slice_get (deciders_of pending n) j ≡ Some entry) × (f ≡ decider_at n entry) → IsDeciderBefore d f
+        across : (d f : Decider) → IsBefore n d → (j : ℕ) × (entry : Entry) × (slice_get (instances_of pending n) j ≡ Some entry) × (f ≡ decider_at n entry) → IsDeciderBefore d f
         across d f found other = subst (λ x. IsDeciderBefore x f) (sym found.is) (subst (IsDeciderBefore (decider_at found.embed found.entry)) (sym other.3) (inl found.below))
 
     to_ordered : (n : ℕ) → AreOrdered (seen_to pending e n)
-    to_ordered n = ordered_append (seen_before pending e) (take n (seen_at pending e)) (before_ordered e) (take_ordered n (seen_at pending e) (entries_ordered e (deciders_of pending e) (ascending_at e)))
-        (λ d f c b. across d f (before_at e d c) (taken_at e n (deciders_of pending e) f b))
+    to_ordered n = ordered_append (seen_before pending e) (take n (seen_at pending e)) (before_ordered e) (take_ordered n (seen_at pending e) (entries_ordered e (instances_of pending e) (ascending_at e)))
+        (λ d f c b. across d f (before_at e d c) (taken_at e n (instances_of pending e) f b))
       where
-        across : (d f : Decider) → IsBefore e d → (j : ℕ) × (entry : Entry) × (j < n) × (slice_get (deciders_of pending e) j ≡ Some entry) × (f ≡ decider_at e entry) → IsDeciderBefore d f
+        across : (d f : Decider) → IsBefore e d → (j : ℕ) × (entry : Entry) × (j < n) × (slice_get (instances_of pending e) j ≡ Some entry) × (f ≡ decider_at e entry) → IsDeciderBefore d f
         across d f found other = subst (λ x. IsDeciderBefore x f) (sym found.is) (subst (IsDeciderBefore (decider_at found.embed found.entry)) (sym other.4) (inl found.below))
 
     units_of : (n read : ℕ) → n ≤ suc i → (s : IsReadSum app (place_at reading) (IsDartOf result) result.alpha read) → HasUnitsOf (IsReadUnits app (place_at reading)) (seen_to pending e n) (sum s.units)

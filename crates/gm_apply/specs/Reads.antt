@@ -14,9 +14,9 @@ use Rattle.gm_model.specs.Rules.{rule_of}
 use Rattle.gm_theory.specs.Theorem.{Unfolded, Unfolds, IsDartOf}
 use Rattle.gm_arena.specs.ArenaAsMap.{as_map}
 use Rattle.gm_match.specs.Outcome.{application_of, IsAnswer}
-use Rattle.gm_pending.specs.declared.decider.Decider.{Decider as Entry}
+use Rattle.gm_pending.specs.declared.deciding_instance.DecidingInstance.{DecidingInstance as Entry}
 use Rattle.gm_pending.specs.EditLists.{EditLists, AreEditsOf}
-use Rattle.gm_pending.specs.Results.{PendingOf, IsAsked, AreDeciders, deciders_of}
+use Rattle.gm_pending.specs.Results.{PendingOf, IsAsked, AreDecidingInstances, instances_of}
 use Rattle.gm_plan.specs.InArena.{placement_in}
 use Rattle.gm_apply.specs.declared.reading.Reading.{Reading}
 use Rattle.gm_apply.specs.declared.refusal.Refusal.{Refusal}
@@ -57,7 +57,7 @@ abbrev pub decider_at : ℕ → Entry → Decider
 decider_at e entry = record { embed = e; node = entry.node; position = entry.position }
 
 abbrev pub seen_at : PendingOf → ℕ → List Decider
-seen_at pending e = map (decider_at e) (deciders_of pending e)
+seen_at pending e = map (decider_at e) (instances_of pending e)
 
 -- those of the first embeddings
 abbrev pub seen_before : PendingOf → ℕ → List Decider
@@ -71,7 +71,7 @@ seen_to pending e i = seen_before pending e ++ take i (seen_at pending e)
 module _ (reading : Reading) (hooks : List ℕ) where
   -- the deciding instance was given the value of its expression
   abbrev pub IsGivenRight : ℕ → Entry → Type 0
-  IsGivenRight e entry = (v : Value) × (entry.value ≡ Some v) × GivesValue (app_at reading hooks) (place_at reading) e entry.node entry.position v
+  IsGivenRight e entry = (v : Value) × (entry.given ≡ Some v) × GivesValue (app_at reading hooks) (place_at reading) e entry.node entry.position v
 
   -- from start to steps: 2(n + 1) for each dart that the first embeddings reach, and 6(n + 1) for each unit of what was seen
   abbrev pub IsWithinSeen : List Decider → ℕ → ℕ → ℕ → Type 0
@@ -87,8 +87,8 @@ module _ (reading : Reading) (hooks : List ℕ) where
     pub few : asked ≤ length reading.arena.now.schema.embeds
     pub known : (k : ℕ) → k < asked → IsAsked pending k
     pub unknown : (k : ℕ) → asked ≤ k → IsAsked pending k → ⊥
-    pub deciders : (k : ℕ) (embed : Embed) → k < asked → IsEmbedAt reading.arena.now.schema k embed → AreDeciders (unasked_at reading) k embed (deciders_of pending k)
-    pub given : (k j : ℕ) (entry : Entry) → slice_get (deciders_of pending k) j ≡ Some entry → (k < e) ⊎ ((k ≡ e) × (j < i)) → IsGivenRight k entry
+    pub deciders : (k : ℕ) (embed : Embed) → k < asked → IsEmbedAt reading.arena.now.schema k embed → AreDecidingInstances (unasked_at reading) k embed (instances_of pending k)
+    pub given : (k j : ℕ) (entry : Entry) → slice_get (instances_of pending k) j ≡ Some entry → (k < e) ⊎ ((k ≡ e) × (j < i)) → IsGivenRight k entry
     pub rises : start ≤ steps
     pub within : IsWithinSeen (seen_to pending e i) asked start steps
 
@@ -117,7 +117,7 @@ module _ (reading : Reading) (hooks : List ℕ) where
   pub record HasEdits (edits : EditLists) (start steps : ℕ) : Type 0 where
     pub pending : PendingOf
     pub is : pending ≡ pending_at reading pending
-    pub right : (k : ℕ) (entry : Entry) → k < length reading.arena.now.schema.embeds → Contains (deciders_of pending k) entry → IsGivenRight k entry
+    pub right : (k : ℕ) (entry : Entry) → k < length reading.arena.now.schema.embeds → Contains (instances_of pending k) entry → IsGivenRight k entry
     pub edits_of : AreEditsOf pending edits
     pub rises : start ≤ steps
     pub within : IsWithinEdits start steps

@@ -1,7 +1,8 @@
 //! The text of the command that counts cells and orients a map.
 
-ghost use Rattle.std.specs.Prelude.{◌≡◌, ◌++◌, IfOk, OnOk, decimal, codes};
+ghost use Rattle.std.specs.Prelude.{◌≡◌, ◌++◌, IfOk, OnErr, OnOk, decimal, codes};
 ghost use Rattle.gm_cells.specs.CellsText.{numbered, listed, counts_text, orientation_text};
+ghost use Rattle.gm_text.specs.SchemaPrinting.{IsCut};
 
 use crate::counts::Counts;
 use crate::orientation::Orientation;
@@ -88,13 +89,14 @@ fn put_numbered(text: &mut Text, words: &[u8], numbers: &[u32]) -> Result<(), Ou
     Ok(())
 }
 
-/// Appends the numbers, one space before each.
+/// Appends the numbers, one space before each. After a refusal a part of that, from its beginning
+/// on, is appended.
 pub fn put_numbers(text: &mut Text, numbers: &[u32]) -> Result<(), OutOfMemory>
-    ensures { OnOk result (text.new ≡ text.old ++ listed numbers.now) }
+    ensures ok { OnOk result (text.new ≡ text.old ++ listed numbers.now) }
+    ensures err { OnErr result (IsCut text.old (listed numbers.now) text.new) }
 {
     for number in numbers {
-        text.put(b" ")?;
-        text.number(u64::from(*number))?;
+        put_spaced(text, u64::from(*number))?;
     }
     Ok(())
 }
@@ -104,8 +106,16 @@ fn put_labels(text: &mut Text, labels: &[u8]) -> Result<(), OutOfMemory>
     ensures { OnOk result (text.new ≡ text.old ++ listed labels.now) }
 {
     for label in labels {
-        text.put(b" ")?;
-        text.number(u64::from(*label))?;
+        put_spaced(text, u64::from(*label))?;
     }
     Ok(())
+}
+
+/// A number and a space before it.
+fn put_spaced(text: &mut Text, number: u64) -> Result<(), OutOfMemory>
+    ensures ok { OnOk result (text.new ≡ text.old ++ (codes " " ++ decimal number)) }
+    ensures err { OnErr result (IsCut text.old (codes " " ++ decimal number) text.new) }
+{
+    text.put(b" ")?;
+    text.number(number)
 }

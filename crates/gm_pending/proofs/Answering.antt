@@ -13,12 +13,12 @@ use Rattle.gm_model.specs.Values.{IsValueOf}
 use Rattle.gm_arena.specs.ArenaMap.{ArenaMap}
 use Rattle.gm_plan.specs.Placed.{Placed}
 use Rattle.gm_theory.proofs.Lists.{some_same, none_some}
-use Rattle.gm_pending.specs.declared.asked.Asked.{Asked}
-use Rattle.gm_pending.specs.declared.decider.Decider.{Decider}
-use Rattle.gm_pending.specs.declared.marks.Reached.{Reached}
-use Rattle.gm_pending.specs.Answered.{deciders_in, pending_as, AreAnswers}
+use Rattle.gm_pending.specs.declared.decided_orbits.DecidedOrbits.{DecidedOrbits}
+use Rattle.gm_pending.specs.declared.deciding_instance.DecidingInstance.{DecidingInstance}
+use Rattle.gm_pending.specs.declared.marks.Mark.{Mark}
+use Rattle.gm_pending.specs.Answered.{instances_in, pending_as, AreDecidedOrbits}
 use Rattle.gm_pending.specs.Reached.{AreReached}
-use Rattle.gm_pending.specs.Results.{PendingOf, IsPrepared, AreDeciders, IsGivenIn, deciders_of, entry_of, with_deciders}
+use Rattle.gm_pending.specs.Results.{PendingOf, IsPrepared, AreDecidingInstances, IsGivenIn, instances_of, deciding_of, with_instances}
 
 module _ {A : Type 0} where
   pub set_there : (xs : List A) (k : ℕ) (x : A) → k < length xs → slice_get (set xs k x) k ≡ Some x
@@ -47,38 +47,38 @@ read_there xs ys k x is same within = slice_get-get_or ys k x within ∙ ap Some
 
 -- ---- the application
 
-module _ (app : PendingOf) (prepared : IsPrepared app) (e : ℕ) (deciders : List Decider) (within : e < length app.asked) where
+module _ (app : PendingOf) (prepared : IsPrepared app) (e : ℕ) (instances : List DecidingInstance) (within : e < length app.asked) where
   abbrev pub answered : PendingOf
-  answered = with_deciders app e deciders
+  answered = with_instances app e instances
 
-  pub entry_there : entry_of answered e ≡ Some deciders
-  entry_there = get_or-set_same app.asked e (Some deciders) None within
+  pub entry_there : deciding_of answered e ≡ Some instances
+  entry_there = get_or-set_same app.asked e (Some instances) None within
 
-  entry_elsewhere : (j : ℕ) → (j ≡ e → ⊥) → entry_of answered j ≡ entry_of app j
-  entry_elsewhere j other = get_or-set_other app.asked e j (Some deciders) None other
+  entry_elsewhere : (j : ℕ) → (j ≡ e → ⊥) → deciding_of answered j ≡ deciding_of app j
+  entry_elsewhere j other = get_or-set_other app.asked e j (Some instances) None other
 
-  pub prepared_with : ((embed : Embed) → IsEmbedAt app.map.schema e embed → AreDeciders app e embed deciders) →
-      ((x p : ℕ) (embed : Embed) (v : Value) → IsEmbedAt app.map.schema e embed → Contains deciders (record { node = x; position = p; value = Some v }) → IsValueOf embed.kind v) → IsPrepared answered
+  pub prepared_with : ((embed : Embed) → IsEmbedAt app.map.schema e embed → AreDecidingInstances app e embed instances) →
+      ((x p : ℕ) (embed : Embed) (v : Value) → IsEmbedAt app.map.schema e embed → Contains instances (record { node = x; position = p; given = Some v }) → IsValueOf embed.kind v) → IsPrepared answered
   prepared_with exact good = record {
     lawful = prepared.lawful;
     planned = prepared.planned;
     sound = prepared.sound;
     hooks = prepared.hooks;
     matched = prepared.matched;
-    each = length-set app.asked e (Some deciders) ∙ prepared.each;
-    deciders = λ j embed others at is. are j embed others at is (cases_eq j e);
+    each = length-set app.asked e (Some instances) ∙ prepared.each;
+    instances = λ j embed others at is. are j embed others at is (cases_eq j e);
     values = λ j x p embed v at given. values j x p embed v at given (cases_eq j e);
   }
     where
-      again : (j : ℕ) (embed : Embed) (others : List Decider) → AreDeciders app j embed others → AreDeciders answered j embed others
+      again : (j : ℕ) (embed : Embed) (others : List DecidingInstance) → AreDecidingInstances app j embed others → AreDecidingInstances answered j embed others
       again j embed others d = record { ascending = d.ascending; decide = d.decide; all = d.all }
 
-      are : (j : ℕ) (embed : Embed) (others : List Decider) → IsEmbedAt app.map.schema j embed → entry_of answered j ≡ Some others → (j ≡ e) ⊎ (j ≡ e → ⊥) → AreDeciders answered j embed others
-      are j embed others at is (inr other) = again j embed others (prepared.deciders j embed others at (sym (entry_elsewhere j other) ∙ is))
+      are : (j : ℕ) (embed : Embed) (others : List DecidingInstance) → IsEmbedAt app.map.schema j embed → deciding_of answered j ≡ Some others → (j ≡ e) ⊎ (j ≡ e → ⊥) → AreDecidingInstances answered j embed others
+      are j embed others at is (inr other) = again j embed others (prepared.instances j embed others at (sym (entry_elsewhere j other) ∙ is))
       are j embed others at is (inl same) =
-          let here : entry_of answered e ≡ Some others = subst (λ i. entry_of answered i ≡ Some others) same is in
-          let one : deciders ≡ others = some_same deciders others (sym entry_there ∙ here) in
-          subst (λ i. AreDeciders answered i embed others) (sym same) (subst (AreDeciders answered e embed) one (again e embed deciders (exact embed (subst (λ i. IsEmbedAt app.map.schema i embed) same at))))
+          let here : deciding_of answered e ≡ Some others = subst (λ i. deciding_of answered i ≡ Some others) same is in
+          let one : instances ≡ others = some_same instances others (sym entry_there ∙ here) in
+          subst (λ i. AreDecidingInstances answered i embed others) (sym same) (subst (AreDecidingInstances answered e embed) one (again e embed instances (exact embed (subst (λ i. IsEmbedAt app.map.schema i embed) same at))))
 
       values : (j x p : ℕ) (embed : Embed) (v : Value) → IsEmbedAt app.map.schema j embed → IsGivenIn answered j x p v → (j ≡ e) ⊎ (j ≡ e → ⊥) → IsValueOf embed.kind v
       values j x p embed v at given (inr other) = prepared.values j x p embed v at (rw (entry_elsewhere j other) at given)
@@ -86,61 +86,61 @@ module _ (app : PendingOf) (prepared : IsPrepared app) (e : ℕ) (deciders : Lis
           let here : IsGivenIn answered e x p v = subst (λ i. IsGivenIn answered i x p v) same given in
           good x p embed v (subst (λ i. IsEmbedAt app.map.schema i embed) same at) (rw entry_there at here)
 
-pub good_if_ungiven : (deciders : List Decider) → ((decider : Decider) → Contains deciders decider → decider.value ≡ None) → (x p : ℕ) (embed : Embed) (v : Value) → Contains deciders (record { node = x; position = p; value = Some v }) → IsValueOf embed.kind v
-good_if_ungiven deciders ungiven x p embed v given = none_some v (sym (ungiven (record { node = x; position = p; value = Some v }) given))
+pub good_if_ungiven : (instances : List DecidingInstance) → ((instance : DecidingInstance) → Contains instances instance → instance.given ≡ None) → (x p : ℕ) (embed : Embed) (v : Value) → Contains instances (record { node = x; position = p; given = Some v }) → IsValueOf embed.kind v
+good_if_ungiven instances ungiven x p embed v given = none_some v (sym (ungiven (record { node = x; position = p; given = Some v }) given))
 
 -- ---- how it is kept
 
-pub reached_again : (app : PendingOf) (e j : ℕ) (deciders others : List Decider) (embed : Embed) (reached : List Reached) → AreReached app j embed others reached → AreReached (with_deciders app e deciders) j embed others reached
-reached_again app e j deciders others embed reached r = record { darts = r.darts; distinct = r.distinct; decided = r.decided; all = r.all }
+pub reached_again : (app : PendingOf) (e j : ℕ) (instances others : List DecidingInstance) (embed : Embed) (reached : List Mark) → AreReached app j embed others reached → AreReached (with_instances app e instances) j embed others reached
+reached_again app e j instances others embed reached r = record { darts = r.darts; distinct = r.distinct; decided = r.decided; all = r.all }
 
-module _ (m : ArenaMap) (table : RuleTable) (placed : Placed) (answers : List (Option Asked)) (e : ℕ) (asked : Asked) where
+module _ (m : ArenaMap) (table : RuleTable) (placed : Placed) (answers : List (Option DecidedOrbits)) (e : ℕ) (orbits : DecidedOrbits) where
   abbrev before : PendingOf
   before = pending_as m table placed answers
 
-  pub answered_is : pending_as m table placed (set answers e (Some asked)) ≡ with_deciders before e asked.deciders.items
-  answered_is = ap (λ entries. record { map = m; table = table; placed = placed; asked = entries }) (map-set deciders_in answers e (Some asked))
+  pub answered_is : pending_as m table placed (set answers e (Some orbits)) ≡ with_instances before e orbits.instances.items
+  answered_is = ap (λ entries. record { map = m; table = table; placed = placed; asked = entries }) (map-set instances_in answers e (Some orbits))
 
-  pub answers_with : e < length answers → AreAnswers before answers → ((embed : Embed) → IsEmbedAt m.schema e embed → AreReached before e embed asked.deciders.items asked.marks) → AreAnswers (pending_as m table placed (set answers e (Some asked))) (set answers e (Some asked))
-  answers_with within old new = subst (λ a. AreAnswers a (set answers e (Some asked))) (sym answered_is) (λ j embed other at there. go j embed other at there (cases_eq j e))
+  pub answers_with : e < length answers → AreDecidedOrbits before answers → ((embed : Embed) → IsEmbedAt m.schema e embed → AreReached before e embed orbits.instances.items orbits.marks) → AreDecidedOrbits (pending_as m table placed (set answers e (Some orbits))) (set answers e (Some orbits))
+  answers_with within old new = subst (λ a. AreDecidedOrbits a (set answers e (Some orbits))) (sym answered_is) (λ j embed other at there. go j embed other at there (cases_eq j e))
     where
-      go : (j : ℕ) (embed : Embed) (other : Asked) → IsEmbedAt m.schema j embed → slice_get (set answers e (Some asked)) j ≡ Some (Some other) → (j ≡ e) ⊎ (j ≡ e → ⊥) → AreReached (with_deciders before e asked.deciders.items) j embed other.deciders.items other.marks
-      go j embed other at there (inr apart) = reached_again before e j asked.deciders.items other.deciders.items embed other.marks (old j embed other at (sym (set_elsewhere answers e j (Some asked) apart) ∙ there))
+      go : (j : ℕ) (embed : Embed) (other : DecidedOrbits) → IsEmbedAt m.schema j embed → slice_get (set answers e (Some orbits)) j ≡ Some (Some other) → (j ≡ e) ⊎ (j ≡ e → ⊥) → AreReached (with_instances before e orbits.instances.items) j embed other.instances.items other.marks
+      go j embed other at there (inr apart) = reached_again before e j orbits.instances.items other.instances.items embed other.marks (old j embed other at (sym (set_elsewhere answers e j (Some orbits) apart) ∙ there))
       go j embed other at there (inl same) =
-          let here : slice_get (set answers e (Some asked)) e ≡ Some (Some other) = subst (λ i. slice_get (set answers e (Some asked)) i ≡ Some (Some other)) same there in
-          let one : asked ≡ other = some_same asked other (some_same (Some asked) (Some other) (sym (set_there answers e (Some asked) within) ∙ here)) in
-          subst (λ i. AreReached (with_deciders before e asked.deciders.items) i embed other.deciders.items other.marks) (sym same)
-          (subst (λ (a : Asked). AreReached (with_deciders before e asked.deciders.items) e embed a.deciders.items a.marks) one
-          (reached_again before e e asked.deciders.items asked.deciders.items embed asked.marks (new embed (subst (λ i. IsEmbedAt m.schema i embed) same at))))
+          let here : slice_get (set answers e (Some orbits)) e ≡ Some (Some other) = subst (λ i. slice_get (set answers e (Some orbits)) i ≡ Some (Some other)) same there in
+          let one : orbits ≡ other = some_same orbits other (some_same (Some orbits) (Some other) (sym (set_there answers e (Some orbits) within) ∙ here)) in
+          subst (λ i. AreReached (with_instances before e orbits.instances.items) i embed other.instances.items other.marks) (sym same)
+          (subst (λ (a : DecidedOrbits). AreReached (with_instances before e orbits.instances.items) e embed a.instances.items a.marks) one
+          (reached_again before e e orbits.instances.items orbits.instances.items embed orbits.marks (new embed (subst (λ i. IsEmbedAt m.schema i embed) same at))))
 
   -- the answer is kept, where it says of the application what it says of itself
-  module _ (app : PendingOf) (view : before ≡ app) (prepared : IsPrepared before) (all : AreAnswers before answers) (within : e < length app.map.schema.embeds) (after : List (Option Asked)) (kept : after ≡ set answers e (Some asked))
-      (exact : (embed : Embed) → IsEmbedAt app.map.schema e embed → AreDeciders app e embed asked.deciders.items)
-      (reached : (embed : Embed) → IsEmbedAt app.map.schema e embed → AreReached app e embed asked.deciders.items asked.marks)
-      (good : (x p : ℕ) (embed : Embed) (v : Value) → IsEmbedAt app.map.schema e embed → Contains asked.deciders.items (record { node = x; position = p; value = Some v }) → IsValueOf embed.kind v) where
+  module _ (app : PendingOf) (view : before ≡ app) (prepared : IsPrepared before) (all : AreDecidedOrbits before answers) (within : e < length app.map.schema.embeds) (after : List (Option DecidedOrbits)) (kept : after ≡ set answers e (Some orbits))
+      (exact : (embed : Embed) → IsEmbedAt app.map.schema e embed → AreDecidingInstances app e embed orbits.instances.items)
+      (reached : (embed : Embed) → IsEmbedAt app.map.schema e embed → AreReached app e embed orbits.instances.items orbits.marks)
+      (good : (x p : ℕ) (embed : Embed) (v : Value) → IsEmbedAt app.map.schema e embed → Contains orbits.instances.items (record { node = x; position = p; given = Some v }) → IsValueOf embed.kind v) where
     has_entry : e < length before.asked
     has_entry = let h : e < length before.map.schema.embeds = subst (λ (a : PendingOf). e < length a.map.schema.embeds) (sym view) within in omega (arith, h, prepared.each)
 
     has_answer : e < length answers
-    has_answer = omega (arith, has_entry, length-map answers deciders_in)
+    has_answer = omega (arith, has_entry, length-map answers instances_in)
 
-    pub kept_is : pending_as m table placed after ≡ with_deciders app e asked.deciders.items
-    kept_is = ap (pending_as m table placed) kept ∙ answered_is ∙ ap (λ a. with_deciders a e asked.deciders.items) view
+    pub kept_is : pending_as m table placed after ≡ with_instances app e orbits.instances.items
+    kept_is = ap (pending_as m table placed) kept ∙ answered_is ∙ ap (λ a. with_instances a e orbits.instances.items) view
 
-    pub kept_deciders : deciders_of (pending_as m table placed after) e ≡ asked.deciders.items
-    kept_deciders = ap (λ a. deciders_of a e) (ap (pending_as m table placed) kept ∙ answered_is) ∙ ap (λ o. unwrap_or o []) (entry_there before prepared e asked.deciders.items has_entry)
+    pub kept_deciders : instances_of (pending_as m table placed after) e ≡ orbits.instances.items
+    kept_deciders = ap (λ a. instances_of a e) (ap (pending_as m table placed) kept ∙ answered_is) ∙ ap (λ o. unwrap_or o []) (entry_there before prepared e orbits.instances.items has_entry)
 
-    pub kept_asked : pending_as m table placed after ≡ with_deciders app e (deciders_of (pending_as m table placed after) e)
-    kept_asked = kept_is ∙ ap (with_deciders app e) (sym kept_deciders)
+    pub kept_asked : pending_as m table placed after ≡ with_instances app e (instances_of (pending_as m table placed after) e)
+    kept_asked = kept_is ∙ ap (with_instances app e) (sym kept_deciders)
 
     at_before : (embed : Embed) → IsEmbedAt m.schema e embed → IsEmbedAt app.map.schema e embed
     at_before embed at = subst (λ (a : PendingOf). IsEmbedAt a.map.schema e embed) view at
 
     pub kept_prepared : IsPrepared (pending_as m table placed after)
-    kept_prepared = subst IsPrepared (sym (ap (pending_as m table placed) kept ∙ answered_is)) (prepared_with before prepared e asked.deciders.items has_entry
-        (λ embed at. subst (λ (a : PendingOf). AreDeciders a e embed asked.deciders.items) (sym view) (exact embed (at_before embed at)))
+    kept_prepared = subst IsPrepared (sym (ap (pending_as m table placed) kept ∙ answered_is)) (prepared_with before prepared e orbits.instances.items has_entry
+        (λ embed at. subst (λ (a : PendingOf). AreDecidingInstances a e embed orbits.instances.items) (sym view) (exact embed (at_before embed at)))
         (λ x p embed v at given. good x p embed v (at_before embed at) given))
 
-    pub kept_answers : AreAnswers (pending_as m table placed after) after
-    kept_answers = subst (λ a. AreAnswers (pending_as m table placed a) a) (sym kept) (answers_with has_answer all
-        (λ embed at. subst (λ (a : PendingOf). AreReached a e embed asked.deciders.items asked.marks) (sym view) (reached embed (at_before embed at))))
+    pub kept_answers : AreDecidedOrbits (pending_as m table placed after) after
+    kept_answers = subst (λ a. AreDecidedOrbits (pending_as m table placed a) a) (sym kept) (answers_with has_answer all
+        (λ embed at. subst (λ (a : PendingOf). AreReached a e embed orbits.instances.items orbits.marks) (sym view) (reached embed (at_before embed at))))

@@ -200,7 +200,7 @@ module _ (app : PendingOf) (prepared : IsPrepared app) where
       go (inr a) = absurd (none-some arc (rw a at e))
 
   -- the arc of a steady step is there already
-  steady_there : (d i e : ℕ) → (made : IsMadeArc (scene_in app) d i e) → IsTrue (is_steady (rule_in app) made.node i) → IsThere app d i e
+  pub steady_there : (d i e : ℕ) → (made : IsMadeArc (scene_in app) d i e) → IsTrue (is_steady (rule_in app) made.node i) → IsThere app d i e
   steady_there d i e made steady = (subst (λ c. IsTrue ((scene_in app).live c)) (sym here) ((law app prepared).darts.live made.node made.position (l, made.within)), by (step (rule_in app) Right made.node i) refl)
     where
       sides : IsTrue (has_word (rule_in app) Left made.node) × IsTrue (is_same (step (rule_in app) Left made.node i) (step (rule_in app) Right made.node i))

@@ -17,11 +17,11 @@ use Rattle.gm_theory.proofs.ValuesLists.{IsIn, AreDistinct, in_contained, split_
 use Rattle.gm_theory.proofs.ValuesReach.{orbit_through}
 use Rattle.gm_theory.specs.Theorem.{Unfolded, IsDartOf}
 use Rattle.gm_pending.specs.declared.at.At.{At}
-use Rattle.gm_pending.specs.declared.decider.Decider.{Decider}
-use Rattle.gm_pending.specs.declared.marks.Reached.{Reached}
+use Rattle.gm_pending.specs.declared.deciding_instance.DecidingInstance.{DecidingInstance}
+use Rattle.gm_pending.specs.declared.marks.Mark.{Mark}
 use Rattle.gm_pending.specs.Marks.{key_of, HasKey, IsMarkedBy, HasDistinctKeys}
 use Rattle.gm_pending.specs.Reached.{AreResultDarts, AreReached, AreSomeReached, HaveDistinctNames, HasMark, IsClosed, IsGrown, IsSpreadTo, IsWalkedUpTo, IsDecidedUpTo}
-use Rattle.gm_pending.specs.Results.{PendingOf, IsPrepared, AreDeciders, IsResultDart, IsUnfoldedIn, IsDecidedIn, IsDecidingIn, IsReachedIn, IsWithinReach, rule_in, scene_in, name_of}
+use Rattle.gm_pending.specs.Results.{PendingOf, IsPrepared, AreDecidingInstances, IsResultDart, IsUnfoldedIn, IsDecidedIn, IsDecidingIn, IsReachedIn, IsWithinReach, rule_in, scene_in, name_of}
 use Rattle.gm_pending.proofs.Reached.{kept_at, last_at, kept_or_last, get_within}
 use Rattle.gm_pending.proofs.Spread.{same_key, same_name, mark_kept, dart_after, orbit_back, closed_along}
 
@@ -48,11 +48,11 @@ few_steps dim n count h = grind arith
 
 -- ---- what an answer says of a key
 
-pub key_there : (reached : List Reached) (key : ℕ) (o : Option ℕ) → MatchOption o (HasKey reached key → ⊥) (IsMarkedBy reached key) → IsTrue (is_some o) → HasKey reached key
+pub key_there : (reached : List Mark) (key : ℕ) (o : Option ℕ) → MatchOption o (HasKey reached key → ⊥) (IsMarkedBy reached key) → IsTrue (is_some o) → HasKey reached key
 key_there reached key (Some k) (entry, among, is, same) t = (entry, among, is)
 key_there reached key None none t = absurd (false≢true t)
 
-pub key_absent : (reached : List Reached) (key : ℕ) (o : Option ℕ) → MatchOption o (HasKey reached key → ⊥) (IsMarkedBy reached key) → is_some o ≡ false → HasKey reached key → ⊥
+pub key_absent : (reached : List Mark) (key : ℕ) (o : Option ℕ) → MatchOption o (HasKey reached key → ⊥) (IsMarkedBy reached key) → is_some o ≡ false → HasKey reached key → ⊥
 key_absent reached key (Some k) there f = absurd (false≢true (sym f))
 key_absent reached key None none f = none
 
@@ -64,22 +64,22 @@ module _ (app : PendingOf) (prepared : IsPrepared app) where
   abbrev pub name : ℕ → ℕ → ℕ
   name x p = (scene_in app).name_of x p
 
-  abbrev names : List Reached → List ℕ
-  names reached = map (λ (r : Reached). name_of app r.at) reached
+  abbrev names : List Mark → List ℕ
+  names reached = map (λ (r : Mark). name_of app r.at) reached
 
-  in_names : (reached : List Reached) (z : ℕ) → IsIn z (names reached) → (m : ℕ) × (entry : Reached) × (slice_get reached m ≡ Some entry) × (name_of app entry.at ≡ z)
+  in_names : (reached : List Mark) (z : ℕ) → IsIn z (names reached) → (m : ℕ) × (entry : Mark) × (slice_get reached m ≡ Some entry) × (name_of app entry.at ≡ z)
   in_names [] z i = absurd i
   in_names (r ∷ reached) z (inl e) = (0, r, refl, e)
   in_names (r ∷ reached) z (inr i) = let rest = in_names reached z i in (suc rest.0, rest.1, rest.2, rest.3)
 
-  distinct_names : (reached : List Reached) → HaveDistinctNames app reached → AreDistinct (names reached)
+  distinct_names : (reached : List Mark) → HaveDistinctNames app reached → AreDistinct (names reached)
   distinct_names [] h = tt
   distinct_names (r ∷ reached) h = (apart, distinct_names reached (λ k l a b less e f. h (suc k) (suc l) a b (omega arith) e f))
     where
       apart : IsIn (name_of app r.at) (names reached) → ⊥
       apart i = let found = in_names reached (name_of app r.at) i in h 0 (suc found.0) r found.1 (omega arith) refl found.2 (sym found.3)
 
-  pub distinct_darts : (reached : List Reached) → AreResultDarts app reached → HasDistinctKeys reached → HaveDistinctNames app reached
+  pub distinct_darts : (reached : List Mark) → AreResultDarts app reached → HasDistinctKeys reached → HaveDistinctNames app reached
   distinct_darts reached darts distinct k l a b less e f same = distinct k l a b less e f (same_key app prepared a.at b.at (darts a (get_contained reached k a e)) (darts b (get_contained reached l b f)) same)
 
   -- ---- what is reached
@@ -89,16 +89,16 @@ module _ (app : PendingOf) (prepared : IsPrepared app) where
     IsAssignedAt x p = IsAssigned (rule_in app) e x × (p < app.placed.positions)
 
     -- no more darts than there are
-    pub few_reached : (reached : List Reached) (result : Unfolded) (count : ℕ) → AreResultDarts app reached → HasDistinctKeys reached → AreSomeReached app e embed reached → IsUnfoldedIn app result → HasCount (IsReachedIn app result e embed) count → length reached ≤ count
+    pub few_reached : (reached : List Mark) (result : Unfolded) (count : ℕ) → AreResultDarts app reached → HasDistinctKeys reached → AreSomeReached app e embed reached → IsUnfoldedIn app result → HasCount (IsReachedIn app result e embed) count → length reached ≤ count
     few_reached reached result count darts distinct some unfolded (all, listed, long) =
-        omega (arith, long, length-map reached (λ (r : Reached). name_of app r.at), few_among (names reached) all (distinct_names reached (distinct_darts reached darts distinct)) there)
+        omega (arith, long, length-map reached (λ (r : Mark). name_of app r.at), few_among (names reached) all (distinct_names reached (distinct_darts reached darts distinct)) there)
       where
         there : (z : ℕ) → IsIn z (names reached) → IsIn z all
         there z i =
             let found = in_names reached z i in
             in_contained all z ((listed.same z).1 (subst (IsReachedIn app result e embed) found.3 (some result unfolded found.1 (get_contained reached found.0 found.1 found.2))))
 
-    pub some_grown : (before after : List Reached) (k x p : ℕ) (at : At) → IsAssignedAt x p → IsResultDart app at → name_of app at ≡ name x p → AreResultDarts app after → AreSomeReached app e embed before →
+    pub some_grown : (before after : List Mark) (k x p : ℕ) (at : At) → IsAssignedAt x p → IsResultDart app at → name_of app at ≡ name x p → AreResultDarts app after → AreSomeReached app e embed before →
         ((result : Unfolded) → IsUnfoldedIn app result → IsGrown app embed result before after k (name_of app at)) → AreSomeReached app e embed after
     some_grown before after k x p at assigned dart named darts some grown result unfolded entry among = go (cases_lt among.0 (length before))
       where
@@ -119,16 +119,16 @@ module _ (app : PendingOf) (prepared : IsPrepared app) where
               (x, p, assigned, subst (IsInOrbit result.alpha (type_of embed) (name_of app entry.at)) named (orbit_back app prepared e embed at_embed result unfolded (name_of app at) (name_of app entry.at) (dart_after app prepared e embed at_embed result unfolded at dart) orbit)),
             )
 
-    pub decided_reached : (deciders : List Decider) (reached : List Reached) (x p : ℕ) → IsDecidedUpTo app e embed deciders reached x p → AreSomeReached app e embed reached
-    decided_reached deciders reached x p so_far result unfolded entry among =
-        let by = (so_far.walked result unfolded).decided (name_of app entry.at) entry.decider (entry, among, refl, refl) in
+    pub decided_reached : (instances : List DecidingInstance) (reached : List Mark) (x p : ℕ) → IsDecidedUpTo app e embed instances reached x p → AreSomeReached app e embed reached
+    decided_reached instances reached x p so_far result unfolded entry among =
+        let by = (so_far.walked result unfolded).decided (name_of app entry.at) entry.instance (entry, among, refl, refl) in
         (dart_after app prepared e embed at_embed result unfolded entry.at (so_far.darts entry among), (by.0.node, by.0.position, by.2.assigned, by.2.lies))
 
     pub assigned_right : (x : ℕ) → IsAssigned (rule_in app) e x → IsTrue (has_word (rule_in app) Right x)
     assigned_right x (tree, (node, there, among)) = (prepared.planned.accepted.in_range.sets x node _ there among).0
 
     -- a walk that counts one step for each label of each dart that it reaches
-    pub within_reach : (reached : List Reached) (old new : ℕ) → AreResultDarts app reached → HasDistinctKeys reached → AreSomeReached app e embed reached → new ≤ old + (app.map.schema.dim + 1) * length reached → IsWithinReach app e embed old new
+    pub within_reach : (reached : List Mark) (old new : ℕ) → AreResultDarts app reached → HasDistinctKeys reached → AreSomeReached app e embed reached → new ≤ old + (app.map.schema.dim + 1) * length reached → IsWithinReach app e embed old new
     within_reach reached old new darts distinct some h result count unfolded counted =
         let few : length reached ≤ count = few_reached reached result count darts distinct some unfolded counted in
         omega (arith, h, few_steps app.map.schema.dim (length reached) count few)
@@ -140,12 +140,12 @@ module _ (app : PendingOf) (prepared : IsPrepared app) where
       darts = λ entry among. absurd (let h : among.0 < 0 = among.1 in omega arith);
       few = omega arith;
       ascending = λ k l a b h f g. none_some a f;
-      before = λ k decider f. none_some decider f;
-      ungiven = λ k decider f. none_some decider f;
+      before = λ k instance f. none_some instance f;
+      ungiven = λ k instance f. none_some instance f;
       walked = λ result unfolded. record {
         closed = λ d k i mark t. absurd (let h : mark.1.0 < 0 = mark.1.1 in omega arith);
         decided = λ d k mark. absurd (let h : mark.1.0 < 0 = mark.1.1 in omega arith);
-        own = λ k decider f. none_some decider f;
+        own = λ k instance f. none_some instance f;
         all = λ y q before assigned b. absurd (none y q before);
       };
     }
@@ -155,15 +155,15 @@ module _ (app : PendingOf) (prepared : IsPrepared app) where
         none y q (inr h) = omega (arith, h.1)
 
     -- where nothing is assigned between, nothing more is asked for
-    passed : (deciders : List Decider) (reached : List Reached) (x p y q : ℕ) → IsDecidedUpTo app e embed deciders reached x p →
+    passed : (instances : List DecidingInstance) (reached : List Mark) (x p y q : ℕ) → IsDecidedUpTo app e embed instances reached x p →
         ((a b : ℕ) → IsPairBefore a b x p → IsPairBefore a b y q) →
         ((result : Unfolded) → IsUnfoldedIn app result → (a b : ℕ) → IsPairBefore a b y q → IsAssignedAt a b → IsPairBefore a b x p ⊎ ((k : ℕ) × HasMark app reached (name a b) k)) →
-        IsDecidedUpTo app e embed deciders reached y q
-    passed deciders reached x p y q so_far later between = record {
+        IsDecidedUpTo app e embed instances reached y q
+    passed instances reached x p y q so_far later between = record {
       darts = so_far.darts;
       few = so_far.few;
       ascending = so_far.ascending;
-      before = λ k decider f. later decider.node decider.position (so_far.before k decider f);
+      before = λ k instance f. later instance.node instance.position (so_far.before k instance f);
       ungiven = so_far.ungiven;
       walked = λ result unfolded.
           let w = so_far.walked result unfolded in
@@ -178,8 +178,8 @@ module _ (app : PendingOf) (prepared : IsPrepared app) where
           };
     }
 
-    pub node_passed : (deciders : List Decider) (reached : List Reached) (x : ℕ) → IsDecidedUpTo app e embed deciders reached x 0 → (IsAssigned (rule_in app) e x → ⊥) → IsDecidedUpTo app e embed deciders reached (x + 1) 0
-    node_passed deciders reached x so_far none = passed deciders reached x 0 (x + 1) 0 so_far later between
+    pub node_passed : (instances : List DecidingInstance) (reached : List Mark) (x : ℕ) → IsDecidedUpTo app e embed instances reached x 0 → (IsAssigned (rule_in app) e x → ⊥) → IsDecidedUpTo app e embed instances reached (x + 1) 0
+    node_passed instances reached x so_far none = passed instances reached x 0 (x + 1) 0 so_far later between
       where
         later : (a b : ℕ) → IsPairBefore a b x 0 → IsPairBefore a b (x + 1) 0
         later a b (inl h) = inl (omega arith)
@@ -192,8 +192,8 @@ module _ (app : PendingOf) (prepared : IsPrepared app) where
           | inr other ↦ inl (inl (omega arith))
         ]
 
-    pub node_decided : (deciders : List Decider) (reached : List Reached) (x : ℕ) → IsDecidedUpTo app e embed deciders reached x app.placed.positions → IsDecidedUpTo app e embed deciders reached (x + 1) 0
-    node_decided deciders reached x so_far = passed deciders reached x app.placed.positions (x + 1) 0 so_far later between
+    pub node_decided : (instances : List DecidingInstance) (reached : List Mark) (x : ℕ) → IsDecidedUpTo app e embed instances reached x app.placed.positions → IsDecidedUpTo app e embed instances reached (x + 1) 0
+    node_decided instances reached x so_far = passed instances reached x app.placed.positions (x + 1) 0 so_far later between
       where
         later : (a b : ℕ) → IsPairBefore a b x app.placed.positions → IsPairBefore a b (x + 1) 0
         later a b (inl h) = inl (omega arith)
@@ -207,8 +207,8 @@ module _ (app : PendingOf) (prepared : IsPrepared app) where
         ]
 
     -- a node of which each instance is marked
-    pub node_marked : (deciders : List Decider) (reached : List Reached) (x p : ℕ) → IsDecidedUpTo app e embed deciders reached x p → ((result : Unfolded) → IsUnfoldedIn app result → (q : ℕ) → q < app.placed.positions → (k : ℕ) × HasMark app reached (name x q) k) → IsDecidedUpTo app e embed deciders reached (x + 1) 0
-    node_marked deciders reached x p so_far marked = passed deciders reached x p (x + 1) 0 so_far later between
+    pub node_marked : (instances : List DecidingInstance) (reached : List Mark) (x p : ℕ) → IsDecidedUpTo app e embed instances reached x p → ((result : Unfolded) → IsUnfoldedIn app result → (q : ℕ) → q < app.placed.positions → (k : ℕ) × HasMark app reached (name x q) k) → IsDecidedUpTo app e embed instances reached (x + 1) 0
+    node_marked instances reached x p so_far marked = passed instances reached x p (x + 1) 0 so_far later between
       where
         later : (a b : ℕ) → IsPairBefore a b x p → IsPairBefore a b (x + 1) 0
         later a b (inl h) = inl (omega arith)
@@ -221,9 +221,9 @@ module _ (app : PendingOf) (prepared : IsPrepared app) where
           | inr other ↦ inl (inl (omega arith))
         ]
 
-    module _ (deciders : List Decider) (reached : List Reached) (x p : ℕ) (at : At) (so_far : IsDecidedUpTo app e embed deciders reached x p) (assigned : IsAssignedAt x p) (dart : IsResultDart app at) (named : name_of app at ≡ name x p) where
+    module _ (instances : List DecidingInstance) (reached : List Mark) (x p : ℕ) (at : At) (so_far : IsDecidedUpTo app e embed instances reached x p) (assigned : IsAssignedAt x p) (dart : IsResultDart app at) (named : name_of app at ≡ name x p) where
       mark_of_key : HasKey reached (key_of at) → (k : ℕ) × HasMark app reached (name x p) k
-      mark_of_key (entry, among, key) = (entry.decider, (entry, among, same_name app prepared entry.at at (so_far.darts entry among) dart key ∙ named, refl))
+      mark_of_key (entry, among, key) = (entry.instance, (entry, among, same_name app prepared entry.at at (so_far.darts entry among) dart key ∙ named, refl))
 
       later : (a b : ℕ) → IsPairBefore a b x p → IsPairBefore a b x (p + 1)
       later a b (inl h) = inl h
@@ -237,36 +237,36 @@ module _ (app : PendingOf) (prepared : IsPrepared app) where
       ]
 
       -- an instance that was reached doesn't decide
-      pub instance_passed : HasKey reached (key_of at) → IsDecidedUpTo app e embed deciders reached x (p + 1)
-      instance_passed there = passed deciders reached x p x (p + 1) so_far later (λ result unfolded a b before h. go a b (up_to a b before))
+      pub instance_passed : HasKey reached (key_of at) → IsDecidedUpTo app e embed instances reached x (p + 1)
+      instance_passed there = passed instances reached x p x (p + 1) so_far later (λ result unfolded a b before h. go a b (up_to a b before))
         where
           go : (a b : ℕ) → IsPairBefore a b x p ⊎ ((a ≡ x) × (b ≡ p)) → IsPairBefore a b x p ⊎ ((k : ℕ) × HasMark app reached (name a b) k)
           go a b (inl earlier) = inl earlier
           go a b (inr same) = inr (subst (λ u. (k : ℕ) × HasMark app reached (name u b) k) (sym same.0) (subst (λ v. (k : ℕ) × HasMark app reached (name x v) k) (sym same.1) (mark_of_key there)))
 
-      module _ (after : List Reached) (absent : HasKey reached (key_of at) → ⊥) (darts : AreResultDarts app after) (few : length deciders < 4294967295)
-          (spread : (result : Unfolded) → IsUnfoldedIn app result → IsSpreadTo app embed result reached after (length deciders) (name_of app at) (length after) 0) where
-        abbrev this : Decider
-        this = record { node = x; position = p; value = None }
+      module _ (after : List Mark) (absent : HasKey reached (key_of at) → ⊥) (darts : AreResultDarts app after) (few : length instances < 4294967295)
+          (spread : (result : Unfolded) → IsUnfoldedIn app result → IsSpreadTo app embed result reached after (length instances) (name_of app at) (length after) 0) where
+        abbrev this : DecidingInstance
+        this = record { node = x; position = p; given = None }
 
         module _ (result : Unfolded) (unfolded : IsUnfoldedIn app result) where
-          abbrev s : IsSpreadTo app embed result reached after (length deciders) (name_of app at) (length after) 0
+          abbrev s : IsSpreadTo app embed result reached after (length instances) (name_of app at) (length after) 0
           s = spread result unfolded
 
-          abbrev w : IsWalkedUpTo app e embed result deciders reached x p
+          abbrev w : IsWalkedUpTo app e embed result instances reached x p
           w = so_far.walked result unfolded
 
-          here : HasMark app after (name x p) (length deciders)
-          here = subst (λ d. HasMark app after d (length deciders)) named s.here
+          here : HasMark app after (name x p) (length instances)
+          here = subst (λ d. HasMark app after d (length instances)) named s.here
 
           -- a mark was there, or is one of this walk
-          old_or_new : (d k : ℕ) → HasMark app after d k → HasMark app reached d k ⊎ ((k ≡ length deciders) × IsInOrbit result.alpha (type_of embed) (name x p) d)
+          old_or_new : (d k : ℕ) → HasMark app after d k → HasMark app reached d k ⊎ ((k ≡ length instances) × IsInOrbit result.alpha (type_of embed) (name x p) d)
           old_or_new d k (entry, among, f, g) = go (cases_lt among.0 (length reached))
             where
               at_m : slice_get after among.0 ≡ Some entry
               at_m = contained_at after entry among
 
-              go : (among.0 < length reached) ⊎ (length reached ≤ among.0) → HasMark app reached d k ⊎ ((k ≡ length deciders) × IsInOrbit result.alpha (type_of embed) (name x p) d)
+              go : (among.0 < length reached) ⊎ (length reached ≤ among.0) → HasMark app reached d k ⊎ ((k ≡ length instances) × IsInOrbit result.alpha (type_of embed) (name x p) d)
               go (inl h) =
                   let old = get_within reached among.0 h in
                   let same : old.0 ≡ entry = some_same old.0 entry (sym (s.grown.kept among.0 old.0 old.1) ∙ at_m) in
@@ -310,14 +310,14 @@ module _ (app : PendingOf) (prepared : IsPrepared app) where
               let back = orbit_back app prepared e embed at_embed result unfolded (name x p) (name y q) here_live orbit in
               unmarked old.0 (closed_along app prepared e embed at_embed result unfolded reached (name y q) (name x p) old.0 w.closed old.1 back)
 
-          decided : (d k : ℕ) → HasMark app after d k → (decider : Decider) × (slice_get (deciders ++ this ∷ []) k ≡ Some decider) × IsDecidedIn app result e embed d decider.node decider.position
+          decided : (d k : ℕ) → HasMark app after d k → (instance : DecidingInstance) × (slice_get (instances ++ this ∷ []) k ≡ Some instance) × IsDecidedIn app result e embed d instance.node instance.position
           decided d k mark = go (old_or_new d k mark)
             where
-              go : HasMark app reached d k ⊎ ((k ≡ length deciders) × IsInOrbit result.alpha (type_of embed) (name x p) d) → (decider : Decider) × (slice_get (deciders ++ this ∷ []) k ≡ Some decider) × IsDecidedIn app result e embed d decider.node decider.position
-              go (inl old) = let by = w.decided d k old in (by.0, kept_at deciders this k by.0 by.1, by.2)
+              go : HasMark app reached d k ⊎ ((k ≡ length instances) × IsInOrbit result.alpha (type_of embed) (name x p) d) → (instance : DecidingInstance) × (slice_get (instances ++ this ∷ []) k ≡ Some instance) × IsDecidedIn app result e embed d instance.node instance.position
+              go (inl old) = let by = w.decided d k old in (by.0, kept_at instances this k by.0 by.1, by.2)
               go (inr new) = (
                 this,
-                subst (λ j. slice_get (deciders ++ this ∷ []) j ≡ Some this) (sym new.0) (last_at deciders this),
+                subst (λ j. slice_get (instances ++ this ∷ []) j ≡ Some this) (sym new.0) (last_at instances this),
                 record {
                   assigned = assigned;
                   lies = orbit_back app prepared e embed at_embed result unfolded (name x p) d here_live new.1;
@@ -325,87 +325,87 @@ module _ (app : PendingOf) (prepared : IsPrepared app) where
                 },
               )
 
-          walked : IsWalkedUpTo app e embed result (deciders ++ this ∷ []) after x (p + 1)
+          walked : IsWalkedUpTo app e embed result (instances ++ this ∷ []) after x (p + 1)
           walked = record {
             closed = closed;
             decided = decided;
-            own = λ k decider f. own k decider (kept_or_last deciders this k decider f);
+            own = λ k instance f. own k instance (kept_or_last instances this k instance f);
             all = λ y q before a b. all y q a b (up_to y q before);
           }
             where
-              own : (k : ℕ) (decider : Decider) → (slice_get deciders k ≡ Some decider) ⊎ ((k ≡ length deciders) × (this ≡ decider)) → HasMark app after (name decider.node decider.position) k
-              own k decider (inl f) = kept (name decider.node decider.position) k (w.own k decider f)
-              own k decider (inr f) = subst (λ (c : Decider). HasMark app after (name c.node c.position) k) f.1 (subst (HasMark app after (name x p)) (sym f.0) here)
+              own : (k : ℕ) (instance : DecidingInstance) → (slice_get instances k ≡ Some instance) ⊎ ((k ≡ length instances) × (this ≡ instance)) → HasMark app after (name instance.node instance.position) k
+              own k instance (inl f) = kept (name instance.node instance.position) k (w.own k instance f)
+              own k instance (inr f) = subst (λ (c : DecidingInstance). HasMark app after (name c.node c.position) k) f.1 (subst (HasMark app after (name x p)) (sym f.0) here)
 
               all : (y q : ℕ) → IsAssigned (rule_in app) e y → q < app.placed.positions → IsPairBefore y q x p ⊎ ((y ≡ x) × (q ≡ p)) → (k : ℕ) × HasMark app after (name y q) k
               all y q a b (inl earlier) = let old = w.all y q earlier a b in (old.0, kept (name y q) old.0 old.1)
-              all y q a b (inr same) = (length deciders, subst (λ u. HasMark app after (name u q) (length deciders)) (sym same.0) (subst (λ v. HasMark app after (name x v) (length deciders)) (sym same.1) here))
+              all y q a b (inr same) = (length instances, subst (λ u. HasMark app after (name u q) (length instances)) (sym same.0) (subst (λ v. HasMark app after (name x v) (length instances)) (sym same.1) here))
 
         -- an instance that wasn't reached decides
-        pub instance_decides : IsDecidedUpTo app e embed (deciders ++ this ∷ []) after x (p + 1)
+        pub instance_decides : IsDecidedUpTo app e embed (instances ++ this ∷ []) after x (p + 1)
         instance_decides = record {
           darts = darts;
-          few = omega (arith, few, length-append deciders (this ∷ []));
-          ascending = λ k l a b h f g. ascending k l a b h (kept_or_last deciders this k a f) (kept_or_last deciders this l b g);
-          before = λ k decider f. before k decider (kept_or_last deciders this k decider f);
-          ungiven = λ k decider f. ungiven k decider (kept_or_last deciders this k decider f);
+          few = omega (arith, few, length-append instances (this ∷ []));
+          ascending = λ k l a b h f g. ascending k l a b h (kept_or_last instances this k a f) (kept_or_last instances this l b g);
+          before = λ k instance f. before k instance (kept_or_last instances this k instance f);
+          ungiven = λ k instance f. ungiven k instance (kept_or_last instances this k instance f);
           walked = walked;
         }
           where
-            ascending : (k l : ℕ) (a b : Decider) → k < l → (slice_get deciders k ≡ Some a) ⊎ ((k ≡ length deciders) × (this ≡ a)) → (slice_get deciders l ≡ Some b) ⊎ ((l ≡ length deciders) × (this ≡ b)) → IsPairBefore a.node a.position b.node b.position
+            ascending : (k l : ℕ) (a b : DecidingInstance) → k < l → (slice_get instances k ≡ Some a) ⊎ ((k ≡ length instances) × (this ≡ a)) → (slice_get instances l ≡ Some b) ⊎ ((l ≡ length instances) × (this ≡ b)) → IsPairBefore a.node a.position b.node b.position
             ascending k l a b h (inl f) (inl g) = so_far.ascending k l a b h f g
-            ascending k l a b h (inl f) (inr g) = subst (λ (c : Decider). IsPairBefore a.node a.position c.node c.position) g.1 (so_far.before k a f)
-            ascending k l a b h (inr f) (inl g) = absurd (omega (arith, f.0, slice_get_within deciders l b g))
+            ascending k l a b h (inl f) (inr g) = subst (λ (c : DecidingInstance). IsPairBefore a.node a.position c.node c.position) g.1 (so_far.before k a f)
+            ascending k l a b h (inr f) (inl g) = absurd (omega (arith, f.0, slice_get_within instances l b g))
             ascending k l a b h (inr f) (inr g) = absurd (omega (arith, f.0, g.0))
 
-            before : (k : ℕ) (decider : Decider) → (slice_get deciders k ≡ Some decider) ⊎ ((k ≡ length deciders) × (this ≡ decider)) → IsPairBefore decider.node decider.position x (p + 1)
-            before k decider (inl f) = later decider.node decider.position (so_far.before k decider f)
-            before k decider (inr f) = subst (λ (c : Decider). IsPairBefore c.node c.position x (p + 1)) f.1 (inr (refl, omega arith))
+            before : (k : ℕ) (instance : DecidingInstance) → (slice_get instances k ≡ Some instance) ⊎ ((k ≡ length instances) × (this ≡ instance)) → IsPairBefore instance.node instance.position x (p + 1)
+            before k instance (inl f) = later instance.node instance.position (so_far.before k instance f)
+            before k instance (inr f) = subst (λ (c : DecidingInstance). IsPairBefore c.node c.position x (p + 1)) f.1 (inr (refl, omega arith))
 
-            ungiven : (k : ℕ) (decider : Decider) → (slice_get deciders k ≡ Some decider) ⊎ ((k ≡ length deciders) × (this ≡ decider)) → decider.value ≡ None
-            ungiven k decider (inl f) = so_far.ungiven k decider f
-            ungiven k decider (inr f) = subst (λ (c : Decider). c.value ≡ None) f.1 refl
+            ungiven : (k : ℕ) (instance : DecidingInstance) → (slice_get instances k ≡ Some instance) ⊎ ((k ≡ length instances) × (this ≡ instance)) → instance.given ≡ None
+            ungiven k instance (inl f) = so_far.ungiven k instance f
+            ungiven k instance (inr f) = subst (λ (c : DecidingInstance). c.given ≡ None) f.1 refl
 
     -- ---- at the end
 
-    module _ (deciders : List Decider) (reached : List Reached) (so_far : IsDecidedUpTo app e embed deciders reached (length (rule_in app).nodes) 0) where
+    module _ (instances : List DecidingInstance) (reached : List Mark) (so_far : IsDecidedUpTo app e embed instances reached (length (rule_in app).nodes) 0) where
       module _ (result : Unfolded) (unfolded : IsUnfoldedIn app result) where
-        abbrev end : IsWalkedUpTo app e embed result deciders reached (length (rule_in app).nodes) 0
+        abbrev end : IsWalkedUpTo app e embed result instances reached (length (rule_in app).nodes) 0
         end = so_far.walked result unfolded
 
         marked : (x p : ℕ) → IsAssignedAt x p → (k : ℕ) × HasMark app reached (name x p) k
         marked x p a = end.all x p (inl (assigned_below (rule_in app) e x a.0)) a.0 a.1
 
-        decides : (decider : Decider) → Contains deciders decider → IsDecidingIn app result e embed decider.node decider.position
-        decides decider among =
-            let at_k = contained_at deciders decider among in
-            let by = end.decided (name decider.node decider.position) among.0 (end.own among.0 decider at_k) in
-            let same : by.0 ≡ decider = some_same by.0 decider (sym by.1 ∙ at_k) in
-            subst (λ (c : Decider). IsDecidedIn app result e embed (name decider.node decider.position) c.node c.position) same by.2
+        decides : (instance : DecidingInstance) → Contains instances instance → IsDecidingIn app result e embed instance.node instance.position
+        decides instance among =
+            let at_k = contained_at instances instance among in
+            let by = end.decided (name instance.node instance.position) among.0 (end.own among.0 instance at_k) in
+            let same : by.0 ≡ instance = some_same by.0 instance (sym by.1 ∙ at_k) in
+            subst (λ (c : DecidingInstance). IsDecidedIn app result e embed (name instance.node instance.position) c.node c.position) same by.2
 
-        listed : (x p : ℕ) → IsDecidingIn app result e embed x p → (decider : Decider) × Contains deciders decider × (decider.node ≡ x) × (decider.position ≡ p)
+        listed : (x p : ℕ) → IsDecidingIn app result e embed x p → (instance : DecidingInstance) × Contains instances instance × (instance.node ≡ x) × (instance.position ≡ p)
         listed x p deciding =
             let mark = marked x p deciding.assigned in
             let by = end.decided (name x p) mark.0 mark.1 in
             let same : (by.0.node ≡ x) × (by.0.position ≡ p) = pair_same by.0.node by.0.position x p
             (λ h. deciding.least by.0.node by.0.position h by.2.assigned by.2.lies)
             (λ h. by.2.least x p h deciding.assigned deciding.lies) in
-            (by.0, get_contained deciders mark.0 by.0 by.1, same.0, same.1)
+            (by.0, get_contained instances mark.0 by.0 by.1, same.0, same.1)
 
-        found : (d : ℕ) → IsReachedIn app result e embed d → (entry : Reached) × Contains reached entry × (name_of app entry.at ≡ d)
+        found : (d : ℕ) → IsReachedIn app result e embed d → (entry : Mark) × Contains reached entry × (name_of app entry.at ≡ d)
         found d (live, (x, p, a, lies)) =
             let mark = marked x p a in
             let back = orbit_back app prepared e embed at_embed result unfolded d (name x p) live lies in
             let there = closed_along app prepared e embed at_embed result unfolded reached (name x p) d mark.0 end.closed mark.1 back in
             (there.0, there.1, there.2)
 
-      pub are_deciders : AreDeciders app e embed deciders
+      pub are_deciders : AreDecidingInstances app e embed instances
       are_deciders = record { ascending = so_far.ascending; decide = decides; all = listed }
 
-      pub are_reached : HasDistinctKeys reached → AreReached app e embed deciders reached
+      pub are_reached : HasDistinctKeys reached → AreReached app e embed instances reached
       are_reached distinct = record {
         darts = so_far.darts;
         distinct = distinct_darts reached so_far.darts distinct;
-        decided = λ result unfolded entry among. (end result unfolded).decided (name_of app entry.at) entry.decider (entry, among, refl, refl);
+        decided = λ result unfolded entry among. (end result unfolded).decided (name_of app entry.at) entry.instance (entry, among, refl, refl);
         all = found;
       }

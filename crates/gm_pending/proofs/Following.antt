@@ -7,7 +7,7 @@ use Rattle.gm_model.specs.Maps.{IsEmbedAt, type_of}
 use Rattle.gm_model.specs.Unfolding.{IsArcAfter}
 use Rattle.gm_theory.specs.Theorem.{Unfolded}
 use Rattle.gm_pending.specs.declared.at.At.{At}
-use Rattle.gm_pending.specs.declared.marks.Reached.{Reached}
+use Rattle.gm_pending.specs.declared.marks.Mark.{Mark}
 use Rattle.gm_pending.specs.Marks.{IsMarkedMore, HasDistinctKeys}
 use Rattle.gm_pending.specs.Reached.{AreResultDarts, IsFollowedTo, IsFollowed, IsGrown, IsSpreadTo}
 use Rattle.gm_pending.specs.Results.{PendingOf, IsPrepared, IsResultDart, IsUnfoldedIn, scene_in, name_of}
@@ -15,32 +15,32 @@ use Rattle.gm_pending.proofs.Reached.{get_within}
 use Rattle.gm_pending.proofs.Spread.{label_within, spread_passes, spread_follows, spread_next}
 
 -- what was marked is marked
-abbrev pub StaysMarked : List Reached → List Reached → Type 0
-StaysMarked old new = (j : ℕ) (entry : Reached) → slice_get old j ≡ Some entry → slice_get new j ≡ Some entry
+abbrev pub StaysMarked : List Mark → List Mark → Type 0
+StaysMarked old new = (j : ℕ) (entry : Mark) → slice_get old j ≡ Some entry → slice_get new j ≡ Some entry
 
-pub stays_longer : (old new : List Reached) → StaysMarked old new → length old ≤ length new
+pub stays_longer : (old new : List Mark) → StaysMarked old new → length old ≤ length new
 stays_longer old new kept = elim (cases_lt (length new) (length old)) [
   | inr h ↦ h
   | inl h ↦ let last = get_within old (length new) h in absurd (let b = slice_get_within new (length new) last.0 (kept (length new) last.0 last.1) in omega (arith, b))
 ]
 
-module _ (app : PendingOf) (prepared : IsPrepared app) (e : ℕ) (embed : Embed) (at_embed : IsEmbedAt app.map.schema e embed) (from : Reached) (old marks : List Reached) where
+module _ (app : PendingOf) (prepared : IsPrepared app) (e : ℕ) (embed : Embed) (at_embed : IsEmbedAt app.map.schema e embed) (from : Mark) (old marks : List Mark) where
   pub followed_some : (i : ℕ) → IsFollowedTo app embed from old marks i → IsFollowed app embed from old marks
   followed_some i followed result before d n unfolded there late spread = (followed result before d n unfolded there late spread).grown
 
   module _ (i : ℕ) (kept : StaysMarked old marks) (followed : IsFollowedTo app embed from old marks i) where
     pub followed_passes : type_of embed i ≡ false → IsFollowedTo app embed from old marks (i + 1)
     followed_passes none result before d n unfolded there late spread =
-        spread_passes app prepared e embed at_embed result unfolded before marks from.decider d n i from (followed result before d n unfolded there late spread) late (kept n from there) none
+        spread_passes app prepared e embed at_embed result unfolded before marks from.instance d n i from (followed result before d n unfolded there late spread) late (kept n from there) none
 
-    pub followed_follows : (after : List Reached) (to : At) → IsTrue (type_of embed i) → AreResultDarts app marks → HasDistinctKeys marks → IsResultDart app to → IsArcAfter (scene_in app) (name_of app from.at) i (name_of app to) → IsMarkedMore marks after to from.decider → IsFollowedTo app embed from old after (i + 1)
+    pub followed_follows : (after : List Mark) (to : At) → IsTrue (type_of embed i) → AreResultDarts app marks → HasDistinctKeys marks → IsResultDart app to → IsArcAfter (scene_in app) (name_of app from.at) i (name_of app to) → IsMarkedMore marks after to from.instance → IsFollowedTo app embed from old after (i + 1)
     followed_follows after to t darts distinct dart arc more result before d n unfolded there late spread =
         let h : i ≤ app.map.schema.dim = label_within app prepared e embed at_embed result unfolded i t in
         let leads : result.alpha i (name_of app from.at) ≡ name_of app to = ((unfolded.arcs (name_of app from.at) i (name_of app to) h).1 arc).1 in
-        spread_follows app prepared e embed at_embed result unfolded before marks from.decider d n i from (followed result before d n unfolded there late spread) late (kept n from there) after to t darts distinct dart (sym leads) more
+        spread_follows app prepared e embed at_embed result unfolded before marks from.instance d n i from (followed result before d n unfolded there late spread) late (kept n from there) after to t darts distinct dart (sym leads) more
 
-  pub followed_next : IsFollowedTo app embed from old marks (app.map.schema.dim + 1) → (result : Unfolded) (before : List Reached) (d n : ℕ) → IsUnfoldedIn app result → slice_get old n ≡ Some from → length before ≤ n → IsSpreadTo app embed result before old from.decider d n 0 → IsSpreadTo app embed result before marks from.decider d (n + 1) 0
-  followed_next followed result before d n unfolded there late spread = spread_next app prepared e embed at_embed result unfolded before marks from.decider d n (followed result before d n unfolded there late spread)
+  pub followed_next : IsFollowedTo app embed from old marks (app.map.schema.dim + 1) → (result : Unfolded) (before : List Mark) (d n : ℕ) → IsUnfoldedIn app result → slice_get old n ≡ Some from → length before ≤ n → IsSpreadTo app embed result before old from.instance d n 0 → IsSpreadTo app embed result before marks from.instance d (n + 1) 0
+  followed_next followed result before d n unfolded there late spread = spread_next app prepared e embed at_embed result unfolded before marks from.instance d n (followed result before d n unfolded there late spread)
 
 -- ---- from one entry to the next
 
@@ -50,8 +50,8 @@ walked_cost dim n m old start before after h b c =
     let one : (dim + 1) * (n + 1) ≡ (dim + 1) * n + (dim + 1) = grind arith in
     omega (arith, more, one, b, c)
 
-module _ (app : PendingOf) (prepared : IsPrepared app) (e : ℕ) (embed : Embed) (at_embed : IsEmbedAt app.map.schema e embed) (before marks after : List Reached) (k d n : ℕ) (from : Reached) (late : length before ≤ n) (there : slice_get marks n ≡ Some from) (result : Unfolded) (unfolded : IsUnfoldedIn app result) (spread : IsSpreadTo app embed result before marks k d n 0) where
-  same : from.decider ≡ k
+module _ (app : PendingOf) (prepared : IsPrepared app) (e : ℕ) (embed : Embed) (at_embed : IsEmbedAt app.map.schema e embed) (before marks after : List Mark) (k d n : ℕ) (from : Mark) (late : length before ≤ n) (there : slice_get marks n ≡ Some from) (result : Unfolded) (unfolded : IsUnfoldedIn app result) (spread : IsSpreadTo app embed result before marks k d n 0) where
+  same : from.instance ≡ k
   same = (spread.grown.more n from late there).0
 
   pub walked_on : IsFollowedTo app embed from marks after (app.map.schema.dim + 1) → IsSpreadTo app embed result before after k d (n + 1) 0

@@ -18,13 +18,13 @@ use Rattle.gm_theory.specs.Theorem.{Unfolded}
 use Rattle.gm_pending.specs.declared.at.At.{At}
 use Rattle.gm_pending.specs.declared.at.At.TheVariants.{Old, New}
 use Rattle.gm_pending.specs.declared.changes.ValueAt.{ValueAt}
-use Rattle.gm_pending.specs.declared.marks.Reached.{Reached}
+use Rattle.gm_pending.specs.declared.marks.Mark.{Mark}
 use Rattle.gm_pending.specs.EditLists.{AreNewValues, IsNewValue, IsReachedSumIn, IsValueOfDart}
 use Rattle.gm_pending.specs.Gathered.{AreAllReached, AreGathered, AreGatheredBelow, AreGatheredFrom, HasReached}
 use Rattle.gm_pending.specs.Marks.{HasDistinctKeys}
 use Rattle.gm_pending.specs.Reached.{AreReached}
 use Rattle.gm_pending.specs.Results.{PendingOf, IsPrepared, IsReachedIn, IsResultDart, IsUnfoldedIn, IsValueIn, name_of, rule_in, place_in}
-use Rattle.gm_pending.specs.declared.decider.Decider.{Decider}
+use Rattle.gm_pending.specs.declared.deciding_instance.DecidingInstance.{DecidingInstance}
 use Rattle.gm_pending.proofs.Darts.{result_dart}
 use Rattle.gm_pending.proofs.Decided.{few_reached}
 use Rattle.gm_pending.proofs.Reached.{among_or_last, kept_among, last_among}
@@ -35,9 +35,9 @@ value_at slot e v = record { slot = slot; embed = e; value = v }
 
 -- ---- what was answered
 
-pub all_reached : (app : PendingOf) → IsPrepared app → (e : ℕ) (deciders : List Decider) (reached : List Reached) → e < length app.map.schema.embeds → HasDistinctKeys reached →
-    ((embed : Embed) → IsEmbedAt app.map.schema e embed → AreReached app e embed deciders reached) → AreAllReached app e reached
-all_reached app prepared e deciders reached low distinct are = record {
+pub all_reached : (app : PendingOf) → IsPrepared app → (e : ℕ) (instances : List DecidingInstance) (reached : List Mark) → e < length app.map.schema.embeds → HasDistinctKeys reached →
+    ((embed : Embed) → IsEmbedAt app.map.schema e embed → AreReached app e embed instances reached) → AreAllReached app e reached
+all_reached app prepared e instances reached low distinct are = record {
   dart = elim ((slice_get_cases app.map.schema.embeds e).1) [
     | inl (embed, below, at, is) ↦ (are embed at).darts
     | inr (past, none) ↦ absurd (omega arith)
@@ -47,12 +47,12 @@ all_reached app prepared e deciders reached low distinct are = record {
   few = λ count (result, embed, unfolds, at, counted). few_reached app prepared e embed at reached result count (are embed at).darts distinct (in_orbit embed at) unfolds counted;
 }
   where
-    in_orbit : (embed : Embed) → IsEmbedAt app.map.schema e embed → (result : Unfolded) → IsUnfoldedIn app result → (entry : Reached) → Contains reached entry → IsReachedIn app result e embed (name_of app entry.at)
+    in_orbit : (embed : Embed) → IsEmbedAt app.map.schema e embed → (result : Unfolded) → IsUnfoldedIn app result → (entry : Mark) → Contains reached entry → IsReachedIn app result e embed (name_of app entry.at)
     in_orbit embed at result unfolds entry among =
         let by = (are embed at).decided result unfolds entry among in
         ((unfolds.darts (name_of app entry.at)).1 (result_dart app prepared entry.at ((are embed at).darts entry among)), (by.0.node, by.0.position, by.2.assigned, by.2.lies))
 
-module _ (app : PendingOf) (e : ℕ) (reached : List Reached) (are : AreAllReached app e reached) where
+module _ (app : PendingOf) (e : ℕ) (reached : List Mark) (are : AreAllReached app e reached) where
   -- ---- one embedding, dart by dart
 
   pub none_gathered : (old : List ValueAt) → AreGatheredFrom app e reached 0 old old
@@ -63,7 +63,7 @@ module _ (app : PendingOf) (e : ℕ) (reached : List Reached) (are : AreAllReach
     few = omega arith;
   }
 
-  module _ (k : ℕ) (old mid : List ValueAt) (so_far : AreGatheredFrom app e reached k old mid) (entry : Reached) (here : slice_get reached k ≡ Some entry) where
+  module _ (k : ℕ) (old mid : List ValueAt) (so_far : AreGatheredFrom app e reached k old mid) (entry : Mark) (here : slice_get reached k ≡ Some entry) where
     -- a dart of the old map
     pub old_gathered : (slot : Slot) (v : Value) → entry.at ≡ Old slot → e < length app.map.schema.embeds → ((embed : Embed) → IsEmbedAt app.map.schema e embed → IsValueIn app e embed (name_at app.map slot.at) v) →
         AreGatheredFrom app e reached (k + 1) old (mid ++ value_at slot e v ∷ [])
@@ -89,11 +89,11 @@ module _ (app : PendingOf) (e : ℕ) (reached : List Reached) (are : AreAllReach
           | inr (past, none) ↦ absurd (omega arith)
         ]
 
-        all : (j : ℕ) (other : Reached) (s : Slot) → j < k + 1 → slice_get reached j ≡ Some other → other.at ≡ Old s → (a : ValueAt) × Contains (mid ++ value_at slot e v ∷ []) a × (a.embed ≡ e) × (a.slot ≡ s)
+        all : (j : ℕ) (other : Mark) (s : Slot) → j < k + 1 → slice_get reached j ≡ Some other → other.at ≡ Old s → (a : ValueAt) × Contains (mid ++ value_at slot e v ∷ []) a × (a.embed ≡ e) × (a.slot ≡ s)
         all j other s h there is = elim (cases_eq j k) [
           | inl last ↦
               let same : entry ≡ other = same_Some entry other (sym here ∙ ap (slice_get reached) (sym last) ∙ there) in
-              let slots : Old slot ≡ Old s = sym at ∙ ap (λ (r : Reached). r.at) same ∙ is in
+              let slots : Old slot ≡ Old s = sym at ∙ ap (λ (r : Mark). r.at) same ∙ is in
               (value_at slot e v, last_among mid (value_at slot e v), refl, cc)
           | inr earlier ↦
               let found = so_far.all j other s (omega arith) there is in
@@ -106,7 +106,7 @@ module _ (app : PendingOf) (e : ℕ) (reached : List Reached) (are : AreAllReach
       kept = so_far.kept;
       only = so_far.only;
       all = λ j other slot h there is. elim (cases_eq j k) [
-        | inl last ↦ absurd (new slot (ap (λ (r : Reached). r.at) (same_Some entry other (sym here ∙ ap (slice_get reached) (sym last) ∙ there)) ∙ is))
+        | inl last ↦ absurd (new slot (ap (λ (r : Mark). r.at) (same_Some entry other (sym here ∙ ap (slice_get reached) (sym last) ∙ there)) ∙ is))
         | inr earlier ↦ so_far.all j other slot (omega arith) there is
       ];
       few = omega (arith, so_far.few);
@@ -123,7 +123,7 @@ module _ (app : PendingOf) (e : ℕ) (reached : List Reached) (are : AreAllReach
       all : (result : Unfolded) → IsUnfoldedIn app result → (d : ℕ) (embed : Embed) → IsEmbedAt app.map.schema e embed → IsDart (as_map app.map) d → IsReachedIn app result e embed d → (at : ValueAt) × Contains new at × IsValueOfDart app at e d
       all result unfolds d embed embed_at live there = go found.0.at refl
         where
-          found : (entry : Reached) × Contains reached entry × (name_of app entry.at ≡ d)
+          found : (entry : Mark) × Contains reached entry × (name_of app entry.at ≡ d)
           found = are.all embed embed_at result unfolds d there
 
           low : found.1.0 < count

@@ -14,13 +14,13 @@ use Rattle.gm_arena.proofs.MapLemmas.{name_below}
 use Rattle.gm_plan.specs.InArena.{slot_number}
 use Rattle.gm_theory.proofs.Lists.{some_same, none_some, contained_at, get_contained}
 use Rattle.gm_pending.specs.declared.at.At.TheVariants.{Old, New}
-use Rattle.gm_pending.specs.declared.marks.Reached.{Reached}
+use Rattle.gm_pending.specs.declared.marks.Mark.{Mark}
 use Rattle.gm_pending.specs.EditLists.{AreAddedValues, added_value}
 use Rattle.gm_pending.specs.Gathered.{AreDecidedBelow, AreDecidedFrom, AreKeptValues, IsAmongFirst, IsKeptValue, new_number}
 use Rattle.gm_pending.specs.Marks.{HasKey, key_of}
 use Rattle.gm_pending.specs.Reached.{AreReached}
 use Rattle.gm_pending.specs.Sources.{HasSourceNode, given_of}
-use Rattle.gm_pending.specs.Results.{PendingOf, IsPrepared, AreAllGiven, IsResultDart, IsValueIn, deciders_of, name_of, rule_in}
+use Rattle.gm_pending.specs.Results.{PendingOf, IsPrepared, AreAllGiven, IsResultDart, IsValueIn, instances_of, name_of, rule_in}
 use Rattle.gm_pending.proofs.AddedDarts.{new_dart_name}
 use Rattle.gm_pending.proofs.Darts.{live_dart}
 use Rattle.gm_pending.proofs.Reached.{get_within}
@@ -28,15 +28,15 @@ use Rattle.gm_pending.proofs.Spread.{same_name}
 use Rattle.gm_pending.proofs.Valued.{has_given, source_node, value_decided, value_kept}
 
 module _ (app : PendingOf) where
-  abbrev HasName : List Reached → ℕ → Type 0
-  HasName reached d = (k : ℕ) × (entry : Reached) × (slice_get reached k ≡ Some entry) × (name_of app entry.at ≡ d)
+  abbrev HasName : List Mark → ℕ → Type 0
+  HasName reached d = (k : ℕ) × (entry : Mark) × (slice_get reached k ≡ Some entry) × (name_of app entry.at ≡ d)
 
-  named_or_not : (reached : List Reached) (d : ℕ) → HasName reached d ⊎ (HasName reached d → ⊥)
+  named_or_not : (reached : List Mark) (d : ℕ) → HasName reached d ⊎ (HasName reached d → ⊥)
   named_or_not [] d = inr (λ (k, entry, there, named). none_some entry there)
   named_or_not (first ∷ reached) d = go (cases_eq (name_of app first.at) d) (named_or_not reached d)
     where
       not_later : (name_of app first.at ≡ d → ⊥) → (HasName reached d → ⊥) → HasName (first ∷ reached) d → ⊥
-      not_later other none (zero, entry, there, named) = other (ap (λ (r : Reached). name_of app r.at) (some_same first entry there) ∙ named)
+      not_later other none (zero, entry, there, named) = other (ap (λ (r : Mark). name_of app r.at) (some_same first entry there) ∙ named)
       not_later other none (suc k, entry, there, named) = none (k, entry, there, named)
 
       go : (name_of app first.at ≡ d) ⊎ (name_of app first.at ≡ d → ⊥) → HasName reached d ⊎ (HasName reached d → ⊥) → HasName (first ∷ reached) d ⊎ (HasName (first ∷ reached) d → ⊥)
@@ -59,18 +59,18 @@ module _ (app : PendingOf) where
     given = λ number e embed low at. are.decided number e embed low (let within = slice_get_within app.map.schema.embeds e embed at in omega (arith, end, within)) at;
   }
 
-module _ (app : PendingOf) (prepared : IsPrepared app) (e : ℕ) (reached : List Reached) (low : e < length app.map.schema.embeds) where
-  module _ (are : (embed : Embed) → IsEmbedAt app.map.schema e embed → AreReached app e embed (deciders_of app e) reached) (k : ℕ) (entry : Reached) (here : slice_get reached k ≡ Some entry) where
+module _ (app : PendingOf) (prepared : IsPrepared app) (e : ℕ) (reached : List Mark) (low : e < length app.map.schema.embeds) where
+  module _ (are : (embed : Embed) → IsEmbedAt app.map.schema e embed → AreReached app e embed (instances_of app e) reached) (k : ℕ) (entry : Mark) (here : slice_get reached k ≡ Some entry) where
     pub entry_dart : IsResultDart app entry.at
     entry_dart = let kept = get_within app.map.schema.embeds e low in (are kept.0 kept.1).darts entry (get_contained reached k entry here)
 
-    pub entry_given : AreAllGiven app e → IsSome (given_of (deciders_of app e) entry.decider)
+    pub entry_given : AreAllGiven app e → IsSome (given_of (instances_of app e) entry.instance)
     entry_given given =
         let kept = get_within app.map.schema.embeds e low in
-        has_given app prepared e kept.0 kept.1 reached (are kept.0 kept.1) entry.at entry_dart entry.decider (entry, get_contained reached k entry here, refl, refl) given
+        has_given app prepared e kept.0 kept.1 reached (are kept.0 kept.1) entry.at entry_dart entry.instance (entry, get_contained reached k entry here, refl, refl) given
 
-    pub entry_value : (v : Value) → given_of (deciders_of app e) entry.decider ≡ Some v → (embed : Embed) → IsEmbedAt app.map.schema e embed → IsValueIn app e embed (name_of app entry.at) v
-    entry_value v given embed at = value_decided app prepared e embed at reached (are embed at) entry.at entry_dart entry.decider (entry, get_contained reached k entry here, refl, refl) v given
+    pub entry_value : (v : Value) → given_of (instances_of app e) entry.instance ≡ Some v → (embed : Embed) → IsEmbedAt app.map.schema e embed → IsValueIn app e embed (name_of app entry.at) v
+    entry_value v given embed at = value_decided app prepared e embed at reached (are embed at) entry.at entry_dart entry.instance (entry, get_contained reached k entry here, refl, refl) v given
 
   -- ---- one embedding, entry by entry
 
@@ -81,10 +81,10 @@ module _ (app : PendingOf) (prepared : IsPrepared app) (e : ℕ) (reached : List
     same = λ number f within other. refl;
   }
 
-  module _ (count : ℕ) (old mid : List Value) (so_far : AreDecidedFrom app e reached count old mid) (entry : Reached) (here : slice_get reached count ≡ Some entry) where
+  module _ (count : ℕ) (old mid : List Value) (so_far : AreDecidedFrom app e reached count old mid) (entry : Mark) (here : slice_get reached count ≡ Some entry) where
     earlier_or_this : (d : ℕ) → IsAmongFirst app reached (count + 1) d → IsAmongFirst app reached count d ⊎ (name_of app entry.at ≡ d)
     earlier_or_this d (k, other, below, there, named) = elim (cases_eq k count) [
-      | inl last ↦ inr (ap (λ (r : Reached). name_of app r.at) (some_same entry other (sym here ∙ ap (slice_get reached) (sym last) ∙ there)) ∙ named)
+      | inl last ↦ inr (ap (λ (r : Mark). name_of app r.at) (some_same entry other (sym here ∙ ap (slice_get reached) (sym last) ∙ there)) ∙ named)
       | inr earlier ↦ inl (k, other, omega arith, there, named)
     ]
 
@@ -141,7 +141,7 @@ module _ (app : PendingOf) (prepared : IsPrepared app) (e : ℕ) (reached : List
 
   -- ---- one embedding more
 
-  module _ (old new : List Value) (count : ℕ) (end : count ≡ length reached) (from : AreDecidedFrom app e reached count old new) (before : AreDecidedBelow app e old) (are : (embed : Embed) → IsEmbedAt app.map.schema e embed → AreReached app e embed (deciders_of app e) reached) where
+  module _ (old new : List Value) (count : ℕ) (end : count ≡ length reached) (from : AreDecidedFrom app e reached count old new) (before : AreDecidedBelow app e old) (are : (embed : Embed) → IsEmbedAt app.map.schema e embed → AreReached app e embed (instances_of app e) reached) where
     decided_here : (number : ℕ) (embed : Embed) → number < app.placed.positions * added_nodes (rule_in app) → IsEmbedAt app.map.schema e embed → IsValueIn app e embed (app.map.next + number) (added_value app.map.schema new number e)
     decided_here number embed h at = go (named_or_not app reached (app.map.next + number)) (before.kept number e embed h (omega arith) at)
       where

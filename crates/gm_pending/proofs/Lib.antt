@@ -36,4 +36,5 @@ pub mod Writing
 pub mod ManyArcs
 pub mod Collected
 pub mod Told
+pub mod KeptArcs
 pub mod Taken

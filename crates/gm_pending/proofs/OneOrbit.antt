@@ -18,7 +18,7 @@ use Rattle.gm_theory.proofs.Turns.{first_turn}
 use Rattle.gm_theory.proofs.ValuesReadOff.{letter_step}
 use Rattle.gm_theory.specs.Theorem.{Unfolded, IsDartOf}
 use Rattle.gm_pending.specs.declared.at.At.{At}
-use Rattle.gm_pending.specs.declared.marks.Reached.{Reached}
+use Rattle.gm_pending.specs.declared.marks.Mark.{Mark}
 use Rattle.gm_pending.specs.Marks.{key_of, reached_by, HasKey}
 use Rattle.gm_pending.specs.Reached.{AreMarkedTo, AreResultDarts, HasMark, IsAlwaysOneOrbit, IsClosed, IsGrown, IsSpreadTo, IsUnmarked}
 use Rattle.gm_pending.specs.Results.{PendingOf, IsPrepared, IsResultDart, IsUnfoldedIn, name_of, place_in, rule_in, scene_in}
@@ -40,14 +40,14 @@ module _ (app : PendingOf) (prepared : IsPrepared app) (x : ℕ) (right : IsTrue
 
   -- ---- the marks of one instance after the other
 
-  pub none_marked_yet : (before : List Reached) (k : ℕ) → AreMarkedTo app before before x k 0
+  pub none_marked_yet : (before : List Mark) (k : ℕ) → AreMarkedTo app before before x k 0
   none_marked_yet before k = record {
     kept = λ j entry f. f;
     more = λ j entry h f. absurd (omega (arith, h, slice_get_within before j entry f));
     all = λ q h. absurd (omega arith);
   }
 
-  module _ (before marks : List Reached) (k p : ℕ) (at : At) (so_far : AreMarkedTo app before marks x k p) (named : name_of app at ≡ name p) where
+  module _ (before marks : List Mark) (k p : ℕ) (at : At) (so_far : AreMarkedTo app before marks x k p) (named : name_of app at ≡ name p) where
     -- no instance comes twice
     pub next_absent : IsUnmarked app before x → p < app.placed.positions → IsResultDart app at → AreResultDarts app marks → HasKey marks (key_of at) → ⊥
     next_absent unmarked b dart darts (entry, among, key) = go (cases_lt among.0 (length before))
@@ -62,7 +62,7 @@ module _ (app : PendingOf) (prepared : IsPrepared app) (x : ℕ) (right : IsTrue
         go (inl h) =
             let old = get_within before among.0 h in
             let same : old.0 ≡ entry = some_same old.0 entry (sym (so_far.kept among.0 old.0 old.1) ∙ here) in
-            unmarked p entry.decider b (entry, get_contained before among.0 entry (subst (λ r. slice_get before among.0 ≡ Some r) same old.1), is_name, refl)
+            unmarked p entry.instance b (entry, get_contained before among.0 entry (subst (λ r. slice_get before among.0 ≡ Some r) same old.1), is_name, refl)
         go (inr h) =
             let new = so_far.more among.0 entry h here in
             let one : (x ≡ x) × (new.1 ≡ p) = same_instance (scene_in app) _ _ _ (law app prepared) x new.1 x p (right, omega (arith, new.2)) (right, b) (sym new.3 ∙ is_name) in
@@ -75,9 +75,9 @@ module _ (app : PendingOf) (prepared : IsPrepared app) (x : ℕ) (right : IsTrue
       all = λ q h. all q h (cases_eq q p);
     }
       where
-        more : (j : ℕ) (entry : Reached) → length before ≤ j → (slice_get marks j ≡ Some entry) ⊎ ((j ≡ length marks) × (reached_by at k ≡ entry)) → (entry.decider ≡ k) × (q : ℕ) × (q < p + 1) × (name_of app entry.at ≡ name q)
+        more : (j : ℕ) (entry : Mark) → length before ≤ j → (slice_get marks j ≡ Some entry) ⊎ ((j ≡ length marks) × (reached_by at k ≡ entry)) → (entry.instance ≡ k) × (q : ℕ) × (q < p + 1) × (name_of app entry.at ≡ name q)
         more j entry h (inl f) = let old = so_far.more j entry h f in (old.0, old.1, omega (arith, old.2), old.3)
-        more j entry h (inr f) = subst (λ (r : Reached). (r.decider ≡ k) × (q : ℕ) × (q < p + 1) × (name_of app r.at ≡ name q)) f.1 (refl, p, omega arith, named)
+        more j entry h (inr f) = subst (λ (r : Mark). (r.instance ≡ k) × (q : ℕ) × (q < p + 1) × (name_of app r.at ≡ name q)) f.1 (refl, p, omega arith, named)
 
         all : (q : ℕ) → q < p + 1 → (q ≡ p) ⊎ (q ≡ p → ⊥) → HasMark app (marks ++ reached_by at k ∷ []) (name q) k
         all q h (inl same) = (reached_by at k, last_among marks (reached_by at k), named ∙ ap name (sym same), refl)
@@ -127,16 +127,16 @@ module _ (app : PendingOf) (prepared : IsPrepared app) (x : ℕ) (right : IsTrue
         instance_live p b = (unfolded.darts (name p)).1 (right_dart (scene_in app) _ _ _ (law app prepared) x p (right, b))
 
         -- where one is marked, each is
-        each_marked : (reached : List Reached) (p q k : ℕ) → IsClosed app embed result reached → p < app.placed.positions → q < app.placed.positions → HasMark app reached (name p) k → HasMark app reached (name q) k
+        each_marked : (reached : List Mark) (p q k : ℕ) → IsClosed app embed result reached → p < app.placed.positions → q < app.placed.positions → HasMark app reached (name p) k → HasMark app reached (name q) k
         each_marked reached p q k closed b c mark =
             let back = orbit_back app prepared e embed at_embed result unfolded (name 0) (name p) (instance_live 0 (omega arith)) ((orbit result unfolded).joined p b) in
             let first = closed_along app prepared e embed at_embed result unfolded reached (name p) (name 0) k closed mark back in
             closed_along app prepared e embed at_embed result unfolded reached (name 0) (name q) k closed first ((orbit result unfolded).joined q c)
 
-      module _ (reached : List Reached) (at : At) (some : 1 ≤ app.placed.positions) (named : name_of app at ≡ name 0) (dart : IsResultDart app at) (darts : AreResultDarts app reached) where
+      module _ (reached : List Mark) (at : At) (some : 1 ≤ app.placed.positions) (named : name_of app at ≡ name 0) (dart : IsResultDart app at) (darts : AreResultDarts app reached) where
         pub all_marked : HasKey reached (key_of at) → (result : Unfolded) → IsUnfoldedIn app result → IsClosed app embed result reached → (q : ℕ) → q < app.placed.positions → (k : ℕ) × HasMark app reached (name q) k
         all_marked (entry, among, key) result unfolded closed q c =
-            (entry.decider, each_marked result unfolded reached 0 q entry.decider closed (omega arith) c (entry, among, same_name app prepared entry.at at (darts entry among) dart key ∙ named, refl))
+            (entry.instance, each_marked result unfolded reached 0 q entry.instance closed (omega arith) c (entry, among, same_name app prepared entry.at at (darts entry among) dart key ∙ named, refl))
 
         -- where the first isn't marked, none is
         pub none_marked : ((result : Unfolded) → IsUnfoldedIn app result → IsClosed app embed result reached) → (HasKey reached (key_of at) → ⊥) → IsUnmarked app reached x
@@ -148,7 +148,7 @@ module _ (app : PendingOf) (prepared : IsPrepared app) (x : ℕ) (right : IsTrue
             go : HasMark app reached (name 0) k → ⊥
             go (entry, among, f, g) = absent (entry, among, same_key app prepared entry.at at (darts entry among) dart (f ∙ sym named))
 
-      module _ (before after : List Reached) (k p : ℕ) (marked : AreMarkedTo app before after x k p) (result : Unfolded) (unfolded : IsUnfoldedIn app result) where
+      module _ (before after : List Mark) (k p : ℕ) (marked : AreMarkedTo app before after x k p) (result : Unfolded) (unfolded : IsUnfoldedIn app result) where
         pub orbit_grown : p ≤ app.placed.positions → IsGrown app embed result before after k (name 0)
         orbit_grown most = record {
           kept = marked.kept;

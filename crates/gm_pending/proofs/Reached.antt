@@ -11,7 +11,7 @@ use Rattle.std.proofs.lemmas.Bool.{cases_eq}
 use Rattle.std.proofs.lemmas.Option.{slice_get_within, slice_get-get_or}
 use Rattle.gm_theory.proofs.Tests.{true_or_false}
 use Rattle.gm_theory.proofs.Lists.{some_same, none_some, contained_at, get_contained}
-use Rattle.gm_pending.specs.declared.marks.Reached.{Reached}
+use Rattle.gm_pending.specs.declared.marks.Mark.{Mark}
 use Rattle.gm_pending.specs.Marks.{key_of, HasKey, AreKeyed, AreMarked, IsIndex, IsMarkedBy, HasDistinctKeys}
 use Rattle.gm_pending.proofs.Whole.{contains_none}
 
@@ -63,7 +63,7 @@ module _ {A : Type 0} where
   taken_at (y ∷ xs) (suc i) (suc k) x e = let there = taken_at xs i k x e in (there.0, omega (arith, there.1))
 
 -- no earlier dart has the key of the next one
-pub fresh_key : (reached : List Reached) (i : ℕ) (d : Reached) → HasDistinctKeys reached → i < length reached → HasKey (take i reached) (key_of (get_or reached i d).at) → ⊥
+pub fresh_key : (reached : List Mark) (i : ℕ) (d : Mark) → HasDistinctKeys reached → i < length reached → HasKey (take i reached) (key_of (get_or reached i d).at) → ⊥
 fresh_key reached i d distinct within (entry, among, same) =
     let there = taken_at reached i among.0 entry (contained_at (take i reached) entry among) in
     distinct among.0 i entry (get_or reached i d) there.1 there.0 (slice_get-get_or reached i d within) same
@@ -81,23 +81,23 @@ other_key old new key x put q apart = go (true_or_false (is_at (nat_cmp key) q))
 
 -- ---- what is kept of a dart
 
-pub none_indexed : (deciders : BTreeMap ℕ ℕ) → ((key : ℕ) → get nat_cmp deciders key ≡ None) → IsIndex [] deciders
-none_indexed deciders none = record { marked = λ entry c. absurd (contains_none entry c); only = λ key k e. none_some k (sym (none key) ∙ e) }
+pub none_indexed : (by_key : BTreeMap ℕ ℕ) → ((key : ℕ) → get nat_cmp by_key key ≡ None) → IsIndex [] by_key
+none_indexed by_key none = record { marked = λ entry c. absurd (contains_none entry c); only = λ key k e. none_some k (sym (none key) ∙ e) }
 
 -- an element and the others
-pub keyed_more : (reached : List Reached) (entry : Reached) → AreKeyed reached → entry.key ≡ key_of entry.at → AreKeyed (reached ++ entry ∷ [])
+pub keyed_more : (reached : List Mark) (entry : Mark) → AreKeyed reached → entry.key ≡ key_of entry.at → AreKeyed (reached ++ entry ∷ [])
 keyed_more reached entry kept key other among = go (among_or_last reached entry other among)
   where
     go : Contains reached other ⊎ (entry ≡ other) → other.key ≡ key_of other.at
     go (inl c) = kept other c
-    go (inr e) = subst (λ (r : Reached). r.key ≡ key_of r.at) e key
+    go (inr e) = subst (λ (r : Mark). r.key ≡ key_of r.at) e key
 
-module _ (reached : List Reached) (old new : BTreeMap ℕ ℕ) (kept : IsIndex reached old) (entry : Reached) (absent : HasKey reached (key_of entry.at) → ⊥) (put : Updates nat_cmp old new (key_of entry.at) (Some entry.decider)) where
-  here : get nat_cmp new (key_of entry.at) ≡ Some entry.decider
+module _ (reached : List Mark) (old new : BTreeMap ℕ ℕ) (kept : IsIndex reached old) (entry : Mark) (absent : HasKey reached (key_of entry.at) → ⊥) (put : Updates nat_cmp old new (key_of entry.at) (Some entry.instance)) where
+  here : get nat_cmp new (key_of entry.at) ≡ Some entry.instance
   here = put.1
 
   other : (key : ℕ) → key ≢ key_of entry.at → get nat_cmp new key ≡ get nat_cmp old key
-  other = other_key old new (key_of entry.at) entry.decider put
+  other = other_key old new (key_of entry.at) entry.instance put
 
   pub indexed_more : IsIndex (reached ++ entry ∷ []) new
   indexed_more = record {
@@ -105,37 +105,37 @@ module _ (reached : List Reached) (old new : BTreeMap ℕ ℕ) (kept : IsIndex r
     only = only;
   }
     where
-      marked : (later : Reached) → Contains reached later ⊎ (entry ≡ later) → get nat_cmp new (key_of later.at) ≡ Some later.decider
+      marked : (later : Mark) → Contains reached later ⊎ (entry ≡ later) → get nat_cmp new (key_of later.at) ≡ Some later.instance
       marked later (inl c) = other (key_of later.at) (λ e. absent (later, c, e)) ∙ kept.marked later c
-      marked later (inr e) = subst (λ (r : Reached). get nat_cmp new (key_of r.at) ≡ Some r.decider) e here
+      marked later (inr e) = subst (λ (r : Mark). get nat_cmp new (key_of r.at) ≡ Some r.instance) e here
 
       only : (key j : ℕ) → get nat_cmp new key ≡ Some j → IsMarkedBy (reached ++ entry ∷ []) key j
       only key j e = go (cases_eq key (key_of entry.at))
         where
           go : (key ≡ key_of entry.at) ⊎ (key ≡ key_of entry.at → ⊥) → IsMarkedBy (reached ++ entry ∷ []) key j
-          go (inl f) = (entry, last_among reached entry, sym f, some_same entry.decider j (sym here ∙ subst (λ q. get nat_cmp new q ≡ Some j) f e))
+          go (inl f) = (entry, last_among reached entry, sym f, some_same entry.instance j (sym here ∙ subst (λ q. get nat_cmp new q ≡ Some j) f e))
           go (inr f) = let m : IsMarkedBy reached key j = kept.only key j (sym (other key f) ∙ e) in (m.0, kept_among reached entry m.0 m.1, m.2, m.3)
 
-module _ (reached : List Reached) (kept : HasDistinctKeys reached) (entry : Reached) (absent : HasKey reached (key_of entry.at) → ⊥) where
+module _ (reached : List Mark) (kept : HasDistinctKeys reached) (entry : Mark) (absent : HasKey reached (key_of entry.at) → ⊥) where
   pub distinct_more : HasDistinctKeys (reached ++ entry ∷ [])
   distinct_more i j a b h e f = distinct (kept_or_last reached entry i a e) (kept_or_last reached entry j b f)
     where
       distinct : (slice_get reached i ≡ Some a) ⊎ ((i ≡ length reached) × (entry ≡ a)) → (slice_get reached j ≡ Some b) ⊎ ((j ≡ length reached) × (entry ≡ b)) → key_of a.at ≢ key_of b.at
       distinct (inl e) (inl f) = kept i j a b h e f
-      distinct (inl e) (inr f) = λ same. absent (a, get_contained reached i a e, same ∙ ap (λ (r : Reached). key_of r.at) (sym f.1))
+      distinct (inl e) (inr f) = λ same. absent (a, get_contained reached i a e, same ∙ ap (λ (r : Mark). key_of r.at) (sym f.1))
       distinct (inr e) (inl f) = absurd (omega (arith, e.0, slice_get_within reached j b f))
       distinct (inr e) (inr f) = absurd (omega (arith, e.0, f.0))
 
 -- what an index has under a key
-pub indexed_at : (reached : List Reached) (deciders : BTreeMap ℕ ℕ) → IsIndex reached deciders → (key : ℕ) (found : Option ℕ) → found ≡ get nat_cmp deciders key → MatchOption found (HasKey reached key → ⊥) (IsMarkedBy reached key)
-indexed_at reached deciders index key (Some k) e = index.only key k (sym e)
-indexed_at reached deciders index key None e = none
+pub indexed_at : (reached : List Mark) (by_key : BTreeMap ℕ ℕ) → IsIndex reached by_key → (key : ℕ) (found : Option ℕ) → found ≡ get nat_cmp by_key key → MatchOption found (HasKey reached key → ⊥) (IsMarkedBy reached key)
+indexed_at reached by_key index key (Some k) e = index.only key k (sym e)
+indexed_at reached by_key index key None e = none
   where
     none : HasKey reached key → ⊥
-    none (entry, c, same) = none_some entry.decider (e ∙ ap (get nat_cmp deciders) (sym same) ∙ index.marked entry c)
+    none (entry, c, same) = none_some entry.instance (e ∙ ap (get nat_cmp by_key) (sym same) ∙ index.marked entry c)
 
 -- one more dart, where there is no index
-pub marked_few : {E : Type 0} (before after : List Reached) (deciders : Option (BTreeMap ℕ ℕ)) (entry : Reached) (pushed : Result Unit E) → is_some deciders ≡ false → AreMarked before deciders → entry.key ≡ key_of entry.at → (HasKey before (key_of entry.at) → ⊥) → OnOk pushed (after ≡ before ++ entry ∷ []) → OnErr pushed (after ≡ before) → AreMarked after deciders
-marked_few before after (Some deciders) entry pushed none kept key absent ok err = absurd (cc none)
+pub marked_few : {E : Type 0} (before after : List Mark) (by_key : Option (BTreeMap ℕ ℕ)) (entry : Mark) (pushed : Result Unit E) → is_some by_key ≡ false → AreMarked before by_key → entry.key ≡ key_of entry.at → (HasKey before (key_of entry.at) → ⊥) → OnOk pushed (after ≡ before ++ entry ∷ []) → OnErr pushed (after ≡ before) → AreMarked after by_key
+marked_few before after (Some by_key) entry pushed none kept key absent ok err = absurd (cc none)
 marked_few before after None entry (Ok x) none kept key absent ok err = rw ok (record { keyed = keyed_more before entry kept.keyed key; distinct = distinct_more before kept.distinct entry absent; indexed = tt })
 marked_few before after None entry (Err x) none kept key absent ok err = rw err kept

@@ -18,7 +18,7 @@ use Rattle.gm_theory.proofs.ValuesReach.{orbit_through}
 use Rattle.gm_theory.specs.Theorem.{Unfolded, IsDartOf}
 use Rattle.gm_pending.specs.declared.at.At.{At}
 use Rattle.gm_pending.specs.declared.at.At.TheVariants.{Old, New}
-use Rattle.gm_pending.specs.declared.marks.Reached.{Reached}
+use Rattle.gm_pending.specs.declared.marks.Mark.{Mark}
 use Rattle.gm_pending.specs.Marks.{key_of, reached_by, HasKey, IsMarkedMore, HasDistinctKeys}
 use Rattle.gm_pending.specs.Reached.{AreResultDarts, HasMark, IsClosed, IsGrown, IsSpreadTo}
 use Rattle.gm_pending.specs.Results.{PendingOf, IsPrepared, IsResultDart, IsUnfoldedIn, rule_in, scene_in, name_of}
@@ -63,24 +63,24 @@ module _ (app : PendingOf) (prepared : IsPrepared app) where
 
   -- ---- marks in lists that grow
 
-  pub mark_kept : (before after : List Reached) (d k : ℕ) → ((j : ℕ) (entry : Reached) → slice_get before j ≡ Some entry → slice_get after j ≡ Some entry) → HasMark app before d k → HasMark app after d k
+  pub mark_kept : (before after : List Mark) (d k : ℕ) → ((j : ℕ) (entry : Mark) → slice_get before j ≡ Some entry → slice_get after j ≡ Some entry) → HasMark app before d k → HasMark app after d k
   mark_kept before after d k kept (entry, among, e, f) = (entry, get_contained after among.0 entry (kept among.0 entry (contained_at before entry among)), e, f)
 
   -- what was marked stays
-  pub marked_kept : (before after : List Reached) (at : At) (k : ℕ) → IsMarkedMore before after at k → (j : ℕ) (entry : Reached) → slice_get before j ≡ Some entry → slice_get after j ≡ Some entry
+  pub marked_kept : (before after : List Mark) (at : At) (k : ℕ) → IsMarkedMore before after at k → (j : ℕ) (entry : Mark) → slice_get before j ≡ Some entry → slice_get after j ≡ Some entry
   marked_kept before after at k (inl (there, same)) j entry e = rw same e
   marked_kept before after at k (inr (absent, same)) j entry e = rw same (kept_at before (reached_by at k) j entry e)
 
-  pub marked_or_last : (before after : List Reached) (at : At) (k : ℕ) → IsMarkedMore before after at k → (j : ℕ) (entry : Reached) → slice_get after j ≡ Some entry → (slice_get before j ≡ Some entry) ⊎ ((j ≡ length before) × (reached_by at k ≡ entry))
+  pub marked_or_last : (before after : List Mark) (at : At) (k : ℕ) → IsMarkedMore before after at k → (j : ℕ) (entry : Mark) → slice_get after j ≡ Some entry → (slice_get before j ≡ Some entry) ⊎ ((j ≡ length before) × (reached_by at k ≡ entry))
   marked_or_last before after at k (inl (there, same)) j entry e = inl (rw same at e)
   marked_or_last before after at k (inr (absent, same)) j entry e = kept_or_last before (reached_by at k) j entry (rw same at e)
 
-  pub marked_darts : (before after : List Reached) (at : At) (k : ℕ) → IsMarkedMore before after at k → IsResultDart app at → AreResultDarts app before → AreResultDarts app after
+  pub marked_darts : (before after : List Mark) (at : At) (k : ℕ) → IsMarkedMore before after at k → IsResultDart app at → AreResultDarts app before → AreResultDarts app after
   marked_darts before after at k more dart darts entry among = go (marked_or_last before after at k more among.0 entry (contained_at after entry among))
     where
       go : (slice_get before among.0 ≡ Some entry) ⊎ ((among.0 ≡ length before) × (reached_by at k ≡ entry)) → IsResultDart app entry.at
       go (inl e) = darts entry (get_contained before among.0 entry e)
-      go (inr e) = subst (λ (r : Reached). IsResultDart app r.at) e.1 dart
+      go (inr e) = subst (λ (r : Mark). IsResultDart app r.at) e.1 dart
 
   -- ---- orbits of the unfolding
 
@@ -115,7 +115,7 @@ module _ (app : PendingOf) (prepared : IsPrepared app) where
         go (i ∷ path) d live all f = go path (result.alpha i d) (after_map.stays d i live (label_within i all.0)) all.1 f
 
     -- a closed list of marks has the same index all over an orbit
-    pub closed_along : (reached : List Reached) (d c k : ℕ) → IsClosed app embed result reached → HasMark app reached d k → IsInOrbit result.alpha (type_of embed) d c → HasMark app reached c k
+    pub closed_along : (reached : List Mark) (d c k : ℕ) → IsClosed app embed result reached → HasMark app reached d k → IsInOrbit result.alpha (type_of embed) d c → HasMark app reached c k
     closed_along reached d c k closed mark (path, all, f) = go path d mark all f
       where
         go : (path : List ℕ) (d : ℕ) → HasMark app reached d k → IsPathIn (type_of embed) path → follow result.alpha path d ≡ c → HasMark app reached c k
@@ -124,21 +124,21 @@ module _ (app : PendingOf) (prepared : IsPrepared app) where
 
     -- ---- the walk from one instance
 
-    pub nothing_grown : (before : List Reached) (k d : ℕ) → IsGrown app embed result before before k d
+    pub nothing_grown : (before : List Mark) (k d : ℕ) → IsGrown app embed result before before k d
     nothing_grown before k d = record { kept = λ j entry f. f; more = λ j entry h f. absurd (omega (arith, h, slice_get_within before j entry f)) }
 
-    pub grown_more : (before after after' : List Reached) (k d : ℕ) (to : At) → IsGrown app embed result before after k d → IsMarkedMore after after' to k → IsInOrbit result.alpha (type_of embed) d (name_of app to) → IsGrown app embed result before after' k d
+    pub grown_more : (before after after' : List Mark) (k d : ℕ) (to : At) → IsGrown app embed result before after k d → IsMarkedMore after after' to k → IsInOrbit result.alpha (type_of embed) d (name_of app to) → IsGrown app embed result before after' k d
     grown_more before after after' k d to grown more orbit = record {
       kept = λ j entry f. marked_kept after after' to k more j entry (grown.kept j entry f);
       more = λ j entry h f. go j entry h (marked_or_last after after' to k more j entry f);
     }
       where
-        go : (j : ℕ) (entry : Reached) → length before ≤ j → (slice_get after j ≡ Some entry) ⊎ ((j ≡ length after) × (reached_by to k ≡ entry)) → (entry.decider ≡ k) × IsInOrbit result.alpha (type_of embed) d (name_of app entry.at)
+        go : (j : ℕ) (entry : Mark) → length before ≤ j → (slice_get after j ≡ Some entry) ⊎ ((j ≡ length after) × (reached_by to k ≡ entry)) → (entry.instance ≡ k) × IsInOrbit result.alpha (type_of embed) d (name_of app entry.at)
         go j entry h (inl f) = grown.more j entry h f
-        go j entry h (inr f) = subst (λ (r : Reached). (r.decider ≡ k) × IsInOrbit result.alpha (type_of embed) d (name_of app r.at)) f.1 (refl, orbit)
+        go j entry h (inr f) = subst (λ (r : Mark). (r.instance ≡ k) × IsInOrbit result.alpha (type_of embed) d (name_of app r.at)) f.1 (refl, orbit)
 
     -- it begins with the instance's own dart
-    pub spread_starts : (before after : List Reached) (at : At) (k : ℕ) → IsClosed app embed result before → (HasKey before (key_of at) → ⊥) → IsMarkedMore before after at k → IsSpreadTo app embed result before after k (name_of app at) (length before) 0
+    pub spread_starts : (before after : List Mark) (at : At) (k : ℕ) → IsClosed app embed result before → (HasKey before (key_of at) → ⊥) → IsMarkedMore before after at k → IsSpreadTo app embed result before after k (name_of app at) (length before) 0
     spread_starts before after at k closed absent more = record {
       grown = grown_more before before after k (name_of app at) at (nothing_grown before k (name_of app at)) more ([], tt, refl);
       closed = closed;
@@ -154,7 +154,7 @@ module _ (app : PendingOf) (prepared : IsPrepared app) where
         none j l h (inl b) = omega arith
         none j l h (inr b) = omega (arith, b.1)
 
-    module _ (before after : List Reached) (k d n i : ℕ) (from : Reached) (spread : IsSpreadTo app embed result before after k d n i) (late : length before ≤ n) (there : slice_get after n ≡ Some from) where
+    module _ (before after : List Mark) (k d n i : ℕ) (from : Mark) (spread : IsSpreadTo app embed result before after k d n i) (late : length before ≤ n) (there : slice_get after n ≡ Some from) where
       -- a label that isn't of the type is passed over
       pub spread_passes : type_of embed i ≡ false → IsSpreadTo app embed result before after k d n (i + 1)
       spread_passes none = record {
@@ -172,11 +172,11 @@ module _ (app : PendingOf) (prepared : IsPrepared app) where
               side (inl f) = not_both (type_of embed l) t (ap (type_of embed) f ∙ none)
               side (inr f) = inr (same, omega arith)
 
-      module _ (after' : List Reached) (to : At) (t : IsTrue (type_of embed i)) (darts : AreResultDarts app after) (distinct : HasDistinctKeys after) (to_dart : IsResultDart app to) (leads : name_of app to ≡ result.alpha i (name_of app from.at)) (more : IsMarkedMore after after' to k) where
+      module _ (after' : List Mark) (to : At) (t : IsTrue (type_of embed i)) (darts : AreResultDarts app after) (distinct : HasDistinctKeys after) (to_dart : IsResultDart app to) (leads : name_of app to ≡ result.alpha i (name_of app from.at)) (more : IsMarkedMore after after' to k) where
         from_live : IsDartOf result (name_of app from.at)
         from_live = dart_after from.at (darts from (get_contained after n from there))
 
-        kept : (j : ℕ) (entry : Reached) → slice_get after j ≡ Some entry → slice_get after' j ≡ Some entry
+        kept : (j : ℕ) (entry : Mark) → slice_get after j ≡ Some entry → slice_get after' j ≡ Some entry
         kept = marked_kept after after' to k more
 
         -- the dart that is walked from was not marked before
@@ -187,7 +187,7 @@ module _ (app : PendingOf) (prepared : IsPrepared app) where
             distinct among.0 n entry from within here there (same_key entry.at from.at (darts entry (get_contained after among.0 entry here)) (darts from (get_contained after n from there)) e)
 
         -- so where its neighbour has a mark, it is one of this walk
-        marked_now : (entry : Reached) (m : ℕ) → slice_get after m ≡ Some entry → key_of entry.at ≡ key_of to → HasMark app after (result.alpha i (name_of app from.at)) k
+        marked_now : (entry : Mark) (m : ℕ) → slice_get after m ≡ Some entry → key_of entry.at ≡ key_of to → HasMark app after (result.alpha i (name_of app from.at)) k
         marked_now entry m at_m key = go (cases_lt m (length before))
           where
             name : name_of app entry.at ≡ result.alpha i (name_of app from.at)
@@ -198,9 +198,9 @@ module _ (app : PendingOf) (prepared : IsPrepared app) where
             go (inl h) =
                 let old = get_within before m h in
                 let same : old.0 ≡ entry = some_same old.0 entry (sym (spread.grown.kept m old.0 old.1) ∙ at_m) in
-                let mark : HasMark app before (result.alpha i (name_of app from.at)) entry.decider = (entry, get_contained before m entry (subst (λ r. slice_get before m ≡ Some r) same old.1), name, refl) in
+                let mark : HasMark app before (result.alpha i (name_of app from.at)) entry.instance = (entry, get_contained before m entry (subst (λ r. slice_get before m ≡ Some r) same old.1), name, refl) in
                 let back : result.alpha i (result.alpha i (name_of app from.at)) ≡ name_of app from.at = after_map.back (name_of app from.at) i from_live (label_within i t) in
-                absurd (not_before entry.decider (subst (λ b. HasMark app before b entry.decider) back (spread.closed (result.alpha i (name_of app from.at)) entry.decider i mark t)))
+                absurd (not_before entry.instance (subst (λ b. HasMark app before b entry.instance) back (spread.closed (result.alpha i (name_of app from.at)) entry.instance i mark t)))
 
         reached_now : IsMarkedMore after after' to k → HasMark app after' (result.alpha i (name_of app from.at)) k
         reached_now (inl ((entry, among, key), same)) = mark_kept after after' (result.alpha i (name_of app from.at)) k kept (marked_now entry among.0 (contained_at after entry among) key)
@@ -219,13 +219,13 @@ module _ (app : PendingOf) (prepared : IsPrepared app) where
             up_to j l (inl b) = omega arith
             up_to j l (inr b) = omega (arith, b.0)
 
-            earlier : (j : ℕ) (entry : Reached) → slice_get after' j ≡ Some entry → j ≤ n → slice_get after j ≡ Some entry
+            earlier : (j : ℕ) (entry : Mark) → slice_get after' j ≡ Some entry → j ≤ n → slice_get after j ≡ Some entry
             earlier j entry f h = elim (marked_or_last after after' to k more j entry f) [
               | inl g ↦ g
               | inr g ↦ absurd (omega (arith, g.0, slice_get_within after n from there))
             ]
 
-            go : (j l : ℕ) (entry : Reached) → length before ≤ j → slice_get after j ≡ Some entry → IsPairBefore j l n (i + 1) → IsTrue (type_of embed l) → HasMark app after' (result.alpha l (name_of app entry.at)) k
+            go : (j l : ℕ) (entry : Mark) → length before ≤ j → slice_get after j ≡ Some entry → IsPairBefore j l n (i + 1) → IsTrue (type_of embed l) → HasMark app after' (result.alpha l (name_of app entry.at)) k
             go j l entry h f (inl b) u = mark_kept after after' (result.alpha l (name_of app entry.at)) k kept (spread.followed j l entry h f (inl b) u)
             go j l entry h f (inr (same, b)) u = side (cases_eq l i)
               where
@@ -233,10 +233,10 @@ module _ (app : PendingOf) (prepared : IsPrepared app) where
                 side (inr g) = mark_kept after after' (result.alpha l (name_of app entry.at)) k kept (spread.followed j l entry h f (inr (same, omega arith)) u)
                 side (inl g) =
                     let one : from ≡ entry = some_same from entry (sym there ∙ ap (slice_get after) (sym same) ∙ f) in
-                    subst (λ (r : Reached). HasMark app after' (result.alpha l (name_of app r.at)) k) one (subst (λ z. HasMark app after' (result.alpha z (name_of app from.at)) k) (sym g) (reached_now more))
+                    subst (λ (r : Mark). HasMark app after' (result.alpha l (name_of app r.at)) k) one (subst (λ z. HasMark app after' (result.alpha z (name_of app from.at)) k) (sym g) (reached_now more))
 
     -- all labels of an entry were followed
-    pub spread_next : (before after : List Reached) (k d n : ℕ) → IsSpreadTo app embed result before after k d n (app.map.schema.dim + 1) → IsSpreadTo app embed result before after k d (n + 1) 0
+    pub spread_next : (before after : List Mark) (k d n : ℕ) → IsSpreadTo app embed result before after k d n (app.map.schema.dim + 1) → IsSpreadTo app embed result before after k d (n + 1) 0
     spread_next before after k d n spread = record {
       grown = spread.grown;
       closed = spread.closed;

@@ -18,12 +18,12 @@ use Rattle.gm_theory.proofs.ValuesReadOff.{read_off}
 use Rattle.gm_theory.specs.Theorem.{Unfolded, IsDartOf}
 use Rattle.gm_pending.specs.declared.at.At.{At}
 use Rattle.gm_pending.specs.declared.at.At.TheVariants.{Old, New}
-use Rattle.gm_pending.specs.declared.decider.Decider.{Decider}
-use Rattle.gm_pending.specs.declared.marks.Reached.{Reached}
+use Rattle.gm_pending.specs.declared.deciding_instance.DecidingInstance.{DecidingInstance}
+use Rattle.gm_pending.specs.declared.marks.Mark.{Mark}
 use Rattle.gm_pending.specs.Marks.{key_of, HasKey, IsMarkedBy}
 use Rattle.gm_pending.specs.Reached.{AreReached}
 use Rattle.gm_pending.specs.Sources.{HasSourceNode, IsKeeperFor, IsOldValue, IsSourceOf, IsSourceValue, given_of}
-use Rattle.gm_pending.specs.Results.{PendingOf, IsPrepared, AreAllGiven, IsDecidedIn, IsGivenIn, IsResultDart, IsUnfoldedIn, IsValueIn, deciders_of, rule_in, place_in, scene_in, name_of}
+use Rattle.gm_pending.specs.Results.{PendingOf, IsPrepared, AreAllGiven, IsDecidedIn, IsGivenIn, IsResultDart, IsUnfoldedIn, IsValueIn, instances_of, rule_in, place_in, scene_in, name_of}
 use Rattle.gm_pending.proofs.Darts.{live_dart}
 use Rattle.gm_pending.proofs.Law.{law}
 use Rattle.gm_pending.proofs.NewValues.{some_unfolding}
@@ -43,27 +43,27 @@ module _ (app : PendingOf) (e x : ℕ) where
       let same : k ≡ other = one_keeper (rule_in app) (type_of embed) x k other (found embed at) kept in
       subst (λ s. IsOldValue app e s v) (ap (λ z. slot_number app.placed z p) same ∙ lies) is
 
-module _ (app : PendingOf) (prepared : IsPrepared app) (e : ℕ) (embed : Embed) (at_embed : IsEmbedAt app.map.schema e embed) (reached : List Reached) (all : AreReached app e embed (deciders_of app e) reached) (at : At) (dart : IsResultDart app at) where
+module _ (app : PendingOf) (prepared : IsPrepared app) (e : ℕ) (embed : Embed) (at_embed : IsEmbedAt app.map.schema e embed) (reached : List Mark) (all : AreReached app e embed (instances_of app e) reached) (at : At) (dart : IsResultDart app at) where
   -- ---- a dart that is reached
 
   module _ (k : ℕ) (mark : IsMarkedBy reached (key_of at) k) where
-    decider_here : (result : Unfolded) → IsUnfoldedIn app result → (decider : Decider) × (slice_get (deciders_of app e) k ≡ Some decider) × IsDecidedIn app result e embed (name_of app at) decider.node decider.position
+    decider_here : (result : Unfolded) → IsUnfoldedIn app result → (instance : DecidingInstance) × (slice_get (instances_of app e) k ≡ Some instance) × IsDecidedIn app result e embed (name_of app at) instance.node instance.position
     decider_here result unfolded =
         let by = all.decided result unfolded mark.0 mark.1 in
         let name : name_of app mark.0.at ≡ name_of app at = same_name app prepared mark.0.at at (all.darts mark.0 mark.1) dart mark.2 in
-        (by.0, subst (λ j. slice_get (deciders_of app e) j ≡ Some by.0) mark.3 by.1, subst (λ d. IsDecidedIn app result e embed d by.0.node by.0.position) name by.2)
+        (by.0, subst (λ j. slice_get (instances_of app e) j ≡ Some by.0) mark.3 by.1, subst (λ d. IsDecidedIn app result e embed d by.0.node by.0.position) name by.2)
 
-    pub has_given : AreAllGiven app e → IsSome (given_of (deciders_of app e) k)
+    pub has_given : AreAllGiven app e → IsSome (given_of (instances_of app e) k)
     has_given given =
         let here = decider_here (some_unfolding app prepared).0 (some_unfolding app prepared).1 in
-        rw here.1 (given.1 here.0 (get_contained (deciders_of app e) k here.0 here.1))
+        rw here.1 (given.1 here.0 (get_contained (instances_of app e) k here.0 here.1))
 
-    pub value_decided : (v : Value) → given_of (deciders_of app e) k ≡ Some v → IsValueIn app e embed (name_of app at) v
+    pub value_decided : (v : Value) → given_of (instances_of app e) k ≡ Some v → IsValueIn app e embed (name_of app at) v
     value_decided v given result unfolded =
         let by = decider_here result unfolded in
-        let is : by.0.value ≡ Some v = (rw by.1 at given) in
-        let whole : by.0 ≡ record { node = by.0.node; position = by.0.position; value = Some v } = ap (λ w. record { node = by.0.node; position = by.0.position; value = w }) is in
-        Decided by.0.node by.0.position by.2 (subst (Contains (deciders_of app e)) whole (get_contained (deciders_of app e) k by.0 by.1))
+        let is : by.0.given ≡ Some v = (rw by.1 at given) in
+        let whole : by.0 ≡ record { node = by.0.node; position = by.0.position; given = Some v } = ap (λ w. record { node = by.0.node; position = by.0.position; given = w }) is in
+        Decided by.0.node by.0.position by.2 (subst (Contains (instances_of app e)) whole (get_contained (instances_of app e) k by.0 by.1))
 
   -- ---- a dart that isn't
 

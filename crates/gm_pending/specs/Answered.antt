@@ -6,23 +6,23 @@ use Rattle.gm_model.specs.declared.schema.Embed.{Embed}
 use Rattle.gm_model.specs.Maps.{IsEmbedAt}
 use Rattle.gm_arena.specs.ArenaMap.{ArenaMap}
 use Rattle.gm_plan.specs.Placed.{Placed}
-use Rattle.gm_pending.specs.declared.asked.Asked.{Asked}
-use Rattle.gm_pending.specs.declared.decider.Decider.{Decider}
+use Rattle.gm_pending.specs.declared.decided_orbits.DecidedOrbits.{DecidedOrbits}
+use Rattle.gm_pending.specs.declared.deciding_instance.DecidingInstance.{DecidingInstance}
 use Rattle.gm_pending.specs.declared.lookup.Lookup.{Lookup}
 use Rattle.gm_pending.specs.Lookup.{IsLookup}
 use Rattle.gm_pending.specs.Reached.{AreReached}
 use Rattle.gm_pending.specs.Results.{PendingOf}
 
-abbrev pub deciders_in : Option Asked → Option (List Decider)
-deciders_in entry = option_map (λ (asked : Asked). asked.deciders.items) entry
+abbrev pub instances_in : Option DecidedOrbits → Option (List DecidingInstance)
+instances_in entry = option_map (λ (orbits : DecidedOrbits). orbits.instances.items) entry
 
 -- with what was answered of each embedding
-abbrev pub pending_as : ArenaMap → RuleTable → Placed → List (Option Asked) → PendingOf
-pending_as map table placed asked = record { map = map; table = table; placed = placed; asked = Rattle.std.specs.Prelude.map deciders_in asked }
+abbrev pub pending_as : ArenaMap → RuleTable → Placed → List (Option DecidedOrbits) → PendingOf
+pending_as map table placed orbits = record { map = map; table = table; placed = placed; asked = Rattle.std.specs.Prelude.map instances_in orbits }
 
 -- each answer has the darts that its deciding instances reach
-abbrev pub AreAnswers : PendingOf → List (Option Asked) → Type 0
-AreAnswers app answers = (e : ℕ) (embed : Embed) (asked : Asked) → IsEmbedAt app.map.schema e embed → slice_get answers e ≡ Some (Some asked) → AreReached app e embed asked.deciders.items asked.marks
+abbrev pub AreDecidedOrbits : PendingOf → List (Option DecidedOrbits) → Type 0
+AreDecidedOrbits app answers = (e : ℕ) (embed : Embed) (orbits : DecidedOrbits) → IsEmbedAt app.map.schema e embed → slice_get answers e ≡ Some (Some orbits) → AreReached app e embed orbits.instances.items orbits.marks
 
 -- a look-up that was made has the instances
 abbrev pub IsLookedUp : Placed → Option Lookup → Type 0

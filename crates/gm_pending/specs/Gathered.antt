@@ -10,7 +10,7 @@ use Rattle.gm_theory.specs.Theorem.{Unfolded}
 use Rattle.gm_arena.specs.ArenaAsMap.{as_map}
 use Rattle.gm_arena.specs.declared.slot.Slot.{Slot}
 use Rattle.gm_pending.specs.declared.at.At.TheVariants.{Old, New}
-use Rattle.gm_pending.specs.declared.marks.Reached.{Reached}
+use Rattle.gm_pending.specs.declared.marks.Mark.{Mark}
 use Rattle.gm_pending.specs.declared.changes.ValueAt.{ValueAt}
 use Rattle.gm_pending.specs.EditLists.{IsNewValue, IsReachedSumIn, IsValueOfDart, added_value}
 use Rattle.gm_pending.specs.Results.{PendingOf, IsReachedIn, IsResultDart, IsUnfoldedIn, IsValueIn, name_of, rule_in}
@@ -43,11 +43,11 @@ module _ (app : PendingOf) where
     pub kept : (number e : ℕ) (embed : Embed) → number < app.placed.positions * added_nodes (rule_in app) → count ≤ e → IsEmbedAt app.map.schema e embed → IsKeptValue e embed number (added_value app.map.schema values number e)
 
   -- the dart of this name is among the first of the reached ones
-  abbrev pub IsAmongFirst : List Reached → ℕ → ℕ → Type 0
-  IsAmongFirst reached count d = (k : ℕ) × (entry : Reached) × (k < count) × (slice_get reached k ≡ Some entry) × (name_of app entry.at ≡ d)
+  abbrev pub IsAmongFirst : List Mark → ℕ → ℕ → Type 0
+  IsAmongFirst reached count d = (k : ℕ) × (entry : Mark) × (k < count) × (slice_get reached k ≡ Some entry) × (name_of app entry.at ≡ d)
 
   -- the new darts among them have their values of the embedding, and all other values are as they were
-  pub record AreDecidedFrom (e : ℕ) (reached : List Reached) (count : ℕ) (old new : List Value) : Type 0 where
+  pub record AreDecidedFrom (e : ℕ) (reached : List Mark) (count : ℕ) (old new : List Value) : Type 0 where
     pub long : length new ≡ length old
     pub decided : (number : ℕ) (embed : Embed) → IsAmongFirst reached count (app.map.next + number) → IsEmbedAt app.map.schema e embed → IsValueIn app e embed (app.map.next + number) (added_value app.map.schema new number e)
     pub same : (number f : ℕ) → f < length app.map.schema.embeds → (f ≡ e → IsAmongFirst reached count (app.map.next + number) → ⊥) → added_value app.map.schema new number f ≡ added_value app.map.schema old number f
@@ -55,10 +55,10 @@ module _ (app : PendingOf) where
   -- ---- old darts
 
   -- the entries are the darts of the result that are reached for the embedding, no more of them than there are
-  pub record AreAllReached (e : ℕ) (reached : List Reached) : Type 0 where
-    pub dart : (entry : Reached) → Contains reached entry → IsResultDart app entry.at
-    pub in_orbit : (embed : Embed) → IsEmbedAt app.map.schema e embed → (result : Unfolded) → IsUnfoldedIn app result → (entry : Reached) → Contains reached entry → IsReachedIn app result e embed (name_of app entry.at)
-    pub all : (embed : Embed) → IsEmbedAt app.map.schema e embed → (result : Unfolded) → IsUnfoldedIn app result → (d : ℕ) → IsReachedIn app result e embed d → (entry : Reached) × Contains reached entry × (name_of app entry.at ≡ d)
+  pub record AreAllReached (e : ℕ) (reached : List Mark) : Type 0 where
+    pub dart : (entry : Mark) → Contains reached entry → IsResultDart app entry.at
+    pub in_orbit : (embed : Embed) → IsEmbedAt app.map.schema e embed → (result : Unfolded) → IsUnfoldedIn app result → (entry : Mark) → Contains reached entry → IsReachedIn app result e embed (name_of app entry.at)
+    pub all : (embed : Embed) → IsEmbedAt app.map.schema e embed → (result : Unfolded) → IsUnfoldedIn app result → (d : ℕ) → IsReachedIn app result e embed d → (entry : Mark) × Contains reached entry × (name_of app entry.at ≡ d)
     pub few : (count : ℕ) → HasReached e count → length reached ≤ count
 
   -- the values of the darts that are reached for the embedding came to those that were there
@@ -69,10 +69,10 @@ module _ (app : PendingOf) where
     pub few : (count : ℕ) → HasReached e count → length new ≤ length old + count
 
   -- the values of the first of the reached darts came to those that were there, where they are old
-  pub record AreGatheredFrom (e : ℕ) (reached : List Reached) (count : ℕ) (old new : List ValueAt) : Type 0 where
+  pub record AreGatheredFrom (e : ℕ) (reached : List Mark) (count : ℕ) (old new : List ValueAt) : Type 0 where
     pub kept : (at : ValueAt) → Contains old at → Contains new at
     pub only : (at : ValueAt) → Contains new at → Contains old at ⊎ IsNewValue app at
-    pub all : (k : ℕ) (entry : Reached) (slot : Slot) → k < count → slice_get reached k ≡ Some entry → entry.at ≡ Old slot → (at : ValueAt) × Contains new at × (at.embed ≡ e) × (at.slot ≡ slot)
+    pub all : (k : ℕ) (entry : Mark) (slot : Slot) → k < count → slice_get reached k ≡ Some entry → entry.at ≡ Old slot → (at : ValueAt) × Contains new at × (at.embed ≡ e) × (at.slot ≡ slot)
     pub few : length new ≤ length old + count
 
   -- the list has the new values of the first embeddings

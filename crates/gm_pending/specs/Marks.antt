@@ -5,42 +5,42 @@ use Rattle.std.specs.Ordering.{nat_cmp}
 use Rattle.std.specs.BTreeMap.{BTreeMap, get}
 use Rattle.gm_pending.specs.declared.at.At.{At}
 use Rattle.gm_pending.specs.declared.at.At.TheVariants.{Old, New}
-use Rattle.gm_pending.specs.declared.marks.Reached.{Reached}
+use Rattle.gm_pending.specs.declared.marks.Mark.{Mark}
 
 -- the number of a dart
 abbrev pub key_of : At → ℕ
 key_of (Old slot) = slot.at * 512
 key_of (New x p) = p * 512 + x + 1
 
-abbrev pub reached_by : At → ℕ → Reached
-reached_by at k = record { at = at; decider = k; key = key_of at }
+abbrev pub reached_by : At → ℕ → Mark
+reached_by at k = record { at = at; instance = k; key = key_of at }
 
 -- each entry keeps the number of its dart
-abbrev pub AreKeyed : List Reached → Type 0
-AreKeyed reached = (entry : Reached) → Contains reached entry → entry.key ≡ key_of entry.at
+abbrev pub AreKeyed : List Mark → Type 0
+AreKeyed reached = (entry : Mark) → Contains reached entry → entry.key ≡ key_of entry.at
 
 -- an entry of the list has this key
-abbrev pub HasKey : List Reached → ℕ → Type 0
-HasKey reached key = (entry : Reached) × Contains reached entry × (key_of entry.at ≡ key)
+abbrev pub HasKey : List Mark → ℕ → Type 0
+HasKey reached key = (entry : Mark) × Contains reached entry × (key_of entry.at ≡ key)
 
 -- and this index
-abbrev pub IsMarkedBy : List Reached → ℕ → ℕ → Type 0
-IsMarkedBy reached key k = (entry : Reached) × Contains reached entry × (key_of entry.at ≡ key) × (entry.decider ≡ k)
+abbrev pub IsMarkedBy : List Mark → ℕ → ℕ → Type 0
+IsMarkedBy reached key k = (entry : Mark) × Contains reached entry × (key_of entry.at ≡ key) × (entry.instance ≡ k)
 
 -- the dart was added, unless an entry had its key
-abbrev pub IsMarkedMore : List Reached → List Reached → At → ℕ → Type 0
+abbrev pub IsMarkedMore : List Mark → List Mark → At → ℕ → Type 0
 IsMarkedMore before after at k = (HasKey before (key_of at) × (after ≡ before)) ⊎ ((HasKey before (key_of at) → ⊥) × (after ≡ before ++ reached_by at k ∷ []))
 
-abbrev pub HasDistinctKeys : List Reached → Type 0
-HasDistinctKeys reached = (k l : ℕ) (a b : Reached) → k < l → slice_get reached k ≡ Some a → slice_get reached l ≡ Some b → key_of a.at ≢ key_of b.at
+abbrev pub HasDistinctKeys : List Mark → Type 0
+HasDistinctKeys reached = (k l : ℕ) (a b : Mark) → k < l → slice_get reached k ≡ Some a → slice_get reached l ≡ Some b → key_of a.at ≢ key_of b.at
 
 -- the map has the index of each entry, by its key
-pub record IsIndex (reached : List Reached) (deciders : BTreeMap ℕ ℕ) : Type 0 where
-  pub marked : (entry : Reached) → Contains reached entry → get nat_cmp deciders (key_of entry.at) ≡ Some entry.decider
-  pub only : (key k : ℕ) → get nat_cmp deciders key ≡ Some k → IsMarkedBy reached key k
+pub record IsIndex (reached : List Mark) (by_key : BTreeMap ℕ ℕ) : Type 0 where
+  pub marked : (entry : Mark) → Contains reached entry → get nat_cmp by_key (key_of entry.at) ≡ Some entry.instance
+  pub only : (key k : ℕ) → get nat_cmp by_key key ≡ Some k → IsMarkedBy reached key k
 
 -- each key is its dart's, and comes once; and where there is a map, it has all of them
-pub record AreMarked (reached : List Reached) (deciders : Option (BTreeMap ℕ ℕ)) : Type 0 where
+pub record AreMarked (reached : List Mark) (by_key : Option (BTreeMap ℕ ℕ)) : Type 0 where
   pub keyed : AreKeyed reached
   pub distinct : HasDistinctKeys reached
-  pub indexed : IfSome deciders (IsIndex reached)
+  pub indexed : IfSome by_key (IsIndex reached)

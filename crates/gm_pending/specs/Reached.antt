@@ -6,65 +6,65 @@ use Rattle.gm_model.specs.Components.{IsAssigned}
 use Rattle.gm_model.specs.Maps.{type_of}
 use Rattle.gm_model.specs.Orbits.{IsInOrbit, IsPairBefore}
 use Rattle.gm_theory.specs.Theorem.{Unfolded}
-use Rattle.gm_pending.specs.declared.decider.Decider.{Decider}
-use Rattle.gm_pending.specs.declared.marks.Reached.{Reached}
+use Rattle.gm_pending.specs.declared.deciding_instance.DecidingInstance.{DecidingInstance}
+use Rattle.gm_pending.specs.declared.marks.Mark.{Mark}
 use Rattle.gm_pending.specs.Results.{PendingOf, IsResultDart, IsUnfoldedIn, IsDecidedIn, IsReachedIn, name_of, rule_in, scene_in}
 
 -- a deciding instance that has no value yet
-abbrev pub ungiven : ℕ → ℕ → Decider
-ungiven x p = record { node = x; position = p; value = None }
+abbrev pub ungiven : ℕ → ℕ → DecidingInstance
+ungiven x p = record { node = x; position = p; given = None }
 
 module _ (app : PendingOf) where
   -- each entry is a dart of the result
-  abbrev pub AreResultDarts : List Reached → Type 0
-  AreResultDarts reached = (entry : Reached) → Contains reached entry → IsResultDart app entry.at
+  abbrev pub AreResultDarts : List Mark → Type 0
+  AreResultDarts reached = (entry : Mark) → Contains reached entry → IsResultDart app entry.at
 
-  abbrev pub HaveDistinctNames : List Reached → Type 0
-  HaveDistinctNames reached = (k l : ℕ) (a b : Reached) → k < l → slice_get reached k ≡ Some a → slice_get reached l ≡ Some b → name_of app a.at ≢ name_of app b.at
+  abbrev pub HaveDistinctNames : List Mark → Type 0
+  HaveDistinctNames reached = (k l : ℕ) (a b : Mark) → k < l → slice_get reached k ≡ Some a → slice_get reached l ≡ Some b → name_of app a.at ≢ name_of app b.at
 
   -- the dart has an entry, with the index of this decider
-  abbrev pub HasMark : List Reached → ℕ → ℕ → Type 0
-  HasMark reached d k = (entry : Reached) × Contains reached entry × (name_of app entry.at ≡ d) × (entry.decider ≡ k)
+  abbrev pub HasMark : List Mark → ℕ → ℕ → Type 0
+  HasMark reached d k = (entry : Mark) × Contains reached entry × (name_of app entry.at ≡ d) × (entry.instance ≡ k)
 
   -- ---- all of them
 
   -- the entries are the darts of the result in orbits with a deciding instance, each once, with its index
-  pub record AreReached (e : ℕ) (embed : Embed) (deciders : List Decider) (reached : List Reached) : Type 0 where
+  pub record AreReached (e : ℕ) (embed : Embed) (instances : List DecidingInstance) (reached : List Mark) : Type 0 where
     pub darts : AreResultDarts reached
     pub distinct : HaveDistinctNames reached
-    pub decided : (result : Unfolded) → IsUnfoldedIn app result → (entry : Reached) → Contains reached entry → (decider : Decider) × (slice_get deciders entry.decider ≡ Some decider) × IsDecidedIn app result e embed (name_of app entry.at) decider.node decider.position
-    pub all : (result : Unfolded) → IsUnfoldedIn app result → (d : ℕ) → IsReachedIn app result e embed d → (entry : Reached) × Contains reached entry × (name_of app entry.at ≡ d)
+    pub decided : (result : Unfolded) → IsUnfoldedIn app result → (entry : Mark) → Contains reached entry → (instance : DecidingInstance) × (slice_get instances entry.instance ≡ Some instance) × IsDecidedIn app result e embed (name_of app entry.at) instance.node instance.position
+    pub all : (result : Unfolded) → IsUnfoldedIn app result → (d : ℕ) → IsReachedIn app result e embed d → (entry : Mark) × Contains reached entry × (name_of app entry.at ≡ d)
 
   -- each entry is one of them
-  abbrev pub AreSomeReached : ℕ → Embed → List Reached → Type 0
-  AreSomeReached e embed reached = (result : Unfolded) → IsUnfoldedIn app result → (entry : Reached) → Contains reached entry → IsReachedIn app result e embed (name_of app entry.at)
+  abbrev pub AreSomeReached : ℕ → Embed → List Mark → Type 0
+  AreSomeReached e embed reached = (result : Unfolded) → IsUnfoldedIn app result → (entry : Mark) → Contains reached entry → IsReachedIn app result e embed (name_of app entry.at)
 
   -- ---- the walk from one instance
 
   module _ (embed : Embed) (result : Unfolded) where
     -- an arc of the type leads from a marked dart to a marked dart
-    abbrev pub IsClosed : List Reached → Type 0
+    abbrev pub IsClosed : List Mark → Type 0
     IsClosed reached = (d k i : ℕ) → HasMark reached d k → IsTrue (type_of embed i) → HasMark reached (result.alpha i d) k
 
     -- entries were added, each in the orbit of the dart d, and with this index
-    pub record IsGrown (before after : List Reached) (k d : ℕ) : Type 0 where
-      pub kept : (j : ℕ) (entry : Reached) → slice_get before j ≡ Some entry → slice_get after j ≡ Some entry
-      pub more : (j : ℕ) (entry : Reached) → length before ≤ j → slice_get after j ≡ Some entry → (entry.decider ≡ k) × IsInOrbit result.alpha (type_of embed) d (name_of app entry.at)
+    pub record IsGrown (before after : List Mark) (k d : ℕ) : Type 0 where
+      pub kept : (j : ℕ) (entry : Mark) → slice_get before j ≡ Some entry → slice_get after j ≡ Some entry
+      pub more : (j : ℕ) (entry : Mark) → length before ≤ j → slice_get after j ≡ Some entry → (entry.instance ≡ k) × IsInOrbit result.alpha (type_of embed) d (name_of app entry.at)
 
     -- the arcs of the added entries were followed as far as entry n and label i
-    pub record IsSpreadTo (before after : List Reached) (k d n i : ℕ) : Type 0 where
+    pub record IsSpreadTo (before after : List Mark) (k d n i : ℕ) : Type 0 where
       pub grown : IsGrown before after k d
       pub closed : IsClosed before
       pub here : HasMark after d k
-      pub followed : (j l : ℕ) (entry : Reached) → length before ≤ j → slice_get after j ≡ Some entry → IsPairBefore j l n i → IsTrue (type_of embed l) → HasMark after (result.alpha l (name_of app entry.at)) k
+      pub followed : (j l : ℕ) (entry : Mark) → length before ≤ j → slice_get after j ≡ Some entry → IsPairBefore j l n i → IsTrue (type_of embed l) → HasMark after (result.alpha l (name_of app entry.at)) k
 
   -- In each unfolding, and whatever was reached before the walk: the arcs of this entry were followed as far as label i.
-  abbrev pub IsFollowedTo : Embed → Reached → List Reached → List Reached → ℕ → Type 0
-  IsFollowedTo embed from old new i = (result : Unfolded) (before : List Reached) (d n : ℕ) → IsUnfoldedIn app result → slice_get old n ≡ Some from → length before ≤ n → IsSpreadTo embed result before old from.decider d n 0 → IsSpreadTo embed result before new from.decider d n i
+  abbrev pub IsFollowedTo : Embed → Mark → List Mark → List Mark → ℕ → Type 0
+  IsFollowedTo embed from old new i = (result : Unfolded) (before : List Mark) (d n : ℕ) → IsUnfoldedIn app result → slice_get old n ≡ Some from → length before ≤ n → IsSpreadTo embed result before old from.instance d n 0 → IsSpreadTo embed result before new from.instance d n i
 
   -- and some of them
-  abbrev pub IsFollowed : Embed → Reached → List Reached → List Reached → Type 0
-  IsFollowed embed from old new = (result : Unfolded) (before : List Reached) (d n : ℕ) → IsUnfoldedIn app result → slice_get old n ≡ Some from → length before ≤ n → IsSpreadTo embed result before old from.decider d n 0 → IsGrown embed result before new from.decider d
+  abbrev pub IsFollowed : Embed → Mark → List Mark → List Mark → Type 0
+  IsFollowed embed from old new = (result : Unfolded) (before : List Mark) (d n : ℕ) → IsUnfoldedIn app result → slice_get old n ≡ Some from → length before ≤ n → IsSpreadTo embed result before old from.instance d n 0 → IsGrown embed result before new from.instance d
 
   -- ---- a node whose instances are one orbit
 
@@ -78,29 +78,29 @@ module _ (app : PendingOf) where
   IsAlwaysOneOrbit embed x = (result : Unfolded) → IsUnfoldedIn app result → IsOneOrbit embed result x
 
   -- no instance of node x is marked
-  abbrev pub IsUnmarked : List Reached → ℕ → Type 0
+  abbrev pub IsUnmarked : List Mark → ℕ → Type 0
   IsUnmarked reached x = (p k : ℕ) → p < app.placed.positions → HasMark reached ((scene_in app).name_of x p) k → ⊥
 
   -- entries were added: those of the instances of node x at the positions before p, with this index
-  pub record AreMarkedTo (before after : List Reached) (x k p : ℕ) : Type 0 where
-    pub kept : (j : ℕ) (entry : Reached) → slice_get before j ≡ Some entry → slice_get after j ≡ Some entry
-    pub more : (j : ℕ) (entry : Reached) → length before ≤ j → slice_get after j ≡ Some entry → (entry.decider ≡ k) × (q : ℕ) × (q < p) × (name_of app entry.at ≡ (scene_in app).name_of x q)
+  pub record AreMarkedTo (before after : List Mark) (x k p : ℕ) : Type 0 where
+    pub kept : (j : ℕ) (entry : Mark) → slice_get before j ≡ Some entry → slice_get after j ≡ Some entry
+    pub more : (j : ℕ) (entry : Mark) → length before ≤ j → slice_get after j ≡ Some entry → (entry.instance ≡ k) × (q : ℕ) × (q < p) × (name_of app entry.at ≡ (scene_in app).name_of x q)
     pub all : (q : ℕ) → q < p → HasMark after ((scene_in app).name_of x q) k
 
   -- ---- the walks from the instances before one
 
   module _ (e : ℕ) (embed : Embed) where
-    pub record IsWalkedUpTo (result : Unfolded) (deciders : List Decider) (reached : List Reached) (x p : ℕ) : Type 0 where
+    pub record IsWalkedUpTo (result : Unfolded) (instances : List DecidingInstance) (reached : List Mark) (x p : ℕ) : Type 0 where
       pub closed : IsClosed embed result reached
-      pub decided : (d k : ℕ) → HasMark reached d k → (decider : Decider) × (slice_get deciders k ≡ Some decider) × IsDecidedIn app result e embed d decider.node decider.position
-      pub own : (k : ℕ) (decider : Decider) → slice_get deciders k ≡ Some decider → HasMark reached ((scene_in app).name_of decider.node decider.position) k
+      pub decided : (d k : ℕ) → HasMark reached d k → (instance : DecidingInstance) × (slice_get instances k ≡ Some instance) × IsDecidedIn app result e embed d instance.node instance.position
+      pub own : (k : ℕ) (instance : DecidingInstance) → slice_get instances k ≡ Some instance → HasMark reached ((scene_in app).name_of instance.node instance.position) k
       pub all : (y q : ℕ) → IsPairBefore y q x p → IsAssigned (rule_in app) e y → q < app.placed.positions → (k : ℕ) × HasMark reached ((scene_in app).name_of y q) k
 
     -- each assigned instance before node x and position p was looked at
-    pub record IsDecidedUpTo (deciders : List Decider) (reached : List Reached) (x p : ℕ) : Type 0 where
+    pub record IsDecidedUpTo (instances : List DecidingInstance) (reached : List Mark) (x p : ℕ) : Type 0 where
       pub darts : AreResultDarts reached
-      pub few : length deciders ≤ 4294967295
-      pub ascending : (k l : ℕ) (a b : Decider) → k < l → slice_get deciders k ≡ Some a → slice_get deciders l ≡ Some b → IsPairBefore a.node a.position b.node b.position
-      pub before : (k : ℕ) (decider : Decider) → slice_get deciders k ≡ Some decider → IsPairBefore decider.node decider.position x p
-      pub ungiven : (k : ℕ) (decider : Decider) → slice_get deciders k ≡ Some decider → decider.value ≡ None
-      pub walked : (result : Unfolded) → IsUnfoldedIn app result → IsWalkedUpTo result deciders reached x p
+      pub few : length instances ≤ 4294967295
+      pub ascending : (k l : ℕ) (a b : DecidingInstance) → k < l → slice_get instances k ≡ Some a → slice_get instances l ≡ Some b → IsPairBefore a.node a.position b.node b.position
+      pub before : (k : ℕ) (instance : DecidingInstance) → slice_get instances k ≡ Some instance → IsPairBefore instance.node instance.position x p
+      pub ungiven : (k : ℕ) (instance : DecidingInstance) → slice_get instances k ≡ Some instance → instance.given ≡ None
+      pub walked : (result : Unfolded) → IsUnfoldedIn app result → IsWalkedUpTo result instances reached x p

@@ -21,7 +21,7 @@ use Rattle.gm_plan.specs.Placed.{Placed}
 use Rattle.gm_plan.specs.Plans.{IsPlanned}
 use Rattle.gm_pending.specs.declared.at.At.{At}
 use Rattle.gm_pending.specs.declared.at.At.TheVariants.{Old, New}
-use Rattle.gm_pending.specs.declared.decider.Decider.{Decider}
+use Rattle.gm_pending.specs.declared.deciding_instance.DecidingInstance.{DecidingInstance}
 
 -- what is pending: the application of a rule to a map, at these instances, and what was asked of it
 pub record PendingOf : Type 0 where
@@ -29,7 +29,7 @@ pub record PendingOf : Type 0 where
   pub table : RuleTable
   pub placed : Placed
   -- the deciding instances of each embedding, where they were asked for
-  pub asked : List (Option (List Decider))
+  pub asked : List (Option (List DecidingInstance))
 
 -- nothing was asked
 abbrev pub pending_of : ArenaMap → RuleTable → Placed → PendingOf
@@ -69,22 +69,22 @@ IsRightInstance app x p = IsTrue (has_word (rule_in app) Right x) × (p < app.pl
 
 module _ (app : PendingOf) where
   -- the deciding instances of the embedding, as far as they were asked for
-  abbrev pub entry_of : ℕ → Option (List Decider)
-  entry_of e = slice_index_or app.asked e None
+  abbrev pub deciding_of : ℕ → Option (List DecidingInstance)
+  deciding_of e = slice_index_or app.asked e None
 
-  abbrev pub deciders_of : ℕ → List Decider
-  deciders_of e = unwrap_or (entry_of e) []
+  abbrev pub instances_of : ℕ → List DecidingInstance
+  instances_of e = unwrap_or (deciding_of e) []
 
   abbrev pub IsAsked : ℕ → Type 0
-  IsAsked e = IsSome (entry_of e)
+  IsAsked e = IsSome (deciding_of e)
 
   -- the instance decides, and has this value
   abbrev pub IsGivenIn : ℕ → ℕ → ℕ → Value → Type 0
-  IsGivenIn e x p v = Contains (deciders_of e) (record { node = x; position = p; value = Some v })
+  IsGivenIn e x p v = Contains (instances_of e) (record { node = x; position = p; given = Some v })
 
   -- the deciding instances were asked for, and each has a value
   abbrev pub AreAllGiven : ℕ → Type 0
-  AreAllGiven e = IsAsked e × ((decider : Decider) → Contains (deciders_of e) decider → IsSome decider.value)
+  AreAllGiven e = IsAsked e × ((instance : DecidingInstance) → Contains (instances_of e) instance → IsSome instance.given)
 
   -- the instance decides the orbit of the dart d
   abbrev pub IsDecidedIn : Unfolded → ℕ → Embed → ℕ → ℕ → ℕ → Type 0
@@ -102,28 +102,28 @@ module _ (app : PendingOf) where
   IsWithinReach e embed old new = (result : Unfolded) (count : ℕ) → IsUnfoldedIn app result → HasCount (IsReachedIn result e embed) count → new ≤ old + 2 * (app.map.schema.dim + 1) * count
 
   -- the deciding instances of the embedding, by node and then by position
-  pub record AreDeciders (e : ℕ) (embed : Embed) (deciders : List Decider) : Type 0 where
-    pub ascending : (k l : ℕ) (a b : Decider) → k < l → slice_get deciders k ≡ Some a → slice_get deciders l ≡ Some b → IsPairBefore a.node a.position b.node b.position
-    pub decide : (result : Unfolded) → IsUnfoldedIn app result → (decider : Decider) → Contains deciders decider → IsDecidingIn result e embed decider.node decider.position
-    pub all : (result : Unfolded) → IsUnfoldedIn app result → (x p : ℕ) → IsDecidingIn result e embed x p → (decider : Decider) × Contains deciders decider × (decider.node ≡ x) × (decider.position ≡ p)
+  pub record AreDecidingInstances (e : ℕ) (embed : Embed) (instances : List DecidingInstance) : Type 0 where
+    pub ascending : (k l : ℕ) (a b : DecidingInstance) → k < l → slice_get instances k ≡ Some a → slice_get instances l ≡ Some b → IsPairBefore a.node a.position b.node b.position
+    pub decide : (result : Unfolded) → IsUnfoldedIn app result → (instance : DecidingInstance) → Contains instances instance → IsDecidingIn result e embed instance.node instance.position
+    pub all : (result : Unfolded) → IsUnfoldedIn app result → (x p : ℕ) → IsDecidingIn result e embed x p → (instance : DecidingInstance) × Contains instances instance × (instance.node ≡ x) × (instance.position ≡ p)
 
   -- the value that the dart d of the result has, where the deciding instances have those that were given
   abbrev pub IsValueIn : ℕ → Embed → ℕ → Value → Type 0
   IsValueIn e embed d v = (result : Unfolded) → IsUnfoldedIn app result → IsValueAfter (as_map app.map) (rule_in app) (place_in app) result.alpha e (type_of embed) (IsGivenIn e) d v
 
 -- the embedding was asked for, and these are its deciding instances
-abbrev pub with_deciders : PendingOf → ℕ → List Decider → PendingOf
-with_deciders app e deciders = record { map = app.map; table = app.table; placed = app.placed; asked = slice_set app.asked e (Some deciders) }
+abbrev pub with_instances : PendingOf → ℕ → List DecidingInstance → PendingOf
+with_instances app e instances = record { map = app.map; table = app.table; placed = app.placed; asked = slice_set app.asked e (Some instances) }
 
 -- with this value given to the deciding instance of the index
-abbrev pub given_at : List Decider → ℕ → Value → List Decider
+abbrev pub given_at : List DecidingInstance → ℕ → Value → List DecidingInstance
 given_at [] k v = []
-given_at (decider ∷ deciders) zero v = record { node = decider.node; position = decider.position; value = Some v } ∷ deciders
-given_at (decider ∷ deciders) (suc k) v = decider ∷ given_at deciders k v
+given_at (instance ∷ instances) zero v = record { node = instance.node; position = instance.position; given = Some v } ∷ instances
+given_at (instance ∷ instances) (suc k) v = instance ∷ given_at instances k v
 
 -- where it lies
-abbrev pub place_of : Decider → ℕ × ℕ
-place_of decider = (decider.node, decider.position)
+abbrev pub place_of : DecidingInstance → ℕ × ℕ
+place_of instance = (instance.node, instance.position)
 
 -- The map is sound, the rule is accepted for it, and the instances are those of a match. What was answered are the
 -- deciding instances, and what was given are values of their embedding's kind.
@@ -134,5 +134,5 @@ pub record IsPrepared (app : PendingOf) : Type 0 where
   pub hooks : List ℕ
   pub matched : AreMatched app.map (rule_in app) hooks app.placed
   pub each : length app.asked ≡ length app.map.schema.embeds
-  pub deciders : (e : ℕ) (embed : Embed) (deciders : List Decider) → IsEmbedAt app.map.schema e embed → entry_of app e ≡ Some deciders → AreDeciders app e embed deciders
+  pub instances : (e : ℕ) (embed : Embed) (instances : List DecidingInstance) → IsEmbedAt app.map.schema e embed → deciding_of app e ≡ Some instances → AreDecidingInstances app e embed instances
   pub values : (e x p : ℕ) (embed : Embed) (v : Value) → IsEmbedAt app.map.schema e embed → IsGivenIn app e x p v → IsValueOf embed.kind v

@@ -10,11 +10,11 @@ use Rattle.gm_arena.specs.ArenaMap.{name_at}
 use Rattle.gm_plan.specs.InArena.{slot_number}
 use Rattle.gm_pending.specs.declared.at.At.{At}
 use Rattle.gm_pending.specs.declared.at.At.TheVariants.{Old, New}
-use Rattle.gm_pending.specs.declared.decider.Decider.{Decider}
-use Rattle.gm_pending.specs.declared.marks.Reached.{Reached}
+use Rattle.gm_pending.specs.declared.deciding_instance.DecidingInstance.{DecidingInstance}
+use Rattle.gm_pending.specs.declared.marks.Mark.{Mark}
 use Rattle.gm_pending.specs.Marks.{HasKey, key_of}
 use Rattle.gm_pending.specs.Reached.{AreReached}
-use Rattle.gm_pending.specs.Results.{PendingOf, deciders_of, rule_in}
+use Rattle.gm_pending.specs.Results.{PendingOf, instances_of, rule_in}
 
 -- an added node's component has a preserved node
 abbrev pub HasSourceNode : PendingOf → Embed → At → Type 0
@@ -36,7 +36,7 @@ IsSourceValue app e embed at v = (slot : ℕ) → IsSourceOf app embed at slot �
 
 -- no deciding instance reaches the dart
 abbrev pub IsUnreached : PendingOf → ℕ → Embed → At → Type 0
-IsUnreached app e embed at = (reached : List Reached) × AreReached app e embed (deciders_of app e) reached × (HasKey reached (key_of at) → ⊥)
+IsUnreached app e embed at = (reached : List Mark) × AreReached app e embed (instances_of app e) reached × (HasKey reached (key_of at) → ⊥)
 
 -- the least preserved node of the component of x for the embedding of this number, or none where it has none
 abbrev pub IsKeeperFor : PendingOf → ℕ → ℕ → Option ℕ → Type 0
@@ -47,5 +47,5 @@ abbrev pub AreKeepers : PendingOf → ℕ → List (Option ℕ) → Type 0
 AreKeepers app x keepers = (e : ℕ) → e < length app.map.schema.embeds → IsKeeperFor app e x (slice_index_or keepers e None)
 
 -- the value that was given to the deciding instance of this index
-abbrev pub given_of : List Decider → ℕ → Option Value
-given_of deciders k = option_and_then (λ (decider : Decider). decider.value) (slice_get deciders k)
+abbrev pub given_of : List DecidingInstance → ℕ → Option Value
+given_of instances k = option_and_then (λ (instance : DecidingInstance). instance.given) (slice_get instances k)

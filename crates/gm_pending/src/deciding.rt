@@ -7,17 +7,17 @@ ghost use Rattle.gm_model.specs.Components.{IsAssigned};
 ghost use Rattle.gm_model.specs.Maps.{IsEmbedAt};
 ghost use Rattle.gm_model.specs.Rules.{has_word};
 ghost use Rattle.gm_theory.specs.Theorem.{Unfolded};
-ghost use Rattle.gm_pending.specs.declared.decider.Decider.{Decider};
-ghost use Rattle.gm_pending.specs.declared.marks.Reached.{Reached};
+ghost use Rattle.gm_pending.specs.declared.deciding_instance.DecidingInstance.{DecidingInstance};
+ghost use Rattle.gm_pending.specs.declared.marks.Mark.{Mark};
 ghost use Rattle.gm_pending.specs.Marks.{key_of, HasKey};
 ghost use Rattle.gm_pending.specs.Reached.{AreReached, AreResultDarts, AreSomeReached, IsClosed, IsGrown, IsSpreadTo, IsFollowedTo, IsFollowed, IsDecidedUpTo, IsAlwaysOneOrbit, IsUnmarked, AreMarkedTo, ungiven};
-ghost use Rattle.gm_pending.specs.Results.{IsPrepared, AreDeciders, IsAsked, IsResultDart, IsUnfoldedIn, IsWithinReach, deciders_of, with_deciders, name_of, rule_in};
+ghost use Rattle.gm_pending.specs.Results.{IsPrepared, AreDecidingInstances, IsAsked, IsResultDart, IsUnfoldedIn, IsWithinReach, instances_of, with_instances, name_of, rule_in};
 
-use crate::asked::{Asked, keep};
 use crate::at::At;
-use crate::decider::Decider;
+use crate::decided_orbits::{DecidedOrbits, put_orbits};
+use crate::deciding_instance::DecidingInstance;
 use crate::lookup::Lookup;
-use crate::marks::{Marks, Reached};
+use crate::marks::{Mark, Marks};
 use crate::pending::Pending;
 use gm_arena::Steps;
 use gm_model::{Embed, OutOfMemory};
@@ -36,78 +36,82 @@ impl Pending<'_, '_> {
     ) -> Result<u32, OutOfMemory>
         requires embed { embed < length self.old.map.schema.embeds }
         requires unasked { IsAsked self.old embed → ⊥ }
-        ensures asked { OnOk result (self.new ≡ with_deciders self.old embed (deciders_of self.new embed)) }
-        ensures deciders { OnOk result ((kept : Embed) → IsEmbedAt self.old.map.schema embed kept → AreDeciders self.old embed kept (deciders_of self.new embed)) }
-        ensures ungiven { OnOk result ((decider : Decider) → Contains (deciders_of self.new embed) decider → decider.value ≡ None) }
-        ensures count { IfOk result (λ count. count ≡ length (deciders_of self.new embed)) }
+        ensures asked { OnOk result (self.new ≡ with_instances self.old embed (instances_of self.new embed)) }
+        ensures deciders { OnOk result ((kept : Embed) → IsEmbedAt self.old.map.schema embed kept → AreDecidingInstances self.old embed kept (instances_of self.new embed)) }
+        ensures ungiven { OnOk result ((instance : DecidingInstance) → Contains (instances_of self.new embed) instance → instance.given ≡ None) }
+        ensures count { IfOk result (λ count. count ≡ length (instances_of self.new embed)) }
         ensures err { OnErr result (self.new ≡ self.old) }
         ensures cost { (kept : Embed) → IsEmbedAt self.old.map.schema embed kept → IsWithinReach self.old embed kept steps.old steps.new }
         ensures least { steps.old ≤ steps.new }
     {
         self.look_up(embed)?;
-        let asked = self.decide(embed, steps)?;
-        let count = asked.deciders.len() as u32;
-        keep(&mut self.asked, embed, asked);
+        let orbits = self.decide(embed, steps)?;
+        let count = orbits.instances.len() as u32;
+        put_orbits(&mut self.orbits, embed, orbits);
         Ok(count)
     }
 
-    /// Prepares the look-up of slots, where the rule assigns the embedding and has more than a few
-    /// instances.
+    /// Prepares the look-up of slots, where orbits have to be walked, over arcs that are made, and the
+    /// rule has more than a few instances.
     fn look_up(&mut self, embed: u8) -> Result<(), OutOfMemory>
         requires { embed < length self.old.map.schema.embeds }
         ensures { self.new ≡ self.old }
     {
         let nodes = self.plan.left_nodes();
         let instances = u64::from(nodes) * u64::from(self.found.positions());
-        if self.lookup.is_none() && instances > FEW && self.assigns_any(embed) {
+        if self.lookup.is_none() && instances > FEW && self.walks(embed) && self.makes_arcs() {
             self.lookup = Some(Lookup::build(self.alloc, self.found, nodes)?);
         }
         Ok(())
     }
 
     /// Finds the deciding instances of an embedding and the darts that they reach.
-    fn decide<L: Ledger>(&self, embed: u8, steps: &mut Steps<L>) -> Result<Asked, OutOfMemory>
+    fn decide<L: Ledger>(
+        &self,
+        embed: u8,
+        steps: &mut Steps<L>,
+    ) -> Result<DecidedOrbits, OutOfMemory>
         requires { embed < length self.now.map.schema.embeds }
-        ensures deciders { IfOk result (λ asked. (kept : Embed) → IsEmbedAt self.now.map.schema embed kept → AreDeciders self.now embed kept asked.deciders.items) }
-        ensures reached { IfOk result (λ asked. (kept : Embed) → IsEmbedAt self.now.map.schema embed kept → AreReached self.now embed kept asked.deciders.items asked.marks) }
-        ensures ungiven { IfOk result (λ asked. (decider : Decider) → Contains asked.deciders.items decider → decider.value ≡ None) }
-        ensures few { IfOk result (λ asked. length asked.deciders.items ≤ 4294967295) }
+        ensures deciders { IfOk result (λ orbits. (kept : Embed) → IsEmbedAt self.now.map.schema embed kept → AreDecidingInstances self.now embed kept orbits.instances.items) }
+        ensures reached { IfOk result (λ orbits. (kept : Embed) → IsEmbedAt self.now.map.schema embed kept → AreReached self.now embed kept orbits.instances.items orbits.marks) }
+        ensures ungiven { IfOk result (λ orbits. (instance : DecidingInstance) → Contains orbits.instances.items instance → instance.given ≡ None) }
+        ensures few { IfOk result (λ orbits. length orbits.instances.items ≤ 4294967295) }
         ensures cost { (kept : Embed) → IsEmbedAt self.now.map.schema embed kept → IsWithinReach self.now embed kept steps.old steps.new }
         ensures least { steps.old ≤ steps.new }
         ensures prepared { IsPrepared self.now }
     {
         let declared = &self.arena.schema().embeds.as_slice()[embed as usize];
-        let mut asked = Asked {
-            deciders: Vec::new(self.alloc),
+        let mut orbits = DecidedOrbits {
+            instances: Vec::new(self.alloc),
             marks: Marks::new(self.alloc),
         };
-        let outcome = self.decide_nodes(embed, declared, &mut asked, steps);
+        let outcome = self.decide_nodes(embed, declared, &mut orbits, steps);
         // The marks tell here that no dart comes twice.
-        prove!(asked.marks.len() <= usize::MAX);
+        prove!(orbits.marks.len() <= usize::MAX);
         outcome?;
-        Ok(asked)
+        Ok(orbits)
     }
 
     fn decide_nodes<L: Ledger>(
         &self,
         embed: u8,
         declared: &Embed,
-        asked: &mut Asked,
+        orbits: &mut DecidedOrbits,
         steps: &mut Steps<L>,
     ) -> Result<(), OutOfMemory>
         requires embed { IsEmbedAt self.now.map.schema embed declared.now }
-        requires earlier { IsDecidedUpTo self.now embed declared.now asked.old.deciders.items asked.old.marks 0 0 }
-        ensures decided { OnOk result (IsDecidedUpTo self.now embed declared.now asked.new.deciders.items asked.new.marks (length (rule_in self.now).nodes) 0) }
-        ensures darts { AreResultDarts self.now asked.new.marks }
-        ensures reached { AreSomeReached self.now embed declared.now asked.new.marks }
-        ensures cost { steps.new + (self.now.map.schema.dim + 1) * length asked.old.marks ≤ steps.old + (self.now.map.schema.dim + 1) * length asked.new.marks }
+        requires earlier { IsDecidedUpTo self.now embed declared.now orbits.old.instances.items orbits.old.marks 0 0 }
+        ensures decided { OnOk result (IsDecidedUpTo self.now embed declared.now orbits.new.instances.items orbits.new.marks (length (rule_in self.now).nodes) 0) }
+        ensures darts { AreResultDarts self.now orbits.new.marks }
+        ensures reached { AreSomeReached self.now embed declared.now orbits.new.marks }
+        ensures cost { steps.new + (self.now.map.schema.dim + 1) * length orbits.old.marks ≤ steps.old + (self.now.map.schema.dim + 1) * length orbits.new.marks }
         ensures least { steps.old ≤ steps.new }
         ensures prepared { IsPrepared self.now }
     {
         let nodes = self.nodes();
         for node in 0..nodes {
             if self.assigns(embed, node) {
-                self.decide_node(embed, declared, node, asked, steps)?;
+                self.decide_node(embed, declared, node, orbits, steps)?;
             }
         }
         Ok(())
@@ -119,23 +123,23 @@ impl Pending<'_, '_> {
         embed: u8,
         declared: &Embed,
         node: u8,
-        asked: &mut Asked,
+        orbits: &mut DecidedOrbits,
         steps: &mut Steps<L>,
     ) -> Result<(), OutOfMemory>
         requires embed { IsEmbedAt self.now.map.schema embed declared.now }
         requires assigned { IsAssigned (rule_in self.now) embed node }
-        requires earlier { IsDecidedUpTo self.now embed declared.now asked.old.deciders.items asked.old.marks node 0 }
-        ensures decided { OnOk result (IsDecidedUpTo self.now embed declared.now asked.new.deciders.items asked.new.marks (node + 1) 0) }
-        ensures darts { AreResultDarts self.now asked.new.marks }
-        ensures reached { AreSomeReached self.now embed declared.now asked.new.marks }
-        ensures cost { steps.new + (self.now.map.schema.dim + 1) * length asked.old.marks ≤ steps.old + (self.now.map.schema.dim + 1) * length asked.new.marks }
+        requires earlier { IsDecidedUpTo self.now embed declared.now orbits.old.instances.items orbits.old.marks node 0 }
+        ensures decided { OnOk result (IsDecidedUpTo self.now embed declared.now orbits.new.instances.items orbits.new.marks (node + 1) 0) }
+        ensures darts { AreResultDarts self.now orbits.new.marks }
+        ensures reached { AreSomeReached self.now embed declared.now orbits.new.marks }
+        ensures cost { steps.new + (self.now.map.schema.dim + 1) * length orbits.old.marks ≤ steps.old + (self.now.map.schema.dim + 1) * length orbits.new.marks }
         ensures least { steps.old ≤ steps.new }
     {
         if self.is_one_orbit(embed, node) {
-            return self.decide_orbit(embed, declared, node, asked);
+            return self.decide_orbit(embed, declared, node, orbits);
         }
         for position in 0..self.positions() {
-            self.decide_instance(embed, declared, node, position, asked, steps)?;
+            self.decide_instance(embed, declared, node, position, orbits, steps)?;
         }
         Ok(())
     }
@@ -143,7 +147,7 @@ impl Pending<'_, '_> {
     /// Whether the instances of a node are one orbit of the embedding's type, whatever is matched.
     /// Where each letter of the node is a label of the type, they are joined as the positions are;
     /// and where each label of the type is a letter of it, no other dart is joined to them.
-    fn is_one_orbit(&self, embed: u8, node: u8) -> bool
+    pub(crate) fn is_one_orbit(&self, embed: u8, node: u8) -> bool
         requires embed { embed < length self.now.map.schema.embeds }
         requires node { node < length (rule_in self.now).nodes }
         ensures { IsTrue result → (kept : Embed) → IsEmbedAt self.now.map.schema embed kept → IsAlwaysOneOrbit self.now kept node }
@@ -158,24 +162,24 @@ impl Pending<'_, '_> {
         embed: u8,
         declared: &Embed,
         node: u8,
-        asked: &mut Asked,
+        orbits: &mut DecidedOrbits,
     ) -> Result<(), OutOfMemory>
         requires embed { IsEmbedAt self.now.map.schema embed declared.now }
         requires assigned { IsAssigned (rule_in self.now) embed node }
         requires orbit { IsAlwaysOneOrbit self.now declared.now node }
-        requires earlier { IsDecidedUpTo self.now embed declared.now asked.old.deciders.items asked.old.marks node 0 }
-        ensures decided { OnOk result (IsDecidedUpTo self.now embed declared.now asked.new.deciders.items asked.new.marks (node + 1) 0) }
-        ensures darts { AreResultDarts self.now asked.new.marks }
-        ensures reached { AreSomeReached self.now embed declared.now asked.new.marks }
-        ensures longer { length asked.old.marks ≤ length asked.new.marks }
+        requires earlier { IsDecidedUpTo self.now embed declared.now orbits.old.instances.items orbits.old.marks node 0 }
+        ensures decided { OnOk result (IsDecidedUpTo self.now embed declared.now orbits.new.instances.items orbits.new.marks (node + 1) 0) }
+        ensures darts { AreResultDarts self.now orbits.new.marks }
+        ensures reached { AreSomeReached self.now embed declared.now orbits.new.marks }
+        ensures longer { length orbits.old.marks ≤ length orbits.new.marks }
     {
         // The application tells here what its type keeps.
         prove!(self.positions() >= 1);
-        if asked.marks.decider(self.place(node, 0)).is_some() {
+        if orbits.marks.decided_by(self.place(node, 0)).is_some() {
             return Ok(());
         }
-        let index = add_decider(&mut asked.deciders, node, 0)?;
-        self.mark_instances(node, index, &mut asked.marks)
+        let index = add_instance(&mut orbits.instances, node, 0)?;
+        self.mark_instances(node, index, &mut orbits.marks)
     }
 
     /// Marks the instances of a right node, of which none is marked.
@@ -200,27 +204,27 @@ impl Pending<'_, '_> {
         declared: &Embed,
         node: u8,
         position: u32,
-        asked: &mut Asked,
+        orbits: &mut DecidedOrbits,
         steps: &mut Steps<L>,
     ) -> Result<(), OutOfMemory>
         requires embed { IsEmbedAt self.now.map.schema embed declared.now }
         requires assigned { IsAssigned (rule_in self.now) embed node }
         requires position { position < self.now.placed.positions }
-        requires earlier { IsDecidedUpTo self.now embed declared.now asked.old.deciders.items asked.old.marks node position }
-        ensures decided { OnOk result (IsDecidedUpTo self.now embed declared.now asked.new.deciders.items asked.new.marks node (position + 1)) }
-        ensures darts { AreResultDarts self.now asked.new.marks }
-        ensures reached { AreSomeReached self.now embed declared.now asked.new.marks }
-        ensures cost { steps.new + (self.now.map.schema.dim + 1) * length asked.old.marks ≤ steps.old + (self.now.map.schema.dim + 1) * length asked.new.marks }
+        requires earlier { IsDecidedUpTo self.now embed declared.now orbits.old.instances.items orbits.old.marks node position }
+        ensures decided { OnOk result (IsDecidedUpTo self.now embed declared.now orbits.new.instances.items orbits.new.marks node (position + 1)) }
+        ensures darts { AreResultDarts self.now orbits.new.marks }
+        ensures reached { AreSomeReached self.now embed declared.now orbits.new.marks }
+        ensures cost { steps.new + (self.now.map.schema.dim + 1) * length orbits.old.marks ≤ steps.old + (self.now.map.schema.dim + 1) * length orbits.new.marks }
         ensures least { steps.old ≤ steps.new }
     {
         // The application tells here what its type keeps.
         prove!(self.labels() <= 8);
         let at = self.place(node, position);
-        if asked.marks.decider(at).is_some() {
+        if orbits.marks.decided_by(at).is_some() {
             return Ok(());
         }
-        let index = add_decider(&mut asked.deciders, node, position)?;
-        self.reach(at, index, embed, declared, &mut asked.marks, steps)
+        let index = add_instance(&mut orbits.instances, node, position)?;
+        self.reach(at, index, embed, declared, &mut orbits.marks, steps)
     }
 
     /// Walks the orbit of an instance, and marks its darts.
@@ -258,7 +262,7 @@ impl Pending<'_, '_> {
     /// Marks the neighbours of a reached dart.
     fn spread<L: Ledger>(
         &self,
-        from: Reached,
+        from: Mark,
         embed: u8,
         declared: &Embed,
         marks: &mut Marks,
@@ -277,7 +281,7 @@ impl Pending<'_, '_> {
         for label in 0..self.labels() {
             if declared.mask.has(label) {
                 let to = self.alpha(from.at, label, steps);
-                marks.mark(to, from.decider)?;
+                marks.mark(to, from.instance)?;
             }
         }
         Ok(())
@@ -285,21 +289,25 @@ impl Pending<'_, '_> {
 }
 
 /// Adds a deciding instance, which has no value yet, and answers its index.
-fn add_decider(deciders: &mut Vec<Decider>, node: u8, position: u32) -> Result<u32, OutOfMemory>
-    ensures added { OnOk result (deciders.new.items ≡ deciders.old.items ++ ungiven node position ∷ []) }
-    ensures index { IfOk result (λ index. index ≡ length deciders.old.items) }
-    ensures few { OnOk result (length deciders.old.items < 4294967295) }
-    ensures err { OnErr result (deciders.new.items ≡ deciders.old.items) }
+fn add_instance(
+    instances: &mut Vec<DecidingInstance>,
+    node: u8,
+    position: u32,
+) -> Result<u32, OutOfMemory>
+    ensures added { OnOk result (instances.new.items ≡ instances.old.items ++ ungiven node position ∷ []) }
+    ensures index { IfOk result (λ index. index ≡ length instances.old.items) }
+    ensures few { OnOk result (length instances.old.items < 4294967295) }
+    ensures err { OnErr result (instances.new.items ≡ instances.old.items) }
 {
     // So many instances take more memory than there is.
-    if deciders.len() >= u32::MAX as usize {
+    if instances.len() >= u32::MAX as usize {
         return Err(OutOfMemory);
     }
-    let index = deciders.len() as u32;
-    deciders.push(Decider {
+    let index = instances.len() as u32;
+    instances.push(DecidingInstance {
         node,
         position,
-        value: None,
+        given: None,
     })?;
     Ok(index)
 }

@@ -119,12 +119,12 @@ impl Pending<'_, '_> {
         requires earlier { AreDecidedBelow self.now embed values.old }
         ensures { AreDecidedBelow self.now (embed + 1) values.new }
     {
-        let asked = self.answer(embed);
+        let orbits = self.orbits(embed);
         let width = self.embeds() as usize;
-        for entry in asked.marks.as_slice() {
+        for entry in orbits.marks.as_slice() {
             if let At::New { node, position } = entry.at {
                 let number = self.new_number(node, position);
-                values[number * width + embed as usize] = given(&asked.deciders, entry.decider);
+                values[number * width + embed as usize] = given(&orbits.instances, entry.instance);
             }
         }
     }
@@ -170,10 +170,10 @@ impl Pending<'_, '_> {
         requires given { AllGiven self.now }
         ensures values { OnOk result (AreGathered self.now embed values.old.items values.new.items) }
     {
-        let asked = self.answer(embed);
-        for entry in asked.marks.as_slice() {
+        let orbits = self.orbits(embed);
+        for entry in orbits.marks.as_slice() {
             if let At::Old(slot) = entry.at {
-                let value = given(&asked.deciders, entry.decider);
+                let value = given(&orbits.instances, entry.instance);
                 values.push(ValueAt { slot, embed, value })?;
             }
         }

@@ -3,12 +3,12 @@
 #![tactic(auto)]
 
 mod applied;
-mod asked;
 mod at;
 mod changes;
 mod commit;
-mod decider;
+mod decided_orbits;
 mod deciding;
+mod deciding_instance;
 mod edits;
 mod gathering;
 mod lookup;

@@ -1,6 +1,6 @@
 //! The darts of a result that are reached from deciding instances.
 ghost use Rattle.std.specs.Prelude.{◌≡◌, List, ◌∷◌, ◌++◌, ◌<◌, [], length, slice_get, Some, MatchOption, IfOk, IfSome, OnOk, OnErr};
-ghost use Rattle.gm_pending.specs.declared.marks.Reached.{Reached};
+ghost use Rattle.gm_pending.specs.declared.marks.Mark.{Mark};
 ghost use Rattle.gm_pending.specs.Marks.{key_of, reached_by, HasKey, AreKeyed, IsIndex, IsMarkedBy, IsMarkedMore, HasDistinctKeys};
 
 use crate::at::At;
@@ -11,35 +11,35 @@ use std::marker::Model;
 
 /// A dart of a result, and the index of the instance that decides its orbit.
 #[derive(Clone, Copy)]
-pub(crate) struct Reached {
+pub(crate) struct Mark {
     pub(crate) at: At,
-    pub(crate) decider: u32,
+    pub(crate) instance: u32,
     /// The number of the dart. It is kept, so that a search only compares numbers.
     key: u64,
 }
 
-/// So many darts are looked through one after another, since that is faster than any index.
+/// So many darts are searched one after another, since that is faster than any index.
 const FEW: usize = 16;
 
 /// The darts that are reached, in the order in which they were found. None comes twice.
 #[derive(Drop)]
 pub(crate) struct Marks {
     alloc: Global,
-    reached: Vec<Reached>,
+    reached: Vec<Mark>,
     /// The index of the deciding instance, by the key of a dart, where there are more than a few.
-    deciders: Option<BTreeMap<u64, u32>>,
+    by_key: Option<BTreeMap<u64, u32>>,
 }
 
 impl Model for Marks {
     ghost use Rattle.std.specs.Prelude.{List};
-    ghost use Rattle.gm_pending.specs.declared.marks.Reached.{Reached};
+    ghost use Rattle.gm_pending.specs.declared.marks.Mark.{Mark};
     ghost use Rattle.gm_pending.specs.Marks.{AreMarked};
 
-    ghost Value = { List Reached };
+    ghost Value = { List Mark };
 
     ghost view = { λ a. a.reached.items };
 
-    ghost invariant = { λ a. AreMarked a.reached.items a.deciders };
+    ghost invariant = { λ a. AreMarked a.reached.items a.by_key };
 }
 
 impl Marks {
@@ -50,12 +50,12 @@ impl Marks {
         Marks {
             alloc,
             reached: Vec::new(alloc),
-            deciders: None,
+            by_key: None,
         }
     }
 
     /// The darts.
-    pub(crate) fn as_slice(&self) -> &[Reached]
+    pub(crate) fn as_slice(&self) -> &[Mark]
         ensures reached { result.now ≡ self.now }
         ensures distinct { HasDistinctKeys self.now }
     {
@@ -71,7 +71,7 @@ impl Marks {
     }
 
     /// The dart that was found at this place.
-    pub(crate) fn get(&self, place: usize) -> Reached
+    pub(crate) fn get(&self, place: usize) -> Mark
         requires { place < length self.now }
         ensures { slice_get self.now place ≡ Some result }
     {
@@ -79,94 +79,80 @@ impl Marks {
     }
 
     /// The index of the instance that decides the dart's orbit; none where it isn't reached.
-    pub(crate) fn decider(&self, at: At) -> Option<u32>
-        ensures decider { MatchOption result (HasKey self.now (key_of at) → ⊥) (IsMarkedBy self.now (key_of at)) }
+    pub(crate) fn decided_by(&self, at: At) -> Option<u32>
+        ensures instance { MatchOption result (HasKey self.now (key_of at) → ⊥) (IsMarkedBy self.now (key_of at)) }
         ensures distinct { HasDistinctKeys self.now }
     {
-        self.decider_by(key(at))
-    }
-
-    /// The index of the instance that decides the orbit of the dart with this key.
-    fn decider_by(&self, wanted: u64) -> Option<u32>
-        ensures decider { MatchOption result (HasKey self.now wanted → ⊥) (IsMarkedBy self.now wanted) }
-        ensures distinct { HasDistinctKeys self.now }
-    {
-        match &self.deciders {
-            Some(deciders) => deciders.get(&wanted).copied(),
-            None => decider_among(&self.reached, wanted),
+        let wanted = key(at);
+        match &self.by_key {
+            Some(by_key) => by_key.get(&wanted).copied(),
+            None => instance_among(&self.reached, wanted),
         }
     }
 
-    /// Adds a dart, unless it is there. Where memory was wanting, nothing is added.
+    /// Marks a dart, unless it is marked. Where memory was wanting, nothing is marked.
     #[inline]
-    pub(crate) fn mark(&mut self, at: At, decider: u32) -> Result<(), OutOfMemory>
-        ensures ok { OnOk result (IsMarkedMore self.old self.new at decider) }
+    pub(crate) fn mark(&mut self, at: At, instance: u32) -> Result<(), OutOfMemory>
+        ensures ok { OnOk result (IsMarkedMore self.old self.new at instance) }
         ensures err { OnErr result (self.new ≡ self.old) }
         ensures distinct { HasDistinctKeys self.old }
     {
-        let key = key(at);
-        if self.decider_by(key).is_some() {
+        if self.decided_by(at).is_some() {
             return Ok(());
         }
-        self.add(Reached { at, decider, key })
+        if self.by_key.is_none() && self.reached.len() >= FEW {
+            self.index_all()?;
+        }
+        self.mark_new(at, instance)
     }
 
-    /// Adds a dart that isn't there. Where memory was wanting, nothing is added.
-    pub(crate) fn mark_new(&mut self, at: At, decider: u32) -> Result<(), OutOfMemory>
+    /// Marks a dart that isn't marked. Where memory was wanting, nothing is marked. It makes no index,
+    /// so that darts that need no search are marked without one.
+    #[inline]
+    pub(crate) fn mark_new(&mut self, at: At, instance: u32) -> Result<(), OutOfMemory>
         requires absent { HasKey self.old (key_of at) → ⊥ }
-        ensures ok { OnOk result (self.new ≡ self.old ++ reached_by at decider ∷ []) }
+        ensures ok { OnOk result (self.new ≡ self.old ++ reached_by at instance ∷ []) }
         ensures err { OnErr result (self.new ≡ self.old) }
     {
-        self.add(Reached {
+        let mark = Mark {
             at,
-            decider,
+            instance,
             key: key(at),
-        })
-    }
-
-    /// Adds a dart. Where memory was wanting, nothing is added.
-    fn add(&mut self, entry: Reached) -> Result<(), OutOfMemory>
-        requires key { entry.key ≡ key_of entry.at }
-        requires absent { HasKey self.old (key_of entry.at) → ⊥ }
-        ensures ok { OnOk result (self.new ≡ self.old ++ entry ∷ []) }
-        ensures err { OnErr result (self.new ≡ self.old) }
-    {
-        if self.deciders.is_none() && self.reached.len() < FEW {
-            push(&mut self.reached, entry)
+        };
+        if self.by_key.is_none() {
+            push(&mut self.reached, mark)
         } else {
-            self.add_to_many(entry)
+            self.add_to_index(mark)
         }
     }
 
-    /// Adds a dart to the darts and to their index.
+    /// Adds a mark to the marks and to their index, where there is one.
     // Cold, it leaves `mark` small enough to be inlined, which saves 25 instructions a mark.
     #[cold]
-    fn add_to_many(&mut self, entry: Reached) -> Result<(), OutOfMemory>
-        requires key { entry.key ≡ key_of entry.at }
-        requires absent { HasKey self.old (key_of entry.at) → ⊥ }
-        ensures ok { OnOk result (self.new ≡ self.old ++ entry ∷ []) }
+    fn add_to_index(&mut self, mark: Mark) -> Result<(), OutOfMemory>
+        requires key { mark.key ≡ key_of mark.at }
+        requires absent { HasKey self.old (key_of mark.at) → ⊥ }
+        ensures ok { OnOk result (self.new ≡ self.old ++ mark ∷ []) }
         ensures err { OnErr result (self.new ≡ self.old) }
     {
-        self.index_all()?;
         self.reached.reserve(1)?;
-        self.deciders = put(self.deciders.take(), entry)?;
-        self.reached.push_reserved(entry);
+        self.by_key = put(self.by_key.take(), mark)?;
+        self.reached.push_reserved(mark);
         Ok(())
     }
 
-    /// Makes the index, where there is none yet.
+    /// Makes the index.
+    #[cold]
     fn index_all(&mut self) -> Result<(), OutOfMemory>
         ensures { self.new ≡ self.old }
     {
-        if self.deciders.is_none() {
-            self.deciders = Some(index(self.alloc, &self.reached)?);
-        }
+        self.by_key = Some(index(self.alloc, &self.reached)?);
         Ok(())
     }
 }
 
 /// Puts a dart behind the others. The first one makes room for a few at once.
-fn push(reached: &mut Vec<Reached>, entry: Reached) -> Result<(), OutOfMemory>
+fn push(reached: &mut Vec<Mark>, entry: Mark) -> Result<(), OutOfMemory>
     ensures ok { OnOk result (reached.new.items ≡ reached.old.items ++ entry ∷ []) }
     ensures err { OnErr result (reached.new.items ≡ reached.old.items) }
 {
@@ -178,41 +164,41 @@ fn push(reached: &mut Vec<Reached>, entry: Reached) -> Result<(), OutOfMemory>
 }
 
 /// The index of the deciding instance of each dart, by its key.
-fn index(alloc: Global, reached: &[Reached]) -> Result<BTreeMap<u64, u32>, OutOfMemory>
+fn index(alloc: Global, reached: &[Mark]) -> Result<BTreeMap<u64, u32>, OutOfMemory>
     requires keyed { AreKeyed reached.now }
     requires distinct { HasDistinctKeys reached.now }
     ensures { IfOk result (IsIndex reached.now) }
 {
-    let mut deciders = BTreeMap::new(alloc);
+    let mut by_key = BTreeMap::new(alloc);
     for entry in reached {
-        deciders.insert(entry.key, entry.decider)?;
+        by_key.insert(entry.key, entry.instance)?;
     }
-    Ok(deciders)
+    Ok(by_key)
 }
 
 /// The index with one more dart, where there is one.
 fn put(
-    deciders: Option<BTreeMap<u64, u32>>,
-    entry: Reached,
+    by_key: Option<BTreeMap<u64, u32>>,
+    entry: Mark,
 ) -> Result<Option<BTreeMap<u64, u32>>, OutOfMemory>
     requires { entry.key ≡ key_of entry.at }
-    ensures { IfOk result (λ more. (reached : List Reached) → (HasKey reached (key_of entry.at) → ⊥) → IfSome deciders (IsIndex reached) → IfSome more (IsIndex (reached ++ entry ∷ []))) }
+    ensures { IfOk result (λ more. (reached : List Mark) → (HasKey reached (key_of entry.at) → ⊥) → IfSome by_key (IsIndex reached) → IfSome more (IsIndex (reached ++ entry ∷ []))) }
 {
-    let Some(mut deciders) = deciders else {
+    let Some(mut by_key) = by_key else {
         return Ok(None);
     };
-    deciders.insert(entry.key, entry.decider)?;
-    Ok(Some(deciders))
+    by_key.insert(entry.key, entry.instance)?;
+    Ok(Some(by_key))
 }
 
 /// The index of the deciding instance of the dart with this key.
-fn decider_among(reached: &[Reached], wanted: u64) -> Option<u32>
+fn instance_among(reached: &[Mark], wanted: u64) -> Option<u32>
     requires { AreKeyed reached.now }
     ensures { MatchOption result (HasKey reached.now wanted → ⊥) (IsMarkedBy reached.now wanted) }
 {
     for entry in reached {
         if entry.key == wanted {
-            return Some(entry.decider);
+            return Some(entry.instance);
         }
     }
     None

@@ -1,7 +1,7 @@
 ghost use Rattle.std.specs.Prelude.{◌≡◌, ◌≢◌, ℕ, ◌+◌, ◌<◌, ◌≤◌, List, length, Some, None, MatchOption, ◌↔◌, IfOk, IsTrue};
 
-use crate::asked::{Answers, none_asked};
 use crate::at::At;
+use crate::decided_orbits::{OrbitsByEmbed, no_orbits};
 use crate::lookup::{Lookup, instance_at};
 use gm_arena::{Arena, Slot, Steps};
 use gm_model::{MOST_DARTS, OutOfMemory, Side, Step};
@@ -19,7 +19,7 @@ pub struct Pending<'a, 'm> {
     pub(crate) alloc: Global,
     /// The instances by their slots, where they are looked up more than once.
     pub(crate) lookup: Option<Lookup>,
-    pub(crate) asked: Answers,
+    pub(crate) orbits: OrbitsByEmbed,
 }
 
 impl<'a, 'm> Model for Pending<'a, 'm> {
@@ -27,17 +27,17 @@ impl<'a, 'm> Model for Pending<'a, 'm> {
     ghost use Rattle.std.specs.Prelude.{◌≡◌};
     ghost use Rattle.gm_model.specs.contracts.expr.Expr as expr_block;
     ghost use Rattle.gm_arena.specs.ArenaMap.{arena_code};
-    ghost use Rattle.gm_pending.specs.contracts.decider.Decider as decider_block;
+    ghost use Rattle.gm_pending.specs.contracts.deciding_instance.DecidingInstance as instance_block;
     ghost use Rattle.gm_pending.specs.Results.{PendingOf, IsPrepared};
-    ghost use Rattle.gm_pending.specs.Answered.{pending_as, AreAnswers, IsLookedUp};
+    ghost use Rattle.gm_pending.specs.Answered.{pending_as, AreDecidedOrbits, IsLookedUp};
 
     ghost Value = { PendingOf };
 
-    ghost coded = { Prim.hlevel (arena_code, expr_block.the_row.coded, decider_block.the_row.coded, codes) };
+    ghost coded = { Prim.hlevel (arena_code, expr_block.the_row.coded, instance_block.the_row.coded, codes) };
 
-    ghost view = { λ a. pending_as a.arena.now a.plan.now.table a.found.now a.asked.items };
+    ghost view = { λ a. pending_as a.arena.now a.plan.now.table a.found.now a.orbits.items };
 
-    ghost invariant = { λ a. IsPrepared (pending_as a.arena.now a.plan.now.table a.found.now a.asked.items) × (a.arena.now.schema ≡ a.plan.now.schema) × AreAnswers (pending_as a.arena.now a.plan.now.table a.found.now a.asked.items) a.asked.items × IsLookedUp a.found.now a.lookup };
+    ghost invariant = { λ a. IsPrepared (pending_as a.arena.now a.plan.now.table a.found.now a.orbits.items) × (a.arena.now.schema ≡ a.plan.now.schema) × AreDecidedOrbits (pending_as a.arena.now a.plan.now.table a.found.now a.orbits.items) a.orbits.items × IsLookedUp a.found.now a.lookup };
 }
 
 impl<'a, 'm> Pending<'a, 'm> {
@@ -46,6 +46,8 @@ impl<'a, 'm> Pending<'a, 'm> {
     ghost use Rattle.gm_model.specs.Rules.{rule_of};
     ghost use Rattle.gm_model.specs.Unfolding.{IsArcAfter, IsMadeArc};
     ghost use Rattle.gm_arena.specs.ArenaAsMap.{as_map};
+    ghost use Rattle.gm_model.specs.declared.step.Step.TheVariants.{Absent};
+    ghost use Rattle.gm_plan.specs.Changes.{made_step};
     ghost use Rattle.gm_plan.specs.InArena.{AreMatched, slot_number};
     ghost use Rattle.gm_pending.specs.Lookup.{IsWithin, IsAtSlot};
     ghost use Rattle.gm_pending.specs.Results.{IsPrepared, pending_of, scene_in, rule_in, name_of, IsResultDart, IsRightInstance};
@@ -67,14 +69,14 @@ impl<'a, 'm> Pending<'a, 'm> {
         // The arena and the plan tell here what their types keep.
         prove!(arena.count() <= MOST_DARTS);
         prove_eq!(plan.schema().dim, arena.schema().dim);
-        let asked = none_asked(alloc, arena.schema().embeds.as_slice().len())?;
+        let orbits = no_orbits(alloc, arena.schema().embeds.as_slice().len())?;
         Ok(Pending {
             plan,
             arena,
             found,
             alloc,
             lookup: None,
-            asked,
+            orbits,
         })
     }
 
@@ -87,6 +89,12 @@ impl<'a, 'm> Pending<'a, 'm> {
         ensures cost { steps.new ≤ steps.old + 1 }
         ensures least { steps.old ≤ steps.new }
     {
+        // Where each arc of a right step is there already, no dart is looked up.
+        if self.keeps_arcs(label) {
+            if let At::Old(slot) = at {
+                return At::Old(self.arena.alpha(slot, label, steps));
+            }
+        }
         if let Some(to) = self.made(at, label) {
             return to;
         }
@@ -94,6 +102,32 @@ impl<'a, 'm> Pending<'a, 'm> {
             At::Old(slot) => At::Old(self.arena.alpha(slot, label, steps)),
             At::New { .. } => unreachable!(),
         }
+    }
+
+    /// Whether the rule makes arcs that the old map doesn't have.
+    pub(crate) fn makes_arcs(&self) -> bool
+        ensures prepared { IsPrepared self.now }
+    {
+        for label in 0..self.labels() {
+            if !self.keeps_arcs(label) {
+                return true;
+            }
+        }
+        false
+    }
+
+    /// Whether each arc of a right step at the label is there in the old map.
+    fn keeps_arcs(&self, label: u8) -> bool
+        requires { label ≤ self.now.map.schema.dim }
+        ensures { IsTrue result → (x : ℕ) → x < length (rule_in self.now).nodes → made_step (rule_in self.now) x label ≡ Absent }
+    {
+        for node in 0..self.nodes() {
+            match self.plan.made_step(node, label) {
+                Step::Absent => {}
+                _ => return false,
+            }
+        }
+        true
     }
 
     /// Where the right step at the label leads from a dart of the result; none where it has no
@@ -182,12 +216,13 @@ impl<'a, 'm> Pending<'a, 'm> {
         self.plan.assigns(embed, node)
     }
 
-    /// Whether some node has an assignment to the embedding.
-    pub(crate) fn assigns_any(&self, embed: u8) -> bool
+    /// Whether orbits of the embedding have to be walked: some node has an assignment to it, and its
+    /// instances needn't be one orbit.
+    pub(crate) fn walks(&self, embed: u8) -> bool
         requires { embed < length self.now.map.schema.embeds }
     {
         for node in 0..self.nodes() {
-            if self.assigns(embed, node) {
+            if self.assigns(embed, node) && !self.is_one_orbit(embed, node) {
                 return true;
             }
         }

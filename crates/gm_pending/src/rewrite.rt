@@ -1,7 +1,6 @@
 ghost use Rattle.std.specs.Prelude.{◌≡◌, ℕ, ◌+◌, ◌*◌, ◌<◌, ◌≤◌, ◌++◌, false, length, slice_index_or, IfOk, IsTrue};
 ghost use Rattle.std.specs.Vec.{vec_capacity};
 ghost use Rattle.gm_model.specs.declared.step.Step.{Step};
-ghost use Rattle.gm_plan.specs.Searches.{row_step};
 ghost use Rattle.gm_pending.specs.Collected.{told_by, end_of, written_step, slot_in, left_slots_of, left_slots, made_in, AreSlots};
 ghost use Rattle.gm_pending.specs.Written.{HasSlot, slot_of};
 
@@ -73,27 +72,11 @@ impl Rewrite<'_> {
         ensures { result ≡ written_step (told_by self.now) arcs node label }
     {
         match arcs {
-            Arcs::Freed => self.freed_step(node, label),
-            Arcs::Made => self.made_step(node, label),
+            // A left step, where it leads to darts that are removed.
+            Arcs::Freed => self.freed[node as usize][label as usize],
+            // A right step, unless it is the same on the left.
+            Arcs::Made => self.made[node as usize][label as usize],
         }
-    }
-
-    /// The left step, where it leads to darts that are removed.
-    fn freed_step(&self, node: u8, label: u8) -> Step
-        requires node { node < length self.now.made }
-        requires label { label ≤ self.now.dim }
-        ensures { result ≡ row_step self.now.freed node label }
-    {
-        self.freed[node as usize][label as usize]
-    }
-
-    /// The right step, unless it is the same on the left.
-    fn made_step(&self, node: u8, label: u8) -> Step
-        requires node { node < length self.now.made }
-        requires label { label ≤ self.now.dim }
-        ensures { result ≡ row_step self.now.made node label }
-    {
-        self.made[node as usize][label as usize]
     }
 
     /// The slot of a left node.

@@ -3,17 +3,17 @@ ghost use Rattle.std.specs.Prelude.{◌≡◌, ◌+◌, ◌<◌, ◌≤◌, leng
 ghost use Rattle.gm_model.specs.declared.schema.Embed.{Embed};
 ghost use Rattle.gm_model.specs.Maps.{IsEmbedAt};
 ghost use Rattle.gm_model.specs.Values.{IsValueOf};
-ghost use Rattle.gm_pending.specs.declared.decider.Decider.{Decider};
+ghost use Rattle.gm_pending.specs.declared.deciding_instance.DecidingInstance.{DecidingInstance};
 ghost use Rattle.gm_pending.specs.Reached.{AreReached};
 ghost use Rattle.gm_pending.specs.Sources.{HasSourceNode, IsKeeperFor, IsOldValue, IsSourceOf, IsUnreached, given_of};
 ghost use Rattle.gm_model.specs.Rules.{is_added, is_preserved};
 ghost use Rattle.gm_arena.specs.ArenaMap.{IsLiveSlot};
 ghost use Rattle.gm_plan.specs.InArena.{slot_number};
-ghost use Rattle.gm_pending.specs.Results.{IsPrepared, IsAsked, AreAllGiven, IsResultDart, IsValueIn, deciders_of, given_at, with_deciders, name_of, place_of, rule_in};
+ghost use Rattle.gm_pending.specs.Results.{IsPrepared, IsAsked, AreAllGiven, IsResultDart, IsValueIn, instances_of, given_at, with_instances, name_of, place_of, rule_in};
 
-use crate::asked::{Asked, keep, take_out};
 use crate::at::At;
-use crate::decider::Decider;
+use crate::decided_orbits::{DecidedOrbits, put_orbits, take_orbits};
+use crate::deciding_instance::DecidingInstance;
 use crate::pending::Pending;
 use gm_arena::{Slot, Steps};
 use gm_model::Value;
@@ -22,24 +22,24 @@ use std::sync::ledger::Ledger;
 impl Pending<'_, '_> {
     /// The node and the position of a deciding instance of the embedding, by its index.
     pub fn decider(&self, embed: u8, index: u32) -> (u8, u32)
-        requires { index < length (deciders_of self.now embed) }
-        ensures { slice_get (map place_of (deciders_of self.now embed)) index ≡ Some result }
+        requires { index < length (instances_of self.now embed) }
+        ensures { slice_get (map place_of (instances_of self.now embed)) index ≡ Some result }
     {
-        let decider = self.answer(embed).deciders[index as usize];
-        (decider.node, decider.position)
+        let instance = self.orbits(embed).instances[index as usize];
+        (instance.node, instance.position)
     }
 
     /// Gives a deciding instance of the embedding its value.
     pub fn give(&mut self, embed: u8, index: u32, value: Value)
-        requires index { index < length (deciders_of self.old embed) }
+        requires index { index < length (instances_of self.old embed) }
         requires value { (kept : Embed) → IsEmbedAt self.old.map.schema embed kept → IsValueOf kept.kind value }
-        ensures { self.new ≡ with_deciders self.old embed (given_at (deciders_of self.old embed) index value) }
+        ensures { self.new ≡ with_instances self.old embed (given_at (instances_of self.old embed) index value) }
     {
-        let Some(mut asked) = take_out(&mut self.asked, embed) else {
+        let Some(mut orbits) = take_orbits(&mut self.orbits, embed) else {
             unreachable!()
         };
-        asked.deciders[index as usize].value = Some(value);
-        keep(&mut self.asked, embed, asked);
+        orbits.instances[index as usize].given = Some(value);
+        put_orbits(&mut self.orbits, embed, orbits);
     }
 
     /// The value of a dart of the result, of an embedding whose deciding instances all have values.
@@ -88,9 +88,9 @@ impl Pending<'_, '_> {
         ensures embed { embed < length self.now.map.schema.embeds }
         ensures prepared { IsPrepared self.now }
     {
-        let asked = self.answer(embed);
-        let index = asked.marks.decider(at)?;
-        Some(given(&asked.deciders, index))
+        let orbits = self.orbits(embed);
+        let index = orbits.marks.decided_by(at)?;
+        Some(given(&orbits.instances, index))
     }
 
     /// The old dart whose value a dart has in an orbit without a deciding instance.
@@ -130,27 +130,27 @@ impl Pending<'_, '_> {
         self.found.slot(keeper, position)
     }
 
-    /// What was answered for an embedding that was asked for.
-    pub(crate) fn answer(&self, embed: u8) -> &Asked
+    /// The orbits that instances decide, of an embedding that was asked for.
+    pub(crate) fn orbits(&self, embed: u8) -> &DecidedOrbits
         requires { IsAsked self.now embed }
-        ensures deciders { result.now.deciders.items ≡ deciders_of self.now embed }
-        ensures reached { (kept : Embed) → IsEmbedAt self.now.map.schema embed kept → AreReached self.now embed kept (deciders_of self.now embed) result.now.marks }
+        ensures deciders { result.now.instances.items ≡ instances_of self.now embed }
+        ensures reached { (kept : Embed) → IsEmbedAt self.now.map.schema embed kept → AreReached self.now embed kept (instances_of self.now embed) result.now.marks }
         ensures embed { embed < length self.now.map.schema.embeds }
         ensures prepared { IsPrepared self.now }
     {
-        match &self.asked[embed as usize] {
-            Some(asked) => asked,
+        match &self.orbits[embed as usize] {
+            Some(orbits) => orbits,
             None => unreachable!(),
         }
     }
 }
 
 /// The value that was given to a deciding instance.
-pub(crate) fn given(deciders: &[Decider], index: u32) -> Value
-    requires { IsSome (given_of deciders.now index) }
-    ensures { given_of deciders.now index ≡ Some result }
+pub(crate) fn given(instances: &[DecidingInstance], index: u32) -> Value
+    requires { IsSome (given_of instances.now index) }
+    ensures { given_of instances.now index ≡ Some result }
 {
-    match deciders[index as usize].value {
+    match instances[index as usize].given {
         Some(value) => value,
         None => unreachable!(),
     }

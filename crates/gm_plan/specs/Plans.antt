@@ -1,5 +1,5 @@
 -- What contracts see of a plan, what it keeps of its rule, and what its tables have.
-use Rattle.std.specs.Prelude.{◌≡◌, ℕ, ◌<◌, ◌↔◌, List, length, Some, IsTrue, slice_get}
+use Rattle.std.specs.Prelude.{◌≡◌, ℕ, ◌<◌, ◌≤◌, ◌↔◌, List, length, Some, IsTrue, slice_get}
 use Rattle.std.specs.Option.{option_and_then}
 use Rattle.gm_model.specs.declared.rule.Link.{Link}
 use Rattle.gm_model.specs.declared.rule.RuleTable.{RuleTable}
@@ -26,8 +26,9 @@ pub record PlanOf : Type 0 where
 abbrev pub plan_of : Schema → RuleTable → PlanOf
 plan_of schema table = record { schema = schema; table = table }
 
--- the rule is accepted, and within the limits on its parts
+-- the rule is accepted, and rule and schema are within the limits on their parts
 pub record IsPlanned (schema : Schema) (rule : Rule) : Type 0 where
+  pub embeds : length schema.embeds ≤ 8
   pub accepted : IsAccepted schema rule
   pub within : IsWithinLimits rule
 

@@ -69,7 +69,6 @@ impl<'b> Plan<'b> {
         rule: &'b RuleTable,
     ) -> Result<Plan<'b>, OutOfMemory>
         requires planned { IsPlanned schema.now (rule_of rule.now) }
-        requires embeds { length schema.now.embeds ≤ 8 }
         ensures { IfOk result (λ plan. plan ≡ plan_of schema.now rule.now) }
     {
         let nodes = rule.node_count();

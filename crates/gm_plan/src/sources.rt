@@ -33,7 +33,6 @@ pub fn sources_of(
     right: &[Row],
 ) -> Result<Vec<Sources>, OutOfMemory>
     requires planned { IsPlanned schema.now (rule_of rule.now) }
-    requires embeds { length schema.now.embeds ≤ 8 }
     requires right { AreSteps (rule_of rule.now) Right (length (rule_of rule.now).nodes) right.now }
     ensures { IfOk result (λ sources. AreSources schema.now (rule_of rule.now) sources.items) }
 {

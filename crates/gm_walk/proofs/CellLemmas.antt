@@ -6,7 +6,7 @@ use Rattle.std.proofs.lemmas.List.{get_or_append_left, get_or_push, get_or-appen
 use Rattle.std.proofs.lemmas.Nat.{div-add-mod'}
 use Rattle.std.proofs.lemmas.Option.{slice_get-get_or, slice_get_within, get_or_from_slice_get}
 use Rattle.std.specs.List.{slice_get, All}
-use Rattle.gm_walk.specs.Cells.{AreCells, IsRow}
+use Rattle.gm_walk.specs.Cells.{AreCells, AreFirstCells, IsRow}
 
 module _ {X : Type 0} where
   pub get_left : (xs ys : List X) (i : ℕ) (v : X) → slice_get xs i ≡ Some v → slice_get (xs ++ ys) i ≡ Some v
@@ -43,6 +43,36 @@ module _ {X : Type 0} where
         last p x same k (v, e, h) =
             let at : length list + x ≡ p * width + x = ap (λ n. n + x) (sym cells.long) ∙ ap (λ n. n * width + x) same in
             (v, subst (λ n. slice_get (list ++ row) n ≡ Some v) at (get_right list row x v e), subst (λ q. P q x v) same h)
+
+    -- a part of a row more
+    pub part_row : (rows : ℕ) (list row : List X) → AreCells P rows width list → IsRow (P rows) (length row) row → length row < width → AreFirstCells P width (list ++ row)
+    part_row rows list row cells has short p x k h = elim (cases_lt p rows) [
+      | inl less ↦ earlier (cells.each p x less k)
+      | inr more ↦ last (same more)
+    ]
+      where
+        within : p * width + x < rows * width + length row
+        within = omega (arith, h, cells.long, length-append list row)
+
+        same : rows ≤ p → rows ≡ p
+        same more = elim (cases_lt rows p) [
+          | inl past ↦ absurd (omega (arith, within, short, mul-le-mul_right width past))
+          | inr here ↦ omega (arith, more, here)
+        ]
+
+        earlier : (v : X) × (slice_get list (p * width + x) ≡ Some v) × P p x v → (v : X) × (slice_get (list ++ row) (p * width + x) ≡ Some v) × P p x v
+        earlier (v, e, h) = (v, get_left list row (p * width + x) v e, h)
+
+        in_row : rows ≡ p → x < length row
+        in_row e = omega (arith, within, ap (λ n. n * width) e)
+
+        there : rows ≡ p → (v : X) × (slice_get row x ≡ Some v) × P rows x v → (v : X) × (slice_get (list ++ row) (p * width + x) ≡ Some v) × P p x v
+        there e (v, at, h) =
+            let place : length list + x ≡ p * width + x = ap (λ n. n + x) (sym cells.long) ∙ ap (λ n. n * width + x) e in
+            (v, subst (λ n. slice_get (list ++ row) n ≡ Some v) place (get_right list row x v at), subst (λ q. P q x v) e h)
+
+        last : rows ≡ p → (v : X) × (slice_get (list ++ row) (p * width + x) ≡ Some v) × P p x v
+        last e = there e (has x (in_row e))
 
     row_of_entry : (rows k : ℕ) → 0 < width → k < rows * width → k / width < rows
     row_of_entry rows k some h = elim (cases_lt (k / width) rows) [

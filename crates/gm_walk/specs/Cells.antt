@@ -9,3 +9,7 @@ IsRow {X = X} P width row = (x : ℕ) → x < width → (v : X) × (slice_get ro
 pub record AreCells {X : Type 0} (P : ℕ → ℕ → X → Type 0) (rows width : ℕ) (list : List X) : Type 0 where
   pub long : rows * width ≡ length list
   pub each : (p x : ℕ) → p < rows → x < width → (v : X) × (slice_get list (p * width + x) ≡ Some v) × P p x v
+
+-- each entry that the list has is that of its row and column
+abbrev pub AreFirstCells : {X : Type 0} → (ℕ → ℕ → X → Type 0) → ℕ → List X → Type 0
+AreFirstCells {X = X} P width list = (p x : ℕ) → x < width → p * width + x < length list → (v : X) × (slice_get list (p * width + x) ≡ Some v) × P p x v

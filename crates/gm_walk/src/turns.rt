@@ -1,10 +1,10 @@
-ghost use Rattle.std.specs.Prelude.{◌≡◌, ℕ, List, ◌+◌, ◌*◌, ◌<◌, ◌≤◌, [], length, OnOk};
+ghost use Rattle.std.specs.Prelude.{◌≡◌, ℕ, List, ◌+◌, ◌*◌, ◌<◌, ◌≤◌, [], length, OnOk, OnErr};
 ghost use Rattle.gm_arena.specs.ArenaMap.{IsLiveSlot, name_at};
 ghost use Rattle.gm_arena.specs.Lawful.{IsLawful};
 ghost use Rattle.gm_model.specs.Orbits.{IsWalk};
 ghost use Rattle.gm_walk.specs.Cells.{AreCells};
 ghost use Rattle.gm_walk.specs.Room.{Fits};
-ghost use Rattle.gm_walk.specs.Turns.{IsTurn};
+ghost use Rattle.gm_walk.specs.Turns.{IsBrokenOff, IsTurn};
 ghost use Rattle.gm_walk.specs.Walks.{IsWord, along, names_of, AreLive, IsWalkedTo};
 
 use crate::scratch::Scratch;
@@ -14,7 +14,8 @@ use std::sync::ledger::Ledger;
 
 /// The walk from a live slot along the labels of the word, by their places, which stays in the
 /// scratch; and into the empty vector, for each place of the walk, the places of the walk to which
-/// it turns, by the places of the word. Each neighbour is looked up once.
+/// it turns, by the places of the word. Each neighbour is looked up once. Where memory was wanting,
+/// both have what was found so far, and the scratch fits as it did.
 pub fn walk_turns<L: Ledger>(
     arena: &Arena,
     from: Slot,
@@ -28,8 +29,9 @@ pub fn walk_turns<L: Ledger>(
     requires fits { Fits scratch.old arena.now }
     requires empty { turns.old.items ≡ [] }
     ensures walk { OnOk result (IsWalk (along arena.now word.now) (length word.now) (name_at arena.now from.at) (names_of arena.now scratch.new.walked)) }
-    ensures live { OnOk result (AreLive arena.now scratch.new.walked) }
+    ensures live { AreLive arena.now scratch.new.walked }
     ensures turns { OnOk result (AreCells (IsTurn arena.now word.now (names_of arena.now scratch.new.walked)) (length scratch.new.walked) (length word.now) turns.new.items) }
+    ensures err { OnErr result (IsBrokenOff arena.now word.now (name_at arena.now from.at) (names_of arena.now scratch.new.walked) turns.new.items) }
     ensures cost { (walk : List ℕ) → IsWalk (along arena.now word.now) (length word.now) (name_at arena.now from.at) walk → steps.new ≤ steps.old + length walk * length word.now }
     ensures least { steps.old ≤ steps.new }
     ensures room { scratch.new.bound ≡ scratch.old.bound }
@@ -62,8 +64,9 @@ fn take_in_turns<L: Ledger>(
     requires fits { Fits scratch.old arena.now }
     ensures walk { OnOk result ((d : ℕ) → IsWalkedTo arena.now word.now d at scratch.old.walked → IsWalkedTo arena.now word.now d (at + 1) scratch.new.walked) }
     ensures turns { OnOk result (AreCells (IsTurn arena.now word.now (names_of arena.now scratch.old.walked)) at (length word.now) turns.old.items → AreCells (IsTurn arena.now word.now (names_of arena.now scratch.new.walked)) (at + 1) (length word.now) turns.new.items) }
+    ensures err { OnErr result ((d : ℕ) → IsWalkedTo arena.now word.now d at scratch.old.walked → AreCells (IsTurn arena.now word.now (names_of arena.now scratch.old.walked)) at (length word.now) turns.old.items → IsBrokenOff arena.now word.now d (names_of arena.now scratch.new.walked) turns.new.items) }
     ensures longer { length scratch.old.walked ≤ length scratch.new.walked }
-    ensures live { OnOk result (AreLive arena.now scratch.new.walked) }
+    ensures live { AreLive arena.now scratch.new.walked }
     ensures bound { scratch.new.bound ≡ scratch.old.bound }
     ensures cost { steps.new ≤ steps.old + length word.now }
     ensures least { steps.old ≤ steps.new }

@@ -89,7 +89,7 @@ pub returns-in_err-walk_turns-clause-room : goal.returns-in_err-walk_turns-claus
 returns-in_err-walk_turns-clause-room g c = c.walk_turns.ensures.room ∙ ap (λ room. room.bound) c.lend_rows-slots.ensures.stays
 
 pub along_walk-requires-clause-walked : goal.along_walk-requires-clause-walked
-along_walk-requires-clause-walked g c = subst (AreLive c.args.arena.now) (sym c.walked.ensures.value) c.in_ok-walk_turns.ensures.live
+along_walk-requires-clause-walked g c = subst (AreLive c.args.arena.now) (sym c.walked.ensures.value) c.walk_turns.ensures.live
 
 pub along_walk-requires-clause-few : goal.along_walk-requires-clause-few
 along_walk-requires-clause-few g c = subst (λ slots. length slots ≤ 4294967295) (sym c.walked.ensures.value) c.walked.ensures.most

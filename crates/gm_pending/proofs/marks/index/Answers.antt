@@ -12,4 +12,4 @@ loop-entry-preserved c =
     let i = c.loop-entry.entry-index in
     let none = reached_by (Old (record { at = 0 })) 0 in
     subst (λ xs. IsIndex xs c.insert.new.self) (sym (take_more reached i none c.loop-entry-test.true))
-    (indexed_more (take i reached) c.loop-entry.deciders c.insert.new.self c.loop-entry.invariant _ (fresh_key reached i none c.requires.distinct c.loop-entry-test.true) (rw (← c.requires.keyed _ (contains_at reached i none c.loop-entry-test.true)) c.in_ok-insert.ensures.updates))
+    (indexed_more (take i reached) c.loop-entry.by_key c.insert.new.self c.loop-entry.invariant _ (fresh_key reached i none c.requires.distinct c.loop-entry-test.true) (rw (← c.requires.keyed _ (contains_at reached i none c.loop-entry-test.true)) c.in_ok-insert.ensures.updates))

@@ -3,4 +3,4 @@ use Rattle.gm_pending.specs.Marks.{IsIndex}
 use Rattle.gm_pending.proofs.marks.index.Given as goal
 
 abbrev pub invariant-loop-entry : goal.invariant-loop-entry
-invariant-loop-entry l = IsIndex (take l.entry-index l.reached) l.deciders
+invariant-loop-entry l = IsIndex (take l.entry-index l.reached) l.by_key

@@ -23,6 +23,7 @@ returns-in_err-new c =
     let p = err_from_is_err_and c.from_residual-in_err-new.result c.from_residual-in_err-new.ensures.1 in
     rw (p.1, p.2)
     (NoMemory (record {
+      embeds = c.requires.embeds;
       accepted = record { in_range = c.requires.in_range; typed = c.requires.typed; incidence = c.in_ok-check.ensures; squares = c.in_ok-check-2.ensures; sources = c.in_ok-check-3.ensures };
       within = c.requires.within;
     }))

@@ -1,4 +1,4 @@
-use Rattle.std.proofs.Common.{◌≡◌, [], ◌∷◌, ◌++◌, length, get_or, refl, sym, ap, subst, Some, ◌∙◌, arith}
+use Rattle.std.proofs.Common.{◌≡◌, ◌<◌, [], ◌∷◌, ◌++◌, length, length-append, get_or, refl, sym, ap, subst, Some, ◌∙◌, arith}
 use Rattle.std.proofs.lemmas.List.{append-nil, append_assoc, get_or_default, length_push}
 use Rattle.gm_model.specs.declared.word.Letter.TheVariants.{At, Gone}
 use Rattle.gm_model.specs.Orbits.{IsWalkTo}
@@ -7,8 +7,8 @@ use Rattle.gm_walk.specs.Turns.{IsTurn}
 use Rattle.gm_walk.specs.Walks.{along, names_of}
 use Rattle.gm_arena.specs.ArenaMap.{IsLiveSlot}
 use Rattle.gm_arena.specs.declared.slot.Slot.{Slot}
-use Rattle.gm_model.proofs.Exits.{never_ok}
-use Rattle.gm_walk.proofs.CellLemmas.{one_entry, one_row}
+use Rattle.gm_model.proofs.Exits.{never_ok, on_err}
+use Rattle.gm_walk.proofs.CellLemmas.{one_entry, one_row, part_row}
 use Rattle.gm_walk.proofs.NameLemmas.{live_at, at_place, live_after, longer_after, same_after, bound_after, walk_after}
 use Rattle.gm_walk.proofs.TurnLemmas.{cells_stay, row_stays, turned}
 use Rattle.gm_walk.proofs.WalkLemmas.{next_dart}
@@ -96,7 +96,29 @@ pub returns-in_err-push-clause-turns : goal.returns-in_err-push-clause-turns
 returns-in_err-push-clause-turns g c = never_ok _ c.from_residual.result c.from_residual.ensures.0
 
 pub returns-in_err-push-clause-live : goal.returns-in_err-push-clause-live
-returns-in_err-push-clause-live g c = never_ok _ c.from_residual.result c.from_residual.ensures.0
+returns-in_err-push-clause-live g c =
+    let m = c.args.arena.now in
+    live_after m _ _ _ c.take.ensures.taken c.loop-place.invariant.live (live_at m _ _ c.alpha.ensures.neighbour)
+
+pub returns-in_err-push-clause-err : goal.returns-in_err-push-clause-err
+returns-in_err-push-clause-err g c =
+    let i = c.loop-place.invariant in
+    let m = c.args.arena.now in
+    let word = c.args.word.now in
+    let takes = c.take.ensures.taken in
+    let at = at_place m word c.loop-place.place c.in-At.label _ _ (c.letter.ensures ∙ ap Some c.in-At.is) c.alpha.ensures.neighbour in
+    let low : c.loop-place.place < length word = omega (arith, c.loop-place-test.true, c.len-place-end.ensures.value) in
+    on_err c.from_residual.result (λ d walk cells.
+    let before = i.before cells in
+    let rows = cells_stay m word _ _ _ takes c.args.at (length word) c.args.turns.now.items (omega (arith, i.within)) before in
+    let part = part_row _ (length word) c.args.at c.args.turns.now.items i.row rows (row_stays m word _ _ _ takes c.args.at (length i.row) i.row i.within i.filled) (omega (arith, low, i.long)) in
+    record {
+      p = c.args.at;
+      l = c.loop-place.place;
+      walk_to = walk_after m _ _ _ takes c.requires.lawful word d c.args.at c.loop-place.place _ i.live i.within (i.here _) low at (i.walk d walk);
+      turns_to = omega (arith, ap length c.in_err-push.ensures.items, ap length i.items, length-append c.args.turns.now.items i.row, before.long, i.long);
+      turns_are = rw (c.in_err-push.ensures.items, i.items) part;
+    })
 
 pub returns-in_err-push-clause-longer : goal.returns-in_err-push-clause-longer
 returns-in_err-push-clause-longer g c = omega (arith, longer_after c.args.arena.now _ _ _ c.take.ensures.taken, c.loop-place.invariant.longer)

@@ -7,19 +7,19 @@ use Rattle.gm_pending.proofs.Answered.{no_answers, nothing_answered, nothing_pre
 use Rattle.gm_pending.proofs.pending.Pending.build.Goals as goal
 
 pub returns-clause-pending : goal.returns-clause-pending
-returns-clause-pending g c = nothing_answered c.args.arena.now c.args.plan.now.table c.args.found.now c.in_ok-asked.asked.items
-    (c.in_ok-asked.ensures ∙ ap (λ embeds. replicate (length embeds) None) (c.as_slice.ensures ∙ ap (λ (s : Schema). s.embeds) c.schema-3.ensures))
+returns-clause-pending g c = nothing_answered c.args.arena.now c.args.plan.now.table c.args.found.now c.in_ok-orbits.orbits.items
+    (c.in_ok-orbits.ensures ∙ ap (λ embeds. replicate (length embeds) None) (c.as_slice.ensures ∙ ap (λ (s : Schema). s.embeds) c.schema-3.ensures))
 
 pub invariant_of-result : goal.invariant_of-result
 invariant_of-result g c = (
-  subst IsPrepared (sym (nothing_answered c.args.arena.now c.args.plan.now.table c.args.found.now c.in_ok-asked.asked.items
-      (c.in_ok-asked.ensures ∙ ap (λ embeds. replicate (length embeds) None) (c.as_slice.ensures ∙ ap (λ (s : Schema). s.embeds) c.schema-3.ensures))))
+  subst IsPrepared (sym (nothing_answered c.args.arena.now c.args.plan.now.table c.args.found.now c.in_ok-orbits.orbits.items
+      (c.in_ok-orbits.ensures ∙ ap (λ embeds. replicate (length embeds) None) (c.as_slice.ensures ∙ ap (λ (s : Schema). s.embeds) c.schema-3.ensures))))
       (nothing_prepared c.args.arena.now c.args.plan.now.table c.args.found.now
       c.count.ensures.lawful
       (subst (λ (s : Schema). IsPlanned s (rule_of c.args.plan.now.table)) (sym c.requires.schema) c.schema.ensures.planned)
       c.requires.sound c.requires.matched.0 c.requires.matched.1),
   c.requires.schema,
-  no_answers _ (length c.args.arena.now.schema.embeds) c.in_ok-asked.asked.items
-      (c.in_ok-asked.ensures ∙ ap (λ embeds. replicate (length embeds) None) (c.as_slice.ensures ∙ ap (λ (s : Schema). s.embeds) c.schema-3.ensures)),
+  no_answers _ (length c.args.arena.now.schema.embeds) c.in_ok-orbits.orbits.items
+      (c.in_ok-orbits.ensures ∙ ap (λ embeds. replicate (length embeds) None) (c.as_slice.ensures ∙ ap (λ (s : Schema). s.embeds) c.schema-3.ensures)),
   tt,
 )

@@ -3,7 +3,7 @@ use Rattle.gm_model.specs.declared.schema.Embed.{Embed}
 use Rattle.gm_model.specs.declared.schema.Schema.{Schema}
 use Rattle.gm_theory.proofs.Lists.{some_same, contained_at}
 use Rattle.gm_pending.specs.Reached.{AreReached}
-use Rattle.gm_pending.specs.Results.{PendingOf, AreDeciders, IsWithinReach, IsPrepared}
+use Rattle.gm_pending.specs.Results.{PendingOf, AreDecidingInstances, IsWithinReach, IsPrepared}
 use Rattle.gm_pending.proofs.Answering.{read_there}
 use Rattle.gm_pending.proofs.Decided.{are_deciders, are_reached, within_reach, none_decided}
 use Rattle.gm_model.proofs.Exits.{unless_ok}
@@ -16,7 +16,7 @@ returns-in_err-outcome-clause-cost g c = λ kept at.
     let here = read_there c.as_slice.result.now app.map.schema.embeds c.args.embed declared c.index-as_slice-embed.is
     (c.as_slice.ensures ∙ ap (λ (s : Schema). s.embeds) c.schema.ensures ∙ ap (λ (a : PendingOf). a.map.schema.embeds) c.self.view_is) c.requires in
     subst (λ (k : Embed). IsWithinReach app c.args.embed k c.args.steps.now c.decide_nodes-outcome.new.steps) (some_same declared kept (sym here ∙ at))
-    (within_reach app c.decide_nodes-outcome.ensures.prepared c.args.embed declared here c.decide_nodes-outcome.new.asked.marks c.args.steps.now c.decide_nodes-outcome.new.steps
+    (within_reach app c.decide_nodes-outcome.ensures.prepared c.args.embed declared here c.decide_nodes-outcome.new.orbits.marks c.args.steps.now c.decide_nodes-outcome.new.steps
     c.decide_nodes-outcome.ensures.darts c.len.ensures.distinct c.decide_nodes-outcome.ensures.reached (omega (arith, c.decide_nodes-outcome.ensures.cost)))
 
 pub returns-clause-cost : goal.returns-clause-cost
@@ -26,31 +26,31 @@ returns-clause-cost g c = λ kept at.
     let here = read_there c.as_slice.result.now app.map.schema.embeds c.args.embed declared c.index-as_slice-embed.is
     (c.as_slice.ensures ∙ ap (λ (s : Schema). s.embeds) c.schema.ensures ∙ ap (λ (a : PendingOf). a.map.schema.embeds) c.self.view_is) c.requires in
     subst (λ (k : Embed). IsWithinReach app c.args.embed k c.args.steps.now c.decide_nodes-outcome.new.steps) (some_same declared kept (sym here ∙ at))
-    (within_reach app c.decide_nodes-outcome.ensures.prepared c.args.embed declared here c.decide_nodes-outcome.new.asked.marks c.args.steps.now c.decide_nodes-outcome.new.steps
+    (within_reach app c.decide_nodes-outcome.ensures.prepared c.args.embed declared here c.decide_nodes-outcome.new.orbits.marks c.args.steps.now c.decide_nodes-outcome.new.steps
     c.decide_nodes-outcome.ensures.darts c.len.ensures.distinct c.decide_nodes-outcome.ensures.reached (omega (arith, c.decide_nodes-outcome.ensures.cost)))
 
 pub returns-clause-deciders : goal.returns-clause-deciders
 returns-clause-deciders g c = λ kept at.
     let app = c.args.self.now in
     let declared = c.index-as_slice-embed.result in
-    let asked = c.decide_nodes-outcome.new.asked in
+    let orbits = c.decide_nodes-outcome.new.orbits in
     let here = read_there c.as_slice.result.now app.map.schema.embeds c.args.embed declared c.index-as_slice-embed.is
     (c.as_slice.ensures ∙ ap (λ (s : Schema). s.embeds) c.schema.ensures ∙ ap (λ (a : PendingOf). a.map.schema.embeds) c.self.view_is) c.requires in
-    subst (λ (k : Embed). AreDeciders app c.args.embed k asked.deciders.items) (some_same declared kept (sym here ∙ at))
-    (are_deciders app c.decide_nodes-outcome.ensures.prepared c.args.embed declared here asked.deciders.items asked.marks c.in_ok-outcome.ensures.decided)
+    subst (λ (k : Embed). AreDecidingInstances app c.args.embed k orbits.instances.items) (some_same declared kept (sym here ∙ at))
+    (are_deciders app c.decide_nodes-outcome.ensures.prepared c.args.embed declared here orbits.instances.items orbits.marks c.in_ok-outcome.ensures.decided)
 
 pub returns-clause-reached : goal.returns-clause-reached
 returns-clause-reached g c = λ kept at.
     let app = c.args.self.now in
     let declared = c.index-as_slice-embed.result in
-    let asked = c.decide_nodes-outcome.new.asked in
+    let orbits = c.decide_nodes-outcome.new.orbits in
     let here = read_there c.as_slice.result.now app.map.schema.embeds c.args.embed declared c.index-as_slice-embed.is
     (c.as_slice.ensures ∙ ap (λ (s : Schema). s.embeds) c.schema.ensures ∙ ap (λ (a : PendingOf). a.map.schema.embeds) c.self.view_is) c.requires in
-    subst (λ (k : Embed). AreReached app c.args.embed k asked.deciders.items asked.marks) (some_same declared kept (sym here ∙ at))
-    (are_reached app c.decide_nodes-outcome.ensures.prepared c.args.embed declared here asked.deciders.items asked.marks c.in_ok-outcome.ensures.decided c.len.ensures.distinct)
+    subst (λ (k : Embed). AreReached app c.args.embed k orbits.instances.items orbits.marks) (some_same declared kept (sym here ∙ at))
+    (are_reached app c.decide_nodes-outcome.ensures.prepared c.args.embed declared here orbits.instances.items orbits.marks c.in_ok-outcome.ensures.decided c.len.ensures.distinct)
 
 pub returns-clause-ungiven : goal.returns-clause-ungiven
-returns-clause-ungiven g c = λ decider among. c.in_ok-outcome.ensures.decided.ungiven among.0 decider (contained_at c.decide_nodes-outcome.new.asked.deciders.items decider among)
+returns-clause-ungiven g c = λ instance among. c.in_ok-outcome.ensures.decided.ungiven among.0 instance (contained_at c.decide_nodes-outcome.new.orbits.instances.items instance among)
 
 pub returns-clause-few : goal.returns-clause-few
 returns-clause-few g c = c.in_ok-outcome.ensures.decided.few

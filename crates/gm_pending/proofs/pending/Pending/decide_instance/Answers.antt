@@ -11,34 +11,34 @@ place-at-requires g c = (assigned_right c.args.self.now c.labels.ensures.prepare
 
 pub returns-then-is_some-clause-decided : goal.returns-then-is_some-clause-decided
 returns-then-is_some-clause-decided g c =
-    instance_passed c.args.self.now c.labels.ensures.prepared c.args.embed c.args.declared.now c.requires.embed c.args.asked.now.deciders.items c.args.asked.now.marks c.args.node c.args.position c.place-at.result
+    instance_passed c.args.self.now c.labels.ensures.prepared c.args.embed c.args.declared.now c.requires.embed c.args.orbits.now.instances.items c.args.orbits.now.marks c.args.node c.args.position c.place-at.result
     c.requires.earlier (c.requires.assigned, c.requires.position) c.place-at.ensures.dart c.place-at.ensures.name
-    (key_there c.args.asked.now.marks (key_of c.place-at.result) c.decider.result c.decider.ensures.decider (sym c.is_some.ensures ∙ c.if-is_some.true))
+    (key_there c.args.orbits.now.marks (key_of c.place-at.result) c.decided_by.result c.decided_by.ensures.instance (sym c.is_some.ensures ∙ c.if-is_some.true))
 
 pub returns-then-is_some-clause-reached : goal.returns-then-is_some-clause-reached
-returns-then-is_some-clause-reached g c = decided_reached c.args.self.now c.labels.ensures.prepared c.args.embed c.args.declared.now c.requires.embed c.args.asked.now.deciders.items c.args.asked.now.marks c.args.node c.args.position c.requires.earlier
+returns-then-is_some-clause-reached g c = decided_reached c.args.self.now c.labels.ensures.prepared c.args.embed c.args.declared.now c.requires.embed c.args.orbits.now.instances.items c.args.orbits.now.marks c.args.node c.args.position c.requires.earlier
 
 pub returns-in_err-index-clause-reached : goal.returns-in_err-index-clause-reached
-returns-in_err-index-clause-reached g c = decided_reached c.args.self.now c.labels.ensures.prepared c.args.embed c.args.declared.now c.requires.embed c.args.asked.now.deciders.items c.args.asked.now.marks c.args.node c.args.position c.requires.earlier
+returns-in_err-index-clause-reached g c = decided_reached c.args.self.now c.labels.ensures.prepared c.args.embed c.args.declared.now c.requires.embed c.args.orbits.now.instances.items c.args.orbits.now.marks c.args.node c.args.position c.requires.earlier
 
 pub returns-clause-decided : goal.returns-clause-decided
 returns-clause-decided g c =
     let app = c.args.self.now in
-    let marks = c.args.asked.now.marks in
-    let deciders = c.args.asked.now.deciders.items in
+    let marks = c.args.orbits.now.marks in
+    let instances = c.args.orbits.now.instances.items in
     on_ok c.reach.result c.reach.ensures.spread (λ spread. rw c.in_ok-index.ensures.added
-    (instance_decides app c.labels.ensures.prepared c.args.embed c.args.declared.now c.requires.embed deciders marks c.args.node c.args.position c.place-at.result
+    (instance_decides app c.labels.ensures.prepared c.args.embed c.args.declared.now c.requires.embed instances marks c.args.node c.args.position c.place-at.result
     c.requires.earlier (c.requires.assigned, c.requires.position) c.place-at.ensures.dart c.place-at.ensures.name c.reach.new.marks
-    (key_absent marks (key_of c.place-at.result) c.decider.result c.decider.ensures.decider (sym c.is_some.ensures ∙ c.if-is_some.false))
+    (key_absent marks (key_of c.place-at.result) c.decided_by.result c.decided_by.ensures.instance (sym c.is_some.ensures ∙ c.if-is_some.false))
     c.reach.ensures.darts c.in_ok-index.ensures.few
     (λ result unfolded. subst (λ k. IsSpreadTo app c.args.declared.now result marks c.reach.new.marks k (name_of app c.place-at.result) (length c.reach.new.marks) 0) c.in_ok-index.ensures.index (spread result unfolded (c.requires.earlier.walked result unfolded).closed))))
 
 pub returns-clause-reached : goal.returns-clause-reached
 returns-clause-reached g c =
     let app = c.args.self.now in
-    some_grown app c.labels.ensures.prepared c.args.embed c.args.declared.now c.requires.embed c.args.asked.now.marks c.reach.new.marks c.in_ok-index.index c.args.node c.args.position c.place-at.result
+    some_grown app c.labels.ensures.prepared c.args.embed c.args.declared.now c.requires.embed c.args.orbits.now.marks c.reach.new.marks c.in_ok-index.index c.args.node c.args.position c.place-at.result
     (c.requires.assigned, c.requires.position) c.place-at.ensures.dart c.place-at.ensures.name c.reach.ensures.darts
-    (decided_reached app c.labels.ensures.prepared c.args.embed c.args.declared.now c.requires.embed c.args.asked.now.deciders.items c.args.asked.now.marks c.args.node c.args.position c.requires.earlier)
+    (decided_reached app c.labels.ensures.prepared c.args.embed c.args.declared.now c.requires.embed c.args.orbits.now.instances.items c.args.orbits.now.marks c.args.node c.args.position c.requires.earlier)
     (λ result unfolded. c.reach.ensures.grown result unfolded (c.requires.earlier.walked result unfolded).closed)
 
 pub returns-then-is_some-clause-darts : goal.returns-then-is_some-clause-darts
@@ -69,7 +69,7 @@ pub reach-requires-clause-darts : goal.reach-requires-clause-darts
 reach-requires-clause-darts g c = c.requires.earlier.darts
 
 pub reach-requires-clause-absent : goal.reach-requires-clause-absent
-reach-requires-clause-absent g c = key_absent c.args.asked.now.marks (key_of c.place-at.result) c.decider.result c.decider.ensures.decider (sym c.is_some.ensures ∙ c.if-is_some.false)
+reach-requires-clause-absent g c = key_absent c.args.orbits.now.marks (key_of c.place-at.result) c.decided_by.result c.decided_by.ensures.instance (sym c.is_some.ensures ∙ c.if-is_some.false)
 
 pub returns-clause-darts : goal.returns-clause-darts
 returns-clause-darts g c = c.reach.ensures.darts

@@ -9,13 +9,13 @@ use Rattle.gm_pending.proofs.pending.Pending.decide_node.Goals as goal
 pub returns-clause-decided : goal.returns-clause-decided
 returns-clause-decided g c =
     let app = c.args.self.now in
-    let asked = c.loop-position.asked in
+    let orbits = c.loop-position.orbits in
     let end : c.loop-position.position ≡ app.placed.positions = omega (arith, c.loop-position.auto.position-end, c.loop-position-test.false, c.positions-position-end.ensures.positions) in
-    node_decided app c.positions-position-end.ensures.prepared c.args.embed c.args.declared.now c.requires.embed asked.deciders.items asked.marks c.args.node
-    (subst (λ p. IsDecidedUpTo app c.args.embed c.args.declared.now asked.deciders.items asked.marks c.args.node p) end c.loop-position.invariant.decided)
+    node_decided app c.positions-position-end.ensures.prepared c.args.embed c.args.declared.now c.requires.embed orbits.instances.items orbits.marks c.args.node
+    (subst (λ p. IsDecidedUpTo app c.args.embed c.args.declared.now orbits.instances.items orbits.marks c.args.node p) end c.loop-position.invariant.decided)
 
 pub returns-clause-reached : goal.returns-clause-reached
-returns-clause-reached g c = decided_reached c.args.self.now c.positions-position-end.ensures.prepared c.args.embed c.args.declared.now c.requires.embed c.loop-position.asked.deciders.items c.loop-position.asked.marks c.args.node c.loop-position.position c.loop-position.invariant.decided
+returns-clause-reached g c = decided_reached c.args.self.now c.positions-position-end.ensures.prepared c.args.embed c.args.declared.now c.requires.embed c.loop-position.orbits.instances.items c.loop-position.orbits.marks c.args.node c.loop-position.position c.loop-position.invariant.decided
 
 pub loop-position-init : goal.loop-position-init
 loop-position-init g c = record { decided = c.requires.earlier; cost = omega arith; least = omega arith }
@@ -72,7 +72,7 @@ pub returns-then-is_one_orbit-clause-reached : goal.returns-then-is_one_orbit-cl
 returns-then-is_one_orbit-clause-reached g c = c.decide_orbit.ensures.reached
 
 pub returns-then-is_one_orbit-clause-cost : goal.returns-then-is_one_orbit-clause-cost
-returns-then-is_one_orbit-clause-cost g c = longer_cost c.args.self.now.map.schema.dim c.args.steps.now (length c.args.asked.now.marks) (length c.decide_orbit.new.asked.marks) c.decide_orbit.ensures.longer
+returns-then-is_one_orbit-clause-cost g c = longer_cost c.args.self.now.map.schema.dim c.args.steps.now (length c.args.orbits.now.marks) (length c.decide_orbit.new.orbits.marks) c.decide_orbit.ensures.longer
 
 pub returns-then-is_one_orbit-clause-least : goal.returns-then-is_one_orbit-clause-least
 returns-then-is_one_orbit-clause-least g c = omega arith

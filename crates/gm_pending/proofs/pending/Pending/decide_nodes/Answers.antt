@@ -9,13 +9,13 @@ use Rattle.gm_pending.proofs.pending.Pending.decide_nodes.Goals.{then-assigns+in
 
 pub loop-node-preserved : goal.loop-node-preserved
 loop-node-preserved g c = elim c.if-assigns.branch [
-  | then-assigns+in_ok-decide_node w ↦ rw (w.asked-is, w.steps-is) record {
+  | then-assigns+in_ok-decide_node w ↦ rw (w.orbits-is, w.steps-is) record {
     decided = w.in_ok-decide_node.ensures.decided;
     cost = omega (arith, c.loop-node.invariant.cost, w.decide_node.ensures.cost);
     least = omega (arith, c.loop-node.invariant.least, w.decide_node.ensures.least);
   }
-  | else-assigns w ↦ rw (w.asked-is, w.steps-is) record {
-    decided = node_passed c.args.self.now c.nodes-nodes.ensures.prepared c.args.embed c.args.declared.now c.requires.embed c.loop-node.asked.deciders.items c.loop-node.asked.marks c.loop-node.node c.loop-node.invariant.decided
+  | else-assigns w ↦ rw (w.orbits-is, w.steps-is) record {
+    decided = node_passed c.args.self.now c.nodes-nodes.ensures.prepared c.args.embed c.args.declared.now c.requires.embed c.loop-node.orbits.instances.items c.loop-node.orbits.marks c.loop-node.node c.loop-node.invariant.decided
         (λ assigned. false≢true (sym w.if-assigns.false ∙ c.assigns.ensures.1 assigned));
     cost = c.loop-node.invariant.cost;
     least = c.loop-node.invariant.least;
@@ -23,7 +23,7 @@ loop-node-preserved g c = elim c.if-assigns.branch [
 ]
 
 pub returns-clause-reached : goal.returns-clause-reached
-returns-clause-reached g c = decided_reached c.args.self.now c.nodes-nodes.ensures.prepared c.args.embed c.args.declared.now c.requires.embed c.loop-node.asked.deciders.items c.loop-node.asked.marks c.loop-node.node 0 c.loop-node.invariant.decided
+returns-clause-reached g c = decided_reached c.args.self.now c.nodes-nodes.ensures.prepared c.args.embed c.args.declared.now c.requires.embed c.loop-node.orbits.instances.items c.loop-node.orbits.marks c.loop-node.node 0 c.loop-node.invariant.decided
 
 pub loop-node-init : goal.loop-node-init
 loop-node-init g c = record { decided = c.requires.earlier; cost = omega arith; least = omega arith }
@@ -61,7 +61,7 @@ returns-in_err-decide_node-clause-prepared g c = c.nodes-nodes.ensures.prepared
 pub returns-clause-decided : goal.returns-clause-decided
 returns-clause-decided g c =
     let end : c.loop-node.node ≡ length (rule_in c.args.self.now).nodes = omega (arith, c.loop-node-test.false, c.loop-node.auto.node-end, c.nodes-nodes.ensures.nodes) in
-    subst (λ n. IsDecidedUpTo c.args.self.now c.args.embed c.args.declared.now c.loop-node.asked.deciders.items c.loop-node.asked.marks n 0) end c.loop-node.invariant.decided
+    subst (λ n. IsDecidedUpTo c.args.self.now c.args.embed c.args.declared.now c.loop-node.orbits.instances.items c.loop-node.orbits.marks n 0) end c.loop-node.invariant.decided
 
 pub returns-clause-darts : goal.returns-clause-darts
 returns-clause-darts g c = c.loop-node.invariant.decided.darts

@@ -8,7 +8,7 @@ use Rattle.gm_pending.proofs.pending.Pending.rewrite.Goals as goal
 
 pub invariant_of-result : goal.invariant_of-result
 invariant_of-result c =
-    let app = pending_as c.self.inside.arena.now c.self.inside.plan.now.table c.self.inside.found.now c.self.inside.asked.items in
+    let app = pending_as c.self.inside.arena.now c.self.inside.plan.now.table c.self.inside.found.now c.self.inside.orbits.items in
     let rows : RewriteRows = rows_at c.top.result (nat_lt 0 c.removed.result) c.nodes_that_go.result c.freed_rows.result.now c.made_rows.result.now c.self.inside.found.now in
     let plan : ArePlanRows app rows = record {
       dim = c.top.ensures.value ∙ ap (λ (s : Schema). s.dim) (c.schema.ensures.schema ∙ sym c.self.invariant.1);
@@ -23,7 +23,7 @@ invariant_of-result c =
 
 pub returns : goal.returns
 returns c =
-    let app = pending_as c.self.inside.arena.now c.self.inside.plan.now.table c.self.inside.found.now c.self.inside.asked.items in
+    let app = pending_as c.self.inside.arena.now c.self.inside.plan.now.table c.self.inside.found.now c.self.inside.orbits.items in
     let rows : RewriteRows = rows_at c.top.result (nat_lt 0 c.removed.result) c.nodes_that_go.result c.freed_rows.result.now c.made_rows.result.now c.self.inside.found.now in
     let plan : ArePlanRows app rows = record {
       dim = c.top.ensures.value ∙ ap (λ (s : Schema). s.dim) (c.schema.ensures.schema ∙ sym c.self.invariant.1);

@@ -24,8 +24,8 @@ loop-label-preserved g c =
       | then-has+in_ok-mark w ↦
           let more = w.in_ok-mark.ensures.ok in
           rw (w.marks-is, w.steps-is) record {
-            darts = marked_darts app c.labels-label-end.ensures.prepared l.marks w.mark.new.self w.alpha-to.result from.decider more w.alpha-to.ensures.dart l.invariant.darts;
-            kept = λ j entry f. marked_kept app c.labels-label-end.ensures.prepared l.marks w.mark.new.self w.alpha-to.result from.decider more j entry (l.invariant.kept j entry f);
+            darts = marked_darts app c.labels-label-end.ensures.prepared l.marks w.mark.new.self w.alpha-to.result from.instance more w.alpha-to.ensures.dart l.invariant.darts;
+            kept = λ j entry f. marked_kept app c.labels-label-end.ensures.prepared l.marks w.mark.new.self w.alpha-to.result from.instance more j entry (l.invariant.kept j entry f);
             followed = followed_follows app c.labels-label-end.ensures.prepared c.args.embed c.args.declared.now c.requires.embed from c.args.marks.now l.marks l.label l.invariant.kept l.invariant.followed
                 w.mark.new.self w.alpha-to.result (sym c.has.ensures ∙ w.if-has.true) l.invariant.darts w.mark.ensures.distinct w.alpha-to.ensures.dart w.alpha-to.ensures.arc more;
             cost = omega (arith, l.invariant.cost, w.alpha-to.ensures.cost);

@@ -1,13 +1,13 @@
 use Rattle.gm_pending.specs.Marks.{HasKey, key_of}
 use Rattle.gm_pending.proofs.Reached.{keyed_more, distinct_more}
-use Rattle.gm_pending.proofs.marks.Marks.add_to_many.Goals as goal
+use Rattle.gm_pending.proofs.marks.Marks.add_to_index.Goals as goal
 
 pub invariant_of-self-2 : goal.invariant_of-self-2
 invariant_of-self-2 c =
     let reached = c.self.inside.reached.items in
-    let absent : HasKey reached (key_of c.args.entry.at) → ⊥ = rw (c.self.view_is, c.in_ok-index_all.ensures) c.requires.absent in
+    let absent : HasKey reached (key_of c.args.mark.at) → ⊥ = rw c.self.view_is c.requires.absent in
     rw (c.push_reserved.ensures.items, c.reserve.ensures.items) (record {
-      keyed = keyed_more reached c.args.entry c.self.invariant.keyed c.requires.key;
-      distinct = distinct_more reached c.self.invariant.distinct c.args.entry absent;
+      keyed = keyed_more reached c.args.mark c.self.invariant.keyed c.requires.key;
+      distinct = distinct_more reached c.self.invariant.distinct c.args.mark absent;
       indexed = c.in_ok-self-inside.ensures reached absent (rw c.take.ensures.value c.self.invariant.indexed);
     })

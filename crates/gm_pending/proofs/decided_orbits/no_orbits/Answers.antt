@@ -1,13 +1,13 @@
 use Rattle.std.proofs.Common.{◌∙◌, [], ◌∷◌, ◌++◌, None, ap, replicate, arith}
 use Rattle.std.proofs.lemmas.List.{replicate_more}
 use Rattle.gm_model.proofs.Exits.{unless_ok}
-use Rattle.gm_pending.proofs.asked.none_asked.Goals as goal
+use Rattle.gm_pending.proofs.decided_orbits.no_orbits.Goals as goal
 
-pub returns-in_err-asked : goal.returns-in_err-asked
-returns-in_err-asked c = unless_ok _ c.from_residual.result c.from_residual.ensures.0
+pub returns-in_err-orbits : goal.returns-in_err-orbits
+returns-in_err-orbits c = unless_ok _ c.from_residual.result c.from_residual.ensures.0
 
 pub loop-init : goal.loop-init
-loop-init c = c.in_ok-asked.ensures.items
+loop-init c = c.in_ok-orbits.ensures.items
 
 pub returns-in_err-push : goal.returns-in_err-push
 returns-in_err-push c = unless_ok _ c.from_residual-in_err-push.result c.from_residual-in_err-push.ensures.0

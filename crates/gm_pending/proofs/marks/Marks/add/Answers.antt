@@ -1,9 +1,0 @@
-use Rattle.gm_pending.specs.Marks.{HasKey, key_of}
-use Rattle.gm_pending.proofs.Reached.{marked_few}
-use Rattle.gm_pending.proofs.marks.Marks.add.Goals as goal
-
-pub invariant_of-self : goal.invariant_of-self
-invariant_of-self c =
-    let reached = c.self.inside.reached.items in
-    let absent : HasKey reached (key_of c.args.entry.at) → ⊥ = rw c.self.view_is c.requires.absent in
-    marked_few reached c.push.new.reached.items c.self.inside.deciders c.args.entry c.push.result c.if-is_none.ensures c.self.invariant c.requires.key absent c.push.ensures.ok c.push.ensures.err

@@ -1,0 +1,47 @@
+//! What is found for each embedding that is asked for: its deciding instances, and the darts that they reach.
+ghost use Rattle.std.specs.Prelude.{◌≡◌, ◌<◌, length, replicate, slice_get, slice_set, Some, None, IfOk};
+
+use crate::deciding_instance::DecidingInstance;
+use crate::marks::Marks;
+use gm_model::OutOfMemory;
+use std::alloc::Global;
+
+/// The orbits of one embedding that instances decide: these instances, and marks of the darts in
+/// the orbits.
+#[derive(Drop)]
+pub(crate) struct DecidedOrbits {
+    pub(crate) instances: Vec<DecidingInstance>,
+    pub(crate) marks: Marks,
+}
+
+/// By embedding, the orbits that are decided, where they were asked for. Where there is no embedding,
+/// it takes no memory.
+pub(crate) type OrbitsByEmbed = Vec<Option<DecidedOrbits>>;
+
+/// Those of so many embeddings that were not asked for.
+pub(crate) fn no_orbits(alloc: Global, embeds: usize) -> Result<OrbitsByEmbed, OutOfMemory>
+    ensures { IfOk result (λ orbits. orbits.items ≡ replicate embeds None) }
+{
+    let mut orbits = Vec::with_capacity(alloc, embeds)?;
+    for _ in 0..embeds {
+        orbits.push(None)?;
+    }
+    Ok(orbits)
+}
+
+/// Keeps the orbits of an embedding.
+pub(crate) fn put_orbits(by_embed: &mut OrbitsByEmbed, embed: u8, orbits: DecidedOrbits)
+    requires { embed < length by_embed.old.items }
+    ensures { by_embed.new.items ≡ slice_set by_embed.old.items embed (Some orbits) }
+{
+    by_embed[embed as usize] = Some(orbits);
+}
+
+/// Takes the orbits of an embedding out.
+pub(crate) fn take_orbits(by_embed: &mut OrbitsByEmbed, embed: u8) -> Option<DecidedOrbits>
+    requires { embed < length by_embed.old.items }
+    ensures orbits { slice_get by_embed.old.items embed ≡ Some result }
+    ensures rest { by_embed.new.items ≡ slice_set by_embed.old.items embed None }
+{
+    by_embed[embed as usize].take()
+}
