@@ -42,7 +42,7 @@ returns-clause-step g c state entries stands =
     let line = c.args.line.now in
     let same : line_of line.rule c.as_slice-hooks.result.now c.as_slice-params.result.now ≡ line = ap₂ (line_of line.rule) c.as_slice-hooks.ensures c.as_slice-params.ensures in
     let budget = budget_of rules line c.args.arena.now c.accepted.ensures.rule c.requires.sound c.requires.good in
-    let new : Standing = record { history = c.apply_rule.new.standing.history; group = c.behind-standing.result; scratch = c.apply_rule.new.standing.scratch } in
+    let new : Standing = record { keeps = c.apply_rule.new.standing.keeps; history = c.apply_rule.new.standing.history; group = c.behind-standing.result; scratch = c.apply_rule.new.standing.scratch } in
     applies rules line c.args.arena.now c.apply_rule.new.arena c.args.standing.now new state entries c.args.steps.now c.apply_rule.new.steps stands (c.is_broken.ensures.whole c.if-is_broken.false) budget c.in_ok-outcome.outcome
     (subst (λ l. HasLine rules (as_map c.args.arena.now) l (as_map c.apply_rule.new.arena) c.args.steps.now c.apply_rule.new.steps c.in_ok-outcome.outcome) same c.in_ok-outcome.ensures.line)
     (c.in_ok-outcome.ensures.history state.history stands.history)
