@@ -1,5 +1,5 @@
 -- What an `each` comes to, turn by turn and as a step.
-use Rattle.std.proofs.Common.{◌≡◌, ℕ, zero, suc, ◌+◌, ◌*◌, ◌-◌, ◌<◌, ◌≤◌, ◌⊎◌, inl, inr, Bool, true, false, cond, IsTrue, List, [], ◌∷◌, ◌++◌, length, take, drop, get_or, Contains, Option, None, Some, refl, sym, ap, ap₂, subst, ◌∙◌, arith}
+use Rattle.std.proofs.Common.{◌≡◌, ℕ, zero, suc, ◌+◌, ◌*◌, ◌-◌, ◌<◌, ◌≤◌, ◌⊎◌, inl, inr, Bool, true, false, cond, List, [], ◌∷◌, ◌++◌, length, take, drop, get_or, Option, None, Some, refl, sym, ap, subst, ◌∙◌, arith}
 use Rattle.std.specs.List.{count_by}
 use Rattle.std.specs.Option.{option_map}
 use Rattle.std.proofs.lemmas.List.{take_more, take_all, length-take-le, take-append-drop, drop_more, length-append}
@@ -9,10 +9,10 @@ use Rattle.gm_model.specs.declared.schema.Schema.{Schema}
 use Rattle.gm_model.specs.declared.script.Stat.TheVariants as statements
 use Rattle.gm_model.specs.declared.value.Value.{Value}
 use Rattle.gm_model.specs.declared.word.Mask.{Mask}
-use Rattle.gm_model.specs.Budgets.{Bounds, Entries, HasBounds, OfEach, IsLineBudget, TurnCosts, AreTurnCosts, each_entered, entered, group_entered}
+use Rattle.gm_model.specs.Budgets.{Bounds, Entries, HasBounds, OfEach, IsLineBudget, AreTurnCosts, each_entered, entered, group_entered}
 use Rattle.gm_model.specs.Histories.{Group, History, begun_at, changed, done_at, kept, past_behind}
 use Rattle.gm_model.specs.Maps.{Map, IsDart, dimension}
-use Rattle.gm_model.specs.Orbits.{HasCount, HasNoRepeats, IsListOf}
+use Rattle.gm_model.specs.Orbits.{HasCount}
 use Rattle.gm_model.specs.Rules.{Rule}
 use Rattle.gm_model.specs.Runs.{State, Turn, Taken, Passed, AreLeads, AreTurns, IsStep, GoesOver, behind_each, is_done_turn, is_passed, is_refused_turn, line_at, told}
 use Rattle.gm_model.specs.Runs as runs
@@ -37,7 +37,7 @@ use Rattle.gm_run.specs.declared.standing.Standing.{Standing}
 use Rattle.gm_run.specs.Alike.{AreAlike, AreAlikeStates}
 use Rattle.gm_run.specs.Progress.{IsLeft, BehindAll, WithinEach}
 use Rattle.gm_run.specs.Standing.{HasLine, WasDone, WasRefused, HasOpen, HasStep, IsStopped, MayGoBack, Remembers, StandsAt, entered_by, told_behind}
-use Rattle.gm_run.specs.Turns.{AreTallied, HasTurn, HaveTurns, StopsAtTurn, StopsWithin, Tells, counted, entered_by_turn, entered_turns, told_by, within_turns}
+use Rattle.gm_run.specs.Turns.{AreTallied, HasTurn, HaveTurns, StopsAtTurn, StopsWithin, counted, entered_by_turn, entered_turns, told_by, within_turns}
 use Rattle.gm_run.proofs.OneRun.{one_each_leads}
 use Rattle.gm_run.proofs.Tallies.{costs_of, costs_together, cost_of, no_costs, passed_on, taken_on, tallied_sound, turns_of, unchanged, within_all}
 

@@ -29,7 +29,7 @@ use Rattle.gm_run.specs.Lines.{Tells}
 use Rattle.gm_run.specs.Progress.{IsCutShort, IsLeft, BehindAll}
 use Rattle.gm_run.specs.Standing.{HasOpen, HasStep, IsAllowed, IsInGroup, IsStopped, StandsAt}
 use Rattle.gm_run.proofs.AlikeStates.{states_alike_self}
-use Rattle.gm_run.proofs.Courses.{IsCourse, IsSplit, course_on, run_of, split, together, within_of}
+use Rattle.gm_run.proofs.Courses.{IsCourse, course_on, run_of, split, together, within_of}
 use Rattle.gm_run.proofs.OneRun.{one_bounds, one_run, one_within}
 use Rattle.gm_run.proofs.Telling.{tells_more, told_once}
 

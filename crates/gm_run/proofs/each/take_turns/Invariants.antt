@@ -1,4 +1,4 @@
-use Rattle.std.proofs.Common.{◌≡◌, ◌+◌, ◌≤◌, List, take}
+use Rattle.std.proofs.Common.{◌≡◌, ◌+◌, ◌≤◌, take}
 use Rattle.gm_model.specs.Budgets.{Entries}
 use Rattle.gm_model.specs.Histories as definition
 use Rattle.gm_model.specs.Histories.{begun_at}

@@ -1,6 +1,6 @@
 use Rattle.std.proofs.Common.{refl}
 use Rattle.gm_run.specs.Standing.{MayGoBack, line_of}
-use Rattle.gm_run.proofs.Advancing.{named, hooks_fit, params_fit, plan_for, line_done, line_refused, line_budget_of}
+use Rattle.gm_run.proofs.Advancing.{hooks_fit, params_fit, plan_for, line_done, line_refused, line_budget_of}
 use Rattle.gm_run.proofs.Stepping.{entries_refused}
 use Rattle.gm_run.proofs.lines.apply_rule.Goals as goal
 

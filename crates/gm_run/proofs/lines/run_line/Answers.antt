@@ -1,12 +1,8 @@
-use Rattle.std.proofs.Common.{◌≡◌, rules, refl, ap, sym, subst, ap₂, ◌∙◌}
+use Rattle.std.proofs.Common.{◌≡◌, refl, ap, sym, subst, ap₂, ◌∙◌}
 use Rattle.std.proofs.lemmas.Result.{err_from_is_err_and}
-use Rattle.gm_model.specs.declared.script.Line.{Line}
 use Rattle.gm_model.specs.Budgets.{IsLineBudget}
 use Rattle.gm_arena.specs.ArenaAsMap.{as_map}
 use Rattle.gm_theory.specs.Outcomes.{IsGoodLine, IsSoundOf}
-use Rattle.gm_theory.proofs.TurnsFound.{line_costs, line_found}
-use Rattle.gm_run.specs.declared.outcome.Outcome.TheVariants as outcomes
-use Rattle.gm_run.specs.declared.standing.Open.TheVariants as opens
 use Rattle.gm_run.specs.declared.standing.Standing.{Standing}
 use Rattle.gm_run.specs.Progress.{rules_of}
 use Rattle.gm_run.specs.Standing.{HasLine, IsUnapplied, group_behind, line_of}
