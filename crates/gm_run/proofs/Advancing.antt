@@ -1,5 +1,5 @@
 -- What one line of a script comes to, by the call that applies its rule.
-use Rattle.std.proofs.Common.{◌≡◌, ◌≢◌, ℕ, ◌+◌, ◌<◌, ◌≤◌, List, length, get_or, true, false, IsTrue, None, Some, Option, refl, sym, ap, subst, ap₂, ◌∙◌, Result, Ok, Err, arith}
+use Rattle.std.proofs.Common.{◌≡◌, ◌≢◌, ℕ, ◌+◌, ◌<◌, ◌≤◌, List, length, get_or, true, false, IsTrue, None, Some, Option, refl, sym, ap, subst, ◌∙◌, Result, Ok, Err, arith}
 use Rattle.std.specs.FinMap.{get}
 use Rattle.std.specs.Prelude.{slice_get, MatchOption, MatchResult}
 use Rattle.std.specs.Option.{is_some, option_map}
@@ -14,10 +14,10 @@ use Rattle.gm_model.specs.Applications.{Application, Cause, IsDone, IsRefused, I
 use Rattle.gm_model.specs.Applications as causes
 use Rattle.gm_model.specs.Kinds.{AreGoodParams}
 use Rattle.gm_model.specs.Limits.{most_darts}
-use Rattle.gm_model.specs.Maps.{Map, IsDart, IsSound}
+use Rattle.gm_model.specs.Maps.{Map, IsDart}
 use Rattle.gm_model.specs.Rules.{Rule, rule_of}
 use Rattle.gm_model.specs.Runs.{IsOutcome, IsLineOutcome}
-use Rattle.gm_model.specs.Budgets.{IsLineBudget, changed_darts}
+use Rattle.gm_model.specs.Budgets.{IsLineBudget}
 use Rattle.gm_model.specs.Runs as runs
 use Rattle.gm_apply.specs.Outcomes.{IsRefusedFor}
 use Rattle.gm_pending.specs.declared.applied.Applied.{Applied}
@@ -34,7 +34,7 @@ use Rattle.gm_theory.specs.Outcomes.{IsGoodLine}
 use Rattle.gm_theory.specs.Suited.{IsRuleOf}
 use Rattle.gm_run.specs.declared.outcome.Outcome.{Outcome}
 use Rattle.gm_run.specs.declared.outcome.Outcome.TheVariants as outcomes
-use Rattle.gm_run.specs.Lines.{cause_of, outcome_of}
+use Rattle.gm_run.specs.Lines.{cause_of}
 use Rattle.gm_run.specs.Progress.{rules_of, IsPlanFor, ArePlansFor}
 use Rattle.gm_run.specs.Standing.{HasLine, WasDone, WasRefused, IsUnapplied}
 

@@ -1,5 +1,5 @@
 -- What an `each` comes to, turn by turn and as a step.
-use Rattle.std.proofs.Common.{◌≡◌, ℕ, zero, suc, ◌+◌, ◌*◌, ◌-◌, ◌<◌, ◌≤◌, ◌⊎◌, inl, inr, Bool, true, false, cond, IsTrue, List, [], ◌∷◌, ◌++◌, length, take, drop, get_or, Contains, Option, None, Some, refl, sym, ap, ap₂, subst, ◌∙◌, arith}
+use Rattle.std.proofs.Common.{◌≡◌, ℕ, zero, suc, ◌+◌, ◌*◌, ◌-◌, ◌<◌, ◌≤◌, ◌⊎◌, inl, inr, Bool, true, false, cond, List, [], ◌∷◌, ◌++◌, length, take, drop, get_or, Option, None, Some, refl, sym, ap, subst, ◌∙◌, arith}
 use Rattle.std.specs.List.{count_by}
 use Rattle.std.specs.Option.{option_map}
 use Rattle.std.proofs.lemmas.List.{take_more, take_all, length-take-le, take-append-drop, drop_more, length-append}
@@ -9,10 +9,10 @@ use Rattle.gm_model.specs.declared.schema.Schema.{Schema}
 use Rattle.gm_model.specs.declared.script.Stat.TheVariants as statements
 use Rattle.gm_model.specs.declared.value.Value.{Value}
 use Rattle.gm_model.specs.declared.word.Mask.{Mask}
-use Rattle.gm_model.specs.Budgets.{Bounds, Entries, HasBounds, OfEach, IsLineBudget, TurnCosts, AreTurnCosts, each_entered, entered, group_entered}
+use Rattle.gm_model.specs.Budgets.{Bounds, Entries, HasBounds, OfEach, IsLineBudget, AreTurnCosts, each_entered, entered, group_entered}
 use Rattle.gm_model.specs.Histories.{Group, History, begun_at, changed, done_at, kept, past_behind}
 use Rattle.gm_model.specs.Maps.{Map, IsDart, dimension}
-use Rattle.gm_model.specs.Orbits.{HasCount, HasNoRepeats, IsListOf}
+use Rattle.gm_model.specs.Orbits.{HasCount}
 use Rattle.gm_model.specs.Rules.{Rule}
 use Rattle.gm_model.specs.Runs.{State, Turn, Taken, Passed, AreLeads, AreTurns, IsStep, GoesOver, behind_each, is_done_turn, is_passed, is_refused_turn, line_at, told}
 use Rattle.gm_model.specs.Runs as runs
@@ -36,8 +36,8 @@ use Rattle.gm_run.specs.declared.standing.Open.TheVariants as opens
 use Rattle.gm_run.specs.declared.standing.Standing.{Standing}
 use Rattle.gm_run.specs.Alike.{AreAlike, AreAlikeStates}
 use Rattle.gm_run.specs.Progress.{IsLeft, BehindAll, WithinEach}
-use Rattle.gm_run.specs.Standing.{HasLine, WasDone, WasRefused, HasOpen, HasStep, IsStopped, StandsAt, entered_by, told_behind}
-use Rattle.gm_run.specs.Turns.{AreTallied, HasTurn, HaveTurns, StopsAtTurn, StopsWithin, Tells, counted, entered_by_turn, entered_turns, told_by, within_turns}
+use Rattle.gm_run.specs.Standing.{HasLine, WasDone, WasRefused, HasOpen, HasStep, IsStopped, MayGoBack, Remembers, StandsAt, entered_by, told_behind}
+use Rattle.gm_run.specs.Turns.{AreTallied, HasTurn, HaveTurns, StopsAtTurn, StopsWithin, counted, entered_by_turn, entered_turns, told_by, within_turns}
 use Rattle.gm_run.proofs.OneRun.{one_each_leads}
 use Rattle.gm_run.proofs.Tallies.{costs_of, costs_together, cost_of, no_costs, passed_on, taken_on, tallied_sound, turns_of, unchanged, within_all}
 
@@ -96,7 +96,7 @@ module _ (schema : Schema) (rules : List Rule) (index : ℕ) (params : List Valu
       (costs.most, costs.budget)
 
   module _ (before : Map) (history : History) (entries : Entries) where
-    pub no_turns : (standing : Standing) (m : ArenaMap) (start : ℕ) → before ≡ as_map m → StandsFor standing.history m (begun_at before history) → MayTake standing.history m.schema.dim (entered_turns entries 0 0)
+    pub no_turns : (standing : Standing) (m : ArenaMap) (start : ℕ) → before ≡ as_map m → Remembers standing m (begun_at before history) → MayGoBack standing m.schema.dim (entered_turns entries 0 0)
         → HaveTurns rules index params before history entries [] (record { done = 0; refused = 0; passed = 0 }) standing m start start
     no_turns standing m start same stands costs = record {
       turns = [];
@@ -119,8 +119,8 @@ module _ (schema : Schema) (rules : List Rule) (index : ℕ) (params : List Valu
       longer : length (leads ++ d ∷ []) ≡ length leads + 1
       longer = length-append leads (d ∷ [])
 
-      taken : (outcome : Outcome) → IsDart (as_map m) d → HasLine rules (as_map m) (line_at index params d) (as_map n) (middle + 1) steps outcome → StandsFor new.history n (told_behind outcome (as_map m) here)
-          → (budget : (most : ℕ) × IsLineBudget rules (as_map m) (line_at index params d) most) → MayTake new.history n.schema.dim (entered_by outcome here.group budget.0 costs_here)
+      taken : (outcome : Outcome) → IsDart (as_map m) d → HasLine rules (as_map m) (line_at index params d) (as_map n) (middle + 1) steps outcome → Remembers new n (told_behind outcome (as_map m) here)
+          → (budget : (most : ℕ) × IsLineBudget rules (as_map m) (line_at index params d) most) → MayGoBack new n.schema.dim (entered_by outcome here.group budget.0 costs_here)
           → HaveTurns rules index params before history entries (leads ++ d ∷ []) (counted counts (Some outcome)) new n start steps
       taken _ live (WasDone applied is most least) stands budget costs =
           let turn : Turn = Taken (runs.Done applied.added applied.removed) in
@@ -134,9 +134,9 @@ module _ (schema : Schema) (rules : List Rule) (index : ℕ) (params : List Valu
               refused = have.tells.refused ∙ sym (count_on is_refused_turn have.turns turn ∙ omega arith);
               passed = have.tells.passed ∙ sym (count_on is_passed have.turns turn ∙ omega arith);
             };
-            stands = subst (λ k. StandsFor new.history n (within_turns before history k)) (sym more) (subst (StandsFor new.history n) (done_within before (as_map m) history (count_by is_done_turn have.turns)) stands);
-            may_take = subst (λ k. MayTake new.history n.schema.dim (entered_turns entries k (have.costs.done + budget.0))) (sym more)
-                (subst (MayTake new.history n.schema.dim) (entered_within before history entries (count_by is_done_turn have.turns) have.costs.done budget.0) costs);
+            stands = subst (λ k. Remembers new n (within_turns before history k)) (sym more) (subst (Remembers new n) (done_within before (as_map m) history (count_by is_done_turn have.turns)) stands);
+            may_take = subst (λ k. MayGoBack new n.schema.dim (entered_turns entries k (have.costs.done + budget.0))) (sym more)
+                (subst (MayGoBack new n.schema.dim) (entered_within before history entries (count_by is_done_turn have.turns) have.costs.done budget.0) costs);
             least = (let first = have.least in omega (arith, first, least));
             most = (let first = have.most in let last = most budget.0 budget.1 in omega (arith, first, last, longer));
           }
@@ -153,14 +153,14 @@ module _ (schema : Schema) (rules : List Rule) (index : ℕ) (params : List Valu
               refused = ap (λ k. k + 1) have.tells.refused ∙ sym (count_on is_refused_turn have.turns turn);
               passed = have.tells.passed ∙ sym (count_on is_passed have.turns turn ∙ omega arith);
             };
-            stands = subst (λ k. StandsFor new.history n (within_turns before history k)) (sym same) stands;
-            may_take = subst (λ k. MayTake new.history n.schema.dim (entered_turns entries k (have.costs.done + 0))) (sym same)
-                (subst (λ c. MayTake new.history n.schema.dim (entered_turns entries (count_by is_done_turn have.turns) c)) (sym cost) costs);
+            stands = subst (λ k. Remembers new n (within_turns before history k)) (sym same) stands;
+            may_take = subst (λ k. MayGoBack new n.schema.dim (entered_turns entries k (have.costs.done + 0))) (sym same)
+                (subst (λ c. MayGoBack new n.schema.dim (entered_turns entries (count_by is_done_turn have.turns) c)) (sym cost) costs);
             least = (let first = have.least in omega (arith, first, rises));
             most = (let first = have.most in let last = most budget.0 budget.1 in omega (arith, first, last, longer));
           }
 
-      passed : (IsDart (as_map m) d → ⊥) → as_map n ≡ as_map m → steps ≡ middle + 1 → StandsFor new.history n here → MayTake new.history n.schema.dim costs_here
+      passed : (IsDart (as_map m) d → ⊥) → as_map n ≡ as_map m → steps ≡ middle + 1 → Remembers new n here → MayGoBack new n.schema.dim costs_here
           → HaveTurns rules index params before history entries (leads ++ d ∷ []) (counted counts None) new n start steps
       passed dead map still stands costs =
           let same : count_by is_done_turn (have.turns ++ Passed ∷ []) ≡ count_by is_done_turn have.turns = count_on is_done_turn have.turns Passed ∙ omega arith in
@@ -173,14 +173,14 @@ module _ (schema : Schema) (rules : List Rule) (index : ℕ) (params : List Valu
               refused = have.tells.refused ∙ sym (count_on is_refused_turn have.turns Passed ∙ omega arith);
               passed = ap (λ k. k + 1) have.tells.passed ∙ sym (count_on is_passed have.turns Passed);
             };
-            stands = subst (λ k. StandsFor new.history n (within_turns before history k)) (sym same) stands;
-            may_take = subst (λ k. MayTake new.history n.schema.dim (entered_turns entries k have.costs.done)) (sym same) costs;
+            stands = subst (λ k. Remembers new n (within_turns before history k)) (sym same) stands;
+            may_take = subst (λ k. MayGoBack new n.schema.dim (entered_turns entries k have.costs.done)) (sym same) costs;
             least = (let first = have.least in omega (arith, first, still));
             most = (let first = have.most in omega (arith, first, still, longer));
           }
 
-      turn_on : (turn : Option Outcome) → HasTurn rules index params (as_map m) d turn (as_map n) middle steps → StandsFor new.history n (told_by turn (as_map m) here)
-          → (budget : (most : ℕ) × IsLineBudget rules (as_map m) (line_at index params d) most) → MayTake new.history n.schema.dim (entered_by_turn turn here.group budget.0 costs_here)
+      turn_on : (turn : Option Outcome) → HasTurn rules index params (as_map m) d turn (as_map n) middle steps → Remembers new n (told_by turn (as_map m) here)
+          → (budget : (most : ℕ) × IsLineBudget rules (as_map m) (line_at index params d) most) → MayGoBack new n.schema.dim (entered_by_turn turn here.group budget.0 costs_here)
           → HaveTurns rules index params before history entries (leads ++ d ∷ []) (counted counts turn) new n start steps
       turn_on None (dead, same, still) stands budget costs = passed dead same still stands costs
       turn_on (Some outcome) (live, has) stands budget costs = taken outcome live has stands budget costs
@@ -188,8 +188,8 @@ module _ (schema : Schema) (rules : List Rule) (index : ℕ) (params : List Valu
     -- of the darts in turn
     pub turns_more : (leads : List ℕ) (k d x : ℕ) (counts : Counts) (old new : Standing) (m n : ArenaMap) (start middle steps : ℕ) → k < length leads → d ≡ get_or leads k x → IsSoundOf schema before → (turn : Option Outcome)
         → HaveTurns rules index params before history entries (take k leads) counts old m start middle → HasTurn rules index params (as_map m) d turn (as_map n) middle steps
-        → ((behind : History) → StandsFor old.history m behind → StandsFor new.history n (told_by turn (as_map m) behind))
-        → ((behind : History) (costs : Entries) (most : ℕ) → StandsFor old.history m behind → MayTake old.history m.schema.dim costs → IsLineBudget rules (as_map m) (line_at index params d) most → MayTake new.history n.schema.dim (entered_by_turn turn behind.group most costs))
+        → ((behind : History) → Remembers old m behind → Remembers new n (told_by turn (as_map m) behind))
+        → ((behind : History) (costs : Entries) (most : ℕ) → Remembers old m behind → MayGoBack old m.schema.dim costs → IsLineBudget rules (as_map m) (line_at index params d) most → MayGoBack new n.schema.dim (entered_by_turn turn behind.group most costs))
         → HaveTurns rules index params before history entries (take (k + 1) leads) (counted counts turn) new n start steps
     turns_more leads k d x counts old new m n start middle steps within is sound turn have has stands costs =
         let now : IsSoundOf schema (as_map m) = tallied_sound rules index params schema of good before (as_map m) (take k leads) have.turns have.costs sound have.tallied in
@@ -256,8 +256,8 @@ module _ (schema : Schema) (rules : List Rule) (mask : Mask) (index : ℕ) (para
     besides = within_besides m.schema.dim m.count (length leads) start found cost (few_leads (as_map m) mask leads m.count are (darts_counted m lawful))
 
     pub each_step : (counts : Counts) (mid new : Standing) (n : ArenaMap) (steps : ℕ) → HaveTurns rules index params (as_map m) state.history entries leads counts mid n found steps → n.schema ≡ m.schema
-        → ((behind : History) (group : Group) → StandsFor mid.history n behind → behind.group ≡ Some group → StandsFor new.history n (kept group behind))
-        → ((behind : History) (group : Group) (costs : Entries) → StandsFor mid.history n behind → behind.group ≡ Some group → MayTake mid.history n.schema.dim costs → MayTake new.history n.schema.dim (group_entered group costs))
+        → ((behind : History) (group : Group) → Remembers mid n behind → behind.group ≡ Some group → Remembers new n (kept group behind))
+        → ((behind : History) (group : Group) (costs : Entries) → Remembers mid n behind → behind.group ≡ Some group → MayGoBack mid n.schema.dim costs → MayGoBack new n.schema.dim (group_entered group costs))
         → new.group ≡ old.group → HasStep rules state entries (statements.Each mask index params) (outcomes.Each counts.done counts.refused counts.passed) new n start steps
     each_step counts mid new n steps have same_schema stand may group = record {
       told = told have.turns;
@@ -287,26 +287,26 @@ module _ (schema : Schema) (rules : List Rule) (mask : Mask) (index : ℕ) (para
         map_is zero e = sym (unchanged rules index params state.map (as_map n) leads have.turns turns e)
         map_is (suc k) e = refl
 
-        kept_history : StandsFor new.history n (kept (group_within (as_map m) (count_by is_done_turn have.turns)) (within_turns (as_map m) state.history (count_by is_done_turn have.turns)))
+        kept_history : Remembers new n (kept (group_within (as_map m) (count_by is_done_turn have.turns)) (within_turns (as_map m) state.history (count_by is_done_turn have.turns)))
         kept_history = stand (within_turns (as_map m) state.history (count_by is_done_turn have.turns)) (group_within (as_map m) (count_by is_done_turn have.turns)) have.stands (group_is (as_map m) state.history (count_by is_done_turn have.turns))
 
-        history_is : StandsFor new.history n (behind_each state (count_by is_done_turn have.turns) (as_map n)).history
-        history_is = subst (StandsFor new.history n) (kept_within state (as_map n) (count_by is_done_turn have.turns) closed.0) (subst (λ map. StandsFor new.history n (kept (group_within map (count_by is_done_turn have.turns)) (within_turns map state.history (count_by is_done_turn have.turns)))) (sym stands.map) kept_history)
+        history_is : Remembers new n (behind_each state (count_by is_done_turn have.turns) (as_map n)).history
+        history_is = subst (Remembers new n) (kept_within state (as_map n) (count_by is_done_turn have.turns) closed.0) (subst (λ map. Remembers new n (kept (group_within map (count_by is_done_turn have.turns)) (within_turns map state.history (count_by is_done_turn have.turns)))) (sym stands.map) kept_history)
 
-        kept_costs : MayTake new.history n.schema.dim (group_entered (group_within (as_map m) (count_by is_done_turn have.turns)) (entered_turns entries (count_by is_done_turn have.turns) have.costs.done))
+        kept_costs : MayGoBack new n.schema.dim (group_entered (group_within (as_map m) (count_by is_done_turn have.turns)) (entered_turns entries (count_by is_done_turn have.turns) have.costs.done))
         kept_costs = may (within_turns (as_map m) state.history (count_by is_done_turn have.turns)) (group_within (as_map m) (count_by is_done_turn have.turns)) (entered_turns entries (count_by is_done_turn have.turns) have.costs.done) have.stands (group_is (as_map m) state.history (count_by is_done_turn have.turns)) have.may_take
 
         open_is : (k : ℕ) → HasOpen opens.Nothing (behind_each state k (as_map n))
         open_is zero = closed
         open_is (suc k) = (ap (option_map changed) closed.0, closed.1)
 
-        costs_are : (k : ℕ) → (count_by is_done_turn have.turns) ≡ k → MayTake new.history n.schema.dim (each_entered (runs.Each k (count_by is_refused_turn have.turns) (count_by is_passed have.turns)) have.costs.done entries)
+        costs_are : (k : ℕ) → (count_by is_done_turn have.turns) ≡ k → MayGoBack new n.schema.dim (each_entered (runs.Each k (count_by is_refused_turn have.turns) (count_by is_passed have.turns)) have.costs.done entries)
         costs_are zero e =
-            any_group new.history n n.schema.dim (behind_each state (count_by is_done_turn have.turns) (as_map n)).history entries.past entries.future 0 entries.group history_is (open_is (count_by is_done_turn have.turns)).0
-            (subst (λ k. MayTake new.history n.schema.dim (group_entered (group_within (as_map m) k) (entered_turns entries k have.costs.done))) e kept_costs)
+            λ keeps. any_group new.history n n.schema.dim (behind_each state (count_by is_done_turn have.turns) (as_map n)).history entries.past entries.future 0 entries.group (history_is keeps) (open_is (count_by is_done_turn have.turns)).0
+            (subst (λ k. MayGoBack new n.schema.dim (group_entered (group_within (as_map m) k) (entered_turns entries k have.costs.done))) e kept_costs keeps)
         costs_are (suc k) e =
-            any_group new.history n n.schema.dim (behind_each state (count_by is_done_turn have.turns) (as_map n)).history (have.costs.done ∷ entries.past) [] 0 entries.group history_is (open_is (count_by is_done_turn have.turns)).0
-            (subst (λ k. MayTake new.history n.schema.dim (group_entered (group_within (as_map m) k) (entered_turns entries k have.costs.done))) e kept_costs)
+            λ keeps. any_group new.history n n.schema.dim (behind_each state (count_by is_done_turn have.turns) (as_map n)).history (have.costs.done ∷ entries.past) [] 0 entries.group (history_is keeps) (open_is (count_by is_done_turn have.turns)).0
+            (subst (λ k. MayGoBack new n.schema.dim (group_entered (group_within (as_map m) k) (entered_turns entries k have.costs.done))) e kept_costs keeps)
 
     -- ---- memory was wanting
 

@@ -1,7 +1,9 @@
 -- What the calls of a run come to, as steps of the definition.
-use Rattle.std.proofs.Common.{◌≡◌, ◌≢◌, ℕ, ◌+◌, ◌≤◌, true, false, List, [], ◌∷◌, Option, None, Some, refl, sym, ap, subst, ◌∙◌, arith}
+use Rattle.std.proofs.Common.{◌≡◌, ◌≢◌, ℕ, ◌+◌, ◌≤◌, Bool, true, false, List, [], ◌∷◌, Option, None, Some, Result, Ok, Err, refl, sym, ap, subst, ◌∙◌, arith}
 use Rattle.std.specs.Option.{option_map}
-use Rattle.std.specs.Prelude.{is_some}
+use Rattle.std.specs.Prelude.{is_some, IfErr, IfOk, MatchResult}
+use Rattle.gm_model.specs.declared.memory.OutOfMemory.{OutOfMemory}
+use Rattle.gm_model.specs.declared.schema.Schema.{Schema}
 use Rattle.gm_model.specs.declared.script.Line.{Line}
 use Rattle.gm_model.specs.declared.script.Stat.TheVariants as statements
 use Rattle.gm_model.specs.Budgets.{Bounds, Entries, HasBounds, OfDone, OfRefused, OfSkipped, OfUndone, OfNoPast, OfRedone, OfNoFuture, OfBegun, OfKept, OfDropped, IsLineBudget, entered, group_entered, up_to}
@@ -11,12 +13,14 @@ use Rattle.gm_model.specs.Rules.{Rule}
 use Rattle.gm_model.specs.Runs.{State, IsLineOutcome, IsStep, IsDoneHere, IsRefusedHere, IsSkipped, GoesBack, HasNoPast, GoesForth, HasNoFuture, Begins, Ends, IsTakenBack, behind_done, behind_refused, standing_at}
 use Rattle.gm_model.specs.Runs as runs
 use Rattle.gm_apply.specs.declared.refusal.Refusal.{Refusal}
+use Rattle.gm_apply.specs.declared.refusal.Refusal.TheVariants as refusals
 use Rattle.gm_arena.specs.ArenaAsMap.{as_map}
 use Rattle.gm_arena.specs.ArenaMap.{ArenaMap}
 use Rattle.gm_theory.specs.Outcomes.{IsGoodLine, IsSoundOf}
 use Rattle.gm_theory.specs.Suited.{IsRuleOf}
 use Rattle.gm_theory.proofs.TurnsFound.{LineFound, line_costs, line_found}
 use Rattle.gm_undo.specs.Costs.{MayTake}
+use Rattle.gm_undo.specs.Kept.{HistoryOf}
 use Rattle.gm_undo.specs.Standing.{StandsFor}
 use Rattle.gm_run.specs.declared.outcome.Outcome.{Outcome}
 use Rattle.gm_run.specs.declared.outcome.Outcome.TheVariants as outcomes
@@ -25,8 +29,22 @@ use Rattle.gm_run.specs.declared.standing.Open.TheVariants as opens
 use Rattle.gm_run.specs.declared.standing.Standing.{Standing}
 use Rattle.gm_run.specs.Alike.{AreAlike, AreAlikeStates}
 use Rattle.gm_run.specs.Progress.{IsLeft, BehindAll}
-use Rattle.gm_run.specs.Standing.{HasLine, WasDone, WasRefused, HasOpen, HasStep, IsInGroup, IsStopped, IsUnapplied, StandsAt, entered_by, group_behind, told_behind}
+use Rattle.gm_run.specs.Standing.{HasLine, WasDone, WasRefused, HasOpen, HasStep, IsInGroup, IsStopped, IsUnapplied, MayGoBack, Remembers, StandsAt, entered_by, group_behind, told_behind}
 use Rattle.gm_run.proofs.OneRun.{budget_alike}
+
+-- ---- what goes back
+
+-- where the history is kept, its entries are, behind an application or none
+pub entries_then : {T E : Type 0} (result : Result T E) (keeps : Bool) (old new : HistoryOf) (m n : ArenaMap) (entries behind : Entries) → n.schema ≡ m.schema → IfOk result (λ _. MayTake new n.schema.dim behind) → IfErr result (λ _. new ≡ old) → MayTake old m.schema.dim entries
+    → MatchResult result (λ _. keeps ≡ true → MayTake new n.schema.dim behind) (λ _. keeps ≡ true → MayTake new n.schema.dim entries)
+entries_then (Ok x) keeps old new m n entries behind schema ok err costs = λ _. ok
+entries_then (Err x) keeps old new m n entries behind schema ok err costs = λ _. subst (λ h. MayTake h n.schema.dim entries) (sym err) (subst (λ (s : Schema). MayTake old s.dim entries) (sym schema) costs)
+
+-- an application that is refused is none
+pub entries_refused : (result : Result Outcome OutOfMemory) (refusal : Refusal) (May : Entries → Type 0) (group : Option Group) (most : ℕ) (entries : Entries)
+    → MatchResult result (λ outcome. (outcome ≡ outcomes.Refused refusal) × (refusal ≢ refusals.OutOfMemory)) (λ _. refusal ≡ refusals.OutOfMemory) → May entries → IfOk result (λ outcome. May (entered_by outcome group most entries))
+entries_refused (Ok outcome) refusal May group most entries told may = subst (λ (o : Outcome). May (entered_by o group most entries)) (sym told.0) may
+entries_refused (Err x) refusal May group most entries told may = tt
 
 -- ---- the open group
 
@@ -47,8 +65,11 @@ open_refused opens.Whole state refusal other has = (has.0, has.1, ap is_some has
 open_refused opens.Broken state refusal other has = absurd (other refl)
 
 -- outside, the history has no group either
-pub outside_of : (m : ArenaMap) (standing : Standing) → (state : State) × (entries : Entries) × StandsAt standing m state entries → standing.group ≡ opens.Nothing → (behind : History) × StandsFor standing.history m behind × (behind.group ≡ None)
+pub outside_of : (m : ArenaMap) (standing : Standing) → (state : State) × (entries : Entries) × StandsAt standing m state entries → standing.group ≡ opens.Nothing → (behind : History) × Remembers standing m behind × (behind.group ≡ None)
 outside_of m standing (state, entries, stands) outside = (state.history, stands.history, (subst (λ o. HasOpen o state) outside stands.group).0)
+
+pub outside_kept : (m : ArenaMap) (standing : Standing) → standing.keeps ≡ true → (state : State) × (entries : Entries) × StandsAt standing m state entries → standing.group ≡ opens.Nothing → (behind : History) × StandsFor standing.history m behind × (behind.group ≡ None)
+outside_kept m standing keeps stands outside = let out = outside_of m standing stands outside in (out.0, out.1 keeps, out.2)
 
 -- the group that is open
 pub open_group : (opened : Open) (state : State) → IsInGroup opened → HasOpen opened state → (group : Group) × (state.history.group ≡ Some group)
@@ -56,8 +77,8 @@ open_group opens.Nothing state inside has = absurd inside
 open_group opens.Whole state inside has = (has.0, has.1)
 open_group opens.Broken state inside has = (has.0, has.1)
 
-pub inside_of : (m : ArenaMap) (standing : Standing) → (state : State) × (entries : Entries) × StandsAt standing m state entries → IsInGroup standing.group → (behind : History) × (group : Group) × StandsFor standing.history m behind × (behind.group ≡ Some group)
-inside_of m standing (state, entries, stands) inside = let group : (group : Group) × (state.history.group ≡ Some group) = open_group standing.group state inside stands.group in (state.history, group.0, stands.history, group.1)
+pub inside_of : (m : ArenaMap) (standing : Standing) → standing.keeps ≡ true → (state : State) × (entries : Entries) × StandsAt standing m state entries → IsInGroup standing.group → (behind : History) × (group : Group) × StandsFor standing.history m behind × (behind.group ≡ Some group)
+inside_of m standing keeps (state, entries, stands) inside = let group : (group : Group) × (state.history.group ≡ Some group) = open_group standing.group state inside stands.group in (state.history, group.0, stands.history keeps, group.1)
 
 -- whether it is broken
 pub open_broken : (opened : Open) (state : State) → opened ≡ opens.Broken → HasOpen opened state → state.is_broken ≡ true
@@ -96,8 +117,8 @@ module _ (rules : List Rule) (line : Line) (m n : ArenaMap) (old new : Standing)
     budget_here : IsLineBudget rules state.map line budget.0
     budget_here = subst (λ map. IsLineBudget rules map line budget.0) (sym stands.map) budget.1
 
-    pub applies : (outcome : Outcome) → HasLine rules (as_map m) line (as_map n) start steps outcome → StandsFor new.history n (told_behind outcome (as_map m) state.history)
-        → MayTake new.history n.schema.dim (entered_by outcome state.history.group budget.0 entries) → new.group ≡ group_behind outcome old.group → HasStep rules state entries (statements.Apply line) outcome new n start steps
+    pub applies : (outcome : Outcome) → HasLine rules (as_map m) line (as_map n) start steps outcome → Remembers new n (told_behind outcome (as_map m) state.history)
+        → MayGoBack new n.schema.dim (entered_by outcome state.history.group budget.0 entries) → new.group ≡ group_behind outcome old.group → HasStep rules state entries (statements.Apply line) outcome new n start steps
     applies _ (WasDone applied is most least) history costs group = record {
       told = runs.Done applied.added applied.removed;
       tells = refl;
@@ -108,7 +129,7 @@ module _ (rules : List Rule) (line : Line) (m n : ArenaMap) (old new : Standing)
       has = OfDone line applied.added applied.removed budget.0 budget_here;
       stands = record {
         map = refl;
-        history = subst (λ map. StandsFor new.history n (done_at map state.history)) (sym stands.map) history;
+        history = subst (λ map. Remembers new n (done_at map state.history)) (sym stands.map) history;
         costs = costs;
         group = subst (λ o. HasOpen o (behind_done state (as_map n))) (sym group) (open_done old.group state (as_map n) stands.group);
       };
@@ -152,7 +173,7 @@ module _ (rules : List Rule) (line : Line) (m n : ArenaMap) (old new : Standing)
 
 -- ---- undo and redo
 
-module _ (rules : List Rule) (m n : ArenaMap) (old new : Standing) (state : State) (entries : Entries) (start steps : ℕ) (stands : StandsAt old m state entries) (outside : old.group ≡ opens.Nothing) (same_group : new.group ≡ old.group) where
+module _ (rules : List Rule) (m n : ArenaMap) (old new : Standing) (state : State) (entries : Entries) (start steps : ℕ) (stands : StandsAt old m state entries) (keeps : old.keeps ≡ true) (outside : old.group ≡ opens.Nothing) (same_group : new.group ≡ old.group) where
   none_open : HasOpen opens.Nothing state
   none_open = subst (λ o. HasOpen o state) outside stands.group
 
@@ -170,7 +191,7 @@ module _ (rules : List Rule) (m n : ArenaMap) (old new : Standing) (state : Stat
     bounds = up_to most;
     behind = record { past = rest; future = most ∷ entries.future; group = entries.group };
     has = OfUndone most rest costs_are;
-    stands = record { map = refl; history = history; costs = costs; group = open_new (as_map n) behind (ap (λ (h : History). h.group) is.after) };
+    stands = record { map = refl; history = λ _. history; costs = λ _. costs; group = open_new (as_map n) behind (ap (λ (h : History). h.group) is.after) };
     least = omega (arith, rises);
     most = within;
   }
@@ -186,7 +207,7 @@ module _ (rules : List Rule) (m n : ArenaMap) (old new : Standing) (state : Stat
     bounds = up_to most;
     behind = record { past = most ∷ entries.past; future = rest; group = entries.group };
     has = OfRedone most rest costs_are;
-    stands = record { map = refl; history = history; costs = costs; group = open_new (as_map n) behind (ap (λ (h : History). h.group) is.after) };
+    stands = record { map = refl; history = λ _. history; costs = λ _. costs; group = open_new (as_map n) behind (ap (λ (h : History). h.group) is.after) };
     least = omega (arith, rises);
     most = within;
   }
@@ -195,8 +216,8 @@ module _ (rules : List Rule) (m n : ArenaMap) (old new : Standing) (state : Stat
   stands_still : new.history ≡ old.history → n ≡ m → StandsAt new n state entries
   stands_still same map = record {
     map = stands.map ∙ sym (ap as_map map);
-    history = subst (λ h. StandsFor h n state.history) (sym same) (subst (λ a. StandsFor old.history a state.history) (sym map) stands.history);
-    costs = subst (λ h. MayTake h n.schema.dim entries) (sym same) (subst (λ (a : ArenaMap). MayTake old.history a.schema.dim entries) (sym map) stands.costs);
+    history = λ _. subst (λ h. StandsFor h n state.history) (sym same) (subst (λ a. StandsFor old.history a state.history) (sym map) (stands.history keeps));
+    costs = λ _. subst (λ h. MayTake h n.schema.dim entries) (sym same) (subst (λ (a : ArenaMap). MayTake old.history a.schema.dim entries) (sym map) (stands.costs keeps));
     group = subst (λ o. HasOpen o state) (sym same_group) stands.group;
   }
 
@@ -243,8 +264,8 @@ module _ (rules : List Rule) (m n : ArenaMap) (old new : Standing) (state : Stat
     has = OfBegun;
     stands = record {
       map = stands.map;
-      history = subst (λ map. StandsFor new.history m (begun_at map state.history)) (sym stands.map) history;
-      costs = costs;
+      history = λ _. subst (λ map. StandsFor new.history m (begun_at map state.history)) (sym stands.map) history;
+      costs = λ _. costs;
       group = subst (λ o. HasOpen o (standing_at state.map (begun_at state.map state.history))) (sym group) (record { map = state.map; is_changed = false }, refl, refl);
     };
     least = omega arith;
@@ -265,7 +286,7 @@ module _ (rules : List Rule) (m n : ArenaMap) (old new : Standing) (state : Stat
       bounds = up_to 0;
       behind = group_entered group entries;
       has = OfKept group is;
-      stands = record { map = stands.map; history = history; costs = costs; group = open_none state.map (kept group state.history) refl };
+      stands = record { map = stands.map; history = λ _. history; costs = λ _. costs; group = open_none state.map (kept group state.history) refl };
       least = omega arith;
       most = omega arith;
     }
@@ -280,7 +301,7 @@ module _ (rules : List Rule) (m n : ArenaMap) (old new : Standing) (state : Stat
       bounds = up_to entries.group;
       behind = record { past = entries.past; future = entries.future; group = 0 };
       has = OfDropped;
-      stands = record { map = sym map; history = history; costs = costs; group = open_none group.map (dropped state.history) refl };
+      stands = record { map = sym map; history = λ _. history; costs = λ _. costs; group = open_none group.map (dropped state.history) refl };
       least = omega (arith, rises);
       most = within;
     }

@@ -1,13 +1,10 @@
 -- The turns of an `each`: one more at a time, what they are and cost, and that nothing else is.
-use Rattle.std.proofs.Common.{◌≡◌, ℕ, zero, suc, ◌+◌, ◌*◌, ◌<◌, ◌≤◌, ◌⊎◌, true, false, cond, IsTrue, inl, inr, List, [], ◌∷◌, ◌++◌, length, Option, None, Some, refl, sym, ap, ap₂, subst, ◌∙◌, arith}
+use Rattle.std.proofs.Common.{◌≡◌, ℕ, ◌+◌, ◌≤◌, cond, List, [], ◌∷◌, ◌++◌, refl, sym, ap, subst, ◌∙◌, arith}
 use Rattle.std.specs.List.{count_by}
-use Rattle.std.specs.Option.{option_map}
 use Rattle.std.proofs.lemmas.List.Sums.{sum_by-append}
 use Rattle.gm_model.specs.declared.value.Value.{Value}
-use Rattle.gm_model.specs.Budgets.{Entries, IsLineBudget, TurnCosts, AreTurnCosts, changed_darts, done_part}
-use Rattle.gm_model.specs.Histories.{Group, History, begun_at, kept}
+use Rattle.gm_model.specs.Budgets.{IsLineBudget, TurnCosts, AreTurnCosts, changed_darts, done_part}
 use Rattle.gm_model.specs.Maps.{Map, IsDart}
-use Rattle.gm_model.specs.Orbits.{IsListOf}
 use Rattle.gm_model.specs.Rules.{Rule}
 use Rattle.gm_model.specs.Runs.{Turn, Taken, Passed, IsLineOutcome, AreTurns, is_done_turn, is_passed, is_refused_turn, line_at}
 use Rattle.gm_model.specs.Runs as runs

@@ -1,5 +1,6 @@
 -- How far a run has come, statement by statement, and what is known where it ends.
-use Rattle.std.proofs.Common.{◌≡◌, ℕ, zero, suc, ◌+◌, ◌<◌, ◌≤◌, Bool, true, false, List, [], ◌∷◌, ◌++◌, take, drop, length, get_or, Option, None, Some, refl, sym, ap, subst, ◌∙◌, arith}
+use Rattle.std.proofs.Common.{◌≡◌, ℕ, zero, suc, ◌+◌, ◌<◌, ◌≤◌, Bool, true, false, ltb, inl, inr, List, [], ◌∷◌, ◌++◌, take, drop, length, get_or, Option, None, Some, refl, sym, ap, subst, ◌∙◌, arith}
+use Rattle.std.proofs.lemmas.Bool.{cases_lt, false≢true, lt-ltb, ltb-true}
 use Rattle.std.specs.List.{AllByRecursion, count_by}
 use Rattle.std.specs.Option.{option_map}
 use Rattle.std.specs.Prelude.{is_some}
@@ -28,7 +29,7 @@ use Rattle.gm_run.specs.Lines.{Tells}
 use Rattle.gm_run.specs.Progress.{IsCutShort, IsLeft, BehindAll}
 use Rattle.gm_run.specs.Standing.{HasOpen, HasStep, IsAllowed, IsInGroup, IsStopped, StandsAt}
 use Rattle.gm_run.proofs.AlikeStates.{states_alike_self}
-use Rattle.gm_run.proofs.Courses.{IsCourse, IsSplit, course_on, run_of, split, together, within_of}
+use Rattle.gm_run.proofs.Courses.{IsCourse, course_on, run_of, split, together, within_of}
 use Rattle.gm_run.proofs.OneRun.{one_bounds, one_run, one_within}
 use Rattle.gm_run.proofs.Telling.{tells_more, told_once}
 
@@ -59,6 +60,26 @@ abbrev pub is_open : Open → Bool
 is_open opens.Nothing = false
 is_open opens.Whole = true
 is_open opens.Broken = true
+
+-- ---- whether the history is needed
+
+abbrev pub keeping : Bool → Standing → Standing
+keeping keeps standing = record { keeps = keeps; history = standing.history; group = standing.group; scratch = standing.scratch }
+
+-- so many statements were run, and one that needs the history is at hand or to come
+pub still_kept : (keeps : Bool) (many k needing : ℕ) → many ≡ k → (keeps ≡ false → needing ≤ k) → ltb many needing ≡ true → keeps ≡ true
+still_kept true many k needing same past test = refl
+still_kept false many k needing same past test = let over = past refl in let within = ltb-true many needing test in absurd (omega (arith, same, over, within))
+
+pub is_kept : (many k needing : ℕ) → many ≡ k → k < needing → ltb many needing ≡ true
+is_kept many k needing same within = lt-ltb many needing (omega (arith, same, within))
+
+-- and none is
+pub past_needing : (many k needing : ℕ) → many ≡ k → ltb many needing ≡ false → needing ≤ k + 1
+past_needing many k needing same test = elim (cases_lt k needing) [
+  | inl within ↦ absurd (false≢true (sym test ∙ is_kept many k needing same within))
+  | inr past ↦ omega (arith, past)
+]
 
 -- ---- the order of statements
 
@@ -122,9 +143,25 @@ module _ (rules : List Rule) (before : Map) (sound : IsSound before) where
     course = (refl, refl, refl);
     suited = tt;
     sound = stands_first before sound;
-    stands = record { map = same; history = history; costs = costs; group = subst (λ o. HasOpen o (start_of before)) (sym outside) (refl, refl) };
+    stands = record { map = same; history = λ _. history; costs = λ _. costs; group = subst (λ o. HasOpen o (start_of before)) (sym outside) (refl, refl) };
     least = omega arith;
     most = omega arith;
+  }
+
+  -- from here on the history may be needed no more
+  pub through_as : (stats : List Stat) (lines : List Outcome) (standing : Standing) (m : ArenaMap) (start steps : ℕ) (keeps : Bool) → (keeps ≡ true → standing.keeps ≡ true) → IsThrough rules before stats lines standing m start steps → IsThrough rules before stats lines (keeping keeps standing) m start steps
+  through_as stats lines standing m start steps keeps kept through = record {
+    told = through.told;
+    tells = through.tells;
+    state = through.state;
+    costs = through.costs;
+    bounds = through.bounds;
+    course = through.course;
+    suited = through.suited;
+    sound = through.sound;
+    stands = record { map = through.stands.map; history = λ e. through.stands.history (kept e); costs = λ e. through.stands.costs (kept e); group = through.stands.group };
+    least = through.least;
+    most = through.most;
   }
 
   -- ---- one statement more

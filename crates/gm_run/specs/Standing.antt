@@ -45,11 +45,25 @@ HasOpen opens.Nothing state = (state.history.group ≡ None) × (state.is_broken
 HasOpen opens.Whole state = (group : Group) × (state.history.group ≡ Some group) × (state.is_broken ≡ false)
 HasOpen opens.Broken state = (group : Group) × (state.history.group ≡ Some group) × (state.is_broken ≡ true)
 
+-- a statement that can't be run without what is kept of those before it
+abbrev pub NeedsHistory : Stat → Type 0
+NeedsHistory (statements.Apply line) = ⊥
+NeedsHistory (statements.Each mask rule params) = ⊥
+NeedsHistory _ = Unit {0}
+
+-- where the history is needed, it stands for this one
+abbrev pub Remembers : Standing → ArenaMap → History → Type 0
+Remembers standing m told = standing.keeps ≡ true → StandsFor standing.history m told
+
+-- and each entry of it may take so much
+abbrev pub MayGoBack : Standing → ℕ → Entries → Type 0
+MayGoBack standing dim entries = standing.keeps ≡ true → MayTake standing.history dim entries
+
 -- the arena has the state's map, and what is kept beside it is the rest of the state, with so much for each entry
 pub record StandsAt (standing : Standing) (m : ArenaMap) (state : State) (entries : Entries) : Type 0 where
   pub map : state.map ≡ as_map m
-  pub history : StandsFor standing.history m state.history
-  pub costs : MayTake standing.history m.schema.dim entries
+  pub history : Remembers standing m state.history
+  pub costs : MayGoBack standing m.schema.dim entries
   pub group : HasOpen standing.group state
 
 -- ---- a statement

@@ -9,14 +9,12 @@ use Rattle.gm_model.specs.Rules.{Rule}
 use Rattle.gm_model.specs.Runs.{Turn, Taken, Passed, IsLineOutcome, AreTurns, is_done_turn, is_passed, is_refused_turn, line_at}
 use Rattle.gm_arena.specs.ArenaAsMap.{as_map}
 use Rattle.gm_arena.specs.ArenaMap.{ArenaMap}
-use Rattle.gm_undo.specs.Costs.{MayTake}
-use Rattle.gm_undo.specs.Standing.{StandsFor}
 use Rattle.gm_run.specs.declared.each.Counts.{Counts}
 use Rattle.gm_run.specs.declared.outcome.Outcome.{Outcome}
 use Rattle.gm_run.specs.declared.outcome.Outcome.TheVariants as outcomes
 use Rattle.gm_run.specs.declared.standing.Standing.{Standing}
 use Rattle.gm_run.specs.Alike.{AreAlike}
-use Rattle.gm_run.specs.Standing.{HasLine, IsUnapplied, entered_by, told_behind}
+use Rattle.gm_run.specs.Standing.{HasLine, IsUnapplied, MayGoBack, Remembers, entered_by, told_behind}
 
 -- what is remembered in the group that began at the map, where so many applications of it were done
 abbrev pub within_turns : Map → History → ℕ → History
@@ -79,8 +77,8 @@ pub record HaveTurns (rules : List Rule) (rule : ℕ) (params : List Value) (bef
   pub costs : TurnCosts
   pub tallied : AreTallied rules rule params before leads turns costs (as_map m)
   pub tells : Tells counts turns
-  pub stands : StandsFor standing.history m (within_turns before history (count_by is_done_turn turns))
-  pub may_take : MayTake standing.history m.schema.dim (entered_turns entries (count_by is_done_turn turns) costs.done)
+  pub stands : Remembers standing m (within_turns before history (count_by is_done_turn turns))
+  pub may_take : MayGoBack standing m.schema.dim (entered_turns entries (count_by is_done_turn turns) costs.done)
   pub least : start + costs.least ≤ steps
   pub most : steps ≤ start + costs.most + length leads
 

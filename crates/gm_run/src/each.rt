@@ -9,11 +9,9 @@ ghost use Rattle.gm_model.specs.Runs.{State, line_at};
 ghost use Rattle.gm_arena.specs.ArenaAsMap.{as_map};
 ghost use Rattle.gm_theory.specs.Outcomes.{IsGoodEach, IsGoodLine};
 ghost use Rattle.gm_theory.specs.Suited.{IsRuleOf};
-ghost use Rattle.gm_undo.specs.Costs.{MayTake};
-ghost use Rattle.gm_undo.specs.Standing.{StandsFor};
 ghost use Rattle.gm_run.specs.declared.standing.Open.TheVariants as opens;
 ghost use Rattle.gm_run.specs.Progress.{rules_of, ArePlansFor};
-ghost use Rattle.gm_run.specs.Standing.{StandsAt, HasStep, IsStopped};
+ghost use Rattle.gm_run.specs.Standing.{StandsAt, HasStep, IsStopped, MayGoBack, Remembers};
 ghost use Rattle.gm_run.specs.Turns.{HasTurn, HaveTurns, StopsAtTurn, StopsWithin, counted, told_by, entered_by_turn, entered_turns};
 
 use crate::lines::{accepted, apply_rule};
@@ -46,6 +44,7 @@ pub(crate) fn run_each<L: Ledger>(
     ensures step { (state : State) (entries : Entries) → StandsAt standing.old arena.old state entries → MatchResult result
         (λ outcome. HasStep (rules_of plans.now) state entries (statements.Each mask rule params.now) outcome standing.new arena.new steps.old steps.new)
         (λ _. IsStopped (rules_of plans.now) state (statements.Each mask rule params.now) (as_map arena.new) steps.old steps.new) }
+    ensures keeps { standing.new.keeps ≡ standing.old.keeps }
     ensures rule { IsRuleOf arena.old.schema (rules_of plans.now) rule }
     ensures sound { IsSound (as_map arena.new) }
     ensures schema { arena.new.schema ≡ arena.old.schema }
@@ -54,9 +53,9 @@ pub(crate) fn run_each<L: Ledger>(
 {
     accepted(plans, rule, arena);
     let leads = leads(alloc, arena, mask, &mut standing.scratch, steps)?;
-    standing.history.begin(arena);
+    standing.begin_entry(arena);
     let counts = take_turns(alloc, plans, rule, params, &leads, arena, standing, steps)?;
-    standing.history.keep(arena);
+    standing.end_entry(arena);
     Ok(Outcome::Each {
         done: counts.done,
         refused: counts.refused,
@@ -111,10 +110,11 @@ fn take_turns<L: Ledger>(
     requires good { (d : ℕ) → IsGoodLine (rules_of plans.now) (line_at rule params.now d) }
     requires rule { IsRuleOf arena.old.schema (rules_of plans.now) rule }
     requires few { length leads.now + 1 < 2 ^ 32 }
-    requires stands { (told : definition.History) × StandsFor standing.old.history arena.old (begun_at (as_map arena.old) told) }
-    ensures turns { (told : definition.History) (entries : Entries) → StandsFor standing.old.history arena.old (begun_at (as_map arena.old) told) → MayTake standing.old.history arena.old.schema.dim (entered_turns entries 0 0) → MatchResult result
+    requires stands { (told : definition.History) × Remembers standing.old arena.old (begun_at (as_map arena.old) told) }
+    ensures turns { (told : definition.History) (entries : Entries) → Remembers standing.old arena.old (begun_at (as_map arena.old) told) → MayGoBack standing.old arena.old.schema.dim (entered_turns entries 0 0) → MatchResult result
         (λ counts. HaveTurns (rules_of plans.now) rule params.now (as_map arena.old) told entries leads.now counts standing.new arena.new steps.old steps.new)
         (λ _. StopsWithin (rules_of plans.now) rule params.now (as_map arena.old) leads.now (as_map arena.new) steps.old steps.new) }
+    ensures keeps { standing.new.keeps ≡ standing.old.keeps }
     ensures group { standing.new.group ≡ standing.old.group }
     ensures sound { IsSound (as_map arena.new) }
     ensures schema { arena.new.schema ≡ arena.old.schema }
@@ -147,13 +147,14 @@ fn take_turn<L: Ledger>(
     requires sound { IsSound (as_map arena.old) }
     requires plans { ArePlansFor arena.old.schema plans.now }
     requires good { IsGoodLine (rules_of plans.now) (line_at rule params.now lead) }
-    requires stands { (told : definition.History) × StandsFor standing.old.history arena.old told }
+    requires stands { (told : definition.History) × Remembers standing.old arena.old told }
     ensures turn { MatchResult result
         (λ turn. HasTurn (rules_of plans.now) rule params.now (as_map arena.old) lead turn (as_map arena.new) steps.old steps.new)
         (λ _. StopsAtTurn (rules_of plans.now) rule params.now (as_map arena.old) lead (as_map arena.new) steps.old steps.new) }
-    ensures history { (told : definition.History) → StandsFor standing.old.history arena.old told → IfOk result (λ turn. StandsFor standing.new.history arena.new (told_by turn (as_map arena.old) told)) }
-    ensures entries { (told : definition.History) (entries : Entries) (most : ℕ) → StandsFor standing.old.history arena.old told → MayTake standing.old.history arena.old.schema.dim entries
-        → IsLineBudget (rules_of plans.now) (as_map arena.old) (line_at rule params.now lead) most → IfOk result (λ turn. MayTake standing.new.history arena.new.schema.dim (entered_by_turn turn told.group most entries)) }
+    ensures history { (told : definition.History) → Remembers standing.old arena.old told → IfOk result (λ turn. Remembers standing.new arena.new (told_by turn (as_map arena.old) told)) }
+    ensures entries { (told : definition.History) (entries : Entries) (most : ℕ) → Remembers standing.old arena.old told → MayGoBack standing.old arena.old.schema.dim entries
+        → IsLineBudget (rules_of plans.now) (as_map arena.old) (line_at rule params.now lead) most → IfOk result (λ turn. MayGoBack standing.new arena.new.schema.dim (entered_by_turn turn told.group most entries)) }
+    ensures keeps { standing.new.keeps ≡ standing.old.keeps }
     ensures group { standing.new.group ≡ standing.old.group }
     ensures sound { IsSound (as_map arena.new) }
     ensures schema { arena.new.schema ≡ arena.old.schema }

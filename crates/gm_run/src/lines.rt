@@ -10,11 +10,9 @@ ghost use Rattle.gm_arena.specs.ArenaAsMap.{as_map};
 ghost use Rattle.gm_arena.specs.Lawful.{IsLawful};
 ghost use Rattle.gm_theory.specs.Outcomes.{IsGoodLine};
 ghost use Rattle.gm_theory.specs.Suited.{IsRuleOf};
-ghost use Rattle.gm_undo.specs.Costs.{MayTake};
-ghost use Rattle.gm_undo.specs.Standing.{StandsFor};
 ghost use Rattle.gm_run.specs.declared.outcome.Outcome.TheVariants as outcomes;
 ghost use Rattle.gm_run.specs.Progress.{rules_of, ArePlansFor};
-ghost use Rattle.gm_run.specs.Standing.{StandsAt, HasStep, HasLine, IsStopped, IsUnapplied, entered_by, group_behind, line_of, told_behind};
+ghost use Rattle.gm_run.specs.Standing.{StandsAt, HasStep, HasLine, IsStopped, IsUnapplied, MayGoBack, Remembers, entered_by, group_behind, line_of, told_behind};
 
 use crate::outcome::Outcome;
 use crate::standing::{Open, Standing};
@@ -42,6 +40,7 @@ pub(crate) fn run_line<L: Ledger>(
     ensures step { (state : State) (entries : Entries) → StandsAt standing.old arena.old state entries → MatchResult result
         (λ outcome. HasStep (rules_of plans.now) state entries (statements.Apply line.now) outcome standing.new arena.new steps.old steps.new)
         (λ _. IsStopped (rules_of plans.now) state (statements.Apply line.now) (as_map arena.new) steps.old steps.new) }
+    ensures keeps { standing.new.keeps ≡ standing.old.keeps }
     ensures rule { IsRuleOf arena.old.schema (rules_of plans.now) line.now.rule }
     ensures sound { IsSound (as_map arena.new) }
     ensures schema { arena.new.schema ≡ arena.old.schema }
@@ -85,13 +84,14 @@ pub(crate) fn apply_rule<L: Ledger>(
     requires sound { IsSound (as_map arena.old) }
     requires plans { ArePlansFor arena.old.schema plans.now }
     requires good { IsGoodLine (rules_of plans.now) (line_of rule hooks.now params.now) }
-    requires stands { (told : definition.History) × StandsFor standing.old.history arena.old told }
+    requires stands { (told : definition.History) × Remembers standing.old arena.old told }
     ensures line { MatchResult result
         (HasLine (rules_of plans.now) (as_map arena.old) (line_of rule hooks.now params.now) (as_map arena.new) steps.old steps.new)
         (λ _. IsUnapplied (rules_of plans.now) (as_map arena.old) (line_of rule hooks.now params.now) (as_map arena.new) steps.old steps.new) }
-    ensures history { (told : definition.History) → StandsFor standing.old.history arena.old told → IfOk result (λ outcome. StandsFor standing.new.history arena.new (told_behind outcome (as_map arena.old) told)) }
-    ensures entries { (told : definition.History) (entries : Entries) (most : ℕ) → StandsFor standing.old.history arena.old told → MayTake standing.old.history arena.old.schema.dim entries
-        → IsLineBudget (rules_of plans.now) (as_map arena.old) (line_of rule hooks.now params.now) most → IfOk result (λ outcome. MayTake standing.new.history arena.new.schema.dim (entered_by outcome told.group most entries)) }
+    ensures history { (told : definition.History) → Remembers standing.old arena.old told → IfOk result (λ outcome. Remembers standing.new arena.new (told_behind outcome (as_map arena.old) told)) }
+    ensures entries { (told : definition.History) (entries : Entries) (most : ℕ) → Remembers standing.old arena.old told → MayGoBack standing.old arena.old.schema.dim entries
+        → IsLineBudget (rules_of plans.now) (as_map arena.old) (line_of rule hooks.now params.now) most → IfOk result (λ outcome. MayGoBack standing.new arena.new.schema.dim (entered_by outcome told.group most entries)) }
+    ensures keeps { standing.new.keeps ≡ standing.old.keeps }
     ensures group { standing.new.group ≡ standing.old.group }
     ensures sound { IsSound (as_map arena.new) }
     ensures schema { arena.new.schema ≡ arena.old.schema }
@@ -100,12 +100,7 @@ pub(crate) fn apply_rule<L: Ledger>(
 {
     let plan = &plans[rule as usize];
     prove!(plan.hooks() as usize == hooks.len());
-    let Standing {
-        history,
-        scratch,
-        ..
-    } = standing;
-    match history.apply(alloc, plan, arena, hooks, params, scratch, steps) {
+    match standing.apply(alloc, plan, arena, hooks, params, steps) {
         Ok(applied) => Ok(Outcome::Done(applied)),
         Err(refusal) => refused(refusal),
     }

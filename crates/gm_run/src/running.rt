@@ -1,5 +1,6 @@
 //! A run: the statements of a script, one after another.
-ghost use Rattle.std.specs.Prelude.{◌≡◌, ℕ, ◌+◌, ◌≤◌, false, All, IfOk, IfErr, List, MatchResult};
+ghost use Rattle.std.specs.Prelude.{◌≡◌, ℕ, ◌+◌, ◌<◌, ◌≤◌, true, false, All, IfOk, IfErr, List, MatchResult, Some, slice_get};
+ghost use Rattle.gm_model.specs.declared.script.Stat.{Stat};
 ghost use Rattle.gm_model.specs.Budgets.{Bounds, Entries, no_entries, IsRunWithin};
 ghost use Rattle.gm_model.specs.Maps.{IsDart, IsSound};
 ghost use Rattle.gm_model.specs.Orbits.{HasCount};
@@ -12,7 +13,7 @@ ghost use Rattle.gm_run.specs.Alike.{AreAlike};
 ghost use Rattle.gm_run.specs.Lines.{Tells};
 ghost use Rattle.gm_run.specs.Printing.{CanBePrinted};
 ghost use Rattle.gm_run.specs.Progress.{rules_of, ArePlansFor, IsCutShort};
-ghost use Rattle.gm_run.specs.Standing.{StandsAt, HasStep, IsAllowed, IsStopped};
+ghost use Rattle.gm_run.specs.Standing.{StandsAt, HasStep, IsAllowed, IsStopped, NeedsHistory};
 
 use crate::each::run_each;
 use crate::lines::run_line;
@@ -64,7 +65,9 @@ pub fn run<L: Ledger>(
     ensures reserved_stays { arena.old.reserved ≤ arena.new.reserved }
 {
     let stats = script.stats.as_slice();
+    let needing = needing(stats);
     let mut standing = Standing {
+        keeps: true,
         history: History::new(alloc),
         group: Open::Nothing,
         scratch: Scratch::new(alloc),
@@ -73,6 +76,7 @@ pub fn run<L: Ledger>(
     prove!(arena.count() <= MOST_DARTS);
     let mut outcomes = Vec::with_capacity(alloc, stats.len())?;
     for stat in stats {
+        standing.keeps = outcomes.len() < needing;
         let outcome = stat_outcome(alloc, plans, stat, arena, &mut standing, steps)?;
         outcomes.push_reserved(outcome);
     }
@@ -81,6 +85,29 @@ pub fn run<L: Ledger>(
         darts: arena.count(),
         next: arena.next(),
     })
+}
+
+/// So many statements there are up to the last one that needs what is kept of those before it. The
+/// applications behind it needn't be kept.
+fn needing(stats: &[Stat]) -> usize
+    ensures { (k : ℕ) (stat : Stat) → slice_get stats.now k ≡ Some stat → NeedsHistory stat → k < result }
+{
+    for index in (0..stats.len()).rev() {
+        if needs_history(&stats[index]) {
+            return index + 1;
+        }
+    }
+    0
+}
+
+/// Whether the statement goes back or on, or stands for that at the end of its group.
+fn needs_history(stat: &Stat) -> bool
+    ensures { result ≡ false → NeedsHistory stat.now → ⊥ }
+{
+    match stat {
+        Stat::Apply(_) | Stat::Each { .. } => false,
+        Stat::Undo | Stat::Redo | Stat::Group | Stat::End => true,
+    }
 }
 
 /// Runs one statement.
@@ -97,9 +124,11 @@ fn stat_outcome<L: Ledger>(
     requires good { IsGoodStat (rules_of plans.now) arena.old.schema.dim stat.now }
     requires stands { (state : State) × (entries : Entries) × StandsAt standing.old arena.old state entries }
     requires allowed { IsAllowed standing.old.group stat.now }
+    requires needs { NeedsHistory stat.now → standing.old.keeps ≡ true }
     ensures step { (state : State) (entries : Entries) → StandsAt standing.old arena.old state entries → MatchResult result
         (λ outcome. HasStep (rules_of plans.now) state entries stat.now outcome standing.new arena.new steps.old steps.new)
         (λ _. IsStopped (rules_of plans.now) state stat.now (as_map arena.new) steps.old steps.new) }
+    ensures keeps { standing.new.keeps ≡ standing.old.keeps }
     ensures suited { IsSuited arena.old.schema (rules_of plans.now) stat.now }
     ensures sound { IsSound (as_map arena.new) }
     ensures schema { arena.new.schema ≡ arena.old.schema }

@@ -1,4 +1,4 @@
-use Rattle.std.proofs.Common.{◌≡◌, ◌+◌, ◌<◌, length, refl, sym, subst, ◌∙◌, arith}
+use Rattle.std.proofs.Common.{refl, sym, subst, ◌∙◌, arith}
 use Rattle.std.proofs.lemmas.Result.{err_from_is_err_and}
 use Rattle.gm_arena.specs.ArenaAsMap.{as_map}
 use Rattle.gm_arena.proofs.Keys.{darts_counted}
@@ -10,8 +10,8 @@ use Rattle.gm_run.proofs.EachSteps.{each_step, each_stopped, few_leads, group_is
 use Rattle.gm_run.proofs.Stepping.{outside_of}
 use Rattle.gm_run.proofs.each.run_each.Goals as goal
 
-pub begin-requires : goal.begin-requires
-begin-requires g c = record { stands = outside_of c.args.arena.now c.args.standing.now c.requires.stands c.requires.outside }
+pub begin_entry-requires : goal.begin_entry-requires
+begin_entry-requires g c = record { stands = outside_of c.args.arena.now c.args.standing.now c.requires.stands c.requires.outside }
 
 pub take_turns-requires-clause-few : goal.take_turns-requires-clause-few
 take_turns-requires-clause-few g c =
@@ -20,16 +20,16 @@ take_turns-requires-clause-few g c =
     omega (arith, few, darts)
 
 pub take_turns-requires-clause-stands : goal.take_turns-requires-clause-stands
-take_turns-requires-clause-stands g c = let out = outside_of c.args.arena.now c.args.standing.now c.requires.stands c.requires.outside in (out.0, c.begin.ensures.history out.0 out.1)
+take_turns-requires-clause-stands g c = let out = outside_of c.args.arena.now c.args.standing.now c.requires.stands c.requires.outside in (out.0, c.begin_entry.ensures.history out.0 out.1)
 
-pub keep-requires : goal.keep-requires
-keep-requires g c = record {
+pub end_entry-requires : goal.end_entry-requires
+end_entry-requires g c = record {
   stands =
       let from = as_map c.args.arena.now in
       let state = c.requires.stands.0 in
       let entries = c.requires.stands.1 in
       let stands = c.requires.stands.2 in
-      let have = c.in_ok-counts.ensures.turns state.history entries (c.begin.ensures.history state.history stands.history) (c.begin.ensures.entries entries stands.costs) in
+      let have = c.in_ok-counts.ensures.turns state.history entries (c.begin_entry.ensures.history state.history stands.history) (c.begin_entry.ensures.entries entries stands.costs) in
       let done = count_by is_done_turn have.turns in
       (within_turns from state.history done, group_within from done, have.stands, group_is from state.history done);
 }
@@ -47,11 +47,11 @@ returns-in_err-counts-clause-step g c state entries stands =
     rw p.1
     (each_stopped c.args.arena.now.schema (rules_of c.args.plans.now) c.args.mask c.args.rule c.args.params.now c.requires.good c.args.arena.now c.accepted.ensures.lawful refl (record { schema_is = refl; sound = c.requires.sound }) c.args.standing.now state entries stands c.requires.outside
     c.deref.result.now (subst (AreLeads (as_map c.args.arena.now) c.args.mask) (sym c.deref.ensures.value) c.in_ok-leads.ensures.leads) c.args.steps.now c.leads.new.steps c.in_ok-leads.ensures.cost c.in_ok-leads.ensures.least c.accepted.ensures.rule
-    (as_map c.take_turns.new.arena) c.take_turns.new.steps (c.in_err-counts.ensures.turns state.history entries (c.begin.ensures.history state.history stands.history) (c.begin.ensures.entries entries stands.costs)))
+    (as_map c.take_turns.new.arena) c.take_turns.new.steps (c.in_err-counts.ensures.turns state.history entries (c.begin_entry.ensures.history state.history stands.history) (c.begin_entry.ensures.entries entries stands.costs)))
 
 pub returns-clause-step : goal.returns-clause-step
 returns-clause-step g c state entries stands =
     each_step c.args.arena.now.schema (rules_of c.args.plans.now) c.args.mask c.args.rule c.args.params.now c.requires.good c.args.arena.now c.accepted.ensures.lawful refl (record { schema_is = refl; sound = c.requires.sound }) c.args.standing.now state entries stands c.requires.outside
     c.deref.result.now (subst (AreLeads (as_map c.args.arena.now) c.args.mask) (sym c.deref.ensures.value) c.in_ok-leads.ensures.leads) c.args.steps.now c.leads.new.steps c.in_ok-leads.ensures.cost c.in_ok-leads.ensures.least
-    c.in_ok-counts.counts c.take_turns.new.standing (record { history = c.keep.new.self; group = c.take_turns.new.standing.group; scratch = c.take_turns.new.standing.scratch }) c.take_turns.new.arena c.take_turns.new.steps
-    (c.in_ok-counts.ensures.turns state.history entries (c.begin.ensures.history state.history stands.history) (c.begin.ensures.entries entries stands.costs)) c.in_ok-counts.ensures.schema c.keep.ensures.history c.keep.ensures.entries c.in_ok-counts.ensures.group
+    c.in_ok-counts.counts c.take_turns.new.standing c.end_entry.new.self c.take_turns.new.arena c.take_turns.new.steps
+    (c.in_ok-counts.ensures.turns state.history entries (c.begin_entry.ensures.history state.history stands.history) (c.begin_entry.ensures.entries entries stands.costs)) c.in_ok-counts.ensures.schema c.end_entry.ensures.history c.end_entry.ensures.entries (c.end_entry.ensures.group ∙ c.in_ok-counts.ensures.group ∙ c.begin_entry.ensures.group)

@@ -1,10 +1,9 @@
-use Rattle.std.proofs.Common.{◌≡◌, ◌+◌, ◌≤◌, [], take, refl, sym, subst, ◌∙◌, arith}
+use Rattle.std.proofs.Common.{◌+◌, take, refl, sym, subst, ◌∙◌, arith}
 use Rattle.std.proofs.lemmas.Result.{err_from_is_err_and}
 use Rattle.gm_model.specs.Histories.{begun_at}
 use Rattle.gm_arena.specs.ArenaAsMap.{as_map}
-use Rattle.gm_theory.specs.Suited.{IsRuleOf}
 use Rattle.gm_run.specs.Progress.{rules_of, ArePlansFor}
-use Rattle.gm_run.specs.Turns.{HaveTurns, counted, told_by}
+use Rattle.gm_run.specs.Turns.{HaveTurns, told_by}
 use Rattle.gm_run.proofs.EachSteps.{counted_sum, no_turns, stops_at, turns_all, turns_more}
 use Rattle.gm_run.proofs.each.take_turns.Goals as goal
 
@@ -26,6 +25,7 @@ loop-lead-init g c = record {
   schema = refl;
   spare = omega arith;
   reserved = omega arith;
+  keeps = refl;
   group = refl;
   sum = refl;
   stands = (begun_at (as_map c.args.arena.now) c.requires.stands.0, c.requires.stands.1);
@@ -46,6 +46,7 @@ loop-lead-preserved g c =
       schema = last.schema ∙ before.schema;
       spare = omega (arith, spare, so_far);
       reserved = omega (arith, reserved, names);
+      keeps = last.keeps ∙ before.keeps;
       group = last.group ∙ before.group;
       sum = counted_sum c.loop-lead.counts c.in_ok-turn.turn c.loop-lead.lead-index c.counted-counts.result c.counted-counts.ensures before.sum;
       stands = (told_by c.in_ok-turn.turn (as_map c.loop-lead.arena) before.stands.0, last.history before.stands.0 before.stands.1);

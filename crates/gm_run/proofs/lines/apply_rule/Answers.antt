@@ -1,6 +1,7 @@
 use Rattle.std.proofs.Common.{refl}
-use Rattle.gm_run.specs.Standing.{line_of}
-use Rattle.gm_run.proofs.Advancing.{named, hooks_fit, params_fit, plan_for, line_done, line_refused, line_budget_of}
+use Rattle.gm_run.specs.Standing.{MayGoBack, line_of}
+use Rattle.gm_run.proofs.Advancing.{hooks_fit, params_fit, plan_for, line_done, line_refused, line_budget_of}
+use Rattle.gm_run.proofs.Stepping.{entries_refused}
 use Rattle.gm_run.proofs.lines.apply_rule.Goals as goal
 
 pub apply-requires-clause-schema : goal.apply-requires-clause-schema
@@ -23,3 +24,8 @@ returns-in-Ok-clause-entries g c told entries most stands costs budget =
 pub returns-in-Err-clause-line : goal.returns-in-Err-clause-line
 returns-in-Err-clause-line g c =
     line_refused c.args.plans.now c.args.arena.now c.apply.new.arena (line_of c.args.rule c.args.hooks.now c.args.params.now) c.index-plans-rule.result c.requires.good c.index-plans-rule.is c.args.steps.now c.apply.new.steps c.in-Err.ensures.most c.in-Err.refusal c.refused.result c.refused.ensures c.in-Err.ensures.outcome c.in-Err.ensures.rises
+
+pub returns-in-Err-clause-entries : goal.returns-in-Err-clause-entries
+returns-in-Err-clause-entries g c told entries most remembers costs budget =
+    entries_refused c.refused.result c.in-Err.refusal (MayGoBack c.apply.new.self c.apply.new.arena.schema.dim) told.group most entries c.refused.ensures
+    (c.in-Err.ensures.entries told entries most remembers costs (line_budget_of c.args.plans.now c.args.arena.now (line_of c.args.rule c.args.hooks.now c.args.params.now) c.index-plans-rule.result c.requires.good c.index-plans-rule.is most budget))

@@ -1,12 +1,8 @@
-use Rattle.std.proofs.Common.{◌≡◌, rules, refl, ap, sym, subst, ap₂, ◌∙◌}
+use Rattle.std.proofs.Common.{◌≡◌, refl, ap, sym, subst, ap₂, ◌∙◌}
 use Rattle.std.proofs.lemmas.Result.{err_from_is_err_and}
-use Rattle.gm_model.specs.declared.script.Line.{Line}
 use Rattle.gm_model.specs.Budgets.{IsLineBudget}
 use Rattle.gm_arena.specs.ArenaAsMap.{as_map}
 use Rattle.gm_theory.specs.Outcomes.{IsGoodLine, IsSoundOf}
-use Rattle.gm_theory.proofs.TurnsFound.{line_costs, line_found}
-use Rattle.gm_run.specs.declared.outcome.Outcome.TheVariants as outcomes
-use Rattle.gm_run.specs.declared.standing.Open.TheVariants as opens
 use Rattle.gm_run.specs.declared.standing.Standing.{Standing}
 use Rattle.gm_run.specs.Progress.{rules_of}
 use Rattle.gm_run.specs.Standing.{HasLine, IsUnapplied, group_behind, line_of}
@@ -42,7 +38,7 @@ returns-clause-step g c state entries stands =
     let line = c.args.line.now in
     let same : line_of line.rule c.as_slice-hooks.result.now c.as_slice-params.result.now ≡ line = ap₂ (line_of line.rule) c.as_slice-hooks.ensures c.as_slice-params.ensures in
     let budget = budget_of rules line c.args.arena.now c.accepted.ensures.rule c.requires.sound c.requires.good in
-    let new : Standing = record { history = c.apply_rule.new.standing.history; group = c.behind-standing.result; scratch = c.apply_rule.new.standing.scratch } in
+    let new : Standing = record { keeps = c.apply_rule.new.standing.keeps; history = c.apply_rule.new.standing.history; group = c.behind-standing.result; scratch = c.apply_rule.new.standing.scratch } in
     applies rules line c.args.arena.now c.apply_rule.new.arena c.args.standing.now new state entries c.args.steps.now c.apply_rule.new.steps stands (c.is_broken.ensures.whole c.if-is_broken.false) budget c.in_ok-outcome.outcome
     (subst (λ l. HasLine rules (as_map c.args.arena.now) l (as_map c.apply_rule.new.arena) c.args.steps.now c.apply_rule.new.steps c.in_ok-outcome.outcome) same c.in_ok-outcome.ensures.line)
     (c.in_ok-outcome.ensures.history state.history stands.history)

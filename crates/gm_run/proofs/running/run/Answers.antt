@@ -1,5 +1,7 @@
-use Rattle.std.proofs.Common.{false, drop, ◌+◌, ◌≤◌, List, [], All, length, take, refl, rules, ap, sym, subst, ◌∙◌, arith}
+use Rattle.std.proofs.Common.{false, true, ltb, Some, drop, ◌+◌, ◌≤◌, List, [], All, length, take, refl, rules, ap, sym, subst, ◌∙◌, arith}
+use Rattle.std.proofs.lemmas.Bool.{false≢true}
 use Rattle.std.proofs.lemmas.List.{length_push}
+use Rattle.std.proofs.lemmas.Option.{slice_get-get_or}
 use Rattle.std.proofs.lemmas.Result.{err_from_is_err_and}
 use Rattle.gm_model.specs.declared.schema.Schema.{Schema}
 use Rattle.gm_model.specs.Budgets.{Bounds, no_entries, IsRunWithin}
@@ -16,7 +18,7 @@ use Rattle.gm_run.specs.declared.standing.Open.TheVariants as opens
 use Rattle.gm_run.specs.Progress.{rules_of, ArePlansFor, IsCutShort}
 use Rattle.gm_run.proofs.Sayable.{run_can_be_printed}
 use Rattle.gm_run.proofs.Advancing.{never_more}
-use Rattle.gm_run.proofs.Through.{IsThrough, allowed, cut_first, is_open, next_of, none_through, order_on, run_bounds, run_least, run_most, run_only, run_told, stat_cut, stat_through, through_all}
+use Rattle.gm_run.proofs.Through.{IsThrough, allowed, cut_first, is_kept, is_open, keeping, next_of, none_through, past_needing, still_kept, through_as, order_on, run_bounds, run_least, run_most, run_only, run_told, stat_cut, stat_through, through_all}
 use Rattle.gm_run.proofs.running.run.Goals as goal
 
 -- ---- the loop
@@ -34,7 +36,16 @@ stat_outcome-requires-clause-good g c =
     (subst (λ stats. All (IsGoodStat (rules_of c.args.plans.now) c.args.arena.now.schema.dim) stats) (sym c.as_slice-stats.ensures) c.requires.good c.loop-stat.stat-index c.stat-item.result c.loop-stat-test.true))
 
 pub stat_outcome-requires-clause-stands : goal.stat_outcome-requires-clause-stands
-stat_outcome-requires-clause-stands g c = let through = c.loop-stat.invariant.through in (through.state, through.costs, through.stands)
+stat_outcome-requires-clause-stands g c =
+    let keeps = ltb c.len.result c.needing-needing.result in
+    let through = through_as (rules_of c.args.plans.now) (as_map c.args.arena.now) c.requires.sound (take c.loop-stat.stat-index c.as_slice-stats.result.now) c.loop-stat.outcomes.items c.loop-stat.standing c.loop-stat.arena c.args.steps.now c.loop-stat.steps keeps
+    (still_kept c.loop-stat.standing.keeps c.len.result c.loop-stat.stat-index c.needing-needing.result (c.len.ensures ∙ c.loop-stat.outcomes.ok.0 ∙ c.loop-stat.invariant.long) c.loop-stat.invariant.kept) c.loop-stat.invariant.through in
+    (through.state, through.costs, through.stands)
+
+pub stat_outcome-requires-clause-needs : goal.stat_outcome-requires-clause-needs
+stat_outcome-requires-clause-needs g c needs =
+    is_kept c.len.result c.loop-stat.stat-index c.needing-needing.result (c.len.ensures ∙ c.loop-stat.outcomes.ok.0 ∙ c.loop-stat.invariant.long)
+    (c.needing-needing.ensures c.loop-stat.stat-index c.stat-item.result (slice_get-get_or c.as_slice-stats.result.now c.loop-stat.stat-index c.stat-item.result c.loop-stat-test.true ∙ ap Some (sym c.stat-item.is)) needs)
 
 pub stat_outcome-requires-clause-allowed : goal.stat_outcome-requires-clause-allowed
 stat_outcome-requires-clause-allowed g c =
@@ -54,15 +65,19 @@ loop-stat-init g c =
       reserved = omega arith;
       long = ap length items;
       capacity = search rules;
+      kept = λ e. absurd (false≢true (sym e));
       order = subst (AreInOrder false) (sym c.as_slice-stats.ensures) c.requires.order;
-      through = subst (λ lines. IsThrough (rules_of c.args.plans.now) (as_map c.args.arena.now) [] lines (record { history = c.new.result; group = opens.Nothing; scratch = c.new-2.result }) c.args.arena.now c.args.steps.now c.args.steps.now) (sym items)
-          (none_through (rules_of c.args.plans.now) (as_map c.args.arena.now) c.requires.sound (record { history = c.new.result; group = opens.Nothing; scratch = c.new-2.result }) c.args.arena.now c.args.steps.now refl
+      through = subst (λ lines. IsThrough (rules_of c.args.plans.now) (as_map c.args.arena.now) [] lines (record { keeps = true; history = c.new.result; group = opens.Nothing; scratch = c.new-2.result }) c.args.arena.now c.args.steps.now c.args.steps.now) (sym items)
+          (none_through (rules_of c.args.plans.now) (as_map c.args.arena.now) c.requires.sound (record { keeps = true; history = c.new.result; group = opens.Nothing; scratch = c.new-2.result }) c.args.arena.now c.args.steps.now refl
           (c.new.ensures.history c.args.arena.now c.count.ensures.lawful c.requires.sound) (c.new.ensures.entries c.args.arena.now.schema.dim) refl);
     }
 
 pub loop-stat-preserved : goal.loop-stat-preserved
 loop-stat-preserved g c =
     let before = c.loop-stat.invariant in
+    let keeps = ltb c.len.result c.needing-needing.result in
+    let through = through_as (rules_of c.args.plans.now) (as_map c.args.arena.now) c.requires.sound (take c.loop-stat.stat-index c.as_slice-stats.result.now) c.loop-stat.outcomes.items c.loop-stat.standing c.loop-stat.arena c.args.steps.now c.loop-stat.steps keeps
+    (still_kept c.loop-stat.standing.keeps c.len.result c.loop-stat.stat-index c.needing-needing.result (c.len.ensures ∙ c.loop-stat.outcomes.ok.0 ∙ c.loop-stat.invariant.long) c.loop-stat.invariant.kept) c.loop-stat.invariant.through in
     let items = c.push_reserved.ensures.items in
     let long = before.long in
     let room = before.capacity in
@@ -74,15 +89,16 @@ loop-stat-preserved g c =
       reserved = let more = c.in_ok-outcome.ensures.reserved_stays in let so_far = before.reserved in omega (arith, more, so_far);
       long = omega (arith, ap length items, length_push c.loop-stat.outcomes.items c.in_ok-outcome.outcome, long);
       capacity = omega (arith, room, same);
-      order = order_on (rules_of c.args.plans.now) (as_map c.args.arena.now) c.requires.sound c.as_slice-stats.result.now c.loop-stat.stat-index c.loop-stat.outcomes.items c.loop-stat.standing c.stat_outcome.new.standing c.loop-stat.arena c.stat_outcome.new.arena
-          c.args.steps.now c.loop-stat.steps c.stat_outcome.new.steps before.through c.stat-item.result c.loop-stat-test.true c.stat-item.is
+      kept = λ e. past_needing c.len.result c.loop-stat.stat-index c.needing-needing.result (c.len.ensures ∙ c.loop-stat.outcomes.ok.0 ∙ before.long) (sym c.in_ok-outcome.ensures.keeps ∙ e);
+      order = order_on (rules_of c.args.plans.now) (as_map c.args.arena.now) c.requires.sound c.as_slice-stats.result.now c.loop-stat.stat-index c.loop-stat.outcomes.items (keeping keeps c.loop-stat.standing) c.stat_outcome.new.standing c.loop-stat.arena c.stat_outcome.new.arena
+          c.args.steps.now c.loop-stat.steps c.stat_outcome.new.steps through c.stat-item.result c.loop-stat-test.true c.stat-item.is
           (subst (λ schema. IsSuited schema (rules_of c.args.plans.now) c.stat-item.result) before.schema c.in_ok-outcome.ensures.suited) c.in_ok-outcome.outcome (drop (c.loop-stat.stat-index + 1) c.as_slice-stats.result.now)
-          (c.in_ok-outcome.ensures.step before.through.state before.through.costs before.through.stands)
+          (c.in_ok-outcome.ensures.step through.state through.costs through.stands)
           (subst (AreInOrder (is_open c.loop-stat.standing.group)) (next_of c.as_slice-stats.result.now c.loop-stat.stat-index c.stat-item.result c.loop-stat-test.true c.stat-item.is) before.order);
       through = subst (λ lines. IsThrough (rules_of c.args.plans.now) (as_map c.args.arena.now) (take (c.loop-stat.stat-index + 1) c.as_slice-stats.result.now) lines c.stat_outcome.new.standing c.stat_outcome.new.arena c.args.steps.now c.stat_outcome.new.steps) (sym items)
-          (stat_through (rules_of c.args.plans.now) (as_map c.args.arena.now) c.requires.sound c.as_slice-stats.result.now c.loop-stat.stat-index c.loop-stat.outcomes.items c.loop-stat.standing c.stat_outcome.new.standing c.loop-stat.arena c.stat_outcome.new.arena
-          c.args.steps.now c.loop-stat.steps c.stat_outcome.new.steps before.through c.stat-item.result c.loop-stat-test.true c.stat-item.is
-          (subst (λ schema. IsSuited schema (rules_of c.args.plans.now) c.stat-item.result) before.schema c.in_ok-outcome.ensures.suited) c.in_ok-outcome.outcome (c.in_ok-outcome.ensures.step before.through.state before.through.costs before.through.stands));
+          (stat_through (rules_of c.args.plans.now) (as_map c.args.arena.now) c.requires.sound c.as_slice-stats.result.now c.loop-stat.stat-index c.loop-stat.outcomes.items (keeping keeps c.loop-stat.standing) c.stat_outcome.new.standing c.loop-stat.arena c.stat_outcome.new.arena
+          c.args.steps.now c.loop-stat.steps c.stat_outcome.new.steps through c.stat-item.result c.loop-stat-test.true c.stat-item.is
+          (subst (λ schema. IsSuited schema (rules_of c.args.plans.now) c.stat-item.result) before.schema c.in_ok-outcome.ensures.suited) c.in_ok-outcome.outcome (c.in_ok-outcome.ensures.step through.state through.costs through.stands));
     }
 
 -- ---- memory is wanting
@@ -97,8 +113,10 @@ returns-in_err-outcome-clause-cut g c =
     let p = err_from_is_err_and c.from_residual-in_err-outcome.result c.from_residual-in_err-outcome.ensures.1 in
     let rules = rules_of c.args.plans.now in
     let before = as_map c.args.arena.now in
-    let through = c.loop-stat.invariant.through in
-    let cut = stat_cut rules before c.requires.sound c.as_slice-stats.result.now c.loop-stat.stat-index c.loop-stat.outcomes.items c.loop-stat.standing c.loop-stat.arena (as_map c.stat_outcome.new.arena) c.args.steps.now c.loop-stat.steps c.stat_outcome.new.steps
+    let keeps = ltb c.len.result c.needing-needing.result in
+    let through = through_as (rules_of c.args.plans.now) (as_map c.args.arena.now) c.requires.sound (take c.loop-stat.stat-index c.as_slice-stats.result.now) c.loop-stat.outcomes.items c.loop-stat.standing c.loop-stat.arena c.args.steps.now c.loop-stat.steps keeps
+    (still_kept c.loop-stat.standing.keeps c.len.result c.loop-stat.stat-index c.needing-needing.result (c.len.ensures ∙ c.loop-stat.outcomes.ok.0 ∙ c.loop-stat.invariant.long) c.loop-stat.invariant.kept) c.loop-stat.invariant.through in
+    let cut = stat_cut rules before c.requires.sound c.as_slice-stats.result.now c.loop-stat.stat-index c.loop-stat.outcomes.items (keeping keeps c.loop-stat.standing) c.loop-stat.arena (as_map c.stat_outcome.new.arena) c.args.steps.now c.loop-stat.steps c.stat_outcome.new.steps
     through c.stat-item.result c.loop-stat-test.true c.stat-item.is (c.in_err-outcome.ensures.step through.state through.costs through.stands) in
     rw p.1 (subst (λ stats. IsCutShort rules before stats (as_map c.stat_outcome.new.arena) c.args.steps.now c.stat_outcome.new.steps) c.as_slice-stats.ensures cut.short)
 
@@ -106,8 +124,10 @@ pub returns-in_err-outcome-clause-most : goal.returns-in_err-outcome-clause-most
 returns-in_err-outcome-clause-most g c =
     let rules = rules_of c.args.plans.now in
     let before = as_map c.args.arena.now in
-    let through = c.loop-stat.invariant.through in
-    let cut = stat_cut rules before c.requires.sound c.as_slice-stats.result.now c.loop-stat.stat-index c.loop-stat.outcomes.items c.loop-stat.standing c.loop-stat.arena (as_map c.stat_outcome.new.arena) c.args.steps.now c.loop-stat.steps c.stat_outcome.new.steps
+    let keeps = ltb c.len.result c.needing-needing.result in
+    let through = through_as (rules_of c.args.plans.now) (as_map c.args.arena.now) c.requires.sound (take c.loop-stat.stat-index c.as_slice-stats.result.now) c.loop-stat.outcomes.items c.loop-stat.standing c.loop-stat.arena c.args.steps.now c.loop-stat.steps keeps
+    (still_kept c.loop-stat.standing.keeps c.len.result c.loop-stat.stat-index c.needing-needing.result (c.len.ensures ∙ c.loop-stat.outcomes.ok.0 ∙ c.loop-stat.invariant.long) c.loop-stat.invariant.kept) c.loop-stat.invariant.through in
+    let cut = stat_cut rules before c.requires.sound c.as_slice-stats.result.now c.loop-stat.stat-index c.loop-stat.outcomes.items (keeping keeps c.loop-stat.standing) c.loop-stat.arena (as_map c.stat_outcome.new.arena) c.args.steps.now c.loop-stat.steps c.stat_outcome.new.steps
     through c.stat-item.result c.loop-stat-test.true c.stat-item.is (c.in_err-outcome.ensures.step through.state through.costs through.stands) in
     subst (λ stats. (os : List runs.Outcome) (end : State) (bounds : Bounds) → IsRunWithin rules (start_of before) no_entries stats os end bounds → c.stat_outcome.new.steps ≤ c.args.steps.now + bounds.most) c.as_slice-stats.ensures cut.most
 

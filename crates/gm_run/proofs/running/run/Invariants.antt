@@ -1,4 +1,4 @@
-use Rattle.std.proofs.Common.{◌≡◌, ◌+◌, ◌≤◌, drop, length, take, vec_capacity}
+use Rattle.std.proofs.Common.{◌≡◌, ◌+◌, ◌≤◌, false, drop, length, take, vec_capacity}
 use Rattle.gm_model.specs.Maps.{IsSound}
 use Rattle.gm_model.specs.Runs.{AreInOrder}
 use Rattle.gm_arena.specs.ArenaAsMap.{as_map}
@@ -14,6 +14,7 @@ invariant-loop-stat g l = record {
   reserved : l.fn.arena.reserved ≤ l.arena.reserved;
   long : length l.outcomes.items ≡ l.stat-index;
   capacity : length l.stats ≤ vec_capacity l.outcomes;
+  kept : l.standing.keeps ≡ false → l.needing ≤ l.stat-index;
   order : AreInOrder (is_open l.standing.group) (drop l.stat-index l.stats);
   through : IsThrough (rules_of l.plans) (as_map l.fn.arena) (take l.stat-index l.stats) l.outcomes.items l.standing l.arena l.fn.steps l.steps;
 }

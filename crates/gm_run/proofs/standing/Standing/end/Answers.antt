@@ -4,21 +4,21 @@ use Rattle.gm_run.proofs.Stepping.{inside_of, open_broken, open_group, was_dropp
 use Rattle.gm_run.proofs.standing.Standing.end.Goals as goal
 
 pub take_back-requires : goal.take_back-requires
-take_back-requires g c = record { stands = inside_of c.args.arena.now c.args.self.now c.requires.stands c.requires.inside }
+take_back-requires g c = record { stands = inside_of c.args.arena.now c.args.self.now c.requires.keeps c.requires.stands c.requires.inside }
 
 pub keep-requires : goal.keep-requires
-keep-requires g c = record { stands = inside_of c.args.arena.now c.args.self.now c.requires.stands c.requires.inside }
+keep-requires g c = record { stands = inside_of c.args.arena.now c.args.self.now c.requires.keeps c.requires.stands c.requires.inside }
 
 pub returns-then-is_broken-clause-step : goal.returns-then-is_broken-clause-step
 returns-then-is_broken-clause-step g c rules state entries stands =
     let group = open_group c.args.self.now.group state c.requires.inside stands.group in
     let broken = open_broken c.args.self.now.group state (c.is_broken-is_broken.ensures.broken c.if-is_broken.true) stands.group in
-    was_dropped rules c.args.arena.now c.take_back.new.arena c.args.self.now (record { history = c.take_back.new.self; group = opens.Nothing; scratch = c.args.self.now.scratch }) state entries c.args.steps.now c.take_back.new.steps stands refl
-    group.0 group.1 broken (c.take_back.ensures.map state.history group.0 stands.history group.1) (c.take_back.ensures.history state.history stands.history) (c.take_back.ensures.entries entries stands.costs) c.take_back.ensures.rises (c.take_back.ensures.most entries stands.costs)
+    was_dropped rules c.args.arena.now c.take_back.new.arena c.args.self.now (record { keeps = c.args.self.now.keeps; history = c.take_back.new.self; group = opens.Nothing; scratch = c.args.self.now.scratch }) state entries c.args.steps.now c.take_back.new.steps stands refl
+    group.0 group.1 broken (c.take_back.ensures.map state.history group.0 (stands.history c.requires.keeps) group.1) (c.take_back.ensures.history state.history (stands.history c.requires.keeps)) (c.take_back.ensures.entries entries (stands.costs c.requires.keeps)) c.take_back.ensures.rises (c.take_back.ensures.most entries (stands.costs c.requires.keeps))
 
 pub returns-clause-step : goal.returns-clause-step
 returns-clause-step g c rules state entries stands =
     let group = open_group c.args.self.now.group state c.requires.inside stands.group in
     let unbroken = whole c.args.self.now.group state (c.is_broken-is_broken.ensures.whole c.if-is_broken.false) stands.group in
-    was_kept rules c.args.arena.now c.args.arena.now c.args.self.now (record { history = c.keep.new.self; group = opens.Nothing; scratch = c.args.self.now.scratch }) state entries c.args.steps.now c.args.steps.now stands refl
-    group.0 group.1 unbroken (c.keep.ensures.history state.history group.0 stands.history group.1) (c.keep.ensures.entries state.history group.0 entries stands.history group.1 stands.costs)
+    was_kept rules c.args.arena.now c.args.arena.now c.args.self.now (record { keeps = c.args.self.now.keeps; history = c.keep.new.self; group = opens.Nothing; scratch = c.args.self.now.scratch }) state entries c.args.steps.now c.args.steps.now stands refl
+    group.0 group.1 unbroken (c.keep.ensures.history state.history group.0 (stands.history c.requires.keeps) group.1) (c.keep.ensures.entries state.history group.0 entries (stands.history c.requires.keeps) group.1 (stands.costs c.requires.keeps))

@@ -1,18 +1,18 @@
 use Rattle.std.proofs.Common.{refl}
-use Rattle.gm_run.proofs.Stepping.{no_future, outside_of, redone}
+use Rattle.gm_run.proofs.Stepping.{no_future, outside_kept, redone}
 use Rattle.gm_run.proofs.standing.Standing.redo.Goals as goal
 
 pub redo-requires : goal.redo-requires
-redo-requires g c = record { stands = outside_of c.args.arena.now c.args.self.now c.requires.stands c.requires.outside }
+redo-requires g c = record { stands = outside_kept c.args.arena.now c.args.self.now c.requires.keeps c.requires.stands c.requires.outside }
 
 pub returns-in-Ok-clause-step : goal.returns-in-Ok-clause-step
 returns-in-Ok-clause-step g c rules state entries stands =
-    let back = c.in-Ok.ensures.history state.history stands.history in
-    redone rules c.args.arena.now c.redo.new.arena c.args.self.now (record { history = c.redo.new.self; group = c.args.self.now.group; scratch = c.args.self.now.scratch }) state entries c.args.steps.now c.redo.new.steps stands c.requires.outside refl
-    back.0 back.1 back.2 c.in-Ok.ensures.rises (c.in-Ok.ensures.most entries stands.costs)
+    let back = c.in-Ok.ensures.history state.history (stands.history c.requires.keeps) in
+    redone rules c.args.arena.now c.redo.new.arena c.args.self.now (record { keeps = c.args.self.now.keeps; history = c.redo.new.self; group = c.args.self.now.group; scratch = c.args.self.now.scratch }) state entries c.args.steps.now c.redo.new.steps stands c.requires.keeps c.requires.outside refl
+    back.0 back.1 back.2 c.in-Ok.ensures.rises (c.in-Ok.ensures.most entries (stands.costs c.requires.keeps))
 
 pub returns-in-Err-clause-step : goal.returns-in-Err-clause-step
 returns-in-Err-clause-step g c rules state entries stands =
-    let still = c.in-Err.ensures.history state.history stands.history in
-    no_future rules c.args.arena.now c.redo.new.arena c.args.self.now (record { history = c.redo.new.self; group = c.args.self.now.group; scratch = c.args.self.now.scratch }) state entries c.args.steps.now c.redo.new.steps stands c.requires.outside refl
-    still.0 still.1 still.2 (c.in-Err.ensures.most entries stands.costs)
+    let still = c.in-Err.ensures.history state.history (stands.history c.requires.keeps) in
+    no_future rules c.args.arena.now c.redo.new.arena c.args.self.now (record { keeps = c.args.self.now.keeps; history = c.redo.new.self; group = c.args.self.now.group; scratch = c.args.self.now.scratch }) state entries c.args.steps.now c.redo.new.steps stands c.requires.keeps c.requires.outside refl
+    still.0 still.1 still.2 (c.in-Err.ensures.most entries (stands.costs c.requires.keeps))
