@@ -5,7 +5,9 @@ use Rattle.std.proofs.lemmas.List.Elements.{All-from_recursion, recursion_from_A
 use Rattle.gm_model.specs.declared.rule.Book.{Book}
 use Rattle.gm_model.specs.declared.rule.RuleTable.{RuleTable}
 use Rattle.gm_forms.specs.BookText.{BookText}
+use Rattle.gm_model.specs.Kinds.{IsTyped}
 use Rattle.gm_model.specs.Maps.{IsSchema}
+use Rattle.gm_model.specs.Structure.{IsInRange}
 use Rattle.gm_model.specs.Rules.{rule_of}
 use Rattle.gm_book.proofs.ReadRange.{range_from_text}
 use Rattle.gm_tool.specs.Books.{IsCheckable}
@@ -27,3 +29,11 @@ checkable_rules text book read declared = unmap (IsCheckable book.schema) rule_o
       within = ranges.1;
       typed = ranges.2;
     })
+
+-- each is in range, and each of its expressions has a kind
+module _ (text : List ℕ) (book : Book) (read : BookText text book.version book.schema (map rule_of book.rules)) (declared : IsSchema book.schema) where
+  pub rules_in_range : AllByRecursion (λ (rule : RuleTable). IsInRange book.schema (rule_of rule)) book.rules
+  rules_in_range = recursion_from_All (λ (rule : RuleTable). IsInRange book.schema (rule_of rule)) book.rules (λ k d b. (checkable_rules text book read declared k d b).in_range)
+
+  pub rules_typed : AllByRecursion (λ (rule : RuleTable). IsTyped book.schema (rule_of rule)) book.rules
+  rules_typed = recursion_from_All (λ (rule : RuleTable). IsTyped book.schema (rule_of rule)) book.rules (λ k d b. (checkable_rules text book read declared k d b).typed)

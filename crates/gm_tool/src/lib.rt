@@ -6,6 +6,7 @@ mod book;
 mod cells;
 mod check;
 mod command;
+mod dual;
 mod grid;
 mod laws;
 mod load;
