@@ -4,6 +4,7 @@ pub mod TwiceLemmas
 pub mod MapLemmas
 pub mod SoundLemmas
 pub mod BuildLemmas
+mod StepLemmas
 pub mod RuleLemmas
 pub mod AcceptLemmas
 pub mod ConditionLemmas

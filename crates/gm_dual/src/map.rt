@@ -1,6 +1,6 @@
 //! The dual of a map.
 
-ghost use Rattle.std.specs.Prelude.{◌≡◌, ◌≢◌, ℕ, ◌+◌, ◌<◌, ◌≤◌, length, Some, IfOk};
+ghost use Rattle.std.specs.Prelude.{◌≡◌, ◌≢◌, ℕ, ◌+◌, ◌*◌, ◌<◌, ◌≤◌, length, Some, IfOk};
 ghost use Rattle.std.specs.FinMap.{get, keys};
 ghost use Rattle.gm_model.specs.Maps.{IsSound};
 ghost use Rattle.gm_arena.specs.ArenaAsMap.{as_map};
@@ -24,6 +24,7 @@ pub fn dual_map<L: Ledger>(
     requires sound { IsSound (as_map arena.now) }
     ensures dual { IfOk result (λ dual. as_map dual ≡ duals.dual_map (as_map arena.now)) }
     ensures sound { IfOk result (λ dual. IsSound (as_map dual)) }
+    ensures most { steps.new ≤ steps.old + 16 * ((arena.now.schema.dim + 1) * (arena.now.schema.dim + 1)) * (arena.now.count + 1) }
 {
     let count = arena.count();
     let names = arena.names(alloc, steps)?;
@@ -40,7 +41,8 @@ fn add_darts<L: Ledger>(arena: &Arena, names: &[u32], dual: &mut Arena, steps: &
     requires lawful { IsLawful arena.now }
     requires names { names.now ≡ keys arena.now.darts }
     requires none { AreAdded arena.now names.now 0 dual.old }
-    ensures { AreAdded arena.now names.now (length names.now) dual.new }
+    ensures added { AreAdded arena.now names.now (length names.now) dual.new }
+    ensures cost { steps.new ≡ steps.old + 3 * length names.now }
 {
     for name in names {
         let slot = arena.slot_of(*name, steps).unwrap();
@@ -54,7 +56,8 @@ fn link_darts<L: Ledger>(arena: &Arena, names: &[u32], dual: &mut Arena, steps: 
     requires lawful { IsLawful arena.now }
     requires names { names.now ≡ keys arena.now.darts }
     requires free { AreLinked arena.now names.now 0 dual.old }
-    ensures { AreLinked arena.now names.now (length names.now) dual.new }
+    ensures linked { AreLinked arena.now names.now (length names.now) dual.new }
+    ensures cost { steps.new ≡ steps.old + length names.now * (3 * arena.now.schema.dim + 6) }
 {
     for name in names {
         let from = arena.slot_of(*name, steps).unwrap();
@@ -80,6 +83,7 @@ fn link_dart<L: Ledger>(
     requires live { (name : ℕ) → IsLiveName arena.now name → IsLiveName dual.old name }
     ensures linked { get dual.new.darts (name_at arena.now from.at) ≡ dual_of arena.now (name_at arena.now from.at) }
     ensures others { IsAllBut (name_at arena.now from.at) dual.old dual.new }
+    ensures cost { steps.new ≡ steps.old + (3 * arena.now.schema.dim + 4) }
 {
     let top = arena.schema().dim.top();
     let row = arena.row(from, steps);

@@ -2,7 +2,6 @@
 use Rattle.std.proofs.Common.{◌≡◌, ℕ, ◌+◌, ◌<◌, ◌≤◌, List, length, get_or, map, inl, inr, sym, ◌∙◌, arith}
 use Rattle.std.proofs.lemmas.Bool.{cases_eq}
 use Rattle.std.proofs.lemmas.List.{same_lists, get_or_default}
-use Rattle.gm_mapfile.proofs.Listed.{listed_good}
 use Rattle.gm_mapfile.specs.declared.reading.MapRead.{MapRead}
 use Rattle.gm_model.specs.declared.rule.Book.{Book}
 use Rattle.gm_model.specs.declared.schema.Embed.{Embed}
@@ -36,7 +35,6 @@ module _ (read : MapRead) (book : Book) (script : Script) where
       → plans ≡ map (plan_of book.schema) book.rules → read.arena.schema ≡ book.schema → CanRun read.arena book script plans
   can_run plans of_map_file of_book of_script planned same = record {
     sound = of_map_file.1.sound;
-    parts = let stands = of_map_file.1.stands in (listed_good of_map_file.0 stands.written read.arena.schema stands.darts stands.listed).parts;
     agree = same;
     plans_are = planned;
     text = of_script.0;

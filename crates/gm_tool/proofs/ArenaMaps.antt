@@ -14,7 +14,6 @@ use Rattle.gm_cells.specs.declared.orientation.Orientation.{Orientation}
 use Rattle.gm_cells.specs.Cells.{AreCounts}
 use Rattle.gm_cells.specs.CellsText.{counts_text, orientation_text}
 use Rattle.gm_cells.specs.Colours.{IsOrientation}
-use Rattle.gm_mapfile.proofs.Printable.{arena_printed}
 use Rattle.gm_mapfile.proofs.Printed.{nobody, dart_at, dart_at-is, dart_at_place}
 use Rattle.gm_mapfile.proofs.SoundRows.{same_map}
 use Rattle.gm_mapfile.specs.MapReading.{IsWhole}
@@ -24,9 +23,10 @@ use Rattle.gm_mapfile.specs.Rows.{darts_of, listed_of}
 use Rattle.gm_mapfile.specs.declared.version.MapVersion.{MapVersion}
 use Rattle.gm_mapfile.specs.declared.version.MapVersion.TheVariants as versions
 use Rattle.gm_model.specs.Maps.{Map, IsSound}
-use Rattle.gm_text.specs.SchemaPrinting.{AreParts}
 use Rattle.gm_tool.specs.Answer.{Cells, Counted, IsOutput, TellsCells}
-use Rattle.gm_tool.specs.MadeRuns.{IsMapBytes}
+use Rattle.gm_tool.specs.MadeRuns.{IsFitted, IsMapBytes}
+use Rattle.gm_tool.specs.declared.refusal.Stop.{Stop}
+use Rattle.gm_tool.specs.declared.running.Made.{Made}
 
 -- what is told of the map in an arena is put for the bytes that it was read of
 pub cells_told : (bytes text : List ℕ) (version : MapVersion) (m : ArenaMap) → MapText bytes version (listed_of m) → TellsCells (as_map m) text → IsOutput bytes Cells 0 text
@@ -48,10 +48,21 @@ darts_whole m lawful = recursion_from_All (IsWhole m.schema) (darts_of m) (λ k 
     whole name None is live = let none : false ≡ true = sym (ap is_some is) ∙ live in absurd cc
     whole name (Some dart) is live = let lawful_dart = lawful.dart name dart is in subst (IsWhole m.schema) (sym (dart_at-is m name dart is)) (lawful_dart.whole, lawful_dart.valued.kinds)
 
--- the canonical text in either version stands for the map, whose next name the first version tells by the names
-pub text_of_arena : (version : MapVersion) (m : ArenaMap) → IsLawful m → AreParts m.schema.embeds → IsSound (as_map m) → IsMapBytes (canonical version (listed_of m))
-text_of_arena version m lawful parts sound = (version, renumbered version (listed_of m), same version, arena_printed version m lawful parts sound)
+-- what is printed of a map stands for it, with the next name that the first version tells by the names
+pub printed_bytes : (version : MapVersion) (m : ArenaMap) (bytes : List ℕ) → bytes ≡ canonical version (listed_of m) → MapText bytes version (renumbered version (listed_of m)) → IsMapBytes bytes
+printed_bytes version m bytes is stands = (version, renumbered version (listed_of m), is ∙ same version, stands)
   where
     same : (v : MapVersion) → canonical v (listed_of m) ≡ canonical v (renumbered v (listed_of m))
     same versions.One = refl
     same versions.Two = refl
+
+-- the same of a text that is not too long
+pub fitted_bytes : (version : MapVersion) (m : ArenaMap) (status : ℕ) (report bytes : List ℕ) (result : Result Made Stop) → IsFitted status report bytes result → bytes ≡ canonical version (listed_of m)
+    → (IsSound (as_map m) → MapText bytes version (renumbered version (listed_of m))) → IfOk result (λ made. IsSound (as_map m) → IsMapBytes made.map.items)
+fitted_bytes version m status report bytes (Ok made) fits is stands = λ sound. subst IsMapBytes (sym fits.2) (printed_bytes version m bytes is (stands sound))
+fitted_bytes version m status report bytes (Err stop) fits is stands = tt
+
+-- what holds where a fact does
+pub if_such : {A E : Type 0} (S : Type 0) (P : A → Type 0) → S → (result : Result A E) → IfOk result (λ value. S → P value) → IfOk result P
+if_such S P such (Ok value) h = h such
+if_such S P such (Err error) h = tt

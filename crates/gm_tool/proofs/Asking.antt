@@ -7,11 +7,12 @@ use Rattle.gm_host.specs.Store.{Contents, Lacks, IsCutFrom, IsCutFromHeld, IsLon
 use Rattle.gm_host.specs.declared.fault.LoadFault.{LoadFault}
 use Rattle.gm_host.specs.declared.fault.LoadFault.TheVariants as faults
 use Rattle.gm_tool.specs.Answer.{most_bytes, Answer, answers, Files, IsFileAnswer, Asks, IsOutput, role_of, NoFile, LongFile, BadFile, LongOutput, Done, Shown, Printed, Checked, Counted}
+use Rattle.gm_tool.specs.DualAnswer.{DualNames, AsksDual, IsDualReply}
 use Rattle.gm_tool.specs.Endings.{IsEnding, Whole, LoadFailed, SaveFailed, IsStored, IsTextOf}
 use Rattle.gm_tool.specs.MadeRuns.{IsRunText, IsSoundReply, HoldsSuch, HoldsMap, IsMapBytes, IsSoundText}
-use Rattle.gm_tool.specs.Migrating.{MigrateNames, AsksMigrate, IsMigrateText, IsMigrateStatus}
+use Rattle.gm_tool.specs.Migrating.{MigrateNames, AsksMigrate, IsMigrateText}
 use Rattle.gm_tool.specs.GridAnswer.{AsksGrid, IsGridReply}
-use Rattle.gm_tool.specs.Program.{IsCommand, IsFileCommand, IsRunCommand, IsSavingCommand, ReadsNoFile, ReadsOneFile, Usage, OfFile, OfRun, OfMigrate, OfGrid}
+use Rattle.gm_tool.specs.Program.{IsCommand, IsFileCommand, IsRunCommand, IsSavingCommand, ReadsNoFile, ReadsOneFile, IsDualCommand, Usage, OfFile, OfRun, OfMigrate, OfDual, OfGrid}
 use Rattle.gm_tool.specs.RunAnswer.{RunNames, AsksRun}
 use Rattle.gm_lines.specs.Checking.{check_status}
 use Rattle.gm_tool.specs.Answer as answer
@@ -22,7 +23,7 @@ use Rattle.gm_tool.specs.declared.refusal.Refusal.TheVariants as refusals
 use Rattle.gm_tool.specs.declared.refusal.Role.{Role}
 use Rattle.gm_tool.specs.declared.reply.Reply.{Reply}
 use Rattle.gm_tool.specs.Refusals.{role_in, refusal_answer}
-use Rattle.gm_tool.specs.Replies.{IsLoading, IsLong, IsJudged, no_file_for}
+use Rattle.gm_tool.specs.Replies.{IsLoading, IsLong, IsJudged, no_file_for, IsPlainStatus}
 use Rattle.gm_tool.specs.Tool.{IsFileText, IsText, IsFileLoadFailure, IsReplyStatus, IsCheck, HoldsSaved}
 use Rattle.gm_tool.specs.Tool as tool
 
@@ -188,6 +189,11 @@ module _ (words : List (List ℕ)) (load_fails : ℕ → Type 0) (save_fails : T
   migrate_text None named asks h = tt
   migrate_text (Some files) named asks h = text_to (λ given is. OfMigrate named asks is) (λ given is. tool.OfMigrate named asks is) files save_fails after reply h
 
+  pub dual_text : (contents : Contents) (named : DualNames) → AsksDual words named → IfSome contents (λ files. IsDualReply files named load_fails save_fails after reply)
+      → IfSome contents (λ files. IsText words files load_fails save_fails after reply)
+  dual_text None named asks h = tt
+  dual_text (Some files) named asks h = text_to (λ given is. OfDual named asks is) (λ given is. tool.OfDual named asks is) files save_fails after reply h
+
 -- the line of a grid, which reads no file
 pub grid_text : (words : List (List ℕ)) (m : ℕ) → AsksGrid words m → (load_fails : ℕ → Type 0) (save_fails : Type 0) (contents : Contents) (reply : Result Reply NoText) → IsGridReply m reply
     → IfSome contents (λ files. IsText words files load_fails save_fails contents reply)
@@ -230,6 +236,18 @@ file_is_no_migrate words command name named asks migrates = let e : length words
 pub run_is_no_migrate : (words : List (List ℕ)) (named : RunNames) (other : MigrateNames) → AsksRun words named → AsksMigrate words other → ⊥
 run_is_no_migrate words named other runs migrates = let e : length words ≡ 5 = ap length runs in let f : length words ≡ 3 = ap length migrates in omega (arith, e, f)
 
+pub file_is_no_dual : (words : List (List ℕ)) (command : answer.Command) (name : List ℕ) (named : DualNames) → Asks words command name → AsksDual words named → ⊥
+file_is_no_dual words command name named asks duals = let e : length words ≡ 2 = ap length asks in let f : length words ≡ 3 = ap length duals in omega (arith, e, f)
+
+pub run_is_no_dual : (words : List (List ℕ)) (named : RunNames) (other : DualNames) → AsksRun words named → AsksDual words other → ⊥
+run_is_no_dual words named other runs duals = let e : length words ≡ 5 = ap length runs in let f : length words ≡ 3 = ap length duals in omega (arith, e, f)
+
+pub migrate_is_no_dual : (words : List (List ℕ)) (named : MigrateNames) (other : DualNames) → AsksMigrate words named → AsksDual words other → ⊥
+migrate_is_no_dual words named other migrates duals =
+    let both : ◌≡◌ {A = List (List ℕ)} (codes "migrate" ∷ named.map ∷ named.out ∷ []) (codes "dual" ∷ other.map ∷ other.book ∷ []) = sym migrates ∙ duals in
+    let word : codes "migrate" ≡ codes "dual" = cc both in
+    differ (codes "migrate") (codes "dual") refl refl word
+
 pub file_is_no_grid : (words : List (List ℕ)) (command : answer.Command) (name : List ℕ) (m : ℕ) → Asks words command name → AsksGrid words m → ⊥
 file_is_no_grid words command name m asks grid = other command asks
   where
@@ -250,24 +268,37 @@ run_is_no_grid words named m runs grid = let e : length words ≡ 5 = ap length 
 pub migrate_is_no_grid : (words : List (List ℕ)) (named : MigrateNames) (m : ℕ) → AsksMigrate words named → AsksGrid words m → ⊥
 migrate_is_no_grid words named m migrates grid = let e : length words ≡ 3 = ap length migrates in let f : length words ≡ 2 = ap length grid.is in omega (arith, e, f)
 
--- a grid is no command that reads a file
-pub grid_reads_none : (words : List (List ℕ)) (m : ℕ) → AsksGrid words m → IsFileCommand words ⊎ IsSavingCommand words → ⊥
-grid_reads_none words m grid (inl (command, name, asks)) = file_is_no_grid words command name m asks grid
-grid_reads_none words m grid (inr (inl (named, runs))) = run_is_no_grid words named m runs grid
-grid_reads_none words m grid (inr (inr (named, migrates))) = migrate_is_no_grid words named m migrates grid
+pub dual_is_no_grid : (words : List (List ℕ)) (named : DualNames) (m : ℕ) → AsksDual words named → AsksGrid words m → ⊥
+dual_is_no_grid words named m duals grid = let e : length words ≡ 3 = ap length duals in let f : length words ≡ 2 = ap length grid.is in omega (arith, e, f)
 
-pub reads_some : (words : List (List ℕ)) → IsFileCommand words ⊎ IsSavingCommand words → ReadsNoFile words → ⊥
+-- a command that reads files
+abbrev pub ReadsFiles : List (List ℕ) → Type 0
+ReadsFiles words = IsFileCommand words ⊎ (IsSavingCommand words ⊎ IsDualCommand words)
+
+-- a grid is none
+pub grid_reads_none : (words : List (List ℕ)) (m : ℕ) → AsksGrid words m → ReadsFiles words → ⊥
+grid_reads_none words m grid (inl (command, name, asks)) = file_is_no_grid words command name m asks grid
+grid_reads_none words m grid (inr (inl (inl (named, runs)))) = run_is_no_grid words named m runs grid
+grid_reads_none words m grid (inr (inl (inr (named, migrates)))) = migrate_is_no_grid words named m migrates grid
+grid_reads_none words m grid (inr (inr (named, duals))) = dual_is_no_grid words named m duals grid
+
+pub reads_some : (words : List (List ℕ)) → ReadsFiles words → ReadsNoFile words → ⊥
 reads_some words (inl file) (inl none) = none (inl file)
-reads_some words (inr saves) (inl none) = none (inr (inl saves))
+reads_some words (inr (inl saves)) (inl none) = none (inr (inl saves))
+reads_some words (inr (inr duals)) (inl none) = none (inr (inr (inl duals)))
 reads_some words reads (inr (m, grid)) = grid_reads_none words m grid reads
 
 pub grid_reads_no_one : (words : List (List ℕ)) (m : ℕ) → AsksGrid words m → ReadsOneFile words → ⊥
 grid_reads_no_one words m grid (inl file) = grid_reads_none words m grid (inl file)
-grid_reads_no_one words m grid (inr migrates) = grid_reads_none words m grid (inr (inr migrates))
+grid_reads_no_one words m grid (inr migrates) = grid_reads_none words m grid (inr (inl (inr migrates)))
 
 pub run_reads_no_one : (words : List (List ℕ)) (named : RunNames) → AsksRun words named → ReadsOneFile words → ⊥
 run_reads_no_one words named runs (inl (command, name, asks)) = file_is_no_run words command name named asks runs
 run_reads_no_one words named runs (inr (other, asks)) = run_is_no_migrate words named other runs asks
+
+pub dual_reads_no_one : (words : List (List ℕ)) (named : DualNames) → AsksDual words named → ReadsOneFile words → ⊥
+dual_reads_no_one words named duals (inl (command, name, asks)) = file_is_no_dual words command name named asks duals
+dual_reads_no_one words named duals (inr (other, asks)) = migrate_is_no_dual words other named asks duals
 
 -- the files of a run are those that its words name
 pub same_named : (words : List (List ℕ)) (one other : RunNames) → AsksRun words one → AsksRun words other → one ≡ other
@@ -287,21 +318,29 @@ same_migrated words one other a b =
     let out : one.out ≡ other.out = cc both in
     λ k. record { map = map k; out = out k }
 
+-- and those of `dual`
+pub same_dual : (words : List (List ℕ)) (one other : DualNames) → AsksDual words one → AsksDual words other → one ≡ other
+same_dual words one other a b =
+    let both : ◌≡◌ {A = List (List ℕ)} (codes "dual" ∷ one.map ∷ one.book ∷ []) (codes "dual" ∷ other.map ∷ other.book ∷ []) = sym a ∙ b in
+    let map : one.map ≡ other.map = cc both in
+    let book : one.book ≡ other.book = cc both in
+    λ k. record { map = map k; book = book k }
+
 -- a run is refused for a line
 pub run_refused : (words : List (List ℕ)) (named : RunNames) → AsksRun words named → (reply : Result Reply NoText) → IfOk reply (λ r. r.status ≡ 1 → IsCheck words ⊎ IsRunCommand words)
 run_refused words named asks (Ok reply) = λ one. inr (named, asks)
 run_refused words named asks (Err none) = tt
 
--- a migration never is
-pub migrate_refused : (P : Type 0) (reply : Result Reply NoText) → IfOk reply (λ r. IsMigrateStatus r.status) → IfOk reply (λ r. r.status ≡ 1 → P)
-migrate_refused P (Ok reply) (inl zero) = λ one. absurd (let f : ◌≡◌ {A = ℕ} 0 1 = sym zero ∙ one in cc)
-migrate_refused P (Ok reply) (inr four) = λ one. absurd (let f : ◌≡◌ {A = ℕ} 4 1 = sym four ∙ one in cc)
-migrate_refused P (Err none) h = tt
+-- a migration never is, nor is `dual`
+pub plain_refused : (P : Type 0) (reply : Result Reply NoText) → IfOk reply (λ r. IsPlainStatus r.status) → IfOk reply (λ r. r.status ≡ 1 → P)
+plain_refused P (Ok reply) (inl zero) = λ one. absurd (let f : ◌≡◌ {A = ℕ} 0 1 = sym zero ∙ one in cc)
+plain_refused P (Ok reply) (inr four) = λ one. absurd (let f : ◌≡◌ {A = ℕ} 4 1 = sym four ∙ one in cc)
+plain_refused P (Err none) h = tt
 
-pub migrate_status : (reply : Result Reply NoText) → IfOk reply (λ r. IsMigrateStatus r.status) → IfOk reply (λ r. IsReplyStatus r.status)
-migrate_status (Ok reply) (inl zero) = inl zero
-migrate_status (Ok reply) (inr four) = inr (inr four)
-migrate_status (Err none) h = tt
+pub plain_status : (reply : Result Reply NoText) → IfOk reply (λ r. IsPlainStatus r.status) → IfOk reply (λ r. IsReplyStatus r.status)
+plain_status (Ok reply) (inl zero) = inl zero
+plain_status (Ok reply) (inr four) = inr (inr four)
+plain_status (Err none) h = tt
 
 -- the map is held under the name that the words give
 pub run_holds : (words : List (List ℕ)) (named : RunNames) (contents : Contents) → AsksRun words named → HoldsMap contents named.out → HoldsSaved IsMapBytes words contents

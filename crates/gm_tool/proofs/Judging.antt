@@ -31,7 +31,7 @@ pub map_judged : (bytes : List ℕ) (command : answer.Command) (reply : Result R
 map_judged bytes command (Ok reply) of is = inr (is.0, subst (λ (r : refusing.Role). IsBadLine bytes r reply.text.items) of is.1)
 map_judged bytes command (Err none) of is = subst (λ (e : NoText). IsJudged bytes command (Err e)) (sym is) tt
 
-book_is_bad : (bytes : List ℕ) (fault : BookFault) → book_faults.IsFaultOf bytes fault → IsSaidOfBook fault → IsBad bytes TheBook (book_words fault)
+pub book_is_bad : (bytes : List ℕ) (fault : BookFault) → book_faults.IsFaultOf bytes fault → IsSaidOfBook fault → IsBad bytes TheBook (book_words fault)
 book_is_bad bytes (book.Text place) h said = BadBook _ (AtEnds place h)
 book_is_bad bytes (book.Limit what place) h said = BadBook _ (AtPasses what place h)
 book_is_bad bytes (book.Twice place) h said = BadBook _ (AtName _ h)

@@ -13,6 +13,7 @@ mod LoadCounts
 mod Saving
 mod SaveCounts
 mod Migrations
+mod Duals
 mod StepBounds
 mod StepWords
 mod Putting
@@ -27,6 +28,7 @@ mod SameRows
 mod OneRan
 mod OneRunAnswer
 mod OneMigration
+mod OneDual
 mod Grids
 mod OneGrid
 mod Gridding

@@ -15,13 +15,11 @@ use Rattle.gm_model.specs.declared.schema.Schema.{Schema}
 use Rattle.gm_model.specs.declared.script.Script.{Script}
 use Rattle.gm_model.specs.declared.script.Stat.{Stat}
 use Rattle.gm_model.specs.declared.script.Stat.TheVariants as statements
-use Rattle.gm_model.specs.Maps.{IsSound}
 use Rattle.gm_mapfile.specs.MapText.{canonical}
 use Rattle.gm_mapfile.specs.declared.version.MapVersion.{MapVersion}
 use Rattle.gm_model.specs.Reports.{report_text}
 use Rattle.gm_model.specs.Rules.{Rule, rule_of}
 use Rattle.gm_model.specs.Runs.{Outcome, State, start_of, IsRun, AreInOrder}
-use Rattle.gm_text.specs.SchemaPrinting.{AreParts}
 use Rattle.gm_script.specs.Agreement.{Agrees}
 use Rattle.gm_script.specs.ScriptText.{ScriptText}
 use Rattle.gm_script.proofs.Agreement.{script_agrees, script_in_order}
@@ -31,7 +29,7 @@ use Rattle.gm_run.specs.declared.outcome.Outcome as answers
 use Rattle.gm_run.specs.Printing.{CanBePrinted}
 use Rattle.gm_run.specs.Progress.{IsPlanFor, ArePlansFor, rules_of}
 use Rattle.gm_lines.specs.Refusing.{Role}
-use Rattle.gm_tool.specs.MadeRuns.{CanRun, inputs_of, IsFitted, IsPrinted, IsRunOf, IsMapBytes, IsRunStatus}
+use Rattle.gm_tool.specs.MadeRuns.{CanRun, inputs_of, IsFitted, IsPrinted, IsRunOf, IsRunStatus}
 use Rattle.gm_tool.specs.Stops.{IsSoundStop}
 use Rattle.gm_tool.specs.declared.refusal.Refusal.TheVariants as refusals
 use Rattle.gm_tool.specs.RunAnswer.{Inputs, Ran, IsRan, report_of, saved_of, says_refused, run_status}
@@ -40,7 +38,7 @@ use Rattle.gm_tool.specs.declared.refusal.Stop.{Stop}
 use Rattle.gm_tool.specs.declared.refusal.Stop.TheVariants as stops
 use Rattle.gm_tool.specs.declared.running.Made.{Made}
 use Rattle.gm_mapfile.proofs.SoundRows.{same_map}
-use Rattle.gm_tool.proofs.ArenaMaps.{darts_whole, text_of_arena}
+use Rattle.gm_tool.proofs.ArenaMaps.{darts_whole}
 
 -- a run is done with status 0 or 1
 status_is : (outcomes : List Outcome) → IsRunStatus (run_status outcomes)
@@ -138,14 +136,6 @@ module _ (m : ArenaMap) (book : Book) (script : Script) (plans : List PlanOf) (c
         made (Err (stops.Bad line)) is = fitted (Err (stops.Bad line)) is
         made (Err (stops.NoText nothing.OutOfMemory)) is = tt
         made (Err (stops.NoText (nothing.Refused why))) is = fitted (Err (stops.NoText (nothing.Refused why))) is
-
--- ---- the map that is left
-
--- the text of a map that is printed stands for it
-pub map_made : (version : MapVersion) (m : ArenaMap) (status : ℕ) (report : List ℕ) (result : Result Made Stop) → IsLawful m → AreParts m.schema.embeds → IsSound (as_map m) → IsPrinted status report (canonical version (listed_of m)) result
-    → IfOk result (λ made. IsMapBytes made.map.items)
-map_made version m status report (Ok made) lawful parts sound is = subst IsMapBytes (sym is.2) (text_of_arena version m lawful parts sound)
-map_made version m status report (Err stop) lawful parts sound is = tt
 
 -- texts that are fitted are printed
 pub fitted_printed : (status : ℕ) (report map : List ℕ) (result : Result Made Stop) → IsFitted status report map result → IsPrinted status report map result

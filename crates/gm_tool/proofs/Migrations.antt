@@ -3,16 +3,14 @@ use Rattle.std.proofs.Common.{◌≡◌, ◌⊎◌, ℕ, List, inl, inr, Some, N
 use Rattle.std.specs.Prelude.{IfOk, IfSome}
 use Rattle.gm_host.specs.Store.{Contents, Lacks}
 use Rattle.gm_lines.specs.Refusing.{Role, TheMap}
-use Rattle.gm_mapfile.proofs.Again.{printed_again}
-use Rattle.gm_mapfile.proofs.Listed.{listed_good}
 use Rattle.gm_mapfile.specs.MapText.{ListedMap}
 use Rattle.gm_mapfile.specs.Rows.{listed_of}
 use Rattle.gm_mapfile.specs.declared.reading.MapRead.{MapRead}
-use Rattle.gm_mapfile.specs.declared.version.MapVersion.TheVariants as versions
 use Rattle.gm_tool.specs.Answer.{Files, answers}
 use Rattle.gm_tool.specs.Endings.{Whole, LoadFailed}
-use Rattle.gm_tool.specs.MadeRuns.{IsMapBytes, IsSaving, IsSoundReply}
-use Rattle.gm_tool.specs.Migrating.{MigrateNames, HasMigrated, IsMigrateAnswer, MapFails, LongOutput, Done, IsMigrated, IsMigrateStatus, IsMigrateLoadFailure, IsMigrateText, migrated_line, migrated_text}
+use Rattle.gm_tool.specs.MadeRuns.{IsSaving, IsSoundReply}
+use Rattle.gm_tool.specs.Migrating.{MigrateNames, HasMigrated, IsMigrateAnswer, MapFails, LongOutput, Done, IsMigrated, IsMigrateLoadFailure, IsMigrateText, migrated_line, migrated_text}
+use Rattle.gm_tool.specs.Replies.{IsPlainStatus}
 use Rattle.gm_tool.specs.Refusals.{refusal_answer}
 use Rattle.gm_tool.specs.RunAnswer.{IsBadMap}
 use Rattle.gm_tool.specs.Stops.{IsReadMap, IsRoleStop, IsSoundStop, IsFrom, reply_of}
@@ -74,11 +72,6 @@ module _ (named : MigrateNames) (load_fails : ℕ → Type 0) (fails save_fails 
             saved_text (IsMigrateAnswer files named) (IsMigrateLoadFailure load_fails) save_fails files after made 0 (migrated_line listed) (record { name = named.out; bytes = migrated_text listed })
             (Done listed (bytes, read.version, held, f.stands) is.3 refl) is.0 is.1 is.2 reply s
 
--- the text stands for the map
-pub migrated_bytes : (read : MapRead) (made : Made) → (bytes : List ℕ) × IsReadMap bytes read → IsMigrated (listed_of read.arena) (Ok made) → IsMapBytes made.map.items
-migrated_bytes read made (bytes, is) made_is =
-    subst IsMapBytes (sym made_is.2) (versions.Two, listed_of read.arena, refl, printed_again listed_good bytes read.version versions.Two (listed_of read.arena) is.stands)
-
 -- the one load fails, or its file isn't there
 pub unread_is_sound : (contents : Contents) (name : List ℕ) (fails later : Type 0) → (fails → later) → (stop : Stop) → IsSoundStop stop (λ other. (other ≡ TheMap) × (fails ⊎ Lacks contents name)) → IsSoundStop stop (λ _. later ⊎ Lacks contents name)
 unread_is_sound contents name fails later up stop h =
@@ -89,7 +82,7 @@ pub unmade_is_sound : (map : ListedMap) (none : NoText) (P : Role → Type 0) (Q
 unmade_is_sound map nothing.OutOfMemory P Q is = tt
 unmade_is_sound map (nothing.Refused why) P Q is = subst (λ w. IsSoundReply (Err (nothing.Refused w)) P Q) (sym is.0) tt
 
-pub migrated_status : (contents after : Contents) (out : List ℕ) (fails : Type 0) (map : ListedMap) (made : Made) (reply : Result Reply NoText) → IsMigrated map (Ok made) → IsSaving contents out made fails after reply → IfOk reply (λ r. IsMigrateStatus r.status)
+pub migrated_status : (contents after : Contents) (out : List ℕ) (fails : Type 0) (map : ListedMap) (made : Made) (reply : Result Reply NoText) → IsMigrated map (Ok made) → IsSaving contents out made fails after reply → IfOk reply (λ r. IsPlainStatus r.status)
 migrated_status contents after out fails map made (Ok reply) is saving = inl (saving.0 ∙ is.0)
 migrated_status contents after out fails map made (Err none) is saving = tt
 

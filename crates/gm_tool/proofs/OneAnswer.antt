@@ -4,10 +4,12 @@ use Rattle.std.specs.Prelude.{decimal}
 use Rattle.std.proofs.lemmas.Fmt.{decimal_injective}
 use Rattle.gm_tool.specs.Answer.{Files, Answer, Command, Show, Book, Check, Cells, command_word, Asks, IsFileAnswer}
 use Rattle.gm_tool.specs.Migrating.{IsMigrateAnswer}
+use Rattle.gm_tool.specs.DualAnswer.{IsDualAnswer}
 use Rattle.gm_tool.specs.GridAnswer.{AsksGrid, IsGridAnswer}
-use Rattle.gm_tool.specs.Program.{IsAnswer, Usage, OfFile, OfRun, OfMigrate, OfGrid}
+use Rattle.gm_tool.specs.Program.{IsAnswer, Usage, OfFile, OfRun, OfMigrate, OfDual, OfGrid}
 use Rattle.gm_tool.specs.RunAnswer.{IsRunAnswer}
-use Rattle.gm_tool.proofs.Asking.{differ, file_is_no_run, file_is_no_migrate, file_is_no_grid, run_is_no_migrate, run_is_no_grid, migrate_is_no_grid, same_named, same_migrated}
+use Rattle.gm_tool.proofs.Asking.{differ, file_is_no_run, file_is_no_migrate, file_is_no_dual, file_is_no_grid, run_is_no_migrate, run_is_no_dual, run_is_no_grid, migrate_is_no_dual, migrate_is_no_grid, dual_is_no_grid, same_named, same_migrated, same_dual}
+use Rattle.gm_tool.proofs.OneDual.{one_dual_answer}
 use Rattle.gm_tool.proofs.OneFile.{one_file_answer}
 use Rattle.gm_tool.proofs.OneGrid.{one_grid_answer}
 use Rattle.gm_tool.proofs.OneMigration.{one_migrate_answer}
@@ -54,29 +56,41 @@ one_answer words files one other (Usage never e) (Usage never' f) = e ∙ sym f
 one_answer words files one other (Usage never e) (OfFile command name asks is) = absurd (never (inl (command, name, asks)))
 one_answer words files one other (Usage never e) (OfRun named asks is) = absurd (never (inr (inl (inl (named, asks)))))
 one_answer words files one other (Usage never e) (OfMigrate named asks is) = absurd (never (inr (inl (inr (named, asks)))))
-one_answer words files one other (Usage never e) (OfGrid m asks is) = absurd (never (inr (inr (m, asks))))
+one_answer words files one other (Usage never e) (OfDual named asks is) = absurd (never (inr (inr (inl (named, asks)))))
+one_answer words files one other (Usage never e) (OfGrid m asks is) = absurd (never (inr (inr (inr (m, asks)))))
 one_answer words files one other (OfFile command name asks is) (Usage never f) = absurd (never (inl (command, name, asks)))
 one_answer words files one other (OfFile command name asks is) (OfFile command' name' asks' is') =
     let same = asked_once words command command' name name' asks asks' in
     one_file_answer files command name one other is (subst (λ c. IsFileAnswer files c name other) (sym same.0) (subst (λ n. IsFileAnswer files command' n other) (sym same.1) is'))
 one_answer words files one other (OfFile command name asks is) (OfRun named asks' is') = absurd (file_is_no_run words command name named asks asks')
 one_answer words files one other (OfFile command name asks is) (OfMigrate named asks' is') = absurd (file_is_no_migrate words command name named asks asks')
+one_answer words files one other (OfFile command name asks is) (OfDual named asks' is') = absurd (file_is_no_dual words command name named asks asks')
 one_answer words files one other (OfFile command name asks is) (OfGrid m asks' is') = absurd (file_is_no_grid words command name m asks asks')
 one_answer words files one other (OfRun named asks is) (Usage never f) = absurd (never (inr (inl (inl (named, asks)))))
 one_answer words files one other (OfRun named asks is) (OfFile command name asks' is') = absurd (file_is_no_run words command name named asks' asks)
 one_answer words files one other (OfRun named asks is) (OfRun named' asks' is') =
     one_run_answer files named one other is (subst (λ n. IsRunAnswer files n other) (sym (same_named words named named' asks asks')) is')
 one_answer words files one other (OfRun named asks is) (OfMigrate named' asks' is') = absurd (run_is_no_migrate words named named' asks asks')
+one_answer words files one other (OfRun named asks is) (OfDual named' asks' is') = absurd (run_is_no_dual words named named' asks asks')
 one_answer words files one other (OfRun named asks is) (OfGrid m asks' is') = absurd (run_is_no_grid words named m asks asks')
 one_answer words files one other (OfMigrate named asks is) (Usage never f) = absurd (never (inr (inl (inr (named, asks)))))
 one_answer words files one other (OfMigrate named asks is) (OfFile command name asks' is') = absurd (file_is_no_migrate words command name named asks' asks)
 one_answer words files one other (OfMigrate named asks is) (OfRun named' asks' is') = absurd (run_is_no_migrate words named' named asks' asks)
 one_answer words files one other (OfMigrate named asks is) (OfMigrate named' asks' is') =
     one_migrate_answer files named one other is (subst (λ n. IsMigrateAnswer files n other) (sym (same_migrated words named named' asks asks')) is')
+one_answer words files one other (OfMigrate named asks is) (OfDual named' asks' is') = absurd (migrate_is_no_dual words named named' asks asks')
 one_answer words files one other (OfMigrate named asks is) (OfGrid m asks' is') = absurd (migrate_is_no_grid words named m asks asks')
-one_answer words files one other (OfGrid m asks is) (Usage never f) = absurd (never (inr (inr (m, asks))))
+one_answer words files one other (OfDual named asks is) (Usage never f) = absurd (never (inr (inr (inl (named, asks)))))
+one_answer words files one other (OfDual named asks is) (OfFile command name asks' is') = absurd (file_is_no_dual words command name named asks' asks)
+one_answer words files one other (OfDual named asks is) (OfRun named' asks' is') = absurd (run_is_no_dual words named' named asks' asks)
+one_answer words files one other (OfDual named asks is) (OfMigrate named' asks' is') = absurd (migrate_is_no_dual words named' named asks' asks)
+one_answer words files one other (OfDual named asks is) (OfDual named' asks' is') =
+    one_dual_answer files named one other is (subst (λ n. IsDualAnswer files n other) (sym (same_dual words named named' asks asks')) is')
+one_answer words files one other (OfDual named asks is) (OfGrid m asks' is') = absurd (dual_is_no_grid words named m asks asks')
+one_answer words files one other (OfGrid m asks is) (Usage never f) = absurd (never (inr (inr (inr (m, asks)))))
 one_answer words files one other (OfGrid m asks is) (OfFile command name asks' is') = absurd (file_is_no_grid words command name m asks' asks)
 one_answer words files one other (OfGrid m asks is) (OfRun named asks' is') = absurd (run_is_no_grid words named m asks' asks)
 one_answer words files one other (OfGrid m asks is) (OfMigrate named asks' is') = absurd (migrate_is_no_grid words named m asks' asks)
+one_answer words files one other (OfGrid m asks is) (OfDual named asks' is') = absurd (dual_is_no_grid words named m asks' asks)
 one_answer words files one other (OfGrid m asks is) (OfGrid m' asks' is') =
     one_grid_answer m asks.greatest one other is (subst (λ n. IsGridAnswer n other) (sym (same_size words m m' asks asks')) is')

@@ -34,7 +34,7 @@ one_bad bytes _ _ _ (BadBook fault a) (BadBook other b) = ap book_fault_words (o
 pub no_bad_map : (bytes why : List ℕ) (version : MapVersion) (listed : ListedMap) → IsBad bytes TheMap why → MapText bytes version listed → ⊥
 no_bad_map bytes _ version listed (BadMap fault is) stands = no_map_at_fault bytes fault is version listed stands
 
-no_bad_book : (bytes why : List ℕ) (version : ℕ) (schema : Schema) (rules : List Rule) → IsBad bytes TheBook why → BookText bytes version schema rules → ⊥
+pub no_bad_book : (bytes why : List ℕ) (version : ℕ) (schema : Schema) (rules : List Rule) → IsBad bytes TheBook why → BookText bytes version schema rules → ⊥
 no_bad_book bytes _ version schema rules (BadBook fault is) stands = no_book_at bytes fault is version schema rules stands
 
 pub no_bad_output : (bytes why : List ℕ) (command : Command) (status : ℕ) (text : List ℕ) → IsBad bytes (role_of command) why → IsOutput bytes command status text → ⊥
@@ -69,15 +69,15 @@ one_output bytes _ _ _ _ _ (Counted version listed text a tells) (Counted versio
 -- ---- for a run
 
 pub one_bad_book : (bytes why other : List ℕ) → IsBadBook bytes why → IsBadBook bytes other → why ≡ other
-one_bad_book bytes why other (Unread fault a e) (Unread fault' b f) = e ∙ ap book_fault_words (one_book_fault bytes fault fault' a b) ∙ sym f
-one_bad_book bytes why other (Unread fault a e) (RuleRefused version schema rules b first) = absurd (no_book_at bytes fault a version schema rules b)
-one_bad_book bytes why other (RuleRefused version schema rules a first) (Unread fault b f) = absurd (no_book_at bytes fault b version schema rules a)
+one_bad_book bytes why other (Unread a) (Unread b) = one_bad bytes TheBook why other a b
+one_bad_book bytes why other (Unread a) (RuleRefused version schema rules b first) = absurd (no_bad_book bytes why version schema rules a b)
+one_bad_book bytes why other (RuleRefused version schema rules a first) (Unread b) = absurd (no_bad_book bytes other version schema rules b a)
 one_bad_book bytes why other (RuleRefused version schema rules a first) (RuleRefused version' schema' rules' b first') =
     let same = one_book bytes version version' schema schema' rules rules' a b in
     one_refused schema rules why other first (subst (λ s. IsFirstRefused s rules other) (sym same.1) (subst (λ rs. IsFirstRefused schema' rs other) (sym same.2) first'))
 
 pub no_bad_good_book : (bytes why : List ℕ) (version : ℕ) (schema : Schema) (rules : List Rule) → IsBadBook bytes why → BookText bytes version schema rules → All (IsAccepted schema) rules → ⊥
-no_bad_good_book bytes why version schema rules (Unread fault a e) stands accepted = no_book_at bytes fault a version schema rules stands
+no_bad_good_book bytes why version schema rules (Unread a) stands accepted = no_bad_book bytes why version schema rules a stands
 no_bad_good_book bytes why version schema rules (RuleRefused version' schema' rules' a first) stands accepted =
     let same = one_book bytes version version' schema schema' rules rules' stands a in
     none_refused schema rules why accepted (subst (λ s. IsFirstRefused s rules why) (sym same.1) (subst (λ rs. IsFirstRefused schema' rs why) (sym same.2) first))

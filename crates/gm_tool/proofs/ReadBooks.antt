@@ -6,7 +6,9 @@ use Rattle.std.proofs.lemmas.List.Elements.{All-from_recursion, recursion_from_A
 use Rattle.gm_model.specs.declared.rule.Book.{Book}
 use Rattle.gm_model.specs.declared.rule.RuleTable.{RuleTable}
 use Rattle.gm_forms.specs.BookText.{BookText}
+use Rattle.gm_model.specs.Kinds.{IsTyped}
 use Rattle.gm_model.specs.Maps.{IsSchema}
+use Rattle.gm_model.specs.Structure.{IsInRange}
 use Rattle.gm_model.specs.Rules.{rule_of}
 use Rattle.gm_book.proofs.ReadRange.{range_from_text}
 use Rattle.gm_book.proofs.ReadRules.{few_at_most}
@@ -34,3 +36,11 @@ checkable_rules text book read declared = unmap (IsCheckable book.schema) rule_o
 pub all_first : (text : List ℕ) (book : Book) → BookText text book.version book.schema (map rule_of book.rules) → first_rules book.rules ≡ map rule_of book.rules
 all_first text book read =
     ap (map rule_of) (take_all (2 ^ 16) book.rules (omega (arith, few_at_most text book.version book.schema (map rule_of book.rules) read, length-map book.rules rule_of)))
+
+-- each is in range, and each of its expressions has a kind
+module _ (text : List ℕ) (book : Book) (read : BookText text book.version book.schema (map rule_of book.rules)) (declared : IsSchema book.schema) where
+  pub rules_in_range : AllByRecursion (λ (rule : RuleTable). IsInRange book.schema (rule_of rule)) book.rules
+  rules_in_range = recursion_from_All (λ (rule : RuleTable). IsInRange book.schema (rule_of rule)) book.rules (λ k d b. (checkable_rules text book read declared k d b).in_range)
+
+  pub rules_typed : AllByRecursion (λ (rule : RuleTable). IsTyped book.schema (rule_of rule)) book.rules
+  rules_typed = recursion_from_All (λ (rule : RuleTable). IsTyped book.schema (rule_of rule)) book.rules (λ k d b. (checkable_rules text book read declared k d b).typed)

@@ -6,7 +6,7 @@ use Rattle.gm_host.specs.Saves.{IsSaved, IsSavedInPart}
 use Rattle.gm_tool.specs.Answer.{Files, Answer, answers, Saved}
 use Rattle.gm_tool.specs.Endings.{Whole, LoadFailed, SaveFailed, IsTextOf}
 use Rattle.gm_lines.specs.Refusing.{Role}
-use Rattle.gm_tool.specs.MadeRuns.{IsMade, IsStopOf, IsRunLoadFailure, IsSaving, IsRunText, IsRunStatus, IsMapBytes, HoldsMap, IsSoundReply}
+use Rattle.gm_tool.specs.MadeRuns.{IsMade, IsStopFor, IsRunLoadFailure, IsSaving, IsRunText, IsRunStatus, IsMapBytes, HoldsMap, IsSoundReply}
 use Rattle.gm_tool.specs.Refusals.{refusal_answer}
 use Rattle.gm_tool.specs.RunAnswer.{RunNames, IsRunAnswer, Done, report_of, saved_of, run_status}
 use Rattle.gm_tool.specs.Stops.{IsSoundStop, reply_of}
@@ -34,6 +34,13 @@ module _ (D L : Answer → Type 0) (save_fails : Type 0) (files : Files) (after 
   saved_text defined as_told as_put as_kept (Err (nothing.Refused refusals.SizeOutput)) h = absurd h
   saved_text defined as_told as_put as_kept (Err (nothing.Refused refusals.Agree)) h = absurd h
 
+-- what stopped before anything was saved
+pub stop_text : (D L : Answer → Type 0) (save_fails : Type 0) (files : Files) (after : Contents) → after ≡ Some files → (stop : Stop) → IsStopFor D L stop → IsTextOf files D L save_fails after (reply_of stop)
+stop_text D L save_fails files after same (stops.Bad text) h = Whole (answers 4 text.items) h refl refl same
+stop_text D L save_fails files after same (stops.NoText nothing.OutOfMemory) h = same
+stop_text D L save_fails files after same (stops.NoText (nothing.Refused why)) (inl h) = Whole (refusal_answer why) h refl refl same
+stop_text D L save_fails files after same (stops.NoText (nothing.Refused why)) (inr h) = LoadFailed h same
+
 module _ (named : RunNames) (load_fails : ℕ → Type 0) (save_fails : Type 0) where
   -- the report of a run that was made, saved or not
   pub text_saved : (contents after : Contents) (made : Made) (reply : Result Reply NoText) → IfSome contents (λ files. IsMade files named load_fails (Ok made)) → IsSaving contents named.out made save_fails after reply
@@ -43,16 +50,9 @@ module _ (named : RunNames) (load_fails : ℕ → Type 0) (save_fails : Type 0) 
       saved_text (IsRunAnswer files named) (IsRunLoadFailure files named load_fails) save_fails files after made (run_status ran.outcomes) (report_of inputs ran) (record { name = named.out; bytes = saved_of inputs ran })
       (Done inputs ran good fits.3 fits.4 refl) fits.0 fits.1 fits.2 reply saving
 
-  -- a run that stopped
-  stop_text : (files : Files) (after : Contents) → after ≡ Some files → (stop : Stop) → IsStopOf files named load_fails stop → IsRunText files named load_fails save_fails after (reply_of stop)
-  stop_text files after same (stops.Bad text) h = Whole (answers 4 text.items) h refl refl same
-  stop_text files after same (stops.NoText nothing.OutOfMemory) h = same
-  stop_text files after same (stops.NoText (nothing.Refused why)) (inl h) = Whole (refusal_answer why) h refl refl same
-  stop_text files after same (stops.NoText (nothing.Refused why)) (inr h) = LoadFailed h same
-
   pub stopped_text : (contents after : Contents) → after ≡ contents → (stop : Stop) → IfSome contents (λ files. IsMade files named load_fails (Err stop)) → IfSome contents (λ files. IsRunText files named load_fails save_fails after (reply_of stop))
   stopped_text None after same stop h = tt
-  stopped_text (Some files) after same stop h = stop_text files after same stop h
+  stopped_text (Some files) after same stop h = stop_text (IsRunAnswer files named) (IsRunLoadFailure files named load_fails) save_fails files after same stop h
 
 -- ---- whatever the store tells
 

@@ -12,16 +12,17 @@ use Rattle.gm_mapfile.specs.declared.reading.MapRead.{MapRead}
 use Rattle.gm_lines.specs.Refusing.{TheMap}
 use Rattle.gm_tool.specs.Answer.{Asks}
 use Rattle.gm_tool.specs.Answer as answer
+use Rattle.gm_tool.specs.DualAnswer.{DualNames, AsksDual}
 use Rattle.gm_tool.specs.GridAnswer.{AsksGrid}
 use Rattle.gm_tool.specs.MadeRuns.{IsRunStatus}
 use Rattle.gm_tool.specs.Migrating.{MigrateNames, AsksMigrate}
 use Rattle.gm_tool.specs.RunAnswer.{RunNames, AsksRun, IsBadMap}
-use Rattle.gm_tool.specs.StepBounds.{WithinMost, AtLeast, StaysWithin, TakesLeast, ShowsWithin, FileShowsWithin, ShowStaysWithin, MigrateStaysWithin, WithinGridMost, AtLeastOfGrid, GridStaysWithin, GridTakesLeast, BytesReadWithin, ReadsWithin, printing}
+use Rattle.gm_tool.specs.StepBounds.{WithinMost, AtLeast, StaysWithin, TakesLeast, ShowsWithin, FileShowsWithin, ShowStaysWithin, MigrateStaysWithin, DualsWithin, FileDualsWithin, DualStaysWithin, WithinGridMost, AtLeastOfGrid, GridStaysWithin, GridTakesLeast, BytesReadWithin, ReadsWithin, printing, turning}
 use Rattle.gm_tool.specs.Stops.{IsReadMap, IsFrom, reply_of}
 use Rattle.gm_tool.specs.declared.refusal.NoText.{NoText}
 use Rattle.gm_tool.specs.declared.refusal.Stop.{Stop}
 use Rattle.gm_tool.specs.declared.reply.Reply.{Reply}
-use Rattle.gm_tool.proofs.Asking.{same_named, same_migrated}
+use Rattle.gm_tool.proofs.Asking.{same_named, same_migrated, same_dual}
 use Rattle.gm_tool.proofs.OneAnswer.{asked_once, same_size}
 use Rattle.gm_tool.proofs.OneFile.{same_bytes}
 use Rattle.gm_tool.proofs.Saving.{stop_status, four_is_no_run}
@@ -112,6 +113,42 @@ migrated_within words named contents before after asks shown other asks_too = su
 
 pub none_migrated : (words : List (List ℕ)) (contents : Contents) (before after : ℕ) → ((named : MigrateNames) → AsksMigrate words named → ⊥) → MigrateStaysWithin words contents before after
 none_migrated words contents before after none named asks = absurd (none named asks)
+
+-- ---- a map and its dual
+
+turned_below : (s darts before middle after : ℕ) → middle ≤ before + 32 * s * (darts + 1) → after ≤ middle + 24 * s * (darts + 1) → after ≤ before + 56 * s * (darts + 1)
+turned_below s darts before middle after h k =
+    let one : 32 * s * (darts + 1) ≡ 32 * (s * (darts + 1)) = mul_assoc 32 s (darts + 1) in
+    let two : 24 * s * (darts + 1) ≡ 24 * (s * (darts + 1)) = mul_assoc 24 s (darts + 1) in
+    let three : 56 * s * (darts + 1) ≡ 56 * (s * (darts + 1)) = mul_assoc 56 s (darts + 1) in
+    omega (arith, h, k, one, two, three)
+
+turns_dual : (bytes : List ℕ) (read : MapRead) (before middle after : ℕ) → IsLawful read.arena → MapText bytes read.version (listed_of read.arena)
+    → BytesReadWithin bytes before middle → after ≤ middle + turning read.arena.schema.dim read.arena.count → DualsWithin bytes before after
+turns_dual bytes read before middle after lawful is reads turns version listed stands =
+    let same : listed_of read.arena ≡ listed = (one_map bytes read.version version (listed_of read.arena) listed is stands).1 in
+    let count : read.arena.count ≡ length (listed_of read.arena).darts = sym (darts_counted read.arena lawful) in
+    let turned : after ≤ middle + turning listed.schema.dim (length listed.darts) =
+    subst (λ (l : ListedMap). after ≤ middle + turning l.schema.dim (length l.darts)) same (subst (λ k. after ≤ middle + turning read.arena.schema.dim k) count turns) in
+    turned_below ((listed.schema.dim + 1) * (listed.schema.dim + 1)) (length listed.darts) before middle after (reads version listed stands) turned
+
+pub turned_dual : (contents : Contents) (name : List ℕ) (fails : Type 0) (read : MapRead) (before middle after : ℕ) → IsLawful read.arena → IsFrom contents TheMap name IsReadMap IsBadMap fails (Ok read)
+    → ReadsWithin contents name before middle → after ≤ middle + turning read.arena.schema.dim read.arena.count → FileDualsWithin contents name before after
+turned_dual None name fails read before middle after lawful is reads turns = tt
+turned_dual (Some files) name fails read before middle after lawful (bytes, held, is) reads turns = λ other there.
+    subst (λ b. DualsWithin b before after) (same_bytes files name bytes other held.0 there.0) (turns_dual bytes read before middle after lawful is.stands (reads bytes held) turns)
+
+-- a map that was read, and no more
+pub read_dual : (contents : Contents) (name : List ℕ) (before after : ℕ) → ReadsWithin contents name before after → FileDualsWithin contents name before after
+read_dual None name before after reads = tt
+read_dual (Some files) name before after reads = λ bytes held version listed stands.
+    turned_below ((listed.schema.dim + 1) * (listed.schema.dim + 1)) (length listed.darts) before after after (reads bytes held version listed stands) (omega arith)
+
+pub dual_within : (words : List (List ℕ)) (named : DualNames) (contents : Contents) (before after : ℕ) → AsksDual words named → FileDualsWithin contents named.map before after → DualStaysWithin words contents before after
+dual_within words named contents before after asks within other asks_too = subst (λ (n : DualNames). FileDualsWithin contents n.map before after) (same_dual words named other asks asks_too) within
+
+pub none_dual : (words : List (List ℕ)) (contents : Contents) (before after : ℕ) → ((named : DualNames) → AsksDual words named → ⊥) → DualStaysWithin words contents before after
+none_dual words contents before after none named asks = absurd (none named asks)
 
 -- ---- a grid
 

@@ -3,7 +3,6 @@ use Rattle.std.proofs.Common.{◌≡◌, ◌⊎◌, ℕ, ◌≤◌, List, ◌++�
 use Rattle.std.specs.Global.{Vec}
 use Rattle.std.specs.Prelude.{IfOk, IfErr, codes}
 use Rattle.gm_book.specs.declared.fault.BookFault.{BookFault}
-use Rattle.gm_book.specs.declared.fault.BookFault.TheVariants as book
 use Rattle.gm_book.specs.Faults as book_faults
 use Rattle.gm_host.specs.Store.{Contents, Lacks, IsHeld, IsLongerThan}
 use Rattle.gm_model.specs.declared.rule.RuleFault.{RuleFault}
@@ -13,17 +12,16 @@ use Rattle.gm_model.specs.Rules.{Rule}
 use Rattle.gm_script.specs.declared.fault.ScriptFault.{ScriptFault}
 use Rattle.gm_script.specs.declared.fault.ScriptFault.TheVariants as script
 use Rattle.gm_script.specs.Faults as script_faults
-use Rattle.gm_tool.specs.Answer.{Files, answers, most_bytes}
+use Rattle.gm_tool.specs.Answer.{Files, Answer, answers, most_bytes}
 use Rattle.gm_lines.specs.Refusing.{TheMap, TheBook, TheScript, role_word, refusal, IsBadLine}
 use Rattle.gm_lines.specs.Refusing as refusing
-use Rattle.gm_lines.specs.BookFaults as first_book
 use Rattle.gm_lines.specs.ScriptFaults as first_script
 use Rattle.gm_tool.specs.Books.{IsRuleStop}
 use Rattle.gm_lines.specs.Checking.{rule_fault_words}
 use Rattle.gm_lines.specs.FaultLines.{IsSaidOfBook, IsSaidOfScript, book_words, script_words}
 use Rattle.gm_tool.specs.Refusals.{role_in, refusal_answer}
 use Rattle.gm_tool.specs.Replies.{IsLoading}
-use Rattle.gm_tool.specs.RunAnswer.{IsRuleWhy, IsBadMap, IsBadBook, IsBadScript, Unread, IsFailing, Missing, Long, Bad}
+use Rattle.gm_tool.specs.RunAnswer.{IsRuleWhy, IsBadMap, IsBadBookText, IsBadBook, IsBadScript, Unread, IsFailing, Missing, Long, Bad}
 use Rattle.gm_tool.specs.Stops.{IsStopWith, IsBadFor, IsRoleStop, IsSoundStop, IsFrom}
 use Rattle.gm_tool.specs.declared.refusal.NoText.{NoText}
 use Rattle.gm_tool.specs.declared.refusal.NoText.TheVariants as nothing
@@ -31,6 +29,7 @@ use Rattle.gm_tool.specs.declared.refusal.Refusal.TheVariants as refusals
 use Rattle.gm_tool.specs.declared.refusal.Role.{Role}
 use Rattle.gm_tool.specs.declared.refusal.Stop.{Stop}
 use Rattle.gm_tool.specs.declared.refusal.Stop.TheVariants as stops
+use Rattle.gm_tool.proofs.Judging.{book_is_bad}
 
 -- ---- texts
 
@@ -48,21 +47,13 @@ module _ {E : Type 0} (bytes : List ℕ) (line : Result (Vec ℕ) E) (stop : Sto
       go (Ok text) (why, bad, same) e = subst (IsBadFor TheMap (IsBadMap bytes)) (sym e) (why, bad, same)
       go (Err error) h e = subst (IsBadFor TheMap (IsBadMap bytes)) (sym e) tt
 
-  book_unread : (fault : BookFault) → book_faults.IsFaultOf bytes fault → IsSaidOfBook fault → IsBadBook bytes (book_words fault)
-  book_unread (book.Text place) h said = Unread (first_book.Ends place) (first_book.AtEnds place h) refl
-  book_unread (book.Limit what place) h said = Unread (first_book.Passes what place) (first_book.AtPasses what place h) refl
-  book_unread (book.Twice place) h said = Unread _ (first_book.AtName _ h) refl
-  book_unread (book.Unknown place) h said = Unread _ (first_book.AtName _ h) refl
-  book_unread (book.WrongKind place) h said = Unread _ (first_book.AtName _ h) refl
-  book_unread book.OutOfMemory h said = absurd said
-
   pub book_stopped : (fault : BookFault) → book_faults.IsFaultOf bytes fault → IfOk line (λ text. IsSaidOfBook fault × (text.items ≡ refusal (codes "BOOK" ++ codes " " ++ book_words fault)))
-      → IsStopWith line stop → IsBadFor TheBook (IsBadBook bytes) stop
-  book_stopped fault h says is = stopped TheBook (IsBadBook bytes) (book_words fault) line stop (both line says) is
+      → IsStopWith line stop → IsBadFor TheBook (IsBadBookText bytes) stop
+  book_stopped fault h says is = stopped TheBook (IsBadBookText bytes) (book_words fault) line stop (both line says) is
     where
       both : (l : Result (Vec ℕ) E) → IfOk l (λ text. IsSaidOfBook fault × (text.items ≡ refusal (codes "BOOK" ++ codes " " ++ book_words fault)))
-          → IfOk l (λ text. IsBadBook bytes (book_words fault) × (text.items ≡ refusal (codes "BOOK" ++ codes " " ++ book_words fault)))
-      both (Ok l) e = (book_unread fault h e.0, e.1)
+          → IfOk l (λ text. IsBadBookText bytes (book_words fault) × (text.items ≡ refusal (codes "BOOK" ++ codes " " ++ book_words fault)))
+      both (Ok l) e = (book_is_bad bytes fault h e.0, e.1)
       both (Err e) f = tt
 
   module _ (n : ℕ) (rules : List Rule) where
@@ -162,6 +153,23 @@ module _ {A : Type 0} (role : refusing.Role) (name : List ℕ) (IsReadAs : List 
   read_from (Some files) bytes (Ok value) loaded read bad = (bytes, (loaded.1, loaded.0), read)
   read_from None bytes (Err stop) loaded read bad = (tt, bad_is_sound role (IsBadText bytes) _ stop bad)
   read_from (Some files) bytes (Err stop) loaded read bad = (bad_stop files bytes loaded.1 loaded.0 stop bad, bad_is_sound role (IsBadText bytes) _ stop bad)
+
+-- a text that stands for no book is none that can be run
+pub unread_book : {A : Type 0} (contents : Contents) (name : List ℕ) (IsReadAs : List ℕ → A → Type 0) (fails : Type 0) (stop : Stop) → IsFrom {A = A} contents TheBook name IsReadAs IsBadBookText fails (Err stop)
+    → IsFrom {A = A} contents TheBook name IsReadAs IsBadBook fails (Err stop)
+unread_book None name IsReadAs fails stop h = h
+unread_book (Some files) name IsReadAs fails stop (why, cause) = (at stop why, cause)
+  where
+    failing : (answer : Answer) → IsFailing files TheBook name IsBadBookText answer → IsFailing files TheBook name IsBadBook answer
+    failing answer (Missing is e) = Missing is e
+    failing answer (Long bytes is long e) = Long bytes is long e
+    failing answer (Bad bytes why held bad e) = Bad bytes why held (Unread bad) e
+
+    at : (stop : Stop) → IsRoleStop files TheBook name IsBadBookText fails stop → IsRoleStop files TheBook name IsBadBook fails stop
+    at (stops.Bad line) h = failing _ h
+    at (stops.NoText nothing.OutOfMemory) h = tt
+    at (stops.NoText (nothing.Refused why)) (inl h) = inl (failing _ h)
+    at (stops.NoText (nothing.Refused why)) (inr h) = inr h
 
 -- what is read is read of some bytes
 pub some_bytes : {A : Type 0} (IsReadAs : List ℕ → A → Type 0) (result : Result A Stop) (bytes : List ℕ) → IfOk result (IsReadAs bytes) → IfOk result (λ value. (text : List ℕ) × IsReadAs text value)

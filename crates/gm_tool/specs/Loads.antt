@@ -10,7 +10,6 @@ use Rattle.gm_tool.specs.declared.refusal.NoText.TheVariants as nothing
 use Rattle.gm_tool.specs.declared.refusal.Stop.{Stop}
 use Rattle.gm_tool.specs.declared.refusal.Stop.TheVariants as stops
 use Rattle.gm_tool.specs.declared.reply.Reply.{Reply}
-use Rattle.gm_tool.specs.declared.running.Made.{Made}
 
 -- a count of loads after so many more
 abbrev pub loads_after : ℕ → ℕ → ℕ
@@ -23,7 +22,7 @@ FailsAt faults later_faults loads later_loads k = Rises faults later_faults × (
 
 -- ---- a run
 
--- which load of a run is that of the role's file, counted from 1
+-- which load is that of the role's file, counted from 1
 abbrev pub load_of : Role → ℕ
 load_of TheMap = 1
 load_of TheBook = 2
@@ -38,9 +37,13 @@ file_of named TheScript = named.script
 abbrev pub PassesAt : Contents → RunNames → Role → Type 0
 PassesAt contents named role = IfSome contents (λ files. PassesTo files named role)
 
+-- one load for each file up to that of some role, before which each is good
+abbrev pub LoadsUpTo : (Role → Type 0) → ℕ → ℕ → Type 0
+LoadsUpTo PassesTo before after = (role : Role) × PassesTo role × (after ≡ loads_after (load_of role) before)
+
 -- one load for each file of a run up to that of some role, each good but perhaps the last
 abbrev pub LoadsInOrder : Contents → RunNames → ℕ → ℕ → Type 0
-LoadsInOrder contents named before after = (role : Role) × PassesAt contents named role × (after ≡ loads_after (load_of role) before)
+LoadsInOrder contents named = LoadsUpTo (PassesAt contents named)
 
 -- the load of the role's file failed, or the store lacks that file; and each file before it is good
 abbrev pub IsUnloaded : Contents → RunNames → (ℕ → Type 0) → Role → Type 0
@@ -90,6 +93,6 @@ UnlessNoMemory (Err nothing.OutOfMemory) P = Unit {0}
 UnlessNoMemory _ P = P
 
 -- the same of what is made
-abbrev pub UnlessNoMemoryToMake : Result Made Stop → Type 0 → Type 0
+abbrev pub UnlessNoMemoryToMake : {A : Type 0} → Result A Stop → Type 0 → Type 0
 UnlessNoMemoryToMake (Err (stops.NoText nothing.OutOfMemory)) P = Unit {0}
 UnlessNoMemoryToMake _ P = P

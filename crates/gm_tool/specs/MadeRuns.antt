@@ -13,7 +13,6 @@ use Rattle.gm_mapfile.specs.MapText.{ListedMap, MapText, map_of, canonical}
 use Rattle.gm_mapfile.specs.declared.version.MapVersion.{MapVersion}
 use Rattle.gm_model.specs.Rules.{rule_of}
 use Rattle.gm_script.specs.ScriptText.{ScriptText}
-use Rattle.gm_text.specs.SchemaPrinting.{AreParts}
 use Rattle.gm_plan.specs.Plans.{PlanOf, plan_of}
 use Rattle.gm_tool.specs.Answer.{most_bytes, Files, Answer, answers}
 use Rattle.gm_lines.specs.Refusing.{refusal, role_word}
@@ -42,7 +41,6 @@ inputs_of version m book script = record { version = version; map = listed_of m;
 -- what was read can be run
 pub record CanRun (m : ArenaMap) (book : Book) (script : Script) (plans : List PlanOf) : Type 0 where
   pub sound : IsSound (as_map m)
-  pub parts : AreParts m.schema.embeds
   pub agree : m.schema ≡ book.schema
   pub plans_are : plans ≡ map (plan_of book.schema) book.rules
   pub text : List ℕ
@@ -77,11 +75,14 @@ IsMapBytes bytes = (version : MapVersion) × (listed : ListedMap) × (bytes ≡ 
 abbrev pub IsRunLoadFailure : Files → RunNames → (ℕ → Type 0) → Answer → Type 0
 IsRunLoadFailure files named load_fails given = (role : refusing.Role) × load_fails (load_of role) × PassesTo files named role × (given ≡ answers 3 (refusal (codes "load " ++ role_word role)))
 
--- the run stops as its answer says, or for a load that failed, or for want of memory
+-- a stop as an answer says, or for a load that failed, or for want of memory
+abbrev pub IsStopFor : (Answer → Type 0) → (Answer → Type 0) → Stop → Type 0
+IsStopFor IsDefined IsLoadFailure (stops.Bad line) = IsDefined (answers 4 line.items)
+IsStopFor IsDefined IsLoadFailure (stops.NoText nothing.OutOfMemory) = Unit {0}
+IsStopFor IsDefined IsLoadFailure (stops.NoText (nothing.Refused why)) = IsDefined (refusal_answer why) ⊎ IsLoadFailure (refusal_answer why)
+
 abbrev pub IsStopOf : Files → RunNames → (ℕ → Type 0) → Stop → Type 0
-IsStopOf files named load_fails (stops.Bad line) = IsRunAnswer files named (answers 4 line.items)
-IsStopOf files named load_fails (stops.NoText nothing.OutOfMemory) = Unit {0}
-IsStopOf files named load_fails (stops.NoText (nothing.Refused why)) = IsRunAnswer files named (refusal_answer why) ⊎ IsRunLoadFailure files named load_fails (refusal_answer why)
+IsStopOf files named load_fails stop = IsStopFor (IsRunAnswer files named) (IsRunLoadFailure files named load_fails) stop
 
 -- what is saved and put of a run, or why it stops
 abbrev pub IsMade : Files → RunNames → (ℕ → Type 0) → Result Made Stop → Type 0

@@ -1,5 +1,5 @@
 -- What the migration of a map to the second version of the format answers: the status, the line, and the text that is saved.
-use Rattle.std.specs.Prelude.{◌≡◌, ◌⊎◌, ℕ, ◌<◌, ◌≤◌, List, [], ◌∷◌, ◌++◌, length, Some, Result, Ok, Err, codes, decimal}
+use Rattle.std.specs.Prelude.{◌≡◌, ℕ, ◌<◌, ◌≤◌, List, [], ◌∷◌, ◌++◌, length, Some, Result, Ok, Err, codes, decimal}
 use Rattle.gm_host.specs.Store.{Contents}
 use Rattle.gm_lines.specs.Refusing.{TheMap, role_word, refusal}
 use Rattle.gm_mapfile.specs.MapText.{ListedMap, MapText, canonical}
@@ -64,7 +64,3 @@ IsMigrateLoadFailure load_fails given = load_fails 1 × (given ≡ answers 3 (re
 -- the text to put of a migration, and what the store then holds
 abbrev pub IsMigrateText : Files → MigrateNames → (ℕ → Type 0) → Type 0 → Contents → Result Reply NoText → Type 0
 IsMigrateText files named load_fails save_fails after reply = IsTextOf files (IsMigrateAnswer files named) (IsMigrateLoadFailure load_fails) save_fails after reply
-
--- the statuses of a reply to a migration: done, or a text that stands for no map
-abbrev pub IsMigrateStatus : ℕ → Type 0
-IsMigrateStatus status = (status ≡ 0) ⊎ (status ≡ 4)

@@ -57,6 +57,10 @@ IsJudged bytes command (Err (nothing.Refused (Size role))) = ⊥
 IsJudged bytes command (Err (nothing.Refused Agree)) = ⊥
 IsJudged bytes command (Err (nothing.Refused Save)) = ⊥
 
+-- the statuses of a reply in which no rule and no line is refused: done, or a text that stands for nothing
+abbrev pub IsPlainStatus : ℕ → Type 0
+IsPlainStatus status = (status ≡ 0) ⊎ (status ≡ 4)
+
 -- a text that is not too long, with its status; or it is
 abbrev pub IsWithinLimit : ℕ → List ℕ → Result Reply NoText → Type 0
 IsWithinLimit status text (Ok reply) = (reply.status ≡ status) × (reply.text.items ≡ text) × (length text ≤ most_bytes)

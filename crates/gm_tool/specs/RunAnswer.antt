@@ -16,7 +16,6 @@ use Rattle.gm_model.specs.Runs.{Outcome, State, start_of, IsRun}
 use Rattle.gm_script.specs.ScriptText.{ScriptText}
 use Rattle.gm_tool.specs.Answer.{most_bytes, Files, Answer, answers, HasFile}
 use Rattle.gm_lines.specs.Refusing.{Role, TheMap, TheBook, TheScript, role_word, refusal, IsBad}
-use Rattle.gm_lines.specs.BookFaults.{BookTextFault, IsFirstBookFault, book_fault_words}
 use Rattle.gm_lines.specs.Checking.{rule_fault_words}
 use Rattle.gm_lines.specs.ScriptFaults.{ScriptTextFault, IsFirstScriptFault, script_fault_words}
 
@@ -50,9 +49,12 @@ pub record IsFirstRefused (schema : Schema) (rules : List Rule) (why : List ℕ)
   pub says : IsRuleWhy schema rule why
   pub before : (k : ℕ) (other : Rule) → k < place → slice_get rules k ≡ Some other → IsAccepted schema other
 
+abbrev pub IsBadBookText : List ℕ → List ℕ → Type 0
+IsBadBookText bytes why = IsBad bytes TheBook why
+
 -- the text stands for no book, or for one with a rule that isn't accepted
 pub data IsBadBook (bytes why : List ℕ) : Type 0 where
-  Unread : (fault : BookTextFault) → IsFirstBookFault bytes fault → why ≡ book_fault_words fault → IsBadBook bytes why
+  Unread : IsBadBookText bytes why → IsBadBook bytes why
   RuleRefused : (version : ℕ) (schema : Schema) (rules : List Rule) → BookText bytes version schema rules → IsFirstRefused schema rules why → IsBadBook bytes why
 
 abbrev pub IsBadMap : List ℕ → List ℕ → Type 0

@@ -1,4 +1,4 @@
--- How many steps a run of the program and a grid take: the most, and the least; and the most of a map that is shown or migrated.
+-- How many steps a run of the program and a grid take: the most, and the least; and the most of a map that is shown, migrated or turned into its dual.
 use Rattle.std.specs.Prelude.{ℕ, ◌+◌, ◌*◌, ◌≤◌, List, length, IfSome}
 use Rattle.gm_grid.specs.GridMap.{dart_count}
 use Rattle.gm_host.specs.Store.{Contents}
@@ -9,6 +9,7 @@ use Rattle.gm_model.specs.Orbits.{HasCount}
 use Rattle.gm_model.specs.Budgets.{Bounds, no_entries, IsRunWithin}
 use Rattle.gm_model.specs.Runs.{State, start_of}
 use Rattle.gm_tool.specs.Answer.{Files, HasFile, Asks, Show}
+use Rattle.gm_tool.specs.DualAnswer.{DualNames, AsksDual}
 use Rattle.gm_tool.specs.GridAnswer.{AsksGrid, Gridded, IsGridded, grid_rules, grid_stats}
 use Rattle.gm_tool.specs.MadeRuns.{IsRunStatus}
 use Rattle.gm_tool.specs.Migrating.{MigrateNames, AsksMigrate}
@@ -37,6 +38,13 @@ printing n darts = 8 * ((n + 1) * (n + 1)) * (darts + 1)
 -- and what it takes to be read and printed
 abbrev pub showing : ℕ → ℕ → ℕ
 showing n darts = 40 * ((n + 1) * (n + 1)) * (darts + 1)
+
+-- what it takes to turn it into its dual and to print that, and what it takes to read it besides
+abbrev pub turning : ℕ → ℕ → ℕ
+turning n darts = 24 * ((n + 1) * (n + 1)) * (darts + 1)
+
+abbrev pub dualising : ℕ → ℕ → ℕ
+dualising n darts = 56 * ((n + 1) * (n + 1)) * (darts + 1)
 
 -- what it takes at most to read a map of so many darts, to test its laws, and to print the one of so many that is left
 abbrev pub handling : ℕ → ℕ → ℕ → ℕ
@@ -87,6 +95,20 @@ ShowStaysWithin words contents before after = (name : List ℕ) → Asks words S
 abbrev pub MigrateStaysWithin : List (List ℕ) → Contents → ℕ → ℕ → Type 0
 MigrateStaysWithin words contents before after = (named : MigrateNames) → AsksMigrate words named → FileShowsWithin contents named.map before after
 
+-- ---- a map and its dual
+
+-- where the bytes stand for a map, no more steps than reading it and putting its dual
+abbrev pub DualsWithin : List ℕ → ℕ → ℕ → Type 0
+DualsWithin bytes before after = (version : MapVersion) (map : ListedMap) → MapText bytes version map → after ≤ before + dualising map.schema.dim (length map.darts)
+
+-- where the store tells, the same of the file of that name
+abbrev pub FileDualsWithin : Contents → List ℕ → ℕ → ℕ → Type 0
+FileDualsWithin contents name before after = IfSome contents (λ files. (bytes : List ℕ) → HasFile files name bytes → DualsWithin bytes before after)
+
+-- and where the words are `dual` and that name; the book takes none
+abbrev pub DualStaysWithin : List (List ℕ) → Contents → ℕ → ℕ → Type 0
+DualStaysWithin words contents before after = (named : DualNames) → AsksDual words named → FileDualsWithin contents named.map before after
+
 -- ---- a grid
 
 -- the fewest and the most steps of the statements together, each at the state that it is met in
@@ -124,6 +146,7 @@ pub record KeepsSteps (words : List (List ℕ)) (contents : Contents) (status be
   pub least : TakesLeast words contents status before after
   pub show_most : ShowStaysWithin words contents before after
   pub migrate_most : MigrateStaysWithin words contents before after
+  pub dual_most : DualStaysWithin words contents before after
   pub grid_most : GridStaysWithin words before after
   pub grid_least : GridTakesLeast words status before after
 

@@ -4,6 +4,7 @@ use Rattle.std.specs.Global.{Global}
 use Rattle.gm_tool.specs.Answer.{Answer, answers, Files, Asks, role_of, IsFileAnswer}
 use Rattle.gm_lines.specs.Refusing.{Role, role_word, refusal}
 use Rattle.gm_tool.specs.Answer as answer
+use Rattle.gm_tool.specs.DualAnswer.{DualNames, AsksDual, IsDualLoadFailure, IsDualUnloaded, DualLoadsInOrder, CountsDualLoads}
 use Rattle.gm_tool.specs.Endings.{IsEnding, IsTextOf}
 use Rattle.gm_tool.specs.Loads.{FailsAt, CountsLoads, LoadsInOrder, IsUnloaded, OneAtMost, CountsSaves}
 use Rattle.gm_tool.specs.MadeRuns.{IsRunLoadFailure, IsRunStatus, IsMapBytes, IsSoundText, HoldsSuch, LoadsAtMostThrice}
@@ -37,6 +38,7 @@ pub data IsLoadFailure (words : List (List ℕ)) (files : Files) (load_fails : �
   OfFile : (command : answer.Command) (name : List ℕ) → Asks words command name → IsFileLoadFailure command load_fails given → IsLoadFailure words files load_fails given
   OfRun : (named : RunNames) → AsksRun words named → IsRunLoadFailure files named load_fails given → IsLoadFailure words files load_fails given
   OfMigrate : (named : MigrateNames) → AsksMigrate words named → IsMigrateLoadFailure load_fails given → IsLoadFailure words files load_fails given
+  OfDual : (named : DualNames) → AsksDual words named → IsDualLoadFailure files named load_fails given → IsLoadFailure words files load_fails given
 
 -- the text to put is that of the words' answer or of a fault of the store, and the store holds what it then holds
 abbrev pub IsText : List (List ℕ) → Files → (ℕ → Type 0) → Type 0 → Contents → Result Reply NoText → Type 0
@@ -69,6 +71,7 @@ pub data IsLoadCause (words : List (List ℕ)) (contents : Contents) (load_fails
   ForFile : (command : answer.Command) (name : List ℕ) → Asks words command name → load_fails 1 ⊎ Lacks contents name → IsLoadCause words contents load_fails
   ForRun : (named : RunNames) → AsksRun words named → (role : Role) → IsUnloaded contents named load_fails role → IsLoadCause words contents load_fails
   ForMigrate : (named : MigrateNames) → AsksMigrate words named → load_fails 1 ⊎ Lacks contents named.map → IsLoadCause words contents load_fails
+  ForDual : (named : DualNames) → AsksDual words named → (role : Role) → IsDualUnloaded contents named load_fails role → IsLoadCause words contents load_fails
 
 -- where the words are a command that saves and the store tells, the store holds such bytes under the name to save under
 abbrev pub HoldsSaved : (List ℕ → Type 0) → List (List ℕ) → Contents → Type 0
@@ -102,12 +105,14 @@ pub record EndsAs (words : List (List ℕ)) (before after : Seen) (status : ℕ)
   pub usage : status ≡ 2 → IsCommand words → ⊥
   pub no_command : (IsCommand words → ⊥) → IsUsageStatus status
   pub refused : status ≡ 1 → IsCheck words ⊎ IsRunCommand words
-  -- each file is loaded once at most, and those of a run in their order
+  -- each file is loaded once at most, and those of a run or of `dual` in their order
   pub loads : LoadsAtMostThrice before.loads after.loads
   pub no_load : ReadsNoFile words → after.loads ≡ before.loads
   pub one_load : ReadsOneFile words → after.loads ≡ counted before.loads
   pub loads_in_order : (named : RunNames) → AsksRun words named → LoadsInOrder before.holds named before.loads after.loads
+  pub dual_loads_in_order : (named : DualNames) → AsksDual words named → DualLoadsInOrder before.holds named before.loads after.loads
   pub counted_loads : status ≢ 7 → CountsLoads words before.holds (Rises before.load_faults after.load_faults) before.loads after.loads
+  pub counted_dual_loads : status ≢ 7 → CountsDualLoads words before.holds (Rises before.load_faults after.load_faults) before.loads after.loads
   pub load_failed : status ≡ 3 → IsLoadCause words before.holds (FailsAt before.load_faults after.load_faults before.loads after.loads)
   -- there is one save at most, and only of a command that saves
   pub held : (IsSavingCommand words → ⊥) → after.holds ≡ before.holds

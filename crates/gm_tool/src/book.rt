@@ -7,7 +7,7 @@ ghost use Rattle.gm_tool.specs.Answer as answer;
 ghost use Rattle.gm_lines.specs.Refusing.{TheBook};
 ghost use Rattle.gm_tool.specs.Books.{IsCheckable, IsRuleStop};
 ghost use Rattle.gm_tool.specs.Replies.{IsJudged, IsBookRefusal};
-ghost use Rattle.gm_tool.specs.RunAnswer.{IsBadBook, IsFirstRefused};
+ghost use Rattle.gm_tool.specs.RunAnswer.{IsBadBookText, IsFirstRefused};
 ghost use Rattle.gm_tool.specs.Stops.{IsReadBook, IsBadFor};
 
 use crate::refusal::{NoText, Stop};
@@ -43,7 +43,7 @@ pub fn refused(alloc: Global, fault: BookFault) -> Result<Reply, NoText>
 pub fn read(alloc: Global, bytes: &[u8]) -> Result<Book, Stop>
     ensures book { IfOk result (IsReadBook bytes.now) }
     ensures declared { IfOk result (λ book. IsSchema book.schema) }
-    ensures stop { IfErr result (IsBadFor TheBook (IsBadBook bytes.now)) }
+    ensures stop { IfErr result (IsBadFor TheBook (IsBadBookText bytes.now)) }
 {
     match read_book(alloc, bytes) {
         Ok(book) => Ok(book),

@@ -1,9 +1,10 @@
 ghost use Rattle.std.specs.Prelude.{MatchBool, MatchOption, ◌≡◌, ◌≤◌, ℕ, decimal};
 ghost use Rattle.gm_tool.specs.Answer.{Asks, command_word};
+ghost use Rattle.gm_tool.specs.DualAnswer.{AsksDual, dual_names_of};
 ghost use Rattle.gm_tool.specs.GridAnswer.{AsksGrid};
 ghost use Rattle.gm_tool.specs.MadeRuns.{names_of};
 ghost use Rattle.gm_tool.specs.Migrating.{AsksMigrate, migrate_names_of};
-ghost use Rattle.gm_tool.specs.Program.{IsFileCommand, IsRunCommand, IsMigrateCommand, IsGridCommand};
+ghost use Rattle.gm_tool.specs.Program.{IsFileCommand, IsRunCommand, IsMigrateCommand, IsDualCommand, IsGridCommand};
 ghost use Rattle.gm_tool.specs.RunAnswer.{AsksRun};
 ghost use Rattle.gm_tool.specs.Refusals.{command_in, IsNoCommandWord};
 ghost use Rattle.gm_tool.specs.Tool.{words_of};
@@ -37,6 +38,13 @@ pub struct RunFiles<'w> {
 pub struct MigrateFiles<'w> {
     pub map: &'w str,
     pub out: &'w str,
+}
+
+/// The files whose duals are put, by name.
+#[derive(Clone, Copy)]
+pub struct DualFiles<'w> {
+    pub map: &'w str,
+    pub book: &'w str,
 }
 
 /// The command and the name of its file, or `None` where the words are no command on one file. The
@@ -83,6 +91,23 @@ pub fn migrate_of(words: &[String]) -> Option<MigrateFiles<'_>>
         "migrate" => Some(MigrateFiles {
             map: map.as_str(),
             out: out.as_str(),
+        }),
+        _ => None,
+    }
+}
+
+/// The files of `dual MAP BOOK`, or `None` where the words are anything else.
+pub fn dual_of(words: &[String]) -> Option<DualFiles<'_>>
+    ensures { MatchOption result (IsDualCommand (words_of words.now) → ⊥)
+        (λ files. AsksDual (words_of words.now) (dual_names_of files)) }
+{
+    let [word, map, book] = words else {
+        return None;
+    };
+    match word.as_str() {
+        "dual" => Some(DualFiles {
+            map: map.as_str(),
+            book: book.as_str(),
         }),
         _ => None,
     }

@@ -7,6 +7,7 @@ mod book;
 mod cells;
 mod check;
 mod command;
+mod dual;
 mod existence;
 mod grid;
 mod laws;

@@ -1,13 +1,16 @@
 //! The migration of a map to the second version of the format.
 ghost use Rattle.std.specs.Prelude.{◌≡◌, ◌+◌, ◌≤◌, ◌⊎◌, IfOk, IfSome, IsErrOf};
+ghost use Rattle.gm_arena.specs.ArenaAsMap.{as_map};
 ghost use Rattle.gm_arena.specs.Lawful.{IsLawful};
 ghost use Rattle.gm_host.specs.Count.{counted, Rises};
 ghost use Rattle.gm_host.specs.Store.{Lacks};
 ghost use Rattle.gm_mapfile.specs.Rows.{listed_of};
+ghost use Rattle.gm_model.specs.Maps.{IsSound};
 ghost use Rattle.gm_tool.specs.Endings.{status_given};
 ghost use Rattle.gm_tool.specs.Loads.{FailsAt, CountsSaves};
-ghost use Rattle.gm_tool.specs.MadeRuns.{HoldsMap, IsRunStatus, IsSoundReply};
-ghost use Rattle.gm_tool.specs.Migrating.{migrate_names_of, migrated_line, IsMigrated, IsMigrateStatus, IsMigrateText};
+ghost use Rattle.gm_tool.specs.MadeRuns.{HoldsMap, IsMapBytes, IsRunStatus, IsSoundReply};
+ghost use Rattle.gm_tool.specs.Migrating.{migrate_names_of, migrated_line, IsMigrated, IsMigrateText};
+ghost use Rattle.gm_tool.specs.Replies.{IsPlainStatus};
 ghost use Rattle.gm_tool.specs.StepBounds.{FileShowsWithin, printing};
 ghost use Rattle.gm_tool.specs.declared.refusal.NoText.TheVariants as nothing;
 
@@ -45,6 +48,7 @@ fn prepared<L: Ledger>(
 ) -> Result<Made, NoText>
     ensures lawful { IsLawful arena.now }
     ensures made { IsMigrated (listed_of arena.now) result }
+    ensures map { IfOk result (λ made. IsSound (as_map arena.now) → IsMapBytes made.map.items) }
     ensures most { steps.new ≤ steps.old + printing arena.now.schema.dim arena.now.count }
 {
     prove!(arena.count() <= MOST_DARTS);
@@ -72,7 +76,7 @@ pub fn answer<S: Store, L: Ledger>(
     ensures one_load { S.loads store.new ≡ counted (S.loads store.old) }
     ensures text { IfSome (S.holds store.old) (λ held. IsMigrateText held (migrate_names_of files.entry)
         (FailsAt (S.load_faults store.old) (S.load_faults store.new) (S.loads store.old) (S.loads store.new)) (Rises (S.save_faults store.old) (S.save_faults store.new)) (S.holds store.new) result) }
-    ensures statuses { IfOk result (λ reply. IsMigrateStatus reply.status) }
+    ensures statuses { IfOk result (λ reply. IsPlainStatus reply.status) }
     ensures sound { IsSoundReply result
         (λ _. FailsAt (S.load_faults store.old) (S.load_faults store.new) (S.loads store.old) (S.loads store.new) 1 ⊎ Lacks (S.holds store.old) files.entry.map.now)
         (Rises (S.save_faults store.old) (S.save_faults store.new)) }

@@ -12,11 +12,11 @@ ghost use Rattle.gm_tool.specs.StepBounds.{KeepsSteps, ShowsWithin, FileShowsWit
 ghost use Rattle.gm_tool.specs.Tool.{words_of, IsText, IsFileText, IsPut, IsReplyStatus, LeavesWhereTold, EndsAs};
 ghost use Rattle.gm_tool.specs.declared.refusal.NoText.TheVariants as nothing;
 
-use crate::command::{Command, command_of, grid_of, migrate_of, run_of};
+use crate::command::{Command, command_of, dual_of, grid_of, migrate_of, run_of};
 use crate::load::load_file;
 use crate::refusal::{NoText, Refusal, Role};
 use crate::reply::Reply;
-use crate::{book, cells, check, grid, map, migrating, running};
+use crate::{book, cells, check, dual, grid, map, migrating, running};
 use gm_arena::Steps;
 use gm_host::{PutFault, Sink, Store};
 use std::alloc::Global;
@@ -99,6 +99,9 @@ fn reply_to<S: Store, L: Ledger>(
     }
     if let Some(files) = migrate_of(words) {
         return migrating::answer(alloc, files, store, steps);
+    }
+    if let Some(files) = dual_of(words) {
+        return dual::answer(alloc, files, store, steps);
     }
     let Some(files) = run_of(words) else {
         return Err(NoText::Refused(Refusal::Usage));

@@ -1,6 +1,6 @@
 ghost use Rattle.std.specs.Prelude.{◌≡◌, ◌↔◌, ◌+◌, ◌≤◌, ◌⊎◌, ℕ, IfOk, IfErr, IfSome, IsErrOf, IsTrue, List, map};
 ghost use Rattle.gm_host.specs.Count.{counted, Rises};
-ghost use Rattle.gm_model.specs.Maps.{IsSchema};
+ghost use Rattle.gm_model.specs.Maps.{IsSchema, IsSound};
 ghost use Rattle.gm_model.specs.Rules.{rule_of};
 ghost use Rattle.gm_lines.specs.Refusing.{TheMap, TheBook, TheScript};
 ghost use Rattle.gm_tool.specs.Begun.{Counts, HasBegun};
@@ -8,10 +8,11 @@ ghost use Rattle.gm_tool.specs.Endings.{status_given};
 ghost use Rattle.gm_tool.specs.Loads.{FailsAt, StopsInTime, LoadsInOrder, IsUnloaded, CountsSaves, UnlessNoMemory, UnlessNoMemoryToMake};
 ghost use Rattle.gm_tool.specs.MadeRuns.{names_of, inputs_of, CanRun, IsFitted, IsPrinted, IsRunOf, IsMapBytes, IsMade, IsRunStatus, HoldsMap, IsRunText, IsSaving, IsSoundReply};
 ghost use Rattle.gm_tool.specs.Tool.{IsReplyStatus};
-ghost use Rattle.gm_tool.specs.RunAnswer.{IsBadMap, IsBadBook, IsBadScript, says_refused, run_status};
+ghost use Rattle.gm_tool.specs.RunAnswer.{IsBadMap, IsBadBookText, IsBadScript, says_refused, run_status};
 ghost use Rattle.gm_tool.specs.declared.refusal.NoText.TheVariants as nothing;
 ghost use Rattle.gm_tool.specs.StepBounds.{ReadsWithin, RunsWithin, RunsAtLeast, WithinMost, AtLeast, printing};
 ghost use Rattle.gm_tool.specs.Stops.{IsFrom, IsReadMap, IsReadBook, IsReadScript, IsSoundStop};
+ghost use Rattle.gm_arena.specs.ArenaAsMap.{as_map};
 ghost use Rattle.gm_arena.specs.Lawful.{IsLawful};
 ghost use Rattle.gm_mapfile.specs.Rows.{listed_of};
 ghost use Rattle.gm_mapfile.specs.MapText.{canonical};
@@ -73,7 +74,8 @@ pub fn load_map<S: Store, L: Ledger>(
     Ok(LoadedMap { read, bytes })
 }
 
-fn load_book<S: Store>(alloc: Global, name: &str, store: &mut S) -> Result<Book, Stop>
+/// The book in the file of this name, or why there is none.
+pub fn load_book<S: Store>(alloc: Global, name: &str, store: &mut S) -> Result<Book, Stop>
     ensures held { S.holds store.new ≡ S.holds store.old }
     ensures no_save { S.saves store.new ≡ S.saves store.old }
     ensures no_save_fault { S.save_faults store.new ≡ S.save_faults store.old }
@@ -81,7 +83,7 @@ fn load_book<S: Store>(alloc: Global, name: &str, store: &mut S) -> Result<Book,
     ensures once { S.loads store.new ≡ counted (S.loads store.old) }
     ensures read { IfOk result (λ book. (bytes : List ℕ) × IsReadBook bytes book) }
     ensures declared { IfOk result (λ book. IsSchema book.schema) }
-    ensures from { IsFrom (S.holds store.old) TheBook name.now IsReadBook IsBadBook (Rises (S.load_faults store.old) (S.load_faults store.new)) result }
+    ensures from { IsFrom (S.holds store.old) TheBook name.now IsReadBook IsBadBookText (Rises (S.load_faults store.old) (S.load_faults store.new)) result }
 {
     let bytes = load_file(alloc, name, Role::Book, store)?;
     book::read(alloc, bytes.as_slice())
@@ -165,6 +167,7 @@ fn printed<L: Ledger>(
     ensures texts { (told : List runs.Outcome) → Tells report.lines told → IsPrinted (run_status told)
         (report_text book.now.schema (map rule_of book.now.rules) script.stats told report.darts report.next)
         (canonical version (listed_of arena.now)) result }
+    ensures map { IfOk result (λ made. IsSound (as_map arena.now) → IsMapBytes made.map.items) }
     ensures most { steps.new ≤ steps.old + printing arena.now.schema.dim arena.now.count }
     ensures least { IfOk result (λ _. steps.old + arena.now.count ≤ steps.new) }
 {

@@ -1,4 +1,4 @@
-use Rattle.std.proofs.Common.{sym, ap, subst, ◌∙◌, arith}
+use Rattle.std.proofs.Common.{length, sym, ap, subst, ◌∙◌, arith}
 use Rattle.std.specs.FinMap.{get}
 use Rattle.gm_model.specs.Maps.{IsSchema, IsSound}
 use Rattle.gm_arena.specs.ArenaAsMap.{as_map}
@@ -7,6 +7,7 @@ use Rattle.gm_walk.proofs.CountLemmas.{names_counted}
 use Rattle.gm_dual.specs.Duals.{dual_schema}
 use Rattle.gm_dual.specs.Building.{AreLinked}
 use Rattle.gm_dual.proofs.BuildLemmas.{all_linked, as_dual, none_added, none_linked}
+use Rattle.gm_dual.proofs.StepLemmas.{names_within, dual_within}
 use Rattle.gm_dual.proofs.SoundLemmas.{schema_dual, sound_dual}
 use Rattle.gm_dual.proofs.map.dual_map.Goals as goal
 
@@ -27,18 +28,34 @@ pub link_darts-requires-clause-free : goal.link_darts-requires-clause-free
 link_darts-requires-clause-free g c =
     let m = c.args.arena.now in
     let same = c.deref-2.ensures.value ∙ sym c.deref.ensures.value in
-    subst (λ names. AreLinked m names 0 c.add_darts.new.dual) (sym same) (none_linked m c.deref.result.now (c.deref.ensures.value ∙ c.in_ok-names.ensures.names) c.add_darts.new.dual c.add_darts.ensures)
+    subst (λ names. AreLinked m names 0 c.add_darts.new.dual) (sym same) (none_linked m c.deref.result.now (c.deref.ensures.value ∙ c.in_ok-names.ensures.names) c.add_darts.new.dual c.add_darts.ensures.added)
 
 pub returns-clause-dual : goal.returns-clause-dual
 returns-clause-dual g c =
     let m = c.args.arena.now in
-    let all = all_linked m c.deref-2.result.now (c.deref-2.ensures.value ∙ c.in_ok-names.ensures.names) c.link_darts.new.dual c.link_darts.ensures in
-    as_dual m c.set_next.new.self c.count-count.ensures.lawful (ap (λ (x : ArenaMap). x.schema) c.set_next.ensures ∙ c.link_darts.ensures.schema_is) (ap (λ (x : ArenaMap). x.next) c.set_next.ensures ∙ c.next-2.ensures.next) (λ name. ap (λ (x : ArenaMap). get x.darts name) c.set_next.ensures ∙ all name)
+    let all = all_linked m c.deref-2.result.now (c.deref-2.ensures.value ∙ c.in_ok-names.ensures.names) c.link_darts.new.dual c.link_darts.ensures.linked in
+    as_dual m c.set_next.new.self c.count-count.ensures.lawful (ap (λ (x : ArenaMap). x.schema) c.set_next.ensures ∙ c.link_darts.ensures.linked.schema_is) (ap (λ (x : ArenaMap). x.next) c.set_next.ensures ∙ c.next-2.ensures.next) (λ name. ap (λ (x : ArenaMap). get x.darts name) c.set_next.ensures ∙ all name)
 
 pub returns-clause-sound : goal.returns-clause-sound
 returns-clause-sound g c =
     let m = c.args.arena.now in
     let lawful = c.count-count.ensures.lawful in
-    let all = all_linked m c.deref-2.result.now (c.deref-2.ensures.value ∙ c.in_ok-names.ensures.names) c.link_darts.new.dual c.link_darts.ensures in
-    let same = as_dual m c.set_next.new.self lawful (ap (λ (x : ArenaMap). x.schema) c.set_next.ensures ∙ c.link_darts.ensures.schema_is) (ap (λ (x : ArenaMap). x.next) c.set_next.ensures ∙ c.next-2.ensures.next) (λ name. ap (λ (x : ArenaMap). get x.darts name) c.set_next.ensures ∙ all name) in
+    let all = all_linked m c.deref-2.result.now (c.deref-2.ensures.value ∙ c.in_ok-names.ensures.names) c.link_darts.new.dual c.link_darts.ensures.linked in
+    let same = as_dual m c.set_next.new.self lawful (ap (λ (x : ArenaMap). x.schema) c.set_next.ensures ∙ c.link_darts.ensures.linked.schema_is) (ap (λ (x : ArenaMap). x.next) c.set_next.ensures ∙ c.next-2.ensures.next) (λ name. ap (λ (x : ArenaMap). get x.darts name) c.set_next.ensures ∙ all name) in
     subst IsSound (sym same) (sound_dual (as_map m) lawful.dim.1 lawful.schema c.requires.sound)
+
+pub returns-in_err-names-clause-most : goal.returns-in_err-names-clause-most
+returns-in_err-names-clause-most g c = names_within c.args.arena.now.schema.dim c.args.arena.now.count c.args.steps.now _ c.names.ensures.cost
+
+pub returns-in_err-dual_schema-clause-most : goal.returns-in_err-dual_schema-clause-most
+returns-in_err-dual_schema-clause-most g c = names_within c.args.arena.now.schema.dim c.args.arena.now.count c.args.steps.now _ c.names.ensures.cost
+
+pub returns-in_err-reserve-clause-most : goal.returns-in_err-reserve-clause-most
+returns-in_err-reserve-clause-most g c = names_within c.args.arena.now.schema.dim c.args.arena.now.count c.args.steps.now _ c.names.ensures.cost
+
+pub returns-clause-most : goal.returns-clause-most
+returns-clause-most g c =
+    let m = c.args.arena.now in
+    let counted = names_counted m c.deref.result.now (c.deref.ensures.value ∙ c.in_ok-names.ensures.names) c.count-count.ensures.lawful in
+    let same = ap length (c.deref-2.ensures.value ∙ sym c.deref.ensures.value) in
+    dual_within m.schema.dim m.count c.args.steps.now _ _ _ _ _ counted (same ∙ counted) c.names.ensures.cost c.add_darts.ensures.cost c.link_darts.ensures.cost

@@ -32,6 +32,7 @@ loop-label-init g c =
     record {
       but = record { rest = refl; others = λ other apart. refl };
       linked = (dart, free_dart m.schema.dim d dart.values, there, c.requires.free ∙ ap (option_map (λ (dart : Dart). free_dart m.schema.dim d dart.values)) there, unlinked m.schema.dim d dart);
+      cost = omega (arith, c.row-row.ensures.cost);
     }
 
 pub bounds-row-label : goal.bounds-row-label
@@ -94,6 +95,7 @@ loop-label-preserved g c =
         ap (λ (x : ArenaMap). get x.darts d) is ∙ (get-with_alpha_same a d (n - l) t ∙ ap (option_map (λ (dart : Dart). turned dart (n - l) t)) i.linked.3),
         linked_more n l t i.linked.0 i.linked.1 i.linked.4 low leads,
       );
+      cost = omega (arith, i.cost, c.name_of-name.ensures.cost, c.slot_of.ensures.cost, c.set_alpha.ensures.cost);
     }
 
 pub returns-clause-linked : goal.returns-clause-linked
@@ -109,3 +111,8 @@ returns-clause-linked g c =
 
 pub returns-clause-others : goal.returns-clause-others
 returns-clause-others g c = c.loop-label.invariant.but
+
+pub returns-clause-cost : goal.returns-clause-cost
+returns-clause-cost g c =
+    let end : c.loop-label.label ≡ c.args.arena.now.schema.dim + 1 = omega (arith, c.loop-label-test.false, c.loop-label.auto.label-end, c.top-top.ensures.value, ap (λ (s : Schema). s.dim) c.schema.ensures) in
+    omega (arith, end, c.loop-label.invariant.cost)

@@ -2,10 +2,11 @@ use Rattle.std.proofs.Common.{inl, inr, refl, ap, ◌∙◌}
 use Rattle.std.proofs.lemmas.Result.{err_from_is_err_and}
 use Rattle.gm_host.specs.Count.{counted, Rises}
 use Rattle.gm_tool.specs.Loads.{FailsAt}
-use Rattle.gm_tool.specs.Migrating.{migrate_names_of, IsMigrateStatus}
+use Rattle.gm_tool.specs.Migrating.{migrate_names_of}
+use Rattle.gm_tool.specs.Replies.{IsPlainStatus}
 use Rattle.gm_tool.specs.Stops.{reply_of}
 use Rattle.gm_tool.proofs.LoadCounts.{always}
-use Rattle.gm_tool.proofs.Migrations.{unread_is_sound, stopped_migration, unmade_migration, saved_migration, migrated_bytes, unmade_is_sound, migrated_status}
+use Rattle.gm_tool.proofs.Migrations.{unread_is_sound, stopped_migration, unmade_migration, saved_migration, unmade_is_sound, migrated_status}
 use Rattle.gm_tool.proofs.Saving.{map_saved, saving_is_sound, unsaved, stop_is_sound, stop_status, stop_is_no_run}
 use Rattle.gm_tool.proofs.SaveCounts.{none_saved, none_migrated, once_saved}
 use Rattle.gm_tool.proofs.StepBounds.{if_done}
@@ -26,7 +27,7 @@ returns-clause-text g c =
     (g.S.Store.holds c.args.store.now) c.in-Ok.loaded.read _ c.in_ok-made.made c.saved.result c.in-Ok.ensures.from c.in_ok-made.ensures.made (rw (c.load_map.ensures.held, c.load_map.ensures.no_save_fault) at c.saved.ensures.saved))
 
 pub returns-clause-map : goal.returns-clause-map
-returns-clause-map g c = map_saved _ _ c.args.files.out.now c.in_ok-made.made _ c.saved.result (migrated_bytes c.in-Ok.loaded.read c.in_ok-made.made c.in-Ok.ensures.read c.in_ok-made.ensures.made) c.saved.ensures.saved
+returns-clause-map g c = map_saved _ _ c.args.files.out.now c.in_ok-made.made _ c.saved.result (c.in_ok-made.ensures.map c.in-Ok.ensures.read.1.sound) c.saved.ensures.saved
 
 pub returns-in_err-made-clause-most : goal.returns-in_err-made-clause-most
 returns-in_err-made-clause-most g c =
@@ -43,7 +44,7 @@ returns-in-Err-clause-text g c =
     (g.S.Store.holds c.args.store.now) _ c.load_map.ensures.held c.in-Err.stop (λ rises. (rises, c.load_map.ensures.once)) c.in-Err.ensures.from)
 
 pub returns-in-Err-clause-statuses : goal.returns-in-Err-clause-statuses
-returns-in-Err-clause-statuses g c = rw c.stopped.ensures (stop_status IsMigrateStatus (inr refl) c.in-Err.stop)
+returns-in-Err-clause-statuses g c = rw c.stopped.ensures (stop_status IsPlainStatus (inr refl) c.in-Err.stop)
 
 pub returns-in-Err-clause-sound : goal.returns-in-Err-clause-sound
 returns-in-Err-clause-sound g c =

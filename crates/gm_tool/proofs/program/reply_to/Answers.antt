@@ -3,8 +3,9 @@ use Rattle.gm_tool.specs.MadeRuns.{names_of}
 use Rattle.gm_tool.specs.Migrating.{migrate_names_of}
 use Rattle.gm_tool.specs.Refusals.{command_in}
 use Rattle.gm_tool.specs.Tool.{words_of}
-use Rattle.gm_tool.proofs.Asking.{file_text, run_text, migrate_text, grid_text, usage_text, grid_status, migrate_status}
-use Rattle.gm_tool.proofs.Ended.{file_ends, file_steps, grid_ends, grid_steps, migrate_ends, migrate_steps, run_ends, run_steps, usage_ends, usage_steps}
+use Rattle.gm_tool.specs.DualAnswer.{dual_names_of}
+use Rattle.gm_tool.proofs.Asking.{file_text, run_text, migrate_text, dual_text, grid_text, usage_text, grid_status, plain_status}
+use Rattle.gm_tool.proofs.Ended.{file_ends, file_steps, grid_ends, grid_steps, migrate_ends, migrate_steps, dual_ends, dual_steps, run_ends, run_steps, usage_ends, usage_steps}
 use Rattle.gm_tool.proofs.program.reply_to.Goals as goal
 
 -- ---- a command on one file
@@ -56,21 +57,39 @@ returns-in-Some-migrate_of-clause-steps g c =
     migrate_steps (words_of c.args.words.now) (migrate_names_of c.in-Some-migrate_of.files) c.in-Some-migrate_of.ensures (g.S.Store.holds c.args.store.now) _ _ _ c.answer-in-Some-migrate_of.ensures.most
 
 pub returns-in-Some-migrate_of-clause-statuses : goal.returns-in-Some-migrate_of-clause-statuses
-returns-in-Some-migrate_of-clause-statuses g c = migrate_status c.answer-in-Some-migrate_of.result c.answer-in-Some-migrate_of.ensures.statuses
+returns-in-Some-migrate_of-clause-statuses g c = plain_status c.answer-in-Some-migrate_of.result c.answer-in-Some-migrate_of.ensures.statuses
+
+-- ---- the duals of a map and a book
+
+pub returns-in-Some-dual_of-clause-text : goal.returns-in-Some-dual_of-clause-text
+returns-in-Some-dual_of-clause-text g c =
+    dual_text (words_of c.args.words.now) _ _ _ c.answer-in-Some-dual_of.result (g.S.Store.holds c.args.store.now) (dual_names_of c.in-Some-dual_of.files) c.in-Some-dual_of.ensures c.answer-in-Some-dual_of.ensures.text
+
+pub returns-in-Some-dual_of-clause-ends : goal.returns-in-Some-dual_of-clause-ends
+returns-in-Some-dual_of-clause-ends g c =
+    dual_ends (words_of c.args.words.now) (dual_names_of c.in-Some-dual_of.files) c.in-Some-dual_of.ensures _ _ c.answer-in-Some-dual_of.result c.answer-in-Some-dual_of.ensures.statuses c.answer-in-Some-dual_of.ensures.sound
+    c.answer-in-Some-dual_of.ensures.held c.answer-in-Some-dual_of.ensures.no_save c.answer-in-Some-dual_of.ensures.no_save_fault c.answer-in-Some-dual_of.ensures.in_order c.answer-in-Some-dual_of.ensures.counted_loads
+
+pub returns-in-Some-dual_of-clause-steps : goal.returns-in-Some-dual_of-clause-steps
+returns-in-Some-dual_of-clause-steps g c =
+    dual_steps (words_of c.args.words.now) (dual_names_of c.in-Some-dual_of.files) c.in-Some-dual_of.ensures (g.S.Store.holds c.args.store.now) _ _ _ c.answer-in-Some-dual_of.ensures.most
+
+pub returns-in-Some-dual_of-clause-statuses : goal.returns-in-Some-dual_of-clause-statuses
+returns-in-Some-dual_of-clause-statuses g c = plain_status c.answer-in-Some-dual_of.result c.answer-in-Some-dual_of.ensures.statuses
 
 -- ---- no command
 
 pub returns-in_default-run_of-clause-text : goal.returns-in_default-run_of-clause-text
 returns-in_default-run_of-clause-text g c =
-    usage_text (words_of c.args.words.now) _ _ (g.S.Store.holds c.args.store.now) (λ either. elim either [ inl file ↦ c.in_default.ensures file | inr (inl (inl run)) ↦ c.in_default-run_of.ensures run | inr (inl (inr migrate)) ↦ c.in_default-migrate_of.ensures migrate | inr (inr grid) ↦ c.in_default-grid_of.ensures grid ])
+    usage_text (words_of c.args.words.now) _ _ (g.S.Store.holds c.args.store.now) (λ either. elim either [ inl file ↦ c.in_default.ensures file | inr (inl (inl run)) ↦ c.in_default-run_of.ensures run | inr (inl (inr migrate)) ↦ c.in_default-migrate_of.ensures migrate | inr (inr (inl dual)) ↦ c.in_default-dual_of.ensures dual | inr (inr (inr grid)) ↦ c.in_default-grid_of.ensures grid ])
 
 pub returns-in_default-run_of-clause-ends : goal.returns-in_default-run_of-clause-ends
 returns-in_default-run_of-clause-ends g c =
-    usage_ends (words_of c.args.words.now) (λ either. elim either [ inl file ↦ c.in_default.ensures file | inr (inl (inl run)) ↦ c.in_default-run_of.ensures run | inr (inl (inr migrate)) ↦ c.in_default-migrate_of.ensures migrate | inr (inr grid) ↦ c.in_default-grid_of.ensures grid ]) _
+    usage_ends (words_of c.args.words.now) (λ either. elim either [ inl file ↦ c.in_default.ensures file | inr (inl (inl run)) ↦ c.in_default-run_of.ensures run | inr (inl (inr migrate)) ↦ c.in_default-migrate_of.ensures migrate | inr (inr (inl dual)) ↦ c.in_default-dual_of.ensures dual | inr (inr (inr grid)) ↦ c.in_default-grid_of.ensures grid ]) _
 
 pub returns-in_default-run_of-clause-steps : goal.returns-in_default-run_of-clause-steps
 returns-in_default-run_of-clause-steps g c =
-    usage_steps (words_of c.args.words.now) (λ either. elim either [ inl file ↦ c.in_default.ensures file | inr (inl (inl run)) ↦ c.in_default-run_of.ensures run | inr (inl (inr migrate)) ↦ c.in_default-migrate_of.ensures migrate | inr (inr grid) ↦ c.in_default-grid_of.ensures grid ]) (g.S.Store.holds c.args.store.now) _ _
+    usage_steps (words_of c.args.words.now) (λ either. elim either [ inl file ↦ c.in_default.ensures file | inr (inl (inl run)) ↦ c.in_default-run_of.ensures run | inr (inl (inr migrate)) ↦ c.in_default-migrate_of.ensures migrate | inr (inr (inl dual)) ↦ c.in_default-dual_of.ensures dual | inr (inr (inr grid)) ↦ c.in_default-grid_of.ensures grid ]) (g.S.Store.holds c.args.store.now) _ _
 
 -- ---- a run
 

@@ -1,4 +1,8 @@
-use Rattle.gm_tool.proofs.Lines.{plans_fit, stats_fit, stats_in_order, printable, run_made, map_made}
+use Rattle.gm_arena.specs.ArenaAsMap.{as_map}
+use Rattle.gm_model.specs.Maps.{IsSound}
+use Rattle.gm_tool.specs.MadeRuns.{IsMapBytes}
+use Rattle.gm_tool.proofs.ArenaMaps.{if_such}
+use Rattle.gm_tool.proofs.Lines.{plans_fit, stats_fit, stats_in_order, printable, run_made}
 use Rattle.gm_tool.proofs.StepBounds.{unprinted_within, printed_within, printed_least, if_done}
 use Rattle.gm_tool.proofs.running.applied.Goals as goal
 
@@ -21,9 +25,7 @@ returns-clause-run g c =
     run.0 run.1 c.in_ok-report.report.darts c.in_ok-report.report.next c.printed.result run.3 run.4 c.in_ok-report.ensures.darts.0 c.in_ok-report.ensures.next (c.printed.ensures.texts run.0 run.2)
 
 pub returns-clause-map : goal.returns-clause-map
-returns-clause-map g c =
-    let run = c.in_ok-report.ensures.run in
-    map_made c.args.version c.run.new.arena _ _ c.printed.result c.printed.ensures.lawful (rw c.run.ensures.schema c.requires.parts) c.run.ensures.sound (c.printed.ensures.texts run.0 run.2)
+returns-clause-map g c = if_such (IsSound (as_map c.run.new.arena)) (λ made. IsMapBytes made.map.items) c.run.ensures.sound c.printed.result c.printed.ensures.map
 
 pub returns-in_err-report-clause-most : goal.returns-in_err-report-clause-most
 returns-in_err-report-clause-most g c =

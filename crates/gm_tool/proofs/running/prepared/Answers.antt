@@ -4,10 +4,11 @@ use Rattle.gm_host.specs.Count.{counted, Rises}
 use Rattle.gm_lines.specs.Refusing.{TheMap, TheBook}
 use Rattle.gm_tool.specs.Loads.{FailsAt}
 use Rattle.gm_tool.specs.MadeRuns.{names_of}
+use Rattle.gm_tool.specs.Stops.{IsReadBook}
 use Rattle.gm_tool.proofs.LoadCounts.{behind_map, behind_book}
 use Rattle.gm_tool.proofs.RunStops.{rises_later, passes_map, passes_book, unloaded, at_map, at_book, has_begun}
 use Rattle.gm_tool.proofs.StepBounds.{stopped_within}
-use Rattle.gm_tool.proofs.Stopping.{sound_to}
+use Rattle.gm_tool.proofs.Stopping.{sound_to, unread_book}
 use Rattle.gm_tool.proofs.running.prepared.Goals as goal
 
 -- ---- the map fails
@@ -42,14 +43,14 @@ returns-in_err-book-clause-made g c =
     let p = err_from_is_err_and c.from_residual-in_err-book.result c.from_residual-in_err-book.ensures.1 in
     rw (p.1, p.2)
     (at_book (names_of c.args.files) (FailsAt (g.S.Store.load_faults c.args.store.now) (g.S.Store.load_faults c.load_book.new.store) (g.S.Store.loads c.args.store.now) (g.S.Store.loads c.load_book.new.store)) (g.S.Store.holds c.args.store.now) c.in_ok-read.field-0.read (Unit {0}) _ c.in_err-book.field-0.0 (λ rises. (rises_later _ _ _ c.load_map.ensures.faults_never_fall rises, c.load_book.ensures.once ∙ ap counted c.load_map.ensures.once))
-    c.in_ok-read.ensures.from (rw c.load_map.ensures.held at c.in_err-book.ensures.from))
+    c.in_ok-read.ensures.from (unread_book (g.S.Store.holds c.args.store.now) c.args.files.book.now IsReadBook _ c.in_err-book.field-0.0 (rw c.load_map.ensures.held at c.in_err-book.ensures.from)))
 
 pub returns-in_err-book-clause-counted_loads : goal.returns-in_err-book-clause-counted_loads
 returns-in_err-book-clause-counted_loads g c =
     let p = err_from_is_err_and c.from_residual-in_err-book.result c.from_residual-in_err-book.ensures.1 in
     rw (p.1, p.2)
     (behind_book (names_of c.args.files) (Rises (g.S.Store.load_faults c.args.store.now) (g.S.Store.load_faults c.load_book.new.store)) (g.S.Store.loads c.args.store.now) (g.S.Store.loads c.load_book.new.store) (g.S.Store.holds c.args.store.now) c.in_ok-read.field-0.read (Unit {0}) _ c.in_err-book.field-0.0 (rises_later _ _ _ c.load_map.ensures.faults_never_fall)
-    (c.load_book.ensures.once ∙ ap counted c.load_map.ensures.once) c.in_ok-read.ensures.from (rw c.load_map.ensures.held at c.in_err-book.ensures.from))
+    (c.load_book.ensures.once ∙ ap counted c.load_map.ensures.once) c.in_ok-read.ensures.from (unread_book (g.S.Store.holds c.args.store.now) c.args.files.book.now IsReadBook _ c.in_err-book.field-0.0 (rw c.load_map.ensures.held at c.in_err-book.ensures.from)))
 
 pub returns-in_err-book-clause-most : goal.returns-in_err-book-clause-most
 returns-in_err-book-clause-most g c = stopped_within (names_of c.args.files) (g.S.Store.holds c.args.store.now) _ _ _ refl c.in_ok-read.ensures.most
