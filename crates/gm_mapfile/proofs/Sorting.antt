@@ -1,9 +1,9 @@
 -- Darts with different names, in ascending order of these.
-use Rattle.std.proofs.Common.{◌≡◌, ◌≢◌, ℕ, zero, suc, ◌+◌, ◌<◌, ◌≤◌, Bool, true, false, cond, List, [], ◌∷◌, inl, inr, refl, sym, arith}
+use Rattle.std.proofs.Common.{◌≡◌, ◌≢◌, ℕ, zero, suc, ◌+◌, ◌<◌, ◌≤◌, Bool, true, false, cond, List, [], ◌∷◌, refl, sym, arith}
 use Rattle.std.specs.Prelude.{IsPermutation, nat_lt}
 use Rattle.std.specs.List.{AllByRecursion}
 use Rattle.std.specs.List.Sorted.{IsStrictlyIncreasing}
-use Rattle.std.proofs.lemmas.Bool.{cases_eq, eq-eqb}
+use Rattle.std.proofs.lemmas.Bool.{eq-eqb}
 use Rattle.std.proofs.lemmas.Bool.Decides.{nat_tests}
 use Rattle.std.proofs.lemmas.List.Sorted.{IsPermutation-refl, IsPermutation-sym, IsPermutation-trans, IsPermutation-cons, IsPermutation-middle}
 use Rattle.gm_mapfile.specs.MapText.{DartRow, names, bare, rows_of}
@@ -55,6 +55,9 @@ inserted_above n dart (first ∷ darts) less above = go (nat_lt dart.name first.
     go true behind = (less, above)
     go false behind = (above.0, behind)
 
+between : (m n : ℕ) → m ≤ n → n ≢ m → m < n
+between m n more other = omega (arith, more, other)
+
 inserted_rises : (dart : DartRow) (darts : List DartRow) → AreOthers dart.name darts → Rises darts → Rises (insert dart darts)
 inserted_rises dart [] others up = (tt, tt)
 inserted_rises dart (first ∷ darts) others up = go (nat_lt dart.name first.name) refl (inserted_rises dart darts others.1 up.1)
@@ -65,18 +68,8 @@ inserted_rises dart (first ∷ darts) others up = go (nat_lt dart.name first.nam
         ((less, above_lower dart.name first.name darts less up.0), up)
     go false e behind =
         let more : first.name ≤ dart.name = grind (arith, nat_tests, e) in
-        let other : dart.name ≡ first.name → ⊥ = others.0 in
-        let less : first.name < dart.name = elim (cases_eq dart.name first.name) [
-          | inl same ↦ absurd (other same)
-          | inr apart ↦ between first.name dart.name more other
-        ] in
+        let less : first.name < dart.name = between first.name dart.name more others.0 in
         (inserted_above first.name dart darts less up.0, behind)
-      where
-        between : (m n : ℕ) → m ≤ n → (n ≡ m → ⊥) → m < n
-        between m n more other = elim (cases_eq n m) [
-          | inl same ↦ absurd (other same)
-          | inr apart ↦ omega (arith, more, apart)
-        ]
 
 -- a name that is had once is no other dart's
 others_of : (n : ℕ) (darts : List DartRow) → rows_named (rows_of darts) n ≡ 0 → AreOthers n darts
