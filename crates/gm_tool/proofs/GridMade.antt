@@ -11,7 +11,6 @@ use Rattle.gm_grid.proofs.GridFound.{grid_found}
 use Rattle.gm_model.specs.declared.schema.Schema.{Schema}
 use Rattle.gm_model.specs.declared.word.Mask.{Mask}
 use Rattle.gm_model.specs.Budgets.{Bounds, no_entries}
-use Rattle.gm_model.specs.Labels.{has}
 use Rattle.gm_model.specs.Maps.{Map, IsDart, IsSound, dimension}
 use Rattle.gm_model.specs.Orbits.{HasCount}
 use Rattle.gm_model.specs.Runs.{AreLeads, is_done, start_of}

@@ -1,23 +1,17 @@
 -- A script has one run: the same outcomes, and the same map after it.
-use Rattle.std.proofs.Common.{◌≡◌, ℕ, List, [], ◌∷◌, All, subst}
-use Rattle.std.specs.List.{AllByRecursion}
+use Rattle.std.proofs.Common.{◌≡◌, ℕ, List, All, subst}
 use Rattle.gm_mapfile.proofs.Listed.{listed_good}
 use Rattle.gm_mapfile.specs.MapText.{MapText, map_of}
 use Rattle.gm_model.specs.declared.schema.Schema.{Schema}
-use Rattle.gm_model.specs.declared.script.Stat.{Stat}
-use Rattle.gm_model.specs.declared.script.Stat.TheVariants.{Apply}
 use Rattle.gm_model.specs.Acceptance.{IsAccepted}
 use Rattle.gm_model.specs.Budgets.{no_entries}
 use Rattle.gm_model.specs.Maps.{IsSchema}
-use Rattle.gm_model.specs.Rules.{Rule}
 use Rattle.gm_model.specs.Runs.{start_of}
 use Rattle.gm_run.specs.Alike.{AreAlike, AreAlikeStates}
 use Rattle.gm_run.proofs.AlikeStates.{states_alike_self}
 use Rattle.gm_run.proofs.OneRun.{one_run}
 use Rattle.gm_script.specs.ScriptText.{ScriptText}
 use Rattle.gm_theory.proofs.RunsFound.{Stands, stands_first, all_suited}
-use Rattle.gm_theory.specs.Outcomes.{IsGoodStat}
-use Rattle.gm_theory.specs.Suited.{IsSuited}
 use Rattle.gm_tool.specs.RunAnswer.{Inputs, Ran, IsRan, Agree}
 use Rattle.gm_tool.proofs.Lines.{good_stats}
 use Rattle.gm_tool.proofs.SameRows.{same_listed}
