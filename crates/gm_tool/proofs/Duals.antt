@@ -63,32 +63,32 @@ all_over : {X Y : Type 0} (P : X → Type 0) (Q : Y → Type 0) (f : X → Y) �
 all_over P Q f each xs h = All-from_recursion Q (map f xs) (over P Q f each xs (recursion_from_All P xs h))
 
 module _ (schema : Schema) (n : ℕ) (rule : Rule) where
-  abbrev dual : Rule
-  dual = dual_rule n rule
+  abbrev the_dual : Rule
+  the_dual = dual_rule n rule
 
-  as_many_nodes : length dual.nodes ≡ length rule.nodes
+  as_many_nodes : length the_dual.nodes ≡ length rule.nodes
   as_many_nodes = length-map rule.nodes (dual_node n)
 
   as_many_embeds : length (dual_schema schema).embeds ≡ length schema.embeds
   as_many_embeds = length-map schema.embeds (dual_embed schema.dim)
 
-  links_named : (links : List Link) → All (AreEndsNodes (length rule.nodes)) links → All (AreEndsNodes (length dual.nodes)) (map (dual_link n) links)
-  links_named links h = all_over (AreEndsNodes (length rule.nodes)) (AreEndsNodes (length dual.nodes)) (dual_link n) (λ link ends. (omega (arith, ends.0, as_many_nodes), omega (arith, ends.1, as_many_nodes))) links h
+  links_named : (links : List Link) → All (AreEndsNodes (length rule.nodes)) links → All (AreEndsNodes (length the_dual.nodes)) (map (dual_link n) links)
+  links_named links h = all_over (AreEndsNodes (length rule.nodes)) (AreEndsNodes (length the_dual.nodes)) (dual_link n) (λ link ends. (omega (arith, ends.0, as_many_nodes), omega (arith, ends.1, as_many_nodes))) links h
 
-  nodes_named : NamesItsNodes rule → NamesItsNodes dual
+  nodes_named : NamesItsNodes rule → NamesItsNodes the_dual
   nodes_named named = record {
     left = links_named rule.left_links named.left;
     right = links_named rule.right_links named.right;
     hooks = subst (λ k. All (λ hook. hook < k) rule.hooks) (sym as_many_nodes) named.hooks;
   }
 
-  node_named : (x : ℕ) → x < length rule.nodes → x < length dual.nodes
+  node_named : (x : ℕ) → x < length rule.nodes → x < length the_dual.nodes
   node_named x low = omega (arith, low, as_many_nodes)
 
   embed_named : (e : ℕ) → e < length schema.embeds → e < length (dual_schema schema).embeds
   embed_named e low = omega (arith, low, as_many_embeds)
 
-  tree_named : (tree : Tree) → IsNamed schema rule tree → IsNamed (dual_schema schema) dual (dual_tree n tree)
+  tree_named : (tree : Tree) → IsNamed schema rule tree → IsNamed (dual_schema schema) the_dual (dual_tree n tree)
   tree_named (Number z) h = tt
   tree_named (Truth b) h = tt
   tree_named (Param k) h = h
@@ -105,17 +105,17 @@ module _ (schema : Schema) (n : ℕ) (rule : Rule) where
   tree_named (MakeVec3 a b c) h = (tree_named a h.0, tree_named b h.1, tree_named c h.2)
   tree_named (MakeRgb a b c) h = (tree_named a h.0, tree_named b h.1, tree_named c h.2)
 
-  pre_named : (pre : Option Tree) → ((tree : Tree) → pre ≡ Some tree → IsNamed schema rule tree) → (tree : Tree) → option_map (dual_tree n) pre ≡ Some tree → IsNamed (dual_schema schema) dual tree
+  pre_named : (pre : Option Tree) → ((tree : Tree) → pre ≡ Some tree → IsNamed schema rule tree) → (tree : Tree) → option_map (dual_tree n) pre ≡ Some tree → IsNamed (dual_schema schema) the_dual tree
   pre_named None named tree e = absurd cc
-  pre_named (Some own) named tree e = let same : dual_tree n own ≡ tree = cc in subst (IsNamed (dual_schema schema) dual) same (tree_named own (named own refl))
+  pre_named (Some own) named tree e = let same : dual_tree n own ≡ tree = cc in subst (IsNamed (dual_schema schema) the_dual) same (tree_named own (named own refl))
 
-  sets_named : (sets : List Assignment) → AreNamed schema rule sets → AreNamed (dual_schema schema) dual (map (dual_assignment n) sets)
+  sets_named : (sets : List Assignment) → AreNamed schema rule sets → AreNamed (dual_schema schema) the_dual (map (dual_assignment n) sets)
   sets_named [] h = tt
   sets_named (set ∷ sets) h = ((embed_named set.embed h.0.0, tree_named set.tree h.0.1), sets_named sets h.1)
 
-  exprs_named : HasNamedExprs schema rule → HasNamedExprs (dual_schema schema) dual
+  exprs_named : HasNamedExprs schema rule → HasNamedExprs (dual_schema schema) the_dual
   exprs_named named = record {
-    sets = over (λ (node : RuleNode). AreNamed schema rule node.sets) (λ (node : RuleNode). AreNamed (dual_schema schema) dual node.sets) (dual_node n) (λ node sets. sets_named node.sets sets) rule.nodes named.sets;
+    sets = over (λ (node : RuleNode). AreNamed schema rule node.sets) (λ (node : RuleNode). AreNamed (dual_schema schema) the_dual node.sets) (dual_node n) (λ node sets. sets_named node.sets sets) rule.nodes named.sets;
     pre = pre_named rule.pre named.pre;
   }
 

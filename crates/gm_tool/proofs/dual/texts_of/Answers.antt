@@ -1,4 +1,4 @@
-use Rattle.std.proofs.Common.{refl, ap, ◌∙◌}
+use Rattle.std.proofs.Common.{Ok, ap, ◌∙◌}
 use Rattle.std.proofs.lemmas.Result.{err_from_is_err_and}
 use Rattle.gm_host.specs.Count.{counted, Rises}
 use Rattle.gm_lines.specs.Refusing.{TheMap, TheBook}
@@ -50,7 +50,7 @@ pub returns-in_err-book-clause-made : goal.returns-in_err-book-clause-made
 returns-in_err-book-clause-made g c =
     let p = err_from_is_err_and c.from_residual-in_err-book.result c.from_residual-in_err-book.ensures.1 in
     rw (p.1, p.2)
-    (at_book (dual_names_of c.args.files) (FailsAt (g.S.Store.load_faults c.args.store.now) (g.S.Store.load_faults c.load_book.new.store) (g.S.Store.loads c.args.store.now) (g.S.Store.loads c.load_book.new.store)) (g.S.Store.holds c.args.store.now) c.in_ok-read.field-0.read _ _ c.in_err-book.field-0.0 (λ rises. (rises_later _ _ _ c.load_map.ensures.faults_never_fall rises, c.load_book.ensures.once ∙ ap counted c.load_map.ensures.once))
+    (at_book (dual_names_of c.args.files) (FailsAt (g.S.Store.load_faults c.args.store.now) (g.S.Store.load_faults c.load_book.new.store) (g.S.Store.loads c.args.store.now) (g.S.Store.loads c.load_book.new.store)) (g.S.Store.holds c.args.store.now) c.in_ok-read.field-0.read (Unit {0}) _ c.in_err-book.field-0.0 (λ rises. (rises_later _ _ _ c.load_map.ensures.faults_never_fall rises, c.load_book.ensures.once ∙ ap counted c.load_map.ensures.once))
     c.in_ok-read.ensures.from (rw c.load_map.ensures.held at c.in_err-book.ensures.from))
 
 pub returns-in_err-book-clause-counted_loads : goal.returns-in_err-book-clause-counted_loads
@@ -75,7 +75,7 @@ returns-in_err-book-clause-in_order g c = (TheBook, passes_book (g.S.Store.holds
 pub returns-in_err-texts-clause-made : goal.returns-in_err-texts-clause-made
 returns-in_err-texts-clause-made g c =
     let p = err_from_is_err_and c.from_residual-in_err-texts.result c.from_residual-in_err-texts.ensures.1 in
-    rw (p.1, p.2) (no_memory_made (dual_names_of c.args.files) _ (g.S.Store.holds c.args.store.now))
+    rw (p.1, p.2) (no_memory_made (dual_names_of c.args.files) (FailsAt (g.S.Store.load_faults c.args.store.now) (g.S.Store.load_faults c.load_book.new.store) (g.S.Store.loads c.args.store.now) (g.S.Store.loads c.load_book.new.store)) (g.S.Store.holds c.args.store.now))
 
 pub returns-in_err-texts-clause-counted_loads : goal.returns-in_err-texts-clause-counted_loads
 returns-in_err-texts-clause-counted_loads g c =
@@ -96,11 +96,11 @@ returns-in_err-texts-clause-in_order g c = (TheBook, passes_book (g.S.Store.hold
 
 pub returns-clause-made : goal.returns-clause-made
 returns-clause-made g c =
-    at_end (dual_names_of c.args.files) _ (g.S.Store.holds c.args.store.now) c.in_ok-read.field-0.read c.in_ok-book.book (Unit {0}) (Unit {0}) c.in_ok-texts.field-0.0 c.in_ok-read.ensures.from (rw c.load_map.ensures.held at c.in_ok-book.ensures.from) c.in_ok-texts.ensures.text
+    at_end (dual_names_of c.args.files) (FailsAt (g.S.Store.load_faults c.args.store.now) (g.S.Store.load_faults c.load_book.new.store) (g.S.Store.loads c.args.store.now) (g.S.Store.loads c.load_book.new.store)) (g.S.Store.holds c.args.store.now) c.in_ok-read.field-0.read c.in_ok-book.book (Unit {0}) (Unit {0}) c.in_ok-texts.field-0 c.in_ok-read.ensures.from (rw c.load_map.ensures.held at c.in_ok-book.ensures.from) c.in_ok-texts.ensures.text
 
 pub returns-clause-counted_loads : goal.returns-clause-counted_loads
 returns-clause-counted_loads g c =
-    behind_book (dual_names_of c.args.files) (Rises (g.S.Store.load_faults c.args.store.now) (g.S.Store.load_faults c.load_book.new.store)) (g.S.Store.loads c.args.store.now) (g.S.Store.loads c.load_book.new.store) (g.S.Store.holds c.args.store.now) c.in_ok-read.field-0.read (Unit {0}) _ (c.load_book.ensures.once ∙ ap counted c.load_map.ensures.once) c.in_ok-read.ensures.from
+    behind_book (dual_names_of c.args.files) (Rises (g.S.Store.load_faults c.args.store.now) (g.S.Store.load_faults c.load_book.new.store)) (g.S.Store.loads c.args.store.now) (g.S.Store.loads c.load_book.new.store) (g.S.Store.holds c.args.store.now) c.in_ok-read.field-0.read (Unit {0}) (Ok c.in_ok-texts.field-0) (c.load_book.ensures.once ∙ ap counted c.load_map.ensures.once) c.in_ok-read.ensures.from
 
 pub returns-clause-most : goal.returns-clause-most
 returns-clause-most g c = turned_dual (g.S.Store.holds c.args.store.now) c.args.files.map.now (Unit {0}) c.in_ok-read.field-0.read _ _ _ c.texts.ensures.lawful c.in_ok-read.ensures.from c.in_ok-read.ensures.most c.texts.ensures.most
