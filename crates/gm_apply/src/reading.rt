@@ -10,12 +10,13 @@ ghost use Rattle.gm_model.specs.Rules.{Assigns, rule_of};
 ghost use Rattle.gm_model.specs.Trees.{tree_of};
 ghost use Rattle.gm_model.specs.Values.{IsValueOf};
 ghost use Rattle.gm_walk.specs.Room.{Fits};
+ghost use Rattle.gm_eval.specs.Keeping.{AreKept};
 ghost use Rattle.gm_apply.specs.Outcomes.{IsRefusedFor};
 ghost use Rattle.gm_apply.specs.Reads.{IsReadable, SetsEmbed, app_at, place_at};
 
 use crate::refusal::Refusal;
 use gm_arena::{Arena, Steps};
-use gm_eval::eval;
+use gm_eval::{Kept, eval, eval_keeping};
 use gm_model::{Expr, RuleTable, Set, Value};
 use gm_plan::{Instances, Plan};
 use gm_walk::Scratch;
@@ -65,11 +66,13 @@ impl Reading<'_, '_> {
         embed: u8,
         node: u8,
         position: u32,
+        kept: &mut Kept,
         scratch: &mut Scratch,
         steps: &mut Steps<L>,
     ) -> Option<Value>
         requires readable { (hooks : List ℕ) × IsReadable self.now hooks }
         requires fits { Fits scratch.old self.now.arena.now }
+        requires kept { AreKept self.now.arena.now self.now.found.now self.now.params.now kept.old }
         requires assigned { IsAssigned (rule_of self.now.plan.now.table) embed node }
         requires position { position < self.now.found.now.positions }
         ensures value { (hooks : List ℕ) → MatchOption result
@@ -80,14 +83,16 @@ impl Reading<'_, '_> {
             → steps.new ≤ steps.old + 6 * (self.now.arena.now.schema.dim + 1) * u }
         ensures least { steps.old ≤ steps.new }
         ensures room { scratch.new.bound ≡ scratch.old.bound }
+        ensures kept { AreKept self.now.arena.now self.now.found.now self.now.params.now kept.new }
     {
         let expr = assignment(self.plan.rule(), embed, node);
-        eval(
+        eval_keeping(
             self.arena,
             self.found,
             position,
             self.params,
             expr,
+            kept,
             scratch,
             steps,
         )

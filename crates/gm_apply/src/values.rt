@@ -6,6 +6,7 @@ ghost use Rattle.gm_apply.specs.Reads.{IsReadable, HasRead, HasEdits, IsEnded};
 use crate::reading::Reading;
 use crate::refusal::Refusal;
 use gm_arena::Steps;
+use gm_eval::Kept;
 use gm_model::MOST_DARTS;
 use gm_pending::{Changes, Pending};
 use gm_walk::Scratch;
@@ -53,9 +54,11 @@ impl<'a, 'm> Reading<'a, 'm> {
         ensures room { scratch.new.bound ≡ scratch.old.bound }
     {
         let count = pending.deciding(embed, steps)?;
+        let mut kept = Kept::between(count);
         for index in 0..count {
             let (node, position) = pending.decider(embed, index);
-            let Some(value) = self.value(embed, node, position, scratch, steps) else {
+            kept.turn_to(node);
+            let Some(value) = self.value(embed, node, position, &mut kept, scratch, steps) else {
                 return Err(Refusal::NoValue { embed, node });
             };
             pending.give(embed, index, value);

@@ -99,7 +99,7 @@ module _ (reader : Reader) (mask : Mask) (term : DartTerm) (slots : List Slot) (
   counted : HasCount Collected (length slots)
   counted = (names_of m slots, orbit.listed, length-map slots name_of)
 
-  collected : (s : Slot) → IsIn s slots → Collected (name_of s)
+  pub collected : (s : Slot) → IsIn s slots → Collected (name_of s)
   collected s i = (orbit.listed.same (name_of s)).0 (contains_in (names_of m slots) (name_of s) (in_map name_of slots s i))
 
   slot_in : (d : ℕ) → Collected d → (s : Slot) × IsIn s slots × (name_of s ≡ d)

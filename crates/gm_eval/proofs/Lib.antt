@@ -9,3 +9,4 @@ pub mod Ready
 pub mod Collected
 pub mod Parts
 pub mod Matched
+pub mod Keeping

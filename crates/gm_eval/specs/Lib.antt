@@ -1,3 +1,4 @@
+pub mod Keeping
 pub mod Made
 pub mod Places
 pub mod Readers

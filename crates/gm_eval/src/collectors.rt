@@ -1,15 +1,20 @@
 //! What is collected over an orbit: how many darts it has, and sums and extremes of values.
 
-ghost use Rattle.std.specs.Prelude.{◌≡◌, ◌+◌, ◌*◌, ◌≤◌, MatchOption, length};
+ghost use Rattle.std.specs.Prelude.{◌≡◌, ◌+◌, ◌*◌, ◌<◌, ◌≤◌, ℕ, [], IsSome, IsTrue, MatchOption, Some, length};
+ghost use Rattle.std.specs.List.{Contains};
 ghost use Rattle.gm_model.specs.Expressions.{HasValue};
 ghost use Rattle.gm_model.specs.Trees.{Count, Sum, Least, Greatest};
+ghost use Rattle.gm_arena.specs.declared.slot.Slot.{Slot};
+ghost use Rattle.gm_plan.specs.Placed.{slot_at};
 ghost use Rattle.gm_walk.specs.Lent.{bound_of, lender_of, slots_of};
 ghost use Rattle.gm_walk.specs.Room.{Fits};
+ghost use Rattle.gm_eval.specs.Keeping.{AreKept, collector_at, own_term, tree_of_collector};
 ghost use Rattle.gm_eval.specs.Made.{IsNone};
 ghost use Rattle.gm_eval.specs.Places.{IsWithinUnits};
-ghost use Rattle.gm_eval.specs.Readers.{IsOrbit, IsReady, reading_of};
+ghost use Rattle.gm_eval.specs.Readers.{IsOrbit, IsReady, IsValueThere, reading_of};
 ghost use Rattle.gm_model.specs.declared.value.Value.TheVariants.{Int};
 
+use crate::kept::{Collector, Form, Kept};
 use crate::numbers::int;
 use crate::reader::Reader;
 use crate::totals::{add_up, extremes};
@@ -19,6 +24,197 @@ use gm_walk::{Scratch, Walk, walk_mask};
 use std::sync::ledger::Ledger;
 
 impl Reader<'_> {
+    /// What is collected over the orbit of the term's dart; none where that has no value. It is kept
+    /// where it is the same at each position.
+    pub(crate) fn collected<L: Ledger>(
+        &self,
+        form: Form,
+        mask: Mask,
+        term: &DartTerm,
+        embed: u8,
+        kept: &mut Kept,
+        scratch: &mut Scratch,
+        steps: &mut Steps<L>,
+    ) -> Option<Value>
+        requires ready { IsReady self.now (collector_at form mask term.now embed) }
+        requires fits { Fits scratch.old self.now.arena.now }
+        requires kept { AreKept self.now.arena.now self.now.found.now self.now.params.now kept.old }
+        ensures value { IsValueThere self.now (collector_at form mask term.now embed) result }
+        ensures cost { IsWithinUnits (reading_of self.now) (collector_at form mask term.now embed) steps.old steps.new }
+        ensures least { steps.old ≤ steps.new }
+        ensures room { scratch.new.bound ≡ scratch.old.bound }
+        ensures kept { AreKept self.now.arena.now self.now.found.now self.now.params.now kept.new }
+    {
+        if is_keepable(term, kept) {
+            self.kept_or_reckoned(form, mask, term, embed, kept, scratch, steps)
+        } else {
+            self.reckoned(form, mask, term, embed, scratch, steps)
+        }
+    }
+
+    /// What is collected over the orbit of a node's own dart. It isn't walked where the value is kept.
+    fn kept_or_reckoned<L: Ledger>(
+        &self,
+        form: Form,
+        mask: Mask,
+        term: &DartTerm,
+        embed: u8,
+        kept: &mut Kept,
+        scratch: &mut Scratch,
+        steps: &mut Steps<L>,
+    ) -> Option<Value>
+        requires ready { IsReady self.now (collector_at form mask term.now embed) }
+        requires fits { Fits scratch.old self.now.arena.now }
+        requires kept { AreKept self.now.arena.now self.now.found.now self.now.params.now kept.old }
+        requires open { IsSome kept.old }
+        requires own { term.now.path ≡ [] }
+        ensures value { IsValueThere self.now (collector_at form mask term.now embed) result }
+        ensures cost { IsWithinUnits (reading_of self.now) (collector_at form mask term.now embed) steps.old steps.new }
+        ensures least { steps.old ≤ steps.new }
+        ensures room { scratch.new.bound ≡ scratch.old.bound }
+        ensures kept { AreKept self.now.arena.now self.now.found.now self.now.params.now kept.new }
+    {
+        let collector = Collector {
+            form,
+            mask,
+            node: term.node,
+            embed,
+        };
+        if let Some(value) = kept.find(collector) {
+            return value;
+        }
+        let value = self.reckoned(form, mask, term, embed, scratch, steps);
+        self.keep(collector, value, kept, scratch);
+        value
+    }
+
+    /// The sum of the embedding's values over the orbit of the term's dart, and how many darts the
+    /// orbit has, as `collected` gives them. The orbit is walked once.
+    pub(crate) fn mean_parts<L: Ledger>(
+        &self,
+        mask: Mask,
+        term: &DartTerm,
+        embed: u8,
+        kept: &mut Kept,
+        scratch: &mut Scratch,
+        steps: &mut Steps<L>,
+    ) -> (Option<Value>, Option<Value>)
+        requires ready { IsReady self.now (Sum mask term.now embed) }
+        requires fits { Fits scratch.old self.now.arena.now }
+        requires kept { AreKept self.now.arena.now self.now.found.now self.now.params.now kept.old }
+        ensures sum { IsValueThere self.now (Sum mask term.now embed) result.0 }
+        ensures count { IsValueThere self.now (Count mask term.now) result.1 }
+        ensures cost { IsWithinUnits (reading_of self.now) (Sum mask term.now embed) steps.old steps.new }
+        ensures least { steps.old ≤ steps.new }
+        ensures room { scratch.new.bound ≡ scratch.old.bound }
+        ensures kept { AreKept self.now.arena.now self.now.found.now self.now.params.now kept.new }
+    {
+        if is_keepable(term, kept) {
+            self.kept_mean_parts(mask, term, embed, kept, scratch, steps)
+        } else {
+            self.sum_and_count(mask, term, embed, scratch, steps)
+        }
+    }
+
+    /// The parts of a mean over the orbit of a node's own dart. It isn't walked where both are kept.
+    fn kept_mean_parts<L: Ledger>(
+        &self,
+        mask: Mask,
+        term: &DartTerm,
+        embed: u8,
+        kept: &mut Kept,
+        scratch: &mut Scratch,
+        steps: &mut Steps<L>,
+    ) -> (Option<Value>, Option<Value>)
+        requires ready { IsReady self.now (Sum mask term.now embed) }
+        requires fits { Fits scratch.old self.now.arena.now }
+        requires kept { AreKept self.now.arena.now self.now.found.now self.now.params.now kept.old }
+        requires open { IsSome kept.old }
+        requires own { term.now.path ≡ [] }
+        ensures sum { IsValueThere self.now (Sum mask term.now embed) result.0 }
+        ensures count { IsValueThere self.now (Count mask term.now) result.1 }
+        ensures cost { IsWithinUnits (reading_of self.now) (Sum mask term.now embed) steps.old steps.new }
+        ensures least { steps.old ≤ steps.new }
+        ensures room { scratch.new.bound ≡ scratch.old.bound }
+        ensures kept { AreKept self.now.arena.now self.now.found.now self.now.params.now kept.new }
+    {
+        let sum_of = Collector {
+            form: Form::Sum,
+            mask,
+            node: term.node,
+            embed,
+        };
+        let count_of = Collector {
+            form: Form::Count,
+            mask,
+            node: term.node,
+            embed: 0,
+        };
+        if let Some(parts) = kept.find_both(sum_of, count_of) {
+            return parts;
+        }
+        let (sum, count) = self.sum_and_count(mask, term, embed, scratch, steps);
+        self.keep(sum_of, sum, kept, scratch);
+        self.keep(count_of, count, kept, scratch);
+        (sum, count)
+    }
+
+    /// Keeps the value of a collector whose orbit was just walked, where it is the same at each
+    /// position: where the orbit holds the node's dart of each.
+    fn keep(&self, collector: Collector, value: Option<Value>, kept: &mut Kept, scratch: &Scratch)
+        requires ready { IsReady self.now (tree_of_collector collector) }
+        requires walked { IsOrbit self.now collector.mask (own_term collector.node) scratch.now.walked }
+        requires value { IsValueThere self.now (tree_of_collector collector) value }
+        requires open { IsSome kept.old }
+        requires kept { AreKept self.now.arena.now self.now.found.now self.now.params.now kept.old }
+        ensures kept { AreKept self.now.arena.now self.now.found.now self.now.params.now kept.new }
+        ensures open { IsSome kept.new }
+    {
+        if self.is_walked(collector.node, scratch) {
+            kept.keep(collector, value);
+        }
+    }
+
+    /// Whether the node's dart of each position was walked.
+    fn is_walked(&self, node: u8, scratch: &Scratch) -> bool
+        requires node { node < self.now.found.now.nodes }
+        ensures { IsTrue result → (p : ℕ) → p < self.now.found.now.positions → (slot : Slot) × (slot_at self.now.found.now node p ≡ Some slot) × Contains scratch.now.walked slot }
+    {
+        for position in 0..self.found.positions() {
+            let slot = self.found.slot(node, position);
+            let Some(_) = scratch.place(slot) else {
+                return false;
+            };
+        }
+        true
+    }
+
+    /// What is collected over the orbit of the term's dart, which is walked.
+    fn reckoned<L: Ledger>(
+        &self,
+        form: Form,
+        mask: Mask,
+        term: &DartTerm,
+        embed: u8,
+        scratch: &mut Scratch,
+        steps: &mut Steps<L>,
+    ) -> Option<Value>
+        requires ready { IsReady self.now (collector_at form mask term.now embed) }
+        requires fits { Fits scratch.old self.now.arena.now }
+        ensures value { IsValueThere self.now (collector_at form mask term.now embed) result }
+        ensures cost { IsWithinUnits (reading_of self.now) (collector_at form mask term.now embed) steps.old steps.new }
+        ensures least { steps.old ≤ steps.new }
+        ensures room { scratch.new.bound ≡ scratch.old.bound }
+        ensures walked { IsOrbit self.now mask term.now scratch.new.walked }
+    {
+        match form {
+            Form::Count => self.count(mask, term, scratch, steps),
+            Form::Sum => self.sum(mask, term, embed, scratch, steps),
+            Form::Least => Some(self.least(mask, term, embed, scratch, steps)),
+            Form::Greatest => Some(self.greatest(mask, term, embed, scratch, steps)),
+        }
+    }
+
     /// The walk of the orbit of the term's dart.
     fn orbit<'s, L: Ledger>(
         &self,
@@ -40,7 +236,7 @@ impl Reader<'_> {
     }
 
     /// How many darts the orbit of the term's dart has.
-    pub(crate) fn count<L: Ledger>(
+    fn count<L: Ledger>(
         &self,
         mask: Mask,
         term: &DartTerm,
@@ -53,13 +249,14 @@ impl Reader<'_> {
         ensures cost { IsWithinUnits (reading_of self.now) (Count mask term.now) steps.old steps.new }
         ensures least { steps.old ≤ steps.new }
         ensures room { scratch.new.bound ≡ scratch.old.bound }
+        ensures walked { IsOrbit self.now mask term.now scratch.new.walked }
     {
         let walk = self.orbit(mask, term, scratch, steps);
         int(walk.slots().len() as i128)
     }
 
     /// The sum of the embedding's values over the orbit of the term's dart.
-    pub(crate) fn sum<L: Ledger>(
+    fn sum<L: Ledger>(
         &self,
         mask: Mask,
         term: &DartTerm,
@@ -73,13 +270,14 @@ impl Reader<'_> {
         ensures cost { IsWithinUnits (reading_of self.now) (Sum mask term.now embed) steps.old steps.new }
         ensures least { steps.old ≤ steps.new }
         ensures room { scratch.new.bound ≡ scratch.old.bound }
+        ensures walked { IsOrbit self.now mask term.now scratch.new.walked }
     {
         self.sum_and_count(mask, term, embed, scratch, steps).0
     }
 
     /// The sum of the embedding's values over the orbit of the term's dart, and how many darts the
     /// orbit has. It is walked once.
-    pub(crate) fn sum_and_count<L: Ledger>(
+    fn sum_and_count<L: Ledger>(
         &self,
         mask: Mask,
         term: &DartTerm,
@@ -94,6 +292,7 @@ impl Reader<'_> {
         ensures cost { IsWithinUnits (reading_of self.now) (Sum mask term.now embed) steps.old steps.new }
         ensures least { steps.old ≤ steps.new }
         ensures room { scratch.new.bound ≡ scratch.old.bound }
+        ensures walked { IsOrbit self.now mask term.now scratch.new.walked }
     {
         let walk = self.orbit(mask, term, scratch, steps);
         let kind = self.arena.schema().embeds.as_slice()[embed as usize].kind;
@@ -118,13 +317,14 @@ impl Reader<'_> {
         ensures cost { IsWithinUnits (reading_of self.now) (Least mask term.now embed) steps.old steps.new }
         ensures not_less { steps.old ≤ steps.new }
         ensures room { scratch.new.bound ≡ scratch.old.bound }
+        ensures walked { IsOrbit self.now mask term.now scratch.new.walked }
     {
         let walk = self.orbit(mask, term, scratch, steps);
         extremes(self.arena, walk.slots(), embed, steps)
     }
 
     /// The least of the embedding's numbers over the orbit of the term's dart.
-    pub(crate) fn least<L: Ledger>(
+    fn least<L: Ledger>(
         &self,
         mask: Mask,
         term: &DartTerm,
@@ -138,12 +338,13 @@ impl Reader<'_> {
         ensures cost { IsWithinUnits (reading_of self.now) (Least mask term.now embed) steps.old steps.new }
         ensures least { steps.old ≤ steps.new }
         ensures room { scratch.new.bound ≡ scratch.old.bound }
+        ensures walked { IsOrbit self.now mask term.now scratch.new.walked }
     {
         Value::Int(self.extremes(mask, term, embed, scratch, steps).0)
     }
 
     /// The greatest of the embedding's numbers over the orbit of the term's dart.
-    pub(crate) fn greatest<L: Ledger>(
+    fn greatest<L: Ledger>(
         &self,
         mask: Mask,
         term: &DartTerm,
@@ -157,7 +358,16 @@ impl Reader<'_> {
         ensures cost { IsWithinUnits (reading_of self.now) (Greatest mask term.now embed) steps.old steps.new }
         ensures least { steps.old ≤ steps.new }
         ensures room { scratch.new.bound ≡ scratch.old.bound }
+        ensures walked { IsOrbit self.now mask term.now scratch.new.walked }
     {
         Value::Int(self.extremes(mask, term, embed, scratch, steps).1)
     }
+}
+
+/// Whether a collector over the orbit of the term's dart may be kept: of a node's own dart, where
+/// values are kept.
+fn is_keepable(term: &DartTerm, kept: &Kept) -> bool
+    ensures { IsTrue result → IsSome kept.now × (term.now.path ≡ []) }
+{
+    kept.is_open() && term.path.as_slice().is_empty()
 }

@@ -5,8 +5,10 @@ ghost use Rattle.gm_arena.specs.ArenaAsMap.{as_map};
 ghost use Rattle.gm_model.specs.Expressions.{HasValue, HasNoValue, HasUnits};
 ghost use Rattle.gm_model.specs.Trees.{tree_of};
 ghost use Rattle.gm_walk.specs.Room.{Fits};
+ghost use Rattle.gm_eval.specs.Keeping.{AreKept};
 ghost use Rattle.gm_eval.specs.Places.{AreLiveAt, IsTypedFor, reading_in};
 
+use crate::kept::Kept;
 use crate::reader::Reader;
 use gm_arena::{Arena, Steps};
 use gm_model::{Expr, MOST_DARTS, Value};
@@ -36,6 +38,37 @@ pub fn eval<L: Ledger>(
     ensures least { steps.old ≤ steps.new }
     ensures room { scratch.new.bound ≡ scratch.old.bound }
 {
+    let mut kept = Kept::closed();
+    eval_keeping(
+        arena, found, position, params, expr, &mut kept, scratch, steps,
+    )
+}
+
+/// The value of the expression at a position, as `eval` gives it. What is collected over an orbit that
+/// holds a node at all positions is kept for the next reading in the same map, at the same instances.
+pub fn eval_keeping<L: Ledger>(
+    arena: &Arena,
+    found: &Instances,
+    position: u32,
+    params: &[Value],
+    expr: &Expr,
+    kept: &mut Kept,
+    scratch: &mut Scratch,
+    steps: &mut Steps<L>,
+) -> Option<Value>
+    requires position { position < found.now.positions }
+    requires live { AreLiveAt arena.now found.now position }
+    requires typed { IsTypedFor arena.now.schema found.now.nodes params.now (tree_of expr.now) }
+    requires fits { Fits scratch.old arena.now }
+    requires kept { AreKept arena.now found.now params.now kept.old }
+    ensures value { let reading = reading_in arena.now found.now position params.now in
+        MatchOption result (HasNoValue reading (tree_of expr.now)) (HasValue reading (tree_of expr.now)) }
+    ensures cost { (u : ℕ) → HasUnits (reading_in arena.now found.now position params.now) (tree_of expr.now) u
+        → steps.new ≤ steps.old + 6 * (arena.now.schema.dim + 1) * u }
+    ensures least { steps.old ≤ steps.new }
+    ensures room { scratch.new.bound ≡ scratch.old.bound }
+    ensures kept { AreKept arena.now found.now params.now kept.new }
+{
     // The arena tells here what its type keeps.
     prove!(arena.count() <= MOST_DARTS);
     let reader = Reader {
@@ -44,5 +77,5 @@ pub fn eval<L: Ledger>(
         position,
         params,
     };
-    reader.value(expr, scratch, steps)
+    reader.value(expr, kept, scratch, steps)
 }

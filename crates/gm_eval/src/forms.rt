@@ -7,9 +7,11 @@ ghost use Rattle.gm_model.specs.declared.value.Kind.TheVariants.{Vec3, Rgb};
 ghost use Rattle.gm_model.specs.declared.value.Value.TheVariants.{Int, Bool as Truth};
 ghost use Rattle.gm_walk.specs.Room.{Fits};
 ghost use Rattle.gm_eval.specs.Places.{IsWithinUnits};
+ghost use Rattle.gm_eval.specs.Keeping.{AreKept};
 ghost use Rattle.gm_eval.specs.Made.{IsNone};
 ghost use Rattle.gm_eval.specs.Readers.{AreNumbersThere, IsReady, IsValueThere, reading_of};
 
+use crate::kept::{Form, Kept};
 use crate::numbers::{rgb, vec2, vec3};
 use crate::operators::{binary, unary};
 use crate::reader::Reader;
@@ -24,15 +26,18 @@ impl Reader<'_> {
     pub(crate) fn value<L: Ledger>(
         &self,
         expr: &Expr,
+        kept: &mut Kept,
         scratch: &mut Scratch,
         steps: &mut Steps<L>,
     ) -> Option<Value>
         requires ready { IsReady self.now (tree_of expr.now) }
         requires fits { Fits scratch.old self.now.arena.now }
+        requires kept { AreKept self.now.arena.now self.now.found.now self.now.params.now kept.old }
         ensures value { IsValueThere self.now (tree_of expr.now) result }
         ensures cost { IsWithinUnits (reading_of self.now) (tree_of expr.now) steps.old steps.new }
         ensures least { steps.old ≤ steps.new }
         ensures room { scratch.new.bound ≡ scratch.old.bound }
+        ensures kept { AreKept self.now.arena.now self.now.found.now self.now.params.now kept.new }
     {
         match expr {
             Expr::Int(number) => Some(Value::Int(*number)),
@@ -40,21 +45,27 @@ impl Reader<'_> {
             Expr::Param(at) => Some(self.params[*at as usize]),
             Expr::Field(term, embed) => Some(self.field(term, *embed, steps)),
             Expr::Same(term, other) => Some(self.same(term, other, steps)),
-            Expr::Count(mask, term) => self.count(*mask, term, scratch, steps),
-            Expr::Sum(mask, term, embed) => self.sum(*mask, term, *embed, scratch, steps),
-            Expr::Least(mask, term, embed) => Some(self.least(*mask, term, *embed, scratch, steps)),
+            Expr::Count(mask, term) => {
+                self.collected(Form::Count, *mask, term, 0, kept, scratch, steps)
+            }
+            Expr::Sum(mask, term, embed) => {
+                self.collected(Form::Sum, *mask, term, *embed, kept, scratch, steps)
+            }
+            Expr::Least(mask, term, embed) => {
+                self.collected(Form::Least, *mask, term, *embed, kept, scratch, steps)
+            }
             Expr::Greatest(mask, term, embed) => {
-                Some(self.greatest(*mask, term, *embed, scratch, steps))
+                self.collected(Form::Greatest, *mask, term, *embed, kept, scratch, steps)
             }
-            Expr::Unary(op, part) => self.unary(*op, part, scratch, steps),
-            Expr::Binary(op, left, right) => self.binary(*op, left, right, scratch, steps),
+            Expr::Unary(op, part) => self.unary(*op, part, kept, scratch, steps),
+            Expr::Binary(op, left, right) => self.binary(*op, left, right, kept, scratch, steps),
             Expr::If(condition, chosen, other) => {
-                self.choice(condition, chosen, other, scratch, steps)
+                self.choice(condition, chosen, other, kept, scratch, steps)
             }
-            Expr::MakeVec2(x, y) => self.pair(x, y, scratch, steps),
-            Expr::MakeVec3(x, y, z) => triple(self.numbers(x, y, z, scratch, steps)),
+            Expr::MakeVec2(x, y) => self.pair(x, y, kept, scratch, steps),
+            Expr::MakeVec3(x, y, z) => triple(self.numbers(x, y, z, kept, scratch, steps)),
             Expr::MakeRgb(red, green, blue) => {
-                colour(self.numbers(red, green, blue, scratch, steps))
+                colour(self.numbers(red, green, blue, kept, scratch, steps))
             }
         }
     }
@@ -65,17 +76,20 @@ impl Reader<'_> {
         &self,
         op: UnOp,
         part: &Expr,
+        kept: &mut Kept,
         scratch: &mut Scratch,
         steps: &mut Steps<L>,
     ) -> Option<Value>
         requires ready { IsReady self.now (Unary op (tree_of part.now)) }
         requires fits { Fits scratch.old self.now.arena.now }
+        requires kept { AreKept self.now.arena.now self.now.found.now self.now.params.now kept.old }
         ensures value { IsValueThere self.now (Unary op (tree_of part.now)) result }
         ensures cost { IsWithinUnits (reading_of self.now) (Unary op (tree_of part.now)) steps.old steps.new }
         ensures least { steps.old ≤ steps.new }
         ensures room { scratch.new.bound ≡ scratch.old.bound }
+        ensures kept { AreKept self.now.arena.now self.now.found.now self.now.params.now kept.new }
     {
-        let part = self.value(part, scratch, steps)?;
+        let part = self.value(part, kept, scratch, steps)?;
         unary(op, part)
     }
 
@@ -86,21 +100,24 @@ impl Reader<'_> {
         op: BinOp,
         left: &Expr,
         right: &Expr,
+        kept: &mut Kept,
         scratch: &mut Scratch,
         steps: &mut Steps<L>,
     ) -> Option<Value>
         requires ready { IsReady self.now (Binary op (tree_of left.now) (tree_of right.now)) }
         requires fits { Fits scratch.old self.now.arena.now }
+        requires kept { AreKept self.now.arena.now self.now.found.now self.now.params.now kept.old }
         ensures value { IsValueThere self.now (Binary op (tree_of left.now) (tree_of right.now)) result }
         ensures cost { IsWithinUnits (reading_of self.now) (Binary op (tree_of left.now) (tree_of right.now)) steps.old steps.new }
         ensures least { steps.old ≤ steps.new }
         ensures room { scratch.new.bound ≡ scratch.old.bound }
+        ensures kept { AreKept self.now.arena.now self.now.found.now self.now.params.now kept.new }
     {
         if let Some((mask, term, embed)) = parts_of_mean(left, right) {
-            return self.of_mean(op, mask, term, embed, scratch, steps);
+            return self.of_mean(op, mask, term, embed, kept, scratch, steps);
         }
-        let left = self.value(left, scratch, steps)?;
-        let right = self.value(right, scratch, steps)?;
+        let left = self.value(left, kept, scratch, steps)?;
+        let right = self.value(right, kept, scratch, steps)?;
         binary(op, left, right)
     }
 
@@ -112,17 +129,20 @@ impl Reader<'_> {
         mask: Mask,
         term: &DartTerm,
         embed: u8,
+        kept: &mut Kept,
         scratch: &mut Scratch,
         steps: &mut Steps<L>,
     ) -> Option<Value>
         requires ready { IsReady self.now (Binary op (Sum mask term.now embed) (Count mask term.now)) }
         requires fits { Fits scratch.old self.now.arena.now }
+        requires kept { AreKept self.now.arena.now self.now.found.now self.now.params.now kept.old }
         ensures value { IsValueThere self.now (Binary op (Sum mask term.now embed) (Count mask term.now)) result }
         ensures cost { IsWithinUnits (reading_of self.now) (Binary op (Sum mask term.now embed) (Count mask term.now)) steps.old steps.new }
         ensures least { steps.old ≤ steps.new }
         ensures room { scratch.new.bound ≡ scratch.old.bound }
+        ensures kept { AreKept self.now.arena.now self.now.found.now self.now.params.now kept.new }
     {
-        let (sum, count) = self.sum_and_count(mask, term, embed, scratch, steps);
+        let (sum, count) = self.mean_parts(mask, term, embed, kept, scratch, steps);
         let Some(sum) = sum else { return None };
         let Some(count) = count else { return None };
         binary(op, sum, count)
@@ -135,20 +155,23 @@ impl Reader<'_> {
         condition: &Expr,
         chosen: &Expr,
         other: &Expr,
+        kept: &mut Kept,
         scratch: &mut Scratch,
         steps: &mut Steps<L>,
     ) -> Option<Value>
         requires ready { IsReady self.now (If (tree_of condition.now) (tree_of chosen.now) (tree_of other.now)) }
         requires fits { Fits scratch.old self.now.arena.now }
+        requires kept { AreKept self.now.arena.now self.now.found.now self.now.params.now kept.old }
         ensures value { IsValueThere self.now (If (tree_of condition.now) (tree_of chosen.now) (tree_of other.now)) result }
         ensures cost { IsWithinUnits (reading_of self.now) (If (tree_of condition.now) (tree_of chosen.now) (tree_of other.now)) steps.old steps.new }
         ensures least { steps.old ≤ steps.new }
         ensures room { scratch.new.bound ≡ scratch.old.bound }
+        ensures kept { AreKept self.now.arena.now self.now.found.now self.now.params.now kept.new }
     {
-        if truth(self.value(condition, scratch, steps))? {
-            self.value(chosen, scratch, steps)
+        if truth(self.value(condition, kept, scratch, steps))? {
+            self.value(chosen, kept, scratch, steps)
         } else {
-            self.value(other, scratch, steps)
+            self.value(other, kept, scratch, steps)
         }
     }
 
@@ -158,18 +181,21 @@ impl Reader<'_> {
         &self,
         x: &Expr,
         y: &Expr,
+        kept: &mut Kept,
         scratch: &mut Scratch,
         steps: &mut Steps<L>,
     ) -> Option<Value>
         requires ready { IsReady self.now (MakeVec2 (tree_of x.now) (tree_of y.now)) }
         requires fits { Fits scratch.old self.now.arena.now }
+        requires kept { AreKept self.now.arena.now self.now.found.now self.now.params.now kept.old }
         ensures value { IsValueThere self.now (MakeVec2 (tree_of x.now) (tree_of y.now)) result }
         ensures cost { IsWithinUnits (reading_of self.now) (MakeVec2 (tree_of x.now) (tree_of y.now)) steps.old steps.new }
         ensures least { steps.old ≤ steps.new }
         ensures room { scratch.new.bound ≡ scratch.old.bound }
+        ensures kept { AreKept self.now.arena.now self.now.found.now self.now.params.now kept.new }
     {
-        let x = number(self.value(x, scratch, steps))?;
-        let y = number(self.value(y, scratch, steps))?;
+        let x = number(self.value(x, kept, scratch, steps))?;
+        let y = number(self.value(y, kept, scratch, steps))?;
         vec2(x as i128, y as i128)
     }
 
@@ -180,6 +206,7 @@ impl Reader<'_> {
         x: &Expr,
         y: &Expr,
         z: &Expr,
+        kept: &mut Kept,
         scratch: &mut Scratch,
         steps: &mut Steps<L>,
     ) -> Option<(i64, i64, i64)>
@@ -187,14 +214,16 @@ impl Reader<'_> {
         requires y { IsReady self.now (tree_of y.now) }
         requires z { IsReady self.now (tree_of z.now) }
         requires fits { Fits scratch.old self.now.arena.now }
+        requires kept { AreKept self.now.arena.now self.now.found.now self.now.params.now kept.old }
         ensures value { AreNumbersThere self.now (tree_of x.now) (tree_of y.now) (tree_of z.now) result }
         ensures cost { IsWithinUnits (reading_of self.now) (MakeVec3 (tree_of x.now) (tree_of y.now) (tree_of z.now)) steps.old steps.new }
         ensures least { steps.old ≤ steps.new }
         ensures room { scratch.new.bound ≡ scratch.old.bound }
+        ensures kept { AreKept self.now.arena.now self.now.found.now self.now.params.now kept.new }
     {
-        let x = number(self.value(x, scratch, steps))?;
-        let y = number(self.value(y, scratch, steps))?;
-        let z = number(self.value(z, scratch, steps))?;
+        let x = number(self.value(x, kept, scratch, steps))?;
+        let y = number(self.value(y, kept, scratch, steps))?;
+        let z = number(self.value(z, kept, scratch, steps))?;
         Some((x, y, z))
     }
 }

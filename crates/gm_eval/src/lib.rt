@@ -8,9 +8,11 @@
 mod collectors;
 mod evaluation;
 mod forms;
+mod kept;
 mod numbers;
 mod operators;
 mod reader;
 mod totals;
 
-pub use evaluation::eval;
+pub use evaluation::{eval, eval_keeping};
+pub use kept::{Collector, Entry, Form, Kept};

@@ -17,10 +17,14 @@ loop-index-init g c = record {
   read = λ hooks start readable read. asked_more c.args.self.now hooks c.args.pending.now c.deciding.new.self c.args.embed start c.args.steps.now c.deciding.new.steps read c.requires.embed c.in_ok-count.ensures.asked c.in_ok-count.ensures.deciders c.in_ok-count.ensures.cost c.in_ok-count.ensures.least;
   long = sym c.in_ok-count.ensures.count;
   room = refl;
+  kept = c.between-kept.ensures c.args.self.now.arena.now c.args.self.now.found.now c.args.self.now.params.now c.requires.read.2.sound.generalised;
 }
 
 pub value-requires-clause-readable : goal.value-requires-clause-readable
 value-requires-clause-readable g c = (c.requires.read.0, c.requires.read.2)
+
+pub value-requires-clause-kept : goal.value-requires-clause-kept
+value-requires-clause-kept g c = c.turn_to.ensures c.args.self.now.arena.now c.args.self.now.found.now c.args.self.now.params.now c.loop-index.invariant.kept
 
 pub value-requires-clause-assigned : goal.value-requires-clause-assigned
 value-requires-clause-assigned g c = (assigned_at c.args.self.now c.requires.read.0 c.loop-index.pending c.args.embed c.loop-index.index c.requires.read.1 c.loop-index.steps c.decider-node.result.0 c.decider-node.result.1 c.requires.read.2 (c.loop-index.invariant.read c.requires.read.0 c.requires.read.1 c.requires.read.2 c.requires.read.3) (entry_at (instances_of c.loop-index.pending c.args.embed) c.loop-index.index c.decider-node.result.0 c.decider-node.result.1 c.decider-node.ensures)).0
@@ -47,6 +51,7 @@ loop-index-preserved g c =
       long = ap length (these_deciders c.args.self.now c.requires.read.0 c.loop-index.pending c.args.embed c.loop-index.index c.requires.read.1 c.loop-index.steps c.value.new.steps c.decider-node.result.0 c.decider-node.result.1 (c.loop-index.invariant.read c.requires.read.0 c.requires.read.1 c.requires.read.2 c.requires.read.3) (entry_at (instances_of c.loop-index.pending c.args.embed) c.loop-index.index c.decider-node.result.0 c.decider-node.result.1 c.decider-node.ensures)
           (c.value.ensures.cost c.requires.read.0) c.give.new.self c.in-Some.value (c.in-Some.ensures.value c.requires.read.0) c.give.ensures c.value.ensures.least) ∙ given_long (instances_of c.loop-index.pending c.args.embed) c.loop-index.index c.in-Some.value ∙ c.loop-index.invariant.long;
       room = c.value.ensures.room ∙ c.loop-index.invariant.room;
+      kept = c.value.ensures.kept;
     }
 
 pub returns-clause-given : goal.returns-clause-given

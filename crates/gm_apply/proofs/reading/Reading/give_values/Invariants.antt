@@ -1,4 +1,5 @@
 use Rattle.std.proofs.Common.{◌≡◌, ℕ, suc, List, length}
+use Rattle.gm_eval.specs.Keeping.{AreKept}
 use Rattle.gm_pending.specs.Results.{instances_of}
 use Rattle.gm_apply.specs.Reads.{IsReadable, HasRead}
 use Rattle.gm_apply.proofs.reading.Reading.give_values.Given as goal
@@ -8,4 +9,5 @@ invariant-loop-index g l = record {
   read : (hooks : List ℕ) (start : ℕ) → IsReadable l.self hooks → HasRead l.self hooks l.fn.pending l.embed l.embed 0 start l.fn.steps → HasRead l.self hooks l.pending (suc l.embed) l.embed l.index start l.steps;
   long : length (instances_of l.pending l.embed) ≡ l.count;
   room : l.scratch.bound ≡ l.fn.scratch.bound;
+  kept : AreKept l.self.arena.now l.self.found.now l.self.params.now l.kept;
 }

@@ -6,25 +6,25 @@ use Rattle.gm_eval.proofs.Matched.{live_there}
 use Rattle.gm_apply.proofs.ReadValues.{tree_typed, gives, of_kind, of_units}
 use Rattle.gm_apply.proofs.reading.Reading.value.Goals as goal
 
-pub eval-requires-clause-live : goal.eval-requires-clause-live
-eval-requires-clause-live g c = live_there c.args.self.now.arena.now (rule_of c.args.self.now.plan.now.table) c.requires.readable.0 c.args.self.now.found.now c.requires.readable.1.answer.matched c.args.position c.requires.position
+pub eval_keeping-requires-clause-live : goal.eval_keeping-requires-clause-live
+eval_keeping-requires-clause-live g c = live_there c.args.self.now.arena.now (rule_of c.args.self.now.plan.now.table) c.requires.readable.0 c.args.self.now.found.now c.requires.readable.1.answer.matched c.args.position c.requires.position
 
-pub eval-requires-clause-typed : goal.eval-requires-clause-typed
-eval-requires-clause-typed g c =
+pub eval_keeping-requires-clause-typed : goal.eval_keeping-requires-clause-typed
+eval_keeping-requires-clause-typed g c =
     let assigns = subst (λ (t : RuleTable). Assigns (rule_of t) c.args.node c.args.embed (tree_of c.assignment-expr.result.now)) c.rule.ensures.rule c.assignment-expr.ensures in
     tree_typed c.args.self.now c.requires.readable.0 c.requires.readable.1 c.rule.ensures.planned c.args.embed c.args.node c.args.position (tree_of c.assignment-expr.result.now) assigns c.requires.position
 
 pub returns-clause-value : goal.returns-clause-value
 returns-clause-value g c hooks =
     let assigns = subst (λ (t : RuleTable). Assigns (rule_of t) c.args.node c.args.embed (tree_of c.assignment-expr.result.now)) c.rule.ensures.rule c.assignment-expr.ensures in
-    gives c.args.self.now c.requires.readable.0 c.requires.readable.1 c.rule.ensures.planned c.args.embed c.args.node c.args.position (tree_of c.assignment-expr.result.now) assigns c.requires.position c.eval.result c.eval.ensures.value
+    gives c.args.self.now c.requires.readable.0 c.requires.readable.1 c.rule.ensures.planned c.args.embed c.args.node c.args.position (tree_of c.assignment-expr.result.now) assigns c.requires.position c.eval_keeping.result c.eval_keeping.ensures.value
 
 pub returns-clause-kind : goal.returns-clause-kind
 returns-clause-kind g c kept v at some =
     let assigns = subst (λ (t : RuleTable). Assigns (rule_of t) c.args.node c.args.embed (tree_of c.assignment-expr.result.now)) c.rule.ensures.rule c.assignment-expr.ensures in
-    of_kind c.args.self.now c.requires.readable.0 c.requires.readable.1 c.rule.ensures.planned c.args.embed c.args.node c.args.position (tree_of c.assignment-expr.result.now) assigns c.requires.position kept v at (rw some at c.eval.ensures.value)
+    of_kind c.args.self.now c.requires.readable.0 c.requires.readable.1 c.rule.ensures.planned c.args.embed c.args.node c.args.position (tree_of c.assignment-expr.result.now) assigns c.requires.position kept v at (rw some at c.eval_keeping.ensures.value)
 
 pub returns-clause-cost : goal.returns-clause-cost
 returns-clause-cost g c hooks u units =
     let assigns = subst (λ (t : RuleTable). Assigns (rule_of t) c.args.node c.args.embed (tree_of c.assignment-expr.result.now)) c.rule.ensures.rule c.assignment-expr.ensures in
-    c.eval.ensures.cost u (of_units c.args.self.now c.requires.readable.0 c.requires.readable.1 c.rule.ensures.planned c.args.embed c.args.node c.args.position (tree_of c.assignment-expr.result.now) assigns c.requires.position u units)
+    c.eval_keeping.ensures.cost u (of_units c.args.self.now c.requires.readable.0 c.requires.readable.1 c.rule.ensures.planned c.args.embed c.args.node c.args.position (tree_of c.assignment-expr.result.now) assigns c.requires.position u units)

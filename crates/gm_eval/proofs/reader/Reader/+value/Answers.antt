@@ -15,37 +15,37 @@ use Rattle.gm_eval.proofs.reader.Reader.+value.Goals as goal
 -- ---- what the calls of the cycle require
 
 pub unary-value-requires : goal.unary-value-requires
-unary-value-requires g t c = λ κs lives. (omega arith, (lives, (unary_ready c.args.self.now c.args.op (tree_of c.args.part.now) c.requires.ready, c.requires.fits)))
+unary-value-requires g t c = λ κs lives. (omega arith, (lives, (unary_ready c.args.self.now c.args.op (tree_of c.args.part.now) c.requires.ready, (c.requires.fits, c.requires.kept))))
 
 pub binary-value-requires : goal.binary-value-requires
-binary-value-requires g t c = λ κs lives. (omega arith, (lives, ((binary_ready c.args.self.now c.args.op (tree_of c.args.left.now) (tree_of c.args.right.now) c.requires.ready).0, c.requires.fits)))
+binary-value-requires g t c = λ κs lives. (omega arith, (lives, ((binary_ready c.args.self.now c.args.op (tree_of c.args.left.now) (tree_of c.args.right.now) c.requires.ready).0, (c.requires.fits, c.requires.kept))))
 
 pub binary-value-requires-2 : goal.binary-value-requires-2
-binary-value-requires-2 g t c = λ κs lives. (omega arith, (lives, ((binary_ready c.args.self.now c.args.op (tree_of c.args.left.now) (tree_of c.args.right.now) c.requires.ready).1, omega (arith, c.requires.fits, c.value.ensures.room))))
+binary-value-requires-2 g t c = λ κs lives. (omega arith, (lives, ((binary_ready c.args.self.now c.args.op (tree_of c.args.left.now) (tree_of c.args.right.now) c.requires.ready).1, (omega (arith, c.requires.fits, c.value.ensures.room), c.value.ensures.kept))))
 
 pub pair-value-requires : goal.pair-value-requires
-pair-value-requires g t c = λ κs lives. (omega arith, (lives, ((pair_ready c.args.self.now (tree_of c.args.x.now) (tree_of c.args.y.now) c.requires.ready).0, c.requires.fits)))
+pair-value-requires g t c = λ κs lives. (omega arith, (lives, ((pair_ready c.args.self.now (tree_of c.args.x.now) (tree_of c.args.y.now) c.requires.ready).0, (c.requires.fits, c.requires.kept))))
 
 pub pair-value-requires-2 : goal.pair-value-requires-2
-pair-value-requires-2 g t c = λ κs lives. (omega arith, (lives, ((pair_ready c.args.self.now (tree_of c.args.x.now) (tree_of c.args.y.now) c.requires.ready).1, omega (arith, c.requires.fits, c.value.ensures.room))))
+pair-value-requires-2 g t c = λ κs lives. (omega arith, (lives, ((pair_ready c.args.self.now (tree_of c.args.x.now) (tree_of c.args.y.now) c.requires.ready).1, (omega (arith, c.requires.fits, c.value.ensures.room), c.value.ensures.kept))))
 
 pub choice-value-requires : goal.choice-value-requires
-choice-value-requires g t c = λ κs lives. (omega arith, (lives, ((choice_ready c.args.self.now (tree_of c.args.condition.now) (tree_of c.args.chosen.now) (tree_of c.args.other.now) c.requires.ready).0, c.requires.fits)))
+choice-value-requires g t c = λ κs lives. (omega arith, (lives, ((choice_ready c.args.self.now (tree_of c.args.condition.now) (tree_of c.args.chosen.now) (tree_of c.args.other.now) c.requires.ready).0, (c.requires.fits, c.requires.kept))))
 
 pub choice-value-requires-then-branch : goal.choice-value-requires-then-branch
-choice-value-requires-then-branch g t c = λ κs lives. (omega arith, (lives, ((choice_ready c.args.self.now (tree_of c.args.condition.now) (tree_of c.args.chosen.now) (tree_of c.args.other.now) c.requires.ready).1, omega (arith, c.requires.fits, c.value.ensures.room))))
+choice-value-requires-then-branch g t c = λ κs lives. (omega arith, (lives, ((choice_ready c.args.self.now (tree_of c.args.condition.now) (tree_of c.args.chosen.now) (tree_of c.args.other.now) c.requires.ready).1, (omega (arith, c.requires.fits, c.value.ensures.room), c.value.ensures.kept))))
 
 pub choice-value-requires-else-branch : goal.choice-value-requires-else-branch
-choice-value-requires-else-branch g t c = λ κs lives. (omega arith, (lives, ((choice_ready c.args.self.now (tree_of c.args.condition.now) (tree_of c.args.chosen.now) (tree_of c.args.other.now) c.requires.ready).2, omega (arith, c.requires.fits, c.value.ensures.room))))
+choice-value-requires-else-branch g t c = λ κs lives. (omega arith, (lives, ((choice_ready c.args.self.now (tree_of c.args.condition.now) (tree_of c.args.chosen.now) (tree_of c.args.other.now) c.requires.ready).2, (omega (arith, c.requires.fits, c.value.ensures.room), c.value.ensures.kept))))
 
 pub numbers-value-requires : goal.numbers-value-requires
-numbers-value-requires g t c = λ κs lives. (omega arith, (lives, (c.requires.x, c.requires.fits)))
+numbers-value-requires g t c = λ κs lives. (omega arith, (lives, (c.requires.x, (c.requires.fits, c.requires.kept))))
 
 pub numbers-value-requires-2 : goal.numbers-value-requires-2
-numbers-value-requires-2 g t c = λ κs lives. (omega arith, (lives, (c.requires.y, omega (arith, c.requires.fits, c.value.ensures.room))))
+numbers-value-requires-2 g t c = λ κs lives. (omega arith, (lives, (c.requires.y, (omega (arith, c.requires.fits, c.value.ensures.room), c.value.ensures.kept))))
 
 pub numbers-value-requires-3 : goal.numbers-value-requires-3
-numbers-value-requires-3 g t c = λ κs lives. (omega arith, (lives, (c.requires.z, omega (arith, c.requires.fits, c.value.ensures.room, c.value-2.ensures.room))))
+numbers-value-requires-3 g t c = λ κs lives. (omega arith, (lives, (c.requires.z, (omega (arith, c.requires.fits, c.value.ensures.room, c.value-2.ensures.room), c.value-2.ensures.kept))))
 
 -- ---- operators
 
@@ -59,6 +59,7 @@ unary-returns g t c =
       cost = c.value.ensures.cost;
       least = c.value.ensures.least;
       room = c.value.ensures.room;
+      kept = c.value.ensures.kept;
     }
 
 pub unary-returns-in_err-part : goal.unary-returns-in_err-part
@@ -68,6 +69,7 @@ unary-returns-in_err-part g t c =
       cost = c.value.ensures.cost;
       least = c.value.ensures.least;
       room = c.value.ensures.room;
+      kept = c.value.ensures.kept;
     }
 
 pub binary-returns-in_err-left : goal.binary-returns-in_err-left
@@ -77,6 +79,7 @@ binary-returns-in_err-left g t c =
       cost = first_within c.args.self.now (tree_of c.args.left.now) (tree_of c.args.right.now) _ _ c.value.ensures.cost;
       least = c.value.ensures.least;
       room = c.value.ensures.room;
+      kept = c.value.ensures.kept;
     }
 
 pub binary-returns-in_err-right : goal.binary-returns-in_err-right
@@ -86,6 +89,7 @@ binary-returns-in_err-right g t c =
       cost = two_within c.args.self.now (tree_of c.args.left.now) (tree_of c.args.right.now) _ _ _ c.value.ensures.cost c.value-2.ensures.cost;
       least = omega (arith, c.value.ensures.least, c.value-2.ensures.least);
       room = c.value-2.ensures.room ∙ c.value.ensures.room;
+      kept = c.value-2.ensures.kept;
     }
 
 pub binary-binary-requires : goal.binary-binary-requires
@@ -98,12 +102,13 @@ binary-returns g t c =
       cost = two_within c.args.self.now (tree_of c.args.left.now) (tree_of c.args.right.now) _ _ _ c.value.ensures.cost c.value-2.ensures.cost;
       least = omega (arith, c.value.ensures.least, c.value-2.ensures.least);
       room = c.value-2.ensures.room ∙ c.value.ensures.room;
+      kept = c.value-2.ensures.kept;
     }
 
 pub binary-of_mean-requires : goal.binary-of_mean-requires
 binary-of_mean-requires g t c =
     let mean = c.in-Some.ensures in
-    record { ready = subst (λ a. IsReady c.args.self.now (Binary c.args.op a (Count c.in-Some.mask c.in-Some.term.now))) mean.0 (subst (λ b. IsReady c.args.self.now (Binary c.args.op (tree_of c.args.left.now) b)) mean.1 c.requires.ready); fits = c.requires.fits }
+    record { ready = subst (λ a. IsReady c.args.self.now (Binary c.args.op a (Count c.in-Some.mask c.in-Some.term.now))) mean.0 (subst (λ b. IsReady c.args.self.now (Binary c.args.op (tree_of c.args.left.now) b)) mean.1 c.requires.ready); fits = c.requires.fits; kept = c.requires.kept }
 
 pub binary-returns-in-Some : goal.binary-returns-in-Some
 binary-returns-in-Some g t c =
@@ -114,6 +119,7 @@ binary-returns-in-Some g t c =
       cost = rw (mean.0, mean.1) kept.cost;
       least = kept.least;
       room = kept.room;
+      kept = kept.kept;
     }
 
 -- ---- a choice
@@ -126,6 +132,7 @@ choice-returns-then-branch g t c =
       cost = chosen_within c.args.self.now (tree_of c.args.condition.now) (tree_of c.args.chosen.now) (tree_of c.args.other.now) c.in_ok-truth.field-0 _ _ _ c.if-branch.true truth c.value.ensures.cost c.value-then-branch.ensures.cost;
       least = omega (arith, c.value.ensures.least, c.value-then-branch.ensures.least);
       room = c.value-then-branch.ensures.room ∙ c.value.ensures.room;
+      kept = c.value-then-branch.ensures.kept;
     }
 
 pub choice-returns-else-branch : goal.choice-returns-else-branch
@@ -136,6 +143,7 @@ choice-returns-else-branch g t c =
       cost = other_within c.args.self.now (tree_of c.args.condition.now) (tree_of c.args.chosen.now) (tree_of c.args.other.now) c.in_ok-truth.field-0 _ _ _ c.if-branch.false truth c.value.ensures.cost c.value-else-branch.ensures.cost;
       least = omega (arith, c.value.ensures.least, c.value-else-branch.ensures.least);
       room = c.value-else-branch.ensures.room ∙ c.value.ensures.room;
+      kept = c.value-else-branch.ensures.kept;
     }
 
 pub choice-returns-in_err-truth : goal.choice-returns-in_err-truth
@@ -145,6 +153,7 @@ choice-returns-in_err-truth g t c =
       cost = first_of_choice c.args.self.now (tree_of c.args.condition.now) (tree_of c.args.chosen.now) (tree_of c.args.other.now) _ _ c.value.ensures.cost;
       least = c.value.ensures.least;
       room = c.value.ensures.room;
+      kept = c.value.ensures.kept;
     }
 
 -- ---- numbers
@@ -156,6 +165,7 @@ pair-returns-in_err-x g t c =
       cost = first_within c.args.self.now (tree_of c.args.x.now) (tree_of c.args.y.now) _ _ c.value.ensures.cost;
       least = c.value.ensures.least;
       room = c.value.ensures.room;
+      kept = c.value.ensures.kept;
     }
 
 pub pair-returns-in_err-y : goal.pair-returns-in_err-y
@@ -165,6 +175,7 @@ pair-returns-in_err-y g t c =
       cost = two_within c.args.self.now (tree_of c.args.x.now) (tree_of c.args.y.now) _ _ _ c.value.ensures.cost c.value-2.ensures.cost;
       least = omega (arith, c.value.ensures.least, c.value-2.ensures.least);
       room = c.value-2.ensures.room ∙ c.value.ensures.room;
+      kept = c.value-2.ensures.kept;
     }
 
 pub pair-returns : goal.pair-returns
@@ -174,6 +185,7 @@ pair-returns g t c =
       cost = two_within c.args.self.now (tree_of c.args.x.now) (tree_of c.args.y.now) _ _ _ c.value.ensures.cost c.value-2.ensures.cost;
       least = omega (arith, c.value.ensures.least, c.value-2.ensures.least);
       room = c.value-2.ensures.room ∙ c.value.ensures.room;
+      kept = c.value-2.ensures.kept;
     }
 
 pub numbers-returns-in_err-x : goal.numbers-returns-in_err-x
@@ -183,6 +195,7 @@ numbers-returns-in_err-x g t c =
       cost = start_within c.args.self.now (tree_of c.args.x.now) (tree_of c.args.y.now) (tree_of c.args.z.now) _ _ c.value.ensures.cost;
       least = c.value.ensures.least;
       room = c.value.ensures.room;
+      kept = c.value.ensures.kept;
     }
 
 pub numbers-returns-in_err-y : goal.numbers-returns-in_err-y
@@ -192,6 +205,7 @@ numbers-returns-in_err-y g t c =
       cost = front_within c.args.self.now (tree_of c.args.x.now) (tree_of c.args.y.now) (tree_of c.args.z.now) _ _ _ c.value.ensures.cost c.value-2.ensures.cost;
       least = omega (arith, c.value.ensures.least, c.value-2.ensures.least);
       room = c.value-2.ensures.room ∙ c.value.ensures.room;
+      kept = c.value-2.ensures.kept;
     }
 
 pub numbers-returns-in_err-z : goal.numbers-returns-in_err-z
@@ -201,6 +215,7 @@ numbers-returns-in_err-z g t c =
       cost = three_within c.args.self.now (tree_of c.args.x.now) (tree_of c.args.y.now) (tree_of c.args.z.now) _ _ _ _ c.value.ensures.cost c.value-2.ensures.cost c.value-3.ensures.cost;
       least = omega (arith, c.value.ensures.least, c.value-2.ensures.least, c.value-3.ensures.least);
       room = c.value-3.ensures.room ∙ c.value-2.ensures.room ∙ c.value.ensures.room;
+      kept = c.value-3.ensures.kept;
     }
 
 pub numbers-returns : goal.numbers-returns
@@ -213,6 +228,7 @@ numbers-returns g t c =
       cost = three_within c.args.self.now (tree_of c.args.x.now) (tree_of c.args.y.now) (tree_of c.args.z.now) _ _ _ _ c.value.ensures.cost c.value-2.ensures.cost c.value-3.ensures.cost;
       least = omega (arith, c.value.ensures.least, c.value-2.ensures.least, c.value-3.ensures.least);
       room = c.value-3.ensures.room ∙ c.value-2.ensures.room ∙ c.value.ensures.room;
+      kept = c.value-3.ensures.kept;
     }
 
 -- ---- the forms
@@ -221,7 +237,7 @@ pub value-bounds-self-at : goal.value-bounds-self-at
 value-bounds-self-at g t c = param_within c.args.self.now c.in-Param.at (subst (λ e. IsReady c.args.self.now (tree_of e)) c.in-Param.is c.requires.ready)
 
 pub value-returns-in-Bool : goal.value-returns-in-Bool
-value-returns-in-Bool g t c = record { value = value_as c.args.self.now c.args.expr.now _ _ (ap tree_of c.in-Bool.is) refl; cost = still_within c.args.self.now (tree_of c.args.expr.now) _; least = omega arith; room = refl }
+value-returns-in-Bool g t c = record { value = value_as c.args.self.now c.args.expr.now _ _ (ap tree_of c.in-Bool.is) refl; cost = still_within c.args.self.now (tree_of c.args.expr.now) _; least = omega arith; room = refl; kept = c.requires.kept }
 
 pub value-returns-in-Param : goal.value-returns-in-Param
 value-returns-in-Param g t c =
@@ -231,6 +247,7 @@ value-returns-in-Param g t c =
       cost = still_within c.args.self.now (tree_of c.args.expr.now) _;
       least = omega arith;
       room = refl;
+      kept = c.requires.kept;
     }
 
 pub value-field-requires : goal.value-field-requires
@@ -245,6 +262,7 @@ value-returns-in-Field g t c =
       cost = units_as c.args.self.now c.args.expr.now _ _ _ same kept.cost;
       least = kept.least;
       room = refl;
+      kept = c.requires.kept;
     }
 
 pub value-same-requires : goal.value-same-requires
@@ -259,69 +277,74 @@ value-returns-in-Same g t c =
       cost = units_as c.args.self.now c.args.expr.now _ _ _ same kept.cost;
       least = kept.least;
       room = refl;
+      kept = c.requires.kept;
     }
 
-pub value-count-requires : goal.value-count-requires
-value-count-requires g t c = record { ready = ready_as c.args.self.now c.args.expr.now _ (ap tree_of c.in-Count.is) c.requires.ready; fits = c.requires.fits }
+pub value-collected-requires : goal.value-collected-requires
+value-collected-requires g t c = record { ready = ready_as c.args.self.now c.args.expr.now _ (ap tree_of c.in-Count.is) c.requires.ready; fits = c.requires.fits; kept = c.requires.kept }
 
 pub value-returns-in-Count : goal.value-returns-in-Count
 value-returns-in-Count g t c =
-    let kept = c.count.ensures in
+    let kept = c.collected.ensures in
     let same = ap tree_of c.in-Count.is in
     record {
-      value = there_as c.args.self.now c.args.expr.now _ c.count.result same kept.value;
+      value = there_as c.args.self.now c.args.expr.now _ c.collected.result same kept.value;
       cost = units_as c.args.self.now c.args.expr.now _ _ _ same kept.cost;
       least = kept.least;
       room = kept.room;
+      kept = kept.kept;
     }
 
-pub value-sum-requires : goal.value-sum-requires
-value-sum-requires g t c = record { ready = ready_as c.args.self.now c.args.expr.now _ (ap tree_of c.in-Sum.is) c.requires.ready; fits = c.requires.fits }
+pub value-collected-requires-in-Sum : goal.value-collected-requires-in-Sum
+value-collected-requires-in-Sum g t c = record { ready = ready_as c.args.self.now c.args.expr.now _ (ap tree_of c.in-Sum.is) c.requires.ready; fits = c.requires.fits; kept = c.requires.kept }
 
 pub value-returns-in-Sum : goal.value-returns-in-Sum
 value-returns-in-Sum g t c =
-    let kept = c.sum.ensures in
+    let kept = c.collected-in-Sum.ensures in
     let same = ap tree_of c.in-Sum.is in
     record {
-      value = there_as c.args.self.now c.args.expr.now _ c.sum.result same kept.value;
+      value = there_as c.args.self.now c.args.expr.now _ c.collected-in-Sum.result same kept.value;
       cost = units_as c.args.self.now c.args.expr.now _ _ _ same kept.cost;
       least = kept.least;
       room = kept.room;
+      kept = kept.kept;
     }
 
-pub value-least-requires : goal.value-least-requires
-value-least-requires g t c = record { ready = ready_as c.args.self.now c.args.expr.now _ (ap tree_of c.in-Least.is) c.requires.ready; fits = c.requires.fits }
+pub value-collected-requires-in-Least : goal.value-collected-requires-in-Least
+value-collected-requires-in-Least g t c = record { ready = ready_as c.args.self.now c.args.expr.now _ (ap tree_of c.in-Least.is) c.requires.ready; fits = c.requires.fits; kept = c.requires.kept }
 
 pub value-returns-in-Least : goal.value-returns-in-Least
 value-returns-in-Least g t c =
-    let kept = c.least.ensures in
+    let kept = c.collected-in-Least.ensures in
     let same = ap tree_of c.in-Least.is in
     record {
-      value = value_as c.args.self.now c.args.expr.now _ c.least.result same kept.value;
+      value = there_as c.args.self.now c.args.expr.now _ c.collected-in-Least.result same kept.value;
       cost = units_as c.args.self.now c.args.expr.now _ _ _ same kept.cost;
       least = kept.least;
       room = kept.room;
+      kept = kept.kept;
     }
 
-pub value-greatest-requires : goal.value-greatest-requires
-value-greatest-requires g t c = record { ready = ready_as c.args.self.now c.args.expr.now _ (ap tree_of c.in-Greatest.is) c.requires.ready; fits = c.requires.fits }
+pub value-collected-requires-in-Greatest : goal.value-collected-requires-in-Greatest
+value-collected-requires-in-Greatest g t c = record { ready = ready_as c.args.self.now c.args.expr.now _ (ap tree_of c.in-Greatest.is) c.requires.ready; fits = c.requires.fits; kept = c.requires.kept }
 
 pub value-returns-in-Greatest : goal.value-returns-in-Greatest
 value-returns-in-Greatest g t c =
-    let kept = c.greatest.ensures in
+    let kept = c.collected-in-Greatest.ensures in
     let same = ap tree_of c.in-Greatest.is in
     record {
-      value = value_as c.args.self.now c.args.expr.now _ c.greatest.result same kept.value;
+      value = there_as c.args.self.now c.args.expr.now _ c.collected-in-Greatest.result same kept.value;
       cost = units_as c.args.self.now c.args.expr.now _ _ _ same kept.cost;
       least = kept.least;
       room = kept.room;
+      kept = kept.kept;
     }
 
 pub value-unary-requires : goal.value-unary-requires
 value-unary-requires g t c =
     let same = ap tree_of c.in-Unary.is ∙ ap (λ (e : Expr). Unary c.in-Unary.op (tree_of e)) (sym c.deref.ensures) in
     let ready = ready_as c.args.self.now c.args.expr.now _ same c.requires.ready in
-    λ κs lives. (omega (arith, c.decreases, ap the_size c.in-Unary.is, sized-Unary c.in-Unary.op c.in-Unary.part, ap the_size c.deref.ensures), (lives, (ready, c.requires.fits)))
+    λ κs lives. (omega (arith, c.decreases, ap the_size c.in-Unary.is, sized-Unary c.in-Unary.op c.in-Unary.part, ap the_size c.deref.ensures), (lives, (ready, (c.requires.fits, c.requires.kept))))
 
 pub value-returns-in-Unary : goal.value-returns-in-Unary
 value-returns-in-Unary g t c =
@@ -332,13 +355,14 @@ value-returns-in-Unary g t c =
       cost = units_as c.args.self.now c.args.expr.now _ _ _ same kept.cost;
       least = kept.least;
       room = kept.room;
+      kept = kept.kept;
     }
 
 pub value-binary-requires : goal.value-binary-requires
 value-binary-requires g t c =
     let same = ap tree_of c.in-Binary.is ∙ ap₂ (λ (e : Expr) (f : Expr). Binary c.in-Binary.op (tree_of e) (tree_of f)) (sym c.deref-in-Binary.ensures) (sym c.deref-in-Binary-2.ensures) in
     let ready = ready_as c.args.self.now c.args.expr.now _ same c.requires.ready in
-    λ κs lives. (omega (arith, c.decreases, ap the_size c.in-Binary.is, sized-Binary c.in-Binary.op c.in-Binary.left c.in-Binary.right, ap the_size c.deref-in-Binary.ensures, ap the_size c.deref-in-Binary-2.ensures), (lives, (ready, c.requires.fits)))
+    λ κs lives. (omega (arith, c.decreases, ap the_size c.in-Binary.is, sized-Binary c.in-Binary.op c.in-Binary.left c.in-Binary.right, ap the_size c.deref-in-Binary.ensures, ap the_size c.deref-in-Binary-2.ensures), (lives, (ready, (c.requires.fits, c.requires.kept))))
 
 pub value-returns-in-Binary : goal.value-returns-in-Binary
 value-returns-in-Binary g t c =
@@ -349,13 +373,14 @@ value-returns-in-Binary g t c =
       cost = units_as c.args.self.now c.args.expr.now _ _ _ same kept.cost;
       least = kept.least;
       room = kept.room;
+      kept = kept.kept;
     }
 
 pub value-pair-requires : goal.value-pair-requires
 value-pair-requires g t c =
     let same = ap tree_of c.in-MakeVec2.is ∙ ap₂ (λ (e : Expr) (f : Expr). MakeVec2 (tree_of e) (tree_of f)) (sym c.deref-in-MakeVec2.ensures) (sym c.deref-in-MakeVec2-2.ensures) in
     let ready = ready_as c.args.self.now c.args.expr.now _ same c.requires.ready in
-    λ κs lives. (omega (arith, c.decreases, ap the_size c.in-MakeVec2.is, sized-MakeVec2 c.in-MakeVec2.x c.in-MakeVec2.y, ap the_size c.deref-in-MakeVec2.ensures, ap the_size c.deref-in-MakeVec2-2.ensures), (lives, (ready, c.requires.fits)))
+    λ κs lives. (omega (arith, c.decreases, ap the_size c.in-MakeVec2.is, sized-MakeVec2 c.in-MakeVec2.x c.in-MakeVec2.y, ap the_size c.deref-in-MakeVec2.ensures, ap the_size c.deref-in-MakeVec2-2.ensures), (lives, (ready, (c.requires.fits, c.requires.kept))))
 
 pub value-returns-in-MakeVec2 : goal.value-returns-in-MakeVec2
 value-returns-in-MakeVec2 g t c =
@@ -366,13 +391,14 @@ value-returns-in-MakeVec2 g t c =
       cost = units_as c.args.self.now c.args.expr.now _ _ _ same kept.cost;
       least = kept.least;
       room = kept.room;
+      kept = kept.kept;
     }
 
 pub value-choice-requires : goal.value-choice-requires
 value-choice-requires g t c =
     let same = ap tree_of c.in-If.is ∙ three_trees If _ _ _ _ _ _ (sym c.deref-in-If.ensures) (sym c.deref-in-If-2.ensures) (sym c.deref-in-If-3.ensures) in
     let ready = ready_as c.args.self.now c.args.expr.now _ same c.requires.ready in
-    λ κs lives. (omega (arith, c.decreases, ap the_size c.in-If.is, sized-If c.in-If.condition c.in-If.chosen c.in-If.other, ap the_size c.deref-in-If.ensures, ap the_size c.deref-in-If-2.ensures, ap the_size c.deref-in-If-3.ensures), (lives, (ready, c.requires.fits)))
+    λ κs lives. (omega (arith, c.decreases, ap the_size c.in-If.is, sized-If c.in-If.condition c.in-If.chosen c.in-If.other, ap the_size c.deref-in-If.ensures, ap the_size c.deref-in-If-2.ensures, ap the_size c.deref-in-If-3.ensures), (lives, (ready, (c.requires.fits, c.requires.kept))))
 
 pub value-returns-in-If : goal.value-returns-in-If
 value-returns-in-If g t c =
@@ -383,6 +409,7 @@ value-returns-in-If g t c =
       cost = units_as c.args.self.now c.args.expr.now _ _ _ same kept.cost;
       least = kept.least;
       room = kept.room;
+      kept = kept.kept;
     }
 
 pub value-numbers-requires : goal.value-numbers-requires
@@ -390,7 +417,7 @@ value-numbers-requires g t c =
     let same = ap tree_of c.in-MakeVec3.is ∙ three_trees MakeVec3 _ _ _ _ _ _ (sym c.deref-in-MakeVec3.ensures) (sym c.deref-in-MakeVec3-2.ensures) (sym c.deref-in-MakeVec3-3.ensures) in
     let ready = ready_as c.args.self.now c.args.expr.now _ same c.requires.ready in
     let parts = triple_ready c.args.self.now _ _ _ ready in
-    λ κs lives. (omega (arith, c.decreases, ap the_size c.in-MakeVec3.is, sized-MakeVec3 c.in-MakeVec3.x c.in-MakeVec3.y c.in-MakeVec3.z, ap the_size c.deref-in-MakeVec3.ensures, ap the_size c.deref-in-MakeVec3-2.ensures, ap the_size c.deref-in-MakeVec3-3.ensures), (lives, (parts.0, (parts.1, (parts.2, c.requires.fits)))))
+    λ κs lives. (omega (arith, c.decreases, ap the_size c.in-MakeVec3.is, sized-MakeVec3 c.in-MakeVec3.x c.in-MakeVec3.y c.in-MakeVec3.z, ap the_size c.deref-in-MakeVec3.ensures, ap the_size c.deref-in-MakeVec3-2.ensures, ap the_size c.deref-in-MakeVec3-3.ensures), (lives, (parts.0, (parts.1, (parts.2, (c.requires.fits, c.requires.kept))))))
 
 pub value-returns-in-MakeVec3 : goal.value-returns-in-MakeVec3
 value-returns-in-MakeVec3 g t c =
@@ -401,6 +428,7 @@ value-returns-in-MakeVec3 g t c =
       cost = units_as c.args.self.now c.args.expr.now _ _ _ same kept.cost;
       least = kept.least;
       room = kept.room;
+      kept = kept.kept;
     }
 
 pub value-numbers-requires-in-MakeRgb : goal.value-numbers-requires-in-MakeRgb
@@ -408,7 +436,7 @@ value-numbers-requires-in-MakeRgb g t c =
     let same = ap tree_of c.in-MakeRgb.is ∙ three_trees MakeRgb _ _ _ _ _ _ (sym c.deref-in-MakeRgb.ensures) (sym c.deref-in-MakeRgb-2.ensures) (sym c.deref-in-MakeRgb-3.ensures) in
     let ready = ready_as c.args.self.now c.args.expr.now _ same c.requires.ready in
     let parts = colour_ready c.args.self.now _ _ _ ready in
-    λ κs lives. (omega (arith, c.decreases, ap the_size c.in-MakeRgb.is, sized-MakeRgb c.in-MakeRgb.red c.in-MakeRgb.green c.in-MakeRgb.blue, ap the_size c.deref-in-MakeRgb.ensures, ap the_size c.deref-in-MakeRgb-2.ensures, ap the_size c.deref-in-MakeRgb-3.ensures), (lives, (parts.0, (parts.1, (parts.2, c.requires.fits)))))
+    λ κs lives. (omega (arith, c.decreases, ap the_size c.in-MakeRgb.is, sized-MakeRgb c.in-MakeRgb.red c.in-MakeRgb.green c.in-MakeRgb.blue, ap the_size c.deref-in-MakeRgb.ensures, ap the_size c.deref-in-MakeRgb-2.ensures, ap the_size c.deref-in-MakeRgb-3.ensures), (lives, (parts.0, (parts.1, (parts.2, (c.requires.fits, c.requires.kept))))))
 
 pub value-returns-in-MakeRgb : goal.value-returns-in-MakeRgb
 value-returns-in-MakeRgb g t c =
@@ -419,4 +447,5 @@ value-returns-in-MakeRgb g t c =
       cost = units_as c.args.self.now c.args.expr.now _ _ _ same kept.cost;
       least = kept.least;
       room = kept.room;
+      kept = kept.kept;
     }

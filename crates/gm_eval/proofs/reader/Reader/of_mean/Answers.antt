@@ -7,7 +7,7 @@ use Rattle.gm_eval.proofs.reader.Reader.of_mean.Goals as goal
 pub binary-requires : goal.binary-requires
 binary-requires g c =
     let reader = c.args.self.now in
-    let kept = c.sum_and_count-sum.ensures in
+    let kept = c.mean_parts-sum.ensures in
     let sum = is_there reader (Sum c.args.mask c.args.term.now c.args.embed) c.in-Some.sum _ kept.sum c.in-Some.is in
     let count = is_there reader (Count c.args.mask c.args.term.now) c.in-Some-count.count _ kept.count c.in-Some-count.is in
     record { kind = binary_known reader c.args.op (Sum c.args.mask c.args.term.now c.args.embed) (Count c.args.mask c.args.term.now) c.in-Some.sum c.in-Some-count.count c.requires.ready sum count }
@@ -15,7 +15,7 @@ binary-requires g c =
 pub returns : goal.returns
 returns g c =
     let reader = c.args.self.now in
-    let kept = c.sum_and_count-sum.ensures in
+    let kept = c.mean_parts-sum.ensures in
     let sum = is_there reader (Sum c.args.mask c.args.term.now c.args.embed) c.in-Some.sum _ kept.sum c.in-Some.is in
     let count = is_there reader (Count c.args.mask c.args.term.now) c.in-Some-count.count _ kept.count c.in-Some-count.is in
     record {
@@ -23,26 +23,29 @@ returns g c =
       cost = first_within reader (Sum c.args.mask c.args.term.now c.args.embed) (Count c.args.mask c.args.term.now) _ _ kept.cost;
       least = kept.least;
       room = kept.room;
+      kept = kept.kept;
     }
 
 pub returns-in_default : goal.returns-in_default
 returns-in_default g c =
     let reader = c.args.self.now in
-    let kept = c.sum_and_count-sum.ensures in
+    let kept = c.mean_parts-sum.ensures in
     record {
       value = λ v (x, y, h, k, made). subst (IsValueThere reader (Sum c.args.mask c.args.term.now c.args.embed)) c.in_default.is kept.sum x h;
       cost = first_within reader (Sum c.args.mask c.args.term.now c.args.embed) (Count c.args.mask c.args.term.now) _ _ kept.cost;
       least = kept.least;
       room = kept.room;
+      kept = kept.kept;
     }
 
 pub returns-in_default-count : goal.returns-in_default-count
 returns-in_default-count g c =
     let reader = c.args.self.now in
-    let kept = c.sum_and_count-sum.ensures in
+    let kept = c.mean_parts-sum.ensures in
     record {
       value = λ v (x, y, h, k, made). subst (IsValueThere reader (Count c.args.mask c.args.term.now)) c.in_default-count.is kept.count y k;
       cost = first_within reader (Sum c.args.mask c.args.term.now c.args.embed) (Count c.args.mask c.args.term.now) _ _ kept.cost;
       least = kept.least;
       room = kept.room;
+      kept = kept.kept;
     }

@@ -1,0 +1,185 @@
+//! Values that were collected over the orbit of a node, kept for all positions at which the node lies
+//! in it.
+ghost use Rattle.std.specs.Prelude.{◌≡◌, [], ◌∷◌, ◌++◌, ◌⊎◌, IfSome, IsSome, IsTrue, ◌↔◌, List, MatchOption, None, Some};
+ghost use Rattle.std.specs.List.{Contains};
+ghost use Rattle.gm_model.specs.declared.value.Value.{Value as ValueOf};
+ghost use Rattle.gm_model.specs.Maps.{IsGeneralised};
+ghost use Rattle.gm_arena.specs.ArenaAsMap.{as_map};
+ghost use Rattle.gm_arena.specs.ArenaMap.{ArenaMap};
+ghost use Rattle.gm_plan.specs.Placed.{Placed};
+ghost use Rattle.gm_eval.specs.Keeping.{AreKept};
+ghost use Rattle.gm_eval.specs.declared.kept.Entry.{Entry as EntryOf};
+
+use arrayvec::ArrayVec;
+use gm_model::{Mask, Value};
+use std::marker::Model;
+
+/// How many values are kept at once. An expression of a book has no more collectors, since it has at
+/// most 256 tokens.
+const MOST: usize = 36;
+
+/// What is collected over an orbit.
+#[derive(Clone, Copy, Debug, PartialEq, Eq)]
+pub enum Form {
+    Count,
+    Sum,
+    Least,
+    Greatest,
+}
+
+/// A collector over the orbit of a node's own dart. A count has the embedding 0.
+#[derive(Clone, Copy, Debug, PartialEq, Eq)]
+pub struct Collector {
+    pub form: Form,
+    pub mask: Mask,
+    pub node: u8,
+    pub embed: u8,
+}
+
+/// A collector with its value, or none where it has none.
+#[derive(Clone, Copy)]
+pub struct Entry {
+    pub collector: Collector,
+    pub value: Option<Value>,
+}
+
+impl Default for Entry {
+    fn default() -> Entry {
+        Entry {
+            collector: Collector {
+                form: Form::Count,
+                mask: Mask { bits: 0 },
+                node: 0,
+                embed: 0,
+            },
+            value: None,
+        }
+    }
+}
+
+/// Values of collectors that are the same at each position of an application. They take no memory.
+/// Contracts see their list, or none where nothing is ever kept.
+#[derive(Drop)]
+pub struct Kept {
+    entries: Option<ArrayVec<Entry, MOST>>,
+    /// The node whose expression was read last.
+    reader: Option<u8>,
+}
+
+impl Model for Kept {
+    ghost use Rattle.std.specs.Prelude.{List, Option};
+    ghost use Rattle.std.specs.Option.{option_map};
+    ghost use Rattle.gm_eval.specs.declared.kept.Entry.{Entry};
+
+    ghost Value = { Option (List Entry) };
+
+    ghost view = { λ kept. option_map (λ entries. entries.items) kept.entries };
+}
+
+impl Kept {
+    /// Nothing, and nothing is ever kept: for what is read once.
+    pub(crate) fn closed() -> Kept
+        ensures { result ≡ None }
+    {
+        Kept {
+            entries: None,
+            reader: None,
+        }
+    }
+
+    /// Nothing yet.
+    fn open() -> Kept
+        ensures { result ≡ Some [] }
+    {
+        Kept {
+            entries: Some(ArrayVec::new()),
+            reader: None,
+        }
+    }
+
+    /// What is kept between so many readings before the first of them: nothing, and where there is
+    /// one, nothing ever.
+    pub fn between(readings: u32) -> Kept
+        ensures { (m : ArenaMap) (placed : Placed) (params : List ValueOf) → IsGeneralised (as_map m) → AreKept m placed params result }
+    {
+        if readings > 1 {
+            Kept::open()
+        } else {
+            Kept::closed()
+        }
+    }
+
+    /// Forgets all values where the expression of another node is read than before. So there are
+    /// never more than one expression has collectors.
+    pub fn turn_to(&mut self, node: u8)
+        ensures { (m : ArenaMap) (placed : Placed) (params : List ValueOf) → AreKept m placed params self.old → AreKept m placed params self.new }
+    {
+        if self.reader == Some(node) {
+            return;
+        }
+        self.reader = Some(node);
+        self.clear();
+    }
+
+    fn clear(&mut self)
+        ensures { MatchOption self.old (self.new ≡ None) (λ _. self.new ≡ Some []) }
+    {
+        if let Some(entries) = &mut self.entries {
+            entries.clear();
+        }
+    }
+
+    /// Whether values are kept.
+    pub(crate) fn is_open(&self) -> bool
+        ensures { IsTrue result ↔ IsSome self.now }
+    {
+        self.entries.is_some()
+    }
+
+    /// The value of the collector, where it is kept.
+    pub(crate) fn find(&self, collector: Collector) -> Option<Option<Value>>
+        ensures { IfSome result (λ value. (entries : List EntryOf) × (self.now ≡ Some entries) × Contains entries (record { collector = collector; value = value })) }
+    {
+        let Some(entries) = &self.entries else {
+            return None;
+        };
+        find_in(entries.as_slice(), collector)
+    }
+
+    /// The values of both collectors, where both are kept.
+    pub(crate) fn find_both(
+        &self,
+        first: Collector,
+        second: Collector,
+    ) -> Option<(Option<Value>, Option<Value>)>
+        ensures { IfSome result (λ values. (entries : List EntryOf) × (self.now ≡ Some entries) × Contains entries (record { collector = first; value = values.0 }) × Contains entries (record { collector = second; value = values.1 })) }
+    {
+        let Some(entries) = &self.entries else {
+            return None;
+        };
+        let entries = entries.as_slice();
+        Some((find_in(entries, first)?, find_in(entries, second)?))
+    }
+
+    /// Keeps the value of the collector, where there is room.
+    pub(crate) fn keep(&mut self, collector: Collector, value: Option<Value>)
+        ensures kept { (self.new ≡ self.old) ⊎ ((entries : List EntryOf) × (self.old ≡ Some entries) × (self.new ≡ Some (entries ++ record { collector = collector; value = value } ∷ []))) }
+        ensures open { IsSome self.old → IsSome self.new }
+    {
+        if let Some(entries) = &mut self.entries {
+            let _ = entries.try_push(Entry { collector, value });
+        }
+    }
+}
+
+/// The value of the collector, where it is among the entries.
+fn find_in(entries: &[Entry], collector: Collector) -> Option<Option<Value>>
+    ensures { IfSome result (λ value. Contains entries.now (record { collector = collector; value = value })) }
+{
+    for entry in entries {
+        if entry.collector == collector {
+            return Some(entry.value);
+        }
+    }
+    None
+}
