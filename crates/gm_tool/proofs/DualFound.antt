@@ -4,9 +4,9 @@ use Rattle.std.specs.List.{AllByRecursion}
 use Rattle.std.specs.List.Sorted.{IsStrictlyIncreasing}
 use Rattle.std.specs.Option.{option_map, option_map_or}
 use Rattle.std.proofs.Math.Path.{fun_ext}
-use Rattle.std.proofs.lemmas.Bool.{cases_Bool, cases_lt}
-use Rattle.std.proofs.lemmas.List.{get_or-reverse, get_or_past, length-reverse}
-use Rattle.gm_dual.proofs.LabelLemmas.{dual_above, dual_within}
+use Rattle.std.proofs.lemmas.Bool.{cases_Bool}
+use Rattle.std.proofs.lemmas.List.{length-reverse}
+use Rattle.gm_dual.proofs.LabelLemmas.{turned_neighbour}
 use Rattle.gm_dual.specs.Duals.{dual_embed, dual_label, dual_map, dual_schema}
 use Rattle.gm_mapfile.proofs.Darts.{is_some-map, live_dart, row_of_dart, shape_found}
 use Rattle.gm_mapfile.specs.MapReading.{IsWhole}
@@ -35,14 +35,6 @@ turned_found (dart ∷ darts) d =
     elim (cases_Bool (eqb dart.name d)) [
       | inl here ↦ rw here refl
       | inr other ↦ rw other (turned_found darts d)
-    ]
-
--- a label up to the dimension has the neighbour of its dual, and above it there is none
-turned_neighbour : (n i d : ℕ) (alphas : List ℕ) → length alphas ≡ n + 1 → get_or (reverse alphas) i d ≡ get_or alphas (dual_label n i) d
-turned_neighbour n i d alphas long =
-    elim (cases_lt n i) [
-      | inl above ↦ get_or_past (reverse alphas) i d (omega (arith, long, above, length-reverse alphas)) ∙ (sym (get_or_past alphas i d (omega (arith, long, above))) ∙ ap (λ k. get_or alphas k d) (sym (dual_above n i above)))
-      | inr low ↦ get_or-reverse alphas i d (omega (arith, long, low)) ∙ ap (λ k. get_or alphas k d) (omega (arith, long, low, dual_within n i low))
     ]
 
 -- ---- the dual
