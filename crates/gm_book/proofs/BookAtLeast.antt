@@ -5,7 +5,7 @@ use Rattle.std.specs.Option.{option_map}
 use Rattle.gm_model.specs.declared.rule.Side.{Side}
 use Rattle.gm_model.specs.declared.rule.Side.TheVariants.{Left, Right}
 use Rattle.gm_model.specs.declared.schema.Schema.{Schema}
-use Rattle.gm_model.specs.Reading.{Part, IsReadAs, IsWithin, symbols_in}
+use Rattle.gm_model.specs.Reading.{Part, the_end, ArePlaced, IsReadAs, IsWithin, symbols_in}
 use Rattle.gm_model.specs.Rules.{Rule}
 use Rattle.gm_model.specs.Symbols.{Symbol, Mark, marks_of}
 use Rattle.gm_text.specs.Nested.{Outside, Inside}
@@ -22,7 +22,7 @@ use Rattle.gm_parse.specs.Reading.{is_whole_spot}
 use Rattle.gm_parse.specs.Reading as exprs
 use Rattle.gm_parse.proofs.Standing.{other_spot}
 use Rattle.gm_parse.proofs.Steps.{no_token}
-use Rattle.gm_forms.specs.BookText.{SetForm, Item, NodeItem, LinkItem, RuleForm, BookForm, Role, Count, limit_of, stands_before, no_count, count_after, count_across, counted, the_end, spell_items, spell_rules, spell_pre, spelling, assignments_in, IsSentence, IsPlacedAt, ArePlaced, IsWritten, BookText, IsNameFault, IsNotAfter, IsFirstNameFault, RulesFault, TwiceAt, UnknownAt, WrongKindAt}
+use Rattle.gm_forms.specs.BookText.{SetForm, Item, NodeItem, LinkItem, RuleForm, BookForm, Role, Fixed, Count, limit_of, stands_before, no_count, count_after, count_across, counted, spell_items, spell_rules, spell_pre, spelling, assignments_in, IsSentence, IsPlacedAt, IsWritten, BookText, IsNameFault, IsNotAfter, IsFirstNameFault, RulesFault, TwiceAt, UnknownAt, WrongKindAt}
 use Rattle.gm_forms.specs.BookText as text
 use Rattle.gm_forms.specs.Reading.{State, AtRules, AtName, AtLeft, AtParam, AtColon, AtKind, AtComma, AtBody, AtItem, AtSign, AtLetter, AtBehind, AtSet, AtEqual, AtExpr, AtRuleEnd, AtLabel, AtDash, AtTo, AtEnd, Slot, behind_slot, end_move, plain_move, move, AtFormat, AtVersion, InRules, Outer, Whole, in_rules, heading_in, book_nesting, outer_move}
 use Rattle.gm_forms.proofs.Grammar.{placed_role}
@@ -127,7 +127,7 @@ role_placed (Inside header) symbol place = go (schema.move header.state symbol) 
     go None e = rw e (placed_role (AtRules (heading_in header)) symbol place)
     go (Some to) e = rw e (schemas.placed_role schema_limit schemas.limit_placeless header.state symbol place)
 
-placed_along : (state last : Whole) (marks : List Mark) (parts : List (Part Role)) → Along limit_of stands_before (nested.role_at book_nesting) (nested.move book_nesting) state marks parts last → ArePlaced marks parts
+placed_along : (state last : Whole) (marks : List Mark) (parts : List (Part Role)) → Along limit_of stands_before (nested.role_at book_nesting) (nested.move book_nesting) state marks parts last → ArePlaced IsPlacedAt marks parts
 placed_along state last [] parts along = tt
 placed_along state last (mark ∷ marks) [] along = tt
 placed_along state last (mark ∷ marks) (part ∷ parts) (next, is, moves, along) =
@@ -140,7 +140,7 @@ written text read is =
       record {
         form = form;
         read = record { spelled = is.spelled ∙ ap symbols_in same; sentence = (book, form, refl); within = subst (IsWithin IsSentence limit_of) same is.within };
-        placed = subst (ArePlaced (marks_of text)) same (placed_along (Outside AtFormat) (in_rules AtEnd) (marks_of text) read.parts read.along);
+        placed = subst (ArePlaced IsPlacedAt (marks_of text)) same (placed_along (Outside AtFormat) (in_rules AtEnd) (marks_of text) read.parts read.along);
       },
     )
 
@@ -170,7 +170,7 @@ module _ (n : ℕ) where
       ((sets, pre), rules_within (k + 1) rules rest others)
 
 book_within : (book : BookForm) → IsBookWithin (spelling book) → AllByRecursion IsRuleWithin book.rules
-book_within book within = rules_within book.schema.dim 0 book.rules (the_end ∷ []) (behind_schema (spell book.schema []) (spell_rules book.schema.dim 0 book.rules (the_end ∷ [])) within.1.1)
+book_within book within = rules_within book.schema.dim 0 book.rules (the_end Fixed ∷ []) (behind_schema (spell book.schema []) (spell_rules book.schema.dim 0 book.rules (the_end Fixed ∷ [])) within.1.1)
 
 -- ---- the whole
 
