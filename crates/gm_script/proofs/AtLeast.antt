@@ -6,7 +6,7 @@ use Rattle.gm_model.specs.declared.script.Stat.{Stat}
 use Rattle.gm_model.specs.declared.script.Stat.TheVariants as statements
 use Rattle.gm_model.specs.declared.value.Value.{Value}
 use Rattle.gm_model.specs.Names.{Mention}
-use Rattle.gm_model.specs.Reading.{Part, IsReadAs, IsWithin, symbols_in}
+use Rattle.gm_model.specs.Reading.{Part, ArePlaced, IsReadAs, IsWithin, symbols_in}
 use Rattle.gm_model.specs.Rules.{Rule}
 use Rattle.gm_model.specs.Symbols.{Symbol, Mark, marks_of}
 use Rattle.gm_text.specs.SchemaAnswers.{IsNoToken, AtStray, AtEnd}
@@ -17,7 +17,7 @@ use Rattle.gm_text.proofs.TextMarks.{text_end}
 use Rattle.gm_script.specs.Comparing.{◌>>=◌}
 use Rattle.gm_script.specs.Faults.{IsFaultOf}
 use Rattle.gm_script.specs.Reading.{Been, State, At, Ended, first_state, can_end, move, sight_of, role_in, role_at, never}
-use Rattle.gm_script.specs.ScriptText.{ValueForm, StatForm, Applies, GoesOver, Says, Undo, Redo, Group, Close, Role, passed_of, IsSentence, IsPlacedAt, ArePlaced, IsWritten, index_of, value_as, mask_of, AreParams, IsOfRule, ScriptText, Disagreement, UnknownRuleAt, HookCountAt, ParamsAt, DisagreesAt, UnknownRule, HookCount, Params, IsFirstDisagreement}
+use Rattle.gm_script.specs.ScriptText.{ValueForm, StatForm, Applies, GoesOver, Says, Undo, Redo, Group, Close, Role, passed_of, IsSentence, IsPlacedAt, IsWritten, index_of, value_as, mask_of, AreParams, IsOfRule, ScriptText, Disagreement, UnknownRuleAt, HookCountAt, ParamsAt, DisagreesAt, UnknownRule, HookCount, Params, IsFirstDisagreement}
 use Rattle.gm_script.specs.declared.fault.ScriptFault.{ScriptFault}
 use Rattle.gm_script.specs.declared.fault.ScriptFault.TheVariants as faults
 use Rattle.gm_script.specs.declared.sight.Sight.{Sight}
@@ -57,7 +57,7 @@ module _ (n : ℕ) where
   placed_role Ended symbol place = tt
   placed_role (At spot been) symbol place = placed_at spot been (sight_of symbol) place
 
-  placed_along : (state last : State) (marks : List Mark) (parts : List (Part Role)) → Along passed_of never (role_at n) move state marks parts last → ArePlaced marks parts
+  placed_along : (state last : State) (marks : List Mark) (parts : List (Part Role)) → Along passed_of never (role_at n) move state marks parts last → ArePlaced IsPlacedAt marks parts
   placed_along state last [] parts along = tt
   placed_along state last (mark ∷ marks) [] along = tt
   placed_along state last (mark ∷ marks) (part ∷ parts) (next, is, moves, along) =
@@ -70,7 +70,7 @@ module _ (n : ℕ) where
         record {
           form = form;
           read = record { spelled = is.spelled ∙ ap symbols_in same; sentence = (forms, form, refl); within = subst (IsWithin (IsSentence n) passed_of) same is.within };
-          placed = subst (ArePlaced (marks_of text)) same (placed_along first_state Ended (marks_of text) read.parts read.along);
+          placed = subst (ArePlaced IsPlacedAt (marks_of text)) same (placed_along first_state Ended (marks_of text) read.parts read.along);
         },
       )
 
