@@ -5,7 +5,7 @@ use Rattle.std.specs.Option.{option_map, option_map_or}
 use Rattle.std.specs.Ordering.{nat_cmp}
 use Rattle.std.proofs.Math.Path.{fun_ext}
 use Rattle.std.proofs.lemmas.Bool.{cases_lt}
-use Rattle.std.proofs.lemmas.List.{ext_get_or, get_or-reverse, get_or_past, length-replicate, length-reverse, length-set}
+use Rattle.std.proofs.lemmas.List.{ext_get_or, get_or-reverse, length-replicate, length-reverse, length-set}
 use Rattle.gm_model.specs.declared.schema.Embed.{Embed}
 use Rattle.gm_model.specs.declared.schema.Schema.{Schema}
 use Rattle.gm_model.specs.declared.value.Value.{Value}
@@ -18,7 +18,7 @@ use Rattle.gm_arena.proofs.MapLemmas.{get-with_alpha_other, get-with_dart_other,
 use Rattle.gm_walk.proofs.CountLemmas.{is_live, is_named, rises}
 use Rattle.gm_dual.specs.Building.{AreAdded, AreLinked, IsAllBut, IsLinkedTo, dual_of, free_of}
 use Rattle.gm_dual.specs.Duals.{dual_embed, dual_label, dual_map, dual_schema}
-use Rattle.gm_dual.proofs.LabelLemmas.{dual_above, dual_within}
+use Rattle.gm_dual.proofs.LabelLemmas.{turned_neighbour}
 
 is_some_map : {A B : Type 0} (f : A → B) (o : Option A) → is_some (option_map f o) ≡ is_some o
 is_some_map f None = refl
@@ -149,12 +149,7 @@ as_dual m a lawful schema next darts =
 
     turned_round : (i name : ℕ) (o : Option Dart) → ((dart : Dart) → o ≡ Some dart → length dart.alphas ≡ m.schema.dim + 1) → option_map_or (λ (dart : Dart). get_or dart.alphas i name) (option_map (λ (dart : Dart). record { alphas = reverse dart.alphas; values = dart.values }) o) name ≡ option_map_or (λ (dart : Dart). get_or dart.alphas (dual_label m.schema.dim i) name) o name
     turned_round i name None whole = refl
-    turned_round i name (Some dart) whole =
-        let long = whole dart refl in
-        elim (cases_lt m.schema.dim i) [
-          | inl above ↦ get_or_past (reverse dart.alphas) i name (omega (arith, long, above, length-reverse dart.alphas)) ∙ (sym (get_or_past dart.alphas i name (omega (arith, long, above))) ∙ ap (λ k. get_or dart.alphas k name) (sym (dual_above m.schema.dim i above)))
-          | inr low ↦ get_or-reverse dart.alphas i name (omega (arith, long, low)) ∙ ap (λ k. get_or dart.alphas k name) (omega (arith, long, low, dual_within m.schema.dim i low))
-        ]
+    turned_round i name (Some dart) whole = turned_neighbour m.schema.dim i name dart.alphas (whole dart refl)
 
     same_values : (e : ℕ) (o : Option Dart) → option_map_or (λ (dart : Dart). get_or dart.values e none) (option_map (λ (dart : Dart). record { alphas = reverse dart.alphas; values = dart.values }) o) none ≡ option_map_or (λ (dart : Dart). get_or dart.values e none) o none
     same_values e None = refl

@@ -1,6 +1,7 @@
 -- Labels and their duals.
-use Rattle.std.proofs.Common.{◌≡◌, ℕ, ◌+◌, ◌-◌, ◌<◌, ◌≤◌, Bool, true, false, nat_eq, if◌then◌else◌, List, [], ◌∷◌, map, refl, sym, ap, ap₂, subst, ◌∙◌, inl, inr, arith}
+use Rattle.std.proofs.Common.{◌≡◌, ℕ, ◌+◌, ◌-◌, ◌<◌, ◌≤◌, Bool, true, false, nat_eq, if◌then◌else◌, List, [], ◌∷◌, map, length, get_or, reverse, refl, sym, ap, ap₂, subst, ◌∙◌, inl, inr, arith}
 use Rattle.std.proofs.lemmas.Bool.{cases_lt, eqb-true, eq-eqb, le-ltb, lt-ltb}
+use Rattle.std.proofs.lemmas.List.{get_or-reverse, get_or_past, length-reverse}
 use Rattle.gm_dual.specs.Duals.{dual_label}
 
 module _ (n : ℕ) where
@@ -39,3 +40,11 @@ module _ (n : ℕ) where
   -- labels that differ by two or more have duals that do, the other way round
   pub dual_apart : (i j : ℕ) → i + 2 ≤ j → j ≤ n → dual_label n j + 2 ≤ dual_label n i
   dual_apart i j apart most = omega (arith, dual_within i (omega arith), dual_within j most)
+
+  -- in neighbours that stand the other way round, a label has the neighbour of its dual, and above n there is none
+  pub turned_neighbour : (i x : ℕ) (alphas : List ℕ) → length alphas ≡ n + 1 → get_or (reverse alphas) i x ≡ get_or alphas (dual_label n i) x
+  turned_neighbour i x alphas long =
+      elim (cases_lt n i) [
+        | inl above ↦ get_or_past (reverse alphas) i x (omega (arith, long, above, length-reverse alphas)) ∙ (sym (get_or_past alphas i x (omega (arith, long, above))) ∙ ap (λ k. get_or alphas k x) (sym (dual_above i above)))
+        | inr low ↦ get_or-reverse alphas i x (omega (arith, long, low)) ∙ ap (λ k. get_or alphas k x) (omega (arith, long, low, dual_within i low))
+      ]

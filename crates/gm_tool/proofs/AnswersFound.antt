@@ -1,5 +1,5 @@
 -- All words and files have an answer, where each text stands for something or has a first fault, each rule is accepted or has one, and each map has its numbers and an orientation.
-use Rattle.std.proofs.Common.{◌≡◌, ◌⊎◌, ◌↔◌, ℕ, ◌+◌, ◌<◌, ◌≤◌, zero, suc, List, [], ◌∷◌, ◌++◌, length, codes, Option, None, Some, slice_get, All, inl, inr, refl, sym, subst, arith}
+use Rattle.std.proofs.Common.{◌≡◌, ◌⊎◌, ◌↔◌, ℕ, ◌+◌, ◌<◌, ◌≤◌, zero, suc, List, [], ◌∷◌, ◌++◌, length, map, codes, Option, None, Some, slice_get, All, inl, inr, refl, sym, subst, arith}
 use Rattle.std.specs.List.{AllByRecursion}
 use Rattle.std.proofs.lemmas.Bool.{cases_lt}
 use Rattle.std.proofs.lemmas.List.Elements.{All-from_recursion, recursion_from_All}
@@ -9,6 +9,7 @@ use Rattle.gm_book.specs.Canonical as books
 use Rattle.gm_book.specs.declared.fault.BookFault.{BookFault}
 use Rattle.gm_book.specs.declared.fault.BookFault.TheVariants as book_faults
 use Rattle.gm_book.specs.Faults as read_book
+use Rattle.gm_dual.specs.Duals.{dual_rule, dual_schema}
 use Rattle.gm_forms.specs.BookText.{BookText, TwiceAt, UnknownAt, WrongKindAt}
 use Rattle.gm_lines.specs.BookFaults.{BookTextFault, IsFirstBookFault, book_fault_words}
 use Rattle.gm_lines.specs.BookFaults as of_book
@@ -35,16 +36,19 @@ use Rattle.gm_theory.proofs.Lists.{some_same}
 use Rattle.gm_theory.proofs.ValuesReach.{IsDecided}
 use Rattle.gm_tool.specs.Answer.{most_bytes, Files, Answer, answers, Command, Show, Book, Check, Cells, Asks, role_of, HasFile, IsOutput, Shown, Printed, Checked, Counted, IsFileAnswer, NoFile, LongFile, BadFile, TellsCells}
 use Rattle.gm_tool.specs.Answer as of_file
+use Rattle.gm_tool.specs.DualAnswer.{DualNames, DualInputs, HasDualMap, HasDualBook, IsListedDual, IsGoodDual, IsDualAnswer}
+use Rattle.gm_tool.specs.DualAnswer as duals
 use Rattle.gm_tool.specs.Migrating.{MigrateNames, HasMigrated, IsMigrateAnswer, migrated_line, migrated_text}
 use Rattle.gm_tool.specs.Migrating as migrating
-use Rattle.gm_tool.specs.Program.{IsAnswer, IsCommand, IsFileCommand, IsGridCommand, IsMigrateCommand, IsRunCommand, Usage, OfFile, OfRun, OfMigrate, OfGrid}
-use Rattle.gm_tool.specs.RunAnswer.{RunNames, Inputs, Ran, HasMap, HasBook, HasScript, Agree, IsFailing, Missing, Long, Bad, IsBadMap, IsBadBook, Unread, RuleRefused, IsBadScript, IsFirstRefused, IsGoodRun, IsRunAnswer, MapFails, BookFails, ScriptFails, Disagree, report_of, saved_of, run_status}
+use Rattle.gm_tool.specs.Program.{IsAnswer, IsCommand, IsDualCommand, IsFileCommand, IsGridCommand, IsMigrateCommand, IsRunCommand, Usage, OfFile, OfRun, OfMigrate, OfDual, OfGrid}
+use Rattle.gm_tool.specs.RunAnswer.{RunNames, Inputs, Ran, HasMap, HasBook, HasScript, Agree, IsFailing, Missing, Long, Bad, IsBadMap, IsBadBook, IsBadBookText, Unread, RuleRefused, IsBadScript, IsFirstRefused, IsGoodRun, IsRunAnswer, MapFails, BookFails, ScriptFails, Disagree, report_of, saved_of, run_status}
 use Rattle.gm_tool.specs.RunAnswer as running
+use Rattle.gm_tool.proofs.DualFound.{dual_of_text}
 use Rattle.gm_tool.proofs.GridMade.{grid_answered}
 use Rattle.gm_tool.proofs.Owed.{IsEachJudged}
 use Rattle.gm_tool.proofs.OneAnswer.{one_answer}
 use Rattle.gm_tool.proofs.RunsMade.{run_made}
-use Rattle.gm_tool.proofs.WordsDecided.{decide_file, decide_grid, decide_migrate, decide_run, same_schema}
+use Rattle.gm_tool.proofs.WordsDecided.{decide_dual, decide_file, decide_grid, decide_migrate, decide_run, same_schema}
 
 abbrev HasAnswer : (Answer → Type 0) → Type 0
 HasAnswer Is = (answer : Answer) × Is answer
@@ -205,6 +209,59 @@ module _ (judged : IsEachJudged) where
       go (inl (answer, fails)) = (answer, migrating.MapFails fails)
       go (inr (bytes, held)) = by bytes held (judged.map bytes)
 
+  -- ---- duals
+
+  module _ (files : Files) (named : DualNames) where
+    -- both files are good
+    duals_put : (inputs : DualInputs) → HasDualMap files named inputs → HasDualBook files named inputs → HasAnswer (IsDualAnswer files named)
+    duals_put inputs the_map the_book = put (cases_lt most_bytes (length text))
+      where
+        dual : (dual : ListedMap) × IsListedDual inputs.map dual
+        dual = dual_of_text the_map.0 inputs.version inputs.map the_map.2
+
+        text : List ℕ
+        text = canonical inputs.version dual.0 ++ books.canonical inputs.book_version (dual_schema inputs.schema) (map (dual_rule inputs.schema.dim) inputs.rules)
+
+        good : IsGoodDual files named text
+        good = record {
+          inputs = inputs;
+          the_map = the_map;
+          the_book = the_book;
+          is_text = record { of_map = canonical inputs.version dual.0; of_map_is = (dual.0, dual.1, refl); is = refl };
+        }
+
+        put : (most_bytes < length text) ⊎ (length text ≤ most_bytes) → HasAnswer (IsDualAnswer files named)
+        put (inl long) = (answers 8 (refusal (codes "size output")), duals.LongOutput text good long refl)
+        put (inr fits) = (answers 0 text, duals.Done text good fits refl)
+
+    dual_book : (version : MapVersion) (listed : ListedMap) (map_bytes : List ℕ) → HasFile files named.map map_bytes → MapText map_bytes version listed → HasAnswer (IsDualAnswer files named)
+    dual_book version listed map_bytes map_held map_stands = go (at_file files TheBook named.book IsBadBookText)
+      where
+        with_rules : ℕ → Schema → List Rule → DualInputs
+        with_rules book_version schema rules = record { version = version; map = listed; book_version = book_version; schema = schema; rules = rules }
+
+        fails : HasAnswer (IsFailing files TheBook named.book IsBadBookText) → HasAnswer (IsDualAnswer files named)
+        fails (answer, failing) = (answer, duals.BookFails (with_rules 0 listed.schema []) (map_bytes, map_held, map_stands) failing)
+
+        by : (bytes : List ℕ) → HasFile files named.book bytes → ((book_version : ℕ) × (schema : Schema) × (rules : List Rule) × BookText bytes book_version schema rules) ⊎ ((fault : BookTextFault) × IsFirstBookFault bytes fault) → HasAnswer (IsDualAnswer files named)
+        by bytes held (inl (book_version, schema, rules, stands)) = duals_put (with_rules book_version schema rules) (map_bytes, map_held, map_stands) (bytes, held, stands)
+        by bytes held (inr (fault, is)) = fails (bad_file files TheBook named.book IsBadBookText bytes (book_fault_words fault) held (BadBook fault is))
+
+        go : HasAnswer (IsFailing files TheBook named.book IsBadBookText) ⊎ ((bytes : List ℕ) × HasFile files named.book bytes) → HasAnswer (IsDualAnswer files named)
+        go (inl failing) = fails failing
+        go (inr (bytes, held)) = by bytes held (book_judged bytes)
+
+    dual_answered : HasAnswer (IsDualAnswer files named)
+    dual_answered = go (at_file files TheMap named.map IsBadMap)
+      where
+        by : (bytes : List ℕ) → HasFile files named.map bytes → ((version : MapVersion) × (listed : ListedMap) × MapText bytes version listed) ⊎ ((fault : TextFault) × IsFirstFault bytes fault) → HasAnswer (IsDualAnswer files named)
+        by bytes held (inl (version, listed, stands)) = dual_book version listed bytes held stands
+        by bytes held (inr (fault, is)) = let made = bad_file files TheMap named.map IsBadMap bytes (fault_words fault) held (BadMap fault is) in (made.0, duals.MapFails made.1)
+
+        go : HasAnswer (IsFailing files TheMap named.map IsBadMap) ⊎ ((bytes : List ℕ) × HasFile files named.map bytes) → HasAnswer (IsDualAnswer files named)
+        go (inl (answer, failing)) = (answer, duals.MapFails failing)
+        go (inr (bytes, held)) = by bytes held (judged.map bytes)
+
   -- ---- a run
 
   module _ (files : Files) (named : RunNames) where
@@ -257,7 +314,7 @@ module _ (judged : IsEachJudged) where
 
           by : (bytes : List ℕ) → HasFile files named.book bytes → ((book_version : ℕ) × (schema : Schema) × (rules : List Rule) × BookText bytes book_version schema rules) ⊎ ((fault : BookTextFault) × IsFirstBookFault bytes fault) → HasAnswer (IsRunAnswer files named)
           by bytes held (inl (book_version, schema, rules, stands)) = checked bytes book_version schema rules held stands (rules_judged schema rules (all_asked bytes book_version schema rules stands))
-          by bytes held (inr (fault, is)) = fails (bad_file files TheBook named.book IsBadBook bytes (book_fault_words fault) held (Unread fault is refl))
+          by bytes held (inr (fault, is)) = fails (bad_file files TheBook named.book IsBadBook bytes (book_fault_words fault) held (Unread (BadBook fault is)))
 
           go : HasAnswer (IsFailing files TheBook named.book IsBadBook) ⊎ ((bytes : List ℕ) × HasFile files named.book bytes) → HasAnswer (IsRunAnswer files named)
           go (inl failing) = fails failing
@@ -297,20 +354,22 @@ module _ (judged : IsEachJudged) where
       go (inr a) (inr b) (inr c) (inr d) = inr (λ (command, name, asks). none a b c d command name asks)
 
   pub all_answered : (words : List (List ℕ)) (files : Files) → HasAnswer (IsAnswer words files)
-  all_answered words files = go (asked_file words) (decide_run words) (decide_migrate words) (decide_grid words)
+  all_answered words files = go (asked_file words) (decide_run words) (decide_migrate words) (decide_dual words) (decide_grid words)
     where
-      never : (IsFileCommand words → ⊥) → (IsRunCommand words → ⊥) → (IsMigrateCommand words → ⊥) → (IsGridCommand words → ⊥) → IsCommand words → ⊥
-      never a b c d (inl h) = a h
-      never a b c d (inr (inl (inl h))) = b h
-      never a b c d (inr (inl (inr h))) = c h
-      never a b c d (inr (inr h)) = d h
+      never : (IsFileCommand words → ⊥) → (IsRunCommand words → ⊥) → (IsMigrateCommand words → ⊥) → (IsDualCommand words → ⊥) → (IsGridCommand words → ⊥) → IsCommand words → ⊥
+      never a b c d e (inl h) = a h
+      never a b c d e (inr (inl (inl h))) = b h
+      never a b c d e (inr (inl (inr h))) = c h
+      never a b c d e (inr (inr (inl h))) = d h
+      never a b c d e (inr (inr (inr h))) = e h
 
-      go : IsDecided (IsFileCommand words) → IsDecided (IsRunCommand words) → IsDecided (IsMigrateCommand words) → IsDecided (IsGridCommand words) → HasAnswer (IsAnswer words files)
-      go (inl (command, name, asks)) b c d = let made = file_answered files command name in (made.0, OfFile command name asks made.1)
-      go (inr a) (inl (named, asks)) c d = let made = run_answered files named in (made.0, OfRun named asks made.1)
-      go (inr a) (inr b) (inl (named, asks)) d = let made = migrate_answered files named in (made.0, OfMigrate named asks made.1)
-      go (inr a) (inr b) (inr c) (inl (m, asks)) = let made = grid_answered m asks.greatest in (made.0, OfGrid m asks made.1)
-      go (inr a) (inr b) (inr c) (inr d) = (answers 2 (refusal (codes "usage")), Usage (never a b c d) refl)
+      go : IsDecided (IsFileCommand words) → IsDecided (IsRunCommand words) → IsDecided (IsMigrateCommand words) → IsDecided (IsDualCommand words) → IsDecided (IsGridCommand words) → HasAnswer (IsAnswer words files)
+      go (inl (command, name, asks)) b c d e = let made = file_answered files command name in (made.0, OfFile command name asks made.1)
+      go (inr a) (inl (named, asks)) c d e = let made = run_answered files named in (made.0, OfRun named asks made.1)
+      go (inr a) (inr b) (inl (named, asks)) d e = let made = migrate_answered files named in (made.0, OfMigrate named asks made.1)
+      go (inr a) (inr b) (inr c) (inl (named, asks)) e = let made = dual_answered files named in (made.0, OfDual named asks made.1)
+      go (inr a) (inr b) (inr c) (inr d) (inl (m, asks)) = let made = grid_answered m asks.greatest in (made.0, OfGrid m asks made.1)
+      go (inr a) (inr b) (inr c) (inr d) (inr e) = (answers 2 (refusal (codes "usage")), Usage (never a b c d e) refl)
 
   -- so the answer is a function of words and files, and the one that the definition gives
   pub answer_given : (words : List (List ℕ)) (files : Files) (answer : Answer) → IsAnswer words files answer ↔ (answer ≡ (all_answered words files).0)

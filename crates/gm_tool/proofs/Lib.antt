@@ -34,6 +34,7 @@ mod OneGrid
 mod Gridding
 mod OneAnswer
 mod ListedMaps
+mod DualFound
 mod RunsMade
 mod GridMade
 mod WordsDecided

@@ -8,8 +8,11 @@ use Rattle.std.proofs.lemmas.Bool.{cases_eq, eq-eqb, ne_eqb, false≢true}
 use Rattle.std.proofs.lemmas.Nat.Bits.{bit_at-zero}
 use Rattle.std.proofs.lemmas.Option.{slice_get_within}
 use Rattle.gm_mapfile.specs.MapReading.{AreOfKinds, IsWhole}
-use Rattle.gm_mapfile.specs.MapText.{DartRow, ListedMap, bare, dart_of, map_of, names}
+use Rattle.gm_mapfile.specs.MapText.{DartRow, ListedMap, MapText, bare, dart_of, map_of, names}
+use Rattle.gm_mapfile.specs.declared.version.MapVersion.{MapVersion}
+use Rattle.gm_mapfile.proofs.Again.{moved}
 use Rattle.gm_mapfile.proofs.Darts.{live_dart, row_of_dart}
+use Rattle.gm_mapfile.proofs.Listed.{listed_good}
 use Rattle.gm_model.specs.declared.schema.Embed.{Embed}
 use Rattle.gm_model.specs.declared.schema.Schema.{Schema}
 use Rattle.gm_model.specs.declared.value.Kind.{Kind}
@@ -35,6 +38,10 @@ pub record IsListedMap (schema : Schema) (m : Map) : Type 0 where
   pub schema_is : listed.schema ≡ schema
   pub ascending : IsStrictlyIncreasing (names listed.darts)
   pub whole : AllByRecursion (IsWhole listed.schema) listed.darts
+
+-- the darts of a map that a text stands for are whole
+pub whole_darts : (text : List ℕ) (version : MapVersion) (listed : ListedMap) → MapText text version listed → AllByRecursion (IsWhole listed.schema) listed.darts
+whole_darts text version listed stands = moved (IsWhole listed.schema) stands.darts listed.darts stands.same (listed_good text stands.written listed.schema stands.darts stands.listed).whole
 
 -- ---- without labels each dart is the least of its orbit
 

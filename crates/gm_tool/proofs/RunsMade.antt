@@ -1,10 +1,7 @@
 -- Good files that agree have a run, and what bounds the steps of each run of files is one number.
 use Rattle.std.proofs.Common.{◌≡◌, ℕ, ◌+◌, false, refl, sym, ap, subst, ◌∙◌}
 use Rattle.std.specs.List.{AllByRecursion}
-use Rattle.gm_mapfile.specs.MapReading.{IsWhole}
 use Rattle.gm_mapfile.specs.MapText.{map_of}
-use Rattle.gm_mapfile.proofs.Again.{moved}
-use Rattle.gm_mapfile.proofs.Listed.{listed_good}
 use Rattle.gm_model.specs.Budgets.{Bounds, no_entries, IsRunWithin}
 use Rattle.gm_model.specs.Runs.{AreInOrder, start_of}
 use Rattle.gm_run.proofs.AlikeStates.{states_alike_self}
@@ -18,7 +15,7 @@ use Rattle.gm_tool.specs.Answer.{Files}
 use Rattle.gm_tool.specs.RunAnswer.{RunNames, Inputs, Ran, HasMap, HasBook, HasScript, Agree, IsRan, IsGoodRun}
 use Rattle.gm_tool.specs.StepBounds.{HasBounds, IsMost, MostOf, IsLeast, LeastOf, handling, dim_of, darts_read, darts_left}
 use Rattle.gm_tool.proofs.Lines.{good_stats}
-use Rattle.gm_tool.proofs.ListedMaps.{IsListedMap, settle}
+use Rattle.gm_tool.proofs.ListedMaps.{IsListedMap, settle, whole_darts}
 use Rattle.gm_tool.proofs.OneRan.{declared, one_ran, stands_at}
 use Rattle.gm_tool.proofs.OneRunAnswer.{same_inputs}
 
@@ -40,7 +37,7 @@ module _ (files : Files) (named : RunNames) (inputs : Inputs) (the_map : HasMap 
     is = refl;
     schema_is = agree;
     ascending = the_map.2.ascending;
-    whole = moved (IsWhole inputs.map.schema) the_map.2.darts inputs.map.darts the_map.2.same (listed_good the_map.0 the_map.2.written inputs.map.schema the_map.2.darts the_map.2.listed).whole;
+    whole = whole_darts the_map.0 inputs.version inputs.map the_map.2;
   }
 
   run : RunThrough (IsListedMap inputs.schema) inputs.rules (start_of (map_of inputs.map)) inputs.stats

@@ -10,8 +10,7 @@ use Rattle.gm_theory.proofs.Tests.{search_below}
 use Rattle.gm_theory.proofs.ValuesReach.{IsDecided}
 use Rattle.gm_tool.specs.Answer.{Command, Asks, command_word}
 use Rattle.gm_tool.specs.GridAnswer.{AsksGrid}
-use Rattle.gm_tool.specs.Migrating.{MigrateNames}
-use Rattle.gm_tool.specs.Program.{IsGridCommand, IsMigrateCommand, IsRunCommand}
+use Rattle.gm_tool.specs.Program.{IsDualCommand, IsGridCommand, IsMigrateCommand, IsRunCommand}
 use Rattle.gm_tool.specs.RunAnswer.{RunNames}
 
 -- ---- lists
@@ -111,19 +110,31 @@ decide_file (w ∷ name ∷ []) command = go (first_is (command_word command) w 
     go (inr never) = inr (λ h. never (h.0 ∷ []) h.1)
 decide_file (w ∷ a ∷ b ∷ rest) command = inr (λ h. apart_by (w ∷ a ∷ b ∷ rest) (command_word command ∷ h.0 ∷ []) (λ e. omega (arith, e)) h.1)
 
-abbrev migrate_words : MigrateNames → List (List ℕ)
-migrate_words named = codes "migrate" ∷ named.map ∷ named.out ∷ []
+-- the words are this one and two more
+decide_two_more : (word : List ℕ) (words : List (List ℕ)) → IsDecided ((a : List ℕ) × (b : List ℕ) × (words ≡ word ∷ a ∷ b ∷ []))
+decide_two_more word [] = inr (λ h. apart_by [] (word ∷ h.0 ∷ h.1 ∷ []) (λ e. omega (arith, e)) h.2)
+decide_two_more word (w ∷ []) = inr (λ h. apart_by (w ∷ []) (word ∷ h.0 ∷ h.1 ∷ []) (λ e. omega (arith, e)) h.2)
+decide_two_more word (w ∷ a ∷ []) = inr (λ h. apart_by (w ∷ a ∷ []) (word ∷ h.0 ∷ h.1 ∷ []) (λ e. omega (arith, e)) h.2)
+decide_two_more word (w ∷ a ∷ b ∷ []) = go (first_is word w (a ∷ b ∷ []) (same_bytes w word))
+  where
+    go : (w ∷ a ∷ b ∷ [] ≡ word ∷ a ∷ b ∷ []) ⊎ ((more : List (List ℕ)) → w ∷ a ∷ b ∷ [] ≡ word ∷ more → ⊥) → IsDecided ((c : List ℕ) × (d : List ℕ) × (w ∷ a ∷ b ∷ [] ≡ word ∷ c ∷ d ∷ []))
+    go (inl e) = inl (a, b, e)
+    go (inr never) = inr (λ h. never (h.0 ∷ h.1 ∷ []) h.2)
+decide_two_more word (w ∷ a ∷ b ∷ c ∷ rest) = inr (λ h. apart_by (w ∷ a ∷ b ∷ c ∷ rest) (word ∷ h.0 ∷ h.1 ∷ []) (λ e. omega (arith, e)) h.2)
 
 pub decide_migrate : (words : List (List ℕ)) → IsDecided (IsMigrateCommand words)
-decide_migrate [] = inr (λ h. apart_by [] (migrate_words h.0) (λ e. omega (arith, e)) h.1)
-decide_migrate (w ∷ []) = inr (λ h. apart_by (w ∷ []) (migrate_words h.0) (λ e. omega (arith, e)) h.1)
-decide_migrate (w ∷ a ∷ []) = inr (λ h. apart_by (w ∷ a ∷ []) (migrate_words h.0) (λ e. omega (arith, e)) h.1)
-decide_migrate (w ∷ a ∷ b ∷ []) = go (first_is (codes "migrate") w (a ∷ b ∷ []) (same_bytes w (codes "migrate")))
+decide_migrate words = go (decide_two_more (codes "migrate") words)
   where
-    go : (w ∷ a ∷ b ∷ [] ≡ codes "migrate" ∷ a ∷ b ∷ []) ⊎ ((more : List (List ℕ)) → w ∷ a ∷ b ∷ [] ≡ codes "migrate" ∷ more → ⊥) → IsDecided (IsMigrateCommand (w ∷ a ∷ b ∷ []))
-    go (inl e) = inl (record { map = a; out = b }, e)
-    go (inr never) = inr (λ h. never (h.0.map ∷ h.0.out ∷ []) h.1)
-decide_migrate (w ∷ a ∷ b ∷ c ∷ rest) = inr (λ h. apart_by (w ∷ a ∷ b ∷ c ∷ rest) (migrate_words h.0) (λ e. omega (arith, e)) h.1)
+    go : IsDecided ((a : List ℕ) × (b : List ℕ) × (words ≡ codes "migrate" ∷ a ∷ b ∷ [])) → IsDecided (IsMigrateCommand words)
+    go (inl (a, b, e)) = inl (record { map = a; out = b }, e)
+    go (inr never) = inr (λ h. never (h.0.map, h.0.out, h.1))
+
+pub decide_dual : (words : List (List ℕ)) → IsDecided (IsDualCommand words)
+decide_dual words = go (decide_two_more (codes "dual") words)
+  where
+    go : IsDecided ((a : List ℕ) × (b : List ℕ) × (words ≡ codes "dual" ∷ a ∷ b ∷ [])) → IsDecided (IsDualCommand words)
+    go (inl (a, b, e)) = inl (record { map = a; book = b }, e)
+    go (inr never) = inr (λ h. never (h.0.map, h.0.book, h.1))
 
 abbrev run_words : RunNames → List (List ℕ)
 run_words named = codes "run" ∷ named.map ∷ named.book ∷ named.script ∷ named.out ∷ []
