@@ -8,12 +8,12 @@ use Rattle.gm_tool.specs.Answer.{Files, Answer}
 use Rattle.gm_tool.specs.Endings.{IsStored, Whole, LoadFailed, SaveFailed}
 use Rattle.gm_tool.specs.Headline.{RunsAsStated, HeadlineHolds}
 use Rattle.gm_tool.specs.MadeRuns.{IsRunStatus, IsSoundText, HoldsSuch}
-use Rattle.gm_tool.specs.Program.{IsAnswer, Usage, OfFile, OfRun, OfMigrate, OfGrid}
+use Rattle.gm_tool.specs.Program.{IsAnswer, Usage, OfFile, OfRun, OfMigrate, OfDual, OfGrid}
 use Rattle.gm_tool.specs.RunAnswer.{RunNames, AsksRun, IsRunAnswer, IsFailing, Missing, Long, Bad, MapFails, BookFails, ScriptFails, Disagree, LongOutput, Done, saved_of}
 use Rattle.gm_tool.specs.StepBounds.{WithinMost, AtLeast, KeepsSteps, MostOf, LeastOf}
 use Rattle.gm_tool.specs.Tool.{IsLoadFailure, HoldsSaved, Ends, Leaves, Put, PutFailed, Unput, NoMemory, LeavesWhereTold}
 use Rattle.gm_tool.specs.Tool as tool
-use Rattle.gm_tool.proofs.Asking.{file_is_no_run, run_is_no_migrate, run_is_no_grid, same_named}
+use Rattle.gm_tool.proofs.Asking.{file_is_no_run, run_is_no_dual, run_is_no_migrate, run_is_no_grid, same_named}
 use Rattle.gm_tool.proofs.Putting.{six_is_no_run, seven_is_no_run}
 
 -- ---- statuses that no run is done with
@@ -47,6 +47,7 @@ load_failing : (words : List (List ℕ)) (files : Files) (load_fails : ℕ → T
 load_failing words files load_fails given (tool.OfFile command name asks h) = three given.status (ap status_of h.1)
 load_failing words files load_fails given (tool.OfRun named asks (role, fails, passes, e)) = three given.status (ap status_of e)
 load_failing words files load_fails given (tool.OfMigrate named asks h) = three given.status (ap status_of h.1)
+load_failing words files load_fails given (tool.OfDual named asks (role, fails, passes, e)) = three given.status (ap status_of e)
 
 -- ---- the run
 
@@ -87,6 +88,7 @@ module _ (files : Files) (named : RunNames) (status : ℕ) (before written text 
   answered words asks given (OfFile command name other h) s t stored = absurd (file_is_no_run words command name named other asks)
   answered words asks given (OfRun other runs h) s t stored = stated given (subst (λ (n : RunNames). IsRunAnswer files n given) (same_named words other named runs asks) h) s t stored
   answered words asks given (OfMigrate other migrates h) s t stored = absurd (run_is_no_migrate words named other asks migrates)
+  answered words asks given (OfDual other duals h) s t stored = absurd (run_is_no_dual words named other asks duals)
   answered words asks given (OfGrid m grid h) s t stored = absurd (run_is_no_grid words named m asks grid)
 
   pub ended : (words : List (List ℕ)) → AsksRun words named → (load_fails : ℕ → Type 0) (save_fails : Type 0) → Ends words files load_fails save_fails status text after → RunsAsStated files named status before written after steps later
