@@ -81,11 +81,14 @@ module _ (listed : ListedMap) (ascending : IsStrictlyIncreasing (names listed.da
   turned_whole (dart ∷ darts) all = ((length-reverse dart.alphas ∙ all.0.0, all.0.1 ∙ sym (kinds_same listed.schema.embeds)), turned_whole darts all.1)
 
   pub dual_listed : (dual : ListedMap) × IsListedDual listed dual
-  dual_listed = (dual, record {
-    is = same_map;
-    ascending = subst IsStrictlyIncreasing (sym (names_stay listed.darts)) ascending;
-    whole = turned_whole listed.darts whole;
-  })
+  dual_listed = (
+    dual,
+    record {
+      is = same_map;
+      ascending = subst IsStrictlyIncreasing (sym (names_stay listed.darts)) ascending;
+      whole = turned_whole listed.darts whole;
+    },
+  )
 
 -- a map that a text stands for has its dual, listed
 pub dual_of_text : (text : List ℕ) (version : MapVersion) (listed : ListedMap) → MapText text version listed → (dual : ListedMap) × IsListedDual listed dual
