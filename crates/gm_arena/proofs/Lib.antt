@@ -10,6 +10,7 @@ pub mod NewLemmas
 pub mod ValueLemmas
 pub mod AddLemmas
 pub mod DenseLemmas
+pub mod SlotNameLemmas
 pub mod NameLemmas
 pub mod MapLemmas
 pub mod Keys

@@ -1,5 +1,5 @@
 -- The arena without darts.
-use Rattle.std.proofs.Common.{◌≡◌, ℕ, ◌+◌, ◌<◌, ◌≤◌, [], get_or, length, None, refl, sym, ap, ◌∙◌, arith}
+use Rattle.std.proofs.Common.{◌≡◌, ℕ, Bool, ◌+◌, ◌<◌, ◌≤◌, [], get_or, length, None, refl, sym, ap, ◌∙◌, arith}
 use Rattle.std.specs.FinMap as map
 use Rattle.std.specs.Ordering.{nat_cmp}
 use Rattle.std.proofs.lemmas.Bool.{false≢true}
@@ -10,7 +10,7 @@ use Rattle.gm_arena.specs.declared.arena.Place.{Place}
 use Rattle.gm_arena.specs.Edits.{empty_map}
 use Rattle.gm_arena.specs.Filled.{filled}
 use Rattle.gm_model.specs.Maps.{IsSchema}
-use Rattle.gm_arena.specs.Inside.{slots_in, map_of, FitTogether}
+use Rattle.gm_arena.specs.Inside.{slots_in, map_of, FitTogether, AreNamesSlots}
 use Rattle.gm_arena.proofs.FilledLemmas.{get-filled, same_maps}
 
 filled_none : {X : Type 0} → filled {X = X} [] ≡ map.empty
@@ -28,6 +28,9 @@ module _ (schema : Schema) (places : Slab Place) (slots : places.slots ≡ []) w
 
   pub map_empty : map_of schema (schema.dim + 1) (length schema.embeds) places [] [] [] 0 0 0 ≡ empty_map schema
   map_empty = λ i. record (empty_map schema) { darts = filled_none i; slots = slots_none i; count = count i }
+
+  pub named_empty : (flag : Bool) → AreNamesSlots flag places
+  named_empty flag told slot place e = absurd (none-some place (sym (vacant slot) ∙ e))
 
   pub sound_empty : IsSchema schema → 0 < schema.dim → schema.dim ≤ 7 → places.capacity ≡ 0 → FitTogether schema (schema.dim + 1) (length schema.embeds) places [] [] [] 0 0 0
   sound_empty lawful some few capacity = record {

@@ -1,5 +1,5 @@
 -- How an arena keeps its map: names in a slab with their neighbours and values beside them, and a table from names to slots. No public clause cites this module.
-use Rattle.std.specs.Prelude.{◌≡◌, ◌≢◌, ℕ, ◌+◌, ◌*◌, ◌<◌, ◌≤◌, List, [], ◌∷◌, ◌++◌, map, length, take, drop, ◌==◌, if◌then◌else◌, Option, Some, None, IsSome, All, slice_index_or, slice_set}
+use Rattle.std.specs.Prelude.{◌≡◌, ◌≢◌, ℕ, ◌+◌, ◌*◌, ◌<◌, ◌≤◌, List, [], ◌∷◌, ◌++◌, map, length, take, drop, ◌==◌, if◌then◌else◌, Bool, IsTrue, Option, Some, None, IsSome, All, slice_index_or, slice_set}
 use Rattle.std.specs.Option.{option_map, option_map_or}
 use Rattle.std.specs.Ordering.{nat_cmp}
 use Rattle.std.specs.FinMap.{FinMap, len}
@@ -112,3 +112,7 @@ pub record FitTogether (schema : Schema) (labels width : ℕ) (places : Slab Pla
 pub record HasParts (capacity labels width links values : ℕ) : Type 0 where
   pub linked : capacity * labels ≤ links
   pub long : capacity * width ≤ values
+
+-- where the flag is set, the name of each place is its slot
+abbrev pub AreNamesSlots : Bool → Slab Place → Type 0
+AreNamesSlots flag places = IsTrue flag → (slot : ℕ) (place : Place) → get places slot ≡ Some place → place.name ≡ slot

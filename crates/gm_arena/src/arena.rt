@@ -1,10 +1,11 @@
-ghost use Rattle.std.specs.Prelude.{◌≡◌, ℕ, ◌+◌, ◌*◌, ◌<◌, ◌≤◌, ◌-◌, ◌++◌, ◌∷◌, [], length, replicate, take, max, map, Some, None, All, MatchOption, IfOk, IsTrue, OnOk, OnErr};
+ghost use Rattle.std.specs.Prelude.{◌≡◌, ℕ, ◌+◌, ◌*◌, ◌<◌, ◌≤◌, ◌-◌, ◌++◌, ◌∷◌, [], length, replicate, take, max, map, Some, None, All, MatchOption, IfOk, IsSome, IsTrue, OnOk, OnErr};
 ghost use Rattle.std.specs.FinMap.{get, keys};
 ghost use Rattle.std.specs.List.{zip};
 ghost use Rattle.slab.specs.Slab.{HasRoomFor, slab_len};
 ghost use Rattle.gm_model.specs.Limits.{most_darts, most_names};
 ghost use Rattle.std.specs.Vec.{vec_capacity};
-ghost use Rattle.gm_arena.specs.Inside.{no_slot, names_in, linked, IsWritten, HasParts};
+ghost use Rattle.slab.specs.Slab as slab;
+ghost use Rattle.gm_arena.specs.Inside.{no_slot, names_in, name_in, linked, IsWritten, HasParts, AreNamesSlots};
 
 use crate::slot::Slot;
 use crate::steps::Steps;
@@ -47,6 +48,9 @@ pub struct Arena {
     spare: u32,
     /// One more than the greatest slot that was ever in use.
     bound: usize,
+    /// Where it is set, the name of each live dart is its slot, so that the one is known from the
+    /// other. Unset, it says nothing. It stays set in a map that was read whose names run from 0 on.
+    names_are_slots: bool,
 }
 
 /// A dart as the arena holds it.
@@ -67,11 +71,11 @@ impl Model for Arena {
     ghost coded = { arena_code };
 
     ghost use Rattle.std.specs.Vec.{vec_capacity};
-    ghost use Rattle.gm_arena.specs.Inside.{map_of, FitTogether, HasParts};
+    ghost use Rattle.gm_arena.specs.Inside.{map_of, FitTogether, HasParts, AreNamesSlots};
 
     ghost view = { λ a. map_of a.schema a.labels a.width a.places a.neighbours.items a.values.items a.table.items a.next a.spare a.bound };
 
-    ghost invariant = { λ a. FitTogether a.schema a.labels a.width a.places a.neighbours.items a.values.items a.table.items a.next a.spare a.bound × HasParts a.places.capacity a.labels a.width (vec_capacity a.neighbours) (vec_capacity a.values) };
+    ghost invariant = { λ a. FitTogether a.schema a.labels a.width a.places a.neighbours.items a.values.items a.table.items a.next a.spare a.bound × HasParts a.places.capacity a.labels a.width (vec_capacity a.neighbours) (vec_capacity a.values) × AreNamesSlots a.names_are_slots a.places };
 }
 
 impl Arena {
@@ -100,6 +104,7 @@ impl Arena {
             next: 0,
             spare: 0,
             bound: 0,
+            names_are_slots: true,
         }
     }
 
@@ -144,6 +149,26 @@ impl Arena {
         self.places.len() == self.bound
     }
 
+    /// Whether each slot below the bound has the dart of which it is the name, so that no other name
+    /// is live. Nothing has to be looked up then.
+    fn has_slots_for_names(&self) -> bool
+        ensures at { IsTrue result → (name : ℕ) → name < self.now.bound → IsAt self.now name name }
+        ensures none { IsTrue result → (name : ℕ) → self.now.bound ≤ name → get self.now.darts name ≡ None }
+    {
+        self.names_are_slots & (self.places.len() == self.bound)
+    }
+
+    /// The slot of this number, where it is below the bound.
+    fn slot_below_bound(&self, at: u32) -> Option<Slot>
+        ensures { MatchOption result (self.now.bound ≤ at) (λ s. (s.at ≡ at) × (at < self.now.bound)) }
+    {
+        if (at as usize) < self.bound {
+            Some(Slot { at })
+        } else {
+            None
+        }
+    }
+
     /// The names of the live darts, ascending. It counts one step for each dart.
     pub fn names<L: Ledger>(
         &self,
@@ -164,6 +189,9 @@ impl Arena {
         ensures cost { steps.new ≡ steps.old + 1 }
     {
         steps.tick();
+        if self.has_slots_for_names() {
+            return self.slot_below_bound(name);
+        }
         match self.table.get(name as usize) {
             Some(slot) if *slot != NO_SLOT => Some(Slot { at: *slot }),
             _ => None,
@@ -177,6 +205,9 @@ impl Arena {
         ensures cost { steps.new ≡ steps.old + 1 }
     {
         steps.tick();
+        if self.has_slots_for_names() {
+            return self.slot_below_bound(from);
+        }
         for name in from as usize..self.table.len() {
             let slot = self.table[name];
             if slot != NO_SLOT {
@@ -193,7 +224,7 @@ impl Arena {
         ensures cost { steps.new ≡ steps.old + 1 }
     {
         steps.tick();
-        self.places[slot.at as usize].name
+        read_name(&self.places, self.names_are_slots, slot)
     }
 
     /// The dart at a slot. Nothing is copied.
@@ -210,7 +241,7 @@ impl Arena {
         steps.tick();
         let at = slot.at as usize;
         Row {
-            name: self.places[at].name,
+            name: read_name(&self.places, self.names_are_slots, slot),
             alphas: &self.neighbours[at * self.labels..at * self.labels + self.labels],
             values: &self.values[at * self.width..at * self.width + self.width],
         }
@@ -287,6 +318,7 @@ impl Arena {
         self.next = self.next.max(name + 1);
         self.spare -= 1;
         self.bound = self.bound.max(key + 1);
+        self.names_are_slots &= own.at == name;
         own
     }
 
@@ -363,6 +395,18 @@ impl Arena {
     {
         self.next = next;
     }
+}
+
+/// The name of the place at a slot, which is the slot itself where all names are.
+fn read_name(places: &Slab<Place>, names_are_slots: bool, slot: Slot) -> u32
+    requires live { IsSome (slab.get places.now slot.at) }
+    requires named { AreNamesSlots names_are_slots places.now }
+    ensures { result ≡ name_in places.now slot.at }
+{
+    if names_are_slots {
+        return slot.at;
+    }
+    places[slot.at as usize].name
 }
 
 /// The names in the table that have a slot, of which there are about `count`.

@@ -19,14 +19,26 @@ more_each start steps after each turns before turn = omega arith
 pub all_each : (start steps each turns most : ℕ) → steps ≤ start + each * turns → turns ≤ most → steps ≤ start + each * most
 all_each start steps each turns most before few = omega (arith, mul-le-mul_left each few, before)
 
--- the names and three passes over as many, of at least two labels
+-- the quick pass, the names and three passes over as many, of at least two labels
 spent : (labels count start after : ℕ) → 2 ≤ labels
-    → after ≤ start + count + (2 * labels + 1) * count + (labels * (3 * labels + 1) + 1) * count + 8 * ((2 * labels + 2) * count + 2)
+    → after ≤ start + (labels * labels + 1) * count + count + (2 * labels + 1) * count + (labels * (3 * labels + 1) + 1) * count + 8 * ((2 * labels + 2) * count + 2)
     → after ≤ start + 20 * (labels * labels) * (count + 1)
-spent labels count start after two cost = grind arith
+spent labels count start after two cost =
+    let more : 2 * labels ≤ labels * labels = mul-le-mul_right labels two in
+    let some : 4 ≤ labels * labels = omega (arith, more, two) in
+    omega (arith, cost, some, mul-le-mul_right count more, mul-le-mul_right count some)
 
 pub within_budget : (m : ArenaMap) (first second third : List ℕ) (start after : ℕ) → IsLawful m → first ≡ keys m.darts → second ≡ keys m.darts → third ≡ keys m.darts
-    → let labels = m.schema.dim + 1 in after ≤ start + m.count + (2 * labels + 1) * length first + (labels * (3 * labels + 1) + 1) * length second + 8 * ((2 * labels + 2) * length third + 2)
+    → let labels = m.schema.dim + 1 in after ≤ start + (labels * labels + 1) * m.count + m.count + (2 * labels + 1) * length first + (labels * (3 * labels + 1) + 1) * length second + 8 * ((2 * labels + 2) * length third + 2)
     → after ≤ start + 20 * (labels * labels) * (m.count + 1)
 within_budget m first second third start after lawful one two three cost =
     spent (m.schema.dim + 1) m.count start after (omega (arith, lawful.dim.0)) (rw (as_many m first lawful one, as_many m second lawful two, as_many m third lawful three) at cost)
+
+-- the quick pass alone, and the names besides
+quickly : (labels count start after : ℕ) → 2 ≤ labels → after ≤ start + (labels * labels + 1) * count + count → after ≤ start + 20 * (labels * labels) * (count + 1)
+quickly labels count start after two cost =
+    let some : 4 ≤ labels * labels = omega (arith, mul-le-mul_right labels two, two) in
+    omega (arith, cost, some, mul-le-mul_right count some)
+
+pub within_few : (m : ArenaMap) (start after : ℕ) → IsLawful m → let labels = m.schema.dim + 1 in after ≤ start + (labels * labels + 1) * m.count + m.count → after ≤ start + 20 * (labels * labels) * (m.count + 1)
+within_few m start after lawful cost = quickly (m.schema.dim + 1) m.count start after (omega (arith, lawful.dim.0)) cost

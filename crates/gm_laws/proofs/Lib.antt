@@ -3,3 +3,4 @@ pub mod FirstLemmas
 pub mod RowLemmas
 pub mod EmbeddedLemmas
 pub mod CostLemmas
+pub mod HoldingLemmas

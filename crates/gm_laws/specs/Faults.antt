@@ -20,6 +20,12 @@ DoCommute m = Commute m.schema.dim (IsLiveName m) (alpha m)
 abbrev pub AreValuesShared : ArenaMap → Type 0
 AreValuesShared m = AreShared m.schema.dim (IsLiveName m) (alpha m) m.schema (value m)
 
+-- it keeps all laws
+pub record KeepsLaws (m : ArenaMap) : Type 0 where
+  pub back : ArePointedBack m
+  pub commute : DoCommute m
+  pub shared : AreValuesShared m
+
 -- the first breach of the laws of the map in the arena, its darts by name
 abbrev pub IsFirstBreach : ArenaMap → MapBreach → Type 0
 IsFirstBreach m (Involution d i) = IsFirstOneWay m.schema.dim (IsLiveName m) (alpha m) d i

@@ -1,2 +1,3 @@
 pub mod Darts
 pub mod Faults
+pub mod Holding

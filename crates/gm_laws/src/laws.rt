@@ -6,6 +6,7 @@ ghost use Rattle.gm_laws.specs.Faults.{IsFault};
 use crate::breach::LawFault;
 use crate::commuting::first_not_commuting;
 use crate::embedded::first_not_embedded;
+use crate::holding::do_laws_hold;
 use crate::involution::first_not_back;
 use gm_arena::{Arena, Steps};
 use std::alloc::Global;
@@ -26,6 +27,9 @@ pub fn check_map<L: Ledger>(
     ensures cost { let labels = arena.now.schema.dim + 1 in steps.new ≤ steps.old + 20 * (labels * labels) * (arena.now.count + 1) }
     ensures least { steps.old ≤ steps.new }
 {
+    if do_laws_hold(arena, steps) {
+        return Ok(());
+    }
     let names = arena.names(alloc, steps)?;
     prove!(names.len() == arena.count() as usize);
     if let Some(breach) = first_not_back(arena, &names, steps) {

@@ -5,6 +5,7 @@
 mod breach;
 mod commuting;
 mod embedded;
+mod holding;
 mod involution;
 mod laws;
 

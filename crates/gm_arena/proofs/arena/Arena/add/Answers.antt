@@ -1,7 +1,9 @@
 use Rattle.std.proofs.Common.{◌≡◌, length, sym, ◌∙◌, arith, vec_capacity}
+use Rattle.std.proofs.lemmas.Bool.{and_parts, eqb-true}
 use Rattle.gm_arena.specs.Lawful.{AreGoodValues}
 use Rattle.gm_arena.proofs.ValueLemmas.{length-values, stretch}
 use Rattle.gm_arena.proofs.InsideLemmas.{none_at}
+use Rattle.gm_arena.proofs.SlotNameLemmas.{slots_named_with}
 use Rattle.gm_arena.proofs.AddLemmas.{sound_with, map_with}
 use Rattle.gm_arena.proofs.arena.Arena.add.Goals as goal
 
@@ -39,6 +41,7 @@ invariant_of-self g c =
         linked = rw inserted.capacity (omega (arith, c.free.ensures.capacity, c.self.invariant.1.linked));
         long = rw inserted.capacity (omega (arith, c.write_values.ensures.capacity, c.self.invariant.1.long));
       },
+      slots_named_with s.names_are_slots s.places _ c.self.invariant.2 _ slot c.args.name inserted.updates (λ told. (and_parts _ _ told).0) (λ told. eqb-true slot c.args.name (and_parts _ _ told).1),
     )
 
 pub returns-clause-slot : goal.returns-clause-slot

@@ -1,6 +1,6 @@
-use Rattle.std.proofs.Common.{◌+◌, length, vec_capacity, arith}
+use Rattle.std.proofs.Common.{◌+◌, true, length, vec_capacity, arith}
 use Rattle.gm_arena.specs.Inside.{HasParts}
-use Rattle.gm_arena.proofs.NewLemmas.{sound_empty, map_empty}
+use Rattle.gm_arena.proofs.NewLemmas.{sound_empty, map_empty, named_empty}
 use Rattle.gm_arena.proofs.arena.Arena.new.Goals as goal
 
 pub invariant_of-result : goal.invariant_of-result
@@ -9,6 +9,7 @@ invariant_of-result c =
       rw (c.top.ensures.value, c.as_slice.ensures, c.new-2.ensures.items, c.new-3.ensures.items, c.new-4.ensures.items)
           (sound_empty c.args.schema c.new.result c.new.ensures.empty c.requires c.top.ensures.least c.top.ensures.greatest c.new.ensures.capacity),
       rw c.new.ensures.capacity parts,
+      named_empty c.args.schema c.new.result c.new.ensures.empty true,
     )
 
 pub returns : goal.returns

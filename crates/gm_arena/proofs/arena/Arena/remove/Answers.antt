@@ -1,5 +1,6 @@
 use Rattle.std.proofs.Common.{◌∙◌, arith}
 use Rattle.gm_arena.proofs.InsideLemmas.{key_at, name_within, name_at_in, name_in-get}
+use Rattle.gm_arena.proofs.SlotNameLemmas.{slots_named_without}
 use Rattle.gm_arena.proofs.RemoveLemmas.{sound_without, map_without}
 use Rattle.gm_arena.proofs.arena.Arena.remove.Goals as goal
 
@@ -17,6 +18,7 @@ invariant_of-self g c =
       sound_without _ _ _ _ _ _ _ _ _ _ c.self.invariant.0 c.args.slot.at c.remove-place.result c.remove-place.ensures.value alone
           c.remove-place.new.self c.remove-place.ensures.updates c.remove-place.ensures.len capacity,
       record { linked = rw capacity c.self.invariant.1.linked; long = rw capacity c.self.invariant.1.long },
+      slots_named_without c.self.inside.names_are_slots c.self.inside.places c.remove-place.new.self c.self.invariant.2 c.args.slot.at c.remove-place.ensures.updates,
     )
 
 pub returns-clause-map : goal.returns-clause-map

@@ -3,6 +3,7 @@ use Rattle.slab.specs.Slab.{get, slab_len}
 use Rattle.slab.proofs.SlabLemmas.{ContainsKey-within}
 use Rattle.gm_arena.specs.declared.arena.Place.{Place}
 use Rattle.gm_arena.proofs.InsideLemmas.{some_of}
+use Rattle.gm_arena.proofs.SlotNameLemmas.{slots_named_same}
 use Rattle.gm_arena.proofs.ReserveLemmas.{entries_padded, sound_more, map_more}
 use Rattle.gm_arena.proofs.arena.Arena.reserve.Goals as goal
 
@@ -17,6 +18,7 @@ invariant_of-self-in_err-reserve_places c =
           c.in_err-reserve_places.ensures.fits (rw same sound.room) sound.few_darts
           (omega (arith, c.in_ok-pad_table.ensures.len, sound.few_reserved, c.requires.names))),
       c.in_err-reserve_places.ensures.parts,
+      slots_named_same c.self.inside.names_are_slots c.self.inside.places c.reserve_places.new.places c.self.invariant.2 c.in_err-reserve_places.ensures.slots,
     )
 
 pub returns-in_err-reserve_places-clause-map : goal.returns-in_err-reserve_places-clause-map
@@ -36,6 +38,7 @@ invariant_of-self-2 c =
           (omega (arith, count, sound.few_darts))
           (omega (arith, c.in_ok-pad_table.ensures.len, sound.few_reserved, c.requires.names))),
       c.in_ok-reserve_places.ensures.parts,
+      slots_named_same c.self.inside.names_are_slots c.self.inside.places c.reserve_places.new.places c.self.invariant.2 slots,
     )
 
 pub returns-clause-map : goal.returns-clause-map

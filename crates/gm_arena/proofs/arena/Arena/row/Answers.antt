@@ -1,10 +1,12 @@
-use Rattle.std.proofs.Common.{◌≡◌, ℕ, ◌+◌, ◌-◌, ◌*◌, ◌≤◌, length, arith}
-use Rattle.gm_arena.proofs.InsideLemmas.{key_at, live_at, slot_at, row_at}
+use Rattle.std.proofs.Common.{◌≡◌, ℕ, ◌+◌, ◌-◌, ◌*◌, ◌≤◌, length, Some, sym, ap, ◌∙◌, arith}
+use Rattle.std.specs.FinMap.{get}
+use Rattle.gm_arena.specs.Inside.{darts_in}
+use Rattle.gm_arena.proofs.InsideLemmas.{key_at, live_place, live_at, slot_at, name_in-get, row_at}
 use Rattle.gm_arena.proofs.ReserveLemmas.{links_within, values_within}
 use Rattle.gm_arena.proofs.arena.Arena.row.Goals as goal
 
-pub index-requires : goal.index-requires
-index-requires g c = key_at c.self.inside.places _ (rw (← c.self.view_is) at c.requires)
+pub read_name-requires-clause-live : goal.read_name-requires-clause-live
+read_name-requires-clause-live g c = key_at c.self.inside.places _ (rw (← c.self.view_is) at c.requires)
 
 pub slice_bounds-result-end : goal.slice_bounds-result-end
 slice_bounds-result-end g c =
@@ -34,16 +36,24 @@ slice_bounds-result-end-2 g c =
     omega (arith, within, s.values.ok.0)
 
 pub returns-clause-name : goal.returns-clause-name
-returns-clause-name g c = rw (← c.self.view_is) (slot_at c.self.inside.places _ _ c.index.ensures)
+returns-clause-name g c =
+    let places = c.self.inside.places in
+    let place = live_place places c.args.slot.at (rw (← c.self.view_is) at c.requires) in
+    rw (← c.self.view_is) (slot_at places _ _ place.1 ∙ ap Some (sym (c.read_name.ensures ∙ name_in-get places c.args.slot.at place.0 place.1)))
 
 back : (n k : ℕ) → n + k - n ≡ k
 back n k = omega arith
 
 pub returns-clause-dart : goal.returns-clause-dart
 returns-clause-dart g c =
-    rw (← c.self.view_is, back, back, c.deref.ensures.value, c.deref-2.ensures.value) (row_at _ _ _ _ _ _ _ _ _ _ c.self.invariant.0 c.args.slot.at c.index.result.now c.index.ensures)
+    let s = c.self.inside in
+    let place = live_place s.places c.args.slot.at (rw (← c.self.view_is) at c.requires) in
+    let name = c.read_name.ensures ∙ name_in-get s.places c.args.slot.at place.0 place.1 in
+    rw (← c.self.view_is, back, back, c.deref.ensures.value, c.deref-2.ensures.value)
+    (ap (get (darts_in s.labels s.width s.places s.neighbours.items s.values.items s.table.items)) name ∙ row_at _ _ _ _ _ _ _ _ _ _ c.self.invariant.0 c.args.slot.at place.0 place.1)
 
 pub returns-clause-live : goal.returns-clause-live
 returns-clause-live g c =
-    let placed = c.self.invariant.0.placed c.args.slot.at c.index.result.now c.index.ensures in
+    let place = live_place c.self.inside.places c.args.slot.at (rw (← c.self.view_is) at c.requires) in
+    let placed = c.self.invariant.0.placed c.args.slot.at place.0 place.1 in
     rw (← c.self.view_is, back, c.deref.ensures.value) (λ k d h. live_at c.self.inside.places _ (placed.live k d h))

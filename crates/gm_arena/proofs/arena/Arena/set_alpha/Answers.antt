@@ -22,6 +22,7 @@ invariant_of-self g c =
           (key_at s.places _ (rw (← c.self.view_is) at c.requires.to_live))
           _ (IsWritten-set s.labels c.args.slot.at c.args.label s.neighbours.items c.args.to within),
       c.self.invariant.1,
+      c.self.invariant.2,
     )
 
 pub returns-clause-map : goal.returns-clause-map

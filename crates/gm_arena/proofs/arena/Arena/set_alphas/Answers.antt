@@ -30,6 +30,7 @@ invariant_of-self g c =
     let links = lent_linked s.labels c.args.label s.neighbours.len (zip c.args.from.now c.args.to.now) s.neighbours.items c.as_mut_slice-neighbours.result.now c.link.new.neighbours (omega (arith, s.neighbours.ok.0)) c.as_mut_slice-neighbours.ensures.value c.link.ensures in (
       rw links (sound_linked s.schema s.labels s.width s.places s.values.items s.table.items s.next s.spare s.bound c.args.label within c.args.from.now c.args.to.now from to s.neighbours.items c.self.invariant.0),
       c.self.invariant.1,
+      c.self.invariant.2,
     )
 
 pub returns-clause-map : goal.returns-clause-map

@@ -23,6 +23,7 @@ invariant_of-self g c =
       sound_revalued _ _ _ _ _ _ _ _ _ _ c.self.invariant.0 c.args.slot.at place.0 place.1 c.args.embed c.requires.value.0 c.args.value at c.requires.value.2
           _ (IsWritten-set s.width c.args.slot.at c.args.embed s.values.items c.args.value within),
       c.self.invariant.1,
+      c.self.invariant.2,
     )
 
 pub returns-clause-map : goal.returns-clause-map

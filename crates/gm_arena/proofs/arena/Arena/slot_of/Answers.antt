@@ -1,7 +1,17 @@
 use Rattle.std.proofs.Common.{◌≡◌, get_or, sym, ap, ◌∙◌, arith}
+use Rattle.std.specs.FinMap.{get}
 use Rattle.gm_arena.specs.Inside.{no_slot, slot_in}
 use Rattle.gm_arena.proofs.InsideLemmas.{slot_named, no_dart}
+use Rattle.gm_arena.proofs.SlotNameLemmas.{answered}
 use Rattle.gm_arena.proofs.arena.Arena.slot_of.Goals as goal
+
+pub returns-then-has_slots_for_names-clause-slot : goal.returns-then-has_slots_for_names-clause-slot
+returns-then-has_slots_for_names-clause-slot g c =
+    let known = c.has_slots_for_names.ensures in
+    let told = c.if-has_slots_for_names.true in
+    answered c.slot_below_bound.result c.slot_below_bound.ensures
+    (λ above. known.none told c.args.name above)
+    (λ s below. ap (get c.args.self.now.slots) below.0 ∙ known.at told c.args.name below.1)
 
 pub returns-in-Some-clause-slot : goal.returns-in-Some-clause-slot
 returns-in-Some-clause-slot g c =
