@@ -36,11 +36,12 @@ use Rattle.gm_walk.proofs.CountLemmas.{count_alike}
 use Rattle.gm_tool.specs.Books.{IsCheckable}
 use Rattle.gm_tool.specs.GridAnswer.{AreGridPlans, Gridded, IsGridded, IsGridText, IsGridReply, grid_rules, grid_stats, grid_line}
 use Rattle.gm_tool.specs.RunAnswer.{IsFirstRefused}
-use Rattle.gm_tool.specs.StepBounds.{HasGridBounds, GridRunsWithin, GridRunsAtLeast, WithinGridMost, AtLeastOfGrid, MostOfGrid, LeastOfGrid}
+use Rattle.gm_tool.specs.StepBounds.{HasGridBounds, GridRunsWithin, GridRunsAtLeast, WithinGridMost, AtLeastOfGrid, IsGridMost, MostOfGrid, IsGridLeast, LeastOfGrid}
 use Rattle.gm_tool.specs.Stops.{IsBadFor, reply_of}
 use Rattle.gm_tool.specs.declared.refusal.NoText.TheVariants as nothing
 use Rattle.gm_tool.specs.declared.refusal.Stop.{Stop}
 use Rattle.gm_tool.specs.declared.refusal.Stop.TheVariants as stops
+use Rattle.gm_tool.proofs.GridMade.{grid_least, grid_most}
 use Rattle.gm_tool.proofs.Grids.{rules_accepted, grid_stats_good, grid_in_order, one_gridding, grid_bounds, gridding_bounded, run_here}
 use Rattle.gm_tool.proofs.Lines.{rules_planned}
 
@@ -180,8 +181,14 @@ none_run m steps made left bounds is has count = omega arith
 
 -- ---- the whole
 
-pub grid_made : (m start middle steps : ℕ) → middle ≤ start + 4096 * (m * m) → GridRunsWithin m middle steps → WithinGridMost m start steps
-grid_made m start middle steps made runs most (MostOfGrid gridded left bounds is has count) = let lines = runs gridded left bounds is has count in omega (arith, made, lines)
+pub grid_made : (m : ℕ) → m ≤ 100 → (start middle steps : ℕ) → middle ≤ start + 4096 * (m * m) → GridRunsWithin m middle steps → WithinGridMost m start steps
+grid_made m small start middle steps made runs = let found = grid_most m small in (found.0, found.1, each found.0 found.1)
+  where
+    each : (most : ℕ) → IsGridMost m most → steps ≤ start + most
+    each _ (MostOfGrid gridded left bounds is has count) = let lines = runs gridded left bounds is has count in omega (arith, made, lines)
 
-pub grid_reached : (m start middle steps : ℕ) → start + 8 * (m * m) ≤ middle → GridRunsAtLeast m middle steps → AtLeastOfGrid m start steps
-grid_reached m start middle steps made runs least (LeastOfGrid gridded bounds is has) = let lines = runs gridded bounds is has in omega (arith, made, lines)
+pub grid_reached : (m : ℕ) → m ≤ 100 → (start middle steps : ℕ) → start + 8 * (m * m) ≤ middle → GridRunsAtLeast m middle steps → AtLeastOfGrid m start steps
+grid_reached m small start middle steps made runs = let found = grid_least m small in (found.0, found.1, each found.0 found.1)
+  where
+    each : (least : ℕ) → IsGridLeast m least → start + least ≤ steps
+    each _ (LeastOfGrid gridded bounds is has) = let lines = runs gridded bounds is has in omega (arith, made, lines)

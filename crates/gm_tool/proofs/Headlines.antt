@@ -1,20 +1,22 @@
 -- What is left of a run that is done, read off what is left of any call.
-use Rattle.std.proofs.Common.{◌≡◌, ℕ, List, ◌++◌, inl, inr, Option, Some, None, refl, sym, ap, subst, ◌∙◌}
+use Rattle.std.proofs.Common.{◌≡◌, ℕ, ◌+◌, ◌≤◌, List, ◌++◌, inl, inr, Option, Some, None, refl, sym, ap, subst, ◌∙◌}
 use Rattle.std.proofs.lemmas.Bool.{eqb-false}
 use Rattle.gm_host.specs.Saves.{IsSaved}
 use Rattle.gm_host.specs.Store.{Contents}
+use Rattle.gm_model.specs.Budgets.{Bounds}
 use Rattle.gm_lines.specs.Refusing.{Role}
 use Rattle.gm_tool.specs.Answer.{Files, Answer}
 use Rattle.gm_tool.specs.Endings.{IsStored, Whole, LoadFailed, SaveFailed}
 use Rattle.gm_tool.specs.Headline.{RunsAsStated, HeadlineHolds}
 use Rattle.gm_tool.specs.MadeRuns.{IsRunStatus, IsSoundText, HoldsSuch}
 use Rattle.gm_tool.specs.Program.{IsAnswer, Usage, OfFile, OfRun, OfMigrate, OfDual, OfGrid}
-use Rattle.gm_tool.specs.RunAnswer.{RunNames, AsksRun, IsRunAnswer, IsFailing, Missing, Long, Bad, MapFails, BookFails, ScriptFails, Disagree, LongOutput, Done, saved_of}
-use Rattle.gm_tool.specs.StepBounds.{WithinMost, AtLeast, KeepsSteps, MostOf, LeastOf}
+use Rattle.gm_tool.specs.RunAnswer.{RunNames, AsksRun, Inputs, Ran, IsGoodRun, IsRunAnswer, IsFailing, Missing, Long, Bad, MapFails, BookFails, ScriptFails, Disagree, LongOutput, Done, saved_of}
+use Rattle.gm_tool.specs.StepBounds.{HasBounds, WithinMost, AtLeast, KeepsSteps, MostOf, LeastOf, handling, dim_of, darts_read, darts_left}
 use Rattle.gm_tool.specs.Tool.{IsLoadFailure, HoldsSaved, Ends, Leaves, Put, PutFailed, Unput, NoMemory, LeavesWhereTold}
 use Rattle.gm_tool.specs.Tool as tool
 use Rattle.gm_tool.proofs.Asking.{file_is_no_run, run_is_no_dual, run_is_no_migrate, run_is_no_grid, same_named}
 use Rattle.gm_tool.proofs.Putting.{six_is_no_run, seven_is_no_run}
+use Rattle.gm_tool.proofs.RunsMade.{bounds_of, one_least, one_most}
 
 -- ---- statuses that no run is done with
 
@@ -63,6 +65,14 @@ module _ (files : Files) (named : RunNames) (status : ℕ) (before written text 
           let equal : other ≡ bytes = cc same in
           subst IsSoundText equal sound
 
+  -- the most and the least that there are, are those of these bounds
+  module _ (inputs : Inputs) (ran : Ran) (bounds : Bounds) (good : IsGoodRun files named inputs ran) (has : HasBounds inputs ran bounds) where
+    stays_within : later ≤ steps + (bounds.most + handling (dim_of inputs) (darts_read inputs) (darts_left ran))
+    stays_within = let found = most inputs ran good in subst (λ n. later ≤ steps + n) (one_most files named found.0 _ found.1 (MostOf inputs ran bounds good has)) found.2
+
+    takes_least : steps + (bounds.least + darts_read inputs + darts_left ran) ≤ later
+    takes_least = let found = least inputs ran good in subst (λ n. steps + n ≤ later) (one_least files named found.0 _ found.1 (LeastOf inputs ran bounds good has)) found.2
+
   stated : (given : Answer) → IsRunAnswer files named given → status ≡ given.status → text ≡ given.text → IsStored files given.saved after → RunsAsStated files named status before written after steps later
   stated given (MapFails h) s t stored = absurd (failing files _ _ _ given h (subst IsRunStatus s run))
   stated given (BookFails inputs the_map h) s t stored = absurd (failing files _ _ _ given h (subst IsRunStatus s run))
@@ -71,6 +81,7 @@ module _ (files : Files) (named : RunNames) (status : ℕ) (before written text 
   stated given (LongOutput inputs ran good long e) s t stored = absurd (eight given.status (ap status_of e) (subst IsRunStatus s run))
   stated given (Done inputs ran good fits fits_too e) s t stored =
       let kept = subst (λ (a : Answer). IsStored files a.saved after) e stored in
+      let has = bounds_of files named inputs ran good in
       record {
         inputs = inputs;
         ran = ran;
@@ -79,8 +90,10 @@ module _ (files : Files) (named : RunNames) (status : ℕ) (before written text 
         report = put ∙ ap (λ x. before ++ x) (t ∙ ap (λ (a : Answer). a.text) e);
         saved = kept;
         sound = sound_bytes (saved_of inputs ran) kept;
-        most = λ bounds within. most _ (MostOf inputs ran bounds good within);
-        least = λ bounds within. least _ (LeastOf inputs ran bounds good within);
+        bounds = has.0;
+        bounds_are = has.1;
+        most = stays_within inputs ran has.0 good has.1;
+        least = takes_least inputs ran has.0 good has.1;
       }
 
   answered : (words : List (List ℕ)) → AsksRun words named → (given : Answer) → IsAnswer words files given → status ≡ given.status → text ≡ given.text → IsStored files given.saved after → RunsAsStated files named status before written after steps later

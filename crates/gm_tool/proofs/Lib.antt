@@ -38,5 +38,4 @@ mod DualFound
 mod RunsMade
 mod GridMade
 mod WordsDecided
-mod Owed
 mod AnswersFound

@@ -42,6 +42,7 @@ use Rattle.gm_tool.specs.Stops.{IsReadMap, IsReadBook, IsReadScript, IsFrom}
 use Rattle.gm_mapfile.proofs.SoundRows.{same_map}
 use Rattle.gm_tool.proofs.Lines.{same_rules}
 use Rattle.gm_tool.proofs.OneRunAnswer.{same_inputs}
+use Rattle.gm_tool.proofs.RunsMade.{least_made, most_made}
 
 -- ---- how many darts rows have
 
@@ -162,11 +163,19 @@ pub unread_within : (contents : Contents) (name : List ℕ) (before after : ℕ)
 unread_within None name before after same = tt
 unread_within (Some files) name before after same = λ other there version listed stands. omega (arith, same)
 
+-- what is within each most is within the one that there is, and so for the least
+module _ (files : Files) (named : RunNames) (before after : ℕ) where
+  within_the_most : ((most : ℕ) → IsMost files named most → after ≤ before + most) → WithinMost files named before after
+  within_the_most each inputs ran good = let found = most_made files named inputs ran good in (found.0, found.1, each found.0 found.1)
+
+  at_the_least : ((least : ℕ) → IsLeast files named least → before + least ≤ after) → AtLeast files named before after
+  at_the_least each inputs ran good = let found = least_made files named inputs ran good in (found.0, found.1, each found.0 found.1)
+
 module _ (named : RunNames) where
   -- a run that stops before its lines takes no more than reading its map
   pub stopped_within : (contents : Contents) (before after last : ℕ) → last ≡ after → ReadsWithin contents named.map before after → IfSome contents (λ files. WithinMost files named before last)
   stopped_within None before after last same within = tt
-  stopped_within (Some files) before after last same within = each
+  stopped_within (Some files) before after last same within = within_the_most files named before last each
     where
       each : (most : ℕ) → IsMost files named most → last ≤ before + most
       each _ (MostOf inputs ran bounds good budget) =
@@ -188,7 +197,7 @@ module _ (named : RunNames) where
 
     pub ended_within : (contents : Contents) (start middle after : ℕ) → AreRead contents → ReadsWithin contents named.map start middle → RunsWithin read_inputs middle after → IfSome contents (λ files. WithinMost files named start after)
     ended_within None start middle after are reads runs = tt
-    ended_within (Some files) start middle after (the_map, the_book, the_script) reads runs = each
+    ended_within (Some files) start middle after (the_map, the_book, the_script) reads runs = within_the_most files named start after each
       where
         each : (most : ℕ) → IsMost files named most → after ≤ start + most
         each _ (MostOf others ran bounds good budget) =
@@ -199,7 +208,7 @@ module _ (named : RunNames) where
 
     pub ended_least : (contents : Contents) (start middle after : ℕ) → IsLawful read.arena → AreRead contents → start + read.arena.count ≤ middle → RunsAtLeast read_inputs middle after → IfSome contents (λ files. AtLeast files named start after)
     ended_least None start middle after lawful are reads runs = tt
-    ended_least (Some files) start middle after lawful (the_map, the_book, the_script) reads runs = each
+    ended_least (Some files) start middle after lawful (the_map, the_book, the_script) reads runs = at_the_least files named start after each
       where
         each : (least : ℕ) → IsLeast files named least → start + least ≤ after
         each _ (LeastOf others ran bounds good budget) =

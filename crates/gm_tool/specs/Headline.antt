@@ -21,9 +21,11 @@ module _ (files : Files) (named : RunNames) (status : ℕ) (before written : Lis
     pub saved : IsSaved (Some files) named.out (saved_of inputs ran) after
     -- what is saved is the canonical text of a generalised map with one value on each embedding orbit
     pub sound : IsSoundText (saved_of inputs ran)
-    -- the steps stay within the most of the statements and what it takes to read, judge and print, and are no fewer than the least
-    pub most : (bounds : Bounds) → HasBounds inputs ran bounds → later ≤ steps + (bounds.most + handling (dim_of inputs) (darts_read inputs) (darts_left ran))
-    pub least : (bounds : Bounds) → HasBounds inputs ran bounds → steps + (bounds.least + darts_read inputs + darts_left ran) ≤ later
+    -- the statements have these bounds: the steps stay within their most and what it takes to read, judge and print, and are no fewer than the least
+    pub bounds : Bounds
+    pub bounds_are : HasBounds inputs ran bounds
+    pub most : later ≤ steps + (bounds.most + handling (dim_of inputs) (darts_read inputs) (darts_left ran))
+    pub least : steps + (bounds.least + darts_read inputs + darts_left ran) ≤ later
 
 -- where store and sink tell, the words are a run, and it ends with status 0 or 1
 abbrev pub HeadlineHolds : List (List ℕ) → Contents → Contents → Option (List ℕ) → ℕ → Option (List ℕ) → ℕ → ℕ → Type 0

@@ -61,13 +61,13 @@ module _ (files : Files) (named : RunNames) where
   pub data IsLeast : ℕ → Type 0 where
     LeastOf : (inputs : Inputs) (ran : Ran) (bounds : Bounds) → IsGoodRun files named inputs ran → HasBounds inputs ran bounds → IsLeast (bounds.least + darts_read inputs + darts_left ran)
 
-  -- no more steps than the most of the run, where the files have one
+  -- where the files have a good run, there is a most of its steps, and no more are taken
   abbrev pub WithinMost : ℕ → ℕ → Type 0
-  WithinMost before after = (most : ℕ) → IsMost most → after ≤ before + most
+  WithinMost before after = (inputs : Inputs) (ran : Ran) → IsGoodRun files named inputs ran → (most : ℕ) × IsMost most × (after ≤ before + most)
 
-  -- and no fewer than the least
+  -- and a least, and no fewer are taken
   abbrev pub AtLeast : ℕ → ℕ → Type 0
-  AtLeast before after = (least : ℕ) → IsLeast least → before + least ≤ after
+  AtLeast before after = (inputs : Inputs) (ran : Ran) → IsGoodRun files named inputs ran → (least : ℕ) × IsLeast least × (before + least ≤ after)
 
 -- where the words are a run and the store tells, no more steps than its most
 abbrev pub StaysWithin : List (List ℕ) → Contents → ℕ → ℕ → Type 0
@@ -124,11 +124,13 @@ module _ (m : ℕ) where
   pub data IsGridLeast : ℕ → Type 0 where
     LeastOfGrid : (made : Gridded) (bounds : Bounds) → IsGridded m made → HasGridBounds m made bounds → IsGridLeast (bounds.least + dart_count m)
 
+  -- there is a most of steps, and no more are taken
   abbrev pub WithinGridMost : ℕ → ℕ → Type 0
-  WithinGridMost before after = (most : ℕ) → IsGridMost most → after ≤ before + most
+  WithinGridMost before after = (most : ℕ) × IsGridMost most × (after ≤ before + most)
 
+  -- and a least, and no fewer are taken
   abbrev pub AtLeastOfGrid : ℕ → ℕ → Type 0
-  AtLeastOfGrid before after = (least : ℕ) → IsGridLeast least → before + least ≤ after
+  AtLeastOfGrid before after = (least : ℕ) × IsGridLeast least × (before + least ≤ after)
 
 -- where the words are a grid, no more steps than its most
 abbrev pub GridStaysWithin : List (List ℕ) → ℕ → ℕ → Type 0

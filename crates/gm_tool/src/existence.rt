@@ -13,8 +13,8 @@ pub fn good_files_have_runs()
     ensures { (files : Files) (named : RunNames) (inputs : Inputs) → HasMap files named inputs → HasBook files named inputs → HasScript files named inputs → Agree inputs → (ran : Ran) × IsGoodRun files named inputs ran }
 {}
 
-/// Each run of good files has a most and a least of steps, and one of each. So where `steps.most`
-/// speaks of each most that there is, it speaks of one number.
+/// Each run of good files has a most and a least of steps, and one of each. So the most that
+/// `steps.most` names is the only one: whatever is a most of the run, no more steps are taken.
 pub fn runs_have_bounds()
     ensures most { (files : Files) (named : RunNames) (inputs : Inputs) (ran : Ran) → IsGoodRun files named inputs ran → (most : ℕ) × IsMost files named most }
     ensures least { (files : Files) (named : RunNames) (inputs : Inputs) (ran : Ran) → IsGoodRun files named inputs ran → (least : ℕ) × IsLeast files named least }
