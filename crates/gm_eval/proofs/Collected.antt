@@ -102,7 +102,7 @@ module _ (reader : Reader) (mask : Mask) (term : DartTerm) (slots : List Slot) (
   pub collected : (s : Slot) → IsIn s slots → Collected (name_of s)
   collected s i = (orbit.listed.same (name_of s)).0 (contains_in (names_of m slots) (name_of s) (in_map name_of slots s i))
 
-  slot_in : (d : ℕ) → Collected d → (s : Slot) × IsIn s slots × (name_of s ≡ d)
+  pub slot_in : (d : ℕ) → Collected d → (s : Slot) × IsIn s slots × (name_of s ≡ d)
   slot_in d c = of_map name_of slots d (in_contained (names_of m slots) d ((orbit.listed.same d).1 c))
 
   -- ---- units

@@ -2,11 +2,10 @@
 use Rattle.std.proofs.Common.{◌≡◌, ℕ, zero, suc, ◌+◌, ◌<◌, ◌≤◌, ◌↔◌, ◌⊎◌, IsTrue, List, [], ◌∷◌, ◌++◌, length, All, slice_get, Option, Some, None, MatchOption, refl, sym, ap, subst, ◌∙◌, inl, inr, arith}
 use Rattle.std.specs.List.{Contains}
 use Rattle.std.specs.Prelude.{IsSome}
-use Rattle.std.proofs.lemmas.List.Elements.{All-append, All-cons, All-contains, All-nil}
+use Rattle.std.proofs.lemmas.List.Elements.{All-append, All-cons, All-contains, All-nil, recursion_from_All}
 use Rattle.std.proofs.lemmas.Bool.{cases_eq, false≢true}
 use Rattle.gm_model.specs.declared.expr.DartTerm.{DartTerm}
 use Rattle.gm_model.specs.declared.schema.Embed.{Embed}
-use Rattle.gm_model.specs.declared.value.Kind.{Kind}
 use Rattle.gm_model.specs.declared.value.Value.{Value}
 use Rattle.gm_model.specs.declared.word.Mask.{Mask}
 use Rattle.gm_model.specs.Expressions.{Reading, HasValue, IsCollected, dart_at}
@@ -14,16 +13,17 @@ use Rattle.gm_model.specs.Kinds.{sum_kind}
 use Rattle.gm_model.specs.Labels.{has}
 use Rattle.gm_model.specs.Maps.{IsDart, IsGeneralised}
 use Rattle.gm_model.specs.Orbits.{IsInOrbit, IsListOf, HasCount}
-use Rattle.gm_model.specs.Trees.{Tree, Count, Sum, Least, Greatest}
+use Rattle.gm_model.specs.Trees.{Count, Sum, Least, Greatest}
 use Rattle.gm_model.specs.Values.{kind_of}
 use Rattle.gm_theory.proofs.Lists.{none_some, some_same}
-use Rattle.gm_theory.proofs.ValuesLists.{IsIn, in_contained}
+use Rattle.gm_theory.proofs.ValuesLists.{IsIn, contains_in, in_contained}
 use Rattle.gm_arena.specs.declared.slot.Slot.{Slot}
 use Rattle.gm_arena.specs.ArenaAsMap.{as_map, value}
-use Rattle.gm_arena.specs.ArenaMap.{ArenaMap, alpha, name_at}
-use Rattle.gm_arena.proofs.MapLemmas.{IsLiveName-name_at}
+use Rattle.gm_arena.specs.ArenaMap.{ArenaMap, IsAt, IsLiveSlot, alpha, name_at}
+use Rattle.gm_arena.proofs.MapLemmas.{IsAt-name_at, IsLiveName-name_at}
 use Rattle.gm_plan.specs.InArena.{slot_number}
 use Rattle.gm_plan.specs.Placed.{Placed, slot_at}
+use Rattle.gm_walk.proofs.MarkLemmas.{same_slot}
 use Rattle.gm_walk.proofs.OrbitLemmas.{orbit_back, orbit_join}
 use Rattle.gm_eval.specs.declared.kept.Collector.{Collector}
 use Rattle.gm_eval.specs.declared.kept.Entry.{Entry}
@@ -32,8 +32,9 @@ use Rattle.gm_eval.specs.declared.kept.Form.TheVariants as forms
 use Rattle.gm_eval.specs.declared.reader.Reader.{Reader}
 use Rattle.gm_eval.specs.Keeping.{AreKept, IsEverywhere, collector_at, own_term, tree_of_collector}
 use Rattle.gm_eval.specs.Places.{reading_in}
+use Rattle.gm_eval.specs.Sharing.{IsShared}
 use Rattle.gm_eval.specs.Readers.{IsHere, IsOrbit, IsReady, IsValueThere, reading_of}
-use Rattle.gm_eval.proofs.Collected.{collected}
+use Rattle.gm_eval.proofs.Collected.{all_in, collected, slot_in as walked_at}
 use Rattle.gm_eval.proofs.Operated.{found_as}
 use Rattle.gm_eval.proofs.Ready.{count_ready, kinds_at, term_here, value_of_kind}
 use Rattle.gm_eval.proofs.Terms.{slot_of_number}
@@ -155,6 +156,18 @@ module _ (reader : Reader) (form : Form) (mask : Mask) (x e : ℕ) (ready : IsRe
       (moved m placed params q p e mask (own_term x) form (same_darts p within) (λ f is same. sums_alike p within f is same))
       (moved m placed params p q e mask (own_term x) form (λ d. ((same_darts p within d).1, (same_darts p within d).0)) (λ f is same. sym (sums_alike p within f is same)))
       h
+
+-- where an orbit holds the node at each position, its walk has the node's slot of each
+pub shared_walked : (reader : Reader) → IsHere reader → (c : Collector) (slots : List Slot) → IsOrbit reader c.mask (own_term c.node) slots → IsShared reader.arena.now reader.found.now reader.position c
+    → (p : ℕ) → p < reader.found.now.positions → (s : Slot) → slot_at reader.found.now c.node p ≡ Some s → Contains slots s
+shared_walked reader here c slots orbit shared p within s at =
+    let m = reader.arena.now in
+    let number = slot_number reader.found.now c.node p in
+    let there = shared p within in
+    let walked = walked_at reader c.mask (own_term c.node) slots orbit (name_at m number) there.1 in
+    let live : IsLiveSlot m walked.0.at = all_in (λ (t : Slot). IsLiveSlot m t.at) slots walked.0 (recursion_from_All (λ (t : Slot). IsLiveSlot m t.at) slots orbit.live) walked.1 in
+    let same : number ≡ walked.0.at = here.lawful.one_slot walked.0.at number (name_at m number) (subst (IsAt m walked.0.at) walked.2 (IsAt-name_at m walked.0.at live)) (IsAt-name_at m number there.0) in
+    subst (Contains slots) (same_slot walked.0 s (sym same ∙ slot_of_number reader.found.now c.node p s at)) (contains_in slots walked.0 walked.1)
 
 -- ---- what is kept
 

@@ -10,3 +10,4 @@ pub mod Collected
 pub mod Parts
 pub mod Matched
 pub mod Keeping
+pub mod Sharing

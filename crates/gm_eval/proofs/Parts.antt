@@ -1,6 +1,7 @@
 -- The value of a form from the values of its parts, and the units that its reading takes.
-use Rattle.std.proofs.Common.{◌≡◌, ℕ, ◌+◌, ◌*◌, ◌<◌, ◌≤◌, ◌⊎◌, ℤ, Bool, true, false, List, [], ◌∷◌, length, IsSome, MatchOption, Option, Some, None, refl, sym, ◌∙◌, ap, ap₂, subst, inl, inr, arith}
+use Rattle.std.proofs.Common.{◌≡◌, ℕ, ◌<◌, ℤ, Bool, true, false, List, [], ◌∷◌, length, IsSome, MatchOption, Option, Some, None, refl, sym, ◌∙◌, ap, ap₂, subst, inl, inr, arith}
 use Rattle.std.specs.List.{AllZip}
+use Rattle.std.proofs.lemmas.Bool.{false≢true}
 use Rattle.std.proofs.lemmas.List.{length-map}
 use Rattle.gm_model.specs.declared.expr.BinOp.{BinOp}
 use Rattle.gm_model.specs.declared.expr.Expr.{Expr}
@@ -10,17 +11,16 @@ use Rattle.gm_model.specs.declared.value.Kind.{Kind}
 use Rattle.gm_model.specs.declared.value.Kind.TheVariants as kinds
 use Rattle.gm_model.specs.declared.value.Value.{Value}
 use Rattle.gm_model.specs.declared.value.Value.TheVariants as values
-use Rattle.gm_model.specs.Expressions.{Reading, HasValue, HasNoValue, HasUnits, IsMade, IsUnary, IsBinary}
+use Rattle.gm_model.specs.Expressions.{Reading, HasValue, HasNoValue, IsMade, IsUnary, IsBinary}
 use Rattle.gm_model.specs.Kinds.{IsTreeInRange, unary_kind, binary_kind, choice_kind, of_ints, param_kinds, tree_kind, triple_kind, with_two, with_three}
 use Rattle.gm_model.specs.Trees.{Tree, Param, Unary, Binary, If, MakeVec2, MakeVec3, MakeRgb, tree_of}
 use Rattle.gm_model.specs.Values.{IsValueOf, kind_of}
 use Rattle.gm_theory.proofs.ReadingsDecided.{not_both_truths}
 use Rattle.gm_theory.proofs.ReadingsTyped.{then_some, of_two, of_three, typed}
 use Rattle.gm_theory.proofs.ValuesUnique.{one_value, int_same}
+use Rattle.gm_eval.specs.declared.kept.Entry.{Entry}
 use Rattle.gm_eval.specs.declared.reader.Reader.{Reader}
-use Rattle.gm_eval.specs.Places.{IsWithinUnits}
-use Rattle.gm_eval.specs.Readers.{AreNumbersThere, IsReady, IsInt, IsValueThere, reading_of}
-use Rattle.gm_eval.proofs.Costs.{both_within, one_within}
+use Rattle.gm_eval.specs.Readers.{AreLeft, AreNumbersThere, IsReady, IsInt, IsValueThere, IsWithin, Read, UnitsBeside, reading_of}
 use Rattle.gm_eval.proofs.Operated.{Found, found_as}
 use Rattle.gm_eval.proofs.Ready.{is_reading}
 
@@ -164,55 +164,6 @@ module _ (reader : Reader) where
           let g' : u ≡ z' = one_int c u z l' l ∙ sym g in
           subst (λ parts. IsMade kind parts v) (λ i. e' i ∷ f' i ∷ g' i ∷ []) made
 
-  -- ---- units
-
-  -- the units of a choice, once the condition is known to hold, or not to
-  pub chosen_within : (c a b : Tree) (truth : Bool) (old mid new : ℕ) → truth ≡ true → HasValue R c (values.Bool truth) → IsWithinUnits R c old mid → IsWithinUnits R a mid new → IsWithinUnits R (If c a b) old new
-  chosen_within c a b truth old mid new e h first second u (s, t, us, side, sum) = subst (λ n. new ≤ old + 6 * (R.map.schema.dim + 1) * n) (sym sum) (go side)
-    where
-      yes_there : HasValue R c (values.Bool true)
-      yes_there = subst (λ t. HasValue R c (values.Bool t)) e h
-
-      go : (HasValue R c (values.Bool true) × HasUnits R a t) ⊎ (HasValue R c (values.Bool false) × HasUnits R b t) ⊎ (HasNoValue R c × (t ≡ 0)) → new ≤ old + 6 * (R.map.schema.dim + 1) * (s + t)
-      go (inl (k, ut)) = both_within R.map.schema.dim s t old mid new (first s us) (second t ut)
-      go (inr (inl (k, ut))) = absurd (not_both_truths R c yes_there k)
-      go (inr (inr (none, z))) = absurd (none (values.Bool true) yes_there)
-
-  pub other_within : (c a b : Tree) (truth : Bool) (old mid new : ℕ) → truth ≡ false → HasValue R c (values.Bool truth) → IsWithinUnits R c old mid → IsWithinUnits R b mid new → IsWithinUnits R (If c a b) old new
-  other_within c a b truth old mid new e h first second u (s, t, us, side, sum) = subst (λ n. new ≤ old + 6 * (R.map.schema.dim + 1) * n) (sym sum) (go side)
-    where
-      no_there : HasValue R c (values.Bool false)
-      no_there = subst (λ t. HasValue R c (values.Bool t)) e h
-
-      go : (HasValue R c (values.Bool true) × HasUnits R a t) ⊎ (HasValue R c (values.Bool false) × HasUnits R b t) ⊎ (HasNoValue R c × (t ≡ 0)) → new ≤ old + 6 * (R.map.schema.dim + 1) * (s + t)
-      go (inl (k, ut)) = absurd (not_both_truths R c k no_there)
-      go (inr (inl (k, ut))) = both_within R.map.schema.dim s t old mid new (first s us) (second t ut)
-      go (inr (inr (none, z))) = absurd (none (values.Bool false) no_there)
-
-  pub first_of_choice : (c a b : Tree) (old new : ℕ) → IsWithinUnits R c old new → IsWithinUnits R (If c a b) old new
-  first_of_choice c a b old new first u (s, t, us, side, sum) = subst (λ n. new ≤ old + 6 * (R.map.schema.dim + 1) * n) (sym sum) (one_within R.map.schema.dim s t old new (first s us))
-
-  abbrev IsWithinBoth : Tree → Tree → ℕ → ℕ → Type 0
-  IsWithinBoth a b old new = (u : ℕ) → (s : ℕ) × (t : ℕ) × HasUnits R a s × HasUnits R b t × (u ≡ s + t) → new ≤ old + 6 * (R.map.schema.dim + 1) * u
-
-  pub two_within : (a b : Tree) (old mid new : ℕ) → IsWithinUnits R a old mid → IsWithinUnits R b mid new → IsWithinBoth a b old new
-  two_within a b old mid new first second u (s, t, us, ut, sum) = subst (λ n. new ≤ old + 6 * (R.map.schema.dim + 1) * n) (sym sum) (both_within R.map.schema.dim s t old mid new (first s us) (second t ut))
-
-  pub first_within : (a b : Tree) (old new : ℕ) → IsWithinUnits R a old new → IsWithinBoth a b old new
-  first_within a b old new first u (s, t, us, ut, sum) = subst (λ n. new ≤ old + 6 * (R.map.schema.dim + 1) * n) (sym sum) (one_within R.map.schema.dim s t old new (first s us))
-
-  pub three_within : (a b c : Tree) (old mid late new : ℕ) → IsWithinUnits R a old mid → IsWithinUnits R b mid late → IsWithinUnits R c late new → IsWithinUnits R (MakeVec3 a b c) old new
-  three_within a b c old mid late new first second third u (s, t, w, us, ut, uw, sum) =
-      subst (λ n. new ≤ old + 6 * (R.map.schema.dim + 1) * n) (sym sum) (both_within R.map.schema.dim (s + t) w old late new (both_within R.map.schema.dim s t old mid late (first s us) (second t ut)) (third w uw))
-
-  pub start_within : (a b c : Tree) (old new : ℕ) → IsWithinUnits R a old new → IsWithinUnits R (MakeVec3 a b c) old new
-  start_within a b c old new first u (s, t, w, us, ut, uw, sum) =
-      subst (λ n. new ≤ old + 6 * (R.map.schema.dim + 1) * n) (sym sum) (one_within R.map.schema.dim (s + t) w old new (one_within R.map.schema.dim s t old new (first s us)))
-
-  pub front_within : (a b c : Tree) (old mid new : ℕ) → IsWithinUnits R a old mid → IsWithinUnits R b mid new → IsWithinUnits R (MakeVec3 a b c) old new
-  front_within a b c old mid new first second u (s, t, w, us, ut, uw, sum) =
-      subst (λ n. new ≤ old + 6 * (R.map.schema.dim + 1) * n) (sym sum) (one_within R.map.schema.dim (s + t) w old new (both_within R.map.schema.dim s t old mid new (first s us) (second t ut)))
-
   -- ---- the form that an expression has
 
   pub ready_as : (expr : Expr) (tree : Tree) → tree_of expr ≡ tree → IsReady reader (tree_of expr) → IsReady reader tree
@@ -224,12 +175,11 @@ module _ (reader : Reader) where
   pub there_as : (expr : Expr) (tree : Tree) (o : Option Value) → tree_of expr ≡ tree → IsValueThere reader tree o → IsValueThere reader (tree_of expr) o
   there_as expr tree o e h = subst (λ x. IsValueThere reader x o) (sym e) h
 
-  pub units_as : (expr : Expr) (tree : Tree) (old new : ℕ) → tree_of expr ≡ tree → IsWithinUnits R tree old new → IsWithinUnits R (tree_of expr) old new
-  units_as expr tree old new e h = subst (λ x. IsWithinUnits R x old new) (sym e) h
+  pub beside_as : (expr : Expr) (tree : Tree) (kept : Option (List Entry)) (old new : ℕ) → tree_of expr ≡ tree → IsWithin reader (UnitsBeside reader kept tree) old new → IsWithin reader (UnitsBeside reader kept (tree_of expr)) old new
+  beside_as expr tree kept old new e h = subst (λ x. IsWithin reader (UnitsBeside reader kept x) old new) (sym e) h
 
-  -- no steps are within any units
-  pub still_within : (tree : Tree) (old : ℕ) → IsWithinUnits R tree old old
-  still_within tree old u h = omega arith
+  pub left_as : (expr : Expr) (tree : Tree) (kept : Option (List Entry)) → tree_of expr ≡ tree → AreLeft reader (Read reader tree) kept → AreLeft reader (Read reader (tree_of expr)) kept
+  left_as expr tree kept e h = subst (λ x. AreLeft reader (Read reader x) kept) (sym e) h
 
   pub none_there : (tree : Tree) (o : Option Value) → o ≡ None → HasNoValue R tree → IsValueThere reader tree o
   none_there tree o e none = subst (IsValueThere reader tree) (sym e) none
@@ -262,3 +212,8 @@ module _ (reader : Reader) where
       → MatchOption n (o ≡ None) (λ xs. Found (IsMade kind (xs.0 ∷ xs.1 ∷ xs.2 ∷ [])) o) → Found (IsTriple kind a b c) o
   made_of_three kind a b c None o none e = subst (Found (IsTriple kind a b c)) (sym e) (λ v (x, y, z, h, k, l, made). none x y z h k l)
   made_of_three kind a b c (Some (x, y, z)) o (h, k, l) found = triple_there kind a b c x y z x y z o h k l refl refl refl found
+
+-- a triple or a colour that is made has its numbers
+pub some_numbers : (n : Option (ℤ × ℤ × ℤ)) (o : Option Value) (Made : (ℤ × ℤ × ℤ) → Type 0) → MatchOption n (o ≡ None) Made → IsSome o → IsSome n
+some_numbers None o Made none some = absurd (false≢true (subst (λ x. IsSome x) none some))
+some_numbers (Some xs) o Made made some = refl

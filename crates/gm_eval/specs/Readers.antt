@@ -1,5 +1,5 @@
 -- What holds where expressions are read. No public clause cites this module.
-use Rattle.std.specs.Prelude.{◌≡◌, ◌<◌, ◌≤◌, ℤ, List, All, slice_get, Option, Some, MatchOption}
+use Rattle.std.specs.Prelude.{◌≡◌, ℕ, ◌+◌, ◌*◌, ◌<◌, ◌≤◌, ◌⊎◌, ℤ, List, All, slice_get, Option, Some, MatchOption}
 use Rattle.gm_model.specs.declared.expr.DartTerm.{DartTerm}
 use Rattle.gm_model.specs.declared.value.Value.{Value}
 use Rattle.gm_model.specs.declared.value.Value.TheVariants.{Int}
@@ -10,8 +10,13 @@ use Rattle.gm_model.specs.Trees.{Tree}
 use Rattle.gm_arena.specs.declared.slot.Slot.{Slot}
 use Rattle.gm_arena.specs.Lawful.{IsLawful}
 use Rattle.gm_walk.specs.Walks.{AreLive, names_of}
+use Rattle.gm_eval.specs.declared.kept.Collector.{Collector}
+use Rattle.gm_eval.specs.declared.kept.Entry.{Entry}
+use Rattle.gm_eval.specs.declared.kept.Form.{Form}
+use Rattle.gm_eval.specs.declared.kept.Form.TheVariants as forms
 use Rattle.gm_eval.specs.declared.reader.Reader.{Reader}
 use Rattle.gm_eval.specs.Places.{AreLiveAt, IsTypedFor, reading_in}
+use Rattle.gm_eval.specs.Sharing.{HasOwnUnits, HasRoom, HasUnitsBeside, IsAtHand, IsOwn, IsShared, Reads}
 
 abbrev pub reading_of : Reader → Reading
 reading_of reader = reading_in reader.arena.now reader.found.now reader.position reader.params.now
@@ -53,3 +58,30 @@ abbrev pub AreNumbersThere : Reader → Tree → Tree → Tree → Option (ℤ �
 AreNumbersThere reader a b c result =
     MatchOption result ((x y z : ℤ) → IsInt reader a x → IsInt reader b y → IsInt reader c z → ⊥)
     (λ xs. IsInt reader a xs.0 × IsInt reader b xs.1 × IsInt reader c xs.2)
+
+-- ---- what is taken and left
+
+-- from old to new there are at most 6(n + 1) steps for each unit, whichever number of units it is
+abbrev pub IsWithin : Reader → (ℕ → Type 0) → ℕ → ℕ → Type 0
+IsWithin reader HasSo old new = (u : ℕ) → HasSo u → new ≤ old + 6 * (reader.arena.now.schema.dim + 1) * u
+
+-- the units of the expression beside what was kept, of a collector, and of a mean
+abbrev pub UnitsBeside : Reader → Option (List Entry) → Tree → ℕ → Type 0
+UnitsBeside reader kept tree u = HasUnitsBeside (IsAtHand kept) (reading_of reader) tree u
+
+abbrev pub OwnUnits : Reader → Option (List Entry) → Form → Mask → DartTerm → ℕ → ℕ → Type 0
+OwnUnits reader kept form mask term e u = HasOwnUnits (IsAtHand kept) (reading_of reader) form mask term e u
+
+abbrev pub MeanUnits : Reader → Option (List Entry) → Mask → DartTerm → ℕ → ℕ → Type 0
+MeanUnits reader kept mask term e u = (s : ℕ) × (t : ℕ) × OwnUnits reader kept forms.Sum mask term e s × OwnUnits reader kept forms.Count mask term 0 t × (u ≡ s + t)
+
+-- such collectors are kept, where their orbits hold the node at every position and there is room
+abbrev pub AreLeft : Reader → (Collector → Type 0) → Option (List Entry) → Type 0
+AreLeft reader IsSuch kept = HasRoom kept → (c : Collector) → IsSuch c → IsShared reader.arena.now reader.found.now reader.position c → IsAtHand kept c
+
+-- the collectors of an expression, and of a mean
+abbrev pub Read : Reader → Tree → Collector → Type 0
+Read reader tree c = Reads (reading_of reader) tree c
+
+abbrev pub IsOfMean : Mask → DartTerm → ℕ → Collector → Type 0
+IsOfMean mask term e c = IsOwn forms.Sum mask term e c ⊎ IsOwn forms.Count mask term 0 c

@@ -1,6 +1,6 @@
 //! What is collected over an orbit: how many darts it has, and sums and extremes of values.
 
-ghost use Rattle.std.specs.Prelude.{◌≡◌, ◌+◌, ◌*◌, ◌<◌, ◌≤◌, ℕ, [], IsSome, IsTrue, MatchOption, Some, length};
+ghost use Rattle.std.specs.Prelude.{◌≡◌, ◌↔◌, ◌+◌, ◌*◌, ◌<◌, ◌≤◌, ℕ, [], IsSome, IsTrue, MatchOption, Some, false, length};
 ghost use Rattle.std.specs.List.{Contains};
 ghost use Rattle.gm_model.specs.Expressions.{HasValue};
 ghost use Rattle.gm_model.specs.Trees.{Count, Sum, Least, Greatest};
@@ -11,7 +11,8 @@ ghost use Rattle.gm_walk.specs.Room.{Fits};
 ghost use Rattle.gm_eval.specs.Keeping.{AreKept, collector_at, own_term, tree_of_collector};
 ghost use Rattle.gm_eval.specs.Made.{IsNone};
 ghost use Rattle.gm_eval.specs.Places.{IsWithinUnits};
-ghost use Rattle.gm_eval.specs.Readers.{IsOrbit, IsReady, IsValueThere, reading_of};
+ghost use Rattle.gm_eval.specs.Readers.{AreLeft, IsOfMean, IsOrbit, IsReady, IsValueThere, IsWithin, MeanUnits, OwnUnits, reading_of};
+ghost use Rattle.gm_eval.specs.Sharing.{IsOwn, StillKept};
 ghost use Rattle.gm_model.specs.declared.value.Value.TheVariants.{Int};
 
 use crate::kept::{Collector, Form, Kept};
@@ -40,20 +41,22 @@ impl Reader<'_> {
         requires fits { Fits scratch.old self.now.arena.now }
         requires kept { AreKept self.now.arena.now self.now.found.now self.now.params.now kept.old }
         ensures value { IsValueThere self.now (collector_at form mask term.now embed) result }
-        ensures cost { IsWithinUnits (reading_of self.now) (collector_at form mask term.now embed) steps.old steps.new }
+        ensures cost { IsWithin self.now (OwnUnits self.now kept.old form mask term.now embed) steps.old steps.new }
         ensures least { steps.old ≤ steps.new }
         ensures room { scratch.new.bound ≡ scratch.old.bound }
         ensures kept { AreKept self.now.arena.now self.now.found.now self.now.params.now kept.new }
+        ensures stays { StillKept kept.old kept.new }
+        ensures left { AreLeft self.now (IsOwn form mask term.now embed) kept.new }
     {
         if is_keepable(term, kept) {
-            self.kept_or_reckoned(form, mask, term, embed, kept, scratch, steps)
+            self.kept_or_computed(form, mask, term, embed, kept, scratch, steps)
         } else {
-            self.reckoned(form, mask, term, embed, scratch, steps)
+            self.computed(form, mask, term, embed, scratch, steps)
         }
     }
 
     /// What is collected over the orbit of a node's own dart. It isn't walked where the value is kept.
-    fn kept_or_reckoned<L: Ledger>(
+    fn kept_or_computed<L: Ledger>(
         &self,
         form: Form,
         mask: Mask,
@@ -69,10 +72,12 @@ impl Reader<'_> {
         requires open { IsSome kept.old }
         requires own { term.now.path ≡ [] }
         ensures value { IsValueThere self.now (collector_at form mask term.now embed) result }
-        ensures cost { IsWithinUnits (reading_of self.now) (collector_at form mask term.now embed) steps.old steps.new }
+        ensures cost { IsWithin self.now (OwnUnits self.now kept.old form mask term.now embed) steps.old steps.new }
         ensures least { steps.old ≤ steps.new }
         ensures room { scratch.new.bound ≡ scratch.old.bound }
         ensures kept { AreKept self.now.arena.now self.now.found.now self.now.params.now kept.new }
+        ensures stays { StillKept kept.old kept.new }
+        ensures left { AreLeft self.now (IsOwn form mask term.now embed) kept.new }
     {
         let collector = Collector {
             form,
@@ -83,7 +88,7 @@ impl Reader<'_> {
         if let Some(value) = kept.find(collector) {
             return value;
         }
-        let value = self.reckoned(form, mask, term, embed, scratch, steps);
+        let value = self.computed(form, mask, term, embed, scratch, steps);
         self.keep(collector, value, kept, scratch);
         value
     }
@@ -104,10 +109,12 @@ impl Reader<'_> {
         requires kept { AreKept self.now.arena.now self.now.found.now self.now.params.now kept.old }
         ensures sum { IsValueThere self.now (Sum mask term.now embed) result.0 }
         ensures count { IsValueThere self.now (Count mask term.now) result.1 }
-        ensures cost { IsWithinUnits (reading_of self.now) (Sum mask term.now embed) steps.old steps.new }
+        ensures cost { IsWithin self.now (MeanUnits self.now kept.old mask term.now embed) steps.old steps.new }
         ensures least { steps.old ≤ steps.new }
         ensures room { scratch.new.bound ≡ scratch.old.bound }
         ensures kept { AreKept self.now.arena.now self.now.found.now self.now.params.now kept.new }
+        ensures stays { StillKept kept.old kept.new }
+        ensures left { AreLeft self.now (IsOfMean mask term.now embed) kept.new }
     {
         if is_keepable(term, kept) {
             self.kept_mean_parts(mask, term, embed, kept, scratch, steps)
@@ -133,10 +140,12 @@ impl Reader<'_> {
         requires own { term.now.path ≡ [] }
         ensures sum { IsValueThere self.now (Sum mask term.now embed) result.0 }
         ensures count { IsValueThere self.now (Count mask term.now) result.1 }
-        ensures cost { IsWithinUnits (reading_of self.now) (Sum mask term.now embed) steps.old steps.new }
+        ensures cost { IsWithin self.now (MeanUnits self.now kept.old mask term.now embed) steps.old steps.new }
         ensures least { steps.old ≤ steps.new }
         ensures room { scratch.new.bound ≡ scratch.old.bound }
         ensures kept { AreKept self.now.arena.now self.now.found.now self.now.params.now kept.new }
+        ensures stays { StillKept kept.old kept.new }
+        ensures left { AreLeft self.now (IsOfMean mask term.now embed) kept.new }
     {
         let sum_of = Collector {
             form: Form::Sum,
@@ -169,6 +178,8 @@ impl Reader<'_> {
         requires kept { AreKept self.now.arena.now self.now.found.now self.now.params.now kept.old }
         ensures kept { AreKept self.now.arena.now self.now.found.now self.now.params.now kept.new }
         ensures open { IsSome kept.new }
+        ensures stays { StillKept kept.old kept.new }
+        ensures left { AreLeft self.now (λ c. c ≡ collector) kept.new }
     {
         if self.is_walked(collector.node, scratch) {
             kept.keep(collector, value);
@@ -178,7 +189,8 @@ impl Reader<'_> {
     /// Whether the node's dart of each position was walked.
     fn is_walked(&self, node: u8, scratch: &Scratch) -> bool
         requires node { node < self.now.found.now.nodes }
-        ensures { IsTrue result → (p : ℕ) → p < self.now.found.now.positions → (slot : Slot) × (slot_at self.now.found.now node p ≡ Some slot) × Contains scratch.now.walked slot }
+        ensures all { IsTrue result → (p : ℕ) → p < self.now.found.now.positions → (slot : Slot) × (slot_at self.now.found.now node p ≡ Some slot) × Contains scratch.now.walked slot }
+        ensures missing { result ≡ false → (p : ℕ) × (p < self.now.found.now.positions) × (slot : Slot) × (slot_at self.now.found.now node p ≡ Some slot) × (Contains scratch.now.walked slot → ⊥) }
     {
         for position in 0..self.found.positions() {
             let slot = self.found.slot(node, position);
@@ -190,7 +202,7 @@ impl Reader<'_> {
     }
 
     /// What is collected over the orbit of the term's dart, which is walked.
-    fn reckoned<L: Ledger>(
+    fn computed<L: Ledger>(
         &self,
         form: Form,
         mask: Mask,
@@ -367,7 +379,7 @@ impl Reader<'_> {
 /// Whether a collector over the orbit of the term's dart may be kept: of a node's own dart, where
 /// values are kept.
 fn is_keepable(term: &DartTerm, kept: &Kept) -> bool
-    ensures { IsTrue result → IsSome kept.now × (term.now.path ≡ []) }
+    ensures { IsTrue result ↔ (IsSome kept.now × (term.now.path ≡ [])) }
 {
     kept.is_open() && term.path.as_slice().is_empty()
 }

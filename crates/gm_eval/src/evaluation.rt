@@ -1,12 +1,14 @@
 //! The value of an expression where it is read, for callers.
 
-ghost use Rattle.std.specs.Prelude.{◌≡◌, ◌+◌, ◌*◌, ◌<◌, ◌≤◌, ℕ, MatchOption};
+ghost use Rattle.std.specs.Prelude.{◌≡◌, ◌+◌, ◌*◌, ◌<◌, ◌≤◌, ℕ, IsSome, MatchOption};
 ghost use Rattle.gm_arena.specs.ArenaAsMap.{as_map};
 ghost use Rattle.gm_model.specs.Expressions.{HasValue, HasNoValue, HasUnits};
 ghost use Rattle.gm_model.specs.Trees.{tree_of};
 ghost use Rattle.gm_walk.specs.Room.{Fits};
 ghost use Rattle.gm_eval.specs.Keeping.{AreKept};
+ghost use Rattle.gm_eval.specs.declared.kept.Collector.{Collector as CollectorOf};
 ghost use Rattle.gm_eval.specs.Places.{AreLiveAt, IsTypedFor, reading_in};
+ghost use Rattle.gm_eval.specs.Sharing.{HasRoom, HasUnitsBeside, IsAtHand, IsShared, Reads, StillKept};
 
 use crate::kept::Kept;
 use crate::reader::Reader;
@@ -65,9 +67,14 @@ pub fn eval_keeping<L: Ledger>(
         MatchOption result (HasNoValue reading (tree_of expr.now)) (HasValue reading (tree_of expr.now)) }
     ensures cost { (u : ℕ) → HasUnits (reading_in arena.now found.now position params.now) (tree_of expr.now) u
         → steps.new ≤ steps.old + 6 * (arena.now.schema.dim + 1) * u }
+    ensures cheap { (u : ℕ) → HasUnitsBeside (IsAtHand kept.old) (reading_in arena.now found.now position params.now) (tree_of expr.now) u
+        → steps.new ≤ steps.old + 6 * (arena.now.schema.dim + 1) * u }
     ensures least { steps.old ≤ steps.new }
     ensures room { scratch.new.bound ≡ scratch.old.bound }
     ensures kept { AreKept arena.now found.now params.now kept.new }
+    ensures stays { StillKept kept.old kept.new }
+    ensures remembers { IsSome result → HasRoom kept.new → (c : CollectorOf) → Reads (reading_in arena.now found.now position params.now) (tree_of expr.now) c
+        → IsShared arena.now found.now position c → IsAtHand kept.new c }
 {
     // The arena tells here what its type keeps.
     prove!(arena.count() <= MOST_DARTS);

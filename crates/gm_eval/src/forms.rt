@@ -1,15 +1,15 @@
 //! The value of an expression, form by form, down its tree.
 
-ghost use Rattle.std.specs.Prelude.{◌≡◌, ◌≤◌, ℤ, Bool, [], ◌∷◌, IfSome, IsTrue, MatchOption, None, Some};
+ghost use Rattle.std.specs.Prelude.{◌≡◌, ◌≤◌, ℤ, Bool, [], ◌∷◌, IfSome, IsSome, IsTrue, MatchOption, None, Some};
 ghost use Rattle.gm_model.specs.Expressions.{IsMade};
 ghost use Rattle.gm_model.specs.Trees.{Count, Sum, Unary, Binary, If, MakeVec2, MakeVec3, tree_of};
 ghost use Rattle.gm_model.specs.declared.value.Kind.TheVariants.{Vec3, Rgb};
 ghost use Rattle.gm_model.specs.declared.value.Value.TheVariants.{Int, Bool as Truth};
 ghost use Rattle.gm_walk.specs.Room.{Fits};
-ghost use Rattle.gm_eval.specs.Places.{IsWithinUnits};
 ghost use Rattle.gm_eval.specs.Keeping.{AreKept};
 ghost use Rattle.gm_eval.specs.Made.{IsNone};
-ghost use Rattle.gm_eval.specs.Readers.{AreNumbersThere, IsReady, IsValueThere, reading_of};
+ghost use Rattle.gm_eval.specs.Readers.{AreLeft, AreNumbersThere, IsReady, IsValueThere, IsWithin, Read, UnitsBeside};
+ghost use Rattle.gm_eval.specs.Sharing.{StillKept};
 
 use crate::kept::{Form, Kept};
 use crate::numbers::{rgb, vec2, vec3};
@@ -34,10 +34,12 @@ impl Reader<'_> {
         requires fits { Fits scratch.old self.now.arena.now }
         requires kept { AreKept self.now.arena.now self.now.found.now self.now.params.now kept.old }
         ensures value { IsValueThere self.now (tree_of expr.now) result }
-        ensures cost { IsWithinUnits (reading_of self.now) (tree_of expr.now) steps.old steps.new }
+        ensures cost { IsWithin self.now (UnitsBeside self.now kept.old (tree_of expr.now)) steps.old steps.new }
         ensures least { steps.old ≤ steps.new }
         ensures room { scratch.new.bound ≡ scratch.old.bound }
         ensures kept { AreKept self.now.arena.now self.now.found.now self.now.params.now kept.new }
+        ensures stays { StillKept kept.old kept.new }
+        ensures left { IsSome result → AreLeft self.now (Read self.now (tree_of expr.now)) kept.new }
     {
         match expr {
             Expr::Int(number) => Some(Value::Int(*number)),
@@ -84,10 +86,12 @@ impl Reader<'_> {
         requires fits { Fits scratch.old self.now.arena.now }
         requires kept { AreKept self.now.arena.now self.now.found.now self.now.params.now kept.old }
         ensures value { IsValueThere self.now (Unary op (tree_of part.now)) result }
-        ensures cost { IsWithinUnits (reading_of self.now) (Unary op (tree_of part.now)) steps.old steps.new }
+        ensures cost { IsWithin self.now (UnitsBeside self.now kept.old (Unary op (tree_of part.now))) steps.old steps.new }
         ensures least { steps.old ≤ steps.new }
         ensures room { scratch.new.bound ≡ scratch.old.bound }
         ensures kept { AreKept self.now.arena.now self.now.found.now self.now.params.now kept.new }
+        ensures stays { StillKept kept.old kept.new }
+        ensures left { IsSome result → AreLeft self.now (Read self.now (Unary op (tree_of part.now))) kept.new }
     {
         let part = self.value(part, kept, scratch, steps)?;
         unary(op, part)
@@ -108,10 +112,12 @@ impl Reader<'_> {
         requires fits { Fits scratch.old self.now.arena.now }
         requires kept { AreKept self.now.arena.now self.now.found.now self.now.params.now kept.old }
         ensures value { IsValueThere self.now (Binary op (tree_of left.now) (tree_of right.now)) result }
-        ensures cost { IsWithinUnits (reading_of self.now) (Binary op (tree_of left.now) (tree_of right.now)) steps.old steps.new }
+        ensures cost { IsWithin self.now (UnitsBeside self.now kept.old (Binary op (tree_of left.now) (tree_of right.now))) steps.old steps.new }
         ensures least { steps.old ≤ steps.new }
         ensures room { scratch.new.bound ≡ scratch.old.bound }
         ensures kept { AreKept self.now.arena.now self.now.found.now self.now.params.now kept.new }
+        ensures stays { StillKept kept.old kept.new }
+        ensures left { IsSome result → AreLeft self.now (Read self.now (Binary op (tree_of left.now) (tree_of right.now))) kept.new }
     {
         if let Some((mask, term, embed)) = parts_of_mean(left, right) {
             return self.of_mean(op, mask, term, embed, kept, scratch, steps);
@@ -137,10 +143,12 @@ impl Reader<'_> {
         requires fits { Fits scratch.old self.now.arena.now }
         requires kept { AreKept self.now.arena.now self.now.found.now self.now.params.now kept.old }
         ensures value { IsValueThere self.now (Binary op (Sum mask term.now embed) (Count mask term.now)) result }
-        ensures cost { IsWithinUnits (reading_of self.now) (Binary op (Sum mask term.now embed) (Count mask term.now)) steps.old steps.new }
+        ensures cost { IsWithin self.now (UnitsBeside self.now kept.old (Binary op (Sum mask term.now embed) (Count mask term.now))) steps.old steps.new }
         ensures least { steps.old ≤ steps.new }
         ensures room { scratch.new.bound ≡ scratch.old.bound }
         ensures kept { AreKept self.now.arena.now self.now.found.now self.now.params.now kept.new }
+        ensures stays { StillKept kept.old kept.new }
+        ensures left { IsSome result → AreLeft self.now (Read self.now (Binary op (Sum mask term.now embed) (Count mask term.now))) kept.new }
     {
         let (sum, count) = self.mean_parts(mask, term, embed, kept, scratch, steps);
         let Some(sum) = sum else { return None };
@@ -163,10 +171,12 @@ impl Reader<'_> {
         requires fits { Fits scratch.old self.now.arena.now }
         requires kept { AreKept self.now.arena.now self.now.found.now self.now.params.now kept.old }
         ensures value { IsValueThere self.now (If (tree_of condition.now) (tree_of chosen.now) (tree_of other.now)) result }
-        ensures cost { IsWithinUnits (reading_of self.now) (If (tree_of condition.now) (tree_of chosen.now) (tree_of other.now)) steps.old steps.new }
+        ensures cost { IsWithin self.now (UnitsBeside self.now kept.old (If (tree_of condition.now) (tree_of chosen.now) (tree_of other.now))) steps.old steps.new }
         ensures least { steps.old ≤ steps.new }
         ensures room { scratch.new.bound ≡ scratch.old.bound }
         ensures kept { AreKept self.now.arena.now self.now.found.now self.now.params.now kept.new }
+        ensures stays { StillKept kept.old kept.new }
+        ensures left { IsSome result → AreLeft self.now (Read self.now (If (tree_of condition.now) (tree_of chosen.now) (tree_of other.now))) kept.new }
     {
         if truth(self.value(condition, kept, scratch, steps))? {
             self.value(chosen, kept, scratch, steps)
@@ -189,10 +199,12 @@ impl Reader<'_> {
         requires fits { Fits scratch.old self.now.arena.now }
         requires kept { AreKept self.now.arena.now self.now.found.now self.now.params.now kept.old }
         ensures value { IsValueThere self.now (MakeVec2 (tree_of x.now) (tree_of y.now)) result }
-        ensures cost { IsWithinUnits (reading_of self.now) (MakeVec2 (tree_of x.now) (tree_of y.now)) steps.old steps.new }
+        ensures cost { IsWithin self.now (UnitsBeside self.now kept.old (MakeVec2 (tree_of x.now) (tree_of y.now))) steps.old steps.new }
         ensures least { steps.old ≤ steps.new }
         ensures room { scratch.new.bound ≡ scratch.old.bound }
         ensures kept { AreKept self.now.arena.now self.now.found.now self.now.params.now kept.new }
+        ensures stays { StillKept kept.old kept.new }
+        ensures left { IsSome result → AreLeft self.now (Read self.now (MakeVec2 (tree_of x.now) (tree_of y.now))) kept.new }
     {
         let x = number(self.value(x, kept, scratch, steps))?;
         let y = number(self.value(y, kept, scratch, steps))?;
@@ -216,10 +228,12 @@ impl Reader<'_> {
         requires fits { Fits scratch.old self.now.arena.now }
         requires kept { AreKept self.now.arena.now self.now.found.now self.now.params.now kept.old }
         ensures value { AreNumbersThere self.now (tree_of x.now) (tree_of y.now) (tree_of z.now) result }
-        ensures cost { IsWithinUnits (reading_of self.now) (MakeVec3 (tree_of x.now) (tree_of y.now) (tree_of z.now)) steps.old steps.new }
+        ensures cost { IsWithin self.now (UnitsBeside self.now kept.old (MakeVec3 (tree_of x.now) (tree_of y.now) (tree_of z.now))) steps.old steps.new }
         ensures least { steps.old ≤ steps.new }
         ensures room { scratch.new.bound ≡ scratch.old.bound }
         ensures kept { AreKept self.now.arena.now self.now.found.now self.now.params.now kept.new }
+        ensures stays { StillKept kept.old kept.new }
+        ensures left { IsSome result → AreLeft self.now (Read self.now (MakeVec3 (tree_of x.now) (tree_of y.now) (tree_of z.now))) kept.new }
     {
         let x = number(self.value(x, kept, scratch, steps))?;
         let y = number(self.value(y, kept, scratch, steps))?;

@@ -1,6 +1,6 @@
 //! Values that were collected over the orbit of a node, kept for all positions at which the node lies
 //! in it.
-ghost use Rattle.std.specs.Prelude.{◌≡◌, [], ◌∷◌, ◌++◌, ◌⊎◌, IfSome, IsSome, IsTrue, ◌↔◌, List, MatchOption, None, Some};
+ghost use Rattle.std.specs.Prelude.{◌≡◌, [], ◌∷◌, ◌++◌, ◌⊎◌, IfSome, IsSome, IsTrue, ◌↔◌, List, MatchOption, None, Option, Some};
 ghost use Rattle.std.specs.List.{Contains};
 ghost use Rattle.gm_model.specs.declared.value.Value.{Value as ValueOf};
 ghost use Rattle.gm_model.specs.Maps.{IsGeneralised};
@@ -8,6 +8,7 @@ ghost use Rattle.gm_arena.specs.ArenaAsMap.{as_map};
 ghost use Rattle.gm_arena.specs.ArenaMap.{ArenaMap};
 ghost use Rattle.gm_plan.specs.Placed.{Placed};
 ghost use Rattle.gm_eval.specs.Keeping.{AreKept};
+ghost use Rattle.gm_eval.specs.Sharing.{HasRoom, IsAtHand, StillKept};
 ghost use Rattle.gm_eval.specs.declared.kept.Entry.{Entry as EntryOf};
 
 use arrayvec::ArrayVec;
@@ -138,7 +139,8 @@ impl Kept {
 
     /// The value of the collector, where it is kept.
     pub(crate) fn find(&self, collector: Collector) -> Option<Option<Value>>
-        ensures { IfSome result (λ value. (entries : List EntryOf) × (self.now ≡ Some entries) × Contains entries (record { collector = collector; value = value })) }
+        ensures known { IsAtHand self.now collector → IsSome result }
+        ensures found { IfSome result (λ value. (entries : List EntryOf) × (self.now ≡ Some entries) × Contains entries (record { collector = collector; value = value })) }
     {
         let Some(entries) = &self.entries else {
             return None;
@@ -152,7 +154,8 @@ impl Kept {
         first: Collector,
         second: Collector,
     ) -> Option<(Option<Value>, Option<Value>)>
-        ensures { IfSome result (λ values. (entries : List EntryOf) × (self.now ≡ Some entries) × Contains entries (record { collector = first; value = values.0 }) × Contains entries (record { collector = second; value = values.1 })) }
+        ensures known { IsAtHand self.now first → IsAtHand self.now second → IsSome result }
+        ensures found { IfSome result (λ values. (entries : List EntryOf) × (self.now ≡ Some entries) × Contains entries (record { collector = first; value = values.0 }) × Contains entries (record { collector = second; value = values.1 })) }
     {
         let Some(entries) = &self.entries else {
             return None;
@@ -165,6 +168,8 @@ impl Kept {
     pub(crate) fn keep(&mut self, collector: Collector, value: Option<Value>)
         ensures kept { (self.new ≡ self.old) ⊎ ((entries : List EntryOf) × (self.old ≡ Some entries) × (self.new ≡ Some (entries ++ record { collector = collector; value = value } ∷ []))) }
         ensures open { IsSome self.old → IsSome self.new }
+        ensures stays { StillKept self.old self.new }
+        ensures room { HasRoom self.new → IsAtHand self.new collector }
     {
         if let Some(entries) = &mut self.entries {
             let _ = entries.try_push(Entry { collector, value });
@@ -174,7 +179,8 @@ impl Kept {
 
 /// The value of the collector, where it is among the entries.
 fn find_in(entries: &[Entry], collector: Collector) -> Option<Option<Value>>
-    ensures { IfSome result (λ value. Contains entries.now (record { collector = collector; value = value })) }
+    ensures known { (value : Option ValueOf) → Contains entries.now (record { collector = collector; value = value }) → IsSome result }
+    ensures found { IfSome result (λ value. Contains entries.now (record { collector = collector; value = value })) }
 {
     for entry in entries {
         if entry.collector == collector {

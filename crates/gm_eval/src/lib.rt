@@ -1,7 +1,7 @@
 //! The values of expressions: what an expression of a rule is worth where it is read in a map, or
 //! that it has no value there.
 //!
-//! Numbers are whole and never wrap: each form is reckoned exactly, and then tested against the
+//! Numbers are whole and never wrap: each form is computed exactly, and then tested against the
 //! range of its kind. No call here takes memory.
 #![tactic(auto)]
 

@@ -8,8 +8,9 @@ use Rattle.gm_model.specs.declared.value.Kind.TheVariants as kinds
 use Rattle.gm_model.specs.declared.value.Value.TheVariants.{Int, Bool as Truth}
 use Rattle.gm_model.specs.Expressions.{HasValue}
 use Rattle.gm_model.specs.Trees.{Count, Unary, Binary, If, MakeVec2, MakeVec3, MakeRgb, tree_of}
-use Rattle.gm_eval.specs.Readers.{IsReady, reading_of}
-use Rattle.gm_eval.proofs.Parts.{binary_known, binary_ready, binary_there, choice_ready, chosen_there, chosen_within, colour_ready, first_of_choice, first_within, front_within, int_as, is_there, made_of_three, no_choice, no_numbers, none_there, not_there, other_there, other_within, pair_ready, pair_there, param_within, ready_as, start_within, still_within, there_as, three_trees, three_within, triple_ready, two_within, unary_known, unary_ready, unary_there, units_as, value_as}
+use Rattle.gm_eval.specs.Readers.{IsReady, Read, reading_of}
+use Rattle.gm_eval.proofs.Parts.{beside_as, binary_known, binary_ready, binary_there, choice_ready, chosen_there, colour_ready, int_as, is_there, left_as, made_of_three, no_choice, no_numbers, none_there, not_there, other_there, pair_ready, pair_there, param_within, ready_as, some_numbers, there_as, three_trees, triple_ready, unary_known, unary_ready, unary_there, value_as}
+use Rattle.gm_eval.proofs.Sharing.{chosen_beside, chosen_left, condition_beside, first_beside, front_beside, is_some, later_kept, not_some, other_beside, other_left, same_kept, start_beside, still_beside, three_beside, three_left, two_beside, two_left}
 use Rattle.gm_eval.proofs.reader.Reader.+value.Goals as goal
 
 -- ---- what the calls of the cycle require
@@ -60,6 +61,8 @@ unary-returns g t c =
       least = c.value.ensures.least;
       room = c.value.ensures.room;
       kept = c.value.ensures.kept;
+      stays = c.value.ensures.stays;
+      left = λ some. c.in_ok-part.ensures.left refl;
     }
 
 pub unary-returns-in_err-part : goal.unary-returns-in_err-part
@@ -70,26 +73,32 @@ unary-returns-in_err-part g t c =
       least = c.value.ensures.least;
       room = c.value.ensures.room;
       kept = c.value.ensures.kept;
+      stays = c.value.ensures.stays;
+      left = λ some. absurd (not_some _ c.from_residual.ensures some);
     }
 
 pub binary-returns-in_err-left : goal.binary-returns-in_err-left
 binary-returns-in_err-left g t c =
     record {
       value = none_there c.args.self.now (Binary c.args.op (tree_of c.args.left.now) (tree_of c.args.right.now)) c.from_residual.result c.from_residual.ensures (λ v (x, y, h, k, u). c.in_err-left.ensures.value x h);
-      cost = first_within c.args.self.now (tree_of c.args.left.now) (tree_of c.args.right.now) _ _ c.value.ensures.cost;
+      cost = first_beside c.args.self.now _ (tree_of c.args.left.now) (tree_of c.args.right.now) _ _ c.value.ensures.cost;
       least = c.value.ensures.least;
       room = c.value.ensures.room;
       kept = c.value.ensures.kept;
+      stays = c.value.ensures.stays;
+      left = λ some. absurd (not_some _ c.from_residual.ensures some);
     }
 
 pub binary-returns-in_err-right : goal.binary-returns-in_err-right
 binary-returns-in_err-right g t c =
     record {
       value = none_there c.args.self.now (Binary c.args.op (tree_of c.args.left.now) (tree_of c.args.right.now)) c.from_residual-in_err-right.result c.from_residual-in_err-right.ensures (λ v (x, y, h, k, u). c.in_err-right.ensures.value y k);
-      cost = two_within c.args.self.now (tree_of c.args.left.now) (tree_of c.args.right.now) _ _ _ c.value.ensures.cost c.value-2.ensures.cost;
+      cost = two_beside c.args.self.now _ _ (tree_of c.args.left.now) (tree_of c.args.right.now) _ _ _ c.value.ensures.stays c.value.ensures.cost c.value-2.ensures.cost;
       least = omega (arith, c.value.ensures.least, c.value-2.ensures.least);
       room = c.value-2.ensures.room ∙ c.value.ensures.room;
       kept = c.value-2.ensures.kept;
+      stays = later_kept _ _ _ c.value.ensures.stays c.value-2.ensures.stays;
+      left = λ some. absurd (not_some _ c.from_residual-in_err-right.ensures some);
     }
 
 pub binary-binary-requires : goal.binary-binary-requires
@@ -99,10 +108,12 @@ pub binary-returns : goal.binary-returns
 binary-returns g t c =
     record {
       value = binary_there c.args.self.now c.args.op (tree_of c.args.left.now) (tree_of c.args.right.now) c.in_ok-left.left c.in_ok-right.right c.binary.result c.in_ok-left.ensures.value c.in_ok-right.ensures.value c.binary.ensures;
-      cost = two_within c.args.self.now (tree_of c.args.left.now) (tree_of c.args.right.now) _ _ _ c.value.ensures.cost c.value-2.ensures.cost;
+      cost = two_beside c.args.self.now _ _ (tree_of c.args.left.now) (tree_of c.args.right.now) _ _ _ c.value.ensures.stays c.value.ensures.cost c.value-2.ensures.cost;
       least = omega (arith, c.value.ensures.least, c.value-2.ensures.least);
       room = c.value-2.ensures.room ∙ c.value.ensures.room;
       kept = c.value-2.ensures.kept;
+      stays = later_kept _ _ _ c.value.ensures.stays c.value-2.ensures.stays;
+      left = λ some. two_left c.args.self.now (Read c.args.self.now (tree_of c.args.left.now)) (Read c.args.self.now (tree_of c.args.right.now)) _ _ c.value-2.ensures.stays (c.in_ok-left.ensures.left refl) (c.in_ok-right.ensures.left refl);
     }
 
 pub binary-of_mean-requires : goal.binary-of_mean-requires
@@ -120,6 +131,8 @@ binary-returns-in-Some g t c =
       least = kept.least;
       room = kept.room;
       kept = kept.kept;
+      stays = kept.stays;
+      left = rw (mean.0, mean.1) kept.left;
     }
 
 -- ---- a choice
@@ -129,10 +142,12 @@ choice-returns-then-branch g t c =
     let truth = is_there c.args.self.now (tree_of c.args.condition.now) (Truth c.in_ok-truth.field-0) c.value.result c.value.ensures.value c.in_ok-truth.ensures in
     record {
       value = chosen_there c.args.self.now (tree_of c.args.condition.now) (tree_of c.args.chosen.now) (tree_of c.args.other.now) c.in_ok-truth.field-0 c.value-then-branch.result c.if-branch.true truth c.value-then-branch.ensures.value;
-      cost = chosen_within c.args.self.now (tree_of c.args.condition.now) (tree_of c.args.chosen.now) (tree_of c.args.other.now) c.in_ok-truth.field-0 _ _ _ c.if-branch.true truth c.value.ensures.cost c.value-then-branch.ensures.cost;
+      cost = chosen_beside c.args.self.now _ _ (tree_of c.args.condition.now) (tree_of c.args.chosen.now) (tree_of c.args.other.now) c.in_ok-truth.field-0 _ _ _ c.value.ensures.stays c.if-branch.true truth c.value.ensures.cost c.value-then-branch.ensures.cost;
       least = omega (arith, c.value.ensures.least, c.value-then-branch.ensures.least);
       room = c.value-then-branch.ensures.room ∙ c.value.ensures.room;
       kept = c.value-then-branch.ensures.kept;
+      stays = later_kept _ _ _ c.value.ensures.stays c.value-then-branch.ensures.stays;
+      left = λ some. chosen_left c.args.self.now (tree_of c.args.condition.now) (tree_of c.args.chosen.now) (tree_of c.args.other.now) c.in_ok-truth.field-0 _ _ c.value-then-branch.ensures.stays c.if-branch.true truth (c.value.ensures.left (is_some _ _ c.in_ok-truth.ensures)) (c.value-then-branch.ensures.left some);
     }
 
 pub choice-returns-else-branch : goal.choice-returns-else-branch
@@ -140,20 +155,24 @@ choice-returns-else-branch g t c =
     let truth = is_there c.args.self.now (tree_of c.args.condition.now) (Truth c.in_ok-truth.field-0) c.value.result c.value.ensures.value c.in_ok-truth.ensures in
     record {
       value = other_there c.args.self.now (tree_of c.args.condition.now) (tree_of c.args.chosen.now) (tree_of c.args.other.now) c.in_ok-truth.field-0 c.value-else-branch.result c.if-branch.false truth c.value-else-branch.ensures.value;
-      cost = other_within c.args.self.now (tree_of c.args.condition.now) (tree_of c.args.chosen.now) (tree_of c.args.other.now) c.in_ok-truth.field-0 _ _ _ c.if-branch.false truth c.value.ensures.cost c.value-else-branch.ensures.cost;
+      cost = other_beside c.args.self.now _ _ (tree_of c.args.condition.now) (tree_of c.args.chosen.now) (tree_of c.args.other.now) c.in_ok-truth.field-0 _ _ _ c.value.ensures.stays c.if-branch.false truth c.value.ensures.cost c.value-else-branch.ensures.cost;
       least = omega (arith, c.value.ensures.least, c.value-else-branch.ensures.least);
       room = c.value-else-branch.ensures.room ∙ c.value.ensures.room;
       kept = c.value-else-branch.ensures.kept;
+      stays = later_kept _ _ _ c.value.ensures.stays c.value-else-branch.ensures.stays;
+      left = λ some. other_left c.args.self.now (tree_of c.args.condition.now) (tree_of c.args.chosen.now) (tree_of c.args.other.now) c.in_ok-truth.field-0 _ _ c.value-else-branch.ensures.stays c.if-branch.false truth (c.value.ensures.left (is_some _ _ c.in_ok-truth.ensures)) (c.value-else-branch.ensures.left some);
     }
 
 pub choice-returns-in_err-truth : goal.choice-returns-in_err-truth
 choice-returns-in_err-truth g t c =
     record {
       value = no_choice c.args.self.now (tree_of c.args.condition.now) (tree_of c.args.chosen.now) (tree_of c.args.other.now) c.from_residual.result c.from_residual.ensures (λ b. not_there c.args.self.now (tree_of c.args.condition.now) (Truth b) c.value.result c.value.ensures.value (c.in_err-truth.ensures b));
-      cost = first_of_choice c.args.self.now (tree_of c.args.condition.now) (tree_of c.args.chosen.now) (tree_of c.args.other.now) _ _ c.value.ensures.cost;
+      cost = condition_beside c.args.self.now _ (tree_of c.args.condition.now) (tree_of c.args.chosen.now) (tree_of c.args.other.now) _ _ c.value.ensures.cost;
       least = c.value.ensures.least;
       room = c.value.ensures.room;
       kept = c.value.ensures.kept;
+      stays = c.value.ensures.stays;
+      left = λ some. absurd (not_some _ c.from_residual.ensures some);
     }
 
 -- ---- numbers
@@ -162,60 +181,72 @@ pub pair-returns-in_err-x : goal.pair-returns-in_err-x
 pair-returns-in_err-x g t c =
     record {
       value = none_there c.args.self.now (MakeVec2 (tree_of c.args.x.now) (tree_of c.args.y.now)) c.from_residual.result c.from_residual.ensures (λ v (x, y, h, k, made). not_there c.args.self.now (tree_of c.args.x.now) (Int x) c.value.result c.value.ensures.value (c.in_err-x.ensures x) h);
-      cost = first_within c.args.self.now (tree_of c.args.x.now) (tree_of c.args.y.now) _ _ c.value.ensures.cost;
+      cost = first_beside c.args.self.now _ (tree_of c.args.x.now) (tree_of c.args.y.now) _ _ c.value.ensures.cost;
       least = c.value.ensures.least;
       room = c.value.ensures.room;
       kept = c.value.ensures.kept;
+      stays = c.value.ensures.stays;
+      left = λ some. absurd (not_some _ c.from_residual.ensures some);
     }
 
 pub pair-returns-in_err-y : goal.pair-returns-in_err-y
 pair-returns-in_err-y g t c =
     record {
       value = none_there c.args.self.now (MakeVec2 (tree_of c.args.x.now) (tree_of c.args.y.now)) c.from_residual-in_err-y.result c.from_residual-in_err-y.ensures (λ v (x, y, h, k, made). not_there c.args.self.now (tree_of c.args.y.now) (Int y) c.value-2.result c.value-2.ensures.value (c.in_err-y.ensures y) k);
-      cost = two_within c.args.self.now (tree_of c.args.x.now) (tree_of c.args.y.now) _ _ _ c.value.ensures.cost c.value-2.ensures.cost;
+      cost = two_beside c.args.self.now _ _ (tree_of c.args.x.now) (tree_of c.args.y.now) _ _ _ c.value.ensures.stays c.value.ensures.cost c.value-2.ensures.cost;
       least = omega (arith, c.value.ensures.least, c.value-2.ensures.least);
       room = c.value-2.ensures.room ∙ c.value.ensures.room;
       kept = c.value-2.ensures.kept;
+      stays = later_kept _ _ _ c.value.ensures.stays c.value-2.ensures.stays;
+      left = λ some. absurd (not_some _ c.from_residual-in_err-y.ensures some);
     }
 
 pub pair-returns : goal.pair-returns
 pair-returns g t c =
     record {
       value = pair_there c.args.self.now (tree_of c.args.x.now) (tree_of c.args.y.now) c.in_ok-x.x c.in_ok-y.y _ _ c.vec2.result (is_there c.args.self.now (tree_of c.args.x.now) (Int c.in_ok-x.x) c.value.result c.value.ensures.value c.in_ok-x.ensures) (is_there c.args.self.now (tree_of c.args.y.now) (Int c.in_ok-y.y) c.value-2.result c.value-2.ensures.value c.in_ok-y.ensures) (omega (arith, ints)) (omega (arith, ints)) c.vec2.ensures;
-      cost = two_within c.args.self.now (tree_of c.args.x.now) (tree_of c.args.y.now) _ _ _ c.value.ensures.cost c.value-2.ensures.cost;
+      cost = two_beside c.args.self.now _ _ (tree_of c.args.x.now) (tree_of c.args.y.now) _ _ _ c.value.ensures.stays c.value.ensures.cost c.value-2.ensures.cost;
       least = omega (arith, c.value.ensures.least, c.value-2.ensures.least);
       room = c.value-2.ensures.room ∙ c.value.ensures.room;
       kept = c.value-2.ensures.kept;
+      stays = later_kept _ _ _ c.value.ensures.stays c.value-2.ensures.stays;
+      left = λ some. two_left c.args.self.now (Read c.args.self.now (tree_of c.args.x.now)) (Read c.args.self.now (tree_of c.args.y.now)) _ _ c.value-2.ensures.stays (c.value.ensures.left (is_some _ _ c.in_ok-x.ensures)) (c.value-2.ensures.left (is_some _ _ c.in_ok-y.ensures));
     }
 
 pub numbers-returns-in_err-x : goal.numbers-returns-in_err-x
 numbers-returns-in_err-x g t c =
     record {
       value = no_numbers c.args.self.now (tree_of c.args.x.now) (tree_of c.args.y.now) (tree_of c.args.z.now) c.from_residual.result c.from_residual.ensures (λ x y z h k l. not_there c.args.self.now (tree_of c.args.x.now) (Int x) c.value.result c.value.ensures.value (c.in_err-x.ensures x) h);
-      cost = start_within c.args.self.now (tree_of c.args.x.now) (tree_of c.args.y.now) (tree_of c.args.z.now) _ _ c.value.ensures.cost;
+      cost = start_beside c.args.self.now _ (tree_of c.args.x.now) (tree_of c.args.y.now) (tree_of c.args.z.now) _ _ c.value.ensures.cost;
       least = c.value.ensures.least;
       room = c.value.ensures.room;
       kept = c.value.ensures.kept;
+      stays = c.value.ensures.stays;
+      left = λ some. absurd (not_some _ c.from_residual.ensures some);
     }
 
 pub numbers-returns-in_err-y : goal.numbers-returns-in_err-y
 numbers-returns-in_err-y g t c =
     record {
       value = no_numbers c.args.self.now (tree_of c.args.x.now) (tree_of c.args.y.now) (tree_of c.args.z.now) c.from_residual-in_err-y.result c.from_residual-in_err-y.ensures (λ x y z h k l. not_there c.args.self.now (tree_of c.args.y.now) (Int y) c.value-2.result c.value-2.ensures.value (c.in_err-y.ensures y) k);
-      cost = front_within c.args.self.now (tree_of c.args.x.now) (tree_of c.args.y.now) (tree_of c.args.z.now) _ _ _ c.value.ensures.cost c.value-2.ensures.cost;
+      cost = front_beside c.args.self.now _ _ (tree_of c.args.x.now) (tree_of c.args.y.now) (tree_of c.args.z.now) _ _ _ c.value.ensures.stays c.value.ensures.cost c.value-2.ensures.cost;
       least = omega (arith, c.value.ensures.least, c.value-2.ensures.least);
       room = c.value-2.ensures.room ∙ c.value.ensures.room;
       kept = c.value-2.ensures.kept;
+      stays = later_kept _ _ _ c.value.ensures.stays c.value-2.ensures.stays;
+      left = λ some. absurd (not_some _ c.from_residual-in_err-y.ensures some);
     }
 
 pub numbers-returns-in_err-z : goal.numbers-returns-in_err-z
 numbers-returns-in_err-z g t c =
     record {
       value = no_numbers c.args.self.now (tree_of c.args.x.now) (tree_of c.args.y.now) (tree_of c.args.z.now) c.from_residual-in_err-z.result c.from_residual-in_err-z.ensures (λ x y z h k l. not_there c.args.self.now (tree_of c.args.z.now) (Int z) c.value-3.result c.value-3.ensures.value (c.in_err-z.ensures z) l);
-      cost = three_within c.args.self.now (tree_of c.args.x.now) (tree_of c.args.y.now) (tree_of c.args.z.now) _ _ _ _ c.value.ensures.cost c.value-2.ensures.cost c.value-3.ensures.cost;
+      cost = three_beside c.args.self.now _ _ _ (tree_of c.args.x.now) (tree_of c.args.y.now) (tree_of c.args.z.now) _ _ _ _ c.value.ensures.stays c.value-2.ensures.stays c.value.ensures.cost c.value-2.ensures.cost c.value-3.ensures.cost;
       least = omega (arith, c.value.ensures.least, c.value-2.ensures.least, c.value-3.ensures.least);
       room = c.value-3.ensures.room ∙ c.value-2.ensures.room ∙ c.value.ensures.room;
       kept = c.value-3.ensures.kept;
+      stays = later_kept _ _ _ c.value.ensures.stays (later_kept _ _ _ c.value-2.ensures.stays c.value-3.ensures.stays);
+      left = λ some. absurd (not_some _ c.from_residual-in_err-z.ensures some);
     }
 
 pub numbers-returns : goal.numbers-returns
@@ -225,10 +256,12 @@ numbers-returns g t c =
     let z = is_there c.args.self.now (tree_of c.args.z.now) (Int c.in_ok-z.z) c.value-3.result c.value-3.ensures.value c.in_ok-z.ensures in
     record {
       value = (int_as c.args.self.now (tree_of c.args.x.now) c.in_ok-x.x _ (omega (arith, ints)) x, int_as c.args.self.now (tree_of c.args.y.now) c.in_ok-y.y _ (omega (arith, ints)) y, int_as c.args.self.now (tree_of c.args.z.now) c.in_ok-z.z _ (omega (arith, ints)) z);
-      cost = three_within c.args.self.now (tree_of c.args.x.now) (tree_of c.args.y.now) (tree_of c.args.z.now) _ _ _ _ c.value.ensures.cost c.value-2.ensures.cost c.value-3.ensures.cost;
+      cost = three_beside c.args.self.now _ _ _ (tree_of c.args.x.now) (tree_of c.args.y.now) (tree_of c.args.z.now) _ _ _ _ c.value.ensures.stays c.value-2.ensures.stays c.value.ensures.cost c.value-2.ensures.cost c.value-3.ensures.cost;
       least = omega (arith, c.value.ensures.least, c.value-2.ensures.least, c.value-3.ensures.least);
       room = c.value-3.ensures.room ∙ c.value-2.ensures.room ∙ c.value.ensures.room;
       kept = c.value-3.ensures.kept;
+      stays = later_kept _ _ _ c.value.ensures.stays (later_kept _ _ _ c.value-2.ensures.stays c.value-3.ensures.stays);
+      left = λ some. three_left c.args.self.now (Read c.args.self.now (tree_of c.args.x.now)) (Read c.args.self.now (tree_of c.args.y.now)) (Read c.args.self.now (tree_of c.args.z.now)) _ _ _ c.value-2.ensures.stays c.value-3.ensures.stays (c.value.ensures.left (is_some _ _ c.in_ok-x.ensures)) (c.value-2.ensures.left (is_some _ _ c.in_ok-y.ensures)) (c.value-3.ensures.left (is_some _ _ c.in_ok-z.ensures));
     }
 
 -- ---- the forms
@@ -237,17 +270,19 @@ pub value-bounds-self-at : goal.value-bounds-self-at
 value-bounds-self-at g t c = param_within c.args.self.now c.in-Param.at (subst (λ e. IsReady c.args.self.now (tree_of e)) c.in-Param.is c.requires.ready)
 
 pub value-returns-in-Bool : goal.value-returns-in-Bool
-value-returns-in-Bool g t c = record { value = value_as c.args.self.now c.args.expr.now _ _ (ap tree_of c.in-Bool.is) refl; cost = still_within c.args.self.now (tree_of c.args.expr.now) _; least = omega arith; room = refl; kept = c.requires.kept }
+value-returns-in-Bool g t c = record { value = value_as c.args.self.now c.args.expr.now _ _ (ap tree_of c.in-Bool.is) refl; cost = still_beside c.args.self.now _ (tree_of c.args.expr.now) _; least = omega arith; room = refl; kept = c.requires.kept; stays = same_kept _; left = λ some. left_as c.args.self.now c.args.expr.now _ _ (ap tree_of c.in-Bool.is) (λ room x read. absurd read) }
 
 pub value-returns-in-Param : goal.value-returns-in-Param
 value-returns-in-Param g t c =
     let within = param_within c.args.self.now c.in-Param.at (subst (λ e. IsReady c.args.self.now (tree_of e)) c.in-Param.is c.requires.ready) in
     record {
       value = subst (λ e. HasValue (reading_of c.args.self.now) (tree_of e) (get_or c.args.self.now.params.now c.in-Param.at (Int (pos 0)))) (sym c.in-Param.is) (slice_get-get_or c.args.self.now.params.now c.in-Param.at (Int (pos 0)) within);
-      cost = still_within c.args.self.now (tree_of c.args.expr.now) _;
+      cost = still_beside c.args.self.now _ (tree_of c.args.expr.now) _;
       least = omega arith;
       room = refl;
       kept = c.requires.kept;
+      stays = same_kept _;
+      left = λ some. left_as c.args.self.now c.args.expr.now _ _ (ap tree_of c.in-Param.is) (λ room x read. absurd read);
     }
 
 pub value-field-requires : goal.value-field-requires
@@ -259,10 +294,12 @@ value-returns-in-Field g t c =
     let same = ap tree_of c.in-Field.is in
     record {
       value = value_as c.args.self.now c.args.expr.now _ c.field.result same kept.value;
-      cost = units_as c.args.self.now c.args.expr.now _ _ _ same kept.cost;
+      cost = beside_as c.args.self.now c.args.expr.now _ _ _ _ same kept.cost;
       least = kept.least;
       room = refl;
       kept = c.requires.kept;
+      stays = same_kept _;
+      left = λ some. left_as c.args.self.now c.args.expr.now _ _ same (λ room x read. absurd read);
     }
 
 pub value-same-requires : goal.value-same-requires
@@ -274,10 +311,12 @@ value-returns-in-Same g t c =
     let same = ap tree_of c.in-Same.is in
     record {
       value = value_as c.args.self.now c.args.expr.now _ c.same.result same kept.value;
-      cost = units_as c.args.self.now c.args.expr.now _ _ _ same kept.cost;
+      cost = beside_as c.args.self.now c.args.expr.now _ _ _ _ same kept.cost;
       least = kept.least;
       room = refl;
       kept = c.requires.kept;
+      stays = same_kept _;
+      left = λ some. left_as c.args.self.now c.args.expr.now _ _ same (λ room x read. absurd read);
     }
 
 pub value-collected-requires : goal.value-collected-requires
@@ -289,10 +328,12 @@ value-returns-in-Count g t c =
     let same = ap tree_of c.in-Count.is in
     record {
       value = there_as c.args.self.now c.args.expr.now _ c.collected.result same kept.value;
-      cost = units_as c.args.self.now c.args.expr.now _ _ _ same kept.cost;
+      cost = beside_as c.args.self.now c.args.expr.now _ _ _ _ same kept.cost;
       least = kept.least;
       room = kept.room;
       kept = kept.kept;
+      stays = kept.stays;
+      left = λ some. left_as c.args.self.now c.args.expr.now _ _ same kept.left;
     }
 
 pub value-collected-requires-in-Sum : goal.value-collected-requires-in-Sum
@@ -304,10 +345,12 @@ value-returns-in-Sum g t c =
     let same = ap tree_of c.in-Sum.is in
     record {
       value = there_as c.args.self.now c.args.expr.now _ c.collected-in-Sum.result same kept.value;
-      cost = units_as c.args.self.now c.args.expr.now _ _ _ same kept.cost;
+      cost = beside_as c.args.self.now c.args.expr.now _ _ _ _ same kept.cost;
       least = kept.least;
       room = kept.room;
       kept = kept.kept;
+      stays = kept.stays;
+      left = λ some. left_as c.args.self.now c.args.expr.now _ _ same kept.left;
     }
 
 pub value-collected-requires-in-Least : goal.value-collected-requires-in-Least
@@ -319,10 +362,12 @@ value-returns-in-Least g t c =
     let same = ap tree_of c.in-Least.is in
     record {
       value = there_as c.args.self.now c.args.expr.now _ c.collected-in-Least.result same kept.value;
-      cost = units_as c.args.self.now c.args.expr.now _ _ _ same kept.cost;
+      cost = beside_as c.args.self.now c.args.expr.now _ _ _ _ same kept.cost;
       least = kept.least;
       room = kept.room;
       kept = kept.kept;
+      stays = kept.stays;
+      left = λ some. left_as c.args.self.now c.args.expr.now _ _ same kept.left;
     }
 
 pub value-collected-requires-in-Greatest : goal.value-collected-requires-in-Greatest
@@ -334,10 +379,12 @@ value-returns-in-Greatest g t c =
     let same = ap tree_of c.in-Greatest.is in
     record {
       value = there_as c.args.self.now c.args.expr.now _ c.collected-in-Greatest.result same kept.value;
-      cost = units_as c.args.self.now c.args.expr.now _ _ _ same kept.cost;
+      cost = beside_as c.args.self.now c.args.expr.now _ _ _ _ same kept.cost;
       least = kept.least;
       room = kept.room;
       kept = kept.kept;
+      stays = kept.stays;
+      left = λ some. left_as c.args.self.now c.args.expr.now _ _ same kept.left;
     }
 
 pub value-unary-requires : goal.value-unary-requires
@@ -352,10 +399,12 @@ value-returns-in-Unary g t c =
     let same = ap tree_of c.in-Unary.is ∙ ap (λ (e : Expr). Unary c.in-Unary.op (tree_of e)) (sym c.deref.ensures) in
     record {
       value = there_as c.args.self.now c.args.expr.now _ c.unary.result same kept.value;
-      cost = units_as c.args.self.now c.args.expr.now _ _ _ same kept.cost;
+      cost = beside_as c.args.self.now c.args.expr.now _ _ _ _ same kept.cost;
       least = kept.least;
       room = kept.room;
       kept = kept.kept;
+      stays = kept.stays;
+      left = λ some. left_as c.args.self.now c.args.expr.now _ _ same (kept.left some);
     }
 
 pub value-binary-requires : goal.value-binary-requires
@@ -370,10 +419,12 @@ value-returns-in-Binary g t c =
     let same = ap tree_of c.in-Binary.is ∙ ap₂ (λ (e : Expr) (f : Expr). Binary c.in-Binary.op (tree_of e) (tree_of f)) (sym c.deref-in-Binary.ensures) (sym c.deref-in-Binary-2.ensures) in
     record {
       value = there_as c.args.self.now c.args.expr.now _ c.binary.result same kept.value;
-      cost = units_as c.args.self.now c.args.expr.now _ _ _ same kept.cost;
+      cost = beside_as c.args.self.now c.args.expr.now _ _ _ _ same kept.cost;
       least = kept.least;
       room = kept.room;
       kept = kept.kept;
+      stays = kept.stays;
+      left = λ some. left_as c.args.self.now c.args.expr.now _ _ same (kept.left some);
     }
 
 pub value-pair-requires : goal.value-pair-requires
@@ -388,10 +439,12 @@ value-returns-in-MakeVec2 g t c =
     let same = ap tree_of c.in-MakeVec2.is ∙ ap₂ (λ (e : Expr) (f : Expr). MakeVec2 (tree_of e) (tree_of f)) (sym c.deref-in-MakeVec2.ensures) (sym c.deref-in-MakeVec2-2.ensures) in
     record {
       value = there_as c.args.self.now c.args.expr.now _ c.pair.result same kept.value;
-      cost = units_as c.args.self.now c.args.expr.now _ _ _ same kept.cost;
+      cost = beside_as c.args.self.now c.args.expr.now _ _ _ _ same kept.cost;
       least = kept.least;
       room = kept.room;
       kept = kept.kept;
+      stays = kept.stays;
+      left = λ some. left_as c.args.self.now c.args.expr.now _ _ same (kept.left some);
     }
 
 pub value-choice-requires : goal.value-choice-requires
@@ -406,10 +459,12 @@ value-returns-in-If g t c =
     let same = ap tree_of c.in-If.is ∙ three_trees If _ _ _ _ _ _ (sym c.deref-in-If.ensures) (sym c.deref-in-If-2.ensures) (sym c.deref-in-If-3.ensures) in
     record {
       value = there_as c.args.self.now c.args.expr.now _ c.choice.result same kept.value;
-      cost = units_as c.args.self.now c.args.expr.now _ _ _ same kept.cost;
+      cost = beside_as c.args.self.now c.args.expr.now _ _ _ _ same kept.cost;
       least = kept.least;
       room = kept.room;
       kept = kept.kept;
+      stays = kept.stays;
+      left = λ some. left_as c.args.self.now c.args.expr.now _ _ same (kept.left some);
     }
 
 pub value-numbers-requires : goal.value-numbers-requires
@@ -425,10 +480,12 @@ value-returns-in-MakeVec3 g t c =
     let same = ap tree_of c.in-MakeVec3.is ∙ three_trees MakeVec3 _ _ _ _ _ _ (sym c.deref-in-MakeVec3.ensures) (sym c.deref-in-MakeVec3-2.ensures) (sym c.deref-in-MakeVec3-3.ensures) in
     record {
       value = there_as c.args.self.now c.args.expr.now _ c.triple.result same (made_of_three c.args.self.now kinds.Vec3 _ _ _ c.numbers.result c.triple.result kept.value c.triple.ensures);
-      cost = units_as c.args.self.now c.args.expr.now _ _ _ same kept.cost;
+      cost = beside_as c.args.self.now c.args.expr.now _ _ _ _ same kept.cost;
       least = kept.least;
       room = kept.room;
       kept = kept.kept;
+      stays = kept.stays;
+      left = λ some. left_as c.args.self.now c.args.expr.now _ _ same (kept.left (some_numbers _ _ _ c.triple.ensures some));
     }
 
 pub value-numbers-requires-in-MakeRgb : goal.value-numbers-requires-in-MakeRgb
@@ -444,8 +501,10 @@ value-returns-in-MakeRgb g t c =
     let same = ap tree_of c.in-MakeRgb.is ∙ three_trees MakeRgb _ _ _ _ _ _ (sym c.deref-in-MakeRgb.ensures) (sym c.deref-in-MakeRgb-2.ensures) (sym c.deref-in-MakeRgb-3.ensures) in
     record {
       value = there_as c.args.self.now c.args.expr.now _ c.colour.result same (made_of_three c.args.self.now kinds.Rgb _ _ _ c.numbers-in-MakeRgb.result c.colour.result kept.value c.colour.ensures);
-      cost = units_as c.args.self.now c.args.expr.now _ _ _ same kept.cost;
+      cost = beside_as c.args.self.now c.args.expr.now _ _ _ _ same kept.cost;
       least = kept.least;
       room = kept.room;
       kept = kept.kept;
+      stays = kept.stays;
+      left = λ some. left_as c.args.self.now c.args.expr.now _ _ same (kept.left (some_numbers _ _ _ c.colour.ensures some));
     }

@@ -11,5 +11,5 @@ loop-position-preserved c = record {
   all = one_further c.args.self.now.found.now c.args.node c.args.scratch.now.walked c.loop-position.position c.slot-slot.result c.slot-slot.ensures (get_contained c.args.scratch.now.walked _ c.slot-slot.result c.in-Some.ensures) c.loop-position.invariant.all;
 }
 
-pub returns : goal.returns
-returns c = λ is p less. c.loop-position.invariant.all p (omega (arith, less, c.loop-position-test.false, c.loop-position.auto.position-end, c.positions-position-end.ensures.value))
+pub returns-clause-all : goal.returns-clause-all
+returns-clause-all c = λ is p less. c.loop-position.invariant.all p (omega (arith, less, c.loop-position-test.false, c.loop-position.auto.position-end, c.positions-position-end.ensures.value))

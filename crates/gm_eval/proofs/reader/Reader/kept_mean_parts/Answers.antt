@@ -2,25 +2,49 @@ use Rattle.std.proofs.Common.{subst, sym, arith}
 use Rattle.gm_model.specs.Trees.{Count, Sum}
 use Rattle.gm_eval.specs.declared.kept.Form.TheVariants as forms
 use Rattle.gm_eval.specs.Readers.{IsOrbit, IsReady, IsValueThere}
+use Rattle.std.proofs.lemmas.Bool.{false≢true}
+use Rattle.gm_eval.specs.Sharing.{IsAtHand, IsOwn}
+use Rattle.gm_eval.proofs.Sharing.{later_kept, mean_within, of_mean_in, same_kept, two_left}
 use Rattle.gm_eval.proofs.Keeping.{as_count, found_there, owned}
 use Rattle.gm_eval.proofs.reader.Reader.kept_mean_parts.Goals as goal
 
 pub returns-in-Some-clause-sum : goal.returns-in-Some-clause-sum
 returns-in-Some-clause-sum g c =
     let reader = c.args.self.now in
-    let both = c.in-Some.ensures in
+    let both = c.in-Some.ensures.found in
     subst (λ term. IsValueThere reader (Sum c.args.mask term c.args.embed) c.in-Some.parts.0) (sym (owned c.args.term.now c.requires.own))
     (found_there reader.arena.now reader.found.now reader.params.now c.args.kept.now _ c.in-Some.parts.0 c.requires.kept (both.0, both.1, both.2) reader.position c.requires.ready.here.position)
 
 pub returns-in-Some-clause-count : goal.returns-in-Some-clause-count
 returns-in-Some-clause-count g c =
     let reader = c.args.self.now in
-    let both = c.in-Some.ensures in
+    let both = c.in-Some.ensures.found in
     subst (λ term. IsValueThere reader (Count c.args.mask term) c.in-Some.parts.1) (sym (owned c.args.term.now c.requires.own))
     (found_there reader.arena.now reader.found.now reader.params.now c.args.kept.now _ c.in-Some.parts.1 c.requires.kept (both.0, both.1, both.3) reader.position c.requires.ready.here.position)
 
 pub returns-in-Some-clause-cost : goal.returns-in-Some-clause-cost
 returns-in-Some-clause-cost g c = λ u units. omega arith
+
+pub returns-in-Some-clause-stays : goal.returns-in-Some-clause-stays
+returns-in-Some-clause-stays g c = same_kept _
+
+pub returns-in-Some-clause-left : goal.returns-in-Some-clause-left
+returns-in-Some-clause-left g c = λ room x own shared.
+    let both = c.in-Some.ensures.found in
+    of_mean_in c.args.mask c.args.term.now c.args.embed x c.args.kept.now own (both.0, both.1, c.in-Some.parts.0, both.2) (both.0, both.1, c.in-Some.parts.1, both.3)
+
+pub returns-clause-cost : goal.returns-clause-cost
+returns-clause-cost g c = mean_within c.args.self.now c.args.kept.now c.args.mask c.args.term.now c.args.embed _ _
+    (λ x y own owned at_hand there. false≢true (c.in_default.ensures.known (subst (IsAtHand c.args.kept.now) own.1 at_hand) (subst (IsAtHand c.args.kept.now) owned.1 there)))
+    c.sum_and_count-sum.ensures.cost
+
+pub returns-clause-stays : goal.returns-clause-stays
+returns-clause-stays g c = later_kept _ _ _ c.keep.ensures.stays c.keep-2.ensures.stays
+
+pub returns-clause-left : goal.returns-clause-left
+returns-clause-left g c = λ room x own shared.
+    two_left c.args.self.now (IsOwn forms.Sum c.args.mask c.args.term.now c.args.embed) (IsOwn forms.Count c.args.mask c.args.term.now 0) _ _ c.keep-2.ensures.stays
+    (λ room x own shared. c.keep.ensures.left room x own.1 shared) (λ room x own shared. c.keep-2.ensures.left room x own.1 shared) room x own shared
 
 pub keep-requires-clause-ready : goal.keep-requires-clause-ready
 keep-requires-clause-ready g c = subst (λ term. IsReady c.args.self.now (Sum c.args.mask term c.args.embed)) (owned c.args.term.now c.requires.own) c.requires.ready

@@ -1,7 +1,7 @@
 use Rattle.std.proofs.Common.{subst}
 use Rattle.gm_model.specs.Trees.{Count, Sum}
 use Rattle.gm_eval.specs.Readers.{IsValueThere}
-use Rattle.gm_eval.proofs.Parts.{binary_known, binary_there, first_within, is_there}
+use Rattle.gm_eval.proofs.Parts.{binary_known, binary_there, is_there}
 use Rattle.gm_eval.proofs.reader.Reader.of_mean.Goals as goal
 
 pub binary-requires : goal.binary-requires
@@ -20,10 +20,12 @@ returns g c =
     let count = is_there reader (Count c.args.mask c.args.term.now) c.in-Some-count.count _ kept.count c.in-Some-count.is in
     record {
       value = binary_there reader c.args.op (Sum c.args.mask c.args.term.now c.args.embed) (Count c.args.mask c.args.term.now) c.in-Some.sum c.in-Some-count.count c.binary.result sum count c.binary.ensures;
-      cost = first_within reader (Sum c.args.mask c.args.term.now c.args.embed) (Count c.args.mask c.args.term.now) _ _ kept.cost;
+      cost = kept.cost;
       least = kept.least;
       room = kept.room;
       kept = kept.kept;
+      stays = kept.stays;
+      left = λ some. kept.left;
     }
 
 pub returns-in_default : goal.returns-in_default
@@ -32,10 +34,12 @@ returns-in_default g c =
     let kept = c.mean_parts-sum.ensures in
     record {
       value = λ v (x, y, h, k, made). subst (IsValueThere reader (Sum c.args.mask c.args.term.now c.args.embed)) c.in_default.is kept.sum x h;
-      cost = first_within reader (Sum c.args.mask c.args.term.now c.args.embed) (Count c.args.mask c.args.term.now) _ _ kept.cost;
+      cost = kept.cost;
       least = kept.least;
       room = kept.room;
       kept = kept.kept;
+      stays = kept.stays;
+      left = λ some. kept.left;
     }
 
 pub returns-in_default-count : goal.returns-in_default-count
@@ -44,8 +48,10 @@ returns-in_default-count g c =
     let kept = c.mean_parts-sum.ensures in
     record {
       value = λ v (x, y, h, k, made). subst (IsValueThere reader (Count c.args.mask c.args.term.now)) c.in_default-count.is kept.count y k;
-      cost = first_within reader (Sum c.args.mask c.args.term.now c.args.embed) (Count c.args.mask c.args.term.now) _ _ kept.cost;
+      cost = kept.cost;
       least = kept.least;
       room = kept.room;
       kept = kept.kept;
+      stays = kept.stays;
+      left = λ some. kept.left;
     }

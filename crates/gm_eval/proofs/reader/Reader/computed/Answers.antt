@@ -1,4 +1,4 @@
-use Rattle.gm_eval.proofs.reader.Reader.reckoned.Goals as goal
+use Rattle.gm_eval.proofs.reader.Reader.computed.Goals as goal
 
 pub returns-in-Count-clause-value : goal.returns-in-Count-clause-value
 returns-in-Count-clause-value g c = rw c.in-Count.is c.count.ensures.value

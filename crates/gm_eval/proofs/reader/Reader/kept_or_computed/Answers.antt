@@ -1,0 +1,43 @@
+use Rattle.std.proofs.Common.{subst, sym, arith}
+use Rattle.gm_eval.specs.Keeping.{collector_at}
+use Rattle.gm_eval.specs.Readers.{IsOrbit, IsReady, IsValueThere}
+use Rattle.gm_eval.specs.Sharing.{IsAtHand}
+use Rattle.gm_eval.proofs.Keeping.{found_there, owned}
+use Rattle.gm_eval.proofs.Sharing.{not_found, same_kept}
+use Rattle.gm_eval.proofs.reader.Reader.kept_or_computed.Goals as goal
+
+pub returns-in-Some-clause-value : goal.returns-in-Some-clause-value
+returns-in-Some-clause-value g c =
+    let reader = c.args.self.now in
+    let own = owned c.args.term.now c.requires.own in
+    subst (λ term. IsValueThere reader (collector_at c.args.form c.args.mask term c.args.embed) c.in-Some.value) (sym own)
+    (found_there reader.arena.now reader.found.now reader.params.now c.args.kept.now _ c.in-Some.value c.requires.kept c.in-Some.ensures.found reader.position c.requires.ready.here.position)
+
+pub returns-in-Some-clause-cost : goal.returns-in-Some-clause-cost
+returns-in-Some-clause-cost g c = λ u units. omega arith
+
+pub returns-in-Some-clause-stays : goal.returns-in-Some-clause-stays
+returns-in-Some-clause-stays g c = same_kept _
+
+pub returns-in-Some-clause-left : goal.returns-in-Some-clause-left
+returns-in-Some-clause-left g c = λ room x own shared.
+    let found = c.in-Some.ensures.found in
+    subst (IsAtHand c.args.kept.now) (sym own.1) (found.0, found.1, c.in-Some.value, found.2)
+
+pub returns-clause-cost : goal.returns-clause-cost
+returns-clause-cost g c = not_found c.args.self.now c.args.kept.now c.args.form c.args.mask c.args.term.now c.args.embed _ _ c.in_default.ensures.known c.computed-value.ensures.cost
+
+pub returns-clause-stays : goal.returns-clause-stays
+returns-clause-stays g c = c.keep.ensures.stays
+
+pub returns-clause-left : goal.returns-clause-left
+returns-clause-left g c = λ room x own shared. c.keep.ensures.left room x own.1 shared
+
+pub keep-requires-clause-ready : goal.keep-requires-clause-ready
+keep-requires-clause-ready g c = subst (λ term. IsReady c.args.self.now (collector_at c.args.form c.args.mask term c.args.embed)) (owned c.args.term.now c.requires.own) c.requires.ready
+
+pub keep-requires-clause-walked : goal.keep-requires-clause-walked
+keep-requires-clause-walked g c = subst (λ term. IsOrbit c.args.self.now c.args.mask term c.computed-value.new.scratch.walked) (owned c.args.term.now c.requires.own) c.computed-value.ensures.walked
+
+pub keep-requires-clause-value : goal.keep-requires-clause-value
+keep-requires-clause-value g c = subst (λ term. IsValueThere c.args.self.now (collector_at c.args.form c.args.mask term c.args.embed) c.computed-value.result) (owned c.args.term.now c.requires.own) c.computed-value.ensures.value
