@@ -7,13 +7,13 @@ use gm_arena::Slot;
 use gm_model::OutOfMemory;
 use gm_plan::Instances;
 use std::alloc::Global;
-use std::collections::BTreeMap;
+use std::collections::HashMap;
 
 /// The left nodes and positions by the slots at which they lie. It is made once where many darts
 /// are looked up.
 #[derive(Drop)]
 pub(crate) struct Lookup {
-    instances: BTreeMap<u32, (u8, u32)>,
+    instances: HashMap<u32, (u8, u32)>,
 }
 
 impl Lookup {
@@ -22,7 +22,7 @@ impl Lookup {
         requires { nodes ≡ found.now.nodes }
         ensures { IfOk result (λ lookup. IsLookup found.now lookup.instances) }
     {
-        let mut instances = BTreeMap::new(alloc);
+        let mut instances = HashMap::new(alloc);
         for node in 0..nodes {
             add_node(&mut instances, found, node)?;
         }
@@ -42,7 +42,7 @@ impl Lookup {
 
 /// Adds the instances of a node.
 fn add_node(
-    instances: &mut BTreeMap<u32, (u8, u32)>,
+    instances: &mut HashMap<u32, (u8, u32)>,
     found: &Instances,
     node: u8,
 ) -> Result<(), OutOfMemory>

@@ -6,7 +6,7 @@ ghost use Rattle.gm_pending.specs.Marks.{key_of, reached_by, HasKey, AreKeyed, I
 use crate::at::At;
 use gm_model::OutOfMemory;
 use std::alloc::Global;
-use std::collections::BTreeMap;
+use std::collections::HashMap;
 use std::marker::Model;
 
 /// A dart of a result, and the index of the instance that decides its orbit.
@@ -27,7 +27,7 @@ pub(crate) struct Marks {
     alloc: Global,
     reached: Vec<Mark>,
     /// The index of the deciding instance, by the key of a dart, where there are more than a few.
-    by_key: Option<BTreeMap<u64, u32>>,
+    by_key: Option<HashMap<u64, u32>>,
 }
 
 impl Model for Marks {
@@ -164,12 +164,12 @@ fn push(reached: &mut Vec<Mark>, entry: Mark) -> Result<(), OutOfMemory>
 }
 
 /// The index of the deciding instance of each dart, by its key.
-fn index(alloc: Global, reached: &[Mark]) -> Result<BTreeMap<u64, u32>, OutOfMemory>
+fn index(alloc: Global, reached: &[Mark]) -> Result<HashMap<u64, u32>, OutOfMemory>
     requires keyed { AreKeyed reached.now }
     requires distinct { HasDistinctKeys reached.now }
     ensures { IfOk result (IsIndex reached.now) }
 {
-    let mut by_key = BTreeMap::new(alloc);
+    let mut by_key = HashMap::new(alloc);
     for entry in reached {
         by_key.insert(entry.key, entry.instance)?;
     }
@@ -178,9 +178,9 @@ fn index(alloc: Global, reached: &[Mark]) -> Result<BTreeMap<u64, u32>, OutOfMem
 
 /// The index with one more dart, where there is one.
 fn put(
-    by_key: Option<BTreeMap<u64, u32>>,
+    by_key: Option<HashMap<u64, u32>>,
     entry: Mark,
-) -> Result<Option<BTreeMap<u64, u32>>, OutOfMemory>
+) -> Result<Option<HashMap<u64, u32>>, OutOfMemory>
     requires { entry.key ≡ key_of entry.at }
     ensures { IfOk result (λ more. (reached : List Mark) → (HasKey reached (key_of entry.at) → ⊥) → IfSome by_key (IsIndex reached) → IfSome more (IsIndex (reached ++ entry ∷ []))) }
 {
