@@ -1,7 +1,8 @@
 -- One more reached dart.
 use Rattle.std.proofs.Common.{◌≡◌, ◌≢◌, ℕ, zero, suc, ◌<◌, ◌⊎◌, false, List, [], ◌∷◌, ◌++◌, length, take, get_or, Option, Some, None, is_some, slice_get, MatchOption, Contains, IsTrue, refl, sym, ◌∙◌, ap, subst, inl, inr, arith}
-use Rattle.std.specs.Prelude.{Result, Ok, Err, OnOk, OnErr, nat_eq}
+use Rattle.std.specs.Prelude.{Result, Ok, Err, OnOk, OnErr, IfSome, nat_eq}
 use Rattle.std.specs.HashMap.{HashMap, Updates, get}
+use Rattle.std.specs.Option.{option_map}
 use Rattle.std.proofs.lemmas.Bool.{cases_eq}
 use Rattle.std.proofs.lemmas.Option.{slice_get_within, slice_get-get_or}
 use Rattle.gm_theory.proofs.Tests.{true_or_false}
@@ -122,8 +123,17 @@ indexed_at reached by_key index key None e = none
     none : HasKey reached key → ⊥
     none (entry, c, same) = none_some entry.instance (e ∙ ap (get nat_eq by_key) (sym same) ∙ index.marked entry c)
 
+-- what an optional value shows is what it is
+pub shown_within : {A B : Type 0} (o : Option A) (f : A → B) (P : B → Type 0) → IfSome (option_map f o) P → IfSome o (λ x. P (f x))
+shown_within None f P h = tt
+shown_within (Some x) f P h = h
+
+pub within_shown : {A B : Type 0} (before : Option A) (f : A → B) (P : B → Type 0) (o : Option A) → IfSome o (λ x. P (f x)) → IfSome (option_map f o) P
+within_shown before f P None h = tt
+within_shown before f P (Some x) h = h
+
 -- one more dart, where there is no index
-pub marked_few : {E : Type 0} (before after : List Mark) (by_key : Option ByKey) (entry : Mark) (pushed : Result Unit E) → is_some by_key ≡ false → AreMarked before by_key → entry.key ≡ key_of entry.at → (HasKey before (key_of entry.at) → ⊥) → OnOk pushed (after ≡ before ++ entry ∷ []) → OnErr pushed (after ≡ before) → AreMarked after by_key
-marked_few before after (Some by_key) entry pushed none kept key absent ok err = absurd (cc none)
-marked_few before after None entry (Ok x) none kept key absent ok err = rw ok (record { keyed = keyed_more before entry kept.keyed key; distinct = distinct_more before kept.distinct entry absent; indexed = tt })
-marked_few before after None entry (Err x) none kept key absent ok err = rw err kept
+pub marked_few : {E B : Type 0} (view : B → ByKey) (before after : List Mark) (by_key : Option B) (entry : Mark) (pushed : Result Unit E) → is_some by_key ≡ false → AreMarked before (option_map view by_key) → entry.key ≡ key_of entry.at → (HasKey before (key_of entry.at) → ⊥) → OnOk pushed (after ≡ before ++ entry ∷ []) → OnErr pushed (after ≡ before) → AreMarked after (option_map view by_key)
+marked_few view before after (Some by_key) entry pushed none kept key absent ok err = absurd (cc none)
+marked_few view before after None entry (Ok x) none kept key absent ok err = rw ok (record { keyed = keyed_more before entry kept.keyed key; distinct = distinct_more before kept.distinct entry absent; indexed = tt })
+marked_few view before after None entry (Err x) none kept key absent ok err = rw err kept

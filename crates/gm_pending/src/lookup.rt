@@ -13,25 +13,26 @@ use std::collections::HashMap;
 /// are looked up.
 #[derive(Drop)]
 pub(crate) struct Lookup {
-    instances: HashMap<u32, (u8, u32)>,
+    instances: Box<HashMap<u32, (u8, u32)>>,
 }
 
 impl Lookup {
     /// The instances of so many left nodes.
     pub(crate) fn build(alloc: Global, found: &Instances, nodes: u8) -> Result<Lookup, OutOfMemory>
         requires { nodes ≡ found.now.nodes }
-        ensures { IfOk result (λ lookup. IsLookup found.now lookup.instances) }
+        ensures { IfOk result (λ lookup. IsLookup found.now lookup.instances.value) }
     {
         let mut instances = HashMap::new(alloc);
         for node in 0..nodes {
             add_node(&mut instances, found, node)?;
         }
+        let instances = Box::new(alloc, instances)?;
         Ok(Lookup { instances })
     }
 
     /// The left node and the position that lie at the slot; none where no instance does.
     pub(crate) fn find(&self, found: &Instances, slot: Slot) -> Option<(u8, u32)>
-        requires { IsLookup found.now self.now.instances }
+        requires { IsLookup found.now self.now.instances.value }
         ensures { MatchOption result
             ((x p : ℕ) → IsWithin found.now x p → slot_number found.now x p ≢ slot.at)
             (λ i. IsAtSlot found.now slot.at i.0 i.1) }
