@@ -1,7 +1,8 @@
 -- The kept values of new darts, put dart by dart.
-use Rattle.std.proofs.Common.{◌≡◌, ℕ, ◌+◌, ◌*◌, ◌<◌, ◌⊎◌, List, [], ◌∷◌, ◌++◌, length, get_or, refl, sym, ap, ◌∙◌, subst, inl, inr, arith, pos}
+use Rattle.std.proofs.Common.{◌≡◌, ℕ, ◌+◌, ◌*◌, ◌<◌, ◌≤◌, ◌⊎◌, List, [], ◌∷◌, ◌++◌, length, get_or, refl, sym, ◌∙◌, subst, inl, inr, arith, pos}
 use Rattle.std.proofs.lemmas.Bool.{cases_eq}
 use Rattle.std.proofs.lemmas.List.{length_push, get_or_append_left, get_or_push}
+use Rattle.std.proofs.lemmas.Nat.{mul-le}
 use Rattle.std.proofs.lemmas.Option.{slice_get_within}
 use Rattle.gm_model.specs.declared.schema.Embed.{Embed}
 use Rattle.gm_model.specs.declared.value.Value.{Value}
@@ -13,11 +14,15 @@ use Rattle.gm_pending.specs.Gathered.{AreKeptValues, IsKeptValue}
 use Rattle.gm_pending.specs.Results.{PendingOf}
 
 module _ (app : PendingOf) where
-  -- where there is no embedding, no dart has a value
-  pub no_values : (added : ℕ) → length app.map.schema.embeds ≡ 0 → AreAddedValues app added []
+  -- where there is no added dart or no embedding, there are no values
+  pub no_values : (added : ℕ) → added * length app.map.schema.embeds ≡ 0 → AreAddedValues app added []
   no_values added none = record {
-    long = let zero : added * length app.map.schema.embeds ≡ added * 0 = ap (λ w. added * w) none in omega (arith, zero);
-    given = λ number e embed low at. absurd (let within = slice_get_within app.map.schema.embeds e embed at in omega (arith, none, within));
+    long = sym none;
+    given = λ number e embed low at. absurd (
+        let within = slice_get_within app.map.schema.embeds e embed at in
+        let some : 1 * 1 ≤ added * length app.map.schema.embeds = mul-le 1 1 added (length app.map.schema.embeds) (omega (arith, low)) (omega (arith, within)) in
+        omega (arith, none, some)
+        );
   }
 
   pub none_kept : AreKeptValues app 0 []

@@ -301,6 +301,24 @@ module _ (app : PendingOf) (prepared : IsPrepared app) where
       let l : (x ≡ y) × (at.0 ≡ at'.0) = one_slot x at.0 y at'.0 s t (removed_from x at.0 s (list_contains (removed_at (rewrite_of app) x at.0) s at.2)) (removed_from y at'.0 t (list_contains (removed_at (rewrite_of app) y at'.0) t at'.2)) at.1 at'.1 e in
       omega (arith, l.0))
 
+  one_left : (x p y q : ℕ) (s t : Slot) → x < app.placed.nodes → y < app.placed.nodes → p < app.placed.positions → q < app.placed.positions → Contains (slot_in app.placed x p ∷ []) s → Contains (slot_in app.placed y q ∷ []) t → t.at ≡ s.at → (x ≡ y) × (p ≡ q)
+  one_left x p y q s t h h' b b' among among' e =
+      let s_is = same_Some _ s (list_contains (Some (slot_in app.placed x p)) s among) in
+      let t_is = same_Some _ t (list_contains (Some (slot_in app.placed y q)) t among') in
+      (law app prepared).darts.injective x p y q ((prepared.matched.nodes x).1 h, b) ((prepared.matched.nodes y).1 h', b')
+      (ap (name_at app.map) (ap (λ (z : Slot). z.at) s_is ∙ sym e ∙ sym (ap (λ (z : Slot). z.at) t_is)))
+
+  pub left_distinct : AreDistinct (left_slots (rewrite_of app))
+  left_distinct = distinct_concat (left_slots_of (rewrite_of app)) app.placed.nodes
+      (λ x h. distinct_concat (λ p. slot_in app.placed x p ∷ []) app.placed.positions (λ p b. distinct_list (Some (slot_in app.placed x p))) (λ p q less b s t among among' e.
+      let l : (x ≡ x) × (p ≡ q) = one_left x p x q s t h h (omega arith) b among among' e in
+      omega (arith, l.1)))
+      (λ x y less h s t among among' e.
+      let at = concat_contains (λ p. slot_in app.placed x p ∷ []) app.placed.positions s among in
+      let at' = concat_contains (λ p. slot_in app.placed y p ∷ []) app.placed.positions t among' in
+      let l : (x ≡ y) × (at.0 ≡ at'.0) = one_left x at.0 y at'.0 s t (omega arith) h at.1 at'.1 at.2 at'.2 e in
+      omega (arith, l.0))
+
   pub are_removed : AreRemoved app (all_removed (rewrite_of app))
   are_removed = record {
     live = λ slot among.

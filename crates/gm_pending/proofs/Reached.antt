@@ -1,18 +1,13 @@
 -- One more reached dart.
-use Rattle.std.proofs.Common.{◌≡◌, ◌≢◌, ℕ, zero, suc, ◌<◌, ◌⊎◌, false, List, [], ◌∷◌, ◌++◌, length, take, get_or, Option, Some, None, is_some, slice_get, MatchOption, Contains, IsTrue, refl, sym, ◌∙◌, ap, subst, inl, inr, arith}
-use Rattle.std.specs.Prelude.{Result, Ok, Err, OnOk, OnErr}
-use Rattle.std.specs.Ordering.{nat_cmp}
-use Rattle.std.specs.BTreeMap.{BTreeMap, Updates, get, is_at}
-use Rattle.std.specs.declared.cmp.Ordering.{Ordering}
-use Rattle.std.specs.declared.cmp.Ordering.TheVariants.{Equal}
-use Rattle.std.specs.Ordering.{is_eq}
-use Rattle.std.proofs.lemmas.Map.Lookups.{exact_unsigned}
+use Rattle.std.proofs.Common.{◌≡◌, ◌≢◌, ℕ, zero, suc, ◌<◌, ◌⊎◌, false, List, [], ◌∷◌, ◌++◌, length, take, get_or, Option, Some, None, is_some, slice_get, MatchOption, Contains, refl, sym, ◌∙◌, ap, subst, inl, inr, arith}
+use Rattle.std.specs.Prelude.{Result, Ok, Err, OnOk, OnErr, IfSome, nat_eq}
+use Rattle.std.specs.HashMap.{HashMap, Updates, get}
+use Rattle.std.specs.Option.{option_map}
 use Rattle.std.proofs.lemmas.Bool.{cases_eq}
 use Rattle.std.proofs.lemmas.Option.{slice_get_within, slice_get-get_or}
-use Rattle.gm_theory.proofs.Tests.{true_or_false}
 use Rattle.gm_theory.proofs.Lists.{some_same, none_some, contained_at, get_contained}
 use Rattle.gm_pending.specs.declared.marks.Mark.{Mark}
-use Rattle.gm_pending.specs.Marks.{key_of, HasKey, AreKeyed, AreMarked, IsIndex, IsMarkedBy, HasDistinctKeys}
+use Rattle.gm_pending.specs.Marks.{ByKey, key_of, HasKey, AreKeyed, AreMarked, IsIndex, IsMarkedBy, HasDistinctKeys}
 use Rattle.gm_pending.proofs.Whole.{contains_none}
 
 -- ---- a list with one more element
@@ -68,20 +63,13 @@ fresh_key reached i d distinct within (entry, among, same) =
     let there = taken_at reached i among.0 entry (contained_at (take i reached) entry among) in
     distinct among.0 i entry (get_or reached i d) there.1 there.0 (slice_get-get_or reached i d within) same
 
-is_eq_Equal : (o : Ordering) → IsTrue (is_eq o) → o ≡ Equal
-is_eq_Equal o t = grind arith
-
 -- another key has what it had
-pub other_key : {X : Type 0} (old new : BTreeMap ℕ X) (key : ℕ) (x : X) → Updates nat_cmp old new key (Some x) → (q : ℕ) → q ≢ key → get nat_cmp new q ≡ get nat_cmp old q
-other_key old new key x put q apart = go (true_or_false (is_at (nat_cmp key) q))
-  where
-    go : IsTrue (is_at (nat_cmp key) q) ⊎ (is_at (nat_cmp key) q ≡ false) → get nat_cmp new q ≡ get nat_cmp old q
-    go (inl t) = absurd (apart (sym (exact_unsigned key q (is_eq_Equal (nat_cmp key q) t))))
-    go (inr f) = put.2 q f
+pub other_key : {X S : Type 0} (old new : HashMap ℕ X S) (key : ℕ) (x : X) → Updates nat_eq old new key (Some x) → (q : ℕ) → q ≢ key → get nat_eq new q ≡ get nat_eq old q
+other_key old new key x put q apart = put.2 q (grind (arith, apart))
 
 -- ---- what is kept of a dart
 
-pub none_indexed : (by_key : BTreeMap ℕ ℕ) → ((key : ℕ) → get nat_cmp by_key key ≡ None) → IsIndex [] by_key
+pub none_indexed : (by_key : ByKey) → ((key : ℕ) → get nat_eq by_key key ≡ None) → IsIndex [] by_key
 none_indexed by_key none = record { marked = λ entry c. absurd (contains_none entry c); only = λ key k e. none_some k (sym (none key) ∙ e) }
 
 -- an element and the others
@@ -92,11 +80,11 @@ keyed_more reached entry kept key other among = go (among_or_last reached entry 
     go (inl c) = kept other c
     go (inr e) = subst (λ (r : Mark). r.key ≡ key_of r.at) e key
 
-module _ (reached : List Mark) (old new : BTreeMap ℕ ℕ) (kept : IsIndex reached old) (entry : Mark) (absent : HasKey reached (key_of entry.at) → ⊥) (put : Updates nat_cmp old new (key_of entry.at) (Some entry.instance)) where
-  here : get nat_cmp new (key_of entry.at) ≡ Some entry.instance
+module _ (reached : List Mark) (old new : ByKey) (kept : IsIndex reached old) (entry : Mark) (absent : HasKey reached (key_of entry.at) → ⊥) (put : Updates nat_eq old new (key_of entry.at) (Some entry.instance)) where
+  here : get nat_eq new (key_of entry.at) ≡ Some entry.instance
   here = put.1
 
-  other : (key : ℕ) → key ≢ key_of entry.at → get nat_cmp new key ≡ get nat_cmp old key
+  other : (key : ℕ) → key ≢ key_of entry.at → get nat_eq new key ≡ get nat_eq old key
   other = other_key old new (key_of entry.at) entry.instance put
 
   pub indexed_more : IsIndex (reached ++ entry ∷ []) new
@@ -105,15 +93,15 @@ module _ (reached : List Mark) (old new : BTreeMap ℕ ℕ) (kept : IsIndex reac
     only = only;
   }
     where
-      marked : (later : Mark) → Contains reached later ⊎ (entry ≡ later) → get nat_cmp new (key_of later.at) ≡ Some later.instance
+      marked : (later : Mark) → Contains reached later ⊎ (entry ≡ later) → get nat_eq new (key_of later.at) ≡ Some later.instance
       marked later (inl c) = other (key_of later.at) (λ e. absent (later, c, e)) ∙ kept.marked later c
-      marked later (inr e) = subst (λ (r : Mark). get nat_cmp new (key_of r.at) ≡ Some r.instance) e here
+      marked later (inr e) = subst (λ (r : Mark). get nat_eq new (key_of r.at) ≡ Some r.instance) e here
 
-      only : (key j : ℕ) → get nat_cmp new key ≡ Some j → IsMarkedBy (reached ++ entry ∷ []) key j
+      only : (key j : ℕ) → get nat_eq new key ≡ Some j → IsMarkedBy (reached ++ entry ∷ []) key j
       only key j e = go (cases_eq key (key_of entry.at))
         where
           go : (key ≡ key_of entry.at) ⊎ (key ≡ key_of entry.at → ⊥) → IsMarkedBy (reached ++ entry ∷ []) key j
-          go (inl f) = (entry, last_among reached entry, sym f, some_same entry.instance j (sym here ∙ subst (λ q. get nat_cmp new q ≡ Some j) f e))
+          go (inl f) = (entry, last_among reached entry, sym f, some_same entry.instance j (sym here ∙ subst (λ q. get nat_eq new q ≡ Some j) f e))
           go (inr f) = let m : IsMarkedBy reached key j = kept.only key j (sym (other key f) ∙ e) in (m.0, kept_among reached entry m.0 m.1, m.2, m.3)
 
 module _ (reached : List Mark) (kept : HasDistinctKeys reached) (entry : Mark) (absent : HasKey reached (key_of entry.at) → ⊥) where
@@ -127,15 +115,24 @@ module _ (reached : List Mark) (kept : HasDistinctKeys reached) (entry : Mark) (
       distinct (inr e) (inr f) = absurd (omega (arith, e.0, f.0))
 
 -- what an index has under a key
-pub indexed_at : (reached : List Mark) (by_key : BTreeMap ℕ ℕ) → IsIndex reached by_key → (key : ℕ) (found : Option ℕ) → found ≡ get nat_cmp by_key key → MatchOption found (HasKey reached key → ⊥) (IsMarkedBy reached key)
+pub indexed_at : (reached : List Mark) (by_key : ByKey) → IsIndex reached by_key → (key : ℕ) (found : Option ℕ) → found ≡ get nat_eq by_key key → MatchOption found (HasKey reached key → ⊥) (IsMarkedBy reached key)
 indexed_at reached by_key index key (Some k) e = index.only key k (sym e)
 indexed_at reached by_key index key None e = none
   where
     none : HasKey reached key → ⊥
-    none (entry, c, same) = none_some entry.instance (e ∙ ap (get nat_cmp by_key) (sym same) ∙ index.marked entry c)
+    none (entry, c, same) = none_some entry.instance (e ∙ ap (get nat_eq by_key) (sym same) ∙ index.marked entry c)
+
+-- what an optional value shows is what it is
+pub shown_within : {A B : Type 0} (o : Option A) (f : A → B) (P : B → Type 0) → IfSome (option_map f o) P → IfSome o (λ x. P (f x))
+shown_within None f P h = tt
+shown_within (Some x) f P h = h
+
+pub within_shown : {A B : Type 0} (before : Option A) (f : A → B) (P : B → Type 0) (o : Option A) → IfSome o (λ x. P (f x)) → IfSome (option_map f o) P
+within_shown before f P None h = tt
+within_shown before f P (Some x) h = h
 
 -- one more dart, where there is no index
-pub marked_few : {E : Type 0} (before after : List Mark) (by_key : Option (BTreeMap ℕ ℕ)) (entry : Mark) (pushed : Result Unit E) → is_some by_key ≡ false → AreMarked before by_key → entry.key ≡ key_of entry.at → (HasKey before (key_of entry.at) → ⊥) → OnOk pushed (after ≡ before ++ entry ∷ []) → OnErr pushed (after ≡ before) → AreMarked after by_key
-marked_few before after (Some by_key) entry pushed none kept key absent ok err = absurd (cc none)
-marked_few before after None entry (Ok x) none kept key absent ok err = rw ok (record { keyed = keyed_more before entry kept.keyed key; distinct = distinct_more before kept.distinct entry absent; indexed = tt })
-marked_few before after None entry (Err x) none kept key absent ok err = rw err kept
+pub marked_few : {E B : Type 0} (view : B → ByKey) (before after : List Mark) (by_key : Option B) (entry : Mark) (pushed : Result Unit E) → is_some by_key ≡ false → AreMarked before (option_map view by_key) → entry.key ≡ key_of entry.at → (HasKey before (key_of entry.at) → ⊥) → OnOk pushed (after ≡ before ++ entry ∷ []) → OnErr pushed (after ≡ before) → AreMarked after (option_map view by_key)
+marked_few view before after (Some by_key) entry pushed none kept key absent ok err = absurd (cc none)
+marked_few view before after None entry (Ok x) none kept key absent ok err = rw ok (record { keyed = keyed_more before entry kept.keyed key; distinct = distinct_more before kept.distinct entry absent; indexed = tt })
+marked_few view before after None entry (Err x) none kept key absent ok err = rw err kept

@@ -27,4 +27,4 @@ AreDecidedOrbits app answers = (e : ℕ) (embed : Embed) (orbits : DecidedOrbits
 -- a look-up that was made has the instances
 abbrev pub IsLookedUp : Placed → Option Lookup → Type 0
 IsLookedUp placed None = Unit {0}
-IsLookedUp placed (Some lookup) = IsLookup placed lookup.instances
+IsLookedUp placed (Some lookup) = IsLookup placed lookup.instances.value

@@ -1,10 +1,15 @@
 -- Which instance lies at a slot. No public clause cites this module.
-use Rattle.std.specs.Prelude.{◌≡◌, ℕ, ◌<◌, Some, IsSome}
-use Rattle.std.specs.BTreeMap.{BTreeMap, get}
-use Rattle.std.specs.Ordering.{nat_cmp}
+use Rattle.std.specs.Prelude.{◌≡◌, ℕ, ◌<◌, nat_eq, Some, IsSome}
+use Rattle.std.specs.declared.hash.BuildHasherDefault.{BuildHasherDefault}
+use Rattle.std.specs.declared.hash.FoldHasher.{FoldHasher}
+use Rattle.std.specs.HashMap.{HashMap, get}
 use Rattle.gm_model.specs.Orbits.{IsPairBefore}
 use Rattle.gm_plan.specs.InArena.{slot_number}
 use Rattle.gm_plan.specs.Placed.{Placed}
+
+-- instances by slots
+abbrev pub BySlot : Type 0
+BySlot = HashMap ℕ (ℕ × ℕ) (BuildHasherDefault FoldHasher)
 
 -- an instance
 abbrev pub IsWithin : Placed → ℕ → ℕ → Type 0
@@ -15,10 +20,10 @@ abbrev pub IsAtSlot : Placed → ℕ → ℕ → ℕ → Type 0
 IsAtSlot placed slot x p = IsWithin placed x p × (slot_number placed x p ≡ slot)
 
 -- the map has an instance at each slot of an instance before node x and position p
-pub record IsLookupUpTo (placed : Placed) (instances : BTreeMap ℕ (ℕ × ℕ)) (x p : ℕ) : Type 0 where
-  pub there : (slot : ℕ) (i : ℕ × ℕ) → get nat_cmp instances slot ≡ Some i → IsAtSlot placed slot i.0 i.1
-  pub all : (y q : ℕ) → IsWithin placed y q → IsPairBefore y q x p → IsSome (get nat_cmp instances (slot_number placed y q))
+pub record IsLookupUpTo (placed : Placed) (instances : BySlot) (x p : ℕ) : Type 0 where
+  pub there : (slot : ℕ) (i : ℕ × ℕ) → get nat_eq instances slot ≡ Some i → IsAtSlot placed slot i.0 i.1
+  pub all : (y q : ℕ) → IsWithin placed y q → IsPairBefore y q x p → IsSome (get nat_eq instances (slot_number placed y q))
 
 -- and at each slot of an instance
-abbrev pub IsLookup : Placed → BTreeMap ℕ (ℕ × ℕ) → Type 0
+abbrev pub IsLookup : Placed → BySlot → Type 0
 IsLookup placed instances = IsLookupUpTo placed instances placed.nodes 0

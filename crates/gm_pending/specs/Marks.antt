@@ -1,8 +1,9 @@
 -- How reached darts are kept. No public clause cites this module.
-use Rattle.std.specs.Prelude.{◌≡◌, ◌≢◌, ℕ, ◌+◌, ◌*◌, ◌<◌, ◌⊎◌, List, [], ◌∷◌, ◌++◌, Option, Some, IfSome, slice_get}
+use Rattle.std.specs.Prelude.{◌≡◌, ◌≢◌, ℕ, ◌+◌, ◌*◌, ◌<◌, ◌⊎◌, List, [], ◌∷◌, ◌++◌, nat_eq, Option, Some, IfSome, slice_get}
 use Rattle.std.specs.List.{Contains}
-use Rattle.std.specs.Ordering.{nat_cmp}
-use Rattle.std.specs.BTreeMap.{BTreeMap, get}
+use Rattle.std.specs.declared.hash.BuildHasherDefault.{BuildHasherDefault}
+use Rattle.std.specs.declared.hash.FoldHasher.{FoldHasher}
+use Rattle.std.specs.HashMap.{HashMap, get}
 use Rattle.gm_pending.specs.declared.at.At.{At}
 use Rattle.gm_pending.specs.declared.at.At.TheVariants.{Old, New}
 use Rattle.gm_pending.specs.declared.marks.Mark.{Mark}
@@ -14,6 +15,10 @@ key_of (New x p) = p * 512 + x + 1
 
 abbrev pub reached_by : At → ℕ → Mark
 reached_by at k = record { at = at; instance = k; key = key_of at }
+
+-- indices by the numbers of darts
+abbrev pub ByKey : Type 0
+ByKey = HashMap ℕ ℕ (BuildHasherDefault FoldHasher)
 
 -- each entry keeps the number of its dart
 abbrev pub AreKeyed : List Mark → Type 0
@@ -35,12 +40,12 @@ abbrev pub HasDistinctKeys : List Mark → Type 0
 HasDistinctKeys reached = (k l : ℕ) (a b : Mark) → k < l → slice_get reached k ≡ Some a → slice_get reached l ≡ Some b → key_of a.at ≢ key_of b.at
 
 -- the map has the index of each entry, by its key
-pub record IsIndex (reached : List Mark) (by_key : BTreeMap ℕ ℕ) : Type 0 where
-  pub marked : (entry : Mark) → Contains reached entry → get nat_cmp by_key (key_of entry.at) ≡ Some entry.instance
-  pub only : (key k : ℕ) → get nat_cmp by_key key ≡ Some k → IsMarkedBy reached key k
+pub record IsIndex (reached : List Mark) (by_key : ByKey) : Type 0 where
+  pub marked : (entry : Mark) → Contains reached entry → get nat_eq by_key (key_of entry.at) ≡ Some entry.instance
+  pub only : (key k : ℕ) → get nat_eq by_key key ≡ Some k → IsMarkedBy reached key k
 
 -- each key is its dart's, and comes once; and where there is a map, it has all of them
-pub record AreMarked (reached : List Mark) (by_key : Option (BTreeMap ℕ ℕ)) : Type 0 where
+pub record AreMarked (reached : List Mark) (by_key : Option ByKey) : Type 0 where
   pub keyed : AreKeyed reached
   pub distinct : HasDistinctKeys reached
   pub indexed : IfSome by_key (IsIndex reached)

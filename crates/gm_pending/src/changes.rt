@@ -40,14 +40,14 @@ impl<'a> Model for Changes<'a> {
     ghost use Rattle.std.specs.Prelude.{◌≡◌, ◌+◌, ◌≤◌, length};
     ghost use Rattle.std.specs.Vec.{vec_capacity};
     ghost use Rattle.gm_pending.specs.Collected.{told_by, left_slots};
-    ghost use Rattle.gm_pending.specs.EditLists.{EditLists};
+    ghost use Rattle.gm_pending.specs.EditLists.{EditLists, AreDistinct};
     ghost use Rattle.gm_pending.specs.ToldEdits.{lists_told};
 
     ghost Value = { EditLists };
 
     ghost view = { λ c. lists_told (told_by c.rewrite) c.added c.added_values.items c.values.items };
 
-    ghost invariant = { λ c. (c.slots.items ≡ left_slots (told_by c.rewrite)) × (length c.slots.items + c.added ≤ vec_capacity c.slots) };
+    ghost invariant = { λ c. (c.slots.items ≡ left_slots (told_by c.rewrite)) × (length c.slots.items + c.added ≤ vec_capacity c.slots) × AreDistinct c.slots.items };
 }
 
 impl<'a> Pending<'a, '_> {

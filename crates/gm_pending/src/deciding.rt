@@ -192,7 +192,8 @@ impl Pending<'_, '_> {
         ensures some { (p : ℕ) × (p ≤ self.now.placed.positions) × AreMarkedTo self.now marks.old marks.new node index p }
     {
         for position in 0..self.positions() {
-            marks.mark_new(self.place(node, position), index)?;
+            let at = self.place(node, position);
+            marks.mark_new(at, index, self.positions() as usize)?;
         }
         Ok(())
     }

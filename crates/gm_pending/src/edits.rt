@@ -3,12 +3,13 @@ ghost use Rattle.std.specs.FinMap.{get};
 ghost use Rattle.std.specs.List.{Contains};
 ghost use Rattle.gm_model.specs.Maps.{IsGeneralised};
 ghost use Rattle.gm_arena.specs.ArenaAsMap.{as_map};
+ghost use Rattle.gm_arena.specs.ArenaMap.{IsLiveSlot};
 ghost use Rattle.gm_arena.specs.declared.slot.Slot.{Slot};
 ghost use Rattle.gm_pending.specs.declared.changes.ValueAt.{ValueAt};
-ghost use Rattle.gm_pending.specs.EditLists.{AreEditsHere, AreEditsOf, HasSameRows, IsReachedSumIn, IsResultOf, IsUntouched, cost_of};
+ghost use Rattle.gm_pending.specs.EditLists.{AreDistinct, AreEditsHere, AreEditsOf, HasSameRows, IsReachedSumIn, IsResultOf, IsUntouched, cost_of};
 ghost use Rattle.gm_pending.specs.OwnEdits.{AreTouched};
 ghost use Rattle.gm_pending.specs.Results.{PendingOf, rule_in};
-ghost use Rattle.gm_pending.specs.Touched.{AreTaken};
+ghost use Rattle.gm_pending.specs.Touched.{AreTaken, touched_of};
 
 use crate::applied::Applied;
 use crate::changes::{Changes, ValueAt};
@@ -36,6 +37,8 @@ pub struct Edits {
     added_values: Vec<Value>,
     values: Vec<ValueAt>,
     slots: Vec<Slot>,
+    /// The slots of the darts that are touched; where no value is set, they are those of the left
+    /// nodes, and none stands here.
     touched: Vec<Slot>,
 }
 
@@ -44,15 +47,18 @@ impl Model for Edits {
     ghost use Rattle.std.specs.Vec.{vec_capacity};
     ghost use Rattle.gm_pending.specs.Collected.{IsFitted, rows_at, told_by, left_slots, all_removed};
     ghost use Rattle.gm_pending.specs.OwnEdits.{OwnEdits, own_edits};
+    ghost use Rattle.gm_pending.specs.EditLists.{AreDistinct};
     ghost use Rattle.gm_pending.specs.ToldEdits.{lists_told};
+    ghost use Rattle.gm_pending.specs.Touched.{touched_of};
 
     ghost Value = { OwnEdits };
 
-    ghost view = { λ e. own_edits (lists_told (told_by (rows_at e.dim e.removes e.goes e.freed.items e.made.items e.found)) e.added e.added_values.items e.values.items) e.touched.items };
+    ghost view = { λ e. own_edits (lists_told (told_by (rows_at e.dim e.removes e.goes e.freed.items e.made.items e.found)) e.added e.added_values.items e.values.items) (touched_of e.values.items e.slots.items e.touched.items) };
 
     ghost invariant = { λ e. IsFitted (rows_at e.dim e.removes e.goes e.freed.items e.made.items e.found)
         × (e.slots.items ≡ left_slots (told_by (rows_at e.dim e.removes e.goes e.freed.items e.made.items e.found)))
         × (length e.slots.items + e.added ≤ vec_capacity e.slots)
+        × AreDistinct e.slots.items
         × (e.applied.added ≡ e.added)
         × (e.applied.removed ≡ length (all_removed (told_by (rows_at e.dim e.removes e.goes e.freed.items e.made.items e.found)))) };
 }
@@ -75,13 +81,7 @@ impl Changes<'_> {
         ensures few { (app : PendingOf) (reached : ℕ) → AreEditsOf app self.entry → IsReachedSumIn app reached → IfOk result (λ edits. length edits.touched ≤ length (rule_in app).nodes * app.placed.positions + reached) }
         ensures room { scratch.old.bound ≤ scratch.new.bound }
     {
-        scratch.fit(arena)?;
-        // The arena tells here that its live slots lie below its bound.
-        prove!(arena.count() <= MOST_DARTS);
-        scratch.clear();
-        take_slots(&self.slots, scratch);
-        take_values(&self.values, scratch);
-        let touched = Vec::from_slice(alloc, scratch.walked())?;
+        let touched = touched_slots(alloc, &self.slots, &self.values, arena, scratch)?;
         let Changes {
             rewrite,
             added,
@@ -106,16 +106,34 @@ impl Changes<'_> {
     }
 }
 
-/// Takes the slots in, each once.
-fn take_slots(slots: &[Slot], scratch: &mut Scratch)
-    requires within { (slot : Slot) → Contains slots.now slot → slot.at < scratch.old.bound }
-    requires none { scratch.old.walked ≡ [] }
-    ensures taken { AreTaken slots.now [] scratch.new.walked }
-    ensures bound { scratch.new.bound ≡ scratch.old.bound }
+/// The slots and those of the values, each once. Where there is no value, they are the slots as they
+/// stand, and none is answered.
+fn touched_slots(
+    alloc: Global,
+    slots: &[Slot],
+    values: &[ValueAt],
+    arena: &Arena,
+    scratch: &mut Scratch,
+) -> Result<Vec<Slot>, OutOfMemory>
+    requires matched { (slot : Slot) → Contains slots.now slot → IsLiveSlot arena.now slot.at }
+    requires distinct { AreDistinct slots.now }
+    requires valued { (at : ValueAt) → Contains values.now at → IsLiveSlot arena.now at.slot.at }
+    ensures taken { IfOk result (λ touched. AreTaken slots.now values.now (touched_of values.now slots.now touched.items)) }
+    ensures room { scratch.old.bound ≤ scratch.new.bound }
 {
+    if values.is_empty() {
+        return Ok(Vec::new(alloc));
+    }
+    scratch.fit(arena)?;
+    // The arena tells here that its live slots lie below its bound.
+    prove!(arena.count() <= MOST_DARTS);
+    scratch.clear();
     for slot in slots {
         scratch.take_in(*slot);
     }
+    take_values(values, scratch);
+    let touched = Vec::from_slice(alloc, scratch.walked())?;
+    Ok(touched)
 }
 
 /// Takes the slots in that get values and aren't among those that were taken in.
@@ -134,7 +152,11 @@ impl Edits {
     pub fn touched(&self) -> &[Slot]
         ensures { result.now ≡ self.now.touched }
     {
-        &self.touched
+        if self.values.is_empty() {
+            &self.slots
+        } else {
+            &self.touched
+        }
     }
 
     /// How many darts the application adds and removes.

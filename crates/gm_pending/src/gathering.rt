@@ -9,6 +9,7 @@ ghost use Rattle.gm_pending.specs.Sources.{AreKeepers};
 
 use crate::at::At;
 use crate::changes::ValueAt;
+use crate::marks::push;
 use crate::pending::Pending;
 use crate::values::given;
 use gm_arena::Steps;
@@ -36,7 +37,8 @@ impl Pending<'_, '_> {
         ensures cost { steps.new ≤ steps.old + added * length self.now.map.schema.embeds }
         ensures least { steps.old ≤ steps.new }
     {
-        if self.embeds() == 0 {
+        let room = added.saturating_mul(self.embeds() as usize);
+        if room == 0 {
             return Ok(Vec::new(self.alloc));
         }
         let mut values = self.kept_values(added, steps)?;
@@ -174,7 +176,7 @@ impl Pending<'_, '_> {
         for entry in orbits.marks.as_slice() {
             if let At::Old(slot) = entry.at {
                 let value = given(&orbits.instances, entry.instance);
-                values.push(ValueAt { slot, embed, value })?;
+                push(values, ValueAt { slot, embed, value }, orbits.marks.len())?;
             }
         }
         Ok(())

@@ -7,31 +7,32 @@ use gm_arena::Slot;
 use gm_model::OutOfMemory;
 use gm_plan::Instances;
 use std::alloc::Global;
-use std::collections::BTreeMap;
+use std::collections::HashMap;
 
 /// The left nodes and positions by the slots at which they lie. It is made once where many darts
 /// are looked up.
 #[derive(Drop)]
 pub(crate) struct Lookup {
-    instances: BTreeMap<u32, (u8, u32)>,
+    instances: Box<HashMap<u32, (u8, u32)>>,
 }
 
 impl Lookup {
     /// The instances of so many left nodes.
     pub(crate) fn build(alloc: Global, found: &Instances, nodes: u8) -> Result<Lookup, OutOfMemory>
         requires { nodes ≡ found.now.nodes }
-        ensures { IfOk result (λ lookup. IsLookup found.now lookup.instances) }
+        ensures { IfOk result (λ lookup. IsLookup found.now lookup.instances.value) }
     {
-        let mut instances = BTreeMap::new(alloc);
+        let mut instances = HashMap::new(alloc);
         for node in 0..nodes {
             add_node(&mut instances, found, node)?;
         }
+        let instances = Box::new(alloc, instances)?;
         Ok(Lookup { instances })
     }
 
     /// The left node and the position that lie at the slot; none where no instance does.
     pub(crate) fn find(&self, found: &Instances, slot: Slot) -> Option<(u8, u32)>
-        requires { IsLookup found.now self.now.instances }
+        requires { IsLookup found.now self.now.instances.value }
         ensures { MatchOption result
             ((x p : ℕ) → IsWithin found.now x p → slot_number found.now x p ≢ slot.at)
             (λ i. IsAtSlot found.now slot.at i.0 i.1) }
@@ -42,7 +43,7 @@ impl Lookup {
 
 /// Adds the instances of a node.
 fn add_node(
-    instances: &mut BTreeMap<u32, (u8, u32)>,
+    instances: &mut HashMap<u32, (u8, u32)>,
     found: &Instances,
     node: u8,
 ) -> Result<(), OutOfMemory>

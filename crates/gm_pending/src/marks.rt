@@ -6,7 +6,7 @@ ghost use Rattle.gm_pending.specs.Marks.{key_of, reached_by, HasKey, AreKeyed, I
 use crate::at::At;
 use gm_model::OutOfMemory;
 use std::alloc::Global;
-use std::collections::BTreeMap;
+use std::collections::HashMap;
 use std::marker::Model;
 
 /// A dart of a result, and the index of the instance that decides its orbit.
@@ -26,20 +26,22 @@ const FEW: usize = 16;
 pub(crate) struct Marks {
     alloc: Global,
     reached: Vec<Mark>,
-    /// The index of the deciding instance, by the key of a dart, where there are more than a few.
-    by_key: Option<BTreeMap<u64, u32>>,
+    /// The index of the deciding instance, by the key of a dart, where there are more than a few. In
+    /// a box it leaves the marks of a few darts small, which are moved more than once.
+    by_key: Option<Box<HashMap<u64, u32>>>,
 }
 
 impl Model for Marks {
     ghost use Rattle.std.specs.Prelude.{List};
     ghost use Rattle.gm_pending.specs.declared.marks.Mark.{Mark};
+    ghost use Rattle.std.specs.Option.{option_map};
     ghost use Rattle.gm_pending.specs.Marks.{AreMarked};
 
     ghost Value = { List Mark };
 
     ghost view = { λ a. a.reached.items };
 
-    ghost invariant = { λ a. AreMarked a.reached.items a.by_key };
+    ghost invariant = { λ a. AreMarked a.reached.items (option_map (λ b. b.value) a.by_key) };
 }
 
 impl Marks {
@@ -103,13 +105,14 @@ impl Marks {
         if self.by_key.is_none() && self.reached.len() >= FEW {
             self.index_all()?;
         }
-        self.mark_new(at, instance)
+        self.mark_new(at, instance, FEW)
     }
 
     /// Marks a dart that isn't marked. Where memory was wanting, nothing is marked. It makes no index,
-    /// so that darts that need no search are marked without one.
+    /// so that darts that need no search are marked without one; and where there is no room, it makes
+    /// room for so many at once.
     #[inline]
-    pub(crate) fn mark_new(&mut self, at: At, instance: u32) -> Result<(), OutOfMemory>
+    pub(crate) fn mark_new(&mut self, at: At, instance: u32, room: usize) -> Result<(), OutOfMemory>
         requires absent { HasKey self.old (key_of at) → ⊥ }
         ensures ok { OnOk result (self.new ≡ self.old ++ reached_by at instance ∷ []) }
         ensures err { OnErr result (self.new ≡ self.old) }
@@ -120,7 +123,7 @@ impl Marks {
             key: key(at),
         };
         if self.by_key.is_none() {
-            push(&mut self.reached, mark)
+            push(&mut self.reached, mark, room)
         } else {
             self.add_to_index(mark)
         }
@@ -151,38 +154,38 @@ impl Marks {
     }
 }
 
-/// Puts a dart behind the others. The first one makes room for a few at once.
-fn push(reached: &mut Vec<Mark>, entry: Mark) -> Result<(), OutOfMemory>
-    ensures ok { OnOk result (reached.new.items ≡ reached.old.items ++ entry ∷ []) }
-    ensures err { OnErr result (reached.new.items ≡ reached.old.items) }
+/// Puts an entry behind the others. Where there is no room, it makes room for so many at once.
+pub(crate) fn push<T: Copy>(entries: &mut Vec<T>, entry: T, room: usize) -> Result<(), OutOfMemory>
+    ensures ok { OnOk result (entries.new.items ≡ entries.old.items ++ entry ∷ []) }
+    ensures err { OnErr result (entries.new.items ≡ entries.old.items) }
 {
-    if reached.is_empty() {
-        reached.reserve(FEW)?;
+    if entries.len() == entries.capacity() {
+        entries.reserve(room)?;
     }
-    reached.push(entry)?;
+    entries.push(entry)?;
     Ok(())
 }
 
 /// The index of the deciding instance of each dart, by its key.
-fn index(alloc: Global, reached: &[Mark]) -> Result<BTreeMap<u64, u32>, OutOfMemory>
+fn index(alloc: Global, reached: &[Mark]) -> Result<Box<HashMap<u64, u32>>, OutOfMemory>
     requires keyed { AreKeyed reached.now }
     requires distinct { HasDistinctKeys reached.now }
-    ensures { IfOk result (IsIndex reached.now) }
+    ensures { IfOk result (λ by_key. IsIndex reached.now by_key.value) }
 {
-    let mut by_key = BTreeMap::new(alloc);
+    let mut by_key = HashMap::new(alloc);
     for entry in reached {
         by_key.insert(entry.key, entry.instance)?;
     }
-    Ok(by_key)
+    Ok(Box::new(alloc, by_key)?)
 }
 
 /// The index with one more dart, where there is one.
 fn put(
-    by_key: Option<BTreeMap<u64, u32>>,
+    by_key: Option<Box<HashMap<u64, u32>>>,
     entry: Mark,
-) -> Result<Option<BTreeMap<u64, u32>>, OutOfMemory>
+) -> Result<Option<Box<HashMap<u64, u32>>>, OutOfMemory>
     requires { entry.key ≡ key_of entry.at }
-    ensures { IfOk result (λ more. (reached : List Mark) → (HasKey reached (key_of entry.at) → ⊥) → IfSome by_key (IsIndex reached) → IfSome more (IsIndex (reached ++ entry ∷ []))) }
+    ensures { IfOk result (λ more. (reached : List Mark) → (HasKey reached (key_of entry.at) → ⊥) → IfSome by_key (λ old. IsIndex reached old.value) → IfSome more (λ new. IsIndex (reached ++ entry ∷ []) new.value)) }
 {
     let Some(mut by_key) = by_key else {
         return Ok(None);

@@ -1,5 +1,6 @@
-use Rattle.gm_pending.specs.Marks.{HasKey, key_of}
-use Rattle.gm_pending.proofs.Reached.{keyed_more, distinct_more}
+use Rattle.std.proofs.Common.{◌∷◌, ◌++◌, []}
+use Rattle.gm_pending.specs.Marks.{HasKey, IsIndex, key_of}
+use Rattle.gm_pending.proofs.Reached.{keyed_more, distinct_more, shown_within, within_shown}
 use Rattle.gm_pending.proofs.marks.Marks.add_to_index.Goals as goal
 
 pub invariant_of-self-2 : goal.invariant_of-self-2
@@ -9,5 +10,5 @@ invariant_of-self-2 c =
     rw (c.push_reserved.ensures.items, c.reserve.ensures.items) (record {
       keyed = keyed_more reached c.args.mark c.self.invariant.keyed c.requires.key;
       distinct = distinct_more reached c.self.invariant.distinct c.args.mark absent;
-      indexed = c.in_ok-self-inside.ensures reached absent (rw c.take.ensures.value c.self.invariant.indexed);
+      indexed = within_shown c.self.inside.by_key (λ b. b.value) (IsIndex (reached ++ c.args.mark ∷ [])) _ (c.in_ok-self-inside.ensures reached absent (rw c.take.ensures.value (shown_within c.self.inside.by_key (λ b. b.value) (IsIndex reached) c.self.invariant.indexed)));
     })

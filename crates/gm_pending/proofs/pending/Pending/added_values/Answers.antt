@@ -1,4 +1,4 @@
-use Rattle.std.proofs.Common.{◌≡◌, ℕ, ◌+◌, List, ◌++◌, length, take, drop, subst, sym, ◌∙◌, arith}
+use Rattle.std.proofs.Common.{◌≡◌, ℕ, ◌+◌, ◌*◌, List, ◌++◌, length, take, drop, subst, sym, ap, ◌∙◌, arith}
 use Rattle.std.proofs.lemmas.List.{take-append-le, take_all}
 use Rattle.gm_model.specs.declared.value.Value.{Value}
 use Rattle.gm_pending.specs.EditLists.{AreAddedValues}
@@ -15,11 +15,13 @@ returns-clause-values g c =
     let whole : c.loop-embed.embed ≡ length c.args.self.now.map.schema.embeds = omega (arith, c.loop-embed-test.false, c.loop-embed.auto.embed-end, c.embeds-embed-end.ensures.embeds) in
     subst (λ n. AreAddedValues c.args.self.now n c.loop-embed.values.items) (sym c.requires.added) (all_decided c.args.self.now c.loop-embed.embed c.loop-embed.values.items whole c.loop-embed.invariant)
 
-pub returns-then-embeds-eq0-clause-values : goal.returns-then-embeds-eq0-clause-values
-returns-then-embeds-eq0-clause-values g c = subst (AreAddedValues c.args.self.now c.args.added) (sym c.new.ensures.items) (no_values c.args.self.now c.args.added (omega (arith, c.if-embeds-eq0.true, c.embeds.ensures.embeds)))
+pub returns-then-room-eq0-clause-values : goal.returns-then-room-eq0-clause-values
+returns-then-room-eq0-clause-values g c =
+    let none : c.args.added * length c.args.self.now.map.schema.embeds ≡ 0 = ap (λ n. c.args.added * n) (sym c.embeds.ensures.embeds) ∙ omega (arith, c.if-room-eq0.true, c.saturating_mul-room.ensures) in
+    subst (AreAddedValues c.args.self.now c.args.added) (sym c.new.ensures.items) (no_values c.args.self.now c.args.added none)
 
-pub returns-then-embeds-eq0-clause-cost : goal.returns-then-embeds-eq0-clause-cost
-returns-then-embeds-eq0-clause-cost g c = omega arith
+pub returns-then-room-eq0-clause-cost : goal.returns-then-room-eq0-clause-cost
+returns-then-room-eq0-clause-cost g c = omega arith
 
 pub kept_values-requires : goal.kept_values-requires
 kept_values-requires g c = c.requires.added

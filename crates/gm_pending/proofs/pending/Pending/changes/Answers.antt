@@ -4,7 +4,8 @@ use Rattle.gm_model.specs.Unfolding.{added_nodes}
 use Rattle.gm_pending.specs.declared.rewrite.Arcs.TheVariants.{Freed, Made}
 use Rattle.gm_pending.specs.Results.{PendingOf, IsPrepared, rule_in}
 use Rattle.gm_plan.specs.Placed.{Placed}
-use Rattle.gm_pending.proofs.Collected.{are_edits, few_added}
+use Rattle.gm_pending.specs.EditLists.{AreDistinct}
+use Rattle.gm_pending.proofs.Collected.{are_edits, few_added, left_distinct}
 use Rattle.gm_pending.proofs.Told.{same_arcs, same_left, same_removed}
 use Rattle.gm_model.proofs.Exits.{unless_ok}
 use Rattle.gm_pending.proofs.pending.Pending.changes.Goals as goal
@@ -105,4 +106,7 @@ left_slots-requires g c = c.left_nodes.ensures.left ∙ sym (ap (λ (p : Placed)
 pub invariant_of-result : goal.invariant_of-result
 invariant_of-result g c =
     let positions : c.positions.result ≡ c.rewrite-rewrite.result.placed.positions = c.positions.ensures.value ∙ ap (λ (a : PendingOf). a.placed.positions) c.self.view_is ∙ sym (ap (λ (p : Placed). p.positions) c.rewrite-rewrite.ensures.placed) in
-    (c.in_ok-slots.ensures.slots, rw positions c.in_ok-slots.ensures.room)
+    let app = c.args.self.now in
+    let prepared : IsPrepared app = subst IsPrepared c.self.view_is c.self.invariant.0 in
+    let left = c.in_ok-slots.ensures.slots ∙ same_left _ _ c.rewrite-rewrite.ensures in
+    (c.in_ok-slots.ensures.slots, rw positions c.in_ok-slots.ensures.room, subst AreDistinct (sym left) (left_distinct app prepared))

@@ -11,21 +11,21 @@ pub mark_new-requires : goal.mark_new-requires
 mark_new-requires c =
     let l = c.loop-position in
     record {
-      absent = next_absent c.args.self.now c.positions-position-end.ensures.prepared c.args.node c.requires.right c.args.marks.now l.marks c.args.index l.position c.place.result l.invariant.marked c.place.ensures.name
-          c.requires.unmarked (omega (arith, c.loop-position-test.true, c.positions-position-end.ensures.positions)) c.place.ensures.dart l.invariant.darts;
+      absent = next_absent c.args.self.now c.positions-position-end.ensures.prepared c.args.node c.requires.right c.args.marks.now l.marks c.args.index l.position c.place-at.result l.invariant.marked c.place-at.ensures.name
+          c.requires.unmarked (omega (arith, c.loop-position-test.true, c.positions-position-end.ensures.positions)) c.place-at.ensures.dart l.invariant.darts;
     }
 
 pub loop-position-preserved : goal.loop-position-preserved
 loop-position-preserved c =
     let app = c.args.self.now in
     let l = c.loop-position in
-    let at = c.place.result in
+    let at = c.place-at.result in
     let prepared = c.positions-position-end.ensures.prepared in
-    let absent = next_absent app prepared c.args.node c.requires.right c.args.marks.now l.marks c.args.index l.position at l.invariant.marked c.place.ensures.name
-    c.requires.unmarked (omega (arith, c.loop-position-test.true, c.positions-position-end.ensures.positions)) c.place.ensures.dart l.invariant.darts in
+    let absent = next_absent app prepared c.args.node c.requires.right c.args.marks.now l.marks c.args.index l.position at l.invariant.marked c.place-at.ensures.name
+    c.requires.unmarked (omega (arith, c.loop-position-test.true, c.positions-position-end.ensures.positions)) c.place-at.ensures.dart l.invariant.darts in
     record {
-      darts = marked_darts app prepared l.marks c.mark_new.new.self at c.args.index (inr (absent, c.in_ok-mark_new.ensures.ok)) c.place.ensures.dart l.invariant.darts;
-      marked = rw c.in_ok-mark_new.ensures.ok (next_marked app prepared c.args.node c.requires.right c.args.marks.now l.marks c.args.index l.position at l.invariant.marked c.place.ensures.name);
+      darts = marked_darts app prepared l.marks c.mark_new.new.self at c.args.index (inr (absent, c.in_ok-mark_new.ensures.ok)) c.place-at.ensures.dart l.invariant.darts;
+      marked = rw c.in_ok-mark_new.ensures.ok (next_marked app prepared c.args.node c.requires.right c.args.marks.now l.marks c.args.index l.position at l.invariant.marked c.place-at.ensures.name);
     }
 
 pub returns-in_err-mark_new-clause-darts : goal.returns-in_err-mark_new-clause-darts

@@ -44,7 +44,7 @@ loop-entry-preserved c =
           record {
             reached = now.reached;
             there = now.there;
-            so_far = rw (w.values-is, w.in_ok-push.ensures.items) more;
+            so_far = rw (w.values-is, w.in_ok-push.ensures.ok) more;
           }
       | in_default w ↦ record {
         reached = now.reached;
