@@ -3,6 +3,7 @@ ghost use Rattle.std.specs.Prelude.{◌≡◌, ℕ, ◌+◌, ◌*◌, ◌<◌, �
 ghost use Rattle.std.specs.FinMap.{get};
 ghost use Rattle.std.specs.Vec.{vec_capacity};
 ghost use Rattle.gm_arena.specs.ArenaMap.{Dart, IsLiveSlot, name_at};
+ghost use Rattle.gm_arena.specs.Inside.{part_of};
 ghost use Rattle.gm_arena.specs.declared.slot.Slot.{Slot};
 ghost use Rattle.gm_undo.specs.Kept.{KeptRow};
 ghost use Rattle.gm_undo.specs.Flat.{RowsOf, row_in, staying};
@@ -152,7 +153,7 @@ impl KeptRows {
         requires { index < length self.now.rows }
         ensures { result.now ≡ (row_in self.now.rows index).dart.alphas }
     {
-        &self.neighbours[index * self.labels..index * self.labels + self.labels]
+        part(&self.neighbours, self.labels, index)
     }
 
     /// The values, by embedding.
@@ -160,8 +161,16 @@ impl KeptRows {
         requires { index < length self.now.rows }
         ensures { result.now ≡ (row_in self.now.rows index).dart.values }
     {
-        &self.values[index * self.width..index * self.width + self.width]
+        part(&self.values, self.width, index)
     }
+}
+
+/// What a row has of the items, of which each row has so many.
+fn part<T>(items: &[T], width: usize, index: usize) -> &[T]
+    requires { index * width + width ≤ length items.now }
+    ensures { result.now ≡ part_of width items.now index }
+{
+    &items[index * width..index * width + width]
 }
 
 /// So many times as many; refused where no vector has room for it.
