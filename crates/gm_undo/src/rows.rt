@@ -65,13 +65,31 @@ impl KeptRows {
         self.names.len()
     }
 
-    /// Makes room for so many rows in all, of maps with so many labels and embeddings.
+    /// Makes room for so many rows in all, of maps with so many labels and embeddings. Where it is
+    /// missing, twice the room is made, so that most calls only compare.
     pub(crate) fn reserve(
         &mut self,
         rows: usize,
         labels: usize,
         width: usize,
     ) -> Result<(), OutOfMemory>
+        requires more { length self.old.rows ≤ rows }
+        requires labels { 0 < length self.old.rows → labels ≡ self.old.labels }
+        requires width { 0 < length self.old.rows → width ≡ self.old.width }
+        ensures rows { OnOk result (self.new ≡ record { labels = labels; width = width; room = self.new.room; rows = self.old.rows }) }
+        ensures room { OnOk result (rows ≤ self.new.room) }
+        ensures stays { OnErr result (self.new ≡ self.old) }
+    {
+        if rows <= self.room && labels == self.labels && width == self.width {
+            return Ok(());
+        }
+        self.grow(rows.max(self.room.saturating_mul(2)), labels, width)
+    }
+
+    /// Makes room for so many rows in all, of maps with so many labels and embeddings.
+    #[cold]
+    #[inline(never)]
+    fn grow(&mut self, rows: usize, labels: usize, width: usize) -> Result<(), OutOfMemory>
         requires more { length self.old.rows ≤ rows }
         requires labels { 0 < length self.old.rows → labels ≡ self.old.labels }
         requires width { 0 < length self.old.rows → width ≡ self.old.width }
