@@ -26,14 +26,8 @@ steps_of_darts before found read edited after added removed new old h k l m e f 
 pub names_fit : (at next added more : ℕ) → at + more ≤ most_names → added ≡ more → next ≡ at → next + added ≤ most_names
 names_fit at next added more h e f = omega arith
 
-pub names_reserved : (at old next added new here reserved : ℕ) → new ≡ added → next ≡ at → here ≡ at → reserved ≡ max old (next + added) → here + new ≤ reserved
-names_reserved at old next added new here reserved e f g h = omega arith
-
-pub reserved_then : (at old next added between after : ℕ) → next ≡ at → between ≡ max old (next + added) → after ≡ between → after ≡ max old (at + added)
-reserved_then at old next added between after e f g = omega arith
-
-pub reserved_most : (at old next added reserved : ℕ) → next ≡ at → reserved ≤ max old (next + added) → reserved ≤ max old (at + added)
-reserved_most at old next added reserved e h = omega arith
+pub names_reserved : (at old added new here reserved : ℕ) → new ≡ added → here ≡ at → reserved ≡ max old (at + added) → here + new ≤ reserved
+names_reserved at old added new here reserved e f g = omega arith
 
 pub still_above : (old between after : ℕ) → old ≤ between → after ≡ between → old ≤ after
 still_above old between after h e = omega arith
@@ -43,14 +37,11 @@ still_above old between after h e = omega arith
 pub darts_fit : (count spare added removed more : ℕ) → count + added ≤ most_darts + removed → count + spare ≤ most_darts → more ≡ added - removed → count + more ≤ most_darts
 darts_fit count spare added removed more h k e = omega arith
 
-pub room_reserved : (spare added removed new old between room : ℕ) → new ≡ added → old ≡ removed → room ≡ added - removed → between ≡ max spare room → new ≤ between + old
-room_reserved spare added removed new old between room e f g h = omega arith
+pub room_reserved : (spare added removed new old between : ℕ) → new ≡ added → old ≡ removed → between ≡ max spare (added - removed) → new ≤ between + old
+room_reserved spare added removed new old between e f g = omega arith
 
-pub spare_then : (spare added removed new old between room after : ℕ) → new ≡ added → old ≡ removed → room ≡ added - removed → between ≡ max spare room → after + new ≡ between + old → after + added ≡ max spare (added - removed) + removed
-spare_then spare added removed new old between room after e f g h k = omega arith
-
-pub spare_most : (old added removed room spare : ℕ) → room ≡ added - removed → spare ≤ max old room → spare ≤ max old (added - removed)
-spare_most old added removed room spare e h = omega arith
+pub spare_then : (spare added removed new old between after : ℕ) → new ≡ added → old ≡ removed → between ≡ max spare (added - removed) → after + new ≡ between + old → after + added ≡ max spare (added - removed) + removed
+spare_then spare added removed new old between after e f g h = omega arith
 
 pub spare_stays : (count spare here between : ℕ) → here ≡ count → spare ≤ between → count + spare ≤ here + between
 spare_stays count spare here between e h = omega arith

@@ -1,11 +1,12 @@
-ghost use Rattle.std.specs.Prelude.{◌≡◌, ◌≢◌, ℕ, ◌+◌, ◌-◌, ◌≤◌, length, max, List, IfErr, IfOk, MatchResult};
+ghost use Rattle.std.specs.Prelude.{◌≡◌, ◌≢◌, ℕ, ◌+◌, ◌-◌, ◌≤◌, length, max, List, IfErr, IfOk, MatchResult, OnOk};
 ghost use Rattle.gm_model.specs.declared.value.Value.{Value};
 ghost use Rattle.gm_model.specs.Applications.{IsBudget, IsDone, MeetsPre};
 ghost use Rattle.gm_model.specs.Kinds.{AreGoodParams};
-ghost use Rattle.gm_model.specs.Limits.{most_darts};
+ghost use Rattle.gm_model.specs.Limits.{most_darts, most_names};
 ghost use Rattle.gm_model.specs.Maps.{IsSound};
 ghost use Rattle.gm_model.specs.Rules.{rule_of};
 ghost use Rattle.gm_arena.specs.ArenaAsMap.{as_map};
+ghost use Rattle.gm_arena.specs.Lawful.{IsLawful};
 ghost use Rattle.gm_match.specs.Outcome.{application_of, IsAnswer};
 ghost use Rattle.gm_pending.specs.EditLists.{HasSameRows};
 ghost use Rattle.gm_plan.specs.InArena.{placement_in};
@@ -18,7 +19,7 @@ use crate::reading::Reading;
 use crate::refusal::Refusal;
 use gm_arena::{Arena, Steps};
 use gm_match::find;
-use gm_model::{MOST_DARTS, MOST_NAMES, Value};
+use gm_model::{MOST_DARTS, MOST_NAMES, OutOfMemory, Value};
 use gm_pending::{Applied, Changes};
 use gm_plan::{Instances, Plan};
 use gm_walk::Scratch;
@@ -71,8 +72,7 @@ pub fn apply<L: Ledger>(
         params,
     };
     let (applied, changes) = ready(alloc, &reading, scratch, steps)?;
-    let more = applied.added.saturating_sub(applied.removed);
-    arena.reserve(more, arena.next() + applied.added)?;
+    reserve(arena, applied)?;
     changes.commit(arena, steps);
     let (slots, turns) = found.into_rows();
     scratch.keep_rows(slots, turns);
@@ -100,6 +100,24 @@ pub(crate) fn ready<'a, L: Ledger>(
     let applied = room(reading.plan, reading.arena, reading.found)?;
     let changes = reading.changes(alloc, scratch, steps)?;
     Ok((applied, changes))
+}
+
+/// Makes room in the arena for the result of an application that adds and removes so many darts: for
+/// what it adds beyond what it removes, and for the names of all that it adds.
+pub(crate) fn reserve(arena: &mut Arena, applied: Applied) -> Result<(), OutOfMemory>
+    requires darts { arena.old.count + applied.added ≤ most_darts + applied.removed }
+    requires names { arena.old.next + applied.added ≤ most_names }
+    ensures rows { HasSameRows arena.old arena.new }
+    ensures spare { OnOk result (arena.new.spare ≡ max arena.old.spare (applied.added - applied.removed)) }
+    ensures reserved { OnOk result (arena.new.reserved ≡ max arena.old.reserved (arena.old.next + applied.added)) }
+    ensures spare_most { arena.new.spare ≤ max arena.old.spare (applied.added - applied.removed) }
+    ensures reserved_most { arena.new.reserved ≤ max arena.old.reserved (arena.old.next + applied.added) }
+    ensures spare_stays { arena.old.spare ≤ arena.new.spare }
+    ensures reserved_stays { arena.old.reserved ≤ arena.new.reserved }
+    ensures lawful { IsLawful arena.old }
+{
+    let more = applied.added.saturating_sub(applied.removed);
+    arena.reserve(more, arena.next() + applied.added)
 }
 
 /// How many darts the application adds and removes, where the map has room for the result.

@@ -1,5 +1,5 @@
 //! An application up to its commit, so that its caller can keep what the commit changes.
-ghost use Rattle.std.specs.Prelude.{◌≡◌, ◌≢◌, ℕ, ◌+◌, ◌*◌, ◌≤◌, length, IfErr, IfOk, MatchResult};
+ghost use Rattle.std.specs.Prelude.{◌≡◌, ◌≢◌, ℕ, ◌+◌, ◌-◌, ◌*◌, ◌≤◌, length, max, IfErr, IfOk, MatchResult};
 ghost use Rattle.gm_model.specs.Applications.{IsBudget};
 ghost use Rattle.gm_model.specs.Kinds.{AreGoodParams};
 ghost use Rattle.gm_model.specs.Maps.{IsSound};
@@ -8,10 +8,10 @@ ghost use Rattle.gm_arena.specs.ArenaAsMap.{as_map};
 ghost use Rattle.gm_match.specs.Outcome.{application_of};
 ghost use Rattle.gm_pending.specs.EditLists.{HasSameRows};
 ghost use Rattle.gm_apply.specs.declared.refusal.Refusal.TheVariants as refusals;
-ghost use Rattle.gm_apply.specs.Outcomes.{IsRefusedFor};
+ghost use Rattle.gm_apply.specs.Outcomes.{IsRefusedFor, StaysInRoom};
 ghost use Rattle.gm_apply.specs.Prepared.{IsReadyToCommit, cost_with_rows, rows_of};
 
-use crate::application::ready;
+use crate::application::{ready, reserve};
 use crate::reading::Reading;
 use crate::refusal::Refusal;
 use gm_arena::{Arena, Steps};
@@ -24,7 +24,8 @@ use std::alloc::Global;
 use std::sync::ledger::Ledger;
 
 /// Does all of an application but the commit: it is refused as `apply` is, and takes all the memory
-/// that the commit needs. The arena keeps its rows and its next name, and may get more room.
+/// that the commit needs. The arena keeps its rows and its next name, and gets the room for the
+/// result and no more.
 ///
 /// The steps that the edits leave of the budget are enough for the commit, and for reading the rows
 /// of the touched darts before it and those of the touched and the added ones behind it.
@@ -51,6 +52,9 @@ pub fn prepare<L: Ledger>(
     ensures few { (most : ℕ) → IsBudget (application_of arena.old (rule_of plan.now.table) hooks.now params.now) most → IfOk result (λ edits. 7 * (arena.old.schema.dim + 1) * rows_of edits ≤ most) }
     ensures rises { steps.old ≤ steps.new }
     ensures room { scratch.old.bound ≤ scratch.new.bound }
+    ensures spare { IfOk result (λ edits. arena.new.spare ≡ max arena.old.spare (edits.lists.added - length edits.lists.removed)) }
+    ensures reserved { IfOk result (λ edits. arena.new.reserved ≡ max arena.old.reserved (arena.old.next + edits.lists.added)) }
+    ensures no_more { StaysInRoom (application_of arena.old (rule_of plan.now.table) hooks.now params.now) arena.old arena.new }
     ensures spare_stays { arena.old.spare ≤ arena.new.spare }
     ensures reserved_stays { arena.old.reserved ≤ arena.new.reserved }
 {
@@ -65,8 +69,7 @@ pub fn prepare<L: Ledger>(
         params,
     };
     let (applied, changes) = ready(alloc, &reading, scratch, steps)?;
-    let more = applied.added.saturating_sub(applied.removed);
-    arena.reserve(more, arena.next() + applied.added)?;
+    reserve(arena, applied)?;
     let edits = changes.into_edits(alloc, applied, arena, scratch)?;
     let (slots, turns) = found.into_rows();
     scratch.keep_rows(slots, turns);

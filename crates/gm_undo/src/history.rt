@@ -12,7 +12,7 @@ ghost use Rattle.gm_arena.specs.Lawful.{IsLawful};
 ghost use Rattle.gm_match.specs.Outcome.{application_of};
 ghost use Rattle.gm_pending.specs.EditLists.{HasSameRows};
 ghost use Rattle.gm_apply.specs.declared.refusal.Refusal.TheVariants as refusals;
-ghost use Rattle.gm_apply.specs.Outcomes.{IsRefusedFor};
+ghost use Rattle.gm_apply.specs.Outcomes.{IsRefusedFor, StaysInRoom};
 ghost use Rattle.gm_undo.specs.Costs.{MayTake};
 ghost use Rattle.gm_undo.specs.Standing.{StandsFor};
 
@@ -77,7 +77,8 @@ impl History {
     /// be taken back. What was taken back before can then be brought again no more. In an open group
     /// it is taken back together with the group.
     ///
-    /// All memory is taken before the map is changed. After a refusal the history is as it was.
+    /// All memory is taken before the map is changed, in the arena as much as `gm_apply::apply` takes.
+    /// After a refusal the history is as it was.
     pub fn apply<L: Ledger>(
         &mut self,
         alloc: Global,
@@ -108,6 +109,9 @@ impl History {
         ensures rises { steps.old ≤ steps.new }
         ensures room { scratch.old.bound ≤ scratch.new.bound }
         ensures untouched { IfErr result (λ refusal. refusal ≢ refusals.OutOfMemory → arena.new ≡ arena.old) }
+        ensures spare { IfOk result (λ applied. arena.new.spare + applied.added ≡ max arena.old.spare (applied.added - applied.removed) + applied.removed) }
+        ensures reserved { IfOk result (λ applied. arena.new.reserved ≡ max arena.old.reserved (arena.old.next + applied.added)) }
+        ensures no_more { IfErr result (λ _. StaysInRoom (application_of arena.old (rule_of plan.now.table) hooks.now params.now) arena.old arena.new) }
         ensures spare_stays { arena.old.count + arena.old.spare ≤ arena.new.count + arena.new.spare }
         ensures reserved_stays { arena.old.reserved ≤ arena.new.reserved }
     {

@@ -96,6 +96,7 @@ pub(crate) fn keep<L: Ledger>(
     ensures lawful { IsLawful arena.new }
     ensures schema { arena.new.schema ≡ arena.old.schema }
     ensures total { arena.old.count + arena.old.spare ≤ arena.new.count + arena.new.spare }
+    ensures spare { arena.new.spare + edits.lists.added ≡ arena.old.spare + length edits.lists.removed }
     ensures reserved { arena.new.reserved ≡ arena.old.reserved }
     ensures cost { steps.new ≤ steps.old + cost_with_rows arena.old.schema.dim edits }
     ensures least { steps.old + edits.lists.added + length edits.lists.removed ≤ steps.new }

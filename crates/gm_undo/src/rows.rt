@@ -3,6 +3,7 @@ ghost use Rattle.std.specs.Prelude.{◌≡◌, ℕ, ◌+◌, ◌*◌, ◌<◌, �
 ghost use Rattle.std.specs.FinMap.{get};
 ghost use Rattle.std.specs.Vec.{vec_capacity};
 ghost use Rattle.gm_arena.specs.ArenaMap.{Dart, IsLiveSlot, name_at};
+ghost use Rattle.gm_arena.specs.Inside.{part_of};
 ghost use Rattle.gm_arena.specs.declared.slot.Slot.{Slot};
 ghost use Rattle.gm_undo.specs.Kept.{KeptRow};
 ghost use Rattle.gm_undo.specs.Flat.{RowsOf, row_in, staying};
@@ -64,13 +65,31 @@ impl KeptRows {
         self.names.len()
     }
 
-    /// Makes room for so many rows in all, of maps with so many labels and embeddings.
+    /// Makes room for so many rows in all, of maps with so many labels and embeddings. Where it is
+    /// missing, twice the room is made, so that most calls only compare.
     pub(crate) fn reserve(
         &mut self,
         rows: usize,
         labels: usize,
         width: usize,
     ) -> Result<(), OutOfMemory>
+        requires more { length self.old.rows ≤ rows }
+        requires labels { 0 < length self.old.rows → labels ≡ self.old.labels }
+        requires width { 0 < length self.old.rows → width ≡ self.old.width }
+        ensures rows { OnOk result (self.new ≡ record { labels = labels; width = width; room = self.new.room; rows = self.old.rows }) }
+        ensures room { OnOk result (rows ≤ self.new.room) }
+        ensures stays { OnErr result (self.new ≡ self.old) }
+    {
+        if rows <= self.room && labels == self.labels && width == self.width {
+            return Ok(());
+        }
+        self.grow(rows.max(self.room.saturating_mul(2)), labels, width)
+    }
+
+    /// Makes room for so many rows in all, of maps with so many labels and embeddings.
+    #[cold]
+    #[inline(never)]
+    fn grow(&mut self, rows: usize, labels: usize, width: usize) -> Result<(), OutOfMemory>
         requires more { length self.old.rows ≤ rows }
         requires labels { 0 < length self.old.rows → labels ≡ self.old.labels }
         requires width { 0 < length self.old.rows → width ≡ self.old.width }
@@ -90,6 +109,8 @@ impl KeptRows {
     }
 
     /// Puts the row of the dart at the slot behind the others, where there is room.
+    // Inlined, since it is short and is called for each row.
+    #[inline(always)]
     pub(crate) fn push<L: Ledger>(
         &mut self,
         stays: bool,
@@ -152,7 +173,7 @@ impl KeptRows {
         requires { index < length self.now.rows }
         ensures { result.now ≡ (row_in self.now.rows index).dart.alphas }
     {
-        &self.neighbours[index * self.labels..index * self.labels + self.labels]
+        part(&self.neighbours, self.labels, index)
     }
 
     /// The values, by embedding.
@@ -160,8 +181,16 @@ impl KeptRows {
         requires { index < length self.now.rows }
         ensures { result.now ≡ (row_in self.now.rows index).dart.values }
     {
-        &self.values[index * self.width..index * self.width + self.width]
+        part(&self.values, self.width, index)
     }
+}
+
+/// What a row has of the items, of which each row has so many.
+fn part<T>(items: &[T], width: usize, index: usize) -> &[T]
+    requires { index * width + width ≤ length items.now }
+    ensures { result.now ≡ part_of width items.now index }
+{
+    &items[index * width..index * width + width]
 }
 
 /// So many times as many; refused where no vector has room for it.

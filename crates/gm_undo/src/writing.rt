@@ -64,14 +64,18 @@ fn free_rows<L: Ledger>(rows: &KeptRows, part: Part, arena: &mut Arena, steps: &
     ensures frame { HasFrame arena.old arena.new }
     ensures cost { steps.new ≡ steps.old + (arena.old.schema.dim + 2) * (part.end - part.start) }
 {
+    // The arena tells here what it holds.
+    prove!(arena.count() <= MOST_DARTS);
+    let labels = arena.schema().dim.top() + 1;
     for index in part.start..part.end {
-        free_row(rows.name(index), arena, steps);
+        free_row(rows.name(index), labels, arena, steps);
     }
 }
 
-/// Makes the dart of the name its own neighbour for each label.
-fn free_row<L: Ledger>(name: u32, arena: &mut Arena, steps: &mut Steps<L>)
-    requires { IsLiveName arena.old name }
+/// Makes the dart of the name its own neighbour for each of the labels.
+fn free_row<L: Ledger>(name: u32, labels: u8, arena: &mut Arena, steps: &mut Steps<L>)
+    requires live { IsLiveName arena.old name }
+    requires labels { labels ≡ arena.old.schema.dim + 1 }
     ensures free { (i : ℕ) → i ≤ arena.old.schema.dim → alpha arena.new i name ≡ name }
     ensures live { IsLiveName arena.new name }
     ensures others { (d : ℕ) → d ≢ name → get arena.new.darts d ≡ get arena.old.darts d }
@@ -80,7 +84,6 @@ fn free_row<L: Ledger>(name: u32, arena: &mut Arena, steps: &mut Steps<L>)
 {
     // The arena tells here what it holds.
     prove!(arena.count() <= MOST_DARTS);
-    let labels = arena.schema().dim.top() + 1;
     let Some(slot) = arena.slot_of(name, steps) else {
         unreachable!();
     };

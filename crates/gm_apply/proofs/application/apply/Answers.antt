@@ -1,4 +1,4 @@
-use Rattle.std.proofs.Common.{◌≤◌, length, refl, sym, ap, subst, ◌∙◌, arith}
+use Rattle.std.proofs.Common.{◌≤◌, length, refl, sym, ap, subst, ◌∙◌}
 use Rattle.std.proofs.lemmas.Result.{err_from_is_err_and}
 use Rattle.gm_model.proofs.Exits.{unless_ok}
 use Rattle.gm_model.specs.declared.rule.RuleTable.{RuleTable}
@@ -9,7 +9,7 @@ use Rattle.gm_apply.specs.Outcomes.{AsBefore, ForResult}
 use Rattle.gm_apply.proofs.Applying.{refused_match, sound_again, accepted_for, readable_at}
 use Rattle.gm_apply.proofs.Budgets.{find_within}
 use Rattle.gm_apply.proofs.Readying.{names_there, edits_there, new_is, old_is, done, within_ready, within_done}
-use Rattle.gm_apply.proofs.Sums.{stays, no_less, rises_twice, rises_thrice, rises_to_the_end, steps_of_darts, names_reserved, reserved_then, reserved_most, still_above, darts_fit, room_reserved, spare_then, spare_most, spare_stays, spare_stays_then}
+use Rattle.gm_apply.proofs.Sums.{stays, no_less, rises_twice, rises_thrice, rises_to_the_end, steps_of_darts, names_reserved, still_above, room_reserved, spare_then, spare_stays, spare_stays_then}
 use Rattle.gm_apply.proofs.application.apply.Goals as goal
 
 pub returns-in_err-found-clause-outcome : goal.returns-in_err-found-clause-outcome
@@ -39,16 +39,11 @@ returns-in_err-applied-clause-untouched g c =
     let p = err_from_is_err_and c.from_residual-in_err-applied.result c.from_residual-in_err-applied.ensures.1 in
     rw p.1 (λ apart. refl)
 
-pub overflow_add-next : goal.overflow_add-next
-overflow_add-next g c =
-    let fits = names_there _ _ (readable_at _ _ c.requires.sound c.requires.schema c.rule.ensures.planned c.requires.params c.in_ok-found.ensures.answer) _ _ _ _ _ (c.in_ok-applied.ensures.ready c.args.hooks.now (readable_at _ _ c.requires.sound c.requires.schema c.rule.ensures.planned c.requires.params c.in_ok-found.ensures.answer)) _ c.next.ensures.next in
-    omega (arith, fits)
-
 pub reserve-requires-clause-darts : goal.reserve-requires-clause-darts
-reserve-requires-clause-darts g c = darts_fit c.args.arena.now.count c.args.arena.now.spare c.in_ok-applied.applied.added c.in_ok-applied.applied.removed _ (c.in_ok-applied.ensures.ready c.args.hooks.now (readable_at _ _ c.requires.sound c.requires.schema c.rule.ensures.planned c.requires.params c.in_ok-found.ensures.answer)).few c.next.ensures.lawful.few_darts c.saturating_sub-more.ensures
+reserve-requires-clause-darts g c = (c.in_ok-applied.ensures.ready c.args.hooks.now (readable_at _ _ c.requires.sound c.requires.schema c.rule.ensures.planned c.requires.params c.in_ok-found.ensures.answer)).few
 
 pub reserve-requires-clause-names : goal.reserve-requires-clause-names
-reserve-requires-clause-names g c = names_there _ _ (readable_at _ _ c.requires.sound c.requires.schema c.rule.ensures.planned c.requires.params c.in_ok-found.ensures.answer) _ _ _ _ _ (c.in_ok-applied.ensures.ready c.args.hooks.now (readable_at _ _ c.requires.sound c.requires.schema c.rule.ensures.planned c.requires.params c.in_ok-found.ensures.answer)) _ c.next.ensures.next
+reserve-requires-clause-names g c = names_there _ _ (readable_at _ _ c.requires.sound c.requires.schema c.rule.ensures.planned c.requires.params c.in_ok-found.ensures.answer) _ _ _ _ _ (c.in_ok-applied.ensures.ready c.args.hooks.now (readable_at _ _ c.requires.sound c.requires.schema c.rule.ensures.planned c.requires.params c.in_ok-found.ensures.answer)) _ refl
 
 pub returns-in_err-reserve-clause-rises : goal.returns-in_err-reserve-clause-rises
 returns-in_err-reserve-clause-rises g c =
@@ -56,7 +51,7 @@ returns-in_err-reserve-clause-rises g c =
     rises_thrice _ _ _ _ c.in_ok-found.ensures.least ready.rises ready.edited.rises
 
 pub returns-in_err-reserve-clause-most : goal.returns-in_err-reserve-clause-most
-returns-in_err-reserve-clause-most g c most budget = within_ready _ _ (readable_at _ _ c.requires.sound c.requires.schema c.rule.ensures.planned c.requires.params c.in_ok-found.ensures.answer) _ _ _ _ _ (c.in_ok-applied.ensures.ready c.args.hooks.now (readable_at _ _ c.requires.sound c.requires.schema c.rule.ensures.planned c.requires.params c.in_ok-found.ensures.answer)) c.next.ensures.lawful.schema most c.args.steps.now budget (c.in_ok-found.ensures.cost c.args.params.now)
+returns-in_err-reserve-clause-most g c most budget = within_ready _ _ (readable_at _ _ c.requires.sound c.requires.schema c.rule.ensures.planned c.requires.params c.in_ok-found.ensures.answer) _ _ _ _ _ (c.in_ok-applied.ensures.ready c.args.hooks.now (readable_at _ _ c.requires.sound c.requires.schema c.rule.ensures.planned c.requires.params c.in_ok-found.ensures.answer)) c.reserve.ensures.lawful.schema most c.args.steps.now budget (c.in_ok-found.ensures.cost c.args.params.now)
 
 pub returns-in_err-reserve-clause-untouched : goal.returns-in_err-reserve-clause-untouched
 returns-in_err-reserve-clause-untouched g c =
@@ -64,40 +59,38 @@ returns-in_err-reserve-clause-untouched g c =
     rw p.1 (λ apart. absurd (apart p.2))
 
 pub returns-in_err-reserve-clause-sound : goal.returns-in_err-reserve-clause-sound
-returns-in_err-reserve-clause-sound g c = sound_again c.args.arena.now c.reserve.new.self c.reserve.ensures.map c.requires.sound
+returns-in_err-reserve-clause-sound g c = sound_again c.args.arena.now c.reserve.new.arena c.reserve.ensures.rows c.requires.sound
 
 pub returns-in_err-reserve-clause-spare_stays : goal.returns-in_err-reserve-clause-spare_stays
-returns-in_err-reserve-clause-spare_stays g c = spare_stays c.args.arena.now.count c.args.arena.now.spare _ _ (ap (λ m. m.count) c.reserve.ensures.map) c.reserve.ensures.spare_stays
+returns-in_err-reserve-clause-spare_stays g c = spare_stays c.args.arena.now.count c.args.arena.now.spare _ _ (ap (λ m. m.count) c.reserve.ensures.rows) c.reserve.ensures.spare_stays
 
 pub returns-in_err-reserve-clause-no_more : goal.returns-in_err-reserve-clause-no_more
 returns-in_err-reserve-clause-no_more g c =
     let p = err_from_is_err_and c.from_residual-in_err-reserve.result c.from_residual-in_err-reserve.ensures.1 in
-    rw p.1 (ForResult _ _ _ (c.in_ok-applied.ensures.ready c.args.hooks.now (readable_at _ _ c.requires.sound c.requires.schema c.rule.ensures.planned c.requires.params c.in_ok-found.ensures.answer)).room
-    (spare_most c.args.arena.now.spare c.in_ok-applied.applied.added c.in_ok-applied.applied.removed _ _ c.saturating_sub-more.ensures c.reserve.ensures.spare_most)
-    (reserved_most c.args.arena.now.next c.args.arena.now.reserved _ c.in_ok-applied.applied.added _ c.next.ensures.next c.reserve.ensures.reserved_most))
+    rw p.1 (ForResult _ _ _ (c.in_ok-applied.ensures.ready c.args.hooks.now (readable_at _ _ c.requires.sound c.requires.schema c.rule.ensures.planned c.requires.params c.in_ok-found.ensures.answer)).room c.reserve.ensures.spare_most c.reserve.ensures.reserved_most)
 
 pub commit-requires-clause-edits : goal.commit-requires-clause-edits
-commit-requires-clause-edits g c = edits_there _ _ (readable_at _ _ c.requires.sound c.requires.schema c.rule.ensures.planned c.requires.params c.in_ok-found.ensures.answer) _ _ _ _ _ (c.in_ok-applied.ensures.ready c.args.hooks.now (readable_at _ _ c.requires.sound c.requires.schema c.rule.ensures.planned c.requires.params c.in_ok-found.ensures.answer)) c.reserve.new.self c.in_ok-reserve.ensures.map
+commit-requires-clause-edits g c = edits_there _ _ (readable_at _ _ c.requires.sound c.requires.schema c.rule.ensures.planned c.requires.params c.in_ok-found.ensures.answer) _ _ _ _ _ (c.in_ok-applied.ensures.ready c.args.hooks.now (readable_at _ _ c.requires.sound c.requires.schema c.rule.ensures.planned c.requires.params c.in_ok-found.ensures.answer)) c.reserve.new.arena c.in_ok-reserve.ensures.rows
 
 pub commit-requires-clause-names : goal.commit-requires-clause-names
-commit-requires-clause-names g c = names_reserved c.args.arena.now.next c.args.arena.now.reserved _ c.in_ok-applied.applied.added _ _ _ (new_is _ _ (readable_at _ _ c.requires.sound c.requires.schema c.rule.ensures.planned c.requires.params c.in_ok-found.ensures.answer) _ _ _ _ _ (c.in_ok-applied.ensures.ready c.args.hooks.now (readable_at _ _ c.requires.sound c.requires.schema c.rule.ensures.planned c.requires.params c.in_ok-found.ensures.answer))) c.next.ensures.next (ap (λ m. m.next) c.in_ok-reserve.ensures.map) c.in_ok-reserve.ensures.names
+commit-requires-clause-names g c = names_reserved c.args.arena.now.next c.args.arena.now.reserved c.in_ok-applied.applied.added _ _ _ (new_is _ _ (readable_at _ _ c.requires.sound c.requires.schema c.rule.ensures.planned c.requires.params c.in_ok-found.ensures.answer) _ _ _ _ _ (c.in_ok-applied.ensures.ready c.args.hooks.now (readable_at _ _ c.requires.sound c.requires.schema c.rule.ensures.planned c.requires.params c.in_ok-found.ensures.answer))) (ap (λ m. m.next) c.in_ok-reserve.ensures.rows) c.in_ok-reserve.ensures.reserved
 
 pub commit-requires-clause-room : goal.commit-requires-clause-room
-commit-requires-clause-room g c = room_reserved c.args.arena.now.spare c.in_ok-applied.applied.added c.in_ok-applied.applied.removed _ _ _ _ (new_is _ _ (readable_at _ _ c.requires.sound c.requires.schema c.rule.ensures.planned c.requires.params c.in_ok-found.ensures.answer) _ _ _ _ _ (c.in_ok-applied.ensures.ready c.args.hooks.now (readable_at _ _ c.requires.sound c.requires.schema c.rule.ensures.planned c.requires.params c.in_ok-found.ensures.answer))) (old_is _ _ (readable_at _ _ c.requires.sound c.requires.schema c.rule.ensures.planned c.requires.params c.in_ok-found.ensures.answer) _ _ _ _ _ (c.in_ok-applied.ensures.ready c.args.hooks.now (readable_at _ _ c.requires.sound c.requires.schema c.rule.ensures.planned c.requires.params c.in_ok-found.ensures.answer))) c.saturating_sub-more.ensures c.in_ok-reserve.ensures.darts
+commit-requires-clause-room g c = room_reserved c.args.arena.now.spare c.in_ok-applied.applied.added c.in_ok-applied.applied.removed _ _ _ (new_is _ _ (readable_at _ _ c.requires.sound c.requires.schema c.rule.ensures.planned c.requires.params c.in_ok-found.ensures.answer) _ _ _ _ _ (c.in_ok-applied.ensures.ready c.args.hooks.now (readable_at _ _ c.requires.sound c.requires.schema c.rule.ensures.planned c.requires.params c.in_ok-found.ensures.answer))) (old_is _ _ (readable_at _ _ c.requires.sound c.requires.schema c.rule.ensures.planned c.requires.params c.in_ok-found.ensures.answer) _ _ _ _ _ (c.in_ok-applied.ensures.ready c.args.hooks.now (readable_at _ _ c.requires.sound c.requires.schema c.rule.ensures.planned c.requires.params c.in_ok-found.ensures.answer))) c.in_ok-reserve.ensures.spare
 
 pub returns-clause-outcome : goal.returns-clause-outcome
-returns-clause-outcome g c = done _ _ (readable_at _ _ c.requires.sound c.requires.schema c.rule.ensures.planned c.requires.params c.in_ok-found.ensures.answer) _ _ _ _ _ (c.in_ok-applied.ensures.ready c.args.hooks.now (readable_at _ _ c.requires.sound c.requires.schema c.rule.ensures.planned c.requires.params c.in_ok-found.ensures.answer)) c.reserve.new.self c.commit.new.arena c.in_ok-reserve.ensures.map c.commit.ensures.unfolded
+returns-clause-outcome g c = done _ _ (readable_at _ _ c.requires.sound c.requires.schema c.rule.ensures.planned c.requires.params c.in_ok-found.ensures.answer) _ _ _ _ _ (c.in_ok-applied.ensures.ready c.args.hooks.now (readable_at _ _ c.requires.sound c.requires.schema c.rule.ensures.planned c.requires.params c.in_ok-found.ensures.answer)) c.reserve.new.arena c.commit.new.arena c.in_ok-reserve.ensures.rows c.commit.ensures.unfolded
 
 pub returns-clause-sound : goal.returns-clause-sound
 returns-clause-sound g c =
-    applications_keep_sound_maps (application_of c.args.arena.now (rule_of c.args.plan.now.table) c.args.hooks.now c.args.params.now) _ _ _ c.next.ensures.lawful.schema c.requires.sound (accepted_for c.args.arena.now c.args.plan.now.schema (rule_of c.args.plan.now.table) c.requires.schema c.rule.ensures.planned) c.requires.params
-    (done _ _ (readable_at _ _ c.requires.sound c.requires.schema c.rule.ensures.planned c.requires.params c.in_ok-found.ensures.answer) _ _ _ _ _ (c.in_ok-applied.ensures.ready c.args.hooks.now (readable_at _ _ c.requires.sound c.requires.schema c.rule.ensures.planned c.requires.params c.in_ok-found.ensures.answer)) c.reserve.new.self c.commit.new.arena c.in_ok-reserve.ensures.map c.commit.ensures.unfolded)
+    applications_keep_sound_maps (application_of c.args.arena.now (rule_of c.args.plan.now.table) c.args.hooks.now c.args.params.now) _ _ _ c.reserve.ensures.lawful.schema c.requires.sound (accepted_for c.args.arena.now c.args.plan.now.schema (rule_of c.args.plan.now.table) c.requires.schema c.rule.ensures.planned) c.requires.params
+    (done _ _ (readable_at _ _ c.requires.sound c.requires.schema c.rule.ensures.planned c.requires.params c.in_ok-found.ensures.answer) _ _ _ _ _ (c.in_ok-applied.ensures.ready c.args.hooks.now (readable_at _ _ c.requires.sound c.requires.schema c.rule.ensures.planned c.requires.params c.in_ok-found.ensures.answer)) c.reserve.new.arena c.commit.new.arena c.in_ok-reserve.ensures.rows c.commit.ensures.unfolded)
 
 pub returns-clause-schema : goal.returns-clause-schema
-returns-clause-schema g c = c.commit.ensures.schema ∙ ap (λ m. m.schema) c.in_ok-reserve.ensures.map
+returns-clause-schema g c = c.commit.ensures.schema ∙ ap (λ m. m.schema) c.in_ok-reserve.ensures.rows
 
 pub returns-clause-most : goal.returns-clause-most
-returns-clause-most g c most budget = within_done _ _ (readable_at _ _ c.requires.sound c.requires.schema c.rule.ensures.planned c.requires.params c.in_ok-found.ensures.answer) _ _ _ _ _ (c.in_ok-applied.ensures.ready c.args.hooks.now (readable_at _ _ c.requires.sound c.requires.schema c.rule.ensures.planned c.requires.params c.in_ok-found.ensures.answer)) c.next.ensures.lawful.schema most c.args.steps.now budget (c.in_ok-found.ensures.cost c.args.params.now) c.commit.new.steps c.commit.ensures.most
+returns-clause-most g c most budget = within_done _ _ (readable_at _ _ c.requires.sound c.requires.schema c.rule.ensures.planned c.requires.params c.in_ok-found.ensures.answer) _ _ _ _ _ (c.in_ok-applied.ensures.ready c.args.hooks.now (readable_at _ _ c.requires.sound c.requires.schema c.rule.ensures.planned c.requires.params c.in_ok-found.ensures.answer)) c.reserve.ensures.lawful.schema most c.args.steps.now budget (c.in_ok-found.ensures.cost c.args.params.now) c.commit.new.steps c.commit.ensures.most
 
 pub returns-clause-rises : goal.returns-clause-rises
 returns-clause-rises g c =
@@ -105,13 +98,13 @@ returns-clause-rises g c =
     rises_to_the_end _ _ _ _ _ _ _ c.in_ok-found.ensures.least ready.rises ready.edited.rises c.commit.ensures.least
 
 pub returns-clause-spare : goal.returns-clause-spare
-returns-clause-spare g c = spare_then c.args.arena.now.spare c.in_ok-applied.applied.added c.in_ok-applied.applied.removed _ _ _ _ _ (new_is _ _ (readable_at _ _ c.requires.sound c.requires.schema c.rule.ensures.planned c.requires.params c.in_ok-found.ensures.answer) _ _ _ _ _ (c.in_ok-applied.ensures.ready c.args.hooks.now (readable_at _ _ c.requires.sound c.requires.schema c.rule.ensures.planned c.requires.params c.in_ok-found.ensures.answer))) (old_is _ _ (readable_at _ _ c.requires.sound c.requires.schema c.rule.ensures.planned c.requires.params c.in_ok-found.ensures.answer) _ _ _ _ _ (c.in_ok-applied.ensures.ready c.args.hooks.now (readable_at _ _ c.requires.sound c.requires.schema c.rule.ensures.planned c.requires.params c.in_ok-found.ensures.answer))) c.saturating_sub-more.ensures c.in_ok-reserve.ensures.darts c.commit.ensures.spare
+returns-clause-spare g c = spare_then c.args.arena.now.spare c.in_ok-applied.applied.added c.in_ok-applied.applied.removed _ _ _ _ (new_is _ _ (readable_at _ _ c.requires.sound c.requires.schema c.rule.ensures.planned c.requires.params c.in_ok-found.ensures.answer) _ _ _ _ _ (c.in_ok-applied.ensures.ready c.args.hooks.now (readable_at _ _ c.requires.sound c.requires.schema c.rule.ensures.planned c.requires.params c.in_ok-found.ensures.answer))) (old_is _ _ (readable_at _ _ c.requires.sound c.requires.schema c.rule.ensures.planned c.requires.params c.in_ok-found.ensures.answer) _ _ _ _ _ (c.in_ok-applied.ensures.ready c.args.hooks.now (readable_at _ _ c.requires.sound c.requires.schema c.rule.ensures.planned c.requires.params c.in_ok-found.ensures.answer))) c.in_ok-reserve.ensures.spare c.commit.ensures.spare
 
 pub returns-clause-reserved : goal.returns-clause-reserved
-returns-clause-reserved g c = reserved_then c.args.arena.now.next c.args.arena.now.reserved _ c.in_ok-applied.applied.added _ _ c.next.ensures.next c.in_ok-reserve.ensures.names c.commit.ensures.reserved
+returns-clause-reserved g c = c.commit.ensures.reserved ∙ c.in_ok-reserve.ensures.reserved
 
 pub returns-clause-spare_stays : goal.returns-clause-spare_stays
-returns-clause-spare_stays g c = spare_stays_then c.args.arena.now.count c.args.arena.now.spare _ _ _ _ _ _ (ap (λ m. m.count) c.in_ok-reserve.ensures.map) c.in_ok-reserve.ensures.spare_stays c.commit.ensures.count c.commit.ensures.spare
+returns-clause-spare_stays g c = spare_stays_then c.args.arena.now.count c.args.arena.now.spare _ _ _ _ _ _ (ap (λ m. m.count) c.in_ok-reserve.ensures.rows) c.in_ok-reserve.ensures.spare_stays c.commit.ensures.count c.commit.ensures.spare
 
 pub returns-clause-reserved_stays : goal.returns-clause-reserved_stays
 returns-clause-reserved_stays g c = still_above _ _ _ c.in_ok-reserve.ensures.reserved_stays c.commit.ensures.reserved
@@ -226,7 +219,7 @@ pub returns-in_err-reserve-clause-reserved : goal.returns-in_err-reserve-clause-
 returns-in_err-reserve-clause-reserved g c = unless_ok _ c.from_residual-in_err-reserve.result c.from_residual-in_err-reserve.ensures.0
 
 pub returns-in_err-reserve-clause-schema : goal.returns-in_err-reserve-clause-schema
-returns-in_err-reserve-clause-schema g c = ap (λ m. m.schema) c.reserve.ensures.map
+returns-in_err-reserve-clause-schema g c = ap (λ m. m.schema) c.reserve.ensures.rows
 
 pub returns-in_err-reserve-clause-reserved_stays : goal.returns-in_err-reserve-clause-reserved_stays
 returns-in_err-reserve-clause-reserved_stays g c = c.reserve.ensures.reserved_stays
@@ -258,7 +251,7 @@ returns-in_err-applied-clause-room g c = still_above _ _ _ c.fit.ensures.kept (c
 pub returns-in_err-reserve-clause-outcome : goal.returns-in_err-reserve-clause-outcome
 returns-in_err-reserve-clause-outcome g c =
     let p = err_from_is_err_and c.from_residual-in_err-reserve.result c.from_residual-in_err-reserve.ensures.1 in
-    rw (p.1, p.2) (tt, c.reserve.ensures.map)
+    rw (p.1, p.2) (tt, c.reserve.ensures.rows)
 
 pub returns-in_err-reserve-clause-room : goal.returns-in_err-reserve-clause-room
 returns-in_err-reserve-clause-room g c = still_above _ _ _ c.fit.ensures.kept (c.ready.ensures.room ∙ c.find.ensures.room)

@@ -1,13 +1,14 @@
-use Rattle.std.proofs.Common.{sym, ap, arith}
+use Rattle.std.proofs.Common.{refl, sym, ap}
 use Rattle.std.proofs.lemmas.Result.{err_from_is_err_and}
 use Rattle.gm_model.specs.Rules.{rule_of}
 use Rattle.gm_match.specs.Outcome.{application_of}
+use Rattle.gm_apply.specs.Outcomes.{AsBefore, ForResult}
 use Rattle.gm_theory.proofs.ValuesKept.{applications_keep_sound_maps}
 use Rattle.gm_apply.proofs.Applying.{refused_match, accepted_for, readable_at}
 use Rattle.gm_apply.proofs.Budgets.{find_within}
 use Rattle.gm_apply.proofs.Preparing.{prepared, few_rows, rows_within}
 use Rattle.gm_apply.proofs.Readying.{names_there, edits_there, new_is, old_is, within_ready, within_kept}
-use Rattle.gm_apply.proofs.Sums.{rises_twice, rises_thrice, names_reserved, darts_fit, room_reserved}
+use Rattle.gm_apply.proofs.Sums.{rises_twice, rises_thrice, names_reserved, room_reserved}
 use Rattle.gm_apply.proofs.preparation.prepare.Goals as goal
 
 pub returns-in_err-found-clause-outcome : goal.returns-in_err-found-clause-outcome
@@ -29,19 +30,14 @@ returns-in_err-applied-clause-most g c most budget = (c.in_err-applied.ensures.r
 pub returns-in_err-applied-clause-rises : goal.returns-in_err-applied-clause-rises
 returns-in_err-applied-clause-rises g c = rises_twice _ _ _ c.in_ok-found.ensures.least (c.in_err-applied.ensures.ready c.args.hooks.now (readable_at _ _ c.requires.sound c.requires.schema c.rule.ensures.planned c.requires.params c.in_ok-found.ensures.answer)).rises
 
-pub overflow_add-next : goal.overflow_add-next
-overflow_add-next g c =
-    let fits = names_there _ _ (readable_at _ _ c.requires.sound c.requires.schema c.rule.ensures.planned c.requires.params c.in_ok-found.ensures.answer) _ _ _ _ _ (c.in_ok-applied.ensures.ready c.args.hooks.now (readable_at _ _ c.requires.sound c.requires.schema c.rule.ensures.planned c.requires.params c.in_ok-found.ensures.answer)) _ c.next.ensures.next in
-    omega (arith, fits)
-
 pub reserve-requires-clause-darts : goal.reserve-requires-clause-darts
-reserve-requires-clause-darts g c = darts_fit c.args.arena.now.count c.args.arena.now.spare c.in_ok-applied.applied.added c.in_ok-applied.applied.removed _ (c.in_ok-applied.ensures.ready c.args.hooks.now (readable_at _ _ c.requires.sound c.requires.schema c.rule.ensures.planned c.requires.params c.in_ok-found.ensures.answer)).few c.next.ensures.lawful.few_darts c.saturating_sub-more.ensures
+reserve-requires-clause-darts g c = (c.in_ok-applied.ensures.ready c.args.hooks.now (readable_at _ _ c.requires.sound c.requires.schema c.rule.ensures.planned c.requires.params c.in_ok-found.ensures.answer)).few
 
 pub reserve-requires-clause-names : goal.reserve-requires-clause-names
-reserve-requires-clause-names g c = names_there _ _ (readable_at _ _ c.requires.sound c.requires.schema c.rule.ensures.planned c.requires.params c.in_ok-found.ensures.answer) _ _ _ _ _ (c.in_ok-applied.ensures.ready c.args.hooks.now (readable_at _ _ c.requires.sound c.requires.schema c.rule.ensures.planned c.requires.params c.in_ok-found.ensures.answer)) _ c.next.ensures.next
+reserve-requires-clause-names g c = names_there _ _ (readable_at _ _ c.requires.sound c.requires.schema c.rule.ensures.planned c.requires.params c.in_ok-found.ensures.answer) _ _ _ _ _ (c.in_ok-applied.ensures.ready c.args.hooks.now (readable_at _ _ c.requires.sound c.requires.schema c.rule.ensures.planned c.requires.params c.in_ok-found.ensures.answer)) _ refl
 
 pub returns-in_err-reserve-clause-most : goal.returns-in_err-reserve-clause-most
-returns-in_err-reserve-clause-most g c most budget = within_ready _ _ (readable_at _ _ c.requires.sound c.requires.schema c.rule.ensures.planned c.requires.params c.in_ok-found.ensures.answer) _ _ _ _ _ (c.in_ok-applied.ensures.ready c.args.hooks.now (readable_at _ _ c.requires.sound c.requires.schema c.rule.ensures.planned c.requires.params c.in_ok-found.ensures.answer)) c.next.ensures.lawful.schema most c.args.steps.now budget (c.in_ok-found.ensures.cost c.args.params.now)
+returns-in_err-reserve-clause-most g c most budget = within_ready _ _ (readable_at _ _ c.requires.sound c.requires.schema c.rule.ensures.planned c.requires.params c.in_ok-found.ensures.answer) _ _ _ _ _ (c.in_ok-applied.ensures.ready c.args.hooks.now (readable_at _ _ c.requires.sound c.requires.schema c.rule.ensures.planned c.requires.params c.in_ok-found.ensures.answer)) c.reserve.ensures.lawful.schema most c.args.steps.now budget (c.in_ok-found.ensures.cost c.args.params.now)
 
 pub returns-in_err-reserve-clause-rises : goal.returns-in_err-reserve-clause-rises
 returns-in_err-reserve-clause-rises g c =
@@ -49,7 +45,7 @@ returns-in_err-reserve-clause-rises g c =
     rises_thrice _ _ _ _ c.in_ok-found.ensures.least ready.rises ready.edited.rises
 
 pub returns-in_err-edits-clause-most : goal.returns-in_err-edits-clause-most
-returns-in_err-edits-clause-most g c most budget = within_ready _ _ (readable_at _ _ c.requires.sound c.requires.schema c.rule.ensures.planned c.requires.params c.in_ok-found.ensures.answer) _ _ _ _ _ (c.in_ok-applied.ensures.ready c.args.hooks.now (readable_at _ _ c.requires.sound c.requires.schema c.rule.ensures.planned c.requires.params c.in_ok-found.ensures.answer)) c.next.ensures.lawful.schema most c.args.steps.now budget (c.in_ok-found.ensures.cost c.args.params.now)
+returns-in_err-edits-clause-most g c most budget = within_ready _ _ (readable_at _ _ c.requires.sound c.requires.schema c.rule.ensures.planned c.requires.params c.in_ok-found.ensures.answer) _ _ _ _ _ (c.in_ok-applied.ensures.ready c.args.hooks.now (readable_at _ _ c.requires.sound c.requires.schema c.rule.ensures.planned c.requires.params c.in_ok-found.ensures.answer)) c.reserve.ensures.lawful.schema most c.args.steps.now budget (c.in_ok-found.ensures.cost c.args.params.now)
 
 pub returns-in_err-edits-clause-rises : goal.returns-in_err-edits-clause-rises
 returns-in_err-edits-clause-rises g c =
@@ -57,7 +53,7 @@ returns-in_err-edits-clause-rises g c =
     rises_thrice _ _ _ _ c.in_ok-found.ensures.least ready.rises ready.edited.rises
 
 pub returns-clause-most : goal.returns-clause-most
-returns-clause-most g c most budget = within_ready _ _ (readable_at _ _ c.requires.sound c.requires.schema c.rule.ensures.planned c.requires.params c.in_ok-found.ensures.answer) _ _ _ _ _ (c.in_ok-applied.ensures.ready c.args.hooks.now (readable_at _ _ c.requires.sound c.requires.schema c.rule.ensures.planned c.requires.params c.in_ok-found.ensures.answer)) c.next.ensures.lawful.schema most c.args.steps.now budget (c.in_ok-found.ensures.cost c.args.params.now)
+returns-clause-most g c most budget = within_ready _ _ (readable_at _ _ c.requires.sound c.requires.schema c.rule.ensures.planned c.requires.params c.in_ok-found.ensures.answer) _ _ _ _ _ (c.in_ok-applied.ensures.ready c.args.hooks.now (readable_at _ _ c.requires.sound c.requires.schema c.rule.ensures.planned c.requires.params c.in_ok-found.ensures.answer)) c.reserve.ensures.lawful.schema most c.args.steps.now budget (c.in_ok-found.ensures.cost c.args.params.now)
 
 pub returns-clause-rises : goal.returns-clause-rises
 returns-clause-rises g c =
@@ -65,7 +61,7 @@ returns-clause-rises g c =
     rises_thrice _ _ _ _ c.in_ok-found.ensures.least ready.rises ready.edited.rises
 
 pub into_edits-requires-clause-here : goal.into_edits-requires-clause-here
-into_edits-requires-clause-here g c = edits_there _ _ (readable_at _ _ c.requires.sound c.requires.schema c.rule.ensures.planned c.requires.params c.in_ok-found.ensures.answer) _ _ _ _ _ (c.in_ok-applied.ensures.ready c.args.hooks.now (readable_at _ _ c.requires.sound c.requires.schema c.rule.ensures.planned c.requires.params c.in_ok-found.ensures.answer)) c.reserve.new.self c.in_ok-reserve.ensures.map
+into_edits-requires-clause-here g c = edits_there _ _ (readable_at _ _ c.requires.sound c.requires.schema c.rule.ensures.planned c.requires.params c.in_ok-found.ensures.answer) _ _ _ _ _ (c.in_ok-applied.ensures.ready c.args.hooks.now (readable_at _ _ c.requires.sound c.requires.schema c.rule.ensures.planned c.requires.params c.in_ok-found.ensures.answer)) c.reserve.new.arena c.in_ok-reserve.ensures.rows
 
 pub into_edits-requires-clause-added : goal.into_edits-requires-clause-added
 into_edits-requires-clause-added g c = sym (new_is _ _ (readable_at _ _ c.requires.sound c.requires.schema c.rule.ensures.planned c.requires.params c.in_ok-found.ensures.answer) _ _ _ _ _ (c.in_ok-applied.ensures.ready c.args.hooks.now (readable_at _ _ c.requires.sound c.requires.schema c.rule.ensures.planned c.requires.params c.in_ok-found.ensures.answer)))
@@ -75,13 +71,37 @@ into_edits-requires-clause-removed g c = sym (old_is _ _ (readable_at _ _ c.requ
 
 pub returns-clause-outcome : goal.returns-clause-outcome
 returns-clause-outcome g c =
-    prepared _ _ (readable_at _ _ c.requires.sound c.requires.schema c.rule.ensures.planned c.requires.params c.in_ok-found.ensures.answer) _ _ _ _ _ (c.in_ok-applied.ensures.ready c.args.hooks.now (readable_at _ _ c.requires.sound c.requires.schema c.rule.ensures.planned c.requires.params c.in_ok-found.ensures.answer)) c.reserve.new.self c.in_ok-edits.edits c.in_ok-reserve.ensures.map c.in_ok-edits.ensures.edits (names_reserved c.args.arena.now.next c.args.arena.now.reserved _ c.in_ok-applied.applied.added _ _ _ (new_is _ _ (readable_at _ _ c.requires.sound c.requires.schema c.rule.ensures.planned c.requires.params c.in_ok-found.ensures.answer) _ _ _ _ _ (c.in_ok-applied.ensures.ready c.args.hooks.now (readable_at _ _ c.requires.sound c.requires.schema c.rule.ensures.planned c.requires.params c.in_ok-found.ensures.answer))) c.next.ensures.next (ap (λ m. m.next) c.in_ok-reserve.ensures.map) c.in_ok-reserve.ensures.names) (room_reserved c.args.arena.now.spare c.in_ok-applied.applied.added c.in_ok-applied.applied.removed _ _ _ _ (new_is _ _ (readable_at _ _ c.requires.sound c.requires.schema c.rule.ensures.planned c.requires.params c.in_ok-found.ensures.answer) _ _ _ _ _ (c.in_ok-applied.ensures.ready c.args.hooks.now (readable_at _ _ c.requires.sound c.requires.schema c.rule.ensures.planned c.requires.params c.in_ok-found.ensures.answer))) (old_is _ _ (readable_at _ _ c.requires.sound c.requires.schema c.rule.ensures.planned c.requires.params c.in_ok-found.ensures.answer) _ _ _ _ _ (c.in_ok-applied.ensures.ready c.args.hooks.now (readable_at _ _ c.requires.sound c.requires.schema c.rule.ensures.planned c.requires.params c.in_ok-found.ensures.answer))) c.saturating_sub-more.ensures c.in_ok-reserve.ensures.darts) c.in_ok-edits.ensures.touched
-    (λ after is_done. applications_keep_sound_maps (application_of c.args.arena.now (rule_of c.args.plan.now.table) c.args.hooks.now c.args.params.now) _ _ _ c.next.ensures.lawful.schema c.requires.sound (accepted_for c.args.arena.now c.args.plan.now.schema (rule_of c.args.plan.now.table) c.requires.schema c.rule.ensures.planned) c.requires.params is_done)
+    prepared _ _ (readable_at _ _ c.requires.sound c.requires.schema c.rule.ensures.planned c.requires.params c.in_ok-found.ensures.answer) _ _ _ _ _ (c.in_ok-applied.ensures.ready c.args.hooks.now (readable_at _ _ c.requires.sound c.requires.schema c.rule.ensures.planned c.requires.params c.in_ok-found.ensures.answer)) c.reserve.new.arena c.in_ok-edits.edits c.in_ok-reserve.ensures.rows c.in_ok-edits.ensures.edits (names_reserved c.args.arena.now.next c.args.arena.now.reserved c.in_ok-applied.applied.added _ _ _ (new_is _ _ (readable_at _ _ c.requires.sound c.requires.schema c.rule.ensures.planned c.requires.params c.in_ok-found.ensures.answer) _ _ _ _ _ (c.in_ok-applied.ensures.ready c.args.hooks.now (readable_at _ _ c.requires.sound c.requires.schema c.rule.ensures.planned c.requires.params c.in_ok-found.ensures.answer))) (ap (λ m. m.next) c.in_ok-reserve.ensures.rows) c.in_ok-reserve.ensures.reserved) (room_reserved c.args.arena.now.spare c.in_ok-applied.applied.added c.in_ok-applied.applied.removed _ _ _ (new_is _ _ (readable_at _ _ c.requires.sound c.requires.schema c.rule.ensures.planned c.requires.params c.in_ok-found.ensures.answer) _ _ _ _ _ (c.in_ok-applied.ensures.ready c.args.hooks.now (readable_at _ _ c.requires.sound c.requires.schema c.rule.ensures.planned c.requires.params c.in_ok-found.ensures.answer))) (old_is _ _ (readable_at _ _ c.requires.sound c.requires.schema c.rule.ensures.planned c.requires.params c.in_ok-found.ensures.answer) _ _ _ _ _ (c.in_ok-applied.ensures.ready c.args.hooks.now (readable_at _ _ c.requires.sound c.requires.schema c.rule.ensures.planned c.requires.params c.in_ok-found.ensures.answer))) c.in_ok-reserve.ensures.spare) c.in_ok-edits.ensures.touched
+    (λ after is_done. applications_keep_sound_maps (application_of c.args.arena.now (rule_of c.args.plan.now.table) c.args.hooks.now c.args.params.now) _ _ _ c.reserve.ensures.lawful.schema c.requires.sound (accepted_for c.args.arena.now c.args.plan.now.schema (rule_of c.args.plan.now.table) c.requires.schema c.rule.ensures.planned) c.requires.params is_done)
 
 pub returns-clause-left : goal.returns-clause-left
 returns-clause-left g c most budget =
-    within_kept _ _ (readable_at _ _ c.requires.sound c.requires.schema c.rule.ensures.planned c.requires.params c.in_ok-found.ensures.answer) _ _ _ _ _ (c.in_ok-applied.ensures.ready c.args.hooks.now (readable_at _ _ c.requires.sound c.requires.schema c.rule.ensures.planned c.requires.params c.in_ok-found.ensures.answer)) c.next.ensures.lawful.schema most c.args.steps.now budget (c.in_ok-found.ensures.cost c.args.params.now) _ (rows_within _ _ (readable_at _ _ c.requires.sound c.requires.schema c.rule.ensures.planned c.requires.params c.in_ok-found.ensures.answer) _ _ _ _ _ (c.in_ok-applied.ensures.ready c.args.hooks.now (readable_at _ _ c.requires.sound c.requires.schema c.rule.ensures.planned c.requires.params c.in_ok-found.ensures.answer)) c.in_ok-edits.edits c.in_ok-edits.ensures.edits c.in_ok-edits.ensures.few)
+    within_kept _ _ (readable_at _ _ c.requires.sound c.requires.schema c.rule.ensures.planned c.requires.params c.in_ok-found.ensures.answer) _ _ _ _ _ (c.in_ok-applied.ensures.ready c.args.hooks.now (readable_at _ _ c.requires.sound c.requires.schema c.rule.ensures.planned c.requires.params c.in_ok-found.ensures.answer)) c.reserve.ensures.lawful.schema most c.args.steps.now budget (c.in_ok-found.ensures.cost c.args.params.now) _ (rows_within _ _ (readable_at _ _ c.requires.sound c.requires.schema c.rule.ensures.planned c.requires.params c.in_ok-found.ensures.answer) _ _ _ _ _ (c.in_ok-applied.ensures.ready c.args.hooks.now (readable_at _ _ c.requires.sound c.requires.schema c.rule.ensures.planned c.requires.params c.in_ok-found.ensures.answer)) c.in_ok-edits.edits c.in_ok-edits.ensures.edits c.in_ok-edits.ensures.few)
 
 pub returns-clause-few : goal.returns-clause-few
 returns-clause-few g c most budget =
-    few_rows _ _ (readable_at _ _ c.requires.sound c.requires.schema c.rule.ensures.planned c.requires.params c.in_ok-found.ensures.answer) _ _ _ _ _ (c.in_ok-applied.ensures.ready c.args.hooks.now (readable_at _ _ c.requires.sound c.requires.schema c.rule.ensures.planned c.requires.params c.in_ok-found.ensures.answer)) c.next.ensures.lawful.schema most budget c.in_ok-edits.edits c.in_ok-edits.ensures.edits c.in_ok-edits.ensures.few
+    few_rows _ _ (readable_at _ _ c.requires.sound c.requires.schema c.rule.ensures.planned c.requires.params c.in_ok-found.ensures.answer) _ _ _ _ _ (c.in_ok-applied.ensures.ready c.args.hooks.now (readable_at _ _ c.requires.sound c.requires.schema c.rule.ensures.planned c.requires.params c.in_ok-found.ensures.answer)) c.reserve.ensures.lawful.schema most budget c.in_ok-edits.edits c.in_ok-edits.ensures.edits c.in_ok-edits.ensures.few
+
+pub returns-clause-spare : goal.returns-clause-spare
+returns-clause-spare g c = rw (c.in_ok-edits.ensures.edits, new_is _ _ (readable_at _ _ c.requires.sound c.requires.schema c.rule.ensures.planned c.requires.params c.in_ok-found.ensures.answer) _ _ _ _ _ (c.in_ok-applied.ensures.ready c.args.hooks.now (readable_at _ _ c.requires.sound c.requires.schema c.rule.ensures.planned c.requires.params c.in_ok-found.ensures.answer)), old_is _ _ (readable_at _ _ c.requires.sound c.requires.schema c.rule.ensures.planned c.requires.params c.in_ok-found.ensures.answer) _ _ _ _ _ (c.in_ok-applied.ensures.ready c.args.hooks.now (readable_at _ _ c.requires.sound c.requires.schema c.rule.ensures.planned c.requires.params c.in_ok-found.ensures.answer))) c.in_ok-reserve.ensures.spare
+
+pub returns-clause-reserved : goal.returns-clause-reserved
+returns-clause-reserved g c = rw (c.in_ok-edits.ensures.edits, new_is _ _ (readable_at _ _ c.requires.sound c.requires.schema c.rule.ensures.planned c.requires.params c.in_ok-found.ensures.answer) _ _ _ _ _ (c.in_ok-applied.ensures.ready c.args.hooks.now (readable_at _ _ c.requires.sound c.requires.schema c.rule.ensures.planned c.requires.params c.in_ok-found.ensures.answer))) c.in_ok-reserve.ensures.reserved
+
+pub returns-in_err-fit-clause-no_more : goal.returns-in_err-fit-clause-no_more
+returns-in_err-fit-clause-no_more g c = AsBefore refl
+
+pub returns-in_err-found-clause-no_more : goal.returns-in_err-found-clause-no_more
+returns-in_err-found-clause-no_more g c = AsBefore refl
+
+pub returns-in_err-applied-clause-no_more : goal.returns-in_err-applied-clause-no_more
+returns-in_err-applied-clause-no_more g c = AsBefore refl
+
+pub returns-in_err-reserve-clause-no_more : goal.returns-in_err-reserve-clause-no_more
+returns-in_err-reserve-clause-no_more g c = ForResult _ _ _ (c.in_ok-applied.ensures.ready c.args.hooks.now (readable_at _ _ c.requires.sound c.requires.schema c.rule.ensures.planned c.requires.params c.in_ok-found.ensures.answer)).room c.reserve.ensures.spare_most c.reserve.ensures.reserved_most
+
+pub returns-in_err-edits-clause-no_more : goal.returns-in_err-edits-clause-no_more
+returns-in_err-edits-clause-no_more g c = ForResult _ _ _ (c.in_ok-applied.ensures.ready c.args.hooks.now (readable_at _ _ c.requires.sound c.requires.schema c.rule.ensures.planned c.requires.params c.in_ok-found.ensures.answer)).room c.reserve.ensures.spare_most c.reserve.ensures.reserved_most
+
+pub returns-clause-no_more : goal.returns-clause-no_more
+returns-clause-no_more g c = ForResult _ _ _ (c.in_ok-applied.ensures.ready c.args.hooks.now (readable_at _ _ c.requires.sound c.requires.schema c.rule.ensures.planned c.requires.params c.in_ok-found.ensures.answer)).room c.reserve.ensures.spare_most c.reserve.ensures.reserved_most

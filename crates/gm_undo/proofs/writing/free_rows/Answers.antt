@@ -30,3 +30,9 @@ loop-index-preserved g c =
           let wide : c.loop-index.arena.schema.dim + 2 ≡ c.args.arena.now.schema.dim + 2 = ap (λ n. n + 2) dim in
           omega (arith, inv.steps, c.free_row.ensures.cost, wide, one_more (c.args.arena.now.schema.dim + 2) c.loop-index.index c.args.part.start c.loop-index.auto.index);
     }
+
+pub free_row-requires-clause-labels : goal.free_row-requires-clause-labels
+free_row-requires-clause-labels g c =
+    let dim : c.loop-index.arena.schema.dim ≡ c.args.arena.now.schema.dim = ap (λ (m : ArenaMap). m.schema.dim) c.loop-index.invariant.frame in
+    let top : c.top-labels.result ≡ c.args.arena.now.schema.dim = c.top-labels.ensures.value ∙ ap (λ s. s.dim) c.schema.ensures in
+    omega (arith, dim, top)

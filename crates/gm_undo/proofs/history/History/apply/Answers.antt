@@ -1,6 +1,7 @@
-use Rattle.std.proofs.Common.{◌≡◌, ◌+◌, ◌*◌, ◌≤◌, length, take, sym, ap, ◌∙◌, arith}
+use Rattle.std.proofs.Common.{◌≡◌, ◌+◌, ◌*◌, ◌≤◌, length, take, refl, sym, ap, ◌∙◌, arith}
 use Rattle.std.proofs.lemmas.Result.{err_from_is_err_and}
 use Rattle.gm_apply.proofs.Applying.{sound_again}
+use Rattle.gm_apply.proofs.Sums.{spare_then}
 use Rattle.std.proofs.lemmas.Nat.{mul-le}
 use Rattle.gm_apply.specs.Prepared as prepared
 use Rattle.gm_undo.specs.Costs.{rows_of}
@@ -107,3 +108,19 @@ pub returns-clause-most : goal.returns-clause-most
 returns-clause-most g c most budget =
     let cost = rw (ap (λ (m : ArenaMap). m.schema) c.in_ok-edits.ensures.rows) at c.keep-change.ensures.cost in
     omega (arith, cost, c.in_ok-edits.ensures.left most budget)
+
+pub returns-in_err-edits-clause-no_more : goal.returns-in_err-edits-clause-no_more
+returns-in_err-edits-clause-no_more g c =
+    let p = err_from_is_err_and c.from_residual.result c.from_residual.ensures.1 in
+    rw p.1 c.in_err-edits.ensures.no_more
+
+pub returns-in_err-make_room-clause-no_more : goal.returns-in_err-make_room-clause-no_more
+returns-in_err-make_room-clause-no_more g c =
+    let p = err_from_is_err_and c.from_residual-in_err-make_room.result c.from_residual-in_err-make_room.ensures.1 in
+    rw p.1 c.in_ok-edits.ensures.no_more
+
+pub returns-clause-spare : goal.returns-clause-spare
+returns-clause-spare g c = rw (c.applied-applied.ensures.added, c.applied-applied.ensures.removed) (spare_then c.args.arena.now.spare _ _ _ _ _ _ refl refl c.in_ok-edits.ensures.spare c.keep-change.ensures.spare)
+
+pub returns-clause-reserved : goal.returns-clause-reserved
+returns-clause-reserved g c = rw c.applied-applied.ensures.added (c.keep-change.ensures.reserved ∙ c.in_ok-edits.ensures.reserved)

@@ -2,7 +2,7 @@ use Rattle.std.proofs.Common.{◌≡◌, ℕ, ◌*◌, ◌<◌, length, sym, ap,
 use Rattle.std.proofs.lemmas.Bool.{cases_lt}
 use Rattle.gm_undo.specs.Flat.{RowsOf}
 use Rattle.gm_undo.proofs.Flats.{rows_long}
-use Rattle.gm_undo.proofs.rows.KeptRows.reserve.Goals as goal
+use Rattle.gm_undo.proofs.rows.KeptRows.grow.Goals as goal
 
 -- where the shape changes there are no rows yet
 still_long : (n old new long : ℕ) → long ≡ n * old → (0 < n → new ≡ old) → long ≡ n * new
