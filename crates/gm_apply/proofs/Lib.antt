@@ -16,6 +16,7 @@ pub mod ReadValues
 pub mod Seen
 pub mod Asking
 pub mod Giving
+pub mod Remembering
 pub mod Ending
 pub mod Readying
 pub mod Preparing

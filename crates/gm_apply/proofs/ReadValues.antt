@@ -29,7 +29,7 @@ module _ (reading : Reading) (hooks : List ℕ) (readable : IsReadable reading h
   accepted_here = accepted_for reading.arena.now reading.plan.now.schema (rule_of reading.plan.now.table) readable.schema planned
 
   module _ (e x p : ℕ) (tree : Tree) (assigns : Assigns (rule_of reading.plan.now.table) x e tree) (within : p < reading.found.now.positions) where
-    one : (other : Tree) → Assigns (rule_of reading.plan.now.table) x e other → other ≡ tree
+    pub one : (other : Tree) → Assigns (rule_of reading.plan.now.table) x e other → other ≡ tree
     one other theirs = one_tree reading.arena.now.schema (rule_of reading.plan.now.table) accepted_here.in_range x e other tree theirs assigns
 
     embed_there : (embed : Embed) × IsEmbedAt reading.arena.now.schema e embed

@@ -1,5 +1,6 @@
 //! Where the expressions of a rule are read: in the map as it is, at a match.
-ghost use Rattle.std.specs.Prelude.{◌≡◌, ◌≢◌, true, false, ℕ, ◌+◌, ◌*◌, ◌<◌, ◌≤◌, List, MatchOption, MatchResult, Some, slice_get};
+ghost use Rattle.std.specs.Prelude.{◌≡◌, ◌≢◌, true, false, ℕ, ◌+◌, ◌*◌, ◌<◌, ◌≤◌, ◌⊎◌, IsSome, List, MatchOption, MatchResult, Some, slice_get};
+ghost use Rattle.std.specs.List.{Contains};
 ghost use Rattle.gm_model.specs.declared.schema.Embed.{Embed};
 ghost use Rattle.gm_model.specs.declared.value.Value.{Value};
 ghost use Rattle.gm_model.specs.declared.value.Value.TheVariants as values;
@@ -7,11 +8,14 @@ ghost use Rattle.gm_model.specs.Applications.{GivesValue, IsPreUnits, IsReadUnit
 ghost use Rattle.gm_model.specs.Components.{IsAssigned};
 ghost use Rattle.gm_model.specs.Maps.{IsEmbedAt};
 ghost use Rattle.gm_model.specs.Rules.{Assigns, rule_of};
-ghost use Rattle.gm_model.specs.Trees.{tree_of};
+ghost use Rattle.gm_model.specs.Trees.{Tree, tree_of};
 ghost use Rattle.gm_model.specs.Values.{IsValueOf};
 ghost use Rattle.gm_walk.specs.Room.{Fits};
+ghost use Rattle.gm_eval.specs.declared.kept.Collector.{Collector};
 ghost use Rattle.gm_eval.specs.Keeping.{AreKept};
+ghost use Rattle.gm_eval.specs.Sharing.{AreKeptOnce, HasRoom, HasUnitsBeside, IsAtHand, IsShared, Reads, StillKept, collectors_of};
 ghost use Rattle.gm_apply.specs.Outcomes.{IsRefusedFor};
+ghost use Rattle.gm_apply.specs.Readings.{IsExpression, read_at};
 ghost use Rattle.gm_apply.specs.Reads.{IsReadable, SetsEmbed, app_at, place_at};
 
 use crate::refusal::Refusal;
@@ -60,7 +64,7 @@ impl Reading<'_, '_> {
     }
 
     /// The value that a node's expression gives to the embedding at a position; none where it has
-    /// none.
+    /// none. What it collects over an orbit that holds a node at all positions is kept for the next.
     pub(crate) fn value<L: Ledger>(
         &self,
         embed: u8,
@@ -72,7 +76,7 @@ impl Reading<'_, '_> {
     ) -> Option<Value>
         requires readable { (hooks : List ℕ) × IsReadable self.now hooks }
         requires fits { Fits scratch.old self.now.arena.now }
-        requires kept { AreKept self.now.arena.now self.now.found.now self.now.params.now kept.old }
+        requires kept { AreKept self.now.arena.now self.now.found.now self.now.params.now kept.old.entries }
         requires assigned { IsAssigned (rule_of self.now.plan.now.table) embed node }
         requires position { position < self.now.found.now.positions }
         ensures value { (hooks : List ℕ) → MatchOption result
@@ -83,7 +87,15 @@ impl Reading<'_, '_> {
             → steps.new ≤ steps.old + 6 * (self.now.arena.now.schema.dim + 1) * u }
         ensures least { steps.old ≤ steps.new }
         ensures room { scratch.new.bound ≡ scratch.old.bound }
-        ensures kept { AreKept self.now.arena.now self.now.found.now self.now.params.now kept.new }
+        ensures kept { AreKept self.now.arena.now self.now.found.now self.now.params.now kept.new.entries }
+        ensures cheap { (tree : Tree) (u : ℕ) → IsExpression self.now embed node tree → HasUnitsBeside (IsAtHand kept.old.entries) (read_at self.now position) tree u
+            → steps.new ≤ steps.old + 6 * (self.now.arena.now.schema.dim + 1) * u }
+        ensures stays { StillKept kept.old.entries kept.new.entries }
+        ensures reader { kept.new.reader ≡ kept.old.reader }
+        ensures among { (tree : Tree) (c : Collector) → IsExpression self.now embed node tree → IsAtHand kept.new.entries c → IsAtHand kept.old.entries c ⊎ Contains (collectors_of tree) c }
+        ensures once { AreKeptOnce kept.old.entries → AreKeptOnce kept.new.entries }
+        ensures remembers { IsSome result → HasRoom kept.new.entries → (tree : Tree) (c : Collector) → IsExpression self.now embed node tree → Reads (read_at self.now position) tree c
+            → IsShared self.now.arena.now self.now.found.now position c → IsAtHand kept.new.entries c }
     {
         let expr = assignment(self.plan.rule(), embed, node);
         eval_keeping(

@@ -1,6 +1,8 @@
 //! The edits of an application, with the values of its result.
-ghost use Rattle.std.specs.Prelude.{◌≡◌, ℕ, ◌+◌, ◌<◌, List, length, MatchResult};
+ghost use Rattle.std.specs.Prelude.{◌≡◌, ℕ, suc, ◌+◌, ◌*◌, ◌<◌, ◌≤◌, List, length, sum, MatchResult};
+ghost use Rattle.gm_pending.specs.Results.{instances_of};
 ghost use Rattle.gm_walk.specs.Room.{Fits};
+ghost use Rattle.gm_apply.specs.Readings.{AreReadingUnits, HaveFewCollectors, places_of};
 ghost use Rattle.gm_apply.specs.Reads.{IsReadable, HasRead, HasEdits, IsEnded};
 
 use crate::reading::Reading;
@@ -54,6 +56,30 @@ impl<'a, 'm> Reading<'a, 'm> {
         ensures room { scratch.new.bound ≡ scratch.old.bound }
     {
         let count = pending.deciding(embed, steps)?;
+        self.read_values(pending, embed, count, scratch, steps)
+    }
+
+    /// Reads the expressions of the embedding's deciding instances, in their order, and gives each its
+    /// value. What is collected over an orbit that holds a node at all positions is walked once for
+    /// each node whose expression collects it.
+    fn read_values<L: Ledger>(
+        &self,
+        pending: &mut Pending<'_, '_>,
+        embed: u8,
+        count: u32,
+        scratch: &mut Scratch,
+        steps: &mut Steps<L>,
+    ) -> Result<(), Refusal>
+        requires fits { Fits scratch.old self.now.arena.now }
+        requires count { length (instances_of pending.old embed) ≡ count }
+        requires read { (hooks : List ℕ) × (start : ℕ) × IsReadable self.now hooks × HasRead self.now hooks pending.old (suc embed) embed 0 start steps.old }
+        ensures given { (hooks : List ℕ) (start : ℕ) → IsReadable self.now hooks → HasRead self.now hooks pending.old (suc embed) embed 0 start steps.old → MatchResult result
+            (λ _. HasRead self.now hooks pending.new (embed + 1) (embed + 1) 0 start steps.new)
+            (λ refusal. IsEnded self.now hooks refusal start steps.new) }
+        ensures once { (units : List ℕ) → HaveFewCollectors self.now embed → AreReadingUnits self.now embed (places_of pending.old embed) units
+            → steps.new ≤ steps.old + 6 * (self.now.arena.now.schema.dim + 1) * sum units }
+        ensures room { scratch.new.bound ≡ scratch.old.bound }
+    {
         let mut kept = Kept::between(count);
         for index in 0..count {
             let (node, position) = pending.decider(embed, index);

@@ -11,3 +11,4 @@ pub mod Parts
 pub mod Matched
 pub mod Keeping
 pub mod Sharing
+pub mod Adding

@@ -15,6 +15,11 @@ use Rattle.gm_eval.specs.declared.kept.Form.{Form}
 use Rattle.gm_eval.specs.declared.kept.Form.TheVariants as forms
 use Rattle.gm_eval.specs.Places.{reading_in}
 
+-- what is kept: values of collectors, or none where nothing is ever kept, and the node whose expression was read last
+pub record KeptOf : Type 0 where
+  pub entries : Option (List Entry)
+  pub reader : Option ℕ
+
 -- a collector over the orbit of the term's dart; a count has no embedding
 abbrev pub collector_at : Form → Mask → DartTerm → ℕ → Tree
 collector_at forms.Count mask term e = Count mask term

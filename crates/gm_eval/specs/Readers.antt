@@ -1,5 +1,6 @@
 -- What holds where expressions are read. No public clause cites this module.
 use Rattle.std.specs.Prelude.{◌≡◌, ℕ, ◌+◌, ◌*◌, ◌<◌, ◌≤◌, ◌⊎◌, ℤ, List, All, slice_get, Option, Some, MatchOption}
+use Rattle.std.specs.List.{Contains}
 use Rattle.gm_model.specs.declared.expr.DartTerm.{DartTerm}
 use Rattle.gm_model.specs.declared.value.Value.{Value}
 use Rattle.gm_model.specs.declared.value.Value.TheVariants.{Int}
@@ -16,7 +17,7 @@ use Rattle.gm_eval.specs.declared.kept.Form.{Form}
 use Rattle.gm_eval.specs.declared.kept.Form.TheVariants as forms
 use Rattle.gm_eval.specs.declared.reader.Reader.{Reader}
 use Rattle.gm_eval.specs.Places.{AreLiveAt, IsTypedFor, reading_in}
-use Rattle.gm_eval.specs.Sharing.{HasOwnUnits, HasRoom, HasUnitsBeside, IsAtHand, IsOwn, IsShared, Reads}
+use Rattle.gm_eval.specs.Sharing.{AreKeptOnce, HasOwnUnits, HasRoom, HasUnitsBeside, IsAtHand, IsOwn, IsShared, Reads}
 
 abbrev pub reading_of : Reader → Reading
 reading_of reader = reading_in reader.arena.now reader.found.now reader.position reader.params.now
@@ -78,6 +79,11 @@ MeanUnits reader kept mask term e u = (s : ℕ) × (t : ℕ) × OwnUnits reader 
 -- such collectors are kept, where their orbits hold the node at every position and there is room
 abbrev pub AreLeft : Reader → (Collector → Type 0) → Option (List Entry) → Type 0
 AreLeft reader IsSuch kept = HasRoom kept → (c : Collector) → IsSuch c → IsShared reader.arena.now reader.found.now reader.position c → IsAtHand kept c
+
+-- what is kept beside what was is of these collectors, and none is kept twice where none was
+pub record AddsOnly (cs : List Collector) (old new : Option (List Entry)) : Type 0 where
+  pub among : (c : Collector) → IsAtHand new c → IsAtHand old c ⊎ Contains cs c
+  pub once : AreKeptOnce old → AreKeptOnce new
 
 -- the collectors of an expression, and of a mean
 abbrev pub Read : Reader → Tree → Collector → Type 0

@@ -1,5 +1,5 @@
 -- What a reading takes beside values of collectors that are at hand, and what it leaves for the next.
-use Rattle.std.specs.Prelude.{◌≡◌, ℕ, ◌+◌, ◌<◌, ◌⊎◌, List, [], ◌++◌, length, Option, Some, None, MatchOption, true, false}
+use Rattle.std.specs.Prelude.{◌≡◌, ℕ, ◌+◌, ◌<◌, ◌⊎◌, List, [], ◌∷◌, ◌++◌, length, map, Option, Some, None, MatchOption, true, false}
 use Rattle.std.specs.List.{Contains}
 use Rattle.gm_model.specs.declared.expr.DartTerm.{DartTerm}
 use Rattle.gm_model.specs.declared.value.Value.{Value}
@@ -21,6 +21,35 @@ use Rattle.gm_eval.specs.Keeping.{collector_at}
 -- the collector of this form, over the orbit of a node's own dart
 abbrev pub IsOwn : Form → Mask → DartTerm → ℕ → Collector → Type 0
 IsOwn form mask term e c = (term.path ≡ []) × (c ≡ record { form = form; mask = mask; node = term.node; embed = e })
+
+-- ---- the collectors of an expression
+
+-- the collector alone, where the path is empty
+abbrev pub where_empty : List ℕ → Collector → List Collector
+where_empty [] c = c ∷ []
+where_empty (i ∷ path) c = []
+
+-- the collector of this form, where the term is a node's own dart
+abbrev pub own_collector : Form → Mask → DartTerm → ℕ → List Collector
+own_collector form mask term e = where_empty term.path (record { form = form; mask = mask; node = term.node; embed = e })
+
+-- the collectors over the orbit of a node's own dart that stand in the expression, from left to right
+abbrev pub collectors_of : Tree → List Collector
+collectors_of (Number n) = []
+collectors_of (Truth b) = []
+collectors_of (Param k) = []
+collectors_of (Field d e) = []
+collectors_of (Same d d') = []
+collectors_of (Count o d) = own_collector forms.Count o d 0
+collectors_of (Sum o d e) = own_collector forms.Sum o d e
+collectors_of (Least o d e) = own_collector forms.Least o d e
+collectors_of (Greatest o d e) = own_collector forms.Greatest o d e
+collectors_of (Unary op a) = collectors_of a
+collectors_of (Binary op a b) = collectors_of a ++ collectors_of b
+collectors_of (If c a b) = collectors_of c ++ (collectors_of a ++ collectors_of b)
+collectors_of (MakeVec2 a b) = collectors_of a ++ collectors_of b
+collectors_of (MakeVec3 a b c) = collectors_of a ++ (collectors_of b ++ collectors_of c)
+collectors_of (MakeRgb a b c) = collectors_of a ++ (collectors_of b ++ collectors_of c)
 
 -- ---- what a reading takes
 
@@ -52,6 +81,16 @@ module _ (AtHand : Collector → Type 0) (reading : Reading) where
 abbrev pub IsAtHand : Option (List Entry) → Collector → Type 0
 IsAtHand kept c = (entries : List Entry) × (kept ≡ Some entries) × (value : Option Value) × Contains entries (record { collector = c; value = value })
 
+-- each collector of the list stands there once
+abbrev pub HasEachOnce : List Collector → Type 0
+HasEachOnce [] = Unit {0}
+HasEachOnce (c ∷ cs) = (Contains cs c → ⊥) × HasEachOnce cs
+
+-- no collector is kept twice
+abbrev pub AreKeptOnce : Option (List Entry) → Type 0
+AreKeptOnce None = Unit {0}
+AreKeptOnce (Some entries) = HasEachOnce (map (λ (entry : Entry). entry.collector) entries)
+
 -- ---- what it leaves
 
 -- Where the expression has a value, its reading reads this collector over the orbit of a node's own dart. Of a choice that
@@ -81,7 +120,7 @@ IsShared m placed position c = (p : ℕ) → p < placed.positions → let slot =
 
 -- values are kept, and fewer than there is room for
 abbrev pub HasRoom : Option (List Entry) → Type 0
-HasRoom kept = (entries : List Entry) × (kept ≡ Some entries) × (length entries < 36)
+HasRoom kept = (entries : List Entry) × (kept ≡ Some entries) × (length entries < 37)
 
 -- what was kept still is
 abbrev pub StillKept : Option (List Entry) → Option (List Entry) → Type 0

@@ -1,6 +1,6 @@
 //! What is collected over an orbit: how many darts it has, and sums and extremes of values.
 
-ghost use Rattle.std.specs.Prelude.{◌≡◌, ◌↔◌, ◌+◌, ◌*◌, ◌<◌, ◌≤◌, ℕ, [], IsSome, IsTrue, MatchOption, Some, false, length};
+ghost use Rattle.std.specs.Prelude.{◌≡◌, ◌↔◌, ◌+◌, ◌*◌, ◌<◌, ◌≤◌, ℕ, [], ◌∷◌, ◌++◌, IsSome, IsTrue, MatchOption, Some, false, length};
 ghost use Rattle.std.specs.List.{Contains};
 ghost use Rattle.gm_model.specs.Expressions.{HasValue};
 ghost use Rattle.gm_model.specs.Trees.{Count, Sum, Least, Greatest};
@@ -11,11 +11,12 @@ ghost use Rattle.gm_walk.specs.Room.{Fits};
 ghost use Rattle.gm_eval.specs.Keeping.{AreKept, collector_at, own_term, tree_of_collector};
 ghost use Rattle.gm_eval.specs.Made.{IsNone};
 ghost use Rattle.gm_eval.specs.Places.{IsWithinUnits};
-ghost use Rattle.gm_eval.specs.Readers.{AreLeft, IsOfMean, IsOrbit, IsReady, IsValueThere, IsWithin, MeanUnits, OwnUnits, reading_of};
-ghost use Rattle.gm_eval.specs.Sharing.{IsOwn, StillKept};
+ghost use Rattle.gm_eval.specs.Readers.{AddsOnly, AreLeft, IsOfMean, IsOrbit, IsReady, IsValueThere, IsWithin, MeanUnits, OwnUnits, reading_of};
+ghost use Rattle.gm_eval.specs.Sharing.{IsOwn, StillKept, own_collector};
+ghost use Rattle.gm_eval.specs.declared.kept.Form.TheVariants as forms;
 ghost use Rattle.gm_model.specs.declared.value.Value.TheVariants.{Int};
 
-use crate::kept::{Collector, Form, Kept};
+use crate::kept::{Collector, Entries, Form};
 use crate::numbers::int;
 use crate::reader::Reader;
 use crate::totals::{add_up, extremes};
@@ -33,7 +34,7 @@ impl Reader<'_> {
         mask: Mask,
         term: &DartTerm,
         embed: u8,
-        kept: &mut Kept,
+        kept: &mut Entries,
         scratch: &mut Scratch,
         steps: &mut Steps<L>,
     ) -> Option<Value>
@@ -46,6 +47,7 @@ impl Reader<'_> {
         ensures room { scratch.new.bound ≡ scratch.old.bound }
         ensures kept { AreKept self.now.arena.now self.now.found.now self.now.params.now kept.new }
         ensures stays { StillKept kept.old kept.new }
+        ensures adds { AddsOnly (own_collector form mask term.now embed) kept.old kept.new }
         ensures left { AreLeft self.now (IsOwn form mask term.now embed) kept.new }
     {
         if is_keepable(term, kept) {
@@ -62,7 +64,7 @@ impl Reader<'_> {
         mask: Mask,
         term: &DartTerm,
         embed: u8,
-        kept: &mut Kept,
+        kept: &mut Entries,
         scratch: &mut Scratch,
         steps: &mut Steps<L>,
     ) -> Option<Value>
@@ -77,6 +79,7 @@ impl Reader<'_> {
         ensures room { scratch.new.bound ≡ scratch.old.bound }
         ensures kept { AreKept self.now.arena.now self.now.found.now self.now.params.now kept.new }
         ensures stays { StillKept kept.old kept.new }
+        ensures adds { AddsOnly (own_collector form mask term.now embed) kept.old kept.new }
         ensures left { AreLeft self.now (IsOwn form mask term.now embed) kept.new }
     {
         let collector = Collector {
@@ -100,7 +103,7 @@ impl Reader<'_> {
         mask: Mask,
         term: &DartTerm,
         embed: u8,
-        kept: &mut Kept,
+        kept: &mut Entries,
         scratch: &mut Scratch,
         steps: &mut Steps<L>,
     ) -> (Option<Value>, Option<Value>)
@@ -110,10 +113,12 @@ impl Reader<'_> {
         ensures sum { IsValueThere self.now (Sum mask term.now embed) result.0 }
         ensures count { IsValueThere self.now (Count mask term.now) result.1 }
         ensures cost { IsWithin self.now (MeanUnits self.now kept.old mask term.now embed) steps.old steps.new }
+        ensures once { IsWithinUnits (reading_of self.now) (Sum mask term.now embed) steps.old steps.new }
         ensures least { steps.old ≤ steps.new }
         ensures room { scratch.new.bound ≡ scratch.old.bound }
         ensures kept { AreKept self.now.arena.now self.now.found.now self.now.params.now kept.new }
         ensures stays { StillKept kept.old kept.new }
+        ensures adds { AddsOnly (own_collector forms.Sum mask term.now embed ++ own_collector forms.Count mask term.now 0) kept.old kept.new }
         ensures left { AreLeft self.now (IsOfMean mask term.now embed) kept.new }
     {
         if is_keepable(term, kept) {
@@ -129,7 +134,7 @@ impl Reader<'_> {
         mask: Mask,
         term: &DartTerm,
         embed: u8,
-        kept: &mut Kept,
+        kept: &mut Entries,
         scratch: &mut Scratch,
         steps: &mut Steps<L>,
     ) -> (Option<Value>, Option<Value>)
@@ -141,10 +146,12 @@ impl Reader<'_> {
         ensures sum { IsValueThere self.now (Sum mask term.now embed) result.0 }
         ensures count { IsValueThere self.now (Count mask term.now) result.1 }
         ensures cost { IsWithin self.now (MeanUnits self.now kept.old mask term.now embed) steps.old steps.new }
+        ensures once { IsWithinUnits (reading_of self.now) (Sum mask term.now embed) steps.old steps.new }
         ensures least { steps.old ≤ steps.new }
         ensures room { scratch.new.bound ≡ scratch.old.bound }
         ensures kept { AreKept self.now.arena.now self.now.found.now self.now.params.now kept.new }
         ensures stays { StillKept kept.old kept.new }
+        ensures adds { AddsOnly (own_collector forms.Sum mask term.now embed ++ own_collector forms.Count mask term.now 0) kept.old kept.new }
         ensures left { AreLeft self.now (IsOfMean mask term.now embed) kept.new }
     {
         let sum_of = Collector {
@@ -170,7 +177,13 @@ impl Reader<'_> {
 
     /// Keeps the value of a collector whose orbit was just walked, where it is the same at each
     /// position: where the orbit holds the node's dart of each.
-    fn keep(&self, collector: Collector, value: Option<Value>, kept: &mut Kept, scratch: &Scratch)
+    fn keep(
+        &self,
+        collector: Collector,
+        value: Option<Value>,
+        kept: &mut Entries,
+        scratch: &Scratch,
+    )
         requires ready { IsReady self.now (tree_of_collector collector) }
         requires walked { IsOrbit self.now collector.mask (own_term collector.node) scratch.now.walked }
         requires value { IsValueThere self.now (tree_of_collector collector) value }
@@ -179,6 +192,7 @@ impl Reader<'_> {
         ensures kept { AreKept self.now.arena.now self.now.found.now self.now.params.now kept.new }
         ensures open { IsSome kept.new }
         ensures stays { StillKept kept.old kept.new }
+        ensures adds { AddsOnly (collector ∷ []) kept.old kept.new }
         ensures left { AreLeft self.now (λ c. c ≡ collector) kept.new }
     {
         if self.is_walked(collector.node, scratch) {
@@ -378,7 +392,7 @@ impl Reader<'_> {
 
 /// Whether a collector over the orbit of the term's dart may be kept: of a node's own dart, where
 /// values are kept.
-fn is_keepable(term: &DartTerm, kept: &Kept) -> bool
+fn is_keepable(term: &DartTerm, kept: &Entries) -> bool
     ensures { IsTrue result ↔ (IsSome kept.now × (term.now.path ≡ [])) }
 {
     kept.is_open() && term.path.as_slice().is_empty()

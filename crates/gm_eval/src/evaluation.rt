@@ -1,6 +1,7 @@
 //! The value of an expression where it is read, for callers.
 
-ghost use Rattle.std.specs.Prelude.{◌≡◌, ◌+◌, ◌*◌, ◌<◌, ◌≤◌, ℕ, IsSome, MatchOption};
+ghost use Rattle.std.specs.Prelude.{◌≡◌, ◌+◌, ◌*◌, ◌<◌, ◌≤◌, ◌⊎◌, ℕ, IsSome, MatchOption};
+ghost use Rattle.std.specs.List.{Contains};
 ghost use Rattle.gm_arena.specs.ArenaAsMap.{as_map};
 ghost use Rattle.gm_model.specs.Expressions.{HasValue, HasNoValue, HasUnits};
 ghost use Rattle.gm_model.specs.Trees.{tree_of};
@@ -8,7 +9,7 @@ ghost use Rattle.gm_walk.specs.Room.{Fits};
 ghost use Rattle.gm_eval.specs.Keeping.{AreKept};
 ghost use Rattle.gm_eval.specs.declared.kept.Collector.{Collector as CollectorOf};
 ghost use Rattle.gm_eval.specs.Places.{AreLiveAt, IsTypedFor, reading_in};
-ghost use Rattle.gm_eval.specs.Sharing.{HasRoom, HasUnitsBeside, IsAtHand, IsShared, Reads, StillKept};
+ghost use Rattle.gm_eval.specs.Sharing.{AreKeptOnce, HasRoom, HasUnitsBeside, IsAtHand, IsShared, Reads, StillKept, collectors_of};
 
 use crate::kept::Kept;
 use crate::reader::Reader;
@@ -62,19 +63,22 @@ pub fn eval_keeping<L: Ledger>(
     requires live { AreLiveAt arena.now found.now position }
     requires typed { IsTypedFor arena.now.schema found.now.nodes params.now (tree_of expr.now) }
     requires fits { Fits scratch.old arena.now }
-    requires kept { AreKept arena.now found.now params.now kept.old }
+    requires kept { AreKept arena.now found.now params.now kept.old.entries }
     ensures value { let reading = reading_in arena.now found.now position params.now in
         MatchOption result (HasNoValue reading (tree_of expr.now)) (HasValue reading (tree_of expr.now)) }
     ensures cost { (u : ℕ) → HasUnits (reading_in arena.now found.now position params.now) (tree_of expr.now) u
         → steps.new ≤ steps.old + 6 * (arena.now.schema.dim + 1) * u }
-    ensures cheap { (u : ℕ) → HasUnitsBeside (IsAtHand kept.old) (reading_in arena.now found.now position params.now) (tree_of expr.now) u
+    ensures cheap { (u : ℕ) → HasUnitsBeside (IsAtHand kept.old.entries) (reading_in arena.now found.now position params.now) (tree_of expr.now) u
         → steps.new ≤ steps.old + 6 * (arena.now.schema.dim + 1) * u }
     ensures least { steps.old ≤ steps.new }
     ensures room { scratch.new.bound ≡ scratch.old.bound }
-    ensures kept { AreKept arena.now found.now params.now kept.new }
-    ensures stays { StillKept kept.old kept.new }
-    ensures remembers { IsSome result → HasRoom kept.new → (c : CollectorOf) → Reads (reading_in arena.now found.now position params.now) (tree_of expr.now) c
-        → IsShared arena.now found.now position c → IsAtHand kept.new c }
+    ensures kept { AreKept arena.now found.now params.now kept.new.entries }
+    ensures stays { StillKept kept.old.entries kept.new.entries }
+    ensures reader { kept.new.reader ≡ kept.old.reader }
+    ensures among { (c : CollectorOf) → IsAtHand kept.new.entries c → IsAtHand kept.old.entries c ⊎ Contains (collectors_of (tree_of expr.now)) c }
+    ensures once { AreKeptOnce kept.old.entries → AreKeptOnce kept.new.entries }
+    ensures remembers { IsSome result → HasRoom kept.new.entries → (c : CollectorOf) → Reads (reading_in arena.now found.now position params.now) (tree_of expr.now) c
+        → IsShared arena.now found.now position c → IsAtHand kept.new.entries c }
 {
     // The arena tells here what its type keeps.
     prove!(arena.count() <= MOST_DARTS);
@@ -84,5 +88,5 @@ pub fn eval_keeping<L: Ledger>(
         position,
         params,
     };
-    reader.value(expr, kept, scratch, steps)
+    reader.value(expr, &mut kept.entries, scratch, steps)
 }

@@ -8,10 +8,11 @@ ghost use Rattle.gm_model.specs.declared.value.Value.TheVariants.{Int, Bool as T
 ghost use Rattle.gm_walk.specs.Room.{Fits};
 ghost use Rattle.gm_eval.specs.Keeping.{AreKept};
 ghost use Rattle.gm_eval.specs.Made.{IsNone};
-ghost use Rattle.gm_eval.specs.Readers.{AreLeft, AreNumbersThere, IsReady, IsValueThere, IsWithin, Read, UnitsBeside};
-ghost use Rattle.gm_eval.specs.Sharing.{StillKept};
+ghost use Rattle.gm_eval.specs.Places.{IsWithinUnits};
+ghost use Rattle.gm_eval.specs.Readers.{AddsOnly, AreLeft, AreNumbersThere, IsReady, IsValueThere, IsWithin, Read, UnitsBeside, reading_of};
+ghost use Rattle.gm_eval.specs.Sharing.{StillKept, collectors_of};
 
-use crate::kept::{Form, Kept};
+use crate::kept::{Entries, Form};
 use crate::numbers::{rgb, vec2, vec3};
 use crate::operators::{binary, unary};
 use crate::reader::Reader;
@@ -26,7 +27,7 @@ impl Reader<'_> {
     pub(crate) fn value<L: Ledger>(
         &self,
         expr: &Expr,
-        kept: &mut Kept,
+        kept: &mut Entries,
         scratch: &mut Scratch,
         steps: &mut Steps<L>,
     ) -> Option<Value>
@@ -39,6 +40,7 @@ impl Reader<'_> {
         ensures room { scratch.new.bound ≡ scratch.old.bound }
         ensures kept { AreKept self.now.arena.now self.now.found.now self.now.params.now kept.new }
         ensures stays { StillKept kept.old kept.new }
+        ensures adds { AddsOnly (collectors_of (tree_of expr.now)) kept.old kept.new }
         ensures left { IsSome result → AreLeft self.now (Read self.now (tree_of expr.now)) kept.new }
     {
         match expr {
@@ -78,7 +80,7 @@ impl Reader<'_> {
         &self,
         op: UnOp,
         part: &Expr,
-        kept: &mut Kept,
+        kept: &mut Entries,
         scratch: &mut Scratch,
         steps: &mut Steps<L>,
     ) -> Option<Value>
@@ -91,6 +93,7 @@ impl Reader<'_> {
         ensures room { scratch.new.bound ≡ scratch.old.bound }
         ensures kept { AreKept self.now.arena.now self.now.found.now self.now.params.now kept.new }
         ensures stays { StillKept kept.old kept.new }
+        ensures adds { AddsOnly (collectors_of (Unary op (tree_of part.now))) kept.old kept.new }
         ensures left { IsSome result → AreLeft self.now (Read self.now (Unary op (tree_of part.now))) kept.new }
     {
         let part = self.value(part, kept, scratch, steps)?;
@@ -104,7 +107,7 @@ impl Reader<'_> {
         op: BinOp,
         left: &Expr,
         right: &Expr,
-        kept: &mut Kept,
+        kept: &mut Entries,
         scratch: &mut Scratch,
         steps: &mut Steps<L>,
     ) -> Option<Value>
@@ -117,6 +120,7 @@ impl Reader<'_> {
         ensures room { scratch.new.bound ≡ scratch.old.bound }
         ensures kept { AreKept self.now.arena.now self.now.found.now self.now.params.now kept.new }
         ensures stays { StillKept kept.old kept.new }
+        ensures adds { AddsOnly (collectors_of (Binary op (tree_of left.now) (tree_of right.now))) kept.old kept.new }
         ensures left { IsSome result → AreLeft self.now (Read self.now (Binary op (tree_of left.now) (tree_of right.now))) kept.new }
     {
         if let Some((mask, term, embed)) = parts_of_mean(left, right) {
@@ -135,7 +139,7 @@ impl Reader<'_> {
         mask: Mask,
         term: &DartTerm,
         embed: u8,
-        kept: &mut Kept,
+        kept: &mut Entries,
         scratch: &mut Scratch,
         steps: &mut Steps<L>,
     ) -> Option<Value>
@@ -144,10 +148,12 @@ impl Reader<'_> {
         requires kept { AreKept self.now.arena.now self.now.found.now self.now.params.now kept.old }
         ensures value { IsValueThere self.now (Binary op (Sum mask term.now embed) (Count mask term.now)) result }
         ensures cost { IsWithin self.now (UnitsBeside self.now kept.old (Binary op (Sum mask term.now embed) (Count mask term.now))) steps.old steps.new }
+        ensures once { IsWithinUnits (reading_of self.now) (Sum mask term.now embed) steps.old steps.new }
         ensures least { steps.old ≤ steps.new }
         ensures room { scratch.new.bound ≡ scratch.old.bound }
         ensures kept { AreKept self.now.arena.now self.now.found.now self.now.params.now kept.new }
         ensures stays { StillKept kept.old kept.new }
+        ensures adds { AddsOnly (collectors_of (Binary op (Sum mask term.now embed) (Count mask term.now))) kept.old kept.new }
         ensures left { IsSome result → AreLeft self.now (Read self.now (Binary op (Sum mask term.now embed) (Count mask term.now))) kept.new }
     {
         let (sum, count) = self.mean_parts(mask, term, embed, kept, scratch, steps);
@@ -163,7 +169,7 @@ impl Reader<'_> {
         condition: &Expr,
         chosen: &Expr,
         other: &Expr,
-        kept: &mut Kept,
+        kept: &mut Entries,
         scratch: &mut Scratch,
         steps: &mut Steps<L>,
     ) -> Option<Value>
@@ -176,6 +182,7 @@ impl Reader<'_> {
         ensures room { scratch.new.bound ≡ scratch.old.bound }
         ensures kept { AreKept self.now.arena.now self.now.found.now self.now.params.now kept.new }
         ensures stays { StillKept kept.old kept.new }
+        ensures adds { AddsOnly (collectors_of (If (tree_of condition.now) (tree_of chosen.now) (tree_of other.now))) kept.old kept.new }
         ensures left { IsSome result → AreLeft self.now (Read self.now (If (tree_of condition.now) (tree_of chosen.now) (tree_of other.now))) kept.new }
     {
         if truth(self.value(condition, kept, scratch, steps))? {
@@ -191,7 +198,7 @@ impl Reader<'_> {
         &self,
         x: &Expr,
         y: &Expr,
-        kept: &mut Kept,
+        kept: &mut Entries,
         scratch: &mut Scratch,
         steps: &mut Steps<L>,
     ) -> Option<Value>
@@ -204,6 +211,7 @@ impl Reader<'_> {
         ensures room { scratch.new.bound ≡ scratch.old.bound }
         ensures kept { AreKept self.now.arena.now self.now.found.now self.now.params.now kept.new }
         ensures stays { StillKept kept.old kept.new }
+        ensures adds { AddsOnly (collectors_of (MakeVec2 (tree_of x.now) (tree_of y.now))) kept.old kept.new }
         ensures left { IsSome result → AreLeft self.now (Read self.now (MakeVec2 (tree_of x.now) (tree_of y.now))) kept.new }
     {
         let x = number(self.value(x, kept, scratch, steps))?;
@@ -218,7 +226,7 @@ impl Reader<'_> {
         x: &Expr,
         y: &Expr,
         z: &Expr,
-        kept: &mut Kept,
+        kept: &mut Entries,
         scratch: &mut Scratch,
         steps: &mut Steps<L>,
     ) -> Option<(i64, i64, i64)>
@@ -233,6 +241,7 @@ impl Reader<'_> {
         ensures room { scratch.new.bound ≡ scratch.old.bound }
         ensures kept { AreKept self.now.arena.now self.now.found.now self.now.params.now kept.new }
         ensures stays { StillKept kept.old kept.new }
+        ensures adds { AddsOnly (collectors_of (MakeVec3 (tree_of x.now) (tree_of y.now) (tree_of z.now))) kept.old kept.new }
         ensures left { IsSome result → AreLeft self.now (Read self.now (MakeVec3 (tree_of x.now) (tree_of y.now) (tree_of z.now))) kept.new }
     {
         let x = number(self.value(x, kept, scratch, steps))?;

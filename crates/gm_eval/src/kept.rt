@@ -1,6 +1,6 @@
 //! Values that were collected over the orbit of a node, kept for all positions at which the node lies
 //! in it.
-ghost use Rattle.std.specs.Prelude.{◌≡◌, [], ◌∷◌, ◌++◌, ◌⊎◌, IfSome, IsSome, IsTrue, ◌↔◌, List, MatchOption, None, Option, Some};
+ghost use Rattle.std.specs.Prelude.{◌≡◌, ◌≢◌, ◌≤◌, [], ◌∷◌, ◌++◌, ◌⊎◌, IfSome, IsSome, IsTrue, ◌↔◌, List, MatchOption, None, Option, Some};
 ghost use Rattle.std.specs.List.{Contains};
 ghost use Rattle.gm_model.specs.declared.value.Value.{Value as ValueOf};
 ghost use Rattle.gm_model.specs.Maps.{IsGeneralised};
@@ -15,9 +15,10 @@ use arrayvec::ArrayVec;
 use gm_model::{Mask, Value};
 use std::marker::Model;
 
-/// How many values are kept at once. An expression of a book has no more collectors, since it has at
-/// most 256 tokens.
-const MOST: usize = 36;
+/// How many values are kept at once. An expression of a book has at most 36 collectors, since it has
+/// at most 256 tokens. With room for one more the list is never full, and nothing that can be kept is
+/// lost.
+const MOST: usize = 37;
 
 /// What is collected over an orbit.
 #[derive(Clone, Copy, Debug, PartialEq, Eq)]
@@ -58,42 +59,47 @@ impl Default for Entry {
     }
 }
 
-/// Values of collectors that are the same at each position of an application. They take no memory.
-/// Contracts see their list, or none where nothing is ever kept.
+/// Values of collectors, no collector twice. They take no memory. Contracts see their list, or none
+/// where nothing is ever kept.
 #[derive(Drop)]
-pub struct Kept {
-    entries: Option<ArrayVec<Entry, MOST>>,
-    /// The node whose expression was read last.
-    reader: Option<u8>,
+pub(crate) struct Entries {
+    list: Option<ArrayVec<Entry, MOST>>,
 }
 
-impl Model for Kept {
+impl Model for Entries {
     ghost use Rattle.std.specs.Prelude.{List, Option};
     ghost use Rattle.std.specs.Option.{option_map};
     ghost use Rattle.gm_eval.specs.declared.kept.Entry.{Entry};
 
     ghost Value = { Option (List Entry) };
 
-    ghost view = { λ kept. option_map (λ entries. entries.items) kept.entries };
+    ghost view = { λ kept. option_map (λ entries. entries.items) kept.list };
+}
+
+/// Values of collectors that are the same at each position of an application, and the node whose
+/// expression was read last. They take no memory.
+#[derive(Drop)]
+pub struct Kept {
+    pub(crate) entries: Entries,
+    reader: Option<u8>,
+}
+
+impl Model for Kept {
+    ghost use Rattle.gm_eval.specs.Keeping.{KeptOf};
+
+    ghost Value = { KeptOf };
+
+    ghost view = { λ kept. record { entries = kept.entries; reader = kept.reader } };
 }
 
 impl Kept {
     /// Nothing, and nothing is ever kept: for what is read once.
     pub(crate) fn closed() -> Kept
-        ensures { result ≡ None }
+        ensures entries { result.entries ≡ None }
+        ensures reader { result.reader ≡ None }
     {
         Kept {
-            entries: None,
-            reader: None,
-        }
-    }
-
-    /// Nothing yet.
-    fn open() -> Kept
-        ensures { result ≡ Some [] }
-    {
-        Kept {
-            entries: Some(ArrayVec::new()),
+            entries: Entries { list: None },
             reader: None,
         }
     }
@@ -101,10 +107,16 @@ impl Kept {
     /// What is kept between so many readings before the first of them: nothing, and where there is
     /// one, nothing ever.
     pub fn between(readings: u32) -> Kept
-        ensures { (m : ArenaMap) (placed : Placed) (params : List ValueOf) → IsGeneralised (as_map m) → AreKept m placed params result }
+        ensures kept { (m : ArenaMap) (placed : Placed) (params : List ValueOf) → IsGeneralised (as_map m) → AreKept m placed params result.entries }
+        ensures open { 2 ≤ readings → result.entries ≡ Some [] }
+        ensures closed { readings ≤ 1 → result.entries ≡ None }
+        ensures reader { result.reader ≡ None }
     {
         if readings > 1 {
-            Kept::open()
+            Kept {
+                entries: Entries::open(),
+                reader: None,
+            }
         } else {
             Kept::closed()
         }
@@ -113,19 +125,33 @@ impl Kept {
     /// Forgets all values where the expression of another node is read than before. So there are
     /// never more than one expression has collectors.
     pub fn turn_to(&mut self, node: u8)
-        ensures { (m : ArenaMap) (placed : Placed) (params : List ValueOf) → AreKept m placed params self.old → AreKept m placed params self.new }
+        ensures kept { (m : ArenaMap) (placed : Placed) (params : List ValueOf) → AreKept m placed params self.old.entries → AreKept m placed params self.new.entries }
+        ensures stays { self.old.reader ≡ Some node → self.new ≡ self.old }
+        ensures turned { self.old.reader ≢ Some node → MatchOption self.old.entries (self.new.entries ≡ None) (λ _. self.new.entries ≡ Some []) }
+        ensures reader { self.new.reader ≡ Some node }
     {
         if self.reader == Some(node) {
             return;
         }
         self.reader = Some(node);
-        self.clear();
+        self.entries.clear();
+    }
+}
+
+impl Entries {
+    /// Nothing yet.
+    fn open() -> Entries
+        ensures { result ≡ Some [] }
+    {
+        Entries {
+            list: Some(ArrayVec::new()),
+        }
     }
 
     fn clear(&mut self)
         ensures { MatchOption self.old (self.new ≡ None) (λ _. self.new ≡ Some []) }
     {
-        if let Some(entries) = &mut self.entries {
+        if let Some(entries) = &mut self.list {
             entries.clear();
         }
     }
@@ -134,7 +160,7 @@ impl Kept {
     pub(crate) fn is_open(&self) -> bool
         ensures { IsTrue result ↔ IsSome self.now }
     {
-        self.entries.is_some()
+        self.list.is_some()
     }
 
     /// The value of the collector, where it is kept.
@@ -142,7 +168,7 @@ impl Kept {
         ensures known { IsAtHand self.now collector → IsSome result }
         ensures found { IfSome result (λ value. (entries : List EntryOf) × (self.now ≡ Some entries) × Contains entries (record { collector = collector; value = value })) }
     {
-        let Some(entries) = &self.entries else {
+        let Some(entries) = &self.list else {
             return None;
         };
         find_in(entries.as_slice(), collector)
@@ -157,22 +183,36 @@ impl Kept {
         ensures known { IsAtHand self.now first → IsAtHand self.now second → IsSome result }
         ensures found { IfSome result (λ values. (entries : List EntryOf) × (self.now ≡ Some entries) × Contains entries (record { collector = first; value = values.0 }) × Contains entries (record { collector = second; value = values.1 })) }
     {
-        let Some(entries) = &self.entries else {
+        let Some(entries) = &self.list else {
             return None;
         };
         let entries = entries.as_slice();
         Some((find_in(entries, first)?, find_in(entries, second)?))
     }
 
-    /// Keeps the value of the collector, where there is room.
+    /// Keeps the value of the collector, where there is room and it is not kept already.
     pub(crate) fn keep(&mut self, collector: Collector, value: Option<Value>)
         ensures kept { (self.new ≡ self.old) ⊎ ((entries : List EntryOf) × (self.old ≡ Some entries) × (self.new ≡ Some (entries ++ record { collector = collector; value = value } ∷ []))) }
+        ensures fresh { (self.new ≡ self.old) ⊎ (IsAtHand self.old collector → ⊥) }
         ensures open { IsSome self.old → IsSome self.new }
         ensures stays { StillKept self.old self.new }
         ensures room { HasRoom self.new → IsAtHand self.new collector }
     {
-        if let Some(entries) = &mut self.entries {
-            let _ = entries.try_push(Entry { collector, value });
+        if self.find(collector).is_some() {
+            return;
+        }
+        self.push(Entry { collector, value });
+    }
+
+    /// Adds the entry, where there is room.
+    fn push(&mut self, entry: Entry)
+        ensures kept { (self.new ≡ self.old) ⊎ ((entries : List EntryOf) × (self.old ≡ Some entries) × (self.new ≡ Some (entries ++ entry ∷ []))) }
+        ensures open { IsSome self.old → IsSome self.new }
+        ensures stays { StillKept self.old self.new }
+        ensures room { HasRoom self.new → IsAtHand self.new entry.collector }
+    {
+        if let Some(entries) = &mut self.list {
+            let _ = entries.try_push(entry);
         }
     }
 }

@@ -1,8 +1,14 @@
+use Rattle.std.proofs.Common.{◌⊎◌, subst}
+use Rattle.std.specs.List.{Contains}
 use Rattle.gm_model.specs.Trees.{tree_of}
 use Rattle.gm_eval.specs.Places.{reading_in}
-use Rattle.gm_eval.specs.Sharing.{IsAtHand}
+use Rattle.gm_eval.specs.Keeping.{KeptOf}
+use Rattle.gm_eval.specs.Sharing.{IsAtHand, collectors_of}
 use Rattle.gm_eval.proofs.Sharing.{model_units}
 use Rattle.gm_eval.proofs.evaluation.eval_keeping.Goals as goal
 
 pub returns-clause-cost : goal.returns-clause-cost
-returns-clause-cost g c = λ u units. c.value.ensures.cost u (model_units (IsAtHand c.args.kept.now) (reading_in c.args.arena.now c.args.found.now c.args.position c.args.params.now) (tree_of c.args.expr.now) u units)
+returns-clause-cost g c = λ u units. c.value.ensures.cost u (model_units (IsAtHand c.kept.inside.entries) (reading_in c.args.arena.now c.args.found.now c.args.position c.args.params.now) (tree_of c.args.expr.now) u units)
+
+pub returns-clause-among : goal.returns-clause-among
+returns-clause-among g c = λ x at_hand. subst (λ (kept : KeptOf). IsAtHand kept.entries x ⊎ Contains (collectors_of (tree_of c.args.expr.now)) x) c.kept.view_is (c.value.ensures.adds.among x at_hand)

@@ -9,6 +9,7 @@ use Rattle.gm_model.specs.declared.value.Value.TheVariants.{Int, Bool as Truth}
 use Rattle.gm_model.specs.Expressions.{HasValue}
 use Rattle.gm_model.specs.Trees.{Count, Unary, Binary, If, MakeVec2, MakeVec3, MakeRgb, tree_of}
 use Rattle.gm_eval.specs.Readers.{IsReady, Read, reading_of}
+use Rattle.gm_eval.proofs.Adding.{adds_as, ends_add, first_adds, front_adds, same_adds, start_adds, three_add, two_add}
 use Rattle.gm_eval.proofs.Parts.{beside_as, binary_known, binary_ready, binary_there, choice_ready, chosen_there, colour_ready, int_as, is_there, left_as, made_of_three, no_choice, no_numbers, none_there, not_there, other_there, pair_ready, pair_there, param_within, ready_as, some_numbers, there_as, three_trees, triple_ready, unary_known, unary_ready, unary_there, value_as}
 use Rattle.gm_eval.proofs.Sharing.{chosen_beside, chosen_left, condition_beside, first_beside, front_beside, is_some, later_kept, not_some, other_beside, other_left, same_kept, start_beside, still_beside, three_beside, three_left, two_beside, two_left}
 use Rattle.gm_eval.proofs.reader.Reader.+value.Goals as goal
@@ -62,6 +63,7 @@ unary-returns g t c =
       room = c.value.ensures.room;
       kept = c.value.ensures.kept;
       stays = c.value.ensures.stays;
+      adds = c.value.ensures.adds;
       left = λ some. c.in_ok-part.ensures.left refl;
     }
 
@@ -74,6 +76,7 @@ unary-returns-in_err-part g t c =
       room = c.value.ensures.room;
       kept = c.value.ensures.kept;
       stays = c.value.ensures.stays;
+      adds = c.value.ensures.adds;
       left = λ some. absurd (not_some _ c.from_residual.ensures some);
     }
 
@@ -86,6 +89,7 @@ binary-returns-in_err-left g t c =
       room = c.value.ensures.room;
       kept = c.value.ensures.kept;
       stays = c.value.ensures.stays;
+      adds = first_adds (tree_of c.args.left.now) (tree_of c.args.right.now) _ _ c.value.ensures.adds;
       left = λ some. absurd (not_some _ c.from_residual.ensures some);
     }
 
@@ -98,6 +102,7 @@ binary-returns-in_err-right g t c =
       room = c.value-2.ensures.room ∙ c.value.ensures.room;
       kept = c.value-2.ensures.kept;
       stays = later_kept _ _ _ c.value.ensures.stays c.value-2.ensures.stays;
+      adds = two_add (tree_of c.args.left.now) (tree_of c.args.right.now) _ _ _ c.value.ensures.adds c.value-2.ensures.adds;
       left = λ some. absurd (not_some _ c.from_residual-in_err-right.ensures some);
     }
 
@@ -113,6 +118,7 @@ binary-returns g t c =
       room = c.value-2.ensures.room ∙ c.value.ensures.room;
       kept = c.value-2.ensures.kept;
       stays = later_kept _ _ _ c.value.ensures.stays c.value-2.ensures.stays;
+      adds = two_add (tree_of c.args.left.now) (tree_of c.args.right.now) _ _ _ c.value.ensures.adds c.value-2.ensures.adds;
       left = λ some. two_left c.args.self.now (Read c.args.self.now (tree_of c.args.left.now)) (Read c.args.self.now (tree_of c.args.right.now)) _ _ c.value-2.ensures.stays (c.in_ok-left.ensures.left refl) (c.in_ok-right.ensures.left refl);
     }
 
@@ -132,6 +138,7 @@ binary-returns-in-Some g t c =
       room = kept.room;
       kept = kept.kept;
       stays = kept.stays;
+      adds = rw (mean.0, mean.1) kept.adds;
       left = rw (mean.0, mean.1) kept.left;
     }
 
@@ -147,6 +154,7 @@ choice-returns-then-branch g t c =
       room = c.value-then-branch.ensures.room ∙ c.value.ensures.room;
       kept = c.value-then-branch.ensures.kept;
       stays = later_kept _ _ _ c.value.ensures.stays c.value-then-branch.ensures.stays;
+      adds = front_adds (tree_of c.args.condition.now) (tree_of c.args.chosen.now) (tree_of c.args.other.now) _ _ _ c.value.ensures.adds c.value-then-branch.ensures.adds;
       left = λ some. chosen_left c.args.self.now (tree_of c.args.condition.now) (tree_of c.args.chosen.now) (tree_of c.args.other.now) c.in_ok-truth.field-0 _ _ c.value-then-branch.ensures.stays c.if-branch.true truth (c.value.ensures.left (is_some _ _ c.in_ok-truth.ensures)) (c.value-then-branch.ensures.left some);
     }
 
@@ -160,6 +168,7 @@ choice-returns-else-branch g t c =
       room = c.value-else-branch.ensures.room ∙ c.value.ensures.room;
       kept = c.value-else-branch.ensures.kept;
       stays = later_kept _ _ _ c.value.ensures.stays c.value-else-branch.ensures.stays;
+      adds = ends_add (tree_of c.args.condition.now) (tree_of c.args.chosen.now) (tree_of c.args.other.now) _ _ _ c.value.ensures.adds c.value-else-branch.ensures.adds;
       left = λ some. other_left c.args.self.now (tree_of c.args.condition.now) (tree_of c.args.chosen.now) (tree_of c.args.other.now) c.in_ok-truth.field-0 _ _ c.value-else-branch.ensures.stays c.if-branch.false truth (c.value.ensures.left (is_some _ _ c.in_ok-truth.ensures)) (c.value-else-branch.ensures.left some);
     }
 
@@ -172,6 +181,7 @@ choice-returns-in_err-truth g t c =
       room = c.value.ensures.room;
       kept = c.value.ensures.kept;
       stays = c.value.ensures.stays;
+      adds = start_adds (tree_of c.args.condition.now) (tree_of c.args.chosen.now) (tree_of c.args.other.now) _ _ c.value.ensures.adds;
       left = λ some. absurd (not_some _ c.from_residual.ensures some);
     }
 
@@ -186,6 +196,7 @@ pair-returns-in_err-x g t c =
       room = c.value.ensures.room;
       kept = c.value.ensures.kept;
       stays = c.value.ensures.stays;
+      adds = first_adds (tree_of c.args.x.now) (tree_of c.args.y.now) _ _ c.value.ensures.adds;
       left = λ some. absurd (not_some _ c.from_residual.ensures some);
     }
 
@@ -198,6 +209,7 @@ pair-returns-in_err-y g t c =
       room = c.value-2.ensures.room ∙ c.value.ensures.room;
       kept = c.value-2.ensures.kept;
       stays = later_kept _ _ _ c.value.ensures.stays c.value-2.ensures.stays;
+      adds = two_add (tree_of c.args.x.now) (tree_of c.args.y.now) _ _ _ c.value.ensures.adds c.value-2.ensures.adds;
       left = λ some. absurd (not_some _ c.from_residual-in_err-y.ensures some);
     }
 
@@ -210,6 +222,7 @@ pair-returns g t c =
       room = c.value-2.ensures.room ∙ c.value.ensures.room;
       kept = c.value-2.ensures.kept;
       stays = later_kept _ _ _ c.value.ensures.stays c.value-2.ensures.stays;
+      adds = two_add (tree_of c.args.x.now) (tree_of c.args.y.now) _ _ _ c.value.ensures.adds c.value-2.ensures.adds;
       left = λ some. two_left c.args.self.now (Read c.args.self.now (tree_of c.args.x.now)) (Read c.args.self.now (tree_of c.args.y.now)) _ _ c.value-2.ensures.stays (c.value.ensures.left (is_some _ _ c.in_ok-x.ensures)) (c.value-2.ensures.left (is_some _ _ c.in_ok-y.ensures));
     }
 
@@ -222,6 +235,7 @@ numbers-returns-in_err-x g t c =
       room = c.value.ensures.room;
       kept = c.value.ensures.kept;
       stays = c.value.ensures.stays;
+      adds = start_adds (tree_of c.args.x.now) (tree_of c.args.y.now) (tree_of c.args.z.now) _ _ c.value.ensures.adds;
       left = λ some. absurd (not_some _ c.from_residual.ensures some);
     }
 
@@ -234,6 +248,7 @@ numbers-returns-in_err-y g t c =
       room = c.value-2.ensures.room ∙ c.value.ensures.room;
       kept = c.value-2.ensures.kept;
       stays = later_kept _ _ _ c.value.ensures.stays c.value-2.ensures.stays;
+      adds = front_adds (tree_of c.args.x.now) (tree_of c.args.y.now) (tree_of c.args.z.now) _ _ _ c.value.ensures.adds c.value-2.ensures.adds;
       left = λ some. absurd (not_some _ c.from_residual-in_err-y.ensures some);
     }
 
@@ -246,6 +261,7 @@ numbers-returns-in_err-z g t c =
       room = c.value-3.ensures.room ∙ c.value-2.ensures.room ∙ c.value.ensures.room;
       kept = c.value-3.ensures.kept;
       stays = later_kept _ _ _ c.value.ensures.stays (later_kept _ _ _ c.value-2.ensures.stays c.value-3.ensures.stays);
+      adds = three_add (tree_of c.args.x.now) (tree_of c.args.y.now) (tree_of c.args.z.now) _ _ _ _ c.value.ensures.adds c.value-2.ensures.adds c.value-3.ensures.adds;
       left = λ some. absurd (not_some _ c.from_residual-in_err-z.ensures some);
     }
 
@@ -261,6 +277,7 @@ numbers-returns g t c =
       room = c.value-3.ensures.room ∙ c.value-2.ensures.room ∙ c.value.ensures.room;
       kept = c.value-3.ensures.kept;
       stays = later_kept _ _ _ c.value.ensures.stays (later_kept _ _ _ c.value-2.ensures.stays c.value-3.ensures.stays);
+      adds = three_add (tree_of c.args.x.now) (tree_of c.args.y.now) (tree_of c.args.z.now) _ _ _ _ c.value.ensures.adds c.value-2.ensures.adds c.value-3.ensures.adds;
       left = λ some. three_left c.args.self.now (Read c.args.self.now (tree_of c.args.x.now)) (Read c.args.self.now (tree_of c.args.y.now)) (Read c.args.self.now (tree_of c.args.z.now)) _ _ _ c.value-2.ensures.stays c.value-3.ensures.stays (c.value.ensures.left (is_some _ _ c.in_ok-x.ensures)) (c.value-2.ensures.left (is_some _ _ c.in_ok-y.ensures)) (c.value-3.ensures.left (is_some _ _ c.in_ok-z.ensures));
     }
 
@@ -270,7 +287,7 @@ pub value-bounds-self-at : goal.value-bounds-self-at
 value-bounds-self-at g t c = param_within c.args.self.now c.in-Param.at (subst (λ e. IsReady c.args.self.now (tree_of e)) c.in-Param.is c.requires.ready)
 
 pub value-returns-in-Bool : goal.value-returns-in-Bool
-value-returns-in-Bool g t c = record { value = value_as c.args.self.now c.args.expr.now _ _ (ap tree_of c.in-Bool.is) refl; cost = still_beside c.args.self.now _ (tree_of c.args.expr.now) _; least = omega arith; room = refl; kept = c.requires.kept; stays = same_kept _; left = λ some. left_as c.args.self.now c.args.expr.now _ _ (ap tree_of c.in-Bool.is) (λ room x read. absurd read) }
+value-returns-in-Bool g t c = record { value = value_as c.args.self.now c.args.expr.now _ _ (ap tree_of c.in-Bool.is) refl; cost = still_beside c.args.self.now _ (tree_of c.args.expr.now) _; least = omega arith; room = refl; kept = c.requires.kept; stays = same_kept _; adds = same_adds _ _; left = λ some. left_as c.args.self.now c.args.expr.now _ _ (ap tree_of c.in-Bool.is) (λ room x read. absurd read) }
 
 pub value-returns-in-Param : goal.value-returns-in-Param
 value-returns-in-Param g t c =
@@ -282,6 +299,7 @@ value-returns-in-Param g t c =
       room = refl;
       kept = c.requires.kept;
       stays = same_kept _;
+      adds = same_adds _ _;
       left = λ some. left_as c.args.self.now c.args.expr.now _ _ (ap tree_of c.in-Param.is) (λ room x read. absurd read);
     }
 
@@ -299,6 +317,7 @@ value-returns-in-Field g t c =
       room = refl;
       kept = c.requires.kept;
       stays = same_kept _;
+      adds = same_adds _ _;
       left = λ some. left_as c.args.self.now c.args.expr.now _ _ same (λ room x read. absurd read);
     }
 
@@ -316,6 +335,7 @@ value-returns-in-Same g t c =
       room = refl;
       kept = c.requires.kept;
       stays = same_kept _;
+      adds = same_adds _ _;
       left = λ some. left_as c.args.self.now c.args.expr.now _ _ same (λ room x read. absurd read);
     }
 
@@ -333,6 +353,7 @@ value-returns-in-Count g t c =
       room = kept.room;
       kept = kept.kept;
       stays = kept.stays;
+      adds = adds_as c.args.expr.now _ _ _ same kept.adds;
       left = λ some. left_as c.args.self.now c.args.expr.now _ _ same kept.left;
     }
 
@@ -350,6 +371,7 @@ value-returns-in-Sum g t c =
       room = kept.room;
       kept = kept.kept;
       stays = kept.stays;
+      adds = adds_as c.args.expr.now _ _ _ same kept.adds;
       left = λ some. left_as c.args.self.now c.args.expr.now _ _ same kept.left;
     }
 
@@ -367,6 +389,7 @@ value-returns-in-Least g t c =
       room = kept.room;
       kept = kept.kept;
       stays = kept.stays;
+      adds = adds_as c.args.expr.now _ _ _ same kept.adds;
       left = λ some. left_as c.args.self.now c.args.expr.now _ _ same kept.left;
     }
 
@@ -384,6 +407,7 @@ value-returns-in-Greatest g t c =
       room = kept.room;
       kept = kept.kept;
       stays = kept.stays;
+      adds = adds_as c.args.expr.now _ _ _ same kept.adds;
       left = λ some. left_as c.args.self.now c.args.expr.now _ _ same kept.left;
     }
 
@@ -404,6 +428,7 @@ value-returns-in-Unary g t c =
       room = kept.room;
       kept = kept.kept;
       stays = kept.stays;
+      adds = adds_as c.args.expr.now _ _ _ same kept.adds;
       left = λ some. left_as c.args.self.now c.args.expr.now _ _ same (kept.left some);
     }
 
@@ -424,6 +449,7 @@ value-returns-in-Binary g t c =
       room = kept.room;
       kept = kept.kept;
       stays = kept.stays;
+      adds = adds_as c.args.expr.now _ _ _ same kept.adds;
       left = λ some. left_as c.args.self.now c.args.expr.now _ _ same (kept.left some);
     }
 
@@ -444,6 +470,7 @@ value-returns-in-MakeVec2 g t c =
       room = kept.room;
       kept = kept.kept;
       stays = kept.stays;
+      adds = adds_as c.args.expr.now _ _ _ same kept.adds;
       left = λ some. left_as c.args.self.now c.args.expr.now _ _ same (kept.left some);
     }
 
@@ -464,6 +491,7 @@ value-returns-in-If g t c =
       room = kept.room;
       kept = kept.kept;
       stays = kept.stays;
+      adds = adds_as c.args.expr.now _ _ _ same kept.adds;
       left = λ some. left_as c.args.self.now c.args.expr.now _ _ same (kept.left some);
     }
 
@@ -485,6 +513,7 @@ value-returns-in-MakeVec3 g t c =
       room = kept.room;
       kept = kept.kept;
       stays = kept.stays;
+      adds = adds_as c.args.expr.now _ _ _ same kept.adds;
       left = λ some. left_as c.args.self.now c.args.expr.now _ _ same (kept.left (some_numbers _ _ _ c.triple.ensures some));
     }
 
@@ -506,5 +535,6 @@ value-returns-in-MakeRgb g t c =
       room = kept.room;
       kept = kept.kept;
       stays = kept.stays;
+      adds = adds_as c.args.expr.now _ _ _ same kept.adds;
       left = λ some. left_as c.args.self.now c.args.expr.now _ _ same (kept.left (some_numbers _ _ _ c.colour.ensures some));
     }

@@ -1,4 +1,5 @@
 use Rattle.std.proofs.Common.{subst, sym}
+use Rattle.gm_eval.proofs.Adding.{one_adds, same_adds}
 use Rattle.gm_eval.proofs.Keeping.{everywhere, node_there, one_more, shared_walked}
 use Rattle.gm_eval.proofs.Sharing.{same_kept}
 use Rattle.gm_eval.specs.Sharing.{IsAtHand, IsShared}
@@ -27,3 +28,9 @@ returns-else-is_walked-clause-left c = λ room of same shared.
 
 pub returns-else-is_walked-clause-stays : goal.returns-else-is_walked-clause-stays
 returns-else-is_walked-clause-stays c = same_kept _
+
+pub returns-then-is_walked-clause-adds : goal.returns-then-is_walked-clause-adds
+returns-then-is_walked-clause-adds c = one_adds c.args.kept.now c.keep.new.self c.args.collector c.args.value c.keep.ensures.kept c.keep.ensures.fresh
+
+pub returns-else-is_walked-clause-adds : goal.returns-else-is_walked-clause-adds
+returns-else-is_walked-clause-adds c = same_adds _ _

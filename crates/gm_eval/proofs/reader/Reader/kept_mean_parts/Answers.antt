@@ -5,6 +5,8 @@ use Rattle.gm_eval.specs.Readers.{IsOrbit, IsReady, IsValueThere}
 use Rattle.std.proofs.lemmas.Bool.{false≢true}
 use Rattle.gm_eval.specs.Sharing.{IsAtHand, IsOwn}
 use Rattle.gm_eval.proofs.Sharing.{later_kept, mean_within, of_mean_in, same_kept, two_left}
+use Rattle.gm_eval.proofs.Adding.{both_adds, own_adds, same_adds}
+use Rattle.gm_eval.specs.Sharing.{own_collector}
 use Rattle.gm_eval.proofs.Keeping.{as_count, found_there, owned}
 use Rattle.gm_eval.proofs.reader.Reader.kept_mean_parts.Goals as goal
 
@@ -28,6 +30,12 @@ returns-in-Some-clause-cost g c = λ u units. omega arith
 pub returns-in-Some-clause-stays : goal.returns-in-Some-clause-stays
 returns-in-Some-clause-stays g c = same_kept _
 
+pub returns-in-Some-clause-adds : goal.returns-in-Some-clause-adds
+returns-in-Some-clause-adds g c = same_adds _ _
+
+pub returns-in-Some-clause-once : goal.returns-in-Some-clause-once
+returns-in-Some-clause-once g c = λ u units. omega arith
+
 pub returns-in-Some-clause-left : goal.returns-in-Some-clause-left
 returns-in-Some-clause-left g c = λ room x own shared.
     let both = c.in-Some.ensures.found in
@@ -40,6 +48,12 @@ returns-clause-cost g c = mean_within c.args.self.now c.args.kept.now c.args.mas
 
 pub returns-clause-stays : goal.returns-clause-stays
 returns-clause-stays g c = later_kept _ _ _ c.keep.ensures.stays c.keep-2.ensures.stays
+
+pub returns-clause-adds : goal.returns-clause-adds
+returns-clause-adds g c =
+    both_adds (own_collector forms.Sum c.args.mask c.args.term.now c.args.embed) (own_collector forms.Count c.args.mask c.args.term.now 0) _ _ _
+    (own_adds forms.Sum c.args.mask c.args.term.now c.args.embed _ _ c.requires.own c.keep.ensures.adds)
+    (own_adds forms.Count c.args.mask c.args.term.now 0 _ _ c.requires.own c.keep-2.ensures.adds)
 
 pub returns-clause-left : goal.returns-clause-left
 returns-clause-left g c = λ room x own shared.

@@ -2,6 +2,7 @@ use Rattle.std.proofs.Common.{subst, sym, arith}
 use Rattle.gm_eval.specs.Keeping.{collector_at}
 use Rattle.gm_eval.specs.Readers.{IsOrbit, IsReady, IsValueThere}
 use Rattle.gm_eval.specs.Sharing.{IsAtHand}
+use Rattle.gm_eval.proofs.Adding.{own_adds, same_adds}
 use Rattle.gm_eval.proofs.Keeping.{found_there, owned}
 use Rattle.gm_eval.proofs.Sharing.{not_found, same_kept}
 use Rattle.gm_eval.proofs.reader.Reader.kept_or_computed.Goals as goal
@@ -19,6 +20,9 @@ returns-in-Some-clause-cost g c = λ u units. omega arith
 pub returns-in-Some-clause-stays : goal.returns-in-Some-clause-stays
 returns-in-Some-clause-stays g c = same_kept _
 
+pub returns-in-Some-clause-adds : goal.returns-in-Some-clause-adds
+returns-in-Some-clause-adds g c = same_adds _ _
+
 pub returns-in-Some-clause-left : goal.returns-in-Some-clause-left
 returns-in-Some-clause-left g c = λ room x own shared.
     let found = c.in-Some.ensures.found in
@@ -29,6 +33,9 @@ returns-clause-cost g c = not_found c.args.self.now c.args.kept.now c.args.form 
 
 pub returns-clause-stays : goal.returns-clause-stays
 returns-clause-stays g c = c.keep.ensures.stays
+
+pub returns-clause-adds : goal.returns-clause-adds
+returns-clause-adds g c = own_adds c.args.form c.args.mask c.args.term.now c.args.embed _ _ c.requires.own c.keep.ensures.adds
 
 pub returns-clause-left : goal.returns-clause-left
 returns-clause-left g c = λ room x own shared. c.keep.ensures.left room x own.1 shared

@@ -1,5 +1,6 @@
 use Rattle.std.proofs.Common.{sym, ◌∙◌}
 use Rattle.std.proofs.lemmas.Bool.{false≢true}
+use Rattle.gm_eval.proofs.Adding.{same_adds}
 use Rattle.gm_eval.proofs.Sharing.{mean_within, own_path, same_kept, some_hand, some_room}
 use Rattle.gm_eval.proofs.reader.Reader.mean_parts.Goals as goal
 
@@ -10,6 +11,9 @@ returns-else-is_keepable-clause-cost g c = mean_within c.args.self.now c.args.ke
 
 pub returns-else-is_keepable-clause-stays : goal.returns-else-is_keepable-clause-stays
 returns-else-is_keepable-clause-stays g c = same_kept _
+
+pub returns-else-is_keepable-clause-adds : goal.returns-else-is_keepable-clause-adds
+returns-else-is_keepable-clause-adds g c = same_adds _ _
 
 pub returns-else-is_keepable-clause-left : goal.returns-else-is_keepable-clause-left
 returns-else-is_keepable-clause-left g c = λ room x own shared.

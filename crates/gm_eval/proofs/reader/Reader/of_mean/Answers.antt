@@ -21,10 +21,12 @@ returns g c =
     record {
       value = binary_there reader c.args.op (Sum c.args.mask c.args.term.now c.args.embed) (Count c.args.mask c.args.term.now) c.in-Some.sum c.in-Some-count.count c.binary.result sum count c.binary.ensures;
       cost = kept.cost;
+      once = kept.once;
       least = kept.least;
       room = kept.room;
       kept = kept.kept;
       stays = kept.stays;
+      adds = kept.adds;
       left = λ some. kept.left;
     }
 
@@ -35,10 +37,12 @@ returns-in_default g c =
     record {
       value = λ v (x, y, h, k, made). subst (IsValueThere reader (Sum c.args.mask c.args.term.now c.args.embed)) c.in_default.is kept.sum x h;
       cost = kept.cost;
+      once = kept.once;
       least = kept.least;
       room = kept.room;
       kept = kept.kept;
       stays = kept.stays;
+      adds = kept.adds;
       left = λ some. kept.left;
     }
 
@@ -49,9 +53,11 @@ returns-in_default-count g c =
     record {
       value = λ v (x, y, h, k, made). subst (IsValueThere reader (Count c.args.mask c.args.term.now)) c.in_default-count.is kept.count y k;
       cost = kept.cost;
+      once = kept.once;
       least = kept.least;
       room = kept.room;
       kept = kept.kept;
       stays = kept.stays;
+      adds = kept.adds;
       left = λ some. kept.left;
     }

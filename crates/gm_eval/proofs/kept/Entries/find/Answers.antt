@@ -1,6 +1,6 @@
 use Rattle.std.proofs.Common.{◌≡◌, Some, rules}
 use Rattle.gm_eval.proofs.Sharing.{among_entries}
-use Rattle.gm_eval.proofs.kept.Kept.find.Goals as goal
+use Rattle.gm_eval.proofs.kept.Entries.find.Goals as goal
 
 pub returns-clause-known : goal.returns-clause-known
 returns-clause-known c = λ hand.

@@ -1,7 +1,7 @@
 use Rattle.std.proofs.Common.{◌≡◌, Some, rules}
 use Rattle.std.proofs.lemmas.Bool.{false≢true}
 use Rattle.gm_eval.proofs.Sharing.{among_entries}
-use Rattle.gm_eval.proofs.kept.Kept.find_both.Goals as goal
+use Rattle.gm_eval.proofs.kept.Entries.find_both.Goals as goal
 
 pub returns-in_err-find_in-clause-known : goal.returns-in_err-find_in-clause-known
 returns-in_err-find_in-clause-known c = λ first second.

@@ -1,0 +1,241 @@
+-- What is kept between the readings of an embedding: all that earlier readings of the same node read and its orbit shares.
+use Rattle.std.proofs.Common.{◌≡◌, ◌≢◌, ℕ, zero, suc, ◌+◌, ◌-◌, ◌*◌, ◌<◌, ◌≤◌, ◌⊎◌, inl, inr, List, [], ◌∷◌, length, map, take, sum, Option, Some, None, slice_get, get_or, refl, sym, ap, subst, ◌∙◌, arith}
+use Rattle.std.specs.Prelude.{IsSome, MatchOption}
+use Rattle.std.specs.List.{Contains}
+use Rattle.std.proofs.Math.Nat.{mul-le-mul_left}
+use Rattle.std.proofs.lemmas.Bool.{cases_eq, cases_lt}
+use Rattle.std.proofs.lemmas.List.Sums.{sum_by_more}
+use Rattle.std.proofs.lemmas.Option.{slice_get-get_or, slice_get_within}
+use Rattle.gm_model.specs.declared.value.Value.{Value}
+use Rattle.gm_model.specs.Orbits.{IsPairBefore}
+use Rattle.gm_model.specs.Trees.{Tree}
+use Rattle.gm_theory.proofs.Lists.{none_some, some_same}
+use Rattle.gm_theory.proofs.ValuesLists.{in_contained}
+use Rattle.gm_eval.specs.declared.kept.Collector.{Collector}
+use Rattle.gm_eval.specs.declared.kept.Entry.{Entry as KeptEntry}
+use Rattle.gm_eval.specs.Keeping.{KeptOf}
+use Rattle.gm_eval.specs.Sharing.{AreKeptOnce, HasRoom, HasUnitsBeside, IsAtHand, IsShared, Reads, StillKept, collectors_of}
+use Rattle.gm_eval.proofs.Adding.{has_room}
+use Rattle.gm_eval.proofs.Sharing.{still_at_hand, units_more}
+use Rattle.gm_pending.specs.declared.deciding_instance.DecidingInstance.{DecidingInstance as Entry}
+use Rattle.gm_pending.specs.Results.{PendingOf, given_at, instances_of, place_of}
+use Rattle.gm_apply.specs.declared.reading.Reading.{Reading}
+use Rattle.gm_apply.specs.Reads.{HasRead}
+use Rattle.gm_apply.specs.Readings.{AreReadingUnits, HaveFewCollectors, IsExpression, WasRead, places_of, read_at}
+use Rattle.gm_apply.proofs.Giving.{entry_at}
+use Rattle.gm_apply.proofs.ReadValues.{some_embed}
+use Rattle.gm_apply.proofs.Sublists.{sum_cons}
+
+-- ---- the places of deciding instances
+
+-- a value that is given leaves the places
+pub places_stay : (entries : List Entry) (i : ℕ) (v : Value) → map place_of (given_at entries i v) ≡ map place_of entries
+places_stay [] i v = refl
+places_stay (entry ∷ entries) zero v = refl
+places_stay (entry ∷ entries) (suc i) v = ap (λ rest. place_of entry ∷ rest) (places_stay entries i v)
+
+-- they stand by node
+abbrev pub NodesRise : List (ℕ × ℕ) → Type 0
+NodesRise places = (j i x p y q : ℕ) → j ≤ i → slice_get places j ≡ Some (x, p) → slice_get places i ≡ Some (y, q) → x ≤ y
+
+pub nodes_rise : (reading : Reading) (hooks : List ℕ) (pending : PendingOf) (e i start steps : ℕ) → HasRead reading hooks pending (suc e) e i start steps → NodesRise (places_of pending e)
+nodes_rise reading hooks pending e i start steps h j k x p y q less at there = go (cases_lt j k)
+  where
+    go : (j < k) ⊎ (k ≤ j) → x ≤ y
+    go (inr not_less) =
+        let same : j ≡ k = omega (arith, less, not_less) in
+        let pair : ◌≡◌ {A = ℕ × ℕ} (x, p) (y, q) = some_same (x, p) (y, q) (sym at ∙ ap (slice_get (places_of pending e)) same ∙ there) in
+        let node : x ≡ y = ap (λ (place : ℕ × ℕ). place.0) pair in
+        omega (arith, node)
+    go (inl before) =
+        let few = h.few in
+        let embed = some_embed reading.arena.now.schema.embeds e (omega (arith, few)) in
+        let these = h.deciders e embed.0 (omega arith) embed.1 in
+        let first = entry_at (instances_of pending e) j x p at in
+        let second = entry_at (instances_of pending e) k y q there in
+        by first.entry second.entry first.node_is second.node_is (these.ascending j k first.entry second.entry before first.at second.at)
+      where
+        by : (a b : Entry) → a.node ≡ x → b.node ≡ y → IsPairBefore a.node a.position b.node b.position → x ≤ y
+        by a b f g (inl lower) = omega (arith, f, g, lower)
+        by a b f g (inr (same, later)) = omega (arith, f, g, same)
+
+-- ---- sums
+
+pub sum_of_first : (n : ℕ) (xs : List ℕ) → sum (take n xs) ≤ sum xs
+sum_of_first zero xs = omega arith
+sum_of_first (suc n) [] = omega arith
+sum_of_first (suc n) (x ∷ xs) = omega (arith, sum_cons x xs, sum_cons x (take n xs), sum_of_first n xs)
+
+-- ---- what is kept
+
+some_stays : (old new : Option (List KeptEntry)) → StillKept old new → IsSome old → IsSome new
+some_stays None new still some = absurd (cc)
+some_stays (Some entries) new (more, is) some = subst (λ kept. IsSome kept) (sym is) refl
+
+module _ (reading : Reading) (e : ℕ) (places : List (ℕ × ℕ)) (count : ℕ) where
+  -- before the i-th reading: where there are several, what was read before of the node that was read last is at hand
+  pub record IsKeptBefore (i : ℕ) (kept : KeptOf) : Type 0 where
+    pub reader : (j x p : ℕ) → suc j ≡ i → slice_get places j ≡ Some (x, p) → kept.reader ≡ Some x
+    pub some : 2 ≤ count → IsSome kept.entries
+    pub once : AreKeptOnce kept.entries
+    pub among : (x : ℕ) (tree : Tree) → kept.reader ≡ Some x → IsExpression reading e x tree → (c : Collector) → IsAtHand kept.entries c → Contains (collectors_of tree) c
+    pub left : 2 ≤ count → (x : ℕ) (tree : Tree) → kept.reader ≡ Some x → IsExpression reading e x tree → (c : Collector) → WasRead reading e places i x tree c → IsAtHand kept.entries c
+
+  -- and then of the node that is read next
+  pub record IsKeptFor (i x : ℕ) (kept : KeptOf) : Type 0 where
+    pub reader : kept.reader ≡ Some x
+    pub some : 2 ≤ count → IsSome kept.entries
+    pub once : AreKeptOnce kept.entries
+    pub among : (tree : Tree) → IsExpression reading e x tree → (c : Collector) → IsAtHand kept.entries c → Contains (collectors_of tree) c
+    pub left : 2 ≤ count → (tree : Tree) → IsExpression reading e x tree → (c : Collector) → WasRead reading e places i x tree c → IsAtHand kept.entries c
+
+  once_of : (o : Option (List KeptEntry)) → (o ≡ None) ⊎ (o ≡ Some []) → AreKeptOnce o
+  once_of o (inl none) = subst (λ kept. AreKeptOnce kept) (sym none) tt
+  once_of o (inr empty) = subst (λ kept. AreKeptOnce kept) (sym empty) tt
+
+  nothing_at_hand : (o : Option (List KeptEntry)) (c : Collector) → (o ≡ None) ⊎ (o ≡ Some []) → IsAtHand o c → ⊥
+  nothing_at_hand o c (inl none) (entries, is, value, among) = none_some entries (sym none ∙ is)
+  nothing_at_hand o c (inr empty) (entries, is, value, among) =
+      absurd (in_contained [] (record { collector = c; value = value }) (subst (λ (xs : List KeptEntry). Contains xs (record { collector = c; value = value })) (sym (some_same [] entries (sym empty ∙ is))) among))
+
+  -- ---- before the first reading
+
+  pub kept_first : (kept : KeptOf) → (2 ≤ count → kept.entries ≡ Some []) → (count ≤ 1 → kept.entries ≡ None) → kept.reader ≡ None → IsKeptBefore 0 kept
+  kept_first kept several one nobody = record {
+    reader = λ j x p on at. absurd (omega (arith, on));
+    some = λ many. subst (λ o. IsSome o) (sym (several many)) refl;
+    once = once_of kept.entries (either (cases_lt 1 count));
+    among = λ x tree is expression c at_hand. none_some x (sym nobody ∙ is);
+    left = λ many x tree is expression c was. none_some x (sym nobody ∙ is);
+  }
+    where
+      either : (1 < count) ⊎ (count ≤ 1) → (kept.entries ≡ None) ⊎ (kept.entries ≡ Some [])
+      either (inl more) = inr (several (omega (arith, more)))
+      either (inr few) = inl (one few)
+
+  -- ---- the node that is read next
+
+  module _ (rise : NodesRise places) (i x p : ℕ) (at : slice_get places i ≡ Some (x, p)) (old new : KeptOf) (h : IsKeptBefore i old) where
+    same_reader : (r : Option ℕ) → (r ≡ Some x) ⊎ (r ≢ Some x)
+    same_reader None = inr (λ is. none_some x is)
+    same_reader (Some y) = go (cases_eq y x)
+      where
+        go : (y ≡ x) ⊎ (y ≡ x → ⊥) → (Some y ≡ Some x) ⊎ (Some y ≢ Some x)
+        go (inl same) = inl (ap Some same)
+        go (inr apart) = inr (λ is. apart (some_same y x is))
+
+    -- where the node was read before, it was read last
+    read_last : (j q : ℕ) → j < i → slice_get places j ≡ Some (x, q) → old.reader ≡ Some x
+    read_last j q less there =
+        let last : ℕ = i - 1 in
+        let on : suc last ≡ i = omega (arith, less) in
+        let within : i < length places = slice_get_within places i (x, p) at in
+        let place : ℕ × ℕ = get_or places last (0, 0) in
+        let here : slice_get places last ≡ Some (place.0, place.1) = slice_get-get_or places last (0, 0) (omega (arith, on, within)) in
+        let low : x ≤ place.0 = rise j last x q place.0 place.1 (omega (arith, on, less)) there here in
+        let high : place.0 ≤ x = rise last i place.0 place.1 x p (omega (arith, on)) here at in
+        let same : place.0 ≡ x = omega (arith, low, high) in
+        h.reader last place.0 place.1 on here ∙ ap Some same
+
+    pub kept_turned : (old.reader ≡ Some x → new ≡ old) → (old.reader ≢ Some x → MatchOption old.entries (new.entries ≡ None) (λ _. new.entries ≡ Some [])) → new.reader ≡ Some x → IsKeptFor i x new
+    kept_turned stays turned reader = go (same_reader old.reader)
+      where
+        go : (old.reader ≡ Some x) ⊎ (old.reader ≢ Some x) → IsKeptFor i x new
+        go (inl same) = subst (IsKeptFor i x) (sym (stays same)) (record {
+          reader = same;
+          some = h.some;
+          once = h.once;
+          among = λ tree expression c at_hand. h.among x tree same expression c at_hand;
+          left = λ many tree expression c was. h.left many x tree same expression c was;
+        })
+        go (inr apart) = record {
+          reader = reader;
+          some = λ many. still_some old.entries (h.some many) (turned apart);
+          once = once_of new.entries empty;
+          among = λ tree expression c at_hand. absurd (nothing_at_hand new.entries c empty at_hand);
+          left = λ many tree expression c (j, q, less, there, reads, shared). absurd (apart (read_last j q less there));
+        }
+          where
+            still_some : (o : Option (List KeptEntry)) → IsSome o → MatchOption o (new.entries ≡ None) (λ _. new.entries ≡ Some []) → IsSome new.entries
+            still_some None some is = absurd (cc)
+            still_some (Some entries) some is = subst (λ kept. IsSome kept) (sym is) refl
+
+            either : (o : Option (List KeptEntry)) → MatchOption o (new.entries ≡ None) (λ _. new.entries ≡ Some []) → (new.entries ≡ None) ⊎ (new.entries ≡ Some [])
+            either None is = inl is
+            either (Some entries) is = inr is
+
+            empty : (new.entries ≡ None) ⊎ (new.entries ≡ Some [])
+            empty = either old.entries (turned apart)
+
+  -- ---- the i-th reading
+
+  module _ (few : HaveFewCollectors reading e) (i x p : ℕ) (at : slice_get places i ≡ Some (x, p)) (old : KeptOf) (h : IsKeptFor i x old) where
+    pub kept_read : (new : KeptOf) → StillKept old.entries new.entries → new.reader ≡ old.reader
+        → ((tree : Tree) (c : Collector) → IsExpression reading e x tree → IsAtHand new.entries c → IsAtHand old.entries c ⊎ Contains (collectors_of tree) c)
+        → (AreKeptOnce old.entries → AreKeptOnce new.entries)
+        → (HasRoom new.entries → (tree : Tree) (c : Collector) → IsExpression reading e x tree → Reads (read_at reading p) tree c → IsShared reading.arena.now reading.found.now p c → IsAtHand new.entries c)
+        → IsKeptBefore (suc i) new
+    kept_read new still reader among once remembers = record {
+      reader = λ j y q on there. reader ∙ h.reader ∙ ap Some (ap (λ (place : ℕ × ℕ). place.0) (here j y q (omega (arith, on)) there));
+      some = λ many. some_stays old.entries new.entries still (h.some many);
+      once = once h.once;
+      among = λ y tree is expression c at_hand. now_among tree (subst (λ z. IsExpression reading e z tree) (node y is) expression) c at_hand;
+      left = λ many y tree is expression c was. now_left many tree (subst (λ z. IsExpression reading e z tree) (node y is) expression) c (subst (λ z. WasRead reading e places (suc i) z tree c) (node y is) was);
+    }
+      where
+        here : (j y q : ℕ) → j ≡ i → slice_get places j ≡ Some (y, q) → ◌≡◌ {A = ℕ × ℕ} (x, p) (y, q)
+        here j y q same there = some_same (x, p) (y, q) (sym at ∙ ap (slice_get places) (sym same) ∙ there)
+
+        node : (y : ℕ) → new.reader ≡ Some y → y ≡ x
+        node y is = some_same y x (sym is ∙ reader ∙ h.reader)
+
+        now_among : (tree : Tree) → IsExpression reading e x tree → (c : Collector) → IsAtHand new.entries c → Contains (collectors_of tree) c
+        now_among tree expression c at_hand = go (among tree c expression at_hand)
+          where
+            go : IsAtHand old.entries c ⊎ Contains (collectors_of tree) c → Contains (collectors_of tree) c
+            go (inl before) = h.among tree expression c before
+            go (inr stands) = stands
+
+        now_left : 2 ≤ count → (tree : Tree) → IsExpression reading e x tree → (c : Collector) → WasRead reading e places (suc i) x tree c → IsAtHand new.entries c
+        now_left many tree expression c (j, q, less, there, reads, shared) = go (cases_eq j i)
+          where
+            room : HasRoom new.entries
+            room = has_room new.entries (collectors_of tree) (some_stays old.entries new.entries still (h.some many)) (once h.once) (now_among tree expression) (few x tree expression)
+
+            go : (j ≡ i) ⊎ (j ≡ i → ⊥) → IsAtHand new.entries c
+            go (inl same) =
+                let position : q ≡ p = sym (ap (λ (place : ℕ × ℕ). place.1) (here j x q same there)) in
+                remembers room tree c expression (subst (λ n. Reads (read_at reading n) tree c) position reads) (subst (λ n. IsShared reading.arena.now reading.found.now n c) position shared)
+            go (inr apart) = still_at_hand old.entries new.entries c still (h.left many tree expression c (j, q, omega (arith, less, apart), there, reads, shared))
+
+    -- what it takes
+    pub within_one_more : (units : List ℕ) (start steps later : ℕ) → length places ≡ count → AreReadingUnits reading e places units
+        → ((tree : Tree) (u : ℕ) → IsExpression reading e x tree → HasUnitsBeside (IsAtHand old.entries) (read_at reading p) tree u → later ≤ steps + 6 * (reading.arena.now.schema.dim + 1) * u)
+        → steps ≤ start + 6 * (reading.arena.now.schema.dim + 1) * sum (take i units) → later ≤ start + 6 * (reading.arena.now.schema.dim + 1) * sum (take (i + 1) units)
+    within_one_more units start steps later long are cheap before =
+        let d = reading.arena.now.schema.dim + 1 in
+        let within : i < length places = slice_get_within places i (x, p) at in
+        let each = are.each in
+        let inside : i < length units = omega (arith, within, each) in
+        let u : ℕ = get_or units i 0 in
+        let these = are.units_are i u (slice_get-get_or units i 0 inside) in
+        let same : ◌≡◌ {A = ℕ × ℕ} (these.node, these.position) (x, p) = some_same (these.node, these.position) (x, p) (sym these.at ∙ at) in
+        let node : these.node ≡ x = ap (λ (place : ℕ × ℕ). place.0) same in
+        let position : these.position ≡ p = ap (λ (place : ℕ × ℕ). place.1) same in
+        let expression : IsExpression reading e x these.tree = subst (λ y. IsExpression reading e y these.tree) node these.expression in
+        let beside : HasUnitsBeside (WasRead reading e places i x these.tree) (read_at reading p) these.tree u =
+        subst (λ y. HasUnitsBeside (WasRead reading e places i y these.tree) (read_at reading p) these.tree u) node (subst (λ q. HasUnitsBeside (WasRead reading e places i these.node these.tree) (read_at reading q) these.tree u) position these.beside) in
+        let last = cheap these.tree u expression
+        (units_more (WasRead reading e places i x these.tree) (IsAtHand old.entries) (λ c was. h.left (several within was.2) these.tree expression c was) (read_at reading p) these.tree u beside) in
+        let spread : 6 * d * sum (take (i + 1) units) ≡ 6 * d * sum (take i units) + 6 * d * u = ap (λ n. 6 * d * n) (sum_by_more (λ n. n) units i 0 inside) ∙ omega arith in
+        omega (arith, before, last, spread)
+      where
+        several : {j : ℕ} → i < length places → j < i → 2 ≤ count
+        several within less = omega (arith, within, less, long)
+
+-- what the first of them take is within what all take
+pub within_all : (d start steps i : ℕ) (units : List ℕ) → steps ≤ start + 6 * d * sum (take i units) → steps ≤ start + 6 * d * sum units
+within_all d start steps i units within = omega (arith, within, more)
+  where
+    more : 6 * d * sum (take i units) ≤ 6 * d * sum units
+    more = mul-le-mul_left (6 * d) (sum_of_first i units)
