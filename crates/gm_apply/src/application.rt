@@ -81,8 +81,6 @@ pub fn apply<L: Ledger>(
 
 /// What the application adds and removes, and the changes that make its result, where it isn't
 /// refused. The map is only read.
-// Two functions call it, once a line each.
-#[inline(always)]
 pub(crate) fn ready<'a, L: Ledger>(
     alloc: Global,
     reading: &Reading<'a, '_>,

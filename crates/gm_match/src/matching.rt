@@ -25,8 +25,6 @@ use std::sync::ledger::Ledger;
 /// First each hook has to name a live dart, then each left step of the one candidate has to be met,
 /// and then no dart may be taken twice. The map is only read. The scratch has its room again after
 /// the call, whatever it answers.
-// Two functions of gm_apply call it, once a line each.
-#[inline(always)]
 pub fn find<L: Ledger>(
     alloc: Global,
     plan: &Plan<'_>,
