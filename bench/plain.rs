@@ -1,10 +1,12 @@
 //! A plain program that saves the maps of `gmr`, beside which `bench/beside` times it: dimension 2,
 //! at most one embedding of points on the vertices, and operations that are written by hand, with
-//! nothing proved. It reads and writes in pieces, and its report is its own. A text that is no map, a
-//! script that it doesn't know and a number of more than 18 digits end it. `grid` has a map of its own,
-//! without names and free places, in which nothing is looked up: the least that its work can cost.
+//! nothing proved. It reads and writes in pieces, and its report is its own; what `cells` puts is what
+//! `gmr` puts. A text that is no map, a script that it doesn't know and a number of more than 18 digits
+//! end it. `grid` has a map of its own, without names and free places, in which nothing is looked up:
+//! the least that its work can cost.
 //!
 //!     plain show MAP            puts the map
+//!     plain cells MAP           puts how many cells, components and free darts there are, and the colours
 //!     plain run MAP SCRIPT OUT  applies the lines of the script, saves the map, puts a line for each
 //!     plain grid M              triangulates each face of M by M squares, puts how many cells there are
 use std::env;
@@ -185,8 +187,21 @@ impl<W: Write> Output<W> {
         self.piece.extend_from_slice(text);
     }
 
+    /// Numbers with a blank before each, which may be more than a piece has room for.
+    fn spaced(&mut self, numbers: impl Iterator<Item = u32>) {
+        for number in numbers {
+            self.text(b" ");
+            self.number(number.into());
+            self.flush_full();
+        }
+    }
+
     fn end_line(&mut self) {
         self.piece.push(b'\n');
+        self.flush_full();
+    }
+
+    fn flush_full(&mut self) {
         if self.piece.len() > PIECE {
             self.flush();
         }
@@ -329,6 +344,35 @@ impl Map {
         slot
     }
 
+    /// Gives the point to each dart of a corner, which is a path or a ring and is followed along its two
+    /// ends, so that nothing is marked: a dart comes again only where the ring is closed.
+    fn set_corner(&mut self, from: u32, point: Point) {
+        self.points[from as usize] = point;
+        for first in [1, 2] {
+            let (mut slot, mut label) = (from, first);
+            loop {
+                let next = self.alpha(label, slot);
+                if next == slot {
+                    break;
+                }
+                if next == from {
+                    return;
+                }
+                self.points[next as usize] = point;
+                (slot, label) = (next, 3 - label);
+            }
+        }
+    }
+
+    /// The point midway between two darts, rounded down; none where their sum passes 64 bits.
+    fn midway(&self, slot: u32, other: u32) -> Option<Point> {
+        let mut point = self.points[slot as usize];
+        for (number, more) in point.iter_mut().zip(self.points[other as usize]) {
+            *number = number.checked_add(more)?.div_euclid(2);
+        }
+        Some(point)
+    }
+
     fn remove(&mut self, slot: u32) {
         self.slots[self.names[slot as usize] as usize] = NONE;
         self.free.push(slot);
@@ -450,6 +494,26 @@ fn shift(map: &mut Map, walk: &mut Walk, dart: u32, by: Point) -> Option<(usize,
     Some((0, 0))
 }
 
+/// Sews the edges of two darts, which are free along 2. Their ends come midway between the two.
+fn sew(map: &mut Map, dart: u32, other: u32) -> Option<(usize, usize)> {
+    let (from, to) = (map.slot_of(dart)?, map.slot_of(other)?);
+    let (far_from, far_to) = (map.alpha(0, from), map.alpha(0, to));
+    let is_free = [from, far_from, to, far_to].iter().all(|slot| map.alpha(2, *slot) == *slot);
+    // An edge isn't sewn to itself, and one of two darts not to one of a single dart.
+    if !is_free || from == to || far_from == to || (far_from == from) != (far_to == to) {
+        return None;
+    }
+    let (near, far) = (map.midway(from, to)?, map.midway(far_from, far_to)?);
+    for (slot, across) in [(from, to), (far_from, far_to)] {
+        map.neighbours[slot as usize][2] = across;
+        map.neighbours[across as usize][2] = slot;
+    }
+    // Where both ends are one corner, it gets the point of the near one, which is put there last.
+    map.set_corner(far_from, far);
+    map.set_corner(from, near);
+    Some((0, 0))
+}
+
 fn run(map_path: &str, script_path: &str, out: &str) {
     let mut map = Map::load(map_path);
     let mut walk = Walk::default();
@@ -465,6 +529,7 @@ fn run(map_path: &str, script_path: &str, out: &str) {
             b"T" | b"split" => triangulate(&mut map, &mut walk, dart),
             b"merge" => merge(&mut map, &mut walk, dart),
             b"keep" => keep(&map, &mut walk, dart),
+            b"sew" => sew(&mut map, dart, script.number() as u32),
             _ => {
                 script.word(&mut word);
                 let by = script.point();
@@ -486,6 +551,157 @@ fn run(map_path: &str, script_path: &str, out: &str) {
     map.print(File::create(out).expect("create"));
     report.flush();
     io::stdout().write_all(&report.to).expect("write");
+}
+
+/// How many orbits two labels have: each is a path or a ring, and is followed along its two ends.
+fn count_orbits(neighbours: &[[u32; 3]], [first, second]: [usize; 2], seen: &mut [u8], mark: u8) -> usize {
+    let mut orbits = 0;
+    for from in 0..neighbours.len() {
+        if seen[from] == mark {
+            continue;
+        }
+        orbits += 1;
+        seen[from] = mark;
+        for (mut label, mut other) in [(first, second), (second, first)] {
+            let mut next = neighbours[from][label] as usize;
+            while seen[next] != mark {
+                seen[next] = mark;
+                next = neighbours[next][other] as usize;
+                (label, other) = (other, label);
+            }
+        }
+    }
+    orbits
+}
+
+/// How many edges there are, and how many darts are free along each label. An edge has four darts at
+/// most, since 0 and 2 commute, so its least one is known without marks.
+fn count_edges_and_free(neighbours: &[[u32; 3]]) -> (usize, [usize; 3]) {
+    let (mut edges, mut free) = (0, [0; 3]);
+    for (slot, turns) in (0..).zip(neighbours) {
+        let [along, _, across] = *turns;
+        let least: u32 = along.min(across).min(neighbours[across as usize][0]);
+        edges += usize::from(slot <= least);
+        for (count, turn) in free.iter_mut().zip(turns) {
+            *count += usize::from(*turn == slot);
+        }
+    }
+    (edges, free)
+}
+
+/// The first of two colours, and what turns either into the other. A dart without one yet has 0.
+const FIRST: u8 = 1;
+const TURN: u8 = 3;
+
+/// The faces and components, and the colours of the darts.
+struct Colouring {
+    faces: usize,
+    components: usize,
+    /// By slot. A neighbour that is another dart has the other colour, but in odd components.
+    colours: Vec<u8>,
+    /// The least dart of the first component that has no two colours.
+    odd: Option<u32>,
+}
+
+/// Goes through each component face by face. Within a face, a path or a ring, the colours change from
+/// dart to dart and always fit, so only what lies across 2 is compared.
+fn colour(neighbours: &[[u32; 3]]) -> Colouring {
+    let (mut faces, mut components, mut odd) = (0, 0, None);
+    let mut colours = vec![0; neighbours.len()];
+    let mut waiting = Vec::new();
+    for least in 0..neighbours.len() as u32 {
+        if colours[least as usize] != 0 {
+            continue;
+        }
+        components += 1;
+        waiting.push((least, FIRST));
+        while let Some((from, colour)) = waiting.pop() {
+            let mut reach = |slot: u32, colour: u8| {
+                if colours[slot as usize] != 0 {
+                    return false;
+                }
+                let across = neighbours[slot as usize][2];
+                let beyond = colours[across as usize];
+                colours[slot as usize] = colour;
+                if beyond == colour {
+                    odd.get_or_insert(least);
+                } else if beyond == 0 && across != slot {
+                    waiting.push((across, colour ^ TURN));
+                }
+                true
+            };
+            if !reach(from, colour) {
+                continue;
+            }
+            faces += 1;
+            for first in [0, 1] {
+                let (mut label, mut colour) = (first, colour ^ TURN);
+                let mut next = neighbours[from as usize][label];
+                while reach(next, colour) {
+                    (label, colour) = (1 - label, colour ^ TURN);
+                    next = neighbours[next as usize][label];
+                }
+            }
+        }
+    }
+    Colouring { faces, components, colours, odd }
+}
+
+/// The least walk of odd length from a dart back to it that never stays where it is: the shortest, and of
+/// these the one with the lesser labels. It must have one.
+fn least_odd_walk(neighbours: &[[u32; 3]], start: u32) -> Vec<u32> {
+    // A slot has a place for each parity, where the length of the shortest such walk to it stands.
+    let (even, odd) = (2 * start, 2 * start + 1);
+    let mut lengths = vec![NONE; 2 * neighbours.len()];
+    lengths[even as usize] = 0;
+    let (mut queue, mut at) = (vec![even], 0);
+    while lengths[odd as usize] == NONE {
+        let (slot, parity) = (queue[at] / 2, queue[at] % 2);
+        let length = lengths[queue[at] as usize] + 1;
+        for next in neighbours[slot as usize] {
+            let place = 2 * next + 1 - parity;
+            if next != slot && lengths[place as usize] == NONE {
+                lengths[place as usize] = length;
+                queue.push(place);
+            }
+        }
+        at += 1;
+    }
+    let mut labels = Vec::new();
+    let mut slot = start;
+    for left in (0..lengths[odd as usize]).rev() {
+        let is_nearer = |next: u32| next != slot && lengths[(2 * next + left % 2) as usize] == left;
+        let label = (0..3).find(|label| is_nearer(neighbours[slot as usize][*label])).expect("a step");
+        labels.push(label as u32);
+        slot = neighbours[slot as usize][label];
+    }
+    labels
+}
+
+fn cells(path: &str) {
+    let Map { names, neighbours, .. } = Map::load(path);
+    let corners = count_orbits(&neighbours, [1, 2], &mut vec![0; names.len()], 1);
+    let (edges, free) = count_edges_and_free(&neighbours);
+    let Colouring { faces, components, colours, odd } = colour(&neighbours);
+    let mut output = Output::new(io::stdout().lock());
+    output.text(format!("darts {}\n", names.len()).as_bytes());
+    for (label, count) in [corners, edges, faces].iter().enumerate() {
+        output.text(format!("cells {label} {count}\n").as_bytes());
+    }
+    output.text(format!("components {components}\n").as_bytes());
+    for (label, count) in free.iter().enumerate() {
+        output.text(format!("free {label} {count}\n").as_bytes());
+    }
+    if let Some(start) = odd {
+        output.text(format!("orientable no\nodd {} labels", names[start as usize]).as_bytes());
+        output.spaced(least_odd_walk(&neighbours, start).into_iter());
+    } else {
+        output.text(b"orientable yes\nfirst");
+        let is_first = |(_, colour): &(&u32, &u8)| **colour == FIRST;
+        output.spaced(names.iter().zip(&colours).filter(is_first).map(|(name, _)| *name));
+    }
+    output.end_line();
+    output.flush();
 }
 
 /// A map of squares, for `grid` alone: a dart is its place in the vectors, so that none has a name, and
@@ -554,27 +770,6 @@ impl Squares {
         let is_onward = place % 2 == label;
         (if is_onward { place + 1 } else { place + length - 1 } % length) as u32
     }
-
-    /// How many orbits two labels have: each is a path or a ring, and is followed along its two ends.
-    fn count(&self, [first, second]: [usize; 2], seen: &mut [u8], mark: u8) -> usize {
-        let mut orbits = 0;
-        for from in 0..self.neighbours.len() {
-            if seen[from] == mark {
-                continue;
-            }
-            orbits += 1;
-            seen[from] = mark;
-            for (mut label, mut other) in [(first, second), (second, first)] {
-                let mut next = self.neighbours[from][label] as usize;
-                while seen[next] != mark {
-                    seen[next] = mark;
-                    next = self.neighbours[next][other] as usize;
-                    (label, other) = (other, label);
-                }
-            }
-        }
-        orbits
-    }
 }
 
 fn grid(size: i64) {
@@ -586,9 +781,9 @@ fn grid(size: i64) {
     }
     let darts = map.neighbours.len();
     let mut seen = vec![0; darts];
-    let points = map.count([1, 2], &mut seen, 1);
-    let edges = map.count([0, 2], &mut seen, 2);
-    let corners = map.count([0, 1], &mut seen, 3);
+    let points = count_orbits(&map.neighbours, [1, 2], &mut seen, 1);
+    let edges = count_orbits(&map.neighbours, [0, 2], &mut seen, 2);
+    let corners = count_orbits(&map.neighbours, [0, 1], &mut seen, 3);
     println!("grid {size} applied {faces} darts {darts} next {darts} cells {points} {edges} {corners}");
 }
 
@@ -596,8 +791,9 @@ fn main() {
     let words: Vec<String> = env::args().skip(1).collect();
     match words.iter().map(String::as_str).collect::<Vec<_>>().as_slice() {
         ["show", map] => Map::load(map).print(io::stdout().lock()),
+        ["cells", map] => cells(map),
         ["run", map, script, out] => run(map, script, out),
         ["grid", size] => grid(size.parse().expect("a number")),
-        _ => panic!("show MAP, run MAP SCRIPT OUT or grid M"),
+        _ => panic!("show MAP, cells MAP, run MAP SCRIPT OUT or grid M"),
     }
 }
