@@ -63,17 +63,24 @@ impl Default for Entry {
 /// where nothing is ever kept.
 #[derive(Drop)]
 pub(crate) struct Entries {
+    /// Whether values are kept.
+    open: bool,
+    /// None before the first value: most expressions have no collector, and clearing the room for so
+    /// many values takes longer than reading such a one.
     list: Option<ArrayVec<Entry, MOST>>,
 }
 
 impl Model for Entries {
-    ghost use Rattle.std.specs.Prelude.{List, Option};
+    ghost use Rattle.std.specs.Prelude.{List, Option, cond, Some, None, IsSome, IsTrue};
     ghost use Rattle.std.specs.Option.{option_map};
+    ghost use Rattle.gm_eval.specs.Keeping.{listed};
     ghost use Rattle.gm_eval.specs.declared.kept.Entry.{Entry};
 
     ghost Value = { Option (List Entry) };
 
-    ghost view = { λ kept. option_map (λ entries. entries.items) kept.list };
+    ghost view = { λ kept. cond kept.open (Some (listed (option_map (λ entries. entries.items) kept.list))) None };
+
+    ghost invariant = { λ kept. IsSome kept.list → IsTrue kept.open };
 }
 
 /// Values of collectors that are the same at each position of an application, and the node whose
@@ -99,7 +106,10 @@ impl Kept {
         ensures reader { result.reader ≡ None }
     {
         Kept {
-            entries: Entries { list: None },
+            entries: Entries {
+                open: false,
+                list: None,
+            },
             reader: None,
         }
     }
@@ -144,7 +154,8 @@ impl Entries {
         ensures { result ≡ Some [] }
     {
         Entries {
-            list: Some(ArrayVec::new()),
+            open: true,
+            list: None,
         }
     }
 
@@ -160,7 +171,7 @@ impl Entries {
     pub(crate) fn is_open(&self) -> bool
         ensures { IsTrue result ↔ IsSome self.now }
     {
-        self.list.is_some()
+        self.open
     }
 
     /// The value of the collector, where it is kept.
@@ -211,9 +222,11 @@ impl Entries {
         ensures stays { StillKept self.old self.new }
         ensures room { HasRoom self.new → IsAtHand self.new entry.collector }
     {
-        if let Some(entries) = &mut self.list {
-            let _ = entries.try_push(entry);
+        if !self.open {
+            return;
         }
+        let list = self.list.get_or_insert_with(ArrayVec::new);
+        let _ = list.try_push(entry);
     }
 }
 
